@@ -1,0 +1,57 @@
+-- A page: rows 1 to 24 (EN 300 706, packets X/1 to X/24), columns 0 to 39, a code in each cell.
+use Rattle.std.specs.Prelude.{◌≡◌, ◌≢◌, ℕ, ◌-◌, ◌<◌, ◌≤◌, List, [], length, slice_index}
+use Rattle.std.specs.Prelude.{slice_index_or, replicate}
+
+-- The rows of a page as lists of codes, row 1 first.
+abbrev pub Rows : Type 0
+Rows = List (List ℕ)
+
+-- The code of a space.
+abbrev pub space : ℕ
+space = 0x20
+
+-- A row of 40 spaces.
+unfoldable pub blank_row : List ℕ
+blank_row = replicate 40 space
+
+-- The page that erase page, C4, leaves: 24 rows of spaces.
+unfoldable pub blank : Rows
+blank = replicate 24 blank_row
+
+-- The codes of a row, 1 to 24.
+abbrev pub row_at : Rows → ℕ → List ℕ
+row_at page row = slice_index_or page (row - 1) []
+
+-- The code in the cell of a row, 1 to 24, and a column, 0 to 39.
+abbrev pub cell : Rows → ℕ → ℕ → ℕ
+cell page row column = slice_index (row_at page row) column
+
+-- The number names a row of a page.
+abbrev pub IsRow : ℕ → Type 0
+IsRow row = (1 ≤ row) × (row ≤ 24)
+
+-- The two numbers name a cell of a page.
+abbrev pub IsCell : ℕ → ℕ → Type 0
+IsCell row column = (1 ≤ row) × (row ≤ 24) × (column < 40)
+
+-- A character or spacing attribute has 7 bits.
+abbrev pub IsCode : ℕ → Type 0
+IsCode code = code < 128
+
+-- Each number of a list is a code.
+abbrev pub AreCodes : List ℕ → Type 0
+AreCodes codes = (column : ℕ) → IsCode (slice_index codes column)
+
+-- 24 rows of 40 codes below 128.
+pub record IsPage (page : Rows) : Type 0 where
+  pub rows : length page ≡ 24
+  pub columns : (i : ℕ) → i < 24 → length (slice_index_or page i []) ≡ 40
+  pub codes : (i : ℕ) → AreCodes (slice_index_or page i [])
+
+-- Two pages differ in this cell, and in no cell before it: none of a row above, and none in the
+-- same row to the left.
+pub record DiffersFirst (a b : Rows) (row column : ℕ) : Type 0 where
+  pub is_cell : IsCell row column
+  pub differ : cell a row column ≢ cell b row column
+  pub rows_above : (r : ℕ) → 1 ≤ r → r < row → row_at a r ≡ row_at b r
+  pub cells_before : (c : ℕ) → c < column → cell a row c ≡ cell b row c

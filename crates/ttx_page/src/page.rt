@@ -1,0 +1,127 @@
+//! A page: the 24 rows under the page header, each of 40 codes.
+ghost use Rattle.std.specs.Prelude.{◌≡◌, ◌≢◌, ℕ, ◌-◌, ◌<◌, ◌≤◌, slice_index, slice_set};
+ghost use Rattle.std.specs.Prelude.{MatchOption};
+ghost use Rattle.ttx_page.specs.Page.{blank, cell, row_at, AreCodes, DiffersFirst, IsCell, IsCode};
+ghost use Rattle.ttx_page.specs.Page.{IsPage, IsRow};
+
+use std::marker::Model;
+
+/// Rows 1 to 24 of a page (EN 300 706, packets X/1 to X/24), columns 0 to 39.
+///
+/// A cell holds the 7 bits of a character or spacing attribute, without its parity bit. Row 0,
+/// the page header, is no part of it. Contracts see the list of the rows.
+#[derive(Clone, Copy, PartialEq, Eq, Debug)]
+pub struct Page {
+    // Row 1 comes first.
+    rows: [[u8; 40]; 24],
+}
+
+impl Model for Page {
+    ghost use Rattle.std.specs.Prelude.{List, ℕ};
+    ghost use Rattle.ttx_page.specs.Page.{IsPage};
+
+    ghost Value = { List (List ℕ) };
+
+    ghost view = { λ p. p.rows };
+
+    ghost invariant = { λ p. IsPage p.rows };
+
+    ghost inverse = { λ rows. record { rows = rows } };
+}
+
+impl Page {
+    /// The page of spaces, code 20, as the erase page bit C4 leaves it.
+    #[tactic(auto, unfolding(crate::specs::Page::blank, crate::specs::Page::blank_row))]
+    pub fn blank() -> Page
+        ensures { result ≡ blank }
+    {
+        Page {
+            rows: [[0x20; 40]; 24],
+        }
+    }
+
+    /// The code in a cell: row 1 to 24, column 0 to 39.
+    pub fn cell(&self, row: u8, column: u8) -> u8
+        requires { IsCell row column }
+        ensures value { result ≡ cell self.now row column }
+        ensures code { IsCode result }
+    {
+        self.rows[row as usize - 1][column as usize]
+    }
+
+    /// The 40 codes of a row, 1 to 24, from column 0 on.
+    ///
+    /// It also tells a caller's proof that the page has its shape: `page`.
+    pub fn row(&self, row: u8) -> &[u8; 40]
+        requires { IsRow row }
+        ensures value { result.now ≡ row_at self.now row }
+        ensures codes { AreCodes result.now }
+        ensures page { IsPage self.now }
+    {
+        &self.rows[row as usize - 1]
+    }
+
+    /// Puts 40 codes, each below 128, in the place of a row, 1 to 24. The other rows stay.
+    pub fn set_row(&mut self, row: u8, codes: &[u8; 40])
+        requires row { IsRow row }
+        requires codes { AreCodes codes.now }
+        ensures { self.new ≡ slice_set self.old (row - 1) codes.now }
+    {
+        self.rows[row as usize - 1] = *codes;
+    }
+
+    /// The first cell in which two pages differ: the least row, then the least column.
+    ///
+    /// `None` where they are equal.
+    pub fn first_difference(&self, other: &Page) -> Option<(u8, u8)>
+        ensures { MatchOption result (self.now ≡ other.now)
+            (λ at. DiffersFirst self.now other.now at.0 at.1) }
+    {
+        for i in 0..24 {
+            if let Some(column) = first_column(&self.rows[i], &other.rows[i]) {
+                return Some((i as u8 + 1, column));
+            }
+        }
+        None
+    }
+}
+
+// The least column in which two rows differ.
+fn first_column(a: &[u8; 40], b: &[u8; 40]) -> Option<u8>
+    ensures { MatchOption result (a.now ≡ b.now) (λ c. (c < 40)
+        × (slice_index a.now c ≢ slice_index b.now c)
+        × ((k : ℕ) → k < c → slice_index a.now k ≡ slice_index b.now k)) }
+{
+    for i in 0..40 {
+        if a[i] != b[i] {
+            return Some(i as u8);
+        }
+    }
+    None
+}
+
+#[cfg(test)]
+mod tests {
+    use super::*;
+
+    #[test]
+    fn sets_and_compares_rows(rt: HostRuntime) {
+        let blank = Page::blank();
+        let mut page = blank;
+        assert_eq!(rt; page.cell(1, 0), 0x20);
+        assert_eq!(rt; page.cell(24, 39), 0x20);
+        assert_eq!(rt; page.first_difference(&blank), None);
+
+        let mut codes = [0x20; 40];
+        codes[16] = 0x0D;
+        page.set_row(22, &codes);
+        assert_eq!(rt; page.cell(22, 16), 0x0D);
+        assert_eq!(rt; page.row(22)[16], 0x0D);
+        assert_eq!(rt; page.row(21)[16], 0x20);
+        assert_eq!(rt; page.first_difference(&blank), Some((22, 16)));
+
+        page.set_row(1, &[0x7F; 40]);
+        assert_eq!(rt; blank.first_difference(&page), Some((1, 0)));
+        assert!(rt; page != blank);
+    }
+}
