@@ -1,0 +1,68 @@
+-- Bytes that a device gave or took one piece after another; main lemmas: Consumes-more, Appends-more.
+use Rattle.std.proofs.Common.{◌≡◌, ℕ, ◌+◌, ◌-◌, ◌≤◌, List, ◌++◌, length, take, drop, Option, Some, None, Result, Ok, Err, refl, sym, ap, ◌∙◌, subst, le_refl, drop_at, length-take-le}
+use Rattle.std.specs.Prelude.{IfOk}
+use Rattle.std.proofs.lemmas.Slice.{take-put_mid_below}
+use Rattle.std.specs.Io.KnownBytes.{Appends, Consumes}
+use Rattle.std.proofs.KnownBytes.{Appends-trans, Consumes-trans}
+use borrow.Rule.Slice.PartMut.{put_mid, post_of}
+use Rattle.std.proofs.lemmas.List.{take_rest}
+use lib.Seq.{take-add, take-append-le}
+use Rattle.sub_io.specs.Device.{Fills, Told}
+use Rattle.sub_io.specs.Reading.{IfTold}
+use Rattle.sub_io.specs.declared.source.Failed.{Failed}
+
+-- the first bytes of a slice whose part from a on was written
+take-put_mid : (a k n : ℕ) (xs ys : List ℕ)
+    → a ≤ length xs
+    → n ≤ length ys
+    → take (a + n) (put_mid a k xs ys) ≡ take a xs ++ take n ys
+take-put_mid a k n xs ys within fits =
+    let after = post_of a k xs in
+    let front = take-put_mid_below a k xs ys a (le_refl a) within in
+    let back : drop a (put_mid a k xs ys) ≡ ys ++ after =
+    drop_at (take a xs) (ys ++ after) a (length-take-le a xs within) in
+    take-add a n (put_mid a k xs ys)
+    ∙ ap (λ l. l ++ take n (drop a (put_mid a k xs ys))) front
+    ∙ ap (λ l. take a xs ++ take n l) back
+    ∙ ap (λ l. take a xs ++ l) (take-append-le n ys after fits)
+
+-- the next piece that went into the buffer
+pub Consumes-more : (x y z : Option (List ℕ)) (a k n : ℕ) (xs ys : List ℕ)
+    → a ≤ length xs
+    → n ≤ length ys
+    → Consumes x y (take a xs)
+    → Consumes y z (take n ys)
+    → Consumes x z (take (a + n) (put_mid a k xs ys))
+Consumes-more x y z a k n xs ys within fits p q =
+    subst (Consumes x z) (sym (take-put_mid a k n xs ys within fits)) (Consumes-trans x y z _ _ p q)
+
+-- the next piece of the bytes that are written
+pub Appends-more : (x y z : Option (List ℕ)) (a m n : ℕ) (xs : List ℕ)
+    → m ≡ length xs - a
+    → Appends x y (take a xs)
+    → Appends y z (take n (take m (drop a xs)))
+    → Appends x z (take (a + n) xs)
+Appends-more x y z a m n xs e p q =
+    let whole : take m (drop a xs) ≡ drop a xs = rw e (take_rest xs a) in
+    subst (Appends x z) (ap (λ l. take a xs ++ take n l) whole ∙ sym (take-add a n xs))
+    (Appends-trans x y z _ _ p q)
+
+-- equal known bytes are equal bytes
+Some-injective : (x y : List ℕ) → ◌≡◌ {A = Option (List ℕ)} (Some x) (Some y) → x ≡ y
+Some-injective x y e = cc
+
+-- what a filled buffer says of a source that tells its bytes
+pub Told-from_fills : (old new : Option (List ℕ)) (n : ℕ) (buffer : List ℕ)
+    → Fills old n new buffer
+    → IfTold old (λ bytes. Told bytes n new buffer)
+Told-from_fills None new n buffer f bytes e = absurd cc
+Told-from_fills (Some xs) None n buffer f bytes e = absurd f.bytes
+Told-from_fills (Some xs) (Some ys) n buffer f bytes e =
+    record { rest = ys; parts = sym (Some-injective xs bytes e) ∙ f.bytes; new_is = refl; ended = f.end }
+
+-- the same of a result: the clause `told` of `fill`
+pub Told-from_result : (old new : Option (List ℕ)) (buffer : List ℕ) (r : Result ℕ Failed)
+    → IfOk r (λ n. Fills old n new buffer)
+    → IfTold old (λ bytes. IfOk r (λ n. Told bytes n new buffer))
+Told-from_result old new buffer (Ok n) f = Told-from_fills old new n buffer f
+Told-from_result old new buffer (Err e) f = λ bytes is. tt

@@ -1,0 +1,5 @@
+pub mod Countdown
+pub mod Counted
+pub mod Device
+pub mod Memory
+pub mod Reading

@@ -1,0 +1,16 @@
+-- Words that the definitions of all readers share.
+use Rattle.std.specs.Prelude.{◌≡◌, ℕ, ◌<◌, List, Option, Some, Result, Ok, Err, slice_index}
+
+-- one step of a reading after another: the first fault ends it
+infixl 10 ◌>>=◌
+abbrev pub ◌>>=◌ : {A B E : Type 0} → Result A E → (A → Result B E) → Result B E
+(Ok x) >>= f = f x
+(Err e) >>= f = Err e
+
+-- what holds of a device's bytes where it tells them
+abbrev pub IfTold : Option (List ℕ) → (List ℕ → Type 0) → Type 0
+IfTold told P = (bytes : List ℕ) → told ≡ Some bytes → P bytes
+
+-- each number of the list is a byte's
+abbrev pub AreBytes : List ℕ → Type 0
+AreBytes bytes = (i : ℕ) → slice_index bytes i < 256

@@ -1,0 +1,143 @@
+//! A device of which one call fails, for tests of what its users do then.
+
+ghost use Rattle.std.specs.Prelude.{◌≡◌, ◌+◌, ◌<◌, ◌≤◌, length, Some, IfOk, IsErr, false, true};
+ghost use Rattle.std.specs.Io.{ReadsAtMost};
+ghost use Rattle.sub_io.specs.Countdown.{CountingDown, failures_with, fails_next, left_after};
+ghost use Rattle.sub_io.specs.Device.{CountsFailure, Pulls, Pushes};
+
+use crate::{Failed, Sink, Source};
+use std::marker::Model;
+
+/// A device that passes all calls but one on to the device inside; that one fails and does nothing.
+///
+/// It is a source where the device inside is one, and a sink where that is one.
+#[derive(Drop)]
+pub struct FailAt<D> {
+    inner: D,
+    // The calls before the one that fails; `None` after it.
+    left: Option<u64>,
+}
+
+impl<D> Model for FailAt<D> {
+    ghost Value = { CountingDown D };
+
+    ghost view = { λ d. record { device = d.inner; left = d.left } };
+}
+
+impl<D> FailAt<D> {
+    /// A device whose call number `k` fails, counted from 0.
+    pub fn new(inner: D, k: u64) -> Self
+        ensures { result ≡ record { device = inner; left = Some k } }
+    {
+        FailAt {
+            inner,
+            left: Some(k),
+        }
+    }
+
+    // Counts this call, and answers whether it is the one that fails.
+    fn trips(&mut self) -> bool
+        ensures device { self.new.device ≡ self.old.device }
+        ensures trips { result ≡ fails_next self.old.left }
+        ensures left { self.new.left ≡ left_after self.old.left }
+    {
+        match self.left {
+            None => false,
+            Some(0) => {
+                self.left = None;
+                true
+            }
+            Some(k) => {
+                self.left = Some(k - 1);
+                false
+            }
+        }
+    }
+
+    // So many failures of the device inside, and the one of the countdown.
+    fn with_own(&self, inner: u64) -> u64
+        ensures { result ≡ failures_with self.now.left inner }
+    {
+        if self.left.is_some() {
+            inner
+        } else {
+            inner.saturating_add(1)
+        }
+    }
+}
+
+impl<S: Source> Source for FailAt<S> {
+    ghost remaining = { λ d. S.remaining d.device };
+
+    ghost failure_count = { λ d. failures_with d.left (S.failure_count d.device) };
+
+    /// Pulls from the device inside.
+    ///
+    /// # Errors
+    ///
+    /// `Failed` at the call of the countdown, which does nothing, and where the device inside fails.
+    fn pull(&mut self, to: &mut [u8]) -> Result<usize, Failed>
+        requires { failures_with self.old.left (S.failure_count self.old.device) < u64.MAX }
+
+        // The call that fails does nothing, each other is the inner device's, and all are counted.
+        ensures fails { fails_next self.old.left ≡ true →
+            IsErr result × (self.new.device ≡ self.old.device) × (to.new ≡ to.old) }
+        ensures passed { fails_next self.old.left ≡ false →
+            CountsFailure (S.failure_count self.old.device) result (S.failure_count self.new.device) }
+        ensures left { self.new.left ≡ left_after self.old.left }
+
+        ensures bound { ReadsAtMost result to.new }
+        ensures bytes { Pulls (S.remaining self.old.device) (S.remaining self.new.device) to.new result }
+        ensures count { CountsFailure (failures_with self.old.left (S.failure_count self.old.device))
+            result (failures_with self.new.left (S.failure_count self.new.device)) }
+    {
+        if self.trips() {
+            return Err(Failed);
+        }
+        self.inner.pull(to)
+    }
+
+    /// The failures of the device inside, and one more after the call of the countdown.
+    fn failures(&self) -> u64 {
+        self.with_own(self.inner.failures())
+    }
+}
+
+impl<K: Sink> Sink for FailAt<K> {
+    ghost contents = { λ d. K.contents d.device };
+
+    ghost failure_count = { λ d. failures_with d.left (K.failure_count d.device) };
+
+    /// Pushes into the device inside.
+    ///
+    /// # Errors
+    ///
+    /// `Failed` at the call of the countdown, which does nothing, and where the device inside fails.
+    fn push(&mut self, from: &[u8]) -> Result<usize, Failed>
+        requires nonempty { 0 < length from.now }
+        requires count { failures_with self.old.left (K.failure_count self.old.device) < u64.MAX }
+
+        // The call that fails does nothing, each other is the inner device's, and all are counted.
+        ensures fails { fails_next self.old.left ≡ true →
+            IsErr result × (self.new.device ≡ self.old.device) }
+        ensures passed { fails_next self.old.left ≡ false →
+            CountsFailure (K.failure_count self.old.device) result (K.failure_count self.new.device) }
+        ensures left { self.new.left ≡ left_after self.old.left }
+
+        ensures some { IfOk result (λ n. 0 < n) }
+        ensures bound { IfOk result (λ n. n ≤ length from.now) }
+        ensures bytes { Pushes (K.contents self.old.device) (K.contents self.new.device) from.now result }
+        ensures count { CountsFailure (failures_with self.old.left (K.failure_count self.old.device))
+            result (failures_with self.new.left (K.failure_count self.new.device)) }
+    {
+        if self.trips() {
+            return Err(Failed);
+        }
+        self.inner.push(from)
+    }
+
+    /// The failures of the device inside, and one more after the call of the countdown.
+    fn failures(&self) -> u64 {
+        self.with_own(self.inner.failures())
+    }
+}

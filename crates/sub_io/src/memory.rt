@@ -1,0 +1,139 @@
+//! Devices over memory: a source that gives the bytes of a slice, and a sink that fills one.
+
+ghost use Rattle.std.specs.Prelude.{◌≡◌, ℕ, ◌+◌, ◌-◌, ◌<◌, ◌≤◌, min, List, [], length, take, Ok, IfOk, IsErr, Some, ◌↔◌};
+ghost use Rattle.std.specs.Io.{ReadsAtMost};
+ghost use Rattle.sub_io.specs.Device.{CountsFailure, Pulls, Pushes};
+ghost use Rattle.sub_io.specs.Memory.{Written};
+
+use crate::{Failed, Sink, Source};
+use std::marker::Model;
+
+/// A source that gives the bytes of a slice. It never fails.
+///
+/// Contracts see it as the list of the bytes that are left.
+#[derive(Drop)]
+pub struct MemSource<'a> {
+    rest: &'a [u8],
+}
+
+impl<'a> Model for MemSource<'a> {
+    ghost Value = { List ℕ };
+
+    ghost view = { λ s. s.rest.now };
+}
+
+impl<'a> MemSource<'a> {
+    /// A source that gives the bytes of `bytes` from the first on.
+    pub fn new(bytes: &'a [u8]) -> Self
+        ensures { result ≡ bytes.now }
+    {
+        MemSource { rest: bytes }
+    }
+}
+
+impl Source for MemSource<'_> {
+    ghost remaining = { λ s. Some s };
+
+    ghost failure_count = { λ _. 0 };
+
+    /// Gives as many bytes as `to` has room for, or all that are left. It never fails.
+    fn pull(&mut self, to: &mut [u8]) -> Result<usize, Failed>
+        ensures all { result ≡ Ok (min (length self.old) (length to.old)) }
+        ensures bound { ReadsAtMost result to.new }
+        ensures bytes { Pulls (Some self.old) (Some self.new) to.new result }
+        ensures count { CountsFailure 0 result 0 }
+    {
+        let n = self.rest.len().min(to.len());
+        let (given, rest) = self.rest.split_at(n);
+        to[..n].copy_from_slice(given);
+        self.rest = rest;
+        Ok(n)
+    }
+
+    /// 0, since no call fails.
+    fn failures(&self) -> u64 {
+        0
+    }
+}
+
+/// A sink that keeps what it takes in a slice, and fails where the slice is full.
+///
+/// Contracts see it as its bytes, its room and its count of failures.
+#[derive(Drop)]
+pub struct MemSink<'a> {
+    room: &'a mut [u8],
+    len: usize,
+    failures: u64,
+}
+
+impl<'a> Model for MemSink<'a> {
+    ghost Value = { Written };
+
+    ghost view = { λ k. record {
+      bytes = take k.len k.room.now;
+      room = length k.room.now;
+      failure_count = k.failures;
+    } };
+
+    ghost invariant = { λ k. k.len ≤ length k.room.now };
+}
+
+impl<'a> MemSink<'a> {
+    /// An empty sink with room for as many bytes as `room` is long.
+    ///
+    /// What `room` holds once the sink is gone is not said: read `written` before.
+    pub fn new(room: &'a mut [u8]) -> Self
+        ensures { result ≡ record { bytes = []; room = length room.old; failure_count = 0 } }
+    {
+        MemSink {
+            room,
+            len: 0,
+            failures: 0,
+        }
+    }
+
+    /// The bytes that were taken, the first one first.
+    pub fn written(&self) -> &[u8]
+        ensures { result.now ≡ self.now.bytes }
+    {
+        &self.room[..self.len]
+    }
+}
+
+impl Sink for MemSink<'_> {
+    ghost contents = { λ k. Some k.bytes };
+
+    ghost failure_count = { λ k. k.failure_count };
+
+    /// Takes as many bytes as there is room for.
+    ///
+    /// # Errors
+    ///
+    /// `Failed` where the slice is full, and only there.
+    fn push(&mut self, from: &[u8]) -> Result<usize, Failed>
+        requires nonempty { 0 < length from.now }
+        requires count { self.old.failure_count < u64.MAX }
+        ensures full { IsErr result ↔ (length self.old.bytes ≡ self.old.room) }
+        ensures all { IfOk result (λ n.
+            n ≡ min (length from.now) (self.old.room - length self.old.bytes)) }
+        ensures room { self.new.room ≡ self.old.room }
+        ensures some { IfOk result (λ n. 0 < n) }
+        ensures bound { IfOk result (λ n. n ≤ length from.now) }
+        ensures bytes { Pushes (Some self.old.bytes) (Some self.new.bytes) from.now result }
+        ensures count { CountsFailure self.old.failure_count result self.new.failure_count }
+    {
+        let n = from.len().min(self.room.len() - self.len);
+        if n == 0 {
+            self.failures += 1;
+            return Err(Failed);
+        }
+        self.room[self.len..self.len + n].copy_from_slice(&from[..n]);
+        self.len += n;
+        Ok(n)
+    }
+
+    /// How many pushes found the slice full.
+    fn failures(&self) -> u64 {
+        self.failures
+    }
+}

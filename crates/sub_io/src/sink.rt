@@ -1,0 +1,51 @@
+//! Devices that take bytes.
+
+ghost use Rattle.std.specs.Prelude.{◌≡◌, ℕ, ◌<◌, ◌≤◌, List, length, Option, IfOk};
+ghost use Rattle.sub_io.specs.Device.{CountsFailure, Pushes, Writes};
+
+use crate::Failed;
+
+/// A device that takes bytes.
+pub trait Sink {
+    // The bytes that it has taken, where it tells them.
+    ghost contents: { Self → Option (List ℕ) };
+
+    // How many of its calls have failed.
+    ghost failure_count: { Self → ℕ };
+
+    /// Takes bytes from the front of `from`, which must not be empty, and answers how many: 1 to
+    /// its length.
+    ///
+    /// # Errors
+    ///
+    /// `Failed` where the device failed: it took nothing, and its count is one higher.
+    fn push(&mut self, from: &[u8]) -> Result<usize, Failed>
+        requires nonempty { 0 < length from.now }
+        requires count { failure_count self.old < u64.MAX }
+        ensures some { IfOk result (λ n. 0 < n) }
+        ensures bound { IfOk result (λ n. n ≤ length from.now) }
+        ensures bytes { Pushes (contents self.old) (contents self.new) from.now result }
+        ensures count { CountsFailure (failure_count self.old) result (failure_count self.new) };
+
+    /// How many calls of `push` have failed.
+    fn failures(&self) -> u64
+        ensures { result ≡ failure_count self.now };
+}
+
+/// Pushes all of `from`, in as many calls as the sink needs.
+///
+/// # Errors
+///
+/// `Failed` at the first push that fails: a prefix of `from` was taken.
+pub fn put_all<K: Sink>(sink: &mut K, from: &[u8]) -> Result<(), Failed>
+    requires { K.failure_count sink.old < u64.MAX }
+    ensures bytes { Writes (K.contents sink.old) (K.contents sink.new) from.now result }
+    ensures count { CountsFailure (K.failure_count sink.old) result (K.failure_count sink.new) }
+{
+    let mut at = 0;
+    while at < from.len() {
+        let n = sink.push(&from[at..])?;
+        at += n;
+    }
+    Ok(())
+}

@@ -1,0 +1,84 @@
+//! Devices that give bytes.
+
+ghost use Rattle.std.specs.Prelude.{◌≡◌, ℕ, ◌+◌, ◌<◌, ◌≤◌, List, length, take, Option, IfOk, OnErr};
+ghost use Rattle.std.specs.Io.{ReadsAtMost};
+ghost use Rattle.std.specs.Io.KnownBytes.{Consumes, IsAtEnd};
+ghost use Rattle.sub_io.specs.Device.{CountsFailure, Fills, Pulls, Told};
+ghost use Rattle.sub_io.specs.Reading.{AreBytes, IfTold};
+
+/// A device's call failed: it gave or took nothing.
+#[derive(Clone, Copy, Debug, PartialEq, Eq)]
+pub struct Failed;
+
+/// A device that gives bytes.
+pub trait Source {
+    // The bytes that it has still to give, where it tells them.
+    ghost remaining: { Self → Option (List ℕ) };
+
+    // How many of its calls have failed.
+    ghost failure_count: { Self → ℕ };
+
+    /// Puts bytes in front of `to` and answers how many; 0 for a nonempty `to` means the end.
+    ///
+    /// # Errors
+    ///
+    /// `Failed` where the device failed: it gave nothing, and its count is one higher.
+    fn pull(&mut self, to: &mut [u8]) -> Result<usize, Failed>
+        requires { failure_count self.old < u64.MAX }
+        ensures bound { ReadsAtMost result to.new }
+        ensures bytes { Pulls (remaining self.old) (remaining self.new) to.new result }
+        ensures count { CountsFailure (failure_count self.old) result (failure_count self.new) };
+
+    /// How many calls of `pull` have failed.
+    fn failures(&self) -> u64
+        ensures { result ≡ failure_count self.now };
+}
+
+/// Pulls until `to` is full or the source is at its end, and answers how many bytes it got.
+///
+/// Fewer than `to.len()` only at the end of the source. It makes at most as many pulls as `to` is
+/// long.
+///
+/// # Errors
+///
+/// `Failed` at the first pull that fails: some bytes may have been taken, and what `to` holds is
+/// not said.
+pub fn fill<S: Source>(source: &mut S, to: &mut [u8]) -> Result<usize, Failed>
+    requires { S.failure_count source.old < u64.MAX }
+    ensures bound { IfOk result (λ n. n ≤ length to.new) }
+    ensures bytes { IfOk result (λ n.
+        Consumes (S.remaining source.old) (S.remaining source.new) (take n to.new)) }
+    ensures end { IfOk result (λ n. n < length to.new → IsAtEnd (S.remaining source.new)) }
+
+    // The same three facts as one, and what they say where the source tells its bytes.
+    ensures fills { IfOk result (λ n.
+        Fills (S.remaining source.old) n (S.remaining source.new) to.new) }
+    ensures told { IfTold (S.remaining source.old) (λ bytes.
+        IfOk result (λ n. Told bytes n (S.remaining source.new) to.new)) }
+    ensures fit { AreBytes to.new }
+    ensures err { OnErr result ((bytes : List ℕ)
+        × Consumes (S.remaining source.old) (S.remaining source.new) bytes) }
+    ensures count { CountsFailure (S.failure_count source.old) result (S.failure_count source.new) }
+{
+    fill_up(source, to)
+}
+
+// `fill` without the clauses that follow from the others.
+fn fill_up<S: Source>(source: &mut S, to: &mut [u8]) -> Result<usize, Failed>
+    requires { S.failure_count source.old < u64.MAX }
+    ensures fills { IfOk result (λ n.
+        Fills (S.remaining source.old) n (S.remaining source.new) to.new) }
+    ensures err { OnErr result ((bytes : List ℕ)
+        × Consumes (S.remaining source.old) (S.remaining source.new) bytes) }
+    ensures count { CountsFailure (S.failure_count source.old) result (S.failure_count source.new) }
+{
+    let mut at = 0;
+    while at < to.len() {
+        let n = source.pull(&mut to[at..])?;
+        if n == 0 {
+            break;
+        }
+        at += n;
+    }
+    Ok(at)
+}
