@@ -1,13 +1,16 @@
--- Bytes that a device gave or took one piece after another; main lemmas: Consumes-more, Appends-more.
-use Rattle.std.proofs.Common.{◌≡◌, ℕ, ◌+◌, ◌-◌, ◌≤◌, List, ◌++◌, length, take, drop, Option, Some, None, Result, Ok, Err, refl, sym, ap, ◌∙◌, subst, le_refl, drop_at, length-take-le}
+-- Bytes that a device gave or took piece after piece; main lemmas: Consumes-more, Appends-more.
+use Rattle.std.proofs.Common.{◌≡◌, ℕ, ◌+◌, ◌-◌, ◌≤◌, List, ◌++◌, length, take, drop, Option, Some}
+use Rattle.std.proofs.Common.{None, Result, Ok, Err, refl, sym, ap, ◌∙◌, subst, le_refl, arith}
+use Rattle.std.proofs.Common.{length-append, drop_at, length-take-le}
 use Rattle.std.specs.Prelude.{IfOk}
 use Rattle.std.proofs.lemmas.Slice.{take-put_mid_below}
 use Rattle.std.specs.Io.KnownBytes.{Appends, Consumes}
 use Rattle.std.proofs.KnownBytes.{Appends-trans, Consumes-trans}
 use borrow.Rule.Slice.PartMut.{put_mid, post_of}
 use Rattle.std.proofs.lemmas.List.{take_rest}
+use Rattle.std.proofs.Math.Seq.{take-append-add, take-length}
 use lib.Seq.{take-add, take-append-le}
-use Rattle.sub_io.specs.Device.{Fills, Told}
+use Rattle.sub_io.specs.Device.{AppendsPrefix, Fills, Told}
 use Rattle.sub_io.specs.Reading.{IfTold}
 use Rattle.sub_io.specs.declared.source.Failed.{Failed}
 
@@ -58,7 +61,12 @@ pub Told-from_fills : (old new : Option (List ℕ)) (n : ℕ) (buffer : List ℕ
 Told-from_fills None new n buffer f bytes e = absurd cc
 Told-from_fills (Some xs) None n buffer f bytes e = absurd f.bytes
 Told-from_fills (Some xs) (Some ys) n buffer f bytes e =
-    record { rest = ys; parts = sym (Some-injective xs bytes e) ∙ f.bytes; new_is = refl; ended = f.end }
+    record {
+      rest = ys;
+      parts = sym (Some-injective xs bytes e) ∙ f.bytes;
+      new_is = refl;
+      ended = f.end;
+    }
 
 -- the same of a result: the clause `told` of `fill`
 pub Told-from_result : (old new : Option (List ℕ)) (buffer : List ℕ) (r : Result ℕ Failed)
@@ -66,3 +74,30 @@ pub Told-from_result : (old new : Option (List ℕ)) (buffer : List ℕ) (r : Re
     → IfTold old (λ bytes. IfOk r (λ n. Told bytes n new buffer))
 Told-from_result old new buffer (Ok n) f = Told-from_fills old new n buffer f
 Told-from_result old new buffer (Err e) f = λ bytes is. tt
+
+-- what was added of the first of two pieces is a prefix of both: where the first put failed
+pub AppendsPrefix-first : (old new : Option (List ℕ)) (xs ys : List ℕ)
+    → AppendsPrefix old new xs
+    → AppendsPrefix old new (xs ++ ys)
+AppendsPrefix-first old new xs ys p =
+    let room : p.0 ≤ length xs = p.1 in
+    let same = sym (take-append-le p.0 xs ys room) in
+    (p.0, omega (arith, length-append xs ys), subst (Appends old new) same p.2)
+
+-- all of the first piece and a prefix of the second: where the second put failed
+pub AppendsPrefix-second : (old mid new : Option (List ℕ)) (xs ys : List ℕ)
+    → Appends old mid xs
+    → AppendsPrefix mid new ys
+    → AppendsPrefix old new (xs ++ ys)
+AppendsPrefix-second old mid new xs ys p q =
+    let room : q.0 ≤ length ys = q.1 in
+    let whole = Appends-trans old mid new xs (take q.0 ys) p q.2 in
+    let same = sym (take-append-add xs ys q.0) in
+    (length xs + q.0, omega (arith, length-append xs ys), subst (Appends old new) same whole)
+
+-- what was added is a prefix of itself
+pub AppendsPrefix-whole : (old new : Option (List ℕ)) (xs : List ℕ)
+    → Appends old new xs
+    → AppendsPrefix old new xs
+AppendsPrefix-whole old new xs p =
+    (length xs, le_refl (length xs), subst (Appends old new) (sym (take-length xs)) p)

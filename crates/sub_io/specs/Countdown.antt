@@ -1,7 +1,7 @@
 -- A device of which one call fails: a countdown beside the device inside.
 use Rattle.std.specs.Prelude.{ℕ, ◌+◌, min, Bool, true, false, Option, Some, None, zero, suc}
 
--- the device inside, and the calls that are still to be passed on before the one that fails: `Some 0`
+-- the device inside, and how many calls are still passed on before the one that fails: `Some 0`
 -- where the next one fails, `None` once it has
 pub record CountingDown (D : Type 0) : Type 0 where
   pub device : D
@@ -19,7 +19,8 @@ left_after None = None
 left_after (Some zero) = None
 left_after (Some (suc k)) = Some k
 
--- the failures of the device inside, and one more after the call that failed, as far as 64 bits count
+-- the failures of the device inside, and after the call that failed one more, as far as 64 bits
+-- count
 abbrev pub failures_with : Option ℕ → ℕ → ℕ
 failures_with None n = min (n + 1) 0xFFFF_FFFF_FFFF_FFFF
 failures_with (Some k) n = n

@@ -1,36 +1,42 @@
 -- What a call of a device does to the bytes that it tells and to the count of its failures.
 --
--- What a device tells is an `Option (List ℕ)`: of a source the bytes that it has still to give, of a
--- sink the bytes that it has taken, and `None` of a device that tells nothing, as a file. The words
--- Consumes, Appends, Keeps and IsAtEnd are std's: they hold of every call of a device that tells nothing.
-use Rattle.std.specs.Prelude.{◌≡◌, ℕ, ◌+◌, ◌<◌, ◌≤◌, List, [], ◌++◌, length, take, Option, Some, Result, MatchResult, is_ok, if◌then◌else◌}
+-- What a device tells is an `Option (List ℕ)`: a source the bytes that it has still to give, a sink
+-- those that it has taken; `None` is a device that tells nothing, as a file. `Consumes`, `Appends`,
+-- `Keeps` and `IsAtEnd` are std's words: each holds of any call of a device that tells nothing.
+use Rattle.std.specs.Prelude.{◌≡◌, ℕ, ◌+◌, ◌<◌, ◌≤◌, List, [], ◌++◌, length, take, Option, Some}
+use Rattle.std.specs.Prelude.{Result, MatchResult, is_ok, if◌then◌else◌}
 use Rattle.std.specs.Io.KnownBytes.{Appends, Consumes, IsAtEnd, Keeps}
 
 -- an `Ok` leaves the count of failures, an `Err` raises it by one
 abbrev pub CountsFailure : {X E : Type 0} → ℕ → Result X E → ℕ → Type 0
 CountsFailure old result new = new ≡ old + (if is_ok result then 0 else 1)
 
--- one pull: an `Ok` of n took the n bytes that now stand in front of the buffer, where 0 for a buffer
--- with room says that the source is at its end; an `Err` took nothing
-abbrev pub Pulls : {E : Type 0} → Option (List ℕ) → Option (List ℕ) → List ℕ → Result ℕ E → Type 0
+-- one pull: an `Ok` of n took the n bytes that now stand in front of the buffer, and an `Ok` of 0
+-- for a buffer with room says that the source is at its end; an `Err` took nothing
+abbrev pub Pulls : {E : Type 0}
+    → Option (List ℕ) → Option (List ℕ) → List ℕ → Result ℕ E → Type 0
 Pulls old new buffer result =
     MatchResult result
     (λ n. Consumes old new (take n buffer) × (n ≡ 0 → 0 < length buffer → IsAtEnd new))
     (λ _. Keeps old new)
 
 -- one push: an `Ok` of n added the first n of the bytes, an `Err` added nothing
-abbrev pub Pushes : {E : Type 0} → Option (List ℕ) → Option (List ℕ) → List ℕ → Result ℕ E → Type 0
+abbrev pub Pushes : {E : Type 0}
+    → Option (List ℕ) → Option (List ℕ) → List ℕ → Result ℕ E → Type 0
 Pushes old new bytes result =
     MatchResult result (λ n. Appends old new (take n bytes)) (λ _. Keeps old new)
 
 -- n bytes were taken and stand in front of the buffer, fewer than its room only at the end
-pub record Fills (old : Option (List ℕ)) (n : ℕ) (new : Option (List ℕ)) (buffer : List ℕ) : Type 0 where
+pub record Fills
+    (old : Option (List ℕ)) (n : ℕ) (new : Option (List ℕ)) (buffer : List ℕ) : Type 0 where
   pub bound : n ≤ length buffer
   pub bytes : Consumes old new (take n buffer)
   pub end : n < length buffer → IsAtEnd new
 
--- the same of a source that tells its bytes: n of them went to the front of the buffer, the rest is left
-pub record Told (bytes : List ℕ) (n : ℕ) (new : Option (List ℕ)) (buffer : List ℕ) : Type 0 where
+-- the same of a source that tells its bytes: n of them went to the front of the buffer, and the
+-- rest is left
+pub record Told
+    (bytes : List ℕ) (n : ℕ) (new : Option (List ℕ)) (buffer : List ℕ) : Type 0 where
   pub rest : List ℕ
   pub parts : bytes ≡ take n buffer ++ rest
   pub new_is : new ≡ Some rest
@@ -41,6 +47,7 @@ abbrev pub AppendsPrefix : Option (List ℕ) → Option (List ℕ) → List ℕ 
 AppendsPrefix old new bytes = (n : ℕ) × (n ≤ length bytes) × Appends old new (take n bytes)
 
 -- an `Ok` added all the bytes, an `Err` a prefix of them
-abbrev pub Writes : {X E : Type 0} → Option (List ℕ) → Option (List ℕ) → List ℕ → Result X E → Type 0
+abbrev pub Writes : {X E : Type 0}
+    → Option (List ℕ) → Option (List ℕ) → List ℕ → Result X E → Type 0
 Writes old new bytes result =
     MatchResult result (λ _. Appends old new bytes) (λ _. AppendsPrefix old new bytes)

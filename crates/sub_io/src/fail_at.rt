@@ -75,21 +75,24 @@ impl<S: Source> Source for FailAt<S> {
     ///
     /// # Errors
     ///
-    /// `Failed` at the call of the countdown, which does nothing, and where the device inside fails.
+    /// `Failed` at the call that is to fail, which does nothing, and where the device inside fails.
     fn pull(&mut self, to: &mut [u8]) -> Result<usize, Failed>
         requires { failures_with self.old.left (S.failure_count self.old.device) < u64.MAX }
 
         // The call that fails does nothing, each other is the inner device's, and all are counted.
         ensures fails { fails_next self.old.left ≡ true →
             IsErr result × (self.new.device ≡ self.old.device) × (to.new ≡ to.old) }
-        ensures passed { fails_next self.old.left ≡ false →
-            CountsFailure (S.failure_count self.old.device) result (S.failure_count self.new.device) }
+        ensures passed { fails_next self.old.left ≡ false → CountsFailure
+            (S.failure_count self.old.device) result (S.failure_count self.new.device) }
         ensures left { self.new.left ≡ left_after self.old.left }
 
         ensures bound { ReadsAtMost result to.new }
-        ensures bytes { Pulls (S.remaining self.old.device) (S.remaining self.new.device) to.new result }
-        ensures count { CountsFailure (failures_with self.old.left (S.failure_count self.old.device))
-            result (failures_with self.new.left (S.failure_count self.new.device)) }
+        ensures bytes { Pulls
+            (S.remaining self.old.device) (S.remaining self.new.device) to.new result }
+        ensures count { CountsFailure
+            (failures_with self.old.left (S.failure_count self.old.device))
+            result
+            (failures_with self.new.left (S.failure_count self.new.device)) }
     {
         if self.trips() {
             return Err(Failed);
@@ -112,7 +115,7 @@ impl<K: Sink> Sink for FailAt<K> {
     ///
     /// # Errors
     ///
-    /// `Failed` at the call of the countdown, which does nothing, and where the device inside fails.
+    /// `Failed` at the call that is to fail, which does nothing, and where the device inside fails.
     fn push(&mut self, from: &[u8]) -> Result<usize, Failed>
         requires nonempty { 0 < length from.now }
         requires count { failures_with self.old.left (K.failure_count self.old.device) < u64.MAX }
@@ -120,15 +123,18 @@ impl<K: Sink> Sink for FailAt<K> {
         // The call that fails does nothing, each other is the inner device's, and all are counted.
         ensures fails { fails_next self.old.left ≡ true →
             IsErr result × (self.new.device ≡ self.old.device) }
-        ensures passed { fails_next self.old.left ≡ false →
-            CountsFailure (K.failure_count self.old.device) result (K.failure_count self.new.device) }
+        ensures passed { fails_next self.old.left ≡ false → CountsFailure
+            (K.failure_count self.old.device) result (K.failure_count self.new.device) }
         ensures left { self.new.left ≡ left_after self.old.left }
 
         ensures some { IfOk result (λ n. 0 < n) }
         ensures bound { IfOk result (λ n. n ≤ length from.now) }
-        ensures bytes { Pushes (K.contents self.old.device) (K.contents self.new.device) from.now result }
-        ensures count { CountsFailure (failures_with self.old.left (K.failure_count self.old.device))
-            result (failures_with self.new.left (K.failure_count self.new.device)) }
+        ensures bytes { Pushes
+            (K.contents self.old.device) (K.contents self.new.device) from.now result }
+        ensures count { CountsFailure
+            (failures_with self.old.left (K.failure_count self.old.device))
+            result
+            (failures_with self.new.left (K.failure_count self.new.device)) }
     {
         if self.trips() {
             return Err(Failed);
@@ -139,5 +145,30 @@ impl<K: Sink> Sink for FailAt<K> {
     /// The failures of the device inside, and one more after the call of the countdown.
     fn failures(&self) -> u64 {
         self.with_own(self.inner.failures())
+    }
+}
+
+#[cfg(test)]
+mod tests {
+    use super::*;
+    use crate::{MemSink, MemSource, fill, put_all};
+
+    #[test]
+    fn fails_at_one_call_and_at_no_other(rt: HostRuntime) {
+        for k in 0..3 {
+            let mut source = FailAt::new(MemSource::new(b"abcdef"), k);
+            let mut room = [0; 6];
+            let mut sink = FailAt::new(MemSink::new(&mut room), k);
+            for call in 0..4 {
+                let mut to = [0; 2];
+                assert!(rt; source.failures() < 9 && sink.failures() < 9);
+                let filled = fill(&mut source, &mut to);
+                assert_eq!(rt; filled.is_err(), call == k, "pull {call}, k {k}");
+                let put = put_all(&mut sink, b"x");
+                assert_eq!(rt; put.is_err(), call == k, "push {call}, k {k}");
+            }
+            assert_eq!(rt; source.failures(), 1, "k {k}");
+            assert_eq!(rt; sink.failures(), 1, "k {k}");
+        }
     }
 }

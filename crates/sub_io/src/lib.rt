@@ -1,4 +1,20 @@
 //! Devices that give bytes and take bytes, and count their failures.
+//!
+//! The lowest crate of `subttx`: all others read files and write files by these traits alone, so
+//! that their contracts can say what any device gave and took, whether or not it tells its bytes.
+//!
+//! ```
+//! let mut source = MemSource::new(b"EBU STL");
+//! let mut room = [0; 7];
+//! let mut sink = MemSink::new(&mut room);
+//! let mut head = [0; 3];
+//! fill(&mut source, &mut head)?; // Ok(3): head holds "EBU"
+//! put_all(&mut sink, &head)?; // sink.written() is "EBU"
+//! ```
+//!
+//! - `Source` and `Sink` are the traits, `fill` and `put_all` what the readers and writers call.
+//! - `MemSource` and `MemSink` are devices over memory, `FromRead` and `IntoWrite` over std.
+//! - `FailAt` makes one chosen call of another device fail.
 #![tactic(auto)]
 
 mod fail_at;

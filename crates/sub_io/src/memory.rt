@@ -1,6 +1,7 @@
 //! Devices over memory: a source that gives the bytes of a slice, and a sink that fills one.
 
-ghost use Rattle.std.specs.Prelude.{◌≡◌, ℕ, ◌+◌, ◌-◌, ◌<◌, ◌≤◌, min, List, [], length, take, Ok, IfOk, IsErr, Some, ◌↔◌};
+ghost use Rattle.std.specs.Prelude.{◌≡◌, ℕ, ◌+◌, ◌-◌, ◌<◌, ◌≤◌, min, List, [], length, take, Ok};
+ghost use Rattle.std.specs.Prelude.{IfOk, IsErr, Some, ◌↔◌};
 ghost use Rattle.std.specs.Io.{ReadsAtMost};
 ghost use Rattle.sub_io.specs.Device.{CountsFailure, Pulls, Pushes};
 ghost use Rattle.sub_io.specs.Memory.{Written};
@@ -135,5 +136,44 @@ impl Sink for MemSink<'_> {
     /// How many pushes found the slice full.
     fn failures(&self) -> u64 {
         self.failures
+    }
+}
+
+#[cfg(test)]
+mod tests {
+    use super::*;
+    use crate::{fill, put_all};
+
+    #[test]
+    fn gives_its_bytes_and_then_ends(rt: HostRuntime) {
+        let mut source = MemSource::new(b"abcde");
+        let mut to = *b"---";
+        assert_eq!(rt; fill(&mut source, &mut to), Ok(3));
+        assert_eq!(rt; to, *b"abc");
+        assert_eq!(rt; fill(&mut source, &mut to), Ok(2));
+        assert_eq!(rt; to, *b"dec");
+        assert_eq!(rt; fill(&mut source, &mut to), Ok(0));
+        assert_eq!(rt; source.failures(), 0);
+    }
+
+    #[test]
+    fn takes_bytes_until_it_is_full(rt: HostRuntime) {
+        // text, how many bytes of "subttx" it then holds, and how often it has failed
+        let texts: [(&[u8], usize, u64); 4] = [
+            (b"sub", 3, 0),
+            (b"", 3, 0),
+            (b"ttx", 5, 1),
+            (b"x", 5, 2),
+        ];
+        let mut room = [0; 5];
+        let mut sink = MemSink::new(&mut room);
+        for (text, held, failures) in texts {
+            assert!(rt; sink.failures() < 9);
+            let answer = put_all(&mut sink, text);
+            assert!(rt; held <= 6);
+            assert_eq!(rt; sink.written(), &b"subttx"[..held]);
+            assert_eq!(rt; answer.is_err(), failures > 0);
+            assert_eq!(rt; sink.failures(), failures);
+        }
     }
 }

@@ -90,3 +90,65 @@ impl<W: Write> Sink for IntoWrite<W> {
         self.failures
     }
 }
+
+#[cfg(test)]
+mod tests {
+    use super::*;
+    use crate::{fill, put_all};
+    use std::io::{self, Cursor};
+
+    // A reader and a writer of which each call is interrupted.
+    #[derive(Drop)]
+    struct Interrupted;
+
+    impl Read for Interrupted {
+        ghost use Rattle.std.specs.Prelude.{None};
+
+        ghost remaining = { λ _. None };
+
+        fn read(&mut self, _to: &mut [u8]) -> io::Result<usize> {
+            Err(io::ErrorKind::Interrupted.into())
+        }
+    }
+
+    impl Write for Interrupted {
+        ghost use Rattle.std.specs.Prelude.{None};
+
+        ghost contents = { λ _. None };
+
+        fn write(&mut self, _from: &[u8]) -> io::Result<usize> {
+            Err(io::ErrorKind::Interrupted.into())
+        }
+
+        fn flush(&mut self) -> io::Result<()> {
+            Ok(())
+        }
+    }
+
+    #[test]
+    fn reads_and_counts_an_interrupted_call(rt: HostRuntime) {
+        let mut source = FromRead::new(&b"abcde"[..]);
+        let mut to = *b"-----------";
+        assert_eq!(rt; fill(&mut source, &mut to), Ok(5));
+        assert_eq!(rt; to, *b"abcde------");
+        assert_eq!(rt; source.failures(), 0);
+
+        let mut source = FromRead::new(Interrupted);
+        assert_eq!(rt; fill(&mut source, &mut to), Err(Failed));
+        assert_eq!(rt; source.failures(), 1);
+    }
+
+    #[test]
+    fn writes_and_counts_a_call_that_writes_nothing(rt: HostRuntime) {
+        let mut sink = IntoWrite::new(Cursor::new([0u8; 5]));
+        assert_eq!(rt; put_all(&mut sink, b"sub"), Ok(()));
+        assert_eq!(rt; sink.failures(), 0);
+        // The writer has room for two bytes more, and then writes none.
+        assert_eq!(rt; put_all(&mut sink, b"ttx"), Err(Failed));
+        assert_eq!(rt; sink.failures(), 1);
+
+        let mut sink = IntoWrite::new(Interrupted);
+        assert_eq!(rt; put_all(&mut sink, b"x"), Err(Failed));
+        assert_eq!(rt; sink.failures(), 1);
+    }
+}

@@ -2,4 +2,5 @@ use Rattle.sub_io.proofs.DeviceLemmas.{Told-from_result}
 use Rattle.sub_io.proofs.source.fill.Goals as goal
 
 pub returns-clause-told : goal.returns-clause-told
-returns-clause-told g c = Told-from_result _ _ c.fill_up.new.to c.fill_up.result c.fill_up.ensures.fills
+returns-clause-told g c =
+    Told-from_result _ _ c.fill_up.new.to c.fill_up.result c.fill_up.ensures.fills

@@ -5,6 +5,7 @@ use Rattle.sub_io.proofs.source.fill_up.Goals as goal
 pub loop-at-preserved : goal.loop-at-preserved
 loop-at-preserved g c = record {
   bound = search rules;
-  bytes = Consumes-more _ _ _ _ _ _ _ _ (search rules) (search rules) c.loop-at.invariant.bytes c.in_ok-n.ensures.bytes.0;
+  bytes = Consumes-more _ _ _ _ _ _ _ _ (search rules) (search rules)
+      c.loop-at.invariant.bytes c.in_ok-n.ensures.bytes.0;
   count = search rules;
 }

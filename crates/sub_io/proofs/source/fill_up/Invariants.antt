@@ -5,7 +5,8 @@ use Rattle.sub_io.proofs.source.fill_up.Given as goal
 abbrev pub invariant-loop-at : goal.invariant-loop-at
 invariant-loop-at g l = record {
   bound : l.at ≤ length l.to;
-  bytes : Consumes (g.S.Source.remaining l.initial.source) (g.S.Source.remaining l.source) (take l.at l.to);
+  bytes : Consumes
+      (g.S.Source.remaining l.initial.source) (g.S.Source.remaining l.source) (take l.at l.to);
   count : g.S.Source.failure_count l.source ≡ g.S.Source.failure_count l.initial.source;
 }
 
