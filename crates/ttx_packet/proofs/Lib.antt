@@ -1,0 +1,9 @@
+pub mod OneBitLemmas
+pub mod Hamming84Lemmas
+pub mod ParityLemmas
+pub mod ControlLemmas
+pub mod NearPackets
+pub mod MadePackets
+pub mod BitOrderLemmas
+pub mod RowPacketLemmas
+pub mod PageIdLemmas

@@ -1,0 +1,192 @@
+-- What is read of the packets that are made: law_of_header_packet, law_of_row_packet.
+use Rattle.std.proofs.Common.{◌≡◌, ℕ, zero, suc, ◌+◌, ◌*◌, ◌/◌, ◌%◌, ◌<◌, ◌≤◌, inl, Bool, true, false, ◌==◌, cond, List, ◌∷◌, ◌++◌, length, map, replicate, Option, Some, None, slice_index, refl, sym, ap, ◌∙◌, subst, arith, eq-eqb, ne_eqb, IsTrue}
+use Rattle.std.proofs.lemmas.List.{get_or-map, length-map, ext_get_or}
+use Rattle.std.proofs.lemmas.Option.{same_Some}
+use Rattle.ttx_packet.specs.declared.control.Control.{Control}
+use Rattle.ttx_packet.specs.declared.header.Header.{Header}
+use Rattle.ttx_packet.specs.Hamming84.{IsCodeWord, code_word, decoded}
+use Rattle.ttx_packet.specs.Parity.{is_odd, code_of, odd_byte}
+use Rattle.ttx_packet.specs.PacketAddress.{PacketAddress, address, address_words}
+use Rattle.ttx_packet.specs.PageHeader.{bit, nibble, coded_header, header, header_numbers, header_packet, IsHeader, c4, c5, c6, c7, c8, c9, c10, c11, c12, c13, c14}
+use Rattle.ttx_packet.specs.RowPacket.{row_packet}
+use Rattle.ttx_packet.specs.Laws.{LawOfHeaderPacket, LawOfRowPacket}
+use Rattle.ttx_packet.proofs.Hamming84Lemmas.{decoded-code_word, code_word_is_exact}
+use Rattle.ttx_packet.proofs.ParityLemmas.{odd_of_code, code_of_odd}
+use Rattle.ttx_packet.proofs.ControlLemmas.{bit_small, nibble_small, control_is}
+
+-- ---- the header
+
+subcode_is : (n : ℕ) (b c d : Bool) → n < 0x4000 → n / 128 % 2 ≡ 0
+    → n % 16 + 16 * ((n / 16 % 8 + 8 * bit b) % 8) + 256 * (n / 256 % 16) + 4096 * ((n / 4096 % 4 + 4 * bit c + 8 * bit d) % 4) ≡ n
+subcode_is n b c d l gap =
+    let p : (n / 16 % 8 + 8 * bit b) % 8 ≡ n / 16 % 8 = omega arith in
+    let q : (n / 4096 % 4 + 4 * bit c + 8 * bit d) % 4 ≡ n / 4096 % 4 = omega arith in
+    rw (p, q) (omega arith)
+
+-- The numbers of the control bits, from the numbers that hold them.
+control_of : (n s2 s4 : ℕ) (c4 c5 c6 : Bool) → s2 < 8 → s4 < 4
+    → (s2 + 8 * bit c4) / 8 + 2 * ((s4 + 4 * bit c5 + 8 * bit c6) / 4) ≡ bit c4 + 2 * (bit c5 + 2 * bit c6)
+control_of n s2 s4 c4 c5 c6 l m = omega (arith, bit_small c4, bit_small c5, bit_small c6)
+
+-- What the coded bytes of a header packet say.
+coded_is : (magazine : ℕ) (h : Header) → IsHeader h → coded_header (header_packet magazine h) ≡ Some h
+unfolding coded_header header_packet
+coded_is magazine h is =
+    let e2 = decoded-code_word (h.page % 16) (omega arith) in
+    let e3 = decoded-code_word (h.page / 16) (omega (arith, is.page)) in
+    let e4 = decoded-code_word (h.subcode % 16) (omega arith) in
+    let e5 = decoded-code_word (h.subcode / 16 % 8 + 8 * bit (c4 h)) (omega (arith, bit_small (c4 h))) in
+    let e6 = decoded-code_word (h.subcode / 256 % 16) (omega arith) in
+    let e7 = decoded-code_word (h.subcode / 4096 % 4 + 4 * bit (c5 h) + 8 * bit (c6 h)) (omega (arith, bit_small (c5 h), bit_small (c6 h))) in
+    let e8 = decoded-code_word (nibble (c7 h) (c8 h) (c9 h) (c10 h)) (nibble_small (c7 h) (c8 h) (c9 h) (c10 h)) in
+    let e9 = decoded-code_word (nibble (c11 h) (c12 h) (c13 h) (c14 h)) (nibble_small (c11 h) (c12 h) (c13 h) (c14 h)) in
+    let page : h.page % 16 + 16 * (h.page / 16) ≡ h.page = omega arith in
+    let subcode = subcode_is h.subcode (c4 h) (c5 h) (c6 h) is.subcode is.no_bit_8 in
+    let low = control_of h.control.0 (h.subcode / 16 % 8) (h.subcode / 4096 % 4) (c4 h) (c5 h) (c6 h) (omega arith) (omega arith) in
+    let control = control_is h.control.0 is.control in
+    rw (e2, e3, e4, e5, e6, e7, e8, e9, page, subcode, low, control) refl
+
+-- ---- the address
+
+pub address_is : (magazine y : ℕ) (rest : List ℕ) → magazine < 8 → y < 32 → address (address_words magazine y ++ rest) ≡ Some (record { magazine = magazine; packet_number = y })
+unfolding address
+address_is magazine y rest m l =
+    let low = decoded-code_word ((magazine + 8 * y) % 16) (omega arith) in
+    let high = decoded-code_word ((magazine + 8 * y) / 16) (omega arith) in
+    let p : ((magazine + 8 * y) % 16 + 16 * ((magazine + 8 * y) / 16)) % 8 ≡ magazine = omega arith in
+    let q : ((magazine + 8 * y) % 16 + 16 * ((magazine + 8 * y) / 16)) / 8 ≡ y = omega arith in
+    rw (low, high, p, q) refl
+
+address_exact : (magazine y : ℕ) (rest : List ℕ) → magazine < 8 → y < 32 → (k : ℕ) → k < 2 → IsCodeWord (slice_index (address_words magazine y ++ rest) k)
+address_exact magazine y rest m l zero b = code_word_is_exact ((magazine + 8 * y) % 16) (omega arith)
+address_exact magazine y rest m l (suc zero) b = code_word_is_exact ((magazine + 8 * y) / 16) (omega arith)
+address_exact magazine y rest m l (suc (suc k)) b = absurd (omega arith)
+
+coded_exact : (magazine : ℕ) (h : Header) → IsHeader h → (k : ℕ) → 2 ≤ k → k < 10 → IsCodeWord (slice_index (header_packet magazine h) k)
+unfolding header_packet
+coded_exact magazine h is zero a b = absurd (omega arith)
+coded_exact magazine h is (suc zero) a b = absurd (omega arith)
+coded_exact magazine h is (suc (suc zero)) a b = code_word_is_exact _ (omega arith)
+coded_exact magazine h is (suc (suc (suc zero))) a b = code_word_is_exact _ (omega (arith, is.page))
+coded_exact magazine h is (suc (suc (suc (suc zero)))) a b = code_word_is_exact _ (omega arith)
+coded_exact magazine h is (suc (suc (suc (suc (suc zero))))) a b = code_word_is_exact (h.subcode / 16 % 8 + 8 * bit (c4 h)) (omega (arith, bit_small (c4 h)))
+coded_exact magazine h is (suc (suc (suc (suc (suc (suc zero)))))) a b = code_word_is_exact _ (omega arith)
+coded_exact magazine h is (suc (suc (suc (suc (suc (suc (suc zero))))))) a b = code_word_is_exact (h.subcode / 4096 % 4 + 4 * bit (c5 h) + 8 * bit (c6 h)) (omega (arith, bit_small (c5 h), bit_small (c6 h)))
+coded_exact magazine h is (suc (suc (suc (suc (suc (suc (suc (suc zero)))))))) a b = code_word_is_exact (nibble (c7 h) (c8 h) (c9 h) (c10 h)) (nibble_small (c7 h) (c8 h) (c9 h) (c10 h))
+coded_exact magazine h is (suc (suc (suc (suc (suc (suc (suc (suc (suc zero))))))))) a b = code_word_is_exact (nibble (c11 h) (c12 h) (c13 h) (c14 h)) (nibble_small (c11 h) (c12 h) (c13 h) (c14 h))
+coded_exact magazine h is (suc (suc (suc (suc (suc (suc (suc (suc (suc (suc k)))))))))) a b = absurd (omega arith)
+
+-- ---- the two laws
+
+header_whole : (magazine : ℕ) (h : Header) → length (header_packet magazine h) ≡ 42
+unfolding header_packet
+header_whole magazine h = refl
+
+header_address : (magazine : ℕ) (h : Header) → magazine < 8 → address (header_packet magazine h) ≡ Some (record { magazine = magazine; packet_number = 0 })
+unfolding header_packet
+header_address magazine h m = address_is magazine 0 (map code_word (header_numbers h) ++ replicate 32 0x20) m (omega arith)
+
+header_from : (packet : List ℕ) (a : PacketAddress) (h : Option Header) → address packet ≡ Some a → a.packet_number ≡ 0 → coded_header packet ≡ h → header packet ≡ h
+unfolding header
+header_from packet a h e z c = let t : (a.packet_number == 0) ≡ true = eq-eqb a.packet_number 0 z in rw (e, t) c
+
+header_exact : (magazine : ℕ) (h : Header) → magazine < 8 → (k : ℕ) → k < 2 → IsCodeWord (slice_index (header_packet magazine h) k)
+unfolding header_packet
+header_exact magazine h m = address_exact magazine 0 (map code_word (header_numbers h) ++ replicate 32 0x20) m (omega arith)
+
+pub law_of_header_packet : LawOfHeaderPacket
+law_of_header_packet magazine h m is =
+    let at = header_address magazine h m in
+    record {
+      whole = header_whole magazine h;
+      address = at;
+      header = header_from (header_packet magazine h) (record { magazine = magazine; packet_number = 0 }) (Some h) at refl (coded_is magazine h is);
+      exact = (header_exact magazine h m, λ a e z. coded_exact magazine h is);
+    }
+
+row_address : (magazine y : ℕ) (codes : List ℕ) → magazine < 8 → y < 32 → address (row_packet magazine y codes) ≡ Some (record { magazine = magazine; packet_number = y })
+unfolding row_packet
+row_address magazine y codes m l = address_is magazine y (map odd_byte codes) m l
+
+row_exact : (magazine y : ℕ) (codes : List ℕ) → magazine < 8 → y < 32 → (k : ℕ) → k < 2 → IsCodeWord (slice_index (row_packet magazine y codes) k)
+unfolding row_packet
+row_exact magazine y codes m l = address_exact magazine y (map odd_byte codes) m l
+
+row_whole : (magazine y : ℕ) (codes : List ℕ) → length codes ≡ 40 → length (row_packet magazine y codes) ≡ 42
+unfolding row_packet
+row_whole magazine y codes e = ap (λ n. suc (suc n)) (length-map codes odd_byte ∙ e)
+
+row_text : (magazine y : ℕ) (codes : List ℕ) (column : ℕ) → length codes ≡ 40 → column < 40 → slice_index (row_packet magazine y codes) (column + 2) ≡ odd_byte (slice_index codes column)
+unfolding row_packet
+row_text magazine y codes column e l =
+    let two : column + 2 ≡ suc (suc column) = omega arith in
+    ap (λ n. slice_index (address_words magazine y ++ map odd_byte codes) n) two ∙ get_or-map odd_byte codes column 0 0 (omega (arith, e))
+
+header_none : (packet : List ℕ) (a : PacketAddress) → address packet ≡ Some a → 1 ≤ a.packet_number → header packet ≡ None
+unfolding header
+header_none packet a e l = let t : (a.packet_number == 0) ≡ false = ne_eqb a.packet_number 0 (λ z. absurd (omega arith)) in rw (e, t) refl
+
+pub law_of_row_packet : LawOfRowPacket
+law_of_row_packet magazine y codes m one small forty all =
+    let at = row_address magazine y codes m small in
+    let code : (column : ℕ) → column < 40 → slice_index codes column < 128 = λ column l. all column 0 (omega (arith, forty)) in
+    let text : (column : ℕ) → column < 40 → slice_index (row_packet magazine y codes) (column + 2) ≡ odd_byte (slice_index codes column) = λ column l. row_text magazine y codes column forty l in
+    record {
+      whole = row_whole magazine y codes forty;
+      address = at;
+      header = header_none (row_packet magazine y codes) (record { magazine = magazine; packet_number = y }) at one;
+      exact = (row_exact magazine y codes m small, λ a e z. absurd (let same : y ≡ a.packet_number = ap (λ (x : PacketAddress). x.packet_number) (same_Some _ a (sym at ∙ e)) in omega (arith, same)));
+      text = λ column l. ap code_of (text column l) ∙ code_of_odd (slice_index codes column) (code column l);
+      odd = λ column l. subst (λ b. IsTrue (is_odd b)) (sym (text column l)) (odd_of_code (slice_index codes column) (code column l));
+    }
+
+-- ---- a packet that was made byte by byte
+
+row_first : (magazine y : ℕ) (codes : List ℕ) → slice_index (row_packet magazine y codes) 0 ≡ code_word ((magazine + 8 * y) % 16)
+unfolding row_packet
+row_first magazine y codes = refl
+
+row_second : (magazine y : ℕ) (codes : List ℕ) → slice_index (row_packet magazine y codes) 1 ≡ code_word ((magazine + 8 * y) / 16)
+unfolding row_packet
+row_second magazine y codes = refl
+
+pub row_packet-from_bytes : (magazine y : ℕ) (codes packet : List ℕ)
+    → length packet ≡ 42
+    → length codes ≡ 40
+    → slice_index packet 0 ≡ code_word ((magazine + 8 * y) % 16)
+    → slice_index packet 1 ≡ code_word ((magazine + 8 * y) / 16)
+    → ((k : ℕ) → k < 40 → slice_index packet (k + 2) ≡ odd_byte (slice_index codes k))
+    → packet ≡ row_packet magazine y codes
+row_packet-from_bytes magazine y codes packet size forty low high done =
+    ext_get_or 0 packet (row_packet magazine y codes) (size ∙ sym (row_whole magazine y codes forty)) (λ k below. at k (omega (arith, size)))
+  where
+    at : (k : ℕ) → k < 42 → slice_index packet k ≡ slice_index (row_packet magazine y codes) k
+    at zero l = low ∙ sym (row_first magazine y codes)
+    at (suc zero) l = high ∙ sym (row_second magazine y codes)
+    at (suc (suc k)) l =
+        let e : k + 2 ≡ suc (suc k) = omega arith in
+        subst (λ j. slice_index packet j ≡ slice_index (row_packet magazine y codes) j) e (done k (omega arith) ∙ sym (row_text magazine y codes k forty (omega arith)))
+
+-- ---- a header that was made byte by byte
+
+-- Ten words, each that of its number, and 32 spaces are the header packet.
+pub header_packet-from_words : (magazine : ℕ) (h : Header) (b0 b1 b2 b3 b4 b5 b6 b7 b8 b9 : ℕ)
+    → magazine < 8
+    → b0 ≡ code_word magazine
+    → b1 ≡ code_word 0
+    → b2 ≡ code_word (h.page % 0x10)
+    → b3 ≡ code_word (h.page / 0x10)
+    → b4 ≡ code_word (h.subcode % 0x10)
+    → b5 ≡ code_word (h.subcode / 0x10 % 8 + 8 * bit (c4 h))
+    → b6 ≡ code_word (h.subcode / 0x100 % 0x10)
+    → b7 ≡ code_word (h.subcode / 0x1000 % 4 + 4 * bit (c5 h) + 8 * bit (c6 h))
+    → b8 ≡ code_word (nibble (c7 h) (c8 h) (c9 h) (c10 h))
+    → b9 ≡ code_word (nibble (c11 h) (c12 h) (c13 h) (c14 h))
+    → b0 ∷ b1 ∷ b2 ∷ b3 ∷ b4 ∷ b5 ∷ b6 ∷ b7 ∷ b8 ∷ b9 ∷ replicate 32 0x20 ≡ header_packet magazine h
+unfolding header_packet
+header_packet-from_words magazine h b0 b1 b2 b3 b4 b5 b6 b7 b8 b9 l e0 e1 e2 e3 e4 e5 e6 e7 e8 e9 =
+    let low : magazine ≡ (magazine + 8 * 0) % 16 = omega arith in
+    let high : 0 ≡ (magazine + 8 * 0) / 16 = omega arith in
+    let f0 : b0 ≡ code_word ((magazine + 8 * 0) % 16) = e0 ∙ ap code_word low in
+    let f1 : b1 ≡ code_word ((magazine + 8 * 0) / 16) = e1 ∙ ap code_word high in
+    rw (f0, f1, e2, e3, e4, e5, e6, e7, e8, e9) refl

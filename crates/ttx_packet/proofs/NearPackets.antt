@@ -1,0 +1,51 @@
+-- A packet's address and header under one wrong bit in each byte: address-near, header-near.
+use Rattle.std.proofs.Common.{◌≡◌, ℕ, zero, suc, inl, ◌==◌, cond, Bool, true, false, List, [], ◌∷◌, slice_index, Option, Some, None, refl, arith, option_and_then, eqb-true}
+use Rattle.ttx_packet.specs.OneBit.{IsNear, AreNear}
+use Rattle.ttx_packet.specs.Hamming84.{IsCodeWord}
+use Rattle.ttx_packet.specs.PacketAddress.{decoded_at, address, PacketAddress, HasExactAddress}
+use Rattle.ttx_packet.specs.PageHeader.{coded_header, header, HasExactHeader, HasExactWords}
+use Rattle.ttx_packet.proofs.Hamming84Lemmas.{decoded-near}
+
+-- near lists are near at each place
+pub near_at : (sent got : List ℕ) (k : ℕ) → AreNear sent got → IsNear (slice_index sent k) (slice_index got k)
+near_at [] [] k near = inl refl
+near_at [] (g ∷ gs) k near = elim near [ ]
+near_at (c ∷ cs) [] k near = elim near [ ]
+near_at (c ∷ cs) (g ∷ gs) zero near = near.0
+near_at (c ∷ cs) (g ∷ gs) (suc k) near = near_at cs gs k near.1
+
+decoded_at-near : (sent got : List ℕ) (k : ℕ) → AreNear sent got → IsCodeWord (slice_index sent k) → decoded_at got k ≡ decoded_at sent k
+decoded_at-near sent got k near exact = decoded-near _ _ exact (near_at sent got k near)
+
+pub address-near : (sent got : List ℕ) → HasExactAddress sent → AreNear sent got → address got ≡ address sent
+unfolding address
+address-near sent got exact near =
+    let low = decoded_at-near sent got 0 near (exact 0 (omega arith)) in
+    let high = decoded_at-near sent got 1 near (exact 1 (omega arith)) in
+    rw (low, high)
+
+coded_header-near : (sent got : List ℕ) → HasExactHeader sent → AreNear sent got → coded_header got ≡ coded_header sent
+unfolding coded_header
+coded_header-near sent got exact near =
+    let e2 = decoded_at-near sent got 2 near (exact 2 (omega arith) (omega arith)) in
+    let e3 = decoded_at-near sent got 3 near (exact 3 (omega arith) (omega arith)) in
+    let e4 = decoded_at-near sent got 4 near (exact 4 (omega arith) (omega arith)) in
+    let e5 = decoded_at-near sent got 5 near (exact 5 (omega arith) (omega arith)) in
+    let e6 = decoded_at-near sent got 6 near (exact 6 (omega arith) (omega arith)) in
+    let e7 = decoded_at-near sent got 7 near (exact 7 (omega arith) (omega arith)) in
+    let e8 = decoded_at-near sent got 8 near (exact 8 (omega arith) (omega arith)) in
+    let e9 = decoded_at-near sent got 9 near (exact 9 (omega arith) (omega arith)) in
+    rw (e2, e3, e4, e5, e6, e7, e8, e9)
+
+cond_same : {A : Type 0} (b : Bool) (x y z : A) → (b ≡ true → x ≡ y) → cond b x z ≡ cond b y z
+cond_same true x y z h = h refl
+cond_same false x y z h = refl
+
+-- the header keeps, where a packet 0 has exact words in its coded bytes
+pub header-near : (sent got : List ℕ) → HasExactWords sent → AreNear sent got → header got ≡ header sent
+unfolding header
+header-near sent got exact near = rw (address-near sent got exact.0 near) (go (address sent) refl)
+  where
+    go : (o : Option PacketAddress) → address sent ≡ o → option_and_then (λ a. cond (a.packet_number == 0) (coded_header got) None) o ≡ option_and_then (λ a. cond (a.packet_number == 0) (coded_header sent) None) o
+    go None p = refl
+    go (Some a) p = cond_same (a.packet_number == 0) _ _ None (λ zero_number. coded_header-near sent got (exact.1 a p (eqb-true a.packet_number 0 zero_number)) near)

@@ -1,0 +1,19 @@
+use Rattle.std.proofs.Common.{ℕ, ◌+◌, ◌*◌, ◌/◌, ◌%◌, ap, ap₂, ◌∙◌}
+use Rattle.ttx_packet.specs.Hamming84.{code_word}
+use Rattle.ttx_packet.proofs.MadePackets.{header_packet-from_words}
+use Rattle.ttx_packet.proofs.packet.header_bytes.Goals as goal
+
+pub returns : goal.returns
+returns c =
+    let h = c.args.header.now in
+    header_packet-from_words c.args.magazine h _ _ _ _ _ _ _ _ _ _ c.requires.magazine
+    c.ham.ensures
+    c.ham-2.ensures
+    c.ham-3.ensures
+    c.ham-4.ensures
+    c.ham-5.ensures
+    (c.ham-6.ensures ∙ ap (λ (b : ℕ). code_word (h.subcode / 0x10 % 8 + 8 * b)) c.bit_of-c4.ensures.value)
+    c.ham-7.ensures
+    (c.ham-8.ensures ∙ ap₂ (λ (b d : ℕ). code_word (h.subcode / 0x1000 % 4 + 4 * b + 8 * d)) c.bit_of-c5.ensures.value c.bit_of-c6.ensures.value)
+    c.nibble_word.ensures
+    c.nibble_word-2.ensures

@@ -1,0 +1,85 @@
+-- What one wrong bit in each byte leaves of a packet, and what is read of a packet that was made.
+use Rattle.std.specs.Prelude.{◌≡◌, ◌≢◌, ◌↔◌, ℕ, ◌+◌, ◌<◌, ◌≤◌, List, length, Some, None, All, IsTrue, IsFalse}
+use Rattle.std.specs.Prelude.{slice_index}
+use Rattle.ttx_packet.specs.declared.header.Header.{Header}
+use Rattle.ttx_packet.specs.OneBit.{IsNear, AreNear}
+use Rattle.ttx_packet.specs.Hamming84.{Decodes, decoded}
+use Rattle.ttx_packet.specs.Parity.{is_odd, code_of}
+use Rattle.ttx_packet.specs.BitOrder.{mirror}
+use Rattle.ttx_packet.specs.PacketAddress.{address, HasExactAddress}
+use Rattle.ttx_packet.specs.PageHeader.{header, HasExactWords, header_packet, IsHeader}
+use Rattle.ttx_packet.specs.RowPacket.{text_byte, HasOddText, row_packet}
+
+-- A byte decodes to a number exactly where it is within one bit of the number's code word; so it
+-- decodes to no second one.
+abbrev pub LawOfDecoding : Type 0
+LawOfDecoding = (b n : ℕ) → decoded b ≡ Some n ↔ Decodes b n
+
+-- One wrong bit in each byte leaves an address of code words as it was.
+-- So a receiver that corrects Hamming 8/4 never takes such noise for another packet.
+abbrev pub LawOfAddress : Type 0
+LawOfAddress =
+    (sent got : List ℕ)
+    → HasExactAddress sent
+    → AreNear sent got
+    → address got ≡ address sent
+
+-- One wrong bit in each byte leaves the header of a packet of code words as it was.
+-- So a receiver that corrects Hamming 8/4 never takes such noise for another page.
+abbrev pub LawOfHeader : Type 0
+LawOfHeader =
+    (sent got : List ℕ)
+    → HasExactWords sent
+    → AreNear sent got
+    → header got ≡ header sent
+
+-- A byte of odd parity with one bit changed has even parity.
+-- So a receiver sees each such hit in a row.
+abbrev pub LawOfParity : Type 0
+LawOfParity =
+    (sent got : ℕ)
+    → IsTrue (is_odd sent)
+    → IsNear sent got
+    → got ≢ sent
+    → IsFalse (is_odd got)
+
+-- A byte mirrored twice is the byte.
+abbrev pub LawOfMirror : Type 0
+LawOfMirror = (b : ℕ) → b < 0x100 → mirror (mirror b) ≡ b
+
+-- What is read of a packet that was made from a header: that header, in code words alone.
+pub record IsMadeHeader (magazine : ℕ) (h : Header) (packet : List ℕ) : Type 0 where
+  pub whole : length packet ≡ 42
+  pub address : address packet ≡ Some (record { magazine = magazine; packet_number = 0 })
+  pub header : header packet ≡ Some h
+  pub exact : HasExactWords packet
+
+-- A header packet says the header that it was made from.
+abbrev pub LawOfHeaderPacket : Type 0
+LawOfHeaderPacket =
+    (magazine : ℕ) (h : Header)
+    → magazine < 8
+    → IsHeader h
+    → IsMadeHeader magazine h (header_packet magazine h)
+
+-- What is read of a packet that was made from a row of codes: those codes, in bytes of odd parity.
+pub record IsMadeRow (magazine row : ℕ) (codes packet : List ℕ) : Type 0 where
+  pub whole : length packet ≡ 42
+  pub address : address packet ≡ Some (record { magazine = magazine; packet_number = row })
+  pub header : header packet ≡ None
+  pub exact : HasExactWords packet
+  pub text : (column : ℕ)
+      → column < 40
+      → code_of (text_byte packet column) ≡ slice_index codes column
+  pub odd : HasOddText packet
+
+-- A row packet says the row and the codes that it was made from.
+abbrev pub LawOfRowPacket : Type 0
+LawOfRowPacket =
+    (magazine row : ℕ) (codes : List ℕ)
+    → magazine < 8
+    → 1 ≤ row
+    → row < 32
+    → length codes ≡ 40
+    → All (λ code. code < 0x80) codes
+    → IsMadeRow magazine row codes (row_packet magazine row codes)

@@ -1,0 +1,9 @@
+pub mod OneBit
+pub mod Hamming84
+pub mod Parity
+pub mod BitOrder
+pub mod PacketAddress
+pub mod PageHeader
+pub mod RowPacket
+pub mod PageId
+pub mod Laws

@@ -1,0 +1,144 @@
+-- The page header, packet X/0 (EN 300 706, page header): eight Hamming 8/4 bytes and 32 text bytes.
+--
+--   byte       D1      D2      D3      D4
+--   2          page units, 4 bits
+--   3          page tens, 4 bits
+--   4          S1, 4 bits
+--   5          S2, 3 bits              C4
+--   6          S3, 4 bits
+--   7          S4, 2 bits      C5      C6
+--   8          C7      C8      C9      C10
+--   9          C11     C12     C13     C14
+--   10 to 41   text, odd parity
+--
+-- C4 erase page, C5 newsflash, C6 subtitle, C7 suppress header, C8 update indicator, C9 interrupted
+-- sequence, C10 inhibit display, C11 magazine serial, C12 to C14 national option character sub-set.
+use Rattle.std.specs.Prelude.{◌≡◌, ℕ, ◌+◌, ◌*◌, ◌/◌, ◌%◌, ◌<◌, ◌≤◌, Bool, true, false, List, [], ◌∷◌, ◌++◌}
+use Rattle.std.specs.Prelude.{Option, Some, None, ◌==◌, map, replicate, slice_index, bit_and, if◌then◌else◌}
+use Rattle.ttx_packet.specs.Hamming84.{IsCodeWord, code_word}
+use Rattle.ttx_packet.specs.PacketAddress.{◌>>=◌, PacketAddress, decoded_at, address, HasExactAddress, address_words}
+use Rattle.ttx_packet.specs.declared.control.Control.{Control}
+use Rattle.ttx_packet.specs.declared.header.Header.{Header}
+
+-- Whether a bit of the control bits is set. C4 is bit 1 of their number, C14 is bit 11.
+abbrev pub is_set : Control → ℕ → Bool
+is_set control bit = bit_and control.0 bit == bit
+
+-- Erase page: the page is blanked before what follows the header.
+abbrev pub c4 : Header → Bool
+c4 h = is_set h.control 1
+
+-- Newsflash.
+abbrev pub c5 : Header → Bool
+c5 h = is_set h.control 2
+
+-- Subtitle.
+abbrev pub c6 : Header → Bool
+c6 h = is_set h.control 4
+
+-- Suppress header.
+abbrev pub c7 : Header → Bool
+c7 h = is_set h.control 8
+
+-- Update indicator.
+abbrev pub c8 : Header → Bool
+c8 h = is_set h.control 0x10
+
+-- Interrupted sequence.
+abbrev pub c9 : Header → Bool
+c9 h = is_set h.control 0x20
+
+-- Inhibit display.
+abbrev pub c10 : Header → Bool
+c10 h = is_set h.control 0x40
+
+-- Magazine serial: set in serial mode, clear in parallel mode.
+abbrev pub c11 : Header → Bool
+c11 h = is_set h.control 0x80
+
+-- National option character sub-set, first bit.
+abbrev pub c12 : Header → Bool
+c12 h = is_set h.control 0x100
+
+-- National option character sub-set, second bit.
+abbrev pub c13 : Header → Bool
+c13 h = is_set h.control 0x200
+
+-- National option character sub-set, third bit.
+abbrev pub c14 : Header → Bool
+c14 h = is_set h.control 0x400
+
+-- What the eight coded bytes say, whatever the address: none where one of them decodes to nothing.
+unfoldable pub coded_header : List ℕ → Option Header
+coded_header packet = do
+  units ← decoded_at packet 2
+  tens ← decoded_at packet 3
+  s1 ← decoded_at packet 4
+  s2_c4 ← decoded_at packet 5
+  s3 ← decoded_at packet 6
+  s4_c6 ← decoded_at packet 7
+  c7_c10 ← decoded_at packet 8
+  c11_c14 ← decoded_at packet 9
+  Some
+      (record {
+        page = units + 0x10 * tens;
+        subcode = s1 + 0x10 * (s2_c4 % 8) + 0x100 * s3 + 0x1000 * (s4_c6 % 4);
+        control = record { 0 = s2_c4 / 8 + 2 * (s4_c6 / 4) + 8 * c7_c10 + 0x80 * c11_c14 };
+      })
+
+-- The header of a packet with packet number 0: none for another packet.
+unfoldable pub header : List ℕ → Option Header
+header packet = do
+  a ← address packet
+  if a.packet_number == 0 then coded_header packet else None
+
+-- The eight coded bytes of a header are code words, with no bit wrong.
+abbrev pub HasExactHeader : List ℕ → Type 0
+HasExactHeader packet =
+    (place : ℕ) → 2 ≤ place → place < 10 → IsCodeWord (slice_index packet place)
+
+-- Both address bytes are code words, and in a packet with packet number 0 the eight coded bytes too.
+abbrev pub HasExactWords : List ℕ → Type 0
+HasExactWords packet =
+    HasExactAddress packet
+    × ((a : PacketAddress)
+    → address packet ≡ Some a
+    → a.packet_number ≡ 0
+    → HasExactHeader packet)
+
+-- ---- headers as they are made
+
+-- A bit as a number.
+abbrev pub bit : Bool → ℕ
+bit true = 1
+bit false = 0
+
+-- The number whose data bits D1 to D4 are these.
+abbrev pub nibble : Bool → Bool → Bool → Bool → ℕ
+nibble d1 d2 d3 d4 = bit d1 + 2 * bit d2 + 4 * bit d3 + 8 * bit d4
+
+-- The eight numbers of a header, placed as in the table above.
+abbrev pub header_numbers : Header → List ℕ
+header_numbers h =
+    (h.page % 0x10)
+    ∷ (h.page / 0x10)
+    ∷ (h.subcode % 0x10)
+    ∷ (h.subcode / 0x10 % 8 + 8 * bit (c4 h))
+    ∷ (h.subcode / 0x100 % 0x10)
+    ∷ (h.subcode / 0x1000 % 4 + 4 * bit (c5 h) + 8 * bit (c6 h))
+    ∷ nibble (c7 h) (c8 h) (c9 h) (c10 h)
+    ∷ nibble (c11 h) (c12 h) (c13 h) (c14 h)
+    ∷ []
+
+-- The header as a packet of a magazine, with 32 spaces as its text.
+unfoldable pub header_packet : ℕ → Header → List ℕ
+header_packet magazine h =
+    address_words magazine 0 ++ map code_word (header_numbers h) ++ replicate 32 0x20
+
+-- What a header can say: a page number of two digits, a subcode with no bit outside 3F7F, and no
+-- control bit but C4 to C14.
+pub record IsHeader (h : Header) : Type 0 where
+  pub page : h.page < 0x100
+  pub subcode : h.subcode < 0x4000
+  pub no_bit_8 : h.subcode / 0x80 % 2 ≡ 0
+  pub control : h.control.0 < 0x800

@@ -1,0 +1,36 @@
+-- Page numbers as people write them (EN 300 706, page number): a magazine digit 1 to 8 and two
+-- hexadecimal digits, 100 to 8FE.
+use Rattle.std.specs.Prelude.{ℕ, ◌+◌, ◌-◌, ◌*◌, ◌%◌, Bool, ◌&&◌, ◌||◌, List, [], ◌∷◌, Option, Some, None}
+use Rattle.std.specs.Prelude.{◌==◌, nat_le, if◌then◌else◌, not}
+use Rattle.ttx_packet.specs.PacketAddress.{◌>>=◌}
+
+-- A page: its magazine, 0 to 7, where 0 is magazine 8, and its page number.
+pub record PageIdValue : Type 0 where
+  pub magazine : ℕ
+  pub page : ℕ
+
+-- Whether a byte is one of the ASCII characters from one to another.
+abbrev pub is_from : ℕ → ℕ → ℕ → Bool
+is_from first last b = nat_le first b && nat_le b last
+
+-- The value of a hexadecimal digit, of either case, in ASCII.
+abbrev pub hexadecimal_digit : ℕ → Option ℕ
+hexadecimal_digit b =
+    if is_from 0x30 0x39 b then Some (b - 0x30)
+    else (if is_from 0x61 0x66 b then Some (b - 0x57)
+    else (if is_from 0x41 0x46 b then Some (b - 0x37) else None))
+
+-- The page of a magazine digit and a page number. Page number FF is not displayed, so no page has it.
+abbrev pub page_of_numbers : ℕ → ℕ → Option PageIdValue
+page_of_numbers digit page =
+    if is_from 0x31 0x38 digit && not (page == 0xFF)
+    then Some (record { magazine = (digit - 0x30) % 8; page = page })
+    else None
+
+-- The page that a text names.
+unfoldable pub page_of_text : List ℕ → Option PageIdValue
+page_of_text (magazine ∷ tens ∷ units ∷ []) = do
+  high ← hexadecimal_digit tens
+  low ← hexadecimal_digit units
+  page_of_numbers magazine (0x10 * high + low)
+page_of_text _ = None

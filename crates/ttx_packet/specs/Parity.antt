@@ -1,0 +1,18 @@
+-- Odd parity (EN 300 706, 8.1): seven code bits, and bit 8 that makes the count of ones odd.
+use Rattle.std.specs.Prelude.{ℕ, ◌+◌, ◌%◌, Bool, ◌==◌, if◌then◌else◌, count_ones, IsTrue}
+
+-- Whether the count of ones in a byte is odd.
+unfoldable pub is_odd : ℕ → Bool
+is_odd b = count_ones b % 2 == 1
+
+-- The count of ones in a byte is odd.
+abbrev pub IsOdd : ℕ → Type 0
+IsOdd b = IsTrue (is_odd b)
+
+-- The seven code bits of a text byte.
+abbrev pub code_of : ℕ → ℕ
+code_of b = b % 0x80
+
+-- The byte of odd parity with these seven code bits.
+abbrev pub odd_byte : ℕ → ℕ
+odd_byte code = if is_odd code then code else code + 0x80

@@ -1,0 +1,322 @@
+//! A packet of 42 bytes: its address, its header, its text.
+ghost use Rattle.std.specs.Prelude.{◌≡◌, ◌≤◌, ◌<◌, ◌↔◌, ℕ, IfSome, IsNone, IsTrue};
+ghost use Rattle.std.specs.Prelude.{drop, map, option_map, slice_index};
+ghost use Rattle.ttx_packet.specs.BitOrder.{mirror};
+ghost use Rattle.ttx_packet.specs.PacketAddress.{HasExactAddress, IsPacket, address, address_pair};
+ghost use Rattle.ttx_packet.specs.Hamming84.{code_word};
+ghost use Rattle.ttx_packet.specs.PageHeader.{bit, header_packet, is_set, nibble};
+ghost use Rattle.ttx_packet.specs.RowPacket.{HasOddText, first_even_byte, row_packet};
+
+use crate::bit_order::mirrored;
+use crate::control::Control;
+use crate::hamming::{ham, is_word, unham};
+use crate::header::Header;
+use crate::parity::{is_odd, par};
+use bitflags::Flags;
+use std::marker::Model;
+
+/// A Teletext packet (EN 300 706): two address bytes and 40 data bytes, in the order of sending, bit 1
+/// the least significant bit of a byte. Run-in and framing code are left out.
+#[derive(Clone, Copy, Debug, PartialEq, Eq)]
+pub struct Packet {
+    bytes: [u8; 42],
+}
+
+impl Model for Packet {
+    ghost use Rattle.std.specs.Prelude.{ℕ, List};
+    ghost use Rattle.ttx_packet.specs.PacketAddress.{IsPacket};
+
+    ghost Value = { List ℕ };
+
+    ghost view = { λ p. p.bytes };
+
+    ghost invariant = { λ p. IsPacket p.bytes };
+
+    ghost inverse = { λ bytes. record { bytes = bytes } };
+}
+
+impl Packet {
+    ghost use Rattle.ttx_packet.specs.PageHeader.{HasExactHeader, coded_header, header, header_packet};
+
+    /// The packet of these 42 bytes, whatever they are.
+    pub fn new(bytes: [u8; 42]) -> Packet
+        ensures { result ≡ bytes }
+    {
+        Packet { bytes }
+    }
+
+    /// The 42 bytes.
+    pub fn bytes(&self) -> &[u8; 42]
+        ensures value { result.now ≡ self.now }
+        ensures whole { IsPacket self.now }
+    {
+        &self.bytes
+    }
+
+    /// The 40 data bytes, behind the address: of a row, the byte of each column.
+    pub fn data(&self) -> &[u8; 40]
+        ensures { result.now ≡ drop 2 self.now }
+    {
+        self.bytes.last_chunk().unwrap()
+    }
+
+    /// The 42 bytes as a DVB data unit carries them, each with its bits in the other order (EN 300 472,
+    /// data field syntax).
+    pub fn mirrored(&self) -> [u8; 42]
+        ensures { result ≡ map mirror self.now }
+    {
+        mirrored(&self.bytes)
+    }
+
+    /// The magazine, 0 to 7, and the packet number Y, 0 to 31, each wrong bit corrected (EN 300 706,
+    /// magazine and packet address). Magazine 0 is magazine 8.
+    ///
+    /// `None` where an address byte decodes to nothing.
+    #[tactic(auto, unfolding(crate::specs::PacketAddress::address))]
+    pub fn address(&self) -> Option<(u8, u8)>
+        ensures value { result ≡ option_map address_pair (address self.now) }
+        ensures small { IfSome result (λ a. (a.0 < 8) × (a.1 < 32)) }
+    {
+        let low = unham(self.bytes[0])?;
+        let high = unham(self.bytes[1])?;
+        let number = low + 16 * high;
+        Some((number % 8, number / 8))
+    }
+
+    /// What the page header says, each wrong bit corrected (EN 300 706, page header).
+    ///
+    /// `None` where the packet is no packet X/0, or one of the eight coded bytes decodes to nothing.
+    #[tactic(auto, unfolding(crate::specs::PageHeader::header))]
+    pub fn header(&self) -> Option<Header>
+        ensures { result ≡ header self.now }
+    {
+        let (_, packet_number) = self.address()?;
+        if packet_number != 0 {
+            return None;
+        }
+        self.coded_header()
+    }
+
+    /// What the eight coded bytes of a header say, whatever the address: for a caller that has read
+    /// the address already.
+    ///
+    /// `None` where one of them decodes to nothing.
+    #[tactic(auto, unfolding(crate::specs::PageHeader::coded_header))]
+    pub fn coded_header(&self) -> Option<Header>
+        ensures { result ≡ coded_header self.now }
+    {
+        let units = unham(self.bytes[2])?;
+        let tens = unham(self.bytes[3])?;
+        let s1 = unham(self.bytes[4])?;
+        let s2_c4 = unham(self.bytes[5])?;
+        let s3 = unham(self.bytes[6])?;
+        let s4_c6 = unham(self.bytes[7])?;
+        let c7_c10 = unham(self.bytes[8])?;
+        let c11_c14 = unham(self.bytes[9])?;
+        let subcode = u16::from(s1)
+            + 0x10 * u16::from(s2_c4 % 8)
+            + 0x100 * u16::from(s3)
+            + 0x1000 * u16::from(s4_c6 % 4);
+        let bits = u16::from(s2_c4 / 8)
+            + 2 * u16::from(s4_c6 / 4)
+            + 8 * u16::from(c7_c10)
+            + 0x80 * u16::from(c11_c14);
+        Some(Header {
+            page: units + 0x10 * tens,
+            subcode,
+            control: Control::from_bits_retain(bits),
+        })
+    }
+
+    /// Whether both address bytes are code words, with no bit to correct (EN 300 706, 8.2).
+    pub fn is_clean_address(&self) -> bool
+        ensures { IsTrue result ↔ HasExactAddress self.now }
+    {
+        is_word(self.bytes[0]) && is_word(self.bytes[1])
+    }
+
+    /// Whether the eight coded bytes of a header are code words, with no bit to correct (EN 300 706,
+    /// 8.2). The address is not looked at.
+    pub fn is_clean_header(&self) -> bool
+        ensures { IsTrue result ↔ HasExactHeader self.now }
+    {
+        for place in 2..10usize {
+            if !is_word(self.bytes[place]) {
+                return false;
+            }
+        }
+        true
+    }
+
+    /// The first of the 40 data bytes with even parity, 0 to 39. `None` where all are odd.
+    pub fn first_even(&self) -> Option<u8>
+        ensures value { result ≡ first_even_byte self.now }
+        ensures odd { IsNone result ↔ HasOddText self.now }
+    {
+        for column in 0..40usize {
+            if !is_odd(self.bytes[column + 2]) {
+                return Some(column as u8);
+            }
+        }
+        None
+    }
+
+    /// The header of a page of a magazine as a packet, with 32 spaces as its text (EN 300 706, page
+    /// header).
+    ///
+    /// `magazine` is 0 to 7; the subcode has no bit outside `0x3F7F`, and the control bits are C4 to
+    /// C14 alone.
+    pub fn of_header(magazine: u8, header: &Header) -> Packet
+        requires magazine { magazine < 8 }
+        requires subcode { header.now.subcode < 0x4000 }
+        ensures { result ≡ header_packet magazine header.now }
+    {
+        Packet::new(header_bytes(magazine, header))
+    }
+
+    /// A row of a page as packet X/1 to X/24: 40 bytes of odd parity (EN 300 706, packets for direct
+    /// display).
+    ///
+    /// `magazine` is 0 to 7, `row` 1 to 24, and the codes are below 128.
+    pub fn of_row(magazine: u8, row: u8, codes: &[u8; 40]) -> Packet
+        requires magazine { magazine < 8 }
+        requires first { 1 ≤ row }
+        requires last { row ≤ 24 }
+        requires codes { (k : ℕ) → slice_index codes.now k < 0x80 }
+        ensures { result ≡ row_packet magazine row codes.now }
+    {
+        Packet::new(row_bytes(magazine, row, codes))
+    }
+}
+
+// A control bit as a number.
+fn bit_of(control: Control, flag: Control) -> u8
+    ensures value { result ≡ bit (is_set control flag.0) }
+    ensures small { result < 2 }
+{
+    if control.contains(flag) { 1 } else { 0 }
+}
+
+// The code word whose data bits D1 to D4 are these control bits.
+fn nibble_word(control: Control, d1: Control, d2: Control, d3: Control, d4: Control) -> u8
+    ensures { result ≡ code_word (nibble (is_set control d1.0) (is_set control d2.0)
+        (is_set control d3.0) (is_set control d4.0)) }
+{
+    ham(
+        bit_of(control, d1)
+            + 2 * bit_of(control, d2)
+            + 4 * bit_of(control, d3)
+            + 8 * bit_of(control, d4),
+    )
+}
+
+// The bytes of a header.
+#[tactic(auto, unfolding(crate::specs::PageHeader::header_packet))]
+fn header_bytes(magazine: u8, header: &Header) -> [u8; 42]
+    requires magazine { magazine < 8 }
+    requires subcode { header.now.subcode < 0x4000 }
+    ensures { result ≡ header_packet magazine header.now }
+{
+    let control = header.control;
+    let subcode = header.subcode;
+    let c4 = bit_of(control, Control::C4);
+    let c5 = bit_of(control, Control::C5);
+    let c6 = bit_of(control, Control::C6);
+    let mut bytes = [0x20; 42];
+    bytes[0] = ham(magazine);
+    bytes[1] = ham(0);
+    bytes[2] = ham(header.page % 0x10);
+    bytes[3] = ham(header.page / 0x10);
+    bytes[4] = ham((subcode % 0x10) as u8);
+    bytes[5] = ham((subcode / 0x10 % 8) as u8 + 8 * c4);
+    bytes[6] = ham((subcode / 0x100 % 0x10) as u8);
+    bytes[7] = ham((subcode / 0x1000 % 4) as u8 + 4 * c5 + 8 * c6);
+    bytes[8] = nibble_word(control, Control::C7, Control::C8, Control::C9, Control::C10);
+    bytes[9] = nibble_word(
+        control,
+        Control::C11,
+        Control::C12,
+        Control::C13,
+        Control::C14,
+    );
+    bytes
+}
+
+// The bytes of a row.
+fn row_bytes(magazine: u8, row: u8, codes: &[u8; 40]) -> [u8; 42]
+    requires magazine { magazine < 8 }
+    requires last { row ≤ 24 }
+    requires codes { (k : ℕ) → slice_index codes.now k < 0x80 }
+    ensures { result ≡ row_packet magazine row codes.now }
+{
+    let number = magazine + 8 * row;
+    let mut bytes = [0; 42];
+    bytes[0] = ham(number % 16);
+    bytes[1] = ham(number / 16);
+    for column in 0..40usize {
+        bytes[column + 2] = par(codes[column]);
+    }
+    bytes
+}
+
+#[cfg(test)]
+mod tests {
+    use super::*;
+
+    // The header of page 888 in parallel mode, with a text of spaces.
+    const HEADER_888: [u8; 10] = [0x15, 0x15, 0xD0, 0xD0, 0x15, 0xD0, 0x15, 0xD0, 0x02, 0x15];
+
+    #[test]
+    fn makes_and_reads_a_header(rt: HostRuntime) {
+        let control = Control::C4.union(Control::C6).union(Control::C7);
+        let header = Header {
+            page: 0x88,
+            subcode: 0,
+            control,
+        };
+        let packet = Packet::of_header(0, &header);
+        let mut bytes = [0x20; 42];
+        bytes[..10].copy_from_slice(&HEADER_888);
+        assert_eq!(rt; *packet.bytes(), bytes);
+        assert_eq!(rt; packet.data()[0], 0xD0);
+        assert_eq!(rt; packet.mirrored()[3], 0x0B);
+        assert!(rt; packet.is_clean_address() && packet.is_clean_header());
+        assert_eq!(rt; packet.address(), Some((0, 0)));
+        assert_eq!(rt; packet.header(), Some(header));
+        assert_eq!(rt; packet.coded_header(), Some(header));
+        assert_eq!(rt; Packet::new(*packet.bytes()), packet);
+    }
+
+    #[test]
+    fn reads_addresses(rt: HostRuntime) {
+        // the two address bytes, magazine and packet number
+        for (first, second, want) in [
+            (0x15, 0x8C, Some((0, 20))),
+            (0xD0, 0x8C, Some((0, 21))),
+            (0x15, 0x9B, Some((0, 22))),
+            (0x15, 0xB6, Some((0, 26))),
+            (0x02, 0x15, Some((1, 0))),
+            (0x16, 0x15, None), // two bits wrong
+        ] {
+            let mut bytes = [0x20; 42];
+            bytes[0] = first;
+            bytes[1] = second;
+            assert_eq!(rt;
+                Packet::new(bytes).address(),
+                want,
+                "of {first:#04X} {second:#04X}"
+            );
+        }
+    }
+
+    #[test]
+    fn makes_and_reads_a_row(rt: HostRuntime) {
+        let packet = Packet::of_row(0, 22, &[0x41; 40]);
+        let sent = packet.bytes();
+        assert!(rt; sent[0] == 0x15 && sent[1] == 0x9B && sent[2] == 0xC1 && sent[41] == 0xC1);
+        assert_eq!(rt; packet.first_even(), None);
+        let mut bytes = *packet.bytes();
+        bytes[41] = 0x41;
+        assert_eq!(rt; Packet::new(bytes).first_even(), Some(39));
+    }
+}
