@@ -41,8 +41,8 @@ pub trait Source {
 ///
 /// # Errors
 ///
-/// `Failed` at the first pull that fails: some bytes may have been taken, and what `to` holds is
-/// not said.
+/// `Failed` at the first pull that fails: some bytes may have been taken, fewer than `to.len()`, and
+/// what `to` holds is not said.
 pub fn fill<S: Source>(source: &mut S, to: &mut [u8]) -> Result<usize, Failed>
     requires { S.failure_count source.old < u64.MAX }
     ensures bound { IfOk result (λ n. n ≤ length to.new) }
@@ -56,7 +56,7 @@ pub fn fill<S: Source>(source: &mut S, to: &mut [u8]) -> Result<usize, Failed>
     ensures told { IfTold (S.remaining source.old) (λ bytes.
         IfOk result (λ n. Told bytes n (S.remaining source.new) to.new)) }
     ensures fit { AreBytes to.new }
-    ensures err { OnErr result ((bytes : List ℕ)
+    ensures err { OnErr result ((bytes : List ℕ) × (length bytes < length to.new)
         × Consumes (S.remaining source.old) (S.remaining source.new) bytes) }
     ensures count { CountsFailure (S.failure_count source.old) result (S.failure_count source.new) }
 {
@@ -68,7 +68,7 @@ fn fill_up<S: Source>(source: &mut S, to: &mut [u8]) -> Result<usize, Failed>
     requires { S.failure_count source.old < u64.MAX }
     ensures fills { IfOk result (λ n.
         Fills (S.remaining source.old) n (S.remaining source.new) to.new) }
-    ensures err { OnErr result ((bytes : List ℕ)
+    ensures err { OnErr result ((bytes : List ℕ) × (length bytes < length to.new)
         × Consumes (S.remaining source.old) (S.remaining source.new) bytes) }
     ensures count { CountsFailure (S.failure_count source.old) result (S.failure_count source.new) }
 {
