@@ -10,7 +10,7 @@ use borrow.Rule.Slice.PartMut.{put_mid, post_of}
 use Rattle.std.proofs.lemmas.List.{take_rest}
 use Rattle.std.proofs.Math.Seq.{take-append-add, take-length}
 use lib.Seq.{take-add, take-append-le}
-use Rattle.sub_io.specs.Device.{AppendsPrefix, Fills, Told}
+use Rattle.sub_io.specs.Device.{AppendsPrefix, Fills, Told, Writes}
 use Rattle.sub_io.specs.Reading.{IfTold}
 use Rattle.sub_io.specs.declared.source.Failed.{Failed}
 
@@ -101,3 +101,16 @@ pub AppendsPrefix-whole : (old new : Option (List ℕ)) (xs : List ℕ)
     → AppendsPrefix old new xs
 AppendsPrefix-whole old new xs p =
     (length xs, le_refl (length xs), subst (Appends old new) (sym (take-length xs)) p)
+
+-- a put after one that added all its bytes: what the two together did
+pub Writes-after : {X E : Type 0} (old mid new : Option (List ℕ)) (xs ys : List ℕ)
+    → (result : Result X E)
+    → Appends old mid xs
+    → Writes mid new ys result
+    → Writes old new (xs ++ ys) result
+Writes-after old mid new xs ys (Ok value) p q = Appends-trans old mid new xs ys p q
+Writes-after old mid new xs ys (Err fault) p q = AppendsPrefix-second old mid new xs ys p q
+
+-- for a function of two or more puts: `using(sub_io::proofs::DeviceLemmas::prefixes)`
+pub ruleset prefixes =
+    (AppendsPrefix-first, AppendsPrefix-second, AppendsPrefix-whole, Writes-after)

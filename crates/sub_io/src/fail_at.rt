@@ -10,7 +10,8 @@ use std::marker::Model;
 
 /// A device that passes all calls but one on to the device inside; that one fails and does nothing.
 ///
-/// It is a source where the device inside is one, and a sink where that is one.
+/// It is a source where the device inside is one, and a sink where that is one. Contracts see it as
+/// the device inside and its countdown.
 #[derive(Drop)]
 pub struct FailAt<D> {
     inner: D,

@@ -1,4 +1,4 @@
-//! Devices over std's readers and writers.
+//! Devices over std's readers and writers: files, standard input and output.
 
 ghost use Rattle.std.specs.Prelude.{◌≡◌, ℕ, ◌+◌};
 ghost use Rattle.sub_io.specs.Counted.{Counted};
@@ -7,7 +7,11 @@ use crate::{Failed, Sink, Source};
 use std::io::{Read, Write};
 use std::marker::Model;
 
-/// A source over a reader. Each of its errors is a failure, and no call is tried again.
+/// A source over a reader of std, as a buffered file. One pull is one `read`.
+///
+/// Each error of the reader is a failure, `Interrupted` too: no call is tried again.
+///
+/// Contracts see it as the reader and its count of failures.
 #[derive(Drop)]
 pub struct FromRead<R> {
     inner: R,
@@ -34,6 +38,11 @@ impl<R: Read> Source for FromRead<R> {
 
     ghost failure_count = { λ s. s.failure_count };
 
+    /// Reads once.
+    ///
+    /// # Errors
+    ///
+    /// `Failed` at each error of the reader.
     fn pull(&mut self, to: &mut [u8]) -> Result<usize, Failed> {
         match self.inner.read(to) {
             Ok(n) => Ok(n),
@@ -44,12 +53,17 @@ impl<R: Read> Source for FromRead<R> {
         }
     }
 
+    /// How many reads have failed.
     fn failures(&self) -> u64 {
         self.failures
     }
 }
 
-/// A sink over a writer. Each of its errors is a failure, and so is a write that takes no byte.
+/// A sink over a writer of std. One push is one `write`; it is never flushed from here.
+///
+/// Each error of the writer is a failure, `Interrupted` too, and so is a write that takes no byte.
+///
+/// Contracts see it as the writer and its count of failures.
 #[derive(Drop)]
 pub struct IntoWrite<W> {
     inner: W,
@@ -76,6 +90,11 @@ impl<W: Write> Sink for IntoWrite<W> {
 
     ghost failure_count = { λ s. s.failure_count };
 
+    /// Writes once.
+    ///
+    /// # Errors
+    ///
+    /// `Failed` at each error of the writer, and where it takes no byte.
     fn push(&mut self, from: &[u8]) -> Result<usize, Failed> {
         match self.inner.write(from) {
             Ok(n) if n > 0 => Ok(n),
@@ -86,6 +105,7 @@ impl<W: Write> Sink for IntoWrite<W> {
         }
     }
 
+    /// How many writes have failed or taken no byte.
     fn failures(&self) -> u64 {
         self.failures
     }
