@@ -41,8 +41,8 @@ pub trait Source {
 ///
 /// # Errors
 ///
-/// `Failed` at the first pull that fails: some bytes may have been taken, fewer than `to.len()`, and
-/// what `to` holds is not said.
+/// `Failed` at the first pull that fails: some bytes may have been taken, fewer than `to.len()`,
+/// and what `to` holds is not said.
 pub fn fill<S: Source>(source: &mut S, to: &mut [u8]) -> Result<usize, Failed>
     requires { S.failure_count source.old < u64.MAX }
     ensures bound { IfOk result (λ n. n ≤ length to.new) }

@@ -1,3 +1,4 @@
+-- Each turn of `put_all` adds its piece to those before it, by Appends-more.
 use Rattle.std.proofs.Common.{refl, rules}
 use Rattle.sub_io.proofs.DeviceLemmas.{Appends-more}
 use Rattle.sub_io.proofs.sink.put_all.Goals as goal

@@ -1,3 +1,4 @@
+-- After each turn of `put_all` the sink holds the bytes up to the place, and no push has failed.
 use Rattle.std.proofs.Common.{length, ◌-◌, ◌≡◌, ◌≤◌, take}
 use Rattle.std.specs.Io.KnownBytes.{Appends}
 use Rattle.sub_io.proofs.sink.put_all.Given as goal

@@ -1,3 +1,4 @@
+-- After each turn of `fill_up` the buffer begins with the bytes taken, and no pull has failed.
 use Rattle.std.proofs.Common.{length, ◌-◌, ◌≡◌, ◌≤◌, take}
 use Rattle.std.specs.Io.KnownBytes.{Consumes}
 use Rattle.sub_io.proofs.source.fill_up.Given as goal
