@@ -9,7 +9,8 @@ use Rattle.ttx_packet.specs.BitOrder.{mirror}
 pub mirror_is_reversal : (b : ℕ) → b < 0x100 → reverse_bits_onto 8 b 0 ≡ mirror b
 unfolding reverse_bits_onto mirror
 mirror_is_reversal b l =
-    eqb-true _ _ (agree_below_at (λ b. reverse_bits_onto 8 b 0 == mirror b) (λ b. true) 0x100 b refl l)
+    eqb-true _ _
+    (agree_below_at (λ b. reverse_bits_onto 8 b 0 == mirror b) (λ b. true) 0x100 b refl l)
 
 -- Mirroring twice gives the byte: 256 cases, computed.
 pub mirror-mirror : (b : ℕ) → b < 0x100 → mirror (mirror b) ≡ b

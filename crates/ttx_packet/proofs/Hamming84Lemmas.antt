@@ -1,4 +1,5 @@
--- Hamming 8/4: the definition by nearness, the function, and what one wrong bit leaves (decoded-near).
+-- Hamming 8/4: the definition by nearness, the function, and what one wrong bit leaves
+-- (decoded-near).
 use Rattle.std.proofs.Common.{◌≡◌, ◌≢◌, ℕ, ◌^◌, ◌<◌, inl, inr, Bool, true, false, not, cond, ◌==◌, ◌&&◌, ◌||◌, Option, Some, None, bit_xor}
 use Rattle.std.proofs.Common.{◌∙◌, refl, sym, ap, subst, get_or, nat_eq, nat_lt, eqb-true}
 use Rattle.std.proofs.lemmas.Bool.{agree_below, agree_below_at, or_cases, ltb-true}
@@ -8,50 +9,67 @@ use Rattle.ttx_packet.specs.Hamming84.{IsCodeWord, Decodes, code_word, code_word
 use Rattle.ttx_packet.specs.declared.hamming.TheConstants.{DECODED}
 use Rattle.ttx_packet.proofs.OneBitLemmas.{first_below_is, near_from_test}
 
--- ---- the table of the words
+-- ---- decoding against nearness
 
--- whether a number is what was found
+-- Whether a number is what was found.
 abbrev is_number : Option ℕ → ℕ → Bool
 is_number None n = false
 is_number (Some m) n = m == n
 
+-- What the test says.
 is_number_true : (o : Option ℕ) (n : ℕ) → is_number o n ≡ true → o ≡ Some n
 is_number_true None n e = cc
 is_number_true (Some m) n e = ap Some (eqb-true m n e)
 
--- each code_word, and each code_word with one bit changed, means the code_word's number: 16 times 9 cases, computed
+-- Each code word decodes to its number: 16 cases, computed.
 code_words_decode : agree_below (λ n. is_number (decoded (code_word n)) n) (λ n. true) 16 ≡ true
 unfolding decoded is_near
 code_words_decode = refl
 
-changed_code_words_decode : agree_below (λ n. agree_below (λ bit. is_number (decoded (bit_xor (code_word n) (2 ^ bit))) n) (λ bit. true) 8) (λ n. true) 16 ≡ true
+-- So does each code word with one bit changed: 16 times 8 cases, computed.
+changed_code_words_decode : agree_below
+    (λ n. agree_below (λ bit. is_number (decoded (bit_xor (code_word n) (2 ^ bit))) n)
+    (λ bit. true) 8) (λ n. true) 16 ≡ true
 unfolding decoded is_near
 changed_code_words_decode = refl
 
+-- A byte within one bit of a code word decodes to the word's number.
 pub decoded_from : (g n : ℕ) → Decodes g n → decoded g ≡ Some n
 decoded_from g n (l, inl same) =
-    is_number_true _ n (subst (λ b. is_number (decoded b) n ≡ true) (sym same) (agree_below_at (λ n. is_number (decoded (code_word n)) n) (λ n. true) 16 n code_words_decode l))
+    is_number_true _ n
+    (subst (λ b. is_number (decoded b) n ≡ true) (sym same)
+    (agree_below_at (λ n. is_number (decoded (code_word n)) n) (λ n. true) 16 n
+    code_words_decode l))
 decoded_from g n (l, inr changed) =
-    let row = agree_below_at (λ n. agree_below (λ bit. is_number (decoded (bit_xor (code_word n) (2 ^ bit))) n) (λ bit. true) 8) (λ n. true) 16 n changed_code_words_decode l in
-    let at = agree_below_at (λ bit. is_number (decoded (bit_xor (code_word n) (2 ^ bit))) n) (λ bit. true) 8 changed.0 row changed.1 in
+    let row =
+    agree_below_at
+    (λ n. agree_below (λ bit. is_number (decoded (bit_xor (code_word n) (2 ^ bit))) n)
+    (λ bit. true) 8) (λ n. true) 16 n changed_code_words_decode l in
+    let at = agree_below_at (λ bit. is_number (decoded (bit_xor (code_word n) (2 ^ bit))) n)
+    (λ bit. true) 8 changed.0 row changed.1 in
     is_number_true _ n (subst (λ b. is_number (decoded b) n ≡ true) (sym changed.2) at)
 
+-- A byte that decodes to a number is within one bit of its code word.
 pub decodes_from : (g n : ℕ) → decoded g ≡ Some n → Decodes g n
 unfolding decoded
-decodes_from g n e = let r = first_below_is 16 (λ n. is_near (code_word n) g) n e in (r.0, near_from_test (code_word n) g r.1)
+decodes_from g n e = let r = first_below_is 16 (λ n. is_near (code_word n) g) n e in
+    (r.0, near_from_test (code_word n) g r.1)
 
--- a byte near an exact code_word means what the code_word means
+-- A byte near a code word decodes to what the code word does.
 pub decoded-near : (sent got : ℕ) → IsCodeWord sent → IsNear sent got → decoded got ≡ decoded sent
 decoded-near sent got exact near =
     let near_code_word : IsNear (code_word exact.0) got = subst (λ b. IsNear b got) exact.2 near in
     let itself : IsNear (code_word exact.0) sent = inl exact.2 in
-    decoded_from got exact.0 (exact.1, near_code_word) ∙ sym (decoded_from sent exact.0 (exact.1, itself))
+    decoded_from got exact.0 (exact.1, near_code_word)
+    ∙ sym (decoded_from sent exact.0 (exact.1, itself))
 
--- ---- words
+-- ---- code words
 
+-- A code word decodes to its number.
 pub decoded-code_word : (n : ℕ) → n < 16 → decoded (code_word n) ≡ Some n
 decoded-code_word n l = decoded_from (code_word n) n (l, inl refl)
 
+-- The code word of a number is a code word.
 pub code_word_is_exact : (n : ℕ) → n < 16 → IsCodeWord (code_word n)
 code_word_is_exact n l = (n, l, refl)
 
@@ -68,6 +86,7 @@ same_answer None (Some y) = false
 same_answer (Some x) None = false
 same_answer (Some x) (Some y) = nat_eq x y
 
+-- What the test says.
 same_answer-true : (a b : Option ℕ) → same_answer a b ≡ true → a ≡ b
 same_answer-true None None e = refl
 same_answer-true None (Some y) e = cc
@@ -78,12 +97,14 @@ same_answer-true (Some x) (Some y) e = ap Some (eqb-true x y e)
 pub decoded-by_table : (b : ℕ) → b < 0x100 → decoded b ≡ entry b
 unfolding decoded is_near
 decoded-by_table b l =
-    same_answer-true _ _ (agree_below_at (λ b. same_answer (decoded b) (entry b)) (λ b. true) 0x100 b refl l)
+    same_answer-true _ _
+    (agree_below_at (λ b. same_answer (decoded b) (entry b)) (λ b. true) 0x100 b refl l)
 
 -- An entry that is no number below 16 says that the byte decodes to nothing.
 abbrev is_entry : ℕ → Bool
 is_entry b = nat_lt (get_or DECODED b 0) 16 || nat_eq (get_or DECODED b 0) 255
 
+-- A number of the table is below 16.
 pub entry_small : (b : ℕ) → b < 0x100 → get_or DECODED b 0 ≢ 255 → get_or DECODED b 0 < 16
 entry_small b l number =
     elim (or_cases _ _ (agree_below_at is_entry (λ b. true) 0x100 b refl l)) [

@@ -16,8 +16,10 @@ use Rattle.ttx_packet.proofs.ControlLemmas.{bit_small, nibble_small, control_is}
 
 -- ---- the header
 
+-- The sub-code, put together from its four numbers.
 subcode_is : (n : ℕ) (b c d : Bool) → n < 0x4000 → n / 128 % 2 ≡ 0
-    → n % 16 + 16 * ((n / 16 % 8 + 8 * bit b) % 8) + 256 * (n / 256 % 16) + 4096 * ((n / 4096 % 4 + 4 * bit c + 8 * bit d) % 4) ≡ n
+    → n % 16 + 16 * ((n / 16 % 8 + 8 * bit b) % 8) + 256 * (n / 256 % 16) + 4096 *
+    ((n / 4096 % 4 + 4 * bit c + 8 * bit d) % 4) ≡ n
 subcode_is n b c d l gap =
     let p : (n / 16 % 8 + 8 * bit b) % 8 ≡ n / 16 % 8 = omega arith in
     let q : (n / 4096 % 4 + 4 * bit c + 8 * bit d) % 4 ≡ n / 4096 % 4 = omega arith in
@@ -25,131 +27,202 @@ subcode_is n b c d l gap =
 
 -- The numbers of the control bits, from the numbers that hold them.
 control_of : (n s2 s4 : ℕ) (c4 c5 c6 : Bool) → s2 < 8 → s4 < 4
-    → (s2 + 8 * bit c4) / 8 + 2 * ((s4 + 4 * bit c5 + 8 * bit c6) / 4) ≡ bit c4 + 2 * (bit c5 + 2 * bit c6)
+    → (s2 + 8 * bit c4) / 8 + 2 * ((s4 + 4 * bit c5 + 8 * bit c6) / 4) ≡ bit c4 + 2 *
+    (bit c5 + 2 * bit c6)
 control_of n s2 s4 c4 c5 c6 l m = omega (arith, bit_small c4, bit_small c5, bit_small c6)
 
 -- What the coded bytes of a header packet say.
-coded_is : (magazine : ℕ) (h : Header) → IsHeader h → coded_header (header_packet magazine h) ≡ Some h
+coded_is : (magazine : ℕ) (h : Header) → IsHeader h
+    → coded_header (header_packet magazine h) ≡ Some h
 unfolding coded_header header_packet
 coded_is magazine h is =
     let e2 = decoded-code_word (h.page % 16) (omega arith) in
     let e3 = decoded-code_word (h.page / 16) (omega (arith, is.page)) in
     let e4 = decoded-code_word (h.subcode % 16) (omega arith) in
-    let e5 = decoded-code_word (h.subcode / 16 % 8 + 8 * bit (c4 h)) (omega (arith, bit_small (c4 h))) in
+    let e5 = decoded-code_word (h.subcode / 16 % 8 + 8 * bit (c4 h))
+    (omega (arith, bit_small (c4 h))) in
     let e6 = decoded-code_word (h.subcode / 256 % 16) (omega arith) in
-    let e7 = decoded-code_word (h.subcode / 4096 % 4 + 4 * bit (c5 h) + 8 * bit (c6 h)) (omega (arith, bit_small (c5 h), bit_small (c6 h))) in
-    let e8 = decoded-code_word (nibble (c7 h) (c8 h) (c9 h) (c10 h)) (nibble_small (c7 h) (c8 h) (c9 h) (c10 h)) in
-    let e9 = decoded-code_word (nibble (c11 h) (c12 h) (c13 h) (c14 h)) (nibble_small (c11 h) (c12 h) (c13 h) (c14 h)) in
+    let e7 = decoded-code_word (h.subcode / 4096 % 4 + 4 * bit (c5 h) + 8 * bit (c6 h))
+    (omega (arith, bit_small (c5 h), bit_small (c6 h))) in
+    let e8 = decoded-code_word (nibble (c7 h) (c8 h) (c9 h) (c10 h))
+    (nibble_small (c7 h) (c8 h) (c9 h) (c10 h)) in
+    let e9 = decoded-code_word (nibble (c11 h) (c12 h) (c13 h) (c14 h))
+    (nibble_small (c11 h) (c12 h) (c13 h) (c14 h)) in
     let page : h.page % 16 + 16 * (h.page / 16) ≡ h.page = omega arith in
     let subcode = subcode_is h.subcode (c4 h) (c5 h) (c6 h) is.subcode is.no_bit_8 in
-    let low = control_of h.control.0 (h.subcode / 16 % 8) (h.subcode / 4096 % 4) (c4 h) (c5 h) (c6 h) (omega arith) (omega arith) in
+    let low =
+    control_of h.control.0 (h.subcode / 16 % 8) (h.subcode / 4096 % 4) (c4 h) (c5 h) (c6 h)
+    (omega arith) (omega arith) in
     let control = control_is h.control.0 is.control in
     rw (e2, e3, e4, e5, e6, e7, e8, e9, page, subcode, low, control) refl
 
 -- ---- the address
 
-pub address_is : (magazine y : ℕ) (rest : List ℕ) → magazine < 8 → y < 32 → address (address_words magazine y ++ rest) ≡ Some (record { magazine = magazine; packet_number = y })
+-- The two words of an address say it.
+pub address_is : (magazine y : ℕ) (rest : List ℕ) → magazine < 8 → y < 32
+    → address (address_words magazine y ++ rest) ≡ Some
+    (record { magazine = magazine; packet_number = y })
 unfolding address
 address_is magazine y rest m l =
     let low = decoded-code_word ((magazine + 8 * y) % 16) (omega arith) in
     let high = decoded-code_word ((magazine + 8 * y) / 16) (omega arith) in
-    let p : ((magazine + 8 * y) % 16 + 16 * ((magazine + 8 * y) / 16)) % 8 ≡ magazine = omega arith in
+    let p : ((magazine + 8 * y) % 16 + 16 * ((magazine + 8 * y) / 16)) % 8 ≡ magazine =
+    omega arith in
     let q : ((magazine + 8 * y) % 16 + 16 * ((magazine + 8 * y) / 16)) / 8 ≡ y = omega arith in
     rw (low, high, p, q) refl
 
-address_exact : (magazine y : ℕ) (rest : List ℕ) → magazine < 8 → y < 32 → (k : ℕ) → k < 2 → IsCodeWord (slice_index (address_words magazine y ++ rest) k)
-address_exact magazine y rest m l zero b = code_word_is_exact ((magazine + 8 * y) % 16) (omega arith)
-address_exact magazine y rest m l (suc zero) b = code_word_is_exact ((magazine + 8 * y) / 16) (omega arith)
+-- They are code words.
+address_exact : (magazine y : ℕ) (rest : List ℕ) → magazine < 8 → y < 32 → (k : ℕ) → k < 2
+    → IsCodeWord (slice_index (address_words magazine y ++ rest) k)
+address_exact magazine y rest m l zero b =
+    code_word_is_exact ((magazine + 8 * y) % 16) (omega arith)
+address_exact magazine y rest m l (suc zero) b =
+    code_word_is_exact ((magazine + 8 * y) / 16) (omega arith)
 address_exact magazine y rest m l (suc (suc k)) b = absurd (omega arith)
 
-coded_exact : (magazine : ℕ) (h : Header) → IsHeader h → (k : ℕ) → 2 ≤ k → k < 10 → IsCodeWord (slice_index (header_packet magazine h) k)
+-- The eight coded bytes of a header packet are code words.
+coded_exact : (magazine : ℕ) (h : Header) → IsHeader h → (k : ℕ) → 2 ≤ k → k < 10
+    → IsCodeWord (slice_index (header_packet magazine h) k)
 unfolding header_packet
 coded_exact magazine h is zero a b = absurd (omega arith)
 coded_exact magazine h is (suc zero) a b = absurd (omega arith)
 coded_exact magazine h is (suc (suc zero)) a b = code_word_is_exact _ (omega arith)
 coded_exact magazine h is (suc (suc (suc zero))) a b = code_word_is_exact _ (omega (arith, is.page))
 coded_exact magazine h is (suc (suc (suc (suc zero)))) a b = code_word_is_exact _ (omega arith)
-coded_exact magazine h is (suc (suc (suc (suc (suc zero))))) a b = code_word_is_exact (h.subcode / 16 % 8 + 8 * bit (c4 h)) (omega (arith, bit_small (c4 h)))
-coded_exact magazine h is (suc (suc (suc (suc (suc (suc zero)))))) a b = code_word_is_exact _ (omega arith)
-coded_exact magazine h is (suc (suc (suc (suc (suc (suc (suc zero))))))) a b = code_word_is_exact (h.subcode / 4096 % 4 + 4 * bit (c5 h) + 8 * bit (c6 h)) (omega (arith, bit_small (c5 h), bit_small (c6 h)))
-coded_exact magazine h is (suc (suc (suc (suc (suc (suc (suc (suc zero)))))))) a b = code_word_is_exact (nibble (c7 h) (c8 h) (c9 h) (c10 h)) (nibble_small (c7 h) (c8 h) (c9 h) (c10 h))
-coded_exact magazine h is (suc (suc (suc (suc (suc (suc (suc (suc (suc zero))))))))) a b = code_word_is_exact (nibble (c11 h) (c12 h) (c13 h) (c14 h)) (nibble_small (c11 h) (c12 h) (c13 h) (c14 h))
-coded_exact magazine h is (suc (suc (suc (suc (suc (suc (suc (suc (suc (suc k)))))))))) a b = absurd (omega arith)
+coded_exact magazine h is (suc (suc (suc (suc (suc zero))))) a b =
+    code_word_is_exact (h.subcode / 16 % 8 + 8 * bit (c4 h)) (omega (arith, bit_small (c4 h)))
+coded_exact magazine h is (suc (suc (suc (suc (suc (suc zero)))))) a b =
+    code_word_is_exact _ (omega arith)
+coded_exact magazine h is (suc (suc (suc (suc (suc (suc (suc zero))))))) a b =
+    code_word_is_exact (h.subcode / 4096 % 4 + 4 * bit (c5 h) + 8 * bit (c6 h))
+    (omega (arith, bit_small (c5 h), bit_small (c6 h)))
+coded_exact magazine h is (suc (suc (suc (suc (suc (suc (suc (suc zero)))))))) a b =
+    code_word_is_exact (nibble (c7 h) (c8 h) (c9 h) (c10 h))
+    (nibble_small (c7 h) (c8 h) (c9 h) (c10 h))
+coded_exact magazine h is (suc (suc (suc (suc (suc (suc (suc (suc (suc zero))))))))) a b =
+    code_word_is_exact (nibble (c11 h) (c12 h) (c13 h) (c14 h))
+    (nibble_small (c11 h) (c12 h) (c13 h) (c14 h))
+coded_exact magazine h is (suc (suc (suc (suc (suc (suc (suc (suc (suc (suc k)))))))))) a b =
+    absurd (omega arith)
 
 -- ---- the two laws
 
+-- A header packet has 42 bytes.
 header_whole : (magazine : ℕ) (h : Header) → length (header_packet magazine h) ≡ 42
 unfolding header_packet
 header_whole magazine h = refl
 
-header_address : (magazine : ℕ) (h : Header) → magazine < 8 → address (header_packet magazine h) ≡ Some (record { magazine = magazine; packet_number = 0 })
+-- A header packet has packet number 0.
+header_address : (magazine : ℕ) (h : Header) → magazine < 8
+    → address (header_packet magazine h) ≡ Some (record { magazine = magazine; packet_number = 0 })
 unfolding header_packet
-header_address magazine h m = address_is magazine 0 (map code_word (header_numbers h) ++ replicate 32 0x20) m (omega arith)
+header_address magazine h m =
+    address_is magazine 0 (map code_word (header_numbers h) ++ replicate 32 0x20) m (omega arith)
 
-header_from : (packet : List ℕ) (a : PacketAddress) (h : Option Header) → address packet ≡ Some a → a.packet_number ≡ 0 → coded_header packet ≡ h → header packet ≡ h
+-- The header of a packet 0 is what its coded bytes say.
+header_from : (packet : List ℕ) (a : PacketAddress) (h : Option Header) → address packet ≡ Some a
+    → a.packet_number ≡ 0 → coded_header packet ≡ h → header packet ≡ h
 unfolding header
-header_from packet a h e z c = let t : (a.packet_number == 0) ≡ true = eq-eqb a.packet_number 0 z in rw (e, t) c
+header_from packet a h e z c = let t : (a.packet_number == 0) ≡ true =
+    eq-eqb a.packet_number 0 z in rw (e, t) c
 
-header_exact : (magazine : ℕ) (h : Header) → magazine < 8 → (k : ℕ) → k < 2 → IsCodeWord (slice_index (header_packet magazine h) k)
+-- The address of a header packet is of code words.
+header_exact : (magazine : ℕ) (h : Header) → magazine < 8 → (k : ℕ) → k < 2
+    → IsCodeWord (slice_index (header_packet magazine h) k)
 unfolding header_packet
-header_exact magazine h m = address_exact magazine 0 (map code_word (header_numbers h) ++ replicate 32 0x20) m (omega arith)
+header_exact magazine h m =
+    address_exact magazine 0 (map code_word (header_numbers h) ++ replicate 32 0x20) m (omega arith)
 
+-- A header packet says the header that it was made from.
 pub law_of_header_packet : LawOfHeaderPacket
 law_of_header_packet magazine h m is =
     let at = header_address magazine h m in
     record {
       whole = header_whole magazine h;
       address = at;
-      header = header_from (header_packet magazine h) (record { magazine = magazine; packet_number = 0 }) (Some h) at refl (coded_is magazine h is);
+      header = header_from (header_packet magazine h)
+          (record { magazine = magazine; packet_number = 0 }) (Some h) at refl
+          (coded_is magazine h is);
       exact = (header_exact magazine h m, λ a e z. coded_exact magazine h is);
     }
 
-row_address : (magazine y : ℕ) (codes : List ℕ) → magazine < 8 → y < 32 → address (row_packet magazine y codes) ≡ Some (record { magazine = magazine; packet_number = y })
+-- A row packet has the address of its row.
+row_address : (magazine y : ℕ) (codes : List ℕ) → magazine < 8 → y < 32
+    → address (row_packet magazine y codes) ≡ Some
+    (record { magazine = magazine; packet_number = y })
 unfolding row_packet
 row_address magazine y codes m l = address_is magazine y (map odd_byte codes) m l
 
-row_exact : (magazine y : ℕ) (codes : List ℕ) → magazine < 8 → y < 32 → (k : ℕ) → k < 2 → IsCodeWord (slice_index (row_packet magazine y codes) k)
+-- Its address is of code words.
+row_exact : (magazine y : ℕ) (codes : List ℕ) → magazine < 8 → y < 32 → (k : ℕ) → k < 2
+    → IsCodeWord (slice_index (row_packet magazine y codes) k)
 unfolding row_packet
 row_exact magazine y codes m l = address_exact magazine y (map odd_byte codes) m l
 
-row_whole : (magazine y : ℕ) (codes : List ℕ) → length codes ≡ 40 → length (row_packet magazine y codes) ≡ 42
+-- It has 42 bytes.
+row_whole : (magazine y : ℕ) (codes : List ℕ) → length codes ≡ 40
+    → length (row_packet magazine y codes) ≡ 42
 unfolding row_packet
 row_whole magazine y codes e = ap (λ n. suc (suc n)) (length-map codes odd_byte ∙ e)
 
-row_text : (magazine y : ℕ) (codes : List ℕ) (column : ℕ) → length codes ≡ 40 → column < 40 → slice_index (row_packet magazine y codes) (column + 2) ≡ odd_byte (slice_index codes column)
+-- Its text is the odd bytes of its codes.
+row_text : (magazine y : ℕ) (codes : List ℕ) (column : ℕ) → length codes ≡ 40 → column < 40
+    → slice_index (row_packet magazine y codes) (column + 2) ≡ odd_byte (slice_index codes column)
 unfolding row_packet
 row_text magazine y codes column e l =
     let two : column + 2 ≡ suc (suc column) = omega arith in
-    ap (λ n. slice_index (address_words magazine y ++ map odd_byte codes) n) two ∙ get_or-map odd_byte codes column 0 0 (omega (arith, e))
+    ap (λ n. slice_index (address_words magazine y ++ map odd_byte codes) n) two
+    ∙ get_or-map odd_byte codes column 0 0 (omega (arith, e))
 
-header_none : (packet : List ℕ) (a : PacketAddress) → address packet ≡ Some a → 1 ≤ a.packet_number → header packet ≡ None
+-- A packet with another packet number than 0 has no header.
+header_none : (packet : List ℕ) (a : PacketAddress) → address packet ≡ Some a → 1 ≤ a.packet_number
+    → header packet ≡ None
 unfolding header
-header_none packet a e l = let t : (a.packet_number == 0) ≡ false = ne_eqb a.packet_number 0 (λ z. absurd (omega arith)) in rw (e, t) refl
+header_none packet a e l = let t : (a.packet_number == 0) ≡ false =
+    ne_eqb a.packet_number 0 (λ z. absurd (omega arith)) in rw (e, t) refl
 
+-- A row packet says the row and the codes that it was made from.
 pub law_of_row_packet : LawOfRowPacket
 law_of_row_packet magazine y codes m one small forty all =
     let at = row_address magazine y codes m small in
-    let code : (column : ℕ) → column < 40 → slice_index codes column < 128 = λ column l. all column 0 (omega (arith, forty)) in
-    let text : (column : ℕ) → column < 40 → slice_index (row_packet magazine y codes) (column + 2) ≡ odd_byte (slice_index codes column) = λ column l. row_text magazine y codes column forty l in
+    let code : (column : ℕ) → column < 40
+    → slice_index codes column < 128 = λ column l. all column 0 (omega (arith, forty)) in
+    let text : (column : ℕ) → column < 40
+    → slice_index (row_packet magazine y codes) (column + 2) ≡ odd_byte
+    (slice_index codes column) = λ column l. row_text magazine y codes column forty l in
     record {
       whole = row_whole magazine y codes forty;
       address = at;
-      header = header_none (row_packet magazine y codes) (record { magazine = magazine; packet_number = y }) at one;
-      exact = (row_exact magazine y codes m small, λ a e z. absurd (let same : y ≡ a.packet_number = ap (λ (x : PacketAddress). x.packet_number) (same_Some _ a (sym at ∙ e)) in omega (arith, same)));
-      text = λ column l. ap code_of (text column l) ∙ code_of_odd (slice_index codes column) (code column l);
-      odd = λ column l. subst (λ b. IsTrue (is_odd b)) (sym (text column l)) (odd_of_code (slice_index codes column) (code column l));
+      header = header_none (row_packet magazine y codes)
+          (record { magazine = magazine; packet_number = y }) at one;
+      exact = (
+        row_exact magazine y codes m small,
+        λ a e z. absurd
+            (let same : y ≡ a.packet_number =
+            ap (λ (x : PacketAddress). x.packet_number) (same_Some _ a (sym at ∙ e)) in
+            omega (arith, same)),
+      );
+      text = λ column l. ap code_of (text column l)
+          ∙ code_of_odd (slice_index codes column) (code column l);
+      odd = λ column l. subst (λ b. IsTrue (is_odd b)) (sym (text column l))
+          (odd_of_code (slice_index codes column) (code column l));
     }
 
 -- ---- a packet that was made byte by byte
 
-row_first : (magazine y : ℕ) (codes : List ℕ) → slice_index (row_packet magazine y codes) 0 ≡ code_word ((magazine + 8 * y) % 16)
+-- The first byte of a row packet.
+row_first : (magazine y : ℕ) (codes : List ℕ)
+    → slice_index (row_packet magazine y codes) 0 ≡ code_word ((magazine + 8 * y) % 16)
 unfolding row_packet
 row_first magazine y codes = refl
 
-row_second : (magazine y : ℕ) (codes : List ℕ) → slice_index (row_packet magazine y codes) 1 ≡ code_word ((magazine + 8 * y) / 16)
+-- The second byte of a row packet.
+row_second : (magazine y : ℕ) (codes : List ℕ)
+    → slice_index (row_packet magazine y codes) 1 ≡ code_word ((magazine + 8 * y) / 16)
 unfolding row_packet
 row_second magazine y codes = refl
 
+-- A packet whose bytes are these one by one is the row packet.
 pub row_packet-from_bytes : (magazine y : ℕ) (codes packet : List ℕ)
     → length packet ≡ 42
     → length codes ≡ 40
@@ -158,14 +231,16 @@ pub row_packet-from_bytes : (magazine y : ℕ) (codes packet : List ℕ)
     → ((k : ℕ) → k < 40 → slice_index packet (k + 2) ≡ odd_byte (slice_index codes k))
     → packet ≡ row_packet magazine y codes
 row_packet-from_bytes magazine y codes packet size forty low high done =
-    ext_get_or 0 packet (row_packet magazine y codes) (size ∙ sym (row_whole magazine y codes forty)) (λ k below. at k (omega (arith, size)))
+    ext_get_or 0 packet (row_packet magazine y codes)
+    (size ∙ sym (row_whole magazine y codes forty)) (λ k below. at k (omega (arith, size)))
   where
     at : (k : ℕ) → k < 42 → slice_index packet k ≡ slice_index (row_packet magazine y codes) k
     at zero l = low ∙ sym (row_first magazine y codes)
     at (suc zero) l = high ∙ sym (row_second magazine y codes)
     at (suc (suc k)) l =
         let e : k + 2 ≡ suc (suc k) = omega arith in
-        subst (λ j. slice_index packet j ≡ slice_index (row_packet magazine y codes) j) e (done k (omega arith) ∙ sym (row_text magazine y codes k forty (omega arith)))
+        subst (λ j. slice_index packet j ≡ slice_index (row_packet magazine y codes) j) e
+        (done k (omega arith) ∙ sym (row_text magazine y codes k forty (omega arith)))
 
 -- ---- a header that was made byte by byte
 

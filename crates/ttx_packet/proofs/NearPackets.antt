@@ -6,25 +6,32 @@ use Rattle.ttx_packet.specs.PacketAddress.{decoded_at, address, PacketAddress, H
 use Rattle.ttx_packet.specs.PageHeader.{coded_header, header, HasExactHeader, HasExactWords}
 use Rattle.ttx_packet.proofs.Hamming84Lemmas.{decoded-near}
 
--- near lists are near at each place
-pub near_at : (sent got : List ℕ) (k : ℕ) → AreNear sent got → IsNear (slice_index sent k) (slice_index got k)
+-- Near lists are near at each place.
+pub near_at : (sent got : List ℕ) (k : ℕ) → AreNear sent got
+    → IsNear (slice_index sent k) (slice_index got k)
 near_at [] [] k near = inl refl
 near_at [] (g ∷ gs) k near = elim near [ ]
 near_at (c ∷ cs) [] k near = elim near [ ]
 near_at (c ∷ cs) (g ∷ gs) zero near = near.0
 near_at (c ∷ cs) (g ∷ gs) (suc k) near = near_at cs gs k near.1
 
-decoded_at-near : (sent got : List ℕ) (k : ℕ) → AreNear sent got → IsCodeWord (slice_index sent k) → decoded_at got k ≡ decoded_at sent k
+-- A code word at a place decodes to the same in a near list.
+decoded_at-near : (sent got : List ℕ) (k : ℕ) → AreNear sent got → IsCodeWord (slice_index sent k)
+    → decoded_at got k ≡ decoded_at sent k
 decoded_at-near sent got k near exact = decoded-near _ _ exact (near_at sent got k near)
 
-pub address-near : (sent got : List ℕ) → HasExactAddress sent → AreNear sent got → address got ≡ address sent
+-- A near packet has the address of a packet with an exact address.
+pub address-near : (sent got : List ℕ) → HasExactAddress sent → AreNear sent got
+    → address got ≡ address sent
 unfolding address
 address-near sent got exact near =
     let low = decoded_at-near sent got 0 near (exact 0 (omega arith)) in
     let high = decoded_at-near sent got 1 near (exact 1 (omega arith)) in
     rw (low, high)
 
-coded_header-near : (sent got : List ℕ) → HasExactHeader sent → AreNear sent got → coded_header got ≡ coded_header sent
+-- Near coded bytes say the header of exact ones.
+coded_header-near : (sent got : List ℕ) → HasExactHeader sent → AreNear sent got
+    → coded_header got ≡ coded_header sent
 unfolding coded_header
 coded_header-near sent got exact near =
     let e2 = decoded_at-near sent got 2 near (exact 2 (omega arith) (omega arith)) in
@@ -37,15 +44,22 @@ coded_header-near sent got exact near =
     let e9 = decoded_at-near sent got 9 near (exact 9 (omega arith) (omega arith)) in
     rw (e2, e3, e4, e5, e6, e7, e8, e9)
 
+-- Two choices agree where they agree in the case that is taken.
 cond_same : {A : Type 0} (b : Bool) (x y z : A) → (b ≡ true → x ≡ y) → cond b x z ≡ cond b y z
 cond_same true x y z h = h refl
 cond_same false x y z h = refl
 
--- the header keeps, where a packet 0 has exact words in its coded bytes
-pub header-near : (sent got : List ℕ) → HasExactWords sent → AreNear sent got → header got ≡ header sent
+-- A near packet has the header of a packet with exact words.
+pub header-near : (sent got : List ℕ) → HasExactWords sent → AreNear sent got
+    → header got ≡ header sent
 unfolding header
 header-near sent got exact near = rw (address-near sent got exact.0 near) (go (address sent) refl)
   where
-    go : (o : Option PacketAddress) → address sent ≡ o → option_and_then (λ a. cond (a.packet_number == 0) (coded_header got) None) o ≡ option_and_then (λ a. cond (a.packet_number == 0) (coded_header sent) None) o
+    go : (o : Option PacketAddress) → address sent ≡ o
+        → option_and_then (λ a. cond (a.packet_number == 0) (coded_header got) None) o ≡
+        option_and_then (λ a. cond (a.packet_number == 0) (coded_header sent) None) o
     go None p = refl
-    go (Some a) p = cond_same (a.packet_number == 0) _ _ None (λ zero_number. coded_header-near sent got (exact.1 a p (eqb-true a.packet_number 0 zero_number)) near)
+    go (Some a) p =
+        cond_same (a.packet_number == 0) _ _ None
+        (λ zero_number. coded_header-near sent got
+        (exact.1 a p (eqb-true a.packet_number 0 zero_number)) near)

@@ -8,15 +8,19 @@ use Rattle.ttx_packet.specs.OneBit.{IsNear, first_below, is_near}
 
 -- ---- a search below a bound
 
--- what is found passes the test, and is below the bound
+-- A number below the bound that passes the test.
 abbrev Found : ℕ → (ℕ → Bool) → ℕ → Type 0
 Found n test x = (x < n) × (test x ≡ true)
 
-pub first_below_is : (n : ℕ) (test : ℕ → Bool) (x : ℕ) → first_below n test ≡ Some x → Found n test x
+-- What is found passes the test, and is below the bound.
+pub first_below_is : (n : ℕ) (test : ℕ → Bool) (x : ℕ) → first_below n test ≡ Some x
+    → Found n test x
 first_below_is zero test x e = absurd (none-some x e)
-first_below_is (suc n) test x e = found (first_below n test) (test n) (first_below_is n test x) refl e
+first_below_is (suc n) test x e =
+    found (first_below n test) (test n) (first_below_is n test x) refl e
   where
-    found : (o : Option ℕ) (b : Bool) → (o ≡ Some x → Found n test x) → test n ≡ b → option_or o (cond b (Some n) None) ≡ Some x → Found (suc n) test x
+    found : (o : Option ℕ) (b : Bool) → (o ≡ Some x → Found n test x) → test n ≡ b
+        → option_or o (cond b (Some n) None) ≡ Some x → Found (suc n) test x
     found (Some y) b ih q h =
         let r = ih h in
         let below : x < suc n = omega (arith, r.0) in
@@ -27,12 +31,15 @@ first_below_is (suc n) test x e = found (first_below n test) (test n) (first_bel
         (below, subst (λ y. test y ≡ true) same q)
     found None false ih q h = absurd (none-some x h)
 
--- something is found where something passes
-pub first_below_some : (n : ℕ) (test : ℕ → Bool) (x : ℕ) → x < n → test x ≡ true → is_some (first_below n test) ≡ true
+-- Something is found where something passes.
+pub first_below_some : (n : ℕ) (test : ℕ → Bool) (x : ℕ) → x < n → test x ≡ true
+    → is_some (first_below n test) ≡ true
 first_below_some zero test x l e = absurd (omega arith)
-first_below_some (suc n) test x l e = found (first_below n test) (test n) (λ h. first_below_some n test x h e) refl
+first_below_some (suc n) test x l e =
+    found (first_below n test) (test n) (λ h. first_below_some n test x h e) refl
   where
-    found : (o : Option ℕ) (b : Bool) → (x < n → is_some o ≡ true) → test n ≡ b → is_some (option_or o (cond b (Some n) None)) ≡ true
+    found : (o : Option ℕ) (b : Bool) → (x < n → is_some o ≡ true) → test n ≡ b
+        → is_some (option_or o (cond b (Some n) None)) ≡ true
     found (Some y) b ih q = refl
     found None true ih q = refl
     found None false ih q =
@@ -42,16 +49,19 @@ first_below_some (suc n) test x l e = found (first_below n test) (test n) (λ h.
         ]
 
 -- Nothing is found where nothing passes.
-pub first_below-none : (n : ℕ) (test : ℕ → Bool) → ((k : ℕ) → k < n → test k ≡ false) → first_below n test ≡ None
+pub first_below-none : (n : ℕ) (test : ℕ → Bool) → ((k : ℕ) → k < n → test k ≡ false)
+    → first_below n test ≡ None
 first_below-none zero test none = refl
 first_below-none (suc n) test none =
     rw (first_below-none n test (λ k l. none k (omega arith)), none n (omega arith)) refl
 
 -- Where nothing is found, nothing passes.
-pub none_below : (n : ℕ) (test : ℕ → Bool) → first_below n test ≡ None → (k : ℕ) → k < n → test k ≡ false
+pub none_below : (n : ℕ) (test : ℕ → Bool) → first_below n test ≡ None → (k : ℕ) → k < n
+    → test k ≡ false
 none_below n test e k l =
     elim (cases_Bool (test k)) [
-      | inl passes ↦ let some = first_below_some n test k l passes in absurd (is_none_not_some (first_below n test) e some)
+      | inl passes ↦ let some = first_below_some n test k l passes in
+          absurd (is_none_not_some (first_below n test) e some)
       | inr fails ↦ fails
     ]
   where
@@ -75,12 +85,16 @@ first_below-at (suc n) test x l e before =
 
 -- ---- nearness as a test
 
+-- A near byte passes the test.
 pub is_near_from : (c g : ℕ) → IsNear c g → is_near c g ≡ true
 unfolding is_near
 is_near_from c g (inl same) = or_left _ _ (eq-eqb g c same)
 is_near_from c g (inr changed) =
-    or_right (g == c) _ (first_below_some 8 (λ bit. g == bit_xor c (2 ^ bit)) changed.0 changed.1 (eq-eqb g _ changed.2))
+    or_right (g == c) _
+    (first_below_some 8 (λ bit. g == bit_xor c (2 ^ bit)) changed.0 changed.1
+    (eq-eqb g _ changed.2))
 
+-- A byte that passes the test is near.
 pub near_from_test : (c g : ℕ) → is_near c g ≡ true → IsNear c g
 unfolding is_near
 near_from_test c g e =
@@ -89,6 +103,8 @@ near_from_test c g e =
       | inr changed ↦ inr (bit_of (first_below 8 (λ bit. g == bit_xor c (2 ^ bit))) refl changed)
     ]
   where
-    bit_of : (o : Option ℕ) → first_below 8 (λ bit. g == bit_xor c (2 ^ bit)) ≡ o → is_some o ≡ true → (bit : ℕ) × (bit < 8) × (g ≡ bit_xor c (2 ^ bit))
-    bit_of (Some bit) p h = let r = first_below_is 8 (λ bit. g == bit_xor c (2 ^ bit)) bit p in (bit, r.0, eqb-true g _ r.1)
+    bit_of : (o : Option ℕ) → first_below 8 (λ bit. g == bit_xor c (2 ^ bit)) ≡ o
+        → is_some o ≡ true → (bit : ℕ) × (bit < 8) × (g ≡ bit_xor c (2 ^ bit))
+    bit_of (Some bit) p h = let r = first_below_is 8 (λ bit. g == bit_xor c (2 ^ bit)) bit p in
+        (bit, r.0, eqb-true g _ r.1)
     bit_of None p h = cc

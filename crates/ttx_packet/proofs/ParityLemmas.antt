@@ -1,4 +1,5 @@
--- Odd parity: one changed bit makes the count of ones even (even_from_changed), and what odd_byte gives.
+-- Odd parity: one changed bit makes the count of ones even (even_from_changed), and what odd_byte
+-- gives.
 use Rattle.std.proofs.Common.{◌≡◌, ◌≢◌, ℕ, zero, suc, ◌+◌, ◌*◌, ◌/◌, ◌%◌, ◌^◌, ◌<◌, inl, inr, Bool, true, false, cond, bit_xor}
 use Rattle.std.proofs.Common.{refl, sym, subst, arith, eqb-true, ne_eqb, IsTrue, IsFalse, div-add-mod', pow-suc}
 use Rattle.std.specs.Int.RustNames.{count_ones}
@@ -11,11 +12,13 @@ use Rattle.ttx_packet.specs.Parity.{is_odd, code_of, odd_byte}
 
 -- ---- one changed bit makes one more or one fewer of the ones
 
+-- The number 1 has one one.
 one_one : count_ones 1 ≡ 1
 one_one = let step = ones_step 1 in let none = ones_le_self 0 in omega arith
 
--- in the lowest bit
-flip_lowest : (q r : ℕ) → r < 2 → (count_ones (bit_xor (q * 2 ^ 1 + r) (0 * 2 ^ 1 + 1)) + count_ones (q * 2 ^ 1 + r)) % 2 ≡ 1
+-- A change in the lowest bit makes the two counts of ones an odd sum.
+flip_lowest : (q r : ℕ) → r < 2
+    → (count_ones (bit_xor (q * 2 ^ 1 + r) (0 * 2 ^ 1 + 1)) + count_ones (q * 2 ^ 1 + r)) % 2 ≡ 1
 flip_lowest q zero l =
     let split = xor_block 1 q 0 0 1 (omega arith) (omega arith) in
     let ones_of = ones_cat 1 q 0 (omega arith) in
@@ -34,8 +37,9 @@ flip_lowest q (suc zero) l =
     rw split (rw same (omega arith))
 flip_lowest q (suc (suc r)) l = absurd (omega arith)
 
--- in a higher bit, where it is so of the bits above the lowest
-flip_higher : (q r m : ℕ) → r < 2 → (count_ones (bit_xor q m) + count_ones q) % 2 ≡ 1 → (count_ones (bit_xor (q * 2 ^ 1 + r) (m * 2 ^ 1 + 0)) + count_ones (q * 2 ^ 1 + r)) % 2 ≡ 1
+-- So does one in a higher bit, where it is so of the bits above the lowest.
+flip_higher : (q r m : ℕ) → r < 2 → (count_ones (bit_xor q m) + count_ones q) % 2 ≡ 1
+    → (count_ones (bit_xor (q * 2 ^ 1 + r) (m * 2 ^ 1 + 0)) + count_ones (q * 2 ^ 1 + r)) % 2 ≡ 1
 flip_higher q r m l h =
     let split = xor_block 1 q m r 0 l (omega arith) in
     let same = xor_zero_r r in
@@ -43,32 +47,43 @@ flip_higher q r m l h =
     let ones_new = ones_cat 1 (bit_xor q m) r l in
     rw split (rw same (omega arith))
 
+-- So does a change in any bit.
 pub flip : (k b : ℕ) → (count_ones (bit_xor b (2 ^ k)) + count_ones b) % 2 ≡ 1
-flip zero b = subst (λ n. (count_ones (bit_xor n 1) + count_ones n) % 2 ≡ 1) (div-add-mod' b 2) (flip_lowest (b / 2) (b % 2) (omega arith))
+flip zero b =
+    subst (λ n. (count_ones (bit_xor n 1) + count_ones n) % 2 ≡ 1) (div-add-mod' b 2)
+    (flip_lowest (b / 2) (b % 2) (omega arith))
 flip (suc k) b =
     let power : 2 ^ k * 2 ^ 1 + 0 ≡ 2 ^ suc k = omega (arith, pow-suc 2 k) in
     let P : ℕ → ℕ → Type 0 = λ n m. (count_ones (bit_xor n m) + count_ones n) % 2 ≡ 1 in
-    let h : P (b / 2 * 2 ^ 1 + b % 2) (2 ^ k * 2 ^ 1 + 0) = flip_higher (b / 2) (b % 2) (2 ^ k) (omega arith) (flip k (b / 2)) in
+    let h : P (b / 2 * 2 ^ 1 + b % 2) (2 ^ k * 2 ^ 1 + 0) =
+    flip_higher (b / 2) (b % 2) (2 ^ k) (omega arith) (flip k (b / 2)) in
     let h' : P b (2 ^ k * 2 ^ 1 + 0) = subst (λ n. P n (2 ^ k * 2 ^ 1 + 0)) (div-add-mod' b 2) h in
     subst (P b) power h'
 
-pub even_from_changed : (sent got : ℕ) → IsTrue (is_odd sent) → IsNear sent got → got ≢ sent → IsFalse (is_odd got)
+-- A byte of odd parity with one bit changed has even parity.
+pub even_from_changed : (sent got : ℕ) → IsTrue (is_odd sent) → IsNear sent got → got ≢ sent
+    → IsFalse (is_odd got)
 unfolding is_odd
 even_from_changed sent got odd (inl same) other = absurd (other same)
 even_from_changed sent got odd (inr changed) other =
     let was : count_ones sent % 2 ≡ 1 = eqb-true _ _ odd in
-    let both : (count_ones got + count_ones sent) % 2 ≡ 1 = subst (λ g. (count_ones g + count_ones sent) % 2 ≡ 1) (sym changed.2) (flip changed.0 sent) in
+    let both : (count_ones got + count_ones sent) % 2 ≡ 1 =
+    subst (λ g. (count_ones g + count_ones sent) % 2 ≡ 1) (sym changed.2) (flip changed.0 sent)
+    in
     ne_eqb (count_ones got % 2) 1 (λ e. absurd (omega arith))
 
--- ---- odd bytes: 128 cases, computed
+-- ---- odd bytes
 
+-- Each odd byte is odd: 128 cases, computed.
 odd_bytes : agree_below (λ c. is_odd (odd_byte c)) (λ c. true) 128 ≡ true
 unfolding is_odd count_ones ones_in
 odd_bytes = refl
 
+-- The odd byte of a code is odd.
 pub odd_of_code : (c : ℕ) → c < 128 → is_odd (odd_byte c) ≡ true
 odd_of_code c l = agree_below_at (λ c. is_odd (odd_byte c)) (λ c. true) 128 c odd_bytes l
 
+-- The odd byte of a code has that code.
 pub code_of_odd : (c : ℕ) → c < 128 → code_of (odd_byte c) ≡ c
 code_of_odd c l = go (is_odd c)
   where

@@ -17,7 +17,8 @@ first_even_is : (packet : List ℕ) (column : ℕ)
     → first_even_byte packet ≡ Some column
 unfolding first_even_byte
 first_even_is packet column small even before =
-    first_below-at 40 (λ column. not (is_odd (text_byte packet column))) column small (ap not even) (λ k l. ap not (before k l))
+    first_below-at 40 (λ column. not (is_odd (text_byte packet column))) column small (ap not even)
+    (λ k l. ap not (before k l))
 
 pub first_even_byte-at : (packet : List ℕ) (column : ℕ)
     → column < 40

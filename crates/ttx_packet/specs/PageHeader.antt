@@ -97,7 +97,8 @@ abbrev pub HasExactHeader : List ℕ → Type 0
 HasExactHeader packet =
     (place : ℕ) → 2 ≤ place → place < 10 → IsCodeWord (slice_index packet place)
 
--- Both address bytes are code words, and in a packet with packet number 0 the eight coded bytes too.
+-- Both address bytes are code words, and in a packet with packet number 0 the eight coded bytes
+-- too.
 abbrev pub HasExactWords : List ℕ → Type 0
 HasExactWords packet =
     HasExactAddress packet

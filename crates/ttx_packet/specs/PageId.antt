@@ -20,7 +20,8 @@ hexadecimal_digit b =
     else (if is_from 0x61 0x66 b then Some (b - 0x57)
     else (if is_from 0x41 0x46 b then Some (b - 0x37) else None))
 
--- The page of a magazine digit and a page number. Page number FF is not displayed, so no page has it.
+-- The page of a magazine digit and a page number. Page number FF is not displayed, so no page has
+-- it.
 abbrev pub page_of_numbers : ℕ → ℕ → Option PageIdValue
 page_of_numbers digit page =
     if is_from 0x31 0x38 digit && not (page == 0xFF)

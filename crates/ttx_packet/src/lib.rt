@@ -1,7 +1,9 @@
-//! Teletext packets (EN 300 706, level 1): the codes of single bytes, addresses, page headers, rows,
+//! Teletext packets (EN 300 706, level 1): the codes of single bytes, addresses, page headers,
+//! rows,
 //! and what one wrong bit in each byte leaves of them.
 //!
-//! The lowest crate of the Teletext side: pages and receivers, PES packets, schedules and the checker
+//! The lowest crate of the Teletext side: pages and receivers, PES packets, schedules and the
+//! checker
 //! stand on it.
 //!
 //! ```text

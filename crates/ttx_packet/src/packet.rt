@@ -15,7 +15,8 @@ use crate::parity::{is_odd, par};
 use bitflags::Flags;
 use std::marker::Model;
 
-/// A Teletext packet (EN 300 706): two address bytes and 40 data bytes, in the order of sending, bit 1
+/// A Teletext packet (EN 300 706): two address bytes and 40 data bytes, in the order of sending,
+/// bit 1
 /// the least significant bit of a byte. Run-in and framing code are left out.
 #[derive(Clone, Copy, Debug, PartialEq, Eq)]
 pub struct Packet {
@@ -60,7 +61,8 @@ impl Packet {
         self.bytes.last_chunk().unwrap()
     }
 
-    /// The 42 bytes as a DVB data unit carries them, each with its bits in the other order (EN 300 472,
+    /// The 42 bytes as a DVB data unit carries them, each with its bits in the other order (EN 300
+    /// 472,
     /// data field syntax).
     pub fn mirrored(&self) -> [u8; 42]
         ensures { result ≡ map mirror self.now }
@@ -68,7 +70,8 @@ impl Packet {
         mirrored(&self.bytes)
     }
 
-    /// The magazine, 0 to 7, and the packet number Y, 0 to 31, each wrong bit corrected (EN 300 706,
+    /// The magazine, 0 to 7, and the packet number Y, 0 to 31, each wrong bit corrected (EN 300
+    /// 706,
     /// magazine and packet address). Magazine 0 is magazine 8.
     ///
     /// `None` where an address byte decodes to nothing.
@@ -85,7 +88,8 @@ impl Packet {
 
     /// What the page header says, each wrong bit corrected (EN 300 706, page header).
     ///
-    /// `None` where the packet is no packet X/0, or one of the eight coded bytes decodes to nothing.
+    /// `None` where the packet is no packet X/0, or one of the eight coded bytes decodes to
+    /// nothing.
     #[tactic(auto, unfolding(crate::specs::PageHeader::header))]
     pub fn header(&self) -> Option<Header>
         ensures { result ≡ header self.now }
@@ -135,7 +139,8 @@ impl Packet {
         is_word(self.bytes[0]) && is_word(self.bytes[1])
     }
 
-    /// Whether the eight coded bytes of a header are code words, with no bit to correct (EN 300 706,
+    /// Whether the eight coded bytes of a header are code words, with no bit to correct (EN 300
+    /// 706,
     /// 8.2). The address is not looked at.
     pub fn is_clean_header(&self) -> bool
         ensures { IsTrue result ↔ HasExactHeader self.now }
@@ -164,7 +169,8 @@ impl Packet {
     /// The header of a page of a magazine as a packet, with 32 spaces as its text (EN 300 706, page
     /// header).
     ///
-    /// `magazine` is 0 to 7; the subcode has no bit outside `0x3F7F`, and the control bits are C4 to
+    /// `magazine` is 0 to 7; the subcode has no bit outside `0x3F7F`, and the control bits are C4
+    /// to
     /// C14 alone.
     pub fn of_header(magazine: u8, header: &Header) -> Packet
         requires magazine { magazine < 8 }
@@ -174,7 +180,8 @@ impl Packet {
         Packet::new(header_bytes(magazine, header))
     }
 
-    /// A row of a page as packet X/1 to X/24: 40 bytes of odd parity (EN 300 706, packets for direct
+    /// A row of a page as packet X/1 to X/24: 40 bytes of odd parity (EN 300 706, packets for
+    /// direct
     /// display).
     ///
     /// `magazine` is 0 to 7, `row` 1 to 24, and the codes are below 128.

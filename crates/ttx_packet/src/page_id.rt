@@ -33,7 +33,8 @@ pub enum PageFault {
 }
 
 impl PageId {
-    /// The page that a text names: a magazine digit 1 to 8 and two hexadecimal digits of either case.
+    /// The page that a text names: a magazine digit 1 to 8 and two hexadecimal digits of either
+    /// case.
     ///
     /// # Errors
     ///

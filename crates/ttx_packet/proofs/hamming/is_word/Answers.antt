@@ -6,7 +6,8 @@ pub returns-in-Some : goal.returns-in-Some
 returns-in-Some c =
     let number = sym c.unham.ensures.value ∙ c.in-Some.is in (
       λ e. (c.in-Some.number, c.in-Some.ensures.small, sym (sym c.ham.ensures ∙ eqb-true _ _ e)),
-      λ word. eq-eqb _ _ (c.ham.ensures ∙ code_word-decoded c.args.byte c.in-Some.number number word),
+      λ word. eq-eqb _ _
+          (c.ham.ensures ∙ code_word-decoded c.args.byte c.in-Some.number number word),
     )
 
 pub returns-in-None : goal.returns-in-None

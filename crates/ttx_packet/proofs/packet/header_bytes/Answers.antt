@@ -12,8 +12,11 @@ returns c =
     c.ham-3.ensures
     c.ham-4.ensures
     c.ham-5.ensures
-    (c.ham-6.ensures ∙ ap (λ (b : ℕ). code_word (h.subcode / 0x10 % 8 + 8 * b)) c.bit_of-c4.ensures.value)
+    (c.ham-6.ensures
+    ∙ ap (λ (b : ℕ). code_word (h.subcode / 0x10 % 8 + 8 * b)) c.bit_of-c4.ensures.value)
     c.ham-7.ensures
-    (c.ham-8.ensures ∙ ap₂ (λ (b d : ℕ). code_word (h.subcode / 0x1000 % 4 + 4 * b + 8 * d)) c.bit_of-c5.ensures.value c.bit_of-c6.ensures.value)
+    (c.ham-8.ensures
+    ∙ ap₂ (λ (b d : ℕ). code_word (h.subcode / 0x1000 % 4 + 4 * b + 8 * d))
+    c.bit_of-c5.ensures.value c.bit_of-c6.ensures.value)
     c.nibble_word.ensures
     c.nibble_word-2.ensures

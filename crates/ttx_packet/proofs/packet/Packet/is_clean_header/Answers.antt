@@ -6,8 +6,11 @@ use Rattle.ttx_packet.proofs.packet.Packet.is_clean_header.Goals as goal
 
 pub returns-then-not-is_word : goal.returns-then-not-is_word
 returns-then-not-is_word c =
-    subst (λ (v : List ℕ). IsTrue false ↔ HasExactHeader v) c.self.view_is
-    (λ e. cc, λ exact. let word = c.is_word.ensures.1 (exact c.loop-place.place (omega arith) (omega arith)) in cc)
+    subst (λ (v : List ℕ). IsTrue false ↔ HasExactHeader v) c.self.view_is (
+      λ e. cc,
+      λ exact. let word =
+          c.is_word.ensures.1 (exact c.loop-place.place (omega arith) (omega arith)) in cc,
+    )
 
 pub returns : goal.returns
 returns c =
@@ -17,6 +20,7 @@ returns c =
 pub loop-place-preserved : goal.loop-place-preserved
 loop-place-preserved c k low high =
     elim (cases_eq k c.loop-place.place) [
-      | inl same ↦ subst (λ (j : ℕ). IsCodeWord (slice_index c.self.inside.bytes j)) (sym same) (c.is_word.ensures.0 c.if-not-is_word.false)
+      | inl same ↦ subst (λ (j : ℕ). IsCodeWord (slice_index c.self.inside.bytes j)) (sym same)
+          (c.is_word.ensures.0 c.if-not-is_word.false)
       | inr other ↦ c.loop-place.invariant k low (omega (arith, other))
     ]

@@ -6,11 +6,14 @@ use Rattle.ttx_packet.proofs.packet.tests.makes_and_reads_a_row.Goals as goal
 -- Forty letters are codes: 40 cases, computed.
 letters : (k : ℕ) → k < 40 → slice_index (replicate 40 0x41) k < 0x80
 letters k l =
-    ltb-true _ _ (agree_below_at (λ k. nat_lt (slice_index (replicate 40 0x41) k) 0x80) (λ k. true) 40 k refl l)
+    ltb-true _ _
+    (agree_below_at (λ k. nat_lt (slice_index (replicate 40 0x41) k) 0x80) (λ k. true) 40 k
+    refl l)
 
 pub of_row-packet-requires-clause-codes : goal.of_row-packet-requires-clause-codes
 of_row-packet-requires-clause-codes r c k =
     elim (cases_lt k 40) [
       | inl within ↦ letters k within
-      | inr past ↦ subst (λ (n : ℕ). n < 0x80) (sym (get_or_past (replicate 40 0x41) k 0 past)) (omega arith)
+      | inr past ↦ subst (λ (n : ℕ). n < 0x80) (sym (get_or_past (replicate 40 0x41) k 0 past))
+          (omega arith)
     ]
