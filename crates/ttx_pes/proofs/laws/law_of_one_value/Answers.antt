@@ -1,0 +1,6 @@
+-- The law one_value.
+use Rattle.ttx_pes.proofs.ReadingLemmas.{one_value}
+use Rattle.ttx_pes.proofs.laws.law_of_one_value.Goals as goal
+
+pub returns : goal.returns
+returns c = one_value

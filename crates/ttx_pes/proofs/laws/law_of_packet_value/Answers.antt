@@ -1,0 +1,6 @@
+-- The law value_of_packet.
+use Rattle.ttx_pes.proofs.PesPacketLemmas.{value_of_packet}
+use Rattle.ttx_pes.proofs.laws.law_of_packet_value.Goals as goal
+
+pub returns : goal.returns
+returns c = value_of_packet

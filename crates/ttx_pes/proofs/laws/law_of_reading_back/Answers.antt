@@ -1,0 +1,6 @@
+-- The law written_is_read.
+use Rattle.ttx_pes.proofs.ReadingLemmas.{written_is_read}
+use Rattle.ttx_pes.proofs.laws.law_of_reading_back.Goals as goal
+
+pub returns : goal.returns
+returns c = written_is_read

@@ -1,0 +1,94 @@
+-- Data units of a PES data field (EN 300 472, syntax of the PES data field): 46 bytes each, of which
+-- some carry a Teletext packet and the others are passed over.
+use Rattle.std.specs.Prelude.{◌≡◌, ℕ, zero, suc, ◌+◌, ◌-◌, ◌*◌, ◌<◌, ◌≤◌, Bool, false, ◌==◌, ◌||◌, List, [], ◌∷◌, ◌++◌, length, map, replicate, Option, Some, None}
+use Rattle.std.specs.Option.{option_to_list}
+use Rattle.ttx_packet.specs.BitOrder.{mirror}
+use Rattle.ttx_packet.specs.PacketAddress.{IsPacket}
+
+-- A Teletext unit: data_unit_id, the field (1 is the first, field_parity 1; 2 the second,
+-- field_parity 0), line_offset, and the packet in Teletext's own order of bits.
+pub record UnitValue : Type 0 where
+  pub id : ℕ
+  pub field : ℕ
+  pub line : ℕ
+  pub packet : List ℕ
+
+-- data_unit_id of EBU Teletext that is not subtitles.
+abbrev pub teletext_id : ℕ
+teletext_id = 0x02
+
+-- data_unit_id of EBU Teletext subtitles.
+abbrev pub subtitle_id : ℕ
+subtitle_id = 0x03
+
+-- data_unit_id of stuffing, and each byte behind the length of a stuffing unit that is written.
+abbrev pub stuffing : ℕ
+stuffing = 0xFF
+
+-- The bytes of a data unit behind its length.
+abbrev pub data_unit_length : ℕ
+data_unit_length = 0x2C
+
+-- The framing code of Teletext, its bits in the order of the data unit.
+abbrev pub framing_code : ℕ
+framing_code = 0xE4
+
+-- The values that a Teletext unit can have.
+pub record IsUnit (u : UnitValue) : Type 0 where
+  pub id : (teletext_id ≤ u.id) × (u.id ≤ subtitle_id)
+  pub field : (1 ≤ u.field) × (u.field ≤ 2)
+  pub line : u.line < 32
+  pub packet : IsPacket u.packet
+
+-- Whether a data unit with that data_unit_id carries a Teletext packet.
+abbrev pub is_teletext : ℕ → Bool
+is_teletext id = (id == teletext_id) || (id == subtitle_id)
+
+-- The third byte of a Teletext unit: two reserved bits, field_parity, line_offset.
+abbrev pub field_and_line : ℕ → UnitValue → ℕ
+field_and_line reserved u = 64 * reserved + 32 * (2 - u.field) + u.line
+
+-- A data unit that carries a Teletext packet, 46 bytes:
+--
+--   0      data_unit_id      02 not subtitles, 03 subtitles
+--   1      data_unit_length  2C
+--   2      reserved (2 bits), field_parity (1 in the first field), line_offset (5 bits)
+--   3      framing_code      E4
+--   4..45  the packet, the bits of each byte in the other order: Teletext sends bit 1 first
+--
+-- The reserved bits may be anything, since a reader does not look at them.
+pub record IsTeletextUnit (u : UnitValue) (b : List ℕ) : Type 0 where
+  pub reserved : ℕ
+  pub two_bits : reserved < 4
+  pub bytes :
+      b ≡ u.id ∷ data_unit_length ∷ field_and_line reserved u ∷ framing_code ∷ map mirror u.packet
+  pub is_unit : IsUnit u
+
+-- A data unit with any other data_unit_id, 46 bytes, of which only the first two are looked at.
+pub record IsPassedUnit (b : List ℕ) : Type 0 where
+  pub id : ℕ
+  pub rest : List ℕ
+  pub bytes : b ≡ id ∷ data_unit_length ∷ rest
+  pub other : is_teletext id ≡ false
+  pub size : length rest ≡ data_unit_length
+
+-- A data unit, and the Teletext unit that it is, if it is one.
+abbrev pub IsDataUnit : Option UnitValue → List ℕ → Type 0
+IsDataUnit (Some u) b = IsTeletextUnit u b
+IsDataUnit None b = IsPassedUnit b
+
+-- n data units one after the other, and the Teletext units among them in their order.
+abbrev pub AreDataUnits : ℕ → List UnitValue → List ℕ → Type 0
+AreDataUnits zero units b = (units ≡ []) × (b ≡ [])
+AreDataUnits (suc n) units b =
+    (u : Option UnitValue) × (others : List UnitValue) × (first : List ℕ) × (rest : List ℕ)
+    × IsDataUnit u first × AreDataUnits n others rest
+    × (units ≡ option_to_list u ++ others) × (b ≡ first ++ rest)
+
+-- The data unit that is written of a Teletext unit: both reserved bits 1.
+abbrev pub teletext_unit : UnitValue → List ℕ
+teletext_unit u = u.id ∷ data_unit_length ∷ field_and_line 3 u ∷ framing_code ∷ map mirror u.packet
+
+-- The stuffing unit that is written.
+abbrev pub stuffing_unit : List ℕ
+stuffing_unit = stuffing ∷ data_unit_length ∷ replicate data_unit_length stuffing

@@ -1,0 +1,63 @@
+-- Laws of the format, over plain lists of bytes.
+use Rattle.std.specs.Prelude.{◌≡◌, ◌≢◌, ℕ, ◌^◌, ◌<◌, ◌≤◌, List, ◌++◌, length, map, Some, Ok}
+use Rattle.std.specs.List.{AllByRecursion}
+use Rattle.sub_io.specs.Reading.{AreBytes}
+use Rattle.ttx_packet.specs.PacketAddress.{IsPacket}
+use Rattle.ttx_pes.specs.DataUnit.{UnitValue}
+use Rattle.ttx_pes.specs.LineOrder.{numbered_units}
+use Rattle.ttx_pes.specs.PesPacket.{PesValue, IsPesPacket, IsPesValue, canonical_packet, numbered_frame}
+use Rattle.ttx_pes.specs.Reading.{packet_at, answer_at, rest_after, most_packets}
+
+-- A packet has one value, and no packet is a proper prefix of another.
+-- So a file falls into PES packets in one way.
+abbrev pub LawOfOneValue : Type 0
+LawOfOneValue =
+    (a b x y : List ℕ) (v w : PesValue)
+    → IsPesPacket v a
+    → IsPesPacket w b
+    → a ++ x ≡ b ++ y
+    → (a ≡ b) × (v ≡ w)
+
+-- The value of a packet is one that a frame can hold.
+abbrev pub LawOfPacketValue : Type 0
+LawOfPacketValue = (v : PesValue) (b : List ℕ) → IsPesPacket v b → IsPesValue v
+
+-- The canonical packet of each value that a frame can hold is a packet of that value.
+-- So what is written of a frame means that frame.
+abbrev pub LawOfCanonicalPacket : Type 0
+LawOfCanonicalPacket = (v : PesValue) → IsPesValue v → IsPesPacket v (canonical_packet v)
+
+-- A packet is read as its value, whatever follows it.
+-- So a reader refuses nothing that the grammar has.
+abbrev pub LawOfReading : Type 0
+LawOfReading =
+    (v : PesValue) (b rest : List ℕ) → IsPesPacket v b → packet_at (b ++ rest) ≡ Ok (v, rest)
+
+-- What is read as a value is a packet of that value.
+-- So a reader accepts nothing that the grammar does not have.
+abbrev pub LawOfGrammar : Type 0
+LawOfGrammar =
+    (v : PesValue) (bytes rest : List ℕ)
+    → AreBytes bytes
+    → packet_at bytes ≡ Ok (v, rest)
+    → (b : List ℕ) × IsPesPacket v b × (bytes ≡ b ++ rest)
+
+-- What was written of a frame is read as that frame, whatever follows, and what follows is left.
+-- So a schedule that was written is the schedule that is read.
+abbrev pub LawOfReadingBack : Type 0
+LawOfReadingBack =
+    (given : ℕ) (v : PesValue) (rest : List ℕ)
+    → given ≢ most_packets
+    → IsPesValue v
+    → (answer_at given (canonical_packet v ++ rest) ≡ Ok (Some v))
+    × (rest_after (canonical_packet v ++ rest) ≡ rest)
+
+-- Packets that are sent as one frame make a value that a frame can hold, and are its units' packets.
+abbrev pub LawOfNumberedFrame : Type 0
+LawOfNumberedFrame =
+    (pts : ℕ) (packets : List (List ℕ))
+    → pts < 2 ^ 33
+    → length packets ≤ 32
+    → AllByRecursion IsPacket packets
+    → IsPesValue (numbered_frame pts packets)
+    × (map (λ (u : UnitValue). u.packet) (numbered_units 0 packets) ≡ packets)

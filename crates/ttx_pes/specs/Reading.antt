@@ -1,0 +1,147 @@
+-- Reading a PES packet from the front of bytes: a word NAME_at gives what stands there, or the first
+-- fault, in the order in which the fields stand.
+use Rattle.std.specs.Prelude.{◌≡◌, ℕ, zero, suc, ◌+◌, ◌-◌, ◌*◌, ◌/◌, ◌%◌, ◌^◌, Bool, true, false, not, ◌==◌, ◌&&◌, nat_lt, nat_le, if◌then◌else◌, List, [], ◌∷◌, ◌++◌, length, take, drop, map, slice_index, Option, Some, None, Result, Ok, Err}
+use Rattle.std.specs.Io.KnownBytes.{Consumes}
+use Rattle.sub_io.specs.Reading.{◌>>=◌, AreBytes}
+use Rattle.ttx_packet.specs.BitOrder.{mirror}
+use Rattle.ttx_pes.specs.declared.fault.PesFault.{PesFault}
+use Rattle.ttx_pes.specs.declared.fault.PesFault.TheVariants as fault
+use Rattle.ttx_pes.specs.DataUnit.{UnitValue, is_teletext, data_unit_length, framing_code}
+use Rattle.ttx_pes.specs.LineOrder.{last_place, stands_after}
+use Rattle.ttx_pes.specs.PesPacket.{PesValue, header_data_length}
+
+-- The Teletext unit that 46 bytes are.
+abbrev pub unit_of : List ℕ → UnitValue
+unit_of b = record {
+  id = slice_index b 0;
+  field = if (slice_index b 2 / 32) % 2 == 1 then 1 else 2;
+  line = slice_index b 2 % 32;
+  packet = map mirror (drop 4 b);
+}
+
+-- A data unit: the Teletext unit that it is, if it is one.
+unfoldable pub teletext_at : List ℕ → Result (Option UnitValue) PesFault
+teletext_at b =
+    if not (slice_index b 1 == data_unit_length) then Err fault.UnitLength
+    else if not (is_teletext (slice_index b 0)) then Ok None
+    else if not (slice_index b 3 == framing_code) then Err fault.Framing
+    else Ok (Some (unit_of b))
+
+-- The units so far, and that unit behind them, if there is one.
+abbrev pub with_unit : List UnitValue → Option UnitValue → Result (List UnitValue) PesFault
+with_unit units None = Ok units
+with_unit units (Some u) =
+    if stands_after (last_place 0 units) u then Ok (units ++ u ∷ []) else Err fault.LineOrder
+
+-- A data unit behind the units so far.
+unfoldable pub unit_at : List UnitValue → List ℕ → Result (List UnitValue) PesFault
+unit_at units b = do
+  u ← teletext_at b
+  with_unit units u
+
+-- n data units behind the units so far.
+unfoldable pub units_at : ℕ → List UnitValue → List ℕ → Result (List UnitValue) PesFault
+units_at zero units b = Ok units
+units_at (suc n) units b = do
+  more ← unit_at units (take 46 b)
+  units_at n more (drop 46 b)
+
+-- The byte at a place of the packet, where its first six bytes are cut off.
+abbrev pub byte_at : List ℕ → ℕ → ℕ
+byte_at b place = slice_index b (place - 6)
+
+-- The 33 bits in bytes 9 to 13.
+abbrev pub pts_bits : List ℕ → ℕ
+pts_bits b =
+    (byte_at b 9 / 2) % 8 * 2 ^ 30
+    + byte_at b 10 * 2 ^ 22
+    + byte_at b 11 / 2 * 2 ^ 15
+    + byte_at b 12 * 2 ^ 7
+    + byte_at b 13 / 2
+
+-- Bytes 9 to 13 begin with 0010 and have their three marker bits.
+abbrev pub has_markers : List ℕ → Bool
+has_markers b =
+    (byte_at b 9 / 0x10 == 2)
+    && (byte_at b 9 % 2 == 1)
+    && (byte_at b 11 % 2 == 1)
+    && (byte_at b 13 % 2 == 1)
+
+-- Bytes 6 to 45: the PTS.
+unfoldable pub pts_at : List ℕ → Result ℕ PesFault
+pts_at b =
+    if not (byte_at b 6 / 0x10 == 8) then Err fault.Flags
+    else if not (byte_at b 7 / 0x40 == 2) then Err fault.NoTime
+    else if not (byte_at b 8 == header_data_length) then Err fault.HeaderLength
+    else if not (has_markers b) then Err fault.Time
+    else if not (byte_at b 45 / 0x10 == 1) then Err fault.DataId
+    else Ok (pts_bits b)
+
+-- Bytes 6 to the end: the packet's value.
+unfoldable pub value_at : List ℕ → Result PesValue PesFault
+value_at b = do
+  pts ← pts_at b
+  units ← units_at (length (drop 40 b) / 46) [] (drop 40 b)
+  Ok (record { pts = pts; units = units })
+
+-- Bytes 0 to 3 are the start of a packet with private data.
+abbrev pub is_start : List ℕ → Bool
+is_start b =
+    (slice_index b 0 == 0x00)
+    && (slice_index b 1 == 0x00)
+    && (slice_index b 2 == 0x01)
+    && (slice_index b 3 == 0xBD)
+
+-- The size of the packet whose length bytes 4 and 5 give.
+abbrev pub told_size : List ℕ → ℕ
+told_size b = 0x100 * slice_index b 4 + slice_index b 5 + 6
+
+-- Bytes 0 to 5: the size of the packet, 1 to 9 times 184.
+unfoldable pub size_at : List ℕ → Result ℕ PesFault
+size_at b =
+    if not (is_start b) then Err fault.Start
+    else if not ((told_size b % 184 == 0) && nat_le (told_size b) 1656) then Err fault.Length
+    else Ok (told_size b)
+
+-- A packet's value, and the bytes after the packet.
+unfoldable pub packet_at : List ℕ → Result (PesValue × List ℕ) PesFault
+packet_at b = do
+  head ← (if nat_lt (length b) 6 then Err fault.Truncated else Ok (take 6 b))
+  size ← size_at head
+  body ← (if nat_lt (length b) size then Err fault.Truncated else Ok (take (size - 6) (drop 6 b)))
+  v ← value_at body
+  Ok (v, drop size b)
+
+-- The packets of a file at most: one for each frame of a day at 25 a second.
+abbrev pub most_packets : ℕ
+most_packets = 2160000
+
+-- What a reader answers that has given so many packets and has these bytes to come, where its source
+-- does not fail.
+unfoldable pub answer_at : ℕ → List ℕ → Result (Option PesValue) PesFault
+answer_at given [] = Ok None
+answer_at given (x ∷ b) =
+    if given == most_packets then Err fault.TooMany
+    else (packet_at (x ∷ b) >>= λ p. Ok (Some p.0))
+
+-- The bytes that are left behind the packet that begins the bytes; all where none does.
+abbrev pub left_behind : List ℕ → Result (PesValue × List ℕ) PesFault → List ℕ
+left_behind b (Ok p) = p.1
+left_behind b (Err _) = b
+
+-- The bytes after the packet that begins these bytes.
+unfoldable pub rest_after : List ℕ → List ℕ
+rest_after b = left_behind b (packet_at b)
+
+-- Whether the answer is the fault of a source that failed.
+abbrev pub is_read_failure : {X : Type 0} → Result X PesFault → Bool
+is_read_failure (Err fault.Read) = true
+is_read_failure _ = false
+
+-- Whether a fault is one of the format: `Truncated` to `LineOrder`.
+abbrev pub is_format_fault : PesFault → Bool
+is_format_fault fault.Read = false
+is_format_fault fault.Write = false
+is_format_fault fault.Ended = false
+is_format_fault fault.TooMany = false
+is_format_fault _ = true

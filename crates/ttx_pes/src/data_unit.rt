@@ -1,0 +1,104 @@
+//! Data units, read and written (EN 300 472, data unit syntax).
+ghost use Rattle.std.specs.Prelude.{◌≡◌, ◌+◌, ◌*◌, ◌≤◌, ◌++◌, false, true, length, Ok, Err, OnOk, IfErr};
+ghost use Rattle.ttx_pes.specs.DataUnit.{teletext_unit, stuffing_unit};
+ghost use Rattle.ttx_pes.specs.Reading.{teletext_at, unit_at, units_at, is_format_fault, is_read_failure};
+
+use crate::fault::PesFault;
+use crate::pes_frame::PesFrame;
+use crate::unit::Unit;
+use crate::writer::{Bytes, add};
+use ttx_packet::{Packet, mirrored};
+
+// The bytes of a data unit.
+const SIZE: usize = 46;
+
+// data_unit_length of each.
+const LENGTH: u8 = 0x2C;
+
+// The framing code of a Teletext unit.
+const FRAMING: u8 = 0xE4;
+
+// The Teletext unit that a data unit is, if it is one.
+#[tactic(auto, unfolding(crate::specs::Reading::teletext_at))]
+fn teletext_of(block: &[u8]) -> Result<Option<Unit>, PesFault>
+    requires { length block.now ≡ 46 }
+    ensures exact { teletext_at block.now ≡ result }
+    ensures read { is_read_failure result ≡ false }
+    ensures kind { IfErr result (λ fault. is_format_fault fault ≡ true) }
+{
+    if block[1] != LENGTH {
+        return Err(PesFault::UnitLength);
+    }
+    let id = block[0];
+    if id != 2 && id != 3 {
+        return Ok(None);
+    }
+    if block[3] != FRAMING {
+        return Err(PesFault::Framing);
+    }
+    let field = if block[2] / 32 % 2 == 1 { 1 } else { 2 };
+    let line = block[2] % 32;
+    let (_, sent) = block.split_at(4);
+    let packet = Packet::new(mirrored(sent.as_array().unwrap()));
+    Ok(Some(Unit::new(id, field, line, packet)))
+}
+
+// Adds the Teletext unit that a data unit is, if it is one.
+#[tactic(auto, unfolding(crate::specs::Reading::unit_at))]
+fn take_unit(frame: &mut PesFrame, block: &[u8]) -> Result<(), PesFault>
+    requires room { length frame.old.units + 1 ≤ 35 }
+    requires block { length block.now ≡ 46 }
+    ensures room { length frame.new.units ≤ length frame.old.units + 1 }
+    ensures ok { OnOk result (unit_at frame.old.units block.now ≡ Ok frame.new.units) }
+    ensures read { is_read_failure result ≡ false }
+    ensures kind { IfErr result (λ fault. is_format_fault fault ≡ true) }
+    ensures err { IfErr result (λ e. unit_at frame.old.units block.now ≡ Err e) }
+    ensures pts { frame.new.pts ≡ frame.old.pts }
+{
+    if let Some(unit) = teletext_of(block)? {
+        if frame.add(unit).is_err() {
+            return Err(PesFault::LineOrder);
+        }
+    }
+    Ok(())
+}
+
+// Adds the Teletext units among that many data units, up to the first fault.
+pub(crate) fn take_units(frame: &mut PesFrame, count: usize, blocks: &[u8]) -> Result<(), PesFault>
+    requires room { length frame.old.units + count ≤ 35 }
+    requires blocks { length blocks.now ≡ 46 * count }
+    ensures ok { OnOk result (units_at count frame.old.units blocks.now ≡ Ok frame.new.units) }
+    ensures read { is_read_failure result ≡ false }
+    ensures kind { IfErr result (λ fault. is_format_fault fault ≡ true) }
+    ensures err { IfErr result (λ e. units_at count frame.old.units blocks.now ≡ Err e) }
+    ensures pts { frame.new.pts ≡ frame.old.pts }
+{
+    let mut rest = blocks;
+    for _ in 0..count {
+        let (block, after) = rest.split_at(SIZE);
+        take_unit(frame, block)?;
+        rest = after;
+    }
+    Ok(())
+}
+
+// Adds the data unit of a Teletext unit.
+pub(crate) fn add_unit(out: &mut Bytes, unit: &Unit)
+    requires { length out.old.items + 46 ≤ 1656 }
+    ensures items { out.new.items ≡ out.old.items ++ teletext_unit unit.now }
+    ensures len { length out.new.items ≡ length out.old.items + 46 }
+{
+    let field_and_line = 192 + 32 * (2 - unit.field()) + unit.line();
+    add(out, &[unit.id(), LENGTH, field_and_line, FRAMING]);
+    add(out, &unit.packet().mirrored());
+}
+
+// Adds a stuffing unit.
+pub(crate) fn add_stuffing(out: &mut Bytes)
+    requires { length out.old.items + 46 ≤ 1656 }
+    ensures items { out.new.items ≡ out.old.items ++ stuffing_unit }
+    ensures len { length out.new.items ≡ length out.old.items + 46 }
+{
+    add(out, &[0xFF, LENGTH]);
+    add(out, &[0xFF; 44]);
+}

@@ -1,0 +1,48 @@
+//! Why a PES packet is not read or not written.
+ghost use Rattle.std.specs.Prelude.{◌≡◌};
+ghost use Rattle.ttx_pes.specs.declared.fault.PesFault.TheVariants.{Read};
+
+use sub_io::Failed;
+
+/// Why a PES packet is not read or not written, in the order in which a reader looks (EN 300 472).
+#[derive(Clone, Copy, Debug, PartialEq, Eq)]
+pub enum PesFault {
+    /// The bytes end within a packet.
+    Truncated,
+    /// Bytes 0 to 3 are not 00 00 01 BD: packet_start_code_prefix, and stream_id of private_stream_1.
+    Start,
+    /// PES_packet_length does not give a packet of 1 to 9 times 184 bytes.
+    Length,
+    /// Byte 6 does not begin with 1000: 10 and PES_scrambling_control 00.
+    Flags,
+    /// PTS_DTS_flags is not 10: there is no PTS, or a DTS too.
+    NoTime,
+    /// PES_header_data_length is not 24 (hexadecimal).
+    HeaderLength,
+    /// The PTS does not begin with 0010, or one of its three marker bits is 0.
+    Time,
+    /// data_identifier is not 10 to 1F (hexadecimal), those of EBU data.
+    DataId,
+    /// data_unit_length of a data unit is not 2C (hexadecimal).
+    UnitLength,
+    /// The framing code of a Teletext unit is not E4 (hexadecimal).
+    Framing,
+    /// A Teletext unit's line is not behind the one before it in its packet (own).
+    LineOrder,
+    /// The source failed.
+    Read,
+    /// The sink failed.
+    Write,
+    /// There was a fault before.
+    Ended,
+    /// A byte follows 2,160,000 packets, one for each frame of a day (own).
+    TooMany,
+}
+
+impl From<Failed> for PesFault {
+    ghost from_gives = { λ _ e. e ≡ Read };
+
+    fn from(_failed: Failed) -> PesFault {
+        PesFault::Read
+    }
+}

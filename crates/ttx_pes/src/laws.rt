@@ -1,0 +1,41 @@
+//! Laws of the format, each as a call whose contract is the law.
+ghost use Rattle.ttx_pes.specs.Laws.{LawOfCanonicalPacket, LawOfGrammar, LawOfNumberedFrame, LawOfOneValue, LawOfPacketValue, LawOfReading, LawOfReadingBack};
+
+/// A PES packet has one value, and none is a proper prefix of another: a file falls into packets in one
+/// way.
+pub fn law_of_one_value()
+    ensures { LawOfOneValue }
+{}
+
+/// The value of a PES packet is one that a `PesFrame` can hold.
+pub fn law_of_packet_value()
+    ensures { LawOfPacketValue }
+{}
+
+/// The canonical packet of each value that a `PesFrame` can hold is a packet of that value.
+pub fn law_of_canonical_packet()
+    ensures { LawOfCanonicalPacket }
+{}
+
+/// A PES packet is read as its value, whatever follows it: a reader refuses nothing that the grammar
+/// has.
+pub fn law_of_reading()
+    ensures { LawOfReading }
+{}
+
+/// What is read as a value is a packet of that value: a reader accepts nothing that the grammar does
+/// not have.
+pub fn law_of_grammar()
+    ensures { LawOfGrammar }
+{}
+
+/// What was written of a frame is read as that frame, and what follows it is left.
+pub fn law_of_reading_back()
+    ensures { LawOfReadingBack }
+{}
+
+/// Packets that are sent as one frame make a value that a `PesFrame` can hold, and are its units'
+/// packets.
+pub fn law_of_numbered_frame()
+    ensures { LawOfNumberedFrame }
+{}

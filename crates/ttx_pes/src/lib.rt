@@ -1,0 +1,39 @@
+//! EBU Teletext in PES packets (EN 300 472), both ways.
+//!
+//! A reader gives the PTS and the Teletext units of each PES packet, and takes exactly the packet's
+//! bytes; a writer puts a frame's canonical packet. Stands on `sub_io` for the devices and on
+//! `ttx_packet` for the packets; schedules are written and checked over it.
+//!
+//! ```text
+//! let mut reader = PesReader::new();
+//! let mut frame = PesFrame::new(0);
+//! while reader.next_into(&mut source, &mut frame)? {
+//!     for unit in frame.units() {
+//!         receiver.hear(unit.packet());
+//!     }
+//! }
+//! ```
+#![tactic(auto)]
+
+mod data_unit;
+mod fault;
+mod laws;
+mod line_numbers;
+mod pes_frame;
+mod pes_header;
+mod progress;
+mod reader;
+mod unit;
+mod writer;
+
+pub use fault::PesFault;
+pub use laws::{
+    law_of_canonical_packet, law_of_grammar, law_of_numbered_frame, law_of_one_value,
+    law_of_packet_value, law_of_reading, law_of_reading_back,
+};
+pub use line_numbers::put_frame;
+pub use pes_frame::PesFrame;
+pub use progress::Progress;
+pub use reader::PesReader;
+pub use unit::Unit;
+pub use writer::PesWriter;

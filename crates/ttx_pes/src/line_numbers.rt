@@ -1,0 +1,63 @@
+//! Packets that are sent as one frame, on the lines of EN 300 472.
+ghost use Rattle.std.specs.Prelude.{◌≡◌, ◌+◌, ◌^◌, ◌<◌, ◌≤◌, ◌==◌, false, length, IfErr, if◌then◌else◌};
+ghost use Rattle.sub_io.specs.Device.{Writes};
+ghost use Rattle.ttx_pes.specs.declared.fault.PesFault.TheVariants.{Write};
+ghost use Rattle.ttx_pes.specs.LineOrder.{line_order_place, numbered_place, numbered_unit};
+ghost use Rattle.ttx_pes.specs.PesPacket.{canonical_packet, numbered_frame};
+ghost use Rattle.ttx_pes.specs.Writer.{is_write_failure};
+
+use crate::fault::PesFault;
+use crate::pes_frame::PesFrame;
+use crate::unit::Unit;
+use crate::writer::PesWriter;
+use sub_io::Sink;
+use ttx_packet::Packet;
+
+// The unit of the packet that is sent as number i of a frame.
+fn unit_of_number(i: usize, packet: &Packet) -> Unit
+    requires { i < 32 }
+    ensures value { result ≡ numbered_unit i packet.now }
+    ensures place { line_order_place result ≡ numbered_place i }
+    ensures line { (result.line == 0) ≡ false }
+{
+    let i = i as u8;
+    if i < 16 {
+        Unit::new(3, 1, 7 + i, *packet)
+    } else {
+        Unit::new(3, 2, i - 9, *packet)
+    }
+}
+
+// The frame of these packets.
+fn frame_of(pts: u64, packets: &[Packet]) -> PesFrame
+    requires pts { pts < 2 ^ 33 }
+    requires few { length packets.now ≤ 32 }
+    ensures { result ≡ numbered_frame pts packets.now }
+{
+    let mut frame = PesFrame::new(pts);
+    for (i, packet) in packets.iter().enumerate() {
+        frame.push(unit_of_number(i, packet));
+    }
+    frame
+}
+
+/// Writes these packets as one PES packet: as subtitle units (data_unit_id 03) on lines 7 to 22 of the
+/// first field, then 7 to 22 of the second, those that EN 300 472 names.
+///
+/// `pts` is in ticks of 90 kHz, 33 bits; 32 packets at most.
+///
+/// # Errors
+///
+/// `Write` where the sink failed: a prefix of the packet was written.
+pub fn put_frame<K: Sink>(sink: &mut K, pts: u64, packets: &[Packet]) -> Result<(), PesFault>
+    requires pts { pts < 2 ^ 33 }
+    requires few { length packets.now ≤ 32 }
+    requires count { K.failure_count sink.old < u64.MAX }
+    ensures bytes { Writes (K.contents sink.old) (K.contents sink.new)
+        (canonical_packet (numbered_frame pts packets.now)) result }
+    ensures faults { IfErr result (λ fault. fault ≡ Write) }
+    ensures count { K.failure_count sink.new
+        ≡ K.failure_count sink.old + (if is_write_failure result then 1 else 0) }
+{
+    PesWriter::new().put(sink, &frame_of(pts, packets))
+}

@@ -1,0 +1,117 @@
+//! What one PES packet carries.
+ghost use Rattle.std.specs.Prelude.{◌≡◌, ◌+◌, ◌^◌, ◌<◌, ◌≤◌, ◌↔◌, true, [], ◌∷◌, ◌++◌, length, IsOk, OnOk, IfErr, OnErr};
+
+use crate::unit::Unit;
+use arrayvec::ArrayVec;
+use std::marker::Model;
+
+/// What one PES packet carries: a PTS, and Teletext units in the order of their lines (EN 300 472; the
+/// order is (own)).
+#[derive(Drop)]
+pub struct PesFrame {
+    pts: u64,
+    units: ArrayVec<Unit, 35>,
+    // The place that the next unit has to be behind.
+    last: u8,
+}
+
+impl Model for PesFrame {
+    ghost use Rattle.std.specs.Prelude.{◌≡◌, ◌<◌, ◌^◌};
+    ghost use Rattle.std.specs.List.{AllByRecursion};
+    ghost use Rattle.ttx_pes.specs.DataUnit.{IsUnit};
+    ghost use Rattle.ttx_pes.specs.LineOrder.{last_place, AreInLineOrder};
+    ghost use Rattle.ttx_pes.specs.PesPacket.{PesValue};
+
+    ghost Value = { PesValue };
+
+    ghost view = { λ f. record { pts = f.pts; units = f.units.items } };
+
+    ghost invariant = { λ f.
+        (f.pts < 2 ^ 33)
+        × (f.last ≡ last_place 0 f.units.items)
+        × (f.last < 64)
+        × AreInLineOrder 0 f.units.items
+        × AllByRecursion IsUnit f.units.items };
+}
+
+impl PesFrame {
+    ghost use Rattle.ttx_pes.specs.LineOrder.{last_place, stands_after};
+    ghost use Rattle.ttx_pes.specs.PesPacket.{IsPesValue, empty_value};
+
+    /// A frame with no units. `pts` is in ticks of 90 kHz, 33 bits.
+    pub fn new(pts: u64) -> Self
+        requires { pts < 2 ^ 33 }
+        ensures { result ≡ record { pts = pts; units = [] } }
+    {
+        PesFrame {
+            pts,
+            units: ArrayVec::new(),
+            last: 0,
+        }
+    }
+
+    /// The presentation time, PTS, in ticks of 90 kHz: 33 bits.
+    pub fn pts(&self) -> u64
+        ensures value { result ≡ self.now.pts }
+        ensures range { result < 2 ^ 33 }
+    {
+        self.pts
+    }
+
+    /// The Teletext units, in the order of the packet: 35 at most.
+    pub fn units(&self) -> &[Unit]
+        ensures value { result.now ≡ self.now.units }
+        // What each frame holds.
+        ensures frame { IsPesValue self.now }
+    {
+        self.units.as_slice()
+    }
+
+    /// Adds a unit at the end.
+    ///
+    /// # Errors
+    ///
+    /// The unit itself, where there are 35 units or its line is not behind those before it; the frame
+    /// stays as it was. A unit of line 0 may stand anywhere.
+    #[tactic(auto, using(crate::proofs::LineOrderLemmas::order))]
+    pub fn add(&mut self, unit: Unit) -> Result<(), Unit>
+        ensures variant { IsOk result ↔ ((length self.old.units < 35)
+            × (stands_after (last_place 0 self.old.units) unit ≡ true)) }
+        ensures ok { OnOk result
+            (self.new ≡ record self.old { units = self.old.units ++ unit ∷ [] }) }
+        ensures err { OnErr result (self.new ≡ self.old) }
+        ensures back { IfErr result (λ given. given ≡ unit) }
+    {
+        if self.units.is_full() {
+            return Err(unit);
+        }
+        let Some(place) = unit.place_after(self.last) else {
+            return Err(unit);
+        };
+        self.last = place;
+        self.units.push(unit);
+        Ok(())
+    }
+
+    // Adds a unit at the end, where it is known to fit.
+    #[tactic(auto, using(crate::proofs::LineOrderLemmas::order))]
+    pub(crate) fn push(&mut self, unit: Unit)
+        requires room { length self.old.units < 35 }
+        requires stands { stands_after (last_place 0 self.old.units) unit ≡ true }
+        ensures { self.new ≡ record self.old { units = self.old.units ++ unit ∷ [] } }
+    {
+        let place = unit.place_after(self.last).unwrap();
+        self.last = place;
+        self.units.push(unit);
+    }
+
+    // Makes it a frame of that PTS with no units.
+    pub(crate) fn restart(&mut self, pts: u64)
+        requires { pts < 2 ^ 33 }
+        ensures { self.new ≡ record { pts = pts; units = [] } }
+    {
+        self.pts = pts;
+        self.units.clear();
+        self.last = 0;
+    }
+}

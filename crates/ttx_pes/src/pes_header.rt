@@ -1,0 +1,104 @@
+//! The first 46 bytes of a PES packet, read and written (EN 300 472, PES packet header and
+//! data_identifier).
+ghost use Rattle.std.specs.Prelude.{◌≡◌, ◌+◌, ◌*◌, ◌%◌, ◌^◌, ◌<◌, ◌≤◌, false, true, length, slice_index, IfOk, IfErr};
+ghost use Rattle.sub_io.specs.Reading.{AreBytes};
+ghost use Rattle.ttx_pes.specs.PesPacket.{header, pts_bytes};
+ghost use Rattle.ttx_pes.specs.Reading.{pts_at, size_at, is_format_fault, is_read_failure};
+
+use crate::fault::PesFault;
+use crate::writer::{Bytes, add};
+use arrayvec::ArrayVec;
+use byteorder::{BigEndian, ByteOrder};
+
+// A packet of n payloads has 184 * n bytes, at most 1656.
+const PAYLOAD: usize = 184;
+
+// The size of the packet that begins with these six bytes.
+#[tactic(auto, unfolding(crate::specs::Reading::size_at))]
+pub(crate) fn size_of(head: &[u8; 6]) -> Result<usize, PesFault>
+    ensures exact { size_at head.now ≡ result }
+    ensures bytes { AreBytes head.now }
+    ensures read { is_read_failure result ≡ false }
+    ensures kind { IfErr result (λ fault. is_format_fault fault ≡ true) }
+    ensures range { IfOk result (λ size. (184 ≤ size) × (size ≤ 1656) × (size % 184 ≡ 0)) }
+{
+    if head[0] != 0 || head[1] != 0 || head[2] != 1 || head[3] != 0xBD {
+        return Err(PesFault::Start);
+    }
+    let size = length_of(head) as usize + 6;
+    if size % PAYLOAD != 0 || size > 9 * PAYLOAD {
+        return Err(PesFault::Length);
+    }
+    Ok(size)
+}
+
+// PES_packet_length.
+fn length_of(head: &[u8; 6]) -> u16
+    ensures { result ≡ 0x100 * slice_index head.now 4 + slice_index head.now 5 }
+{
+    BigEndian::read_u16(&head[4..])
+}
+
+// The PTS, of the packet's bytes from byte 6 on. The fields are tested in the order in which they stand.
+#[tactic(auto, unfolding(crate::specs::Reading::pts_at))]
+pub(crate) fn pts_of(body: &[u8]) -> Result<u64, PesFault>
+    requires { 40 ≤ length body.now }
+    ensures exact { pts_at body.now ≡ result }
+    ensures read { is_read_failure result ≡ false }
+    ensures kind { IfErr result (λ fault. is_format_fault fault ≡ true) }
+    ensures range { IfOk result (λ pts. pts < 2 ^ 33) }
+{
+    if body[0] / 16 != 8 {
+        return Err(PesFault::Flags);
+    }
+    if body[1] / 64 != 2 {
+        return Err(PesFault::NoTime);
+    }
+    if body[2] != 0x24 {
+        return Err(PesFault::HeaderLength);
+    }
+    if body[3] / 16 != 2 || body[3] % 2 != 1 || body[5] % 2 != 1 || body[7] % 2 != 1 {
+        return Err(PesFault::Time);
+    }
+    if body[39] / 16 != 1 {
+        return Err(PesFault::DataId);
+    }
+    let high = (body[3] / 2 % 8) as u64 * (1 << 30);
+    let middle = body[4] as u64 * (1 << 22) + (body[5] / 2) as u64 * (1 << 15);
+    let low = body[6] as u64 * (1 << 7) + (body[7] / 2) as u64;
+    Ok(high + middle + low)
+}
+
+// The five bytes of a PTS.
+fn bytes_of_pts(pts: u64) -> [u8; 5]
+    requires { pts < 2 ^ 33 }
+    ensures { result ≡ pts_bytes pts }
+{
+    [
+        (0x21 + 2 * (pts / (1 << 30))) as u8,
+        (pts / (1 << 22) % 256) as u8,
+        (1 + 2 * (pts / (1 << 15) % 128)) as u8,
+        (pts / (1 << 7) % 256) as u8,
+        (1 + 2 * (pts % 128)) as u8,
+    ]
+}
+
+// The first 46 bytes of the canonical packet of n payloads.
+#[tactic(auto, unfolding(crate::specs::PesPacket::header))]
+pub(crate) fn header_of(n: u16, pts: u64) -> Bytes
+    requires n { (1 ≤ n) × (n ≤ 9) }
+    requires pts { pts < 2 ^ 33 }
+    ensures items { result.items ≡ header n pts }
+    ensures len { length result.items ≡ 46 }
+{
+    let mut length = [0; 2];
+    BigEndian::write_u16(&mut length, 184 * n - 6);
+    let mut out = ArrayVec::new();
+    add(&mut out, &[0x00, 0x00, 0x01, 0xBD]);
+    add(&mut out, &length);
+    add(&mut out, &[0x84, 0x80, 0x24]);
+    add(&mut out, &bytes_of_pts(pts));
+    add(&mut out, &[0xFF; 31]);
+    add(&mut out, &[0x10]);
+    out
+}

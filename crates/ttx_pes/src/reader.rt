@@ -1,0 +1,237 @@
+//! Reading PES packets.
+ghost use Rattle.std.specs.Prelude.{◌≡◌, ℕ, ◌+◌, ◌%◌, ◌<◌, ◌≤◌, ◌≢◌, ◌↔◌, true, false, [], if◌then◌else◌, length, Some, None, Ok, Err, IfOk, OnOk, IfErr, IfSome, OnSome};
+ghost use Rattle.sub_io.specs.Reading.{AreBytes, IfTold};
+ghost use Rattle.ttx_pes.specs.declared.fault.PesFault.TheVariants.{Ended, TooMany};
+ghost use Rattle.ttx_pes.specs.declared.progress.Progress.TheVariants.{Reading, AtEnd, Broken};
+ghost use Rattle.ttx_pes.specs.PesPacket.{empty_value};
+ghost use Rattle.ttx_pes.specs.Reading.{answer_at, value_at, is_format_fault, is_read_failure, rest_after};
+ghost use Rattle.ttx_pes.specs.Reader.{progress_after, given_frame, TakesPesPacket, BeginsNone};
+
+use crate::data_unit::take_units;
+use crate::fault::PesFault;
+use crate::pes_frame::PesFrame;
+use crate::pes_header::{pts_of, size_of};
+use crate::progress::Progress;
+use std::marker::Model;
+use sub_io::{Source, fill};
+
+/// The packets of a file at most: one for each frame of a day at 25 a second.
+const MOST_PACKETS: u32 = 2_160_000;
+
+/// Reads PES packets with Teletext units. It keeps how far it has come, and room for the bytes of one
+/// packet.
+#[derive(Drop)]
+pub struct PesReader {
+    progress: Progress,
+    // A packet's bytes from byte 6 on.
+    room: [u8; 1650],
+}
+
+impl Model for PesReader {
+    ghost use Rattle.ttx_pes.specs.declared.progress.Progress.{Progress};
+    ghost use Rattle.ttx_pes.specs.Reader.{GivesAtMost};
+    ghost use Rattle.ttx_pes.specs.Reading.{most_packets};
+
+    ghost Value = { Progress };
+
+    ghost view = { λ r. r.progress };
+
+    ghost invariant = { λ r. GivesAtMost most_packets r.progress };
+}
+
+// Puts the value of a packet's bytes from byte 6 on into the frame.
+#[tactic(auto, unfolding(crate::specs::Reading::value_at))]
+fn read_value(body: &[u8], frame: &mut PesFrame) -> Result<(), PesFault>
+    requires short { length body.now ≤ 1650 }
+    requires whole { (length body.now + 6) % 184 ≡ 0 }
+    ensures ok { OnOk result (value_at body.now ≡ Ok frame.new) }
+    ensures err { IfErr result (λ fault. value_at body.now ≡ Err fault) }
+    ensures bytes { AreBytes body.now }
+    ensures read { is_read_failure result ≡ false }
+    ensures kind { IfErr result (λ fault. is_format_fault fault ≡ true) }
+{
+    let pts = pts_of(body)?;
+    frame.restart(pts);
+    let (_, blocks) = body.split_at(40);
+    take_units(frame, blocks.len() / 46, blocks)
+}
+
+// Puts the next packet's value into the frame, `false` at the end of the source.
+fn read_packet<S: Source>(
+    given: u32,
+    source: &mut S,
+    room: &mut [u8; 1650],
+    frame: &mut PesFrame,
+) -> Result<bool, PesFault>
+    requires { S.failure_count source.old < u64.MAX }
+    ensures exact { IfTold (S.remaining source.old) (λ bytes.
+        is_read_failure result ≡ false → answer_at given bytes ≡ given_frame result frame.new) }
+    ensures frame { result ≡ Ok true
+        → TakesPesPacket (S.remaining source.old) (S.remaining source.new) frame.new }
+    ensures end { result ≡ Ok false → IfTold (S.remaining source.old) (λ bytes.
+        (bytes ≡ []) × (S.remaining source.new ≡ Some (rest_after bytes))) }
+    ensures too_many { IfErr result (λ fault. fault ≡ TooMany → given ≡ MOST_PACKETS) }
+    ensures never { IfErr result (λ fault. fault ≢ Ended) }
+    ensures below { result ≡ Ok true → given ≢ MOST_PACKETS }
+    ensures count { S.failure_count source.new
+        ≡ S.failure_count source.old + (if is_read_failure result then 1 else 0) }
+{
+    let mut head = [0; 6];
+    let got = fill(source, &mut head)?;
+    if got == 0 {
+        return Ok(false);
+    }
+    if given == MOST_PACKETS {
+        return Err(PesFault::TooMany);
+    }
+    if got < 6 {
+        return Err(PesFault::Truncated);
+    }
+    let size = size_of(&head)?;
+    let body = &mut room[..size - 6];
+    if fill(source, body)? < size - 6 {
+        return Err(PesFault::Truncated);
+    }
+    read_value(body, frame)?;
+    Ok(true)
+}
+
+impl PesReader {
+    /// A reader at the start of a file.
+    pub fn new() -> Self
+        ensures { result ≡ Reading 0 }
+    {
+        PesReader {
+            progress: Progress::Reading(0),
+            room: [0; 1650],
+        }
+    }
+
+    /// Reads the next PES packet and gives its PTS and its Teletext units (EN 300 472).
+    ///
+    /// Takes exactly the packet's bytes, 184 to 1656 of them. `None` at the end of the source, and
+    /// again at each later call.
+    ///
+    /// # Errors
+    ///
+    /// The first fault by place: `Start`, `Length`, `Truncated` (the bytes end within the packet),
+    /// `Flags` to `DataId`, then in each data unit `UnitLength`, `Framing`, `LineOrder`. `Truncated`
+    /// for fewer than six bytes, before all others. `TooMany` for a byte after 2,160,000 packets, one
+    /// for each frame of a day. `Read` where the source failed. After any of them each call answers
+    /// `Ended` and takes nothing.
+    pub fn next<S: Source>(&mut self, source: &mut S) -> Result<Option<PesFrame>, PesFault>
+        requires { S.failure_count source.old < u64.MAX }
+        // A frame is the value of exactly the bytes that were taken.
+        ensures frame { IfOk result (λ frame. IfSome frame
+            (TakesPesPacket (S.remaining source.old) (S.remaining source.new))) }
+
+        // Where the source tells its bytes and does not fail, they decide the answer, and what is left.
+        ensures exact { (given : ℕ) → self.old ≡ Reading given
+            → IfTold (S.remaining source.old) (λ bytes.
+            is_read_failure result ≡ false → answer_at given bytes ≡ result) }
+        ensures left { (given : ℕ) → self.old ≡ Reading given
+            → IfTold (S.remaining source.old) (λ bytes.
+            OnOk result (S.remaining source.new ≡ Some (rest_after bytes))) }
+
+        // The same in the words of the grammar.
+        ensures none { (given : ℕ) → self.old ≡ Reading given
+            → IfTold (S.remaining source.old) (λ bytes. result ≡ Ok None → bytes ≡ []) }
+        ensures excluded { (given : ℕ) → self.old ≡ Reading given
+            → IfTold (S.remaining source.old) (λ bytes.
+            IfErr result (λ fault. is_format_fault fault ≡ true → BeginsNone bytes)) }
+        ensures too_many { IfErr result (λ fault. fault ≡ TooMany → self.old ≡ Reading MOST_PACKETS) }
+        ensures byte_left { (given : ℕ) → self.old ≡ Reading given
+            → IfTold (S.remaining source.old) (λ bytes. result ≡ Err TooMany → 0 < length bytes) }
+
+        // How the reader goes on.
+        ensures progress { self.new ≡ progress_after self.old result }
+        ensures at_end { self.old ≡ AtEnd → (result ≡ Ok None) × (source.new ≡ source.old) }
+        ensures ended { (self.old ≡ Broken) ↔ (result ≡ Err Ended) }
+        ensures broken { self.old ≡ Broken → source.new ≡ source.old }
+        ensures count { S.failure_count source.new
+            ≡ S.failure_count source.old + (if is_read_failure result then 1 else 0) }
+    {
+        let mut frame = PesFrame::new(0);
+        match self.next_into(source, &mut frame) {
+            Ok(true) => Ok(Some(frame)),
+            Ok(false) => Ok(None),
+            Err(fault) => Err(fault),
+        }
+    }
+
+    /// Reads the next PES packet into a frame that the caller keeps: `true` where `next` gives a frame,
+    /// `false` where it gives `None`.
+    ///
+    /// The frame then is the one that `next` would give, and has PTS 0 and no units where it gives
+    /// none. Whatever was in it before is gone.
+    ///
+    /// # Errors
+    ///
+    /// Those of `next`.
+    pub fn next_into<S: Source>(
+        &mut self,
+        source: &mut S,
+        frame: &mut PesFrame,
+    ) -> Result<bool, PesFault>
+        requires { S.failure_count source.old < u64.MAX }
+        // A frame is the value of exactly the bytes that were taken.
+        ensures frame { result ≡ Ok true
+            → TakesPesPacket (S.remaining source.old) (S.remaining source.new) frame.new }
+        ensures empty { result ≢ Ok true → frame.new ≡ empty_value }
+
+        // Where the source tells its bytes and does not fail, they decide the answer, and what is left.
+        ensures exact { (given : ℕ) → self.old ≡ Reading given
+            → IfTold (S.remaining source.old) (λ bytes.
+            is_read_failure result ≡ false
+            → answer_at given bytes ≡ given_frame result frame.new) }
+        ensures left { (given : ℕ) → self.old ≡ Reading given
+            → IfTold (S.remaining source.old) (λ bytes.
+            OnOk result (S.remaining source.new ≡ Some (rest_after bytes))) }
+
+        // The same in the words of the grammar.
+        ensures none { (given : ℕ) → self.old ≡ Reading given
+            → IfTold (S.remaining source.old) (λ bytes. result ≡ Ok false → bytes ≡ []) }
+        ensures excluded { (given : ℕ) → self.old ≡ Reading given
+            → IfTold (S.remaining source.old) (λ bytes.
+            IfErr result (λ fault. is_format_fault fault ≡ true → BeginsNone bytes)) }
+        ensures too_many { IfErr result (λ fault. fault ≡ TooMany → self.old ≡ Reading MOST_PACKETS) }
+        ensures byte_left { (given : ℕ) → self.old ≡ Reading given
+            → IfTold (S.remaining source.old) (λ bytes. result ≡ Err TooMany → 0 < length bytes) }
+
+        // How the reader goes on.
+        ensures progress { self.new ≡ progress_after self.old (given_frame result frame.new) }
+        ensures at_end { self.old ≡ AtEnd → (result ≡ Ok false) × (source.new ≡ source.old) }
+        ensures ended { (self.old ≡ Broken) ↔ (result ≡ Err Ended) }
+        ensures broken { self.old ≡ Broken → source.new ≡ source.old }
+        ensures count { S.failure_count source.new
+            ≡ S.failure_count source.old + (if is_read_failure result then 1 else 0) }
+    {
+        let given = match self.progress {
+            Progress::Reading(given) => given,
+            Progress::AtEnd => {
+                frame.restart(0);
+                return Ok(false);
+            }
+            Progress::Broken => {
+                frame.restart(0);
+                return Err(PesFault::Ended);
+            }
+        };
+        match read_packet(given, source, &mut self.room, frame) {
+            Ok(true) => {
+                self.progress = Progress::Reading(given + 1);
+                Ok(true)
+            }
+            Ok(false) => {
+                self.progress = Progress::AtEnd;
+                frame.restart(0);
+                Ok(false)
+            }
+            Err(fault) => {
+                self.progress = Progress::Broken;
+                frame.restart(0);
+                Err(fault)
+            }
+        }
+    }
+}

@@ -1,0 +1,94 @@
+//! Writing PES packets.
+ghost use Rattle.std.specs.Prelude.{◌≡◌, ◌+◌, ◌<◌, ◌≤◌, ◌++◌, length, Err, IfErr, is_err, true, false, if◌then◌else◌};
+ghost use Rattle.sub_io.specs.Device.{Writes};
+ghost use Rattle.ttx_pes.specs.declared.fault.PesFault.TheVariants.{Ended, Write};
+ghost use Rattle.ttx_pes.specs.PesPacket.{canonical_packet};
+ghost use Rattle.ttx_pes.specs.Writer.{is_write_failure};
+
+use crate::data_unit::{add_stuffing, add_unit};
+use crate::fault::PesFault;
+use crate::pes_frame::PesFrame;
+use crate::pes_header::header_of;
+use arrayvec::ArrayVec;
+use std::marker::Model;
+use sub_io::{Sink, put_all};
+
+/// The bytes of a packet: nine payloads of 184 bytes at most.
+pub(crate) type Bytes = ArrayVec<u8, 1656>;
+
+// Adds bytes at the end, where there is room.
+pub(crate) fn add(out: &mut Bytes, bytes: &[u8])
+    requires { length out.old.items + length bytes.now ≤ 1656 }
+    ensures items { out.new.items ≡ out.old.items ++ bytes.now }
+    ensures len { length out.new.items ≡ length out.old.items + length bytes.now }
+{
+    out.try_extend_from_slice(bytes).unwrap();
+}
+
+// The frame's canonical packet.
+pub(crate) fn packet_of(frame: &PesFrame) -> Bytes
+    ensures { result.items ≡ canonical_packet frame.now }
+{
+    let units = frame.units();
+    let n = units.len() / 4 + 1;
+    let mut out = header_of(n as u16, frame.pts());
+    for unit in units {
+        add_unit(&mut out, unit);
+    }
+    for _ in 0..4 * n - 1 - units.len() {
+        add_stuffing(&mut out);
+    }
+    out
+}
+
+/// Writes PES packets with Teletext units. It keeps whether there was a fault.
+#[derive(Drop)]
+pub struct PesWriter {
+    broken: bool,
+}
+
+impl Model for PesWriter {
+    ghost use Rattle.std.specs.Prelude.{Bool};
+
+    // Whether there was a fault.
+    ghost Value = { Bool };
+
+    ghost view = { λ w. w.broken };
+}
+
+impl PesWriter {
+    /// A writer that has met no fault.
+    pub fn new() -> Self
+        ensures { result ≡ false }
+    {
+        PesWriter { broken: false }
+    }
+
+    /// Writes the frame's canonical packet: its units in order, then stuffing units, in the fewest
+    /// payloads of 184 bytes that have room for them (EN 300 472; the choice of stuffing is (own)).
+    ///
+    /// # Errors
+    ///
+    /// `Write` where the sink failed: a prefix of the packet was written. `Ended` at each call after
+    /// that: nothing was.
+    pub fn put<K: Sink>(&mut self, sink: &mut K, frame: &PesFrame) -> Result<(), PesFault>
+        requires { K.failure_count sink.old < u64.MAX }
+        ensures bytes { Writes (K.contents sink.old) (K.contents sink.new)
+            (canonical_packet frame.now) result }
+        ensures faults { IfErr result (λ fault. fault ≡ (if self.old then Ended else Write)) }
+        ensures ended { self.old ≡ true → (result ≡ Err Ended) × (sink.new ≡ sink.old) }
+        ensures state { self.new ≡ is_err result }
+        ensures count { K.failure_count sink.new
+            ≡ K.failure_count sink.old + (if is_write_failure result then 1 else 0) }
+    {
+        if self.broken {
+            return Err(PesFault::Ended);
+        }
+        let bytes = packet_of(frame);
+        if put_all(sink, bytes.as_slice()).is_err() {
+            self.broken = true;
+            return Err(PesFault::Write);
+        }
+        Ok(())
+    }
+}
