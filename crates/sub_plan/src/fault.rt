@@ -1,0 +1,24 @@
+//! Why there are no options, and why a schedule is not written.
+use thiserror::Error;
+
+/// What is wrong with options, in the order in which it is told (own).
+#[derive(Clone, Copy, Debug, PartialEq, Eq, Error)]
+pub enum OptionFault {
+    /// The repeat bound is not 1 to 1500 frames, a minute.
+    #[error("the repeat bound is not 1 to 1500 frames")]
+    Every,
+    /// The PTS of frame 0 does not fit in 33 bits.
+    #[error("the PTS of frame 0 is 2^33 or more")]
+    Origin,
+}
+
+/// Why a schedule is not written (own).
+#[derive(Clone, Copy, Debug, PartialEq, Eq, Error)]
+pub enum PlanFault {
+    /// The programme has no subtitle.
+    #[error("there is no subtitle")]
+    NoSubtitles,
+    /// The sink failed: what it took is a prefix of the schedule.
+    #[error("the schedule could not be written")]
+    Write,
+}

@@ -1,0 +1,165 @@
+//! The options of a schedule: the page, the repeat bound, and the PTS of frame 0.
+ghost use Rattle.std.specs.Prelude.{◌≡◌, ℕ, ◌^◌, ◌<◌, ◌≤◌, ◌↔◌, ◌⊎◌, Some, Err, IfOk};
+ghost use Rattle.sub_plan.specs.FrameTime.{frames_of_day, pts_of};
+ghost use Rattle.sub_plan.specs.declared.fault.OptionFault.TheVariants.{Every, Origin};
+
+use crate::fault::OptionFault;
+use std::marker::Model;
+use ttx_packet::PageId;
+
+/// Ticks of 90 kHz in a frame, a 25th of a second.
+const TICKS_PER_FRAME: u64 = 3600;
+
+/// A PTS has 33 bits.
+const PTS_END: u64 = 8_589_934_592;
+
+/// Frames of a day at 25 a second.
+const FRAMES_OF_DAY: u64 = 2_160_000;
+
+/// The greatest repeat bound, in frames: a minute (own).
+const MOST_EVERY: u64 = 1500;
+
+/// The page on which subtitles are sent, how often they are repeated, and the PTS of frame 0.
+///
+/// Contracts see the three as an `OptionsValue`.
+#[derive(Clone, Copy, Debug, PartialEq, Eq)]
+pub struct Options {
+    page: PageId,
+    every: u64,
+    origin: u64,
+}
+
+impl Model for Options {
+    ghost use Rattle.sub_plan.specs.Options.{IsOptions, OptionsValue};
+
+    ghost Value = { OptionsValue };
+
+    ghost view = { λ o. record { page = o.page; every = o.every; origin = o.origin } };
+
+    ghost invariant = { λ o. IsOptions (record { page = o.page; every = o.every; origin = o.origin }) };
+
+    ghost inverse = { λ v. record { page = v.page; every = v.every; origin = v.origin } };
+}
+
+impl Options {
+    ghost use Rattle.sub_plan.specs.Options.{IsOptions};
+
+    /// The options of a page, a repeat bound and the PTS of frame 0.
+    ///
+    /// `every` is in frames, 1 to 1500: in that many frames the page's header is sent at least once
+    /// (own). `origin` is in ticks of 90 kHz, below 2^33 (EN 300 472, PTS).
+    ///
+    /// # Errors
+    ///
+    /// `Every` for another repeat bound, then `Origin` for another origin.
+    pub fn new(page: PageId, every: u64, origin: u64) -> Result<Options, OptionFault>
+        ensures value { IfOk result
+            (λ o. o ≡ record { page = page; every = every; origin = origin }) }
+        ensures options { IfOk result IsOptions }
+        ensures every { (result ≡ Err Every) ↔ ((every < 1) ⊎ (1500 < every)) }
+        ensures origin { (result ≡ Err Origin)
+            ↔ ((1 ≤ every) × (every ≤ 1500) × (2 ^ 33 ≤ origin)) }
+    {
+        if every < 1 || every > MOST_EVERY {
+            return Err(OptionFault::Every);
+        }
+        if origin >= PTS_END {
+            return Err(OptionFault::Origin);
+        }
+        let _magazine = page.magazine();
+        let _page = page.page();
+        Ok(Options {
+            page,
+            every,
+            origin,
+        })
+    }
+
+    /// The page that is sent.
+    pub fn page(&self) -> PageId
+        ensures value { result ≡ self.now.page }
+        ensures options { IsOptions self.now }
+    {
+        self.page
+    }
+
+    /// The repeat bound in frames, 1 to 1500.
+    pub fn every(&self) -> u64
+        ensures value { result ≡ self.now.every }
+        ensures options { IsOptions self.now }
+    {
+        self.every
+    }
+
+    /// The PTS of frame 0 in ticks of 90 kHz, below 2^33.
+    pub fn origin(&self) -> u64
+        ensures value { result ≡ self.now.origin }
+        ensures options { IsOptions self.now }
+    {
+        self.origin
+    }
+
+    /// The PTS of a frame of the day, below 2,160,000: 33 bits, in ticks of 90 kHz (EN 300 472, PTS).
+    pub fn pts_of(&self, frame: u32) -> u64
+        requires { frame < frames_of_day }
+        ensures value { result ≡ pts_of self.now.origin frame }
+        ensures range { result < 2 ^ 33 }
+    {
+        (self.origin + TICKS_PER_FRAME * u64::from(frame)) % PTS_END
+    }
+
+    /// The frame of the day that has a PTS. `None` for a PTS that no frame has.
+    pub fn frame_of(&self, pts: u64) -> Option<u32>
+        ensures { (frame : ℕ) → (result ≡ Some frame)
+            ↔ ((frame < frames_of_day) × (pts_of self.now.origin frame ≡ pts)) }
+    {
+        if pts >= PTS_END {
+            return None;
+        }
+        let ticks = (pts + PTS_END - self.origin) % PTS_END;
+        if ticks % TICKS_PER_FRAME != 0 || ticks / TICKS_PER_FRAME >= FRAMES_OF_DAY {
+            return None;
+        }
+        Some((ticks / TICKS_PER_FRAME) as u32)
+    }
+}
+
+#[cfg(test)]
+mod tests {
+    use super::*;
+    use std::test::Fail;
+
+    #[test]
+    fn tells_frames_and_their_times(rt: HostRuntime) -> Result<(), Fail> {
+        let page = PageId::parse("888").ok().ok_or("page")?;
+        // repeat bound, origin, what is wrong
+        for (every, origin, want) in [
+            (1, 0, None),
+            (1500, 0x1_FFFF_FFFF, None),
+            (0, 0, Some(OptionFault::Every)),
+            (1501, 0x2_0000_0000, Some(OptionFault::Every)), // told before the origin
+            (1, 0x2_0000_0000, Some(OptionFault::Origin)),
+        ] {
+            let got = Options::new(page, every, origin);
+            assert_eq!(rt; got.err(), want, "of {every} {origin}");
+        }
+        // origin, frame, PTS
+        for (origin, frame, pts) in [
+            (0, 900_000, 3_240_000_000),
+            (8_589_930_992, 0, 8_589_930_992),
+            (8_589_930_992, 1, 0), // past 33 bits
+            (1, 2_159_999, 7_775_996_401),
+        ] {
+            let options = Options::new(page, 250, origin).ok().ok_or("options")?;
+            assert_eq!(rt; options.pts_of(frame), pts);
+            assert_eq!(rt; options.frame_of(pts), Some(frame));
+            assert_eq!(rt; options.frame_of(pts + 1), None);
+            assert_eq!(rt; options.frame_of(pts + 0x2_0000_0000), None);
+            assert_eq!(rt; options.page(), page);
+            assert_eq!(rt; (options.every(), options.origin()), (250, origin));
+        }
+        let options = Options::new(page, 250, 0).ok().ok_or("options")?;
+        assert_eq!(rt; options.frame_of(7_776_000_000), None); // frame 2,160,000
+        Ok(())
+    }
+}
