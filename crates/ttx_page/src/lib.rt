@@ -10,6 +10,20 @@
 //! ```
 #![tactic(auto)]
 
+mod blank;
+mod keep;
+mod laws;
+mod memory;
+mod packet_kind;
 mod page;
+mod receiver;
 
+pub use blank::Blank;
+pub use keep::Keep;
+pub use laws::{
+    law_of_lost_rows, law_of_marked_loss, law_of_noise, law_of_nothing_lost, law_of_quiet,
+    law_of_span,
+};
+pub use packet_kind::PacketKind;
 pub use page::Page;
+pub use receiver::{Receiver, hear_all};

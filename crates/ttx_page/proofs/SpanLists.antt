@@ -1,0 +1,186 @@
+-- Lists, searches, and the span of a mapped list: `span-map`.
+use Rattle.std.proofs.Common.{◌≡◌, zero, suc, ◌<◌, ◌⊎◌, inl, inr, Bool, true, false, ◌||◌, cond}
+use Rattle.std.proofs.Common.{List, [], ◌∷◌, length, Some, None, map, find, Any, Contains, refl}
+use Rattle.std.proofs.Common.{sym, ap, ◌∙◌, subst, arith}
+use Rattle.std.specs.List.{list_any, AllByRecursion}
+use Rattle.std.proofs.lemmas.Option.{none-some, same_Some}
+use Rattle.std.proofs.lemmas.Bool.{cond-true, cond-false, or_parts}
+use Rattle.ttx_page.specs.declared.packet_kind.PacketKind.{PacketKind}
+use Rattle.ttx_page.specs.PacketKind.{is_this_page, ends_page}
+use Rattle.ttx_page.specs.Span.{holds_header, after_last_header, before_end, span}
+
+-- P holds of some element, by recursion: `Any` for inductions.
+abbrev pub Somewhere : {X : Type 0} → (X → Type 0) → List X → Type 0
+Somewhere P [] = ⊥
+Somewhere P (x ∷ xs) = P x ⊎ Somewhere P xs
+
+-- `Any`, from the recursion.
+pub Any-from_somewhere : {X : Type 0} (P : X → Type 0) (xs : List X) → Somewhere P xs → Any P xs
+Any-from_somewhere P [] h = absurd h
+Any-from_somewhere P (x ∷ xs) (inl here) = (0, x, omega arith, refl, here)
+Any-from_somewhere P (x ∷ xs) (inr there) =
+    let r = Any-from_somewhere P xs there in
+    let below : suc r.0 < suc (length xs) = omega (arith, r.2) in
+    (suc r.0, r.1, below, r.3, r.4)
+
+-- Some element of a mapped list, from the list.
+pub Any-map :
+    {A B : Type 0} (P : B → Type 0) (f : A → B) (xs : List A)
+    → Any P (map f xs)
+    → Any (λ x. P (f x)) xs
+Any-map P f [] h = absurd (omega (arith, h.2))
+Any-map P f (x ∷ xs) (zero, y, l, e, p) = (0, x, omega arith, refl, subst P (sym e) p)
+Any-map P f (x ∷ xs) (suc k, y, l, e, p) =
+    let below : k < length (map f xs) = omega arith in
+    let r = Any-map P f xs (k, y, below, e, p) in
+    let more : suc r.0 < suc (length xs) = omega (arith, r.2) in
+    (suc r.0, r.1, more, r.3, r.4)
+
+-- The other way round.
+pub map-Any :
+    {A B : Type 0} (P : B → Type 0) (f : A → B) (xs : List A)
+    → Any (λ x. P (f x)) xs
+    → Any P (map f xs)
+map-Any P f [] h = absurd (omega arith)
+map-Any P f (x ∷ xs) (zero, y, l, e, p) =
+    (0, f x, omega arith, refl, subst (λ z. P (f z)) (sym e) p)
+map-Any P f (x ∷ xs) (suc k, y, l, e, p) =
+    let below : k < length xs = omega arith in
+    let r = map-Any P f xs (k, y, below, e, p) in
+    let more : suc r.0 < suc (length (map f xs)) = omega (arith, r.2) in
+    (suc r.0, r.1, more, r.3, r.4)
+
+-- ---- searches
+
+-- What `find` gives passes the test, and is an element.
+pub find_is :
+    {X : Type 0} (test : X → Bool) (xs : List X) (z : X)
+    → find test xs ≡ Some z
+    → (test z ≡ true) × Contains xs z
+find_is test [] z e = absurd (none-some z e)
+find_is test (x ∷ xs) z e = go (test x) refl e (find_is test xs z)
+  where
+    go :
+        (b : Bool)
+        → test x ≡ b
+        → cond b (Some x) (find test xs) ≡ Some z
+        → (find test xs ≡ Some z → (test z ≡ true) × Contains xs z)
+        → (test z ≡ true) × Contains (x ∷ xs) z
+    go true p h ih =
+        let same : x ≡ z = same_Some x z h in
+        (subst (λ y. test y ≡ true) same p, (0, omega arith, same))
+    go false p h ih =
+        let r = ih h in
+        let below : suc r.1.0 < suc (length xs) = omega (arith, r.1.1) in
+        (r.0, (suc r.1.0, below, r.1.2))
+
+-- Where no element passes, `find` gives nothing.
+pub find_none :
+    {X : Type 0} (test : X → Bool) (xs : List X) → list_any test xs ≡ false → find test xs ≡ None
+find_none test [] e = refl
+find_none test (x ∷ xs) e = go (test x) e (find_none test xs)
+  where
+    go :
+        (b : Bool)
+        → (b || list_any test xs) ≡ false
+        → (list_any test xs ≡ false → find test xs ≡ None)
+        → cond b (Some x) (find test xs) ≡ None
+    go true h ih = cc
+    go false h ih = ih h
+
+-- Where `find` gives nothing, no element passes.
+pub none_pass :
+    {X : Type 0} (test : X → Bool) (xs : List X)
+    → find test xs ≡ None
+    → AllByRecursion (λ x. test x ≡ false) xs
+none_pass test [] e = tt
+none_pass test (x ∷ xs) e = go (test x) refl e (none_pass test xs)
+  where
+    go :
+        (b : Bool)
+        → test x ≡ b
+        → cond b (Some x) (find test xs) ≡ None
+        → (find test xs ≡ None → AllByRecursion (λ x. test x ≡ false) xs)
+        → (test x ≡ false) × AllByRecursion (λ x. test x ≡ false) xs
+    go true p h ih = cc
+    go false p h ih = (p, ih h)
+
+-- ---- what holds of each element of a list that is mapped
+
+-- What holds of each element of a mapped list.
+pub AllByRecursion-map :
+    {A B : Type 0} (P : B → Type 0) (f : A → B) (xs : List A)
+    → AllByRecursion P (map f xs)
+    → AllByRecursion (λ x. P (f x)) xs
+AllByRecursion-map P f [] h = tt
+AllByRecursion-map P f (x ∷ xs) h = (h.0, AllByRecursion-map P f xs h.1)
+
+-- Whether some element of a mapped list passes.
+pub list_any-map :
+    {A B : Type 0} (f : A → B) (test : B → Bool) (xs : List A)
+    → list_any test (map f xs) ≡ list_any (λ x. test (f x)) xs
+list_any-map f test [] = refl
+list_any-map f test (x ∷ xs) = ap (λ b. test (f x) || b) (list_any-map f test xs)
+
+-- A choice between mapped lists.
+cond-map :
+    {A B : Type 0} (f : A → B) (b c : Bool) (xs ys : List B) (us vs : List A)
+    → b ≡ c
+    → xs ≡ map f us
+    → ys ≡ map f vs
+    → cond b xs ys ≡ map f (cond c us vs)
+cond-map f true true xs ys us vs e p q = p
+cond-map f false false xs ys us vs e p q = q
+cond-map f true false xs ys us vs e p q = cc
+cond-map f false true xs ys us vs e p q = cc
+
+module _ {A B : Type 0} (kind_of : B → PacketKind) (f : A → B) where
+  -- What stands after the last header of a mapped list.
+  pub after-map :
+      (xs : List A)
+      → after_last_header kind_of (map f xs) ≡ map f (after_last_header (λ x. kind_of (f x)) xs)
+  after-map [] = refl
+  after-map (x ∷ xs) =
+      cond-map f _ _ _ _ _ _ (list_any-map f (λ y. is_this_page (kind_of y)) xs) (after-map xs)
+      (cond-map f (is_this_page (kind_of (f x))) _ (map f xs) [] xs [] refl refl refl)
+
+  -- What stands before the end of a mapped list.
+  pub before-map :
+      (xs : List A) → before_end kind_of (map f xs) ≡ map f (before_end (λ x. kind_of (f x)) xs)
+  before-map [] = refl
+  before-map (x ∷ xs) =
+      cond-map f (ends_page (kind_of (f x))) _ [] _ [] _ refl refl
+      (ap (λ ys. f x ∷ ys) (before-map xs))
+
+  -- The span of a mapped list is that of the list, mapped. So one span serves packets and pairs.
+  pub span-map : (xs : List A) → span kind_of (map f xs) ≡ map f (span (λ x. kind_of (f x)) xs)
+  span-map xs =
+      ap (before_end kind_of) (after-map xs)
+      ∙ before-map (after_last_header (λ x. kind_of (f x)) xs)
+
+-- ---- after the last header, one packet on
+
+-- One item more in front, where a header of the page follows.
+pub after-later :
+    {A : Type 0} (kind_of : A → PacketKind) (x : A) (xs : List A)
+    → holds_header kind_of xs ≡ true
+    → after_last_header kind_of (x ∷ xs) ≡ after_last_header kind_of xs
+after-later kind_of x xs e = cond-true _ _ _ e
+
+-- A header of the page in front, where none follows.
+pub after-here :
+    {A : Type 0} (kind_of : A → PacketKind) (x : A) (xs : List A)
+    → holds_header kind_of xs ≡ false
+    → is_this_page (kind_of x) ≡ true
+    → after_last_header kind_of (x ∷ xs) ≡ xs
+after-here kind_of x xs e h = cond-false _ _ _ e ∙ cond-true _ _ _ h
+
+-- Nothing stands after the last header, where there is none.
+pub after-none :
+    {A : Type 0} (kind_of : A → PacketKind) (xs : List A)
+    → holds_header kind_of xs ≡ false
+    → after_last_header kind_of xs ≡ []
+after-none kind_of [] e = refl
+after-none kind_of (x ∷ xs) e =
+    let parts = or_parts (is_this_page (kind_of x)) (holds_header kind_of xs) e in
+    cond-false _ _ _ parts.1 ∙ cond-false (is_this_page (kind_of x)) xs [] parts.0

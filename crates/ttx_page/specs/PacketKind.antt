@@ -1,0 +1,58 @@
+-- What a packet is to a receiver of one page (EN 300 706, page header and packets X/1 to X/24).
+--
+-- Everything that the definitions ask of a packet goes by its kind alone: what a receiver does, the
+-- span, what is shown, what was hit.
+use Rattle.std.specs.Prelude.{ℕ, ◌&&◌, Bool, true, false, List, Option, Some, None, ◌==◌, nat_le}
+use Rattle.std.specs.Prelude.{if◌then◌else◌}
+use Rattle.ttx_packet.specs.declared.header.Header.{Header}
+use Rattle.ttx_packet.specs.PacketAddress.{PacketAddress, address}
+use Rattle.ttx_packet.specs.PageHeader.{c11, header}
+use Rattle.ttx_packet.specs.PageId.{PageIdValue}
+use Rattle.ttx_page.specs.declared.packet_kind.PacketKind.{PacketKind}
+use Rattle.ttx_page.specs.declared.packet_kind.PacketKind.TheVariants.{ThisPage, EndsPage, Row}
+use Rattle.ttx_page.specs.declared.packet_kind.PacketKind.TheVariants.{Other}
+
+-- A packet X/0. Without a header it is nothing. In the page's magazine it is a header of the page,
+-- or ends it. In another magazine it ends the page in serial mode, C11 set, and is nothing in
+-- parallel mode, C11 clear.
+abbrev pub kind_of_header : PageIdValue → ℕ → Option Header → PacketKind
+kind_of_header w magazine None = Other
+kind_of_header w magazine (Some h) =
+    if magazine == w.magazine
+    then (if h.page == w.page then ThisPage h else EndsPage)
+    else (if c11 h then EndsPage else Other)
+
+-- A packet by its address and its header. Packets X/1 to X/24 of the page's magazine are its rows.
+abbrev pub kind_at : PageIdValue → Option PacketAddress → Option Header → PacketKind
+kind_at w None h = Other
+kind_at w (Some a) h =
+    if a.packet_number == 0
+    then kind_of_header w a.magazine h
+    else (if (a.magazine == w.magazine) && nat_le a.packet_number 24
+    then Row a.packet_number
+    else Other)
+
+-- What a packet is to a receiver of the page.
+unfoldable pub kind : PageIdValue → List ℕ → PacketKind
+kind w packet = kind_at w (address packet) (header packet)
+
+-- A header of the page.
+abbrev pub is_this_page : PacketKind → Bool
+is_this_page (ThisPage h) = true
+is_this_page EndsPage = false
+is_this_page (Row y) = false
+is_this_page Other = false
+
+-- A header that ends the page.
+abbrev pub ends_page : PacketKind → Bool
+ends_page (ThisPage h) = false
+ends_page EndsPage = true
+ends_page (Row y) = false
+ends_page Other = false
+
+-- A packet of this row.
+abbrev pub is_row : ℕ → PacketKind → Bool
+is_row row (ThisPage h) = false
+is_row row EndsPage = false
+is_row row (Row y) = y == row
+is_row row Other = false

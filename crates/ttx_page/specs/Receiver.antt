@@ -1,0 +1,85 @@
+-- The model receiver of one page: what it may do at each packet. It restates level 1 of EN 300 706;
+-- the choice at a byte of even parity is (own).
+use Rattle.std.specs.Prelude.{◌≡◌, ◌≢◌, ℕ, ◌⊎◌, Bool, true, false, List, [], ◌∷◌, MatchBool}
+use Rattle.std.specs.Prelude.{if◌then◌else◌, IsTrue, IsFalse}
+use Rattle.ttx_packet.specs.Parity.{code_of, is_odd}
+use Rattle.ttx_packet.specs.PageHeader.{c4}
+use Rattle.ttx_packet.specs.PageId.{PageIdValue}
+use Rattle.ttx_packet.specs.RowPacket.{text_byte}
+use Rattle.ttx_page.specs.declared.packet_kind.PacketKind.{PacketKind}
+use Rattle.ttx_page.specs.declared.packet_kind.PacketKind.TheVariants.{ThisPage, EndsPage, Row}
+use Rattle.ttx_page.specs.declared.packet_kind.PacketKind.TheVariants.{Other}
+use Rattle.ttx_page.specs.Page.{Rows, space, blank, cell, IsCell}
+use Rattle.ttx_page.specs.PacketKind.{kind}
+
+-- A receiver has heard a header of its page or not, the page is open for rows or not, and the
+-- receiver holds a page.
+pub record State : Type 0 where
+  pub heard : Bool
+  pub is_open : Bool
+  pub page : Rows
+
+-- A receiver as a value: the page that it is tuned to, and its state.
+pub record Tuned : Type 0 where
+  pub watched : PageIdValue
+  pub state : State
+
+-- A cell takes the code of an odd byte. At an even byte it stays as it was, or becomes a space: the
+-- receiver may choose, cell by cell.
+abbrev pub StoresByte : ℕ → ℕ → ℕ → Type 0
+StoresByte byte old new =
+    (IsTrue (is_odd byte) → new ≡ code_of byte)
+    × (IsFalse (is_odd byte) → (new ≡ old) ⊎ (new ≡ space))
+
+-- Row y takes the text of the packet, cell by cell, and no other row changes.
+abbrev pub StoresRow : List ℕ → ℕ → Rows → Rows → Type 0
+StoresRow packet y old new =
+    (row column : ℕ)
+    → IsCell row column
+    → (row ≡ y → StoresByte (text_byte packet column) (cell old row column) (cell new row column))
+    × (row ≢ y → cell new row column ≡ cell old row column)
+
+-- What a receiver may do at a packet of each kind.
+abbrev pub StepAt : PacketKind → List ℕ → State → State → Type 0
+-- A header of its page opens the page, and blanks it where erase page, C4, is set.
+StepAt (ThisPage h) packet old new =
+    new ≡ record { heard = true; is_open = true; page = if c4 h then blank else old.page }
+-- A header that ends the page closes it.
+StepAt EndsPage packet old new = new ≡ record old { is_open = false }
+-- A row is stored while the page is open, and else passed over.
+StepAt (Row y) packet old new =
+    MatchBool old.is_open
+    ((new.heard ≡ old.heard) × (new.is_open ≡ old.is_open) × StoresRow packet y old.page new.page)
+    (new ≡ old)
+-- Every other packet changes nothing.
+StepAt Other packet old new = new ≡ old
+
+-- A receiver of page w that hears the packet may go from one state to the other.
+abbrev pub Step : PageIdValue → State → List ℕ → State → Type 0
+Step w old packet new = StepAt (kind w packet) packet old new
+
+-- It may go from one state to the other by hearing these packets, one step after another.
+abbrev pub Hears : PageIdValue → State → List (List ℕ) → State → Type 0
+Hears w old [] new = new ≡ old
+Hears w old (packet ∷ packets) new =
+    (mid : State) × Step w old packet mid × Hears w mid packets new
+
+-- What becomes of each cell of a row that is stored, where the row's byte is even: the old code,
+-- the new code.
+abbrev pub AtEvenBytes :
+    (ℕ → ℕ → Type 0) → PageIdValue → State → List ℕ → State → Type 0
+AtEvenBytes Becomes w old packet new =
+    (row column : ℕ)
+    → IsCell row column
+    → IsTrue old.is_open
+    → kind w packet ≡ Row row
+    → IsFalse (is_odd (text_byte packet column))
+    → Becomes (cell old.page row column) (cell new.page row column)
+
+-- The receiver keeps each cell whose byte is even.
+abbrev pub KeepsCells : PageIdValue → State → List ℕ → State → Type 0
+KeepsCells w old packet new = AtEvenBytes (λ was is. is ≡ was) w old packet new
+
+-- The receiver blanks each cell whose byte is even.
+abbrev pub BlanksCells : PageIdValue → State → List ℕ → State → Type 0
+BlanksCells w old packet new = AtEvenBytes (λ was is. is ≡ space) w old packet new

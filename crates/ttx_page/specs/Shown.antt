@@ -1,0 +1,25 @@
+-- What a list of packets shows of a page, and which of its cells noise has hit.
+use Rattle.std.specs.Prelude.{◌≡◌, ◌≢◌, ℕ, List, Any, find, zip, option_map, unwrap_or}
+use Rattle.ttx_packet.specs.Parity.{code_of}
+use Rattle.ttx_packet.specs.PageId.{PageIdValue}
+use Rattle.ttx_packet.specs.RowPacket.{text_byte}
+use Rattle.ttx_page.specs.declared.packet_kind.PacketKind.TheVariants.{Row}
+use Rattle.ttx_page.specs.Page.{space}
+use Rattle.ttx_page.specs.PacketKind.{kind, is_row}
+use Rattle.ttx_page.specs.Span.{span}
+
+-- What a cell shows: the code in the first packet of its row in the span; a space where there is
+-- none.
+abbrev pub shown : PageIdValue → List (List ℕ) → ℕ → ℕ → ℕ
+shown w packets row column =
+    unwrap_or
+    (option_map (λ p. code_of (text_byte p column))
+    (find (λ p. is_row row (kind w p)) (span (kind w) packets)))
+    space
+
+-- The byte of a cell was hit: at some packet of its row in the span of what was sent, the packet at
+-- the same place of what was got has another byte at the column.
+abbrev pub IsHit : PageIdValue → List (List ℕ) → List (List ℕ) → ℕ → ℕ → Type 0
+IsHit w sent got row column =
+    Any (λ pair. (kind w pair.0 ≡ Row row) × (text_byte pair.1 column ≢ text_byte pair.0 column))
+    (span (λ (pair : List ℕ × List ℕ). kind w pair.0) (zip sent got))

@@ -1,0 +1,65 @@
+-- The span: the packets that belong to the page as it stands, found by looking back over a whole
+-- list to the last header of the page (EN 300 706: the rows of a page are those that follow its
+-- header, up to a header that ends it).
+--
+-- The items of a list are packets, or packets with something beside each; `kind_of` is the kind of
+-- an item's packet. So one span serves what was sent, what was got, and both side by side.
+use Rattle.std.specs.Prelude.{◌≡◌, ◌↔◌, ℕ, ◌+◌, ◌<◌, Bool, ◌&&◌, not, List, [], ◌∷◌, length}
+use Rattle.std.specs.Prelude.{if◌then◌else◌, slice_index_or, Contains, HoldsAt, IsTrue, IsFalse}
+use Rattle.std.specs.List.{list_any, AllWithin}
+use Rattle.ttx_packet.specs.PageId.{PageIdValue}
+use Rattle.ttx_page.specs.declared.packet_kind.PacketKind.{PacketKind}
+use Rattle.ttx_page.specs.PacketKind.{kind, is_this_page, ends_page}
+
+-- Some item is a header of the page.
+abbrev pub holds_header : {A : Type 0} → (A → PacketKind) → List A → Bool
+holds_header kind_of items = list_any (λ x. is_this_page (kind_of x)) items
+
+-- What stands after the last header of the page; nothing where there is none.
+abbrev pub after_last_header : {A : Type 0} → (A → PacketKind) → List A → List A
+after_last_header kind_of [] = []
+after_last_header kind_of (x ∷ xs) =
+    if holds_header kind_of xs
+    then after_last_header kind_of xs
+    else (if is_this_page (kind_of x) then xs else [])
+
+-- What stands before the first header that ends the page; all where none does.
+abbrev pub before_end : {A : Type 0} → (A → PacketKind) → List A → List A
+before_end kind_of [] = []
+before_end kind_of (x ∷ xs) = if ends_page (kind_of x) then [] else x ∷ before_end kind_of xs
+
+-- The span: after the last header of the page, up to the first later header that ends it.
+abbrev pub span : {A : Type 0} → (A → PacketKind) → List A → List A
+span kind_of items = before_end kind_of (after_last_header kind_of items)
+
+-- No header ended the page since its last header.
+abbrev pub is_unended : {A : Type 0} → (A → PacketKind) → List A → Bool
+is_unended kind_of items =
+    not (list_any (λ x. ends_page (kind_of x)) (after_last_header kind_of items))
+
+-- The page is open after the list: there was a header of it, and none ended it since.
+abbrev pub is_open_after : {A : Type 0} → (A → PacketKind) → List A → Bool
+is_open_after kind_of items = holds_header kind_of items && is_unended kind_of items
+
+-- ---- the span by places
+
+-- Place i of a list is in the span: at a place h before it stands a header of the page, none stands
+-- after h, and no header that ends the page stands from h up to i.
+abbrev pub IsInSpan : {A : Type 0} → (A → PacketKind) → List A → ℕ → Type 0
+IsInSpan kind_of items i =
+    (h : ℕ)
+    × (h < i)
+    × (i < length items)
+    × HoldsAt (λ x. IsTrue (is_this_page (kind_of x))) items h
+    × AllWithin (λ x. IsFalse (is_this_page (kind_of x))) items (h + 1) (length items)
+    × AllWithin (λ x. IsFalse (ends_page (kind_of x))) items (h + 1) (i + 1)
+
+-- A packet is in the span exactly where it stands at a place of the span.
+-- So a reader may take the places for the definition, in place of the recursion.
+abbrev pub LawOfSpan : Type 0
+LawOfSpan =
+    (w : PageIdValue) (packets : List (List ℕ)) (packet : List ℕ)
+    → Contains (span (kind w) packets) packet
+    ↔ ((i : ℕ)
+    × IsInSpan (kind w) packets i
+    × (slice_index_or packets i packet ≡ packet))

@@ -1,0 +1,62 @@
+//! The receiver that blanks a cell where its byte has even parity.
+ghost use Rattle.std.specs.Prelude.{◌≡◌};
+ghost use Rattle.ttx_page.specs.Receiver.{BlanksCells, Step};
+
+use crate::memory::{EvenByte, Memory};
+use crate::page::Page;
+use crate::receiver::Receiver;
+use std::marker::Model;
+use ttx_packet::{Packet, PageId};
+
+/// A receiver that stores a space in a cell where its byte has even parity.
+#[derive(Debug, Drop)]
+pub struct Blank {
+    memory: Memory,
+}
+
+impl Model for Blank {
+    ghost use Rattle.ttx_page.specs.Receiver.{Tuned};
+
+    ghost Value = { Tuned };
+
+    ghost use Rattle.ttx_page.specs.Memory.{state_of};
+
+    ghost view = { λ r. record { watched = r.memory.watched; state = state_of r.memory } };
+}
+
+impl Receiver for Blank {
+    ghost tuned_to = { λ r. r.watched };
+
+    ghost state = { λ r. r.state };
+
+    fn tune(page_id: PageId, page: Page) -> Self {
+        Blank {
+            memory: Memory::new(page_id, page),
+        }
+    }
+
+    fn watched(&self) -> PageId {
+        self.memory.watched
+    }
+
+    fn heard(&self) -> bool {
+        self.memory.heard
+    }
+
+    fn open(&self) -> bool {
+        self.memory.is_open
+    }
+
+    fn page(&self) -> &Page {
+        &self.memory.page
+    }
+
+    /// One step of the receiver relation, in which each cell whose byte is even becomes a space.
+    fn hear(&mut self, packet: &Packet)
+        ensures step { Step self.old.watched self.old.state packet.now self.new.state }
+        ensures tuned { self.new.watched ≡ self.old.watched }
+        ensures blanks { BlanksCells self.old.watched self.old.state packet.now self.new.state }
+    {
+        self.memory.hear(packet, EvenByte::BlanksCell);
+    }
+}

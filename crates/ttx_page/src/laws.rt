@@ -1,0 +1,40 @@
+//! What a list of packets shows, and what every receiver makes of it where bytes are hit and rows
+//! lost.
+//!
+//! The functions do nothing: the contract of each is a law over the definitions of `specs/`.
+ghost use Rattle.ttx_page.specs.LostRows.{LawOfLostRows, LawOfMarkedLoss, LawOfNothingLost};
+ghost use Rattle.ttx_page.specs.Noise.{LawOfNoise, LawOfQuiet};
+ghost use Rattle.ttx_page.specs.Span.{LawOfSpan};
+
+/// A packet is in the span exactly where it stands after the last header of the page, before any
+/// that ends it.
+pub fn law_of_span()
+    ensures { LawOfSpan }
+{}
+
+/// With at most one wrong bit in each byte, a receiver that heard a header of the page holds in
+/// each cell what was sent, or a space where the cell's byte was hit.
+pub fn law_of_noise()
+    ensures { LawOfNoise }
+{}
+
+/// With no wrong bit it holds what was sent, whatever it held before.
+pub fn law_of_quiet()
+    ensures { LawOfQuiet }
+{}
+
+/// The law of noise where any packets but page headers are lost: a cell of a lost row counts as
+/// hit.
+pub fn law_of_lost_rows()
+    ensures { LawOfLostRows }
+{}
+
+/// The same, with a mark beside each packet: kept or lost.
+pub fn law_of_marked_loss()
+    ensures { LawOfMarkedLoss }
+{}
+
+/// The law of lost rows with nothing lost is the law of noise.
+pub fn law_of_nothing_lost()
+    ensures { LawOfNothingLost }
+{}

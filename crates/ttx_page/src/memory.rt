@@ -1,0 +1,107 @@
+//! What every receiver holds, and the steps that all share; the choice at an even byte is a value.
+ghost use Rattle.std.specs.Prelude.{◌≡◌, ◌+◌, ◌<◌, ℕ, false, slice_index};
+ghost use Rattle.ttx_packet.specs.PageHeader.{c4};
+ghost use Rattle.ttx_page.specs.Memory.{chosen, code_after, state_of};
+ghost use Rattle.ttx_page.specs.Page.{AreCodes};
+ghost use Rattle.ttx_page.specs.Receiver.{AtEvenBytes, Step};
+
+use crate::packet_kind::PacketKind;
+use crate::page::Page;
+use bitflags::Flags;
+use ttx_packet::{Control, Header, Packet, PageId, is_odd};
+
+/// What becomes of a cell whose byte has even parity.
+#[derive(Clone, Copy, Debug, PartialEq, Eq)]
+pub enum EvenByte {
+    /// The cell stays as it was.
+    KeepsCell,
+    /// The cell becomes a space.
+    BlanksCell,
+}
+
+/// The page that a receiver is tuned to, and its state.
+#[derive(Debug, Drop)]
+pub struct Memory {
+    pub watched: PageId,
+    pub heard: bool,
+    pub is_open: bool,
+    pub page: Page,
+}
+
+impl Memory {
+    /// A memory that has heard nothing, not open.
+    pub fn new(watched: PageId, page: Page) -> Memory
+        ensures { result
+            ≡ record { watched = watched; heard = false; is_open = false; page = page } }
+    {
+        Memory {
+            watched,
+            heard: false,
+            is_open: false,
+            page,
+        }
+    }
+
+    /// Hears a packet: one step of the receiver relation, with this choice at each even byte.
+    pub fn hear(&mut self, packet: &Packet, even: EvenByte)
+        ensures step { Step self.old.watched (state_of self.old) packet.now (state_of self.new) }
+        ensures chosen { AtEvenBytes (λ was is. is ≡ chosen even was) self.old.watched
+            (state_of self.old) packet.now (state_of self.new) }
+        ensures tuned { self.new.watched ≡ self.old.watched }
+    {
+        match PacketKind::of(self.watched, packet) {
+            PacketKind::ThisPage(header) => {
+                self.heard = true;
+                self.is_open = true;
+                if erases_page(&header) {
+                    self.page = Page::blank();
+                }
+            }
+            PacketKind::EndsPage => self.is_open = false,
+            PacketKind::Row(row) => {
+                if self.is_open {
+                    let codes = stored(self.page.row(row), packet.bytes(), even);
+                    self.page.set_row(row, &codes);
+                }
+            }
+            PacketKind::Other => {}
+        }
+    }
+}
+
+// C4, erase page.
+fn erases_page(header: &Header) -> bool
+    ensures { result ≡ c4 header.now }
+{
+    header.control.contains(Control::C4)
+}
+
+// The codes of a row after a packet of it: 40 cells, each by its byte.
+fn stored(was: &[u8; 40], packet: &[u8; 42], even: EvenByte) -> [u8; 40]
+    requires { AreCodes was.now }
+    ensures value { (column : ℕ) → column < 40 → slice_index result column
+        ≡ code_after even (slice_index packet.now (column + 2)) (slice_index was.now column) }
+    ensures codes { AreCodes result }
+{
+    let mut codes = *was;
+    for column in 0..40usize {
+        codes[column] = code_after(even, packet[column + 2], codes[column]);
+    }
+    codes
+}
+
+// The code of a cell after a byte of its row.
+fn code_after(even: EvenByte, byte: u8, was: u8) -> u8
+    requires { was < 128 }
+    ensures value { result ≡ code_after even byte was }
+    ensures code { result < 128 }
+{
+    if is_odd(byte) {
+        byte % 128
+    } else {
+        match even {
+            EvenByte::KeepsCell => was,
+            EvenByte::BlanksCell => 0x20,
+        }
+    }
+}

@@ -1,0 +1,66 @@
+//! What a packet is to a receiver of one page.
+ghost use Rattle.std.specs.Prelude.{◌≡◌, ◌≤◌, ℕ};
+ghost use Rattle.ttx_packet.specs.PageHeader.{c11};
+
+use bitflags::Flags;
+use ttx_packet::{Control, Header, Packet, PageId};
+
+/// What a packet is to a receiver of one page (EN 300 706, page header and packets X/1 to X/24).
+#[derive(Clone, Copy, Debug, PartialEq, Eq)]
+pub enum PacketKind {
+    /// A header of the page.
+    ThisPage(Header),
+    /// A header that ends the page: another header of its magazine, or one of another magazine with
+    /// C11, magazine serial, set.
+    EndsPage,
+    /// A row of the page's magazine, 1 to 24.
+    Row(u8),
+    /// Any other packet, among them one whose address decodes to nothing, and a packet X/0 of which
+    /// one of the eight coded bytes does.
+    Other,
+}
+
+impl PacketKind {
+    ghost use Rattle.ttx_page.specs.PacketKind.{kind};
+
+    /// What a packet is to a receiver of a page.
+    ///
+    /// It reads the address once, and the coded bytes of a header alone.
+    #[tactic(auto, using(std::proofs::lemmas::Bool::Decides::nat_tests), unfolding(crate::specs::PacketKind::kind, ttx_packet::specs::PageHeader::header))]
+    pub fn of(watched: PageId, packet: &Packet) -> PacketKind
+        ensures value { result ≡ kind watched packet.now }
+        ensures row { (row : ℕ) → result ≡ PacketKind.Row row → (1 ≤ row) × (row ≤ 24) }
+    {
+        let Some((magazine, packet_number)) = packet.address() else {
+            return PacketKind::Other;
+        };
+        let is_magazine = magazine == watched.magazine();
+        if packet_number == 0 {
+            let Some(header) = packet.coded_header() else {
+                return PacketKind::Other;
+            };
+            if is_magazine {
+                if header.page == watched.page() {
+                    PacketKind::ThisPage(header)
+                } else {
+                    PacketKind::EndsPage
+                }
+            } else if is_serial(&header) {
+                PacketKind::EndsPage
+            } else {
+                PacketKind::Other
+            }
+        } else if is_magazine && packet_number <= 24 {
+            PacketKind::Row(packet_number)
+        } else {
+            PacketKind::Other
+        }
+    }
+}
+
+// C11, magazine serial: a header of any magazine ends the page of another.
+fn is_serial(header: &Header) -> bool
+    ensures { result ≡ c11 header.now }
+{
+    header.control.contains(Control::C11)
+}
