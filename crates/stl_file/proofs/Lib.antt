@@ -1,0 +1,10 @@
+pub mod Text
+pub mod Written
+pub mod Kept
+pub mod Steps
+pub mod Outcomes
+pub mod Taken
+pub mod Opening
+pub mod Next
+pub mod Made
+pub mod Sound

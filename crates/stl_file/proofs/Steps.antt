@@ -1,0 +1,123 @@
+-- Blocks of a file are read without a fault, one by one.
+use Rattle.std.proofs.Common.{◌≡◌, ℕ, zero, suc, ◌+◌, ◌<◌, ◌≤◌, Bool, true, false, not, eqb, leb}
+use Rattle.std.proofs.Common.{ltb, List, [], ◌∷◌, ◌++◌, length, take, drop, Option, Some, None}
+use Rattle.std.proofs.Common.{Result, Ok, Err, refl, sym, ap, subst, ◌∙◌, arith, length-append, inl}
+use Rattle.std.proofs.Common.{inr, ◌⊎◌}
+use Rattle.std.specs.Prelude.{◌&&◌, ◌||◌, filter}
+use Rattle.std.specs.List.{flat_map, AllByRecursion}
+use Rattle.std.proofs.lemmas.Bool.{eqb-true, eq-eqb, ne_eqb, ltb-true, le-leb, lt-leb, lt-ltb}
+use Rattle.std.proofs.lemmas.Bool.{le-ltb}
+use Rattle.std.proofs.lemmas.List.{take_at, drop_at}
+use Rattle.stl_file.specs.declared.fault.StlFault.{StlFault}
+use Rattle.stl_file.specs.declared.step.Begun.{Begun}
+use Rattle.stl_file.specs.declared.step.Step.{Step}
+use Rattle.stl_file.specs.declared.step.Step.TheVariants.{More}
+use Rattle.stl_file.specs.Tti.{sgn, sn, ebn, vp, jc, cf, text_of, is_passed, is_kept}
+use Rattle.stl_file.specs.Subtitle.{SubtitleValue}
+use Rattle.stl_file.specs.SubtitleBlocks.{IsTimeAt, BelongsTo, AreLinked, Begins}
+use Rattle.stl_file.specs.Reading.{time_at, first_at, kept_at, step_at}
+
+-- ---- one block
+
+time_complete : (b : List ℕ) (place frame : ℕ) → IsTimeAt b place frame → time_at b place ≡ Ok frame
+unfolding time_at
+time_complete b place frame h = rw h.in_range (ap (λ (n : ℕ). Ok n) (sym h.is))
+
+value_is : (s : SubtitleValue) (a b c d : ℕ) (t : List ℕ)
+    → a ≡ s.sgn
+    → b ≡ s.sn
+    → c ≡ s.vp
+    → d ≡ s.jc
+    → ◌≡◌ {A = SubtitleValue}
+    (record { sgn = a; sn = b; tci = s.tci; tco = s.tco; vp = c; jc = d; text = t })
+    (record s { text = t })
+value_is s a b c d t e f g h = rw (e, f, g, h) refl
+
+abbrev found : SubtitleValue → Result SubtitleValue StlFault
+found s = Ok s
+
+pub first_complete : (b : List ℕ) (s : SubtitleValue)
+    → Begins s b
+    → first_at b ≡ Ok (record s { text = text_of b })
+unfolding first_at
+first_complete b s h =
+    let low : ltb 3 (jc b) ≡ false =
+    le-ltb _ _ (let j = h.jc_range in let k = h.jc_is in omega arith) in
+    let v1 : leb 1 (vp b) ≡ true =
+    le-leb _ _ (let j = h.vp_range.0 in let k = h.vp_is in omega arith) in
+    let v2 : leb (vp b) 23 ≡ true =
+    le-leb _ _ (let j = h.vp_range.1 in let k = h.vp_is in omega arith) in
+    let lt : ltb s.tci s.tco ≡ true = lt-ltb _ _ h.times in
+    rw (h.cumulative, low, v1, v2, time_complete b 5 s.tci h.tci, time_complete b 9 s.tco h.tco, lt)
+    (ap found (value_is s (sgn b) (sn b) (vp b) (jc b) (text_of b) h.sgn_is h.sn_is h.vp_is
+    h.jc_is))
+
+not_extension : (n : ℕ) → (n < 240) ⊎ (n ≡ 255) → (leb 240 n && not (eqb n 255)) ≡ false
+not_extension n (inl lt) = let no : leb 240 n ≡ false = lt-leb 240 n lt in rw no refl
+not_extension n (inr e) = rw e refl
+
+not_user : (n : ℕ) → (n < 240) ⊎ (n ≡ 255) → eqb n 254 ≡ false
+not_user n (inl lt) = ne_eqb _ _ (λ e. omega arith)
+not_user n (inr e) = rw e refl
+
+pub step_kept : (group : Option Begun) (b : List ℕ)
+    → (ebn b < 240) ⊎ (ebn b ≡ 255)
+    → cf b ≡ 0
+    → step_at group b ≡ kept_at group b
+unfolding step_at
+step_kept group b e c = rw (not_user (ebn b) e, not_extension (ebn b) e, c) refl
+
+or_cases : (a b : Bool) → (a || b) ≡ true → (a ≡ true) ⊎ (b ≡ true)
+or_cases true b e = inl refl
+or_cases false b e = inr e
+
+and_ok : (a b : Bool) → (a && b) ≡ true → (a ≡ true) × (b ≡ true)
+and_ok true b e = (refl, e)
+and_ok false b e = absurd cc
+
+pub step_passed : (group : Option Begun) (b : List ℕ)
+    → is_passed b ≡ true
+    → step_at group b ≡ Ok (More group)
+unfolding step_at
+step_passed group b p =
+    elim (or_cases (eqb (ebn b) 254) ((ltb (ebn b) 240 || eqb (ebn b) 255) && eqb (cf b) 1) p) [
+      | inl user ↦ rw user refl
+      | inr comment ↦
+          let both = and_ok (ltb (ebn b) 240 || eqb (ebn b) 255) (eqb (cf b) 1) comment in
+          let one : cf b ≡ 1 = eqb-true _ _ both.1 in
+          let which : (ebn b < 240) ⊎ (ebn b ≡ 255) =
+          elim (or_cases (ltb (ebn b) 240) (eqb (ebn b) 255) both.0)
+          [ inl lt ↦ inl (ltb-true _ _ lt) | inr e ↦ inr (eqb-true _ _ e) ] in
+          rw (not_user (ebn b) which, not_extension (ebn b) which, one) refl
+    ]
+
+-- ---- a group's blocks
+
+-- the first of a chain
+abbrev pub Head : ℕ → ℕ → List ℕ → List (List ℕ) → Type 0
+Head group number b bs =
+    BelongsTo group number b
+    × (((bs ≡ []) × (ebn b ≡ 255)) ⊎ ((ebn b < 240) × AreLinked group number bs))
+
+pub chain_head : (group number : ℕ) (b : List ℕ) (bs : List (List ℕ))
+    → AreLinked group number (b ∷ bs)
+    → Head group number b bs
+chain_head group number b [] h = (h.0, inl (refl, h.1))
+chain_head group number b (c ∷ bs) h = (h.0, inr (h.1, h.2))
+
+pub cons_is : (a b : List ℕ) (us bs : List (List ℕ)) → a ∷ us ≡ b ∷ bs → (a ≡ b) × (us ≡ bs)
+cons_is a b us bs e = (cc, cc)
+
+pub filter_passed : (b : List ℕ) (bs : List (List ℕ))
+    → is_passed b ≡ true
+    → filter is_kept (b ∷ bs) ≡ filter is_kept bs
+filter_passed b bs p = rw p refl
+
+pub filter_kept : (b : List ℕ) (bs : List (List ℕ))
+    → is_passed b ≡ false
+    → filter is_kept (b ∷ bs) ≡ b ∷ filter is_kept bs
+filter_kept b bs p = rw p refl
+
+pub bool_cases : (b : Bool) → (b ≡ true) ⊎ (b ≡ false)
+bool_cases true = inl refl
+bool_cases false = inr refl

@@ -1,0 +1,491 @@
+-- The blocks that one call has taken; main lemmas: reads_on, gives_subtitle, refuses_block.
+use Rattle.std.proofs.Common.{◌≡◌, ◌+◌, ◌*◌, ◌/◌, ℕ, suc, ◌-◌, ◌<◌, ◌≤◌, Bool, true, false, cond}
+use Rattle.std.proofs.Common.{List, [], ◌∷◌, ◌++◌, length, take, drop, Option, Some, None, Result}
+use Rattle.std.proofs.Common.{Ok, Err}
+use Rattle.std.proofs.Common.{refl, sym, ap, subst, ◌∙◌, append_assoc, arith, length-append}
+use Rattle.std.proofs.Common.{length-take}
+use Rattle.std.specs.Prelude.{filter}
+use Rattle.std.specs.List.{AllByRecursion}
+use Rattle.std.specs.Io.KnownBytes.{Consumes}
+use Rattle.std.proofs.KnownBytes.{Consumes-trans}
+use Rattle.std.proofs.lemmas.List.{append-nil, take_all, nil_from_length}
+use Rattle.sub_io.specs.Device.{Fills, Told}
+use Rattle.sub_io.proofs.DeviceLemmas.{Told-from_fills}
+use Rattle.stl_file.specs.declared.fault.StlFault.{StlFault}
+use Rattle.stl_file.specs.declared.fault.StlFault.TheVariants as fault
+use Rattle.stl_file.specs.declared.step.Begun.{Begun}
+use Rattle.stl_file.specs.declared.step.Step.{Step}
+use Rattle.stl_file.specs.declared.step.Step.TheVariants.{More, Give}
+use Rattle.stl_file.specs.Fault.{is_cut, is_of_block}
+use Rattle.stl_file.specs.Tti.{is_kept, most_blocks}
+use Rattle.stl_file.specs.Subtitle.{SubtitleValue}
+use Rattle.stl_file.specs.SubtitleBlocks.{IsBlock, IsRest, joined}
+use Rattle.stl_file.specs.Reading.{step_at, Outcome, ends, fails, gives, outcome_after, outcome_at}
+use Rattle.stl_file.specs.Reader.{outcome_from, outcome_by, block_after, Leads, EndsKept}
+use Rattle.stl_file.specs.Reader.{TakesSubtitle, TakesPassed, Refuses, FailsReading}
+use Rattle.stl_file.specs.NormalForm.{Judged, subtitles_of}
+use Rattle.stl_file.proofs.Outcomes.{outcome_nil, outcome_end, outcome_full, outcome_short}
+use Rattle.stl_file.proofs.Outcomes.{outcome_block, outcome_complete}
+use Rattle.stl_file.proofs.Kept.{Represents, step_sound}
+
+-- ---- lists of blocks
+
+-- one block more is a block each
+blocks_push : (bs : List (List ℕ)) (b : List ℕ)
+    → AllByRecursion IsBlock bs
+    → length b ≡ 128
+    → AllByRecursion IsBlock (bs ++ b ∷ [])
+blocks_push [] b h e = (e, tt)
+blocks_push (x ∷ bs) b h e = (h.0, blocks_push bs b h.1 e)
+
+choice : (t : Bool) (b : List ℕ) → cond t (b ∷ []) [] ≡ [] ++ cond t (b ∷ []) []
+choice t b = refl
+
+put : (t : Bool) (x : List ℕ) (a b c : List (List ℕ))
+    → a ≡ b ++ c
+    → cond t (x ∷ a) a ≡ cond t (x ∷ b) b ++ c
+put true x a b c e = ap (λ (y : List (List ℕ)). x ∷ y) e
+put false x a b c e = e
+
+-- the kept blocks with one more
+filter_push : (bs : List (List ℕ)) (b : List ℕ)
+    → filter is_kept (bs ++ b ∷ []) ≡ filter is_kept bs ++ cond (is_kept b) (b ∷ []) []
+filter_push [] b = choice (is_kept b) b
+filter_push (x ∷ bs) b =
+    put (is_kept x) x (filter is_kept (bs ++ b ∷ [])) (filter is_kept bs)
+    (cond (is_kept b) (b ∷ []) []) (filter_push bs b)
+
+-- the bytes of blocks with one more
+pub joined_push : (bs : List (List ℕ)) (b : List ℕ) → joined (bs ++ b ∷ []) ≡ joined bs ++ b
+joined_push [] b = append-nil b
+joined_push (x ∷ bs) b =
+    ap (λ (t : List ℕ). x ++ t) (joined_push bs b) ∙ sym (append_assoc x (joined bs) b)
+
+-- blocks end with the one that was added
+ends_push : (bs : List (List ℕ)) (b : List ℕ) → is_kept b ≡ true → EndsKept (bs ++ b ∷ [])
+ends_push [] b k = k
+ends_push (x ∷ []) b k = k
+ends_push (x ∷ y ∷ bs) b k = ends_push (y ∷ bs) b k
+
+-- blocks have 128 bytes each
+length-joined : (bs : List (List ℕ))
+    → AllByRecursion IsBlock bs
+    → length (joined bs) ≡ 128 * length bs
+length-joined [] h = refl
+length-joined (x ∷ bs) h =
+    let l = length-append x (joined bs) in
+    let r = length-joined bs h.1 in
+    let s = h.0 in
+    omega arith
+
+-- ---- what was read so far
+
+-- The blocks that were read in this call, behind `from` others: they lead to `block`, the kept ones
+-- are those of the subtitle that was begun, and what they and any more bytes give is known.
+pub record HasRead (from : ℕ) (old now : Option (List ℕ)) (block : ℕ) (begun : Option Begun)
+    : Type 0 where
+  pub blocks : List (List ℕ)
+  pub each : AllByRecursion IsBlock blocks
+  pub consumed : Consumes old now (joined blocks)
+  pub kept : Represents begun (filter is_kept blocks)
+  pub counted : from + length blocks ≡ block
+  pub goes :
+      (tail : List ℕ)
+      → outcome_from from (joined blocks ++ tail) ≡ outcome_at (most_blocks - block) begun tail
+
+-- nothing was read yet
+pub has_read_none : (from : ℕ) (old : Option (List ℕ)) → HasRead from old old from None
+has_read_none from None =
+    record {
+      blocks = [];
+      each = tt;
+      consumed = tt;
+      kept = refl;
+      counted = omega arith;
+      goes =
+          λ tail. refl;
+    }
+has_read_none from (Some xs) =
+    record {
+      blocks = [];
+      each = tt;
+      consumed = refl;
+      kept = refl;
+      counted = omega arith;
+      goes =
+          λ tail. refl;
+    }
+
+-- no file goes on with a first fault
+no_rest : (from : ℕ) (bytes more : List ℕ) (bs : List (List ℕ)) (ts : List SubtitleValue)
+    (f : StlFault) (block : ℕ)
+    → IsRest (most_blocks - from) bs ts
+    → joined bs ≡ bytes ++ more
+    → outcome_from from (bytes ++ more) ≡ fails f block
+    → ⊥
+no_rest from bytes more bs ts f block r e bad =
+    let good : subtitles_of (outcome_from from (joined bs)) ≡ Ok ts =
+    outcome_complete bs None (most_blocks - from) ts r.each r.few
+    (record { gs = r.parts; kept_is = r.kept; groups = r.are_of }) in
+    let no = sym (ap subtitles_of bad)
+    ∙ ap (λ (x : List ℕ). subtitles_of (outcome_from from x)) (sym e) ∙ good in
+    cc
+
+some_is : (x y : List ℕ) → ◌≡◌ {A = Option (List ℕ)} (Some x) (Some y) → x ≡ y
+some_is x y e = cc
+
+-- what a source that tells its bytes has given: the blocks, the bytes of one turn, and what is left
+pub record Given (bytes blocks front : List ℕ) (n : ℕ) (new : Option (List ℕ)) : Type 0 where
+  pub rest : List ℕ
+  pub rest_is : new ≡ Some rest
+  pub parts : bytes ≡ blocks ++ (front ++ rest)
+  pub ended : n < 128 → rest ≡ []
+
+given_by : (old mid new : Option (List ℕ)) (n : ℕ) (blocks buffer bytes : List ℕ)
+    → length buffer ≡ 128
+    → Consumes old mid blocks
+    → Fills mid n new buffer
+    → old ≡ Some bytes
+    → Given bytes blocks (take n buffer) n new
+given_by None mid new n blocks buffer bytes size c f e = absurd cc
+given_by (Some xs) None new n blocks buffer bytes size c f e = absurd c
+given_by (Some xs) (Some ys) new n blocks buffer bytes size c f e =
+    let t = Told-from_fills (Some ys) new n buffer f ys refl in
+    record {
+      rest = t.rest;
+      rest_is = t.new_is;
+      parts = sym (some_is xs bytes e) ∙ c ∙ ap (λ (x : List ℕ). blocks ++ x) t.parts;
+      ended = λ lt. t.ended (omega arith);
+    }
+
+-- one block of those that may follow
+room_suc : (block : ℕ)
+    → block ≤ most_blocks
+    → (block ≡ most_blocks → ⊥)
+    → most_blocks - block ≡ suc (most_blocks - (block + 1))
+room_suc block le ne = omega arith
+
+room_back : (block : ℕ)
+    → block ≤ most_blocks
+    → (block ≡ most_blocks → ⊥)
+    → most_blocks - (most_blocks - (block + 1)) ≡ block + 1
+room_back block le ne = omega arith
+
+-- the block of a fault that is not one block too many
+pub own_block : (block : ℕ) (f : StlFault) → is_of_block f ≡ true → block_after block f ≡ block
+own_block block fault.TooManyBlocks e = absurd cc
+own_block block fault.Read e = absurd cc
+own_block block _ e = refl
+
+module _ (from : ℕ) (old mid new : Option (List ℕ)) (n block : ℕ) (begun : Option Begun)
+    (buffer : List ℕ) (f : Fills mid n new buffer) (size : length buffer ≡ 128)
+    (h : HasRead from old mid block begun) where
+  -- what the blocks, the bytes of this turn and any more give
+  on_bytes : (bytes more : List ℕ)
+      → outcome_from from ((joined h.blocks ++ bytes) ++ more)
+      ≡ outcome_at (most_blocks - block) begun (bytes ++ more)
+  on_bytes bytes more =
+      ap (outcome_from from) (append_assoc (joined h.blocks) bytes more) ∙ h.goes (bytes ++ more)
+
+  -- the bytes with this turn's
+  with_bytes : Consumes old new (joined h.blocks ++ take n buffer)
+  with_bytes = Consumes-trans old mid new (joined h.blocks) (take n buffer) h.consumed f.bytes
+
+  length_front : length (take n buffer) ≡ n
+  length_front = let le = f.bound in length-take n buffer ∙ omega arith
+
+  length_all : length (joined h.blocks ++ take n buffer) ≡ 128 * length h.blocks + n
+  length_all =
+      let l = length-append (joined h.blocks) (take n buffer) in
+      let j = length-joined h.blocks h.each in
+      let t = length_front in
+      omega arith
+
+  told_all : (bytes : List ℕ)
+      → old ≡ Some bytes
+      → Given bytes (joined h.blocks) (take n buffer) n new
+  told_all bytes e = given_by old mid new n (joined h.blocks) buffer bytes size h.consumed f e
+
+  -- what the source's bytes give
+  told_goes : (bytes : List ℕ) (e : old ≡ Some bytes)
+      → outcome_from from bytes
+      ≡ outcome_at (most_blocks - block) begun (take n buffer ++ (told_all bytes e).rest)
+  told_goes bytes e =
+      let g = told_all bytes e in
+      ap (outcome_from from) g.parts ∙ h.goes (take n buffer ++ g.rest)
+
+  refuses : (x : StlFault) (to place : ℕ)
+      → to ≡ from + (128 * length h.blocks + n + 127) / 128
+      → ((more : List ℕ)
+      → (is_cut x ≡ true → more ≡ [])
+      → outcome_at (most_blocks - block) begun (take n buffer ++ more) ≡ fails x place)
+      → Refuses from to old new x
+  refuses x to place at bad = record {
+    bytes = joined h.blocks ++ take n buffer;
+    consumed = with_bytes;
+    block = at ∙ ap (λ (k : ℕ). from + (k + 127) / 128) (sym length_all);
+    none = λ more cut bs ts r e.
+        no_rest from (joined h.blocks ++ take n buffer) more bs ts x place r e
+        (on_bytes (take n buffer) more ∙ bad more cut);
+  }
+
+  -- ---- no byte is left
+
+  module _ (z : n ≡ 0) where
+    empty : take n buffer ≡ []
+    empty = nil_from_length (take n buffer) (length_front ∙ z)
+
+    -- what no bytes give
+    at_end : (bytes : List ℕ)
+        → old ≡ Some bytes
+        → (rest : List ℕ) × (new ≡ Some rest)
+        × (outcome_from from bytes ≡ outcome_nil (most_blocks - block) begun)
+    at_end bytes e =
+        let g = told_all bytes e in
+        let none : g.rest ≡ [] = g.ended (omega arith) in (
+          g.rest,
+          g.rest_is,
+          told_goes bytes e
+              ∙ ap (λ (x : List ℕ). outcome_at (most_blocks - block) begun (x ++ g.rest)) empty
+              ∙ ap (outcome_at (most_blocks - block) begun) none
+              ∙ outcome_end (most_blocks - block) begun,
+        )
+
+    pub leads_none : begun ≡ None
+        → (bytes : List ℕ)
+        → old ≡ Some bytes
+        → Leads from bytes block new (Ok None)
+    leads_none is bytes e =
+        let a = at_end bytes e in
+        record {
+          rest = a.0;
+          rest_is = a.1;
+          outcome =
+              a.2 ∙ ap (outcome_nil (most_blocks - block)) is;
+        }
+
+    pub leads_unfinished : (o : Begun)
+        → block ≤ most_blocks
+        → begun ≡ Some o
+        → (bytes : List ℕ)
+        → old ≡ Some bytes
+        → Leads from bytes block new (Err fault.Unfinished)
+    leads_unfinished o le is bytes e =
+        let a = at_end bytes e in
+        let at : most_blocks - (most_blocks - block) ≡ block = omega arith in
+        record {
+          rest = a.0;
+          rest_is = a.1;
+          outcome = a.2 ∙ ap (outcome_nil (most_blocks - block)) is
+              ∙ ap (fails fault.Unfinished) at;
+        }
+
+    pub refuses_unfinished : (o : Begun)
+        → begun ≡ Some o
+        → Refuses from block old new fault.Unfinished
+    refuses_unfinished o is =
+        refuses fault.Unfinished block (most_blocks - (most_blocks - block)) (let c = h.counted in
+        omega arith)
+        (λ more cut. rw (cut refl, empty, is) (outcome_end (most_blocks - block) (Some o)))
+
+    pub takes_passed : begun ≡ None → TakesPassed from block old new
+    takes_passed is = record {
+      blocks = h.blocks;
+      counted = h.counted;
+      each = h.each;
+      passed = subst (λ (x : Option Begun). Represents x (filter is_kept h.blocks)) is h.kept;
+      consumed =
+          subst (Consumes old new) (ap (λ (x : List ℕ). joined h.blocks ++ x) empty
+          ∙ append-nil (joined h.blocks))
+          with_bytes;
+      ended = f.end (omega arith);
+    }
+
+  -- ---- a byte is left, and no block may follow
+
+  module _ (some : n ≡ 0 → ⊥) (full : block ≡ most_blocks) where
+    no_room : (more : List ℕ)
+        → outcome_at (most_blocks - block) begun (take n buffer ++ more)
+        ≡ fails fault.TooManyBlocks (most_blocks + 1)
+    no_room more =
+        let len = length_front in
+        let l = length-append (take n buffer) more in
+        rw full (outcome_full begun (take n buffer ++ more) (omega arith))
+
+    pub leads_too_many : (bytes : List ℕ)
+        → old ≡ Some bytes
+        → Leads from bytes block new (Err fault.TooManyBlocks)
+    leads_too_many bytes e =
+        let g = told_all bytes e in
+        record {
+          rest = g.rest;
+          rest_is = g.rest_is;
+          outcome = told_goes bytes e ∙ no_room g.rest
+              ∙ ap (λ (k : ℕ). fails fault.TooManyBlocks (k + 1)) (sym full);
+        }
+
+    pub refuses_too_many : Refuses from (block + 1) old new fault.TooManyBlocks
+    refuses_too_many =
+        refuses fault.TooManyBlocks (block + 1) (most_blocks + 1)
+        (let c = h.counted in let le = f.bound in omega arith) (λ more cut. no_room more)
+
+  -- ---- a block is begun
+
+  module _ (le : block ≤ most_blocks) (ne : block ≡ most_blocks → ⊥) where
+    at_suc : (tail : List ℕ)
+        → outcome_at (most_blocks - block) begun tail
+        ≡ outcome_at (suc (most_blocks - (block + 1))) begun tail
+    at_suc tail = ap (λ (k : ℕ). outcome_at k begun tail) (room_suc block le ne)
+
+    cut_block : (more : List ℕ)
+        → (n ≡ 0 → ⊥)
+        → n < 128
+        → more ≡ []
+        → outcome_at (most_blocks - block) begun (take n buffer ++ more)
+        ≡ fails fault.Truncated (block + 1)
+    cut_block more some lt none =
+        let len = length_front in
+        let m : length more ≡ 0 = ap length none in
+        let l = length-append (take n buffer) more in
+        at_suc (take n buffer ++ more)
+        ∙ outcome_short (most_blocks - (block + 1)) begun (take n buffer ++ more) (omega arith)
+        (omega arith)
+        ∙ ap (fails fault.Truncated) (room_back block le ne)
+
+    pub leads_truncated : (n ≡ 0 → ⊥) → n < 128 → (bytes : List ℕ) → old ≡ Some bytes
+        → Leads from bytes (block + 1) new (Err fault.Truncated)
+    leads_truncated some lt bytes e =
+        let g = told_all bytes e in
+        record {
+          rest = g.rest;
+          rest_is = g.rest_is;
+          outcome =
+              told_goes bytes e ∙ cut_block g.rest some lt (g.ended lt);
+        }
+
+    pub refuses_truncated : (n ≡ 0 → ⊥) → n < 128 → Refuses from (block + 1) old new fault.Truncated
+    refuses_truncated some lt =
+        refuses fault.Truncated (block + 1) (block + 1) (let c = h.counted in omega arith)
+        (λ more cut. cut_block more some lt (cut refl))
+
+    -- ---- and read
+
+    module _ (long : 128 ≤ n) where
+      whole : take n buffer ≡ buffer
+      whole = take_all n buffer (omega arith)
+
+      one_block : (r : Result Step StlFault) (more : List ℕ)
+          → step_at begun buffer ≡ r
+          → outcome_at (most_blocks - block) begun (take n buffer ++ more)
+          ≡ outcome_after (most_blocks - (block + 1))
+          (λ next. outcome_at (most_blocks - (block + 1)) next more) r
+      one_block r more e =
+          ap (λ (x : List ℕ). outcome_at (most_blocks - block) begun (x ++ more)) whole
+          ∙ at_suc (buffer ++ more)
+          ∙ outcome_block (most_blocks - (block + 1)) begun buffer more r size e
+
+      bad_block : (x : StlFault) (more : List ℕ)
+          → step_at begun buffer ≡ Err x
+          → outcome_at (most_blocks - block) begun (take n buffer ++ more) ≡ fails x (block + 1)
+      bad_block x more e = one_block (Err x) more e ∙ ap (fails x) (room_back block le ne)
+
+      pub leads_refused : (x : StlFault)
+          → is_of_block x ≡ true
+          → step_at begun buffer ≡ Err x
+          → (bytes : List ℕ)
+          → old ≡ Some bytes
+          → Leads from bytes (block + 1) new (Err x)
+      leads_refused x own step bytes e =
+          let g = told_all bytes e in
+          record {
+            rest = g.rest;
+            rest_is = g.rest_is;
+            outcome = told_goes bytes e ∙ bad_block x g.rest step
+                ∙ ap (fails x) (sym (own_block (block + 1) x own));
+          }
+
+      pub refuses_block : (x : StlFault)
+          → step_at begun buffer ≡ Err x
+          → Refuses from (block + 1) old new x
+      refuses_block x step =
+          refuses x (block + 1) (block + 1) (let c = h.counted in let b = f.bound in omega arith)
+          (λ more cut. bad_block x more step)
+
+      pub leads_given : (s : SubtitleValue)
+          → step_at begun buffer ≡ Ok (Give s)
+          → (bytes : List ℕ)
+          → old ≡ Some bytes
+          → Leads from bytes (block + 1) new (Ok (Some s))
+      leads_given s step bytes e =
+          let g = told_all bytes e in
+          record {
+            rest = g.rest;
+            rest_is = g.rest_is;
+            outcome =
+                told_goes bytes e
+                ∙ one_block (Ok (Give s)) g.rest step
+                ∙ ap (λ (k : ℕ). gives s k (outcome_from (block + 1) g.rest))
+                (room_back block le ne);
+          }
+
+      -- the bytes with the block
+      with_block : Consumes old new (joined (h.blocks ++ buffer ∷ []))
+      with_block =
+          rw (joined_push h.blocks buffer)
+          (subst (λ (x : List ℕ). Consumes old new (joined h.blocks ++ x)) whole with_bytes)
+
+      counted_push : from + length (h.blocks ++ buffer ∷ []) ≡ block + 1
+      counted_push = let c = h.counted in let l = length-append h.blocks (buffer ∷ []) in
+          omega arith
+
+      pub gives_subtitle : (s : SubtitleValue)
+          → step_at begun buffer ≡ Ok (Give s)
+          → TakesSubtitle from (block + 1) old new s
+      gives_subtitle s step =
+          let t = step_sound begun (filter is_kept h.blocks) buffer (Give s) size h.kept step in
+          record {
+            blocks = h.blocks ++ buffer ∷ [];
+            counted = counted_push;
+            each = blocks_push h.blocks buffer h.each size;
+            are_of = rw (filter_push h.blocks buffer) t.reaches;
+            ends = ends_push h.blocks buffer (t.gives s refl);
+            consumed = with_block;
+          }
+
+      pub reads_on : (next : Option Begun)
+          → step_at begun buffer ≡ Ok (More next)
+          → HasRead from old new (block + 1) next
+      reads_on next step =
+          let s = step_sound begun (filter is_kept h.blocks) buffer (More next) size h.kept step in
+          record {
+            blocks = h.blocks ++ buffer ∷ [];
+            each = blocks_push h.blocks buffer h.each size;
+            consumed = with_block;
+            kept = rw (filter_push h.blocks buffer) s.reaches;
+            counted = counted_push;
+            goes = λ tail.
+                rw (joined_push h.blocks buffer)
+                (on_bytes buffer tail
+                ∙ at_suc (buffer ++ tail)
+                ∙ outcome_block (most_blocks - (block + 1)) begun buffer tail (Ok (More next)) size
+                step);
+          }
+
+-- ---- the source fails
+
+-- fewer than 128 bytes were taken behind the blocks
+pub fails_reading : (from block : ℕ) (old mid new : Option (List ℕ)) (begun : Option Begun)
+    (bytes : List ℕ)
+    → HasRead from old mid block begun
+    → length bytes < 128
+    → Consumes mid new bytes
+    → FailsReading from (block + 1) old new
+fails_reading from block old mid new begun bytes h lt c =
+    let l = length-append (joined h.blocks) bytes in
+    let j = length-joined h.blocks h.each in
+    let k = h.counted in
+    record {
+      bytes = joined h.blocks ++ bytes;
+      consumed = Consumes-trans old mid new (joined h.blocks) bytes h.consumed c;
+      block = omega arith;
+    }

@@ -1,0 +1,5 @@
+use Rattle.stl_file.proofs.Sound.{one_file}
+use Rattle.stl_file.proofs.laws.file_has_one_reading.Goals as goal
+
+pub returns : goal.returns
+returns c = one_file

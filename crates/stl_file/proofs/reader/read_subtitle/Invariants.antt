@@ -1,0 +1,17 @@
+use Rattle.std.proofs.Common.{◌≡◌, ◌≤◌, ◌-◌}
+use Rattle.stl_file.specs.Reading.{BegunFits}
+use Rattle.stl_file.specs.Tti.{most_blocks}
+use Rattle.stl_file.proofs.Taken.{HasRead}
+use Rattle.stl_file.proofs.reader.read_subtitle.Given as goal
+
+abbrev pub invariant-loop-got : goal.invariant-loop-got
+invariant-loop-got g l = record {
+  fits : BegunFits l.begun;
+  read : HasRead l.initial.block (g.S.Source.remaining l.initial.source)
+      (g.S.Source.remaining l.source) l.block l.begun;
+  few : l.block ≤ most_blocks;
+  count : g.S.Source.failure_count l.source ≡ g.S.Source.failure_count l.initial.source;
+}
+
+abbrev pub decreases-loop-got : goal.decreases-loop-got
+decreases-loop-got g l = most_blocks - l.block

@@ -1,0 +1,97 @@
+-- The GSI block (EBU Tech 3264), 1024 bytes. Each field by its place, counted from 0, and its
+-- length:
+--
+--   CPN    0   3   code page number           TNG  248   3   number of subtitle groups
+--   DFC    3   8   disk format code           MNC  251   2   displayable characters in a row
+--   DSC   11   1   display standard code      MNR  253   2   displayable rows
+--   CCT   12   2   character code table       TCS  255   1   time code status
+--   LC    14   2   language code              TCP  256   8   time code of the programme's start
+--   OPT   16  32   original programme title   TCF  264   8   time code of the first in-cue
+--   OET   48  32   original episode title     TND  272   1   number of disks
+--   TPT   80  32   translated programme title DSN  273   1   disk sequence number
+--   TET  112  32   translated episode title   CO   274   3   country of origin
+--   TN   144  32   translator's name          PUB  277  32   publisher
+--   TCD  176  32   translator's contact       EN   309  32   editor's name
+--   SLR  208  16   subtitle list reference    ECD  341  32   editor's contact
+--   CD   224   6   creation date                   373  75   spare
+--   RD   230   6   revision date              UDA  448 576   user-defined area
+--   RN   236   2   revision number
+--   TNB  238   5   number of TTI blocks
+--   TNS  243   5   number of subtitles
+--
+-- DFC, DSC and CCT decide whether a file is taken; all other bytes are kept and not looked at.
+use Rattle.std.specs.Prelude.{◌≡◌, ℕ, ◌+◌, ◌/◌, ◌%◌, not, ◌&&◌, ◌==◌, if◌then◌else◌, ◌⊎◌}
+use Rattle.std.specs.Prelude.{List, [], ◌∷◌, ◌++◌, length, take, drop, slice_index, bytes_eq}
+use Rattle.std.specs.Prelude.{Result, Ok, Err}
+use Rattle.stl_file.specs.declared.fault.StlFault.{StlFault}
+use Rattle.stl_file.specs.declared.fault.StlFault.TheVariants as fault
+
+-- bytes of a GSI block
+abbrev pub gsi_size : ℕ
+gsi_size = 1024
+
+-- so many bytes from a place
+abbrev pub field : ℕ → ℕ → List ℕ → List ℕ
+field at len g = take len (drop at g)
+
+-- DFC, the disk format code
+abbrev pub dfc : List ℕ → List ℕ
+dfc g = field 3 8 g
+
+-- DSC, the display standard code
+abbrev pub dsc : List ℕ → ℕ
+dsc g = slice_index g 11
+
+-- CCT, the character code table
+abbrev pub cct : List ℕ → List ℕ
+cct g = field 12 2 g
+
+-- the DFC "STL25.01": 25 frames a second
+abbrev pub stl_25 : List ℕ
+stl_25 = 0x53 ∷ 0x54 ∷ 0x4C ∷ 0x32 ∷ 0x35 ∷ 0x2E ∷ 0x30 ∷ 0x31 ∷ []
+
+-- the DFC "STL30.01": 30 frames a second
+abbrev pub stl_30 : List ℕ
+stl_30 = 0x53 ∷ 0x54 ∷ 0x4C ∷ 0x33 ∷ 0x30 ∷ 0x2E ∷ 0x30 ∷ 0x31 ∷ []
+
+-- the DSC "1": level 1 Teletext
+abbrev pub level_1 : ℕ
+level_1 = 0x31
+
+-- the DSC "2": level 2 Teletext
+abbrev pub level_2 : ℕ
+level_2 = 0x32
+
+-- the CCT "00": the Latin table
+abbrev pub latin : List ℕ
+latin = 0x30 ∷ 0x30 ∷ []
+
+-- a GSI block that is taken: 25 frames a second, Teletext of level 1 or 2, the Latin table
+pub record IsGsi (g : List ℕ) : Type 0 where
+  pub size : length g ≡ gsi_size
+  pub format : dfc g ≡ stl_25
+  pub display : (dsc g ≡ level_1) ⊎ (dsc g ≡ level_2)
+  pub alphabet : cct g ≡ latin
+
+-- the block itself, or its first fault
+unfoldable pub gsi_at : List ℕ → Result (List ℕ) StlFault
+gsi_at g =
+    if not (bytes_eq (dfc g) stl_25) && not (bytes_eq (dfc g) stl_30) then Err fault.Format
+    else if bytes_eq (dfc g) stl_30 then Err fault.Rate
+    else if not (dsc g == level_1) && not (dsc g == level_2) then Err fault.Display
+    else if not (bytes_eq (cct g) latin) then Err fault.Alphabet
+    else Ok g
+
+-- the ASCII digit of a number below ten
+abbrev pub digit : ℕ → ℕ
+digit n = 0x30 + n
+
+-- five decimal digits, with zeros in front
+abbrev pub five_digits : ℕ → List ℕ
+five_digits n =
+    digit (n / 10000) ∷ digit ((n / 1000) % 10) ∷ digit ((n / 100) % 10)
+    ∷ digit ((n / 10) % 10) ∷ digit (n % 10) ∷ []
+
+-- TNB and TNS set, and all other bytes kept
+abbrev pub with_counts : ℕ → ℕ → List ℕ → List ℕ
+with_counts tnb tns g = take 238 g ++ (five_digits tnb ++ (five_digits tns ++ drop 248 g))

@@ -1,0 +1,10 @@
+pub mod Fault
+pub mod File
+pub mod Gsi
+pub mod NormalForm
+pub mod Reader
+pub mod Reading
+pub mod Subtitle
+pub mod SubtitleBlocks
+pub mod TimeCode
+pub mod Tti

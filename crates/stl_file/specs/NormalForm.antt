@@ -1,0 +1,103 @@
+-- The normal form of a subtitle file (own): its GSI block with the counts of what follows, and each
+-- subtitle in the fewest blocks, without comments and user data.
+use Rattle.std.specs.Prelude.{◌≡◌, ℕ, zero, suc, ◌-◌, ◌+◌, ◌/◌, ◌%◌, List, [], ◌∷◌, ◌++◌}
+use Rattle.std.specs.Prelude.{length, take, drop, replicate, Option, Result, Ok, Err}
+use Rattle.std.specs.List.{flat_map}
+use Rattle.std.specs.Io.KnownBytes.{Keeps}
+use Rattle.sub_io.specs.Device.{AppendsPrefix}
+use Rattle.std.specs.Io.KnownBytes.{Appends}
+use Rattle.stl_file.specs.declared.fault.StlFault.{StlFault}
+use Rattle.stl_file.specs.declared.fault.NormalFault.{NormalFault}
+use Rattle.stl_file.specs.declared.fault.NormalFault.TheVariants.{Refused, Write}
+use Rattle.stl_file.specs.TimeCode.{time_bytes}
+use Rattle.stl_file.specs.Tti.{unused_space, last_block, not_cumulative, no_comment}
+use Rattle.stl_file.specs.Subtitle.{SubtitleValue}
+use Rattle.stl_file.specs.SubtitleBlocks.{joined}
+use Rattle.stl_file.specs.Gsi.{gsi_size, with_counts}
+use Rattle.stl_file.specs.Reading.{Outcome, ends, fails, gives}
+use Rattle.stl_file.specs.Reader.{outcome_of}
+use Rattle.stl_file.specs.File.{IsFile}
+
+-- ---- a subtitle's blocks
+
+-- SGN, SN with its low byte first, EBN, CS, TCI, TCO, VP, JC and CF
+abbrev pub block_head : SubtitleValue → ℕ → List ℕ
+block_head s ebn =
+    s.sgn ∷ (s.sn % 256) ∷ (s.sn / 256) ∷ ebn ∷ not_cumulative
+    ∷ (time_bytes s.tci ++ (time_bytes s.tco ++ (s.vp ∷ s.jc ∷ no_comment ∷ [])))
+
+-- a text field: a piece of text, and unused space up to 112 bytes
+abbrev pub text_field : List ℕ → List ℕ
+text_field piece = piece ++ replicate (112 - length piece) unused_space
+
+unfoldable pub block_of : SubtitleValue → ℕ → List ℕ → List ℕ
+block_of s ebn piece = block_head s ebn ++ text_field piece
+
+-- so many blocks with full text fields, numbered on from an EBN, and a last one
+unfoldable pub blocks_from : SubtitleValue → ℕ → ℕ → List ℕ → List (List ℕ)
+blocks_from s zero ebn text = block_of s last_block text ∷ []
+blocks_from s (suc full) ebn text =
+    block_of s ebn (take 112 text) ∷ blocks_from s full (ebn + 1) (drop 112 text)
+
+-- the pieces of 112 bytes before the last piece of a text
+abbrev pub full_pieces : List ℕ → ℕ
+full_pieces text = (length text - 1) / 112
+
+-- the fewest blocks that hold a subtitle, at least one
+abbrev pub blocks_of : SubtitleValue → List (List ℕ)
+blocks_of s = blocks_from s (full_pieces s.text) 0x00 s.text
+
+-- ---- the whole file
+
+-- the blocks of all subtitles
+abbrev pub all_blocks : List SubtitleValue → List (List ℕ)
+all_blocks ts = flat_map blocks_of ts
+
+-- the GSI block with TNB and TNS as the subtitles have them
+abbrev pub counted_gsi : List ℕ → List SubtitleValue → List ℕ
+counted_gsi g ts = with_counts (length (all_blocks ts)) (length ts) g
+
+-- the normal form
+abbrev pub normal_form : List ℕ → List SubtitleValue → List ℕ
+normal_form g ts = counted_gsi g ts ++ joined (all_blocks ts)
+
+-- ---- what is given, as one list
+
+abbrev pub Judged : Type 0
+Judged = Result (List SubtitleValue) NormalFault
+
+-- one subtitle in front
+abbrev pub cons_all : SubtitleValue → Judged → Judged
+cons_all s (Ok ss) = Ok (s ∷ ss)
+cons_all s (Err f) = Err f
+
+-- all subtitles, or the first fault with its block
+abbrev pub subtitles_of : Outcome → Judged
+subtitles_of ends = Ok []
+subtitles_of (fails f block) = Err (Refused f block)
+subtitles_of (gives s block o) = cons_all s (subtitles_of o)
+
+-- ---- what `normal` does
+
+-- the normal form of the file s was written, with n subtitles
+pub record WritesNormal (s : List ℕ) (old new : Option (List ℕ)) (n : ℕ) : Type 0 where
+  pub subtitles : List SubtitleValue
+  pub is_file : IsFile s (take gsi_size s) subtitles
+  pub count : n ≡ length subtitles
+  pub wrote : Appends old new (normal_form (take gsi_size s) subtitles)
+
+-- a prefix of the normal form of the file s was written
+pub record WritesPrefix (s : List ℕ) (old new : Option (List ℕ)) : Type 0 where
+  pub subtitles : List SubtitleValue
+  pub is_file : IsFile s (take gsi_size s) subtitles
+  pub wrote : AppendsPrefix old new (normal_form (take gsi_size s) subtitles)
+
+-- The normal form was written; or nothing, where the file is refused with its first fault and
+-- block; or
+-- a prefix, where the sink failed.
+abbrev pub NormalAnswers :
+    List ℕ → Option (List ℕ) → Option (List ℕ) → Result ℕ NormalFault → Type 0
+NormalAnswers s old new (Ok n) = WritesNormal s old new n
+NormalAnswers s old new (Err (Refused f block)) =
+    (subtitles_of (outcome_of s) ≡ Err (Refused f block)) × Keeps old new
+NormalAnswers s old new (Err Write) = WritesPrefix s old new

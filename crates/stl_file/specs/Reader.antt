@@ -1,0 +1,181 @@
+-- A reader of a subtitle file, and what each of its calls takes and leaves.
+use Rattle.std.specs.Prelude.{◌≡◌, ℕ, ◌+◌, ◌-◌, ◌/◌, ◌≤◌, true, nat_lt, if◌then◌else◌}
+use Rattle.std.specs.Prelude.{List, [], ◌∷◌, ◌++◌, length, take, drop, filter}
+use Rattle.std.specs.Prelude.{Option, Some, None, Result, Ok, Err}
+use Rattle.std.specs.Io.KnownBytes.{Consumes, IsAtEnd}
+use Rattle.std.specs.List.{AllByRecursion}
+use Rattle.stl_file.specs.declared.fault.StlFault.{StlFault}
+use Rattle.stl_file.specs.declared.fault.StlFault.TheVariants as fault
+use Rattle.stl_file.specs.declared.progress.Progress.{Progress}
+use Rattle.stl_file.specs.declared.progress.Progress.TheVariants.{Reading, AtEnd, Broken}
+use Rattle.stl_file.specs.Fault.{is_cut}
+use Rattle.stl_file.specs.Gsi.{gsi_size, gsi_at}
+use Rattle.stl_file.specs.Tti.{block_size, most_blocks, is_kept}
+use Rattle.stl_file.specs.Subtitle.{SubtitleValue}
+use Rattle.stl_file.specs.SubtitleBlocks.{joined, IsBlock, AreBlocksOf, IsRest}
+use Rattle.stl_file.specs.Reading.{Outcome, ends, fails, gives, outcome_at}
+use Rattle.stl_file.specs.File.{IsFile}
+
+-- a reader: the GSI block, the last TTI block that was read or begun (0 before the first), and how
+-- far
+-- it has come
+pub record ReaderValue : Type 0 where
+  pub gsi : List ℕ
+  pub block : ℕ
+  pub progress : Progress
+
+-- a reader counts up to 99,999 blocks; only a fault can name one more
+abbrev pub HasPlace : Progress → ℕ → Type 0
+HasPlace Broken block = block ≤ most_blocks + 1
+HasPlace _ block = block ≤ most_blocks
+
+-- ---- what is left to be given
+
+-- what these bytes give behind so many TTI blocks, where the next one begins a subtitle
+abbrev pub outcome_from : ℕ → List ℕ → Outcome
+outcome_from block b = outcome_at (most_blocks - block) None b
+
+-- what a reader has still to give, where these bytes are left
+abbrev pub outcome_in : Progress → ℕ → List ℕ → Outcome
+outcome_in Reading block b = outcome_from block b
+outcome_in AtEnd block b = ends
+outcome_in Broken block b = fails fault.Ended block
+
+abbrev pub outcome_left : ReaderValue → List ℕ → Outcome
+outcome_left r b = outcome_in r.progress r.block b
+
+-- what an answer says of all that was left, where the reader and the bytes are left so
+abbrev pub outcome_with : ReaderValue → List ℕ → Result (Option SubtitleValue) StlFault → Outcome
+outcome_with r rest (Err f) = fails f r.block
+outcome_with r rest (Ok None) = ends
+outcome_with r rest (Ok (Some s)) = gives s r.block (outcome_left r rest)
+
+-- The answer is the first thing that was left to be given, with its block, and what comes after it
+-- is
+-- what is left now.
+pub record Answers (old : ReaderValue) (bytes : List ℕ) (new : ReaderValue) (now : Option (List ℕ))
+    (result : Result (Option SubtitleValue) StlFault) : Type 0 where
+  pub rest : List ℕ
+  pub rest_is : now ≡ Some rest
+  pub outcome : outcome_left old bytes ≡ outcome_with new rest result
+
+-- ---- the same within one call, by the last block that was read
+
+-- the block that a fault names: one block too many and the block of a byte that could not be read
+-- come
+-- behind the last block
+abbrev pub block_after : ℕ → StlFault → ℕ
+block_after block fault.TooManyBlocks = block + 1
+block_after block fault.Read = block + 1
+block_after block _ = block
+
+-- the block after an answer
+abbrev pub block_by : ℕ → Result (Option SubtitleValue) StlFault → ℕ
+block_by block (Err f) = block_after block f
+block_by block (Ok found) = block
+
+-- what an answer says of all that was left, where these bytes are left behind so many blocks
+abbrev pub outcome_by : ℕ → List ℕ → Result (Option SubtitleValue) StlFault → Outcome
+outcome_by block rest (Err f) = fails f (block_after block f)
+outcome_by block rest (Ok None) = ends
+outcome_by block rest (Ok (Some s)) = gives s block (outcome_from block rest)
+
+-- the answer is the first thing that was left to be given
+pub record Leads (from : ℕ) (bytes : List ℕ) (block : ℕ) (now : Option (List ℕ))
+    (result : Result (Option SubtitleValue) StlFault) : Type 0 where
+  pub rest : List ℕ
+  pub rest_is : now ≡ Some rest
+  pub outcome : outcome_from from bytes ≡ outcome_by block rest result
+
+-- ---- what a call takes
+
+-- The bytes taken are the blocks of one subtitle, with the passed blocks before and inside them:
+-- the
+-- last block is the subtitle's.
+abbrev pub EndsKept : List (List ℕ) → Type 0
+EndsKept [] = ⊥
+EndsKept (b ∷ []) = is_kept b ≡ true
+EndsKept (b ∷ c ∷ bs) = EndsKept (c ∷ bs)
+
+pub record TakesSubtitle (from to : ℕ) (old new : Option (List ℕ)) (s : SubtitleValue) : Type 0
+  where
+    pub blocks : List (List ℕ)
+    pub counted : from + length blocks ≡ to
+    pub each : AllByRecursion IsBlock blocks
+    pub are_of : AreBlocksOf s (filter is_kept blocks)
+    pub ends : EndsKept blocks
+    pub consumed : Consumes old new (joined blocks)
+
+-- the bytes taken are passed blocks alone, and the end of the file comes after them
+pub record TakesPassed (from to : ℕ) (old new : Option (List ℕ)) : Type 0 where
+  pub blocks : List (List ℕ)
+  pub counted : from + length blocks ≡ to
+  pub each : AllByRecursion IsBlock blocks
+  pub passed : filter is_kept blocks ≡ []
+  pub consumed : Consumes old new (joined blocks)
+  pub ended : IsAtEnd new
+
+-- No file goes on with the bytes that were taken, behind so many TTI blocks that end where a
+-- subtitle
+-- may begin; for the faults of a file that was cut, none goes on with them and ends there. The
+-- block is
+-- the last one that has a byte among those that were taken.
+pub record Refuses (from to : ℕ) (old new : Option (List ℕ)) (f : StlFault) : Type 0 where
+  pub bytes : List ℕ
+  pub consumed : Consumes old new bytes
+  pub block : to ≡ from + (length bytes + 127) / 128
+  pub none :
+      (more : List ℕ)
+      → (is_cut f ≡ true → more ≡ [])
+      → (bs : List (List ℕ))
+      → (ts : List SubtitleValue)
+      → IsRest (most_blocks - from) bs ts
+      → joined bs ≡ bytes ++ more
+      → ⊥
+
+-- The source failed: the block is that of the byte that was asked for, the first one behind those
+-- that
+-- were taken.
+pub record FailsReading (from to : ℕ) (old new : Option (List ℕ)) : Type 0 where
+  pub bytes : List ℕ
+  pub consumed : Consumes old new bytes
+  pub block : to ≡ from + length bytes / 128 + 1
+
+-- how far a reader has come after an answer
+abbrev pub progress_after : Progress → Result (Option SubtitleValue) StlFault → Progress
+progress_after p (Err f) = Broken
+progress_after p (Ok None) = AtEnd
+progress_after p (Ok (Some s)) = p
+
+-- ---- opening a file
+
+-- a reader behind the GSI block
+abbrev pub opened : Result (List ℕ) StlFault → Result ReaderValue StlFault
+opened (Err f) = Err f
+opened (Ok g) = Ok (record { gsi = g; block = 0; progress = Reading })
+
+-- what `open` answers over these bytes
+unfoldable pub opened_at : List ℕ → Result ReaderValue StlFault
+opened_at s =
+    if nat_lt (length s) gsi_size then Err fault.Truncated else opened (gsi_at (take gsi_size s))
+
+-- No file begins with the bytes that were taken; for a file that was cut, none is these bytes
+-- alone.
+pub record RefusesOpening (old new : Option (List ℕ)) (f : StlFault) : Type 0 where
+  pub bytes : List ℕ
+  pub consumed : Consumes old new bytes
+  pub none :
+      (more : List ℕ)
+      → (is_cut f ≡ true → more ≡ [])
+      → (g : List ℕ)
+      → (ts : List SubtitleValue)
+      → IsFile (bytes ++ more) g ts
+      → ⊥
+
+-- what the bytes of a whole file give: a fault of the GSI block names block 0
+abbrev pub outcome_opened : List ℕ → Result ReaderValue StlFault → Outcome
+outcome_opened b (Err f) = fails f 0
+outcome_opened b (Ok r) = outcome_left r b
+
+unfoldable pub outcome_of : List ℕ → Outcome
+outcome_of s = outcome_opened (drop gsi_size s) (opened_at s)

@@ -1,0 +1,120 @@
+-- Reading TTI blocks one after the other, as far as the first fault.
+--
+-- The suffix `_at` means: as read at the front of these bytes, or the first fault in the order of
+-- the
+-- lines below.
+use Rattle.std.specs.Prelude.{ℕ, zero, suc, ◌+◌, ◌-◌, ◌*◌, ◌≤◌, not, ◌==◌, ◌&&◌, nat_lt, nat_le}
+use Rattle.std.specs.Prelude.{List, [], ◌∷◌, ◌++◌, length, take, drop, slice_index, if◌then◌else◌}
+use Rattle.std.specs.Prelude.{Option, Some, None, Result, Ok, Err}
+use Rattle.sub_io.specs.Reading.{◌>>=◌}
+use Rattle.stl_file.specs.declared.fault.StlFault.{StlFault}
+use Rattle.stl_file.specs.declared.fault.StlFault.TheVariants as fault
+use Rattle.stl_file.specs.declared.step.Begun.{Begun}
+use Rattle.stl_file.specs.declared.step.Step.{Step}
+use Rattle.stl_file.specs.declared.step.Step.TheVariants.{More, Give}
+use Rattle.stl_file.specs.TimeCode.{frame_of, is_time_code}
+use Rattle.stl_file.specs.Tti.{block_size, most_blocks, most_of_subtitle}
+use Rattle.stl_file.specs.Tti.{first_reserved, user_data, last_block, not_cumulative, is_comment}
+use Rattle.stl_file.specs.Tti.{sgn, sn, ebn, cs, vp, jc, cf, text_of, tci_place, tco_place}
+use Rattle.stl_file.specs.Subtitle.{SubtitleValue}
+
+-- ---- one block
+
+-- the frame of the time code at a place
+unfoldable pub time_at : List ℕ → ℕ → Result ℕ StlFault
+time_at b place =
+    let hours = slice_index b place in
+    let minutes = slice_index b (place + 1) in
+    let seconds = slice_index b (place + 2) in
+    let frames = slice_index b (place + 3) in
+    if is_time_code hours minutes seconds frames
+    then Ok (frame_of hours minutes seconds frames)
+    else Err fault.Time
+
+-- the subtitle that a first block begins, with the text of that block
+unfoldable pub first_at : List ℕ → Result SubtitleValue StlFault
+first_at b =
+    if not (cs b == not_cumulative) then Err fault.Cumulative
+    else if nat_lt 3 (jc b) then Err fault.Justify
+    else if not (nat_le 1 (vp b) && nat_le (vp b) 23) then Err fault.Row
+    else do
+      tci ← time_at b tci_place
+      tco ← time_at b tco_place
+      (if nat_lt tci tco
+          then Ok (record {
+            sgn = sgn b;
+            sn = sn b;
+            tci = tci;
+            tco = tco;
+            vp = vp b;
+            jc = jc b;
+            text = text_of b;
+          })
+          else Err fault.EmptyTime)
+
+-- EBN FF ends a subtitle, any other that is kept goes on
+abbrev pub closed : ℕ → SubtitleValue → ℕ → Step
+closed n s blocks =
+    if n == last_block then Give s else More (Some (record { subtitle = s; blocks = blocks }))
+
+-- a block of a subtitle: its first, or a further one of the subtitle that was begun
+unfoldable pub kept_at : Option Begun → List ℕ → Result Step StlFault
+kept_at None b = do
+  s ← first_at b
+  Ok (closed (ebn b) s 1)
+kept_at (Some begun) b =
+    if not ((sgn b == begun.subtitle.sgn) && (sn b == begun.subtitle.sn)) then Err fault.Sequence
+    else if begun.blocks == most_of_subtitle then Err fault.TooLong
+    else Ok (closed (ebn b)
+    (record begun.subtitle { text = begun.subtitle.text ++ text_of b }) (begun.blocks + 1))
+
+-- any block: user data and comments leave what was begun as it is
+unfoldable pub step_at : Option Begun → List ℕ → Result Step StlFault
+step_at begun b =
+    if ebn b == user_data then Ok (More begun)
+    else if nat_le first_reserved (ebn b) && not (ebn b == last_block) then Err fault.Extension
+    else if nat_lt 1 (cf b) then Err fault.CommentFlag
+    else if cf b == is_comment then Ok (More begun)
+    else kept_at begun b
+
+-- ---- all blocks that follow
+
+-- What the rest of a file gives, one after the other: subtitles, each with the number of its last
+-- block, and then the end, or the first fault with the block that it names.
+pub data Outcome : Type 0 where
+  ends : Outcome
+  fails : StlFault → ℕ → Outcome
+  gives : SubtitleValue → ℕ → Outcome → Outcome
+
+-- what comes of a block behind which so many may still follow
+abbrev pub outcome_after : ℕ → (Option Begun → Outcome) → Result Step StlFault → Outcome
+outcome_after room next (Err f) = fails f (most_blocks - room)
+outcome_after room next (Ok (Give s)) = gives s (most_blocks - room) (next None)
+outcome_after room next (Ok (More begun)) = next begun
+
+-- What bytes behind the GSI block give, where so many blocks may still follow and a subtitle was
+-- begun
+-- or not. The end inside a subtitle names the last whole block, every other fault the block that
+-- was
+-- begun; one byte after 99,999 blocks is a block too many.
+unfoldable pub outcome_at : ℕ → Option Begun → List ℕ → Outcome
+outcome_at room None [] = ends
+outcome_at room (Some begun) [] = fails fault.Unfinished (most_blocks - room)
+outcome_at zero begun (x ∷ b) = fails fault.TooManyBlocks (most_blocks + 1)
+outcome_at (suc room) begun (x ∷ b) =
+    if nat_lt (length (x ∷ b)) block_size then fails fault.Truncated (most_blocks - room)
+    else outcome_after room (λ next. outcome_at room next (drop block_size (x ∷ b)))
+    (step_at begun (take block_size (x ∷ b)))
+
+-- ---- what a subtitle that was begun keeps
+
+-- each of its blocks, nine at most, brought at most 112 bytes of text
+abbrev pub BegunFits : Option Begun → Type 0
+BegunFits None = Unit {0}
+BegunFits (Some begun) =
+    (length begun.subtitle.text ≤ 112 * begun.blocks) × (begun.blocks ≤ most_of_subtitle)
+
+-- the same behind a block
+abbrev pub StepFits : Step → Type 0
+StepFits (Give s) = Unit {0}
+StepFits (More begun) = BegunFits begun

@@ -1,0 +1,87 @@
+-- The blocks of a subtitle, and the blocks of a file, as relations: they say what a file is and
+-- nothing
+-- of how it is read (EBU Tech 3264, TTI blocks; the rules on one subtitle's blocks are (own)).
+use Rattle.std.specs.Prelude.{◌≡◌, ℕ, ◌+◌, ◌<◌, ◌≤◌, true, List, [], ◌∷◌, length, slice_index}
+use Rattle.std.specs.Prelude.{filter}
+use Rattle.std.specs.List.{flat_map, AllByRecursion}
+use Rattle.stl_file.specs.TimeCode.{frame_of, is_time_code}
+use Rattle.stl_file.specs.Tti.{block_size, most_of_subtitle, first_reserved, last_block}
+use Rattle.stl_file.specs.Tti.{not_cumulative, no_comment, tci_place, tco_place}
+use Rattle.stl_file.specs.Tti.{sgn, sn, ebn, cs, vp, jc, cf, text_of, is_kept}
+use Rattle.stl_file.specs.Subtitle.{SubtitleValue, IsSubtitle}
+
+-- the bytes of blocks, one after the other
+abbrev pub joined : List (List ℕ) → List ℕ
+joined bs = flat_map (λ b. b) bs
+
+-- a block has 128 bytes
+abbrev pub IsBlock : List ℕ → Type 0
+IsBlock b = length b ≡ block_size
+
+-- the four bytes from a place are the time code of a frame
+pub record IsTimeAt (b : List ℕ) (place frame : ℕ) : Type 0 where
+  pub in_range :
+      is_time_code (slice_index b place) (slice_index b (place + 1)) (slice_index b (place + 2))
+      (slice_index b (place + 3))
+      ≡ true
+  pub is :
+      frame
+      ≡ frame_of (slice_index b place) (slice_index b (place + 1)) (slice_index b (place + 2))
+      (slice_index b (place + 3))
+
+-- a block with this subtitle group and subtitle number, and no comment
+pub record BelongsTo (sgn_is sn_is : ℕ) (b : List ℕ) : Type 0 where
+  pub size : length b ≡ block_size
+  pub is_subtitle : cf b ≡ no_comment
+  pub same_sgn : sgn b ≡ sgn_is
+  pub same_sn : sn b ≡ sn_is
+
+-- EBN 00 to EF in all blocks but the last, FF in the last, and one SGN and SN in all; the numbers
+-- of the extension blocks are not compared (own)
+abbrev pub AreLinked : ℕ → ℕ → List (List ℕ) → Type 0
+AreLinked sgn_is sn_is [] = ⊥
+AreLinked sgn_is sn_is (b ∷ []) = BelongsTo sgn_is sn_is b × (ebn b ≡ last_block)
+AreLinked sgn_is sn_is (b ∷ c ∷ bs) =
+    BelongsTo sgn_is sn_is b × (ebn b < first_reserved) × AreLinked sgn_is sn_is (c ∷ bs)
+
+-- what the first block of a subtitle says of it: all but the text of its other blocks
+pub record Begins (s : SubtitleValue) (b : List ℕ) : Type 0 where
+  pub cumulative : cs b ≡ not_cumulative
+  pub sgn_is : sgn b ≡ s.sgn
+  pub sn_is : sn b ≡ s.sn
+  pub vp_is : vp b ≡ s.vp
+  pub jc_is : jc b ≡ s.jc
+  pub tci : IsTimeAt b tci_place s.tci
+  pub tco : IsTimeAt b tco_place s.tco
+  pub times : s.tci < s.tco
+  pub vp_range : (1 ≤ s.vp) × (s.vp ≤ 23)
+  pub jc_range : s.jc ≤ 3
+
+-- these 1 to 9 blocks are the blocks of the subtitle s: the first says its fields, and its text
+-- joins
+-- the text of each
+pub record AreBlocksOf (s : SubtitleValue) (bs : List (List ℕ)) : Type 0 where
+  pub first : List ℕ
+  pub others : List (List ℕ)
+  pub blocks : bs ≡ first ∷ others
+  pub few : length bs ≤ most_of_subtitle
+  pub begins : Begins s first
+  pub linked : AreLinked s.sgn s.sn bs
+  pub text_is : s.text ≡ flat_map text_of bs
+
+-- one list of blocks for each subtitle, in order
+abbrev pub AreBlocksOfEach : List SubtitleValue → List (List (List ℕ)) → Type 0
+AreBlocksOfEach [] [] = Unit {0}
+AreBlocksOfEach [] (g ∷ gs) = ⊥
+AreBlocksOfEach (s ∷ ss) [] = ⊥
+AreBlocksOfEach (s ∷ ss) (g ∷ gs) = AreBlocksOf s g × AreBlocksOfEach ss gs
+
+-- The blocks of a file from a place on where a subtitle may begin, at most so many: where the
+-- passed
+-- blocks are taken out, the blocks of these subtitles are left, one subtitle after the other.
+pub record IsRest (most : ℕ) (bs : List (List ℕ)) (ts : List SubtitleValue) : Type 0 where
+  pub each : AllByRecursion IsBlock bs
+  pub few : length bs ≤ most
+  pub parts : List (List (List ℕ))
+  pub kept : filter is_kept bs ≡ flat_map (λ part. part) parts
+  pub are_of : AreBlocksOfEach ts parts

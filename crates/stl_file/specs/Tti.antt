@@ -1,0 +1,115 @@
+-- A TTI block (EBU Tech 3264), 128 bytes:
+--
+--   0        SGN  subtitle group number
+--   1, 2     SN   subtitle number, low byte first (own)
+--   3        EBN  extension block number: 00 to EF more blocks follow, F0 to FD reserved,
+--                 FE user data, FF the subtitle's last block
+--   4        CS   cumulative status: 0 not cumulative
+--   5 to 8   TCI  time code in: hours, minutes, seconds and frames, in binary
+--   9 to 12  TCO  time code out
+--   13       VP   vertical position: row 1 to 23
+--   14       JC   justification code: 0 unchanged, 1 left, 2 centred, 3 right
+--   15       CF   comment flag: 0 subtitle, 1 comment
+--   16 on    TF   text field, 112 bytes
+--
+-- The functions take the block's bytes; places count from 0.
+use Rattle.std.specs.Prelude.{ℕ, ◌+◌, ◌*◌, Bool, not, ◌==◌, ◌||◌, ◌&&◌, nat_lt}
+use Rattle.std.specs.Prelude.{List, drop, slice_index, [], ◌∷◌, if◌then◌else◌}
+
+-- bytes of a TTI block
+abbrev pub block_size : ℕ
+block_size = 128
+
+-- TTI blocks that a file may have: TNB has five digits
+abbrev pub most_blocks : ℕ
+most_blocks = 99999
+
+-- blocks that a subtitle may have (own)
+abbrev pub most_of_subtitle : ℕ
+most_of_subtitle = 9
+
+-- the first EBN that is reserved: a subtitle goes on behind each EBN below
+abbrev pub first_reserved : ℕ
+first_reserved = 0xF0
+
+-- the EBN of user data
+abbrev pub user_data : ℕ
+user_data = 0xFE
+
+-- the EBN of a subtitle's last block
+abbrev pub last_block : ℕ
+last_block = 0xFF
+
+-- the CS of a subtitle that is not part of a cumulative set
+abbrev pub not_cumulative : ℕ
+not_cumulative = 0x00
+
+-- the CF of a subtitle
+abbrev pub no_comment : ℕ
+no_comment = 0x00
+
+-- the CF of a comment
+abbrev pub is_comment : ℕ
+is_comment = 0x01
+
+-- the byte of a text field that stands for nothing: the text ends before the first one
+abbrev pub unused_space : ℕ
+unused_space = 0x8F
+
+-- SGN, the subtitle group number
+abbrev pub sgn : List ℕ → ℕ
+sgn b = slice_index b 0
+
+-- SN, the subtitle number, low byte first
+abbrev pub sn : List ℕ → ℕ
+sn b = slice_index b 1 + 256 * slice_index b 2
+
+-- EBN, the extension block number
+abbrev pub ebn : List ℕ → ℕ
+ebn b = slice_index b 3
+
+-- CS, the cumulative status
+abbrev pub cs : List ℕ → ℕ
+cs b = slice_index b 4
+
+-- the places of TCI and TCO
+abbrev pub tci_place : ℕ
+tci_place = 5
+
+abbrev pub tco_place : ℕ
+tco_place = 9
+
+-- VP, the vertical position
+abbrev pub vp : List ℕ → ℕ
+vp b = slice_index b 13
+
+-- JC, the justification code
+abbrev pub jc : List ℕ → ℕ
+jc b = slice_index b 14
+
+-- CF, the comment flag
+abbrev pub cf : List ℕ → ℕ
+cf b = slice_index b 15
+
+-- TF, the text field
+abbrev pub tf : List ℕ → List ℕ
+tf b = drop 16 b
+
+-- the bytes before the first unused space
+abbrev pub before_unused : List ℕ → List ℕ
+before_unused [] = []
+before_unused (x ∷ xs) = if x == unused_space then [] else x ∷ before_unused xs
+
+-- the text of a block
+abbrev pub text_of : List ℕ → List ℕ
+text_of b = before_unused (tf b)
+
+-- user data, whatever its CF, and comments are passed over: they are no part of a subtitle
+abbrev pub is_passed : List ℕ → Bool
+is_passed b =
+    (ebn b == user_data)
+    || ((nat_lt (ebn b) first_reserved || (ebn b == last_block)) && (cf b == is_comment))
+
+-- the blocks that are left where the passed ones are taken out
+abbrev pub is_kept : List ℕ → Bool
+is_kept b = not (is_passed b)

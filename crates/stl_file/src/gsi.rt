@@ -1,0 +1,343 @@
+//! GSI blocks (EBU Tech 3264), kept as the bytes that were read.
+
+ghost use Rattle.std.specs.Prelude.{◌≡◌, ◌+◌, ◌<◌, ◌≤◌, IfErr, IfOk, length, slice_index, true};
+ghost use Rattle.stl_file.specs.Fault.{is_format};
+ghost use Rattle.stl_file.specs.Gsi.{IsGsi, field, five_digits, gsi_at, with_counts};
+
+use crate::fault::StlFault;
+use std::marker::Model;
+
+/// A GSI block of any bytes: what a file says of itself. Contracts see it as the list of its 1024
+/// bytes.
+///
+/// The readers give a field's bytes as they stand in the block.
+#[derive(Clone, Copy)]
+pub struct Gsi {
+    bytes: [u8; 1024],
+}
+
+impl Model for Gsi {
+    ghost use Rattle.std.specs.Prelude.{ℕ, List, ◌≡◌, length};
+
+    ghost Value = { List ℕ };
+
+    ghost view = { λ g. g.bytes };
+
+    ghost invariant = { λ g. length g.bytes ≡ 1024 };
+
+    ghost inverse = { λ b. record { bytes = b } };
+}
+
+/// DFC of 25 frames a second.
+const STL_25: [u8; 8] = *b"STL25.01";
+
+/// DFC of 30 frames a second.
+const STL_30: [u8; 8] = *b"STL30.01";
+
+/// CCT of the Latin table.
+const LATIN: [u8; 2] = *b"00";
+
+// The five decimal digits of a count, in ASCII.
+fn five_digits_of(n: u32) -> [u8; 5]
+    requires { n < 100000 }
+    ensures { result ≡ five_digits n }
+{
+    [
+        b'0' + (n / 10000) as u8,
+        b'0' + (n / 1000 % 10) as u8,
+        b'0' + (n / 100 % 10) as u8,
+        b'0' + (n / 10 % 10) as u8,
+        b'0' + (n % 10) as u8,
+    ]
+}
+
+impl Gsi {
+    /// The block of these bytes, whatever they are.
+    pub fn read(bytes: &[u8; 1024]) -> Gsi
+        ensures { result ≡ bytes.now }
+    {
+        Gsi { bytes: *bytes }
+    }
+
+    /// The block's bytes.
+    pub fn bytes(&self) -> &[u8; 1024]
+        ensures value { result.now ≡ self.now }
+        ensures size { length self.now ≡ 1024 }
+    {
+        &self.bytes
+    }
+
+    /// Sets TNB and TNS, the numbers of TTI blocks and of subtitles, to five decimal digits each
+    /// with zeros in front, and keeps all other bytes.
+    pub fn set_counts(&mut self, tnb: u32, tns: u32)
+        requires blocks { tnb < 100000 }
+        requires subtitles { tns < 100000 }
+        ensures { self.new ≡ with_counts tnb tns self.old }
+    {
+        let blocks = five_digits_of(tnb);
+        let subtitles = five_digits_of(tns);
+        let counts = [
+            blocks[0],
+            blocks[1],
+            blocks[2],
+            blocks[3],
+            blocks[4],
+            subtitles[0],
+            subtitles[1],
+            subtitles[2],
+            subtitles[3],
+            subtitles[4],
+        ];
+        self.bytes[238..248].copy_from_slice(&counts);
+    }
+
+    // The block, where a file with it is taken, or its first fault.
+    #[tactic(auto, unfolding(crate::specs::Gsi::gsi_at))]
+    pub(crate) fn checked(self) -> Result<Gsi, StlFault>
+        ensures exact { gsi_at self ≡ result }
+        ensures kind { IfErr result (λ fault. is_format fault ≡ true) }
+        ensures sound { IfOk result (λ g. (g ≡ self) × IsGsi g) }
+    {
+        let dfc = self.dfc();
+        if dfc != STL_25.as_slice() && dfc != STL_30.as_slice() {
+            return Err(StlFault::Format);
+        }
+        if dfc == STL_30.as_slice() {
+            return Err(StlFault::Rate);
+        }
+        let dsc = self.dsc();
+        if dsc != b'1' && dsc != b'2' {
+            return Err(StlFault::Display);
+        }
+        if self.cct() != LATIN.as_slice() {
+            return Err(StlFault::Alphabet);
+        }
+        Ok(self)
+    }
+
+    fn field_at(&self, at: usize, len: usize) -> &[u8]
+        requires { at + len ≤ 1024 }
+        ensures { result.now ≡ field at len self.now }
+    {
+        let (_, behind) = self.bytes.split_at(at);
+        let (front, _) = behind.split_at(len);
+        front
+    }
+
+    /// CPN, the code page number.
+    pub fn cpn(&self) -> &[u8]
+        ensures { result.now ≡ field 0 3 self.now }
+    {
+        self.field_at(0, 3)
+    }
+
+    /// DFC, the disk format code: `STL25.01` in a file that is taken.
+    pub fn dfc(&self) -> &[u8]
+        ensures { result.now ≡ field 3 8 self.now }
+    {
+        self.field_at(3, 8)
+    }
+
+    /// DSC, the display standard code: `1` or `2` in a file that is taken.
+    pub fn dsc(&self) -> u8
+        ensures { result ≡ slice_index self.now 11 }
+    {
+        self.bytes[11]
+    }
+
+    /// CCT, the character code table: `00` in a file that is taken.
+    pub fn cct(&self) -> &[u8]
+        ensures { result.now ≡ field 12 2 self.now }
+    {
+        self.field_at(12, 2)
+    }
+
+    /// LC, the language code.
+    pub fn lc(&self) -> &[u8]
+        ensures { result.now ≡ field 14 2 self.now }
+    {
+        self.field_at(14, 2)
+    }
+
+    /// OPT, the original programme title.
+    pub fn opt(&self) -> &[u8]
+        ensures { result.now ≡ field 16 32 self.now }
+    {
+        self.field_at(16, 32)
+    }
+
+    /// OET, the original episode title.
+    pub fn oet(&self) -> &[u8]
+        ensures { result.now ≡ field 48 32 self.now }
+    {
+        self.field_at(48, 32)
+    }
+
+    /// TPT, the translated programme title.
+    pub fn tpt(&self) -> &[u8]
+        ensures { result.now ≡ field 80 32 self.now }
+    {
+        self.field_at(80, 32)
+    }
+
+    /// TET, the translated episode title.
+    pub fn tet(&self) -> &[u8]
+        ensures { result.now ≡ field 112 32 self.now }
+    {
+        self.field_at(112, 32)
+    }
+
+    /// TN, the translator's name.
+    pub fn tn(&self) -> &[u8]
+        ensures { result.now ≡ field 144 32 self.now }
+    {
+        self.field_at(144, 32)
+    }
+
+    /// TCD, the translator's contact details.
+    pub fn tcd(&self) -> &[u8]
+        ensures { result.now ≡ field 176 32 self.now }
+    {
+        self.field_at(176, 32)
+    }
+
+    /// SLR, the subtitle list reference code.
+    pub fn slr(&self) -> &[u8]
+        ensures { result.now ≡ field 208 16 self.now }
+    {
+        self.field_at(208, 16)
+    }
+
+    /// CD, the creation date, as YYMMDD.
+    pub fn cd(&self) -> &[u8]
+        ensures { result.now ≡ field 224 6 self.now }
+    {
+        self.field_at(224, 6)
+    }
+
+    /// RD, the revision date, as YYMMDD.
+    pub fn rd(&self) -> &[u8]
+        ensures { result.now ≡ field 230 6 self.now }
+    {
+        self.field_at(230, 6)
+    }
+
+    /// RN, the revision number.
+    pub fn rn(&self) -> &[u8]
+        ensures { result.now ≡ field 236 2 self.now }
+    {
+        self.field_at(236, 2)
+    }
+
+    /// TNB, the number of TTI blocks, not compared with the file.
+    pub fn tnb(&self) -> &[u8]
+        ensures { result.now ≡ field 238 5 self.now }
+    {
+        self.field_at(238, 5)
+    }
+
+    /// TNS, the number of subtitles, not compared with the file.
+    pub fn tns(&self) -> &[u8]
+        ensures { result.now ≡ field 243 5 self.now }
+    {
+        self.field_at(243, 5)
+    }
+
+    /// TNG, the number of subtitle groups.
+    pub fn tng(&self) -> &[u8]
+        ensures { result.now ≡ field 248 3 self.now }
+    {
+        self.field_at(248, 3)
+    }
+
+    /// MNC, the most characters in a row.
+    pub fn mnc(&self) -> &[u8]
+        ensures { result.now ≡ field 251 2 self.now }
+    {
+        self.field_at(251, 2)
+    }
+
+    /// MNR, the most rows of a display.
+    pub fn mnr(&self) -> &[u8]
+        ensures { result.now ≡ field 253 2 self.now }
+    {
+        self.field_at(253, 2)
+    }
+
+    /// TCS, the time code status.
+    pub fn tcs(&self) -> u8
+        ensures { result ≡ slice_index self.now 255 }
+    {
+        self.bytes[255]
+    }
+
+    /// TCP, the time code of the programme's start.
+    pub fn tcp(&self) -> &[u8]
+        ensures { result.now ≡ field 256 8 self.now }
+    {
+        self.field_at(256, 8)
+    }
+
+    /// TCF, the time code of the first in-cue.
+    pub fn tcf(&self) -> &[u8]
+        ensures { result.now ≡ field 264 8 self.now }
+    {
+        self.field_at(264, 8)
+    }
+
+    /// TND, the number of disks.
+    pub fn tnd(&self) -> u8
+        ensures { result ≡ slice_index self.now 272 }
+    {
+        self.bytes[272]
+    }
+
+    /// DSN, the disk sequence number.
+    pub fn dsn(&self) -> u8
+        ensures { result ≡ slice_index self.now 273 }
+    {
+        self.bytes[273]
+    }
+
+    /// CO, the country of origin.
+    pub fn co(&self) -> &[u8]
+        ensures { result.now ≡ field 274 3 self.now }
+    {
+        self.field_at(274, 3)
+    }
+
+    /// PUB, the publisher.
+    pub fn publisher(&self) -> &[u8]
+        ensures { result.now ≡ field 277 32 self.now }
+    {
+        self.field_at(277, 32)
+    }
+
+    /// EN, the editor's name.
+    pub fn en(&self) -> &[u8]
+        ensures { result.now ≡ field 309 32 self.now }
+    {
+        self.field_at(309, 32)
+    }
+
+    /// ECD, the editor's contact details.
+    pub fn ecd(&self) -> &[u8]
+        ensures { result.now ≡ field 341 32 self.now }
+    {
+        self.field_at(341, 32)
+    }
+
+    /// The spare bytes.
+    pub fn spare(&self) -> &[u8]
+        ensures { result.now ≡ field 373 75 self.now }
+    {
+        self.field_at(373, 75)
+    }
+
+    /// UDA, the user-defined area.
+    pub fn uda(&self) -> &[u8]
+        ensures { result.now ≡ field 448 576 self.now }
+    {
+        self.field_at(448, 576)
+    }
+}

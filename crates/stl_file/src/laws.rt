@@ -1,0 +1,25 @@
+//! What holds of files.
+
+ghost use Rattle.std.specs.Prelude.{◌≡◌, ◌↔◌, ℕ, List, Ok, take};
+ghost use Rattle.stl_file.specs.File.{IsFile};
+ghost use Rattle.stl_file.specs.NormalForm.{subtitles_of};
+ghost use Rattle.stl_file.specs.Reader.{outcome_of};
+ghost use Rattle.stl_file.specs.Subtitle.{SubtitleValue};
+
+/// Bytes are a file with these subtitles exactly where reading gives these subtitles and no fault.
+///
+/// So what a reader gives is what a file is, and nothing of how it reads has to be known.
+pub fn file_is_what_is_read()
+    ensures { (s g : List ℕ)
+        → (ts : List SubtitleValue)
+        → IsFile s g ts ↔ ((g ≡ take 1024 s) × (subtitles_of (outcome_of s) ≡ Ok ts)) }
+{}
+
+/// A file has one GSI block and one list of subtitles.
+pub fn file_has_one_reading()
+    ensures { (s g h : List ℕ)
+        → (ts us : List SubtitleValue)
+        → IsFile s g ts
+        → IsFile s h us
+        → (g ≡ h) × (ts ≡ us) }
+{}

@@ -1,0 +1,34 @@
+//! EBU Tech 3264 subtitle files: a GSI block and TTI blocks in, subtitles out, and back.
+//!
+//! A file is read block by block from any `sub_io::Source` and refused at its first fault:
+//!
+//! ```text
+//! let mut reader = StlReader::open(&mut source)?;
+//! while let Some(subtitle) = reader.next(&mut source)? {
+//!     write_subtitle(&subtitle, &mut sink)?;
+//! }
+//! ```
+//!
+//! The crate stands on `sub_io` alone. `stl_rows` draws the subtitles as Teletext rows; the other
+//! crates use the records and what a file is, `IsFile` in `specs/File.antt`.
+#![tactic(auto)]
+
+mod fault;
+mod gsi;
+mod laws;
+mod progress;
+mod reader;
+mod step;
+mod subtitle;
+mod subtitle_blocks;
+mod time_code;
+mod tti;
+
+pub use fault::{NormalFault, StlFault};
+pub use gsi::Gsi;
+pub use laws::{file_has_one_reading, file_is_what_is_read};
+pub use progress::Progress;
+pub use reader::StlReader;
+pub use subtitle::Subtitle;
+pub use time_code::TimeCode;
+pub use tti::Tti;

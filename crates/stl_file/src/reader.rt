@@ -1,0 +1,234 @@
+//! Reading a subtitle file from a source, one subtitle after the other (EBU Tech 3264).
+
+ghost use Rattle.std.specs.Prelude.{◌≡◌, ◌≢◌, ◌↔◌, ◌+◌, ◌-◌, ◌<◌, ◌≤◌, if◌then◌else◌, drop};
+ghost use Rattle.std.specs.Prelude.{false, true, None, Some, Ok, Err, IfErr, IfNone, IfOk, IfSome};
+ghost use Rattle.std.specs.Io.KnownBytes.{Consumes};
+ghost use Rattle.sub_io.specs.Reading.{IfTold};
+ghost use Rattle.stl_file.specs.declared.fault.StlFault.TheVariants.{Ended};
+ghost use Rattle.stl_file.specs.Fault.{is_format, is_read};
+ghost use Rattle.stl_file.specs.Gsi.{IsGsi};
+ghost use Rattle.stl_file.specs.Reader.{Leads, block_after, opened_at, FailsReading, HasPlace};
+ghost use Rattle.stl_file.specs.Reader.{Answers, Refuses, RefusesOpening, TakesPassed};
+ghost use Rattle.stl_file.specs.Reader.{TakesSubtitle, progress_after};
+ghost use Rattle.stl_file.specs.Tti.{most_blocks};
+
+use crate::fault::StlFault;
+use crate::gsi::Gsi;
+use crate::progress::Progress;
+use crate::step::{Begun, Step};
+use crate::subtitle::Subtitle;
+use crate::subtitle_blocks::take_block;
+use crate::tti::Tti;
+use std::marker::Model;
+use sub_io::{Source, fill};
+
+/// A reader of a subtitle file. It keeps no source: each call takes the one that the file comes
+/// from.
+///
+/// Contracts see it as its GSI block, the last TTI block that was read or begun, and how far it has
+/// come.
+#[derive(Drop)]
+pub struct StlReader {
+    gsi: Gsi,
+    block: u32,
+    progress: Progress,
+}
+
+impl Model for StlReader {
+    ghost use Rattle.stl_file.specs.Reader.{HasPlace, ReaderValue};
+
+    ghost Value = { ReaderValue };
+
+    ghost view = { λ r. record { gsi = r.gsi; block = r.block; progress = r.progress } };
+
+    ghost invariant = { λ r. HasPlace r.progress r.block };
+}
+
+impl StlReader {
+    ghost use Rattle.stl_file.specs.declared.progress.Progress.TheVariants.{AtEnd, Broken, Reading};
+
+    /// Reads a file's GSI block and takes nothing behind it.
+    ///
+    /// # Errors
+    ///
+    /// In this order: `Read` where the source failed, `Truncated` (fewer than 1024 bytes),
+    /// `Format`, `Rate`, `Display`, `Alphabet`. All are told of block 0.
+    pub fn open<S: Source>(source: &mut S) -> Result<StlReader, StlFault>
+        requires { S.failure_count source.old < u64.MAX }
+        // Where the source tells its bytes and does not fail, they decide the answer.
+        ensures exact { IfTold (S.remaining source.old) (λ bytes.
+            is_read result ≡ false → opened_at bytes ≡ result) }
+        // The GSI block alone is taken.
+        ensures taken { IfOk result (λ reader. IsGsi reader.gsi
+            × Consumes (S.remaining source.old) (S.remaining source.new) reader.gsi) }
+        ensures left { IfTold (S.remaining source.old) (λ bytes.
+            IfOk result (λ reader. S.remaining source.new ≡ Some (drop 1024 bytes))) }
+        ensures start { IfOk result (λ reader.
+            (reader.block ≡ 0) × (reader.progress ≡ Reading)) }
+        // No file begins with the bytes that were refused.
+        ensures refused { IfErr result (λ fault. is_format fault ≡ true →
+            RefusesOpening (S.remaining source.old) (S.remaining source.new) fault) }
+        ensures never { IfErr result (λ fault. fault ≢ Ended) }
+        ensures count { S.failure_count source.new
+            ≡ S.failure_count source.old + (if is_read result then 1 else 0) }
+    {
+        let mut bytes = [0; 1024];
+        let got = fill(source, &mut bytes)?;
+        if got < 1024 {
+            return Err(StlFault::Truncated);
+        }
+        let gsi = Gsi::read(&bytes).checked()?;
+        Ok(StlReader::behind(gsi))
+    }
+
+    // A reader behind this GSI block.
+    pub(crate) fn behind(gsi: Gsi) -> StlReader
+        ensures { result ≡ record { gsi = gsi; block = 0; progress = Reading } }
+    {
+        StlReader {
+            gsi,
+            block: 0,
+            progress: Progress::Reading,
+        }
+    }
+
+    /// The file's GSI block.
+    pub fn gsi(&self) -> Gsi
+        ensures { result ≡ self.now.gsi }
+    {
+        self.gsi
+    }
+
+    /// The last TTI block that was read or begun, counted from 1; 0 before the first.
+    ///
+    /// After `Unfinished` it is the last whole block, after `Read` the block of the byte that was
+    /// asked for.
+    pub fn block(&self) -> u32
+        ensures value { result ≡ self.now.block }
+        ensures place { HasPlace self.now.progress self.now.block }
+    {
+        self.block
+    }
+
+    /// Reads the next subtitle: all its blocks, with comments and user data before and between
+    /// them.
+    ///
+    /// `None` at the end of the file, and again at each later call.
+    ///
+    /// # Errors
+    ///
+    /// The first fault by block: `TooManyBlocks` (a byte behind 99,999 blocks), `Truncated` (fewer
+    /// than 128 bytes), `Extension`, `CommentFlag`; of a block that is not passed over, within a
+    /// subtitle `Sequence`, `TooLong`, else `Cumulative`, `Justify`, `Row`, `Time`, `EmptyTime`.
+    /// `Unfinished` where the file ends within a subtitle, `Read` where the source failed. After
+    /// any of them each call answers `Ended` and takes nothing.
+    pub fn next<S: Source>(&mut self, source: &mut S) -> Result<Option<Subtitle>, StlFault>
+        requires { S.failure_count source.old < u64.MAX }
+        // Where the source tells its bytes and does not fail, they decide the answer, its block and
+        // what is left.
+        ensures exact { IfTold (S.remaining source.old) (λ bytes. is_read result ≡ false →
+            Answers self.old bytes self.new (S.remaining source.new) result) }
+
+        // A subtitle is that of the blocks that were taken, with the passed blocks before and
+        // inside them.
+        ensures subtitle { self.old.progress ≡ Reading → IfOk result (λ found. IfSome found
+            (TakesSubtitle self.old.block self.new.block
+            (S.remaining source.old) (S.remaining source.new))) }
+        // `None` comes where passed blocks alone are left.
+        ensures none { self.old.progress ≡ Reading → IfOk result (λ found. IfNone found
+            (TakesPassed self.old.block self.new.block
+            (S.remaining source.old) (S.remaining source.new))) }
+        // A refusal has no file behind it.
+        ensures refused { self.old.progress ≡ Reading → IfErr result (λ fault.
+            is_format fault ≡ true → Refuses self.old.block self.new.block
+            (S.remaining source.old) (S.remaining source.new) fault) }
+        // A source that failed failed at this block.
+        ensures failed { self.old.progress ≡ Reading → is_read result ≡ true →
+            FailsReading self.old.block self.new.block
+            (S.remaining source.old) (S.remaining source.new) }
+
+        ensures progress { self.new.progress ≡ progress_after self.old.progress result }
+        ensures place { HasPlace self.new.progress self.new.block }
+        ensures gsi { self.new.gsi ≡ self.old.gsi }
+        // Behind the end and behind a fault nothing is taken, and the reader stays as it is.
+        ensures at_end { self.old.progress ≡ AtEnd →
+            (result ≡ Ok None) × (self.new ≡ self.old) × (source.new ≡ source.old) }
+        ensures ended { (self.old.progress ≡ Broken) ↔ (result ≡ Err Ended) }
+        ensures stays { self.old.progress ≡ Broken →
+            (self.new ≡ self.old) × (source.new ≡ source.old) }
+        ensures count { S.failure_count source.new
+            ≡ S.failure_count source.old + (if is_read result then 1 else 0) }
+    {
+        let mut block = match self.progress {
+            Progress::Reading => self.block,
+            Progress::AtEnd => return Ok(None),
+            Progress::Broken => return Err(StlFault::Ended),
+        };
+        let result = read_subtitle(&mut block, source);
+        self.block = match &result {
+            Ok(_) => block,
+            Err(fault) => block_of(block, fault),
+        };
+        self.progress = match &result {
+            Ok(Some(_)) => Progress::Reading,
+            Ok(None) => Progress::AtEnd,
+            Err(_) => Progress::Broken,
+        };
+        result
+    }
+}
+
+// The next subtitle of a file, behind so many blocks.
+fn read_subtitle<S: Source>(block: &mut u32, source: &mut S) -> Result<Option<Subtitle>, StlFault>
+    requires few { block.old ≤ most_blocks }
+    requires count { S.failure_count source.old < u64.MAX }
+    ensures exact { IfTold (S.remaining source.old) (λ bytes. is_read result ≡ false →
+        Leads block.old bytes block.new (S.remaining source.new) result) }
+    ensures subtitle { IfOk result (λ found. IfSome found (TakesSubtitle block.old block.new
+        (S.remaining source.old) (S.remaining source.new))) }
+    ensures none { IfOk result (λ found. IfNone found (TakesPassed block.old block.new
+        (S.remaining source.old) (S.remaining source.new))) }
+    ensures refused { IfErr result (λ fault. is_format fault ≡ true →
+        Refuses block.old (block_after block.new fault)
+        (S.remaining source.old) (S.remaining source.new) fault) }
+    ensures failed { is_read result ≡ true →
+        FailsReading block.old (block.new + 1) (S.remaining source.old) (S.remaining source.new) }
+    ensures never { IfErr result (λ fault. fault ≢ Ended) }
+    ensures few { block.new ≤ most_blocks }
+    ensures count { S.failure_count source.new
+        ≡ S.failure_count source.old + (if is_read result then 1 else 0) }
+{
+    let mut begun: Option<Begun> = None;
+    loop {
+        let mut bytes = [0; 128];
+        let got = fill(source, &mut bytes)?;
+        if got == 0 {
+            return match begun {
+                None => Ok(None),
+                Some(_) => Err(StlFault::Unfinished),
+            };
+        }
+        if *block == 99999 {
+            return Err(StlFault::TooManyBlocks);
+        }
+        *block += 1;
+        if got < 128 {
+            return Err(StlFault::Truncated);
+        }
+        match take_block(begun, &Tti::read(&bytes))? {
+            Step::Give(subtitle) => return Ok(Some(subtitle)),
+            Step::More(next) => begun = next,
+        }
+    }
+}
+
+// The block that a fault names, behind so many blocks.
+fn block_of(block: u32, fault: &StlFault) -> u32
+    requires { block ≤ most_blocks }
+    ensures { block_after block fault.now ≡ result }
+{
+    match fault {
+        StlFault::TooManyBlocks | StlFault::Read => block + 1,
+        _ => block,
+    }
+}

@@ -1,0 +1,262 @@
+//! Subtitles, with their text in the file's code (EBU Tech 3264).
+
+ghost use Rattle.std.specs.Prelude.{◌≡◌, ◌+◌, ◌≤◌, ◌++◌, length, true, ◌==◌, ◌&&◌, IfErr, IfOk};
+ghost use Rattle.std.specs.Option.{SomeIff};
+ghost use Rattle.stl_file.specs.Fault.{is_format, is_of_block};
+ghost use Rattle.stl_file.specs.Reading.{first_at, time_at};
+ghost use Rattle.stl_file.specs.Subtitle.{IsSubtitle, SubtitleValue, has_no_unused};
+ghost use Rattle.stl_file.specs.Tti.{before_unused, sgn, sn, text_of};
+
+use crate::fault::StlFault;
+use crate::time_code::TimeCode;
+use crate::tti::Tti;
+use arrayvec::ArrayVec;
+use std::marker::Model;
+
+/// A subtitle: what one record of a file says, and never more than that.
+///
+/// Its time code in is before its time code out, its row is 1 to 23, its justification code 0 to 3,
+/// and its text has at most 1008 bytes and no unused space (8F).
+#[derive(Drop)]
+pub struct Subtitle {
+    sgn: u8,
+    sn: u16,
+    tci: TimeCode,
+    tco: TimeCode,
+    vp: u8,
+    jc: u8,
+    text: ArrayVec<u8, 1008>,
+}
+
+impl Model for Subtitle {
+    ghost use Rattle.std.specs.Prelude.{◌≡◌, ◌≤◌, ◌<◌, length};
+    ghost use Rattle.stl_file.specs.Subtitle.{SubtitleValue, IsSubtitle};
+
+    ghost Value = { SubtitleValue };
+
+    ghost view = { λ s. record {
+      sgn = s.sgn;
+      sn = s.sn;
+      tci = s.tci;
+      tco = s.tco;
+      vp = s.vp;
+      jc = s.jc;
+      text = s.text.items;
+    } };
+
+    ghost invariant = { λ s. IsSubtitle (record {
+      sgn = s.sgn;
+      sn = s.sn;
+      tci = s.tci;
+      tco = s.tco;
+      vp = s.vp;
+      jc = s.jc;
+      text = s.text.items;
+    }) };
+}
+
+impl Subtitle {
+    /// The subtitle of these fields.
+    ///
+    /// `None` where the time code in is not before the time code out, the row is not 1 to 23, the
+    /// justification code is over 3, or the text has an unused space (8F) or more than 1008 bytes.
+    pub fn new(
+        sgn: u8,
+        sn: u16,
+        tci: TimeCode,
+        tco: TimeCode,
+        vp: u8,
+        jc: u8,
+        text: &[u8],
+    ) -> Option<Subtitle>
+        ensures { let s : SubtitleValue = record {
+          sgn = sgn;
+          sn = sn;
+          tci = tci;
+          tco = tco;
+          vp = vp;
+          jc = jc;
+          text = text.now;
+        } in SomeIff result (IsSubtitle s) s }
+    {
+        if tci.frame() >= tco.frame() || vp < 1 || vp > 23 || jc > 3 {
+            return None;
+        }
+        if text.len() > 1008 || !is_text(text) {
+            return None;
+        }
+        let mut kept = ArrayVec::new();
+        push_all(&mut kept, text);
+        Some(Subtitle {
+            sgn,
+            sn,
+            tci,
+            tco,
+            vp,
+            jc,
+            text: kept,
+        })
+    }
+
+    /// SGN, the subtitle group number.
+    pub fn sgn(&self) -> u8
+        ensures { result ≡ self.now.sgn }
+    {
+        self.sgn
+    }
+
+    /// SN, the subtitle number.
+    pub fn sn(&self) -> u16
+        ensures { result ≡ self.now.sn }
+    {
+        self.sn
+    }
+
+    /// TCI, the time code of the first frame at which the subtitle is due.
+    pub fn tci(&self) -> TimeCode
+        ensures value { result ≡ self.now.tci }
+        ensures is { IsSubtitle self.now }
+    {
+        self.tci
+    }
+
+    /// TCO, the time code of the first frame behind it at which the subtitle is no longer due.
+    pub fn tco(&self) -> TimeCode
+        ensures value { result ≡ self.now.tco }
+        ensures is { IsSubtitle self.now }
+    {
+        self.tco
+    }
+
+    /// VP, the vertical position: the row of the first line, 1 to 23.
+    pub fn vp(&self) -> u8
+        ensures value { result ≡ self.now.vp }
+        ensures is { IsSubtitle self.now }
+    {
+        self.vp
+    }
+
+    /// JC, the justification code: 0 unchanged, 1 left, 2 centred, 3 right.
+    pub fn jc(&self) -> u8
+        ensures value { result ≡ self.now.jc }
+        ensures is { IsSubtitle self.now }
+    {
+        self.jc
+    }
+
+    /// The text of all its blocks, in the file's code: at most 1008 bytes.
+    pub fn text(&self) -> &[u8]
+        ensures value { result.now ≡ self.now.text }
+        ensures is { IsSubtitle self.now }
+    {
+        self.text.as_slice()
+    }
+
+    // The subtitle that a first block begins, with the text of that block.
+    #[tactic(auto, unfolding(crate::specs::Reading::first_at))]
+    pub(crate) fn of_first(block: &Tti) -> Result<Subtitle, StlFault>
+        ensures exact { first_at block.now ≡ result }
+        ensures room { IfOk result (λ s. length s.text ≤ 112) }
+        ensures kind { IfErr result (λ fault. is_format fault ≡ true) }
+        ensures own { IfErr result (λ fault. is_of_block fault ≡ true) }
+    {
+        if block.cs() != 0 {
+            return Err(StlFault::Cumulative);
+        }
+        let jc = block.jc();
+        if jc > 3 {
+            return Err(StlFault::Justify);
+        }
+        let vp = block.vp();
+        if vp < 1 || vp > 23 {
+            return Err(StlFault::Row);
+        }
+        let tci = time_of(block, 5)?;
+        let tco = time_of(block, 9)?;
+        if tci.frame() >= tco.frame() {
+            return Err(StlFault::EmptyTime);
+        }
+        let mut text = ArrayVec::new();
+        push_text(&mut text, block.tf());
+        Ok(Subtitle {
+            sgn: block.sgn(),
+            sn: block.sn(),
+            tci,
+            tco,
+            vp,
+            jc,
+            text,
+        })
+    }
+
+    // Adds the text of a further block.
+    pub(crate) fn extend(&mut self, block: &Tti)
+        requires { length self.old.text + 112 ≤ 1008 }
+        ensures text { self.new ≡ record self.old { text = self.old.text ++ text_of block.now } }
+        ensures room { length self.new.text ≤ length self.old.text + 112 }
+    {
+        push_text(&mut self.text, block.tf());
+    }
+
+    // Whether a block has the subtitle's group and number.
+    pub(crate) fn is_of(&self, block: &Tti) -> bool
+        ensures { result ≡ ((sgn block.now == self.now.sgn) && (sn block.now == self.now.sn)) }
+    {
+        block.sgn() == self.sgn && block.sn() == self.sn
+    }
+}
+
+// The time code at a place of a block.
+#[tactic(auto, unfolding(crate::specs::Reading::time_at))]
+fn time_of(block: &Tti, place: usize) -> Result<TimeCode, StlFault>
+    requires { place + 4 ≤ 128 }
+    ensures exact { time_at block.now place ≡ result }
+    ensures kind { IfErr result (λ fault. is_format fault ≡ true) }
+    ensures own { IfErr result (λ fault. is_of_block fault ≡ true) }
+{
+    let bytes = block.write();
+    let time = TimeCode::new(
+        bytes[place],
+        bytes[place + 1],
+        bytes[place + 2],
+        bytes[place + 3],
+    );
+    time.ok_or(StlFault::Time)
+}
+
+// Whether a text has no unused space.
+#[tactic(auto, using(crate::proofs::Text::no_unused_more, crate::proofs::Text::no_unused_not))]
+fn is_text(text: &[u8]) -> bool
+    ensures { result ≡ has_no_unused text.now }
+{
+    for byte in text {
+        if *byte == 0x8f {
+            return false;
+        }
+    }
+    true
+}
+
+// Adds the bytes of a text field before the first unused space.
+fn push_text(text: &mut ArrayVec<u8, 1008>, field: &[u8])
+    requires { length text.old.items + length field.now ≤ 1008 }
+    ensures items { text.new.items ≡ text.old.items ++ before_unused field.now }
+    ensures room { length text.new.items ≤ length text.old.items + length field.now }
+    ensures clean { has_no_unused text.old.items ≡ true → has_no_unused text.new.items ≡ true }
+{
+    for byte in field {
+        if *byte == 0x8f {
+            return;
+        }
+        text.push(*byte);
+    }
+}
+
+// Adds bytes to a text.
+fn push_all(text: &mut ArrayVec<u8, 1008>, bytes: &[u8])
+    requires { length text.old.items + length bytes.now ≤ 1008 }
+    ensures { text.new.items ≡ text.old.items ++ bytes.now }
+{
+    let added = text.try_extend_from_slice(bytes);
+    prove!(added.is_ok());
+}

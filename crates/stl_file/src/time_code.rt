@@ -1,0 +1,72 @@
+//! Time codes of a day at 25 frames a second (EBU Tech 3264, TTI block, fields TCI and TCO).
+
+ghost use Rattle.std.specs.Prelude.{◌≡◌, ◌<◌, None, Some, if◌then◌else◌};
+ghost use Rattle.stl_file.specs.TimeCode.{day, frame_of, is_time_code, time_bytes};
+
+use std::marker::Model;
+
+/// A time code of a day at 25 frames a second. Contracts see it as the frame of the day.
+#[derive(Clone, Copy, Debug, PartialEq, Eq, PartialOrd, Ord)]
+pub struct TimeCode {
+    frame: u32,
+}
+
+impl Model for TimeCode {
+    ghost use Rattle.std.specs.Prelude.{ℕ, ◌<◌};
+    ghost use Rattle.stl_file.specs.TimeCode.{day};
+
+    ghost Value = { ℕ };
+
+    ghost view = { λ t. t.frame };
+
+    ghost invariant = { λ t. t.frame < day };
+
+    ghost inverse = { λ n. record { frame = n } };
+}
+
+impl TimeCode {
+    /// The time code of these hours, minutes, seconds and frames.
+    ///
+    /// `None` where the hours are over 23, the minutes or seconds over 59 or the frames over 24.
+    pub fn new(hours: u8, minutes: u8, seconds: u8, frames: u8) -> Option<TimeCode>
+        ensures { (if is_time_code hours minutes seconds frames
+            then Some (frame_of hours minutes seconds frames) else None) ≡ result }
+    {
+        if hours < 24 && minutes < 60 && seconds < 60 && frames < 25 {
+            let minute = hours as u32 * 60 + minutes as u32;
+            let frame = (minute * 60 + seconds as u32) * 25 + frames as u32;
+            Some(TimeCode { frame })
+        } else {
+            None
+        }
+    }
+
+    /// The frame of the day, 0 to 2,159,999.
+    pub fn frame(self) -> u32
+        ensures value { result ≡ self }
+        ensures range { result < day }
+    {
+        self.frame
+    }
+
+    /// The time code of a frame of the day.
+    pub fn of_frame(frame: u32) -> TimeCode
+        requires { frame < day }
+        ensures { result ≡ frame }
+    {
+        TimeCode { frame }
+    }
+
+    /// Hours, minutes, seconds and frames, in binary as in a TTI block.
+    pub fn to_bytes(self) -> [u8; 4]
+        ensures { result ≡ time_bytes self }
+    {
+        let frame = self.frame;
+        [
+            (frame / 90000) as u8,
+            (frame / 1500 % 60) as u8,
+            (frame / 25 % 60) as u8,
+            (frame % 25) as u8,
+        ]
+    }
+}
