@@ -1,0 +1,74 @@
+-- The lines that the program prints. Each ends with one newline.
+use Rattle.std.specs.Prelude.{ℕ, ◌/◌, ◌%◌, ◌==◌, ◌&&◌, nat_le, List, [], ◌∷◌, ◌++◌}
+use Rattle.std.specs.Prelude.{codes, decimal, map, length}
+use Rattle.std.specs.Prelude.{Bool, if◌then◌else◌, slice_index}
+use Rattle.ttx_packet.specs.Parity.{is_odd, code_of}
+use Rattle.ttx_packet.specs.PageHeader.{c4, c5, c6, c7, c8, c9, c10, c11, c12, c13, c14}
+use Rattle.ttx_packet.specs.declared.Header.{Header}
+use Rattle.subttx.specs.declared.request.UsageFault.{UsageFault}
+use Rattle.subttx.specs.declared.request.UsageFault.TheVariants as fault
+
+-- The line of a fault of the words, or of the program itself (own).
+abbrev pub usage_line : UsageFault → List ℕ
+usage_line fault.Words = codes "usage 0 Words\n"
+usage_line fault.BadHex = codes "usage 2 BadHex\n"
+usage_line fault.Open = codes "fault 90 Open\n"
+usage_line fault.Memory = codes "fault 91 Memory\n"
+
+-- The character of a cell's code: the codes 20 to 7E as ASCII, any other as a full stop.
+abbrev pub glyph : ℕ → ℕ
+glyph code = if nat_le 0x20 code && nat_le code 0x7E then code else 0x2E
+
+-- The character of a text byte: that of its code, or `?` where its parity is even.
+abbrev pub text_glyph : ℕ → ℕ
+text_glyph byte = if is_odd byte then glyph (code_of byte) else 0x3F
+
+-- One upper case hexadecimal digit.
+abbrev pub hex_digit : ℕ → ℕ
+hex_digit n = slice_index (codes "0123456789ABCDEF") n
+
+-- Two upper case hexadecimal digits.
+unfoldable pub hex_two : ℕ → List ℕ
+hex_two n = hex_digit (n / 16) ∷ hex_digit (n % 16) ∷ []
+
+-- Four upper case hexadecimal digits.
+abbrev pub hex_four : ℕ → List ℕ
+hex_four n = hex_two (n / 256) ++ hex_two (n % 256)
+
+-- Magazines are shown as 1 to 8: number 0 is magazine 8.
+abbrev pub shown_magazine : ℕ → ℕ
+shown_magazine magazine = if magazine == 0 then 8 else magazine
+
+abbrev pub address_line : ℕ → ℕ → List ℕ
+address_line magazine packet_number = codes "magazine " ++ decimal (shown_magazine magazine)
+    ++ codes " packet " ++ decimal packet_number ++ codes "\n"
+
+-- A control bit's name behind a space, where the bit is set.
+abbrev pub marked : Bool → List ℕ → List ℕ
+marked bit name = if bit then name else []
+
+-- The control bits that are set, rising, each behind a space.
+abbrev pub control_names : Header → List ℕ
+control_names h = marked (c4 h) (codes " C4") ++ marked (c5 h) (codes " C5")
+    ++ marked (c6 h) (codes " C6") ++ marked (c7 h) (codes " C7") ++ marked (c8 h) (codes " C8")
+    ++ marked (c9 h) (codes " C9") ++ marked (c10 h) (codes " C10")
+    ++ marked (c11 h) (codes " C11") ++ marked (c12 h) (codes " C12")
+    ++ marked (c13 h) (codes " C13") ++ marked (c14 h) (codes " C14")
+
+-- The same, or ` none` where no bit is set.
+abbrev pub control_list : Header → List ℕ
+control_list h =
+    if length (control_names h) == 0 then codes " none" else control_names h
+
+-- Page number and subcode in hexadecimal.
+abbrev pub page_and_subcode : Header → List ℕ
+page_and_subcode h = codes "page " ++ hex_two h.page ++ codes " subcode "
+    ++ hex_four h.subcode
+
+-- What a page header says.
+abbrev pub header_line : Header → List ℕ
+header_line h = page_and_subcode h ++ codes " control" ++ control_list h ++ codes "\n"
+
+-- Text bytes between bars.
+abbrev pub text_line : List ℕ → List ℕ
+text_line bytes = codes "text |" ++ map text_glyph bytes ++ codes "|\n"

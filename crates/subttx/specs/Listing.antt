@@ -1,0 +1,70 @@
+-- What the commands print, whole, and how they end.
+use Rattle.std.specs.Prelude.{◌≡◌, ◌≢◌, ℕ, ◌+◌, ◌≤◌, ◌==◌, nat_le, List, ◌++◌, codes, drop}
+use Rattle.std.specs.Prelude.{Option, Some, None, option_map, if◌then◌else◌}
+use Rattle.ttx_packet.specs.PacketAddress.{address, address_pair}
+use Rattle.ttx_packet.specs.PageHeader.{header}
+use Rattle.ttx_packet.specs.declared.Header.{Header}
+use Rattle.std.specs.Io.KnownBytes.{Appends}
+use Rattle.sub_io.specs.Device.{AppendsPrefix}
+use Rattle.subttx.specs.Lines.{address_line, header_line, text_line}
+use Rattle.subttx.specs.declared.request.Request.{Request}
+use Rattle.subttx.specs.declared.request.Request.TheVariants as ask
+use Rattle.subttx.specs.declared.status.Status.{Status}
+use Rattle.subttx.specs.declared.status.Status.TheVariants.{Done, Refused, Fault}
+
+-- A text and the status that goes with it where all of it was printed.
+pub record Listing : Type 0 where
+  pub text : List ℕ
+  pub status : Status
+
+abbrev pub done : List ℕ → Listing
+done text = record { text = text; status = Done }
+
+abbrev pub refused : List ℕ → Listing
+refused line = record { text = line; status = Refused }
+
+-- Packet X/0 (EN 300 706, page header): its eight coded bytes, then 32 text bytes.
+abbrev pub header_listing : ℕ → List ℕ → Option Header → Listing
+header_listing magazine packet None = refused (codes "refused 4 BadHeader\n")
+header_listing magazine packet (Some h) =
+    done (address_line magazine 0 ++ header_line h ++ text_line (drop 10 packet))
+
+-- Packets X/1 to X/31 (EN 300 706): the rows 1 to 24 are 40 text bytes, the others are not text.
+abbrev pub row_listing : ℕ → ℕ → List ℕ → Listing
+row_listing magazine packet_number packet = if nat_le packet_number 24
+    then done (address_line magazine packet_number ++ text_line (drop 2 packet))
+    else done (address_line magazine packet_number)
+
+-- The same by the magazine and the packet number that a packet has.
+abbrev pub addressed_listing : Option (ℕ × ℕ) → List ℕ → Listing
+addressed_listing None packet = refused (codes "refused 3 BadAddress\n")
+addressed_listing (Some a) packet = if a.1 == 0
+    then header_listing a.0 packet (header packet)
+    else row_listing a.0 a.1 packet
+
+-- What `packet` prints of the 42 bytes of a packet.
+abbrev pub packet_listing : List ℕ → Listing
+packet_listing packet = addressed_listing (option_map address_pair (address packet)) packet
+
+-- The status as the number that the system gets.
+abbrev pub exit_code : Status → ℕ
+exit_code Done = 0
+exit_code Refused = 1
+exit_code Fault = 2
+
+-- The listing was printed whole and gives the status, or the sink failed: then it has a prefix
+-- of the text, and the status is `Fault`.
+abbrev pub Prints : Option (List ℕ) → Option (List ℕ) → Listing → Status → Type 0
+Prints old new listing Done = Appends old new listing.text × (listing.status ≡ Done)
+Prints old new listing Refused = Appends old new listing.text × (listing.status ≡ Refused)
+Prints old new listing Fault = AppendsPrefix old new listing.text
+
+-- A device's failures rise by one at most, and not where the status is another than `Fault`.
+pub record CountsFault (old : ℕ) (status : Status) (new : ℕ) : Type 0 where
+  pub kept : status ≢ Fault → new ≡ old
+  pub risen : old ≤ new
+  pub once : new ≤ old + 1
+
+-- The fact holds of the bytes of a `packet` request.
+abbrev pub ForPacket : Request → (List ℕ → Type 0) → Type 0
+ForPacket (ask.Packet bytes) P = P bytes

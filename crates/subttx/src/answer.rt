@@ -1,0 +1,80 @@
+//! Does what a request asks for, and prints it.
+//!
+//! A file of `answer/` has each command's work; here a request is handed to its own, and the
+//! lines of refused words are printed.
+
+mod packet;
+
+ghost use Rattle.std.specs.Prelude.{◌≡◌, ◌≢◌, ◌+◌, ◌<◌, ◌≤◌, false};
+ghost use Rattle.std.specs.Io.KnownBytes.{Appends};
+ghost use Rattle.sub_io.specs.Device.{AppendsPrefix};
+ghost use Rattle.subttx.specs.Lines.{usage_line};
+ghost use Rattle.subttx.specs.Listing.{CountsFault, ForPacket, Prints, packet_listing};
+ghost use Rattle.subttx.specs.Requests.{names_file, names_first, names_second};
+
+use crate::lines::usage_text;
+use crate::request::{Request, UsageFault};
+use crate::status::Status;
+use packet::show_packet;
+use std::alloc::Global;
+use sub_io::{Sink, Source, put_all};
+
+/// Answers a request that `Request::parse` gave.
+///
+/// `first` is the subtitle file or the only input, `second` the PES file of a check, `file` the
+/// file to be written and `out` the standard output. Devices that the request does not name are
+/// not touched. `Fault` where a device failed; what was printed until then stays.
+pub fn answer<S: Source, T: Source, F: Sink, K: Sink>(
+    _alloc: Global,
+    request: &Request,
+    first: &mut S,
+    second: &mut T,
+    file: &mut F,
+    out: &mut K,
+) -> Status
+    requires first { S.failure_count first.old < u64.MAX }
+    requires second { T.failure_count second.old < u64.MAX }
+    requires file { F.failure_count file.old < u64.MAX }
+    requires out { K.failure_count out.old < u64.MAX }
+
+    // `packet` prints the text of the 42 bytes, and reads no device.
+    ensures packet { ForPacket request.now (λ bytes.
+        Prints (K.contents out.old) (K.contents out.new) (packet_listing bytes) result) }
+
+    // Devices that are not named stay as they are.
+    ensures first { names_first request.now ≡ false → first.new ≡ first.old }
+    ensures second { names_second request.now ≡ false → second.new ≡ second.old }
+    ensures file { names_file request.now ≡ false → file.new ≡ file.old }
+
+    // Each device fails once at most, and not where the status is another than `Fault`.
+    ensures first_count { CountsFault (S.failure_count first.old) result (S.failure_count first.new) }
+    ensures second_count { CountsFault (T.failure_count second.old) result (T.failure_count second.new) }
+    ensures file_count { CountsFault (F.failure_count file.old) result (F.failure_count file.new) }
+    ensures out_count { CountsFault (K.failure_count out.old) result (K.failure_count out.new) }
+
+    // The status is `Fault` only where a device failed.
+    ensures fault { result ≡ Status.Fault
+        → S.failure_count first.old + T.failure_count second.old + F.failure_count file.old
+        + K.failure_count out.old
+        < S.failure_count first.new + T.failure_count second.new + F.failure_count file.new
+        + K.failure_count out.new }
+{
+    match request {
+        Request::Packet { bytes } => show_packet(bytes, out),
+    }
+}
+
+/// Prints the line of a fault of the words, or of a file that can't be opened.
+///
+/// The status is `Fault`, also where `out` fails and takes a prefix of the line.
+pub fn say<K: Sink>(fault: &UsageFault, out: &mut K) -> Status
+    requires { K.failure_count out.old < u64.MAX }
+    ensures status { result ≡ Status.Fault }
+    ensures whole { K.failure_count out.new ≡ K.failure_count out.old
+        → Appends (K.contents out.old) (K.contents out.new) (usage_line fault.now) }
+    ensures prefix { AppendsPrefix (K.contents out.old) (K.contents out.new) (usage_line fault.now) }
+    ensures count { CountsFault (K.failure_count out.old) result (K.failure_count out.new) }
+{
+    let _ = put_all(out, usage_text(fault));
+    Status::Fault
+}

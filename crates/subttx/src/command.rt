@@ -1,0 +1,51 @@
+//! The command line, as `clap` reads it: one level of subcommands, of which one is required.
+//!
+//! Each command is a function here and an `App` of specs/Commands, and a line of
+//! `subttx_command`. Help and versions are not offered: `clap` refuses the words for them.
+ghost use Rattle.std.specs.Prelude.{◌≡◌, IfOk, false};
+ghost use Rattle.clap.specs.Words.{app_of, with_rule};
+ghost use Rattle.clap.specs.declared.builder.command.Command.TheViews.{out-Command};
+ghost use Rattle.subttx.specs.Commands.{packet_app, required_rule, subttx_app};
+
+use clap::{Arg, Command};
+use std::alloc::{AllocError, Global};
+
+// Adds an argument that has to be there.
+fn with_required<'a>(
+    command: Command<'a>,
+    alloc: Global,
+    id: &'a str,
+) -> Result<Command<'a>, AllocError>
+    ensures app { IfOk result (λ c.
+        app_of c ≡ with_rule (app_of command.entry) (required_rule id.entry.now)) }
+    ensures local { (out-Command command.entry).has_globals ≡ false
+        → IfOk result (λ c. (out-Command c).has_globals ≡ false) }
+{
+    command.arg(Arg::new(alloc, id).required(true))
+}
+
+// `packet HEX`
+fn packet_command<'a>(alloc: Global) -> Result<Command<'a>, AllocError>
+    ensures app { IfOk result (λ c. app_of c ≡ packet_app) }
+    ensures local { IfOk result (λ c. (out-Command c).has_globals ≡ false) }
+{
+    with_required(Command::new(alloc, "packet"), alloc, "hex")
+}
+
+/// The program and its commands.
+///
+/// # Errors
+///
+/// Want of memory alone.
+pub fn subttx_command<'a>(alloc: Global) -> Result<Command<'a>, AllocError>
+    ensures app { IfOk result (λ c. app_of c ≡ subttx_app) }
+    ensures local { IfOk result (λ c. (out-Command c).has_globals ≡ false) }
+{
+    let packet = packet_command(alloc)?;
+    Command::new(alloc, "subttx")
+        .disable_help_flag(true)
+        .disable_help_subcommand(true)
+        .disable_version_flag(true)
+        .subcommand_required(true)
+        .subcommand(packet)
+}

@@ -1,0 +1,120 @@
+//! What the words of the command line ask for.
+ghost use Rattle.std.specs.Prelude.{◌≡◌, ◌≢◌, [], Err, IfErr, IfOk, OnOk, MatchResult, true};
+ghost use Rattle.clap.specs.Words.{fault_of, found_of, rows_of, subcommand_of};
+ghost use Rattle.clap.specs.Words.{subcommand_rows_of, takes};
+ghost use Rattle.subttx.specs.Commands.{subttx_app, texts_of};
+ghost use Rattle.subttx.specs.Requests.{Holds, packet_fault, text_of};
+ghost use Rattle.std.specs.Prelude.{None, Some};
+
+use crate::command::subttx_command;
+use clap::ArgMatches;
+use clap::error::ErrorKind;
+use std::alloc::Global;
+use thiserror::Error;
+
+/// Why the program can't do what its words ask for, in the order in which faults are told.
+///
+/// The texts are for people; what the program prints are the lines of `answer::say`.
+#[derive(Debug, Drop, Error)]
+pub enum UsageFault {
+    /// 0: the words are not those of a command, or ask for help or a version.
+    #[error("the words are not those of a command")]
+    Words,
+    /// 2: HEX is not 84 hexadecimal digits.
+    #[error("the packet is not 84 hexadecimal digits")]
+    BadHex,
+    /// 91: memory ran out.
+    #[error("memory ran out")]
+    Memory,
+    /// 90: a file can't be opened or created. `Request::parse` never answers it.
+    #[error("a file can't be opened")]
+    Open,
+}
+
+/// What to do: a variant for each command, with the values of its words.
+#[derive(Drop)]
+pub enum Request {
+    /// `packet HEX`: shows one packet.
+    Packet {
+        /// The 42 bytes of the packet, in the order of EN 300 706: bit 1 is the lowest.
+        bytes: [u8; 42],
+    },
+}
+
+impl Request {
+    ghost use Rattle.subttx.specs.Requests.{AsksFor, IsFaultOf};
+
+    /// Reads the words, of which the first is the program's name.
+    ///
+    /// What it gives are the matches that `clap` has for the words, defaults included, read by
+    /// the rules of their command.
+    ///
+    /// # Errors
+    ///
+    /// `Words` where `clap` refuses the words. Then the first fault of the command's arguments:
+    /// `BadHex`. `Memory` where memory ran out before that was known.
+    pub fn parse<'a>(alloc: Global, words: &'a [&'a str]) -> Result<Request, UsageFault>
+        ensures request { IfOk result (AsksFor (texts_of words.now)) }
+        ensures fault { IfErr result (IsFaultOf (texts_of words.now)) }
+        ensures passes { takes subttx_app (texts_of words.now) ≡ true
+            → result ≢ Err UsageFault.Words }
+    {
+        let matches = matches_of(alloc, words)?;
+        let Some((name, inner)) = matches.subcommand() else {
+            return Err(UsageFault::Words);
+        };
+        if name == "packet" {
+            packet_request(inner)
+        } else {
+            Err(UsageFault::Words)
+        }
+    }
+}
+
+// The matches that `clap` gives for the words.
+fn matches_of<'a>(alloc: Global, words: &'a [&'a str]) -> Result<ArgMatches<'a>, UsageFault>
+    ensures subcommand { IfOk result (λ m.
+        subcommand_rows_of m ≡ subcommand_of subttx_app (texts_of words.now)) }
+    ensures taken { OnOk result (fault_of subttx_app (texts_of words.now) ≡ []) }
+    ensures words { result ≡ Err UsageFault.Words
+        → fault_of subttx_app (texts_of words.now) ≢ [] }
+    ensures passes { takes subttx_app (texts_of words.now) ≡ true
+        → result ≢ Err UsageFault.Words }
+    ensures bad_hex { result ≢ Err UsageFault.BadHex }
+    ensures open { result ≢ Err UsageFault.Open }
+{
+    let Ok(command) = subttx_command(alloc) else {
+        return Err(UsageFault::Memory);
+    };
+    match command.try_get_matches_from(words) {
+        Ok(matches) => Ok(matches),
+        Err(error) => match error.kind() {
+            ErrorKind::OutOfMemory => Err(UsageFault::Memory),
+            _ => Err(UsageFault::Words),
+        },
+    }
+}
+
+// The text of an argument, defaults included.
+fn text_at<'a>(matches: &ArgMatches<'a>, id: &str) -> &'a str
+    ensures { result.now ≡ text_of id.now (rows_of (found_of matches.now)) }
+{
+    match matches.get_str(id) {
+        Some(text) => text,
+        None => "",
+    }
+}
+
+// `packet HEX`
+fn packet_request(matches: &ArgMatches<'_>) -> Result<Request, UsageFault>
+    ensures holds { IfOk result (Holds (rows_of (found_of matches.now))) }
+    ensures clean { OnOk result (packet_fault (rows_of (found_of matches.now)) ≡ None) }
+    ensures fault { IfErr result (λ e. packet_fault (rows_of (found_of matches.now)) ≡ Some e) }
+    ensures bad_hex { IfErr result (λ e. e ≡ UsageFault.BadHex) }
+{
+    let mut bytes = [0u8; 42];
+    match hex::decode_to_slice(text_at(matches, "hex"), &mut bytes) {
+        Ok(()) => Ok(Request::Packet { bytes }),
+        Err(_) => Err(UsageFault::BadHex),
+    }
+}
