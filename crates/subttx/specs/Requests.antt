@@ -50,13 +50,13 @@ pub record Breaks (words : List Text) (fault : UsageFault) : Type 0 where
   pub named : Names words name rows
   pub first : own_fault name rows ≡ Some fault
 
--- The fault is one that the words have. Want of memory says nothing of the words, and no file is
--- opened here.
+-- The fault is one that the words have: `clap` refuses them, or they break the program's own rule.
+-- Want of memory says nothing of the words, and no file is opened by reading them.
 abbrev pub IsFaultOf : List Text → UsageFault → Type 0
 IsFaultOf words fault.Words = fault_of subttx_app words ≢ []
-IsFaultOf words fault.BadHex = Breaks words fault.BadHex
-IsFaultOf words fault.Open = ⊥
 IsFaultOf words fault.Memory = ⊤
+IsFaultOf words fault.Open = ⊥
+IsFaultOf words own = Breaks words own
 
 -- Whether a request reads a first input, a second input, or writes a file.
 abbrev pub names_first : Request → Bool

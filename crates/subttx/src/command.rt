@@ -3,9 +3,9 @@
 //! Each command is a function here and an `App` of specs/Commands, and a line of
 //! `subttx_command`. Help and versions are not offered: `clap` refuses the words for them.
 ghost use Rattle.std.specs.Prelude.{◌≡◌, IfOk, false};
-ghost use Rattle.clap.specs.Words.{app_of, with_rule};
+ghost use Rattle.clap.specs.Words.{app_of, with_rule, with_subcommand};
 ghost use Rattle.clap.specs.declared.builder.command.Command.TheViews.{out-Command};
-ghost use Rattle.subttx.specs.Commands.{packet_app, required_rule, subttx_app};
+ghost use Rattle.subttx.specs.Commands.{bare_app, packet_app, required_rule, subttx_app};
 
 use clap::{Arg, Command};
 use std::alloc::{AllocError, Global};
@@ -32,6 +32,29 @@ fn packet_command<'a>(alloc: Global) -> Result<Command<'a>, AllocError>
     with_required(Command::new(alloc, "packet"), alloc, "hex")
 }
 
+// The program before its commands.
+fn bare_program<'a>(alloc: Global) -> Command<'a>
+    ensures app { app_of result ≡ bare_app }
+    ensures local { (out-Command result).has_globals ≡ false }
+{
+    Command::new(alloc, "subttx")
+        .disable_help_flag(true)
+        .disable_help_subcommand(true)
+        .disable_version_flag(true)
+        .subcommand_required(true)
+}
+
+// Adds a command.
+fn with_command<'a>(program: Command<'a>, command: Command<'a>) -> Result<Command<'a>, AllocError>
+    requires { (out-Command command).has_globals ≡ false }
+    ensures app { IfOk result (λ c.
+        app_of c ≡ with_subcommand (app_of program.entry) (app_of command.entry).top) }
+    ensures local { (out-Command program.entry).has_globals ≡ false
+        → IfOk result (λ c. (out-Command c).has_globals ≡ false) }
+{
+    program.subcommand(command)
+}
+
 /// The program and its commands.
 ///
 /// # Errors
@@ -41,11 +64,5 @@ pub fn subttx_command<'a>(alloc: Global) -> Result<Command<'a>, AllocError>
     ensures app { IfOk result (λ c. app_of c ≡ subttx_app) }
     ensures local { IfOk result (λ c. (out-Command c).has_globals ≡ false) }
 {
-    let packet = packet_command(alloc)?;
-    Command::new(alloc, "subttx")
-        .disable_help_flag(true)
-        .disable_help_subcommand(true)
-        .disable_version_flag(true)
-        .subcommand_required(true)
-        .subcommand(packet)
+    with_command(bare_program(alloc), packet_command(alloc)?)
 }

@@ -3,7 +3,7 @@ ghost use Rattle.std.specs.Prelude.{◌≡◌, ◌≢◌, [], Err, IfErr, IfOk, 
 ghost use Rattle.clap.specs.Words.{fault_of, found_of, rows_of, subcommand_of};
 ghost use Rattle.clap.specs.Words.{subcommand_rows_of, takes};
 ghost use Rattle.subttx.specs.Commands.{subttx_app, texts_of};
-ghost use Rattle.subttx.specs.Requests.{Holds, packet_fault, text_of};
+ghost use Rattle.subttx.specs.Requests.{Holds, IsFaultOf, packet_fault, text_of};
 ghost use Rattle.std.specs.Prelude.{None, Some};
 
 use crate::command::subttx_command;
@@ -42,7 +42,7 @@ pub enum Request {
 }
 
 impl Request {
-    ghost use Rattle.subttx.specs.Requests.{AsksFor, IsFaultOf};
+    ghost use Rattle.subttx.specs.Requests.{AsksFor};
 
     /// Reads the words, of which the first is the program's name.
     ///
@@ -76,12 +76,9 @@ fn matches_of<'a>(alloc: Global, words: &'a [&'a str]) -> Result<ArgMatches<'a>,
     ensures subcommand { IfOk result (λ m.
         subcommand_rows_of m ≡ subcommand_of subttx_app (texts_of words.now)) }
     ensures taken { OnOk result (fault_of subttx_app (texts_of words.now) ≡ []) }
-    ensures words { result ≡ Err UsageFault.Words
-        → fault_of subttx_app (texts_of words.now) ≢ [] }
+    ensures fault { IfErr result (IsFaultOf (texts_of words.now)) }
     ensures passes { takes subttx_app (texts_of words.now) ≡ true
         → result ≢ Err UsageFault.Words }
-    ensures bad_hex { result ≢ Err UsageFault.BadHex }
-    ensures open { result ≢ Err UsageFault.Open }
 {
     let Ok(command) = subttx_command(alloc) else {
         return Err(UsageFault::Memory);
@@ -110,7 +107,7 @@ fn packet_request(matches: &ArgMatches<'_>) -> Result<Request, UsageFault>
     ensures holds { IfOk result (Holds (rows_of (found_of matches.now))) }
     ensures clean { OnOk result (packet_fault (rows_of (found_of matches.now)) ≡ None) }
     ensures fault { IfErr result (λ e. packet_fault (rows_of (found_of matches.now)) ≡ Some e) }
-    ensures bad_hex { IfErr result (λ e. e ≡ UsageFault.BadHex) }
+    ensures own { IfErr result (λ e. e ≡ UsageFault.BadHex) }
 {
     let mut bytes = [0u8; 42];
     match hex::decode_to_slice(text_at(matches, "hex"), &mut bytes) {
