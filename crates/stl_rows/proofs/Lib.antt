@@ -1,0 +1,9 @@
+pub mod TextCodeLemmas
+pub mod LineLemmas
+pub mod LineByLineLemmas
+pub mod DrawnPageLemmas
+pub mod DuePageLemmas
+pub mod PageShapeLemmas
+pub mod ProgrammeLemmas
+pub mod LoadingLemmas
+pub mod LoadingLaw

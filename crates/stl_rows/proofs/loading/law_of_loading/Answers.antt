@@ -1,0 +1,6 @@
+-- The law is loading_is, by what a file is.
+use Rattle.stl_rows.proofs.LoadingLaw.{loading_is}
+use Rattle.stl_rows.proofs.loading.law_of_loading.Goals as goal
+
+pub returns : goal.returns
+returns c = loading_is c.file_is_what_is_read.ensures

@@ -1,0 +1,75 @@
+-- Each way out tells what the whole file gives: tells-opening, tells-next, tells-none,
+-- tells-refused.
+use Rattle.std.proofs.Common.{refl, rules, ap}
+use Rattle.std.specs.Prelude.{Ok, Option, Result}
+use Rattle.stl_file.specs.Subtitle.{SubtitleValue}
+use Rattle.stl_file.specs.declared.fault.StlFault.{StlFault}
+use Rattle.stl_file.specs.Gsi.{gsi_size}
+use Rattle.std.proofs.Common.{drop}
+use Rattle.stl_rows.proofs.LoadingLemmas.{goes_on-opened, goes_on-put, still_reading, tells-opening}
+use Rattle.stl_rows.proofs.LoadingLemmas.{tells-next, tells-none, tells-refused}
+use Rattle.stl_rows.proofs.ProgrammeLemmas.{IsProgramme-none}
+use Rattle.stl_rows.proofs.loading.load_in.Goals as goal
+
+pub returns-in-Err-clause-fault : goal.returns-in-Err-clause-fault
+returns-in-Err-clause-fault g c =
+    λ bytes e. tells-opening c.args.national bytes c.in-Err.fault (c.in-Err.ensures.exact bytes e)
+
+pub subtitles-init : goal.subtitles-init
+subtitles-init g c = record {
+  programme = IsProgramme-none c.args.national _ c.new-subtitles.ensures.items;
+  reading = search rules;
+  count = search rules;
+  told =
+      λ bytes e. (
+        drop gsi_size bytes,
+        c.in-Ok.ensures.left bytes e,
+        goes_on-opened c.args.national
+            bytes c.in-Ok.reader _ (c.in-Ok.ensures.exact bytes e refl)
+            c.new-subtitles.ensures.items,
+      );
+}
+
+pub returns-in-Err-next-clause-fault : goal.returns-in-Err-next-clause-fault
+returns-in-Err-next-clause-fault g c = λ bytes e.
+    let i = c.subtitles.invariant.told bytes e in
+    tells-next c.args.national bytes i.0 c.subtitles.subtitles.items c.subtitles.reader
+    c.next.new.self _ c.in-Err-next.fault c.block-block.result
+    i.2 c.block-block.ensures.value (λ ok. c.in-Err-next.ensures.exact i.0 i.1 ok)
+
+pub returns-in-Ok-None-clause-exact : goal.returns-in-Ok-None-clause-exact
+returns-in-Ok-None-clause-exact g c = λ bytes e.
+    let i = c.subtitles.invariant.told bytes e in
+    tells-none c.args.national bytes i.0 c.subtitles.subtitles.items c.subtitles.reader
+    c.next.new.self _ _
+    i.2 (ap (λ x. let r : Result (Option SubtitleValue) StlFault = Ok x in r)
+    c.in-Ok-None.field-0-is) (c.in-Ok-None.ensures.exact i.0 i.1 refl)
+
+pub returns-in-Err-put-clause-fault : goal.returns-in-Err-put-clause-fault
+returns-in-Err-put-clause-fault g c = λ bytes e.
+    let i = c.subtitles.invariant.told bytes e in
+    tells-refused c.args.national bytes i.0 c.subtitles.subtitles.items c.subtitles.reader
+    c.next.new.self _ _ c.in-Ok-Some.subtitle c.block.result c.in-Err-put.kind
+    i.2 (ap (λ x. let r : Result (Option SubtitleValue) StlFault = Ok x in r)
+    c.in-Ok-Some.field-0-is) (c.in-Ok-Some.ensures.exact i.0 i.1 refl)
+    c.block.ensures.value c.in-Err-put.ensures.fault
+
+pub subtitles-preserved : goal.subtitles-preserved
+subtitles-preserved g c = record {
+  programme = search rules;
+  reading =
+      still_reading _ _ _ c.in-Ok-Some.subtitle c.in-Ok-Some.ensures.progress
+      (ap (λ x. let r : Result (Option SubtitleValue) StlFault = Ok x in r)
+      c.in-Ok-Some.field-0-is) c.subtitles.invariant.reading;
+  count = search rules;
+  told = λ bytes e.
+      let i = c.subtitles.invariant.told bytes e in
+      let a = c.in-Ok-Some.ensures.exact i.0 i.1 refl in (
+        a.rest,
+        a.rest_is,
+        goes_on-put c.args.national bytes i.0 c.subtitles.subtitles.items _
+            c.subtitles.reader c.next.new.self _ _ c.in-Ok-Some.subtitle
+            i.2 (ap (λ x. let r : Result (Option SubtitleValue) StlFault = Ok x in r)
+            c.in-Ok-Some.field-0-is) a c.in_default.ensures.fault c.in_default.ensures.ok,
+      );
+}

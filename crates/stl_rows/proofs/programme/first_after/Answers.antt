@@ -1,0 +1,22 @@
+-- The TCOs of a programme rise, so the partition point parts them: tco_rises.
+use Rattle.std.proofs.Common.{leb, leb-true, arith, rules}
+use Rattle.std.proofs.lemmas.Bool.Decides.{nat_tests}
+use Rattle.std.proofs.lemmas.List.Sorted.{IsPartitionPoint-from_clause, IsPartitionedBy-leb}
+use Rattle.stl_rows.proofs.DuePageLemmas.{tco_rises}
+use Rattle.stl_rows.proofs.programme.first_after.Goals as goal
+
+pub returns-clause-before : goal.returns-clause-before
+returns-clause-before c =
+    let parted = IsPartitionedBy-leb (λ t. t.tco) _ c.args.frame (tco_rises _ _ c.requires) in
+    let point =
+    IsPartitionPoint-from_clause (λ t. leb t.tco c.args.frame) _ _
+    c.partition_point.ensures.partitioned parted (λ a r q k. search rules) in
+    λ k d h. leb-true _ _ (point.0 k d (omega arith) h)
+
+pub returns-clause-after : goal.returns-clause-after
+returns-clause-after c =
+    let parted = IsPartitionedBy-leb (λ t. t.tco) _ c.args.frame (tco_rises _ _ c.requires) in
+    let point =
+    IsPartitionPoint-from_clause (λ t. leb t.tco c.args.frame) _ _
+    c.partition_point.ensures.partitioned parted (λ a r q k. search rules) in
+    λ k d h b. grind (arith, nat_tests, point.1 k d h b)

@@ -1,0 +1,72 @@
+-- The page that is due at a frame, and the edges at which it can change.
+use Rattle.std.specs.Prelude.{◌≡◌, ℕ, ◌-◌, ◌<◌, ◌≤◌, ◌⊎◌, Bool, ◌&&◌, List, Option, Some, None}
+use Rattle.std.specs.Prelude.{nat_lt, nat_le, All, Any, Contains}
+use Rattle.std.specs.List.{find}
+use Rattle.std.specs.Result.{result_unwrap_or}
+use Rattle.ttx_page.specs.Page.{Rows, blank, IsPage}
+use Rattle.stl_file.specs.Subtitle.{SubtitleValue}
+use Rattle.stl_rows.specs.declared.national.National.{National}
+use Rattle.stl_rows.specs.DrawnPage.{drawn}
+use Rattle.stl_rows.specs.Programme.{AreInOrder}
+
+-- A subtitle is due from its TCI up to the frame before its TCO.
+abbrev pub is_due : ℕ → SubtitleValue → Bool
+is_due frame t = nat_le t.tci frame && nat_lt frame t.tco
+
+-- The drawn page of a subtitle; blank for none, or for one that draws none.
+abbrev pub drawn_or_blank : National → Option SubtitleValue → Rows
+drawn_or_blank national None = blank
+drawn_or_blank national (Some t) = result_unwrap_or (drawn national t) blank
+
+-- The page that is due at a frame: the drawn page of the subtitle that is due, blank where none is.
+-- Of subtitles in order no two are due at one frame.
+unfoldable pub due : National → List SubtitleValue → ℕ → Rows
+due national records frame = drawn_or_blank national (find (is_due frame) records)
+
+-- The frame is a TCI or a TCO.
+abbrev pub IsEdge : List SubtitleValue → ℕ → Type 0
+IsEdge records frame = Any (λ t. (frame ≡ t.tci) ⊎ (frame ≡ t.tco)) records
+
+-- The least edge after a frame.
+pub record IsNextEdge (records : List SubtitleValue) (frame edge : ℕ) : Type 0 where
+  pub is_edge : IsEdge records edge
+  pub after : frame < edge
+  pub least : (e : ℕ) → IsEdge records e → frame < e → edge ≤ e
+
+-- The answer is the least edge after a frame; None where no edge is after it.
+abbrev pub TellsNextEdge : List SubtitleValue → ℕ → Option ℕ → Type 0
+TellsNextEdge records frame None = (e : ℕ) → IsEdge records e → e ≤ frame
+TellsNextEdge records frame (Some edge) = IsNextEdge records frame edge
+
+-- Of subtitles in order, one that is due at a frame is shown there. So it does not matter in which
+-- order they are tried.
+abbrev pub LawOfDueSubtitles : Type 0
+LawOfDueSubtitles =
+    (national : National) (records : List SubtitleValue) (frame : ℕ) (t : SubtitleValue)
+    → AreInOrder records
+    → Contains records t
+    → t.tci ≤ frame
+    → frame < t.tco
+    → due national records frame ≡ drawn_or_blank national (Some t)
+
+-- Where each subtitle starts later or has ended, the due page is blank.
+abbrev pub LawOfBlankPages : Type 0
+LawOfBlankPages =
+    (national : National) (records : List SubtitleValue) (frame : ℕ)
+    → All (λ t. (frame < t.tci) ⊎ (t.tco ≤ frame)) records
+    → due national records frame ≡ blank
+
+-- The due page changes only at a TCI or a TCO. So a checker that draws it at edges alone misses no
+-- change.
+abbrev pub LawOfEdges : Type 0
+LawOfEdges =
+    (national : National) (records : List SubtitleValue) (frame : ℕ)
+    → 1 ≤ frame
+    → (IsEdge records frame → ⊥)
+    → due national records frame ≡ due national records (frame - 1)
+
+-- Each due page is a page: 24 rows of 40 codes below 128. So it can be sent with odd parity.
+abbrev pub LawOfDuePages : Type 0
+LawOfDuePages =
+    (national : National) (records : List SubtitleValue) (frame : ℕ)
+    → IsPage (due national records frame)

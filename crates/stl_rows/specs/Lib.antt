@@ -1,0 +1,7 @@
+pub mod TextCode
+pub mod Line
+pub mod DrawnPage
+pub mod LineByLine
+pub mod Programme
+pub mod DuePage
+pub mod Loading

@@ -1,0 +1,56 @@
+-- A line of cells: how it is sent, and the row that shows it (EN 300 706, packets X/1 to X/24).
+use Rattle.std.specs.Prelude.{ℕ, ◌-◌, ◌/◌, Bool, true, false, not, ◌&&◌, List, [], ◌∷◌, ◌++◌, ◌==◌}
+use Rattle.std.specs.Prelude.{nat_le, if◌then◌else◌, map, length, slice_index_or}
+use Rattle.std.specs.List.{range_with_len, list_any}
+use Rattle.ttx_page.specs.Page.{space}
+
+abbrev pub start_box : ℕ
+start_box = 0x0B
+
+abbrev pub end_box : ℕ
+end_box = 0x0A
+
+abbrev pub double_height : ℕ
+double_height = 0x0D
+
+-- Columns 0 to 39.
+abbrev pub columns : ℕ
+columns = 40
+
+-- The line is not empty.
+abbrev pub has_cells : List ℕ → Bool
+has_cells [] = false
+has_cells (c ∷ cells) = true
+
+-- The line has a start box of its own.
+unfoldable pub is_boxed : List ℕ → Bool
+is_boxed line = list_any (λ c. c == start_box) line
+
+-- The line has double height.
+unfoldable pub is_double : List ℕ → Bool
+is_double line = list_any (λ c. c == double_height) line
+
+-- The prepared line: a line that is not empty and has no start box is put in a box, by two start
+-- boxes before it and two end boxes after it (own; EN 300 706 has each box code sent twice).
+unfoldable pub prepared : List ℕ → List ℕ
+prepared cells =
+    if has_cells cells && not (is_boxed cells)
+    then (start_box ∷ start_box ∷ []) ++ cells ++ (end_box ∷ end_box ∷ [])
+    else cells
+
+-- The column at which a line of n cells starts (EBU Tech 3264, TTI block, field JC): 0 for JC 0
+-- (unchanged) and 1 (left), in the middle for 2 (centred; rounded down, own), at the end for 3
+-- (right).
+abbrev pub start_column : ℕ → ℕ → ℕ
+start_column jc n =
+    if jc == 2 then (columns - n) / 2 else (if jc == 3 then columns - n else 0)
+
+-- What a column shows of a line that starts at a column: its cell, a space where it covers none.
+abbrev pub code_in_column : ℕ → List ℕ → ℕ → ℕ
+code_in_column start line column =
+    if nat_le start column then slice_index_or line (column - start) space else space
+
+-- The codes of the row that shows a line.
+unfoldable pub row_of : ℕ → List ℕ → List ℕ
+row_of jc line =
+    map (code_in_column (start_column jc (length line)) line) (range_with_len 0 columns)

@@ -1,0 +1,82 @@
+-- What loading a subtitle file gives: the programme of its subtitles, or the first fault.
+use Rattle.std.specs.Prelude.{◌≡◌, ℕ, ◌⊎◌, Bool, true, false, List, [], ◌∷◌, ◌++◌, Some, Result, Ok}
+use Rattle.std.specs.Prelude.{Err, ⊤, ◌↔◌, All, IsOk}
+use Rattle.stl_file.specs.declared.fault.StlFault.TheVariants.{Read}
+use Rattle.stl_file.specs.File.{IsFile}
+use Rattle.stl_file.specs.Reader.{outcome_of}
+use Rattle.stl_file.specs.Subtitle.{SubtitleValue}
+use Rattle.stl_file.specs.Reading.{Outcome, ends, fails, gives}
+use Rattle.stl_rows.specs.declared.national.National.{National}
+use Rattle.stl_rows.specs.declared.fault.LoadFault.{LoadFault}
+use Rattle.stl_rows.specs.declared.fault.LoadFaultKind.{LoadFaultKind}
+use Rattle.stl_rows.specs.declared.fault.LoadFaultKind.TheVariants.{File, Memory}
+use Rattle.stl_rows.specs.TextCode.{first_of}
+use Rattle.stl_rows.specs.DrawnPage.{drawn}
+use Rattle.stl_rows.specs.Programme.{AreInOrder, ProgrammeValue, follow_faults}
+
+-- A fault at a block.
+abbrev pub load_fault : ℕ → LoadFaultKind → LoadFault
+load_fault block kind = record { block = block; kind = kind }
+
+-- The first of these faults of a subtitle, at its last block, or else what comes next.
+abbrev pub unless_told : List LoadFaultKind → ℕ → Result ProgrammeValue LoadFault
+    → Result ProgrammeValue LoadFault
+unless_told [] block next = next
+unless_told (kind ∷ kinds) block next = Err (load_fault block kind)
+
+-- What comes of a file, behind the subtitles that it gave before: the file's faults by block, and
+-- at a subtitle's last block its own, in order.
+abbrev pub loaded_behind : National → List SubtitleValue → Outcome → Result ProgrammeValue LoadFault
+loaded_behind national records ends = Ok (record { national = national; records = records })
+loaded_behind national records (fails fault block) = Err (load_fault block (File fault))
+loaded_behind national records (gives t block outcome) =
+    unless_told (follow_faults national records t) block
+    (loaded_behind national (records ++ t ∷ []) outcome)
+
+-- The programme of a file, or its first fault.
+abbrev pub loaded : National → Outcome → Result ProgrammeValue LoadFault
+loaded national outcome = loaded_behind national [] outcome
+
+-- A subtitle that the file gives ends at this block, and up to it there is no fault.
+abbrev pub EndsRecord : National → List SubtitleValue → ℕ → Outcome → Type 0
+EndsRecord national records at ends = ⊥
+EndsRecord national records at (fails fault block) = ⊥
+EndsRecord national records at (gives t block outcome) =
+    (follow_faults national records t ≡ [])
+    × ((at ≡ block) ⊎ EndsRecord national (records ++ t ∷ []) at outcome)
+
+-- A fault of loading. Want of memory is told at the last block of a subtitle alone, where no fault
+-- comes before. That the source failed says nothing of the file.
+abbrev pub TellsFault : National → Outcome → ℕ → LoadFaultKind → Type 0
+TellsFault national outcome block (File Read) = ⊤
+TellsFault national outcome block Memory = EndsRecord national [] block outcome
+TellsFault national outcome block kind = loaded national outcome ≡ Err (load_fault block kind)
+
+-- The fault is that the source failed.
+abbrev pub is_read_kind : LoadFaultKind → Bool
+is_read_kind (File Read) = true
+is_read_kind _ = false
+
+-- The answer is that the source failed.
+abbrev pub is_read_fault : {X : Type 0} → Result X LoadFault → Bool
+is_read_fault (Ok x) = false
+is_read_fault (Err fault) = is_read_kind fault.kind
+
+-- The answer to a subtitle that is put behind these: the first fault of the told order; want of
+-- memory only where there is none.
+abbrev pub TellsFollow : List LoadFaultKind → Result (Unit {0}) LoadFaultKind → Type 0
+TellsFollow faults (Ok u) = faults ≡ []
+TellsFollow faults (Err Memory) = faults ≡ []
+TellsFollow faults (Err kind) = first_of faults ≡ Some kind
+
+-- Bytes are loaded as a programme exactly where they are a subtitle file whose subtitles are in
+-- order, disjoint and drawable; the programme holds these. So `load` refuses no such file but for
+-- want of memory or a source that failed.
+abbrev pub LawOfLoading : Type 0
+LawOfLoading =
+    (national : National) (s : List ℕ) (ts : List SubtitleValue)
+    → (loaded national (outcome_of s) ≡ Ok (record { national = national; records = ts }))
+    ↔ ((g : List ℕ)
+    × IsFile s g ts
+    × AreInOrder ts
+    × All (λ t. IsOk (drawn national t)) ts)

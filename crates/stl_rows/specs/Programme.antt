@@ -1,0 +1,60 @@
+-- A programme: subtitles in order and disjoint, each of which draws a page.
+use Rattle.std.specs.Prelude.{ℕ, ◌-◌, ◌<◌, ◌≤◌, List, [], ◌∷◌, ◌++◌, Option, Some, None}
+use Rattle.std.specs.Prelude.{option_map}
+use Rattle.std.specs.Prelude.{Result, Ok, Err, nat_lt, if◌then◌else◌, length, slice_get}
+use Rattle.std.specs.Prelude.{slice_index_or, All, IsOk}
+use Rattle.ttx_page.specs.Page.{Rows}
+use Rattle.stl_file.specs.Subtitle.{SubtitleValue, IsSubtitle}
+use Rattle.stl_rows.specs.declared.fault.RowFault.{RowFault}
+use Rattle.stl_rows.specs.declared.fault.LoadFaultKind.{LoadFaultKind}
+use Rattle.stl_rows.specs.declared.fault.LoadFaultKind.TheVariants.{OutOfOrder, Overlap, Row}
+use Rattle.stl_rows.specs.declared.national.National.{National}
+use Rattle.stl_rows.specs.DrawnPage.{drawn}
+
+-- What a programme is to its callers: the national option that it is drawn with, and the records of
+-- its subtitles.
+pub record ProgrammeValue : Type 0 where
+  pub national : National
+  pub records : List SubtitleValue
+
+-- In order and disjoint: each TCI is at or after each TCO before it.
+abbrev pub AreInOrder : List SubtitleValue → Type 0
+AreInOrder records =
+    (i j : ℕ) (d : SubtitleValue)
+    → i < j
+    → j < length records
+    → (slice_index_or records i d).tco ≤ (slice_index_or records j d).tci
+
+-- Subtitles in order, each of which draws a page.
+pub record IsProgramme (national : National) (records : List SubtitleValue) : Type 0 where
+  pub each : All IsSubtitle records
+  pub in_order : AreInOrder records
+  pub drawable : All (λ t. IsOk (drawn national t)) records
+
+-- The first TCI.
+abbrev pub first_in : List SubtitleValue → Option ℕ
+first_in records = option_map (λ t. t.tci) (slice_get records 0)
+
+-- The last TCO.
+abbrev pub last_out : List SubtitleValue → Option ℕ
+last_out records = option_map (λ t. t.tco) (slice_get records (length records - 1))
+
+-- The last of a list.
+abbrev pub last_of : {A : Type 0} → List A → Option A
+last_of xs = slice_get xs (length xs - 1)
+
+-- The times of a subtitle against those of the one before it.
+abbrev pub order_faults : Option SubtitleValue → SubtitleValue → List LoadFaultKind
+order_faults None t = []
+order_faults (Some before) t =
+    (if nat_lt t.tci before.tci then OutOfOrder ∷ [] else [])
+    ++ (if nat_lt t.tci before.tco then Overlap ∷ [] else [])
+
+-- A drawn page is no fault.
+abbrev pub row_faults : Result Rows RowFault → List LoadFaultKind
+row_faults (Ok page) = []
+row_faults (Err fault) = Row fault ∷ []
+
+-- All that keeps a subtitle from following these, in the order in which it is told.
+abbrev pub follow_faults : National → List SubtitleValue → SubtitleValue → List LoadFaultKind
+follow_faults national records t = order_faults (last_of records) t ++ row_faults (drawn national t)

@@ -1,0 +1,30 @@
+//! From the text of subtitles to Teletext rows: drawn pages, and programmes of them.
+//!
+//! A subtitle file (EBU Tech 3264) is loaded as a programme, which tells what page is due at each
+//! frame of the day and where the next change can come:
+//!
+//! ```text
+//! let programme = load(alloc, &mut source, National::English)?;
+//! let page = programme.due_page(900_000);
+//! let edge = programme.next_edge(900_000);
+//! ```
+//!
+//! The crate stands on `stl_file`, which reads the subtitles, and on `ttx_page`, whose pages it
+//! draws. `sub_plan` makes schedules of programmes, `sub_check` checks what was sent against them.
+#![tactic(auto)]
+
+mod drawing;
+mod fault;
+mod line;
+mod loading;
+mod national;
+mod programme;
+mod text_code;
+
+pub use drawing::draw;
+pub use fault::{LoadFault, LoadFaultKind, RowFault, RowFaultKind};
+pub use loading::{law_of_loading, load};
+pub use national::National;
+pub use programme::{
+    Programme, law_of_blank_pages, law_of_due_pages, law_of_due_subtitles, law_of_edges,
+};

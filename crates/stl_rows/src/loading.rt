@@ -1,0 +1,160 @@
+//! Loading a subtitle file as a programme.
+
+ghost use Rattle.std.specs.Prelude.{◌≡◌, ◌≢◌, ◌+◌, ◌<◌, ◌≤◌, [], ◌∷◌, ◌++◌, if◌then◌else◌};
+ghost use Rattle.std.specs.Prelude.{Err, IfErr, IfOk, IfSome, Ok, OnOk, vec_capacity, vec_len};
+ghost use Rattle.sub_io.specs.Reading.{IfTold};
+ghost use Rattle.stl_file.specs.declared.fault.StlFault.TheVariants.{Ended};
+ghost use Rattle.stl_file.specs.Reader.{outcome_of};
+ghost use Rattle.stl_file.specs.Subtitle.{IsSubtitle};
+ghost use Rattle.stl_rows.specs.declared.fault.LoadFaultKind.TheVariants.{File, Memory};
+ghost use Rattle.stl_rows.specs.Loading.{is_read_fault, loaded, LawOfLoading};
+ghost use Rattle.stl_rows.specs.Loading.{TellsFault, TellsFollow};
+ghost use Rattle.stl_rows.specs.Programme.{IsProgramme, follow_faults};
+ghost use Rattle.stl_rows.specs.TextCode.{first_of};
+
+use crate::drawing::draw;
+use crate::fault::{LoadFault, LoadFaultKind};
+use crate::national::National;
+use crate::programme::Programme;
+use std::alloc::{Allocator, Global};
+use stl_file::{StlReader, Subtitle, file_is_what_is_read};
+use sub_io::Source;
+
+/// Loads the subtitles of an STL file, to be drawn by the table of a national option.
+///
+/// It takes about a kilobyte of memory a subtitle, and reads to the end of the source.
+///
+/// # Errors
+///
+/// The first fault by block. At block 0 the faults of the GSI block; at each TTI block the file's
+/// own, `File`; at a subtitle's last block `OutOfOrder`, `Overlap`, the fault of `draw` as `Row`,
+/// and then `Memory` where the memory for it was refused. `File` with `Read` where the source
+/// failed.
+pub fn load<S: Source>(
+    alloc: Global,
+    source: &mut S,
+    national: National,
+) -> Result<Programme, LoadFault>
+    requires { S.failure_count source.old < u64.MAX }
+    // Where the source tells its bytes, they decide the programme and the fault.
+    ensures exact { IfTold (S.remaining source.old) (λ bytes.
+        IfOk result (λ programme. loaded national (outcome_of bytes) ≡ Ok programme)) }
+    ensures fault { IfTold (S.remaining source.old) (λ bytes.
+        IfErr result (λ f. TellsFault national (outcome_of bytes) f.block f.kind)) }
+    ensures never { IfErr result (λ f. f.kind ≢ File Ended) }
+
+    ensures programme { IfOk result (λ programme.
+        IsProgramme programme.national programme.records) }
+    ensures national { IfOk result (λ programme. programme.national ≡ national) }
+    ensures count { S.failure_count source.new
+        ≡ S.failure_count source.old + (if is_read_fault result then 1 else 0) }
+{
+    match load_in(alloc, source, national) {
+        Ok(subtitles) => Ok(Programme::of(national, subtitles)),
+        Err(fault) => Err(fault),
+    }
+}
+
+// Loads a file's subtitles into any memory, so that a test can refuse a growth.
+fn load_in<A: Allocator + Drop, S: Source>(
+    alloc: A,
+    source: &mut S,
+    national: National,
+) -> Result<Vec<Subtitle, A>, LoadFault>
+    requires { S.failure_count source.old < u64.MAX }
+    ensures exact { IfTold (S.remaining source.old) (λ bytes. IfOk result (λ v.
+        loaded national (outcome_of bytes)
+        ≡ Ok (record { national = national; records = v.items }))) }
+    ensures fault { IfTold (S.remaining source.old) (λ bytes. IfErr result (λ f.
+        TellsFault national (outcome_of bytes) f.block f.kind)) }
+    ensures never { IfErr result (λ f. f.kind ≢ File Ended) }
+    ensures programme { IfOk result (λ v. IsProgramme national v.items) }
+    ensures count { S.failure_count source.new
+        ≡ S.failure_count source.old + (if is_read_fault result then 1 else 0) }
+{
+    let mut reader = match StlReader::open(source) {
+        Ok(reader) => reader,
+        Err(fault) => {
+            let kind = LoadFaultKind::File(fault);
+            return Err(LoadFault { block: 0, kind });
+        }
+    };
+    let mut subtitles = Vec::new(alloc);
+    'subtitles: loop {
+        match reader.next(source) {
+            Err(fault) => {
+                let block = reader.block();
+                let kind = LoadFaultKind::File(fault);
+                return Err(LoadFault { block, kind });
+            }
+            Ok(None) => return Ok(subtitles),
+            Ok(Some(subtitle)) => {
+                if let Err(kind) = put(national, &mut subtitles, subtitle) {
+                    return Err(LoadFault {
+                        block: reader.block(),
+                        kind,
+                    });
+                }
+            }
+        }
+    }
+}
+
+// Puts a subtitle behind these, where it may follow them.
+fn put<A: Allocator + Drop>(
+    national: National,
+    subtitles: &mut Vec<Subtitle, A>,
+    subtitle: Subtitle,
+) -> Result<(), LoadFaultKind>
+    requires { IsProgramme national subtitles.old.items }
+    ensures ok { OnOk result (subtitles.new.items ≡ subtitles.old.items ++ subtitle ∷ []) }
+    ensures programme { OnOk result (IsProgramme national subtitles.new.items) }
+    ensures fault { TellsFollow (follow_faults national subtitles.old.items subtitle) result }
+    // Memory is only wanted where there is no room left.
+    ensures full { result ≡ Err Memory → vec_capacity subtitles.old ≤ vec_len subtitles.old }
+    ensures own { IfErr result (λ kind. kind ≢ File Ended) }
+{
+    if let Some(kind) = follow_fault(national, subtitles.as_slice(), &subtitle) {
+        return Err(kind);
+    }
+    match subtitles.push(subtitle) {
+        Ok(()) => Ok(()),
+        Err(_) => Err(LoadFaultKind::Memory),
+    }
+}
+
+// What keeps a subtitle from following these.
+fn follow_fault(
+    national: National,
+    subtitles: &[Subtitle],
+    subtitle: &Subtitle,
+) -> Option<LoadFaultKind>
+    ensures value { result ≡ first_of (follow_faults national subtitles.now subtitle.now) }
+    ensures own { IfSome result (λ kind. (kind ≢ Memory) × (kind ≢ File Ended)) }
+    ensures subtitle { IsSubtitle subtitle.now }
+{
+    let tci = subtitle.tci().frame();
+    if let Some(before) = subtitles.last() {
+        if tci < before.tci().frame() {
+            return Some(LoadFaultKind::OutOfOrder);
+        }
+        if tci < before.tco().frame() {
+            return Some(LoadFaultKind::Overlap);
+        }
+    }
+    match draw(subtitle, national) {
+        Ok(_) => None,
+        Err(fault) => Some(LoadFaultKind::Row(fault)),
+    }
+}
+
+/// Bytes are loaded exactly where they are a subtitle file whose subtitles are in order, disjoint
+/// and drawable, and the programme holds these.
+pub fn law_of_loading()
+    ensures { LawOfLoading }
+{
+    file_is_what_is_read();
+}
+
+#[cfg(test)]
+mod tests;

@@ -1,0 +1,185 @@
+//! Programmes: subtitles in order, the page that is due at a frame, and the edges between pages.
+
+ghost use Rattle.std.specs.Prelude.{◌≡◌, ℕ, ◌<◌, ◌≤◌, ◌↔◌, [], IsTrue, length, slice_get};
+ghost use Rattle.std.specs.Prelude.{slice_index_or};
+ghost use Rattle.stl_file.specs.Subtitle.{SubtitleValue};
+ghost use Rattle.stl_rows.specs.DuePage.{due, LawOfBlankPages, LawOfDuePages, LawOfDueSubtitles};
+ghost use Rattle.stl_rows.specs.DuePage.{LawOfEdges, TellsNextEdge};
+ghost use Rattle.stl_rows.specs.Programme.{IsProgramme, first_in, last_out};
+
+use crate::drawing::draw;
+use crate::national::National;
+use std::marker::Model;
+use stl_file::Subtitle;
+use ttx_page::Page;
+
+/// Subtitles in order and disjoint, each of which draws a page.
+///
+/// It is made by `load`. Contracts see its national option and the list of its records.
+#[derive(Drop)]
+pub struct Programme {
+    national: National,
+    subtitles: Vec<Subtitle>,
+}
+
+impl Model for Programme {
+    ghost use Rattle.stl_rows.specs.Programme.{IsProgramme, ProgrammeValue};
+
+    ghost Value = { ProgrammeValue };
+
+    ghost view = { λ p. record { national = p.national; records = p.subtitles.items } };
+
+    ghost invariant = { λ p. IsProgramme p.national p.subtitles.items };
+}
+
+// The first subtitle whose TCO is after a frame: a binary search.
+fn first_after(national: National, subtitles: &[Subtitle], frame: u32) -> usize
+    requires { IsProgramme national subtitles.now }
+    ensures bound { result ≤ length subtitles.now }
+    ensures before { (k : ℕ) (d : SubtitleValue)
+        → k < result → (slice_index_or subtitles.now k d).tco ≤ frame }
+    ensures after { (k : ℕ) (d : SubtitleValue)
+        → result ≤ k → k < length subtitles.now → frame < (slice_index_or subtitles.now k d).tco }
+{
+    subtitles.partition_point(|s| s.tco().frame() <= frame)
+}
+
+// The page that is due at a frame.
+fn page_at(national: National, subtitles: &[Subtitle], frame: u32) -> Page
+    requires { IsProgramme national subtitles.now }
+    ensures { result ≡ due national subtitles.now frame }
+{
+    let at = first_after(national, subtitles, frame);
+    if at == subtitles.len() {
+        return Page::blank();
+    }
+    let subtitle = &subtitles[at];
+    let tci = subtitle.tci().frame();
+    if frame < tci {
+        return Page::blank();
+    }
+    match draw(subtitle, national) {
+        Ok(page) => page,
+        Err(_) => Page::blank(),
+    }
+}
+
+// The least edge after a frame.
+fn edge_after(national: National, subtitles: &[Subtitle], frame: u32) -> Option<u32>
+    requires { IsProgramme national subtitles.now }
+    ensures { TellsNextEdge subtitles.now frame result }
+{
+    let at = first_after(national, subtitles, frame);
+    if at == subtitles.len() {
+        return None;
+    }
+    let subtitle = &subtitles[at];
+    let tci = subtitle.tci().frame();
+    if frame < tci {
+        return Some(tci);
+    }
+    let tco = subtitle.tco().frame();
+    Some(tco)
+}
+
+impl Programme {
+    // The programme of these subtitles.
+    pub(crate) fn of(national: National, subtitles: Vec<Subtitle>) -> Programme
+        requires { IsProgramme national subtitles.items }
+        ensures { result ≡ record { national = national; records = subtitles.items } }
+    {
+        Programme {
+            national,
+            subtitles,
+        }
+    }
+
+    /// How many subtitles there are.
+    pub fn len(&self) -> usize
+        ensures value { result ≡ length self.now.records }
+        ensures programme { IsProgramme self.now.national self.now.records }
+    {
+        self.subtitles.len()
+    }
+
+    /// Whether there is no subtitle.
+    pub fn is_empty(&self) -> bool
+        ensures { IsTrue result ↔ (self.now.records ≡ []) }
+    {
+        self.subtitles.is_empty()
+    }
+
+    /// A subtitle by its index, from 0 and below `len`.
+    pub fn subtitle(&self, i: usize) -> &Subtitle
+        requires { i < length self.now.records }
+        ensures { slice_get self.now.records i ≡ Some result.now }
+    {
+        &self.subtitles[i]
+    }
+
+    /// The first TCI, as a frame of the day. `None` where there is no subtitle.
+    pub fn first_in(&self) -> Option<u32>
+        ensures value { result ≡ first_in self.now.records }
+        ensures programme { IsProgramme self.now.national self.now.records }
+    {
+        Some(self.subtitles.first()?.tci().frame())
+    }
+
+    /// The last TCO, as a frame of the day. `None` where there is no subtitle.
+    pub fn last_out(&self) -> Option<u32>
+        ensures value { result ≡ last_out self.now.records }
+        ensures programme { IsProgramme self.now.national self.now.records }
+    {
+        Some(self.subtitles.last()?.tco().frame())
+    }
+
+    /// The national option that it was loaded with.
+    pub fn national(&self) -> National
+        ensures value { result ≡ self.now.national }
+        ensures programme { IsProgramme self.now.national self.now.records }
+    {
+        self.national
+    }
+
+    /// Draws the page that is due at a frame: that of the subtitle whose TCI is at or before the
+    /// frame and whose TCO is after it, blank where there is none.
+    ///
+    /// The subtitle is found by binary search. The page is drawn at each call, so call it at edges
+    /// (`next_edge`) and keep the page between them.
+    pub fn due_page(&self, frame: u32) -> Page
+        ensures value { result ≡ due self.now.national self.now.records frame }
+        ensures programme { IsProgramme self.now.national self.now.records }
+    {
+        page_at(self.national, self.subtitles.as_slice(), frame)
+    }
+
+    /// Finds the least TCI or TCO that is after a frame, by binary search.
+    ///
+    /// `None` where there is none.
+    pub fn next_edge(&self, frame: u32) -> Option<u32>
+        ensures value { TellsNextEdge self.now.records frame result }
+        ensures programme { IsProgramme self.now.national self.now.records }
+    {
+        edge_after(self.national, self.subtitles.as_slice(), frame)
+    }
+}
+
+/// Of subtitles in order, one that is due at a frame is shown there.
+pub fn law_of_due_subtitles()
+    ensures { LawOfDueSubtitles }
+{}
+
+/// Where each subtitle starts later or has ended, the due page is blank.
+pub fn law_of_blank_pages()
+    ensures { LawOfBlankPages }
+{}
+
+/// The due page changes only at a TCI or a TCO.
+pub fn law_of_edges()
+    ensures { LawOfEdges }
+{}
+
+/// Each due page is a page: 24 rows of 40 codes below 128.
+pub fn law_of_due_pages()
+    ensures { LawOfDuePages }
+{}
