@@ -1,11 +1,17 @@
 -- Lists that grow at their end: what one more packet makes of the span, `span-push`.
 use Rattle.std.proofs.Common.{◌≡◌, Bool, true, false, not, ◌&&◌, ◌||◌, cond, List, [], ◌∷◌, ◌++◌}
 use Rattle.std.proofs.Common.{refl, sym, ap, ◌∙◌}
+use Rattle.std.proofs.Common.{Some, None, find}
 use Rattle.std.specs.List.{list_any}
+use Rattle.std.specs.Option.{option_or}
+use Rattle.std.proofs.lemmas.Bool.{cond-true, cond-false}
+use Rattle.std.proofs.lemmas.List.{append-nil}
+use Rattle.std.proofs.lemmas.List.Folds.{list_any-append}
 use Rattle.ttx_page.proofs.SpanLists.{after-none}
 use Rattle.ttx_page.specs.declared.packet_kind.PacketKind.{PacketKind}
 use Rattle.ttx_page.specs.PacketKind.{is_this_page, ends_page}
-use Rattle.ttx_page.specs.Span.{holds_header, after_last_header, before_end, is_open_after, span}
+use Rattle.ttx_page.specs.Span.{holds_header, after_last_header, before_end, is_open_after, is_unended}
+use Rattle.ttx_page.specs.Span.{span}
 
 -- The cases of `after-push`.
 after_pieces :
@@ -28,6 +34,26 @@ before_pieces true a b y ps x now h = refl
 before_pieces false true b y ps x now h = ap (λ l. y ∷ l) h
 before_pieces false false true y ps x now h = ap (λ l. y ∷ l) h
 before_pieces false false false y ps x now h = ap (λ l. y ∷ l) h
+
+-- False on the right changes nothing.
+or-false : (b : Bool) → (b || false) ≡ b
+or-false true = refl
+or-false false = refl
+
+-- What `find` gives, one element on.
+pub find-push :
+    {A : Type 0} (test : A → Bool) (xs : List A) (x : A)
+    → find test (xs ++ x ∷ []) ≡ option_or (find test xs) (cond (test x) (Some x) None)
+find-push test [] x = refl
+find-push test (y ∷ ys) x = go (test y) (find-push test ys x)
+  where
+    go :
+        (b : Bool)
+        → find test (ys ++ x ∷ []) ≡ option_or (find test ys) (cond (test x) (Some x) None)
+        → cond b (Some y) (find test (ys ++ x ∷ []))
+        ≡ option_or (cond b (Some y) (find test ys)) (cond (test x) (Some x) None)
+    go true h = refl
+    go false h = h
 
 module _ {A : Type 0} (kind_of : A → PacketKind) where
   -- Whether there is a header of the page, one item on.
@@ -109,3 +135,78 @@ module _ {A : Type 0} (kind_of : A → PacketKind) where
           ∙ open_cases (list_any (λ y. ends_page (kind_of y)) (after_last_header kind_of xs))
           (ends_page (kind_of x)) (before_end kind_of (after_last_header kind_of xs))
       go false false e = sym (ap (before_end kind_of) (after-none kind_of xs e))
+
+  -- Whether some item passes a test, one item on.
+  pub list_any-push :
+      (test : A → Bool) (xs : List A) (x : A)
+      → list_any test (xs ++ x ∷ []) ≡ (list_any test xs || test x)
+  list_any-push test xs x =
+      list_any-append test xs (x ∷ []) ∙ ap (λ b. list_any test xs || b) (or-false (test x))
+
+  -- The span after a header of the page is empty.
+  pub span-this :
+      (xs : List A) (x : A)
+      → is_this_page (kind_of x) ≡ true
+      → span kind_of (xs ++ x ∷ []) ≡ []
+  span-this xs x e = span-push xs x ∙ cond-true _ _ _ e
+
+  -- The span after another item: one more, while the page is open and the item does not end it.
+  pub span-other :
+      (xs : List A) (x : A)
+      → is_this_page (kind_of x) ≡ false
+      → span kind_of (xs ++ x ∷ [])
+      ≡ cond (is_open_after kind_of xs) (span kind_of xs ++ before_end kind_of (x ∷ []))
+      (span kind_of xs)
+  span-other xs x e =
+      span-push xs x ∙ cond-false _ _ _ e ∙ go (is_open_after kind_of xs) (ends_page (kind_of x))
+    where
+      go :
+          (o b : Bool)
+          → cond (o && not b) (span kind_of xs ++ x ∷ []) (span kind_of xs)
+          ≡ cond o (span kind_of xs ++ cond b [] (x ∷ [])) (span kind_of xs)
+      go true true = sym (append-nil (span kind_of xs))
+      go true false = refl
+      go false b = refl
+
+  -- The page is open after a header of it.
+  pub open-this :
+      (xs : List A) (x : A)
+      → is_this_page (kind_of x) ≡ true
+      → is_open_after kind_of (xs ++ x ∷ []) ≡ true
+  open-this xs x e =
+      let holds = holds-push xs x ∙ ap (λ b. b || holds_header kind_of xs) e in
+      let after = after-push xs x ∙ cond-true _ _ _ e in
+      rw (holds, after) refl
+
+  -- The page is open after another item where it was, and the item does not end it.
+  pub open-other :
+      (xs : List A) (x : A)
+      → is_this_page (kind_of x) ≡ false
+      → is_open_after kind_of (xs ++ x ∷ [])
+      ≡ (is_open_after kind_of xs && not (ends_page (kind_of x)))
+  open-other xs x e = go (holds_header kind_of xs) refl
+    where
+      ended : A → Bool
+      ended y = ends_page (kind_of y)
+
+      held : holds_header kind_of (xs ++ x ∷ []) ≡ holds_header kind_of xs
+      held = holds-push xs x ∙ ap (λ b. b || holds_header kind_of xs) e
+
+      nots : (b c : Bool) → not (b || c) ≡ (not b && not c)
+      nots true c = refl
+      nots false c = refl
+
+      go :
+          (h : Bool)
+          → holds_header kind_of xs ≡ h
+          → is_open_after kind_of (xs ++ x ∷ [])
+          ≡ ((h && is_unended kind_of xs) && not (ends_page (kind_of x)))
+      go true p =
+          let after :
+          after_last_header kind_of (xs ++ x ∷ [])
+          ≡ after_last_header kind_of xs ++ x ∷ [] =
+          after-push xs x ∙ cond-false _ _ _ e ∙ cond-true _ _ _ p in
+          rw (held, p, after)
+          (ap not (list_any-push ended (after_last_header kind_of xs) x)
+          ∙ nots (list_any ended (after_last_header kind_of xs)) (ended x))
+      go false p = rw (held, p) refl

@@ -11,6 +11,7 @@
 #![tactic(auto)]
 
 mod blank;
+mod differing;
 mod keep;
 mod laws;
 mod memory;
@@ -19,6 +20,7 @@ mod page;
 mod receiver;
 
 pub use blank::Blank;
+pub use differing::differing_columns;
 pub use keep::Keep;
 pub use laws::{
     law_of_lost_rows, law_of_marked_loss, law_of_noise, law_of_nothing_lost, law_of_quiet,

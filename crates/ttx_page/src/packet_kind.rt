@@ -26,7 +26,7 @@ impl PacketKind {
     /// What a packet is to a receiver of a page.
     ///
     /// It reads the address once, and the coded bytes of a header alone.
-    #[tactic(auto, using(std::proofs::lemmas::Bool::Decides::nat_tests), unfolding(crate::specs::PacketKind::kind, ttx_packet::specs::PageHeader::header))]
+    #[tactic(auto, unfolding(crate::specs::PacketKind::kind, ttx_packet::specs::PageHeader::header))]
     pub fn of(watched: PageId, packet: &Packet) -> PacketKind
         ensures value { result ≡ kind watched packet.now }
         ensures row { (row : ℕ) → result ≡ PacketKind.Row row → (1 ≤ row) × (row ≤ 24) }

@@ -1,9 +1,11 @@
 //! A page: the 24 rows under the page header, each of 40 codes.
 ghost use Rattle.std.specs.Prelude.{◌≡◌, ◌≢◌, ℕ, ◌-◌, ◌<◌, ◌≤◌, slice_index, slice_set};
 ghost use Rattle.std.specs.Prelude.{MatchOption};
+ghost use Rattle.ttx_page.specs.Differing.{differing};
 ghost use Rattle.ttx_page.specs.Page.{blank, cell, row_at, AreCodes, DiffersFirst, IsCell, IsCode};
 ghost use Rattle.ttx_page.specs.Page.{IsPage, IsRow};
 
+use crate::differing::differing_columns;
 use std::marker::Model;
 
 /// Rows 1 to 24 of a page (EN 300 706, packets X/1 to X/24), columns 0 to 39.
@@ -83,6 +85,19 @@ impl Page {
             }
         }
         None
+    }
+
+    /// How many of the 960 cells of two pages differ.
+    #[tactic(auto, using(crate::proofs::DifferingLemmas::rows))]
+    pub fn differing_cells(&self, other: &Page) -> u16
+        ensures value { result ≡ differing self.now other.now }
+        ensures range { result ≤ 960 }
+    {
+        let mut count = 0;
+        for row in 0..24 {
+            count += differing_columns(&self.rows[row], &other.rows[row]);
+        }
+        count
     }
 }
 

@@ -1,0 +1,41 @@
+//! How many cells differ: a count that a checker keeps as rows are stored.
+ghost use Rattle.std.specs.Prelude.{◌≡◌, ◌≤◌};
+ghost use Rattle.ttx_page.specs.Differing.{row_differing};
+
+/// How many of the 40 columns of two rows differ.
+///
+/// Where one row of a page is stored anew, the page's count changes by what this changes.
+#[tactic(auto, using(crate::proofs::DifferingLemmas::columns))]
+pub fn differing_columns(a: &[u8; 40], b: &[u8; 40]) -> u16
+    ensures value { result ≡ row_differing a.now b.now }
+    ensures range { result ≤ 40 }
+{
+    let mut count = 0;
+    for i in 0..40 {
+        if a[i] != b[i] {
+            count += 1;
+        }
+    }
+    count
+}
+
+#[cfg(test)]
+mod tests {
+    use super::*;
+    use crate::Page;
+
+    #[test]
+    fn counts_cells(rt: HostRuntime) {
+        let blank = Page::blank();
+        let mut codes = [0x20; 40];
+        assert_eq!(rt; differing_columns(&codes, blank.row(1)), 0);
+        codes[0] = 0x0D;
+        codes[39] = 0x0A;
+        assert_eq!(rt; differing_columns(&codes, blank.row(1)), 2);
+        let mut page = blank;
+        page.set_row(1, &codes);
+        page.set_row(24, &codes);
+        assert_eq!(rt; page.differing_cells(&blank), 4);
+        assert_eq!(rt; page.differing_cells(&page), 0);
+    }
+}
