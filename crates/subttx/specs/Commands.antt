@@ -1,7 +1,9 @@
 -- The commands of the program, as `clap` sees them.
-use Rattle.std.specs.Prelude.{ℕ, true, List, [], ◌∷◌, Some, codes, map}
+use Rattle.std.specs.Prelude.{ℕ, Bool, true, List, [], ◌∷◌, Option, codes, map}
 use Rattle.std.specs.Borrow.{Bor}
-use Rattle.clap.specs.Words.{App, Rule, Text, new_app, new_rule, with_rule, with_subcommand}
+use Rattle.clap.specs.Kinds.{Kinds}
+use Rattle.clap.specs.Words.{App, Row, Rule, Text, fault_of, new_app, new_rule, subcommand_of}
+use Rattle.clap.specs.Words.{takes, with_rule, with_subcommand}
 
 -- An argument that has to be there.
 abbrev pub required_rule : Text → Rule
@@ -23,8 +25,25 @@ bare_app = let plain = new_app (codes "subttx") in record plain {
 }
 
 -- The program and its commands.
-abbrev pub subttx_app : App
+unfoldable pub subttx_app : App
 subttx_app = with_subcommand bare_app packet_app.top
+
+-- What `clap`'s contract says of words, as functions of them. The kinds of its refusal: none where
+-- it takes the words.
+unfoldable pub refusals : List Text → Kinds
+refusals words = fault_of subttx_app words
+
+-- The command that the words name, with its arguments as rows.
+unfoldable pub command_in : List Text → Option (Text × List Row)
+command_in words = subcommand_of subttx_app words
+
+-- Whether only memory can refuse the words.
+unfoldable pub are_sound : List Text → Bool
+are_sound words = takes subttx_app words
+
+-- The names of the commands.
+abbrev pub command_names : List Text
+command_names = codes "packet" ∷ []
 
 -- The words of the command line as texts.
 abbrev pub texts_of : List (Bor (List ℕ)) → List Text

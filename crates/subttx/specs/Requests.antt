@@ -1,10 +1,10 @@
 -- How the words of the command line are read.
-use Rattle.std.specs.Prelude.{◌≡◌, ◌≢◌, ⊤, Bool, false, List, [], Option, Some, None, Ok}
-use Rattle.std.specs.Prelude.{codes, unwrap_or, is_ok, if◌then◌else◌}
+use Rattle.std.specs.Prelude.{◌≡◌, ◌≢◌, ◌⊎◌, ⊤, Bool, true, false, List, [], ◌∷◌, Option}
+use Rattle.std.specs.Prelude.{Some, None, Ok, codes, unwrap_or, is_ok, if◌then◌else◌}
 use Rattle.std.specs.Str.{bytes_eq}
-use Rattle.clap.specs.Words.{Text, Row, first_of, fault_of, subcommand_of}
+use Rattle.clap.specs.Words.{Text, Row, first_of}
 use Rattle.hex.specs.Hex.{decode_sized}
-use Rattle.subttx.specs.Commands.{subttx_app}
+use Rattle.subttx.specs.Commands.{are_sound, command_in, refusals}
 use Rattle.subttx.specs.declared.request.Request.{Request}
 use Rattle.subttx.specs.declared.request.Request.TheVariants as ask
 use Rattle.subttx.specs.declared.request.UsageFault.{UsageFault}
@@ -33,8 +33,8 @@ Holds rows (ask.Packet bytes) = decode_sized (text_of (codes "hex") rows) 42 ≡
 
 -- `clap` takes the words, and they give this command these arguments.
 pub record Names (words : List Text) (name : Text) (rows : List Row) : Type 0 where
-  pub taken : fault_of subttx_app words ≡ []
-  pub command : subcommand_of subttx_app words ≡ Some (name, rows)
+  pub taken : refusals words ≡ []
+  pub command : command_in words ≡ Some (name, rows)
 
 -- The request is the one that the words ask for.
 pub record AsksFor (words : List Text) (request : Request) : Type 0 where
@@ -53,7 +53,7 @@ pub record Breaks (words : List Text) (fault : UsageFault) : Type 0 where
 -- The fault is one that the words have: `clap` refuses them, or they break the program's own rule.
 -- Want of memory says nothing of the words, and no file is opened by reading them.
 abbrev pub IsFaultOf : List Text → UsageFault → Type 0
-IsFaultOf words fault.Words = fault_of subttx_app words ≢ []
+IsFaultOf words fault.Words = (refusals words ≢ []) × (are_sound words ≢ true)
 IsFaultOf words fault.Memory = ⊤
 IsFaultOf words fault.Open = ⊥
 IsFaultOf words own = Breaks words own
@@ -67,3 +67,8 @@ names_second (ask.Packet bytes) = false
 
 abbrev pub names_file : Request → Bool
 names_file (ask.Packet bytes) = false
+
+-- The name is one of these.
+abbrev pub IsOneOf : List Text → Text → Type 0
+IsOneOf [] name = ⊥
+IsOneOf (first ∷ rest) name = (name ≡ first) ⊎ IsOneOf rest name

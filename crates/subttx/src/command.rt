@@ -60,6 +60,7 @@ fn with_command<'a>(program: Command<'a>, command: Command<'a>) -> Result<Comman
 /// # Errors
 ///
 /// Want of memory alone.
+#[tactic(auto, unfolding(crate::specs::Commands::subttx_app))]
 pub fn subttx_command<'a>(alloc: Global) -> Result<Command<'a>, AllocError>
     ensures app { IfOk result (λ c. app_of c ≡ subttx_app) }
     ensures local { IfOk result (λ c. (out-Command c).has_globals ≡ false) }

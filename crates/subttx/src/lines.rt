@@ -4,12 +4,10 @@
 //! `ArrayVec` that has room, which its `requires` asks for in the number of bytes that it may add.
 ghost use Rattle.std.specs.Prelude.{◌≡◌, ◌+◌, ◌≤◌, ◌<◌, ◌++◌, length, decimal};
 ghost use Rattle.arrayvec.specs.ArrayVec.{array_vec_len};
-ghost use Rattle.subttx.specs.Lines.{glyph, hex_four, hex_two, usage_line};
+ghost use Rattle.subttx.specs.Lines.{glyph, usage_line};
 
 use crate::request::UsageFault;
 use arrayvec::ArrayVec;
-
-const HEX_DIGITS: [u8; 16] = *b"0123456789ABCDEF";
 
 /// The line of a fault of the words or of the program itself.
 pub fn usage_text(fault: &UsageFault) -> &'static [u8]
@@ -40,27 +38,6 @@ pub fn push_decimal<const N: usize>(line: &mut ArrayVec<u8, N>, number: u64)
 {
     let mut digits = itoa::Buffer::new();
     push_text(line, digits.format(number).as_bytes());
-}
-
-/// Appends a byte as two upper case hexadecimal digits.
-#[tactic(auto, unfolding(crate::specs::Lines::hex_two))]
-pub fn push_hex<const N: usize>(line: &mut ArrayVec<u8, N>, byte: u8)
-    requires { array_vec_len line.old + 2 ≤ N }
-    ensures items { line.new.items ≡ line.old.items ++ hex_two byte }
-    ensures len { array_vec_len line.new ≡ array_vec_len line.old + 2 }
-{
-    line.push(HEX_DIGITS[(byte / 16) as usize]);
-    line.push(HEX_DIGITS[(byte % 16) as usize]);
-}
-
-/// Appends a number as four upper case hexadecimal digits.
-pub fn push_long_hex<const N: usize>(line: &mut ArrayVec<u8, N>, number: u16)
-    requires { array_vec_len line.old + 4 ≤ N }
-    ensures items { line.new.items ≡ line.old.items ++ hex_four number }
-    ensures len { array_vec_len line.new ≡ array_vec_len line.old + 4 }
-{
-    push_hex(line, (number / 256) as u8);
-    push_hex(line, (number % 256) as u8);
 }
 
 /// The character of a cell's code.

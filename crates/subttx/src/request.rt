@@ -1,10 +1,8 @@
 //! What the words of the command line ask for.
-ghost use Rattle.std.specs.Prelude.{◌≡◌, ◌≢◌, [], Err, IfErr, IfOk, OnOk, MatchResult, true};
-ghost use Rattle.clap.specs.Words.{fault_of, found_of, rows_of, subcommand_of};
-ghost use Rattle.clap.specs.Words.{subcommand_rows_of, takes};
-ghost use Rattle.subttx.specs.Commands.{subttx_app, texts_of};
+ghost use Rattle.std.specs.Prelude.{◌≡◌, [], IfErr, IfOk, None, OnOk, Some, option_map};
+ghost use Rattle.clap.specs.Words.{found_of, rows_of, subcommand_rows_of};
+ghost use Rattle.subttx.specs.Commands.{command_in, refusals, texts_of};
 ghost use Rattle.subttx.specs.Requests.{Holds, IsFaultOf, packet_fault, text_of};
-ghost use Rattle.std.specs.Prelude.{None, Some};
 
 use crate::command::subttx_command;
 use clap::ArgMatches;
@@ -56,11 +54,9 @@ impl Request {
     pub fn parse<'a>(alloc: Global, words: &'a [&'a str]) -> Result<Request, UsageFault>
         ensures request { IfOk result (AsksFor (texts_of words.now)) }
         ensures fault { IfErr result (IsFaultOf (texts_of words.now)) }
-        ensures passes { takes subttx_app (texts_of words.now) ≡ true
-            → result ≢ Err UsageFault.Words }
     {
         let matches = matches_of(alloc, words)?;
-        let Some((name, inner)) = matches.subcommand() else {
+        let Some((name, inner)) = command_of(&matches) else {
             return Err(UsageFault::Words);
         };
         if name == "packet" {
@@ -73,12 +69,9 @@ impl Request {
 
 // The matches that `clap` gives for the words.
 fn matches_of<'a>(alloc: Global, words: &'a [&'a str]) -> Result<ArgMatches<'a>, UsageFault>
-    ensures subcommand { IfOk result (λ m.
-        subcommand_rows_of m ≡ subcommand_of subttx_app (texts_of words.now)) }
-    ensures taken { OnOk result (fault_of subttx_app (texts_of words.now) ≡ []) }
+    ensures command { IfOk result (λ m. subcommand_rows_of m ≡ command_in (texts_of words.now)) }
+    ensures taken { OnOk result (refusals (texts_of words.now) ≡ []) }
     ensures fault { IfErr result (IsFaultOf (texts_of words.now)) }
-    ensures passes { takes subttx_app (texts_of words.now) ≡ true
-        → result ≢ Err UsageFault.Words }
 {
     let Ok(command) = subttx_command(alloc) else {
         return Err(UsageFault::Memory);
@@ -90,6 +83,14 @@ fn matches_of<'a>(alloc: Global, words: &'a [&'a str]) -> Result<ArgMatches<'a>,
             _ => Err(UsageFault::Words),
         },
     }
+}
+
+// The name of the command that was met, and its matches.
+fn command_of<'a, 'm>(matches: &'m ArgMatches<'a>) -> Option<(&'a str, &'m ArgMatches<'a>)>
+    ensures { option_map (λ p. (p.0.now, rows_of (found_of p.1.now))) result
+        ≡ subcommand_rows_of matches.now }
+{
+    matches.subcommand()
 }
 
 // The text of an argument, defaults included.

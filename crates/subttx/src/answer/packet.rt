@@ -3,11 +3,12 @@ ghost use Rattle.std.specs.Prelude.{◌≡◌, ◌+◌, ◌≤◌, ◌<◌, [], 
 ghost use Rattle.arrayvec.specs.ArrayVec.{array_vec_len};
 ghost use Rattle.ttx_packet.specs.PageHeader.{header};
 ghost use Rattle.subttx.specs.Lines.{address_line, control_list, control_names, header_line};
-ghost use Rattle.subttx.specs.Lines.{marked, page_and_subcode, text_glyph, text_line};
+ghost use Rattle.subttx.specs.Lines.{hex_four, hex_two, marked, page_and_subcode, text_glyph};
+ghost use Rattle.subttx.specs.Lines.{text_line};
 ghost use Rattle.subttx.specs.Listing.{CountsFault, Prints, packet_listing};
 ghost use Rattle.subttx.specs.Listing.{header_listing, row_listing};
 
-use crate::lines::{push_decimal, push_hex, push_long_hex, push_text, shown};
+use crate::lines::{push_decimal, push_text, shown};
 use crate::status::Status;
 use arrayvec::ArrayVec;
 use bitflags::Flags;
@@ -16,6 +17,8 @@ use ttx_packet::{Control, Header, Packet, is_odd};
 
 // Room for all that is printed of one packet, 128 bytes at most.
 type Text = ArrayVec<u8, 256>;
+
+const HEX_DIGITS: [u8; 16] = *b"0123456789ABCDEF";
 
 /// Prints the address of a packet, its header and its text (EN 300 706, packets X/0 to X/31).
 ///
@@ -115,6 +118,27 @@ fn push_page(line: &mut Text, header: &Header)
     push_hex(line, header.page);
     push_text(line, b" subcode ");
     push_long_hex(line, header.subcode);
+}
+
+// Appends a byte as two upper case hexadecimal digits.
+#[tactic(auto, unfolding(crate::specs::Lines::hex_two))]
+fn push_hex(line: &mut Text, byte: u8)
+    requires { array_vec_len line.old + 2 ≤ 256 }
+    ensures items { line.new.items ≡ line.old.items ++ hex_two byte }
+    ensures len { array_vec_len line.new ≡ array_vec_len line.old + 2 }
+{
+    line.push(HEX_DIGITS[(byte / 16) as usize]);
+    line.push(HEX_DIGITS[(byte % 16) as usize]);
+}
+
+// Appends a number as four upper case hexadecimal digits.
+fn push_long_hex(line: &mut Text, number: u16)
+    requires { array_vec_len line.old + 4 ≤ 256 }
+    ensures items { line.new.items ≡ line.old.items ++ hex_four number }
+    ensures len { array_vec_len line.new ≡ array_vec_len line.old + 4 }
+{
+    push_hex(line, (number / 256) as u8);
+    push_hex(line, (number % 256) as u8);
 }
 
 // Appends the control bits that are set, or ` none`.

@@ -1,5 +1,5 @@
 -- The value that `clap` gives for an id is the first of its row; by first_value-rows.
-use Rattle.std.proofs.Common.{◌≡◌, ◌∙◌, ap, ℕ, List, [], Option, unwrap_or}
+use Rattle.std.proofs.Common.{◌≡◌, ◌∙◌, ap, [], Option, unwrap_or}
 use Rattle.clap.specs.Words.{Text, found_of, first_value, first_of, rows_of}
 use Rattle.clap.specs.declared.parser.matches.ArgMatches.{ArgMatches}
 use Rattle.clap.proofs.WalkLemmas.{first_value-rows}
