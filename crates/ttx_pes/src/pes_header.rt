@@ -1,6 +1,6 @@
 //! The first 46 bytes of a PES packet, read and written (EN 300 472, PES packet header and
 //! data_identifier).
-ghost use Rattle.std.specs.Prelude.{◌≡◌, ◌+◌, ◌*◌, ◌%◌, ◌^◌, ◌<◌, ◌≤◌, false, true, length, slice_index, IfOk, IfErr};
+ghost use Rattle.std.specs.Prelude.{◌≡◌, ◌+◌, ◌*◌, ◌/◌, ◌%◌, ◌^◌, ◌<◌, ◌≤◌, false, true, length, slice_index, IfOk, IfErr};
 ghost use Rattle.sub_io.specs.Reading.{AreBytes};
 ghost use Rattle.ttx_pes.specs.PesPacket.{header, pts_bytes};
 ghost use Rattle.ttx_pes.specs.Reading.{pts_at, size_at, is_format_fault, is_read_failure};
@@ -63,10 +63,17 @@ pub(crate) fn pts_of(body: &[u8]) -> Result<u64, PesFault>
     if body[39] / 16 != 1 {
         return Err(PesFault::DataId);
     }
-    let high = (body[3] / 2 % 8) as u64 * (1 << 30);
-    let middle = body[4] as u64 * (1 << 22) + (body[5] / 2) as u64 * (1 << 15);
-    let low = body[6] as u64 * (1 << 7) + (body[7] / 2) as u64;
-    Ok(high + middle + low)
+    let high = (body[3] / 2 % 8) as u64;
+    Ok(high * (1 << 30) + fifteen_bits(body, 4) * (1 << 15) + fifteen_bits(body, 6))
+}
+
+// A group of 15 bits of the PTS, without the marker bit behind it.
+fn fifteen_bits(body: &[u8], place: usize) -> u64
+    requires { place + 2 ≤ length body.now }
+    ensures value { result ≡ slice_index body.now place * 0x80 + slice_index body.now (place + 1) / 2 }
+    ensures fits { result < 2 ^ 15 }
+{
+    BigEndian::read_u16(&body[place..]) as u64 / 2
 }
 
 // The five bytes of a PTS.
