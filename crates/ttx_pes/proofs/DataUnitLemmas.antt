@@ -1,8 +1,13 @@
--- A data unit that is read is one of the grammar, and the other way round: main lemmas units_sound and
--- units_complete.
-use Rattle.std.proofs.Common.{◌≡◌, ℕ, zero, suc, ◌+◌, ◌-◌, ◌*◌, ◌/◌, ◌%◌, ◌<◌, ◌≤◌, Bool, true, false, cond, not, eqb, ltb, List, [], ◌∷◌, ◌++◌, length, get_or, take, drop, map, Option, Some, None, Result, Ok, Err, refl, sym, ap, subst, ◌∙◌, append_assoc, arith, inl, inr, ◌⊎◌, length-append, length-take, length-drop}
+-- A data unit that is read is one of the grammar, and the other way round. Main lemmas:
+-- units_sound, units_complete.
+use Rattle.std.proofs.Common.{◌≡◌, ℕ, zero, suc, ◌+◌, ◌-◌, ◌*◌, ◌/◌, ◌%◌, ◌<◌, ◌≤◌, Bool, true}
+use Rattle.std.proofs.Common.{false, cond, not, eqb, ltb, List, [], ◌∷◌, ◌++◌, length, get_or, take}
+use Rattle.std.proofs.Common.{drop, map, Option, Some, None, Result, Ok, Err, refl, sym, ap, subst}
+use Rattle.std.proofs.Common.{◌∙◌, append_assoc, arith, inl, inr, ◌⊎◌, length-append, length-take}
+use Rattle.std.proofs.Common.{length-drop}
 use Rattle.std.proofs.lemmas.Bool.{eqb-true, eq-eqb, ne_eqb, ltb-true, cases_eq, cases_lt}
-use Rattle.std.proofs.lemmas.List.{length-map, take_at, drop_at, take-append-drop, get_or-take, get_or-drop, get_or_past, append-nil, nil_from_length}
+use Rattle.std.proofs.lemmas.List.{length-map, take_at, drop_at, take-append-drop, get_or-take}
+use Rattle.std.proofs.lemmas.List.{get_or-drop, get_or_past, append-nil, nil_from_length}
 use Rattle.std.specs.Option.{option_to_list}
 use Rattle.std.specs.Prelude.{◌&&◌}
 use Rattle.sub_io.specs.Reading.{◌>>=◌, AreBytes}
@@ -14,7 +19,7 @@ use Rattle.ttx_pes.specs.DataUnit.{UnitValue, IsUnit, is_teletext, IsDataUnit, A
 use Rattle.ttx_pes.specs.LineOrder.{last_place, stands_after, AreInLineOrder}
 use Rattle.ttx_pes.specs.Reading.{unit_of, with_unit, teletext_at, unit_at, units_at}
 use Rattle.ttx_packet.proofs.BitOrderLemmas.{mirror-mirror}
-use Rattle.ttx_pes.proofs.ReadingSteps.{guard_ok, and_ok, bind_ok, done, ok_is}
+use Rattle.ttx_pes.proofs.ReadingSteps.{test_held, both_hold, step_gave, given_as, Ok-injective}
 use Rattle.ttx_pes.proofs.LineOrderLemmas.{last_place-push}
 
 -- ---- packets and bytes
@@ -48,10 +53,14 @@ mirrored_fit (x ∷ p) h (suc i) = mirrored_fit p (λ k. h (suc k)) i
 
 -- ---- a data unit
 
-chosen : {A : Type 0} (b : Bool) (x y z : A) → cond (not b) x y ≡ z → ((b ≡ false) × (x ≡ z)) ⊎ ((b ≡ true) × (y ≡ z))
-chosen true x y z e = inr (refl, e)
-chosen false x y z e = inl (refl, e)
+-- Which way a test went.
+if_not_cases : {A : Type 0} (b : Bool) (x y z : A)
+    → cond (not b) x y ≡ z
+    → ((b ≡ false) × (x ≡ z)) ⊎ ((b ≡ true) × (y ≡ z))
+if_not_cases true x y z e = inr (refl, e)
+if_not_cases false x y z e = inl (refl, e)
 
+-- The two numbers of data units with Teletext.
 is_teletext_id : (id : ℕ) → is_teletext id ≡ true → (2 ≤ id) × (id ≤ 3)
 is_teletext_id id e = elim (cases_eq id 2) [
   | inl two ↦ (omega arith, omega arith)
@@ -60,21 +69,35 @@ is_teletext_id id e = elim (cases_eq id 2) [
       let three : id ≡ 3 = eqb-true id 3 (rw no at e) in (omega arith, omega arith)
 ]
 
-field_bit : (b : ℕ) → b < 256 → (64 * (b / 64) + 32 * (2 - cond (eqb ((b / 32) % 2) 1) 1 2) + b % 32 ≡ b) × (1 ≤ cond (eqb ((b / 32) % 2) 1) 1 2) × (cond (eqb ((b / 32) % 2) 1) 1 2 ≤ 2)
+-- The third byte of a unit, made again of its parts.
+field_bit : (b : ℕ)
+    → b < 256
+    → (64 * (b / 64) + 32 * (2 - cond (eqb ((b / 32) % 2) 1) 1 2) + b % 32 ≡ b)
+    × (1 ≤ cond (eqb ((b / 32) % 2) 1) 1 2) × (cond (eqb ((b / 32) % 2) 1) 1 2 ≤ 2)
 field_bit b lt = elim (cases_eq ((b / 32) % 2) 1) [
-  | inl one ↦ let t : eqb ((b / 32) % 2) 1 ≡ true = eq-eqb _ _ one in rw t (omega arith, omega arith, omega arith)
-  | inr other ↦ let f : eqb ((b / 32) % 2) 1 ≡ false = ne_eqb _ _ other in rw f (omega arith, omega arith, omega arith)
+  | inl one ↦ let t : eqb ((b / 32) % 2) 1 ≡ true = eq-eqb _ _ one in
+      rw t (omega arith, omega arith, omega arith)
+  | inr other ↦ let f : eqb ((b / 32) % 2) 1 ≡ false = ne_eqb _ _ other in
+      rw f (omega arith, omega arith, omega arith)
 ]
 
--- a test that lets a value through
-stand_ok : (b : Bool) (x y : List UnitValue) → cond b (Ok x) (Err fault.LineOrder) ≡ Ok y → (b ≡ true) × (x ≡ y)
-stand_ok true x y e = (refl, cc)
-stand_ok false x y e = absurd cc
+-- A test that lets a value through.
+if_ok_held : (b : Bool) (x y : List UnitValue)
+    → cond b (Ok x) (Err fault.LineOrder) ≡ Ok y
+    → (b ≡ true) × (x ≡ y)
+if_ok_held true x y e = (refl, cc)
+if_ok_held false x y e = absurd cc
 
-abbrev some : UnitValue → Option UnitValue
-some u = Some u
+-- A unit that a data unit holds.
+abbrev held_unit : UnitValue → Option UnitValue
+held_unit u = Some u
 
-pub unit_sound : (b : List ℕ) (u : Option UnitValue) → length b ≡ 46 → AreBytes b → teletext_at b ≡ Ok u → IsDataUnit u b
+-- A data unit that is read is one of the grammar.
+pub unit_sound : (b : List ℕ) (u : Option UnitValue)
+    → length b ≡ 46
+    → AreBytes b
+    → teletext_at b ≡ Ok u
+    → IsDataUnit u b
 unfolding teletext_at
 unit_sound [] u len fit e = absurd (omega arith)
 unit_sound (b0 ∷ []) u len fit e = absurd (omega arith)
@@ -82,18 +105,27 @@ unit_sound (b0 ∷ b1 ∷ []) u len fit e = absurd (omega arith)
 unit_sound (b0 ∷ b1 ∷ b2 ∷ []) u len fit e = absurd (omega arith)
 unit_sound (b0 ∷ b1 ∷ b2 ∷ b3 ∷ p) u len fit e =
     let b = b0 ∷ b1 ∷ b2 ∷ b3 ∷ p in
-    let whole : Result (Option UnitValue) PesFault = cond (not (eqb b3 228)) (Err fault.Framing) (Ok (Some (unit_of b))) in
-    let g = guard_ok (eqb b1 44) fault.UnitLength (cond (not (is_teletext b0)) (Ok None) whole) u e in
+    let whole : Result (Option UnitValue) PesFault =
+    cond (not (eqb b3 228)) (Err fault.Framing) (Ok (Some (unit_of b))) in
+    let g = test_held (eqb b1 44) fault.UnitLength (cond (not (is_teletext b0)) (Ok None) whole) u e
+    in
     let is-44 : b1 ≡ 44 = eqb-true _ _ g.0 in
-    elim (chosen (is_teletext b0) (Ok None) whole (Ok u) g.1) [
-      | inl passed ↦ subst (λ (x : Option UnitValue). IsDataUnit x b) (ok_is None u passed.1)
-          (record { id = b0; rest = b2 ∷ b3 ∷ p; bytes = rw is-44 refl; other = passed.0; size = omega arith })
+    elim (if_not_cases (is_teletext b0) (Ok None) whole (Ok u) g.1) [
+      | inl passed ↦ subst (λ (x : Option UnitValue). IsDataUnit x b) (Ok-injective None u passed.1)
+          (record {
+            id = b0;
+            rest = b2 ∷ b3 ∷ p;
+            bytes = rw is-44 refl;
+            other = passed.0;
+            size =
+                omega arith;
+          })
       | inr held ↦
-          let f = guard_ok (eqb b3 228) fault.Framing (Ok (Some (unit_of b))) u held.1 in
+          let f = test_held (eqb b3 228) fault.Framing (Ok (Some (unit_of b))) u held.1 in
           let is-228 : b3 ≡ 228 = eqb-true _ _ f.0 in
           let pos = field_bit b2 (fit 2) in
           let fits : AreBytes p = λ i. fit (suc (suc (suc (suc i)))) in
-          subst (λ (x : Option UnitValue). IsDataUnit x b) (ok_is (Some (unit_of b)) u f.1)
+          subst (λ (x : Option UnitValue). IsDataUnit x b) (Ok-injective (Some (unit_of b)) u f.1)
           (record {
             reserved = b2 / 64;
             two_bits = let l = fit 2 in omega arith;
@@ -102,18 +134,25 @@ unit_sound (b0 ∷ b1 ∷ b2 ∷ b3 ∷ p) u len fit e =
               id = is_teletext_id b0 held.0;
               field = (pos.1, pos.2);
               line = omega arith;
-              packet = bytes_packet (map mirror p) (length-map p mirror ∙ omega arith) (mirrored_fit p fits);
+              packet = bytes_packet (map mirror p) (length-map p mirror
+                  ∙ omega arith) (mirrored_fit p fits);
             };
           })
     ]
 
+-- Units with those numbers are read.
 teletext_id_is : (id : ℕ) → 2 ≤ id → id ≤ 3 → is_teletext id ≡ true
 teletext_id_is id lo hi = elim (cases_eq id 2) [
   | inl two ↦ rw two refl
   | inr other ↦ let three : id ≡ 3 = omega arith in rw three refl
 ]
 
-field_back : (reserved field line : ℕ) → 1 ≤ field → field ≤ 2 → line < 32 → cond (eqb (((64 * reserved + 32 * (2 - field) + line) / 32) % 2) 1) 1 2 ≡ field
+-- The field, read from the third byte.
+field_back : (reserved field line : ℕ)
+    → 1 ≤ field
+    → field ≤ 2
+    → line < 32
+    → cond (eqb (((64 * reserved + 32 * (2 - field) + line) / 32) % 2) 1) 1 2 ≡ field
 field_back reserved field line lo hi lt = elim (cases_eq field 1) [
   | inl one ↦
       let t : ((64 * reserved + 32 * (2 - field) + line) / 32) % 2 ≡ 1 = omega arith in
@@ -124,93 +163,155 @@ field_back reserved field line lo hi lt = elim (cases_eq field 1) [
       rw t (sym two)
 ]
 
-unit_is : (u : UnitValue) (field line : ℕ) (packet : List ℕ) → field ≡ u.field → line ≡ u.line → packet ≡ u.packet → ◌≡◌ {A = UnitValue} (record { id = u.id; field = field; line = line; packet = packet }) u
+-- Equal fields make equal units.
+unit_is : (u : UnitValue) (field line : ℕ) (packet : List ℕ)
+    → field ≡ u.field
+    → line ≡ u.line
+    → packet ≡ u.packet
+    → ◌≡◌ {A = UnitValue} (record { id = u.id; field = field; line = line; packet = packet }) u
 unit_is u field line packet p q r = rw (p, q, r) refl
 
-pub unit_complete : (u : Option UnitValue) (b : List ℕ) → IsDataUnit u b → (teletext_at b ≡ Ok u) × (length b ≡ 46)
+-- A data unit of the grammar is read.
+pub unit_complete : (u : Option UnitValue) (b : List ℕ)
+    → IsDataUnit u b
+    → (teletext_at b ≡ Ok u) × (length b ≡ 46)
 unfolding teletext_at
 unit_complete None b h = rw (h.bytes, h.other) (refl, ap suc (ap suc h.size))
 unit_complete (Some u) b h =
     let id-is = teletext_id_is u.id h.is_unit.id.0 h.is_unit.id.1 in
-    let field-is = field_back h.reserved u.field u.line h.is_unit.field.0 h.is_unit.field.1 h.is_unit.line in
-    let line-is : (64 * h.reserved + 32 * (2 - u.field) + u.line) % 32 ≡ u.line = let l = h.is_unit.line in omega arith in
-    let same = unit_is u _ _ _ field-is line-is (mirrored_twice u.packet (packet_bytes u.packet h.is_unit.packet)) in
-    rw (h.bytes, id-is) (ap (λ (x : UnitValue). done (some x)) same, ap (λ (n : ℕ). suc (suc (suc (suc n)))) (length-map u.packet mirror ∙ h.is_unit.packet.size))
+    let field-is =
+    field_back h.reserved u.field u.line h.is_unit.field.0 h.is_unit.field.1 h.is_unit.line in
+    let line-is : (64 * h.reserved + 32 * (2 - u.field) + u.line) % 32 ≡ u.line = let l =
+    h.is_unit.line in omega arith in
+    let same =
+    unit_is u _ _ _ field-is line-is
+    (mirrored_twice u.packet (packet_bytes u.packet h.is_unit.packet)) in
+    rw (h.bytes, id-is) (
+      ap (λ (x : UnitValue). given_as (held_unit x)) same,
+      ap (λ (n : ℕ). suc (suc (suc (suc n)))) (length-map u.packet mirror
+          ∙ h.is_unit.packet.size),
+    )
 
 -- ---- data units one after another
 
+-- Bytes in a prefix.
 pub AreBytes-take : (n : ℕ) (b : List ℕ) → AreBytes b → AreBytes (take n b)
 AreBytes-take n b h i = elim (cases_lt i n) [
   | inl lt ↦ rw (get_or-take n b i 0 lt) (h i)
   | inr le ↦ rw (get_or_past (take n b) i 0 (omega (arith, length-take n b))) (omega arith)
 ]
 
+-- Bytes behind a prefix.
 pub AreBytes-drop : (n : ℕ) (b : List ℕ) → AreBytes b → AreBytes (drop n b)
 AreBytes-drop n b h i = rw get_or-drop (h (n + i))
 
--- what a data unit adds
+-- What a data unit adds.
 pub record Adds (front us : List UnitValue) (u : Option UnitValue) : Type 0 where
   pub is : us ≡ front ++ option_to_list u
-  pub rises : (more : List UnitValue) → AreInLineOrder (last_place 0 us) more → AreInLineOrder (last_place 0 front) (option_to_list u ++ more)
+  pub rises : (more : List UnitValue) → AreInLineOrder (last_place 0 us) more
+      → AreInLineOrder (last_place 0 front) (option_to_list u ++ more)
 
-with_unit_adds : (front us : List UnitValue) (u : Option UnitValue) → with_unit front u ≡ Ok us → Adds front us u
-with_unit_adds front us None e = subst (λ (x : List UnitValue). Adds front x None) (ok_is front us e) (record { is = sym (append-nil front); rises = λ more r. r })
+-- What is read behind the units so far keeps the order.
+with_unit_adds : (front us : List UnitValue) (u : Option UnitValue)
+    → with_unit front u ≡ Ok us
+    → Adds front us u
+with_unit_adds front us None e =
+    subst (λ (x : List UnitValue). Adds front x None) (Ok-injective front us e)
+    (record { is = sym (append-nil front); rises = λ more r. r })
 with_unit_adds front us (Some u) e =
-    let g = stand_ok (stands_after (last_place 0 front) u) (front ++ u ∷ []) us e in
+    let g = if_ok_held (stands_after (last_place 0 front) u) (front ++ u ∷ []) us e in
     subst (λ (x : List UnitValue). Adds front x (Some u)) g.1
-    (record { is = refl; rises = λ more r. (g.0, subst (λ (l : ℕ). AreInLineOrder l more) (last_place-push 0 front u) r) })
+    (record {
+      is = refl;
+      rises =
+          λ more r. (g.0, subst (λ (l : ℕ). AreInLineOrder l more) (last_place-push 0 front u) r);
+    })
 
-pub units_sound : (n : ℕ) (front us : List UnitValue) (b : List ℕ) → length b ≡ 46 * n → AreBytes b → units_at n front b ≡ Ok us
-    → (more : List UnitValue) × (us ≡ front ++ more) × AreDataUnits n more b × AreInLineOrder (last_place 0 front) more
+-- Data units that are read are those of the grammar, in order: for a value that is read.
+pub units_sound : (n : ℕ) (front us : List UnitValue) (b : List ℕ)
+    → length b ≡ 46 * n
+    → AreBytes b
+    → units_at n front b ≡ Ok us
+    → (more : List UnitValue) × (us ≡ front ++ more) × AreDataUnits n more b
+    × AreInLineOrder (last_place 0 front) more
 unfolding units_at unit_at
-units_sound zero front us b len fit e = ([], sym (ok_is front us e) ∙ sym (append-nil front), (refl, nil_from_length b (omega arith)), tt)
+units_sound zero front us b len fit e = (
+  [],
+  sym (Ok-injective front us e)
+      ∙ sym (append-nil front),
+  (refl, nil_from_length b (omega arith)),
+  tt,
+)
 units_sound (suc n) front us b len fit e =
-    let p = bind_ok (unit_at front (take 46 b)) (λ x. units_at n x (drop 46 b)) us e in
-    let q = bind_ok (teletext_at (take 46 b)) (with_unit front) p.0 p.1 in
+    let p = step_gave (unit_at front (take 46 b)) (λ x. units_at n x (drop 46 b)) us e in
+    let q = step_gave (teletext_at (take 46 b)) (with_unit front) p.0 p.1 in
     let long : length (take 46 b) ≡ 46 = length-take 46 b ∙ omega arith in
     let held = unit_sound (take 46 b) q.0 long (AreBytes-take 46 b fit) q.1 in
     let adds = with_unit_adds front p.0 q.0 q.2 in
     let rest : length (drop 46 b) ≡ 46 * n = length-drop 46 b ∙ omega arith in
     let r = units_sound n p.0 us (drop 46 b) rest (AreBytes-drop 46 b fit) p.2 in (
       option_to_list q.0 ++ r.0,
-      r.1 ∙ ap (λ (x : List UnitValue). x ++ r.0) adds.is ∙ append_assoc front (option_to_list q.0) r.0,
+      r.1 ∙ ap (λ (x : List UnitValue). x ++ r.0) adds.is
+          ∙ append_assoc front (option_to_list q.0) r.0,
       (q.0, r.0, take 46 b, drop 46 b, held, r.2, refl, sym (take-append-drop 46 b)),
       adds.rises r.0 r.3,
     )
 
-with_unit_takes : (front others : List UnitValue) (u : Option UnitValue) → AreInLineOrder (last_place 0 front) (option_to_list u ++ others) → (with_unit front u ≡ Ok (front ++ option_to_list u)) × AreInLineOrder (last_place 0 (front ++ option_to_list u)) others
+-- A unit that keeps the order is taken.
+with_unit_takes : (front others : List UnitValue) (u : Option UnitValue)
+    → AreInLineOrder (last_place 0 front) (option_to_list u ++ others)
+    → (with_unit front u ≡ Ok (front ++ option_to_list u))
+    × AreInLineOrder (last_place 0 (front ++ option_to_list u)) others
 with_unit_takes front others None r = rw (append-nil front) (refl, r)
-with_unit_takes front others (Some u) r = (rw r.0 refl, subst (λ (l : ℕ). AreInLineOrder l others) (sym (last_place-push 0 front u)) r.1)
+with_unit_takes front others (Some u) r =
+    (rw r.0 refl, subst (λ (l : ℕ). AreInLineOrder l others) (sym (last_place-push 0 front u)) r.1)
 
-pub units_complete : (n : ℕ) (front more : List UnitValue) (b : List ℕ) → AreDataUnits n more b → AreInLineOrder (last_place 0 front) more → (units_at n front b ≡ Ok (front ++ more)) × (length b ≡ 46 * n)
+-- Data units of the grammar in order are read: for a packet that is read.
+pub units_complete : (n : ℕ) (front more : List UnitValue) (b : List ℕ)
+    → AreDataUnits n more b
+    → AreInLineOrder (last_place 0 front) more
+    → (units_at n front b ≡ Ok (front ++ more)) × (length b ≡ 46 * n)
 unfolding units_at unit_at
 units_complete zero front more b h r = rw (h.0, h.1, append-nil front) (refl, refl)
 units_complete (suc n) front more b (u, others, first, rest, held, after, us-is, b-is) r =
     let c = unit_complete u first held in
     let front-is : take 46 b ≡ first = ap (take 46) b-is ∙ take_at first rest 46 c.1 in
     let back-is : drop 46 b ≡ rest = ap (drop 46) b-is ∙ drop_at first rest 46 c.1 in
-    let rises : AreInLineOrder (last_place 0 front) (option_to_list u ++ others) = subst (λ (x : List UnitValue). AreInLineOrder (last_place 0 front) x) us-is r in
+    let rises : AreInLineOrder (last_place 0 front) (option_to_list u ++ others) =
+    subst (λ (x : List UnitValue). AreInLineOrder (last_place 0 front) x) us-is r in
     let t = with_unit_takes front others u rises in
     let i = units_complete n (front ++ option_to_list u) others rest after t.1 in (
-      rw (front-is, back-is, c.0, t.0, i.0, us-is) (ap done (append_assoc front (option_to_list u) others)),
+      rw (front-is, back-is, c.0, t.0, i.0, us-is)
+          (ap given_as (append_assoc front (option_to_list u) others)),
       rw b-is (omega (arith, length-append first rest, c.1, i.1)),
     )
 
 -- ---- the loop over data units
 
-pub units_more : (count i : ℕ) (front units : List UnitValue) (b : List ℕ) → i < count → unit_at front (take 46 b) ≡ Ok units → units_at (count - i) front b ≡ units_at (count - (i + 1)) units (drop 46 b)
+-- One more data unit of the loop.
+pub units_more : (count i : ℕ) (front units : List UnitValue) (b : List ℕ)
+    → i < count
+    → unit_at front (take 46 b) ≡ Ok units
+    → units_at (count - i) front b ≡ units_at (count - (i + 1)) units (drop 46 b)
 unfolding units_at
 units_more count i front units b lt e =
     let k : count - i ≡ suc (count - (i + 1)) = omega arith in
     rw (k, e) refl
 
-pub units_stop : (count i : ℕ) (front : List UnitValue) (b : List ℕ) (f : PesFault) → i < count → unit_at front (take 46 b) ≡ Err f → units_at (count - i) front b ≡ Err f
+-- A fault in a data unit ends the loop.
+pub units_stop : (count i : ℕ) (front : List UnitValue) (b : List ℕ) (f : PesFault)
+    → i < count
+    → unit_at front (take 46 b) ≡ Err f
+    → units_at (count - i) front b ≡ Err f
 unfolding units_at
 units_stop count i front b f lt e =
     let k : count - i ≡ suc (count - (i + 1)) = omega arith in
     rw (k, e) refl
 
-pub units_done : (count i : ℕ) (front : List UnitValue) (b : List ℕ) → count ≤ i → units_at (count - i) front b ≡ Ok front
+-- The loop is done.
+pub units_done : (count i : ℕ) (front : List UnitValue) (b : List ℕ)
+    → count ≤ i
+    → units_at (count - i) front b ≡ Ok front
 unfolding units_at
 units_done count i front b le =
     let k : count - i ≡ 0 = omega arith in

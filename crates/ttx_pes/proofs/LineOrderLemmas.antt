@@ -1,25 +1,38 @@
--- The order of lines, one unit on, and that numbered packets keep it: main lemma numbered_is_value.
-use Rattle.std.proofs.Common.{◌≡◌, ℕ, ◌+◌, ◌-◌, ◌*◌, ◌^◌, ◌<◌, ◌≤◌, Bool, true, false, cond, eqb, ltb, List, [], ◌∷◌, ◌++◌, length, get_or, take, map, refl, sym, ap, ◌∙◌, arith, inl, inr}
+-- The order of lines, one unit on, and that numbered packets keep it. Main lemma:
+-- numbered_is_value.
+use Rattle.std.proofs.Common.{◌≡◌, ℕ, ◌+◌, ◌-◌, ◌*◌, ◌^◌, ◌<◌, ◌≤◌, Bool, true, false, cond, eqb}
+use Rattle.std.proofs.Common.{ltb, List, [], ◌∷◌, ◌++◌, length, get_or, take, map, refl, sym, ap}
+use Rattle.std.proofs.Common.{◌∙◌, arith, inl, inr}
 use Rattle.std.proofs.lemmas.Bool.{lt-ltb, le-ltb, ne_eqb, cases_lt}
 use Rattle.std.proofs.lemmas.List.{take_more, length-take-le}
 use Rattle.std.specs.List.{AllByRecursion}
 use Rattle.ttx_packet.specs.PacketAddress.{IsPacket}
 use Rattle.ttx_pes.specs.DataUnit.{UnitValue, IsUnit}
-use Rattle.ttx_pes.specs.LineOrder.{line_order_place, last_place, stands_after, AreInLineOrder, numbered_units, numbered_unit, numbered_place}
+use Rattle.ttx_pes.specs.LineOrder.{line_order_place, last_place, stands_after, AreInLineOrder}
+use Rattle.ttx_pes.specs.LineOrder.{numbered_units, numbered_unit, numbered_place}
 use Rattle.ttx_pes.specs.PesPacket.{PesValue, IsPesValue, numbered_frame}
 
 -- The last place behind one more unit.
-pub last_place-push : (last : ℕ) (us : List UnitValue) (u : UnitValue) → last_place last (us ++ u ∷ []) ≡ cond (eqb u.line 0) (last_place last us) (line_order_place u)
+pub last_place-push : (last : ℕ) (us : List UnitValue) (u : UnitValue)
+    → last_place last (us ++ u ∷ []) ≡ cond (eqb u.line 0) (last_place last us) (line_order_place u)
 last_place-push last [] u = refl
-last_place-push last (t ∷ us) u = last_place-push (cond (eqb t.line 0) last (line_order_place t)) us u
+last_place-push last (t ∷ us) u =
+    last_place-push (cond (eqb t.line 0) last (line_order_place t)) us u
 
 -- The order goes on by a unit that stands behind it.
-pub AreInLineOrder-push : (last : ℕ) (us : List UnitValue) (u : UnitValue) → AreInLineOrder last us → stands_after (last_place last us) u ≡ true → AreInLineOrder last (us ++ u ∷ [])
+pub AreInLineOrder-push : (last : ℕ) (us : List UnitValue) (u : UnitValue)
+    → AreInLineOrder last us
+    → stands_after (last_place last us) u ≡ true
+    → AreInLineOrder last (us ++ u ∷ [])
 AreInLineOrder-push last [] u h e = (e, tt)
-AreInLineOrder-push last (t ∷ us) u h e = (h.0, AreInLineOrder-push (cond (eqb t.line 0) last (line_order_place t)) us u h.1 e)
+AreInLineOrder-push last (t ∷ us) u h e =
+    (h.0, AreInLineOrder-push (cond (eqb t.line 0) last (line_order_place t)) us u h.1 e)
 
 -- One more unit among units.
-pub units-push : (us : List UnitValue) (u : UnitValue) → AllByRecursion IsUnit us → IsUnit u → AllByRecursion IsUnit (us ++ u ∷ [])
+pub units-push : (us : List UnitValue) (u : UnitValue)
+    → AllByRecursion IsUnit us
+    → IsUnit u
+    → AllByRecursion IsUnit (us ++ u ∷ [])
 units-push [] u h w = (w, tt)
 units-push (t ∷ us) u h w = (h.0, units-push us u h.1 w)
 
@@ -28,31 +41,54 @@ pub ruleset order = (last_place-push, AreInLineOrder-push, units-push)
 
 -- The units of packets that are numbered_units from the first line on.
 
-numbered_push : (k : ℕ) (xs : List (List ℕ)) (p : List ℕ) → numbered_units k (xs ++ p ∷ []) ≡ numbered_units k xs ++ numbered_unit (k + length xs) p ∷ []
+-- One more numbered packet.
+numbered_push : (k : ℕ) (xs : List (List ℕ)) (p : List ℕ)
+    → numbered_units k (xs ++ p ∷ []) ≡ numbered_units k xs ++ numbered_unit (k + length xs) p ∷ []
 numbered_push k [] p = let z : k ≡ k + 0 = omega arith in ap (λ (n : ℕ). numbered_unit n p ∷ []) z
 numbered_push k (x ∷ xs) p =
     let z : k + 1 + length xs ≡ k + length (x ∷ xs) = omega arith in
-    ap (λ (us : List UnitValue). numbered_unit k x ∷ us) (numbered_push (k + 1) xs p ∙ ap (λ (n : ℕ). numbered_units (k + 1) xs ++ numbered_unit n p ∷ []) z)
+    ap (λ (us : List UnitValue). numbered_unit k x ∷ us) (numbered_push (k + 1) xs p
+    ∙ ap (λ (n : ℕ). numbered_units (k + 1) xs ++ numbered_unit n p ∷ []) z)
 
-pub numbered_more : (i : ℕ) (ps : List (List ℕ)) (u : UnitValue) (us new : List UnitValue) → i < length ps → us ≡ numbered_units 0 (take i ps) → u ≡ numbered_unit i (get_or ps i []) → new ≡ us ++ u ∷ [] → new ≡ numbered_units 0 (take (i + 1) ps)
+-- The loop of frame_of, one packet on.
+pub numbered_more : (i : ℕ) (ps : List (List ℕ)) (u : UnitValue) (us new : List UnitValue)
+    → i < length ps
+    → us ≡ numbered_units 0 (take i ps)
+    → u ≡ numbered_unit i (get_or ps i [])
+    → new ≡ us ++ u ∷ []
+    → new ≡ numbered_units 0 (take (i + 1) ps)
 numbered_more i ps u us new lt e f h =
     let p = get_or ps i [] in
-    let len : 0 + length (take i ps) ≡ i = let l = length-take-le i ps (omega arith) in omega arith in
-    let one : numbered_units 0 (take i ps ++ p ∷ []) ≡ numbered_units 0 (take i ps) ++ numbered_unit i p ∷ [] = numbered_push 0 (take i ps) p ∙ ap (λ (n : ℕ). numbered_units 0 (take i ps) ++ numbered_unit n p ∷ []) len in
-    h ∙ ap (λ (x : List UnitValue). x ++ u ∷ []) e ∙ ap (λ (x : UnitValue). numbered_units 0 (take i ps) ++ x ∷ []) f ∙ sym one ∙ ap (numbered_units 0) (sym (take_more ps i [] lt))
+    let len : 0 + length (take i ps) ≡ i = let l = length-take-le i ps (omega arith) in
+    omega arith in
+    let one : numbered_units 0 (take i ps ++ p ∷ []) ≡ numbered_units 0 (take i ps)
+    ++ numbered_unit i p ∷ [] =
+    numbered_push 0 (take i ps) p
+    ∙ ap (λ (n : ℕ). numbered_units 0 (take i ps) ++ numbered_unit n p ∷ []) len in
+    h ∙ ap (λ (x : List UnitValue). x ++ u ∷ []) e
+    ∙ ap (λ (x : UnitValue). numbered_units 0 (take i ps) ++ x ∷ []) f ∙ sym one
+    ∙ ap (numbered_units 0) (sym (take_more ps i [] lt))
 
+-- The places of numbers rise.
 place_rises : (i : ℕ) → numbered_place i < numbered_place (i + 1)
 place_rises i = elim (cases_lt i 16) [
   | inl lt ↦ let a : ltb i 16 ≡ true = lt-ltb i 16 lt in elim (cases_lt (i + 1) 16) [
     | inl more ↦ let b : ltb (i + 1) 16 ≡ true = lt-ltb (i + 1) 16 more in rw (a, b) (omega arith)
     | inr last ↦ let b : ltb (i + 1) 16 ≡ false = le-ltb (i + 1) 16 last in rw (a, b) (omega arith)
   ]
-  | inr le ↦ let a : ltb i 16 ≡ false = le-ltb i 16 le in let b : ltb (i + 1) 16 ≡ false = le-ltb (i + 1) 16 (omega arith) in rw (a, b) (omega arith)
+  | inr le ↦ let a : ltb i 16 ≡ false = le-ltb i 16 le in let b : ltb (i + 1) 16 ≡ false =
+      le-ltb (i + 1) 16 (omega arith) in rw (a, b) (omega arith)
 ]
 
-pub last_numbered : (i : ℕ) (u : UnitValue) (us new : List UnitValue) → eqb u.line 0 ≡ false → line_order_place u ≡ numbered_place i → new ≡ us ++ u ∷ [] → last_place 0 new < numbered_place (i + 1)
+-- The last place behind a numbered unit: the next number may stand there.
+pub last_numbered : (i : ℕ) (u : UnitValue) (us new : List UnitValue)
+    → eqb u.line 0 ≡ false
+    → line_order_place u ≡ numbered_place i
+    → new ≡ us ++ u ∷ []
+    → last_place 0 new < numbered_place (i + 1)
 last_numbered i u us new line at h =
-    let last : last_place 0 new ≡ numbered_place i = ap (last_place 0) h ∙ last_place-push 0 us u ∙ rw line at in
+    let last : last_place 0 new ≡ numbered_place i =
+    ap (last_place 0) h ∙ last_place-push 0 us u ∙ rw line at in
     let rises = place_rises i in
     rw last rises
 
@@ -71,6 +107,7 @@ packets-numbered_units i (p ∷ ps) = elim (cases_lt i 16) [
       rw f (ap (λ (x : List (List ℕ)). p ∷ x) (packets-numbered_units (i + 1) ps))
 ]
 
+-- As many units as packets.
 length-numbered_units : (i : ℕ) (ps : List (List ℕ)) → length (numbered_units i ps) ≡ length ps
 length-numbered_units i [] = refl
 length-numbered_units i (p ∷ ps) =
@@ -83,24 +120,40 @@ record IsNumbered (i : ℕ) (p : List ℕ) : Type 0 where
   pub line : eqb (numbered_unit i p).line 0 ≡ false
   pub place : line_order_place (numbered_unit i p) ≡ numbered_place i
 
+-- One numbered unit.
 numbered_one : (i : ℕ) (p : List ℕ) → i < 32 → IsPacket p → IsNumbered i p
 numbered_one i p lt h = elim (cases_lt i 16) [
   | inl low ↦
       let t : ltb i 16 ≡ true = lt-ltb i 16 low in
       record {
-        unit = rw t (record { id = (omega arith, omega arith); field = (omega arith, omega arith); line = omega arith; packet = h });
+        unit = rw t
+            (record {
+              id = (omega arith, omega arith);
+              field = (omega arith, omega arith);
+              line =
+                  omega arith;
+              packet = h;
+            });
         line = rw t (ne_eqb (7 + i) 0 (λ z. omega arith));
         place = rw t (omega arith);
       }
   | inr high ↦
       let f : ltb i 16 ≡ false = le-ltb i 16 high in
       record {
-        unit = rw f (record { id = (omega arith, omega arith); field = (omega arith, omega arith); line = omega arith; packet = h });
+        unit = rw f
+            (record {
+              id = (omega arith, omega arith);
+              field = (omega arith, omega arith);
+              line =
+                  omega arith;
+              packet = h;
+            });
         line = rw f (ne_eqb (i - 9) 0 (λ z. omega arith));
         place = rw f (omega arith);
       }
 ]
 
+-- All numbered units are units.
 numbered_each : (i : ℕ) (ps : List (List ℕ)) → i + length ps ≤ 32 → AllByRecursion IsPacket ps
     → AllByRecursion IsUnit (numbered_units i ps)
 numbered_each i [] lt h = tt
@@ -108,23 +161,28 @@ numbered_each i (p ∷ ps) lt h =
     let few : i + 1 + length ps ≤ 32 = omega arith in
     ((numbered_one i p (omega arith) h.0).unit, numbered_each (i + 1) ps few h.1)
 
+-- Numbered units stand in order.
 numbered_order : (i last : ℕ) (ps : List (List ℕ)) → i + length ps ≤ 32 → AllByRecursion IsPacket ps
     → last < numbered_place i
     → AreInLineOrder last (numbered_units i ps)
 numbered_order i last [] few h lt = tt
 numbered_order i last (p ∷ ps) few h lt =
     let one = numbered_one i p (omega arith) h.0 in
-    let stands : ltb last (line_order_place (numbered_unit i p)) ≡ true = lt-ltb _ _ (rw one.place lt) in
+    let stands : ltb last (line_order_place (numbered_unit i p)) ≡ true =
+    lt-ltb _ _ (rw one.place lt) in
     let next : i + 1 + length ps ≤ 32 = omega arith in
-    let rises : line_order_place (numbered_unit i p) < numbered_place (i + 1) = rw one.place (place_rises i) in
-    rw (one.line, stands) (refl, numbered_order (i + 1) (line_order_place (numbered_unit i p)) ps next h.1 rises)
+    let rises : line_order_place (numbered_unit i p) < numbered_place (i + 1) =
+    rw one.place (place_rises i) in
+    rw (one.line, stands)
+    (refl, numbered_order (i + 1) (line_order_place (numbered_unit i p)) ps next h.1 rises)
 
 -- Packets that are sent as one frame make a value that a frame can hold: the law.
 pub numbered_is_value : (pts : ℕ) (ps : List (List ℕ))
     → pts < 2 ^ 33
     → length ps ≤ 32
     → AllByRecursion IsPacket ps
-    → IsPesValue (numbered_frame pts ps) × (map (λ (u : UnitValue). u.packet) (numbered_units 0 ps) ≡ ps)
+    → IsPesValue (numbered_frame pts ps)
+    × (map (λ (u : UnitValue). u.packet) (numbered_units 0 ps) ≡ ps)
 numbered_is_value pts ps lt few h = let all : 0 + length ps ≤ 32 = omega arith in (
   record {
     pts = lt;

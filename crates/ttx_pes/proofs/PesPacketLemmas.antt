@@ -1,36 +1,52 @@
--- The canonical packet is a packet of its value, and what a frame spells is it: main lemmas
--- canonical_is_packet and spelled.
-use Rattle.std.proofs.Common.{List, None, Some, [], ap, append_assoc, arith, length, lit<, refl, subst, suc, sym, take, zero, Option, ℕ, ◌*◌, ◌++◌, ◌+◌, ◌-◌, ◌/◌, ◌∙◌, ◌∷◌, ◌≡◌, ◌≤◌, length-append}
+-- The canonical packet is a packet of its value, and what is made of a frame is it. Main lemmas:
+-- canonical_is_packet, spelled.
+use Rattle.std.proofs.Common.{List, None, Some, [], ap, append_assoc, arith, length, lit<, refl}
+use Rattle.std.proofs.Common.{subst, suc, sym, take, zero, Option, ℕ, ◌*◌, ◌++◌, ◌+◌, ◌-◌, ◌/◌, ◌∙◌}
+use Rattle.std.proofs.Common.{◌∷◌, ◌≡◌, ◌≤◌, length-append}
 use Rattle.std.specs.Prelude.{replicate}
 use Rattle.std.proofs.lemmas.List.{append-nil, take_all}
 use Rattle.std.specs.List.{flat_map, AllByRecursion}
 use Rattle.std.specs.Option.{option_to_list}
-use Rattle.ttx_pes.specs.DataUnit.{UnitValue, IsUnit, IsPassedUnit, IsDataUnit, AreDataUnits, teletext_unit, stuffing, stuffing_unit}
-use Rattle.ttx_pes.specs.PesPacket.{PesValue, IsPesPacket, IsPesValue, canonical_packet, header, payloads_for, repeated}
+use Rattle.ttx_pes.specs.DataUnit.{UnitValue, IsUnit, IsPassedUnit, IsDataUnit, AreDataUnits}
+use Rattle.ttx_pes.specs.DataUnit.{teletext_unit, stuffing, stuffing_unit}
+use Rattle.ttx_pes.specs.PesPacket.{PesValue, IsPesPacket, IsPesValue, canonical_packet, header}
+use Rattle.ttx_pes.specs.PesPacket.{payloads_for, repeated}
 
+-- A stuffing unit is passed over.
 stuffing_is_passed : IsPassedUnit stuffing_unit
-stuffing_is_passed = record { id = 255; rest = replicate 44 255; bytes = refl; other = refl; size = refl }
+stuffing_is_passed =
+    record { id = 255; rest = replicate 44 255; bytes = refl; other = refl; size = refl }
 
-stuffed : (n : ℕ) → AreDataUnits n [] (repeated n stuffing_unit)
-stuffed zero = (refl, refl)
-stuffed (suc n) = (None, [], stuffing_unit, repeated n stuffing_unit, stuffing_is_passed, stuffed n, refl, refl)
+-- Stuffing units are data units without Teletext.
+stuffing_units : (n : ℕ) → AreDataUnits n [] (repeated n stuffing_unit)
+stuffing_units zero = (refl, refl)
+stuffing_units (suc n) =
+    let rest = repeated n stuffing_unit in
+    (None, [], stuffing_unit, rest, stuffing_is_passed, stuffing_units n, refl, refl)
 
-written : (us : List UnitValue) (n : ℕ) → AllByRecursion IsUnit us → AreDataUnits (length us + n) us (flat_map teletext_unit us ++ repeated n stuffing_unit)
-written [] n h = let none : n ≡ 0 + n = omega arith in subst (λ (k : ℕ). AreDataUnits k [] (repeated n stuffing_unit)) none (stuffed n)
-written (u ∷ us) n h =
-    let one : AreDataUnits (suc (length us + n)) (u ∷ us) (flat_map teletext_unit (u ∷ us) ++ repeated n stuffing_unit) = (
+-- Units and stuffing units that are written are data units of the grammar.
+written_units : (us : List UnitValue) (n : ℕ)
+    → AllByRecursion IsUnit us
+    → AreDataUnits (length us + n) us (flat_map teletext_unit us ++ repeated n stuffing_unit)
+written_units [] n h = let none : n ≡ 0 + n = omega arith in
+    subst (λ (k : ℕ). AreDataUnits k [] (repeated n stuffing_unit)) none (stuffing_units n)
+written_units (u ∷ us) n h =
+    let one : AreDataUnits (suc (length us + n)) (u ∷ us)
+    (flat_map teletext_unit (u ∷ us) ++ repeated n stuffing_unit) = (
       Some u,
       us,
       teletext_unit u,
       flat_map teletext_unit us ++ repeated n stuffing_unit,
       record { reserved = 3; two_bits = lit< tt; bytes = refl; is_unit = h.0 },
-      written us n h.1,
+      written_units us n h.1,
       refl,
       append_assoc (teletext_unit u) (flat_map teletext_unit us) (repeated n stuffing_unit),
     ) in
     let more : suc (length us + n) ≡ suc (length us) + n = omega arith in
-    subst (λ (k : ℕ). AreDataUnits k (u ∷ us) (flat_map teletext_unit (u ∷ us) ++ repeated n stuffing_unit)) more one
+    subst (λ (k : ℕ). AreDataUnits k (u ∷ us)
+    (flat_map teletext_unit (u ∷ us) ++ repeated n stuffing_unit)) more one
 
+-- The canonical packet is a packet of its value: the law.
 pub canonical_is_packet : (v : PesValue) → IsPesValue v → IsPesPacket v (canonical_packet v)
 unfolding canonical_packet payloads_for header
 canonical_is_packet v h =
@@ -43,7 +59,8 @@ canonical_is_packet v h =
       pts_dts_flags = 0x80;
       header_stuffing = replicate 31 stuffing;
       data_identifier = 0x10;
-      data_units = flat_map teletext_unit v.units ++ repeated (4 * k - 1 - length v.units) stuffing_unit;
+      data_units =
+          flat_map teletext_unit v.units ++ repeated (4 * k - 1 - length v.units) stuffing_unit;
       bytes = refl;
       size = (omega arith, omega arith);
       not_scrambled = refl;
@@ -51,37 +68,67 @@ canonical_is_packet v h =
       pts_fits = h.pts;
       header_filled = refl;
       ebu_data = refl;
-      are_units = subst (λ (n : ℕ). AreDataUnits n v.units (flat_map teletext_unit v.units ++ repeated (4 * k - 1 - length v.units) stuffing_unit)) count (written v.units (4 * k - 1 - length v.units) h.each);
+      are_units =
+          subst (λ (n : ℕ). AreDataUnits n v.units
+          (flat_map teletext_unit v.units
+          ++ repeated (4 * k - 1 - length v.units) stuffing_unit)) count
+          (written_units v.units (4 * k - 1 - length v.units) h.each);
       in_order = h.in_order;
     }
 
+-- One more at the end, by recursion.
 repeated_push : (n : ℕ) (b : List ℕ) → repeated n b ++ b ≡ repeated (suc n) b
 repeated_push zero b = sym (append-nil b)
-repeated_push (suc n) b = append_assoc b (repeated n b) b ∙ ap (λ (x : List ℕ). b ++ x) (repeated_push n b)
+repeated_push (suc n) b =
+    append_assoc b (repeated n b) b ∙ ap (λ (x : List ℕ). b ++ x) (repeated_push n b)
 
--- one more at the end
+-- One more at the end.
 pub repeated_more : (n : ℕ) (b : List ℕ) → repeated n b ++ b ≡ repeated (n + 1) b
-repeated_more n b = let one : suc n ≡ n + 1 = omega arith in repeated_push n b ∙ ap (λ (k : ℕ). repeated k b) one
+repeated_more n b = let one : suc n ≡ n + 1 = omega arith in
+    repeated_push n b ∙ ap (λ (k : ℕ). repeated k b) one
 
-pub header_len : (size pts : ℕ) → length (header size pts) ≡ 46
+-- The header has 46 bytes.
+pub length-header : (size pts : ℕ) → length (header size pts) ≡ 46
 unfolding header
-header_len size pts = refl
+length-header size pts = refl
 
-pub stuffed_more : (out base new : List ℕ) (n : ℕ) → out ≡ base ++ repeated n stuffing_unit → new ≡ out ++ stuffing_unit → new ≡ base ++ repeated (n + 1) stuffing_unit
+-- The loop over stuffing units, one on.
+pub stuffed_more : (out base new : List ℕ) (n : ℕ)
+    → out ≡ base ++ repeated n stuffing_unit
+    → new ≡ out ++ stuffing_unit
+    → new ≡ base ++ repeated (n + 1) stuffing_unit
 stuffed_more out base new n e f =
-    f ∙ ap (λ (x : List ℕ). x ++ stuffing_unit) e ∙ append_assoc base (repeated n stuffing_unit) stuffing_unit ∙ ap (λ (x : List ℕ). base ++ x) (repeated_more n stuffing_unit)
+    f ∙ ap (λ (x : List ℕ). x ++ stuffing_unit) e
+    ∙ append_assoc base (repeated n stuffing_unit) stuffing_unit
+    ∙ ap (λ (x : List ℕ). base ++ x) (repeated_more n stuffing_unit)
 
-pub spelled : (v : PesValue) (us : List UnitValue) (pts : ℕ) (out base head : List ℕ) (n i : ℕ) → us ≡ v.units → pts ≡ v.pts → out ≡ base ++ repeated n stuffing_unit → base ≡ head ++ flat_map teletext_unit (take i us) → length us ≤ i
-    → head ≡ header (length us / 4 + 1) pts → n ≡ 4 * (length us / 4 + 1) - 1 - length us → out ≡ canonical_packet v
+-- What packet_of has made is the canonical packet.
+pub spelled : (v : PesValue) (us : List UnitValue) (pts : ℕ) (out base head : List ℕ) (n i : ℕ)
+    → us ≡ v.units
+    → pts ≡ v.pts
+    → out ≡ base ++ repeated n stuffing_unit
+    → base ≡ head ++ flat_map teletext_unit (take i us)
+    → length us ≤ i
+    → head ≡ header (length us / 4 + 1) pts → n ≡ 4 * (length us / 4 + 1) - 1 - length us
+    → out ≡ canonical_packet v
 unfolding canonical_packet payloads_for
 spelled v us pts out base head n i same pts-same e f le h k =
     let all : take i us ≡ us = take_all i us le in
-    let made : out ≡ header (length us / 4 + 1) pts ++ (flat_map teletext_unit us ++ repeated (4 * (length us / 4 + 1) - 1 - length us) stuffing_unit) =
+    let made : out ≡ header (length us / 4 + 1) pts
+    ++ (flat_map teletext_unit us
+    ++ repeated (4 * (length us / 4 + 1) - 1 - length us) stuffing_unit) =
     e ∙ ap (λ (x : List ℕ). x ++ repeated n stuffing_unit) (f ∙ rw (h, all) refl)
-    ∙ append_assoc (header (length us / 4 + 1) pts) (flat_map teletext_unit us) (repeated n stuffing_unit)
-    ∙ ap (λ (m : ℕ). header (length us / 4 + 1) pts ++ (flat_map teletext_unit us ++ repeated m stuffing_unit)) k in
-    made ∙ ap (λ (x : List UnitValue). header (length x / 4 + 1) pts ++ (flat_map teletext_unit x ++ repeated (4 * (length x / 4 + 1) - 1 - length x) stuffing_unit)) same
-    ∙ ap (λ (t : ℕ). header (length v.units / 4 + 1) t ++ (flat_map teletext_unit v.units ++ repeated (4 * (length v.units / 4 + 1) - 1 - length v.units) stuffing_unit)) pts-same
+    ∙ append_assoc (header (length us / 4 + 1) pts) (flat_map teletext_unit us)
+    (repeated n stuffing_unit)
+    ∙ ap (λ (m : ℕ). header (length us / 4 + 1) pts
+    ++ (flat_map teletext_unit us ++ repeated m stuffing_unit)) k in
+    made ∙ ap
+    (λ (x : List UnitValue). header (length x / 4 + 1) pts
+    ++ (flat_map teletext_unit x
+    ++ repeated (4 * (length x / 4 + 1) - 1 - length x) stuffing_unit)) same
+    ∙ ap (λ (t : ℕ). header (length v.units / 4 + 1) t
+    ++ (flat_map teletext_unit v.units
+    ++ repeated (4 * (length v.units / 4 + 1) - 1 - length v.units) stuffing_unit)) pts-same
 
 -- ---- the value of a packet
 
@@ -90,6 +137,7 @@ record Holds (n : ℕ) (units : List UnitValue) : Type 0 where
   pub few : length units ≤ n
   pub each : AllByRecursion IsUnit units
 
+-- N data units hold n units at most.
 units_hold : (n : ℕ) (units : List UnitValue) (b : List ℕ) → AreDataUnits n units b → Holds n units
 units_hold zero units b h = rw h.0 (record { few = omega arith; each = tt })
 units_hold (suc n) units b (None, others, first, rest, held, after, same, parts) =

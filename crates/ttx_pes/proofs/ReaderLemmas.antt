@@ -1,6 +1,9 @@
--- What a reader that fills its buffers knows of the bytes of its source: main lemmas whole and
--- takes_packet, one lemma for each return of read_packet.
-use Rattle.std.proofs.Common.{◌≡◌, ◌≢◌, ℕ, zero, suc, ◌-◌, ◌+◌, ◌<◌, ◌≤◌, Bool, true, false, cond, eqb, List, [], ◌∷◌, ◌++◌, length, take, drop, Option, Some, None, Result, Ok, Err, refl, sym, ap, subst, ◌∙◌, append_assoc, arith, length-append, length-take}
+-- What a reader that fills its buffers knows of the bytes of its source, one lemma for each return
+-- of read_packet. Main lemmas: whole, takes_packet.
+use Rattle.std.proofs.Common.{◌≡◌, ◌≢◌, ℕ, zero, suc, ◌-◌, ◌+◌, ◌<◌, ◌≤◌, Bool, true, false, cond}
+use Rattle.std.proofs.Common.{eqb, List, [], ◌∷◌, ◌++◌, length, take, drop, Option, Some, None}
+use Rattle.std.proofs.Common.{Result, Ok, Err, refl, sym, ap, subst, ◌∙◌, append_assoc, arith}
+use Rattle.std.proofs.Common.{length-append, length-take}
 use Rattle.std.proofs.lemmas.List.{take_all, take_at, nil_from_length, append-nil}
 use Rattle.std.specs.Io.KnownBytes.{Consumes}
 use Rattle.std.specs.Prelude.{IfErr}
@@ -9,9 +12,12 @@ use Rattle.sub_io.specs.Reading.{◌>>=◌, AreBytes, IfTold}
 use Rattle.ttx_pes.specs.declared.fault.PesFault.{PesFault}
 use Rattle.ttx_pes.specs.declared.fault.PesFault.TheVariants as fault
 use Rattle.ttx_pes.specs.PesPacket.{PesValue, IsPesPacket}
-use Rattle.ttx_pes.specs.Reading.{size_at, value_at, packet_at, answer_at, rest_after, left_behind, is_read_failure, is_format_fault}
+use Rattle.ttx_pes.specs.Reading.{size_at, value_at, packet_at, answer_at, rest_after, left_behind}
+use Rattle.ttx_pes.specs.Reading.{is_read_failure, is_format_fault}
 use Rattle.ttx_pes.specs.Reader.{TakesPesPacket, BeginsNone, given_frame}
-use Rattle.ttx_pes.proofs.ReadingLemmas.{answer_full, answer_packet, packet_short, packet_size, packet_cut, packet_parts, packet_is_read, read_is_packet, none_begins, rest_after-packet}
+use Rattle.ttx_pes.proofs.ReadingLemmas.{answer_full, answer_packet, packet_short, packet_size}
+use Rattle.ttx_pes.proofs.ReadingLemmas.{packet_cut, packet_parts, packet_is_read, read_is_packet}
+use Rattle.ttx_pes.proofs.ReadingLemmas.{none_begins, rest_after-packet}
 
 -- ---- the answers, by the bytes that a source tells
 
@@ -23,7 +29,8 @@ pub no_bytes : (bytes : List ℕ) (n : ℕ) (new : Option (List ℕ)) (head : Li
     → (bytes ≡ []) × (new ≡ Some [])
 no_bytes bytes n new head t six z =
     let none : t.rest ≡ [] = t.ended (omega arith) in
-    let empty : take n head ≡ [] = nil_from_length (take n head) (omega (arith, length-take n head)) in
+    let empty : take n head ≡ [] =
+    nil_from_length (take n head) (omega (arith, length-take n head)) in
     (t.parts ∙ rw (none, empty) refl, t.new_is ∙ ap (λ (x : List ℕ). Some x) none)
 
 -- The end of the source.
@@ -76,7 +83,8 @@ pub first_short : (given : ℕ) (bytes : List ℕ) (n : ℕ) (new : Option (List
 first_short given bytes n new head t six some lt ne =
     let none : length t.rest ≡ 0 = ap length (t.ended (omega arith)) in
     let len = some_bytes bytes n new head t (omega arith) in
-    answer_packet given bytes (Err fault.Truncated) (omega arith) ne (packet_short bytes (omega arith))
+    answer_packet given bytes (Err fault.Truncated) (omega arith) ne
+    (packet_short bytes (omega arith))
 
 -- The bytes begin with the six that were read.
 six_bytes : (bytes : List ℕ) (n : ℕ) (new : Option (List ℕ)) (head : List ℕ)
@@ -86,7 +94,8 @@ six_bytes : (bytes : List ℕ) (n : ℕ) (new : Option (List ℕ)) (head : List 
 six_bytes bytes n new head t le = rw (take_all n head le) at t.parts
 
 -- The first four bytes or the length are wrong.
-pub bad_size : (given : ℕ) (bytes : List ℕ) (n : ℕ) (new : Option (List ℕ)) (head : List ℕ) (x : PesFault)
+pub bad_size : (given : ℕ) (bytes : List ℕ) (n : ℕ) (new : Option (List ℕ)) (head : List ℕ)
+    (x : PesFault)
     → Told bytes n new head
     → length head ≡ 6
     → 6 ≤ n
@@ -95,7 +104,8 @@ pub bad_size : (given : ℕ) (bytes : List ℕ) (n : ℕ) (new : Option (List �
     → answer_at given bytes ≡ Err x
 bad_size given bytes n new head x t six le ne bad =
     let parts = six_bytes bytes n new head t (omega arith) in
-    let len : length bytes ≡ 6 + length t.rest = ap length parts ∙ omega (arith, length-append head t.rest) in
+    let len : length bytes ≡ 6 + length t.rest =
+    ap length parts ∙ omega (arith, length-append head t.rest) in
     let prefix : take 6 bytes ≡ head = ap (take 6) parts ∙ take_at head t.rest 6 six in
     answer_packet given bytes (Err x) (omega arith) ne
     (packet_size bytes x (omega arith) (ap size_at prefix ∙ bad))
@@ -116,18 +126,22 @@ pub second_short :
 second_short given bytes n m size mid new head body t six le ne good t2 bound len2 lt =
     let parts = six_bytes bytes n mid head t (omega arith) in
     let none : length t2.rest ≡ 0 = ap length (t2.ended (omega arith)) in
-    let len : length bytes ≡ 6 + length t.rest = ap length parts ∙ omega (arith, length-append head t.rest) in
+    let len : length bytes ≡ 6 + length t.rest =
+    ap length parts ∙ omega (arith, length-append head t.rest) in
     let more = some_bytes t.rest m new body t2 bound in
     let prefix : take 6 bytes ≡ head = ap (take 6) parts ∙ take_at head t.rest 6 six in
     answer_packet given bytes (Err fault.Truncated) (omega arith) ne
     (packet_cut bytes size (omega arith) (ap size_at prefix ∙ good) (omega arith))
 
+-- A value and the bytes behind it.
 abbrev behind : List ℕ → PesValue → Result (PesValue × List ℕ) PesFault
 behind rest v = Ok (v, rest)
 
+-- The answer of a value that was read.
 abbrev value_in : PesValue × List ℕ → Result (Option PesValue) PesFault
 value_in p = Ok (Some p.0)
 
+-- The answer, by what was read of the body.
 answered : (r q : Result PesValue PesFault) (rest : List ℕ)
     → q ≡ r
     → ((q >>= behind rest) >>= value_in) ≡ (r >>= λ v. Ok (Some v))
@@ -153,7 +167,8 @@ whole given bytes n m size mid new head body r t six le ne good big t2 len2 ge f
     let first = six_bytes bytes n mid head t (omega arith) in
     let second = six_bytes t.rest m new body t2 (omega arith) in
     let parts : bytes ≡ head ++ (body ++ t2.rest) = first ∙ ap (λ (x : List ℕ). head ++ x) second in
-    let len : length bytes ≡ 6 + length t.rest = ap length first ∙ omega (arith, length-append head t.rest) in
+    let len : length bytes ≡ 6 + length t.rest =
+    ap length first ∙ omega (arith, length-append head t.rest) in
     let p : packet_at bytes ≡ (value_at body >>= λ v. Ok (v, t2.rest)) =
     ap packet_at parts ∙ packet_parts head body t2.rest size six good (omega arith) len2 in
     answer_packet given bytes (value_at body >>= λ v. Ok (v, t2.rest)) (omega arith) ne p
@@ -161,6 +176,7 @@ whole given bytes n m size mid new head body r t six le ne good big t2 len2 ge f
 
 -- ---- the bytes that were taken, also where the source does not tell them
 
+-- Two pieces that were taken one after the other.
 then_consumed : (u v w : Option (List ℕ)) (a b : List ℕ)
     → Consumes u v a
     → Consumes v w b
@@ -171,6 +187,7 @@ then_consumed (Some xs) (Some ys) None a b x y = y
 then_consumed (Some xs) (Some ys) (Some zs) a b x y =
     x ∙ ap (λ (t : List ℕ). a ++ t) y ∙ sym (append_assoc a b zs)
 
+-- Bytes behind bytes.
 joined_fit : (a b : List ℕ) → AreBytes a → AreBytes b → AreBytes (a ++ b)
 joined_fit [] b p q i = q i
 joined_fit (x ∷ a) b p q zero = p 0
@@ -205,8 +222,9 @@ takes_packet old mid new n m size head body v f six le good big f2 len2 ge fr fi
       consumed = then_consumed old mid new head body first second;
     }
 
-some_is : (x y : List ℕ) → ◌≡◌ {A = Option (List ℕ)} (Some x) (Some y) → x ≡ y
-some_is x y e = cc
+-- Equal told bytes.
+Some-injective : (x y : List ℕ) → ◌≡◌ {A = Option (List ℕ)} (Some x) (Some y) → x ≡ y
+Some-injective x y e = cc
 
 -- What is left behind a packet that was taken.
 pub packet_left : (old new : Option (List ℕ)) (v : PesValue) (bytes : List ℕ)
@@ -216,22 +234,27 @@ pub packet_left : (old new : Option (List ℕ)) (v : PesValue) (bytes : List ℕ
 packet_left None new v bytes h e = absurd cc
 packet_left (Some xs) None v bytes h e = absurd h.consumed
 packet_left (Some xs) (Some ys) v bytes h e =
-    let parts : bytes ≡ h.bytes ++ ys = sym (some_is xs bytes e) ∙ h.consumed in
+    let parts : bytes ≡ h.bytes ++ ys = sym (Some-injective xs bytes e) ∙ h.consumed in
     let read = packet_is_read v h.bytes ys h.is_packet in
     ap (λ (x : List ℕ). Some x) (sym (rest_after-packet v bytes ys (ap packet_at parts ∙ read)))
 
 -- ---- faults in the words of the grammar
 
+-- A fault of the format is not that of the source.
 format_not_read : (f : PesFault)
     → is_format_fault f ≡ true
     → is_read_failure {X = Option PesValue} (Err f) ≡ false
 format_not_read fault.Read e = absurd cc
 format_not_read _ e = refl
 
-packed_err : (r : Result (PesValue × List ℕ) PesFault) (f : PesFault) → (r >>= value_in) ≡ Err f → r ≡ Err f
+-- A fault in the answer is a fault of the packet.
+packed_err : (r : Result (PesValue × List ℕ) PesFault) (f : PesFault)
+    → (r >>= value_in) ≡ Err f
+    → r ≡ Err f
 packed_err (Ok p) f e = absurd cc
 packed_err (Err d) f e = cc
 
+-- A fault of the format is not that of too many packets.
 full_or : (b : Bool) (r : Result (PesValue × List ℕ) PesFault) (f : PesFault)
     → is_format_fault f ≡ true
     → cond b (Err fault.TooMany) (r >>= value_in) ≡ Err f
@@ -242,6 +265,7 @@ full_or true r f k e =
     absurd cc
 full_or false r f k e = packed_err r f e
 
+-- A fault of the format is met in the packet.
 answer_err : (given : ℕ) (b : List ℕ) (f : PesFault)
     → is_format_fault f ≡ true
     → answer_at given b ≡ Err f

@@ -1,75 +1,123 @@
--- Reading agrees with the grammar: main lemmas packet_is_read and read_is_packet.
-use Rattle.std.proofs.Common.{◌≡◌, ◌≢◌, ℕ, ◌-◌, ◌+◌, ◌*◌, ◌<◌, ◌≤◌, Bool, true, false, ltb, eqb, cond, List, [], ◌∷◌, ◌++◌, length, take, drop, Option, Some, None, Result, Ok, Err, refl, sym, ap, subst, ◌∙◌, append_assoc, arith, length-append, length-take, length-drop}
+-- Reading agrees with the grammar. Main lemmas: packet_is_read, read_is_packet.
+use Rattle.std.proofs.Common.{◌≡◌, ◌≢◌, ℕ, ◌-◌, ◌+◌, ◌*◌, ◌<◌, ◌≤◌, Bool, true, false, ltb, eqb}
+use Rattle.std.proofs.Common.{cond, List, [], ◌∷◌, ◌++◌, length, take, drop, Option, Some, None}
+use Rattle.std.proofs.Common.{Result, Ok, Err, refl, sym, ap, subst, ◌∙◌, append_assoc, arith}
+use Rattle.std.proofs.Common.{length-append, length-take, length-drop}
 use Rattle.std.proofs.lemmas.Bool.{le-ltb, lt-ltb, ltb-false}
 use Rattle.std.proofs.lemmas.Bool.Decides.{nat_tests}
-use Rattle.std.proofs.lemmas.List.{take-append-drop, append_cancel_right, drop-drop, take_at, drop_at}
+use Rattle.std.proofs.lemmas.List.{take-append-drop, append_cancel_right, drop-drop, take_at}
+use Rattle.std.proofs.lemmas.List.{drop_at}
 use Rattle.std.specs.Int.{bytes_high_first}
 use Rattle.sub_io.specs.Reading.{◌>>=◌, AreBytes}
 use Rattle.ttx_pes.specs.declared.fault.PesFault.{PesFault}
 use Rattle.ttx_pes.specs.declared.fault.PesFault.TheVariants as fault
 use Rattle.ttx_pes.specs.PesPacket.{PesValue, IsPesPacket, IsPesValue, pts_bytes, canonical_packet}
 use Rattle.ttx_pes.specs.Reading.{size_at, value_at, packet_at, answer_at, rest_after, left_behind}
-use Rattle.ttx_pes.proofs.ReadingSteps.{bind_ok}
+use Rattle.ttx_pes.proofs.ReadingSteps.{step_gave}
 use Rattle.ttx_pes.proofs.DataUnitLemmas.{AreBytes-take, AreBytes-drop}
-use Rattle.ttx_pes.proofs.PesHeaderLemmas.{IsBody, head_sound, head_complete, body_sound, body_complete}
+use Rattle.ttx_pes.proofs.PesHeaderLemmas.{IsBody, head_sound, head_complete, body_sound}
+use Rattle.ttx_pes.proofs.PesHeaderLemmas.{body_complete}
 use Rattle.ttx_pes.proofs.PesPacketLemmas.{canonical_is_packet}
 
 -- ---- what is answered
 
+-- The answer after the most packets.
 pub answer_full : (b : List ℕ) → 0 < length b → answer_at 2160000 b ≡ Err fault.TooMany
 unfolding answer_at
 answer_full [] h = absurd (omega arith)
 answer_full (x ∷ b) h = refl
 
-pub answer_open : (given : ℕ) (b : List ℕ) → 0 < length b → given ≢ 2160000 → answer_at given b ≡ (packet_at b >>= λ p. Ok (Some p.0))
+-- The answer before them is the packet that is read.
+pub answer_open : (given : ℕ) (b : List ℕ)
+    → 0 < length b
+    → given ≢ 2160000
+    → answer_at given b ≡ (packet_at b >>= λ p. Ok (Some p.0))
 unfolding answer_at
 answer_open given [] h ne = absurd (omega arith)
-answer_open given (x ∷ b) h ne = let no : eqb given 2160000 ≡ false = grind (arith, nat_tests) in rw no refl
+answer_open given (x ∷ b) h ne = let no : eqb given 2160000 ≡ false = grind (arith, nat_tests) in
+    rw no refl
 
+-- Fewer than six bytes.
 pub packet_short : (b : List ℕ) → length b < 6 → packet_at b ≡ Err fault.Truncated
 unfolding packet_at
 packet_short b h = rw (lt-ltb (length b) 6 h) refl
 
-pub packet_size : (b : List ℕ) (f : PesFault) → 6 ≤ length b → size_at (take 6 b) ≡ Err f → packet_at b ≡ Err f
+-- A wrong start or length.
+pub packet_size : (b : List ℕ) (f : PesFault)
+    → 6 ≤ length b
+    → size_at (take 6 b) ≡ Err f
+    → packet_at b ≡ Err f
 unfolding packet_at
 packet_size b f h e = rw (le-ltb (length b) 6 h, e) refl
 
-pub packet_cut : (b : List ℕ) (size : ℕ) → 6 ≤ length b → size_at (take 6 b) ≡ Ok size → length b < size → packet_at b ≡ Err fault.Truncated
+-- The bytes end within the packet.
+pub packet_cut : (b : List ℕ) (size : ℕ)
+    → 6 ≤ length b
+    → size_at (take 6 b) ≡ Ok size
+    → length b < size
+    → packet_at b ≡ Err fault.Truncated
 unfolding packet_at
 packet_cut b size h e lt = rw (le-ltb (length b) 6 h, e, lt-ltb (length b) size lt) refl
 
-pub packet_whole : (b : List ℕ) (size : ℕ) → 6 ≤ length b → size_at (take 6 b) ≡ Ok size → size ≤ length b → packet_at b ≡ (value_at (take (size - 6) (drop 6 b)) >>= λ v. Ok (v, drop size b))
+-- The packet is there.
+pub packet_whole : (b : List ℕ) (size : ℕ)
+    → 6 ≤ length b
+    → size_at (take 6 b) ≡ Ok size
+    → size ≤ length b
+    → packet_at b ≡ (value_at (take (size - 6) (drop 6 b)) >>= λ v. Ok (v, drop size b))
 unfolding packet_at
 packet_whole b size h e le = rw (le-ltb (length b) 6 h, e, le-ltb (length b) size le) refl
 
--- a packet in its two parts, with bytes behind it
-pub packet_parts : (head body rest : List ℕ) (size : ℕ) → length head ≡ 6 → size_at head ≡ Ok size → 6 ≤ size → length body ≡ size - 6 → packet_at (head ++ (body ++ rest)) ≡ (value_at body >>= λ v. Ok (v, rest))
+-- A packet in its two parts, with bytes behind it.
+pub packet_parts : (head body rest : List ℕ) (size : ℕ)
+    → length head ≡ 6
+    → size_at head ≡ Ok size
+    → 6 ≤ size
+    → length body ≡ size - 6
+    → packet_at (head ++ (body ++ rest)) ≡ (value_at body >>= λ v. Ok (v, rest))
 packet_parts head body rest size six e le len =
     let all = head ++ (body ++ rest) in
     let front : take 6 all ≡ head = take_at head (body ++ rest) 6 six in
     let back : drop 6 all ≡ body ++ rest = drop_at head (body ++ rest) 6 six in
     let middle : take (size - 6) (body ++ rest) ≡ body = take_at body rest (size - 6) len in
     let both : length (head ++ body) ≡ size = length-append head body ∙ omega arith in
-    let after : drop size all ≡ rest = ap (drop size) (sym (append_assoc head body rest)) ∙ drop_at (head ++ body) rest size both in
-    let total : length all ≡ 6 + (size - 6 + length rest) = omega (arith, length-append head (body ++ rest), length-append body rest) in
+    let after : drop size all ≡ rest =
+    ap (drop size) (sym (append_assoc head body rest))
+    ∙ drop_at (head ++ body) rest size both in
+    let total : length all ≡ 6 + (size - 6 + length rest) =
+    omega (arith, length-append head (body ++ rest), length-append body rest) in
     packet_whole all size (omega arith) (ap size_at front ∙ e) (omega arith)
     ∙ rw (back, middle, after) refl
 
--- the answer for a packet
-pub answer_packet : (given : ℕ) (b : List ℕ) (r : Result (PesValue × List ℕ) PesFault) → 0 < length b → (given ≡ 2160000 → ⊥) → packet_at b ≡ r → answer_at given b ≡ (r >>= λ p. Ok (Some p.0))
-answer_packet given b r h ne e = answer_open given b h ne ∙ ap (λ (x : Result (PesValue × List ℕ) PesFault). x >>= λ p. Ok (Some p.0)) e
+-- The answer for a packet.
+pub answer_packet : (given : ℕ) (b : List ℕ) (r : Result (PesValue × List ℕ) PesFault)
+    → 0 < length b
+    → (given ≡ 2160000 → ⊥)
+    → packet_at b ≡ r
+    → answer_at given b ≡ (r >>= λ p. Ok (Some p.0))
+answer_packet given b r h ne e =
+    answer_open given b h ne
+    ∙ ap (λ (x : Result (PesValue × List ℕ) PesFault). x >>= λ p. Ok (Some p.0)) e
 
 -- The answer where a packet is read.
-pub answer_of_packet : (given : ℕ) (b : List ℕ) (v : PesValue) (rest : List ℕ) → given ≢ 2160000 → packet_at b ≡ Ok (v, rest) → answer_at given b ≡ Ok (Some v)
+pub answer_of_packet : (given : ℕ) (b : List ℕ) (v : PesValue) (rest : List ℕ)
+    → given ≢ 2160000
+    → packet_at b ≡ Ok (v, rest)
+    → answer_at given b ≡ Ok (Some v)
 unfolding answer_at packet_at
 answer_of_packet given [] v rest ne e = absurd cc
 answer_of_packet given (x ∷ b) v rest ne e = answer_open given (x ∷ b) (omega arith) ne ∙ rw e refl
 
--- a packet of its two parts
+-- The bytes of a packet of its two parts.
 abbrev joined : (n : ℕ) (v : PesValue) (body : List ℕ) → List ℕ
 joined n v body = (0 ∷ 0 ∷ 1 ∷ 189 ∷ bytes_high_first 2 (184 * n - 6)) ++ body
 
-pub pes_of_parts : (n : ℕ) (v : PesValue) (body : List ℕ) → 1 ≤ n → n ≤ 9 → IsBody n v body → IsPesPacket v ((0 ∷ 0 ∷ 1 ∷ 189 ∷ bytes_high_first 2 (184 * n - 6)) ++ body)
+-- A packet of its six bytes and its body.
+pub pes_of_parts : (n : ℕ) (v : PesValue) (body : List ℕ)
+    → 1 ≤ n
+    → n ≤ 9
+    → IsBody n v body
+    → IsPesPacket v ((0 ∷ 0 ∷ 1 ∷ 189 ∷ bytes_high_first 2 (184 * n - 6)) ++ body)
 pes_of_parts n v body lo hi h = record {
   n = n;
   flags = h.flags;
@@ -82,16 +130,20 @@ pes_of_parts n v body lo hi h = record {
   not_scrambled = h.flagged;
   pts_alone = h.pts_alone;
   pts_fits = h.pts;
-  header_filled = h.stuffed;
+  header_filled = h.filled;
   ebu_data = h.ebu;
   are_units = h.data_units;
   in_order = h.in_order;
 }
 
--- what is spelled so is read, whatever follows
-pub packet_is_read : (v : PesValue) (b rest : List ℕ) → IsPesPacket v b → packet_at (b ++ rest) ≡ Ok (v, rest)
+-- A packet of the grammar is read, whatever follows: the law.
+pub packet_is_read : (v : PesValue) (b rest : List ℕ)
+    → IsPesPacket v b
+    → packet_at (b ++ rest) ≡ Ok (v, rest)
 packet_is_read v b rest h =
-    let body = (h.flags ∷ h.pts_dts_flags ∷ 36 ∷ []) ++ (pts_bytes v.pts ++ (h.header_stuffing ++ (h.data_identifier ∷ h.data_units))) in
+    let body =
+    (h.flags ∷ h.pts_dts_flags ∷ 36 ∷ [])
+    ++ (pts_bytes v.pts ++ (h.header_stuffing ++ (h.data_identifier ∷ h.data_units))) in
     let head = 0 ∷ 0 ∷ 1 ∷ 189 ∷ bytes_high_first 2 (184 * h.n - 6) in
     let is-body : IsBody h.n v body = record {
       flags = h.flags;
@@ -103,78 +155,130 @@ packet_is_read v b rest h =
       flagged = h.not_scrambled;
       pts_alone = h.pts_alone;
       pts = h.pts_fits;
-      stuffed = h.header_filled;
+      filled = h.header_filled;
       ebu = h.ebu_data;
       data_units = h.are_units;
       in_order = h.in_order;
     } in
     let c = body_complete h.n v body h.size.0 is-body in
     let sized = head_complete h.n h.size.0 h.size.1 in
-    let parts : b ++ rest ≡ head ++ (body ++ rest) = ap (λ (x : List ℕ). x ++ rest) h.bytes ∙ append_assoc head body rest in
-    ap packet_at parts ∙ packet_parts head body rest (184 * h.n) refl sized (let lo = h.size.0 in omega arith) c.1 ∙ rw c.0 refl
+    let parts : b ++ rest ≡ head ++ (body ++ rest) =
+    ap (λ (x : List ℕ). x ++ rest) h.bytes ∙ append_assoc head body rest in
+    ap packet_at parts
+    ∙ packet_parts head body rest (184 * h.n) refl sized (let lo = h.size.0 in omega arith) c.1
+    ∙ rw c.0 refl
 
--- a test that let a list through
-long_ok : (b : Bool) (x y : List ℕ) → cond b (Err fault.Truncated) (Ok x) ≡ Ok y → (b ≡ false) × (x ≡ y)
-long_ok true x y e = absurd cc
-long_ok false x y e = (refl, cc)
+-- A test that let a list through.
+long_enough : (b : Bool) (x y : List ℕ)
+    → cond b (Err fault.Truncated) (Ok x) ≡ Ok y
+    → (b ≡ false) × (x ≡ y)
+long_enough true x y e = absurd cc
+long_enough false x y e = (refl, cc)
 
-abbrev Read : Type 0
-Read = PesValue × List ℕ
+-- What is read of a packet.
+abbrev ValueAndRest : Type 0
+ValueAndRest = PesValue × List ℕ
 
-read_is : (x y : Read) → ◌≡◌ {A = Result Read PesFault} (Ok x) (Ok y) → x ≡ y
-read_is x y e = cc
+-- Equal answers, equal values.
+read_injective : (x y : ValueAndRest) → ◌≡◌ {A = Result ValueAndRest PesFault} (Ok x) (Ok y) → x ≡ y
+read_injective x y e = cc
 
--- a whole list in its first size bytes and the rest
-split_at_size : (b : List ℕ) (size : ℕ) → 6 ≤ size → (take 6 b ++ take (size - 6) (drop 6 b)) ++ drop size b ≡ b
+-- A whole list in its first bytes and the rest.
+split_at_size : (b : List ℕ) (size : ℕ)
+    → 6 ≤ size
+    → (take 6 b ++ take (size - 6) (drop 6 b)) ++ drop size b ≡ b
 split_at_size b size le =
-    let far : drop (size - 6) (drop 6 b) ≡ drop size b = drop-drop (size - 6) 6 b ∙ ap (λ (n : ℕ). drop n b) (omega arith) in
+    let far : drop (size - 6) (drop 6 b) ≡ drop size b =
+    drop-drop (size - 6) 6 b ∙ ap (λ (n : ℕ). drop n b) (omega arith) in
     append_assoc (take 6 b) (take (size - 6) (drop 6 b)) (drop size b)
-    ∙ ap (λ (x : List ℕ). take 6 b ++ x) (ap (λ (x : List ℕ). take (size - 6) (drop 6 b) ++ x) (sym far) ∙ take-append-drop (size - 6) (drop 6 b))
+    ∙ ap (λ (x : List ℕ). take 6 b ++ x)
+    (ap (λ (x : List ℕ). take (size - 6) (drop 6 b) ++ x) (sym far)
+    ∙ take-append-drop (size - 6) (drop 6 b))
     ∙ take-append-drop 6 b
 
--- from the pieces of a reading
-sound_from : (b : List ℕ) (size : ℕ) (v : PesValue) → AreBytes b → 6 ≤ length b → size_at (take 6 b) ≡ Ok size → size ≤ length b → value_at (take (size - 6) (drop 6 b)) ≡ Ok v
+-- A packet of the grammar, from the pieces that were read.
+sound_from : (b : List ℕ) (size : ℕ) (v : PesValue)
+    → AreBytes b
+    → 6 ≤ length b
+    → size_at (take 6 b) ≡ Ok size
+    → size ≤ length b
+    → value_at (take (size - 6) (drop 6 b)) ≡ Ok v
     → (c : List ℕ) × IsPesPacket v c × (b ≡ c ++ drop size b)
 sound_from b size v fit long e le ev =
     let h = head_sound (take 6 b) size (length-take 6 b ∙ omega arith) (AreBytes-take 6 b fit) e in
-    let len : length (take (size - 6) (drop 6 b)) ≡ 184 * h.0 - 6 = length-take (size - 6) (drop 6 b) ∙ omega (arith, length-drop 6 b, h.3) in
-    let body = body_sound h.0 (take (size - 6) (drop 6 b)) v h.1 len (AreBytes-take (size - 6) (drop 6 b) (AreBytes-drop 6 b fit)) ev in
-    let pes = pes_of_parts h.0 v (take (size - 6) (drop 6 b)) h.1 h.2 body in
-    (take 6 b ++ take (size - 6) (drop 6 b), subst (λ (x : List ℕ). IsPesPacket v (x ++ take (size - 6) (drop 6 b))) (sym h.4) pes, sym (split_at_size b size (omega (arith, h.1, h.3))))
+    let len : length (take (size - 6) (drop 6 b)) ≡ 184 * h.0 - 6 =
+    length-take (size - 6) (drop 6 b) ∙ omega (arith, length-drop 6 b, h.3) in
+    let body =
+    body_sound h.0 (take (size - 6) (drop 6 b)) v h.1 len
+    (AreBytes-take (size - 6) (drop 6 b) (AreBytes-drop 6 b fit)) ev in
+    let pes = pes_of_parts h.0 v (take (size - 6) (drop 6 b)) h.1 h.2 body in (
+      take 6 b ++ take (size - 6) (drop 6 b),
+      subst (λ (x : List ℕ). IsPesPacket v (x ++ take (size - 6) (drop 6 b))) (sym h.4) pes,
+      sym (split_at_size b size (omega (arith, h.1, h.3))),
+    )
 
-pub read_is_packet : (v : PesValue) (b rest : List ℕ) → AreBytes b → packet_at b ≡ Ok (v, rest) → (c : List ℕ) × IsPesPacket v c × (b ≡ c ++ rest)
+-- What is read is a packet of the grammar: the law.
+pub read_is_packet : (v : PesValue) (b rest : List ℕ)
+    → AreBytes b
+    → packet_at b ≡ Ok (v, rest)
+    → (c : List ℕ) × IsPesPacket v c × (b ≡ c ++ rest)
 unfolding packet_at
 read_is_packet v b rest fit e =
-    let whole : Result (List ℕ) PesFault = cond (ltb (length b) 6) (Err fault.Truncated) (Ok (take 6 b)) in
-    let p = bind_ok whole (λ head. size_at head >>= λ size. cond (ltb (length b) size) (Err fault.Truncated) (Ok (take (size - 6) (drop 6 b))) >>= λ body. value_at body >>= λ v. Ok (v, drop size b)) (v, rest) e in
-    let a = long_ok (ltb (length b) 6) (take 6 b) p.0 p.1 in
-    let q = bind_ok (size_at p.0) (λ size. cond (ltb (length b) size) (Err fault.Truncated) (Ok (take (size - 6) (drop 6 b))) >>= λ body. value_at body >>= λ v. Ok (v, drop size b)) (v, rest) p.2 in
-    let r = bind_ok (cond (ltb (length b) q.0) (Err fault.Truncated) (Ok (take (q.0 - 6) (drop 6 b)))) (λ body. value_at body >>= λ v. Ok (v, drop q.0 b)) (v, rest) q.2 in
-    let d = long_ok (ltb (length b) q.0) (take (q.0 - 6) (drop 6 b)) r.0 r.1 in
-    let s = bind_ok (value_at r.0) (λ v. Ok (v, drop q.0 b)) (v, rest) r.2 in
-    let same = read_is (s.0, drop q.0 b) (v, rest) s.2 in
+    let whole : Result (List ℕ) PesFault =
+    cond (ltb (length b) 6) (Err fault.Truncated) (Ok (take 6 b)) in
+    let p = step_gave whole
+    (λ head. size_at head >>= λ size. cond (ltb (length b) size) (Err fault.Truncated)
+    (Ok (take (size - 6) (drop 6 b))) >>= λ body. value_at body >>= λ v. Ok
+    (v, drop size b)) (v, rest) e in
+    let a = long_enough (ltb (length b) 6) (take 6 b) p.0 p.1 in
+    let q = step_gave (size_at p.0)
+    (λ size. cond (ltb (length b) size) (Err fault.Truncated) (Ok (take (size - 6) (drop 6 b)))
+    >>= λ body. value_at body >>= λ v. Ok (v, drop size b)) (v, rest) p.2 in
+    let r = step_gave
+    (cond (ltb (length b) q.0) (Err fault.Truncated) (Ok (take (q.0 - 6) (drop 6 b))))
+    (λ body. value_at body >>= λ v. Ok (v, drop q.0 b)) (v, rest) q.2 in
+    let d = long_enough (ltb (length b) q.0) (take (q.0 - 6) (drop 6 b)) r.0 r.1 in
+    let s = step_gave (value_at r.0) (λ v. Ok (v, drop q.0 b)) (v, rest) r.2 in
+    let same = read_injective (s.0, drop q.0 b) (v, rest) s.2 in
     let long : 6 ≤ length b = ltb-false _ _ a.0 in
     let enough : q.0 ≤ length b = ltb-false _ _ d.0 in
-    let made = sound_from b q.0 s.0 fit long (ap size_at a.1 ∙ q.1) enough (ap value_at d.1 ∙ s.1) in
-    subst (λ (x : Read). (c : List ℕ) × IsPesPacket x.0 c × (b ≡ c ++ x.1)) same made
+    let made =
+    sound_from b q.0 s.0 fit long (ap size_at a.1 ∙ q.1) enough (ap value_at d.1 ∙ s.1) in
+    subst (λ (x : ValueAndRest). (c : List ℕ) × IsPesPacket x.0 c × (b ≡ c ++ x.1)) same made
 
 -- ---- the laws
 
--- two packets that begin one list are one
-pub one_value : (a b x y : List ℕ) (v w : PesValue) → IsPesPacket v a → IsPesPacket w b → a ++ x ≡ b ++ y → (a ≡ b) × (v ≡ w)
+-- Two packets that begin one list are one: the law.
+pub one_value : (a b x y : List ℕ) (v w : PesValue)
+    → IsPesPacket v a
+    → IsPesPacket w b
+    → a ++ x ≡ b ++ y
+    → (a ≡ b) × (v ≡ w)
 one_value a b x y v w p q e =
-    let same = read_is (v, x) (w, y) (sym (packet_is_read v a x p) ∙ ap packet_at e ∙ packet_is_read w b y q) in
-    let rests : x ≡ y = ap (λ (r : Read). r.1) same in
-    (append_cancel_right a b y (subst (λ (z : List ℕ). a ++ z ≡ b ++ y) rests e), ap (λ (r : Read). r.0) same)
+    let same =
+    read_injective (v, x) (w, y) (sym (packet_is_read v a x p) ∙ ap packet_at e
+    ∙ packet_is_read w b y q) in
+    let rests : x ≡ y = ap (λ (r : ValueAndRest). r.1) same in (
+      append_cancel_right a b y (subst (λ (z : List ℕ). a ++ z ≡ b ++ y) rests e),
+      ap (λ (r : ValueAndRest). r.0) same,
+    )
 
--- where the reading finds a fault, no packet begins the bytes
-pub none_begins : (bytes : List ℕ) (f : PesFault) → packet_at bytes ≡ Err f → (v : PesValue) (b rest : List ℕ) → IsPesPacket v b → bytes ≡ b ++ rest → ⊥
-none_begins bytes f bad v b rest h e = let good = packet_is_read v b rest h in let same : packet_at bytes ≡ packet_at (b ++ rest) = ap packet_at e in cc
+-- Where the reading finds a fault, no packet begins the bytes.
+pub none_begins : (bytes : List ℕ) (f : PesFault)
+    → packet_at bytes ≡ Err f
+    → (v : PesValue) (b rest : List ℕ)
+    → IsPesPacket v b
+    → bytes ≡ b ++ rest
+    → ⊥
+none_begins bytes f bad v b rest h e = let good = packet_is_read v b rest h in
+    let same : packet_at bytes ≡ packet_at (b ++ rest) = ap packet_at e in cc
 
 -- ---- what was written
 
 -- What is left behind a packet.
-pub rest_after-packet : (v : PesValue) (b rest : List ℕ) → packet_at b ≡ Ok (v, rest) → rest_after b ≡ rest
+pub rest_after-packet : (v : PesValue) (b rest : List ℕ)
+    → packet_at b ≡ Ok (v, rest)
+    → rest_after b ≡ rest
 unfolding rest_after
 rest_after-packet v b rest e = rw e refl
 

@@ -1,6 +1,7 @@
--- Data units of a PES data field (EN 300 472, syntax of the PES data field): 46 bytes each, of which
--- some carry a Teletext packet and the others are passed over.
-use Rattle.std.specs.Prelude.{◌≡◌, ℕ, zero, suc, ◌+◌, ◌-◌, ◌*◌, ◌<◌, ◌≤◌, Bool, false, ◌==◌, ◌||◌, List, [], ◌∷◌, ◌++◌, length, map, replicate, Option, Some, None}
+-- Data units of a PES data field (EN 300 472, syntax of the PES data field): 46 bytes each, of
+-- which some carry a Teletext packet and the others are passed over.
+use Rattle.std.specs.Prelude.{◌≡◌, ℕ, zero, suc, ◌+◌, ◌-◌, ◌*◌, ◌<◌, ◌≤◌, Bool, false, ◌==◌, ◌||◌}
+use Rattle.std.specs.Prelude.{List, [], ◌∷◌, ◌++◌, length, map, replicate, Option, Some, None}
 use Rattle.std.specs.Option.{option_to_list}
 use Rattle.ttx_packet.specs.BitOrder.{mirror}
 use Rattle.ttx_packet.specs.PacketAddress.{IsPacket}

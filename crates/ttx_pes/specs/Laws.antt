@@ -5,7 +5,8 @@ use Rattle.sub_io.specs.Reading.{AreBytes}
 use Rattle.ttx_packet.specs.PacketAddress.{IsPacket}
 use Rattle.ttx_pes.specs.DataUnit.{UnitValue}
 use Rattle.ttx_pes.specs.LineOrder.{numbered_units}
-use Rattle.ttx_pes.specs.PesPacket.{PesValue, IsPesPacket, IsPesValue, canonical_packet, numbered_frame}
+use Rattle.ttx_pes.specs.PesPacket.{PesValue, IsPesPacket, IsPesValue, canonical_packet}
+use Rattle.ttx_pes.specs.PesPacket.{numbered_frame}
 use Rattle.ttx_pes.specs.Reading.{packet_at, answer_at, rest_after, most_packets}
 
 -- A packet has one value, and no packet is a proper prefix of another.
@@ -52,7 +53,8 @@ LawOfReadingBack =
     → (answer_at given (canonical_packet v ++ rest) ≡ Ok (Some v))
     × (rest_after (canonical_packet v ++ rest) ≡ rest)
 
--- Packets that are sent as one frame make a value that a frame can hold, and are its units' packets.
+-- Packets that are sent as one frame make a value that a frame can hold, and are its units'
+-- packets.
 abbrev pub LawOfNumberedFrame : Type 0
 LawOfNumberedFrame =
     (pts : ℕ) (packets : List (List ℕ))

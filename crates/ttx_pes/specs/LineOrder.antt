@@ -1,9 +1,11 @@
--- The order of the Teletext units in a PES packet (own), and the lines that a sent frame's packets get.
+-- The order of the Teletext units in a PES packet (own), and the lines that a sent frame's packets
+-- get.
 --
 -- The units that name a line rise strictly: those of the first field before those of the second, in
--- each field by line_offset. In EN 300 472 line_offset 0 means that the line is not defined, so a unit
--- with it may stand anywhere.
-use Rattle.std.specs.Prelude.{◌≡◌, true, ℕ, ◌+◌, ◌-◌, ◌*◌, Bool, ◌==◌, ◌||◌, nat_lt, if◌then◌else◌, List, [], ◌∷◌}
+-- each field by line_offset. In EN 300 472 line_offset 0 means that the line is not defined, so a
+-- unit with it may stand anywhere.
+use Rattle.std.specs.Prelude.{◌≡◌, true, ℕ, ◌+◌, ◌-◌, ◌*◌, Bool, ◌==◌, ◌||◌, nat_lt, if◌then◌else◌}
+use Rattle.std.specs.Prelude.{List, [], ◌∷◌}
 use Rattle.ttx_pes.specs.DataUnit.{UnitValue, subtitle_id}
 
 -- The place of a unit that names a line: 1 to 31 in the first field, 33 to 63 in the second.
@@ -28,8 +30,8 @@ AreInLineOrder before (u ∷ units) =
     (stands_after before u ≡ true)
     × AreInLineOrder (if u.line == 0 then before else line_order_place u) units
 
--- The unit of the packet that is sent as number i of a frame: lines 7 to 22 of the first field, then
--- 7 to 22 of the second, those that EN 300 472 names; data_unit_id 03.
+-- The unit of the packet that is sent as number i of a frame: lines 7 to 22 of the first field,
+-- then 7 to 22 of the second, those that EN 300 472 names; data_unit_id 03.
 abbrev pub numbered_unit : ℕ → List ℕ → UnitValue
 numbered_unit i packet =
     if nat_lt i 16 then record { id = subtitle_id; field = 1; line = 7 + i; packet = packet }

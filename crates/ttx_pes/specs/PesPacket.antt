@@ -1,8 +1,10 @@
 -- PES packets with EBU Teletext (EN 300 472): the grammar, and the one packet that is written.
-use Rattle.std.specs.Prelude.{◌≡◌, ℕ, zero, suc, ◌+◌, ◌-◌, ◌*◌, ◌/◌, ◌%◌, ◌^◌, ◌<◌, ◌≤◌, List, [], ◌∷◌, ◌++◌, length, replicate}
+use Rattle.std.specs.Prelude.{◌≡◌, ℕ, zero, suc, ◌+◌, ◌-◌, ◌*◌, ◌/◌, ◌%◌, ◌^◌, ◌<◌, ◌≤◌, List, []}
+use Rattle.std.specs.Prelude.{◌∷◌, ◌++◌, length, replicate}
 use Rattle.std.specs.List.{flat_map, AllByRecursion}
 use Rattle.std.specs.Int.{bytes_high_first}
-use Rattle.ttx_pes.specs.DataUnit.{UnitValue, IsUnit, AreDataUnits, teletext_unit, stuffing, stuffing_unit}
+use Rattle.ttx_pes.specs.DataUnit.{UnitValue, IsUnit, AreDataUnits, teletext_unit, stuffing}
+use Rattle.ttx_pes.specs.DataUnit.{stuffing_unit}
 use Rattle.ttx_pes.specs.LineOrder.{AreInLineOrder, numbered_units}
 
 -- What a PES packet carries: its PTS in ticks of 90 kHz, and its Teletext units in order.
@@ -95,8 +97,8 @@ header n pts =
     ++ ((0x84 ∷ 0x80 ∷ header_data_length ∷ [])
     ++ (pts_bytes pts ++ (replicate 31 stuffing ++ (0x10 ∷ [])))))
 
--- The canonical packet of a value: its units in order, then stuffing units, in the fewest payloads that
--- have room for them (own).
+-- The canonical packet of a value: its units in order, then stuffing units, in the fewest payloads
+-- that have room for them (own).
 unfoldable pub canonical_packet : PesValue → List ℕ
 canonical_packet v =
     let n = payloads_for (length v.units) in

@@ -1,6 +1,9 @@
--- Reading a PES packet from the front of bytes: a word NAME_at gives what stands there, or the first
--- fault, in the order in which the fields stand.
-use Rattle.std.specs.Prelude.{◌≡◌, ℕ, zero, suc, ◌+◌, ◌-◌, ◌*◌, ◌/◌, ◌%◌, ◌^◌, Bool, true, false, not, ◌==◌, ◌&&◌, nat_lt, nat_le, if◌then◌else◌, List, [], ◌∷◌, ◌++◌, length, take, drop, map, slice_index, Option, Some, None, Result, Ok, Err}
+-- Reading a PES packet from the front of bytes: a word NAME_at gives what stands there, or the
+-- first fault, in the order in which the fields stand.
+use Rattle.std.specs.Prelude.{◌≡◌, ℕ, zero, suc, ◌+◌, ◌-◌, ◌*◌, ◌/◌, ◌%◌, ◌^◌, Bool, true, false}
+use Rattle.std.specs.Prelude.{not, ◌==◌, ◌&&◌, nat_lt, nat_le, if◌then◌else◌, List, [], ◌∷◌, ◌++◌}
+use Rattle.std.specs.Prelude.{length, take, drop, map, slice_index, Option, Some, None, Result, Ok}
+use Rattle.std.specs.Prelude.{Err}
 use Rattle.std.specs.Io.KnownBytes.{Consumes}
 use Rattle.sub_io.specs.Reading.{◌>>=◌, AreBytes}
 use Rattle.ttx_packet.specs.BitOrder.{mirror}
@@ -116,8 +119,8 @@ packet_at b = do
 abbrev pub most_packets : ℕ
 most_packets = 2160000
 
--- What a reader answers that has given so many packets and has these bytes to come, where its source
--- does not fail.
+-- What a reader answers that has given so many packets and has these bytes to come, where its
+-- source does not fail.
 unfoldable pub answer_at : ℕ → List ℕ → Result (Option PesValue) PesFault
 answer_at given [] = Ok None
 answer_at given (x ∷ b) =

@@ -1,7 +1,9 @@
 //! Data units, read and written (EN 300 472, data unit syntax).
-ghost use Rattle.std.specs.Prelude.{◌≡◌, ◌+◌, ◌*◌, ◌≤◌, ◌++◌, false, true, length, Ok, Err, OnOk, IfErr};
+ghost use Rattle.std.specs.Prelude.{◌≡◌, ◌+◌, ◌*◌, ◌≤◌, ◌++◌, false, true, length, Ok, Err, OnOk};
+ghost use Rattle.std.specs.Prelude.{IfErr};
 ghost use Rattle.ttx_pes.specs.DataUnit.{teletext_unit, stuffing_unit};
-ghost use Rattle.ttx_pes.specs.Reading.{teletext_at, unit_at, units_at, is_format_fault, is_read_failure};
+ghost use Rattle.ttx_pes.specs.Reading.{teletext_at, unit_at, units_at, is_format_fault};
+ghost use Rattle.ttx_pes.specs.Reading.{is_read_failure};
 
 use crate::fault::PesFault;
 use crate::pes_frame::PesFrame;

@@ -9,7 +9,8 @@ use sub_io::Failed;
 pub enum PesFault {
     /// The bytes end within a packet.
     Truncated,
-    /// Bytes 0 to 3 are not 00 00 01 BD: packet_start_code_prefix, and stream_id of private_stream_1.
+    /// Bytes 0 to 3 are not 00 00 01 BD: packet_start_code_prefix, and stream_id of
+    /// private_stream_1.
     Start,
     /// PES_packet_length does not give a packet of 1 to 9 times 184 bytes.
     Length,

@@ -1,8 +1,10 @@
 //! Laws of the format, each as a call whose contract is the law.
-ghost use Rattle.ttx_pes.specs.Laws.{LawOfCanonicalPacket, LawOfGrammar, LawOfNumberedFrame, LawOfOneValue, LawOfPacketValue, LawOfReading, LawOfReadingBack};
+ghost use Rattle.ttx_pes.specs.Laws.{LawOfCanonicalPacket, LawOfGrammar, LawOfNumberedFrame};
+ghost use Rattle.ttx_pes.specs.Laws.{LawOfOneValue, LawOfPacketValue, LawOfReading};
+ghost use Rattle.ttx_pes.specs.Laws.{LawOfReadingBack};
 
-/// A PES packet has one value, and none is a proper prefix of another: a file falls into packets in one
-/// way.
+/// A PES packet has one value, and none is a proper prefix of another: a file falls into packets in
+/// one way.
 pub fn law_of_one_value()
     ensures { LawOfOneValue }
 {}
@@ -17,14 +19,14 @@ pub fn law_of_canonical_packet()
     ensures { LawOfCanonicalPacket }
 {}
 
-/// A PES packet is read as its value, whatever follows it: a reader refuses nothing that the grammar
-/// has.
+/// A PES packet is read as its value, whatever follows it: a reader refuses nothing that the
+/// grammar has.
 pub fn law_of_reading()
     ensures { LawOfReading }
 {}
 
-/// What is read as a value is a packet of that value: a reader accepts nothing that the grammar does
-/// not have.
+/// What is read as a value is a packet of that value: a reader accepts nothing that the grammar
+/// does not have.
 pub fn law_of_grammar()
     ensures { LawOfGrammar }
 {}

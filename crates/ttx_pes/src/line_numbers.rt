@@ -1,5 +1,6 @@
 //! Packets that are sent as one frame, on the lines of EN 300 472.
-ghost use Rattle.std.specs.Prelude.{◌≡◌, ◌+◌, ◌^◌, ◌<◌, ◌≤◌, ◌==◌, false, length, IfErr, if◌then◌else◌};
+ghost use Rattle.std.specs.Prelude.{◌≡◌, ◌+◌, ◌^◌, ◌<◌, ◌≤◌, ◌==◌, false, length, IfErr};
+ghost use Rattle.std.specs.Prelude.{if◌then◌else◌};
 ghost use Rattle.sub_io.specs.Device.{Writes};
 ghost use Rattle.ttx_pes.specs.declared.fault.PesFault.TheVariants.{Write};
 ghost use Rattle.ttx_pes.specs.LineOrder.{line_order_place, numbered_place, numbered_unit};
@@ -41,8 +42,8 @@ fn frame_of(pts: u64, packets: &[Packet]) -> PesFrame
     frame
 }
 
-/// Writes these packets as one PES packet: as subtitle units (data_unit_id 03) on lines 7 to 22 of the
-/// first field, then 7 to 22 of the second, those that EN 300 472 names.
+/// Writes these packets as one PES packet: as subtitle units (data_unit_id 03) on lines 7 to 22 of
+/// the first field, then 7 to 22 of the second, those that EN 300 472 names.
 ///
 /// `pts` is in ticks of 90 kHz, 33 bits; 32 packets at most.
 ///

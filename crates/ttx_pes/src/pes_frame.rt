@@ -1,12 +1,13 @@
 //! What one PES packet carries.
-ghost use Rattle.std.specs.Prelude.{◌≡◌, ◌+◌, ◌^◌, ◌<◌, ◌≤◌, ◌↔◌, true, [], ◌∷◌, ◌++◌, length, IsOk, OnOk, IfErr, OnErr};
+ghost use Rattle.std.specs.Prelude.{◌≡◌, ◌+◌, ◌^◌, ◌<◌, ◌≤◌, ◌↔◌, true, [], ◌∷◌, ◌++◌, length};
+ghost use Rattle.std.specs.Prelude.{IsOk, OnOk, IfErr, OnErr};
 
 use crate::unit::Unit;
 use arrayvec::ArrayVec;
 use std::marker::Model;
 
-/// What one PES packet carries: a PTS, and Teletext units in the order of their lines (EN 300 472; the
-/// order is (own)).
+/// What one PES packet carries: a PTS, and Teletext units in the order of their lines (EN 300 472;
+/// the order is (own)).
 #[derive(Drop)]
 pub struct PesFrame {
     pts: u64,
@@ -71,8 +72,8 @@ impl PesFrame {
     ///
     /// # Errors
     ///
-    /// The unit itself, where there are 35 units or its line is not behind those before it; the frame
-    /// stays as it was. A unit of line 0 may stand anywhere.
+    /// The unit itself, where there are 35 units or its line is not behind those before it; the
+    /// frame stays as it was. A unit of line 0 may stand anywhere.
     #[tactic(auto, using(crate::proofs::LineOrderLemmas::order))]
     pub fn add(&mut self, unit: Unit) -> Result<(), Unit>
         ensures variant { IsOk result ↔ ((length self.old.units < 35)

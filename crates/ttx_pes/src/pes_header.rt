@@ -1,6 +1,7 @@
 //! The first 46 bytes of a PES packet, read and written (EN 300 472, PES packet header and
 //! data_identifier).
-ghost use Rattle.std.specs.Prelude.{◌≡◌, ◌+◌, ◌*◌, ◌/◌, ◌%◌, ◌^◌, ◌<◌, ◌≤◌, false, true, length, slice_index, IfOk, IfErr};
+ghost use Rattle.std.specs.Prelude.{◌≡◌, ◌+◌, ◌*◌, ◌/◌, ◌%◌, ◌^◌, ◌<◌, ◌≤◌, false, true, length};
+ghost use Rattle.std.specs.Prelude.{slice_index, IfOk, IfErr};
 ghost use Rattle.sub_io.specs.Reading.{AreBytes};
 ghost use Rattle.ttx_pes.specs.PesPacket.{header, pts_bytes};
 ghost use Rattle.ttx_pes.specs.Reading.{pts_at, size_at, is_format_fault, is_read_failure};
@@ -39,7 +40,8 @@ fn length_of(head: &[u8; 6]) -> u16
     BigEndian::read_u16(&head[4..])
 }
 
-// The PTS, of the packet's bytes from byte 6 on. The fields are tested in the order in which they stand.
+// The PTS, of the packet's bytes from byte 6 on. The fields are tested in the order in which they
+// stand.
 #[tactic(auto, unfolding(crate::specs::Reading::pts_at))]
 pub(crate) fn pts_of(body: &[u8]) -> Result<u64, PesFault>
     requires { 40 ≤ length body.now }
@@ -70,7 +72,8 @@ pub(crate) fn pts_of(body: &[u8]) -> Result<u64, PesFault>
 // A group of 15 bits of the PTS, without the marker bit behind it.
 fn fifteen_bits(body: &[u8], place: usize) -> u64
     requires { place + 2 ≤ length body.now }
-    ensures value { result ≡ slice_index body.now place * 0x80 + slice_index body.now (place + 1) / 2 }
+    ensures value { result
+        ≡ slice_index body.now place * 0x80 + slice_index body.now (place + 1) / 2 }
     ensures fits { result < 2 ^ 15 }
 {
     BigEndian::read_u16(&body[place..]) as u64 / 2

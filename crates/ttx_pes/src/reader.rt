@@ -1,10 +1,13 @@
 //! Reading PES packets.
-ghost use Rattle.std.specs.Prelude.{◌≡◌, ℕ, ◌+◌, ◌%◌, ◌<◌, ◌≤◌, ◌≢◌, ◌↔◌, true, false, [], if◌then◌else◌, length, Some, None, Ok, Err, IfOk, OnOk, IfErr, IfSome, OnSome};
+ghost use Rattle.std.specs.Prelude.{◌≡◌, ℕ, ◌+◌, ◌%◌, ◌<◌, ◌≤◌, ◌≢◌, ◌↔◌, true, false, []};
+ghost use Rattle.std.specs.Prelude.{if◌then◌else◌, length, Some, None, Ok, Err, IfOk, OnOk, IfErr};
+ghost use Rattle.std.specs.Prelude.{IfSome, OnSome};
 ghost use Rattle.sub_io.specs.Reading.{AreBytes, IfTold};
 ghost use Rattle.ttx_pes.specs.declared.fault.PesFault.TheVariants.{Ended, TooMany};
 ghost use Rattle.ttx_pes.specs.declared.progress.Progress.TheVariants.{Reading, AtEnd, Broken};
 ghost use Rattle.ttx_pes.specs.PesPacket.{empty_value};
-ghost use Rattle.ttx_pes.specs.Reading.{answer_at, value_at, is_format_fault, is_read_failure, rest_after};
+ghost use Rattle.ttx_pes.specs.Reading.{answer_at, value_at, is_format_fault, is_read_failure};
+ghost use Rattle.ttx_pes.specs.Reading.{rest_after};
 ghost use Rattle.ttx_pes.specs.Reader.{progress_after, given_frame, TakesPesPacket, BeginsNone};
 
 use crate::data_unit::take_units;
@@ -18,8 +21,8 @@ use sub_io::{Source, fill};
 /// The packets of a file at most: one for each frame of a day at 25 a second.
 const MOST_PACKETS: u32 = 2_160_000;
 
-/// Reads PES packets with Teletext units. It keeps how far it has come, and room for the bytes of one
-/// packet.
+/// Reads PES packets with Teletext units. It keeps how far it has come, and room for the bytes of
+/// one packet.
 #[derive(Drop)]
 pub struct PesReader {
     progress: Progress,
@@ -115,17 +118,18 @@ impl PesReader {
     /// # Errors
     ///
     /// The first fault by place: `Start`, `Length`, `Truncated` (the bytes end within the packet),
-    /// `Flags` to `DataId`, then in each data unit `UnitLength`, `Framing`, `LineOrder`. `Truncated`
-    /// for fewer than six bytes, before all others. `TooMany` for a byte after 2,160,000 packets, one
-    /// for each frame of a day. `Read` where the source failed. After any of them each call answers
-    /// `Ended` and takes nothing.
+    /// `Flags` to `DataId`, then in each data unit `UnitLength`, `Framing`, `LineOrder`.
+    /// `Truncated` for fewer than six bytes, before all others. `TooMany` for a byte after
+    /// 2,160,000 packets, one for each frame of a day. `Read` where the source failed. After any of
+    /// them each call answers `Ended` and takes nothing.
     pub fn next<S: Source>(&mut self, source: &mut S) -> Result<Option<PesFrame>, PesFault>
         requires { S.failure_count source.old < u64.MAX }
         // A frame is the value of exactly the bytes that were taken.
         ensures frame { IfOk result (λ frame. IfSome frame
             (TakesPesPacket (S.remaining source.old) (S.remaining source.new))) }
 
-        // Where the source tells its bytes and does not fail, they decide the answer, and what is left.
+        // Where the source tells its bytes and does not fail, they decide the answer, and what is
+        // left.
         ensures exact { (given : ℕ) → self.old ≡ Reading given
             → IfTold (S.remaining source.old) (λ bytes.
             is_read_failure result ≡ false → answer_at given bytes ≡ result) }
@@ -139,7 +143,8 @@ impl PesReader {
         ensures excluded { (given : ℕ) → self.old ≡ Reading given
             → IfTold (S.remaining source.old) (λ bytes.
             IfErr result (λ fault. is_format_fault fault ≡ true → BeginsNone bytes)) }
-        ensures too_many { IfErr result (λ fault. fault ≡ TooMany → self.old ≡ Reading MOST_PACKETS) }
+        ensures too_many { IfErr result (λ fault.
+            fault ≡ TooMany → self.old ≡ Reading MOST_PACKETS) }
         ensures byte_left { (given : ℕ) → self.old ≡ Reading given
             → IfTold (S.remaining source.old) (λ bytes. result ≡ Err TooMany → 0 < length bytes) }
 
@@ -159,8 +164,8 @@ impl PesReader {
         }
     }
 
-    /// Reads the next PES packet into a frame that the caller keeps: `true` where `next` gives a frame,
-    /// `false` where it gives `None`.
+    /// Reads the next PES packet into a frame that the caller keeps: `true` where `next` gives a
+    /// frame, `false` where it gives `None`.
     ///
     /// The frame then is the one that `next` would give, and has PTS 0 and no units where it gives
     /// none. Whatever was in it before is gone.
@@ -179,7 +184,8 @@ impl PesReader {
             → TakesPesPacket (S.remaining source.old) (S.remaining source.new) frame.new }
         ensures empty { result ≢ Ok true → frame.new ≡ empty_value }
 
-        // Where the source tells its bytes and does not fail, they decide the answer, and what is left.
+        // Where the source tells its bytes and does not fail, they decide the answer, and what is
+        // left.
         ensures exact { (given : ℕ) → self.old ≡ Reading given
             → IfTold (S.remaining source.old) (λ bytes.
             is_read_failure result ≡ false
@@ -194,7 +200,8 @@ impl PesReader {
         ensures excluded { (given : ℕ) → self.old ≡ Reading given
             → IfTold (S.remaining source.old) (λ bytes.
             IfErr result (λ fault. is_format_fault fault ≡ true → BeginsNone bytes)) }
-        ensures too_many { IfErr result (λ fault. fault ≡ TooMany → self.old ≡ Reading MOST_PACKETS) }
+        ensures too_many { IfErr result (λ fault.
+            fault ≡ TooMany → self.old ≡ Reading MOST_PACKETS) }
         ensures byte_left { (given : ℕ) → self.old ≡ Reading given
             → IfTold (S.remaining source.old) (λ bytes. result ≡ Err TooMany → 0 < length bytes) }
 

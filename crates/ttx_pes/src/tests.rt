@@ -1,4 +1,5 @@
-//! Files of PES packets, read and written: what the clauses leave to outside values, and failing devices.
+//! Files of PES packets, read and written: what the clauses leave to outside values, and failing
+//! devices.
 ghost use Rattle.std.specs.Prelude.{◌≡◌, ◌+◌, ◌<◌, ◌≤◌, length, None};
 ghost use Rattle.std.specs.Io.{ReadsAtMost};
 
@@ -9,8 +10,8 @@ use std::test::*;
 use sub_io::{FailAt, Failed, MemSink, MemSource, Sink, Source};
 use ttx_packet::Packet;
 
-/// A schedule's first PES packet: a header of page 888 on line 7, row 22 on line 8, a closing header on
-/// line 9 of the first field.
+/// A schedule's first PES packet: a header of page 888 on line 7, row 22 on line 8, a closing
+/// header on line 9 of the first field.
 #[rattlefmt::skip]
 const FIRST: [u8; 184] = [
     0x00, 0x00, 0x01, 0xBD, 0x00, 0xB2, 0x84, 0x80, 0x24, 0x27, 0x04, 0x79, 0xF4, 0x01,
@@ -79,8 +80,8 @@ fn an_empty_file_has_no_packet(rt: HostRuntime) -> Result<(), Fail> {
     Ok(())
 }
 
-/// What a new reader answers to the first packet of these bytes; after a fault it answers `Ended`, and
-/// the frame is left empty.
+/// What a new reader answers to the first packet of these bytes; after a fault it answers `Ended`,
+/// and the frame is left empty.
 fn first_answer(rt: &impl Abort, bytes: &[u8]) -> Option<PesFault> {
     let mut source = MemSource::new(bytes);
     let mut reader = PesReader::new();
@@ -88,7 +89,10 @@ fn first_answer(rt: &impl Abort, bytes: &[u8]) -> Option<PesFault> {
     let Err(fault) = reader.next_into(&mut source, &mut frame) else {
         return None;
     };
-    assert!(rt; frame.pts() == 0 && frame.units().is_empty(), "a frame with {fault:?}");
+    assert!(rt;
+        frame.pts() == 0 && frame.units().is_empty(),
+        "a frame with {fault:?}"
+    );
     let again = reader.next_into(&mut source, &mut frame);
     assert_eq!(rt; again, Err(PesFault::Ended), "after {fault:?}");
     Some(fault)
@@ -117,21 +121,33 @@ fn refuses_the_first_wrong_field(rt: HostRuntime) {
         (47, 0x2D, Some(PesFault::UnitLength)),
         (48, 0xE8, Some(PesFault::LineOrder)), // line 8 twice
         (48, 0xC7, Some(PesFault::LineOrder)), // the second field first
-        (48, 0xE0, None),                      // line 0 may stand anywhere
-        (48, 0x27, None),                      // reserved bits
+        (48, 0xE0, None), // line 0 may stand anywhere
+        (48, 0x27, None), // reserved bits
         (49, 0xE5, Some(PesFault::Framing)),
     ] {
         let mut bytes = FIRST;
         assert!(rt; place < 184);
         bytes[place] = byte;
-        assert_eq!(rt; first_answer(&rt, &bytes), want, "byte {place} as {byte:#04X}");
+        assert_eq!(rt;
+            first_answer(&rt, &bytes),
+            want,
+            "byte {place} as {byte:#04X}"
+        );
     }
     for byte in 0..=255u8 {
         for place in 0..4usize {
             let mut bytes = FIRST;
             bytes[place] = byte;
-            let want = if byte == FIRST[place] { None } else { Some(PesFault::Start) };
-            assert_eq!(rt; first_answer(&rt, &bytes), want, "byte {place} as {byte:#04X}");
+            let want = if byte == FIRST[place] {
+                None
+            } else {
+                Some(PesFault::Start)
+            };
+            assert_eq!(rt;
+                first_answer(&rt, &bytes),
+                want,
+                "byte {place} as {byte:#04X}"
+            );
         }
         let mut bytes = FIRST;
         for place in 14..45usize {
@@ -143,14 +159,22 @@ fn refuses_the_first_wrong_field(rt: HostRuntime) {
     bytes[4] = 0x01;
     bytes[5] = 0x6A;
     // The fourth unit then begins with the second packet's 00 00.
-    assert_eq!(rt; first_answer(&rt, &bytes), Some(PesFault::UnitLength), "two payloads");
+    assert_eq!(rt;
+        first_answer(&rt, &bytes),
+        Some(PesFault::UnitLength),
+        "two payloads"
+    );
 }
 
 #[test]
 fn refuses_a_cut_packet(rt: HostRuntime) {
     for len in 1..184usize {
         let (bytes, _) = FIRST.split_at(len);
-        assert_eq!(rt; first_answer(&rt, bytes), Some(PesFault::Truncated), "{len} bytes");
+        assert_eq!(rt;
+            first_answer(&rt, bytes),
+            Some(PesFault::Truncated),
+            "{len} bytes"
+        );
     }
 }
 
@@ -168,11 +192,17 @@ fn puts_25_packets_in_seven_payloads(rt: HostRuntime) -> Result<(), Fail> {
     assert_eq!(rt; &bytes[1242..1245], [0xFF, 0x2C, 0xFF].as_slice());
 
     let mut source = MemSource::new(bytes);
-    let frame = PesReader::new().next(&mut source)?.ok_or("a packet is there")?;
+    let frame = PesReader::new()
+        .next(&mut source)?
+        .ok_or("a packet is there")?;
     assert_eq!(rt; frame.units().len(), 25);
     for (i, unit) in frame.units().iter().enumerate() {
         let line = if i < 16 { (1, 7 + i) } else { (2, i - 9) };
-        assert_eq!(rt; (unit.id(), unit.field(), unit.line() as usize), (3, line.0, line.1), "{i}");
+        assert_eq!(rt;
+            (unit.id(), unit.field(), unit.line() as usize),
+            (3, line.0, line.1),
+            "{i}"
+        );
         assert_eq!(rt; *unit.packet(), Packet::new(ROW), "{i}");
     }
     Ok(())
@@ -188,7 +218,11 @@ fn a_frame_gives_back_what_breaks_its_order(rt: HostRuntime) {
     for _ in 0..34 {
         assert_eq!(rt; frame.add(Unit::default()), Ok(()));
     }
-    assert_eq!(rt; frame.add(Unit::default()), Err(Unit::default()), "36 units");
+    assert_eq!(rt;
+        frame.add(Unit::default()),
+        Err(Unit::default()),
+        "36 units"
+    );
     assert_eq!(rt; frame.units().len(), 35);
 }
 
@@ -280,7 +314,9 @@ fn a_failing_pull_is_told_at_once_and_ends_the_reader(rt: HostRuntime) {
 #[test]
 fn a_failing_push_leaves_a_prefix_and_ends_the_writer(rt: HostRuntime) -> Result<(), Fail> {
     let mut source = MemSource::new(&FIRST);
-    let frame = PesReader::new().next(&mut source)?.ok_or("a packet is there")?;
+    let frame = PesReader::new()
+        .next(&mut source)?
+        .ok_or("a packet is there")?;
     for k in 0..=184u64 {
         let trickle = Trickle {
             room: [0; 184],
@@ -295,14 +331,22 @@ fn a_failing_push_leaves_a_prefix_and_ends_the_writer(rt: HostRuntime) -> Result
         }
         assert_eq!(rt; answer, Err(PesFault::Write), "push {k}");
         assert_eq!(rt; sink.failures(), 1, "push {k}");
-        assert_eq!(rt; writer.put(&mut sink, &frame), Err(PesFault::Ended), "push {k}");
+        assert_eq!(rt;
+            writer.put(&mut sink, &frame),
+            Err(PesFault::Ended),
+            "push {k}"
+        );
     }
     for k in 0..184usize {
         let mut room = [0; 184];
         let (room, _) = room.split_at_mut(k);
         let mut sink = MemSink::new(room);
         let mut writer = PesWriter::new();
-        assert_eq!(rt; writer.put(&mut sink, &frame), Err(PesFault::Write), "{k} bytes");
+        assert_eq!(rt;
+            writer.put(&mut sink, &frame),
+            Err(PesFault::Write),
+            "{k} bytes"
+        );
         let (prefix, _) = FIRST.split_at(k);
         assert_eq!(rt; sink.written(), prefix, "{k} bytes");
     }

@@ -20,14 +20,15 @@ impl Model for Unit {
 
     ghost view = { λ u. record { id = u.id; field = u.field; line = u.line; packet = u.packet } };
 
-    ghost invariant = { λ u. IsUnit (record { id = u.id; field = u.field; line = u.line; packet = u.packet }) };
+    ghost invariant = { λ u. IsUnit
+        (record { id = u.id; field = u.field; line = u.line; packet = u.packet }) };
 
     ghost inverse = { λ u. record { id = u.id; field = u.field; line = u.line; packet = u.packet } };
 }
 
 impl Default for Unit {
-    /// What stands in the unused places of a frame: data_unit_id 02, line 0 of the first field, zero
-    /// bytes.
+    /// What stands in the unused places of a frame: data_unit_id 02, line 0 of the first field, and
+    /// zero bytes.
     fn default() -> Self {
         Unit::new(2, 1, 0, Packet::new([0; 42]))
     }
@@ -39,8 +40,8 @@ impl Unit {
 
     /// The unit of these fields.
     ///
-    /// `id` is data_unit_id, 02 or 03; `field` is 1 for the first field (field_parity 1) and 2 for the
-    /// second; `line` is line_offset, 0 to 31, where 0 names no line.
+    /// `id` is data_unit_id, 02 or 03; `field` is 1 for the first field (field_parity 1) and 2 for
+    /// the second; `line` is line_offset, 0 to 31, where 0 names no line.
     pub fn new(id: u8, field: u8, line: u8, packet: Packet) -> Self
         requires id { (2 ≤ id) × (id ≤ 3) }
         requires field { (1 ≤ field) × (field ≤ 2) }

@@ -1,5 +1,6 @@
 //! Writing PES packets.
-ghost use Rattle.std.specs.Prelude.{◌≡◌, ◌+◌, ◌<◌, ◌≤◌, ◌++◌, length, Err, IfErr, is_err, true, false, if◌then◌else◌};
+ghost use Rattle.std.specs.Prelude.{◌≡◌, ◌+◌, ◌<◌, ◌≤◌, ◌++◌, length, Err, IfErr, is_err, true};
+ghost use Rattle.std.specs.Prelude.{false, if◌then◌else◌};
 ghost use Rattle.sub_io.specs.Device.{Writes};
 ghost use Rattle.ttx_pes.specs.declared.fault.PesFault.TheVariants.{Ended, Write};
 ghost use Rattle.ttx_pes.specs.PesPacket.{canonical_packet};
@@ -69,8 +70,8 @@ impl PesWriter {
     ///
     /// # Errors
     ///
-    /// `Write` where the sink failed: a prefix of the packet was written. `Ended` at each call after
-    /// that: nothing was.
+    /// `Write` where the sink failed: a prefix of the packet was written. `Ended` at each call
+    /// after that: nothing was.
     pub fn put<K: Sink>(&mut self, sink: &mut K, frame: &PesFrame) -> Result<(), PesFault>
         requires { K.failure_count sink.old < u64.MAX }
         ensures bytes { Writes (K.contents sink.old) (K.contents sink.new)

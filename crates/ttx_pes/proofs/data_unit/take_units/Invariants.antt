@@ -7,5 +7,6 @@ invariant-loop l = record {
   room : length l.frame.units + (l.count - l.counter) ≤ 35;
   blocks : length l.rest ≡ 46 * (l.count - l.counter);
   pts : l.frame.pts ≡ l.initial.frame.pts;
-  same : units_at (l.count - l.counter) l.frame.units l.rest ≡ units_at l.count l.initial.frame.units l.blocks;
+  same : units_at (l.count - l.counter) l.frame.units l.rest ≡ units_at l.count
+      l.initial.frame.units l.blocks;
 }

@@ -2,7 +2,8 @@
 use Rattle.std.proofs.Common.{rules}
 use Rattle.std.proofs.lemmas.Result.{err_from_is_err_and}
 use Rattle.sub_io.proofs.DeviceLemmas.{Told-from_fills}
-use Rattle.ttx_pes.proofs.ReaderLemmas.{no_bytes, nothing, nothing_left, too_many, first_short, bad_size, second_short, whole, takes_packet}
+use Rattle.ttx_pes.proofs.ReaderLemmas.{no_bytes, nothing, nothing_left, too_many, first_short}
+use Rattle.ttx_pes.proofs.ReaderLemmas.{bad_size, second_short, whole, takes_packet}
 use Rattle.ttx_pes.proofs.reader.read_packet.Goals as goal
 
 pub returns-then-got-eq0-clause-exact : goal.returns-then-got-eq0-clause-exact
@@ -32,7 +33,8 @@ returns-then-got-lt6-clause-exact g c = λ bytes is _.
 
 pub returns-in_err-size-clause-exact : goal.returns-in_err-size-clause-exact
 returns-in_err-size-clause-exact g c =
-    let p = err_from_is_err_and c.from_residual-in_err-size.result c.from_residual-in_err-size.ensures.1 in
+    let p = err_from_is_err_and c.from_residual-in_err-size.result
+    c.from_residual-in_err-size.ensures.1 in
     λ bytes is _. rw (p.1, p.2)
     (bad_size c.args.given bytes c.in_ok-got.got _ c.fill.new.to c.in_err-size.field-0.0
     (Told-from_fills _ _ _ _ c.in_ok-got.ensures.fills bytes is) (search rules) c.if-got-lt6.false
@@ -49,7 +51,8 @@ returns-then-branch-size-clause-exact g c = λ bytes is _.
 
 pub returns-in_err-read_value-clause-exact : goal.returns-in_err-read_value-clause-exact
 returns-in_err-read_value-clause-exact g c =
-    let p = err_from_is_err_and c.from_residual-in_err-read_value.result c.from_residual-in_err-read_value.ensures.1 in
+    let p = err_from_is_err_and c.from_residual-in_err-read_value.result
+    c.from_residual-in_err-read_value.ensures.1 in
     λ bytes is _.
     let t = Told-from_fills _ _ c.in_ok-got.got c.fill.new.to c.in_ok-got.ensures.fills bytes is in
     rw (p.1, p.2)
