@@ -1,7 +1,8 @@
 -- What `clap`'s contract says of the program's own words. Main lemmas: command_in-parsed and
 -- IsFaultOf-refused for the parse, command_in-taken and command_in-named for its answer.
 use Rattle.std.proofs.Common.{◌≡◌, ◌≢◌, Bool, true, false, not, ◌&&◌, cond, List, [], ◌∷◌, map}
-use Rattle.std.proofs.Common.{Option, Some, None, Ok, Err, is_some, refl, sym, ap, ap₂, subst, inl, inr}
+use Rattle.std.proofs.Common.{Option, Some, None, Ok, Err, is_some, refl, sym, ap, ap₂, subst}
+use Rattle.std.proofs.Common.{inl, inr}
 use Rattle.std.specs.Prelude.{Box, option_and_then, option_map, find}
 use Rattle.std.specs.Box.{box_value}
 use Rattle.clap.specs.Words.{App, FailsBy, HasKind, HasMatchesOf, IsAmong, Kinds, Row, Shape, Text}

@@ -47,10 +47,14 @@ pub fn answer<S: Source, T: Source, F: Sink, K: Sink>(
     ensures file { names_file request.now ≡ false → file.new ≡ file.old }
 
     // Each device fails once at most, and not where the status is another than `Fault`.
-    ensures first_count { CountsFault (S.failure_count first.old) result (S.failure_count first.new) }
-    ensures second_count { CountsFault (T.failure_count second.old) result (T.failure_count second.new) }
-    ensures file_count { CountsFault (F.failure_count file.old) result (F.failure_count file.new) }
-    ensures out_count { CountsFault (K.failure_count out.old) result (K.failure_count out.new) }
+    ensures first_count { CountsFault (S.failure_count first.old) result
+        (S.failure_count first.new) }
+    ensures second_count { CountsFault (T.failure_count second.old) result
+        (T.failure_count second.new) }
+    ensures file_count { CountsFault (F.failure_count file.old) result
+        (F.failure_count file.new) }
+    ensures out_count { CountsFault (K.failure_count out.old) result
+        (K.failure_count out.new) }
 
     // The status is `Fault` only where a device failed.
     ensures fault { result ≡ Status.Fault
@@ -72,7 +76,8 @@ pub fn say<K: Sink>(fault: &UsageFault, out: &mut K) -> Status
     ensures status { result ≡ Status.Fault }
     ensures whole { K.failure_count out.new ≡ K.failure_count out.old
         → Appends (K.contents out.old) (K.contents out.new) (usage_line fault.now) }
-    ensures prefix { AppendsPrefix (K.contents out.old) (K.contents out.new) (usage_line fault.now) }
+    ensures prefix { AppendsPrefix (K.contents out.old) (K.contents out.new)
+        (usage_line fault.now) }
     ensures count { CountsFault (K.failure_count out.old) result (K.failure_count out.new) }
 {
     let _ = put_all(out, usage_text(fault));

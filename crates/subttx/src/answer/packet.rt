@@ -25,7 +25,8 @@ const HEX_DIGITS: [u8; 16] = *b"0123456789ABCDEF";
 /// Refuses a packet that has no address, or whose header means nothing.
 pub fn show_packet<K: Sink>(bytes: &[u8; 42], out: &mut K) -> Status
     requires { K.failure_count out.old < u64.MAX }
-    ensures text { Prints (K.contents out.old) (K.contents out.new) (packet_listing bytes.now) result }
+    ensures text { Prints (K.contents out.old) (K.contents out.new)
+        (packet_listing bytes.now) result }
     ensures count { CountsFault (K.failure_count out.old) result (K.failure_count out.new) }
     ensures fault { result ≡ Status.Fault → K.failure_count out.new ≡ K.failure_count out.old + 1 }
 {

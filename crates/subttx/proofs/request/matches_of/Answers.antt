@@ -5,12 +5,14 @@ use Rattle.subttx.specs.Commands.{texts_of}
 use Rattle.subttx.proofs.CommandLemmas.{IsFaultOf-refused, command_in-parsed, refusals-parsed}
 use Rattle.subttx.proofs.request.matches_of.Goals as goal
 
-pub returns-in-Ok-try_get_matches_from-clause-command : goal.returns-in-Ok-try_get_matches_from-clause-command
+pub returns-in-Ok-try_get_matches_from-clause-command :
+    goal.returns-in-Ok-try_get_matches_from-clause-command
 returns-in-Ok-try_get_matches_from-clause-command c =
     command_in-parsed _ (texts_of c.args.words.now) _ c.in-Ok.ensures.app
     c.in-Ok-try_get_matches_from.ensures.matches
 
-pub returns-in-Ok-try_get_matches_from-clause-taken : goal.returns-in-Ok-try_get_matches_from-clause-taken
+pub returns-in-Ok-try_get_matches_from-clause-taken :
+    goal.returns-in-Ok-try_get_matches_from-clause-taken
 returns-in-Ok-try_get_matches_from-clause-taken c =
     refusals-parsed _ (texts_of c.args.words.now) c.in-Ok-try_get_matches_from.matches
     c.in-Ok.ensures.app c.in-Ok-try_get_matches_from.ensures.kinds
@@ -18,4 +20,5 @@ returns-in-Ok-try_get_matches_from-clause-taken c =
 pub returns-clause-fault : goal.returns-clause-fault
 returns-clause-fault c =
     IsFaultOf-refused _ (texts_of c.args.words.now) c.in-Err.error c.in-Ok.ensures.app
-    c.in-Err.ensures.kinds c.in-Err.ensures.passes (λ memory. c.in_default-kind.not-OutOfMemory (c.kind.ensures ∙ memory))
+    c.in-Err.ensures.kinds c.in-Err.ensures.passes
+    (λ memory. c.in_default-kind.not-OutOfMemory (c.kind.ensures ∙ memory))
