@@ -1,0 +1,10 @@
+pub mod TransmissionLemmas
+pub mod RobustLemmas
+pub mod AllKept
+pub mod StepByStepLemmas
+pub mod RuleLemmas
+pub mod RuleTests
+pub mod BrokenRules
+pub mod BrokenSpans
+pub mod NotRobust
+pub mod GoodExample

@@ -1,0 +1,228 @@
+-- The headline's laws, from the law of noise with lost rows: `law_of_good_and_loss`.
+use Rattle.std.proofs.Common.{◌≡◌, ℕ, ◌+◌, ◌≤◌, inl, inr, true, List, ◌++◌, length, drop, take, map}
+use Rattle.std.proofs.Common.{Some, sym, ap, ◌∙◌, subst, arith, option_map, unwrap_or, find}
+use Rattle.std.proofs.Common.{le_refl}
+use Rattle.std.proofs.Common.{le_trans, append_assoc, take-append-drop}
+use Rattle.std.proofs.lemmas.Bool.{cases_Bool}
+use Rattle.std.proofs.lemmas.List.{drop-append-le, take_all}
+use Rattle.std.proofs.lemmas.List.Elements.{All-drop, All-nil}
+use Rattle.ttx_packet.specs.PageHeader.{HasExactWords}
+use Rattle.ttx_packet.specs.PageId.{PageIdValue}
+use Rattle.ttx_packet.specs.Parity.{code_of}
+use Rattle.ttx_packet.specs.RowPacket.{text_byte}
+use Rattle.ttx_page.specs.declared.packet_kind.PacketKind.{PacketKind}
+use Rattle.ttx_page.specs.LostRows.{fates_of}
+use Rattle.ttx_page.specs.Noise.{ErasesPage, IsSound}
+use Rattle.ttx_page.specs.Page.{space}
+use Rattle.ttx_page.specs.PacketKind.{kind, is_row}
+use Rattle.ttx_page.specs.Receiver.{Hears}
+use Rattle.ttx_page.specs.Span.{holds_header, after_last_header, before_end, span}
+use Rattle.ttx_page.proofs.SpanLists.{after-none}
+use Rattle.ttx_page.proofs.NoiseLaws as noise
+use Rattle.stl_rows.specs.Programme.{ProgrammeValue}
+use Rattle.sub_plan.specs.Options.{OptionsValue}
+use Rattle.sub_check.specs.Transmission.{Transmission, first_frame, packets_between, packets_of}
+use Rattle.sub_check.specs.Transmission.{on_air, on_air_until, EachPacket}
+use Rattle.sub_check.specs.Good.{Good, IsCleanSpan}
+use Rattle.sub_check.specs.Robust.{IsListening, Robust}
+use Rattle.sub_check.specs.LostRows.{RobustWithNothingLost}
+use Rattle.sub_check.specs.Laws.{LawOfWindow, LawOfGood, LawOfGoodAndLoss, LawOfGoodAndMarkedLoss}
+use Rattle.sub_check.specs.Laws.{LawOfNothingLost}
+use Rattle.sub_check.proofs.TransmissionLemmas.{holds-append_right, holds-append_left, after-append}
+use Rattle.sub_check.proofs.TransmissionLemmas.{packets_between-split, packets_between-each}
+
+-- A start at packet j of frame g of a good transmission, and a stop at the end of frame f.
+module _ (programme : ProgrammeValue) (transmission : Transmission) (options : OptionsValue)
+    (g j f : ℕ) (good : Good programme transmission options)
+    (listening : IsListening transmission g j f) where
+  -- What a packet is to a receiver of the page.
+  abbrev K : List ℕ → PacketKind
+  K = kind options.page
+
+  -- The packets that come after frame g, to the end of frame f.
+  abbrev later : List (List ℕ)
+  later = packets_between transmission (g + 1) (f + 1)
+
+  -- What is on air is the rest of frame g, and then those.
+  on_air-cut : on_air transmission g j f ≡ drop j (packets_of transmission g) ++ later
+  on_air-cut =
+      ap (drop j)
+      (packets_between-split transmission g (g + 1) (f + 1) good.rising (omega arith)
+      (omega (arith, listening.in_order)))
+      ∙ drop-append-le j (packets_of transmission g) later listening.in_frame
+
+  -- A header in frame n, after g and up to f, is one of them.
+  later_holds :
+      (n : ℕ)
+      → g + 1 ≤ n
+      → n ≤ f
+      → holds_header K (packets_of transmission n) ≡ true
+      → holds_header K later ≡ true
+  later_holds n above below holds =
+      let here : packets_between transmission n (f + 1)
+      ≡ packets_of transmission n ++ packets_between transmission (n + 1) (f + 1) =
+      packets_between-split transmission n (n + 1) (f + 1) good.rising (omega arith)
+      (omega arith) in
+      let split : later ≡ packets_between transmission (g + 1) n
+      ++ packets_between transmission n (f + 1) =
+      packets_between-split transmission (g + 1) n (f + 1) good.rising above (omega arith) in
+      subst (λ ps. holds_header K ps ≡ true) (sym split)
+      (holds-append_right K (packets_between transmission (g + 1) n) _
+      (subst (λ ps. holds_header K ps ≡ true) (sym here)
+      (holds-append_left K (packets_of transmission n) _ holds)))
+
+  -- The law of the window: one of the frames after g holds a header.
+  pub window : g + options.every ≤ f → holds_header K (on_air transmission g j f) ≡ true
+  window far =
+      let found =
+      good.repeats (g + 1) (omega (arith, listening.not_before))
+      (omega (arith, listening.not_after)) in
+      subst (λ ps. holds_header K ps ≡ true) (sym on_air-cut)
+      (holds-append_right K (drop j (packets_of transmission g)) _
+      (later_holds found.0 found.1 (omega (arith, found.2)) found.3))
+
+  -- All that was on air so far is some packets, and then those that are heard.
+  on_air_until-split :
+      on_air_until transmission f
+      ≡ (packets_between transmission (first_frame transmission) g
+      ++ take j (packets_between transmission g (f + 1)))
+      ++ on_air transmission g j f
+  on_air_until-split =
+      packets_between-split transmission (first_frame transmission) g (f + 1) good.rising
+      listening.not_before (omega (arith, listening.in_order))
+      ∙ ap (λ ps. packets_between transmission (first_frame transmission) g ++ ps)
+      (sym (take-append-drop j (packets_between transmission g (f + 1))))
+      ∙ sym (append_assoc (packets_between transmission (first_frame transmission) g) _ _)
+
+  -- Where a header is heard, the span is that of all that was on air so far.
+  pub span_so_far :
+      holds_header K (on_air transmission g j f) ≡ true
+      → span K (on_air_until transmission f) ≡ span K (on_air transmission g j f)
+  span_so_far holds =
+      ap (before_end K)
+      (ap (after_last_header K) on_air_until-split
+      ∙ after-append K _ (on_air transmission g j f) holds)
+
+  -- So it is clean.
+  clean : IsCleanSpan options.page (span K (on_air transmission g j f))
+  clean =
+      elim (cases_Bool (holds_header K (on_air transmission g j f))) [
+        | inl holds ↦
+            let whole : List (List ℕ) = on_air_until transmission f in
+            subst (IsCleanSpan options.page)
+            (ap (span K) (take_all (length whole) whole (le_refl (length whole)))
+            ∙ span_so_far holds)
+            (good.spans f (length whole) listening.not_after)
+        | inr none ↦
+            subst (IsCleanSpan options.page)
+            (sym (ap (before_end K) (after-none K (on_air transmission g j f) none)))
+            (record { odd = All-nil _; same = All-nil _; plain = All-nil _ })
+      ]
+
+  -- And what is on air is as the law of noise wants it.
+  pub sound : IsSound options.page (on_air transmission g j f)
+  sound =
+      let erasing : EachPacket (ErasesPage options.page) transmission =
+      λ k d l m e n h is. (good.control k d l m e n h is).erases in
+      record {
+        exact =
+            All-drop HasExactWords j _
+            (packets_between-each HasExactWords transmission g (f + 1) good.exact);
+        erases =
+            All-drop (ErasesPage options.page) j _
+            (packets_between-each (ErasesPage options.page) transmission g (f + 1) erasing);
+        odd = clean.odd;
+        same = clean.same;
+      }
+
+-- The law of the window.
+pub law_of_window : LawOfWindow
+law_of_window programme transmission options g j f good listening far =
+    window programme transmission options g j f good listening far
+
+-- The code that a cell shows of a span.
+abbrev shown_of : PageIdValue → ℕ → ℕ → List (List ℕ) → ℕ
+shown_of page row column packets =
+    unwrap_or
+    (option_map (λ p. code_of (text_byte p column))
+    (find (λ p. is_row row (kind page p)) packets))
+    space
+
+-- A good transmission is robust to lost rows.
+pub law_of_good_and_loss : LawOfGoodAndLoss
+law_of_good_and_loss
+    programme transmission options good g j f fates old new listening near unheard shut hears =
+    let ends =
+    noise.law_of_lost_rows options.page (on_air transmission g j f) fates old new
+    (sound programme transmission options g j f good listening) near unheard shut hears in
+    record {
+      in_time = law_of_window programme transmission options g j f good listening;
+      heard = (λ h. sym ends.heard ∙ h, λ h. ends.heard ∙ h);
+      cells = λ holds row column named.
+          elim (ends.cells (ends.heard ∙ holds) row column named) [
+            | inl shows ↦
+                inl (shows
+                ∙ ap (shown_of options.page row column)
+                (sym (span_so_far programme transmission options g j f good listening holds))
+                ∙ good.content f row column (le_trans listening.not_before listening.in_order)
+                listening.not_after named)
+            | inr hit ↦ inr hit
+          ];
+    }
+
+-- A good transmission is robust to lost rows, by marks: the fates that they give.
+pub law_of_good_and_marked_loss : LawOfGoodAndMarkedLoss
+law_of_good_and_marked_loss
+    programme transmission options good g j f marks got old new listening may near unheard shut
+    hears =
+    let sent : List (List ℕ) = on_air transmission g j f in
+    law_of_good_and_loss programme transmission options good g j f (fates_of marks got) old new
+    listening (noise.arrives_marked sent marks got may near) unheard shut
+    (subst (λ ps. Hears options.page old ps new)
+    (sym (noise.arrived_marked sent marks got may near)) hears)
+
+-- With nothing lost, the premises and the hits are those of a robust transmission.
+pub law_of_nothing_lost : LawOfNothingLost
+law_of_nothing_lost programme transmission options = (robust, lossless)
+  where
+    robust :
+        RobustWithNothingLost programme transmission options
+        → Robust programme transmission options
+    robust with_none g j f got old new listening near unheard shut hears =
+        let sent : List (List ℕ) = on_air transmission g j f in
+        let law = noise.law_of_nothing_lost options.page sent got in
+        let served =
+        with_none g j f got old new listening (law.near.1 near) unheard shut
+        (subst (λ ps. Hears options.page old ps new) (sym law.packets) hears) in
+        record {
+          in_time = served.in_time;
+          heard = served.heard;
+          cells = λ holds row column named. elim (served.cells holds row column named) [
+            | inl due ↦ inl due
+            | inr hit ↦ inr (hit.0, (law.hits row column).0 hit.1)
+          ];
+        }
+
+    lossless :
+        Robust programme transmission options
+        → RobustWithNothingLost programme transmission options
+    lossless robust g j f got old new listening arrives unheard shut hears =
+        let sent : List (List ℕ) = on_air transmission g j f in
+        let law = noise.law_of_nothing_lost options.page sent got in
+        let served =
+        robust g j f got old new listening (law.near.0 arrives) unheard shut
+        (subst (λ ps. Hears options.page old ps new) law.packets hears) in
+        record {
+          in_time = served.in_time;
+          heard = served.heard;
+          cells = λ holds row column named. elim (served.cells holds row column named) [
+            | inl due ↦ inl due
+            | inr hit ↦ inr (hit.0, (law.hits row column).1 hit.1)
+          ];
+        }
+
+-- A good transmission is robust: robust to lost rows, with nothing lost.
+pub law_of_good : LawOfGood
+law_of_good programme transmission options good =
+    (law_of_nothing_lost programme transmission options).0
+    (λ g j f got. law_of_good_and_loss programme transmission options good g j f (map Some got))

@@ -1,0 +1,150 @@
+-- The packets of frames, split and joined: `packets_between-split`, and `after-append` for what
+-- stands before a list with a header.
+use Rattle.std.proofs.Common.{◌≡◌, ℕ, suc, ◌+◌, ◌<◌, ◌≤◌, inl, inr, Bool, true, false, ◌&&◌, nat_lt}
+use Rattle.std.proofs.Common.{nat_le, cond, List, [], ◌∷◌, ◌++◌, length, take, slice_index_or}
+use Rattle.std.proofs.Common.{All, refl}
+use Rattle.std.proofs.Common.{sym, ap, ap₂, ◌∙◌, arith, append_assoc}
+use Rattle.std.specs.List.{AllByRecursion}
+use Rattle.std.proofs.lemmas.Bool.{cases_lt, lt-ltb, le-ltb, le-leb, lt-leb, and_left, and_right}
+use Rattle.std.proofs.lemmas.Bool.{or_left, or_right}
+use Rattle.std.proofs.lemmas.List.Elements.{recursion_from_All, All-append, All-nil, All-head}
+use Rattle.std.proofs.lemmas.List.Elements.{All-tail}
+use Rattle.std.proofs.lemmas.List.Folds.{list_any-append}
+use Rattle.ttx_page.specs.declared.packet_kind.PacketKind.{PacketKind}
+use Rattle.ttx_page.specs.PacketKind.{is_this_page}
+use Rattle.ttx_page.specs.Span.{holds_header, after_last_header}
+use Rattle.ttx_page.proofs.SpanLists.{after-later}
+use Rattle.sub_check.specs.Transmission.{SentFrame, Transmission, IsRising, packets_between}
+use Rattle.sub_check.specs.Transmission.{EachPacket}
+
+-- ---- headers in joined lists
+
+-- A header of the page in the second of two lists is one in both, joined.
+pub holds-append_right :
+    {A : Type 0} (kind_of : A → PacketKind) (xs ys : List A)
+    → holds_header kind_of ys ≡ true
+    → holds_header kind_of (xs ++ ys) ≡ true
+holds-append_right kind_of xs ys e =
+    list_any-append (λ x. is_this_page (kind_of x)) xs ys
+    ∙ or_right (holds_header kind_of xs) _ e
+
+-- And one in the first.
+pub holds-append_left :
+    {A : Type 0} (kind_of : A → PacketKind) (xs ys : List A)
+    → holds_header kind_of xs ≡ true
+    → holds_header kind_of (xs ++ ys) ≡ true
+holds-append_left kind_of xs ys e =
+    list_any-append (λ x. is_this_page (kind_of x)) xs ys ∙ or_left _ (holds_header kind_of ys) e
+
+-- What stands before a list with a header of the page does not matter.
+pub after-append :
+    {A : Type 0} (kind_of : A → PacketKind) (xs ys : List A)
+    → holds_header kind_of ys ≡ true
+    → after_last_header kind_of (xs ++ ys) ≡ after_last_header kind_of ys
+after-append kind_of [] ys e = refl
+after-append kind_of (x ∷ xs) ys e =
+    after-later kind_of x (xs ++ ys) (holds-append_right kind_of xs ys e)
+    ∙ after-append kind_of xs ys e
+
+-- ---- the frames from one number up to another
+
+-- What one frame gives.
+abbrev piece : ℕ → ℕ → SentFrame → List (List ℕ)
+piece a b s = cond (nat_le a s.frame && nat_lt s.frame b) s.packets []
+
+-- No packet stands before a frame where all frames are that or later.
+pub packets_between-none :
+    (frames : Transmission) (a b : ℕ)
+    → AllByRecursion (λ (s : SentFrame). b ≤ s.frame) frames
+    → packets_between frames a b ≡ []
+packets_between-none [] a b later = refl
+packets_between-none (s ∷ frames) a b later =
+    ap₂ ◌++◌
+    (ap (λ t. cond t s.packets []) (and_right (nat_le a s.frame) _ (le-ltb s.frame b later.0)))
+    (packets_between-none frames a b later.1)
+
+-- No packet stands from a frame up to one that is not after it.
+pub packets_between-void :
+    (frames : Transmission) (a b : ℕ) → b ≤ a → packets_between frames a b ≡ []
+packets_between-void [] a b l = refl
+packets_between-void (s ∷ frames) a b l =
+    let none : piece a b s ≡ [] =
+    elim (cases_lt s.frame b) [
+      | inl below ↦
+          ap (λ t. cond t s.packets [])
+          (and_left (nat_le a s.frame) (nat_lt s.frame b) (lt-leb a s.frame (omega arith)))
+      | inr above ↦
+          ap (λ t. cond t s.packets []) (and_right (nat_le a s.frame) _ (le-ltb s.frame b above))
+    ] in
+    ap₂ ◌++◌ none (packets_between-void frames a b l)
+
+-- Frames that rise rise after the first.
+pub rising-tail :
+    (s : SentFrame) (frames : Transmission) → IsRising (s ∷ frames) → IsRising frames
+rising-tail s frames h i j d l m = h (suc i) (suc j) d (omega arith) (omega arith)
+
+-- And are later than it.
+pub later_than :
+    (s : SentFrame) (frames : Transmission) (b : ℕ)
+    → IsRising (s ∷ frames)
+    → b ≤ s.frame
+    → AllByRecursion (λ (later : SentFrame). b ≤ later.frame) frames
+later_than s frames b h l =
+    recursion_from_All (λ (later : SentFrame). b ≤ later.frame) frames
+    (λ k d below.
+    let lt : s.frame < (slice_index_or frames k d).frame =
+    h 0 (suc k) d (omega arith) (omega arith) in
+    omega arith)
+
+-- The packets from a to c are those from a to b, and then those from b to c.
+pub packets_between-split :
+    (frames : Transmission) (a b c : ℕ)
+    → IsRising frames
+    → a ≤ b
+    → b ≤ c
+    → packets_between frames a c ≡ packets_between frames a b ++ packets_between frames b c
+packets_between-split [] a b c rising l m = refl
+packets_between-split (s ∷ frames) a b c rising l m =
+    let ih = packets_between-split frames a b c (rising-tail s frames rising) l m in
+    elim (cases_lt s.frame b) [
+      | inl below ↦
+          let first : piece a c s ≡ piece a b s =
+          ap (λ t. cond (nat_le a s.frame && t) s.packets [])
+          (lt-ltb s.frame c (omega arith) ∙ sym (lt-ltb s.frame b below)) in
+          let second : piece b c s ≡ [] =
+          ap (λ t. cond t s.packets []) (and_left _ (nat_lt s.frame c) (lt-leb b s.frame below)) in
+          ap₂ ◌++◌ first ih
+          ∙ sym (append_assoc (piece a b s) _ _)
+          ∙ ap
+          (λ ys. (piece a b s ++ packets_between frames a b)
+          ++ (ys ++ packets_between frames b c))
+          (sym second)
+      | inr above ↦
+          let first : piece a b s ≡ [] =
+          ap (λ t. cond t s.packets []) (and_right (nat_le a s.frame) _ (le-ltb s.frame b above)) in
+          let same : piece a c s ≡ piece b c s =
+          ap (λ t. cond (t && nat_lt s.frame c) s.packets [])
+          (le-leb a s.frame (omega arith) ∙ sym (le-leb b s.frame above)) in
+          let none : packets_between frames a b ≡ [] =
+          packets_between-none frames a b (later_than s frames b rising above) in
+          ap₂ ◌++◌ same (ih ∙ ap (λ ys. ys ++ packets_between frames b c) none)
+          ∙ ap₂ (λ xs ys. (xs ++ ys) ++ (piece b c s ++ packets_between frames b c))
+          (sym first) (sym none)
+    ]
+
+-- What holds of each packet of a transmission holds of those between two frames.
+pub packets_between-each :
+    (P : List ℕ → Type 0) (frames : Transmission) (a b : ℕ)
+    → EachPacket P frames
+    → All P (packets_between frames a b)
+packets_between-each P [] a b h = All-nil P
+packets_between-each P (s ∷ frames) a b h =
+    All-append P (piece a b s) (packets_between frames a b)
+    (of_piece (nat_le a s.frame && nat_lt s.frame b)
+    (All-head (λ (f : SentFrame). All P f.packets) s frames h))
+    (packets_between-each P frames a b
+    (All-tail (λ (f : SentFrame). All P f.packets) s frames h))
+  where
+    of_piece : (t : Bool) → All P s.packets → All P (cond t s.packets [])
+    of_piece true all = all
+    of_piece false all = All-nil P

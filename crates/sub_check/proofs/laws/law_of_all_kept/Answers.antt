@@ -1,0 +1,5 @@
+use Rattle.sub_check.proofs.AllKept.{law_of_all_kept}
+use Rattle.sub_check.proofs.laws.law_of_all_kept.Goals as goal
+
+pub returns : goal.returns
+returns c = law_of_all_kept

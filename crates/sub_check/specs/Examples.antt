@@ -1,0 +1,232 @@
+-- Transmissions of page 888 in full, byte by byte: a good one, for each rule one that breaks it
+-- alone, and some that are shown not robust.
+use Rattle.std.specs.Prelude.{ℕ, List, [], ◌∷◌, ◌++◌, replicate, take}
+use Rattle.ttx_packet.specs.PageId.{PageIdValue}
+use Rattle.stl_file.specs.Subtitle.{SubtitleValue}
+use Rattle.stl_rows.specs.declared.national.National.TheVariants.{English}
+use Rattle.stl_rows.specs.Programme.{ProgrammeValue}
+use Rattle.sub_plan.specs.Options.{OptionsValue}
+use Rattle.sub_check.specs.Transmission.{Transmission}
+use Rattle.sub_check.specs.Good.{Good}
+use Rattle.sub_check.specs.Robust.{Robust}
+use Rattle.sub_check.specs.Rules.{BreaksOnly}
+use Rattle.sub_check.specs.Rules.Rule.{Frames, ExactWords, OneMode, SubtitleControl}
+use Rattle.sub_check.specs.Rules.Rule.{CleanSpans, RepeatBound, DuePages}
+
+-- ---- packets
+
+-- Ten coded bytes, and 32 spaces.
+abbrev pub x0 : List ℕ → List ℕ
+x0 coded = coded ++ replicate 32 0x20
+
+-- Page 888, whose magazine 8 is sent as 0.
+abbrev pub page_888 : PageIdValue
+page_888 = record { magazine = 0; page = 0x88 }
+
+-- The header of page 888 in English and in parallel mode, with C4, C6 and C7 set:
+-- address, address, page units, page tens, S1, S2 and C4, S3, S4 with C5 and C6, C7 to C10, C11 to
+-- C14.
+abbrev pub header_888 : List ℕ
+header_888 = x0 (0x15 ∷ 0x15 ∷ 0xD0 ∷ 0xD0 ∷ 0x15 ∷ 0xD0 ∷ 0x15 ∷ 0xD0 ∷ 0x02 ∷ 0x15 ∷ [])
+
+-- The same with C4, erase page, clear.
+abbrev pub header_without_c4 : List ℕ
+header_without_c4 = x0 (0x15 ∷ 0x15 ∷ 0xD0 ∷ 0xD0 ∷ 0x15 ∷ 0x15 ∷ 0x15 ∷ 0xD0 ∷ 0x02 ∷ 0x15 ∷ [])
+
+-- The same header, with one wrong bit in its first address byte.
+abbrev pub header_with_wrong_bit : List ℕ
+header_with_wrong_bit =
+    x0 (0x14 ∷ 0x15 ∷ 0xD0 ∷ 0xD0 ∷ 0x15 ∷ 0xD0 ∷ 0x15 ∷ 0xD0 ∷ 0x02 ∷ 0x15 ∷ [])
+
+-- With two wrong bits there: the byte decodes to nothing.
+abbrev pub header_with_two_wrong_bits : List ℕ
+header_with_two_wrong_bits =
+    x0 (0x16 ∷ 0x15 ∷ 0xD0 ∷ 0xD0 ∷ 0x15 ∷ 0xD0 ∷ 0x15 ∷ 0xD0 ∷ 0x02 ∷ 0x15 ∷ [])
+
+-- A packet X/0 whose page units decode to nothing: no header, but one wrong bit away from one.
+abbrev pub no_header : List ℕ
+no_header = x0 (0x15 ∷ 0x15 ∷ 0xD3 ∷ 0xD0 ∷ 0x15 ∷ 0xD0 ∷ 0x15 ∷ 0xD0 ∷ 0x02 ∷ 0x15 ∷ [])
+
+-- The closing header: page FF, subcode 3F7F.
+abbrev pub closing : List ℕ
+closing = x0 (0x15 ∷ 0x15 ∷ 0xEA ∷ 0xEA ∷ 0xEA ∷ 0x2F ∷ 0xEA ∷ 0x5E ∷ 0x15 ∷ 0x15 ∷ [])
+
+-- The closing header in serial mode, C11.
+abbrev pub serial_closing : List ℕ
+serial_closing = x0 (0x15 ∷ 0x15 ∷ 0xEA ∷ 0xEA ∷ 0xEA ∷ 0x2F ∷ 0xEA ∷ 0x5E ∷ 0x15 ∷ 0x02 ∷ [])
+
+-- Packet 8/1, row 1 of magazine 8: the first byte of its text, and 39 spaces.
+abbrev pub row_1 : ℕ → List ℕ
+row_1 byte = 0xD0 ∷ 0x15 ∷ byte ∷ replicate 39 0x20
+
+-- Packet 8/26.
+abbrev pub packet_26 : List ℕ
+packet_26 = 0x15 ∷ 0xB6 ∷ replicate 40 0x20
+
+-- Packet 8/22, row 22: `Hi` in a box, each box code sent twice, in the middle.
+abbrev pub row_22 : List ℕ
+row_22 =
+    (0x15 ∷ 0x9B ∷ [])
+    ++ replicate 17 0x20
+    ++ (0x0B ∷ 0x0B ∷ 0xC8 ∷ 0xE9 ∷ 0x8A ∷ 0x8A ∷ [])
+    ++ replicate 17 0x20
+
+-- ---- transmissions
+
+-- Frame 900000, 10:00:00:00, with these packets.
+abbrev pub one_frame : List (List ℕ) → Transmission
+one_frame packets = record { frame = 900000; packets = packets } ∷ []
+
+-- Frames 900000 and 900001 with these packets.
+abbrev pub two_frames : List (List ℕ) → List (List ℕ) → Transmission
+two_frames first second =
+    record { frame = 900000; packets = first } ∷ record { frame = 900001; packets = second } ∷ []
+
+-- Page 888, a repeat bound, and PTS 0 at frame 0.
+abbrev pub each : ℕ → OptionsValue
+each every = record { page = page_888; every = every; origin = 0 }
+
+-- A programme without a subtitle: every due page is blank.
+abbrev pub no_subtitles : ProgrammeValue
+no_subtitles = record { national = English; records = [] }
+
+-- A programme of one subtitle at frame 900000 alone: on row 22, centred, with this text.
+abbrev pub one_subtitle : List ℕ → ProgrammeValue
+one_subtitle text =
+    record {
+      national = English;
+      records =
+          record {
+            sgn = 0;
+            sn = 1;
+            tci = 900000;
+            tco = 900001;
+            vp = 22;
+            jc = 2;
+            text = text;
+          }
+          ∷ [];
+    }
+
+-- ---- a good one
+
+-- `Hi` in one frame, and in the next one the page without it.
+abbrev pub ExampleOfGood : Type 0
+ExampleOfGood =
+    Good (one_subtitle (0x48 ∷ 0x69 ∷ []))
+    (two_frames (header_888 ∷ row_22 ∷ closing ∷ []) (header_888 ∷ closing ∷ []))
+    (each 1)
+
+-- ---- for each rule one that breaks it alone
+
+-- A packet of 41 bytes.
+abbrev pub ExampleOfShortPacket : Type 0
+ExampleOfShortPacket =
+    BreaksOnly Frames no_subtitles
+    (one_frame (header_888 ∷ take 41 closing ∷ []))
+    (each 1)
+
+-- The last TCO is after the last frame. The subtitle has no text, so that its page is blank.
+abbrev pub ExampleOfEarlyEnd : Type 0
+ExampleOfEarlyEnd =
+    BreaksOnly Frames (one_subtitle []) (one_frame (header_888 ∷ closing ∷ [])) (each 1)
+
+-- An address byte with a wrong bit.
+abbrev pub ExampleOfWrongBit : Type 0
+ExampleOfWrongBit =
+    BreaksOnly ExactWords no_subtitles
+    (one_frame (header_with_wrong_bit ∷ closing ∷ []))
+    (each 1)
+
+-- A packet X/0 that is no header.
+abbrev pub ExampleOfNoHeader : Type 0
+ExampleOfNoHeader =
+    BreaksOnly ExactWords no_subtitles
+    (one_frame (header_888 ∷ closing ∷ no_header ∷ []))
+    (each 1)
+
+-- A closing header in another mode.
+abbrev pub ExampleOfTwoModes : Type 0
+ExampleOfTwoModes =
+    BreaksOnly OneMode no_subtitles (one_frame (header_888 ∷ serial_closing ∷ [])) (each 1)
+
+-- A header that does not erase the page.
+abbrev pub ExampleOfNoErasure : Type 0
+ExampleOfNoErasure =
+    BreaksOnly SubtitleControl no_subtitles
+    (one_frame (header_without_c4 ∷ closing ∷ []))
+    (each 1)
+
+-- A row with a space of even parity, A0.
+abbrev pub ExampleOfEvenByte : Type 0
+ExampleOfEvenByte =
+    BreaksOnly CleanSpans no_subtitles
+    (one_frame (header_888 ∷ row_1 0xA0 ∷ closing ∷ []))
+    (each 1)
+
+-- A second packet of row 1 that differs from the first.
+abbrev pub ExampleOfChangedRow : Type 0
+ExampleOfChangedRow =
+    BreaksOnly CleanSpans no_subtitles
+    (one_frame (header_888 ∷ row_1 0x20 ∷ row_1 0xA1 ∷ closing ∷ []))
+    (each 1)
+
+-- A packet X/26 while the page is open.
+abbrev pub ExampleOfEnhancement : Type 0
+ExampleOfEnhancement =
+    BreaksOnly CleanSpans no_subtitles
+    (one_frame (header_888 ∷ packet_26 ∷ closing ∷ []))
+    (each 1)
+
+-- A frame without a header of the page, where each is to have one.
+abbrev pub ExampleOfGap : Type 0
+ExampleOfGap =
+    BreaksOnly RepeatBound no_subtitles
+    (two_frames (header_888 ∷ closing ∷ []) (closing ∷ []))
+    (each 1)
+
+-- A first frame without one.
+abbrev pub ExampleOfNoFirstHeader : Type 0
+ExampleOfNoFirstHeader =
+    BreaksOnly RepeatBound no_subtitles
+    (two_frames (closing ∷ []) (header_888 ∷ closing ∷ []))
+    (each 2)
+
+-- An exclamation mark that is not due.
+abbrev pub ExampleOfWrongContent : Type 0
+ExampleOfWrongContent =
+    BreaksOnly DuePages no_subtitles
+    (one_frame (header_888 ∷ row_1 0xA1 ∷ closing ∷ []))
+    (each 1)
+
+-- ---- and that are not robust
+
+-- Without C4 a receiver keeps its old page.
+abbrev pub ExampleOfOldPage : Type 0
+ExampleOfOldPage =
+    Robust no_subtitles (one_frame (header_without_c4 ∷ closing ∷ [])) (each 1) → ⊥
+
+-- A0 may be got as A1, which has odd parity: an exclamation mark that nobody sent.
+abbrev pub ExampleOfWrongCharacter : Type 0
+ExampleOfWrongCharacter =
+    Robust no_subtitles (one_frame (header_888 ∷ row_1 0xA0 ∷ closing ∷ [])) (each 1) → ⊥
+
+-- One bit more, and the address byte decodes to nothing: the header is not heard.
+abbrev pub ExampleOfUnheardHeader : Type 0
+ExampleOfUnheardHeader =
+    Robust no_subtitles (one_frame (header_with_wrong_bit ∷ closing ∷ [])) (each 1) → ⊥
+
+-- One wrong bit, and a packet X/0 is a header that nobody sent.
+abbrev pub ExampleOfMadeHeader : Type 0
+ExampleOfMadeHeader =
+    Robust no_subtitles (one_frame (header_888 ∷ closing ∷ no_header ∷ [])) (each 1) → ⊥
+
+-- Who starts after the first frame hears no header within the bound.
+abbrev pub ExampleOfLongWait : Type 0
+ExampleOfLongWait =
+    Robust no_subtitles (two_frames (header_888 ∷ closing ∷ []) (closing ∷ [])) (each 1) → ⊥
+
+-- Every receiver shows what is not due.
+abbrev pub ExampleOfShownContent : Type 0
+ExampleOfShownContent =
+    Robust no_subtitles (one_frame (header_888 ∷ row_1 0xA1 ∷ closing ∷ [])) (each 1) → ⊥

@@ -1,0 +1,58 @@
+-- The headline's laws: a good transmission is robust.
+use Rattle.std.specs.Prelude.{◌↔◌, ℕ, ◌+◌, ◌≤◌, IsTrue}
+use Rattle.ttx_page.specs.PacketKind.{kind}
+use Rattle.ttx_page.specs.Span.{holds_header}
+use Rattle.stl_rows.specs.Programme.{ProgrammeValue}
+use Rattle.sub_plan.specs.Options.{OptionsValue}
+use Rattle.sub_check.specs.Transmission.{Transmission, on_air}
+use Rattle.sub_check.specs.Good.{Good}
+use Rattle.sub_check.specs.Robust.{IsListening, Robust}
+use Rattle.sub_check.specs.LostRows.{RobustToLoss, RobustToMarkedLoss, RobustWithNothingLost}
+use Rattle.sub_check.specs.LostRows.{RobustWithAllKept}
+
+-- The law of the window: a start at any packet of a good transmission meets a header of the page by
+-- the end of frame g + every.
+-- So no receiver waits longer for its page than the repeat bound.
+abbrev pub LawOfWindow : Type 0
+LawOfWindow =
+    (programme : ProgrammeValue) (transmission : Transmission) (options : OptionsValue)
+    → (g j f : ℕ)
+    → Good programme transmission options
+    → IsListening transmission g j f
+    → g + options.every ≤ f
+    → IsTrue (holds_header (kind options.page) (on_air transmission g j f))
+
+-- A good transmission is robust.
+abbrev pub LawOfGood : Type 0
+LawOfGood =
+    (programme : ProgrammeValue) (transmission : Transmission) (options : OptionsValue)
+    → Good programme transmission options
+    → Robust programme transmission options
+
+-- A good transmission is robust to lost rows, by fates.
+abbrev pub LawOfGoodAndLoss : Type 0
+LawOfGoodAndLoss =
+    (programme : ProgrammeValue) (transmission : Transmission) (options : OptionsValue)
+    → Good programme transmission options
+    → RobustToLoss programme transmission options
+
+-- A good transmission is robust to lost rows, by marks.
+abbrev pub LawOfGoodAndMarkedLoss : Type 0
+LawOfGoodAndMarkedLoss =
+    (programme : ProgrammeValue) (transmission : Transmission) (options : OptionsValue)
+    → Good programme transmission options
+    → RobustToMarkedLoss programme transmission options
+
+-- With nothing lost, robust to lost rows is robust, by fates.
+abbrev pub LawOfNothingLost : Type 0
+LawOfNothingLost =
+    (programme : ProgrammeValue) (transmission : Transmission) (options : OptionsValue)
+    → RobustWithNothingLost programme transmission options
+    ↔ Robust programme transmission options
+
+-- And by marks.
+abbrev pub LawOfAllKept : Type 0
+LawOfAllKept =
+    (programme : ProgrammeValue) (transmission : Transmission) (options : OptionsValue)
+    → RobustWithAllKept programme transmission options
+    ↔ Robust programme transmission options

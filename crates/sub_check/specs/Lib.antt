@@ -1,0 +1,9 @@
+pub mod Transmission
+pub mod PesFrames
+pub mod Good
+pub mod Rules
+pub mod StepByStep
+pub mod Robust
+pub mod LostRows
+pub mod Laws
+pub mod Examples

@@ -1,0 +1,20 @@
+-- How PES packets are a transmission: by the PTS of frame 0, each PTS is that of a frame of the day
+-- (EN 300 472, PTS: 33 bits at 90 kHz).
+use Rattle.std.specs.Prelude.{◌≡◌, ℕ, ◌<◌, List, map}
+use Rattle.std.specs.List.{AllZip}
+use Rattle.ttx_pes.specs.DataUnit.{UnitValue}
+use Rattle.ttx_pes.specs.PesPacket.{PesValue}
+use Rattle.sub_plan.specs.FrameTime.{frames_of_day, pts_of}
+use Rattle.sub_check.specs.Transmission.{SentFrame, Transmission, IsRising}
+
+-- A PES packet is sent as a frame: its PTS is that of the frame, which is a frame of the day, and
+-- its Teletext units carry the frame's packets, in order. Stuffing and other data units carry none.
+pub record IsSentAs (origin : ℕ) (pes : PesValue) (s : SentFrame) : Type 0 where
+  pub in_day : s.frame < frames_of_day
+  pub pts : pes.pts ≡ pts_of origin s.frame
+  pub packets : s.packets ≡ map (λ (u : UnitValue). u.packet) pes.units
+
+-- PES packets, read with an origin, are a transmission: one frame for each, and the frames rise.
+pub record AreSentAs (origin : ℕ) (pes : List PesValue) (frames : Transmission) : Type 0 where
+  pub each : AllZip (IsSentAs origin) pes frames
+  pub rising : IsRising frames

@@ -1,0 +1,60 @@
+//! A good transmission is robust, and its rules packet by packet.
+//!
+//! The functions do nothing: the contract of each is a law over the definitions of `specs/`.
+ghost use Rattle.sub_check.specs.Laws.{LawOfGood, LawOfGoodAndLoss, LawOfGoodAndMarkedLoss};
+ghost use Rattle.sub_check.specs.Laws.{LawOfAllKept, LawOfNothingLost, LawOfWindow};
+ghost use Rattle.sub_check.specs.Rules.{LawOfRules};
+ghost use Rattle.sub_check.specs.StepByStep.{LawOfCleanSpans, LawOfRepeats, LawOfSpansByPacket};
+
+/// A start at any packet of a good transmission meets a header of the page within the repeat bound.
+pub fn law_of_window()
+    ensures { LawOfWindow }
+{}
+
+/// A good transmission is robust: for every start, every old page, every receiver, and at most one
+/// wrong bit in each byte, each cell holds the due page's code or, where its byte was hit, a space.
+pub fn law_of_good()
+    ensures { LawOfGood }
+{}
+
+/// A good transmission is robust where packets are lost too, any but page headers: a cell of a lost
+/// row counts as hit.
+pub fn law_of_good_and_loss()
+    ensures { LawOfGoodAndLoss }
+{}
+
+/// The same, with a mark beside each packet: kept or lost.
+pub fn law_of_good_and_marked_loss()
+    ensures { LawOfGoodAndMarkedLoss }
+{}
+
+/// With nothing lost, robust to lost rows is robust.
+pub fn law_of_nothing_lost()
+    ensures { LawOfNothingLost }
+{}
+
+/// The same by marks: with all packets kept, robust to lost rows is robust.
+pub fn law_of_all_kept()
+    ensures { LawOfAllKept }
+{}
+
+/// A transmission is good exactly where it keeps each of the seven rules.
+pub fn law_of_rules()
+    ensures { LawOfRules }
+{}
+
+/// The spans of a list cut anywhere are clean exactly where each packet may follow the span that it
+/// comes after.
+pub fn law_of_clean_spans()
+    ensures { LawOfCleanSpans }
+{}
+
+/// A transmission's spans are clean exactly where each of its packets may follow.
+pub fn law_of_spans_by_packet()
+    ensures { LawOfSpansByPacket }
+{}
+
+/// A header comes in each so many frames exactly where the last one is never so many frames old.
+pub fn law_of_repeats()
+    ensures { LawOfRepeats }
+{}
