@@ -1,0 +1,10 @@
+pub mod ScheduleBases
+pub mod ScheduleMembers
+pub mod SentPackets
+pub mod SendingLemmas
+pub mod SendingSize
+pub mod StepLemmas
+pub mod EdgeLemmas
+pub mod PartLemmas
+pub mod ProgrammeLemmas
+pub mod ExampleHeaders

@@ -2,20 +2,21 @@
 use Rattle.std.specs.Prelude.{ℕ, ◌<◌, ◌≤◌, ◌^◌}
 use Rattle.ttx_packet.specs.PageId.{PageIdValue}
 
--- What options are to their callers: the page that is sent, the repeat bound in frames, and the PTS of
--- frame 0.
+-- What options are to their callers: the page that is sent, the repeat bound in frames, and the PTS
+-- of frame 0.
 pub record OptionsValue : Type 0 where
   pub page : PageIdValue
   pub every : ℕ
   pub origin : ℕ
 
--- A magazine 0 to 7, and a page number other than FF. So the closing header, page FF, is never one of
--- the page.
+-- A magazine 0 to 7, and a page number other than FF. So the closing header, page FF, is never one
+-- of the page.
 pub record IsWatchable (page : PageIdValue) : Type 0 where
   pub magazine : page.magazine < 8
   pub page_number : page.page < 0xFF
 
--- What options can be: a page other than FF, a repeat bound of at most a minute, and a PTS of 33 bits.
+-- What options can be: a page other than FF, a repeat bound of at most a minute, and a PTS of 33
+-- bits.
 pub record IsOptions (o : OptionsValue) : Type 0 where
   pub page : IsWatchable o.page
   pub least : 1 ≤ o.every

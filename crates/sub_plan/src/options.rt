@@ -36,7 +36,8 @@ impl Model for Options {
 
     ghost view = { λ o. record { page = o.page; every = o.every; origin = o.origin } };
 
-    ghost invariant = { λ o. IsOptions (record { page = o.page; every = o.every; origin = o.origin }) };
+    ghost invariant = { λ o. IsOptions
+        (record { page = o.page; every = o.every; origin = o.origin }) };
 
     ghost inverse = { λ v. record { page = v.page; every = v.every; origin = v.origin } };
 }
@@ -99,7 +100,8 @@ impl Options {
         self.origin
     }
 
-    /// The PTS of a frame of the day, below 2,160,000: 33 bits, in ticks of 90 kHz (EN 300 472, PTS).
+    /// The PTS of a frame of the day, below 2,160,000: 33 bits, in ticks of 90 kHz (EN 300 472,
+    /// PTS).
     pub fn pts_of(&self, frame: u32) -> u64
         requires { frame < frames_of_day }
         ensures value { result ≡ pts_of self.now.origin frame }

@@ -1,0 +1,116 @@
+-- The first TCI and the last TCO of a programme: span-rises, law_of_day.
+use Rattle.std.proofs.Common.{◌≡◌, ℕ, ◌+◌, ◌-◌, ◌<◌, ◌≤◌, List, [], ◌∷◌, Option, Some, None, length}
+use Rattle.std.proofs.Common.{get_or, refl, ap, ◌∙◌, arith, inl, inr, All}
+use Rattle.std.proofs.lemmas.Bool.{cases_lt}
+use Rattle.std.proofs.lemmas.List.Elements.{All-nil, All-filter, All-weaker}
+use Rattle.std.proofs.lemmas.Option.{slice_get-get_or, same_Some}
+use Rattle.std.specs.List.{range_with_len}
+use Rattle.std.specs.Prelude.{option_map}
+use Rattle.ttx_page.specs.Page.{Rows}
+use Rattle.stl_file.specs.Subtitle.{SubtitleValue}
+use Rattle.stl_rows.specs.declared.national.National.{National}
+use Rattle.stl_rows.specs.Programme.{first_in, last_out, IsProgramme, ProgrammeValue}
+use Rattle.sub_plan.specs.FrameTime.{frames_of_day}
+use Rattle.sub_plan.specs.Schedule.{due_in, is_sending, plan_frames, sendings, sendings_between}
+use Rattle.sub_plan.specs.Schedule.{sendings_from}
+use Rattle.sub_plan.specs.Laws.{LawOfDay}
+use Rattle.sub_plan.proofs.SendingLemmas.{range_all}
+
+-- No first TCI, no subtitles.
+pub none_in : (ts : List SubtitleValue) → None ≡ first_in ts → ts ≡ []
+none_in [] h = refl
+none_in (t ∷ ts) h = cc
+
+-- With a first TCI there is a subtitle.
+pub some_in : (ts : List SubtitleValue) (a : ℕ) → Some a ≡ first_in ts → ts ≡ [] → ⊥
+some_in [] a h e = cc
+some_in (t ∷ ts) a h e = cc
+
+-- The last of some subtitles.
+last_is : (t : SubtitleValue) (ts : List SubtitleValue)
+    → last_out (t ∷ ts) ≡ Some ((get_or (t ∷ ts) (length (t ∷ ts) - 1) t).tco)
+last_is t ts =
+    ap (option_map (λ (r : SubtitleValue). r.tco))
+    (slice_get-get_or (t ∷ ts) (length (t ∷ ts) - 1) t (omega arith))
+
+-- With a first TCI there is a last TCO.
+pub some_out : (ts : List SubtitleValue) (a : ℕ) → Some a ≡ first_in ts → None ≡ last_out ts
+    → ts ≡ []
+some_out [] a h k = refl
+some_out (t ∷ ts) a h k = let e = last_is t ts in cc
+
+-- The first TCI is before the last TCO, which is a frame of the day.
+pub record IsSpan (a b : ℕ) : Type 0 where
+  pub rises : a < b
+  pub in_day : b < frames_of_day
+
+-- So it is of a programme.
+pub span-rises : (national : National) (ts : List SubtitleValue) (a b : ℕ) → IsProgramme national ts
+    → Some a ≡ first_in ts → Some b ≡ last_out ts → IsSpan a b
+span-rises national [] a b ok h k = cc
+span-rises national (t ∷ ts) a b ok h k =
+    let n : ℕ = length (t ∷ ts) - 1 in
+    let last : SubtitleValue = get_or (t ∷ ts) n t in
+    let f : b ≡ last.tco = same_Some b last.tco (k ∙ last_is t ts) in
+    let g : a ≡ t.tci = same_Some a t.tci h in
+    let each_last = ok.each n t (omega arith) in
+    let each_first = ok.each 0 t (omega arith) in
+    elim (cases_lt 0 n) [
+      | inl more ↦
+          record {
+            rises = omega (
+              arith,
+              f,
+              g,
+              ok.in_order 0 n t more (omega arith),
+              each_last.times,
+              each_first.times,
+            );
+            in_day = omega (arith, f, each_last.in_day);
+          }
+      | inr one ↦
+          let z : n ≡ 0 = omega arith in
+          let same : last ≡ t = ap (λ (i : ℕ). get_or (t ∷ ts) i t) z in
+          record {
+            rises = omega
+                (arith, f, g, ap (λ (r : SubtitleValue). r.tco) same, each_first.times);
+            in_day =
+                omega (arith, f, each_last.in_day);
+          }
+    ]
+
+-- The frames of the schedule, where the first TCI and the last TCO are these.
+pub plan_frames-is : (programme : ProgrammeValue) (every a b : ℕ)
+    → Some a ≡ first_in programme.records → Some b ≡ last_out programme.records
+    → sendings (due_in programme) every a b ≡ plan_frames programme every
+plan_frames-is programme every a b h k = rw (← h, ← k) refl
+
+-- ---- the law of the day
+
+-- No frame with a sending is after the last.
+within : (due : ℕ → Rows) (every first last : ℕ) → first ≤ last
+    → All (λ f. f ≤ last) (sendings due every first last)
+unfolding sendings_from
+within due every first last order =
+    All-filter (is_sending due every first last) (λ f. f ≤ last)
+    (range_with_len first (last + 1 - first))
+    (range_all (λ f. f ≤ last) first (last + 1 - first) (λ j b c. omega arith))
+
+-- The law, by cases of the first TCI and the last TCO.
+day_between : (programme : ProgrammeValue) (every : ℕ) (a b : Option ℕ)
+    → a ≡ first_in programme.records → b ≡ last_out programme.records
+    → IsProgramme programme.national programme.records
+    → All (λ frame. frame < frames_of_day) (sendings_between (due_in programme) every a b)
+day_between programme every None b h k ok = All-nil (λ frame. frame < frames_of_day)
+day_between programme every (Some a) None h k ok = All-nil (λ frame. frame < frames_of_day)
+day_between programme every (Some a) (Some b) h k ok =
+    let s = span-rises programme.national programme.records a b ok h k in
+    All-weaker (λ f. f ≤ b) (λ frame. frame < frames_of_day) (λ f l. omega (arith, s.in_day))
+    (sendings (due_in programme) every a b)
+    (within (due_in programme) every a b (omega (arith, s.rises)))
+
+-- Each frame of the schedule is a frame of the day.
+pub law_of_day : LawOfDay
+law_of_day programme every ok =
+    day_between programme every (first_in programme.records)
+    (last_out programme.records) refl refl ok

@@ -1,0 +1,155 @@
+-- How long a sending is, as a value and row by row: law_of_size, law_of_pes_values, sending_made.
+use Rattle.std.proofs.Common.{◌≡◌, ℕ, suc, ◌+◌, ◌-◌, ◌*◌, ◌^◌, ◌<◌, ◌≤◌}
+use Rattle.std.proofs.Common.{Bool, true, false, cond, List, [], ◌∷◌, ◌++◌}
+use Rattle.std.proofs.Common.{length, map, filter}
+use Rattle.std.proofs.Common.{All, refl}
+use Rattle.std.proofs.Common.{sym, ap, ◌∙◌, subst, arith, lit<}
+use Rattle.std.proofs.Common.{append-nil}
+use Rattle.std.specs.List.{range_with_len}
+use Rattle.std.proofs.Math.Nat.{mod-lt}
+use Rattle.std.proofs.lemmas.List.{length_push, length-map, map-append}
+use Rattle.std.proofs.lemmas.List.FromFn.{length-range_with_len}
+use Rattle.std.proofs.lemmas.List.Elements.{All-weaker}
+use Rattle.std.proofs.lemmas.List.Elements.{recursion_from_All, filter-append}
+use Rattle.ttx_packet.specs.PacketAddress.{IsPacket}
+use Rattle.ttx_packet.specs.PageHeader.{header_packet}
+use Rattle.ttx_packet.specs.PageId.{PageIdValue}
+use Rattle.ttx_packet.specs.RowPacket.{row_packet}
+use Rattle.ttx_page.specs.Page.{Rows, row_at}
+use Rattle.ttx_page.specs.Shown.{shown}
+use Rattle.stl_rows.specs.declared.national.National.{National}
+use Rattle.ttx_pes.proofs.LineOrderLemmas.{numbered_is_value}
+use Rattle.sub_plan.specs.FrameTime.{pts_of}
+use Rattle.sub_plan.specs.Sending.{is_sent_row, watched_header, closing_header, rows_from}
+use Rattle.sub_plan.specs.Sending.{sent_rows, sending}
+use Rattle.sub_plan.specs.Laws.{IsSentPacket}
+use Rattle.sub_plan.specs.Laws.{LawOfPesValues, LawOfSize}
+use Rattle.sub_plan.proofs.ScheduleBases.{range_split}
+use Rattle.sub_plan.proofs.SentPackets.{opener, closer}
+use Rattle.sub_plan.proofs.SendingLemmas.{all_sent}
+
+-- ---- how long it is
+
+-- A filtered list is no longer than the list.
+short_filter : (test : ℕ → Bool) (xs : List ℕ) → length (filter test xs) ≤ length xs
+short_filter test [] = omega arith
+short_filter test (x ∷ xs) = go (test x) (short_filter test xs)
+  where
+    go : (b : Bool) → length (filter test xs) ≤ length xs
+        → length (cond b (x ∷ filter test xs) (filter test xs)) ≤ suc (length xs)
+    go true h = omega arith
+    go false h = omega arith
+
+-- Of n rows at most n are sent.
+short_rows : (magazine : ℕ) (page : Rows) (a n : ℕ) → length (rows_from magazine page a n) ≤ n
+short_rows magazine page a n =
+    let e = length-map (filter (λ row. is_sent_row (row_at page row)) (range_with_len a n))
+    (λ row. row_packet magazine row (row_at page row)) in
+    let f = short_filter (λ row. is_sent_row (row_at page row)) (range_with_len a n) in
+    let g = length-range_with_len a n in
+    omega (arith, e, f, g)
+
+-- At most 24 rows are sent.
+short_page : (magazine : ℕ) (page : Rows) → length (sent_rows magazine page) ≤ 24
+unfolding sent_rows
+short_page magazine page = short_rows magazine page 1 24
+
+-- A sending has at most 26 packets.
+pub law_of_size : LawOfSize
+unfolding sending
+law_of_size w national serial page =
+    let e = length_push (sent_rows w.magazine page) (closer w serial) in
+    let f = short_page w.magazine page in
+    omega (arith, e, f)
+
+-- ---- as a PES packet
+
+-- A sending is the value of a PES packet.
+pub law_of_pes_values : LawOfPesValues
+law_of_pes_values o national serial page frame ok shape =
+    let packets : List (List ℕ) = sending o.page national serial page in
+    let small : pts_of o.origin frame < 2 ^ 33 = mod-lt (o.origin + 3600 * frame) (lit< tt) in
+    let few : length packets ≤ 32 = omega (arith, law_of_size o.page national serial page) in
+    let each : All IsPacket packets =
+    All-weaker (IsSentPacket o.page national serial) IsPacket (λ p is. is.whole) packets
+    (all_sent o.page national serial page ok.page shape) in
+    (numbered_is_value (pts_of o.origin frame) packets small few
+    (recursion_from_All IsPacket packets each)).0
+
+-- ---- for a loop that makes it row by row
+
+-- One row more, sent or not.
+pub rows_more : (magazine : ℕ) (page : Rows) (n : ℕ) (b : Bool)
+    → is_sent_row (row_at page (1 + n)) ≡ b
+    → rows_from magazine page 1 (n + 1) ≡ rows_from magazine page 1 n
+    ++ cond b (row_packet magazine (1 + n) (row_at page (1 + n)) ∷ []) []
+rows_more magazine page n b e =
+    let test : ℕ → Bool = λ row. is_sent_row (row_at page row) in
+    let pack : ℕ → List ℕ = λ row. row_packet magazine row (row_at page row) in
+    ap (λ xs. map pack (filter test xs)) (range_split 1 n 1)
+    ∙ ap (map pack) (filter-append test (range_with_len 1 n) (range_with_len (1 + n) 1))
+    ∙ map-append pack (filter test (range_with_len 1 n)) (filter test (range_with_len (1 + n) 1))
+    ∙ ap (λ t. rows_from magazine page 1 n ++ map pack (cond t ((1 + n) ∷ []) [])) e
+    ∙ one b
+  where
+    one : (t : Bool) → rows_from magazine page 1 n
+        ++ map (λ row. row_packet magazine row (row_at page row))
+        (cond t ((1 + n) ∷ []) []) ≡ rows_from magazine page 1 n
+        ++ cond t (row_packet magazine (1 + n) (row_at page (1 + n)) ∷ []) []
+    one true = refl
+    one false = refl
+
+-- The row of a loop at `row`, whether it is sent or not.
+pub rows_sent : (magazine : ℕ) (page : Rows) (row : ℕ) (h : List ℕ) (old new : List (List ℕ))
+    → 1 ≤ row → is_sent_row (row_at page row) ≡ true
+    → old ≡ h ∷ rows_from magazine page 1 (row - 1)
+    → new ≡ old ++ row_packet magazine row (row_at page row) ∷ []
+    → new ≡ h ∷ rows_from magazine page 1 (row + 1 - 1)
+rows_sent magazine page row h old new one shown so_far is =
+    let n : ℕ = row - 1 in
+    let e : row ≡ 1 + n = omega arith in
+    let f : row + 1 - 1 ≡ n + 1 = omega arith in
+    let more = rows_more magazine page n true
+    (subst (λ r. is_sent_row (row_at page r) ≡ true) e shown) in
+    is ∙ ap (λ xs. xs ++ row_packet magazine row (row_at page row) ∷ []) so_far
+    ∙ ap (λ r. (h ∷ rows_from magazine page 1 n) ++ row_packet magazine r (row_at page r) ∷ []) e
+    ∙ ap (λ xs. h ∷ xs) (sym more)
+    ∙ ap (λ m. h ∷ rows_from magazine page 1 m) (sym f)
+
+-- The row of a loop at `row`, where it is not sent.
+pub rows_passed : (magazine : ℕ) (page : Rows) (row : ℕ) (h : List ℕ) (old : List (List ℕ))
+    → 1 ≤ row → is_sent_row (row_at page row) ≡ false
+    → old ≡ h ∷ rows_from magazine page 1 (row - 1)
+    → old ≡ h ∷ rows_from magazine page 1 (row + 1 - 1)
+rows_passed magazine page row h old one empty so_far =
+    let n : ℕ = row - 1 in
+    let e : row ≡ 1 + n = omega arith in
+    let f : row + 1 - 1 ≡ n + 1 = omega arith in
+    let more = rows_more magazine page n false
+    (subst (λ r. is_sent_row (row_at page r) ≡ false) e empty) in
+    so_far ∙ ap (λ xs. h ∷ xs) (sym (more ∙ append-nil (rows_from magazine page 1 n)))
+    ∙ ap (λ m. h ∷ rows_from magazine page 1 m) (sym f)
+
+-- A list that had room has one packet more.
+pub short_pushed : (old new : List (List ℕ)) (packet : List ℕ) (row : ℕ)
+    → new ≡ old ++ packet ∷ []
+    → length old ≤ row
+    → length new ≤ row + 1
+short_pushed old new packet row is short = omega (arith, ap length is, length_push old packet)
+
+-- After row 24 the closing header completes the sending.
+pub sending_made : (w : PageIdValue) (national : National) (serial : Bool) (page : Rows)
+    (magazine row : ℕ) (packets : List (List ℕ))
+    → magazine ≡ w.magazine
+    → row ≡ 25
+    → packets ≡ (header_packet magazine
+    (watched_header w national serial) ∷ rows_from magazine page 1 (row - 1))
+    ++ header_packet magazine (closing_header serial) ∷ []
+    → packets ≡ sending w national serial page
+unfolding sending sent_rows
+sending_made w national serial page magazine row packets m e is =
+    let f : row - 1 ≡ 24 = omega arith in
+    is
+    ∙ ap (λ k. header_packet k (watched_header w national serial) ∷
+    (rows_from k page 1 (row - 1) ++ header_packet k (closing_header serial) ∷ [])) m
+    ∙ ap (λ n. opener w national serial ∷ (rows_from w.magazine page 1 n ++ closer w serial ∷ [])) f

@@ -1,0 +1,14 @@
+-- Up to each edge that was looked at the same page is due.
+use Rattle.std.proofs.Common.{◌≡◌, ℕ, ◌-◌, ◌<◌, ◌≤◌}
+use Rattle.sub_plan.specs.Schedule.{due_in}
+use Rattle.sub_plan.proofs.scheduling.next_change.Given as goal
+
+abbrev pub invariant-loop-edge : goal.invariant-loop-edge
+invariant-loop-edge l = record {
+  low : l.frame ≤ l.at;
+  high : l.at < l.last;
+  same : (f : ℕ) → l.frame ≤ f → f ≤ l.at → due_in l.programme f ≡ due_in l.programme l.frame;
+}
+
+abbrev pub decreases-loop-edge : goal.decreases-loop-edge
+decreases-loop-edge l = l.last - l.at

@@ -1,0 +1,183 @@
+//! Writing the schedule of a programme, from edge to edge.
+ghost use Rattle.std.specs.Prelude.{◌≡◌, ◌≢◌, ◌↔◌, ℕ, ◌+◌, ◌-◌, ◌<◌, ◌≤◌, [], Err, IfOk, length};
+ghost use Rattle.std.specs.Prelude.{if◌then◌else◌};
+ghost use Rattle.std.specs.List.{flat_map};
+ghost use Rattle.sub_io.specs.Device.{CountsFailure, Writes};
+ghost use Rattle.sub_plan.specs.declared.fault.PlanFault.TheVariants.{NoSubtitles};
+ghost use Rattle.sub_plan.specs.FrameTime.{frames_of_day};
+ghost use Rattle.sub_plan.specs.Schedule.{due_in, is_write_failure, plan, plan_frames, sendings};
+ghost use Rattle.sub_plan.specs.Schedule.{sendings_at};
+ghost use Rattle.sub_plan.specs.Steps.{packets_at, steps};
+
+use crate::fault::PlanFault;
+use crate::options::Options;
+use crate::sending::Sending;
+use stl_rows::{Programme, law_of_edges};
+use sub_io::{Failed, Sink};
+use ttx_packet::Packet;
+use ttx_page::Page;
+use ttx_pes::put_frame;
+
+// Writes packets as the PES packet of a frame.
+fn put_at<K: Sink>(
+    sink: &mut K,
+    options: &Options,
+    frame: u32,
+    packets: &[Packet],
+) -> Result<(), Failed>
+    requires day { frame < frames_of_day }
+    requires few { length packets.now ≤ 32 }
+    requires count { K.failure_count sink.old < u64.MAX }
+    ensures bytes { Writes (K.contents sink.old) (K.contents sink.new)
+        (packets_at options.now.origin packets.now frame) result }
+    ensures count { CountsFailure (K.failure_count sink.old) result (K.failure_count sink.new) }
+{
+    match put_frame(sink, options.pts_of(frame), packets) {
+        Ok(()) => Ok(()),
+        Err(_) => Err(Failed),
+    }
+}
+
+// The repeat bound, as what is added to a frame.
+fn step_of(options: &Options) -> u32
+    ensures value { result ≡ options.now.every }
+    ensures least { 1 ≤ result }
+    ensures most { result ≤ 1500 }
+{
+    options.every() as u32
+}
+
+// Sends packets at a frame and each `every` frames after it, up to before another.
+fn send_steps<K: Sink>(
+    sink: &mut K,
+    options: &Options,
+    from: u32,
+    end: u32,
+    packets: &[Packet],
+) -> Result<u32, Failed>
+    requires order { from ≤ end }
+    requires day { end < frames_of_day }
+    requires packets { length packets.now ≤ 32 }
+    requires failures { K.failure_count sink.old < u64.MAX }
+    ensures few { IfOk result (λ n. n ≤ end - from) }
+    ensures number { IfOk result (λ n. n ≡ length (steps options.now.every from from end)) }
+    ensures bytes { Writes (K.contents sink.old) (K.contents sink.new)
+        (flat_map (packets_at options.now.origin packets.now)
+        (steps options.now.every from from end))
+        result }
+    ensures count { CountsFailure (K.failure_count sink.old) result (K.failure_count sink.new) }
+{
+    let every = step_of(options);
+    let mut frame = from;
+    let mut count = 0;
+    while frame < end {
+        put_at(sink, options, frame, packets)?;
+        count += 1;
+        frame += every;
+    }
+    Ok(count)
+}
+
+// The first frame after one at which another page is due than there, or else the last frame; and
+// the page that is due at it. The due page is drawn at edges alone.
+fn next_change(programme: &Programme, frame: u32, page: &Page, last: u32) -> (u32, Page)
+    requires within { frame < last }
+    requires page { page.now ≡ due_in programme.now frame }
+    ensures after { frame < result.0 }
+    ensures within { result.0 ≤ last }
+    ensures same { (f : ℕ)
+        → frame ≤ f → f < result.0 → due_in programme.now f ≡ due_in programme.now frame }
+    ensures change { result.0 < last → due_in programme.now result.0 ≢ due_in programme.now frame }
+    ensures page { result.1 ≡ due_in programme.now result.0 }
+{
+    law_of_edges();
+    let mut at = frame;
+    while let Some(edge) = programme.next_edge(at) {
+        if edge >= last {
+            break;
+        }
+        let next = programme.due_page(edge);
+        match page.first_difference(&next) {
+            Some(_) => return (edge, next),
+            None => at = edge,
+        }
+    }
+    (last, programme.due_page(last))
+}
+
+// Writes the sendings from the first frame to the last, and answers how many there are.
+fn send_all<K: Sink>(
+    programme: &Programme,
+    options: &Options,
+    serial: bool,
+    first: u32,
+    last: u32,
+    sink: &mut K,
+) -> Result<u32, Failed>
+    requires order { first < last }
+    requires day { last < frames_of_day }
+    requires failures { K.failure_count sink.old < u64.MAX }
+    ensures number { IfOk result
+        (λ n. n ≡ length (sendings (due_in programme.now) options.now.every first last)) }
+    ensures bytes { Writes (K.contents sink.old) (K.contents sink.new)
+        (sendings_at (due_in programme.now) options.now programme.now.national serial
+        (sendings (due_in programme.now) options.now.every first last))
+        result }
+    ensures count { CountsFailure (K.failure_count sink.old) result (K.failure_count sink.new) }
+{
+    let national = programme.national();
+    let mut frame = first;
+    let mut page = programme.due_page(first);
+    let mut count = 0;
+    while frame < last {
+        let sending = Sending::of_page(options.page(), national, serial, &page);
+        let (end, next) = next_change(programme, frame, &page, last);
+        count += send_steps(sink, options, frame, end, sending.packets())?;
+        frame = end;
+        page = next;
+    }
+    let sending = Sending::of_page(options.page(), national, serial, &page);
+    put_at(sink, options, last, sending.packets())?;
+    Ok(count + 1)
+}
+
+/// Writes the schedule of a programme, from the first TCI to the last TCO, and answers the number
+/// of sendings.
+///
+/// Each sending is one PES packet (EN 300 472): the header of the page, its rows, the closing
+/// header. A sending stands at the first frame and at each frame at which the due page changes,
+/// each `every` frames after such a frame up to the next, and at the last frame (own). `serial`
+/// sets C11, magazine serial, in all headers. The due page is drawn at edges alone, and nothing is
+/// kept in memory.
+///
+/// # Errors
+///
+/// `NoSubtitles` where the programme has no subtitle: nothing was written. `Write` where the sink
+/// failed: a prefix of the schedule was written, and nothing after the failure.
+pub fn schedule<K: Sink>(
+    programme: &Programme,
+    options: &Options,
+    serial: bool,
+    sink: &mut K,
+) -> Result<u32, PlanFault>
+    requires { K.failure_count sink.old < u64.MAX }
+    ensures bytes { Writes (K.contents sink.old) (K.contents sink.new)
+        (plan programme.now options.now serial) result }
+    ensures number { IfOk result
+        (λ n. n ≡ length (plan_frames programme.now options.now.every)) }
+    ensures empty { (result ≡ Err NoSubtitles) ↔ (programme.now.records ≡ []) }
+    ensures nothing { result ≡ Err NoSubtitles → sink.new ≡ sink.old }
+    ensures count { K.failure_count sink.new
+        ≡ K.failure_count sink.old + (if is_write_failure result then 1 else 0) }
+{
+    let Some(first) = programme.first_in() else {
+        return Err(PlanFault::NoSubtitles);
+    };
+    let Some(last) = programme.last_out() else {
+        return Err(PlanFault::NoSubtitles);
+    };
+    match send_all(programme, options, serial, first, last, sink) {
+        Ok(count) => Ok(count),
+        Err(_) => Err(PlanFault::Write),
+    }
+}

@@ -1,0 +1,123 @@
+//! The packets of one sending of a page.
+ghost use Rattle.std.specs.Prelude.{◌≡◌, ◌≤◌, ◌<◌, [], ◌∷◌, ◌++◌, length};
+ghost use Rattle.sub_plan.specs.Sending.{closing_header, is_sent_row, sending, watched_header};
+
+use bitflags::Flags;
+use std::marker::Model;
+use stl_rows::National;
+use ttx_packet::{Control, Header, Packet, PageId};
+use ttx_page::Page;
+
+/// The most packets of a sending: the header of the page, 24 rows, the closing header.
+const MOST_PACKETS: usize = 26;
+
+/// The packets of one sending, in the order in which they are sent.
+#[derive(Drop)]
+pub(crate) struct Sending {
+    // The first of them are the sending's; the others are not used.
+    packets: [Packet; MOST_PACKETS],
+    count: usize,
+}
+
+impl Model for Sending {
+    ghost use Rattle.std.specs.Prelude.{ℕ, ◌≤◌, List, take};
+
+    ghost Value = { List (List ℕ) };
+
+    ghost view = { λ s. take s.count s.packets };
+
+    ghost invariant = { λ s. s.count ≤ 26 };
+}
+
+impl Sending {
+    // One packet.
+    fn of(packet: Packet) -> Sending
+        ensures { result ≡ packet ∷ [] }
+    {
+        Sending {
+            packets: [packet; MOST_PACKETS],
+            count: 1,
+        }
+    }
+
+    // Adds a packet at the end, where there is room.
+    fn push(&mut self, packet: Packet)
+        requires { length self.old < 26 }
+        ensures { self.new ≡ self.old ++ packet ∷ [] }
+    {
+        self.packets[self.count] = packet;
+        self.count += 1;
+    }
+
+    /// The packets.
+    pub(crate) fn packets(&self) -> &[Packet]
+        ensures value { result.now ≡ self.now }
+        ensures few { length result.now ≤ 26 }
+    {
+        &self.packets[..self.count]
+    }
+
+    /// The sending of a page: its header, the rows that hold a cell other than a space, rising, and
+    /// the closing header.
+    pub(crate) fn of_page(watched: PageId, national: National, serial: bool, page: &Page) -> Sending
+        ensures { result ≡ sending watched national serial page.now }
+    {
+        let magazine = watched.magazine();
+        let header = watched_header(watched, national, serial);
+        let mut sent = Sending::of(Packet::of_header(magazine, &header));
+        for row in 1..25u8 {
+            let codes = page.row(row);
+            if is_sent_row(codes) {
+                sent.push(Packet::of_row(magazine, row, codes));
+            }
+        }
+        sent.push(Packet::of_header(magazine, &closing_header(serial)));
+        sent
+    }
+}
+
+// Whether the row holds a cell other than a space.
+fn is_sent_row(codes: &[u8; 40]) -> bool
+    ensures { result ≡ is_sent_row codes.now }
+{
+    codes.iter().any(|code| *code != 0x20)
+}
+
+// The header of the page.
+fn watched_header(watched: PageId, national: National, serial: bool) -> Header
+    ensures value { result ≡ watched_header watched national serial }
+    ensures subcode { result.subcode ≡ 0 }
+{
+    let control = Control::C4.union(Control::C6).union(Control::C7);
+    let control = if serial {
+        control.union(Control::C11)
+    } else {
+        control
+    };
+    let control = match national {
+        National::English => control,
+        National::German => control.union(Control::C14),
+    };
+    Header {
+        page: watched.page(),
+        subcode: 0x0000,
+        control,
+    }
+}
+
+// The closing header: page FF, which is not displayed.
+fn closing_header(serial: bool) -> Header
+    ensures value { result ≡ closing_header serial }
+    ensures subcode { result.subcode ≡ 0x3F7F }
+{
+    let control = if serial {
+        Control::C11
+    } else {
+        Control::empty()
+    };
+    Header {
+        page: 0xFF,
+        subcode: 0x3F7F,
+        control,
+    }
+}
