@@ -22,12 +22,14 @@ use Rattle.stl_file.specs.Reading.{closed, time_at, first_at, kept_at, step_at}
 
 -- ---- tests
 
+-- a test that had to hold for a value
 guard_ok : {A : Type 0} (b : Bool) (d : StlFault) (r : Result A StlFault) (y : A)
     → cond (not b) (Err d) r ≡ Ok y
     → (b ≡ true) × (r ≡ Ok y)
 guard_ok true d r y e = (refl, e)
 guard_ok false d r y e = absurd cc
 
+-- a test that must not hold for a value
 pub guard_not : {A : Type 0} (b : Bool) (d : StlFault) (r : Result A StlFault) (y : A)
     → cond b (Err d) r ≡ Ok y
     → (b ≡ false) × (r ≡ Ok y)
@@ -41,24 +43,29 @@ through : {A : Type 0} (b : Bool) (d : StlFault) (x y : A)
 through true d x y e = (refl, cc)
 through false d x y e = absurd cc
 
+-- both parts of a test that holds
 and_ok : (a b : Bool) → (a && b) ≡ true → (a ≡ true) × (b ≡ true)
 and_ok true b e = (refl, e)
 and_ok false b e = absurd cc
 
+-- a step that gave a value had one before it
 bind_ok : {A B : Type 0} (r : Result A StlFault) (f : A → Result B StlFault) (y : B)
     → (r >>= f) ≡ Ok y
     → (x : A) × (r ≡ Ok x) × (f x ≡ Ok y)
 bind_ok (Ok x) f y e = (x, refl, e)
 bind_ok (Err d) f y e = absurd cc
 
+-- a value without a fault
 abbrev done : {A : Type 0} → A → Result A StlFault
 done x = Ok x
 
+-- equal answers have equal values
 ok_is : {A : Type 0} (x y : A) → done x ≡ done y → x ≡ y
 ok_is x y e = cc
 
 -- ---- a first block
 
+-- a time code that was read stands there
 time_sound : (b : List ℕ) (place frame : ℕ) → time_at b place ≡ Ok frame → IsTimeAt b place frame
 unfolding time_at
 time_sound b place frame e =
@@ -69,6 +76,7 @@ time_sound b place frame e =
     (get_or b (place + 3) 0)) frame e in
     record { in_range = t.0; is = sym t.1 }
 
+-- the frame of a time code is one of the day
 in_day : (h m s f : ℕ) → is_time_code h m s f ≡ true → frame_of h m s f < 2160000
 in_day h m s f e =
     let c = and_ok (ltb h 24 && ltb m 60 && ltb s 60) (ltb f 25) e in
@@ -80,9 +88,11 @@ in_day h m s f e =
     let fl : f < 25 = ltb-true f 25 c.1 in
     omega arith
 
+-- the same of a time code in a block
 pub day_of : (b : List ℕ) (place frame : ℕ) → IsTimeAt b place frame → frame < 2160000
 day_of b place frame t = rw t.is (in_day _ _ _ _ t.in_range)
 
+-- the subtitle that a first block makes
 abbrev made : List ℕ → ℕ → ℕ → SubtitleValue
 made b tci tco = record {
   sgn = sgn b;
@@ -95,6 +105,7 @@ made b tci tco = record {
       text_of b;
 }
 
+-- a first block begins the subtitle that it makes
 heads_made : (b : List ℕ) (tci tco : ℕ)
     → cs b ≡ 0
     → jc b ≤ 3
@@ -117,6 +128,7 @@ heads_made b tci tco c j v w p q lt = record {
   jc_range = j;
 }
 
+-- a first block that was read begins the subtitle that was read
 pub first_sound : (b : List ℕ) (s : SubtitleValue)
     → first_at b ≡ Ok s
     → Begins s b × (s.text ≡ text_of b)
@@ -142,11 +154,13 @@ first_sound b s e =
       refl,
     )
 
--- ---- groups that are not whole
+-- ---- subtitles that are not whole
 
+-- a block of this SGN and SN that is not the last
 abbrev pub Within : ℕ → ℕ → List ℕ → Type 0
-Within group number b = BelongsTo group number b × (ebn b < 240)
+Within sgn_is sn_is b = BelongsTo sgn_is sn_is b × (ebn b < 240)
 
+-- the blocks of a subtitle before its last one
 pub record IsOpen (s : SubtitleValue) (g : List (List ℕ)) : Type 0 where
   pub first : List ℕ
   pub others : List (List ℕ)
@@ -155,32 +169,36 @@ pub record IsOpen (s : SubtitleValue) (g : List (List ℕ)) : Type 0 where
   pub each : AllByRecursion (Within s.sgn s.sn) g
   pub text_is : s.text ≡ flat_map text_of g
 
--- the blocks of a group so far
+-- the blocks so far of the subtitle that was begun
 abbrev pub Represents : Option Begun → List (List ℕ) → Type 0
 Represents None kept = kept ≡ []
 Represents (Some o) kept = IsOpen o.subtitle kept × (length kept ≡ o.blocks) × (o.blocks ≤ 9)
 
+-- what a step makes of the kept blocks
 abbrev pub Reaches : List (List ℕ) → Step → Type 0
-Reaches kept (More group) = Represents group kept
+Reaches kept (More begun) = Represents begun kept
 Reaches kept (Give s) = AreBlocksOf s kept
 
-all_push : (group number : ℕ) (g : List (List ℕ)) (b : List ℕ)
-    → AllByRecursion (Within group number) g
-    → Within group number b
-    → AllByRecursion (Within group number) (g ++ b ∷ [])
-all_push group number [] b h w = (w, tt)
-all_push group number (x ∷ g) b h w = (h.0, all_push group number g b h.1 w)
+-- one block more that is not the last
+all_push : (sgn_is sn_is : ℕ) (g : List (List ℕ)) (b : List ℕ)
+    → AllByRecursion (Within sgn_is sn_is) g
+    → Within sgn_is sn_is b
+    → AllByRecursion (Within sgn_is sn_is) (g ++ b ∷ [])
+all_push sgn_is sn_is [] b h w = (w, tt)
+all_push sgn_is sn_is (x ∷ g) b h w = (h.0, all_push sgn_is sn_is g b h.1 w)
 
-chain_push : (group number : ℕ) (g : List (List ℕ)) (b : List ℕ)
-    → AllByRecursion (Within group number) g
-    → BelongsTo group number b
+-- the last block links them
+chain_push : (sgn_is sn_is : ℕ) (g : List (List ℕ)) (b : List ℕ)
+    → AllByRecursion (Within sgn_is sn_is) g
+    → BelongsTo sgn_is sn_is b
     → ebn b ≡ 255
-    → AreLinked group number (g ++ b ∷ [])
-chain_push group number [] b h w e = (w, e)
-chain_push group number (x ∷ []) b h w e = (h.0.0, h.0.1, (w, e))
-chain_push group number (x ∷ y ∷ g) b h w e =
-    (h.0.0, h.0.1, chain_push group number (y ∷ g) b h.1 w e)
+    → AreLinked sgn_is sn_is (g ++ b ∷ [])
+chain_push sgn_is sn_is [] b h w e = (w, e)
+chain_push sgn_is sn_is (x ∷ []) b h w e = (h.0.0, h.0.1, (w, e))
+chain_push sgn_is sn_is (x ∷ y ∷ g) b h w e =
+    (h.0.0, h.0.1, chain_push sgn_is sn_is (y ∷ g) b h.1 w e)
 
+-- the joined text with the text of one block more
 text_push : (g : List (List ℕ)) (b : List ℕ)
     → flat_map text_of (g ++ b ∷ []) ≡ flat_map text_of g ++ text_of b
 text_push [] b = append-nil (text_of b)
@@ -202,7 +220,7 @@ heads_keep s b t h = record {
   jc_range = h.jc_range;
 }
 
--- a first block, in a group of its own
+-- a first block, the only one so far
 first_reaches : (b : List ℕ) (s : SubtitleValue)
     → length b ≡ 128
     → cf b ≡ 0
@@ -284,12 +302,13 @@ next_reaches o kept b size none (inr last) h len few p q =
       text_is = ap (λ (x : List ℕ). x ++ text_of b) h.text_is ∙ sym (text_push kept b);
     })
 
-kept_sound : (group : Option Begun) (kept : List (List ℕ)) (b : List ℕ) (r : Step)
+-- a kept block that was read belongs to the subtitle
+kept_sound : (begun : Option Begun) (kept : List (List ℕ)) (b : List ℕ) (r : Step)
     → length b ≡ 128
     → cf b ≡ 0
     → (ebn b < 240) ⊎ (ebn b ≡ 255)
-    → Represents group kept
-    → kept_at group b ≡ Ok r
+    → Represents begun kept
+    → kept_at begun b ≡ Ok r
     → Reaches (kept ++ b ∷ []) r
 unfolding kept_at
 kept_sound None kept b r size none e h k =
@@ -314,45 +333,52 @@ kept_sound (Some o) kept b r size none e h k =
     (next_reaches o kept b size none e h.0 h.1 room (eqb-true _ _ both.0) (eqb-true _ _ both.1))
 
 -- what one block does to the blocks that are kept
-pub record Steps (kept : List (List ℕ)) (b : List ℕ) (group : Option Begun) (r : Step) : Type 0
+pub record Steps (kept : List (List ℕ)) (b : List ℕ) (begun : Option Begun) (r : Step) : Type 0
   where
     pub reaches : Reaches (kept ++ cond (is_kept b) (b ∷ []) []) r
     pub gives : (s : SubtitleValue) → r ≡ Give s → is_kept b ≡ true
 
 -- a step that passes over a block
-passed_steps : (kept : List (List ℕ)) (b : List ℕ) (group : Option Begun) (r : Step)
+passed_steps : (kept : List (List ℕ)) (b : List ℕ) (begun : Option Begun) (r : Step)
     → is_passed b ≡ true
-    → Represents group kept
-    → More group ≡ r
-    → Steps kept b group r
-passed_steps kept b group r p h e = subst (λ (x : Step). Steps kept b group x) e
+    → Represents begun kept
+    → More begun ≡ r
+    → Steps kept b begun r
+passed_steps kept b begun r p h e = subst (λ (x : Step). Steps kept b begun x) e
     (record { reaches = rw (p, append-nil kept) h; gives = λ s no. absurd cc })
 
-kept_steps : (kept : List (List ℕ)) (b : List ℕ) (group : Option Begun) (r : Step)
+-- a step that keeps its block
+kept_steps : (kept : List (List ℕ)) (b : List ℕ) (begun : Option Begun) (r : Step)
     → is_passed b ≡ false
     → Reaches (kept ++ b ∷ []) r
-    → Steps kept b group r
-kept_steps kept b group r p h = record { reaches = rw p h; gives = λ s _. rw p refl }
+    → Steps kept b begun r
+kept_steps kept b begun r p h = record { reaches = rw p h; gives = λ s _. rw p refl }
 
+-- user data is passed over
 passed_by_ebn : (b : List ℕ) → ebn b ≡ 254 → is_passed b ≡ true
 passed_by_ebn b e = rw e refl
 
+-- the EBN of a block that is no user data, as a test
 or_passed : (b : List ℕ)
     → (ebn b < 240) ⊎ (ebn b ≡ 255)
     → (ltb (ebn b) 240 || eqb (ebn b) 255) ≡ true
 or_passed b (inl lt) = rw (lt-ltb _ _ lt) refl
 or_passed b (inr e) = rw e refl
 
+-- such an EBN is not that of user data
 not_254 : (b : List ℕ) → (ebn b < 240) ⊎ (ebn b ≡ 255) → eqb (ebn b) 254 ≡ false
 not_254 b (inl lt) = ne_eqb _ _ (λ e. omega arith)
 not_254 b (inr e) = rw e refl
 
+-- a comment is passed over
 passed_by_comment : (b : List ℕ) → (ebn b < 240) ⊎ (ebn b ≡ 255) → cf b ≡ 1 → is_passed b ≡ true
 passed_by_comment b e c = let o = or_passed b e in let n = not_254 b e in rw (n, o, c) refl
 
+-- a block that is neither is kept
 pub kept_by_both : (b : List ℕ) → (ebn b < 240) ⊎ (ebn b ≡ 255) → cf b ≡ 0 → is_passed b ≡ false
 kept_by_both b e c = let o = or_passed b e in let n = not_254 b e in rw (n, o, c) refl
 
+-- an EBN that is no fault and no user data is 00 to EF or FF
 ebn_cases : (b : List ℕ)
     → (leb 240 (ebn b) && not (eqb (ebn b) 255)) ≡ false
     → (ebn b < 240) ⊎ (ebn b ≡ 255)
@@ -373,34 +399,35 @@ chose : {A : Type 0} (b : Bool) (x y z : A)
 chose true x y z e = inl (refl, e)
 chose false x y z e = inr (refl, e)
 
-pub step_sound : (group : Option Begun) (kept : List (List ℕ)) (b : List ℕ) (r : Step)
+-- a block that was read without a fault goes with the kept ones, or is passed over
+pub step_sound : (begun : Option Begun) (kept : List (List ℕ)) (b : List ℕ) (r : Step)
     → length b ≡ 128
-    → Represents group kept
-    → step_at group b ≡ Ok r
-    → Steps kept b group r
+    → Represents begun kept
+    → step_at begun b ≡ Ok r
+    → Steps kept b begun r
 unfolding step_at
-step_sound group kept b r size h e =
-    let r3 : Result Step StlFault = cond (eqb (cf b) 1) (Ok (More group)) (kept_at group b) in
+step_sound begun kept b r size h e =
+    let r3 : Result Step StlFault = cond (eqb (cf b) 1) (Ok (More begun)) (kept_at begun b) in
     let r2 : Result Step StlFault = cond (ltb 1 (cf b)) (Err fault.CommentFlag) r3 in
     let r1 : Result Step StlFault =
     cond (leb 240 (ebn b) && not (eqb (ebn b) 255)) (Err fault.Extension) r2 in
-    elim (chose (eqb (ebn b) 254) (Ok (More group)) r1 (Ok r) e) [
-      | inl user ↦ passed_steps kept b group r (passed_by_ebn b (eqb-true _ _ user.0)) h
-          (ok_is (More group) r user.1)
+    elim (chose (eqb (ebn b) 254) (Ok (More begun)) r1 (Ok r) e) [
+      | inl user ↦ passed_steps kept b begun r (passed_by_ebn b (eqb-true _ _ user.0)) h
+          (ok_is (More begun) r user.1)
       | inr more ↦
           let g1 = guard_not (leb 240 (ebn b) && not (eqb (ebn b) 255)) fault.Extension r2 r
           more.1 in
           let g2 = guard_not (ltb 1 (cf b)) fault.CommentFlag r3 r g1.1 in
           let few : cf b ≤ 1 = ltb-false _ _ g2.0 in
           let which = ebn_cases b g1.0 in
-          elim (chose (eqb (cf b) 1) (Ok (More group)) (kept_at group b) (Ok r) g2.1) [
-            | inl comment ↦ passed_steps kept b group r
+          elim (chose (eqb (cf b) 1) (Ok (More begun)) (kept_at begun b) (Ok r) g2.1) [
+            | inl comment ↦ passed_steps kept b begun r
                 (passed_by_comment b which (eqb-true _ _ comment.0)) h
-                (ok_is (More group) r comment.1)
+                (ok_is (More begun) r comment.1)
             | inr own ↦
                 let other : cf b ≡ 1 → ⊥ = eqb-false _ _ own.0 in
                 let none : cf b ≡ 0 = omega arith in
-                kept_steps kept b group r (kept_by_both b which none)
-                (kept_sound group kept b r size none which h own.1)
+                kept_steps kept b begun r (kept_by_both b which none)
+                (kept_sound begun kept b r size none which h own.1)
           ]
     ]

@@ -8,3 +8,6 @@ pub mod Opening
 pub mod Next
 pub mod Made
 pub mod Sound
+pub mod Passes
+pub mod Finish
+pub mod Normals

@@ -18,9 +18,11 @@ use Rattle.stl_file.proofs.Written.{blocks_count}
 
 -- ---- texts without unused space
 
+-- no byte of a text is an unused space
 abbrev pub IsClean : List ℕ → Type 0
 IsClean xs = AllByRecursion (λ (b : ℕ). b ≡ unused_space → ⊥) xs
 
+-- the first byte of a text without unused space
 clean_head : (t : Bool) (x : ℕ) (rest : List ℕ)
     → eqb x unused_space ≡ t
     → cond t false (has_no_unused rest) ≡ true
@@ -35,6 +37,7 @@ clean_of (x ∷ xs) h =
     let c = clean_head (eqb x unused_space) x xs refl h in
     (c.0, clean_of xs c.1)
 
+-- the first byte that stands before an unused space
 cut_head : (t : Bool) (x : ℕ) (rest : List ℕ)
     → eqb x unused_space ≡ t
     → has_no_unused rest ≡ true
@@ -55,20 +58,24 @@ has_no_unused-texts (b ∷ g) =
     has_no_unused-append (text_of b) (flat_map text_of g) (has_no_unused-before_unused (tf b))
     (has_no_unused-texts g)
 
+-- the front of a text has none
 clean_take : (n : ℕ) (xs : List ℕ) → IsClean xs → IsClean (take n xs)
 clean_take zero xs h = tt
 clean_take (suc n) [] h = tt
 clean_take (suc n) (x ∷ xs) h = (h.0, clean_take n xs h.1)
 
+-- the back of a text has none
 clean_drop : (n : ℕ) (xs : List ℕ) → IsClean xs → IsClean (drop n xs)
 clean_drop zero xs h = h
 clean_drop (suc n) [] h = tt
 clean_drop (suc n) (x ∷ xs) h = clean_drop n xs h.1
 
+-- unused space alone is no text
 before_pad : (k : ℕ) → before_unused (replicate k unused_space) ≡ []
 before_pad zero = refl
 before_pad (suc k) = refl
 
+-- a text behind which unused space was put comes back
 before_clean : (xs : List ℕ) (k : ℕ)
     → IsClean xs
     → before_unused (xs ++ replicate k unused_space) ≡ xs
@@ -79,12 +86,14 @@ before_clean (x ∷ xs) k h =
 
 -- ---- one block
 
+-- the text of a block that was made
 text_back : (s : SubtitleValue) (e : ℕ) (piece : List ℕ)
     → IsClean piece
     → text_of (block_of s e piece) ≡ piece
 unfolding block_of
 text_back s e piece h = before_clean piece (112 - length piece) h
 
+-- a block that was made has 128 bytes
 block_size : (s : SubtitleValue) (e : ℕ) (piece : List ℕ)
     → length piece ≤ 112
     → length (block_of s e piece) ≡ 128
@@ -93,6 +102,7 @@ block_size s e piece le = let l =
     length-append piece (replicate (112 - length piece) unused_space) in let r =
     length-replicate (112 - length piece) unused_space in omega arith
 
+-- it belongs to the subtitle
 block_belongs : (s : SubtitleValue) (e : ℕ) (piece : List ℕ)
     → length piece ≤ 112
     → BelongsTo s.sgn s.sn (block_of s e piece)
@@ -106,10 +116,12 @@ block_belongs s e piece le =
           omega arith;
     }
 
+-- its EBN is the one that was given
 block_ebn : (s : SubtitleValue) (e : ℕ) (piece : List ℕ) → ebn (block_of s e piece) ≡ e
 unfolding block_of
 block_ebn s e piece = refl
 
+-- the bytes of a time code are one
 time_in_range : (f : ℕ)
     → f < 2160000
     → is_time_code (f / 90000) ((f / 1500) % 60) ((f / 25) % 60) (f % 25) ≡ true
@@ -120,11 +132,13 @@ time_in_range f lt =
     let d : ltb (f % 25) 25 ≡ true = lt-ltb _ _ (omega arith) in
     rw (a, b, c, d) refl
 
+-- they name the frame
 time_is : (f : ℕ)
     → f < 2160000
     → f ≡ frame_of (f / 90000) ((f / 1500) % 60) ((f / 25) % 60) (f % 25)
 time_is f lt = omega arith
 
+-- a block that was made begins the subtitle
 block_heads : (s : SubtitleValue) (e : ℕ) (piece : List ℕ)
     → IsSubtitle s
     → Begins s (block_of s e piece)
@@ -146,14 +160,16 @@ block_heads s e piece h =
 
 -- ---- the blocks of a subtitle
 
-chain_cons : (group number : ℕ) (b : List ℕ) (bs : List (List ℕ))
-    → BelongsTo group number b
+-- one block in front of linked ones
+chain_cons : (sgn_is sn_is : ℕ) (b : List ℕ) (bs : List (List ℕ))
+    → BelongsTo sgn_is sn_is b
     → ebn b < 240
-    → AreLinked group number bs
-    → AreLinked group number (b ∷ bs)
-chain_cons group number b [] h lt c = absurd c
-chain_cons group number b (x ∷ bs) h lt c = (h, lt, c)
+    → AreLinked sgn_is sn_is bs
+    → AreLinked sgn_is sn_is (b ∷ bs)
+chain_cons sgn_is sn_is b [] h lt c = absurd c
+chain_cons sgn_is sn_is b (x ∷ bs) h lt c = (h, lt, c)
 
+-- the blocks that are made are linked
 blocks_chain : (s : SubtitleValue) (full e : ℕ) (text : List ℕ)
     → length text ≤ 112 * suc full
     → e + full ≤ 240
@@ -168,6 +184,7 @@ blocks_chain s (suc full) e text le few =
     (blocks_chain s full (e + 1) (drop 112 text) (omega (arith, length-drop 112 text))
     (omega arith))
 
+-- their joined text is the text
 blocks_text : (s : SubtitleValue) (full e : ℕ) (text : List ℕ)
     → IsClean text
     → flat_map text_of (blocks_from s full e text) ≡ text
@@ -180,12 +197,14 @@ blocks_text s (suc full) e text h =
     (blocks_text s full (e + 1) (drop 112 text) (clean_drop 112 text h))
     ∙ take-append-drop 112 text
 
+-- the first of some blocks begins the subtitle
 record BeginsWith (s : SubtitleValue) (bs : List (List ℕ)) : Type 0 where
   first : List ℕ
   others : List (List ℕ)
   is : bs ≡ first ∷ others
   begins : Begins s first
 
+-- the first block that is made begins the subtitle
 blocks_begin : (s : SubtitleValue) (full e : ℕ) (text : List ℕ)
     → IsSubtitle s
     → BeginsWith s (blocks_from s full e text)
@@ -226,29 +245,33 @@ blocks_made s h =
 
 -- ---- what the subtitle of a file's blocks is like
 
+-- the first byte before an unused space counts one
 cut_if : (t : Bool) (x : ℕ) (rest : List ℕ) (n : ℕ)
     → length rest ≤ n
     → length (cond t [] (x ∷ rest)) ≤ suc n
 cut_if true x rest n le = omega arith
 cut_if false x rest n le = omega arith
 
+-- what stands before the first unused space is no longer
 before_short : (xs : List ℕ) → length (before_unused xs) ≤ length xs
 before_short [] = omega arith
 before_short (x ∷ xs) = cut_if (eqb x 143) x (before_unused xs) (length xs) (before_short xs)
 
+-- a block has at most 112 bytes of text
 text_short : (b : List ℕ) → length b ≡ 128 → length (text_of b) ≤ 112
 text_short b size = let s = before_short (tf b) in let l = length-drop 16 b in omega arith
 
-chain_text : (group number : ℕ) (g : List (List ℕ))
-    → AreLinked group number g
+-- linked blocks have at most 112 bytes of text each
+chain_text : (sgn_is sn_is : ℕ) (g : List (List ℕ))
+    → AreLinked sgn_is sn_is g
     → length (flat_map text_of g) ≤ 112 * length g
-chain_text group number [] c = absurd c
-chain_text group number (b ∷ []) c = let t = text_short b c.0.size in let l =
+chain_text sgn_is sn_is [] c = absurd c
+chain_text sgn_is sn_is (b ∷ []) c = let t = text_short b c.0.size in let l =
     ap length (append-nil (text_of b)) in omega arith
-chain_text group number (b ∷ x ∷ g) c =
+chain_text sgn_is sn_is (b ∷ x ∷ g) c =
     let t = text_short b c.0.size in
     let l = length-append (text_of b) (flat_map text_of (x ∷ g)) in
-    let r = chain_text group number (x ∷ g) c.2 in
+    let r = chain_text sgn_is sn_is (x ∷ g) c.2 in
     omega arith
 
 -- the subtitle of a file's blocks is one
@@ -271,6 +294,7 @@ pub record IsMade (s : SubtitleValue) (count : ℕ) : Type 0 where
   pub are_of : AreBlocksOf s (blocks_of s)
   pub few : length (blocks_of s) ≤ count
 
+-- the blocks of a subtitle of a file can be written again, in no more of them
 pub blocks_again : (s : SubtitleValue) (g : List (List ℕ)) → AreBlocksOf s g → IsMade s (length g)
 blocks_again s g h =
     let size = chain_text s.sgn s.sn g h.linked in

@@ -18,6 +18,7 @@ after gsi block r = record {
       progress_after Reading r;
 }
 
+-- what an answer says of all that was left, by the reader that is left
 by_answer : (gsi rest : List ℕ) (block : ℕ) (r : Result (Option SubtitleValue) StlFault)
     → outcome_by block rest r ≡ outcome_with (after gsi block r) rest r
 by_answer gsi rest block (Err f) = refl

@@ -19,28 +19,34 @@ use Rattle.stl_file.specs.File.{IsFile}
 use Rattle.std.specs.Io.KnownBytes.{Consumes}
 use Rattle.stl_file.proofs.Kept.{guard_not}
 
+-- a test that had to hold for a value
 guard_ok_not : {A : Type 0} (b : Bool) (d : StlFault) (r : Result A StlFault) (y : A)
     → cond (not b) (Err d) r ≡ Ok y
     → (b ≡ true) × (r ≡ Ok y)
 guard_ok_not true d r y e = (refl, e)
 guard_ok_not false d r y e = absurd cc
 
+-- one of two tests holds
 either : (a b : Bool) → (not a && not b) ≡ false → (a ≡ true) ⊎ (b ≡ true)
 either true b e = inl refl
 either false true e = inr refl
 either false false e = absurd cc
 
+-- where one does not, the other does
 either_not : (a b : Bool) → (not a && not b) ≡ false → b ≡ false → a ≡ true
 either_not true b e f = refl
 either_not false true e f = absurd cc
 either_not false false e f = absurd cc
 
+-- bytes that compare as equal are
 same_bytes : (xs ys : List ℕ) → bytes_eq xs ys ≡ true → xs ≡ ys
 same_bytes xs ys e = (bytes_eq-Decides xs ys).0 e
 
+-- equal answers have equal GSI blocks
 given_gsi : (x y : List ℕ) → ◌≡◌ {A = Result (List ℕ) StlFault} (Ok x) (Ok y) → x ≡ y
 given_gsi x y e = cc
 
+-- a GSI block without a fault is taken, as it is
 pub gsi_sound : (g h : List ℕ) → length g ≡ 1024 → gsi_at g ≡ Ok h → (h ≡ g) × IsGsi g
 unfolding gsi_at
 gsi_sound g h size e =
@@ -119,10 +125,12 @@ Opened = Result ReaderValue StlFault
 
 module _ (bytes : List ℕ) (n : ℕ) (new : Option (List ℕ)) (block : List ℕ)
     (t : Told bytes n new block) (bound : n ≤ length block) (size : length block ≡ 1024) where
+  -- so many bytes were taken and are left
   len_of : length bytes ≡ n + length t.rest
   len_of = ap length t.parts
       ∙ omega (arith, length-append (take n block) t.rest, length-take n block)
 
+  -- fewer bytes than a GSI block
   pub open_short : n < 1024 → opened_at bytes ≡ Err fault.Truncated
   unfolding opened_at
   open_short lt =
@@ -131,9 +139,11 @@ module _ (bytes : List ℕ) (n : ℕ) (new : Option (List ℕ)) (block : List �
       let yes = lt-ltb (length bytes) 1024 (omega arith) in
       rw yes refl
 
+  -- a whole GSI block and the rest
   parts_of : 1024 ≤ n → bytes ≡ block ++ t.rest
   parts_of le = rw (take_all n block (omega arith)) at t.parts
 
+  -- what a whole GSI block is read as
   pub open_whole : (r : Result (List ℕ) StlFault)
       → 1024 ≤ n
       → gsi_at block ≡ r
@@ -146,6 +156,7 @@ module _ (bytes : List ℕ) (n : ℕ) (new : Option (List ℕ)) (block : List �
       ap (take 1024) (parts_of le) ∙ take_at block t.rest 1024 size in
       rw (no, front, e) refl
 
+  -- what is left behind it
   pub open_rest : 1024 ≤ n → new ≡ Some (drop 1024 bytes)
   open_rest le =
       let back : drop 1024 bytes ≡ t.rest =

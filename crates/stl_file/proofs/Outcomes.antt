@@ -30,6 +30,7 @@ abbrev pub outcome_nil : ℕ → Option Begun → Outcome
 outcome_nil room None = ends
 outcome_nil room (Some begun) = fails fault.Unfinished (most_blocks - room)
 
+-- no byte is left
 pub outcome_end : (room : ℕ) (begun : Option Begun)
     → outcome_at room begun [] ≡ outcome_nil room begun
 unfolding outcome_at
@@ -80,9 +81,9 @@ outcome_block room begun b rest r size e =
     outcome_step room begun (b ++ rest) (omega (arith, length-append b rest))
     ∙ rw (front, back, e) refl
 
--- ---- completeness: the blocks of a file from a group's begin on give its subtitles
+-- ---- completeness: the blocks of a file give its subtitles
 
--- a group that is not whole, the rest of its blocks, and what it will be
+-- a subtitle that was begun, the rest of its blocks, and what they give
 pub record GoesTo (o : Begun) (kept : List (List ℕ)) (out : List SubtitleValue) : Type 0 where
   pub tail : List (List ℕ)
   pub ss : List SubtitleValue
@@ -93,27 +94,31 @@ pub record GoesTo (o : Begun) (kept : List (List ℕ)) (out : List SubtitleValue
   pub groups : AreBlocksOfEach ss gs
   pub out_is : out ≡ (record o.subtitle { text = o.subtitle.text ++ flat_map text_of tail }) ∷ ss
 
+-- blocks from where a subtitle may begin, and what they give
 pub record StartsTo (kept : List (List ℕ)) (out : List SubtitleValue) : Type 0 where
   pub gs : List (List (List ℕ))
   pub kept_is : kept ≡ flat_map (λ (g : List (List ℕ)). g) gs
   pub groups : AreBlocksOfEach out gs
 
+-- what kept blocks give, where a subtitle was begun or not
 abbrev pub Gives : Option Begun → List (List ℕ) → List SubtitleValue → Type 0
 Gives None kept out = StartsTo kept out
 Gives (Some o) kept out = GoesTo o kept out
 
 -- a kept block of a chain, and what follows it
-pub record GivesTurn (group : Option Begun) (b : List ℕ) (rest : List (List ℕ))
+pub record GivesTurn (begun : Option Begun) (b : List ℕ) (rest : List (List ℕ))
     (out : List SubtitleValue) : Type 0 where
   pub s : SubtitleValue
   pub count : ℕ
-  pub step : step_at group b ≡ Ok (closed (ebn b) s count)
+  pub step : step_at begun b ≡ Ok (closed (ebn b) s count)
   pub next : ((ebn b ≡ 255) × ((ss : List SubtitleValue) × (out ≡ s ∷ ss) × StartsTo rest ss))
       ⊎ ((ebn b < 240) × GoesTo (record { subtitle = s; blocks = count }) rest out)
 
+-- nothing in front
 head_is : (ts us : List (List ℕ)) → ts ≡ [] → ts ++ us ≡ us
 head_is ts us e = rw e refl
 
+-- the first block of a subtitle, and what follows it
 first_gives : (s : SubtitleValue) (b : List ℕ) (others rest : List (List ℕ))
     (ss : List SubtitleValue) (gs : List (List (List ℕ)))
     → Begins s b
@@ -180,6 +185,7 @@ first_gives s b others rest ss gs h chain few text e gs-are =
           }
     ]
 
+-- a further block, and what follows it
 next_gives : (o : Begun) (b : List ℕ) (tail rest : List (List ℕ)) (ss out : List SubtitleValue)
     (gs : List (List (List ℕ)))
     → AreLinked o.subtitle.sgn o.subtitle.sn (b ∷ tail)
@@ -255,6 +261,7 @@ next_gives o b tail rest ss out gs chain few e gs-are is =
           }
     ]
 
+-- the next block where none was begun
 start_turn : (b : List ℕ) (rest : List (List ℕ)) (out : List SubtitleValue)
     (gs : List (List (List ℕ)))
     → b ∷ rest ≡ flat_map (λ (g : List (List ℕ)). g) gs
@@ -274,6 +281,7 @@ start_turn b rest (s ∷ ss) (g ∷ gs) e h =
     (subst (λ (x : List (List ℕ)). AreLinked s.sgn s.sn x) same i.linked) few
     (i.text_is ∙ ap (λ (x : List (List ℕ)). flat_map text_of x) same) c.1 h.1
 
+-- the next block where one was begun
 goes_turn_on : (o : Begun) (b : List ℕ) (rest : List (List ℕ)) (out : List SubtitleValue)
     (tail : List (List ℕ)) (ss : List SubtitleValue) (gs : List (List (List ℕ)))
     → b ∷ rest ≡ tail ++ flat_map (λ (g : List (List ℕ)). g) gs
@@ -291,9 +299,10 @@ goes_turn_on o b rest out (t ∷ tail) ss gs e chain few h is =
     (record o.subtitle { text = o.subtitle.text ++ (text_of x ++ flat_map text_of tail) }) ∷ ss)
     (sym c.0))
 
-gives_turn : (group : Option Begun) (b : List ℕ) (rest : List (List ℕ)) (out : List SubtitleValue)
-    → Gives group (b ∷ rest) out
-    → GivesTurn group b rest out
+-- the next kept block, and what follows it
+gives_turn : (begun : Option Begun) (b : List ℕ) (rest : List (List ℕ)) (out : List SubtitleValue)
+    → Gives begun (b ∷ rest) out
+    → GivesTurn begun b rest out
 gives_turn None b rest out h = start_turn b rest out h.gs h.kept_is h.groups
 gives_turn (Some o) b rest out h =
     goes_turn_on o b rest out h.tail h.ss h.gs h.kept_is h.linked h.few h.groups h.out_is
@@ -315,6 +324,7 @@ no_blocks (s ∷ ss) (g ∷ gs) e h = let b = h.0.blocks in
     none_first g gs b bs e f = let no : [] ≡ b ∷ (bs ++ flat_map (λ (x : List (List ℕ)). x) gs) =
         f ∙ ap (λ (x : List (List ℕ)). x ++ flat_map (λ (x : List (List ℕ)). x) gs) e in cc
 
+-- a subtitle that was begun does not end without a block
 open_ends : (o : Begun) (tail : List (List ℕ)) (gs : List (List (List ℕ)))
     → [] ≡ tail ++ flat_map (λ (g : List (List ℕ)). g) gs
     → AreLinked o.subtitle.sgn o.subtitle.sn tail
@@ -322,34 +332,35 @@ open_ends : (o : Begun) (tail : List (List ℕ)) (gs : List (List (List ℕ)))
 open_ends o [] gs e c = c
 open_ends o (t ∷ tail) gs e c = cc
 
+-- all subtitles, without a fault
 abbrev judged : List SubtitleValue → Judged
 judged x = Ok x
 
 -- the blocks of a file from where a subtitle may begin, or goes on, give its subtitles and no fault
-pub outcome_complete : (bs : List (List ℕ)) (group : Option Begun) (room : ℕ)
+pub outcome_complete : (bs : List (List ℕ)) (begun : Option Begun) (room : ℕ)
     (out : List SubtitleValue)
     → AllByRecursion IsBlock bs
     → length bs ≤ room
-    → Gives group (filter is_kept bs) out
-    → subtitles_of (outcome_at room group (joined bs)) ≡ Ok out
+    → Gives begun (filter is_kept bs) out
+    → subtitles_of (outcome_at room begun (joined bs)) ≡ Ok out
 outcome_complete [] None room out h le g =
     let n : out ≡ [] = no_blocks out g.gs g.kept_is g.groups in
     ap subtitles_of (outcome_end room None) ∙ rw n refl
 outcome_complete [] (Some o) room out h le g = absurd (open_ends o g.tail g.gs g.kept_is g.linked)
-outcome_complete (b ∷ bs) group zero out h le g = absurd (omega arith)
-outcome_complete (b ∷ bs) group (suc room) out h le g =
+outcome_complete (b ∷ bs) begun zero out h le g = absurd (omega arith)
+outcome_complete (b ∷ bs) begun (suc room) out h le g =
     let rest = joined bs in
     elim (bool_cases (is_passed b)) [
       | inl passed ↦
-          ap subtitles_of (outcome_block room group b rest (Ok (More group)) h.0
-          (step_passed group b passed))
-          ∙ outcome_complete bs group room out h.1 (omega arith)
-          (subst (λ (k : List (List ℕ)). Gives group k out) (filter_passed b bs passed) g)
+          ap subtitles_of (outcome_block room begun b rest (Ok (More begun)) h.0
+          (step_passed begun b passed))
+          ∙ outcome_complete bs begun room out h.1 (omega arith)
+          (subst (λ (k : List (List ℕ)). Gives begun k out) (filter_passed b bs passed) g)
       | inr kept ↦
-          let t = gives_turn group b (filter is_kept bs) out
-          (subst (λ (k : List (List ℕ)). Gives group k out) (filter_kept b bs kept) g) in
+          let t = gives_turn begun b (filter is_kept bs) out
+          (subst (λ (k : List (List ℕ)). Gives begun k out) (filter_kept b bs kept) g) in
           let one = ap subtitles_of
-          (outcome_block room group b rest (Ok (closed (ebn b) t.s t.count)) h.0 t.step) in
+          (outcome_block room begun b rest (Ok (closed (ebn b) t.s t.count)) h.0 t.step) in
           elim t.next [
             | inl last ↦ let yes : eqb (ebn b) 255 ≡ true = eq-eqb _ _ last.0 in
                 let on = outcome_complete bs None room last.1.0 h.1 (omega arith) last.1.2 in

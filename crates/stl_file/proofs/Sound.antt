@@ -32,10 +32,11 @@ use Rattle.stl_file.proofs.Opening.{gsi_sound, gsi_complete}
 
 -- ---- soundness
 
+-- lists of blocks, joined
 abbrev groups_of : List (List (List ℕ)) → List (List ℕ)
 groups_of gs = flat_map (λ (g : List (List ℕ)). g) gs
 
--- the blocks that were read, where some of a group were read before
+-- the blocks that were read, where some of a subtitle were read before
 pub record Reads (room : ℕ) (before : List (List ℕ)) (b : List ℕ) (ss : List SubtitleValue) : Type 0
   where
     pub blocks : List (List ℕ)
@@ -46,11 +47,13 @@ pub record Reads (room : ℕ) (before : List (List ℕ)) (b : List ℕ) (ss : Li
     pub kept : before ++ filter is_kept blocks ≡ groups_of groups
     pub are_groups : AreBlocksOfEach ss groups
 
+-- one block in front, kept or not
 split_filter : (t : Bool) (x : List ℕ) (a : List (List ℕ))
     → cond t (x ∷ a) a ≡ cond t (x ∷ []) [] ++ a
 split_filter true x a = refl
 split_filter false x a = refl
 
+-- no subtitle was given
 nil_is : (ss : List SubtitleValue) → ◌≡◌ {A = Judged} (Ok []) (Ok ss) → ss ≡ []
 nil_is ss e = cc
 
@@ -74,7 +77,7 @@ reads_more room before b ss le r =
       are_groups = r.are_groups;
     }
 
--- a block that ends a group
+-- a block that ends a subtitle
 reads_group : (room : ℕ) (before : List (List ℕ)) (b : List ℕ) (s : SubtitleValue)
     (ss : List SubtitleValue)
     → 128 ≤ length b
@@ -97,42 +100,47 @@ reads_group room before b s ss le g r =
       are_groups = (g, r.are_groups);
     }
 
+-- all subtitles, without a fault
 abbrev pub fine : List SubtitleValue → Judged
 fine ss = Ok ss
 
+-- a list with a first subtitle
 cons_ok : (s : SubtitleValue) (j : Judged) (ss : List SubtitleValue)
     → cons_all s j ≡ fine ss
     → (rest : List SubtitleValue) × (j ≡ fine rest) × (ss ≡ s ∷ rest)
 cons_ok s (Ok rest) ss e = (rest, refl, cc)
 cons_ok s (Err f) ss e = absurd cc
 
+-- a whole block or less
 long_or_short : (n : ℕ) → (n < 128) ⊎ (128 ≤ n)
 long_or_short n = cases_lt n 128
 
-mutual_step : (room : ℕ) (group : Option Begun) (before : List (List ℕ)) (b : List ℕ)
+-- one block that was read, and what follows
+mutual_step : (room : ℕ) (begun : Option Begun) (before : List (List ℕ)) (b : List ℕ)
     (ss : List SubtitleValue) (r : Result Step StlFault)
     → 128 ≤ length b
-    → Represents group before
-    → step_at group (take 128 b) ≡ r
+    → Represents begun before
+    → step_at begun (take 128 b) ≡ r
     → ((g : Option Begun) (k : List (List ℕ)) (ts : List SubtitleValue) → Represents g k
     → subtitles_of (outcome_at room g (drop 128 b)) ≡ fine ts → Reads room k (drop 128 b) ts)
     → subtitles_of (outcome_after room (λ next. outcome_at room next (drop 128 b)) r) ≡ fine ss
     → Reads (suc room) before b ss
-mutual_step room group before b ss (Err f) le rep e go all = absurd cc
-mutual_step room group before b ss (Ok (More next)) le rep e go all =
-    let s = step_sound group before (take 128 b) (More next) (length-take-le 128 b le) rep e in
+mutual_step room begun before b ss (Err f) le rep e go all = absurd cc
+mutual_step room begun before b ss (Ok (More next)) le rep e go all =
+    let s = step_sound begun before (take 128 b) (More next) (length-take-le 128 b le) rep e in
     reads_more room before b ss le
     (go next (before ++ cond (is_kept (take 128 b)) (take 128 b ∷ []) []) ss s.reaches all)
-mutual_step room group before b ss (Ok (Give s)) le rep e go all =
-    let t = step_sound group before (take 128 b) (Give s) (length-take-le 128 b le) rep e in
+mutual_step room begun before b ss (Ok (Give s)) le rep e go all =
+    let t = step_sound begun before (take 128 b) (Give s) (length-take-le 128 b le) rep e in
     let c = cons_ok s (subtitles_of (outcome_at room None (drop 128 b))) ss all in
     subst (λ (x : List SubtitleValue). Reads (suc room) before b x) (sym c.2)
     (reads_group room before b s c.0 le t.reaches (go None [] c.0 refl c.1))
 
-pub outcome_sound : (room : ℕ) (group : Option Begun) (before : List (List ℕ)) (b : List ℕ)
+-- bytes that give subtitles and no fault are blocks of them
+pub outcome_sound : (room : ℕ) (begun : Option Begun) (before : List (List ℕ)) (b : List ℕ)
     (ss : List SubtitleValue)
-    → Represents group before
-    → subtitles_of (outcome_at room group b) ≡ fine ss
+    → Represents begun before
+    → subtitles_of (outcome_at room begun b) ≡ fine ss
     → Reads room before b ss
 outcome_sound room None before [] ss rep e =
     let n : ss ≡ [] = nil_is ss (sym (ap subtitles_of (outcome_end room None)) ∙ e) in
@@ -150,20 +158,21 @@ outcome_sound room (Some o) before [] ss rep e =
     let no : subtitles_of (outcome_nil room (Some o)) ≡ fine ss =
     sym (ap subtitles_of (outcome_end room (Some o))) ∙ e in
     absurd cc
-outcome_sound zero group before (x ∷ b) ss rep e =
-    let no = sym (ap subtitles_of (outcome_full group (x ∷ b) (omega arith))) ∙ e in
+outcome_sound zero begun before (x ∷ b) ss rep e =
+    let no = sym (ap subtitles_of (outcome_full begun (x ∷ b) (omega arith))) ∙ e in
     absurd cc
-outcome_sound (suc room) group before (x ∷ b) ss rep e =
+outcome_sound (suc room) begun before (x ∷ b) ss rep e =
     elim (long_or_short (length (x ∷ b))) [
       | inl lt ↦
-          let no = sym (ap subtitles_of (outcome_short room group (x ∷ b) (omega arith) lt)) ∙ e in
+          let no = sym (ap subtitles_of (outcome_short room begun (x ∷ b) (omega arith) lt)) ∙ e in
           absurd cc
       | inr le ↦
-          mutual_step room group before (x ∷ b) ss (step_at group (take 128 (x ∷ b))) le rep refl
+          mutual_step room begun before (x ∷ b) ss (step_at begun (take 128 (x ∷ b))) le rep refl
           (λ g k ts. outcome_sound room g k (drop 128 (x ∷ b)) ts)
-          (sym (ap subtitles_of (outcome_step room group (x ∷ b) le)) ∙ e)
+          (sym (ap subtitles_of (outcome_step room begun (x ∷ b) le)) ∙ e)
     ]
 
+-- the same from the first block of a file on
 rest_of : (b : List ℕ) (ss : List SubtitleValue)
     → Reads most_blocks [] b ss
     → (bs : List (List ℕ)) × (b ≡ joined bs) × IsRest most_blocks bs ss
@@ -180,21 +189,25 @@ rest_of b ss r = (
   },
 )
 
+-- a reader without a fault
 abbrev pub good : ReaderValue → Result ReaderValue StlFault
 good r = Ok r
 
+-- a reader that was opened has a GSI block
 opened_ok : (g : Result (List ℕ) StlFault) (r : ReaderValue)
     → opened g ≡ good r
     → (h : List ℕ) × (g ≡ Ok h) × (r ≡ record { gsi = h; block = 0; progress = Reading })
 opened_ok (Ok h) r e = (h, refl, cc)
 opened_ok (Err f) r e = absurd cc
 
+-- it had enough bytes
 open_if : (t : Bool) (g : Result (List ℕ) StlFault) (r : ReaderValue)
     → cond t (Err fault.Truncated) (opened g) ≡ good r
     → (t ≡ false) × (opened g ≡ good r)
 open_if true g r e = absurd cc
 open_if false g r e = (refl, e)
 
+-- a file that was opened begins with a GSI block that is taken
 pub opened_sound : (s : List ℕ) (r : ReaderValue)
     → opened_at s ≡ good r
     → (1024 ≤ length s) × IsGsi (take 1024 s)
@@ -207,6 +220,7 @@ opened_sound s r e =
     let g = gsi_sound (take 1024 s) o.0 (length-take-le 1024 s le) o.1 in
     (le, g.1, o.2 ∙ ap (λ (x : List ℕ). record { gsi = x; block = 0; progress = Reading }) g.0)
 
+-- a file that was read was opened
 judged_ok : (b : List ℕ) (o : Result ReaderValue StlFault) (ts : List SubtitleValue)
     → subtitles_of (outcome_opened b o) ≡ fine ts
     → (r : ReaderValue) × (o ≡ good r) × (subtitles_of (outcome_left r b) ≡ fine ts)
@@ -228,6 +242,7 @@ body_sound s ts le g e =
       rest = r.2;
     }
 
+-- bytes that are read without a fault are a file
 pub file_sound : (s : List ℕ) (ts : List SubtitleValue)
     → subtitles_of (outcome_of s) ≡ fine ts
     → IsFile s (take 1024 s) ts
@@ -240,6 +255,7 @@ file_sound s ts e =
 
 -- ---- completeness
 
+-- a file is read without a fault
 pub file_complete : (s g : List ℕ) (ts : List SubtitleValue)
     → IsFile s g ts
     → (take 1024 s ≡ g) × (subtitles_of (outcome_of s) ≡ fine ts)
@@ -264,6 +280,7 @@ file_read s g ts = (
   λ h. subst (λ (x : List ℕ). IsFile s x ts) (sym h.0) (file_sound s ts h.1),
 )
 
+-- equal answers have equal subtitles
 same_list : (x y : List SubtitleValue) → fine x ≡ fine y → x ≡ y
 same_list x y e = cc
 

@@ -19,10 +19,12 @@ use Rattle.stl_file.specs.Reading.{time_at, first_at, kept_at, step_at}
 
 -- ---- one block
 
+-- a time code that stands there is read
 time_complete : (b : List ℕ) (place frame : ℕ) → IsTimeAt b place frame → time_at b place ≡ Ok frame
 unfolding time_at
 time_complete b place frame h = rw h.in_range (ap (λ (n : ℕ). Ok n) (sym h.is))
 
+-- a subtitle with the fields of another
 value_is : (s : SubtitleValue) (a b c d : ℕ) (t : List ℕ)
     → a ≡ s.sgn
     → b ≡ s.sn
@@ -33,9 +35,11 @@ value_is : (s : SubtitleValue) (a b c d : ℕ) (t : List ℕ)
     (record s { text = t })
 value_is s a b c d t e f g h = rw (e, f, g, h) refl
 
+-- a subtitle without a fault
 abbrev found : SubtitleValue → Result SubtitleValue StlFault
 found s = Ok s
 
+-- a block that begins a subtitle is read as its first
 pub first_complete : (b : List ℕ) (s : SubtitleValue)
     → Begins s b
     → first_at b ≡ Ok (record s { text = text_of b })
@@ -52,34 +56,40 @@ first_complete b s h =
     (ap found (value_is s (sgn b) (sn b) (vp b) (jc b) (text_of b) h.sgn_is h.sn_is h.vp_is
     h.jc_is))
 
+-- the EBN of a subtitle is not reserved
 not_extension : (n : ℕ) → (n < 240) ⊎ (n ≡ 255) → (leb 240 n && not (eqb n 255)) ≡ false
 not_extension n (inl lt) = let no : leb 240 n ≡ false = lt-leb 240 n lt in rw no refl
 not_extension n (inr e) = rw e refl
 
+-- and is not that of user data
 not_user : (n : ℕ) → (n < 240) ⊎ (n ≡ 255) → eqb n 254 ≡ false
 not_user n (inl lt) = ne_eqb _ _ (λ e. omega arith)
 not_user n (inr e) = rw e refl
 
-pub step_kept : (group : Option Begun) (b : List ℕ)
+-- a block of a subtitle is kept
+pub step_kept : (begun : Option Begun) (b : List ℕ)
     → (ebn b < 240) ⊎ (ebn b ≡ 255)
     → cf b ≡ 0
-    → step_at group b ≡ kept_at group b
+    → step_at begun b ≡ kept_at begun b
 unfolding step_at
-step_kept group b e c = rw (not_user (ebn b) e, not_extension (ebn b) e, c) refl
+step_kept begun b e c = rw (not_user (ebn b) e, not_extension (ebn b) e, c) refl
 
+-- one of two tests that hold together
 or_cases : (a b : Bool) → (a || b) ≡ true → (a ≡ true) ⊎ (b ≡ true)
 or_cases true b e = inl refl
 or_cases false b e = inr e
 
+-- both parts of a test that holds
 and_ok : (a b : Bool) → (a && b) ≡ true → (a ≡ true) × (b ≡ true)
 and_ok true b e = (refl, e)
 and_ok false b e = absurd cc
 
-pub step_passed : (group : Option Begun) (b : List ℕ)
+-- a comment or user data is passed over
+pub step_passed : (begun : Option Begun) (b : List ℕ)
     → is_passed b ≡ true
-    → step_at group b ≡ Ok (More group)
+    → step_at begun b ≡ Ok (More begun)
 unfolding step_at
-step_passed group b p =
+step_passed begun b p =
     elim (or_cases (eqb (ebn b) 254) ((ltb (ebn b) 240 || eqb (ebn b) 255) && eqb (cf b) 1) p) [
       | inl user ↦ rw user refl
       | inr comment ↦
@@ -91,33 +101,38 @@ step_passed group b p =
           rw (not_user (ebn b) which, not_extension (ebn b) which, one) refl
     ]
 
--- ---- a group's blocks
+-- ---- a subtitle's blocks
 
 -- the first of a chain
 abbrev pub Head : ℕ → ℕ → List ℕ → List (List ℕ) → Type 0
-Head group number b bs =
-    BelongsTo group number b
-    × (((bs ≡ []) × (ebn b ≡ 255)) ⊎ ((ebn b < 240) × AreLinked group number bs))
+Head sgn_is sn_is b bs =
+    BelongsTo sgn_is sn_is b
+    × (((bs ≡ []) × (ebn b ≡ 255)) ⊎ ((ebn b < 240) × AreLinked sgn_is sn_is bs))
 
-pub chain_head : (group number : ℕ) (b : List ℕ) (bs : List (List ℕ))
-    → AreLinked group number (b ∷ bs)
-    → Head group number b bs
-chain_head group number b [] h = (h.0, inl (refl, h.1))
-chain_head group number b (c ∷ bs) h = (h.0, inr (h.1, h.2))
+-- the first of linked blocks
+pub chain_head : (sgn_is sn_is : ℕ) (b : List ℕ) (bs : List (List ℕ))
+    → AreLinked sgn_is sn_is (b ∷ bs)
+    → Head sgn_is sn_is b bs
+chain_head sgn_is sn_is b [] h = (h.0, inl (refl, h.1))
+chain_head sgn_is sn_is b (c ∷ bs) h = (h.0, inr (h.1, h.2))
 
+-- equal lists have equal heads and tails
 pub cons_is : (a b : List ℕ) (us bs : List (List ℕ)) → a ∷ us ≡ b ∷ bs → (a ≡ b) × (us ≡ bs)
 cons_is a b us bs e = (cc, cc)
 
+-- a block that is taken out
 pub filter_passed : (b : List ℕ) (bs : List (List ℕ))
     → is_passed b ≡ true
     → filter is_kept (b ∷ bs) ≡ filter is_kept bs
 filter_passed b bs p = rw p refl
 
+-- a block that is left
 pub filter_kept : (b : List ℕ) (bs : List (List ℕ))
     → is_passed b ≡ false
     → filter is_kept (b ∷ bs) ≡ b ∷ filter is_kept bs
 filter_kept b bs p = rw p refl
 
+-- a test holds or does not
 pub bool_cases : (b : Bool) → (b ≡ true) ⊎ (b ≡ false)
 bool_cases true = inl refl
 bool_cases false = inr refl

@@ -38,9 +38,11 @@ blocks_push : (bs : List (List ℕ)) (b : List ℕ)
 blocks_push [] b h e = (e, tt)
 blocks_push (x ∷ bs) b h e = (h.0, blocks_push bs b h.1 e)
 
+-- a block or none
 choice : (t : Bool) (b : List ℕ) → cond t (b ∷ []) [] ≡ [] ++ cond t (b ∷ []) []
 choice t b = refl
 
+-- one block in front of a choice
 put : (t : Bool) (x : List ℕ) (a b c : List (List ℕ))
     → a ≡ b ++ c
     → cond t (x ∷ a) a ≡ cond t (x ∷ b) b ++ c
@@ -131,6 +133,7 @@ no_rest from bytes more bs ts f block r e bad =
     ∙ ap (λ (x : List ℕ). subtitles_of (outcome_from from x)) (sym e) ∙ good in
     cc
 
+-- equal known bytes are equal bytes
 some_is : (x y : List ℕ) → ◌≡◌ {A = Option (List ℕ)} (Some x) (Some y) → x ≡ y
 some_is x y e = cc
 
@@ -141,6 +144,7 @@ pub record Given (bytes blocks front : List ℕ) (n : ℕ) (new : Option (List �
   pub parts : bytes ≡ blocks ++ (front ++ rest)
   pub ended : n < 128 → rest ≡ []
 
+-- the same from what `fill` says
 given_by : (old mid new : Option (List ℕ)) (n : ℕ) (blocks buffer bytes : List ℕ)
     → length buffer ≡ 128
     → Consumes old mid blocks
@@ -165,6 +169,7 @@ room_suc : (block : ℕ)
     → most_blocks - block ≡ suc (most_blocks - (block + 1))
 room_suc block le ne = omega arith
 
+-- the number of the next block
 room_back : (block : ℕ)
     → block ≤ most_blocks
     → (block ≡ most_blocks → ⊥)
@@ -191,9 +196,11 @@ module _ (from : ℕ) (old mid new : Option (List ℕ)) (n block : ℕ) (begun :
   with_bytes : Consumes old new (joined h.blocks ++ take n buffer)
   with_bytes = Consumes-trans old mid new (joined h.blocks) (take n buffer) h.consumed f.bytes
 
+  -- so many bytes came in this turn
   length_front : length (take n buffer) ≡ n
   length_front = let le = f.bound in length-take n buffer ∙ omega arith
 
+  -- so many bytes in this call
   length_all : length (joined h.blocks ++ take n buffer) ≡ 128 * length h.blocks + n
   length_all =
       let l = length-append (joined h.blocks) (take n buffer) in
@@ -201,6 +208,7 @@ module _ (from : ℕ) (old mid new : Option (List ℕ)) (n block : ℕ) (begun :
       let t = length_front in
       omega arith
 
+  -- what the source told
   told_all : (bytes : List ℕ)
       → old ≡ Some bytes
       → Given bytes (joined h.blocks) (take n buffer) n new
@@ -214,6 +222,7 @@ module _ (from : ℕ) (old mid new : Option (List ℕ)) (n block : ℕ) (begun :
       let g = told_all bytes e in
       ap (outcome_from from) g.parts ∙ h.goes (take n buffer ++ g.rest)
 
+  -- a fault that no bytes behind it could cure
   refuses : (x : StlFault) (to place : ℕ)
       → to ≡ from + (128 * length h.blocks + n + 127) / 128
       → ((more : List ℕ)
@@ -232,6 +241,7 @@ module _ (from : ℕ) (old mid new : Option (List ℕ)) (n block : ℕ) (begun :
   -- ---- no byte is left
 
   module _ (z : n ≡ 0) where
+    -- nothing came in this turn
     empty : take n buffer ≡ []
     empty = nil_from_length (take n buffer) (length_front ∙ z)
 
@@ -251,6 +261,7 @@ module _ (from : ℕ) (old mid new : Option (List ℕ)) (n block : ℕ) (begun :
               ∙ outcome_end (most_blocks - block) begun,
         )
 
+    -- the end of the file
     pub leads_none : begun ≡ None
         → (bytes : List ℕ)
         → old ≡ Some bytes
@@ -264,6 +275,7 @@ module _ (from : ℕ) (old mid new : Option (List ℕ)) (n block : ℕ) (begun :
               a.2 ∙ ap (outcome_nil (most_blocks - block)) is;
         }
 
+    -- the end of the file within a subtitle
     pub leads_unfinished : (o : Begun)
         → block ≤ most_blocks
         → begun ≡ Some o
@@ -280,6 +292,7 @@ module _ (from : ℕ) (old mid new : Option (List ℕ)) (n block : ℕ) (begun :
               ∙ ap (fails fault.Unfinished) at;
         }
 
+    -- no file ends so
     pub refuses_unfinished : (o : Begun)
         → begun ≡ Some o
         → Refuses from block old new fault.Unfinished
@@ -288,6 +301,7 @@ module _ (from : ℕ) (old mid new : Option (List ℕ)) (n block : ℕ) (begun :
         omega arith)
         (λ more cut. rw (cut refl, empty, is) (outcome_end (most_blocks - block) (Some o)))
 
+    -- passed blocks alone were left
     pub takes_passed : begun ≡ None → TakesPassed from block old new
     takes_passed is = record {
       blocks = h.blocks;
@@ -304,6 +318,7 @@ module _ (from : ℕ) (old mid new : Option (List ℕ)) (n block : ℕ) (begun :
   -- ---- a byte is left, and no block may follow
 
   module _ (some : n ≡ 0 → ⊥) (full : block ≡ most_blocks) where
+    -- what one block too many gives
     no_room : (more : List ℕ)
         → outcome_at (most_blocks - block) begun (take n buffer ++ more)
         ≡ fails fault.TooManyBlocks (most_blocks + 1)
@@ -312,6 +327,7 @@ module _ (from : ℕ) (old mid new : Option (List ℕ)) (n block : ℕ) (begun :
         let l = length-append (take n buffer) more in
         rw full (outcome_full begun (take n buffer ++ more) (omega arith))
 
+    -- one block too many
     pub leads_too_many : (bytes : List ℕ)
         → old ≡ Some bytes
         → Leads from bytes block new (Err fault.TooManyBlocks)
@@ -324,6 +340,7 @@ module _ (from : ℕ) (old mid new : Option (List ℕ)) (n block : ℕ) (begun :
               ∙ ap (λ (k : ℕ). fails fault.TooManyBlocks (k + 1)) (sym full);
         }
 
+    -- no file has so many
     pub refuses_too_many : Refuses from (block + 1) old new fault.TooManyBlocks
     refuses_too_many =
         refuses fault.TooManyBlocks (block + 1) (most_blocks + 1)
@@ -332,11 +349,13 @@ module _ (from : ℕ) (old mid new : Option (List ℕ)) (n block : ℕ) (begun :
   -- ---- a block is begun
 
   module _ (le : block ≤ most_blocks) (ne : block ≡ most_blocks → ⊥) where
+    -- one block of those that may follow
     at_suc : (tail : List ℕ)
         → outcome_at (most_blocks - block) begun tail
         ≡ outcome_at (suc (most_blocks - (block + 1))) begun tail
     at_suc tail = ap (λ (k : ℕ). outcome_at k begun tail) (room_suc block le ne)
 
+    -- what a block that is cut gives
     cut_block : (more : List ℕ)
         → (n ≡ 0 → ⊥)
         → n < 128
@@ -352,6 +371,7 @@ module _ (from : ℕ) (old mid new : Option (List ℕ)) (n block : ℕ) (begun :
         (omega arith)
         ∙ ap (fails fault.Truncated) (room_back block le ne)
 
+    -- a block that is cut
     pub leads_truncated : (n ≡ 0 → ⊥) → n < 128 → (bytes : List ℕ) → old ≡ Some bytes
         → Leads from bytes (block + 1) new (Err fault.Truncated)
     leads_truncated some lt bytes e =
@@ -363,6 +383,7 @@ module _ (from : ℕ) (old mid new : Option (List ℕ)) (n block : ℕ) (begun :
               told_goes bytes e ∙ cut_block g.rest some lt (g.ended lt);
         }
 
+    -- no file ends so
     pub refuses_truncated : (n ≡ 0 → ⊥) → n < 128 → Refuses from (block + 1) old new fault.Truncated
     refuses_truncated some lt =
         refuses fault.Truncated (block + 1) (block + 1) (let c = h.counted in omega arith)
@@ -371,9 +392,11 @@ module _ (from : ℕ) (old mid new : Option (List ℕ)) (n block : ℕ) (begun :
     -- ---- and read
 
     module _ (long : 128 ≤ n) where
+      -- the whole block came in this turn
       whole : take n buffer ≡ buffer
       whole = take_all n buffer (omega arith)
 
+      -- what a whole block gives
       one_block : (r : Result Step StlFault) (more : List ℕ)
           → step_at begun buffer ≡ r
           → outcome_at (most_blocks - block) begun (take n buffer ++ more)
@@ -384,11 +407,13 @@ module _ (from : ℕ) (old mid new : Option (List ℕ)) (n block : ℕ) (begun :
           ∙ at_suc (buffer ++ more)
           ∙ outcome_block (most_blocks - (block + 1)) begun buffer more r size e
 
+      -- what a block with a fault gives
       bad_block : (x : StlFault) (more : List ℕ)
           → step_at begun buffer ≡ Err x
           → outcome_at (most_blocks - block) begun (take n buffer ++ more) ≡ fails x (block + 1)
       bad_block x more e = one_block (Err x) more e ∙ ap (fails x) (room_back block le ne)
 
+      -- a block with a fault
       pub leads_refused : (x : StlFault)
           → is_of_block x ≡ true
           → step_at begun buffer ≡ Err x
@@ -404,6 +429,7 @@ module _ (from : ℕ) (old mid new : Option (List ℕ)) (n block : ℕ) (begun :
                 ∙ ap (fails x) (sym (own_block (block + 1) x own));
           }
 
+      -- no file goes on with it
       pub refuses_block : (x : StlFault)
           → step_at begun buffer ≡ Err x
           → Refuses from (block + 1) old new x
@@ -411,6 +437,7 @@ module _ (from : ℕ) (old mid new : Option (List ℕ)) (n block : ℕ) (begun :
           refuses x (block + 1) (block + 1) (let c = h.counted in let b = f.bound in omega arith)
           (λ more cut. bad_block x more step)
 
+      -- the last block of a subtitle
       pub leads_given : (s : SubtitleValue)
           → step_at begun buffer ≡ Ok (Give s)
           → (bytes : List ℕ)
@@ -434,10 +461,12 @@ module _ (from : ℕ) (old mid new : Option (List ℕ)) (n block : ℕ) (begun :
           rw (joined_push h.blocks buffer)
           (subst (λ (x : List ℕ). Consumes old new (joined h.blocks ++ x)) whole with_bytes)
 
+      -- one block more was read
       counted_push : from + length (h.blocks ++ buffer ∷ []) ≡ block + 1
       counted_push = let c = h.counted in let l = length-append h.blocks (buffer ∷ []) in
           omega arith
 
+      -- the blocks of this call are those of the subtitle, with passed ones before and inside
       pub gives_subtitle : (s : SubtitleValue)
           → step_at begun buffer ≡ Ok (Give s)
           → TakesSubtitle from (block + 1) old new s
@@ -452,6 +481,7 @@ module _ (from : ℕ) (old mid new : Option (List ℕ)) (n block : ℕ) (begun :
             consumed = with_block;
           }
 
+      -- the blocks go on
       pub reads_on : (next : Option Begun)
           → step_at begun buffer ≡ Ok (More next)
           → HasRead from old new (block + 1) next

@@ -34,15 +34,18 @@ pub pieces_more : (text : List ℕ)
 pieces_more text lt = let l : length (drop 112 text) ≡ length text - 112 = length-drop 112 text in
     omega arith
 
+-- a short text is its last piece
 pub pieces_end : (text : List ℕ) → length text ≤ 112 → full_pieces text ≡ 0
 pieces_end text le = omega arith
 
+-- a full block in front
 blocks_suc : (s : SubtitleValue) (full ebn : ℕ) (text : List ℕ)
     → blocks_from s (suc full) ebn text ≡ block_of s ebn (take 112 text)
     ∷ blocks_from s full (ebn + 1) (drop 112 text)
 unfolding blocks_from
 blocks_suc s full ebn text = refl
 
+-- the last block alone
 pub blocks_zero : (s : SubtitleValue) (ebn : ℕ) (text : List ℕ)
     → blocks_from s 0 ebn text ≡ block_of s 255 text ∷ []
 unfolding blocks_from
@@ -56,6 +59,7 @@ pub blocks_more : (s : SubtitleValue) (ebn : ℕ) (text : List ℕ)
 blocks_more s ebn text lt = ap (λ (k : ℕ). blocks_from s k ebn text) (pieces_more text lt)
     ∙ blocks_suc s (full_pieces (drop 112 text)) ebn text
 
+-- one full block was written
 pub joined_more : (s : SubtitleValue) (ebn : ℕ) (text before out all : List ℕ)
     → 112 < length text
     → out ≡ before ++ block_of s ebn (take 112 text)
@@ -66,6 +70,7 @@ joined_more s ebn text before out all lt e h =
     rw e (append_assoc before (block_of s ebn (take 112 text)) rest
     ∙ ap (λ (bs : List (List ℕ)). before ++ joined bs) (sym (blocks_more s ebn text lt)) ∙ h)
 
+-- the last block was written
 pub joined_end : (s : SubtitleValue) (ebn : ℕ) (text before out all : List ℕ)
     → length text ≤ 112
     → out ≡ before ++ block_of s 255 text

@@ -1,8 +1,8 @@
-//! What holds of files.
+//! What holds of files and their normal forms.
 
 ghost use Rattle.std.specs.Prelude.{◌≡◌, ◌↔◌, ℕ, List, Ok, take};
 ghost use Rattle.stl_file.specs.File.{IsFile};
-ghost use Rattle.stl_file.specs.NormalForm.{subtitles_of};
+ghost use Rattle.stl_file.specs.NormalForm.{counted_gsi, normal_form, subtitles_of};
 ghost use Rattle.stl_file.specs.Reader.{outcome_of};
 ghost use Rattle.stl_file.specs.Subtitle.{SubtitleValue};
 
@@ -22,4 +22,22 @@ pub fn file_has_one_reading()
         → IsFile s g ts
         → IsFile s h us
         → (g ≡ h) × (ts ≡ us) }
+{}
+
+/// The normal form of a file is a file with the same subtitles, whose GSI block is the same but for
+/// TNB and TNS.
+pub fn normal_form_is_a_file()
+    ensures { (s g : List ℕ)
+        → (ts : List SubtitleValue)
+        → IsFile s g ts
+        → IsFile (normal_form g ts) (counted_gsi g ts) ts }
+{}
+
+/// The normal form of a normal form is itself.
+pub fn normal_form_is_its_own()
+    ensures { (s g h : List ℕ)
+        → (ts us : List SubtitleValue)
+        → IsFile s g ts
+        → IsFile (normal_form g ts) h us
+        → normal_form h us ≡ normal_form g ts }
 {}

@@ -13,9 +13,11 @@
 //! crates use the records and what a file is, `IsFile` in `specs/File.antt`.
 #![tactic(auto)]
 
+mod counts;
 mod fault;
 mod gsi;
 mod laws;
+mod normal_form;
 mod progress;
 mod reader;
 mod step;
@@ -23,12 +25,20 @@ mod subtitle;
 mod subtitle_blocks;
 mod time_code;
 mod tti;
+mod writer;
 
 pub use fault::{NormalFault, StlFault};
 pub use gsi::Gsi;
-pub use laws::{file_has_one_reading, file_is_what_is_read};
+pub use laws::{
+    file_has_one_reading, file_is_what_is_read, normal_form_is_a_file, normal_form_is_its_own,
+};
+pub use normal_form::normal;
 pub use progress::Progress;
 pub use reader::StlReader;
 pub use subtitle::Subtitle;
 pub use time_code::TimeCode;
 pub use tti::Tti;
+pub use writer::write_subtitle;
+
+#[cfg(test)]
+mod tests;

@@ -1,3 +1,4 @@
+-- A file has one reading.
 use Rattle.stl_file.proofs.Sound.{one_file}
 use Rattle.stl_file.proofs.laws.file_has_one_reading.Goals as goal
 

@@ -1,3 +1,4 @@
+-- Each return of the loop over blocks, and one block more.
 use Rattle.std.proofs.Common.{rules, Ok, sym, ap, ◌∙◌, ◌+◌, subst, arith}
 use Rattle.std.proofs.lemmas.Result.{err_from_is_err_and}
 use Rattle.stl_file.specs.Reading.{StepFits, step_at}

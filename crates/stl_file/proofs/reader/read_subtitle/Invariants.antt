@@ -1,3 +1,4 @@
+-- What the loop keeps: the blocks that were read so far, and room for those that may follow.
 use Rattle.std.proofs.Common.{◌≡◌, ◌≤◌, ◌-◌}
 use Rattle.stl_file.specs.Reading.{BegunFits}
 use Rattle.stl_file.specs.Tti.{most_blocks}

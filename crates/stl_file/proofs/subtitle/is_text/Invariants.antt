@@ -1,3 +1,4 @@
+-- What the loop keeps: the test of the whole text is the test of what is left.
 use Rattle.std.proofs.Common.{◌≡◌, drop}
 use Rattle.stl_file.specs.Subtitle.{has_no_unused}
 use Rattle.stl_file.proofs.subtitle.is_text.Given as goal

@@ -1,3 +1,4 @@
+-- What the loop keeps: the text so far, with what is left of the field before its unused space.
 use Rattle.std.proofs.Common.{◌≡◌, ◌≤◌, ◌-◌, ◌+◌, ◌++◌, length, drop, true}
 use Rattle.stl_file.specs.Subtitle.{has_no_unused}
 use Rattle.stl_file.specs.Tti.{before_unused}

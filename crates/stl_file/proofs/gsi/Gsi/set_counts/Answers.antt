@@ -1,3 +1,4 @@
+-- The counts are put at their places, and the block keeps its length.
 use Rattle.std.proofs.Common.{refl, sym, ap, length, ◌∙◌, arith}
 use borrow.Rule.Slice.PartMut.{same_len_mid}
 use Rattle.stl_file.proofs.Written.{counts_put}

@@ -1,3 +1,4 @@
+-- The answer of `next` is the first thing that was left to be given.
 use Rattle.std.proofs.Common.{rules, arith, ◌≡◌, sym, ap, ◌∙◌}
 use Rattle.std.proofs.lemmas.Grind.{common_steps}
 use Rattle.stl_file.specs.Reader.{block_by, progress_after}

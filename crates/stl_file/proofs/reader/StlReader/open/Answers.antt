@@ -1,3 +1,4 @@
+-- What `open` answers over told bytes, and that no file begins with bytes that it refused.
 use Rattle.std.proofs.Common.{rules, ◌≡◌, ◌<◌, Ok, ap, sym, ◌∙◌, arith, length, length-take, take}
 use Rattle.std.proofs.Common.{subst, List, ℕ}
 use Rattle.std.proofs.lemmas.List.{take_all}

@@ -1,0 +1,350 @@
+-- A pass of `normal` over the blocks behind the GSI block; main lemmas: pass_on, pass_end,
+-- all_prefix.
+use Rattle.std.proofs.Common.{◌≡◌, ℕ, suc, ◌+◌, ◌-◌, ◌<◌, ◌≤◌, Bool, true, false, cond, List, []}
+use Rattle.std.proofs.Common.{◌∷◌, ◌++◌, length, take, Option, Some, None, Result, Ok, Err, refl}
+use Rattle.std.proofs.Common.{sym, ap, subst, ◌∙◌, append_assoc, arith, length-append, is_ok}
+use Rattle.std.specs.Prelude.{filter, IfSome}
+use Rattle.std.specs.Io.KnownBytes.{Appends}
+use Rattle.std.proofs.KnownBytes.{Appends-trans}
+use Rattle.std.proofs.lemmas.List.{append-nil}
+use Rattle.sub_io.specs.Device.{AppendsPrefix}
+use Rattle.sub_io.proofs.DeviceLemmas.{AppendsPrefix-first, AppendsPrefix-second}
+use Rattle.stl_file.specs.declared.fault.StlFault.{StlFault}
+use Rattle.stl_file.specs.declared.fault.NormalFault.TheVariants.{Refused}
+use Rattle.stl_file.specs.declared.progress.Progress.{Progress}
+use Rattle.stl_file.specs.declared.progress.Progress.TheVariants.{Reading}
+use Rattle.stl_file.specs.Tti.{is_kept, most_blocks}
+use Rattle.stl_file.specs.Subtitle.{SubtitleValue}
+use Rattle.stl_file.specs.SubtitleBlocks.{joined}
+use Rattle.stl_file.specs.Reading.{Outcome, ends, fails, gives}
+use Rattle.stl_file.specs.Reader.{ReaderValue, HasPlace, Answers, TakesSubtitle, progress_after}
+use Rattle.stl_file.specs.Reader.{outcome_from, outcome_left, outcome_with}
+use Rattle.stl_file.specs.NormalForm.{Judged, all_blocks, blocks_of, cons_all, full_pieces}
+use Rattle.stl_file.specs.NormalForm.{subtitles_of}
+use Rattle.stl_file.specs.NormalCounts.{counted, given}
+use Rattle.stl_file.specs.declared.counts.Counts.{Counts}
+use Rattle.stl_file.specs.declared.fault.NormalFault.{NormalFault}
+use Rattle.stl_file.proofs.Written.{blocks_count}
+use Rattle.stl_file.proofs.Made.{blocks_again}
+
+-- ---- lists
+
+-- the blocks of two lists of subtitles
+pub all_append : (ss ts : List SubtitleValue)
+    → all_blocks (ss ++ ts) ≡ all_blocks ss ++ all_blocks ts
+all_append [] ts = refl
+all_append (s ∷ ss) ts = ap (λ (x : List (List ℕ)). blocks_of s ++ x) (all_append ss ts)
+    ∙ sym (append_assoc (blocks_of s) (all_blocks ss) (all_blocks ts))
+
+-- the bytes of two lists of blocks
+pub joined_append : (xs bs : List (List ℕ)) → joined (xs ++ bs) ≡ joined xs ++ joined bs
+joined_append [] bs = refl
+joined_append (a ∷ xs) bs = ap (λ (x : List ℕ). a ++ x) (joined_append xs bs)
+    ∙ sym (append_assoc a (joined xs) (joined bs))
+
+-- the blocks with those of one subtitle more
+pub all_push : (ss : List SubtitleValue) (s : SubtitleValue)
+    → all_blocks (ss ++ s ∷ []) ≡ all_blocks ss ++ blocks_of s
+all_push ss s = all_append ss (s ∷ [])
+    ∙ ap (λ (x : List (List ℕ)). all_blocks ss ++ x) (append-nil (blocks_of s))
+
+-- one block more or the same
+choice_len : (t : Bool) (x : List ℕ) (a : List (List ℕ)) (n : ℕ)
+    → length a ≤ n
+    → length (cond t (x ∷ a) a) ≤ suc n
+choice_len true x a n le = omega arith
+choice_len false x a n le = omega arith
+
+-- no more blocks are kept than there are
+pub kept_few : (bs : List (List ℕ)) → length (filter is_kept bs) ≤ length bs
+kept_few [] = omega arith
+kept_few (b ∷ bs) = choice_len (is_kept b) b (filter is_kept bs) (length bs) (kept_few bs)
+
+-- ---- the subtitles so far, and those that are left
+
+-- the subtitles so far in front of those that are left
+abbrev pub prepend : List SubtitleValue → Judged → Judged
+prepend ts (Ok ss) = Ok (ts ++ ss)
+prepend ts (Err f) = Err f
+
+-- all subtitles, without a fault
+abbrev fine : List SubtitleValue → Judged
+fine x = Ok x
+
+-- one subtitle goes from those that are left to those so far
+prepend_cons : (ts : List SubtitleValue) (s : SubtitleValue) (j : Judged)
+    → prepend ts (cons_all s j) ≡ prepend (ts ++ s ∷ []) j
+prepend_cons ts s (Ok ss) =
+    ap (λ (x : List SubtitleValue). fine x) (sym (append_assoc ts (s ∷ []) ss))
+prepend_cons ts s (Err f) = refl
+
+-- no subtitle so far
+prepend_nil : (j : Judged) → prepend [] j ≡ j
+prepend_nil (Ok ss) = refl
+prepend_nil (Err f) = refl
+
+-- all subtitles, without a fault
+abbrev judged : List SubtitleValue → Judged
+judged x = Ok x
+
+-- a subtitle that was given is one of all
+stands : (body : List ℕ) (done : List SubtitleValue) (s : SubtitleValue) (j : Judged)
+    → is_ok (subtitles_of (outcome_from 0 body)) ≡ true
+    → subtitles_of (outcome_from 0 body) ≡ prepend done (cons_all s j)
+    → (ss : List SubtitleValue) × (given (subtitles_of (outcome_from 0 body)) ≡ done ++ s ∷ ss)
+stands body done s (Ok ss) ok e = (ss, ap given e)
+stands body done s (Err f) ok e = let no : false ≡ true = sym (ap is_ok e) ∙ ok in absurd cc
+
+-- what was read so far: the subtitles, and what is left gives the rest of those of the whole body
+pub record Passes (body : List ℕ) (r : ReaderValue) (rest : List ℕ)
+    (done : List SubtitleValue) : Type 0 where
+  pub all : subtitles_of (outcome_from 0 body) ≡ prepend done (subtitles_of (outcome_left r rest))
+  pub reading : r.progress ≡ Reading
+  pub few : r.block ≤ most_blocks
+  pub blocks : length (all_blocks done) ≤ r.block
+  pub subtitles : length done ≤ r.block
+
+-- the pass at its start
+pub pass_start : (body g : List ℕ)
+    → Passes body (record { gsi = g; block = 0; progress = Reading }) body []
+pass_start body g = record {
+  all = sym (prepend_nil (subtitles_of (outcome_from 0 body)));
+  reading = refl;
+  few = omega arith;
+  blocks = omega arith;
+  subtitles = omega arith;
+}
+
+-- the count of failures of a source that never fails says that this call did not
+pub no_failure : (b : Bool) → 0 ≡ 0 + cond b 1 0 → b ≡ false
+no_failure true e = cc
+no_failure false e = refl
+
+-- what `next` answers
+abbrev Answer : Type 0
+Answer = Result (Option SubtitleValue) StlFault
+
+-- an answer that is known to be a subtitle
+pub answers_some : (p r : ReaderValue) (rest : List ℕ) (now : Option (List ℕ))
+    (found : Option SubtitleValue) (s : SubtitleValue)
+    → found ≡ Some s → Answers p rest r now (Ok found) → Answers p rest r now (Ok (Some s))
+answers_some p r rest now found s is a =
+    subst (λ (x : Option SubtitleValue). Answers p rest r now (Ok x)) is a
+
+-- what an answer that is known to be a subtitle took
+pub takes_some : (from to : ℕ) (old new : Option (List ℕ)) (found : Option SubtitleValue)
+    (s : SubtitleValue)
+    → found ≡ Some s → IfSome found (TakesSubtitle from to old new)
+    → TakesSubtitle from to old new s
+takes_some from to old new found s is t =
+    subst (λ (x : Option SubtitleValue). IfSome x (TakesSubtitle from to old new)) is t
+
+-- how far the reader has come then
+pub goes_some : (p q : Progress) (found : Option SubtitleValue) (s : SubtitleValue)
+    → found ≡ Some s → q ≡ progress_after p (Ok found) → q ≡ p
+goes_some p q found s is e = e ∙ ap (λ (x : Option SubtitleValue). progress_after p (ok x)) is
+  where
+    ok : Option SubtitleValue → Answer
+    ok x = Ok x
+
+-- what a subtitle takes of the blocks that may follow
+record Took (from to : ℕ) (s : SubtitleValue) : Type 0 where
+  less : from + length (blocks_of s) ≤ to
+  some : 1 ≤ length (blocks_of s)
+
+-- a subtitle is written in no more blocks than were taken for it
+took : (from to : ℕ) (old new : Option (List ℕ)) (s : SubtitleValue)
+    → TakesSubtitle from to old new s
+    → Took from to s
+took from to old new s t =
+    let k = blocks_again s (filter is_kept t.blocks) t.are_of in
+    let f = kept_few t.blocks in
+    let c = t.counted in
+    let few = k.few in
+    let n = blocks_count s (full_pieces s.text) 0 s.text in
+    record { less = omega arith; some = omega arith }
+
+-- the bytes that are left, where they are known
+some_is : (x y : List ℕ) → ◌≡◌ {A = Option (List ℕ)} (Some x) (Some y) → x ≡ y
+some_is x y e = cc
+
+-- what was left, by the answer and what is left now
+left_is : (p r : ReaderValue) (rest next : List ℕ) (a : Answer)
+    → Answers p rest r (Some next) a
+    → outcome_left p rest ≡ outcome_with r next a
+left_is p r rest next a h =
+    h.outcome ∙ ap (λ (x : List ℕ). outcome_with r x a) (sym (some_is next h.rest h.rest_is))
+
+module _ (body rest next : List ℕ) (p r : ReaderValue) (done : List SubtitleValue)
+    (h : Passes body p rest done) where
+  -- all subtitles, by the answer
+  goes : (a : Answer)
+      → Answers p rest r (Some next) a
+      → subtitles_of (outcome_from 0 body) ≡ prepend done (subtitles_of (outcome_with r next a))
+  goes a x = h.all ∙ ap (λ (o : Outcome). prepend done (subtitles_of o)) (left_is p r rest next a x)
+
+  module _ (s : SubtitleValue) (old new : Option (List ℕ))
+      (x : Answers p rest r (Some next) (Ok (Some s)))
+      (takes : TakesSubtitle p.block r.block old new s) where
+    -- the pass behind a subtitle
+    pub pass_on : r.progress ≡ p.progress
+        → HasPlace r.progress r.block
+        → Passes body r next (done ++ s ∷ [])
+    pass_on on place =
+        let t = took p.block r.block old new s takes in
+        let less = t.less in
+        let some = t.some in
+        let b = h.blocks in
+        let c = h.subtitles in
+        let reading : r.progress ≡ Reading = on ∙ h.reading in
+        record {
+          all = goes (Ok (Some s)) x ∙ prepend_cons done s (subtitles_of (outcome_left r next));
+          reading = reading;
+          few = subst (λ (q : Progress). HasPlace q r.block) reading place;
+          blocks = let l = ap length (all_push done s) in let m =
+              length-append (all_blocks done) (blocks_of s) in omega arith;
+          subtitles = let m = length-append done (s ∷ []) in omega arith;
+        }
+
+    -- the measure falls
+    pub pass_less : r.block ≤ most_blocks → most_blocks - r.block < most_blocks - p.block
+    pass_less le =
+        let t = took p.block r.block old new s takes in
+        let less = t.less in
+        let some = t.some in
+        omega arith
+
+    -- the counts fit
+    pub pass_room : r.block ≤ most_blocks
+        → (length (all_blocks done) + length (blocks_of s) ≤ most_blocks)
+        × (length done + 1 ≤ most_blocks)
+    pass_room le =
+        let t = took p.block r.block old new s takes in
+        let less = t.less in
+        let some = t.some in
+        let b = h.blocks in
+        let c = h.subtitles in
+        (omega arith, omega arith)
+
+    -- the subtitle that is given stands in the list
+    pub pass_stands : is_ok (subtitles_of (outcome_from 0 body)) ≡ true
+        → (ss : List SubtitleValue) × (given (subtitles_of (outcome_from 0 body)) ≡ done ++ s ∷ ss)
+    pass_stands ok = stands body done s (subtitles_of (outcome_left r next)) ok
+        (goes (Ok (Some s)) x)
+
+  -- the pass at its end
+  pub pass_end : Answers p rest r (Some next) (Ok None)
+      → subtitles_of (outcome_from 0 body) ≡ Ok done
+  pass_end x = goes (Ok None) x ∙ ap (λ (y : List SubtitleValue). judged y) (append-nil done)
+
+  -- the pass at a fault
+  pub pass_refused : (f : StlFault)
+      → Answers p rest r (Some next) (Err f)
+      → subtitles_of (outcome_from 0 body) ≡ Err (Refused f r.block)
+  pass_refused f x = goes (Err f) x
+
+-- ---- what is written
+
+-- what was written with one subtitle more
+pub all_wrote : (ss : List SubtitleValue) (s : SubtitleValue) (u v w : Option (List ℕ))
+    → Appends u v (joined (all_blocks ss))
+    → Appends v w (joined (blocks_of s))
+    → Appends u w (joined (all_blocks (ss ++ s ∷ [])))
+all_wrote ss s u v w x y =
+    subst (Appends u w) (sym
+    (ap joined (all_push ss s) ∙ joined_append (all_blocks ss) (blocks_of s)))
+    (Appends-trans u v w (joined (all_blocks ss)) (joined (blocks_of s)) x y)
+
+-- a prefix of all, where the subtitles so far were written and then a prefix of one
+pub all_prefix : (done ss all : List SubtitleValue) (s : SubtitleValue) (u v w : Option (List ℕ))
+    → all ≡ done ++ s ∷ ss
+    → Appends u v (joined (all_blocks done))
+    → AppendsPrefix v w (joined (blocks_of s))
+    → AppendsPrefix u w (joined (all_blocks all))
+all_prefix done ss all s u v w e x y =
+    let parts : joined (all_blocks all) ≡ joined (all_blocks done)
+    ++ (joined (blocks_of s) ++ joined (all_blocks ss)) =
+    ap (λ (t : List SubtitleValue). joined (all_blocks t)) e
+    ∙ ap joined (all_append done (s ∷ ss))
+    ∙ joined_append (all_blocks done) (blocks_of s ++ all_blocks ss)
+    ∙ ap (λ (t : List ℕ). joined (all_blocks done) ++ t)
+    (joined_append (blocks_of s) (all_blocks ss)) in
+    subst (AppendsPrefix u w) (sym parts)
+    (AppendsPrefix-second u v w (joined (all_blocks done))
+    (joined (blocks_of s) ++ joined (all_blocks ss)) x
+    (AppendsPrefix-first v w (joined (blocks_of s)) (joined (all_blocks ss)) y))
+
+-- ---- one turn of a pass
+
+-- what a subtitle that was read says of the pass
+pub record Turn (body next : List ℕ) (p r : ReaderValue) (done : List SubtitleValue)
+    (s : SubtitleValue) : Type 0 where
+  pub on : Passes body r next (done ++ s ∷ [])
+  pub block_room : length (all_blocks done) + length (blocks_of s) ≤ most_blocks
+  pub room : length done + 1 ≤ most_blocks
+  pub stands : is_ok (subtitles_of (outcome_from 0 body)) ≡ true
+      → (ss : List SubtitleValue) × (given (subtitles_of (outcome_from 0 body)) ≡ done ++ s ∷ ss)
+
+-- a subtitle that was read, in the words of the answer
+pub pass_turn : (body rest next : List ℕ) (p r : ReaderValue) (done : List SubtitleValue)
+    (found : Option SubtitleValue) (s : SubtitleValue) (old new : Option (List ℕ))
+    → Passes body p rest done
+    → found ≡ Some s
+    → Answers p rest r (Some next) (Ok found)
+    → (p.progress ≡ Reading → IfSome found (TakesSubtitle p.block r.block old new))
+    → r.progress ≡ progress_after p.progress (Ok found)
+    → HasPlace r.progress r.block
+    → Turn body next p r done s
+pass_turn body rest next p r done found s old new h is x takes on place =
+    let a = answers_some p r rest (Some next) found s is x in
+    let t = takes_some p.block r.block old new found s is (takes h.reading) in
+    let more = pass_on body rest next p r done h s old new a t
+    (goes_some p.progress r.progress found s is on) place in
+    let m = pass_room body rest next p r done h s old new a t more.few in
+    record {
+      on = more;
+      block_room = m.0;
+      room = m.1;
+      stands = pass_stands body rest next p r done h s old new a t;
+    }
+
+-- the end of a pass
+pub pass_ends : (body rest next : List ℕ) (p r : ReaderValue) (done : List SubtitleValue)
+    (found : Option SubtitleValue)
+    → Passes body p rest done
+    → found ≡ None
+    → Answers p rest r (Some next) (Ok found)
+    → subtitles_of (outcome_from 0 body) ≡ Ok done
+pass_ends body rest next p r done found h is x =
+    pass_end body rest next p r done h
+    (subst (λ (y : Option SubtitleValue). Answers p rest r (Some next) (Ok y)) is x)
+
+-- equal counts make equal answers
+counts_same : (b t : ℕ) (c : Counts)
+    → c.tnb ≡ b
+    → c.tns ≡ t
+    → ◌≡◌ {A = Result Counts NormalFault} (Ok (record { tnb = b; tns = t })) (Ok c)
+counts_same b t c e f = rw (← e, ← f) refl
+
+-- the counts at the end of a pass
+pub counted_end : (j : Judged) (done : List SubtitleValue) (c : Counts)
+    → j ≡ Ok done
+    → c.tnb ≡ length (all_blocks done)
+    → c.tns ≡ length done
+    → counted j ≡ Ok c
+counted_end j done c e b t =
+    ap counted e ∙ counts_same (length (all_blocks done)) (length done) c b t
+
+-- a pass that was accepted meets no fault
+pub no_fault : (j : Judged) (f : NormalFault) → is_ok j ≡ true → j ≡ Err f → ⊥
+no_fault j f ok e = let no : false ≡ true = sym (ap is_ok e) ∙ ok in cc
+
+-- a pass that met a fault
+pub refused_same : (j : Judged) (f : StlFault) (a b : ℕ)
+    → j ≡ Err (Refused f a)
+    → b ≡ a
+    → counted j ≡ Err (Refused f b)
+refused_same j f a b e same = ap counted e ∙ ap (λ (k : ℕ). bad f k) (sym same)
+  where
+    bad : StlFault → ℕ → Result Counts NormalFault
+    bad f k = Err (Refused f k)

@@ -1,0 +1,61 @@
+-- A subtitle more is counted; the counts at the end; the fault of a file that is refused.
+use Rattle.std.proofs.Common.{◌++◌, ◌∷◌, [], Err, refl, arith, ap, sym, ◌∙◌, length, length-append}
+use Rattle.stl_file.specs.declared.fault.NormalFault.TheVariants.{Refused}
+use Rattle.stl_file.specs.NormalCounts.{counted}
+use Rattle.stl_file.specs.NormalForm.{all_blocks, blocks_of}
+use Rattle.stl_file.proofs.Passes.{pass_turn, pass_ends, pass_refused, counted_end, all_push}
+use Rattle.stl_file.proofs.Passes.{refused_same, no_failure}
+use Rattle.stl_file.proofs.normal_form.judge.Goals as goal
+
+pub overflow_add-counts : goal.overflow_add-counts
+overflow_add-counts c =
+    let i = c.loop-subtitle.invariant in
+    let s = c.in-Ok-Some.subtitle in
+    let t = pass_turn c.args.body.now c.loop-subtitle.source c.next.new.source
+    c.loop-subtitle.reader c.next.new.self i.done c.in-Ok-Some.field-0 s _ _ i.pass
+    c.in-Ok-Some.field-0-is (c.in-Ok-Some.ensures.exact c.loop-subtitle.source refl refl)
+    c.in-Ok-Some.ensures.subtitle c.in-Ok-Some.ensures.progress c.in-Ok-Some.ensures.place in
+    let a = t.block_room in
+    let b = i.block_count in
+    let n = c.count_of.ensures in
+    omega arith
+
+pub loop-subtitle-preserved : goal.loop-subtitle-preserved
+loop-subtitle-preserved c =
+    let i = c.loop-subtitle.invariant in
+    let s = c.in-Ok-Some.subtitle in
+    let t = pass_turn c.args.body.now c.loop-subtitle.source c.next.new.source
+    c.loop-subtitle.reader c.next.new.self i.done c.in-Ok-Some.field-0 s _ _ i.pass
+    c.in-Ok-Some.field-0-is (c.in-Ok-Some.ensures.exact c.loop-subtitle.source refl refl)
+    c.in-Ok-Some.ensures.subtitle c.in-Ok-Some.ensures.progress c.in-Ok-Some.ensures.place in
+    let b = i.block_count in
+    let n = c.count_of.ensures in
+    let k = i.subtitle_count in
+    record {
+      done = i.done ++ s ∷ [];
+      pass = t.on;
+      block_count =
+          let p = ap length (all_push i.done s) in
+          let l = length-append (all_blocks i.done) (blocks_of s) in
+          omega arith;
+      subtitle_count = let l = length-append i.done (s ∷ []) in omega arith;
+    }
+
+pub returns-in-Ok-None-clause-exact : goal.returns-in-Ok-None-clause-exact
+returns-in-Ok-None-clause-exact c =
+    let i = c.loop-subtitle.invariant in
+    counted_end _ i.done _
+    (pass_ends c.args.body.now c.loop-subtitle.source c.next.new.source c.loop-subtitle.reader
+    c.next.new.self i.done c.in-Ok-None.field-0 i.pass c.in-Ok-None.field-0-is
+    (c.in-Ok-None.ensures.exact c.loop-subtitle.source refl refl))
+    i.block_count i.subtitle_count
+
+pub returns-in-Err-clause-exact : goal.returns-in-Err-clause-exact
+returns-in-Err-clause-exact c =
+    let i = c.loop-subtitle.invariant in
+    refused_same _ c.in-Err.fault _ _
+    (pass_refused c.args.body.now c.loop-subtitle.source c.next.new.source
+    c.loop-subtitle.reader c.next.new.self i.done i.pass c.in-Err.fault
+    (c.in-Err.ensures.exact c.loop-subtitle.source refl
+    (no_failure _ c.in-Err.ensures.count)))
+    c.block.ensures.value

@@ -1,0 +1,18 @@
+-- What the first pass keeps: the subtitles so far, and how many blocks they need.
+use Rattle.std.proofs.Common.{◌≡◌, ◌-◌, List, length}
+use Rattle.stl_file.specs.NormalForm.{all_blocks}
+use Rattle.stl_file.specs.Subtitle.{SubtitleValue}
+use Rattle.stl_file.specs.Tti.{most_blocks}
+use Rattle.stl_file.proofs.Passes.{Passes}
+use Rattle.stl_file.proofs.normal_form.judge.Given as goal
+
+abbrev pub invariant-loop-subtitle : goal.invariant-loop-subtitle
+invariant-loop-subtitle l = record {
+  done : List SubtitleValue;
+  pass : Passes l.body l.reader l.source done;
+  block_count : l.counts.tnb ≡ length (all_blocks done);
+  subtitle_count : l.counts.tns ≡ length done;
+}
+
+abbrev pub decreases-loop-subtitle : goal.decreases-loop-subtitle
+decreases-loop-subtitle l = most_blocks - l.reader.block

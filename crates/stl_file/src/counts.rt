@@ -1,0 +1,10 @@
+//! What the normal form of a file will have.
+
+/// The counts of a GSI block.
+#[derive(Clone, Copy)]
+pub(crate) struct Counts {
+    // TNB, the number of TTI blocks.
+    pub(crate) tnb: u32,
+    // TNS, the number of subtitles.
+    pub(crate) tns: u32,
+}
