@@ -1,7 +1,7 @@
 -- With all packets kept, robust to lost rows by marks is robust (law_of_all_kept).
 use Rattle.std.proofs.Common.{◌≡◌, ℕ, inl, inr, Bool, true, false, List, [], ◌∷◌, Some, map, All}
 use Rattle.std.proofs.Common.{IsTrue}
-use Rattle.std.proofs.Common.{IsFalse, refl, sym, ap, ◌∙◌, subst}
+use Rattle.std.proofs.Common.{refl, sym, ap, subst}
 use Rattle.std.specs.List.{AllByRecursion, AllZip, items_where_true}
 use Rattle.std.proofs.lemmas.List.Elements.{All-nil, All-cons, recursion_from_All}
 use Rattle.ttx_packet.specs.OneBit.{AreNear}

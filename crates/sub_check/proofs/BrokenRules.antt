@@ -1,34 +1,27 @@
 -- Transmissions that break the rule of frames, of exact words, of one mode or of control bits
 -- alone.
-use Rattle.std.proofs.Common.{◌≡◌, ◌≢◌, ℕ, ◌+◌, ◌<◌, ◌≤◌, inl, inr, Bool, true, false, List, []}
+use Rattle.std.proofs.Common.{◌≡◌, ◌≢◌, ◌≤◌, true, false, []}
 use Rattle.std.proofs.Common.{◌∷◌}
-use Rattle.std.proofs.Common.{take, Some, None, slice_index, option_map, unwrap_or, find, cond}
-use Rattle.std.proofs.Common.{refl, sym}
-use Rattle.std.proofs.Common.{ap, ◌∙◌, subst, arith, ◌==◌}
-use Rattle.std.proofs.Common.{eqb-true}
-use Rattle.std.proofs.lemmas.Bool.{agree_below, agree_below_at}
+use Rattle.std.proofs.Common.{take, Some, None}
+use Rattle.std.proofs.Common.{refl}
+use Rattle.std.proofs.Common.{ap, ◌∙◌, arith}
 use Rattle.std.specs.Int.RustNames.{count_ones}
 use lib.Count.{ones_in}
 use Rattle.ttx_packet.specs.declared.header.Header.{Header}
-use Rattle.ttx_packet.specs.Hamming84.{IsCodeWord, decoded, code_word}
+use Rattle.ttx_packet.specs.Hamming84.{IsCodeWord, decoded}
 use Rattle.ttx_packet.specs.OneBit.{is_near}
 use Rattle.ttx_packet.specs.PacketAddress.{address}
-use Rattle.ttx_packet.specs.PageHeader.{header, coded_header, HasExactWords, c11}
-use Rattle.ttx_packet.specs.Parity.{code_of, is_odd}
-use Rattle.ttx_packet.specs.RowPacket.{text_byte}
+use Rattle.ttx_packet.specs.PageHeader.{header, coded_header, HasExactWords}
+use Rattle.ttx_packet.specs.Parity.{is_odd}
 use Rattle.ttx_packet.proofs.Hamming84Lemmas.{code_word-decoded, none-code_word}
-use Rattle.ttx_page.specs.declared.packet_kind.PacketKind.{PacketKind}
-use Rattle.ttx_page.specs.declared.packet_kind.PacketKind.TheVariants.{ThisPage, Row}
-use Rattle.ttx_page.specs.Page.{space, blank, blank_row, cell, IsCell}
-use Rattle.ttx_page.specs.PacketKind.{kind, is_row}
-use Rattle.ttx_page.specs.Shown.{shown}
-use Rattle.ttx_page.specs.Span.{holds_header, span}
-use Rattle.ttx_page.proofs.NoiseSteps.{cell-blank}
+use Rattle.ttx_page.specs.declared.packet_kind.PacketKind.TheVariants.{ThisPage}
+use Rattle.ttx_page.specs.Page.{blank, blank_row}
+use Rattle.ttx_page.specs.PacketKind.{kind}
 use Rattle.stl_rows.specs.DrawnPage.{drawn, page_of, line_fault_kinds}
 use Rattle.stl_rows.specs.DuePage.{due}
 use Rattle.stl_rows.specs.Line.{is_boxed, is_double, prepared, row_of}
-use Rattle.sub_check.specs.Transmission.{SentFrame, Transmission, on_air_until, packets_of}
-use Rattle.sub_check.specs.Good.{due_page, IsCleanSpan, HoldsHeader, ShowsDuePages}
+use Rattle.sub_check.specs.Transmission.{SentFrame, Transmission}
+use Rattle.sub_check.specs.Good.{due_page}
 use Rattle.sub_check.specs.Rules.{Rule, IsKept}
 use Rattle.sub_check.specs.Rules.Rule.{Frames, ExactWords, OneMode, SubtitleControl}
 use Rattle.sub_check.specs.Rules.Rule.{CleanSpans, RepeatBound, DuePages}
@@ -37,7 +30,7 @@ use Rattle.sub_check.specs.Examples.{page_888, header_888, header_without_c4, he
 use Rattle.sub_check.specs.Examples.{no_header, closing, serial_closing, row_1, packet_26}
 use Rattle.sub_check.specs.Examples.{one_frame, two_frames, each, no_subtitles, one_subtitle}
 use Rattle.sub_check.proofs.RuleLemmas.{breaks}
-use Rattle.sub_check.proofs.RuleTests.{K, passes, kept, blank_tested, code_in, none_due}
+use Rattle.sub_check.proofs.RuleTests.{passes, kept, blank_tested}
 
 -- A frame and a packet that stand for what is not in a list.
 abbrev no_frame : SentFrame

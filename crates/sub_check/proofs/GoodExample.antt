@@ -1,5 +1,5 @@
 -- A good transmission: one subtitle in one frame, and in the next frame the page without it.
-use Rattle.std.proofs.Common.{◌≡◌, ℕ, zero, suc, ◌+◌, ◌<◌, ◌≤◌, inl, inr, ◌==◌, Bool, true, cond}
+use Rattle.std.proofs.Common.{◌≡◌, ℕ, zero, suc, inl, inr, ◌==◌, Bool, true, cond}
 use Rattle.std.proofs.Common.{List}
 use Rattle.std.proofs.Common.{[], ◌∷◌, ◌++◌, Some, None, option_map, unwrap_or, replicate, refl}
 use Rattle.std.proofs.Common.{sym, ap}

@@ -1,10 +1,10 @@
 -- The rules of a concrete transmission of page 888, by tests that compute (kept).
-use Rattle.std.proofs.Common.{◌≡◌, ◌≢◌, ℕ, zero, suc, ◌+◌, ◌-◌, ◌<◌, ◌≤◌, inl, inr, ◌==◌, Bool}
+use Rattle.std.proofs.Common.{◌≡◌, ℕ, ◌+◌, ◌-◌, ◌<◌, ◌≤◌, inl, inr, ◌==◌, Bool}
 use Rattle.std.proofs.Common.{true}
 use Rattle.std.proofs.Common.{false, not, ◌&&◌, ◌||◌, nat_lt, cond, List, [], ◌∷◌, length, take}
 use Rattle.std.proofs.Common.{slice_index, Option, Some, None, is_some, find, option_map}
 use Rattle.std.proofs.Common.{unwrap_or, All}
-use Rattle.std.proofs.Common.{IsTrue, refl, sym, ap, ◌∙◌, subst, arith, eqb-true, eq-eqb, le_refl}
+use Rattle.std.proofs.Common.{refl, sym, ap, ◌∙◌, subst, arith, eqb-true, eq-eqb, le_refl}
 use Rattle.std.specs.List.{list_all}
 use Rattle.std.proofs.lemmas.Bool.{agree_below, agree_below_at, and_parts, cases_lt, ltb-true}
 use Rattle.std.proofs.lemmas.Bool.{lt-ltb}
@@ -24,9 +24,8 @@ use Rattle.ttx_page.specs.declared.packet_kind.PacketKind.{PacketKind}
 use Rattle.ttx_page.specs.declared.packet_kind.PacketKind.TheVariants.{ThisPage, EndsPage, Row}
 use Rattle.ttx_page.specs.declared.packet_kind.PacketKind.TheVariants.{Other}
 use Rattle.ttx_page.specs.Noise.{IsOddRow, IsSameRow}
-use Rattle.ttx_page.specs.Page.{space, blank, cell, IsCell}
+use Rattle.ttx_page.specs.Page.{space, blank, cell}
 use Rattle.ttx_page.specs.PacketKind.{kind, is_row}
-use Rattle.ttx_page.specs.Shown.{shown}
 use Rattle.ttx_page.specs.Span.{holds_header, span}
 use Rattle.ttx_page.proofs.NoiseSteps.{cell-blank}
 use Rattle.stl_rows.specs.declared.national.National.TheVariants.{English}
@@ -36,7 +35,7 @@ use Rattle.sub_check.specs.Transmission.{SentFrame, Transmission, IsRising, Each
 use Rattle.sub_check.specs.Transmission.{last_frame, packets_of, on_air_until}
 use Rattle.sub_check.specs.Good.{due_page, IsInOneMode, IsSubtitleHeader, IsControlled}
 use Rattle.sub_check.specs.Good.{IsEnhancement, IsCleanSpan, HasCleanSpans, ShowsDuePages}
-use Rattle.sub_check.specs.Rules.{Rule, AreFrames, KeepsBound, IsKept}
+use Rattle.sub_check.specs.Rules.{Rule, KeepsBound, IsKept}
 use Rattle.sub_check.specs.Rules.Rule.{Frames, ExactWords, OneMode, SubtitleControl}
 use Rattle.sub_check.specs.Rules.Rule.{CleanSpans, RepeatBound, DuePages}
 use Rattle.sub_check.specs.Examples.{page_888, each, no_subtitles}

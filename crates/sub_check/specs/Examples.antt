@@ -2,7 +2,6 @@
 -- alone, and some that are shown not robust.
 use Rattle.std.specs.Prelude.{ℕ, List, [], ◌∷◌, ◌++◌, replicate, take}
 use Rattle.ttx_packet.specs.PageId.{PageIdValue}
-use Rattle.stl_file.specs.Subtitle.{SubtitleValue}
 use Rattle.stl_rows.specs.declared.national.National.TheVariants.{English}
 use Rattle.stl_rows.specs.Programme.{ProgrammeValue}
 use Rattle.sub_plan.specs.Options.{OptionsValue}
