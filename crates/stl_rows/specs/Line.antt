@@ -4,16 +4,19 @@ use Rattle.std.specs.Prelude.{nat_le, if◌then◌else◌, map, length, slice_in
 use Rattle.std.specs.List.{range_with_len, list_any}
 use Rattle.ttx_page.specs.Page.{space}
 
+-- Start box, a spacing attribute.
 abbrev pub start_box : ℕ
 start_box = 0x0B
 
+-- End box, a spacing attribute.
 abbrev pub end_box : ℕ
 end_box = 0x0A
 
+-- Double height, a spacing attribute.
 abbrev pub double_height : ℕ
 double_height = 0x0D
 
--- Columns 0 to 39.
+-- A row has columns 0 to 39.
 abbrev pub columns : ℕ
 columns = 40
 

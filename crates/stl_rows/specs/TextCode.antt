@@ -88,12 +88,15 @@ diaeresis_cells =
     ∷ gives 0x75 0x7D
     ∷ []
 
+-- The byte of a diaeresis, which stands before its letter.
 abbrev pub diaeresis : ℕ
 diaeresis = 0xC8
 
+-- The byte that ends a line.
 abbrev pub new_line : ℕ
 new_line = 0x8A
 
+-- The byte is one of these, both ends among them.
 abbrev pub is_within : ℕ → ℕ → ℕ → Bool
 is_within first last byte = nat_le first byte && nat_le byte last
 

@@ -5,7 +5,7 @@ use linked_list_allocator::LocalHeap;
 use std::alloc::{AllocError, Global};
 use std::test::Fail;
 use stl_file::{StlFault, TimeCode};
-use sub_io::MemSource;
+use sub_io::{FailAt, MemSource};
 use ttx_page::Page;
 
 /// Frame 10:00:00:00.
@@ -177,6 +177,20 @@ fn refuses_files(rt: HostRuntime) -> Result<(), Fail> {
     for (blocks, block, kind) in cases {
         let fault = fault_of(rt.alloc(), blocks, National::English)?;
         assert_eq!(rt; fault, Some(LoadFault { block, kind }), "block {block}");
+    }
+    Ok(())
+}
+
+#[test]
+fn tells_the_block_of_a_failed_read(rt: HostRuntime) -> Result<(), Fail> {
+    let blocks = [subtitle(TEN, &HI), subtitle(TEN + 50, &HI)];
+    let file = file_of(rt.alloc(), &blocks)?;
+    let kind = LoadFaultKind::File(StlFault::Read);
+    // the pull that fails, the block that was asked for
+    for (pull, block) in [(0, 0), (1, 1), (2, 2), (3, 3)] {
+        let mut source = FailAt::new(MemSource::new(file.as_slice()), pull);
+        let fault = load(rt.alloc(), &mut source, National::English).err();
+        assert_eq!(rt; fault, Some(LoadFault { block, kind }), "{pull}");
     }
     Ok(())
 }
