@@ -7,3 +7,10 @@ pub mod Robust
 pub mod LostRows
 pub mod Laws
 pub mod Examples
+pub mod PacketRules
+pub mod Listening
+pub mod FrameRules
+pub mod FirstBroken
+pub mod Following
+pub mod PesReading
+pub mod Checking

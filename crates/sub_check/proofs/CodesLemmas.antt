@@ -1,0 +1,152 @@
+-- Two packets of code words and odd text that say the same are equal: `same_packet`.
+use Rattle.std.proofs.Common.{◌≡◌, ℕ, zero, suc, ◌+◌, ◌*◌, ◌/◌, ◌%◌, ◌<◌, inl, inr, Bool, true}
+use Rattle.std.proofs.Common.{false, not}
+use Rattle.std.proofs.Common.{List, [], ◌∷◌, length, get_or, slice_index, drop, map, Some, sym, ap}
+use Rattle.std.proofs.Common.{◌∙◌, subst, arith}
+use Rattle.std.proofs.Common.{refl}
+use Rattle.std.proofs.lemmas.Bool.{agree_below_at, cases_lt}
+use Rattle.std.proofs.lemmas.List.{same_lists, get_or-map, get_or-drop, get_or_default, length-drop}
+use Rattle.std.proofs.lemmas.Option.{same_Some}
+use Rattle.std.specs.Int.RustNames.{count_ones}
+use lib.Count.{ones_in}
+use Rattle.ttx_packet.specs.Hamming84.{code_word, decoded}
+use Rattle.ttx_packet.specs.Parity.{is_odd, code_of}
+use Rattle.ttx_packet.specs.PacketAddress.{PacketAddress, address, decoded_at, HasExactAddress}
+use Rattle.ttx_packet.specs.PacketAddress.{IsPacket}
+use Rattle.ttx_packet.specs.RowPacket.{HasOddText}
+use Rattle.ttx_packet.proofs.Hamming84Lemmas.{decoded-code_word}
+
+-- The highest bit changes the parity. For `odd_same`.
+upper_odd : (code : ℕ) → code < 128 → is_odd (code + 128) ≡ not (is_odd code)
+unfolding is_odd count_ones ones_in
+upper_odd code l =
+    agree_below_at (λ k. is_odd (k + 128)) (λ k. not (is_odd k)) 128 code refl l
+
+-- Odd bytes with one code are equal. For `same_packet`.
+odd_same :
+    (b c : ℕ)
+    → b < 256
+    → c < 256
+    → is_odd b ≡ true
+    → is_odd c ≡ true
+    → b % 128 ≡ c % 128
+    → b ≡ c
+odd_same b c lb lc ob oc e =
+    elim (cases_lt b 128) [
+      | inl bl ↦ elim (cases_lt c 128) [
+        | inl cl ↦ omega arith
+        | inr ch ↦
+            let s : c ≡ b + 128 = omega arith in
+            let o : not (is_odd b) ≡ true =
+            sym (upper_odd b bl) ∙ subst (λ x. is_odd x ≡ true) s oc in
+            absurd (clash (is_odd b) ob o)
+      ]
+      | inr bh ↦ elim (cases_lt c 128) [
+        | inl cl ↦
+            let s : b ≡ c + 128 = omega arith in
+            let o : not (is_odd c) ≡ true =
+            sym (upper_odd c cl) ∙ subst (λ x. is_odd x ≡ true) s ob in
+            absurd (clash (is_odd c) oc o)
+        | inr ch ↦ omega arith
+      ]
+    ]
+  where
+    clash : (t : Bool) → t ≡ true → not t ≡ true → ⊥
+    clash true p q = cc
+    clash false p q = cc
+
+-- The address of code words. For `same_address`.
+address_is :
+    (p : List ℕ) (m n : ℕ)
+    → m < 16
+    → n < 16
+    → slice_index p 0 ≡ code_word m
+    → slice_index p 1 ≡ code_word n
+    → address p
+    ≡ Some (record { magazine = (m + 0x10 * n) % 8; packet_number = (m + 0x10 * n) / 8 })
+unfolding address
+address_is p m n lm ln e f =
+    let g : decoded_at p 0 ≡ Some m = ap decoded e ∙ decoded-code_word m lm in
+    let h : decoded_at p 1 ≡ Some n = ap decoded f ∙ decoded-code_word n ln in
+    rw (g, h)
+
+-- Packets of code words with one address have the same two bytes. For `same_packet`.
+same_address :
+    (p q : List ℕ)
+    → HasExactAddress p
+    → HasExactAddress q
+    → address p ≡ address q
+    → (slice_index p 0 ≡ slice_index q 0) × (slice_index p 1 ≡ slice_index q 1)
+same_address p q x y e =
+    let a = x 0 (omega arith) in
+    let b = x 1 (omega arith) in
+    let c = y 0 (omega arith) in
+    let d = y 1 (omega arith) in
+    let f =
+    same_Some _ _
+    (sym (address_is p a.0 b.0 a.1 b.1 a.2 b.2) ∙ e ∙ address_is q c.0 d.0 c.1 d.1 c.2 d.2) in
+    let m : (a.0 + 0x10 * b.0) % 8 ≡ (c.0 + 0x10 * d.0) % 8 =
+    ap (λ (s : PacketAddress). s.magazine) f in
+    let n : (a.0 + 0x10 * b.0) / 8 ≡ (c.0 + 0x10 * d.0) / 8 =
+    ap (λ (s : PacketAddress). s.packet_number) f in
+    let la : a.0 < 16 = a.1 in
+    let lb : b.0 < 16 = b.1 in
+    let lc : c.0 < 16 = c.1 in
+    let ld : d.0 < 16 = d.1 in
+    let low : a.0 ≡ c.0 = omega arith in
+    let high : b.0 ≡ d.0 = omega arith in
+    (a.2 ∙ ap code_word low ∙ sym c.2, b.2 ∙ ap code_word high ∙ sym d.2)
+
+-- The code of a column. For a checker that keeps the codes of a row.
+pub code_at :
+    (p : List ℕ) (k : ℕ)
+    → length p ≡ 42
+    → k < 40
+    → slice_index (map code_of (drop 2 p)) k ≡ slice_index p (k + 2) % 128
+code_at p k size l =
+    let e : k < length (drop 2 p) = omega (arith, length-drop 2 p) in
+    get_or-map code_of (drop 2 p) k 0 0 e
+    ∙ ap (λ x. x % 128) (get_or-drop 2 p k 0 ∙ ap (λ n. get_or p n 0) (omega arith))
+
+-- Each code is below 128. For `text_codes`.
+pub codes_small : (xs : List ℕ) (k : ℕ) → slice_index (map code_of xs) k < 128
+codes_small [] k = omega arith
+codes_small (x ∷ xs) zero = omega arith
+codes_small (x ∷ xs) (suc k) = codes_small xs k
+
+-- Two packets of one address, in code words, and of one text, in odd bytes, are equal. So a checker
+-- needs to keep only the codes of a row to know its packet.
+pub same_packet :
+    (p q : List ℕ)
+    → IsPacket p
+    → IsPacket q
+    → HasExactAddress p
+    → HasExactAddress q
+    → address p ≡ address q
+    → HasOddText p
+    → HasOddText q
+    → map code_of (drop 2 p) ≡ map code_of (drop 2 q)
+    → p ≡ q
+same_packet p q wp wq xp xq a op oq codes =
+    same_lists p q (wp.size ∙ sym wq.size)
+    (λ k d l.
+    let lk : k < 42 = omega (arith, wp.size) in
+    get_or_default p k d 0 l ∙ at k lk ∙ get_or_default q k 0 d (omega (arith, wq.size)))
+  where
+    two : (slice_index p 0 ≡ slice_index q 0) × (slice_index p 1 ≡ slice_index q 1)
+    two = same_address p q xp xq a
+
+    later : (j : ℕ) → j < 40 → get_or p (j + 2) 0 ≡ get_or q (j + 2) 0
+    later j l =
+        odd_same (get_or p (j + 2) 0) (get_or q (j + 2) 0) (wp.bytes (j + 2)) (wq.bytes (j + 2))
+        (op j l) (oq j l)
+        (sym (code_at p j wp.size l)
+        ∙ ap (λ cs. slice_index cs j) codes
+        ∙ code_at q j wq.size l)
+
+    at : (k : ℕ) → k < 42 → get_or p k 0 ≡ get_or q k 0
+    at zero l = two.0
+    at (suc zero) l = two.1
+    at (suc (suc j)) l =
+        let s : j + 2 ≡ suc (suc j) = omega arith in
+        subst (λ n. get_or p n 0 ≡ get_or q n 0) s (later j (omega arith))

@@ -1,0 +1,70 @@
+-- When a transmission is good: seven rules that look back over whole lists of packets, and know
+-- nothing of an order of tests.
+use Rattle.std.specs.Prelude.{None, ◌≡◌, ℕ, ◌+◌, ◌-◌, ◌<◌, ◌≤◌, ◌&&◌, ◌++◌, List, Some, filter}
+use Rattle.std.specs.Prelude.{take, drop, length, nat_le}
+use Rattle.std.specs.List.{flat_map, AllByRecursion}
+use Rattle.ttx_packet.specs.PageHeader.{HasExactWords, header, c11}
+use Rattle.ttx_packet.specs.RowPacket.{HasOddText}
+use Rattle.ttx_packet.specs.declared.header.Header.{Header}
+use Rattle.sub_check.specs.declared.packet_rules.Watched.{Watched}
+use Rattle.ttx_page.specs.declared.packet_kind.PacketKind.TheVariants.{ThisPage, Row}
+use Rattle.ttx_page.specs.PacketKind.{kind}
+use Rattle.ttx_page.specs.Span.{span}
+use Rattle.ttx_page.specs.Shown.{shown}
+use Rattle.ttx_page.specs.Page.{cell, IsCell}
+use Rattle.sub_check.specs.Transmission.{SentFrame, Transmission}
+use Rattle.sub_check.specs.Good.{IsSubtitleHeader, IsEnhancement}
+use Rattle.sub_check.specs.FrameRules.{Task, frame_at, packets_at, joined, end_frame, HasHeader}
+
+-- the packets of frames g to f, joined, without the first j of those in frame g
+abbrev pub air : Transmission → ℕ → ℕ → ℕ → List (List ℕ)
+air frames g j f =
+    drop j (flat_map (λ (s : SentFrame). s.packets)
+    (filter (λ (s : SentFrame). nat_le g s.frame && nat_le s.frame f) frames))
+
+-- all packets
+abbrev pub whole : Transmission → List (List ℕ)
+whole frames = joined frames (length frames)
+
+-- what stands in a span: rows with odd text, those of one row equal, and no packet 25 to 28
+pub record IsFair (w : Watched) (packets : List (List ℕ)) : Type 0 where
+  pub odd : AllByRecursion (λ p. (row : ℕ) → kind w.page p ≡ Row row → HasOddText p) packets
+  pub same : AllByRecursion
+      (λ p. AllByRecursion
+      (λ q. (row : ℕ) → kind w.page q ≡ Row row → kind w.page p ≡ Row row → q ≡ p) packets)
+      packets
+  pub plain : AllByRecursion (λ p. IsEnhancement w.page p → ⊥) packets
+
+pub record GoodFrames (g : Task) (frames : Transmission) : Type 0 where
+  -- 1: frames rise, there is one, and they hold all subtitles
+  pub rising : (i : ℕ) → 0 < i → i < length frames → frame_at frames (i - 1) < frame_at frames i
+  pub complete : g.unread ≡ None
+  pub some : 0 < length frames
+  pub begins : (first : ℕ) → g.first_in ≡ Some first → frame_at frames 0 ≤ first
+  pub ends : (last : ℕ) → g.last_out ≡ Some last → last ≤ end_frame frames
+  -- 2: addresses and headers are exact words
+  pub exact : AllByRecursion HasExactWords (whole frames)
+  -- 3: all headers agree on C11
+  pub serial : AllByRecursion
+      (λ p. AllByRecursion
+      (λ q. (a b : Header) → header p ≡ Some a → header q ≡ Some b → (c11 a) ≡ (c11 b))
+      (whole frames)) (whole frames)
+  -- 4: headers of the page are plain
+  pub headers : AllByRecursion
+      (λ p. (h : Header) → kind g.watched.page p ≡ ThisPage h
+      → IsSubtitleHeader g.watched.national h) (whole frames)
+  -- 5: in the span of the packets up to any frame, cut short anywhere, the rows are odd and those
+  -- of one row are equal, and no packet 25 to 28 stands
+  pub fair : (i k : ℕ) → i < length frames → k ≤ length (packets_at frames i)
+      → IsFair g.watched
+      (span (kind g.watched.page) (joined frames i ++ take k (packets_at frames i)))
+  -- 6: a header of the page stands in the first frame, and in each run of frames as long as the
+  -- repeat bound
+  pub starts : HasHeader g frames 0
+  pub repeats : (a : ℕ) → frame_at frames 0 ≤ a → a + g.every ≤ end_frame frames + 1
+      → (j : ℕ) × (j < length frames) × (a ≤ frame_at frames j) × (frame_at frames j < a + g.every)
+      × HasHeader g frames j
+  -- 7: at the end of each frame the due page is shown
+  pub shows : (f row column : ℕ) → frame_at frames 0 ≤ f → f ≤ end_frame frames → IsCell row column
+      → shown g.watched.page (air frames (frame_at frames 0) 0 f) row column ≡ cell (g.due f) row
+      column

@@ -1,0 +1,225 @@
+-- What each way out of the checker's loop shows of the whole file: `unread_refusal`,
+-- `empty_refusal`,
+-- `reaches_first`, `reaches_next`, `end_accepted`, `end_refused`.
+use Rattle.std.proofs.Common.{◌≡◌, ◌≢◌, ℕ, ◌+◌, ◌-◌, ◌<◌, ◌≤◌, List, [], ◌∷◌, ◌++◌, length, drop}
+use Rattle.std.proofs.Common.{take, get_or, map}
+use Rattle.std.proofs.Common.{Option, Some, None, Result, MatchResult, Ok, Err, All, refl, sym, ap}
+use Rattle.std.proofs.Common.{◌∙◌, subst, arith}
+use Rattle.std.specs.List.{AllByRecursion}
+use Rattle.std.proofs.lemmas.List.{get_or-map, take_more, take_all}
+use Rattle.std.proofs.lemmas.List.Elements.{All-from_recursion}
+use Rattle.stl_rows.specs.Programme.{ProgrammeValue, last_out}
+use Rattle.ttx_pes.specs.DataUnit.{UnitValue, IsUnit}
+use Rattle.ttx_pes.specs.PesPacket.{PesValue, IsPesValue}
+use Rattle.ttx_pes.specs.Reading.{answer_at, rest_after, most_packets}
+use Rattle.sub_plan.specs.Options.{OptionsValue}
+use Rattle.sub_check.specs.Checking.{Accepts, AreWhole, IsFrameOf, Reaches, TellsEnd, TellsFrame}
+use Rattle.sub_check.specs.FirstBroken.{NamesFirst, unread_fault}
+use Rattle.sub_check.specs.Following.{Follows, FrameOk, IsSentFrame}
+use Rattle.sub_check.specs.FrameRules.{Unread, task_of, frame_at, packets_at, end_frame, joined}
+use Rattle.sub_check.specs.PacketRules.{header_count, packets_of_units}
+use Rattle.sub_check.specs.PesReading.{EndsAs, ReadsAs}
+use Rattle.sub_check.specs.Transmission.{SentFrame, Transmission}
+use Rattle.sub_check.specs.declared.checker.Accepted.{Accepted}
+use Rattle.sub_check.specs.declared.fault.CheckFault.{CheckFault}
+use Rattle.sub_check.specs.declared.fault.CheckFault.TheVariants as fault
+use Rattle.sub_check.specs.declared.frame_rules.Checker.{Checker}
+use Rattle.sub_check.proofs.OrderLemmas.{first_late, first_nothing, first_unread, holds_but_end}
+use Rattle.sub_check.proofs.PacketLists.{Each-push}
+use Rattle.sub_check.proofs.PesReadingLemmas.{ReadsNext, reads_next, reads_end, reads_fault}
+use Rattle.sub_check.proofs.PesReadingLemmas.{reads-below}
+
+-- ---- packets of 42 bytes
+
+-- The packets of units have 42 bytes.
+whole_units :
+    (units : List UnitValue)
+    → AllByRecursion IsUnit units
+    → AllByRecursion (λ packet. length packet ≡ 42) (packets_of_units units)
+whole_units [] h = tt
+whole_units (u ∷ units) h = (h.0.packet.size, whole_units units h.1)
+
+-- One frame more.
+whole_more :
+    (frames : Transmission) (n : ℕ) (v : PesValue)
+    → n < length frames
+    → packets_at frames n ≡ packets_of_units v.units
+    → IsPesValue v
+    → AreWhole (take n frames)
+    → AreWhole (take (n + 1) frames)
+whole_more frames n v l same is before =
+    let d : SentFrame = record { frame = 0; packets = [] } in
+    let packets : (get_or frames n d).packets ≡ packets_of_units v.units =
+    sym (get_or-map (λ (s : SentFrame). s.packets) frames n d [] l) ∙ same in
+    subst AreWhole (sym (take_more frames n d l))
+    (Each-push (λ (s : SentFrame). All (λ packet. length packet ≡ 42) s.packets) (take n frames)
+    (get_or frames n d) before
+    (subst (λ ps. All (λ packet. length packet ≡ 42) ps) (sym packets)
+    (All-from_recursion (λ packet. length packet ≡ 42) (packets_of_units v.units)
+    (whole_units v.units is.each))))
+
+module _
+    (programme : ProgrammeValue) (options : OptionsValue)
+    (frames : Transmission) (unread : Option Unread)
+  where
+    -- What keeps the file from being read on is the first that is broken, where all before it holds.
+    pub unread_refusal :
+        (n : ℕ) (bytes : List ℕ) (v : PesValue) (f : CheckFault)
+        → n ≤ length frames
+        → ((j : ℕ) → j < n → FrameOk (task_of programme options unread) frames j)
+        → ReadsAs options.origin n bytes (drop n frames) unread
+        → TellsFrame options.origin n bytes v (Err f)
+        → NamesFirst (task_of programme options unread) frames f
+    unread_refusal n bytes v f within past reads (u, told, ends) =
+        let at = reads_fault options.origin n bytes frames unread u reads ends in
+        let all : length frames ≡ n = omega (arith, at.0) in
+        subst (NamesFirst (task_of programme options unread) frames)
+        (ap (λ m. unread_fault m (Some u)) all ∙ sym told)
+        (first_unread (task_of programme options unread) frames
+        (λ j l. past j (omega (arith, at.0))) u at.1)
+
+    -- A file with no PES packet.
+    pub empty_refusal :
+        (bytes : List ℕ)
+        → ReadsAs options.origin 0 bytes frames unread
+        → answer_at 0 bytes ≡ Ok None
+        → NamesFirst (task_of programme options unread) frames fault.Empty
+    empty_refusal bytes reads is =
+        let at = reads_end options.origin 0 bytes frames unread reads is in
+        first_nothing (task_of programme options unread) frames at.1 (omega (arith, at.0))
+
+    -- The first PES packet is the first frame of the list.
+    pub first_sent :
+        (bytes : List ℕ) (v : PesValue) (frame : ℕ)
+        → ReadsAs options.origin 0 bytes frames unread
+        → TellsFrame options.origin 0 bytes v (Ok (Some frame))
+        → IsSentFrame frames 0 frame (packets_of_units v.units)
+    first_sent bytes v frame reads (is, of) =
+        (reads_next options.origin 0 bytes frames unread v frame reads is of).sent
+
+    -- What is reached after it.
+    pub reaches_first :
+        (bytes : List ℕ) (v : PesValue) (frame : ℕ) (remaining : Option (List ℕ)) (c : Checker)
+        → ReadsAs options.origin 0 bytes frames unread
+        → TellsFrame options.origin 0 bytes v (Ok (Some frame))
+        → remaining ≡ Some (rest_after bytes)
+        → IsPesValue v
+        → Follows (task_of programme options unread) frames 1 c
+        → Reaches (task_of programme options unread) options.origin frames unread remaining 1 frame c
+    reaches_first bytes v frame remaining c reads (is, of) left value follows =
+        let next = reads_next options.origin 0 bytes frames unread v frame reads is of in
+        record {
+          few = omega arith;
+          within = let there = next.sent.there in omega arith;
+          first_is = next.sent.frame_is;
+          rest = rest_after bytes;
+          rest_is = left;
+          left = next.left;
+          follows = follows;
+          whole = whole_more frames 0 v next.sent.there next.sent.packets_are value tt;
+        }
+
+    module _
+        (n first : ℕ) (before : Option (List ℕ)) (b : Checker)
+        (reached :
+        Reaches (task_of programme options unread) options.origin frames unread before n first b)
+      where
+        -- The next PES packet is the next frame of the list.
+        pub next_sent :
+            (v : PesValue) (frame : ℕ)
+            → TellsFrame options.origin n reached.rest v (Ok (Some frame))
+            → IsSentFrame frames n frame (packets_of_units v.units)
+        next_sent v frame (is, of) =
+            (reads_next options.origin n reached.rest frames unread v frame reached.left is of).sent
+
+        -- What is reached after it.
+        pub reaches_next :
+            (v : PesValue) (frame : ℕ) (remaining : Option (List ℕ)) (c : Checker)
+            → TellsFrame options.origin n reached.rest v (Ok (Some frame))
+            → remaining ≡ Some (rest_after reached.rest)
+            → IsPesValue v
+            → Follows (task_of programme options unread) frames (n + 1) c
+            → Reaches (task_of programme options unread) options.origin frames unread remaining (n + 1)
+            first c
+        reaches_next v frame remaining c (is, of) left value follows =
+            let next =
+            reads_next options.origin n reached.rest frames unread v frame reached.left is of in
+            let below = reads-below n reached.rest v is in
+            let few = reached.few in
+            record {
+              few = omega (arith, below);
+              within = let there = next.sent.there in omega arith;
+              first_is = reached.first_is;
+              rest = rest_after reached.rest;
+              rest_is = left;
+              left = next.left;
+              follows = follows;
+              whole =
+                  whole_more frames n v next.sent.there next.sent.packets_are value reached.whole;
+            }
+
+        -- A refusal of what follows.
+        pub next_refusal :
+            (v : PesValue) (f : CheckFault)
+            → TellsFrame options.origin n reached.rest v (Err f)
+            → NamesFirst (task_of programme options unread) frames f
+        next_refusal v f told =
+            unread_refusal n reached.rest v f reached.within reached.follows.past reached.left told
+
+        -- At the end of the file: accepted.
+        pub end_accepted :
+            (a : Accepted)
+            → answer_at n reached.rest ≡ Ok None
+            → TellsEnd (last_out programme.records) first b.frame b.headers (Ok a)
+            → Accepts (task_of programme options unread) frames a
+        end_accepted a is (over, count, headers) =
+            let at = reads_end options.origin n reached.rest frames unread reached.left is in
+            let within = reached.within in
+            let all : n ≡ length frames = omega (arith, at.0) in
+            let follows = reached.follows in
+            let some = follows.some in
+            let last : b.frame ≡ end_frame frames =
+            follows.frame_is ∙ ap (λ m. frame_at frames (m - 1)) all in
+            let first_is = reached.first_is in
+            record {
+              holds =
+                  holds_but_end (task_of programme options unread) frames at.1
+                  (λ j l. follows.past j (omega arith)) (omega arith)
+                  (λ t l e. let m = over l e in omega arith);
+              whole = subst AreWhole (take_all n frames (omega arith)) reached.whole;
+              frames_are = omega (arith, count);
+              transmissions_are =
+                  headers
+                  ∙ follows.count
+                  ∙ ap (λ m. header_count options.page (joined frames m)) all;
+            }
+
+        -- At the end of the file: refused.
+        pub end_refused :
+            (f : CheckFault)
+            → answer_at n reached.rest ≡ Ok None
+            → TellsEnd (last_out programme.records) first b.frame b.headers (Err f)
+            → NamesFirst (task_of programme options unread) frames f
+        end_refused f is (not_over, told) =
+            let at = reads_end options.origin n reached.rest frames unread reached.left is in
+            let within = reached.within in
+            let all : n ≡ length frames = omega (arith, at.0) in
+            let follows = reached.follows in
+            let some = follows.some in
+            let last : b.frame ≡ end_frame frames =
+            follows.frame_is ∙ ap (λ m. frame_at frames (m - 1)) all in
+            subst (NamesFirst (task_of programme options unread) frames)
+            (ap fault.Late (sym last) ∙ sym told)
+            (first_late (task_of programme options unread) frames at.1
+            (λ j l. follows.past j (omega arith)) (omega arith)
+            (λ h. not_over (λ l e. let m = h l e in omega arith)))
+
+        -- At the end of the file: what is told.
+        pub end_told :
+            (r : Result Accepted CheckFault)
+            → answer_at n reached.rest ≡ Ok None
+            → TellsEnd (last_out programme.records) first b.frame b.headers r
+            → MatchResult r (Accepts (task_of programme options unread) frames)
+            (NamesFirst (task_of programme options unread) frames)
+        end_told (Ok a) is told = end_accepted a is told
+        end_told (Err f) is told = end_refused f is told

@@ -1,0 +1,477 @@
+-- The order of the places: from what holds of each part of the check to what holds before a key.
+use Rattle.std.proofs.Common.{◌≡◌, ℕ, ◌+◌, ◌-◌, ◌<◌, inl, inr, List, [], ◌∷◌, ◌++◌, length, take}
+use Rattle.std.proofs.Common.{get_or, refl, sym, ap, ◌∙◌, subst, arith, Some, None}
+use Rattle.std.proofs.lemmas.Option.{none-some}
+use Rattle.ttx_page.specs.Page.{IsCell}
+use Rattle.sub_check.specs.Transmission.{SentFrame, Transmission}
+use Rattle.sub_check.specs.declared.packet_rules.PacketRule.{PacketRule}
+use Rattle.sub_check.specs.PacketRules.{IsFree, IsFirstFault, number_of}
+use Rattle.sub_check.specs.FrameRules.{Task, Unread, frame_at, packets_at, joined, end_frame}
+use Rattle.sub_check.specs.FrameRules.{HasHeader, Shows, IsCovered}
+use Rattle.sub_check.specs.FirstBroken.{Place, key, IsBefore, IsInGap, IsThere, Holds, HoldsBefore}
+use Rattle.sub_check.specs.FirstBroken.{HoldsEverywhere, NamesFirst, packet_fault, unread_fault}
+use Rattle.sub_check.specs.Following.{Keeps, OrderOk, GapOk, PacketsOk, EndOk, FrameOk}
+use Rattle.sub_check.specs.FirstBroken.Place.{AtOrder, AtStart, AtGapCell, AtGap, AtPacket, AtFirst}
+use Rattle.sub_check.specs.FirstBroken.Place.{AtCell, AtFrame, AtUnread, AtNothing, AtEnd}
+use Rattle.sub_check.specs.declared.fault.CheckFault.TheVariants as fault
+
+-- ---- one key before another
+
+data Split (a n b q : ℕ) (P : Type 0) : Type 0 where
+  earlier : a < n → Split a n b q P
+  sooner : a ≡ n → b < q → Split a n b q P
+  here : a ≡ n → b ≡ q → P → Split a n b q P
+
+split : (a n b q : ℕ) (s t : List ℕ) → IsBefore (0 ∷ a ∷ b ∷ s) (0 ∷ n ∷ q ∷ t)
+    → Split a n b q (IsBefore s t)
+split a n b q s t (inl l) = absurd (omega arith)
+split a n b q s t (inr (e, inl l)) = earlier l
+split a n b q s t (inr (e, inr (f, inl l))) = sooner f l
+split a n b q s t (inr (e, inr (f, inr (h, r)))) = here f h r
+
+one_before : (x y : ℕ) (xs : List ℕ) → IsBefore (x ∷ xs) (y ∷ []) → x < y
+one_before x y [] (inl l) = l
+one_before x y [] (inr r) = absurd r.1
+one_before x y (z ∷ zs) (inl l) = l
+one_before x y (z ∷ zs) (inr r) = absurd r.1
+
+one_more : {x y : ℕ} → IsBefore (1 ∷ x ∷ []) (1 ∷ y ∷ []) → x < y
+one_more (inl l) = absurd (omega arith)
+one_more (inr (e, inl l)) = l
+one_more (inr (e, inr m)) = absurd m.1
+
+-- what holds of the place's own part, up to the tail of the key
+record Here (g : Task) (frames : Transmission) (n q : ℕ) (tail : List ℕ) : Type 0 where
+  pub order : 0 ≡ q → IsBefore (62 ∷ []) tail → Keeps g frames (AtOrder n)
+  pub start : 0 ≡ q → 0 ≡ n → IsBefore (63 ∷ []) tail → Keeps g frames AtStart
+  pub gap_cell : 1 ≡ q → (f row column : ℕ) → IsBefore (f ∷ 72 ∷ row ∷ column ∷ []) tail
+      → Keeps g frames (AtGapCell n f row column)
+  pub gap : 1 ≡ q → (f : ℕ) → IsBefore (f ∷ 73 ∷ []) tail → Keeps g frames (AtGap n f)
+  pub packet : 2 ≡ q → (k : ℕ) (rule : PacketRule) → IsBefore (k ∷ number_of rule ∷ []) tail
+      → Keeps g frames (AtPacket n k rule)
+  pub first : 3 ≡ q → 0 ≡ n → IsBefore (71 ∷ []) tail → Keeps g frames AtFirst
+  pub cell : 3 ≡ q → (row column : ℕ) → IsBefore (72 ∷ row ∷ column ∷ []) tail
+      → Keeps g frames (AtCell n row column)
+  pub frame : 3 ≡ q → IsBefore (73 ∷ []) tail → Keeps g frames (AtFrame n)
+
+-- there is no gap before the first sending
+pub gap_of_none : (g : Task) (frames : Transmission) → GapOk g frames 0
+gap_of_none g frames =
+    record {
+      cells = λ f row column t. absurd (omega (arith, t.0.0));
+      covered =
+          λ f t. absurd (omega (arith, t.0));
+    }
+
+module _ (g : Task) (frames : Transmission) (n : ℕ) (past : (j : ℕ) → j < n → FrameOk g frames j)
+  where
+    upto : (q : ℕ) (tail : List ℕ) → (0 < q → OrderOk g frames n) → (1 < q → GapOk g frames n)
+        → (2 < q → PacketsOk g frames n) → (3 < q → EndOk g frames n) → Here g frames n q tail
+        → HoldsBefore g frames (0 ∷ n ∷ q ∷ tail)
+    upto q tail order gap packets end local (AtOrder i) b = elim (split i n 0 q (62 ∷ []) tail b) [
+      | earlier l ↦ (past i l).order.order
+      | sooner e l ↦ subst (λ j. Keeps g frames (AtOrder j)) (sym e) (order l).order
+      | here e f r ↦ subst (λ j. Keeps g frames (AtOrder j)) (sym e) (local.order f r)
+    ]
+    upto q tail order gap packets end local AtStart b = elim (split 0 n 0 q (63 ∷ []) tail b) [
+      | earlier l ↦ (past 0 l).order.start refl
+      | sooner e l ↦ (order l).start (sym e)
+      | here e f r ↦ local.start f e r
+    ]
+    upto q tail order gap packets end local (AtGapCell i f row column) b =
+        elim (split i n 1 q (f ∷ 72 ∷ row ∷ column ∷ []) tail b) [
+          | earlier l ↦ (past i l).gap.cells f row column
+          | sooner e l ↦ subst (λ j. Keeps g frames (AtGapCell j f row column)) (sym e)
+              ((gap l).cells f row column)
+          | here e h r ↦ subst (λ j. Keeps g frames (AtGapCell j f row column)) (sym e)
+              (local.gap_cell h f row column r)
+        ]
+    upto q tail order gap packets end local (AtGap i f) b =
+        elim (split i n 1 q (f ∷ 73 ∷ []) tail b) [
+          | earlier l ↦ (past i l).gap.covered f
+          | sooner e l ↦ subst (λ j. Keeps g frames (AtGap j f)) (sym e) ((gap l).covered f)
+          | here e h r ↦ subst (λ j. Keeps g frames (AtGap j f)) (sym e) (local.gap h f r)
+        ]
+    upto q tail order gap packets end local (AtPacket i k rule) b =
+        elim (split i n 2 q (k ∷ number_of rule ∷ []) tail b) [
+          | earlier l ↦ (past i l).packets.each k rule
+          | sooner e l ↦ subst (λ j. Keeps g frames (AtPacket j k rule)) (sym e) ((packets l).each k rule)
+          | here e h r ↦ subst (λ j. Keeps g frames (AtPacket j k rule)) (sym e) (local.packet h k rule r)
+        ]
+    upto q tail order gap packets end local AtFirst b = elim (split 0 n 3 q (71 ∷ []) tail b) [
+      | earlier l ↦ (past 0 l).end.first refl
+      | sooner e l ↦ (end l).first (sym e)
+      | here e f r ↦ local.first f e r
+    ]
+    upto q tail order gap packets end local (AtCell i row column) b =
+        elim (split i n 3 q (72 ∷ row ∷ column ∷ []) tail b) [
+          | earlier l ↦ (past i l).end.cells row column
+          | sooner e l ↦ subst (λ j. Keeps g frames (AtCell j row column)) (sym e)
+              ((end l).cells row column)
+          | here e h r ↦ subst (λ j. Keeps g frames (AtCell j row column)) (sym e)
+              (local.cell h row column r)
+        ]
+    upto q tail order gap packets end local (AtFrame i) b = elim (split i n 3 q (73 ∷ []) tail b) [
+      | earlier l ↦ (past i l).end.covered
+      | sooner e l ↦ subst (λ j. Keeps g frames (AtFrame j)) (sym e) (end l).covered
+      | here e h r ↦ subst (λ j. Keeps g frames (AtFrame j)) (sym e) (local.frame h r)
+    ]
+    upto q tail order gap packets end local AtUnread (inl l) = absurd (omega arith)
+    upto q tail order gap packets end local AtUnread (inr r) = absurd (omega arith)
+    upto q tail order gap packets end local AtNothing (inl l) = absurd (omega arith)
+    upto q tail order gap packets end local AtNothing (inr r) = absurd (omega arith)
+    upto q tail order gap packets end local AtEnd (inl l) = absurd (omega arith)
+    upto q tail order gap packets end local AtEnd (inr r) = absurd (omega arith)
+
+    -- 62
+    pub first_order : (0 < n) → n < length frames → (frame_at frames (n - 1) < frame_at frames n → ⊥)
+        → NamesFirst g frames (fault.Order n)
+    first_order some there broken = (
+      AtOrder n,
+      refl,
+      record {
+        there = (some, there);
+        broken = broken;
+        earlier =
+            upto 0 (62 ∷ []) (λ l. absurd (omega arith)) (λ l. absurd (omega arith))
+            (λ l. absurd (omega arith)) (λ l. absurd (omega arith)) (record {
+              order = λ e b. absurd (let l = one_before 62 62 [] b in omega arith);
+              start = λ e f b. absurd (let l = one_before 63 62 [] b in omega arith);
+              gap_cell = λ e. absurd (omega arith);
+              gap = λ e. absurd (omega arith);
+              packet = λ e. absurd (omega arith);
+              first = λ e. absurd (omega arith);
+              cell = λ e. absurd (omega arith);
+              frame = λ e. absurd (omega arith);
+            });
+      },
+    )
+
+    -- a frame of the gap before which the gap is fine
+    pub GapUpto : ℕ → Type 0
+    GapUpto f =
+        ((d row column : ℕ) → d < f → Keeps g frames (AtGapCell n d row column)) ×
+        ((d : ℕ) → d < f → Keeps g frames (AtGap n d))
+
+    -- 72 before a sending
+    pub first_gap_cell : (f row column : ℕ) → OrderOk g frames n
+        → ((d row column : ℕ) → d < f → Keeps g frames (AtGapCell n d row column))
+        → ((d : ℕ) → d < f → Keeps g frames (AtGap n d))
+        → IsInGap frames n f → IsCell row column → (Shows g frames n f row column → ⊥)
+        → ((r c : ℕ) → IsCell r c → r < row → Shows g frames n f r c)
+        → ((c : ℕ) → c < column → Shows g frames n f row c)
+        → NamesFirst g frames (fault.Content f row column)
+    first_gap_cell f row column order cells gaps in_gap is_cell broken rows columns = (
+      AtGapCell n f row column,
+      refl,
+      record {
+        there = (in_gap, is_cell);
+        broken = broken;
+        earlier =
+            upto 1 (f ∷ 72 ∷ row ∷ column ∷ []) (λ l. order) (λ l. absurd (omega arith))
+            (λ l. absurd (omega arith)) (λ l. absurd (omega arith)) (record {
+              order = λ e. absurd (omega arith);
+              start = λ e. absurd (omega arith);
+              gap_cell = λ e. cell_of;
+              gap = λ e. gap_of;
+              packet = λ e. absurd (omega arith);
+              first = λ e. absurd (omega arith);
+              cell = λ e. absurd (omega arith);
+              frame = λ e. absurd (omega arith);
+            });
+      },
+    )
+      where
+        cell_of : (d r c : ℕ) → IsBefore (d ∷ 72 ∷ r ∷ c ∷ []) (f ∷ 72 ∷ row ∷ column ∷ [])
+            → Keeps g frames (AtGapCell n d r c)
+        cell_of d r c (inl l) = cells d r c l
+        cell_of d r c (inr (e, inl l)) = absurd (omega arith)
+        cell_of d r c (inr (e, inr (h, inl l))) =
+            λ there. subst (λ x. Shows g frames n x r c) (sym e) (rows r c there.1 l)
+        cell_of d r c (inr (e, inr (h, inr (i, inl l)))) =
+            λ there. subst (λ x. Shows g frames n x r c) (sym e)
+            (subst (λ x. Shows g frames n f x c) (sym i) (columns c l))
+        cell_of d r c (inr (e, inr (h, inr (i, inr m)))) = absurd m.1
+
+        gap_of : (d : ℕ) → IsBefore (d ∷ 73 ∷ []) (f ∷ 72 ∷ row ∷ column ∷ [])
+            → Keeps g frames (AtGap n d)
+        gap_of d (inl l) = gaps d l
+        gap_of d (inr (e, inl l)) = absurd (omega arith)
+        gap_of d (inr (e, inr m)) = absurd (omega arith)
+
+    -- 73 before a sending
+    pub first_gap : (f : ℕ) → OrderOk g frames n
+        → ((d row column : ℕ) → d < f → Keeps g frames (AtGapCell n d row column))
+        → ((d : ℕ) → d < f → Keeps g frames (AtGap n d))
+        → IsInGap frames n f → ((r c : ℕ) → IsCell r c → Shows g frames n f r c)
+        → (IsCovered g frames n f → ⊥)
+        → NamesFirst g frames (fault.Gap f)
+    first_gap f order cells gaps in_gap shows broken = (
+      AtGap n f,
+      refl,
+      record {
+        there = in_gap;
+        broken = broken;
+        earlier =
+            upto 1 (f ∷ 73 ∷ []) (λ l. order) (λ l. absurd (omega arith)) (λ l. absurd (omega arith))
+            (λ l. absurd (omega arith)) (record {
+              order = λ e. absurd (omega arith);
+              start = λ e. absurd (omega arith);
+              gap_cell = λ e. cell_of;
+              gap = λ e. gap_of;
+              packet = λ e. absurd (omega arith);
+              first = λ e. absurd (omega arith);
+              cell = λ e. absurd (omega arith);
+              frame = λ e. absurd (omega arith);
+            });
+      },
+    )
+      where
+        cell_of : (d r c : ℕ) → IsBefore (d ∷ 72 ∷ r ∷ c ∷ []) (f ∷ 73 ∷ [])
+            → Keeps g frames (AtGapCell n d r c)
+        cell_of d r c (inl l) = cells d r c l
+        cell_of d r c (inr (e, b)) =
+            λ there. subst (λ x. Shows g frames n x r c) (sym e) (shows r c there.1)
+
+        gap_of : (d : ℕ) → IsBefore (d ∷ 73 ∷ []) (f ∷ 73 ∷ []) → Keeps g frames (AtGap n d)
+        gap_of d (inl l) = gaps d l
+        gap_of d (inr (e, inl l)) = absurd (omega arith)
+        gap_of d (inr (e, inr m)) = absurd m.1
+
+    -- 64 to 70
+    pub first_packet : (k : ℕ) (rule : PacketRule) → n < length frames → OrderOk g frames n
+        → GapOk g frames n → IsFirstFault g.watched (joined frames n) (packets_at frames n) k rule
+        → NamesFirst g frames (packet_fault rule (frame_at frames n) k)
+    first_packet k rule there order gap is = (
+      AtPacket n k rule,
+      refl,
+      record {
+        there = (there, is.exists);
+        broken = is.first.broken;
+        earlier =
+            upto 2 (k ∷ number_of rule ∷ []) (λ l. order) (λ l. gap) (λ l. absurd (omega arith))
+            (λ l. absurd (omega arith)) (record {
+              order = λ e. absurd (omega arith);
+              start = λ e. absurd (omega arith);
+              gap_cell = λ e. absurd (omega arith);
+              gap = λ e. absurd (omega arith);
+              packet = λ e. packet_of;
+              first = λ e. absurd (omega arith);
+              cell = λ e. absurd (omega arith);
+              frame = λ e. absurd (omega arith);
+            });
+      },
+    )
+      where
+        packet_of : (j : ℕ) (f : PacketRule)
+            → IsBefore (j ∷ number_of f ∷ []) (k ∷ number_of rule ∷ [])
+            → Keeps g frames (AtPacket n j f)
+        packet_of j f (inl l) = λ there. is.clean j l f
+        packet_of j f (inr (e, b)) =
+            λ there. subst
+            (λ x. IsFree f g.watched (joined frames n ++ take x (packets_at frames n))
+            (get_or (packets_at frames n) x [])) (sym e)
+            (is.first.earlier f (one_before (number_of f) (number_of rule) [] b))
+
+    -- 72 at the end of a sending
+    pub first_cell : (row column : ℕ) → n < length frames → OrderOk g frames n → GapOk g frames n
+        → PacketsOk g frames n → (n ≡ 0 → HasHeader g frames 0)
+        → IsCell row column → (Shows g frames (n + 1) (frame_at frames n) row column → ⊥)
+        → ((r c : ℕ) → IsCell r c → r < row → Shows g frames (n + 1) (frame_at frames n) r c)
+        → ((c : ℕ) → c < column → Shows g frames (n + 1) (frame_at frames n) row c)
+        → NamesFirst g frames (fault.Content (frame_at frames n) row column)
+    first_cell row column there order gap packets head is_cell broken rows columns = (
+      AtCell n row column,
+      refl,
+      record {
+        there = (there, is_cell);
+        broken = broken;
+        earlier =
+            upto 3 (72 ∷ row ∷ column ∷ []) (λ l. order) (λ l. gap) (λ l. packets)
+            (λ l. absurd (omega arith)) (record {
+              order = λ e. absurd (omega arith);
+              start = λ e. absurd (omega arith);
+              gap_cell = λ e. absurd (omega arith);
+              gap = λ e. absurd (omega arith);
+              packet = λ e. absurd (omega arith);
+              first = λ e f b t. head (sym f);
+              cell = λ e. cell_of;
+              frame = λ e. frame_of;
+            });
+      },
+    )
+      where
+        cell_of : (r c : ℕ) → IsBefore (72 ∷ r ∷ c ∷ []) (72 ∷ row ∷ column ∷ [])
+            → Keeps g frames (AtCell n r c)
+        cell_of r c (inl l) = absurd (omega arith)
+        cell_of r c (inr (e, inl l)) = λ t. rows r c t.1 l
+        cell_of r c (inr (e, inr (i, inl l))) =
+            λ t. subst (λ x. Shows g frames (n + 1) (frame_at frames n) x c) (sym i) (columns c l)
+        cell_of r c (inr (e, inr (i, inr m))) = absurd m.1
+
+        frame_of : IsBefore (73 ∷ []) (72 ∷ row ∷ column ∷ []) → Keeps g frames (AtFrame n)
+        frame_of (inl l) = absurd (omega arith)
+        frame_of (inr m) = absurd (omega arith)
+
+    -- 73 at the end of a sending
+    pub first_frame : n < length frames → OrderOk g frames n → GapOk g frames n
+        → PacketsOk g frames n → (n ≡ 0 → HasHeader g frames 0)
+        → ((r c : ℕ) → IsCell r c → Shows g frames (n + 1) (frame_at frames n) r c)
+        → (IsCovered g frames (n + 1) (frame_at frames n) → ⊥)
+        → NamesFirst g frames (fault.Gap (frame_at frames n))
+    first_frame there order gap packets head shows broken = (
+      AtFrame n,
+      refl,
+      record {
+        there = there;
+        broken = broken;
+        earlier =
+            upto 3 (73 ∷ []) (λ l. order) (λ l. gap) (λ l. packets) (λ l. absurd (omega arith))
+            (record {
+              order = λ e. absurd (omega arith);
+              start = λ e. absurd (omega arith);
+              gap_cell = λ e. absurd (omega arith);
+              gap = λ e. absurd (omega arith);
+              packet = λ e. absurd (omega arith);
+              first = λ e f b t. head (sym f);
+              cell = λ e r c b t. shows r c t.1;
+              frame = λ e b. absurd (let l = one_before 73 73 [] b in omega arith);
+            });
+      },
+    )
+
+-- 63
+pub first_early : (g : Task) (frames : Transmission) → 0 < length frames
+    → (Holds g frames AtStart → ⊥) → NamesFirst g frames (fault.Early (frame_at frames 0))
+first_early g frames some broken = (
+  AtStart,
+  refl,
+  record {
+    there = some;
+    broken = broken;
+    earlier =
+        upto g frames 0 (λ j l. absurd (omega arith)) 0 (63 ∷ []) (λ l. absurd (omega arith))
+        (λ l. absurd (omega arith)) (λ l. absurd (omega arith)) (λ l. absurd (omega arith))
+        (record {
+          order = λ e b t. absurd (omega (arith, t.0));
+          start = λ e f b. absurd (let l = one_before 63 63 [] b in omega arith);
+          gap_cell = λ e. absurd (omega arith);
+          gap = λ e. absurd (omega arith);
+          packet = λ e. absurd (omega arith);
+          first = λ e. absurd (omega arith);
+          cell = λ e. absurd (omega arith);
+          frame = λ e. absurd (omega arith);
+        });
+  },
+)
+
+-- 71
+pub first_header_missing : (g : Task) (frames : Transmission) → 0 < length frames
+    → OrderOk g frames 0 → PacketsOk g frames 0 → (HasHeader g frames 0 → ⊥)
+    → NamesFirst g frames (fault.NoFirstHeader (frame_at frames 0))
+first_header_missing g frames some order packets broken = (
+  AtFirst,
+  refl,
+  record {
+    there = some;
+    broken = broken;
+    earlier =
+        upto g frames 0 (λ j l. absurd (omega arith)) 3 (71 ∷ []) (λ l. order)
+        (λ l. gap_of_none g frames) (λ l. packets) (λ l. absurd (omega arith)) (record {
+          order = λ e. absurd (omega arith);
+          start = λ e. absurd (omega arith);
+          gap_cell = λ e. absurd (omega arith);
+          gap = λ e. absurd (omega arith);
+          packet = λ e. absurd (omega arith);
+          first = λ e f b. absurd (let l = one_before 71 71 [] b in omega arith);
+          cell = λ e r c b. absurd (later r c b);
+          frame = λ e b. absurd (let l = one_before 73 71 [] b in omega arith);
+        });
+  },
+)
+  where
+    later : (r c : ℕ) → IsBefore (72 ∷ r ∷ c ∷ []) (71 ∷ []) → ⊥
+    later r c b = let l = one_before 72 71 (r ∷ c ∷ []) b in omega arith
+
+-- 60
+pub first_nothing : (g : Task) (frames : Transmission) → g.unread ≡ None → length frames ≡ 0
+    → NamesFirst g frames fault.Empty
+first_nothing g frames ended none =
+    (AtNothing, refl, record { there = tt; broken = λ l. omega arith; earlier = nowhere })
+  where
+    nowhere : HoldsBefore g frames (1 ∷ 60 ∷ [])
+    nowhere (AtOrder i) b t = absurd (omega (arith, t.1))
+    nowhere AtStart b t = absurd (omega (arith, t))
+    nowhere (AtGapCell i f r c) b t = absurd (omega (arith, t.0.1))
+    nowhere (AtGap i f) b t = absurd (omega (arith, t.1))
+    nowhere (AtPacket i k f) b t = absurd (omega (arith, t.0))
+    nowhere AtFirst b t = absurd (omega (arith, t))
+    nowhere (AtCell i r c) b t = absurd (omega (arith, t.0))
+    nowhere (AtFrame i) b t = absurd (omega (arith, t))
+    nowhere AtUnread b t = ended
+    nowhere AtNothing (inl l) t = absurd (omega (arith, l))
+    nowhere AtNothing (inr (e, inl l)) t = absurd (omega (arith, l))
+    nowhere AtNothing (inr (e, inr m)) t = absurd m.1
+    nowhere AtEnd b t = absurd (omega (arith, t))
+
+-- 30 to 44, and 61
+pub first_unread : (g : Task) (frames : Transmission)
+    → ((j : ℕ) → j < length frames → FrameOk g frames j) → (u : Unread) → g.unread ≡ Some u
+    → NamesFirst g frames (unread_fault (length frames) (Some u))
+first_unread g frames past u is = (
+  AtUnread,
+  ap (unread_fault (length frames)) (sym is),
+  record
+      { there = tt; broken = λ none. none-some u (sym none ∙ is); earlier = earlier_of },
+)
+  where
+    earlier_of : HoldsBefore g frames (1 ∷ 30 ∷ [])
+    earlier_of (AtOrder i) b t = (past i t.1).order.order t
+    earlier_of AtStart b t = (past 0 t).order.start refl t
+    earlier_of (AtGapCell i f r c) b t = (past i t.0.1).gap.cells f r c t
+    earlier_of (AtGap i f) b t = (past i t.1).gap.covered f t
+    earlier_of (AtPacket i k f) b t = (past i t.0).packets.each k f t
+    earlier_of AtFirst b t = (past 0 t).end.first refl t
+    earlier_of (AtCell i r c) b t = (past i t.0).end.cells r c t
+    earlier_of (AtFrame i) b t = (past i t).end.covered t
+    earlier_of AtUnread b t = absurd (let l = one_more b in omega arith)
+    earlier_of AtNothing b t = absurd (let l = one_more b in omega arith)
+    earlier_of AtEnd b t = absurd (let l = one_more b in omega arith)
+
+-- all places hold where all frames are fine
+pub holds_but_end : (g : Task) (frames : Transmission) → g.unread ≡ None
+    → ((j : ℕ) → j < length frames → FrameOk g frames j) → 0 < length frames → Keeps g frames AtEnd
+    → HoldsEverywhere g frames
+holds_but_end g frames ended past some end (AtOrder i) t = (past i t.1).order.order t
+holds_but_end g frames ended past some end AtStart t = (past 0 t).order.start refl t
+holds_but_end g frames ended past some end (AtGapCell i f r c) t = (past i t.0.1).gap.cells f r c t
+holds_but_end g frames ended past some end (AtGap i f) t = (past i t.1).gap.covered f t
+holds_but_end g frames ended past some end (AtPacket i k f) t = (past i t.0).packets.each k f t
+holds_but_end g frames ended past some end AtFirst t = (past 0 t).end.first refl t
+holds_but_end g frames ended past some end (AtCell i r c) t = (past i t.0).end.cells r c t
+holds_but_end g frames ended past some end (AtFrame i) t = (past i t).end.covered t
+holds_but_end g frames ended past some end AtUnread t = ended
+holds_but_end g frames ended past some end AtNothing t = some
+holds_but_end g frames ended past some end AtEnd t = end t
+
+-- 74
+pub first_late : (g : Task) (frames : Transmission) → g.unread ≡ None
+    → ((j : ℕ) → j < length frames → FrameOk g frames j) → 0 < length frames
+    → (Holds g frames AtEnd → ⊥) → NamesFirst g frames (fault.Late (end_frame frames))
+first_late g frames ended past some broken =
+    (AtEnd, refl, record { there = some; broken = broken; earlier = earlier_of })
+  where
+    earlier_of : HoldsBefore g frames (1 ∷ 74 ∷ [])
+    earlier_of (AtOrder i) b t = (past i t.1).order.order t
+    earlier_of AtStart b t = (past 0 t).order.start refl t
+    earlier_of (AtGapCell i f r c) b t = (past i t.0.1).gap.cells f r c t
+    earlier_of (AtGap i f) b t = (past i t.1).gap.covered f t
+    earlier_of (AtPacket i k f) b t = (past i t.0).packets.each k f t
+    earlier_of AtFirst b t = (past 0 t).end.first refl t
+    earlier_of (AtCell i r c) b t = (past i t.0).end.cells r c t
+    earlier_of (AtFrame i) b t = (past i t).end.covered t
+    earlier_of AtUnread b t = ended
+    earlier_of AtNothing b t = some
+    earlier_of AtEnd (inl l) t = absurd (omega arith)
+    earlier_of AtEnd (inr (e, inl l)) t = absurd (omega arith)
+    earlier_of AtEnd (inr (e, inr m)) t = absurd m.1

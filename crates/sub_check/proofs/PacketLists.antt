@@ -1,0 +1,168 @@
+-- Facts of each packet of a list.
+use Rattle.std.proofs.Common.{◌≡◌, ℕ, Bool, true, false, ◌||◌, List, [], ◌∷◌, ◌++◌, refl, sym, ap}
+use Rattle.std.proofs.Common.{◌∙◌, subst, arith, inl, inr, eqb-true, cond, find, filter, nat_lt}
+use Rattle.std.proofs.Common.{length, take, get_or, ◌+◌, ◌<◌, Some, None}
+use Rattle.std.specs.List.{AllByRecursion, list_any}
+use Rattle.std.proofs.lemmas.Bool.{or_parts, eq-eqb, both_ways, cond-false, cases_eq, lt-ltb}
+use Rattle.std.proofs.lemmas.List.{take_more, get_or-map, length-map}
+use Rattle.ttx_packet.specs.PageId.{PageIdValue}
+use Rattle.ttx_page.specs.Span.{holds_header}
+use Rattle.ttx_pes.specs.DataUnit.{UnitValue}
+use Rattle.sub_check.specs.PacketRules.{IsClean, AreClean, header_count, packets_of_units}
+use Rattle.sub_check.specs.declared.packet_rules.Watched.{Watched}
+use Rattle.ttx_page.specs.declared.packet_kind.PacketKind.{PacketKind}
+use Rattle.ttx_page.specs.declared.packet_kind.PacketKind.TheVariants.{ThisPage, EndsPage, Row}
+use Rattle.ttx_page.specs.declared.packet_kind.PacketKind.TheVariants.{Other}
+use Rattle.ttx_page.specs.PacketKind.{is_row, is_this_page, kind}
+
+module _ {X : Type 0} where
+  pub Each-push : (P : X → Type 0) (xs : List X) (x : X) → AllByRecursion P xs → P x
+      → AllByRecursion P (xs ++ x ∷ [])
+  Each-push P [] x h p = (p, tt)
+  Each-push P (y ∷ ys) x h p = (h.0, Each-push P ys x h.1 p)
+
+  pub Each-map : (P Q : X → Type 0) → ((x : X) → P x → Q x) → (xs : List X) → AllByRecursion P xs
+      → AllByRecursion Q xs
+  Each-map P Q f [] h = tt
+  Each-map P Q f (y ∷ ys) h = (f y h.0, Each-map P Q f ys h.1)
+
+  pub Each-join : (P Q S : X → Type 0) → ((x : X) → P x → Q x → S x) → (xs : List X)
+      → AllByRecursion P xs → AllByRecursion Q xs → AllByRecursion S xs
+  Each-join P Q S f [] h k = tt
+  Each-join P Q S f (y ∷ ys) h k = (f y h.0 k.0, Each-join P Q S f ys h.1 k.1)
+
+  pub Each-none : (f : X → Bool) (xs : List X) → list_any f xs ≡ false
+      → AllByRecursion (λ x. f x ≡ false) xs
+  Each-none f [] e = tt
+  Each-none f (y ∷ ys) e = let p = or_parts (f y) (list_any f ys) e in (p.0, Each-none f ys p.1)
+
+  -- an element that passes the test, with what holds of each
+  pub Each-pick : (f : X → Bool) (P : X → Type 0) (xs : List X) → list_any f xs ≡ true
+      → AllByRecursion P xs → (x : X) × (f x ≡ true) × P x
+  Each-pick f P [] e h = cc
+  Each-pick f P (y ∷ ys) e h = go (f y) refl e (λ d. Each-pick f P ys d h.1)
+    where
+      go : (b : Bool) → f y ≡ b → (b || list_any f ys) ≡ true
+          → (list_any f ys ≡ true → (x : X) × (f x ≡ true) × P x) → (x : X) × (f x ≡ true) × P x
+      go true p d ih = (y, p, h.0)
+      go false p d ih = ih d
+
+  -- the first element that passes the test, with what holds of each
+  pub Each-find : (f : X → Bool) (P : X → Type 0) (xs : List X) → list_any f xs ≡ true
+      → AllByRecursion P xs → (x : X) × (find f xs ≡ Some x) × (f x ≡ true) × P x
+  Each-find f P [] e h = cc
+  Each-find f P (y ∷ ys) e h = go (f y) refl e (λ d. Each-find f P ys d h.1)
+    where
+      go : (b : Bool) → f y ≡ b → (b || list_any f ys) ≡ true
+          → (list_any f ys ≡ true → (x : X) × (find f ys ≡ Some x) × (f x ≡ true) × P x)
+          → (x : X) × (cond b (Some y) (find f ys) ≡ Some x) × (f x ≡ true) × P x
+      go true p d ih = (y, refl, p, h.0)
+      go false p d ih = ih d
+
+  pub find_none : (f : X → Bool) (xs : List X) → list_any f xs ≡ false → find f xs ≡ None
+  find_none f [] e = refl
+  find_none f (y ∷ ys) e = let p = or_parts (f y) (list_any f ys) e in
+      cond-false (f y) (Some y) (find f ys) p.0 ∙ find_none f ys p.1
+
+pub row_kind : (row : ℕ) (k : PacketKind) → is_row row k ≡ true → k ≡ Row row
+row_kind row (ThisPage h) e = cc
+row_kind row EndsPage e = cc
+row_kind row (Row y) e = ap Row (eqb-true y row e)
+row_kind row Other e = cc
+
+pub no_row : (row : ℕ) (k : PacketKind) → is_row row k ≡ false → k ≡ Row row → ⊥
+no_row row k e s = both_ways (is_row row k) e (ap (is_row row) s ∙ eq-eqb row row refl)
+
+-- ---- the packets of units
+
+-- The packet of a unit.
+pub unit_at :
+    (units : List UnitValue) (k : ℕ) (u : UnitValue)
+    → k < length units
+    → u ≡ get_or units k u
+    → get_or (packets_of_units units) k [] ≡ u.packet
+unit_at units k u l e =
+    get_or-map (λ (v : UnitValue). v.packet) units k u [] l
+    ∙ ap (λ (v : UnitValue). v.packet) (sym e)
+
+-- One unit more.
+pub units_more :
+    (units : List UnitValue) (k : ℕ) (u : UnitValue)
+    → k < length units
+    → u ≡ get_or units k u
+    → take (k + 1) (packets_of_units units) ≡ take k (packets_of_units units) ++ u.packet ∷ []
+units_more units k u l e =
+    let within : k < length (packets_of_units units) =
+    omega (arith, length-map units (λ (v : UnitValue). v.packet)) in
+    take_more (packets_of_units units) k [] within
+    ∙ ap (λ x. take k (packets_of_units units) ++ x ∷ []) (unit_at units k u l e)
+
+-- The headers of the page, one packet on.
+pub header_count-push :
+    (page : PageIdValue) (ps : List (List ℕ)) (p : List ℕ)
+    → header_count page (ps ++ p ∷ []) ≡ header_count page ps + cond (is_this_page (kind page p)) 1
+    0
+header_count-push page [] p = last (is_this_page (kind page p))
+  where
+    last : (b : Bool) → length (cond b (p ∷ []) []) ≡ 0 + cond b 1 0
+    last true = refl
+    last false = refl
+header_count-push page (q ∷ qs) p =
+    step (is_this_page (kind page q)) (header_count-push page qs p)
+  where
+    step :
+        (b : Bool)
+        → header_count page (qs ++ p ∷ [])
+        ≡ header_count page qs + cond (is_this_page (kind page p)) 1 0
+        → length (cond b (q ∷ filter (λ x. is_this_page (kind page x)) (qs ++ p ∷ []))
+        (filter (λ x. is_this_page (kind page x)) (qs ++ p ∷ [])))
+        ≡ length (cond b (q ∷ filter (λ x. is_this_page (kind page x)) qs)
+        (filter (λ x. is_this_page (kind page x)) qs)) + cond (is_this_page (kind page p)) 1 0
+    step true h = omega (arith, h)
+    step false h = h
+
+-- Clean packets, one more.
+pub AreClean-more :
+    (w : Watched) (heard ps : List (List ℕ)) (k : ℕ)
+    → AreClean w heard ps k
+    → IsClean w (heard ++ take k ps) (get_or ps k [])
+    → AreClean w heard ps (k + 1)
+AreClean-more w heard ps k before here j l = elim (cases_eq j k) [
+  | inl e ↦ subst (λ n. IsClean w (heard ++ take n ps) (get_or ps n [])) (sym e) here
+  | inr other ↦ before j (omega arith)
+]
+
+-- There is a header of the page exactly where their count is not 0.
+pub holds-count :
+    (page : PageIdValue) (ps : List (List ℕ))
+    → holds_header (kind page) ps ≡ nat_lt 0 (header_count page ps)
+holds-count page [] = refl
+holds-count page (q ∷ qs) = go (is_this_page (kind page q)) (holds-count page qs)
+  where
+    go :
+        (b : Bool)
+        → holds_header (kind page) qs ≡ nat_lt 0 (header_count page qs)
+        → (b || holds_header (kind page) qs)
+        ≡ nat_lt 0
+        (length (cond b (q ∷ filter (λ x. is_this_page (kind page x)) qs)
+        (filter (λ x. is_this_page (kind page x)) qs)))
+    go true h = sym (lt-ltb 0 _ (omega arith))
+    go false h = h
+
+-- The headers of the page in two lists, joined.
+pub header_count-append :
+    (page : PageIdValue) (ps qs : List (List ℕ))
+    → header_count page (ps ++ qs) ≡ header_count page ps + header_count page qs
+header_count-append page [] qs = omega arith
+header_count-append page (p ∷ ps) qs =
+    go (is_this_page (kind page p)) (header_count-append page ps qs)
+  where
+    go :
+        (b : Bool)
+        → header_count page (ps ++ qs) ≡ header_count page ps + header_count page qs
+        → length (cond b (p ∷ filter (λ x. is_this_page (kind page x)) (ps ++ qs))
+        (filter (λ x. is_this_page (kind page x)) (ps ++ qs)))
+        ≡ length (cond b (p ∷ filter (λ x. is_this_page (kind page x)) ps)
+        (filter (λ x. is_this_page (kind page x)) ps)) + header_count page qs
+    go true h = omega (arith, h)
+    go false h = h

@@ -1,0 +1,252 @@
+-- The flaws of a packet that comes after others, by what is kept of them.
+use Rattle.std.proofs.Common.{◌≡◌, ℕ, ◌<◌, ◌≤◌, ◌-◌, Bool, true, false, cond, ◌&&◌, ◌==◌, nat_le}
+use Rattle.std.proofs.Common.{List, [], Option, Some, None, option_map, IsTrue, get_or, refl, sym}
+use Rattle.std.proofs.Common.{ap, ◌∙◌, ap₂, arith, ne_eqb, eqb-true}
+use Rattle.std.specs.List.{AllByRecursion}
+use Rattle.std.proofs.lemmas.Bool.{and_parts, and_right, lt-leb, true≢false}
+use Rattle.std.proofs.lemmas.Option.{none-some, same_Some}
+use Rattle.ttx_packet.specs.PacketAddress.{HasExactAddress, IsPacket, address, PacketAddress}
+use Rattle.ttx_packet.specs.RowPacket.{HasOddText}
+use Rattle.ttx_packet.specs.PageHeader.{header, c11}
+use Rattle.sub_check.specs.PacketRules.{codes_of, first_header, IsFree, IsClean, IsFirstFlaw}
+use Rattle.sub_check.specs.PacketRules.{number_of}
+use Rattle.ttx_packet.specs.declared.header.Header.{Header}
+use Rattle.sub_check.proofs.CodesLemmas.{same_packet}
+use Rattle.sub_check.specs.declared.packet_rules.Watched.{Watched}
+use Rattle.ttx_page.specs.declared.packet_kind.PacketKind.{PacketKind}
+use Rattle.ttx_page.specs.declared.packet_kind.PacketKind.TheVariants.{ThisPage, EndsPage, Row}
+use Rattle.ttx_page.specs.declared.packet_kind.PacketKind.TheVariants.{Other}
+use Rattle.ttx_page.specs.PacketKind.{kind, kind_at, kind_of_header, is_row}
+use Rattle.ttx_page.specs.Span.{is_open_after}
+use Rattle.sub_check.specs.declared.packet_rules.PacketRule.{PacketRule}
+use Rattle.sub_check.specs.Good.{IsEnhancement}
+use Rattle.sub_check.specs.Listening.{HoldsRows, IsSound}
+use Rattle.sub_check.proofs.PacketLists.{Each-map, Each-join, Each-none, Each-pick, row_kind}
+use Rattle.sub_check.proofs.PacketLists.{no_row}
+use Rattle.sub_check.specs.declared.packet_rules.PacketRule.TheVariants as rule
+
+-- a row has an address of the magazine with its number
+pub address-row : (w : Watched) (p : List ℕ) (row : ℕ) → kind w.page p ≡ Row row
+    → address p ≡ Some (record { magazine = w.page.magazine; packet_number = row })
+unfolding kind
+address-row w p row e = go (address p) refl e
+  where
+    head : (b : Bool) (m : ℕ) (o : Option Header) → kind_of_header w.page m o ≡ Row row → ⊥
+    head b m None e = cc
+    head b m (Some h) e = deep (m == w.page.magazine) (h.page == w.page.page) (c11 h) e
+      where
+        deep : (b c d : Bool)
+            → cond b (cond c (ThisPage h) EndsPage) (cond d EndsPage Other) ≡ Row row → ⊥
+        deep true true d e = cc
+        deep true false d e = cc
+        deep false c true e = cc
+        deep false c false e = cc
+
+    go : (o : Option PacketAddress) → address p ≡ o → kind_at w.page o (header p) ≡ Row row
+        → address p ≡ Some (record { magazine = w.page.magazine; packet_number = row })
+    go None q e = cc
+    go (Some a) q e = zero_or (a.packet_number == 0) e
+      where
+        row_or : (b : Bool) → ((a.magazine == w.page.magazine) && nat_le a.packet_number 24) ≡ b
+            → cond b (Row a.packet_number) Other ≡ Row row
+            → address p ≡ Some (record { magazine = w.page.magazine; packet_number = row })
+        row_or true t e =
+            let parts = and_parts (a.magazine == w.page.magazine) (nat_le a.packet_number 24) t in
+            let m : a.magazine ≡ w.page.magazine = eqb-true a.magazine w.page.magazine parts.0 in
+            let n : a.packet_number ≡ row = cc in
+            let f : ℕ → ℕ → PacketAddress = λ x y. record { magazine = x; packet_number = y } in
+            q ∙ ap Some (ap₂ f m n)
+        row_or false t e = cc
+
+        zero_or : (b : Bool)
+            → cond b (kind_of_header w.page a.magazine (header p))
+            (cond ((a.magazine == w.page.magazine) && nat_le a.packet_number 24)
+            (Row a.packet_number) Other) ≡ Row row
+            → address p ≡ Some
+            (record { magazine = w.page.magazine; packet_number = row })
+        zero_or true e = absurd (head true a.magazine (header p) e)
+        zero_or false e =
+            row_or ((a.magazine == w.page.magazine) && nat_le a.packet_number 24) refl e
+
+-- a packet 25 to 28 is neither a header nor a row
+pub kind-enhancement : (w : Watched) (p : List ℕ) → IsEnhancement w.page p → kind w.page p ≡ Other
+unfolding kind
+kind-enhancement w p (a, e, m, low, high) =
+    let not_header : (a.packet_number == 0) ≡ false =
+    ne_eqb a.packet_number 0 (λ z. absurd (omega arith)) in
+    let not_row : nat_le a.packet_number 24 ≡ false = lt-leb a.packet_number 24 (omega arith) in
+    rw (
+      e,
+      not_header,
+      and_right (a.magazine == w.page.magazine) (nat_le a.packet_number 24)
+          not_row,
+    ) refl
+
+module _ (w : Watched) (before : List (List ℕ)) (p : List ℕ) where
+  pub clean_from : IsFree rule.Address w before p → IsFree rule.HeaderCode w before p
+      → IsFree rule.Mode w before p → IsFree rule.Control w before p
+      → IsFree rule.Parity w before p → IsFree rule.RowChanged w before p
+      → IsFree rule.Enhancement w before p → IsClean w before p
+  clean_from a h m c o r e rule.Address = a
+  clean_from a h m c o r e rule.HeaderCode = h
+  clean_from a h m c o r e rule.Mode = m
+  clean_from a h m c o r e rule.Control = c
+  clean_from a h m c o r e rule.Parity = o
+  clean_from a h m c o r e rule.RowChanged = r
+  clean_from a h m c o r e rule.Enhancement = e
+
+  -- by what the packet is
+  pub control_free : (k : PacketKind) → kind w.page p ≡ k → ((h : Header) → k ≡ ThisPage h → ⊥)
+      → IsFree rule.Control w before p
+  control_free k e other h f = absurd (other h (sym e ∙ f))
+
+  pub parity_free : (k : PacketKind) → kind w.page p ≡ k → ((row : ℕ) → k ≡ Row row → ⊥)
+      → IsFree rule.Parity w before p
+  parity_free k e other opened row f = absurd (other row (sym e ∙ f))
+
+  pub changed_free : (k : PacketKind) → kind w.page p ≡ k → ((row : ℕ) → k ≡ Row row → ⊥)
+      → IsFree rule.RowChanged w before p
+  changed_free k e other opened row f = absurd (other row (sym e ∙ f))
+
+  pub enhancement_free : (k : PacketKind) → kind w.page p ≡ k → (k ≡ Other → ⊥)
+      → IsFree rule.Enhancement w before p
+  enhancement_free k e other opened is = other (sym e ∙ kind-enhancement w p is)
+
+  -- while the page is not open
+  pub shut : (b : Bool) → is_open_after (kind w.page) before ≡ b → b ≡ false
+      → IsTrue (is_open_after (kind w.page) before) → ⊥
+  shut b e f g = true≢false (sym g ∙ e ∙ f)
+
+-- the row that is held equals the packet's where each packet of the row does
+module _ (w : Watched) (packets : List (List ℕ)) (sent : List Bool) (page : List (List ℕ))
+    (h : HoldsRows w packets sent page) (row : ℕ) (low : 1 ≤ row) (high : row ≤ 24) (p : List ℕ)
+    (is_row_of : kind w.page p ≡ Row row) where
+  pub rows_unsent : get_or sent (row - 1) false ≡ false
+      → AllByRecursion (λ q. kind w.page q ≡ Row row → q ≡ p) packets
+  rows_unsent e =
+      Each-map (λ q. is_row row (kind w.page q) ≡ false) (λ q. kind w.page q ≡ Row row → q ≡ p)
+      (λ q other s. absurd (no_row row (kind w.page q) other s)) packets
+      (Each-none (λ q. is_row row (kind w.page q)) packets (sym (h.marks row low high) ∙ e))
+
+  pub rows_equal : IsPacket p → HasExactAddress p → HasOddText p
+      → get_or page (row - 1) [] ≡ codes_of p
+      → AllByRecursion (λ q. kind w.page q ≡ Row row → q ≡ p) packets
+  rows_equal whole exact odd e =
+      Each-join (IsSound w) (λ q. kind w.page q ≡ Row row → codes_of q ≡ get_or page (row - 1) [])
+      (λ q. kind w.page q ≡ Row row → q ≡ p)
+      (λ q s c k. same_packet q p (s.whole row k) whole (s.exact row k) exact
+      (address-row w q row k ∙ sym (address-row w p row is_row_of)) (s.odd row k) odd
+      (c k ∙ e)) packets h.sound (h.same row low high)
+
+  pub rows_other : get_or sent (row - 1) false ≡ true → (get_or page (row - 1) [] ≡ codes_of p → ⊥)
+      → AllByRecursion (λ q. kind w.page q ≡ Row row → q ≡ p) packets → ⊥
+  rows_other e other same =
+      let q = Each-pick (λ q. is_row row (kind w.page q))
+      (λ q. (kind w.page q ≡ Row row → codes_of q ≡ get_or page (row - 1) []) ×
+      (kind w.page q ≡ Row row → q ≡ p)) packets (sym (h.marks row low high) ∙ e)
+      (Each-join (λ q. kind w.page q ≡ Row row → codes_of q ≡ get_or page (row - 1) [])
+      (λ q. kind w.page q ≡ Row row → q ≡ p)
+      (λ q. (kind w.page q ≡ Row row → codes_of q ≡ get_or page (row - 1) []) ×
+      (kind w.page q ≡ Row row → q ≡ p)) (λ q a b. (a, b)) packets
+      (h.same row low high) same) in
+      let k = row_kind row (kind w.page q.0) q.1 in
+      other (sym (q.2.0 k) ∙ ap codes_of (q.2.1 k))
+
+-- which rule is the first
+module _ (w : Watched) (before : List (List ℕ)) (p : List ℕ) where
+  pub first_mode : IsFree rule.Address w before p → IsFree rule.HeaderCode w before p
+      → (IsFree rule.Mode w before p → ⊥) → IsFirstFlaw w before p rule.Mode
+  first_mode a h broken = record { broken = broken; earlier = earlier }
+    where
+      earlier : (g : PacketRule) → number_of g < 66 → IsFree g w before p
+      earlier rule.Address l = a
+      earlier rule.HeaderCode l = h
+      earlier rule.Mode l = absurd (omega arith)
+      earlier rule.Control l = absurd (omega arith)
+      earlier rule.Parity l = absurd (omega arith)
+      earlier rule.RowChanged l = absurd (omega arith)
+      earlier rule.Enhancement l = absurd (omega arith)
+
+  pub first_control : IsFree rule.Address w before p → IsFree rule.HeaderCode w before p
+      → IsFree rule.Mode w before p → (IsFree rule.Control w before p → ⊥)
+      → IsFirstFlaw w before p rule.Control
+  first_control a h m broken = record { broken = broken; earlier = earlier }
+    where
+      earlier : (g : PacketRule) → number_of g < 67 → IsFree g w before p
+      earlier rule.Address l = a
+      earlier rule.HeaderCode l = h
+      earlier rule.Mode l = m
+      earlier rule.Control l = absurd (omega arith)
+      earlier rule.Parity l = absurd (omega arith)
+      earlier rule.RowChanged l = absurd (omega arith)
+      earlier rule.Enhancement l = absurd (omega arith)
+
+  -- the later flaws, where the first four are free: given all but the broken one, which is then
+  -- the first
+  pub first_of_clean : (f : PacketRule) → (IsFree f w before p → ⊥)
+      → ((g : PacketRule) → number_of g < number_of f → IsFree g w before p)
+      → IsFirstFlaw w before p f
+  first_of_clean f broken earlier = record { broken = broken; earlier = earlier }
+
+  pub first_row : IsFree rule.Address w before p → IsFree rule.HeaderCode w before p
+      → IsFree rule.Mode w before p → IsFree rule.Control w before p
+      → (IsFree rule.Parity w before p → ⊥) → IsFirstFlaw w before p rule.Parity
+  first_row a h m c broken = record { broken = broken; earlier = earlier }
+    where
+      earlier : (g : PacketRule) → number_of g < 68 → IsFree g w before p
+      earlier rule.Address l = a
+      earlier rule.HeaderCode l = h
+      earlier rule.Mode l = m
+      earlier rule.Control l = c
+      earlier rule.Parity l = absurd (omega arith)
+      earlier rule.RowChanged l = absurd (omega arith)
+      earlier rule.Enhancement l = absurd (omega arith)
+
+  pub first_changed : IsFree rule.Address w before p → IsFree rule.HeaderCode w before p
+      → IsFree rule.Mode w before p → IsFree rule.Control w before p
+      → IsFree rule.Parity w before p → (IsFree rule.RowChanged w before p → ⊥)
+      → IsFirstFlaw w before p rule.RowChanged
+  first_changed a h m c o broken = record { broken = broken; earlier = earlier }
+    where
+      earlier : (g : PacketRule) → number_of g < 69 → IsFree g w before p
+      earlier rule.Address l = a
+      earlier rule.HeaderCode l = h
+      earlier rule.Mode l = m
+      earlier rule.Control l = c
+      earlier rule.Parity l = o
+      earlier rule.RowChanged l = absurd (omega arith)
+      earlier rule.Enhancement l = absurd (omega arith)
+
+  pub first_enhancement : IsFree rule.Address w before p → IsFree rule.HeaderCode w before p
+      → IsFree rule.Mode w before p → IsFree rule.Control w before p
+      → IsFree rule.Parity w before p → IsFree rule.RowChanged w before p
+      → (IsFree rule.Enhancement w before p → ⊥) → IsFirstFlaw w before p rule.Enhancement
+  first_enhancement a h m c o r broken = record { broken = broken; earlier = earlier }
+    where
+      earlier : (g : PacketRule) → number_of g < 70 → IsFree g w before p
+      earlier rule.Address l = a
+      earlier rule.HeaderCode l = h
+      earlier rule.Mode l = m
+      earlier rule.Control l = c
+      earlier rule.Parity l = o
+      earlier rule.RowChanged l = r
+      earlier rule.Enhancement l = absurd (omega arith)
+
+-- C11 of the first header, as it is kept
+pub mode_free : (serial : Option Bool) (w : Watched) (before : List (List ℕ)) (p : List ℕ)
+    → serial ≡ option_map (λ (h : Header). (c11 h)) (first_header before)
+    → ((h : Header) (first : Bool) → header p ≡ Some h → serial ≡ Some first → (c11 h) ≡ first)
+    → IsFree rule.Mode w before p
+mode_free serial w before p is h k first e f =
+    h k (c11 first) e (is ∙ ap (λ o. option_map (λ (x : Header). (c11 x)) o) f)
+
+pub mode_broken : (serial : Option Bool) (w : Watched) (before : List (List ℕ)) (p : List ℕ)
+    → serial ≡ option_map (λ (h : Header). (c11 h)) (first_header before)
+    → IsFree rule.Mode w before p → (h : Header) (first : Bool) → header p ≡ Some h
+    → serial ≡ Some first → (c11 h) ≡ first
+mode_broken serial w before p is free k first e f = go (first_header before) refl (sym is ∙ f)
+  where
+    go : (o : Option Header) → first_header before ≡ o
+        → option_map (λ (x : Header). (c11 x)) o ≡ Some first → (c11 k) ≡ first
+    go None q g = absurd (none-some first g)
+    go (Some z) q g = free k z e q ∙ same_Some _ _ g

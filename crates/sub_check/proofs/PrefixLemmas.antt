@@ -1,0 +1,174 @@
+-- The lists of packets that a transmission begins with, and where a frame falls.
+use Rattle.std.proofs.Common.{◌≡◌, ℕ, zero, suc, ◌+◌, ◌-◌, ◌<◌, ◌≤◌, ◌⊎◌, inl, inr, true, false}
+use Rattle.std.proofs.Common.{◌&&◌, nat_le, List, [], ◌∷◌, ◌++◌, filter, length, take, drop, get_or}
+use Rattle.std.proofs.Common.{refl, sym, ap, ◌∙◌, subst, arith, append_assoc}
+use Rattle.std.specs.List.{flat_map}
+use Rattle.std.proofs.lemmas.List.{take_more, take_all, take-append-drop, drop_more, append-nil}
+use Rattle.std.proofs.lemmas.Bool.{cases_eq, cases_lt, le-leb, lt-leb, and_from, and_right}
+use Rattle.std.proofs.lemmas.Bool.{cond-true, cond-false}
+use Rattle.sub_check.specs.Transmission.{SentFrame, Transmission}
+use Rattle.sub_check.specs.FrameRules.{frame_at, packets_at, joined}
+use Rattle.sub_check.specs.FirstBroken.{IsInGap}
+use Rattle.sub_check.proofs.GoodByPlace.{air, whole}
+use Rattle.sub_check.proofs.ShownLemmas.{joined_more}
+
+-- the packets before packet k of sending i, and that packet
+abbrev pub before : Transmission → ℕ → ℕ → List (List ℕ)
+before t i k = joined t i ++ take k (packets_at t i)
+
+abbrev pub packet_at : Transmission → ℕ → ℕ → List ℕ
+packet_at t i k = get_or (packets_at t i) k []
+
+pub before_more : (t : Transmission) (i k : ℕ) → k < length (packets_at t i)
+    → before t i (k + 1) ≡ before t i k ++ packet_at t i k ∷ []
+before_more t i k l = ap (λ xs. joined t i ++ xs) (take_more (packets_at t i) k [] l)
+    ∙ sym (append_assoc (joined t i) (take k (packets_at t i)) (packet_at t i k ∷ []))
+
+before_none : (t : Transmission) (i : ℕ) → before t i 0 ≡ joined t i
+before_none t i = append-nil (joined t i)
+
+before_all : (t : Transmission) (i : ℕ) → i < length t
+    → before t i (length (packets_at t i)) ≡ joined t (i + 1)
+before_all t i l =
+    ap (λ xs. joined t i ++ xs) (take_all (length (packets_at t i)) (packets_at t i) (omega arith))
+    ∙ sym (joined_more t i l)
+
+-- what holds of no packets, and goes on by each packet, holds of each prefix
+module _ (t : Transmission) (Q : List (List ℕ) → Type 0) (none : Q [])
+    (more : (i k : ℕ) → i < length t → k < length (packets_at t i) → Q (before t i k)
+    → Q (before t i k ++ packet_at t i k ∷ [])) where
+  within : (i : ℕ) → i < length t → Q (joined t i) → (k : ℕ) → k ≤ length (packets_at t i)
+      → Q (before t i k)
+  within i l base zero h = subst Q (sym (before_none t i)) base
+  within i l base (suc k) h =
+      let e : k + 1 ≡ suc k = omega arith in
+      subst (λ n. Q (before t i n)) e
+      (subst Q (sym (before_more t i k (omega arith)))
+      (more i k l (omega arith) (within i l base k (omega arith))))
+
+  pub at_sending : (n : ℕ) → n ≤ length t → Q (joined t n)
+  at_sending zero h = none
+  at_sending (suc n) h =
+      let e : n + 1 ≡ suc n = omega arith in
+      subst (λ m. Q (joined t m)) e
+      (subst Q (before_all t n (omega arith))
+      (within n (omega arith) (at_sending n (omega arith)) (length (packets_at t n))
+      (omega arith)))
+
+  pub at_packet : (i k : ℕ) → i < length t → k ≤ length (packets_at t i) → Q (before t i k)
+  at_packet i k l h = within i l (at_sending i (omega arith)) k h
+
+-- each prefix is the front of the whole
+joined-front : (t : Transmission) (n m : ℕ) → n + m ≤ length t
+    → (rest : List (List ℕ)) × (joined t (n + m) ≡ joined t n ++ rest)
+joined-front t n zero h = ([], ap (joined t) (omega arith) ∙ sym (append-nil (joined t n)))
+joined-front t n (suc m) h =
+    let ih = joined-front t n m (omega arith) in
+    let e : n + suc m ≡ n + m + 1 = omega arith in (
+      ih.0 ++ packets_at t (n + m),
+      ap (joined t) e ∙ joined_more t (n + m) (omega arith)
+          ∙ ap (λ xs. xs ++ packets_at t (n + m)) ih.1
+          ∙ append_assoc (joined t n) ih.0 (packets_at t (n + m)),
+    )
+
+pub whole-split : (t : Transmission) (i k : ℕ) → i < length t → k < length (packets_at t i)
+    → (rest : List (List ℕ)) × (whole t ≡ before t i k ++ packet_at t i k ∷ rest)
+whole-split t i k l h =
+    let front = joined-front t (i + 1) (length t - (i + 1)) (omega arith) in
+    let e : length t ≡ i + 1 + (length t - (i + 1)) = omega arith in
+    let cut : packets_at t i ≡ take k (packets_at t i) ++ packet_at t i k ∷ drop (k + 1)
+    (packets_at t i) = sym (take-append-drop k (packets_at t i))
+    ∙ ap (λ xs. take k (packets_at t i) ++ xs) (drop_more (packets_at t i) k [] h) in (
+      drop (k + 1) (packets_at t i) ++ front.0,
+      ap (joined t) e ∙ front.1
+          ∙ ap (λ xs. xs ++ front.0)
+          (joined_more t i l ∙ ap (λ xs. joined t i ++ xs) cut
+          ∙ sym (append_assoc (joined t i) (take k (packets_at t i))
+          (packet_at t i k ∷ drop (k + 1) (packets_at t i))))
+          ∙ append_assoc (before t i k) (packet_at t i k ∷ drop (k + 1) (packets_at t i)) front.0,
+    )
+
+-- ---- frames
+
+module _ (t : Transmission)
+    (rising : (i : ℕ) → 0 < i → i < length t → frame_at t (i - 1) < frame_at t i) where
+  -- frames rise
+  pub rises : (i m : ℕ) → i + m < length t → frame_at t i ≤ frame_at t (i + m)
+  rises i zero h = let e : frame_at t i ≡ frame_at t (i + 0) = ap (frame_at t) (omega arith) in
+      omega arith
+  rises i (suc m) h =
+      let ih = rises i m (omega arith) in
+      let step = rising (i + suc m) (omega arith) h in
+      let e : frame_at t (i + suc m - 1) ≡ frame_at t (i + m) = ap (frame_at t) (omega arith) in
+      omega arith
+
+  pub rises_to : (i j : ℕ) → i ≤ j → j < length t → frame_at t i ≤ frame_at t j
+  rises_to i j h l = let r = rises i (j - i) (omega arith) in
+      let e : frame_at t (i + (j - i)) ≡ frame_at t j = ap (frame_at t) (omega arith) in omega arith
+
+  pub rises_strictly : (i j : ℕ) → i < j → j < length t → frame_at t i < frame_at t j
+  rises_strictly i j h l = let r = rises_to i (j - 1) (omega arith) (omega arith) in
+      let s = rising j (omega arith) l in omega arith
+
+  -- a frame from the first on is that of a sending, or in a gap
+  pub locate : (n f : ℕ) → n < length t → frame_at t 0 ≤ f → f ≤ frame_at t n
+      → ((i : ℕ) × (i < length t) × (frame_at t i ≡ f)) ⊎ ((i : ℕ) × IsInGap t i f)
+  locate zero f l a b = inl (0, l, omega arith)
+  locate (suc n) f l a b = elim (cases_eq f (frame_at t (suc n))) [
+    | inl e ↦ inl (suc n, l, sym e)
+    | inr other ↦ elim (cases_lt (frame_at t n) f) [
+      | inl after ↦ let e : frame_at t (suc n - 1) ≡ frame_at t n =
+          ap (frame_at t) (omega arith) in inr (suc n, (omega arith, l, omega arith, omega arith))
+      | inr before ↦ locate n f (omega arith) a before
+    ]
+  ]
+
+-- ---- the packets on air up to a frame
+
+pub filter_take : (t : Transmission) (n g f : ℕ)
+    → ((j : ℕ) → j < length t → j < n
+    → (nat_le g (frame_at t j) && nat_le (frame_at t j) f) ≡ true)
+    → ((j : ℕ) → n ≤ j → j < length t
+    → (nat_le g (frame_at t j) && nat_le (frame_at t j) f) ≡ false)
+    → filter (λ (s : SentFrame). nat_le g s.frame && nat_le s.frame f) t ≡ take n t
+filter_take [] zero g f kept other = refl
+filter_take [] (suc n) g f kept other = refl
+filter_take (s ∷ ss) zero g f kept other =
+    cond-false (nat_le g s.frame && nat_le s.frame f)
+    (s ∷ filter (λ (x : SentFrame). nat_le g x.frame && nat_le x.frame f) ss)
+    (filter (λ (x : SentFrame). nat_le g x.frame && nat_le x.frame f) ss)
+    (other 0 (omega arith) (omega arith))
+    ∙ filter_take ss zero g f (λ j l m. absurd (omega arith))
+    (λ j l m. other (suc j) (omega arith) (omega arith))
+filter_take (s ∷ ss) (suc n) g f kept other =
+    cond-true (nat_le g s.frame && nat_le s.frame f)
+    (s ∷ filter (λ (x : SentFrame). nat_le g x.frame && nat_le x.frame f) ss)
+    (filter (λ (x : SentFrame). nat_le g x.frame && nat_le x.frame f) ss)
+    (kept 0 (omega arith) (omega arith))
+    ∙ ap (λ xs. s ∷ xs)
+    (filter_take ss n g f (λ j l m. kept (suc j) (omega arith) (omega arith))
+    (λ j l m. other (suc j) (omega arith) (omega arith)))
+
+pub air_is : (t : Transmission)
+    → ((i : ℕ) → 0 < i → i < length t → frame_at t (i - 1) < frame_at t i) → (n f : ℕ) → 0 < n
+    → n ≤ length t → frame_at t (n - 1) ≤ f → (n < length t → f < frame_at t n)
+    → air t (frame_at t 0) 0 f ≡ joined t n
+air_is t rising n f some le low high =
+    ap (flat_map (λ (s : SentFrame). s.packets)) (filter_take t n (frame_at t 0) f first later)
+  where
+    first : (j : ℕ) → j < length t → j < n
+        → (nat_le (frame_at t 0) (frame_at t j) && nat_le (frame_at t j) f) ≡ true
+    first j l m =
+        let a : frame_at t 0 ≤ frame_at t j = rises_to t rising 0 j (omega arith) l in
+        let r = rises_to t rising j (n - 1) (omega arith) (omega arith) in
+        let b : frame_at t j ≤ f = omega arith in
+        and_from (nat_le (frame_at t 0) (frame_at t j)) (nat_le (frame_at t j) f) (le-leb _ _ a)
+        (le-leb _ _ b)
+
+    later : (j : ℕ) → n ≤ j → j < length t
+        → (nat_le (frame_at t 0) (frame_at t j) && nat_le (frame_at t j) f) ≡ false
+    later j l m =
+        let r = rises_to t rising n j l m in
+        let s = high (omega arith) in
+        let b : f < frame_at t j = omega arith in
+        and_right (nat_le (frame_at t 0) (frame_at t j)) (nat_le (frame_at t j) f) (lt-leb _ _ b)

@@ -1,0 +1,20 @@
+-- The first header of a list that goes on by one packet: `first_header-push`.
+use Rattle.std.proofs.Common.{◌≡◌, ℕ, List, [], ◌∷◌, ◌++◌, Option, Some, None, refl, ap, ◌∙◌}
+use Rattle.std.specs.Option.{option_or}
+use Rattle.ttx_packet.specs.PageHeader.{header}
+use Rattle.sub_check.specs.PacketRules.{first_header}
+
+or_assoc : {A : Type 0} (a b c : Option A)
+    → option_or a (option_or b c) ≡ option_or (option_or a b) c
+or_assoc None b c = refl
+or_assoc (Some x) b c = refl
+
+or-none : {A : Type 0} (a : Option A) → option_or a None ≡ option_or None a
+or-none None = refl
+or-none (Some x) = refl
+
+pub first_header-push : (xs : List (List ℕ)) (x : List ℕ)
+    → first_header (xs ++ x ∷ []) ≡ option_or (first_header xs) (header x)
+first_header-push [] x = or-none (header x)
+first_header-push (y ∷ ys) x = ap (λ o. option_or (header y) o) (first_header-push ys x)
+    ∙ or_assoc (header y) (first_header ys) (header x)

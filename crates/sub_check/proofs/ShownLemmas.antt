@@ -1,0 +1,170 @@
+-- What the page shows, and how long ago a header was.
+use Rattle.std.proofs.Common.{Option, Some, None, ◌≡◌, ℕ, ◌+◌, ◌-◌, ◌<◌, ◌≤◌, inl, inr, Bool, true}
+use Rattle.std.proofs.Common.{false, List, [], ◌∷◌, ◌++◌, find, option_map, unwrap_or, length}
+use Rattle.std.proofs.Common.{get_or, take, refl, sym, ap, ◌∙◌, subst, arith}
+use Rattle.std.specs.List.{list_any, flat_map}
+use Rattle.std.proofs.lemmas.List.{get_or-replicate, flat_map_more, take_more, get_or-map}
+use Rattle.std.proofs.lemmas.Bool.{cases_eq}
+use Rattle.ttx_packet.specs.Parity.{code_of}
+use Rattle.ttx_packet.specs.PacketAddress.{IsPacket}
+use Rattle.stl_file.specs.Subtitle.{SubtitleValue}
+use Rattle.stl_rows.specs.declared.national.National.{National}
+use Rattle.stl_rows.specs.DuePage.{due, TellsNextEdge}
+use Rattle.stl_rows.proofs.DuePageLemmas.{edges_alone}
+use Rattle.sub_check.specs.PacketRules.{codes_of}
+use Rattle.ttx_packet.specs.RowPacket.{text_byte}
+use Rattle.sub_check.proofs.CodesLemmas.{code_at}
+use Rattle.sub_check.specs.declared.packet_rules.Watched.{Watched}
+use Rattle.ttx_page.specs.declared.packet_kind.PacketKind.TheVariants.{Row}
+use Rattle.ttx_page.specs.PacketKind.{kind, is_row}
+use Rattle.ttx_page.specs.Page.{cell, space, IsCell, DiffersFirst, Rows}
+use Rattle.ttx_page.specs.Span.{span}
+use Rattle.ttx_page.specs.Shown.{shown}
+use Rattle.sub_check.specs.Transmission.{SentFrame, Transmission}
+use Rattle.sub_check.specs.declared.listener.Listener.{Listener}
+use Rattle.stl_rows.specs.Programme.{ProgrammeValue}
+use Rattle.sub_check.specs.Listening.{Knows, HoldsRows, IsSound}
+use Rattle.sub_check.specs.FrameRules.{Task, frame_at, packets_at, joined, HasHeader, Shows}
+use Rattle.sub_check.specs.FrameRules.{IsCovered}
+use Rattle.sub_check.specs.Good.{due_page}
+use Rattle.sub_check.specs.Following.{IsTaskOf, HeaderIs}
+use Rattle.sub_check.proofs.PacketLists.{Each-find, Each-join, find_none, row_kind}
+
+-- a cell of the page that is kept is what the packets show
+pub shown_is : (w : Watched) (packets : List (List ℕ)) (sent : List Bool) (page : List (List ℕ))
+    → HoldsRows w packets sent page → (row column : ℕ) → IsCell row column
+    → cell page row column ≡ unwrap_or
+    (option_map (λ p. code_of (text_byte p column))
+    (find (λ p. is_row row (kind w.page p)) packets)) space
+shown_is w packets sent page h row column is =
+    go (list_any (λ p. is_row row (kind w.page p)) packets) refl
+  where
+    low : 1 ≤ row
+    low = is.0
+
+    high : row ≤ 24
+    high = is.1
+
+    go : (b : Bool) → list_any (λ p. is_row row (kind w.page p)) packets ≡ b
+        → cell page row column ≡ unwrap_or
+        (option_map (λ p. code_of (text_byte p column))
+        (find (λ p. is_row row (kind w.page p)) packets)) space
+    go true e =
+        let q = Each-find (λ p. is_row row (kind w.page p))
+        (λ p. (kind w.page p ≡ Row row → IsPacket p) ×
+        (kind w.page p ≡ Row row → codes_of p ≡ get_or page (row - 1) [])) packets e
+        (Each-join (IsSound w)
+        (λ p. kind w.page p ≡ Row row → codes_of p ≡ get_or page (row - 1) [])
+        (λ p. (kind w.page p ≡ Row row → IsPacket p) ×
+        (kind w.page p ≡ Row row → codes_of p ≡ get_or page (row - 1) []))
+        (λ p s c. (s.whole row, c)) packets h.sound (h.same row low high)) in
+        let k = row_kind row (kind w.page q.0) q.2 in
+        let size = (q.3.0 k).size in
+        ap (λ r. get_or r column 0) (sym (q.3.1 k)) ∙ code_at q.0 column size is.2
+        ∙ sym (ap (λ o. unwrap_or (option_map (λ p. code_of (text_byte p column)) o) space) q.1)
+    go false e =
+        ap (λ r. get_or r column 0) (h.blank row low high (h.marks row low high ∙ e))
+        ∙ get_or-replicate 40 column space 0 is.2
+        ∙ sym (ap (λ o. unwrap_or (option_map (λ p. code_of (text_byte p column)) o) space)
+        (find_none (λ p. is_row row (kind w.page p)) packets e))
+
+module _ (g : Task) (p : ProgrammeValue) (every : ℕ) (task : IsTaskOf g p every)
+    (frames : Transmission) (n f : ℕ) (s : Listener) (knows : Knows (joined frames n) s)
+    (watched_is : s.watched ≡ g.watched) where
+  kept_shown : (row column : ℕ) → IsCell row column
+      → cell s.page row column ≡ shown g.watched.page (joined frames n) row column
+  kept_shown row column is =
+      shown_is s.watched (span (kind s.watched.page) (joined frames n)) s.sent s.page
+      knows.rows_are row column is
+      ∙ ap (λ w. shown w.page (joined frames n) row column) watched_is
+
+  -- the page that is kept equals the due page at a cell exactly where the transmission shows what
+  -- is due
+  pub shows_from : (row column : ℕ) → IsCell row column
+      → cell s.page row column ≡ cell (due_page p f) row column → Shows g frames n f row column
+  shows_from row column is e = sym (kept_shown row column is) ∙ e
+      ∙ ap (λ d. cell d row column) (sym (task.due_is f))
+
+  pub shows_not : (row column : ℕ) → IsCell row column
+      → (cell s.page row column ≡ cell (due_page p f) row column → ⊥)
+      → Shows g frames n f row column → ⊥
+  shows_not row column is other shows =
+      other (kept_shown row column is ∙ shows ∙ ap (λ d. cell d row column) (task.due_is f))
+
+-- counting afresh changes nothing else
+pub Knows-counted : (heard : List (List ℕ)) (s : Listener) (n : ℕ) → Knows heard s
+    → Knows heard (record s { wrong = n })
+Knows-counted heard s n k =
+    record { serial_is = k.serial_is; open_is = k.open_is; rows_are = k.rows_are }
+
+-- ---- headers
+
+module _ (g : Task) (frames : Transmission) (n at f every : ℕ) (h : HeaderIs g frames n at)
+    (same : g.every ≡ every) (past : at ≤ f) where
+  pub covered_from : f - at < every → IsCovered g frames n f
+  covered_from l = let found = h.found.2 in
+      let below : f < frame_at frames h.found.0 + g.every = omega arith in
+      inr (h.found.0, h.found.1, below, h.found.3)
+
+  pub covered_not : every ≤ f - at → IsCovered g frames n f → ⊥
+  covered_not l (inl e) = let b = h.begins in omega arith
+  covered_not l (inr (j, i, e, head)) = let b = h.last j i head in omega arith
+
+pub HeaderIs-none : (g : Task) (frames : Transmission) (n at : ℕ) → HeaderIs g frames n at
+    → (HasHeader g frames n → ⊥) → HeaderIs g frames (n + 1) at
+HeaderIs-none g frames n at h none = record {
+  found = (h.found.0, omega (arith, h.found.1), h.found.2, h.found.3);
+  last = λ j l head. elim (cases_eq j n) [
+    | inl e ↦ absurd (none (subst (HasHeader g frames) e head))
+    | inr other ↦ h.last j
+        (omega arith) head
+  ];
+  begins = h.begins;
+}
+
+pub HeaderIs-some : (g : Task) (frames : Transmission) (n : ℕ) → HasHeader g frames n
+    → ((j : ℕ) → j < n + 1 → frame_at frames j ≤ frame_at frames n)
+    → HeaderIs g frames (n + 1) (frame_at frames n)
+HeaderIs-some g frames n head rising = record {
+  found = (n, omega arith, refl, head);
+  last = λ j l other. rising j l;
+  begins = rising 0 (omega arith);
+}
+
+-- ---- one sending more
+
+pub joined_more : (frames : Transmission) (n : ℕ) → n < length frames
+    → joined frames (n + 1) ≡ joined frames n ++ packets_at frames n
+joined_more [] n l = absurd (omega arith)
+joined_more (s ∷ ss) n l =
+    ap (flat_map (λ (x : SentFrame). x.packets)) (take_more (s ∷ ss) n s l)
+    ∙ sym (flat_map_more (λ (x : SentFrame). x.packets) [] (take n (s ∷ ss)) (get_or (s ∷ ss) n s))
+    ∙ ap (λ ps. flat_map (λ (x : SentFrame). x.packets) (take n (s ∷ ss)) ++ ps)
+    (sym (get_or-map (λ (x : SentFrame). x.packets) (s ∷ ss) n s [] l))
+
+-- The cells of the rows above the first that differs are equal.
+pub cells_above :
+    {a b : Rows} {row column : ℕ}
+    → DiffersFirst a b row column
+    → (r c : ℕ)
+    → IsCell r c
+    → r < row
+    → cell a r c ≡ cell b r c
+cells_above d r c is l = ap (λ xs. get_or xs c 0) (d.rows_above r is.0 l)
+
+-- Where the next edge after the frame before is not this frame, the due page stays. For `is_edge`.
+pub due_between_edges :
+    (national : National) (records : List SubtitleValue) (frame : ℕ) (edge : Option ℕ)
+    → 0 < frame
+    → TellsNextEdge records (frame - 1) edge
+    → (edge ≡ Some frame → ⊥)
+    → due national records frame ≡ due national records (frame - 1)
+due_between_edges national records frame None some tells other =
+    edges_alone national records frame some
+    (λ edge. let l = tells frame edge in omega (arith, some))
+due_between_edges national records frame (Some e) some tells other =
+    edges_alone national records frame some
+    (λ edge.
+    let l = tells.least frame edge (omega (arith, some)) in
+    let m = tells.after in
+    other (ap Some (omega (arith, some))))

@@ -1,0 +1,163 @@
+-- Each way out tells what the whole file is: by JudgeLemmas.
+use Rattle.std.proofs.Common.{◌≡◌, ℕ, List, Option, Some, Result, Ok, sym, refl, ap, ◌∙◌, subst}
+use Rattle.std.proofs.Common.{arith}
+use Rattle.std.proofs.lemmas.Result.{err_from_is_err_and}
+use Rattle.ttx_pes.specs.DataUnit.{UnitValue}
+use Rattle.sub_check.specs.Following.{IsSentFrame}
+use Rattle.sub_check.specs.FrameRules.{task_of}
+use Rattle.sub_check.specs.PacketRules.{packets_of_units}
+use Rattle.sub_check.specs.declared.fault.CheckFault.{CheckFault}
+use Rattle.sub_check.proofs.JudgeLemmas.{empty_refusal, end_told, first_sent, next_refusal}
+use Rattle.sub_check.proofs.JudgeLemmas.{next_sent}
+use Rattle.sub_check.proofs.JudgeLemmas.{reaches_first, reaches_next, unread_refusal}
+use Rattle.sub_check.proofs.TakingLemmas.{task_is, watched_is}
+use Rattle.sub_check.proofs.checker.judge.Goals as goal
+
+pub returns-in_err-read-clause-exact : goal.returns-in_err-read-clause-exact
+returns-in_err-read-clause-exact g c = λ frames unread bytes told reads fine.
+    let p = err_from_is_err_and c.from_residual.result c.from_residual.ensures.1 in
+    let known = rw (p.1, p.2) at fine in
+    rw (p.1, p.2)
+    (unread_refusal c.args.programme.now c.args.options.now frames unread 0 bytes
+    c.next_frame.new.packet _ (omega arith) (λ j l. absurd (omega arith)) reads
+    (c.in_err-read.ensures.exact bytes told known))
+
+pub returns-in_default-clause-exact : goal.returns-in_default-clause-exact
+returns-in_default-clause-exact g c = λ frames unread bytes told reads fine.
+    empty_refusal c.args.programme.now c.args.options.now frames unread bytes reads
+    (rw c.in_default.is at (c.in_ok-read.ensures.exact bytes told fine))
+
+pub returns-in_err-checker-clause-exact : goal.returns-in_err-checker-clause-exact
+returns-in_err-checker-clause-exact g c = λ frames unread bytes told reads fine.
+    let p =
+    err_from_is_err_and c.from_residual-in_err-checker.result
+    c.from_residual-in_err-checker.ensures.1 in
+    let at = rw c.in-Some.is at (c.in_ok-read.ensures.exact bytes told refl) in
+    rw (p.1, p.2)
+    (c.in_err-checker.ensures.exact (task_of c.args.programme.now c.args.options.now unread) frames
+    (task_is c.args.programme.now c.args.options.now unread _ c.every-every.ensures.value)
+    (watched_is c.args.programme.now c.args.options.now _ _ c.page.ensures.value
+    c.national.ensures.value)
+    (subst (λ (us : List UnitValue). IsSentFrame frames 0 c.in-Some.first (packets_of_units us))
+    (sym c.units.ensures.value)
+    (first_sent c.args.programme.now c.args.options.now frames unread bytes
+    c.next_frame.new.packet c.in-Some.first reads at)))
+
+pub returns-in_err-checker-clause-count : goal.returns-in_err-checker-clause-count
+returns-in_err-checker-clause-count g c =
+    let p =
+    err_from_is_err_and c.from_residual-in_err-checker.result
+    c.from_residual-in_err-checker.ensures.1 in
+    rw (p.1, p.2, c.in_err-checker.ensures.never) c.in_ok-read.ensures.count
+
+pub loop-pes-init : goal.loop-pes-init
+loop-pes-init g c =
+    let same = c.in_ok-checker.ensures.frame in
+    let counted = c.in_ok-read.ensures.count in
+    record {
+      later = omega arith;
+      header = c.in_ok-checker.ensures.header;
+      headers = c.in_ok-checker.ensures.headers;
+      due = c.in_ok-checker.ensures.due;
+      count = c.in_ok-checker.ensures.count;
+      reading =
+          c.in_ok-read.ensures.progress c.in-Some.first
+          (ap (λ x. let r : Result (Option ℕ) CheckFault = Ok x in r) c.in-Some.is);
+      failures = omega (arith, counted);
+      told = λ frames unread bytes told reads.
+          let at = rw c.in-Some.is at (c.in_ok-read.ensures.exact bytes told refl) in
+          reaches_first c.args.programme.now c.args.options.now frames unread bytes
+          c.next_frame.new.packet c.in-Some.first _ c.in_ok-checker.checker reads at
+          (c.in_ok-read.ensures.left bytes told) c.units.ensures.frame
+          (c.in_ok-checker.ensures.exact
+          (task_of c.args.programme.now c.args.options.now unread) frames
+          (task_is c.args.programme.now c.args.options.now unread _ c.every-every.ensures.value)
+          (watched_is c.args.programme.now c.args.options.now _ _ c.page.ensures.value
+          c.national.ensures.value)
+          (subst (λ (us : List UnitValue). IsSentFrame frames 0 c.in-Some.first
+          (packets_of_units us))
+          (sym c.units.ensures.value)
+          (first_sent c.args.programme.now c.args.options.now frames unread bytes
+          c.next_frame.new.packet c.in-Some.first reads at)));
+    }
+
+pub returns-in_err-more-clause-exact : goal.returns-in_err-more-clause-exact
+returns-in_err-more-clause-exact g c = λ frames unread bytes told reads fine.
+    let p =
+    err_from_is_err_and c.from_residual-in_err-more.result c.from_residual-in_err-more.ensures.1 in
+    let known = rw (p.1, p.2) at fine in
+    let i = c.loop-pes.invariant.told frames unread bytes told reads in
+    rw (p.1, p.2)
+    (next_refusal c.args.programme.now c.args.options.now frames unread c.loop-pes.pes
+    c.in-Some.first _ c.loop-pes.checker i c.next_frame-in-loop-pes.new.packet _
+    (c.in_err-more.ensures.exact i.rest i.rest_is known))
+
+pub returns-in_default-more-clause-exact : goal.returns-in_default-more-clause-exact
+returns-in_default-more-clause-exact g c = λ frames unread bytes told reads fine.
+    let i = c.loop-pes.invariant.told frames unread bytes told reads in
+    end_told c.args.programme.now c.args.options.now frames unread c.loop-pes.pes c.in-Some.first _
+    c.loop-pes.checker i c.finish.result
+    (rw c.in_default-more.is at (c.in_ok-more.ensures.exact i.rest i.rest_is refl))
+    c.finish.ensures.end
+
+pub returns-in_err-go_on-clause-exact : goal.returns-in_err-go_on-clause-exact
+returns-in_err-go_on-clause-exact g c = λ frames unread bytes told reads fine.
+    let p =
+    err_from_is_err_and c.from_residual-in_err-go_on.result
+    c.from_residual-in_err-go_on.ensures.1 in
+    let i = c.loop-pes.invariant.told frames unread bytes told reads in
+    let at = rw c.in-Some-more.is at (c.in_ok-more.ensures.exact i.rest i.rest_is refl) in
+    rw (p.1, p.2)
+    (c.in_err-go_on.ensures.exact (task_of c.args.programme.now c.args.options.now unread) frames
+    (task_is c.args.programme.now c.args.options.now unread _ c.every-every.ensures.value)
+    i.follows
+    (subst
+    (λ (us : List UnitValue). IsSentFrame frames c.loop-pes.pes c.in-Some-more.frame
+    (packets_of_units us)) (sym c.units-units.ensures.value)
+    (next_sent c.args.programme.now c.args.options.now frames unread c.loop-pes.pes
+    c.in-Some.first _ c.loop-pes.checker i c.next_frame-in-loop-pes.new.packet
+    c.in-Some-more.frame at)))
+
+pub returns-in_err-go_on-clause-count : goal.returns-in_err-go_on-clause-count
+returns-in_err-go_on-clause-count g c =
+    let p =
+    err_from_is_err_and c.from_residual-in_err-go_on.result
+    c.from_residual-in_err-go_on.ensures.1 in
+    let counted = c.in_ok-more.ensures.count in
+    let before = c.loop-pes.invariant.failures in
+    rw (p.1, p.2, c.in_err-go_on.ensures.never) (omega (arith, counted, before))
+
+pub loop-pes-preserved : goal.loop-pes-preserved
+loop-pes-preserved g c =
+    let counted = c.in_ok-more.ensures.count in
+    let before = c.loop-pes.invariant.failures in
+    let grows = c.in_ok-go_on.ensures.later in
+    let first = c.loop-pes.invariant.later in
+    record {
+      later = omega (arith, grows, first);
+      header = c.in_ok-go_on.ensures.header;
+      headers = c.in_ok-go_on.ensures.headers;
+      due = c.in_ok-go_on.ensures.due;
+      count = c.in_ok-go_on.ensures.count;
+      reading =
+          c.in_ok-more.ensures.progress c.in-Some-more.frame
+          (ap (λ x. let r : Result (Option ℕ) CheckFault = Ok x in r) c.in-Some-more.is);
+      failures = omega (arith, counted, before);
+      told = λ frames unread bytes told reads.
+          let i = c.loop-pes.invariant.told frames unread bytes told reads in
+          let at = rw c.in-Some-more.is at (c.in_ok-more.ensures.exact i.rest i.rest_is refl) in
+          reaches_next c.args.programme.now c.args.options.now frames unread c.loop-pes.pes
+          c.in-Some.first _ c.loop-pes.checker i c.next_frame-in-loop-pes.new.packet
+          c.in-Some-more.frame _ c.go_on.new.self at
+          (c.in_ok-more.ensures.left i.rest i.rest_is) c.units-units.ensures.frame
+          (c.in_ok-go_on.ensures.exact
+          (task_of c.args.programme.now c.args.options.now unread) frames
+          (task_is c.args.programme.now c.args.options.now unread _ c.every-every.ensures.value)
+          i.follows
+          (subst
+          (λ (us : List UnitValue). IsSentFrame frames c.loop-pes.pes c.in-Some-more.frame
+          (packets_of_units us)) (sym c.units-units.ensures.value)
+          (next_sent c.args.programme.now c.args.options.now frames unread c.loop-pes.pes
+          c.in-Some.first _ c.loop-pes.checker i c.next_frame-in-loop-pes.new.packet
+          c.in-Some-more.frame at)));
+    }

@@ -1,0 +1,27 @@
+-- After so many PES packets, what is kept is what they say, and none of them broke a rule.
+use Rattle.std.proofs.Common.{◌≡◌, ◌+◌, ◌*◌, ◌≤◌, ℕ, List, Option, Some}
+use Rattle.ttx_page.specs.Differing.{differing}
+use Rattle.ttx_pes.specs.declared.progress.Progress.TheVariants.{Reading}
+use Rattle.sub_check.specs.Checking.{Reaches}
+use Rattle.sub_check.specs.FrameRules.{Unread, task_of}
+use Rattle.sub_check.specs.Good.{due_page}
+use Rattle.sub_check.specs.PesReading.{ReadsAs}
+use Rattle.sub_check.specs.Transmission.{Transmission}
+use Rattle.sub_check.proofs.checker.judge.Given as goal
+
+abbrev pub invariant-loop-pes : goal.invariant-loop-pes
+invariant-loop-pes g l = record {
+  later : l.first ≤ l.checker.frame;
+  header : l.checker.header_at ≤ l.checker.frame;
+  headers : l.checker.headers ≤ 35 * l.checker.frame + 35;
+  due : l.checker.due ≡ due_page l.programme l.checker.frame;
+  count : l.checker.listener.wrong ≡ differing l.checker.listener.page l.checker.due;
+  reading : l.reader ≡ Reading l.pes;
+  failures : g.S.Source.failure_count l.source ≡ g.S.Source.failure_count l.fn.source;
+  told :
+      (frames : Transmission) (unread : Option Unread) (bytes : List ℕ)
+      → g.S.Source.remaining l.fn.source ≡ Some bytes
+      → ReadsAs l.options.origin 0 bytes frames unread
+      → Reaches (task_of l.programme l.options unread) l.options.origin frames unread
+      (g.S.Source.remaining l.source) l.pes l.first l.checker;
+}

@@ -1,0 +1,122 @@
+use Rattle.std.proofs.Common.{ℕ, ◌≤◌, inl, inr, sym, ap, ◌∙◌, subst, arith}
+use Rattle.std.proofs.lemmas.Bool.{cases_eq}
+use Rattle.sub_check.specs.FrameRules.{frame_at, joined, Shows, IsCovered}
+use Rattle.sub_check.specs.Good.{due_page}
+use Rattle.sub_check.specs.FirstBroken.{IsInGap}
+use Rattle.sub_check.specs.Listening.{Knows}
+use Rattle.sub_check.specs.declared.listener.Listener.{Listener}
+use Rattle.sub_check.specs.Following.{HeaderIs}
+use Rattle.sub_check.proofs.OrderLemmas.{first_gap_cell, first_gap}
+use Rattle.sub_check.proofs.ShownLemmas.{shows_from, shows_not, covered_from, covered_not}
+use Rattle.sub_check.proofs.ShownLemmas.{Knows-counted}
+use Rattle.ttx_packet.specs.PageHeader.{header}
+use Rattle.sub_check.proofs.ShownLemmas.{cells_above}
+use Rattle.sub_check.proofs.frame_rules.Checker.cross_gap.Goals as goal
+
+pub returns-in-Some-clause-exact : goal.returns-in-Some-clause-exact
+returns-in-Some-clause-exact c g frames n task follows there to_is order =
+    let p = c.args.programme.now in
+    let f : ℕ = c.loop-f.f in
+    let s = c.advance.new.self.listener in
+    let kept = ap (λ (x : Listener). x.watched) c.advance.ensures.listener in
+    let fine = c.loop-f.invariant.fine g frames n task follows there to_is in
+    let watched = kept ∙ c.loop-f.invariant.watched_same ∙ follows.watched_is in
+    let knows =
+    subst (Knows (joined frames n)) (sym c.advance.ensures.listener)
+    (Knows-counted (joined frames n) c.loop-f.self.listener _ fine.0) in
+    let some = follows.some in
+    let frame = follows.frame_is in
+    let in_gap : IsInGap frames n f = (some, there, omega arith, omega arith) in
+    let d = rw c.advance.ensures.due at c.in-Some.ensures in
+    first_gap_cell g frames n follows.past f c.in-Some.row c.in-Some.column order fine.1 fine.2
+    in_gap d.is_cell
+    (shows_not g p c.args.every task frames n f s knows watched _ _ d.is_cell d.differ)
+    (λ r k is l. shows_from g p c.args.every task frames n f s knows watched r k is
+    (cells_above d r k is l))
+    (λ k l. shows_from g p c.args.every task frames n f s knows watched c.in-Some.row k
+    (d.is_cell.0, d.is_cell.1, omega (arith, d.is_cell.2)) (d.cells_before k l))
+
+pub returns-then-f-self-clause-exact : goal.returns-then-f-self-clause-exact
+returns-then-f-self-clause-exact c g frames n task follows there to_is order =
+    let p = c.args.programme.now in
+    let f : ℕ = c.loop-f.f in
+    let s = c.advance.new.self.listener in
+    let kept = ap (λ (x : Listener). x.watched) c.advance.ensures.listener in
+    let fine = c.loop-f.invariant.fine g frames n task follows there to_is in
+    let watched = kept ∙ c.loop-f.invariant.watched_same ∙ follows.watched_is in
+    let knows =
+    subst (Knows (joined frames n)) (sym c.advance.ensures.listener)
+    (Knows-counted (joined frames n) c.loop-f.self.listener _ fine.0) in
+    let some = follows.some in
+    let frame = follows.frame_is in
+    let in_gap : IsInGap frames n f = (some, there, omega arith, omega arith) in
+    let d = rw c.advance.ensures.due at c.in_default.ensures in
+    let h : HeaderIs g frames n c.advance.new.self.header_at =
+    subst (λ x. HeaderIs g frames n x)
+    (sym (c.advance.ensures.header_at ∙ c.loop-f.invariant.header_same)) follows.header in
+    first_gap g frames n follows.past f order fine.1 fine.2 in_gap
+    (λ r k is. shows_from g p c.args.every task frames n f s knows watched r k is (d r k is))
+    (covered_not g frames n c.advance.new.self.header_at f c.args.every h task.every_is
+    (omega arith) c.if-f-self.true)
+
+pub loop-f-preserved : goal.loop-f-preserved
+loop-f-preserved c =
+    let p = c.args.programme.now in
+    let f : ℕ = c.loop-f.f in
+    let s = c.advance.new.self.listener in
+    let kept = ap (λ (x : Listener). x.watched) c.advance.ensures.listener in
+    let d = rw c.advance.ensures.due at c.in_default.ensures in
+    record {
+      frame_same = c.advance.ensures.frame ∙ c.loop-f.invariant.frame_same;
+      header_same = c.advance.ensures.header_at ∙ c.loop-f.invariant.header_same;
+      headers_same = c.advance.ensures.headers ∙ c.loop-f.invariant.headers_same;
+      watched_same = kept ∙ c.loop-f.invariant.watched_same;
+      due = c.advance.ensures.due ∙ ap (due_page p) (omega arith);
+      count = c.advance.ensures.count;
+      fine = λ g frames n task follows there to_is.
+          let fine = c.loop-f.invariant.fine g frames n task follows there to_is in
+          let watched = kept ∙ c.loop-f.invariant.watched_same ∙ follows.watched_is in
+          let knows =
+          subst (Knows (joined frames n)) (sym c.advance.ensures.listener)
+          (Knows-counted (joined frames n) c.loop-f.self.listener _ fine.0) in
+          let h : HeaderIs g frames n c.advance.new.self.header_at =
+          subst (λ x. HeaderIs g frames n x)
+          (sym (c.advance.ensures.header_at ∙ c.loop-f.invariant.header_same))
+          follows.header in (
+            knows,
+            λ j row column l t. elim (cases_eq j f) [
+              | inl e ↦ subst (λ x. Shows g frames n x row column) (sym e)
+                  (shows_from g p c.args.every task frames n f s knows watched row column t.1
+                  (d row column t.1))
+              | inr other ↦ fine.1 j row column (omega arith) t
+            ],
+            λ j l t. elim (cases_eq j f) [
+              | inl e ↦ subst (λ x. IsCovered g frames n x) (sym e)
+                  (covered_from g frames n c.advance.new.self.header_at f c.args.every h
+                  task.every_is (omega arith) c.if-f-self.false)
+              | inr other ↦ fine.2 j (omega arith) t
+            ],
+          );
+    }
+
+pub returns-clause-exact : goal.returns-clause-exact
+returns-clause-exact c g frames n task follows there to_is order =
+    let fine = c.loop-f.invariant.fine g frames n task follows there to_is in
+    let frame = follows.frame_is in (
+      record {
+        cells = λ d row column t. fine.1 d row column (omega (arith, t.0.3)) t;
+        covered = λ d t. fine.2 d (omega (arith, t.3)) t;
+      },
+      record {
+        some = follows.some;
+        watched_is = c.loop-f.invariant.watched_same ∙ follows.watched_is;
+        knows = fine.0;
+        frame_is = c.loop-f.invariant.frame_same ∙ follows.frame_is;
+        rising = λ j l. subst (λ x. frame_at frames j ≤ x) (sym c.loop-f.invariant.frame_same)
+            (follows.rising j l);
+        count = c.loop-f.invariant.headers_same ∙ follows.count;
+        header = subst (λ x. HeaderIs g frames n x) (sym c.loop-f.invariant.header_same)
+            follows.header;
+        past = follows.past;
+      },
+    )

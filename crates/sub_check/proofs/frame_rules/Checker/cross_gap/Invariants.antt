@@ -1,0 +1,24 @@
+use Rattle.std.proofs.Common.{◌≡◌, ℕ, List, ◌<◌, length, ◌-◌}
+use Rattle.sub_check.specs.Transmission.{SentFrame, Transmission}
+use Rattle.sub_check.specs.Listening.{Knows}
+use Rattle.sub_check.specs.FrameRules.{Task, frame_at, joined}
+use Rattle.sub_check.specs.Good.{due_page}
+use Rattle.ttx_page.specs.Differing.{differing}
+use Rattle.sub_check.specs.FirstBroken.Place.{AtGapCell, AtGap}
+use Rattle.sub_check.specs.Following.{Keeps, Follows, IsTaskOf}
+use Rattle.sub_check.proofs.frame_rules.Checker.cross_gap.Given as goal
+
+abbrev pub invariant-loop-f : goal.invariant-loop-f
+invariant-loop-f l = record {
+  frame_same : l.self.frame ≡ l.initial.self.frame;
+  header_same : l.self.header_at ≡ l.initial.self.header_at;
+  headers_same : l.self.headers ≡ l.initial.self.headers;
+  watched_same : l.self.listener.watched ≡ l.initial.self.listener.watched;
+  due : l.self.due ≡ due_page l.programme (l.f - 1);
+  count : l.self.listener.wrong ≡ differing l.self.listener.page l.self.due;
+  fine : (g : Task) (frames : Transmission) (n : ℕ) → IsTaskOf g l.programme l.every
+      → Follows g frames n l.initial.self → n < length frames → frame_at frames n ≡ l.to
+      → Knows (joined frames n) l.self.listener
+      × ((d row column : ℕ) → d < l.f → Keeps g frames (AtGapCell n d row column))
+      × ((d : ℕ) → d < l.f → Keeps g frames (AtGap n d));
+}

@@ -1,0 +1,40 @@
+use Rattle.std.proofs.Common.{arith}
+use Rattle.std.proofs.lemmas.Result.{err_from_is_err_and}
+use Rattle.sub_check.specs.Following.{OrderOk}
+use Rattle.sub_check.proofs.OrderLemmas.{first_order}
+use Rattle.sub_check.proofs.frame_rules.Checker.go_on.Goals as goal
+
+pub returns-then-frame-self-clause-exact : goal.returns-then-frame-self-clause-exact
+returns-then-frame-self-clause-exact c g frames task follows is =
+    let a = follows.frame_is in
+    let b = is.frame_is in
+    first_order g frames c.args.pes follows.past follows.some is.there (λ l. omega arith)
+
+pub returns-in_err-cross_gap-clause-exact : goal.returns-in_err-cross_gap-clause-exact
+returns-in_err-cross_gap-clause-exact c g frames task follows is =
+    let p = err_from_is_err_and c.from_residual.result c.from_residual.ensures.1 in
+    let some = follows.some in
+    let a = follows.frame_is in
+    let b = is.frame_is in
+    let order : OrderOk g frames c.args.pes =
+    record { order = λ t. omega arith; start = λ z. absurd (omega arith) } in
+    rw (p.1, p.2)
+    (c.in_err-cross_gap.ensures.exact g frames c.args.pes task follows is.there is.frame_is
+    order)
+
+pub returns-clause-exact : goal.returns-clause-exact
+returns-clause-exact c g frames task follows is =
+    let some = follows.some in
+    let a = follows.frame_is in
+    let b = is.frame_is in
+    let order : OrderOk g frames c.args.pes =
+    record { order = λ t. omega arith; start = λ z. absurd (omega arith) } in
+    let crossed =
+    c.in_ok-cross_gap.ensures.exact g frames c.args.pes task follows is.there is.frame_is order
+    in
+    c.take.ensures.exact g frames c.args.pes task crossed.1 is order crossed.0
+
+pub returns-in_err-cross_gap-clause-never : goal.returns-in_err-cross_gap-clause-never
+returns-in_err-cross_gap-clause-never c =
+    let p = err_from_is_err_and c.from_residual.result c.from_residual.ensures.1 in
+    rw (p.1, p.2) c.in_err-cross_gap.ensures.never

@@ -1,0 +1,45 @@
+use Rattle.std.proofs.Common.{◌≡◌, ℕ, ◌+◌, ◌<◌, ◌++◌, List, [], ◌∷◌, length, take, get_or, cond}
+use Rattle.std.proofs.Common.{inl, inr, refl, sym, ap, ap₂, ◌∙◌, subst, arith, rules, append_assoc}
+use Rattle.ttx_page.specs.PacketKind.{is_this_page, kind}
+use Rattle.sub_check.specs.Listening.{Knows}
+use Rattle.sub_check.specs.PacketRules.{IsClean, header_count, packets_of_units}
+use Rattle.sub_check.proofs.PacketLists.{units_more, unit_at, header_count-push, AreClean-more}
+use Rattle.sub_check.proofs.listener.Listener.hear_all.Goals as goal
+
+pub loop-k-preserved : goal.loop-k-preserved
+loop-k-preserved c =
+    let w = c.args.self.now.watched in
+    let k : ℕ = c.loop-k.k in
+    let u = c.index-units-k.result in
+    let p : List ℕ = c.packet-packet.result.now in
+    let here : p ≡ u.packet = c.packet-packet.ensures.value in
+    let i = c.loop-k.invariant in
+    let units = c.args.units.now in
+    let ps = packets_of_units units in
+    let l : k < length units = search rules in
+    let more : take (k + 1) ps ≡ take k ps ++ p ∷ [] =
+    units_more units k u l c.index-units-k.is ∙ ap (λ x. take k ps ++ x ∷ []) (sym here) in
+    let at : get_or ps k [] ≡ p = unit_at units k u l c.index-units-k.is ∙ sym here in
+    let one = c.counted-headers.ensures in
+    let header = c.hear.ensures.header in
+    record {
+      same = c.hear.ensures.watched ∙ i.same;
+      count = c.hear.ensures.wrong;
+      few = search rules;
+      header =
+          one
+          ∙ ap₂ (λ n t. n + cond t 1 0) i.header
+          (header ∙ ap (λ v. is_this_page (kind v.page p)) i.same)
+          ∙ sym (ap (header_count w.page) more ∙ header_count-push w.page (take k ps) p);
+      known = λ heard known.
+          let before = i.known heard known in
+          let clean = c.in_default.ensures (heard ++ take k ps) before.1 in
+          let moved : IsClean w (heard ++ take k ps) p =
+          subst (λ v. IsClean v (heard ++ take k ps) p) i.same clean in
+          let new = c.hear.ensures.knows (heard ++ take k ps) before.1 clean in (
+            AreClean-more w heard ps k before.0
+                (subst (IsClean w (heard ++ take k ps)) (sym at) moved),
+            subst (λ xs. Knows xs c.hear.new.self)
+                (append_assoc heard (take k ps) (p ∷ []) ∙ ap (λ xs. heard ++ xs) (sym more)) new,
+          );
+    }

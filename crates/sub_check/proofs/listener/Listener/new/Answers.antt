@@ -1,0 +1,13 @@
+use Rattle.std.proofs.Common.{[], false, replicate, refl, sym, subst}
+use Rattle.sub_check.specs.Listening.{HoldsRows}
+use Rattle.sub_check.proofs.ListeningLemmas.{HoldsRows-none}
+use Rattle.sub_check.proofs.listener.Listener.new.Goals as goal
+
+pub returns-clause-knows : goal.returns-clause-knows
+returns-clause-knows c = record {
+  serial_is = refl;
+  open_is = refl;
+  rows_are =
+      subst (λ page. HoldsRows c.args.watched [] (replicate 24 false) page) (sym c.blank.ensures)
+      (HoldsRows-none c.args.watched);
+}

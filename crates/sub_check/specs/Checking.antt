@@ -1,0 +1,88 @@
+-- What the checker's steps answer, and what it has reached after the first n PES packets.
+use Rattle.std.specs.Prelude.{◌≡◌, ℕ, ◌+◌, ◌<◌, ◌≤◌, Bool, true, false, List, length, take, drop}
+use Rattle.std.specs.Prelude.{Option, Some, None}
+use Rattle.std.specs.Prelude.{Result, Ok, Err, All, flat_map}
+use Rattle.std.specs.List.{AllByRecursion}
+use Rattle.ttx_packet.specs.PageId.{PageIdValue}
+use Rattle.ttx_pes.specs.PesPacket.{PesValue}
+use Rattle.ttx_pes.specs.Reading.{answer_at, most_packets}
+use Rattle.ttx_pes.specs.declared.fault.PesFault.TheVariants as pes_fault
+use Rattle.sub_plan.specs.FrameTime.{frames_of_day, pts_of}
+use Rattle.sub_check.specs.FirstBroken.{HoldsEverywhere, unread_fault}
+use Rattle.sub_check.specs.Following.{Follows}
+use Rattle.sub_check.specs.FrameRules.{Task, Unread, frame_at, end_frame, joined}
+use Rattle.sub_check.specs.PacketRules.{header_count}
+use Rattle.sub_check.specs.PesReading.{EndsAs, ReadsAs}
+use Rattle.sub_check.specs.Transmission.{SentFrame, Transmission, first_frame, last_frame}
+use Rattle.sub_check.specs.declared.checker.Accepted.{Accepted}
+use Rattle.sub_check.specs.declared.fault.CheckFault.{CheckFault}
+use Rattle.sub_check.specs.declared.fault.CheckFault.TheVariants as fault
+use Rattle.sub_check.specs.declared.frame_rules.Checker.{Checker}
+
+-- The fault is that of a PES source that failed (41, Read).
+abbrev pub is_source_fault : CheckFault → Bool
+is_source_fault (fault.Pes pes pes_fault.Read) = true
+is_source_fault _ = false
+
+-- The answer is that fault.
+abbrev pub is_source_failure : {X : Type 0} → Result X CheckFault → Bool
+is_source_failure (Err f) = is_source_fault f
+is_source_failure (Ok x) = false
+
+-- A PTS is that of this frame of the day, and of no other.
+pub record IsFrameOf (origin pts frame : ℕ) : Type 0 where
+  pub in_day : frame < frames_of_day
+  pub is : pts_of origin frame ≡ pts
+  pub alone : (other : ℕ) → other < frames_of_day → pts_of origin other ≡ pts → other ≡ frame
+
+-- What is read of the bytes after so many PES packets, where the packet read is this value.
+abbrev pub TellsFrame : ℕ → ℕ → List ℕ → PesValue → Result (Option ℕ) CheckFault → Type 0
+TellsFrame origin pes bytes v (Ok None) = answer_at pes bytes ≡ Ok None
+TellsFrame origin pes bytes v (Ok (Some frame)) =
+    (answer_at pes bytes ≡ Ok (Some v)) × IsFrameOf origin v.pts frame
+TellsFrame origin pes bytes v (Err f) =
+    (u : Unread) × (f ≡ unread_fault pes (Some u)) × EndsAs origin pes bytes (Some u)
+
+-- What is told at the end, by the last TCO, the first frame, the last frame and the headers.
+abbrev pub TellsEnd : Option ℕ → ℕ → ℕ → ℕ → Result Accepted CheckFault → Type 0
+TellsEnd last_out first frame headers (Ok a) =
+    ((last : ℕ) → last_out ≡ Some last → last ≤ frame)
+    × (a.frames + first ≡ frame + 1)
+    × (a.transmissions ≡ headers)
+TellsEnd last_out first frame headers (Err f) =
+    (((last : ℕ) → last_out ≡ Some last → last ≤ frame) → ⊥) × (f ≡ fault.Late frame)
+
+-- Each packet has 42 bytes.
+abbrev pub AreWhole : Transmission → Type 0
+AreWhole frames =
+    AllByRecursion (λ (s : SentFrame). All (λ packet. length packet ≡ 42) s.packets) frames
+
+-- A transmission is accepted: all that is asked holds, and it has so many frames and headers.
+pub record Accepts (g : Task) (frames : Transmission) (a : Accepted) : Type 0 where
+  pub holds : HoldsEverywhere g frames
+  pub whole : AreWhole frames
+  pub frames_are : a.frames + frame_at frames 0 ≡ end_frame frames + 1
+  pub transmissions_are :
+      a.transmissions ≡ header_count g.watched.page (joined frames (length frames))
+
+-- What is told of an accepted transmission: the frames of the day from the first to the last, and
+-- the
+-- headers of the page.
+pub record HasCounts (page : PageIdValue) (frames : Transmission) (a : Accepted) : Type 0 where
+  pub frames_are : a.frames + first_frame frames ≡ last_frame frames + 1
+  pub transmissions_are :
+      a.transmissions ≡ header_count page (flat_map (λ (s : SentFrame). s.packets) frames)
+
+-- After n PES packets, n frames of the list are read and followed, and the others are left.
+pub record Reaches
+    (g : Task) (origin : ℕ) (frames : Transmission) (unread : Option Unread)
+    (remaining : Option (List ℕ)) (n first : ℕ) (c : Checker)
+    : Type 0 where
+  pub few : n ≤ most_packets
+  pub within : n ≤ length frames
+  pub first_is : frame_at frames 0 ≡ first
+  pub rest : List ℕ
+  pub rest_is : remaining ≡ Some rest
+  pub left : ReadsAs origin n rest (drop n frames) unread
+  pub follows : Follows g frames n c
+  pub whole : AreWhole (take n frames)

@@ -1,0 +1,83 @@
+-- What is asked at the end of each frame, in terms of the first frames of a transmission and of a
+-- task:
+-- what the transmission is checked against.
+use Rattle.std.specs.Prelude.{◌≡◌, ℕ, ◌+◌, ◌-◌, ◌<◌, ◌⊎◌, true, List, [], Option, None, map, take}
+use Rattle.std.specs.Prelude.{length}
+use Rattle.std.specs.Prelude.{slice_index, slice_index_or, flat_map}
+use Rattle.ttx_page.specs.Page.{Rows, cell}
+use Rattle.ttx_page.specs.PacketKind.{kind}
+use Rattle.ttx_page.specs.Shown.{shown}
+use Rattle.ttx_page.specs.Span.{holds_header}
+use Rattle.ttx_pes.specs.declared.fault.PesFault.{PesFault}
+use Rattle.stl_rows.specs.Programme.{ProgrammeValue, first_in, last_out}
+use Rattle.sub_plan.specs.Options.{OptionsValue}
+use Rattle.sub_check.specs.Good.{due_page}
+use Rattle.sub_check.specs.Transmission.{SentFrame, Transmission}
+use Rattle.sub_check.specs.declared.packet_rules.Watched.{Watched}
+
+-- Why the bytes of a PES file are not read as frames to their end: what follows the frames begins
+-- with
+-- no PES packet, by this fault, or with one whose PTS is that of no frame of the day.
+pub data Unread : Type 0 where
+  BadPacket : PesFault → Unread
+  NoFrame : Unread
+
+-- What a transmission is checked against: the page and its national option, the repeat bound, the
+-- page
+-- that is due at each frame, the first TCI and the last TCO; and what keeps the PES file from being
+-- read to its end, if anything does.
+pub record Task : Type 0 where
+  pub watched : Watched
+  pub every : ℕ
+  pub due : ℕ → Rows
+  pub first_in : Option ℕ
+  pub last_out : Option ℕ
+  pub unread : Option Unread
+
+-- The page and the national option that a programme is watched with.
+abbrev pub watched_of : ProgrammeValue → OptionsValue → Watched
+watched_of programme options = record { page = options.page; national = programme.national }
+
+-- The task of a programme and options.
+abbrev pub task_of : ProgrammeValue → OptionsValue → Option Unread → Task
+task_of programme options unread = record {
+  watched = watched_of programme options;
+  every = options.every;
+  due = due_page programme;
+  first_in = first_in programme.records;
+  last_out = last_out programme.records;
+  unread = unread;
+}
+
+-- The number of frame i of the list, from 0.
+abbrev pub frame_at : Transmission → ℕ → ℕ
+frame_at frames i = slice_index (map (λ (s : SentFrame). s.frame) frames) i
+
+-- Its packets.
+abbrev pub packets_at : Transmission → ℕ → List (List ℕ)
+packets_at frames i = slice_index_or (map (λ (s : SentFrame). s.packets) frames) i []
+
+-- The packets of the first n frames of the list, joined.
+abbrev pub joined : Transmission → ℕ → List (List ℕ)
+joined frames n = flat_map (λ (s : SentFrame). s.packets) (take n frames)
+
+-- The number of the last frame.
+abbrev pub end_frame : Transmission → ℕ
+end_frame frames = frame_at frames (length frames - 1)
+
+-- A header of the page is among the packets of frame i of the list.
+abbrev pub HasHeader : Task → Transmission → ℕ → Type 0
+HasHeader g frames i = holds_header (kind g.watched.page) (packets_at frames i) ≡ true
+
+-- After n frames of the list, at the end of frame f of the day, the cell shows what is due.
+abbrev pub Shows : Task → Transmission → ℕ → ℕ → ℕ → ℕ → Type 0
+Shows g frames n f row column =
+    shown g.watched.page (joined frames n) row column ≡ cell (g.due f) row column
+
+-- Of the frames of the day that end with f, as many as the repeat bound, one is before the first
+-- frame
+-- of the list, or has a header of the page.
+abbrev pub IsCovered : Task → Transmission → ℕ → ℕ → Type 0
+IsCovered g frames n f =
+    (f + 1 < frame_at frames 0 + g.every)
+    ⊎ ((j : ℕ) × (j < n) × (f < frame_at frames j + g.every) × HasHeader g frames j)

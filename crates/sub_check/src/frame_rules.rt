@@ -1,0 +1,287 @@
+//! The rules of frames: their order, the frames between two PES packets, and what is due at each
+//! frame's end.
+ghost use Rattle.std.specs.Prelude.{◌≡◌, ℕ, ◌+◌, ◌-◌, ◌<◌, ◌≤◌, ◌↔◌, length, if◌then◌else◌};
+ghost use Rattle.std.specs.Prelude.{◌*◌, ◌≢◌, MatchResult, OnOk, IfOk, IfErr, false, IsTrue, IsFalse};
+ghost use Rattle.std.specs.Prelude.{Some, nat_lt};
+ghost use Rattle.sub_check.specs.Checking.{is_source_fault};
+ghost use Rattle.sub_check.specs.FirstBroken.{NamesFirst, packet_fault};
+ghost use Rattle.sub_check.specs.FrameRules.{Task, frame_at};
+ghost use Rattle.sub_check.specs.Good.{due_page};
+ghost use Rattle.sub_check.specs.PacketRules.{packets_of_units};
+ghost use Rattle.ttx_page.specs.Differing.{differing};
+ghost use Rattle.sub_check.specs.Transmission.{Transmission};
+
+use crate::fault::CheckFault;
+use crate::listener::Listener;
+use crate::packet_rules::{PacketRule, Watched};
+use stl_rows::Programme;
+use ttx_page::Page;
+use ttx_pes::Unit;
+
+/// How far the check has come.
+#[derive(Drop)]
+pub(crate) struct Checker {
+    pub listener: Listener,
+    /// The page that is due.
+    pub due: Page,
+    /// The frame of the last PES packet.
+    pub frame: u32,
+    /// The frame of the last header of the page.
+    pub header_at: u32,
+    /// How many headers of the page there were.
+    pub headers: u64,
+}
+
+impl Checker {
+    ghost use Rattle.sub_check.specs.Listening.{Knows};
+    ghost use Rattle.sub_check.specs.Following.{Follows, GapOk, IsSentFrame, IsTaskOf, OrderOk};
+
+    // Goes on to a frame: where a subtitle begins or ends, the due page is drawn anew.
+    fn advance(&mut self, programme: &Programme, f: u32)
+        requires some { 0 < f }
+        requires due { self.old.due ≡ due_page programme.now (f - 1) }
+        requires count { self.old.listener.wrong ≡ differing self.old.listener.page self.old.due }
+        ensures due { self.new.due ≡ due_page programme.now f }
+        ensures count { self.new.listener.wrong ≡ differing self.new.listener.page self.new.due }
+        ensures frame { self.new.frame ≡ self.old.frame }
+        ensures header_at { self.new.header_at ≡ self.old.header_at }
+        ensures headers { self.new.headers ≡ self.old.headers }
+        ensures listener { self.new.listener
+            ≡ record self.old.listener { wrong = self.new.listener.wrong } }
+    {
+        if is_edge(programme, f) {
+            self.due = programme.due_page(f);
+            self.listener.wrong = self.listener.page.differing_cells(&self.due);
+        }
+    }
+
+    // The frames of the day between the last PES packet and the next.
+    fn cross_gap(&mut self, programme: &Programme, to: u32, every: u32) -> Result<(), CheckFault>
+        requires header { self.old.header_at ≤ self.old.frame }
+        requires later { self.old.frame < to }
+        requires due { self.old.due ≡ due_page programme.now self.old.frame }
+        requires count { self.old.listener.wrong ≡ differing self.old.listener.page self.old.due }
+        ensures frame { self.new.frame ≡ self.old.frame }
+        ensures header_at { self.new.header_at ≡ self.old.header_at }
+        ensures headers { self.new.headers ≡ self.old.headers }
+        ensures never { IfErr result (λ f. is_source_fault f ≡ false) }
+        ensures due { OnOk result (self.new.due ≡ due_page programme.now (to - 1)) }
+        ensures count { OnOk result
+            (self.new.listener.wrong ≡ differing self.new.listener.page self.new.due) }
+        ensures exact { (g : Task) (frames : Transmission) (n : ℕ)
+            → IsTaskOf g programme.now every → Follows g frames n self.old
+            → n < length frames → frame_at frames n ≡ to → OrderOk g frames n
+            → MatchResult result (λ _. GapOk g frames n × Follows g frames n self.new)
+            (NamesFirst g frames) }
+    {
+        for f in self.frame + 1..to {
+            self.advance(programme, f);
+            if let Some((row, column)) = self.listener.first_wrong(&self.due) {
+                return Err(CheckFault::Content {
+                    frame: f,
+                    row,
+                    column,
+                });
+            }
+            if f - self.header_at >= every {
+                return Err(CheckFault::Gap { frame: f });
+            }
+        }
+        Ok(())
+    }
+
+    // The packets of a frame, and its end.
+    fn take(
+        &mut self,
+        programme: &Programme,
+        frame: u32,
+        units: &[Unit],
+        every: u32,
+    ) -> Result<(), CheckFault>
+        requires few { length units.now ≤ 35 }
+        requires header { self.old.header_at ≤ self.old.frame }
+        requires later { self.old.frame < frame }
+        requires headers { self.old.headers ≤ 35 * self.old.frame + 35 }
+        requires due { self.old.due ≡ due_page programme.now (frame - 1) }
+        requires count { self.old.listener.wrong ≡ differing self.old.listener.page self.old.due }
+        ensures never { IfErr result (λ f. is_source_fault f ≡ false) }
+        ensures header { OnOk result (self.new.header_at ≤ self.new.frame) }
+        ensures frame { OnOk result (self.new.frame ≡ frame) }
+        ensures headers { OnOk result (self.new.headers ≤ 35 * self.new.frame + 35) }
+        ensures due { OnOk result (self.new.due ≡ due_page programme.now self.new.frame) }
+        ensures count { OnOk result
+            (self.new.listener.wrong ≡ differing self.new.listener.page self.new.due) }
+        ensures exact { (g : Task) (frames : Transmission) (n : ℕ)
+            → IsTaskOf g programme.now every → Follows g frames n self.old
+            → IsSentFrame frames n frame (packets_of_units units.now)
+            → OrderOk g frames n → GapOk g frames n
+            → MatchResult result (λ _. Follows g frames (n + 1) self.new) (NamesFirst g frames) }
+    {
+        self.advance(programme, frame);
+        let headers = match self.listener.hear_all(units, &self.due) {
+            Err(fault) => return Err(fault_of(fault.rule, frame, fault.packet)),
+            Ok(headers) => headers,
+        };
+        let found = any_header(headers);
+        self.headers = self.headers + u64::from(headers);
+        self.header_at = later_header(found, frame, self.header_at);
+        self.frame = frame;
+        if let Some((row, column)) = self.listener.first_wrong(&self.due) {
+            return Err(CheckFault::Content { frame, row, column });
+        }
+        if frame - self.header_at >= every {
+            return Err(CheckFault::Gap { frame });
+        }
+        Ok(())
+    }
+
+    /// A PES packet after the first: its frame and its units.
+    pub fn go_on(
+        &mut self,
+        programme: &Programme,
+        pes: u32,
+        frame: u32,
+        units: &[Unit],
+        every: u32,
+    ) -> Result<(), CheckFault>
+        requires few { length units.now ≤ 35 }
+        requires header { self.old.header_at ≤ self.old.frame }
+        requires headers { self.old.headers ≤ 35 * self.old.frame + 35 }
+        requires due { self.old.due ≡ due_page programme.now self.old.frame }
+        requires count { self.old.listener.wrong ≡ differing self.old.listener.page self.old.due }
+        ensures never { IfErr result (λ f. is_source_fault f ≡ false) }
+        ensures header { OnOk result (self.new.header_at ≤ self.new.frame) }
+        ensures later { OnOk result (self.old.frame ≤ self.new.frame) }
+        ensures headers { OnOk result (self.new.headers ≤ 35 * self.new.frame + 35) }
+        ensures due { OnOk result (self.new.due ≡ due_page programme.now self.new.frame) }
+        ensures count { OnOk result
+            (self.new.listener.wrong ≡ differing self.new.listener.page self.new.due) }
+        ensures exact { (g : Task) (frames : Transmission)
+            → IsTaskOf g programme.now every → Follows g frames pes self.old
+            → IsSentFrame frames pes frame (packets_of_units units.now)
+            → MatchResult result (λ _. Follows g frames (pes + 1) self.new) (NamesFirst g frames) }
+    {
+        if frame <= self.frame {
+            return Err(CheckFault::Order { pes });
+        }
+        self.cross_gap(programme, frame, every)?;
+        self.take(programme, frame, units, every)
+    }
+
+    /// The first PES packet: its frame and its units.
+    pub fn begin(
+        programme: &Programme,
+        watched: Watched,
+        frame: u32,
+        units: &[Unit],
+        every: u32,
+    ) -> Result<Checker, CheckFault>
+        requires some { 0 < every }
+        requires few { length units.now ≤ 35 }
+        ensures never { IfErr result (λ f. is_source_fault f ≡ false) }
+        ensures header { IfOk result (λ checker. checker.header_at ≤ checker.frame) }
+        ensures frame { IfOk result (λ checker. checker.frame ≡ frame) }
+        ensures headers { IfOk result (λ checker. checker.headers ≤ 35 * checker.frame + 35) }
+        ensures due { IfOk result (λ checker. checker.due ≡ due_page programme.now checker.frame) }
+        ensures count { IfOk result (λ checker.
+            checker.listener.wrong ≡ differing checker.listener.page checker.due) }
+        ensures exact { (g : Task) (frames : Transmission)
+            → IsTaskOf g programme.now every → g.watched ≡ watched
+            → IsSentFrame frames 0 frame (packets_of_units units.now)
+            → MatchResult result (Follows g frames 1) (NamesFirst g frames) }
+    {
+        if !is_in_time(programme.first_in(), frame) {
+            return Err(CheckFault::Early { frame });
+        }
+        let due = programme.due_page(frame);
+        let mut listener = Listener::new(watched);
+        listener.wrong = listener.page.differing_cells(&due);
+        let headers = match listener.hear_all(units, &due) {
+            Err(fault) => return Err(fault_of(fault.rule, frame, fault.packet)),
+            Ok(headers) => headers,
+        };
+        let found = any_header(headers);
+        if !found {
+            return Err(CheckFault::NoFirstHeader { frame });
+        }
+        if let Some((row, column)) = listener.first_wrong(&due) {
+            return Err(CheckFault::Content { frame, row, column });
+        }
+        Ok(Checker {
+            listener,
+            due,
+            frame,
+            header_at: frame,
+            headers: u64::from(headers),
+        })
+    }
+}
+
+// Whether a subtitle begins or ends at a frame.
+fn is_edge(programme: &Programme, frame: u32) -> bool
+    requires { 0 < frame }
+    ensures { IsFalse result
+        → due_page programme.now frame ≡ due_page programme.now (frame - 1) }
+{
+    is_at(programme.next_edge(frame - 1), frame)
+}
+
+// Whether the edge is this frame.
+fn is_at(edge: Option<u32>, frame: u32) -> bool
+    ensures { IsFalse result → edge ≢ Some frame }
+{
+    match edge {
+        Some(edge) => edge == frame,
+        None => false,
+    }
+}
+
+// Whether there was a header.
+fn any_header(headers: u32) -> bool
+    ensures { result ≡ nat_lt 0 headers }
+{
+    headers > 0
+}
+
+// The refusal of a packet that breaks a rule.
+fn fault_of(rule: PacketRule, frame: u32, packet: u32) -> CheckFault
+    ensures value { result ≡ packet_fault rule frame packet }
+    ensures never { is_source_fault result ≡ false }
+{
+    match rule {
+        PacketRule::Address => CheckFault::Address { frame, packet },
+        PacketRule::HeaderCode => CheckFault::HeaderCode { frame, packet },
+        PacketRule::Mode => CheckFault::Mode { frame, packet },
+        PacketRule::Control => CheckFault::Control { frame, packet },
+        PacketRule::Parity => CheckFault::Parity { frame, packet },
+        PacketRule::RowChanged => CheckFault::RowChanged { frame, packet },
+        PacketRule::Enhancement => CheckFault::Enhancement { frame, packet },
+    }
+}
+
+// The frame of the last header of the page, one PES packet on.
+fn later_header(found: bool, frame: u32, before: u32) -> u32
+    ensures { result ≡ (if found then frame else before) }
+{
+    if found { frame } else { before }
+}
+
+// The frame is not after the first TCI, if there is one.
+fn is_in_time(first_in: Option<u32>, frame: u32) -> bool
+    ensures { IsTrue result ↔ ((first : ℕ) → first_in ≡ Some first → frame ≤ first) }
+{
+    match first_in {
+        Some(first) => frame <= first,
+        None => true,
+    }
+}
+
+/// Whether the last TCO, if there is one, is not after the frame.
+pub(crate) fn is_over(last_out: Option<u32>, frame: u32) -> bool
+    ensures { IsTrue result ↔ ((last : ℕ) → last_out ≡ Some last → last ≤ frame) }
+{
+    match last_out {
+        Some(last) => last <= frame,
+        None => true,
+    }
+}

@@ -1,0 +1,223 @@
+//! What is kept of the packets that were heard, and the rule that the next packet breaks.
+ghost use Rattle.std.specs.Prelude.{◌≡◌, ℕ, ◌+◌, ◌-◌, ◌<◌, ◌≤◌, ◌++◌, List, [], ◌∷◌, MatchOption};
+ghost use Rattle.std.specs.Prelude.{MatchResult, IfOk, length, true, false, replicate, slice_set};
+ghost use Rattle.std.specs.Prelude.{if◌then◌else◌};
+ghost use Rattle.ttx_page.specs.Page.{AreCodes, DiffersFirst, IsCell, IsPage, blank, cell};
+ghost use Rattle.ttx_page.specs.PacketKind.{is_this_page, kind};
+ghost use Rattle.sub_check.specs.PacketRules.{header_count, packets_of_units};
+ghost use Rattle.ttx_page.specs.Differing.{differing};
+
+use crate::packet_rules::{
+    PacketRule, Watched, first_serial, has_exact_codes, has_mode, has_odd_text, is_enhancement,
+    is_subtitle_header, text_codes,
+};
+use crate::page_count::{codes_wrong, holds_row, row_wrong};
+use ttx_packet::Packet;
+use ttx_page::{PacketKind, Page};
+use ttx_pes::Unit;
+
+/// A rule that is broken, and the packet that breaks it.
+#[derive(Clone, Copy)]
+pub(crate) struct BrokenRule {
+    pub packet: u32,
+    pub rule: PacketRule,
+}
+
+/// What is kept of the packets that were heard.
+#[derive(Drop)]
+pub(crate) struct Listener {
+    pub watched: Watched,
+    /// C11 of the first header.
+    pub serial: Option<bool>,
+    /// The page is open for rows.
+    pub is_open: bool,
+    /// The rows that were sent since the last header of the page.
+    pub sent: [bool; 24],
+    pub page: Page,
+    /// How many cells of the page differ from the due page.
+    pub wrong: u16,
+}
+
+impl Listener {
+    ghost use Rattle.sub_check.specs.PacketRules.{AreClean, IsClean, IsFirstFault, IsFirstFlaw};
+    ghost use Rattle.sub_check.specs.Listening.{Knows};
+
+    /// Nothing was heard.
+    pub fn new(watched: Watched) -> Self
+        ensures watched { result.watched ≡ watched }
+        ensures knows { Knows [] result }
+    {
+        Listener {
+            watched,
+            serial: None,
+            is_open: false,
+            sent: [false; 24],
+            page: Page::blank(),
+            wrong: 0,
+        }
+    }
+
+    /// The first rule that a packet breaks which comes now.
+    pub fn broken_rule(&self, packet: &Packet) -> Option<PacketRule>
+        ensures { (heard : List (List ℕ)) → Knows heard self.now
+            → MatchOption result
+            (IsClean self.now.watched heard packet.now)
+            (IsFirstFlaw self.now.watched heard packet.now) }
+    {
+        if !packet.is_clean_address() {
+            return Some(PacketRule::Address);
+        }
+        if !has_exact_codes(packet) {
+            return Some(PacketRule::HeaderCode);
+        }
+        if !has_mode(self.serial, packet) {
+            return Some(PacketRule::Mode);
+        }
+        match PacketKind::of(self.watched.page, packet) {
+            PacketKind::ThisPage(header) => {
+                if is_subtitle_header(self.watched.national, &header) {
+                    None
+                } else {
+                    Some(PacketRule::Control)
+                }
+            }
+            PacketKind::EndsPage => None,
+            PacketKind::Row(row) => {
+                if !self.is_open {
+                    return None;
+                }
+                if !has_odd_text(packet) {
+                    return Some(PacketRule::Parity);
+                }
+                let at = row as usize - 1;
+                if self.sent[at] && !holds_row(&self.page, row, packet) {
+                    return Some(PacketRule::RowChanged);
+                }
+                None
+            }
+            PacketKind::Other => {
+                if self.is_open && is_enhancement(self.watched.page, packet) {
+                    Some(PacketRule::Enhancement)
+                } else {
+                    None
+                }
+            }
+        }
+    }
+
+    /// Hears a packet that breaks no rule, and says whether it is a header of the page.
+    pub fn hear(&mut self, packet: &Packet, due: &Page) -> bool
+        requires { self.old.wrong ≡ differing self.old.page due.now }
+        ensures header { result ≡ is_this_page (kind self.old.watched.page packet.now) }
+        ensures watched { self.new.watched ≡ self.old.watched }
+        ensures wrong { self.new.wrong ≡ differing self.new.page due.now }
+        ensures knows { (heard : List (List ℕ)) → Knows heard self.old
+            → IsClean self.old.watched heard packet.now
+            → Knows (heard ++ packet.now ∷ []) self.new }
+    {
+        self.serial = first_serial(self.serial, packet);
+        match PacketKind::of(self.watched.page, packet) {
+            PacketKind::ThisPage(_) => {
+                self.start(due);
+                true
+            }
+            PacketKind::EndsPage => {
+                self.is_open = false;
+                false
+            }
+            PacketKind::Row(row) => {
+                if self.is_open {
+                    self.store(row, &text_codes(packet), due);
+                }
+                false
+            }
+            PacketKind::Other => false,
+        }
+    }
+
+    /// Hears the packets of these units as long as they break no rule, and says how many headers of
+    /// the page were among them.
+    pub fn hear_all(&mut self, units: &[Unit], due: &Page) -> Result<u32, BrokenRule>
+        requires few { length units.now ≤ 35 }
+        requires wrong { self.old.wrong ≡ differing self.old.page due.now }
+        ensures watched { self.new.watched ≡ self.old.watched }
+        ensures wrong { self.new.wrong ≡ differing self.new.page due.now }
+        ensures headers { IfOk result (λ headers.
+            headers ≡ header_count self.old.watched.page (packets_of_units units.now)) }
+        ensures few { IfOk result (λ headers. headers ≤ 35) }
+        ensures knows { (heard : List (List ℕ)) → Knows heard self.old → MatchResult result
+            (λ _. AreClean self.old.watched heard (packets_of_units units.now) (length units.now)
+            × Knows (heard ++ packets_of_units units.now) self.new)
+            (λ fault. IsFirstFault self.old.watched heard (packets_of_units units.now)
+            fault.packet fault.rule) }
+    {
+        let mut headers = 0;
+        for k in 0..units.len() {
+            let packet = units[k].packet();
+            if let Some(rule) = self.broken_rule(packet) {
+                let packet = k as u32;
+                return Err(BrokenRule { packet, rule });
+            }
+            headers = counted(headers, self.hear(packet, due));
+        }
+        Ok(headers)
+    }
+
+    /// The first cell that differs from the due page, found by the count.
+    pub fn first_wrong(&self, due: &Page) -> Option<(u8, u8)>
+        requires { self.now.wrong ≡ differing self.now.page due.now }
+        ensures { MatchOption result
+            ((row column : ℕ) → IsCell row column
+            → cell self.now.page row column ≡ cell due.now row column)
+            (λ place. DiffersFirst self.now.page due.now place.0 place.1) }
+    {
+        if self.wrong == 0 {
+            None
+        } else {
+            self.page.first_difference(due)
+        }
+    }
+
+    // A header of the page: it is blank, and no row was sent.
+    fn start(&mut self, due: &Page)
+        ensures { self.new ≡ record self.old {
+          is_open = true;
+          sent = replicate 24 false;
+          page = blank;
+          wrong = differing blank due.now;
+        } }
+    {
+        self.is_open = true;
+        self.sent = [false; 24];
+        self.page = Page::blank();
+        self.wrong = self.page.differing_cells(due);
+    }
+
+    // A row is sent.
+    fn store(&mut self, row: u8, codes: &[u8; 40], due: &Page)
+        requires row { (1 ≤ row) × (row ≤ 24) }
+        requires codes { AreCodes codes.now }
+        requires wrong { self.old.wrong ≡ differing self.old.page due.now }
+        ensures kept { self.new ≡ record self.old {
+          sent = slice_set self.old.sent (row - 1) true;
+          page = slice_set self.old.page (row - 1) codes.now;
+          wrong = self.new.wrong;
+        } }
+        ensures wrong { self.new.wrong ≡ differing self.new.page due.now }
+        ensures page { IsPage self.old.page }
+    {
+        let before = row_wrong(&self.page, due, row);
+        let after = codes_wrong(codes, due, row);
+        self.sent[row as usize - 1] = true;
+        self.page.set_row(row, codes);
+        self.wrong = self.wrong - before + after;
+    }
+}
+
+// One header more, or none.
+fn counted(headers: u32, is_header: bool) -> u32
+    requires { headers < 35 }
+    ensures { result ≡ headers + (if is_header then 1 else 0) }
+{
+    if is_header { headers + 1 } else { headers }
+}

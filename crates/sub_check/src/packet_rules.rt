@@ -1,0 +1,160 @@
+//! The rules of a single packet: tests that the listener joins with what it keeps.
+ghost use Rattle.std.specs.Prelude.{◌≡◌, ◌<◌, ◌≤◌, ◌↔◌, Bool, IsTrue, Some, Option, option_map};
+ghost use Rattle.std.specs.Option.{option_or};
+ghost use Rattle.ttx_packet.specs.PacketAddress.{IsPacket, PacketAddress, address};
+ghost use Rattle.ttx_packet.specs.PageHeader.{c11, header, is_set, HasExactHeader};
+ghost use Rattle.ttx_packet.specs.Parity.{code_of};
+ghost use Rattle.ttx_packet.specs.RowPacket.{HasOddText};
+ghost use Rattle.ttx_packet.specs.declared.header.Header.{Header};
+ghost use Rattle.ttx_page.specs.Page.{AreCodes};
+ghost use Rattle.sub_check.specs.Good.{IsEnhancement, IsSubtitleHeader, has_c14};
+ghost use Rattle.sub_check.specs.PacketRules.{codes_of};
+
+use bitflags::Flags;
+use stl_rows::National;
+use ttx_packet::{Control, Header, Packet, PageId};
+
+/// What is asked of a packet, in the order in which it is looked at.
+#[derive(Clone, Copy, Debug, PartialEq, Eq)]
+pub(crate) enum PacketRule {
+    /// Both address bytes are code words.
+    Address,
+    /// The eight coded bytes of a packet X/0 are code words.
+    HeaderCode,
+    /// All headers agree on C11.
+    Mode,
+    /// A header of the page is a subtitle's.
+    Control,
+    /// A row of the open page has odd parity.
+    Parity,
+    /// A row of the open page stays as it is.
+    RowChanged,
+    /// No packet X/25 to X/28 comes while the page is open.
+    Enhancement,
+}
+
+/// The page that is watched, and the national option that its headers have.
+#[derive(Clone, Copy)]
+pub(crate) struct Watched {
+    pub page: PageId,
+    pub national: National,
+}
+
+// Whether a packet is X/0.
+fn is_header_packet(packet: &Packet) -> bool
+    ensures { IsTrue result ↔ ((a : PacketAddress)
+        × (address packet.now ≡ Some a) × (a.packet_number ≡ 0)) }
+{
+    match packet.address() {
+        None => false,
+        Some((_, packet_number)) => packet_number == 0,
+    }
+}
+
+/// Whether in a packet X/0 the eight coded bytes are code words.
+pub(crate) fn has_exact_codes(packet: &Packet) -> bool
+    ensures { IsTrue result ↔ ((a : PacketAddress)
+        → address packet.now ≡ Some a → a.packet_number ≡ 0 → HasExactHeader packet.now) }
+{
+    if !is_header_packet(packet) {
+        return true;
+    }
+    packet.is_clean_header()
+}
+
+/// C11, magazine serial.
+fn is_serial(header: &Header) -> bool
+    ensures { result ≡ c11 header.now }
+{
+    header.control.contains(Control::C11)
+}
+
+/// Whether a header has the C11 of the first one.
+pub(crate) fn has_mode(serial: Option<bool>, packet: &Packet) -> bool
+    ensures { IsTrue result ↔ ((h : Header) (first : Bool)
+        → header packet.now ≡ Some h → serial ≡ Some first → c11 h ≡ first) }
+{
+    match (packet.header(), serial) {
+        (Some(header), Some(first)) => is_serial(&header) == first,
+        _ => true,
+    }
+}
+
+/// C11 of the first header, one packet on.
+pub(crate) fn first_serial(serial: Option<bool>, packet: &Packet) -> Option<bool>
+    ensures { result ≡ option_or serial (option_map (λ (h : Header). c11 h) (header packet.now)) }
+{
+    match serial {
+        Some(first) => Some(first),
+        None => match packet.header() {
+            Some(header) => Some(is_serial(&header)),
+            None => None,
+        },
+    }
+}
+
+/// Whether a control bit is set.
+fn is_bit(control: Control, flag: Control) -> bool
+    ensures { result ≡ is_set control flag.0 }
+{
+    control.contains(flag)
+}
+
+/// C14 of a national option.
+fn third_bit(national: National) -> bool
+    ensures { result ≡ has_c14 national }
+{
+    match national {
+        National::English => false,
+        National::German => true,
+    }
+}
+
+/// Whether a header is a subtitle's: C4, C6 and C7 are set, C5 and C10 are clear, and C12, C13 and
+/// C14 are those of the national option.
+pub(crate) fn is_subtitle_header(national: National, header: &Header) -> bool
+    ensures { IsTrue result ↔ IsSubtitleHeader national header.now }
+{
+    let control = header.control;
+    is_bit(control, Control::C4)
+        && !is_bit(control, Control::C5)
+        && is_bit(control, Control::C6)
+        && is_bit(control, Control::C7)
+        && !is_bit(control, Control::C10)
+        && !is_bit(control, Control::C12)
+        && !is_bit(control, Control::C13)
+        && is_bit(control, Control::C14) == third_bit(national)
+}
+
+/// Whether a packet is X/25 to X/28 of the page's magazine.
+pub(crate) fn is_enhancement(page: PageId, packet: &Packet) -> bool
+    ensures { IsTrue result ↔ IsEnhancement page packet.now }
+{
+    match packet.address() {
+        None => false,
+        Some((magazine, packet_number)) => {
+            magazine == page.magazine() && packet_number >= 25 && packet_number <= 28
+        }
+    }
+}
+
+/// Whether the 40 bytes of a packet's text are odd.
+pub(crate) fn has_odd_text(packet: &Packet) -> bool
+    ensures { IsTrue result ↔ HasOddText packet.now }
+{
+    packet.first_even().is_none()
+}
+
+/// The 40 codes of a packet's text: each byte without its parity bit.
+pub(crate) fn text_codes(packet: &Packet) -> [u8; 40]
+    ensures value { result ≡ codes_of packet.now }
+    ensures codes { AreCodes result }
+    ensures whole { IsPacket packet.now }
+{
+    let bytes = packet.bytes();
+    let mut codes = [0; 40];
+    for column in 0..40usize {
+        codes[column] = bytes[column + 2] % 128;
+    }
+    codes
+}
