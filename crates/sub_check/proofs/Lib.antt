@@ -23,3 +23,5 @@ pub mod GoodLemmas
 pub mod PesReadingLemmas
 pub mod JudgeLemmas
 pub mod CheckLemmas
+pub mod FrameLemmas
+pub mod PlanLemmas

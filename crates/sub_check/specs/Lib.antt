@@ -14,3 +14,4 @@ pub mod FirstBroken
 pub mod Following
 pub mod PesReading
 pub mod Checking
+pub mod Planned

@@ -3,6 +3,7 @@
 //! The functions do nothing: the contract of each is a law over the definitions of `specs/`.
 ghost use Rattle.sub_check.specs.Laws.{LawOfGood, LawOfGoodAndLoss, LawOfGoodAndMarkedLoss};
 ghost use Rattle.sub_check.specs.Laws.{LawOfAllKept, LawOfNothingLost, LawOfWindow};
+ghost use Rattle.sub_check.specs.Planned.{LawOfPlan};
 ghost use Rattle.sub_check.specs.Rules.{LawOfRules};
 ghost use Rattle.sub_check.specs.StepByStep.{LawOfCleanSpans, LawOfRepeats, LawOfSpansByPacket};
 
@@ -57,4 +58,10 @@ pub fn law_of_spans_by_packet()
 /// A header comes in each so many frames exactly where the last one is never so many frames old.
 pub fn law_of_repeats()
     ensures { LawOfRepeats }
+{}
+
+/// The schedule of a programme that has a subtitle is a good transmission of it, in both modes and
+/// for both national options.
+pub fn law_of_plan()
+    ensures { LawOfPlan }
 {}

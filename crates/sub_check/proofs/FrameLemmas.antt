@@ -1,0 +1,175 @@
+-- The frames of a range that pass a test, as a transmission: sent_at, sent_none, rises.
+use Rattle.std.proofs.Common.{◌≡◌, ℕ, zero, suc, ◌+◌, ◌-◌, ◌<◌, ◌≤◌, inl, inr, Bool, true, false}
+use Rattle.std.proofs.Common.{◌&&◌, nat_le, nat_lt, cond, List, [], ◌∷◌, ◌++◌, map, filter}
+use Rattle.std.proofs.Common.{flat_map, slice_index_or, All, refl, ap, ap₂, ◌∙◌}
+use Rattle.std.proofs.Common.{arith, append-nil}
+use Rattle.std.specs.List.{range_with_len, AllByRecursion}
+use Rattle.std.proofs.lemmas.Bool.{cases_lt, lt-ltb, le-ltb, le-leb, lt-leb, and_from, and_left}
+use Rattle.std.proofs.lemmas.Bool.{and_right}
+use Rattle.std.proofs.lemmas.List.{map-append}
+use Rattle.std.proofs.lemmas.List.Elements.{All-map, All-from_recursion, filter-append}
+use Rattle.sub_plan.proofs.ScheduleBases.{range_split}
+use Rattle.sub_check.specs.Transmission.{SentFrame, Transmission, EachPacket, IsRising}
+use Rattle.sub_check.specs.Transmission.{last_frame, packets_between}
+
+-- ---- the frames of a filtered range
+
+module _ (made : ℕ → SentFrame) (numbered : (f : ℕ) → (made f).frame ≡ f) (p : ℕ → Bool) where
+  -- The frames of a range that pass, each as it is made.
+  abbrev pub frames : ℕ → ℕ → Transmission
+  frames a n = map made (filter p (range_with_len a n))
+
+  -- Frames from one on are that or later.
+  later : (a n b : ℕ) → b ≤ a → AllByRecursion (λ (frame : SentFrame). b ≤ frame.frame) (frames a n)
+  later a zero b l = tt
+  later a (suc n) b l = go (p a) (later (a + 1) n b (omega arith))
+    where
+      go : (t : Bool) → AllByRecursion (λ (frame : SentFrame). b ≤ frame.frame) (frames (a + 1) n)
+          → AllByRecursion (λ (frame : SentFrame). b ≤ frame.frame)
+          (map made (cond t (a ∷ filter p (range_with_len (a + 1) n))
+          (filter p (range_with_len (a + 1) n))))
+      go true ih = (omega (arith, numbered a), ih)
+      go false ih = ih
+
+  -- A frame before later ones.
+  rising_cons : (frame : SentFrame) (rest : Transmission)
+      → AllByRecursion (λ (other : SentFrame). suc frame.frame ≤ other.frame) rest → IsRising rest
+      → IsRising (frame ∷ rest)
+  rising_cons frame rest after rises zero zero d l m = absurd (omega arith)
+  rising_cons frame rest after rises zero (suc j) d l m =
+      let x : suc frame.frame ≤ (slice_index_or rest j d).frame =
+      All-from_recursion (λ (other : SentFrame). suc frame.frame ≤ other.frame) rest after j d
+      (omega arith) in omega arith
+  rising_cons frame rest after rises (suc i) zero d l m = absurd (omega arith)
+  rising_cons frame rest after rises (suc i) (suc j) d l m = rises i j d (omega arith) (omega arith)
+
+  -- The frames rise.
+  pub rises : (a n : ℕ) → IsRising (frames a n)
+  rises a zero = λ i j d l m. absurd (omega arith)
+  rises a (suc n) = go (p a) (rises (a + 1) n)
+    where
+      go : (t : Bool) → IsRising (frames (a + 1) n)
+          → IsRising (map made (cond t (a ∷ filter p (range_with_len (a + 1) n))
+          (filter p (range_with_len (a + 1) n))))
+      go true ih = rising_cons (made a) (frames (a + 1) n)
+          (later (a + 1) n (suc (made a).frame) (omega (arith, numbered a))) ih
+      go false ih = ih
+
+  -- What one frame gives.
+  abbrev piece : ℕ → ℕ → SentFrame → List (List ℕ)
+  piece a b frame = cond (nat_le a frame.frame && nat_lt frame.frame b) frame.packets []
+
+  -- Where nothing is sent between two frames.
+  pub sent_none : (from end a n : ℕ) → ((j : ℕ) → from ≤ j → j < end → p j ≡ false)
+      → packets_between (frames a n) from end ≡ []
+  sent_none from end a zero none = refl
+  sent_none from end a (suc n) none = go (p a) refl (sent_none from end (a + 1) n none)
+    where
+      outside : p a ≡ true → piece from end (made a) ≡ []
+      outside h =
+          elim (cases_lt (made a).frame from) [
+            | inl before ↦ ap (λ t. cond t (made a).packets [])
+                (and_left _ _ (lt-leb from (made a).frame before))
+            | inr after ↦
+                elim (cases_lt (made a).frame end) [
+                  | inl within ↦ absurd
+                      (let e : p a ≡ false =
+                      none a (omega (arith, numbered a)) (omega (arith, numbered a)) in cc)
+                  | inr past ↦ ap (λ t. cond t (made a).packets [])
+                      (and_right _ _ (le-ltb (made a).frame end past))
+                ]
+          ]
+
+      go : (t : Bool) → p a ≡ t → packets_between (frames (a + 1) n) from end ≡ []
+          → packets_between (map made
+          (cond t (a ∷ filter p (range_with_len (a + 1) n)) (filter p (range_with_len (a + 1) n))))
+          from end ≡ []
+      go true h ih = ap₂ ◌++◌ (outside h) ih
+      go false h ih = ih
+
+  -- What is sent in one frame.
+  pub sent_at : (g a n : ℕ) → p g ≡ true → a ≤ g → g < a + n
+      → packets_between (frames a n) g (g + 1) ≡ (made g).packets
+  sent_at g a zero h low high = absurd (omega arith)
+  sent_at g a (suc n) h low high =
+      elim (cases_lt a g) [
+        | inl before ↦ past (p a) before (sent_at g (a + 1) n h (omega arith) (omega arith))
+        | inr here ↦ let e : a ≡ g = omega arith in at (p a) (ap p e ∙ h) e
+      ]
+    where
+      past : (t : Bool) → a < g → packets_between (frames (a + 1) n) g (g + 1) ≡ (made g).packets
+          → packets_between (map made
+          (cond t (a ∷ filter p (range_with_len (a + 1) n)) (filter p (range_with_len (a + 1) n))))
+          g (g + 1) ≡ (made g).packets
+      past true before ih =
+          ap₂ ◌++◌ (ap (λ t. cond t (made a).packets [])
+          (and_left (nat_le g (made a).frame) (nat_lt (made a).frame (g + 1))
+          (lt-leb g (made a).frame (omega (arith, numbered a))))) ih
+      past false before ih = ih
+
+      rest_none : (k : ℕ) → (b : ℕ) → g < b → packets_between (frames b k) g (g + 1) ≡ []
+      rest_none zero b l = refl
+      rest_none (suc k) b l = skip (p b) (rest_none k (b + 1) (omega arith))
+        where
+          skip : (t : Bool) → packets_between (frames (b + 1) k) g (g + 1) ≡ []
+              → packets_between (map made
+              (cond t (b ∷ filter p (range_with_len (b + 1) k))
+              (filter p (range_with_len (b + 1) k)))) g (g + 1) ≡ []
+          skip true ih = ap₂ ◌++◌
+              (ap (λ t. cond t (made b).packets [])
+              (and_right (nat_le g (made b).frame) (nat_lt (made b).frame (g + 1))
+              (le-ltb (made b).frame (g + 1) (omega (arith, numbered b))))) ih
+          skip false ih = ih
+
+      at : (t : Bool) → t ≡ true → a ≡ g
+          → packets_between (map made
+          (cond t (a ∷ filter p (range_with_len (a + 1) n)) (filter p (range_with_len (a + 1) n))))
+          g (g + 1) ≡ (made g).packets
+      at true h e =
+          let inside : (nat_le g (made a).frame && nat_lt (made a).frame (g + 1)) ≡ true =
+          and_from _ _ (le-leb g (made a).frame (omega (arith, numbered a)))
+          (lt-ltb (made a).frame (g + 1) (omega (arith, numbered a))) in
+          ap₂ ◌++◌ (ap (λ t. cond t (made a).packets []) inside) (rest_none n (a + 1) (omega arith))
+          ∙ append-nil (made a).packets ∙ ap (λ x. (made x).packets) e
+      at false h e = cc
+
+  -- Between two frames stand the packets of some of the frames.
+  pub sent_some : (from end : ℕ) (fs : List ℕ) → (gs : List ℕ)
+      × (packets_between (map made fs) from end ≡ flat_map (λ f. (made f).packets) gs)
+  sent_some from end [] = ([], refl)
+  sent_some from end (f ∷ fs) =
+      go (nat_le from (made f).frame && nat_lt (made f).frame end) (sent_some from end fs)
+    where
+      go : (t : Bool) → (gs : List ℕ)
+          × (packets_between (map made fs) from end ≡ flat_map (λ f. (made f).packets) gs)
+          → (gs : List ℕ) × (cond t (made f).packets []
+          ++ packets_between (map made fs) from end ≡ flat_map (λ f. (made f).packets) gs)
+      go true ih = (f ∷ ih.0, ap (λ ps. (made f).packets ++ ps) ih.1)
+      go false ih = ih
+
+  -- A fact of the packets of each frame.
+  pub each_frame : (P : List ℕ → Type 0) (fs : List ℕ) → ((f : ℕ) → All P (made f).packets)
+      → EachPacket P (map made fs)
+  each_frame P fs h = All-map (λ (frame : SentFrame). All P frame.packets) made fs
+      (λ k d l. h (slice_index_or fs k d))
+
+  -- The first frame of a range that passes.
+  pub starts_with : (a n : ℕ) → p a ≡ true → frames a (suc n) ≡ made a ∷ frames (a + 1) n
+  starts_with a n h = ap
+      (λ t. map made (cond t (a ∷ filter p (range_with_len (a + 1) n))
+      (filter p (range_with_len (a + 1) n)))) h
+
+  -- And the last.
+  pub ends_with : (a n : ℕ) → p (a + n) ≡ true → frames a (n + 1) ≡ frames a n ++ made (a + n) ∷ []
+  ends_with a n h =
+      ap (λ xs. map made (filter p xs)) (range_split a n 1)
+      ∙ ap (map made) (filter-append p (range_with_len a n) (range_with_len (a + n) 1))
+      ∙ map-append made (filter p (range_with_len a n)) (filter p (range_with_len (a + n) 1))
+      ∙ ap (λ t. map made (filter p (range_with_len a n)) ++ map made (cond t ((a + n) ∷ []) [])) h
+
+-- The last frame of a list that got one more.
+pub last_push : (frames : Transmission) (frame : SentFrame)
+    → last_frame (frames ++ frame ∷ []) ≡ frame.frame
+last_push [] frame = refl
+last_push (f ∷ []) frame = refl
+last_push (f ∷ g ∷ frames) frame = last_push (g ∷ frames) frame
