@@ -13,6 +13,10 @@ required_rule id = record (new_rule id) { required = true }
 abbrev pub packet_app : App
 packet_app = with_rule (new_app (codes "packet")) (required_rule (codes "hex"))
 
+-- `packets PES`
+abbrev pub packets_app : App
+packets_app = with_rule (new_app (codes "packets")) (required_rule (codes "pes"))
+
 -- The program before its commands: it offers neither help nor a version, and wants a command.
 abbrev pub bare_app : App
 bare_app = let plain = new_app (codes "subttx") in record plain {
@@ -26,7 +30,7 @@ bare_app = let plain = new_app (codes "subttx") in record plain {
 
 -- The program and its commands.
 unfoldable pub subttx_app : App
-subttx_app = with_subcommand bare_app packet_app.top
+subttx_app = with_subcommand (with_subcommand bare_app packet_app.top) packets_app.top
 
 -- What `clap`'s contract says of words, as functions of them. The kinds of its refusal: none where
 -- it takes the words.
@@ -43,7 +47,7 @@ are_sound words = takes subttx_app words
 
 -- The names of the commands.
 abbrev pub command_names : List Text
-command_names = codes "packet" ∷ []
+command_names = codes "packet" ∷ codes "packets" ∷ []
 
 -- The words of the command line as texts.
 abbrev pub texts_of : List (Bor (List ℕ)) → List Text

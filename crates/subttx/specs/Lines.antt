@@ -5,6 +5,10 @@ use Rattle.std.specs.Prelude.{Bool, if◌then◌else◌, slice_index}
 use Rattle.ttx_packet.specs.Parity.{is_odd, code_of}
 use Rattle.ttx_packet.specs.PageHeader.{c4, c5, c6, c7, c8, c9, c10, c11, c12, c13, c14}
 use Rattle.ttx_packet.specs.declared.Header.{Header}
+use Rattle.hex.specs.Hex.{encode_lower}
+use Rattle.ttx_pes.specs.DataUnit.{UnitValue}
+use Rattle.ttx_pes.specs.declared.PesFault.{PesFault}
+use Rattle.ttx_pes.specs.declared.PesFault.TheVariants as pes
 use Rattle.subttx.specs.declared.request.UsageFault.{UsageFault}
 use Rattle.subttx.specs.declared.request.UsageFault.TheVariants as fault
 
@@ -72,3 +76,36 @@ header_line h = page_and_subcode h ++ codes " control" ++ control_list h ++ code
 -- Text bytes between bars.
 abbrev pub text_line : List ℕ → List ℕ
 text_line bytes = codes "text |" ++ map text_glyph bytes ++ codes "|\n"
+
+-- A PES packet: its index from 0, and its PTS.
+abbrev pub pes_line : ℕ → ℕ → List ℕ
+pes_line index pts = codes "pes " ++ decimal index ++ codes " pts " ++ decimal pts ++ codes "\n"
+
+-- A Teletext unit: its number in its PES packet from 0, data_unit_id, the field, line_offset, and the
+-- packet's 42 bytes, not mirrored.
+abbrev pub unit_line : ℕ → UnitValue → List ℕ
+unit_line number u = codes "unit " ++ decimal number ++ codes " id 0" ++ decimal u.id
+    ++ codes " field " ++ decimal u.field ++ codes " line " ++ decimal u.line ++ codes " "
+    ++ encode_lower u.packet ++ codes "\n"
+
+-- A fault of a PES file by number and name; that of a device is a fault, any other a refusal (own).
+abbrev pub pes_fault_words : PesFault → List ℕ
+pes_fault_words pes.Truncated = codes "refused 30 Truncated"
+pes_fault_words pes.Start = codes "refused 31 Start"
+pes_fault_words pes.Length = codes "refused 32 Length"
+pes_fault_words pes.Flags = codes "refused 33 Flags"
+pes_fault_words pes.NoTime = codes "refused 34 NoTime"
+pes_fault_words pes.HeaderLength = codes "refused 35 HeaderLength"
+pes_fault_words pes.Time = codes "refused 36 Time"
+pes_fault_words pes.DataId = codes "refused 37 DataId"
+pes_fault_words pes.UnitLength = codes "refused 38 UnitLength"
+pes_fault_words pes.Framing = codes "refused 39 Framing"
+pes_fault_words pes.LineOrder = codes "refused 40 LineOrder"
+pes_fault_words pes.Read = codes "fault 41 Read"
+pes_fault_words pes.Write = codes "fault 42 Write"
+pes_fault_words pes.Ended = codes "refused 43 Ended"
+pes_fault_words pes.TooMany = codes "refused 44 TooMany"
+
+-- The same with the index of the PES packet.
+abbrev pub pes_fault_line : PesFault → ℕ → List ℕ
+pes_fault_line fault index = pes_fault_words fault ++ codes " pes " ++ decimal index ++ codes "\n"

@@ -1,10 +1,13 @@
 -- What the commands print, whole, and how they end.
-use Rattle.std.specs.Prelude.{◌≡◌, ◌≢◌, ℕ, ◌+◌, ◌≤◌, ◌==◌, nat_le, List, ◌++◌, codes, drop}
+use Rattle.std.specs.Prelude.{⊤, ◌≡◌, ◌≢◌, ℕ, ◌+◌, ◌≤◌, ◌==◌, Bool, true, false, nat_le, List}
+use Rattle.std.specs.Prelude.{◌++◌, codes, drop}
 use Rattle.std.specs.Prelude.{Option, Some, None, option_map, if◌then◌else◌}
 use Rattle.ttx_packet.specs.PacketAddress.{address, address_pair}
 use Rattle.ttx_packet.specs.PageHeader.{header}
 use Rattle.ttx_packet.specs.declared.Header.{Header}
 use Rattle.std.specs.Io.KnownBytes.{Appends}
+use Rattle.ttx_pes.specs.declared.PesFault.{PesFault}
+use Rattle.ttx_pes.specs.declared.PesFault.TheVariants as pes
 use Rattle.sub_io.specs.Device.{AppendsPrefix}
 use Rattle.subttx.specs.Lines.{address_line, header_line, text_line}
 use Rattle.subttx.specs.declared.request.Request.{Request}
@@ -68,3 +71,14 @@ pub record CountsFault (old : ℕ) (status : Status) (new : ℕ) : Type 0 where
 -- The fact holds of the bytes of a `packet` request.
 abbrev pub ForPacket : Request → (List ℕ → Type 0) → Type 0
 ForPacket (ask.Packet bytes) P = P bytes
+ForPacket (ask.Packets pes) P = ⊤
+
+-- A fault of a PES file that is read is the device's only where the source failed.
+abbrev pub pes_status : PesFault → Status
+pes_status pes.Read = Fault
+pes_status _ = Refused
+
+-- A listing ends in a fault.
+abbrev pub ends_in_fault : Option Status → Bool
+ends_in_fault (Some Fault) = true
+ends_in_fault _ = false

@@ -26,10 +26,12 @@ own_fault name rows = if bytes_eq name (codes "packet") then packet_fault rows e
 -- The name of the command that a request is made by.
 abbrev pub command_of : Request → Text
 command_of (ask.Packet bytes) = codes "packet"
+command_of (ask.Packets pes) = codes "packets"
 
 -- The request holds the values of its command's arguments.
 abbrev pub Holds : List Row → Request → Type 0
 Holds rows (ask.Packet bytes) = decode_sized (text_of (codes "hex") rows) 42 ≡ Ok bytes
+Holds rows (ask.Packets pes) = pes.now ≡ text_of (codes "pes") rows
 
 -- `clap` takes the words, and they give this command these arguments.
 pub record Names (words : List Text) (name : Text) (rows : List Row) : Type 0 where
@@ -58,15 +60,20 @@ IsFaultOf words fault.Memory = ⊤
 IsFaultOf words fault.Open = ⊥
 IsFaultOf words own = Breaks words own
 
--- Whether a request reads a first input, a second input, or writes a file.
+-- Whether a request reads a first input.
 abbrev pub names_first : Request → Bool
 names_first (ask.Packet bytes) = false
+names_first (ask.Packets pes) = true
 
+-- Whether it reads a second input.
 abbrev pub names_second : Request → Bool
 names_second (ask.Packet bytes) = false
+names_second (ask.Packets pes) = false
 
+-- Whether it writes a file.
 abbrev pub names_file : Request → Bool
 names_file (ask.Packet bytes) = false
+names_file (ask.Packets pes) = false
 
 -- The name is one of these.
 abbrev pub IsOneOf : List Text → Text → Type 0

@@ -4,6 +4,7 @@
 //! lines of refused words are printed.
 
 mod packet;
+mod packets;
 
 ghost use Rattle.std.specs.Prelude.{◌≡◌, ◌≢◌, ◌+◌, ◌<◌, ◌≤◌, false};
 ghost use Rattle.std.specs.Io.KnownBytes.{Appends};
@@ -16,6 +17,7 @@ use crate::lines::usage_text;
 use crate::request::{Request, UsageFault};
 use crate::status::Status;
 use packet::show_packet;
+use packets::list_packets;
 use std::alloc::Global;
 use sub_io::{Sink, Source, put_all};
 
@@ -26,7 +28,7 @@ use sub_io::{Sink, Source, put_all};
 /// not touched. `Fault` where a device failed; what was printed until then stays.
 pub fn answer<S: Source, T: Source, F: Sink, K: Sink>(
     _alloc: Global,
-    request: &Request,
+    request: &Request<'_>,
     first: &mut S,
     second: &mut T,
     file: &mut F,
@@ -65,6 +67,7 @@ pub fn answer<S: Source, T: Source, F: Sink, K: Sink>(
 {
     match request {
         Request::Packet { bytes } => show_packet(bytes, out),
+        Request::Packets { .. } => list_packets(first, out),
     }
 }
 

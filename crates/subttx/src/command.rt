@@ -5,7 +5,8 @@
 ghost use Rattle.std.specs.Prelude.{◌≡◌, IfOk, false};
 ghost use Rattle.clap.specs.Words.{app_of, with_rule, with_subcommand};
 ghost use Rattle.clap.specs.declared.builder.command.Command.TheViews.{out-Command};
-ghost use Rattle.subttx.specs.Commands.{bare_app, packet_app, required_rule, subttx_app};
+ghost use Rattle.subttx.specs.Commands.{bare_app, packet_app, packets_app};
+ghost use Rattle.subttx.specs.Commands.{required_rule, subttx_app};
 
 use clap::{Arg, Command};
 use std::alloc::{AllocError, Global};
@@ -30,6 +31,14 @@ fn packet_command<'a>(alloc: Global) -> Result<Command<'a>, AllocError>
     ensures local { IfOk result (λ c. (out-Command c).has_globals ≡ false) }
 {
     with_required(Command::new(alloc, "packet"), alloc, "hex")
+}
+
+// `packets PES`
+fn packets_command<'a>(alloc: Global) -> Result<Command<'a>, AllocError>
+    ensures app { IfOk result (λ c. app_of c ≡ packets_app) }
+    ensures local { IfOk result (λ c. (out-Command c).has_globals ≡ false) }
+{
+    with_required(Command::new(alloc, "packets"), alloc, "pes")
 }
 
 // The program before its commands.
@@ -65,5 +74,6 @@ pub fn subttx_command<'a>(alloc: Global) -> Result<Command<'a>, AllocError>
     ensures app { IfOk result (λ c. app_of c ≡ subttx_app) }
     ensures local { IfOk result (λ c. (out-Command c).has_globals ≡ false) }
 {
-    with_command(bare_program(alloc), packet_command(alloc)?)
+    let program = with_command(bare_program(alloc), packet_command(alloc)?)?;
+    with_command(program, packets_command(alloc)?)
 }

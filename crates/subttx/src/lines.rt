@@ -4,10 +4,14 @@
 //! `ArrayVec` that has room, which its `requires` asks for in the number of bytes that it may add.
 ghost use Rattle.std.specs.Prelude.{◌≡◌, ◌+◌, ◌≤◌, ◌<◌, ◌++◌, length, decimal};
 ghost use Rattle.arrayvec.specs.ArrayVec.{array_vec_len};
-ghost use Rattle.subttx.specs.Lines.{glyph, usage_line};
+ghost use Rattle.hex.specs.Hex.{encode_lower};
+ghost use Rattle.subttx.specs.Lines.{glyph, pes_fault_line, pes_fault_words, usage_line};
+ghost use Rattle.subttx.specs.Listing.{pes_status};
 
 use crate::request::UsageFault;
+use crate::status::Status;
 use arrayvec::ArrayVec;
+use ttx_pes::PesFault;
 
 /// The line of a fault of the words or of the program itself.
 pub fn usage_text(fault: &UsageFault) -> &'static [u8]
@@ -38,6 +42,63 @@ pub fn push_decimal<const N: usize>(line: &mut ArrayVec<u8, N>, number: u64)
 {
     let mut digits = itoa::Buffer::new();
     push_text(line, digits.format(number).as_bytes());
+}
+
+/// Appends a packet's bytes as lower case hexadecimal digits.
+pub fn push_lower_hex<const N: usize>(line: &mut ArrayVec<u8, N>, bytes: &[u8; 42])
+    requires { array_vec_len line.old + 84 ≤ N }
+    ensures items { line.new.items ≡ line.old.items ++ encode_lower bytes.now }
+    ensures len { array_vec_len line.new ≡ array_vec_len line.old + 84 }
+{
+    let mut digits = [0; 84];
+    let _ = hex::encode_to_slice(&bytes[..], &mut digits);
+    push_text(line, &digits);
+}
+
+/// What is printed of a fault of a PES file, without its place.
+fn pes_fault_text(fault: PesFault) -> &'static [u8]
+    ensures value { result.now ≡ pes_fault_words fault }
+    ensures len { length result.now ≤ 32 }
+{
+    match fault {
+        PesFault::Truncated => b"refused 30 Truncated",
+        PesFault::Start => b"refused 31 Start",
+        PesFault::Length => b"refused 32 Length",
+        PesFault::Flags => b"refused 33 Flags",
+        PesFault::NoTime => b"refused 34 NoTime",
+        PesFault::HeaderLength => b"refused 35 HeaderLength",
+        PesFault::Time => b"refused 36 Time",
+        PesFault::DataId => b"refused 37 DataId",
+        PesFault::UnitLength => b"refused 38 UnitLength",
+        PesFault::Framing => b"refused 39 Framing",
+        PesFault::LineOrder => b"refused 40 LineOrder",
+        PesFault::Read => b"fault 41 Read",
+        PesFault::Write => b"fault 42 Write",
+        PesFault::Ended => b"refused 43 Ended",
+        PesFault::TooMany => b"refused 44 TooMany",
+    }
+}
+
+/// The status that goes with a fault of a PES file that is read.
+pub fn pes_status(fault: PesFault) -> Status
+    ensures { result ≡ pes_status fault }
+{
+    match fault {
+        PesFault::Read => Status::Fault,
+        _ => Status::Refused,
+    }
+}
+
+/// Appends the line of a fault of a PES file, with the index of its PES packet.
+pub fn push_pes_fault<const N: usize>(line: &mut ArrayVec<u8, N>, fault: PesFault, index: u32)
+    requires { array_vec_len line.old + 64 ≤ N }
+    ensures items { line.new.items ≡ line.old.items ++ pes_fault_line fault index }
+    ensures len { array_vec_len line.new ≤ array_vec_len line.old + 64 }
+{
+    push_text(line, pes_fault_text(fault));
+    push_text(line, b" pes ");
+    push_decimal(line, u64::from(index));
+    push_text(line, b"\n");
 }
 
 /// The character of a cell's code.

@@ -16,18 +16,18 @@ ghost use Rattle.std.specs.Prelude.{◌<◌};
 
 use request::{Request, UsageFault};
 use status::Status;
-use std::env;
-use std::io::{self, BufWriter, Write};
+use std::io::{self, BufReader, BufWriter, Write};
 use std::process::ExitCode;
-use std::rt::Env;
-use sub_io::{IntoWrite, MemSink, MemSource, Sink};
+use std::rt::{Env, Files};
+use std::{env, fs};
+use sub_io::{FromRead, IntoWrite, MemSink, MemSource, Sink, Source};
 
 fn main(rt: HostRuntime) -> ExitCode {
     ExitCode::from(run(&rt).code())
 }
 
 // Runs the program over standard output, which gets what is printed through one buffer.
-fn run<R: AllocGlobal + Env + Print>(rt: &R) -> Status {
+fn run<R: AllocGlobal + Env + Files + Print>(rt: &R) -> Status {
     let Ok(mut buffer) = BufWriter::new(rt.alloc(), io::writer(rt)) else {
         return answer::say(&UsageFault::Memory, &mut IntoWrite::new(io::writer(rt)));
     };
@@ -39,7 +39,7 @@ fn run<R: AllocGlobal + Env + Print>(rt: &R) -> Status {
 }
 
 // Answers the words of the command line.
-fn answer_words<R: AllocGlobal + Env, K: Sink>(rt: &R, out: &mut K) -> Status
+fn answer_words<R: AllocGlobal + Env + Files, K: Sink>(rt: &R, out: &mut K) -> Status
     requires { K.failure_count out.old < u64.MAX }
 {
     let words = match words_of(rt) {
@@ -65,23 +65,49 @@ fn words_of<R: AllocGlobal + Env>(rt: &R) -> Result<Vec<String>, UsageFault> {
     args.collect(rt.alloc()).map_err(|_| UsageFault::Memory)
 }
 
-// Opens the files that the request names. For a device that it does not name, an empty one is
-// handed in.
-fn open_and_answer<R: AllocGlobal, K: Sink>(rt: &R, request: &Request, out: &mut K) -> Status
+// Opens the files that the request names, in the order of the words. At the first that fails it opens
+// no more.
+fn open_and_answer<R: AllocGlobal + Files, K: Sink>(
+    rt: &R,
+    request: &Request<'_>,
+    out: &mut K,
+) -> Status
     requires { K.failure_count out.old < u64.MAX }
+{
+    match request {
+        Request::Packet { .. } => answer_input(rt, request, &mut MemSource::new(&[]), out),
+        Request::Packets { pes } => {
+            let Ok(file) = fs::open(rt, *pes) else {
+                return answer::say(&UsageFault::Open, out);
+            };
+            let Ok(reader) = BufReader::new(rt.alloc(), file) else {
+                return answer::say(&UsageFault::Memory, out);
+            };
+            answer_input(rt, request, &mut FromRead::new(reader), out)
+        }
+    }
+}
+
+// Answers a request with one input at most. For a device that it does not name, an empty one is
+// handed in.
+fn answer_input<R: AllocGlobal, S: Source, K: Sink>(
+    rt: &R,
+    request: &Request<'_>,
+    first: &mut S,
+    out: &mut K,
+) -> Status
+    requires first { S.failure_count first.old < u64.MAX }
+    requires out { K.failure_count out.old < u64.MAX }
 {
     let mut room = [0u8; 0];
     let mut no_file = MemSink::new(&mut room);
-    let mut no_first = MemSource::new(&[]);
     let mut no_second = MemSource::new(&[]);
-    match request {
-        Request::Packet { .. } => answer::answer(
-            rt.alloc(),
-            request,
-            &mut no_first,
-            &mut no_second,
-            &mut no_file,
-            out,
-        ),
-    }
+    answer::answer(
+        rt.alloc(),
+        request,
+        first,
+        &mut no_second,
+        &mut no_file,
+        out,
+    )
 }

@@ -1,8 +1,8 @@
 //! What the words of the command line ask for.
-ghost use Rattle.std.specs.Prelude.{◌≡◌, [], IfErr, IfOk, None, OnOk, Some, option_map};
+ghost use Rattle.std.specs.Prelude.{◌≡◌, [], IfErr, IfOk, IsOk, None, OnOk, Some, codes, option_map};
 ghost use Rattle.clap.specs.Words.{found_of, rows_of, subcommand_rows_of};
 ghost use Rattle.subttx.specs.Commands.{command_in, refusals, texts_of};
-ghost use Rattle.subttx.specs.Requests.{Holds, IsFaultOf, packet_fault, text_of};
+ghost use Rattle.subttx.specs.Requests.{Holds, IsFaultOf, command_of, packet_fault, text_of};
 
 use crate::command::subttx_command;
 use clap::ArgMatches;
@@ -31,15 +31,20 @@ pub enum UsageFault {
 
 /// What to do: a variant for each command, with the values of its words.
 #[derive(Drop)]
-pub enum Request {
+pub enum Request<'a> {
     /// `packet HEX`: shows one packet.
     Packet {
         /// The 42 bytes of the packet, in the order of EN 300 706: bit 1 is the lowest.
         bytes: [u8; 42],
     },
+    /// `packets PES`: lists PES packets and their Teletext units.
+    Packets {
+        /// The name of the file of PES packets.
+        pes: &'a str,
+    },
 }
 
-impl Request {
+impl<'a> Request<'a> {
     ghost use Rattle.subttx.specs.Requests.{AsksFor};
 
     /// Reads the words, of which the first is the program's name.
@@ -51,7 +56,7 @@ impl Request {
     ///
     /// `Words` where `clap` refuses the words. Then the first fault of the command's arguments:
     /// `BadHex`. `Memory` where memory ran out before that was known.
-    pub fn parse<'a>(alloc: Global, words: &'a [&'a str]) -> Result<Request, UsageFault>
+    pub fn parse(alloc: Global, words: &'a [&'a str]) -> Result<Request<'a>, UsageFault>
         ensures request { IfOk result (AsksFor (texts_of words.now)) }
         ensures fault { IfErr result (IsFaultOf (texts_of words.now)) }
     {
@@ -61,6 +66,8 @@ impl Request {
         };
         if name == "packet" {
             packet_request(inner)
+        } else if name == "packets" {
+            packets_request(inner)
         } else {
             Err(UsageFault::Words)
         }
@@ -104,8 +111,9 @@ fn text_at<'a>(matches: &ArgMatches<'a>, id: &str) -> &'a str
 }
 
 // `packet HEX`
-fn packet_request(matches: &ArgMatches<'_>) -> Result<Request, UsageFault>
+fn packet_request<'a>(matches: &ArgMatches<'a>) -> Result<Request<'a>, UsageFault>
     ensures holds { IfOk result (Holds (rows_of (found_of matches.now))) }
+    ensures named { IfOk result (λ r. command_of r ≡ codes "packet") }
     ensures clean { OnOk result (packet_fault (rows_of (found_of matches.now)) ≡ None) }
     ensures fault { IfErr result (λ e. packet_fault (rows_of (found_of matches.now)) ≡ Some e) }
     ensures own { IfErr result (λ e. e ≡ UsageFault.BadHex) }
@@ -115,4 +123,15 @@ fn packet_request(matches: &ArgMatches<'_>) -> Result<Request, UsageFault>
         Ok(()) => Ok(Request::Packet { bytes }),
         Err(_) => Err(UsageFault::BadHex),
     }
+}
+
+// `packets PES`
+fn packets_request<'a>(matches: &ArgMatches<'a>) -> Result<Request<'a>, UsageFault>
+    ensures ok { IsOk result }
+    ensures holds { IfOk result (Holds (rows_of (found_of matches.now))) }
+    ensures named { IfOk result (λ r. command_of r ≡ codes "packets") }
+{
+    Ok(Request::Packets {
+        pes: text_at(matches, "pes"),
+    })
 }

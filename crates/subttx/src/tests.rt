@@ -1,5 +1,6 @@
 //! What the program prints, over devices in memory.
 mod packet;
+mod packets;
 mod words;
 
 use crate::answer::{answer, say};

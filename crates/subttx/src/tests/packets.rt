@@ -1,0 +1,94 @@
+//! `packets`: what is printed of PES files.
+ghost use Rattle.std.specs.Prelude.{◌<◌};
+
+use crate::answer::answer;
+use crate::request::Request;
+use crate::status::Status;
+use std::alloc::Global;
+use std::process::Abort;
+use sub_io::{FailAt, MemSink, MemSource, Sink, Source};
+
+// A PES packet of page 888 at frame 900,000: its header, row 22 with Hi, and the closing header.
+#[rattlefmt::skip]
+const HI: [u8; 184] = [
+    0x00, 0x00, 0x01, 0xBD, 0x00, 0xB2, 0x84, 0x80, 0x24, 0x27, 0x04, 0x79, 0xF4, 0x01,
+    0xFF, 0xFF, 0xFF, 0xFF, 0xFF, 0xFF, 0xFF, 0xFF, 0xFF, 0xFF, 0xFF, 0xFF, 0xFF, 0xFF, 0xFF, 0xFF,
+    0xFF, 0xFF, 0xFF, 0xFF, 0xFF, 0xFF, 0xFF, 0xFF, 0xFF, 0xFF, 0xFF, 0xFF, 0xFF, 0xFF, 0xFF, 0x10,
+    0x03, 0x2C, 0xE7, 0xE4, 0xA8, 0xA8, 0x0B, 0x0B, 0xA8, 0x0B, 0xA8, 0x0B, 0x40, 0xA8,
+    0x04, 0x04, 0x04, 0x04, 0x04, 0x04, 0x04, 0x04, 0x04, 0x04, 0x04, 0x04, 0x04, 0x04, 0x04, 0x04,
+    0x04, 0x04, 0x04, 0x04, 0x04, 0x04, 0x04, 0x04, 0x04, 0x04, 0x04, 0x04, 0x04, 0x04, 0x04, 0x04,
+    0x03, 0x2C, 0xE8, 0xE4, 0xA8, 0xD9,
+    0x04, 0x04, 0x04, 0x04, 0x04, 0x04, 0x04, 0x04, 0x04, 0x04, 0x04, 0x04, 0x04, 0x04, 0x04, 0x04,
+    0xB0, 0xD0, 0xD0, 0x13, 0x97, 0x51, 0x51,
+    0x04, 0x04, 0x04, 0x04, 0x04, 0x04, 0x04, 0x04, 0x04, 0x04, 0x04, 0x04, 0x04, 0x04, 0x04, 0x04, 0x04,
+    0x03, 0x2C, 0xE9, 0xE4, 0xA8, 0xA8, 0x57, 0x57, 0x57, 0xF4, 0x57, 0x7A, 0xA8, 0xA8,
+    0x04, 0x04, 0x04, 0x04, 0x04, 0x04, 0x04, 0x04, 0x04, 0x04, 0x04, 0x04, 0x04, 0x04, 0x04, 0x04,
+    0x04, 0x04, 0x04, 0x04, 0x04, 0x04, 0x04, 0x04, 0x04, 0x04, 0x04, 0x04, 0x04, 0x04, 0x04, 0x04,
+];
+
+// What `packets` prints of it.
+const HI_LINES: &[u8] = b"pes 0 pts 3240000000\n\
+    unit 0 id 03 field 1 line 7 1515d0d015d015d00215\
+    2020202020202020202020202020202020202020202020202020202020202020\n\
+    unit 1 id 03 field 1 line 8 159b20202020202020202020202020202020\
+    0d0b0bc8e98a8a2020202020202020202020202020202020\n\
+    unit 2 id 03 field 1 line 9 1515eaeaea2fea5e1515\
+    2020202020202020202020202020202020202020202020202020202020202020\n";
+
+// Asserts what `packets` prints of a source, and how it ends.
+fn assert_lists<S: Source + Drop>(
+    rt: &(impl Abort + Alloc<A = Global>),
+    mut pes: S,
+    first: &[u8],
+    last: &[u8],
+    status: Status,
+)
+    requires { S.failure_count pes < u64.MAX }
+{
+    let mut room = [0u8; 512];
+    let mut out = MemSink::new(&mut room);
+    let mut no_room = [0u8; 0];
+    let given = answer(
+        rt.alloc(),
+        &Request::Packets { pes: "a.pes" },
+        &mut pes,
+        &mut MemSource::new(&[]),
+        &mut MemSink::new(&mut no_room),
+        &mut out,
+    );
+    assert_eq!(rt; given, status);
+    let written = out.written();
+    assert!(rt; written.starts_with(first) && written.ends_with(last));
+    assert_eq!(rt; written.len(), first.len() + last.len());
+}
+
+#[test]
+fn lists_pes_packets(rt: HostRuntime) {
+    // bytes of a file, the lines before the last, the last, the status
+    let files: [(&[u8], &[u8], &[u8], Status); 4] = [
+        (&HI, HI_LINES, b"1 pes\n", Status::Done),
+        (b"", b"", b"0 pes\n", Status::Done),
+        (
+            &HI[..183],
+            b"",
+            b"refused 30 Truncated pes 0\n",
+            Status::Refused,
+        ),
+        (
+            b"RIFF....",
+            b"",
+            b"refused 31 Start pes 0\n",
+            Status::Refused,
+        ),
+    ];
+    for (bytes, first, last, status) in files {
+        assert_lists(&rt, MemSource::new(bytes), first, last, status);
+    }
+}
+
+#[test]
+fn keeps_the_lines_before_a_fault(rt: HostRuntime) {
+    let last = b"fault 41 Read pes 1\n";
+    let pes = FailAt::new(MemSource::new(&HI), 2);
+    assert_lists(&rt, pes, HI_LINES, last, Status::Fault);
+}
