@@ -4,7 +4,6 @@ use Rattle.stl_file.specs.declared.fault.StlFault.{StlFault}
 use Rattle.stl_file.specs.declared.progress.Progress.{Progress}
 use Rattle.stl_file.specs.declared.progress.Progress.TheVariants.{Reading}
 use Rattle.stl_file.specs.Subtitle.{SubtitleValue}
-use Rattle.stl_file.specs.Reading.{Outcome}
 use Rattle.stl_file.specs.Reader.{ReaderValue, Leads, Answers, outcome_left, outcome_in}
 use Rattle.stl_file.specs.Reader.{outcome_with}
 use Rattle.stl_file.specs.Reader.{outcome_by, block_by, progress_after}

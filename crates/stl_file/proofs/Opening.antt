@@ -11,7 +11,6 @@ use Rattle.stl_file.specs.declared.fault.StlFault.{StlFault}
 use Rattle.stl_file.specs.declared.fault.StlFault.TheVariants as fault
 use Rattle.stl_file.specs.Gsi.{IsGsi, gsi_at, dfc, dsc, cct, stl_25, stl_30, level_1, level_2}
 use Rattle.stl_file.specs.Gsi.{latin}
-use Rattle.stl_file.specs.Fault.{is_cut}
 use Rattle.stl_file.specs.Subtitle.{SubtitleValue}
 use Rattle.stl_file.specs.SubtitleBlocks.{joined}
 use Rattle.stl_file.specs.Reader.{ReaderValue, opened, opened_at, RefusesOpening}

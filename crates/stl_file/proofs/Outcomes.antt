@@ -2,7 +2,7 @@
 -- outcome_complete.
 use Rattle.std.proofs.Common.{◌≡◌, ℕ, zero, suc, ◌+◌, ◌-◌, ◌<◌, ◌≤◌, true, false, eqb, List, []}
 use Rattle.std.proofs.Common.{◌∷◌, ◌++◌}
-use Rattle.std.proofs.Common.{length, take, drop, Option, Some, None, Result, Ok, Err, refl, sym}
+use Rattle.std.proofs.Common.{length, take, drop, Option, Some, None, Result, Ok, refl, sym}
 use Rattle.std.proofs.Common.{ap, subst, ◌∙◌}
 use Rattle.std.proofs.Common.{append_assoc, arith, length-append, inl, inr, ◌⊎◌}
 use Rattle.std.specs.Prelude.{filter}
@@ -13,13 +13,13 @@ use Rattle.stl_file.specs.declared.fault.StlFault.{StlFault}
 use Rattle.stl_file.specs.declared.fault.StlFault.TheVariants as fault
 use Rattle.stl_file.specs.declared.step.Begun.{Begun}
 use Rattle.stl_file.specs.declared.step.Step.{Step}
-use Rattle.stl_file.specs.declared.step.Step.TheVariants.{More, Give}
+use Rattle.stl_file.specs.declared.step.Step.TheVariants.{More}
 use Rattle.stl_file.specs.Tti.{sgn, sn, ebn, text_of, is_passed, is_kept, most_blocks}
 use Rattle.stl_file.specs.Subtitle.{SubtitleValue}
 use Rattle.stl_file.specs.SubtitleBlocks.{AreLinked, Begins, IsBlock, AreBlocksOfEach, joined}
-use Rattle.stl_file.specs.Reading.{closed, kept_at, step_at, Outcome, ends, fails, gives}
+use Rattle.stl_file.specs.Reading.{closed, kept_at, step_at, Outcome, ends, fails}
 use Rattle.stl_file.specs.Reading.{outcome_after, outcome_at}
-use Rattle.stl_file.specs.NormalForm.{Judged, cons_all, subtitles_of}
+use Rattle.stl_file.specs.NormalForm.{Judged, subtitles_of}
 use Rattle.stl_file.proofs.Steps.{first_complete, step_kept, step_passed, chain_head, cons_is}
 use Rattle.stl_file.proofs.Steps.{filter_passed, filter_kept, bool_cases}
 

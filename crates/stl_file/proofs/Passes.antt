@@ -1,7 +1,7 @@
 -- A pass of `normal` over the blocks behind the GSI block; main lemmas: pass_on, pass_end,
 -- all_prefix.
 use Rattle.std.proofs.Common.{◌≡◌, ℕ, suc, ◌+◌, ◌-◌, ◌<◌, ◌≤◌, Bool, true, false, cond, List, []}
-use Rattle.std.proofs.Common.{◌∷◌, ◌++◌, length, take, Option, Some, None, Result, Ok, Err, refl}
+use Rattle.std.proofs.Common.{◌∷◌, ◌++◌, length, Option, Some, None, Result, Ok, Err, refl}
 use Rattle.std.proofs.Common.{sym, ap, subst, ◌∙◌, append_assoc, arith, length-append, is_ok}
 use Rattle.std.specs.Prelude.{filter, IfSome}
 use Rattle.std.specs.Io.KnownBytes.{Appends}
@@ -16,7 +16,7 @@ use Rattle.stl_file.specs.declared.progress.Progress.TheVariants.{Reading}
 use Rattle.stl_file.specs.Tti.{is_kept, most_blocks}
 use Rattle.stl_file.specs.Subtitle.{SubtitleValue}
 use Rattle.stl_file.specs.SubtitleBlocks.{joined}
-use Rattle.stl_file.specs.Reading.{Outcome, ends, fails, gives}
+use Rattle.stl_file.specs.Reading.{Outcome}
 use Rattle.stl_file.specs.Reader.{ReaderValue, HasPlace, Answers, TakesSubtitle, progress_after}
 use Rattle.stl_file.specs.Reader.{outcome_from, outcome_left, outcome_with}
 use Rattle.stl_file.specs.NormalForm.{Judged, all_blocks, blocks_of, cons_all, full_pieces}

@@ -1,17 +1,16 @@
 -- Bytes that are read without a fault are a file, and a file is read without a fault; main lemmas:
 -- file_sound, file_complete.
-use Rattle.std.proofs.Common.{◌≡◌, ℕ, zero, suc, ◌+◌, ◌<◌, ◌≤◌, Bool, true, false, cond, ltb, List}
-use Rattle.std.proofs.Common.{[], ◌∷◌, ◌++◌, length, take, drop, get_or, Option, Some, None, Result}
+use Rattle.std.proofs.Common.{◌≡◌, ℕ, zero, suc, ◌<◌, ◌≤◌, Bool, true, false, cond, ltb, List}
+use Rattle.std.proofs.Common.{[], ◌∷◌, ◌++◌, length, take, drop, Option, Some, None, Result}
 use Rattle.std.proofs.Common.{Ok, Err, refl, sym, ap, subst, ◌∙◌, append_assoc, arith}
-use Rattle.std.proofs.Common.{length-append, inl, inr, ◌⊎◌, bytes_eq}
+use Rattle.std.proofs.Common.{length-append, inl, inr, ◌⊎◌}
 use Rattle.std.specs.Prelude.{filter, ◌↔◌}
 use Rattle.std.specs.List.{flat_map, AllByRecursion}
 use Rattle.std.proofs.lemmas.Bool.{cases_lt, ltb-false, le-ltb}
-use Rattle.std.proofs.lemmas.List.{append-nil, take-append-drop, length-take-le, get_or-drop}
-use Rattle.std.proofs.lemmas.List.{get_or-take, take_at, drop_at}
+use Rattle.std.proofs.lemmas.List.{append-nil, take-append-drop, length-take-le}
+use Rattle.std.proofs.lemmas.List.{take_at, drop_at}
 use Rattle.stl_file.specs.declared.fault.StlFault.{StlFault}
 use Rattle.stl_file.specs.declared.fault.StlFault.TheVariants as fault
-use Rattle.stl_file.specs.declared.fault.NormalFault.{NormalFault}
 use Rattle.stl_file.specs.declared.progress.Progress.TheVariants.{Reading}
 use Rattle.stl_file.specs.declared.step.Begun.{Begun}
 use Rattle.stl_file.specs.declared.step.Step.{Step}
@@ -19,7 +18,7 @@ use Rattle.stl_file.specs.declared.step.Step.TheVariants.{More, Give}
 use Rattle.stl_file.specs.Tti.{is_kept, most_blocks}
 use Rattle.stl_file.specs.Subtitle.{SubtitleValue}
 use Rattle.stl_file.specs.SubtitleBlocks.{IsBlock, AreBlocksOf, AreBlocksOfEach, IsRest, joined}
-use Rattle.stl_file.specs.Reading.{step_at, Outcome, ends, fails, gives, outcome_after, outcome_at}
+use Rattle.stl_file.specs.Reading.{step_at, outcome_after, outcome_at}
 use Rattle.stl_file.specs.Gsi.{IsGsi, gsi_at}
 use Rattle.stl_file.specs.Reader.{ReaderValue, opened, opened_at, outcome_opened, outcome_left}
 use Rattle.stl_file.specs.Reader.{outcome_of}

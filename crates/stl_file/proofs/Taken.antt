@@ -1,6 +1,6 @@
 -- The blocks that one call has taken; main lemmas: reads_on, gives_subtitle, refuses_block.
-use Rattle.std.proofs.Common.{◌≡◌, ◌+◌, ◌*◌, ◌/◌, ℕ, suc, ◌-◌, ◌<◌, ◌≤◌, Bool, true, false, cond}
-use Rattle.std.proofs.Common.{List, [], ◌∷◌, ◌++◌, length, take, drop, Option, Some, None, Result}
+use Rattle.std.proofs.Common.{◌≡◌, ◌+◌, ◌*◌, ◌/◌, ℕ, suc, ◌-◌, ◌<◌, ◌≤◌, true}
+use Rattle.std.proofs.Common.{List, [], ◌∷◌, ◌++◌, length, take, Option, Some, None, Result}
 use Rattle.std.proofs.Common.{Ok, Err}
 use Rattle.std.proofs.Common.{refl, sym, ap, subst, ◌∙◌, append_assoc, arith, length-append}
 use Rattle.std.proofs.Common.{length-take}
@@ -9,7 +9,7 @@ use Rattle.std.specs.List.{AllByRecursion}
 use Rattle.std.specs.Io.KnownBytes.{Consumes}
 use Rattle.std.proofs.KnownBytes.{Consumes-trans}
 use Rattle.std.proofs.lemmas.List.{append-nil, take_all, nil_from_length}
-use Rattle.sub_io.specs.Device.{Fills, Told}
+use Rattle.sub_io.specs.Device.{Fills}
 use Rattle.sub_io.proofs.DeviceLemmas.{Told-from_fills}
 use Rattle.stl_file.specs.declared.fault.StlFault.{StlFault}
 use Rattle.stl_file.specs.declared.fault.StlFault.TheVariants as fault
@@ -20,65 +20,15 @@ use Rattle.stl_file.specs.Fault.{is_cut, is_of_block}
 use Rattle.stl_file.specs.Tti.{is_kept, most_blocks}
 use Rattle.stl_file.specs.Subtitle.{SubtitleValue}
 use Rattle.stl_file.specs.SubtitleBlocks.{IsBlock, IsRest, joined}
-use Rattle.stl_file.specs.Reading.{step_at, Outcome, ends, fails, gives, outcome_after, outcome_at}
-use Rattle.stl_file.specs.Reader.{outcome_from, outcome_by, block_after, Leads, EndsKept}
+use Rattle.stl_file.specs.Reading.{step_at, fails, gives, outcome_after, outcome_at}
+use Rattle.stl_file.specs.Reader.{outcome_from, block_after, Leads}
 use Rattle.stl_file.specs.Reader.{TakesSubtitle, TakesPassed, Refuses, FailsReading}
-use Rattle.stl_file.specs.NormalForm.{Judged, subtitles_of}
+use Rattle.stl_file.specs.NormalForm.{subtitles_of}
 use Rattle.stl_file.proofs.Outcomes.{outcome_nil, outcome_end, outcome_full, outcome_short}
 use Rattle.stl_file.proofs.Outcomes.{outcome_block, outcome_complete}
 use Rattle.stl_file.proofs.Kept.{Represents, step_sound}
-
--- ---- lists of blocks
-
--- one block more is a block each
-blocks_push : (bs : List (List ℕ)) (b : List ℕ)
-    → AllByRecursion IsBlock bs
-    → length b ≡ 128
-    → AllByRecursion IsBlock (bs ++ b ∷ [])
-blocks_push [] b h e = (e, tt)
-blocks_push (x ∷ bs) b h e = (h.0, blocks_push bs b h.1 e)
-
--- a block or none
-choice : (t : Bool) (b : List ℕ) → cond t (b ∷ []) [] ≡ [] ++ cond t (b ∷ []) []
-choice t b = refl
-
--- one block in front of a choice
-put : (t : Bool) (x : List ℕ) (a b c : List (List ℕ))
-    → a ≡ b ++ c
-    → cond t (x ∷ a) a ≡ cond t (x ∷ b) b ++ c
-put true x a b c e = ap (λ (y : List (List ℕ)). x ∷ y) e
-put false x a b c e = e
-
--- the kept blocks with one more
-filter_push : (bs : List (List ℕ)) (b : List ℕ)
-    → filter is_kept (bs ++ b ∷ []) ≡ filter is_kept bs ++ cond (is_kept b) (b ∷ []) []
-filter_push [] b = choice (is_kept b) b
-filter_push (x ∷ bs) b =
-    put (is_kept x) x (filter is_kept (bs ++ b ∷ [])) (filter is_kept bs)
-    (cond (is_kept b) (b ∷ []) []) (filter_push bs b)
-
--- the bytes of blocks with one more
-pub joined_push : (bs : List (List ℕ)) (b : List ℕ) → joined (bs ++ b ∷ []) ≡ joined bs ++ b
-joined_push [] b = append-nil b
-joined_push (x ∷ bs) b =
-    ap (λ (t : List ℕ). x ++ t) (joined_push bs b) ∙ sym (append_assoc x (joined bs) b)
-
--- blocks end with the one that was added
-ends_push : (bs : List (List ℕ)) (b : List ℕ) → is_kept b ≡ true → EndsKept (bs ++ b ∷ [])
-ends_push [] b k = k
-ends_push (x ∷ []) b k = k
-ends_push (x ∷ y ∷ bs) b k = ends_push (y ∷ bs) b k
-
--- blocks have 128 bytes each
-length-joined : (bs : List (List ℕ))
-    → AllByRecursion IsBlock bs
-    → length (joined bs) ≡ 128 * length bs
-length-joined [] h = refl
-length-joined (x ∷ bs) h =
-    let l = length-append x (joined bs) in
-    let r = length-joined bs h.1 in
-    let s = h.0 in
-    omega arith
+use Rattle.stl_file.proofs.BlockLists.{blocks_push, filter_push, joined_push, ends_push}
+use Rattle.stl_file.proofs.BlockLists.{length-joined}
 
 -- ---- what was read so far
 

@@ -1,6 +1,6 @@
 -- Texts and unused space: what a loop over a text field keeps; main lemma: text_more.
 use Rattle.std.proofs.Common.{◌≡◌, ℕ, ◌+◌, ◌<◌, Bool, true, false, cond, eqb, List, [], ◌∷◌, ◌++◌}
-use Rattle.std.proofs.Common.{length, get_or, drop, refl, sym, ◌∙◌, append_assoc}
+use Rattle.std.proofs.Common.{length, get_or, drop, refl, ◌∙◌, append_assoc}
 use Rattle.std.proofs.lemmas.Bool.{ne_eqb}
 use Rattle.std.proofs.lemmas.List.{drop_more}
 use Rattle.stl_file.specs.Tti.{unused_space, before_unused}

@@ -22,8 +22,7 @@ is_write (Err Write) = true
 is_write _ = false
 
 -- a block's own bytes or its place among the blocks of its subtitle are at fault, and not that it
--- is
--- one block too many
+-- is one block too many
 abbrev pub is_of_block : StlFault → Bool
 is_of_block fault.TooManyBlocks = false
 is_of_block fault.Read = false

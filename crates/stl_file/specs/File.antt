@@ -1,6 +1,5 @@
 -- What a subtitle file is (EBU Tech 3264): a GSI block that is taken, then at most 99,999 TTI
--- blocks
--- that hold the blocks of its subtitles, with comments and user data between them.
+-- blocks that hold the blocks of its subtitles, with comments and user data between them.
 use Rattle.std.specs.Prelude.{◌≡◌, ℕ, List, ◌++◌}
 use Rattle.stl_file.specs.Tti.{most_blocks}
 use Rattle.stl_file.specs.Subtitle.{SubtitleValue}

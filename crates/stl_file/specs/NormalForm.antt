@@ -6,7 +6,6 @@ use Rattle.std.specs.List.{flat_map}
 use Rattle.std.specs.Io.KnownBytes.{Keeps}
 use Rattle.sub_io.specs.Device.{AppendsPrefix}
 use Rattle.std.specs.Io.KnownBytes.{Appends}
-use Rattle.stl_file.specs.declared.fault.StlFault.{StlFault}
 use Rattle.stl_file.specs.declared.fault.NormalFault.{NormalFault}
 use Rattle.stl_file.specs.declared.fault.NormalFault.TheVariants.{Refused, Write}
 use Rattle.stl_file.specs.TimeCode.{time_bytes}
@@ -30,6 +29,7 @@ block_head s ebn =
 abbrev pub text_field : List ℕ → List ℕ
 text_field piece = piece ++ replicate (112 - length piece) unused_space
 
+-- a block of a subtitle with this EBN and this piece of its text
 unfoldable pub block_of : SubtitleValue → ℕ → List ℕ → List ℕ
 block_of s ebn piece = block_head s ebn ++ text_field piece
 
@@ -63,6 +63,7 @@ normal_form g ts = counted_gsi g ts ++ joined (all_blocks ts)
 
 -- ---- what is given, as one list
 
+-- all subtitles of a file, or its first fault with its block
 abbrev pub Judged : Type 0
 Judged = Result (List SubtitleValue) NormalFault
 
@@ -93,8 +94,7 @@ pub record WritesPrefix (s : List ℕ) (old new : Option (List ℕ)) : Type 0 wh
   pub wrote : AppendsPrefix old new (normal_form (take gsi_size s) subtitles)
 
 -- The normal form was written; or nothing, where the file is refused with its first fault and
--- block; or
--- a prefix, where the sink failed.
+-- block; or a prefix, where the sink failed.
 abbrev pub NormalAnswers :
     List ℕ → Option (List ℕ) → Option (List ℕ) → Result ℕ NormalFault → Type 0
 NormalAnswers s old new (Ok n) = WritesNormal s old new n

@@ -10,15 +10,14 @@ use Rattle.stl_file.specs.declared.progress.Progress.{Progress}
 use Rattle.stl_file.specs.declared.progress.Progress.TheVariants.{Reading, AtEnd, Broken}
 use Rattle.stl_file.specs.Fault.{is_cut}
 use Rattle.stl_file.specs.Gsi.{gsi_size, gsi_at}
-use Rattle.stl_file.specs.Tti.{block_size, most_blocks, is_kept}
+use Rattle.stl_file.specs.Tti.{most_blocks, is_kept}
 use Rattle.stl_file.specs.Subtitle.{SubtitleValue}
 use Rattle.stl_file.specs.SubtitleBlocks.{joined, IsBlock, AreBlocksOf, IsRest}
 use Rattle.stl_file.specs.Reading.{Outcome, ends, fails, gives, outcome_at}
 use Rattle.stl_file.specs.File.{IsFile}
 
 -- a reader: the GSI block, the last TTI block that was read or begun (0 before the first), and how
--- far
--- it has come
+-- far it has come
 pub record ReaderValue : Type 0 where
   pub gsi : List ℕ
   pub block : ℕ
@@ -41,6 +40,7 @@ outcome_in Reading block b = outcome_from block b
 outcome_in AtEnd block b = ends
 outcome_in Broken block b = fails fault.Ended block
 
+-- the same of a reader
 abbrev pub outcome_left : ReaderValue → List ℕ → Outcome
 outcome_left r b = outcome_in r.progress r.block b
 
@@ -51,8 +51,7 @@ outcome_with r rest (Ok None) = ends
 outcome_with r rest (Ok (Some s)) = gives s r.block (outcome_left r rest)
 
 -- The answer is the first thing that was left to be given, with its block, and what comes after it
--- is
--- what is left now.
+-- is what is left now.
 pub record Answers (old : ReaderValue) (bytes : List ℕ) (new : ReaderValue) (now : Option (List ℕ))
     (result : Result (Option SubtitleValue) StlFault) : Type 0 where
   pub rest : List ℕ
@@ -62,8 +61,7 @@ pub record Answers (old : ReaderValue) (bytes : List ℕ) (new : ReaderValue) (n
 -- ---- the same within one call, by the last block that was read
 
 -- the block that a fault names: one block too many and the block of a byte that could not be read
--- come
--- behind the last block
+-- come behind the last block
 abbrev pub block_after : ℕ → StlFault → ℕ
 block_after block fault.TooManyBlocks = block + 1
 block_after block fault.Read = block + 1
@@ -90,13 +88,14 @@ pub record Leads (from : ℕ) (bytes : List ℕ) (block : ℕ) (now : Option (Li
 -- ---- what a call takes
 
 -- The bytes taken are the blocks of one subtitle, with the passed blocks before and inside them:
--- the
--- last block is the subtitle's.
+-- the last block is the subtitle's.
 abbrev pub EndsKept : List (List ℕ) → Type 0
 EndsKept [] = ⊥
 EndsKept (b ∷ []) = is_kept b ≡ true
 EndsKept (b ∷ c ∷ bs) = EndsKept (c ∷ bs)
 
+-- The bytes taken are the blocks of one subtitle, with the passed blocks before and inside them:
+-- `from` blocks were read before, `to` are read now.
 pub record TakesSubtitle (from to : ℕ) (old new : Option (List ℕ)) (s : SubtitleValue) : Type 0
   where
     pub blocks : List (List ℕ)
@@ -116,10 +115,8 @@ pub record TakesPassed (from to : ℕ) (old new : Option (List ℕ)) : Type 0 wh
   pub ended : IsAtEnd new
 
 -- No file goes on with the bytes that were taken, behind so many TTI blocks that end where a
--- subtitle
--- may begin; for the faults of a file that was cut, none goes on with them and ends there. The
--- block is
--- the last one that has a byte among those that were taken.
+-- subtitle may begin; for the faults of a file that was cut, none goes on with them and ends there.
+-- The block is the last one that has a byte among those that were taken.
 pub record Refuses (from to : ℕ) (old new : Option (List ℕ)) (f : StlFault) : Type 0 where
   pub bytes : List ℕ
   pub consumed : Consumes old new bytes
@@ -134,8 +131,7 @@ pub record Refuses (from to : ℕ) (old new : Option (List ℕ)) (f : StlFault) 
       → ⊥
 
 -- The source failed: the block is that of the byte that was asked for, the first one behind those
--- that
--- were taken.
+-- that were taken.
 pub record FailsReading (from to : ℕ) (old new : Option (List ℕ)) : Type 0 where
   pub bytes : List ℕ
   pub consumed : Consumes old new bytes
@@ -177,5 +173,6 @@ abbrev pub outcome_opened : List ℕ → Result ReaderValue StlFault → Outcome
 outcome_opened b (Err f) = fails f 0
 outcome_opened b (Ok r) = outcome_left r b
 
+-- what reading the bytes of a whole file gives
 unfoldable pub outcome_of : List ℕ → Outcome
 outcome_of s = outcome_opened (drop gsi_size s) (opened_at s)

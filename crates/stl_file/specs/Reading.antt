@@ -1,8 +1,7 @@
 -- Reading TTI blocks one after the other, as far as the first fault.
 --
 -- The suffix `_at` means: as read at the front of these bytes, or the first fault in the order of
--- the
--- lines below.
+-- the lines below.
 use Rattle.std.specs.Prelude.{ℕ, zero, suc, ◌+◌, ◌-◌, ◌*◌, ◌≤◌, not, ◌==◌, ◌&&◌, nat_lt, nat_le}
 use Rattle.std.specs.Prelude.{List, [], ◌∷◌, ◌++◌, length, take, drop, slice_index, if◌then◌else◌}
 use Rattle.std.specs.Prelude.{Option, Some, None, Result, Ok, Err}
@@ -93,10 +92,8 @@ outcome_after room next (Ok (Give s)) = gives s (most_blocks - room) (next None)
 outcome_after room next (Ok (More begun)) = next begun
 
 -- What bytes behind the GSI block give, where so many blocks may still follow and a subtitle was
--- begun
--- or not. The end inside a subtitle names the last whole block, every other fault the block that
--- was
--- begun; one byte after 99,999 blocks is a block too many.
+-- begun or not. The end inside a subtitle names the last whole block, every other fault the block
+-- that was begun; one byte after 99,999 blocks is a block too many.
 unfoldable pub outcome_at : ℕ → Option Begun → List ℕ → Outcome
 outcome_at room None [] = ends
 outcome_at room (Some begun) [] = fails fault.Unfinished (most_blocks - room)

@@ -5,10 +5,8 @@ use Rattle.stl_file.specs.TimeCode.{day}
 use Rattle.stl_file.specs.Tti.{unused_space}
 
 -- The fields of a subtitle (EBU Tech 3264, TTI block): subtitle group, subtitle number, time code
--- in
--- and out as frames of the day, vertical position, justification code, and the text of all its
--- blocks
--- in the file's code.
+-- in and out as frames of the day, vertical position, justification code, and the text of all its
+-- blocks in the file's code.
 pub record SubtitleValue : Type 0 where
   pub sgn : ℕ
   pub sn : ℕ
@@ -28,8 +26,7 @@ has_no_unused [] = true
 has_no_unused (x ∷ xs) = if x == unused_space then false else has_no_unused xs
 
 -- what a subtitle can be: shown for some time within the day (TCI before TCO), from a row 1 to 23
--- on,
--- with a justification code 0 to 3 and a text that nine blocks can hold
+-- on, with a justification code 0 to 3 and a text that nine blocks can hold
 pub record IsSubtitle (s : SubtitleValue) : Type 0 where
   pub times : s.tci < s.tco
   pub in_day : s.tco < day

@@ -1,6 +1,6 @@
 -- The blocks of a subtitle, and the blocks of a file, as relations: they say what a file is and
--- nothing
--- of how it is read (EBU Tech 3264, TTI blocks; the rules on one subtitle's blocks are (own)).
+-- nothing of how it is read (EBU Tech 3264, TTI blocks; the rules on one subtitle's blocks are
+-- (own)).
 use Rattle.std.specs.Prelude.{◌≡◌, ℕ, ◌+◌, ◌<◌, ◌≤◌, true, List, [], ◌∷◌, length, slice_index}
 use Rattle.std.specs.Prelude.{filter}
 use Rattle.std.specs.List.{flat_map, AllByRecursion}
@@ -8,7 +8,7 @@ use Rattle.stl_file.specs.TimeCode.{frame_of, is_time_code}
 use Rattle.stl_file.specs.Tti.{block_size, most_of_subtitle, first_reserved, last_block}
 use Rattle.stl_file.specs.Tti.{not_cumulative, no_comment, tci_place, tco_place}
 use Rattle.stl_file.specs.Tti.{sgn, sn, ebn, cs, vp, jc, cf, text_of, is_kept}
-use Rattle.stl_file.specs.Subtitle.{SubtitleValue, IsSubtitle}
+use Rattle.stl_file.specs.Subtitle.{SubtitleValue}
 
 -- the bytes of blocks, one after the other
 abbrev pub joined : List (List ℕ) → List ℕ
@@ -58,8 +58,7 @@ pub record Begins (s : SubtitleValue) (b : List ℕ) : Type 0 where
   pub jc_range : s.jc ≤ 3
 
 -- these 1 to 9 blocks are the blocks of the subtitle s: the first says its fields, and its text
--- joins
--- the text of each
+-- joins the text of each
 pub record AreBlocksOf (s : SubtitleValue) (bs : List (List ℕ)) : Type 0 where
   pub first : List ℕ
   pub others : List (List ℕ)
@@ -77,8 +76,8 @@ AreBlocksOfEach (s ∷ ss) [] = ⊥
 AreBlocksOfEach (s ∷ ss) (g ∷ gs) = AreBlocksOf s g × AreBlocksOfEach ss gs
 
 -- The blocks of a file from a place on where a subtitle may begin, at most so many: where the
--- passed
--- blocks are taken out, the blocks of these subtitles are left, one subtitle after the other.
+-- passed blocks are taken out, the blocks of these subtitles are left, one subtitle after the
+-- other.
 pub record IsRest (most : ℕ) (bs : List (List ℕ)) (ts : List SubtitleValue) : Type 0 where
   pub each : AllByRecursion IsBlock bs
   pub few : length bs ≤ most

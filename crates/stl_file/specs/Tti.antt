@@ -72,10 +72,11 @@ ebn b = slice_index b 3
 abbrev pub cs : List ℕ → ℕ
 cs b = slice_index b 4
 
--- the places of TCI and TCO
+-- the place of TCI
 abbrev pub tci_place : ℕ
 tci_place = 5
 
+-- the place of TCO
 abbrev pub tco_place : ℕ
 tco_place = 9
 

@@ -198,7 +198,7 @@ impl Subtitle {
         push_text(&mut self.text, block.tf());
     }
 
-    // Whether a block has the subtitle's group and number.
+    // Whether a block has the SGN and SN of the subtitle.
     pub(crate) fn is_of(&self, block: &Tti) -> bool
         ensures { result ≡ ((sgn block.now == self.now.sgn) && (sn block.now == self.now.sn)) }
     {

@@ -1,7 +1,5 @@
 -- A subtitle more is counted; the counts at the end; the fault of a file that is refused.
-use Rattle.std.proofs.Common.{◌++◌, ◌∷◌, [], Err, refl, arith, ap, sym, ◌∙◌, length, length-append}
-use Rattle.stl_file.specs.declared.fault.NormalFault.TheVariants.{Refused}
-use Rattle.stl_file.specs.NormalCounts.{counted}
+use Rattle.std.proofs.Common.{◌++◌, ◌∷◌, [], refl, arith, ap, length, length-append}
 use Rattle.stl_file.specs.NormalForm.{all_blocks, blocks_of}
 use Rattle.stl_file.proofs.Passes.{pass_turn, pass_ends, pass_refused, counted_end, all_push}
 use Rattle.stl_file.proofs.Passes.{refused_same, no_failure}

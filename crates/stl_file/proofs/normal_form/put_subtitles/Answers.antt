@@ -1,5 +1,5 @@
 -- A subtitle more is written; all of them at the end; a prefix where the sink failed.
-use Rattle.std.proofs.Common.{◌++◌, ◌∷◌, [], refl, rules, ap, sym, subst, ◌∙◌, List, ℕ}
+use Rattle.std.proofs.Common.{◌++◌, ◌∷◌, [], refl, rules, ap, sym, subst, List}
 use Rattle.std.proofs.lemmas.Result.{err_from_is_err_and}
 use Rattle.std.specs.Io.KnownBytes.{Appends}
 use Rattle.stl_file.specs.NormalCounts.{given}

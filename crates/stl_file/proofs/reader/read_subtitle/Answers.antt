@@ -3,7 +3,7 @@ use Rattle.std.proofs.Common.{rules, Ok, sym, ap, ◌∙◌, ◌+◌, subst, ari
 use Rattle.std.proofs.lemmas.Result.{err_from_is_err_and}
 use Rattle.stl_file.specs.Reading.{StepFits, step_at}
 use Rattle.stl_file.proofs.Taken.{leads_none, leads_unfinished, leads_too_many, leads_truncated}
-use Rattle.stl_file.proofs.Taken.{leads_refused, leads_given, takes_passed, gives_subtitle}
+use Rattle.stl_file.proofs.Taken.{leads_refused, leads_given, gives_subtitle}
 use Rattle.stl_file.proofs.Taken.{reads_on}
 use Rattle.stl_file.proofs.Taken.{refuses_unfinished, refuses_too_many, refuses_truncated}
 use Rattle.stl_file.proofs.Taken.{refuses_block, fails_reading, own_block}
