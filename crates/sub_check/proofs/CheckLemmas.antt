@@ -11,6 +11,7 @@ use Rattle.std.proofs.lemmas.Bool.{cases_eq, cases_lt}
 use Rattle.std.proofs.lemmas.List.Elements.{All-from_recursion}
 use Rattle.std.specs.Prelude.{IfErr}
 use Rattle.stl_rows.specs.Programme.{ProgrammeValue}
+use Rattle.stl_rows.specs.declared.fault.LoadFault.{LoadFault}
 use Rattle.ttx_pes.specs.PesPacket.{PesValue}
 use Rattle.ttx_pes.specs.Reading.{answer_at, rest_after, most_packets}
 use Rattle.ttx_pes.specs.declared.fault.PesFault.{PesFault}
@@ -193,3 +194,8 @@ pub first_from :
     → IfErr result (NamesFirst g frames)
 first_from g frames (Ok a) h = tt
 first_from g frames (Err f) h = h
+
+-- A file gives one programme. For `check_files`.
+pub same_programme :
+    (a b : ProgrammeValue) (r : Result ProgrammeValue LoadFault) → r ≡ Ok a → r ≡ Ok b → a ≡ b
+same_programme a b r e f = let both = sym e ∙ f in cc

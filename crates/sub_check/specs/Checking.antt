@@ -29,6 +29,11 @@ abbrev pub is_source_failure : {X : Type 0} → Result X CheckFault → Bool
 is_source_failure (Err f) = is_source_fault f
 is_source_failure (Ok x) = false
 
+-- The answer refuses the subtitle file.
+abbrev pub is_subtitle_refusal : {X : Type 0} → Result X CheckFault → Bool
+is_subtitle_refusal (Err (fault.Subtitles f)) = true
+is_subtitle_refusal _ = false
+
 -- A PTS is that of this frame of the day, and of no other.
 pub record IsFrameOf (origin pts frame : ℕ) : Type 0 where
   pub in_day : frame < frames_of_day

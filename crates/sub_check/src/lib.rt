@@ -15,6 +15,7 @@
 mod checker;
 mod examples;
 mod fault;
+mod files;
 mod frame_rules;
 mod laws;
 mod listener;
@@ -24,6 +25,7 @@ mod page_count;
 pub use checker::{Accepted, check, law_of_readings};
 pub use examples::{example_of_good, examples_of_broken_rules, examples_of_no_robustness};
 pub use fault::CheckFault;
+pub use files::check_files;
 pub use laws::{
     law_of_all_kept, law_of_clean_spans, law_of_good, law_of_good_and_loss,
     law_of_good_and_marked_loss, law_of_nothing_lost, law_of_plan, law_of_repeats, law_of_rules,

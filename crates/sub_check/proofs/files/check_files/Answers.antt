@@ -1,0 +1,31 @@
+-- The programme that is loaded is the file's one: `same_programme`.
+use Rattle.std.proofs.Common.{refl}
+use Rattle.sub_check.proofs.CheckLemmas.{same_programme}
+use Rattle.sub_check.proofs.files.check_files.Goals as goal
+
+pub returns-in-Err-clause-subtitles : goal.returns-in-Err-clause-subtitles
+returns-in-Err-clause-subtitles g c = λ file told none.
+    (refl, (c.in-Err.fault, refl, c.in-Err.ensures.fault file told))
+
+pub returns-in-Err-clause-accepted : goal.returns-in-Err-clause-accepted
+returns-in-Err-clause-accepted g c = λ programme file told same bytes heard refused fine. cc
+
+pub returns-in-Err-clause-robust : goal.returns-in-Err-clause-robust
+returns-in-Err-clause-robust g c = λ programme frames file told same bytes heard reads ok. cc
+
+pub returns-in-Ok-clause-subtitles : goal.returns-in-Ok-clause-subtitles
+returns-in-Ok-clause-subtitles g c = λ file told none.
+    absurd (none c.in-Ok.programme (c.in-Ok.ensures.exact file told))
+
+pub returns-in-Ok-clause-accepted : goal.returns-in-Ok-clause-accepted
+returns-in-Ok-clause-accepted g c = λ programme file told same bytes heard refused fine.
+    let is = same_programme programme c.in-Ok.programme _ same (c.in-Ok.ensures.exact file told) in
+    rw is (c.check.ensures.accepted bytes heard fine)
+
+pub returns-in-Ok-clause-robust : goal.returns-in-Ok-clause-robust
+returns-in-Ok-clause-robust g c = λ programme frames file told same bytes heard reads ok.
+    let is = same_programme programme c.in-Ok.programme _ same (c.in-Ok.ensures.exact file told) in
+    rw is (
+      c.check.ensures.robust frames bytes heard reads ok,
+      c.check.ensures.robust_to_loss frames bytes heard reads ok,
+    )

@@ -1,0 +1,69 @@
+//! A pair of files: the subtitle file, and the PES file that carries it.
+ghost use Rattle.std.specs.Prelude.{◌≡◌, ◌≢◌, ◌+◌, ◌<◌, ◌↔◌, IsOk, Ok, Err, None, false};
+ghost use Rattle.sub_io.specs.Reading.{IfTold};
+ghost use Rattle.stl_file.specs.Reader.{outcome_of};
+ghost use Rattle.stl_rows.specs.Loading.{TellsFault, loaded};
+ghost use Rattle.stl_rows.specs.Programme.{ProgrammeValue};
+ghost use Rattle.stl_rows.specs.declared.fault.LoadFault.{LoadFault};
+ghost use Rattle.sub_check.specs.Checking.{is_source_failure, is_subtitle_refusal};
+ghost use Rattle.sub_check.specs.Good.{Good};
+ghost use Rattle.sub_check.specs.LostRows.{RobustToMarkedLoss};
+ghost use Rattle.sub_check.specs.PesReading.{ReadsAs};
+ghost use Rattle.sub_check.specs.Robust.{Robust};
+ghost use Rattle.sub_check.specs.Transmission.{Transmission};
+
+use crate::checker::{Accepted, check};
+use crate::fault::CheckFault;
+use std::alloc::Global;
+use stl_rows::{National, load};
+use sub_io::Source;
+use sub_plan::Options;
+
+/// Checks a subtitle file and a PES file: loads the one, and checks the other against it.
+///
+/// The subtitle file is read to its end before any byte of the PES file is.
+///
+/// # Errors
+///
+/// `Subtitles` with the fault of `load`, and then the PES source is as it was. Else those of `check`.
+pub fn check_files<S: Source, P: Source>(
+    alloc: Global,
+    stl: &mut S,
+    pes: &mut P,
+    national: National,
+    options: &Options,
+) -> Result<Accepted, CheckFault>
+    requires stl { S.failure_count stl.old < u64.MAX }
+    requires pes { P.failure_count pes.old < u64.MAX }
+    // A file that gives no programme is refused by its fault, and no PES byte is read.
+    ensures subtitles { IfTold (S.remaining stl.old) (λ file.
+        ((programme : ProgrammeValue) → loaded national (outcome_of file) ≢ Ok programme)
+        → (pes.new ≡ pes.old)
+        × ((fault : LoadFault) × (result ≡ Err (CheckFault.Subtitles fault))
+        × TellsFault national (outcome_of file) fault.block fault.kind)) }
+    // Of a file that gives a programme, want of memory and failing devices aside, the PES file is
+    // accepted exactly where it is read to its end as a good transmission of it.
+    ensures accepted { (programme : ProgrammeValue) → IfTold (S.remaining stl.old) (λ file.
+        loaded national (outcome_of file) ≡ Ok programme
+        → IfTold (P.remaining pes.old) (λ bytes.
+        is_subtitle_refusal result ≡ false
+        → is_source_failure result ≡ false
+        → IsOk result
+        ↔ ((frames : Transmission)
+        × ReadsAs options.now.origin 0 bytes frames None
+        × Good programme frames options.now))) }
+    // What is accepted is robust, with lost rows too.
+    ensures robust { (programme : ProgrammeValue) (frames : Transmission)
+        → IfTold (S.remaining stl.old) (λ file.
+        loaded national (outcome_of file) ≡ Ok programme
+        → IfTold (P.remaining pes.old) (λ bytes.
+        ReadsAs options.now.origin 0 bytes frames None
+        → IsOk result
+        → Robust programme frames options.now
+        × RobustToMarkedLoss programme frames options.now)) }
+{
+    match load(alloc, stl, national) {
+        Err(fault) => Err(CheckFault::Subtitles(fault)),
+        Ok(programme) => check(&programme, pes, options),
+    }
+}
