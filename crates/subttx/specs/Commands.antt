@@ -17,6 +17,10 @@ packet_app = with_rule (new_app (codes "packet")) (required_rule (codes "hex"))
 abbrev pub packets_app : App
 packets_app = with_rule (new_app (codes "packets")) (required_rule (codes "pes"))
 
+-- `show STL`
+abbrev pub show_app : App
+show_app = with_rule (new_app (codes "show")) (required_rule (codes "stl"))
+
 -- The program before its commands: it offers neither help nor a version, and wants a command.
 abbrev pub bare_app : App
 bare_app = let plain = new_app (codes "subttx") in record plain {
@@ -30,7 +34,9 @@ bare_app = let plain = new_app (codes "subttx") in record plain {
 
 -- The program and its commands.
 unfoldable pub subttx_app : App
-subttx_app = with_subcommand (with_subcommand bare_app packet_app.top) packets_app.top
+subttx_app =
+    with_subcommand
+    (with_subcommand (with_subcommand bare_app packet_app.top) packets_app.top) show_app.top
 
 -- What `clap`'s contract says of words, as functions of them. The kinds of its refusal: none where
 -- it takes the words.
@@ -47,7 +53,7 @@ are_sound words = takes subttx_app words
 
 -- The names of the commands.
 abbrev pub command_names : List Text
-command_names = codes "packet" ∷ codes "packets" ∷ []
+command_names = codes "packet" ∷ codes "packets" ∷ codes "show" ∷ []
 
 -- The words of the command line as texts.
 abbrev pub texts_of : List (Bor (List ℕ)) → List Text

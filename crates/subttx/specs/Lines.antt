@@ -1,5 +1,5 @@
 -- The lines that the program prints. Each ends with one newline.
-use Rattle.std.specs.Prelude.{ℕ, ◌/◌, ◌%◌, ◌==◌, ◌&&◌, nat_le, List, [], ◌∷◌, ◌++◌}
+use Rattle.std.specs.Prelude.{ℕ, ◌+◌, ◌/◌, ◌%◌, ◌==◌, ◌&&◌, nat_le, List, [], ◌∷◌, ◌++◌}
 use Rattle.std.specs.Prelude.{codes, decimal, map, length}
 use Rattle.std.specs.Prelude.{Bool, if◌then◌else◌, slice_index}
 use Rattle.ttx_packet.specs.Parity.{is_odd, code_of}
@@ -7,6 +7,10 @@ use Rattle.ttx_packet.specs.PageHeader.{c4, c5, c6, c7, c8, c9, c10, c11, c12, c
 use Rattle.ttx_packet.specs.declared.Header.{Header}
 use Rattle.hex.specs.Hex.{encode_lower}
 use Rattle.ttx_pes.specs.DataUnit.{UnitValue}
+use Rattle.stl_file.specs.Gsi.{five_digits}
+use Rattle.stl_file.specs.Subtitle.{SubtitleValue}
+use Rattle.stl_file.specs.declared.fault.StlFault.{StlFault}
+use Rattle.stl_file.specs.declared.fault.StlFault.TheVariants as stl
 use Rattle.ttx_pes.specs.declared.PesFault.{PesFault}
 use Rattle.ttx_pes.specs.declared.PesFault.TheVariants as pes
 use Rattle.subttx.specs.declared.request.UsageFault.{UsageFault}
@@ -109,3 +113,49 @@ pes_fault_words pes.TooMany = codes "refused 44 TooMany"
 -- The same with the index of the PES packet.
 abbrev pub pes_fault_line : PesFault → ℕ → List ℕ
 pes_fault_line fault index = pes_fault_words fault ++ codes " pes " ++ decimal index ++ codes "\n"
+
+-- Two decimal digits.
+unfoldable pub two_digits : ℕ → List ℕ
+two_digits n = (0x30 + n / 10) ∷ (0x30 + n % 10) ∷ []
+
+-- A frame of the day as `HH:MM:SS:FF`, at 25 frames a second (EBU Tech 3264, TCI and TCO).
+unfoldable pub time_text : ℕ → List ℕ
+time_text frame = two_digits (frame / 90000) ++ codes ":" ++ two_digits ((frame / 1500) % 60)
+    ++ codes ":" ++ two_digits ((frame / 25) % 60) ++ codes ":" ++ two_digits (frame % 25)
+
+-- The joined text of a subtitle in hexadecimal, or a hyphen where it is empty (own).
+unfoldable pub text_digits : List ℕ → List ℕ
+text_digits text = if length text == 0 then codes "-" else encode_lower text
+
+-- A subtitle: its number SN in five digits, the time codes in and out, the vertical position, the
+-- justification code and the text in the file's code.
+abbrev pub subtitle_line : SubtitleValue → List ℕ
+subtitle_line s = five_digits s.sn ++ codes " " ++ time_text s.tci ++ codes " " ++ time_text s.tco
+    ++ codes " vp " ++ decimal s.vp ++ codes " jc " ++ decimal s.jc
+    ++ codes " text " ++ text_digits s.text ++ codes "\n"
+
+-- A fault of a subtitle file by number and name; that of a device is a fault, any other a refusal
+-- (own).
+abbrev pub stl_fault_words : StlFault → List ℕ
+stl_fault_words stl.Truncated = codes "refused 10 Truncated"
+stl_fault_words stl.Format = codes "refused 11 Format"
+stl_fault_words stl.Rate = codes "refused 12 Rate"
+stl_fault_words stl.Display = codes "refused 13 Display"
+stl_fault_words stl.Alphabet = codes "refused 14 Alphabet"
+stl_fault_words stl.Extension = codes "refused 15 Extension"
+stl_fault_words stl.Cumulative = codes "refused 16 Cumulative"
+stl_fault_words stl.CommentFlag = codes "refused 17 CommentFlag"
+stl_fault_words stl.Justify = codes "refused 18 Justify"
+stl_fault_words stl.Row = codes "refused 19 Row"
+stl_fault_words stl.Time = codes "refused 20 Time"
+stl_fault_words stl.EmptyTime = codes "refused 21 EmptyTime"
+stl_fault_words stl.Sequence = codes "refused 22 Sequence"
+stl_fault_words stl.TooLong = codes "refused 23 TooLong"
+stl_fault_words stl.Unfinished = codes "refused 24 Unfinished"
+stl_fault_words stl.TooManyBlocks = codes "refused 25 TooManyBlocks"
+stl_fault_words stl.Read = codes "fault 26 Read"
+stl_fault_words stl.Ended = codes "refused 27 Ended"
+
+-- The same with the TTI block that it names.
+abbrev pub stl_fault_line : StlFault → ℕ → List ℕ
+stl_fault_line fault block = stl_fault_words fault ++ codes " block " ++ decimal block ++ codes "\n"

@@ -8,6 +8,8 @@ use Rattle.ttx_packet.specs.declared.Header.{Header}
 use Rattle.std.specs.Io.KnownBytes.{Appends}
 use Rattle.ttx_pes.specs.declared.PesFault.{PesFault}
 use Rattle.ttx_pes.specs.declared.PesFault.TheVariants as pes
+use Rattle.stl_file.specs.declared.fault.StlFault.{StlFault}
+use Rattle.stl_file.specs.declared.fault.StlFault.TheVariants as stl
 use Rattle.sub_io.specs.Device.{AppendsPrefix}
 use Rattle.subttx.specs.Lines.{address_line, header_line, text_line}
 use Rattle.subttx.specs.declared.request.Request.{Request}
@@ -72,11 +74,17 @@ pub record CountsFault (old : ℕ) (status : Status) (new : ℕ) : Type 0 where
 abbrev pub ForPacket : Request → (List ℕ → Type 0) → Type 0
 ForPacket (ask.Packet bytes) P = P bytes
 ForPacket (ask.Packets pes) P = ⊤
+ForPacket (ask.Show stl) P = ⊤
 
 -- A fault of a PES file that is read is the device's only where the source failed.
 abbrev pub pes_status : PesFault → Status
 pes_status pes.Read = Fault
 pes_status _ = Refused
+
+-- The same of a subtitle file that is read.
+abbrev pub stl_status : StlFault → Status
+stl_status stl.Read = Fault
+stl_status _ = Refused
 
 -- A listing ends in a fault.
 abbrev pub ends_in_fault : Option Status → Bool

@@ -27,11 +27,13 @@ own_fault name rows = if bytes_eq name (codes "packet") then packet_fault rows e
 abbrev pub command_of : Request → Text
 command_of (ask.Packet bytes) = codes "packet"
 command_of (ask.Packets pes) = codes "packets"
+command_of (ask.Show stl) = codes "show"
 
 -- The request holds the values of its command's arguments.
 abbrev pub Holds : List Row → Request → Type 0
 Holds rows (ask.Packet bytes) = decode_sized (text_of (codes "hex") rows) 42 ≡ Ok bytes
 Holds rows (ask.Packets pes) = pes.now ≡ text_of (codes "pes") rows
+Holds rows (ask.Show stl) = stl.now ≡ text_of (codes "stl") rows
 
 -- `clap` takes the words, and they give this command these arguments.
 pub record Names (words : List Text) (name : Text) (rows : List Row) : Type 0 where
@@ -64,16 +66,19 @@ IsFaultOf words own = Breaks words own
 abbrev pub names_first : Request → Bool
 names_first (ask.Packet bytes) = false
 names_first (ask.Packets pes) = true
+names_first (ask.Show stl) = true
 
 -- Whether it reads a second input.
 abbrev pub names_second : Request → Bool
 names_second (ask.Packet bytes) = false
 names_second (ask.Packets pes) = false
+names_second (ask.Show stl) = false
 
 -- Whether it writes a file.
 abbrev pub names_file : Request → Bool
 names_file (ask.Packet bytes) = false
 names_file (ask.Packets pes) = false
+names_file (ask.Show stl) = false
 
 -- The name is one of these.
 abbrev pub IsOneOf : List Text → Text → Type 0

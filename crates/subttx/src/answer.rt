@@ -5,6 +5,7 @@
 
 mod packet;
 mod packets;
+mod show;
 
 ghost use Rattle.std.specs.Prelude.{◌≡◌, ◌≢◌, ◌+◌, ◌<◌, ◌≤◌, false};
 ghost use Rattle.std.specs.Io.KnownBytes.{Appends};
@@ -18,6 +19,7 @@ use crate::request::{Request, UsageFault};
 use crate::status::Status;
 use packet::show_packet;
 use packets::list_packets;
+use show::list_subtitles;
 use std::alloc::Global;
 use sub_io::{Sink, Source, put_all};
 
@@ -68,6 +70,7 @@ pub fn answer<S: Source, T: Source, F: Sink, K: Sink>(
     match request {
         Request::Packet { bytes } => show_packet(bytes, out),
         Request::Packets { .. } => list_packets(first, out),
+        Request::Show { .. } => list_subtitles(first, out),
     }
 }
 

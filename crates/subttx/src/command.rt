@@ -6,7 +6,7 @@ ghost use Rattle.std.specs.Prelude.{◌≡◌, IfOk, false};
 ghost use Rattle.clap.specs.Words.{app_of, with_rule, with_subcommand};
 ghost use Rattle.clap.specs.declared.builder.command.Command.TheViews.{out-Command};
 ghost use Rattle.subttx.specs.Commands.{bare_app, packet_app, packets_app};
-ghost use Rattle.subttx.specs.Commands.{required_rule, subttx_app};
+ghost use Rattle.subttx.specs.Commands.{required_rule, show_app, subttx_app};
 
 use clap::{Arg, Command};
 use std::alloc::{AllocError, Global};
@@ -39,6 +39,14 @@ fn packets_command<'a>(alloc: Global) -> Result<Command<'a>, AllocError>
     ensures local { IfOk result (λ c. (out-Command c).has_globals ≡ false) }
 {
     with_required(Command::new(alloc, "packets"), alloc, "pes")
+}
+
+// `show STL`
+fn show_command<'a>(alloc: Global) -> Result<Command<'a>, AllocError>
+    ensures app { IfOk result (λ c. app_of c ≡ show_app) }
+    ensures local { IfOk result (λ c. (out-Command c).has_globals ≡ false) }
+{
+    with_required(Command::new(alloc, "show"), alloc, "stl")
 }
 
 // The program before its commands.
@@ -75,5 +83,6 @@ pub fn subttx_command<'a>(alloc: Global) -> Result<Command<'a>, AllocError>
     ensures local { IfOk result (λ c. (out-Command c).has_globals ≡ false) }
 {
     let program = with_command(bare_program(alloc), packet_command(alloc)?)?;
-    with_command(program, packets_command(alloc)?)
+    let program = with_command(program, packets_command(alloc)?)?;
+    with_command(program, show_command(alloc)?)
 }

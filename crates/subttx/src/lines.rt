@@ -6,11 +6,14 @@ ghost use Rattle.std.specs.Prelude.{◌≡◌, ◌+◌, ◌≤◌, ◌<◌, ◌+
 ghost use Rattle.arrayvec.specs.ArrayVec.{array_vec_len};
 ghost use Rattle.hex.specs.Hex.{encode_lower};
 ghost use Rattle.subttx.specs.Lines.{glyph, pes_fault_line, pes_fault_words, usage_line};
-ghost use Rattle.subttx.specs.Listing.{pes_status};
+ghost use Rattle.subttx.specs.Lines.{stl_fault_line, stl_fault_words, text_digits, time_text};
+ghost use Rattle.subttx.specs.Lines.{two_digits};
+ghost use Rattle.subttx.specs.Listing.{pes_status, stl_status};
 
 use crate::request::UsageFault;
 use crate::status::Status;
 use arrayvec::ArrayVec;
+use stl_file::{StlFault, TimeCode};
 use ttx_pes::PesFault;
 
 /// The line of a fault of the words or of the program itself.
@@ -99,6 +102,99 @@ pub fn push_pes_fault<const N: usize>(line: &mut ArrayVec<u8, N>, fault: PesFaul
     push_text(line, b" pes ");
     push_decimal(line, u64::from(index));
     push_text(line, b"\n");
+}
+
+// What is printed of a fault of a subtitle file, without its block.
+fn stl_fault_text(fault: StlFault) -> &'static [u8]
+    ensures value { result.now ≡ stl_fault_words fault }
+    ensures len { length result.now ≤ 32 }
+{
+    match fault {
+        StlFault::Truncated => b"refused 10 Truncated",
+        StlFault::Format => b"refused 11 Format",
+        StlFault::Rate => b"refused 12 Rate",
+        StlFault::Display => b"refused 13 Display",
+        StlFault::Alphabet => b"refused 14 Alphabet",
+        StlFault::Extension => b"refused 15 Extension",
+        StlFault::Cumulative => b"refused 16 Cumulative",
+        StlFault::CommentFlag => b"refused 17 CommentFlag",
+        StlFault::Justify => b"refused 18 Justify",
+        StlFault::Row => b"refused 19 Row",
+        StlFault::Time => b"refused 20 Time",
+        StlFault::EmptyTime => b"refused 21 EmptyTime",
+        StlFault::Sequence => b"refused 22 Sequence",
+        StlFault::TooLong => b"refused 23 TooLong",
+        StlFault::Unfinished => b"refused 24 Unfinished",
+        StlFault::TooManyBlocks => b"refused 25 TooManyBlocks",
+        StlFault::Read => b"fault 26 Read",
+        StlFault::Ended => b"refused 27 Ended",
+    }
+}
+
+/// The status that goes with a fault of a subtitle file that is read.
+pub fn stl_status(fault: StlFault) -> Status
+    ensures { result ≡ stl_status fault }
+{
+    match fault {
+        StlFault::Read => Status::Fault,
+        _ => Status::Refused,
+    }
+}
+
+/// Appends the line of a fault of a subtitle file, with the TTI block that it names.
+pub fn push_stl_fault<const N: usize>(line: &mut ArrayVec<u8, N>, fault: StlFault, block: u32)
+    requires { array_vec_len line.old + 64 ≤ N }
+    ensures items { line.new.items ≡ line.old.items ++ stl_fault_line fault block }
+    ensures len { array_vec_len line.new ≤ array_vec_len line.old + 64 }
+{
+    push_text(line, stl_fault_text(fault));
+    push_text(line, b" block ");
+    push_decimal(line, u64::from(block));
+    push_text(line, b"\n");
+}
+
+// Appends two decimal digits.
+#[tactic(auto, unfolding(crate::specs::Lines::two_digits))]
+fn push_two_digits<const N: usize>(line: &mut ArrayVec<u8, N>, number: u8)
+    requires { array_vec_len line.old + 2 ≤ N }
+    ensures items { line.new.items ≡ line.old.items ++ two_digits number }
+    ensures len { array_vec_len line.new ≡ array_vec_len line.old + 2 }
+{
+    push_text(line, &[b'0' + number / 10, b'0' + number % 10]);
+}
+
+/// Appends a time code as `HH:MM:SS:FF`.
+#[tactic(auto, unfolding(crate::specs::Lines::time_text))]
+pub fn push_time<const N: usize>(line: &mut ArrayVec<u8, N>, time: TimeCode)
+    requires { array_vec_len line.old + 11 ≤ N }
+    ensures items { line.new.items ≡ line.old.items ++ time_text time }
+    ensures len { array_vec_len line.new ≡ array_vec_len line.old + 11 }
+{
+    let [hours, minutes, seconds, frames] = time.to_bytes();
+    push_two_digits(line, hours);
+    push_text(line, b":");
+    push_two_digits(line, minutes);
+    push_text(line, b":");
+    push_two_digits(line, seconds);
+    push_text(line, b":");
+    push_two_digits(line, frames);
+}
+
+/// Appends the text of a subtitle as lower case hexadecimal digits, or a hyphen where it is empty.
+#[tactic(auto, unfolding(crate::specs::Lines::text_digits))]
+pub fn push_text_digits<const N: usize>(line: &mut ArrayVec<u8, N>, text: &[u8])
+    requires few { length text.now ≤ 1008 }
+    requires room { array_vec_len line.old + 2016 ≤ N }
+    ensures items { line.new.items ≡ line.old.items ++ text_digits text.now }
+    ensures len { array_vec_len line.new ≤ array_vec_len line.old + 2016 }
+{
+    if text.len() == 0 {
+        return push_text(line, b"-");
+    }
+    let mut room = [0; 2016];
+    let (digits, _) = room.split_at_mut(2 * text.len());
+    let _ = hex::encode_to_slice(text, digits);
+    push_text(line, digits);
 }
 
 /// The character of a cell's code.

@@ -76,16 +76,27 @@ fn open_and_answer<R: AllocGlobal + Files, K: Sink>(
 {
     match request {
         Request::Packet { .. } => answer_input(rt, request, &mut MemSource::new(&[]), out),
-        Request::Packets { pes } => {
-            let Ok(file) = fs::open(rt, *pes) else {
-                return answer::say(&UsageFault::Open, out);
-            };
-            let Ok(reader) = BufReader::new(rt.alloc(), file) else {
-                return answer::say(&UsageFault::Memory, out);
-            };
-            answer_input(rt, request, &mut FromRead::new(reader), out)
-        }
+        Request::Packets { pes } => answer_file(rt, request, pes, out),
+        Request::Show { stl } => answer_file(rt, request, stl, out),
     }
+}
+
+// Answers a request with the one file that it names.
+fn answer_file<R: AllocGlobal + Files, K: Sink>(
+    rt: &R,
+    request: &Request<'_>,
+    name: &str,
+    out: &mut K,
+) -> Status
+    requires { K.failure_count out.old < u64.MAX }
+{
+    let Ok(file) = fs::open(rt, name) else {
+        return answer::say(&UsageFault::Open, out);
+    };
+    let Ok(reader) = BufReader::new(rt.alloc(), file) else {
+        return answer::say(&UsageFault::Memory, out);
+    };
+    answer_input(rt, request, &mut FromRead::new(reader), out)
 }
 
 // Answers a request with one input at most. For a device that it does not name, an empty one is

@@ -42,6 +42,11 @@ pub enum Request<'a> {
         /// The name of the file of PES packets.
         pes: &'a str,
     },
+    /// `show STL`: lists subtitles.
+    Show {
+        /// The name of the subtitle file.
+        stl: &'a str,
+    },
 }
 
 impl<'a> Request<'a> {
@@ -68,6 +73,8 @@ impl<'a> Request<'a> {
             packet_request(inner)
         } else if name == "packets" {
             packets_request(inner)
+        } else if name == "show" {
+            show_request(inner)
         } else {
             Err(UsageFault::Words)
         }
@@ -133,5 +140,16 @@ fn packets_request<'a>(matches: &ArgMatches<'a>) -> Result<Request<'a>, UsageFau
 {
     Ok(Request::Packets {
         pes: text_at(matches, "pes"),
+    })
+}
+
+// `show STL`
+fn show_request<'a>(matches: &ArgMatches<'a>) -> Result<Request<'a>, UsageFault>
+    ensures ok { IsOk result }
+    ensures holds { IfOk result (Holds (rows_of (found_of matches.now))) }
+    ensures named { IfOk result (λ r. command_of r ≡ codes "show") }
+{
+    Ok(Request::Show {
+        stl: text_at(matches, "stl"),
     })
 }

@@ -1,6 +1,7 @@
 //! What the program prints, over devices in memory.
 mod packet;
 mod packets;
+mod show;
 mod words;
 
 use crate::answer::{answer, say};
