@@ -179,3 +179,6 @@ fn judge<S: Source>(
         fault,
     })
 }
+
+#[cfg(test)]
+mod tests;
