@@ -30,8 +30,8 @@ ReadsAs origin given bytes (s ∷ frames) unread =
     × IsSentAs origin v s
     × ReadsAs origin (given + 1) (rest_after bytes) frames unread
 
--- Each PES file is read as frames in some way, to its end or up to what keeps it from being read on. So
--- a refusal that speaks of each reading speaks of one.
+-- Each PES file is read as frames in some way, to its end or up to what keeps it from being read
+-- on. So a refusal that speaks of each reading speaks of one.
 abbrev pub LawOfReadings : Type 0
 LawOfReadings =
     (origin : ℕ) (bytes : List ℕ)

@@ -131,7 +131,8 @@ pub fn check<S: Source>(
     judge(programme, source, options)
 }
 
-/// Each PES file is read as frames in some way, to its end or up to what keeps it from being read on.
+/// Each PES file is read as frames in some way, to its end or up to what keeps it from being read
+/// on.
 pub fn law_of_readings()
     ensures { LawOfReadings }
 {}

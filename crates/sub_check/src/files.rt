@@ -25,7 +25,8 @@ use sub_plan::Options;
 ///
 /// # Errors
 ///
-/// `Subtitles` with the fault of `load`, and then the PES source is as it was. Else those of `check`.
+/// `Subtitles` with the fault of `load`, and then the PES source is as it was. Else those of
+/// `check`.
 pub fn check_files<S: Source, P: Source>(
     alloc: Global,
     stl: &mut S,

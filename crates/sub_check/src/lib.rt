@@ -3,8 +3,8 @@
 //!
 //! Stands on `ttx_page` for receivers and noise, on `stl_rows` for the due page, on `ttx_pes` for
 //! PES packets, and on `sub_plan` for the options. `specs/` says what a good transmission is,
-//! `Good`, what every receiver makes of it, `Robust`, and which place of a transmission is the first
-//! that is broken, `FirstBroken`. `check` accepts exactly the good ones:
+//! `Good`, what every receiver makes of it, `Robust`, and which place of a transmission is the
+//! first that is broken, `FirstBroken`. `check` accepts exactly the good ones:
 //!
 //! ```text
 //! check(&programme, &mut source, &options)?; // Accepted { frames: 51, transmissions: 2 }

@@ -85,8 +85,8 @@ text_line bytes = codes "text |" ++ map text_glyph bytes ++ codes "|\n"
 abbrev pub pes_line : ℕ → ℕ → List ℕ
 pes_line index pts = codes "pes " ++ decimal index ++ codes " pts " ++ decimal pts ++ codes "\n"
 
--- A Teletext unit: its number in its PES packet from 0, data_unit_id, the field, line_offset, and the
--- packet's 42 bytes, not mirrored.
+-- A Teletext unit: its number in its PES packet from 0, data_unit_id, the field, line_offset, and
+-- the packet's 42 bytes, not mirrored.
 abbrev pub unit_line : ℕ → UnitValue → List ℕ
 unit_line number u = codes "unit " ++ decimal number ++ codes " id 0" ++ decimal u.id
     ++ codes " field " ++ decimal u.field ++ codes " line " ++ decimal u.line ++ codes " "

@@ -65,8 +65,8 @@ fn words_of<R: AllocGlobal + Env>(rt: &R) -> Result<Vec<String>, UsageFault> {
     args.collect(rt.alloc()).map_err(|_| UsageFault::Memory)
 }
 
-// Opens the files that the request names, in the order of the words. At the first that fails it opens
-// no more.
+// Opens the files that the request names, in the order of the words. At the first that fails it
+// opens no more.
 fn open_and_answer<R: AllocGlobal + Files, K: Sink>(
     rt: &R,
     request: &Request<'_>,

@@ -1,4 +1,5 @@
-//! Tests over several crates, and values from outside programs. Nothing here is part of the product.
+//! Tests over several crates, and values from outside programs. Nothing here is part of the
+//! product.
 #![tactic(auto)]
 
 #[cfg(test)]

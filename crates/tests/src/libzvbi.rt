@@ -1,5 +1,5 @@
-//! The codes of single bytes as a program over libzvbi, the decoder library of most players, printed
-//! them for all 256 bytes.
+//! The codes of single bytes as a program over libzvbi, the decoder library of most players,
+//! printed them for all 256 bytes.
 use ttx_packet::{is_odd, mirror, par, unham};
 
 /// What stands in a table where libzvbi answers that the byte is wrong.

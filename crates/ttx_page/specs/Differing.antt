@@ -1,7 +1,7 @@
 -- How many cells of two pages differ (own): a count that a checker can keep as rows are stored.
 --
--- The counts go by fixed numbers of rows and columns, so that no fact on the lengths of the lists is
--- needed: a page has at most 960 cells that differ.
+-- The counts go by fixed numbers of rows and columns, so that no fact on the lengths of the lists
+-- is needed: a page has at most 960 cells that differ.
 use Rattle.std.specs.Prelude.{ℕ, zero, suc, ◌+◌, List, [], ◌==◌, slice_index, slice_index_or}
 use Rattle.std.specs.Prelude.{if◌then◌else◌}
 use Rattle.ttx_page.specs.Page.{Rows}
