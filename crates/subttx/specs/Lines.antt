@@ -47,6 +47,7 @@ hex_four n = hex_two (n / 256) ++ hex_two (n % 256)
 abbrev pub shown_magazine : ℕ → ℕ
 shown_magazine magazine = if magazine == 0 then 8 else magazine
 
+-- A packet's magazine, 1 to 8, and its packet number.
 abbrev pub address_line : ℕ → ℕ → List ℕ
 address_line magazine packet_number = codes "magazine " ++ decimal (shown_magazine magazine)
     ++ codes " packet " ++ decimal packet_number ++ codes "\n"

@@ -22,9 +22,11 @@ pub record Listing : Type 0 where
   pub text : List ℕ
   pub status : Status
 
+-- A text that is all that was asked for.
 abbrev pub done : List ℕ → Listing
 done text = record { text = text; status = Done }
 
+-- The line of a refusal.
 abbrev pub refused : List ℕ → Listing
 refused line = record { text = line; status = Refused }
 
