@@ -1,9 +1,12 @@
 -- What the checker's steps answer, and what it has reached after the first n PES packets.
 use Rattle.std.specs.Prelude.{◌≡◌, ℕ, ◌+◌, ◌<◌, ◌≤◌, Bool, true, false, List, length, take, drop}
-use Rattle.std.specs.Prelude.{Option, Some, None}
+use Rattle.std.specs.Prelude.{Option, Some, None, ⊤}
 use Rattle.std.specs.Prelude.{Result, Ok, Err, All, flat_map}
 use Rattle.std.specs.List.{AllByRecursion}
 use Rattle.ttx_packet.specs.PageId.{PageIdValue}
+use Rattle.stl_file.specs.Reading.{Outcome}
+use Rattle.stl_rows.specs.Loading.{TellsFault, is_read_kind}
+use Rattle.stl_rows.specs.declared.national.National.{National}
 use Rattle.ttx_pes.specs.PesPacket.{PesValue}
 use Rattle.ttx_pes.specs.Reading.{answer_at, most_packets}
 use Rattle.ttx_pes.specs.declared.fault.PesFault.TheVariants as pes_fault
@@ -29,10 +32,36 @@ abbrev pub is_source_failure : {X : Type 0} → Result X CheckFault → Bool
 is_source_failure (Err f) = is_source_fault f
 is_source_failure (Ok x) = false
 
+-- The fault is one of the subtitle file.
+abbrev pub is_subtitle_fault : CheckFault → Bool
+is_subtitle_fault (fault.Subtitles f) = true
+is_subtitle_fault _ = false
+
 -- The answer refuses the subtitle file.
 abbrev pub is_subtitle_refusal : {X : Type 0} → Result X CheckFault → Bool
-is_subtitle_refusal (Err (fault.Subtitles f)) = true
-is_subtitle_refusal _ = false
+is_subtitle_refusal (Err f) = is_subtitle_fault f
+is_subtitle_refusal (Ok x) = false
+
+-- The fault is that of a subtitle source that failed (26, Read).
+abbrev pub is_subtitle_source_fault : CheckFault → Bool
+is_subtitle_source_fault (fault.Subtitles f) = is_read_kind f.kind
+is_subtitle_source_fault _ = false
+
+-- The answer is that fault.
+abbrev pub is_subtitle_source_failure : {X : Type 0} → Result X CheckFault → Bool
+is_subtitle_source_failure (Err f) = is_subtitle_source_fault f
+is_subtitle_source_failure (Ok x) = false
+
+-- The fault is told by a rule: it is none of the subtitle file, and not that the PES source failed.
+pub record IsRuleFault (f : CheckFault) : Type 0 where
+  pub no_source : is_source_fault f ≡ false
+  pub no_subtitle : is_subtitle_fault f ≡ false
+
+-- What is told of the subtitle file by an answer that refuses it.
+abbrev pub TellsSubtitles : National → Outcome → Result Accepted CheckFault → Type 0
+TellsSubtitles national outcome (Err (fault.Subtitles f)) =
+    TellsFault national outcome f.block f.kind
+TellsSubtitles national outcome _ = ⊤
 
 -- A PTS is that of this frame of the day, and of no other.
 pub record IsFrameOf (origin pts frame : ℕ) : Type 0 where
@@ -71,8 +100,7 @@ pub record Accepts (g : Task) (frames : Transmission) (a : Accepted) : Type 0 wh
       a.transmissions ≡ header_count g.watched.page (joined frames (length frames))
 
 -- What is told of an accepted transmission: the frames of the day from the first to the last, and
--- the
--- headers of the page.
+-- the headers of the page.
 pub record HasCounts (page : PageIdValue) (frames : Transmission) (a : Accepted) : Type 0 where
   pub frames_are : a.frames + first_frame frames ≡ last_frame frames + 1
   pub transmissions_are :

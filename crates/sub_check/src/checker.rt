@@ -6,8 +6,8 @@ ghost use Rattle.stl_rows.specs.Programme.{last_out};
 ghost use Rattle.ttx_pes.specs.Reading.{rest_after};
 ghost use Rattle.ttx_pes.specs.declared.progress.Progress.TheVariants.{Reading};
 ghost use Rattle.sub_plan.specs.Options.{IsOptions};
-ghost use Rattle.sub_check.specs.Checking.{Accepts, HasCounts, TellsEnd, TellsFrame};
-ghost use Rattle.sub_check.specs.Checking.{is_source_failure};
+ghost use Rattle.sub_check.specs.Checking.{Accepts, HasCounts, IsRuleFault, TellsEnd, TellsFrame};
+ghost use Rattle.sub_check.specs.Checking.{is_source_failure, is_subtitle_refusal};
 ghost use Rattle.sub_check.specs.FirstBroken.{NamesFirst};
 ghost use Rattle.sub_check.specs.FrameRules.{Unread, task_of};
 ghost use Rattle.sub_check.specs.Good.{Good};
@@ -50,6 +50,7 @@ fn next_frame<S: Source>(
         → TellsFrame options.now.origin pes bytes packet.new result) }
     ensures left { IfTold (S.remaining source.old) (λ bytes.
         OnOk result (S.remaining source.new ≡ Some (rest_after bytes))) }
+    ensures own { is_subtitle_refusal result ≡ false }
     ensures progress { (frame : ℕ) → result ≡ Ok (Some frame) → reader.new ≡ Reading (pes + 1) }
     ensures count { S.failure_count source.new
         ≡ S.failure_count source.old + (if is_source_failure result then 1 else 0) }
@@ -69,7 +70,7 @@ fn finish(programme: &Programme, first: u32, checker: &Checker) -> Result<Accept
     requires { first ≤ checker.now.frame }
     ensures end { TellsEnd (last_out programme.now.records) first checker.now.frame
         checker.now.headers result }
-    ensures source { is_source_failure result ≡ false }
+    ensures own { IfErr result IsRuleFault }
 {
     let frame = checker.frame;
     if !is_over(programme.last_out(), frame) {
@@ -125,6 +126,7 @@ pub fn check<S: Source>(
         ReadsAs options.now.origin 0 bytes frames None
         → IsOk result
         → RobustToMarkedLoss programme.now frames options.now) }
+    ensures own { is_subtitle_refusal result ≡ false }
     ensures count { S.failure_count source.new
         ≡ S.failure_count source.old + (if is_source_failure result then 1 else 0) }
 {
@@ -151,6 +153,7 @@ fn judge<S: Source>(
         → MatchResult result (Accepts (task_of programme.now options.now unread) frames)
         (NamesFirst (task_of programme.now options.now unread) frames)) }
     ensures options { IsOptions options.now }
+    ensures own { is_subtitle_refusal result ≡ false }
     ensures count { S.failure_count source.new
         ≡ S.failure_count source.old + (if is_source_failure result then 1 else 0) }
 {

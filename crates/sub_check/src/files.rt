@@ -1,11 +1,14 @@
 //! A pair of files: the subtitle file, and the PES file that carries it.
-ghost use Rattle.std.specs.Prelude.{◌≡◌, ◌≢◌, ◌+◌, ◌<◌, ◌↔◌, IsOk, Ok, Err, None, false};
+ghost use Rattle.std.specs.Prelude.{◌≡◌, ◌≢◌, ◌+◌, ◌<◌, ◌↔◌, IsOk, IfOk, IfErr, Ok, Option, None};
+ghost use Rattle.std.specs.Prelude.{true, false, if◌then◌else◌};
 ghost use Rattle.sub_io.specs.Reading.{IfTold};
 ghost use Rattle.stl_file.specs.Reader.{outcome_of};
-ghost use Rattle.stl_rows.specs.Loading.{TellsFault, loaded};
+ghost use Rattle.stl_rows.specs.Loading.{loaded};
 ghost use Rattle.stl_rows.specs.Programme.{ProgrammeValue};
-ghost use Rattle.stl_rows.specs.declared.fault.LoadFault.{LoadFault};
-ghost use Rattle.sub_check.specs.Checking.{is_source_failure, is_subtitle_refusal};
+ghost use Rattle.sub_check.specs.Checking.{HasCounts, TellsSubtitles, is_source_failure};
+ghost use Rattle.sub_check.specs.Checking.{is_subtitle_refusal, is_subtitle_source_failure};
+ghost use Rattle.sub_check.specs.FirstBroken.{NamesFirst};
+ghost use Rattle.sub_check.specs.FrameRules.{Unread, task_of};
 ghost use Rattle.sub_check.specs.Good.{Good};
 ghost use Rattle.sub_check.specs.LostRows.{RobustToMarkedLoss};
 ghost use Rattle.sub_check.specs.PesReading.{ReadsAs};
@@ -36,12 +39,15 @@ pub fn check_files<S: Source, P: Source>(
 ) -> Result<Accepted, CheckFault>
     requires stl { S.failure_count stl.old < u64.MAX }
     requires pes { P.failure_count pes.old < u64.MAX }
-    // A file that gives no programme is refused by its fault, and no PES byte is read.
+    // A refusal of the subtitle file is its first fault, or else that its source failed or memory
+    // was refused; no PES byte is read.
     ensures subtitles { IfTold (S.remaining stl.old) (λ file.
+        TellsSubtitles national (outcome_of file) result) }
+    ensures before { is_subtitle_refusal result ≡ true → pes.new ≡ pes.old }
+    // A file that gives no programme is refused.
+    ensures refused { IfTold (S.remaining stl.old) (λ file.
         ((programme : ProgrammeValue) → loaded national (outcome_of file) ≢ Ok programme)
-        → (pes.new ≡ pes.old)
-        × ((fault : LoadFault) × (result ≡ Err (CheckFault.Subtitles fault))
-        × TellsFault national (outcome_of file) fault.block fault.kind)) }
+        → is_subtitle_refusal result ≡ true) }
     // Of a file that gives a programme, want of memory and failing devices aside, the PES file is
     // accepted exactly where it is read to its end as a good transmission of it.
     ensures accepted { (programme : ProgrammeValue) → IfTold (S.remaining stl.old) (λ file.
@@ -53,6 +59,21 @@ pub fn check_files<S: Source, P: Source>(
         ↔ ((frames : Transmission)
         × ReadsAs options.now.origin 0 bytes frames None
         × Good programme frames options.now))) }
+    ensures counts { (programme : ProgrammeValue) (frames : Transmission)
+        → IfTold (S.remaining stl.old) (λ file.
+        loaded national (outcome_of file) ≡ Ok programme
+        → IfTold (P.remaining pes.old) (λ bytes.
+        ReadsAs options.now.origin 0 bytes frames None
+        → IfOk result (HasCounts options.now.page frames))) }
+    // A refusal of the PES file names the first place at which what is asked is broken.
+    ensures first { (programme : ProgrammeValue) (frames : Transmission) (unread : Option Unread)
+        → IfTold (S.remaining stl.old) (λ file.
+        loaded national (outcome_of file) ≡ Ok programme
+        → IfTold (P.remaining pes.old) (λ bytes.
+        ReadsAs options.now.origin 0 bytes frames unread
+        → is_subtitle_refusal result ≡ false
+        → is_source_failure result ≡ false
+        → IfErr result (NamesFirst (task_of programme options.now unread) frames))) }
     // What is accepted is robust, with lost rows too.
     ensures robust { (programme : ProgrammeValue) (frames : Transmission)
         → IfTold (S.remaining stl.old) (λ file.
@@ -62,6 +83,10 @@ pub fn check_files<S: Source, P: Source>(
         → IsOk result
         → Robust programme frames options.now
         × RobustToMarkedLoss programme frames options.now)) }
+    ensures stl_count { S.failure_count stl.new
+        ≡ S.failure_count stl.old + (if is_subtitle_source_failure result then 1 else 0) }
+    ensures pes_count { P.failure_count pes.new
+        ≡ P.failure_count pes.old + (if is_source_failure result then 1 else 0) }
 {
     match load(alloc, stl, national) {
         Err(fault) => Err(CheckFault::Subtitles(fault)),

@@ -1,9 +1,9 @@
 //! The rules of frames: their order, the frames between two PES packets, and what is due at each
 //! frame's end.
 ghost use Rattle.std.specs.Prelude.{◌≡◌, ℕ, ◌+◌, ◌-◌, ◌<◌, ◌≤◌, ◌↔◌, length, if◌then◌else◌};
-ghost use Rattle.std.specs.Prelude.{◌*◌, ◌≢◌, MatchResult, OnOk, IfOk, IfErr, false, IsTrue, IsFalse};
+ghost use Rattle.std.specs.Prelude.{◌*◌, ◌≢◌, MatchResult, OnOk, IfOk, IfErr, IsTrue, IsFalse};
 ghost use Rattle.std.specs.Prelude.{Some, nat_lt};
-ghost use Rattle.sub_check.specs.Checking.{is_source_fault};
+ghost use Rattle.sub_check.specs.Checking.{IsRuleFault};
 ghost use Rattle.sub_check.specs.FirstBroken.{NamesFirst, packet_fault};
 ghost use Rattle.sub_check.specs.FrameRules.{Task, frame_at};
 ghost use Rattle.sub_check.specs.Good.{due_page};
@@ -64,7 +64,7 @@ impl Checker {
         ensures frame { self.new.frame ≡ self.old.frame }
         ensures header_at { self.new.header_at ≡ self.old.header_at }
         ensures headers { self.new.headers ≡ self.old.headers }
-        ensures never { IfErr result (λ f. is_source_fault f ≡ false) }
+        ensures own { IfErr result IsRuleFault }
         ensures due { OnOk result (self.new.due ≡ due_page programme.now (to - 1)) }
         ensures count { OnOk result
             (self.new.listener.wrong ≡ differing self.new.listener.page self.new.due) }
@@ -104,7 +104,7 @@ impl Checker {
         requires headers { self.old.headers ≤ 35 * self.old.frame + 35 }
         requires due { self.old.due ≡ due_page programme.now (frame - 1) }
         requires count { self.old.listener.wrong ≡ differing self.old.listener.page self.old.due }
-        ensures never { IfErr result (λ f. is_source_fault f ≡ false) }
+        ensures own { IfErr result IsRuleFault }
         ensures header { OnOk result (self.new.header_at ≤ self.new.frame) }
         ensures frame { OnOk result (self.new.frame ≡ frame) }
         ensures headers { OnOk result (self.new.headers ≤ 35 * self.new.frame + 35) }
@@ -149,7 +149,7 @@ impl Checker {
         requires headers { self.old.headers ≤ 35 * self.old.frame + 35 }
         requires due { self.old.due ≡ due_page programme.now self.old.frame }
         requires count { self.old.listener.wrong ≡ differing self.old.listener.page self.old.due }
-        ensures never { IfErr result (λ f. is_source_fault f ≡ false) }
+        ensures own { IfErr result IsRuleFault }
         ensures header { OnOk result (self.new.header_at ≤ self.new.frame) }
         ensures later { OnOk result (self.old.frame ≤ self.new.frame) }
         ensures headers { OnOk result (self.new.headers ≤ 35 * self.new.frame + 35) }
@@ -178,7 +178,7 @@ impl Checker {
     ) -> Result<Checker, CheckFault>
         requires some { 0 < every }
         requires few { length units.now ≤ 35 }
-        ensures never { IfErr result (λ f. is_source_fault f ≡ false) }
+        ensures own { IfErr result IsRuleFault }
         ensures header { IfOk result (λ checker. checker.header_at ≤ checker.frame) }
         ensures frame { IfOk result (λ checker. checker.frame ≡ frame) }
         ensures headers { IfOk result (λ checker. checker.headers ≤ 35 * checker.frame + 35) }
@@ -246,7 +246,7 @@ fn any_header(headers: u32) -> bool
 // The refusal of a packet that breaks a rule.
 fn fault_of(rule: PacketRule, frame: u32, packet: u32) -> CheckFault
     ensures value { result ≡ packet_fault rule frame packet }
-    ensures never { is_source_fault result ≡ false }
+    ensures own { IsRuleFault result }
 {
     match rule {
         PacketRule::Address => CheckFault::Address { frame, packet },

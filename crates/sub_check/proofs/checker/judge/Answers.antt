@@ -1,5 +1,5 @@
 -- Each way out tells what the whole file is: by JudgeLemmas.
-use Rattle.std.proofs.Common.{◌≡◌, ℕ, List, Option, Some, Result, Ok, sym, refl, ap, ◌∙◌, subst}
+use Rattle.std.proofs.Common.{ℕ, List, Option, Result, Ok, sym, refl, ap, subst}
 use Rattle.std.proofs.Common.{arith}
 use Rattle.std.proofs.lemmas.Result.{err_from_is_err_and}
 use Rattle.ttx_pes.specs.DataUnit.{UnitValue}
@@ -48,7 +48,7 @@ returns-in_err-checker-clause-count g c =
     let p =
     err_from_is_err_and c.from_residual-in_err-checker.result
     c.from_residual-in_err-checker.ensures.1 in
-    rw (p.1, p.2, c.in_err-checker.ensures.never) c.in_ok-read.ensures.count
+    rw (p.1, p.2, c.in_err-checker.ensures.own.no_source) c.in_ok-read.ensures.count
 
 pub loop-pes-init : goal.loop-pes-init
 loop-pes-init g c =
@@ -125,7 +125,8 @@ returns-in_err-go_on-clause-count g c =
     c.from_residual-in_err-go_on.ensures.1 in
     let counted = c.in_ok-more.ensures.count in
     let before = c.loop-pes.invariant.failures in
-    rw (p.1, p.2, c.in_err-go_on.ensures.never) (omega (arith, counted, before))
+    rw (p.1, p.2, c.in_err-go_on.ensures.own.no_source)
+    (omega (arith, counted, before))
 
 pub loop-pes-preserved : goal.loop-pes-preserved
 loop-pes-preserved g c =

@@ -1,5 +1,5 @@
 -- What is read is told: the fault of the packet, its one frame, or that it has none.
-use Rattle.std.proofs.Common.{◌≡◌, Ok, Some, None, refl, sym, ap, ◌∙◌}
+use Rattle.std.proofs.Common.{Ok, refl, sym, ap, ◌∙◌}
 use Rattle.std.proofs.lemmas.Option.{none-some, same_Some}
 use Rattle.ttx_pes.specs.Reader.{given_frame}
 use Rattle.sub_check.specs.FrameRules.Unread.{BadPacket, NoFrame}

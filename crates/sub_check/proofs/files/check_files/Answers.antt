@@ -1,26 +1,37 @@
 -- The programme that is loaded is the file's one: `same_programme`.
-use Rattle.std.proofs.Common.{refl}
 use Rattle.sub_check.proofs.CheckLemmas.{same_programme}
 use Rattle.sub_check.proofs.files.check_files.Goals as goal
 
 pub returns-in-Err-clause-subtitles : goal.returns-in-Err-clause-subtitles
-returns-in-Err-clause-subtitles g c = λ file told none.
-    (refl, (c.in-Err.fault, refl, c.in-Err.ensures.fault file told))
+returns-in-Err-clause-subtitles g c = λ file told. c.in-Err.ensures.fault file told
 
 pub returns-in-Err-clause-accepted : goal.returns-in-Err-clause-accepted
 returns-in-Err-clause-accepted g c = λ programme file told same bytes heard refused fine. cc
 
+pub returns-in-Err-clause-first : goal.returns-in-Err-clause-first
+returns-in-Err-clause-first g c = λ programme frames unread file told same bytes heard reads no fine.
+    cc
+
 pub returns-in-Err-clause-robust : goal.returns-in-Err-clause-robust
 returns-in-Err-clause-robust g c = λ programme frames file told same bytes heard reads ok. cc
 
-pub returns-in-Ok-clause-subtitles : goal.returns-in-Ok-clause-subtitles
-returns-in-Ok-clause-subtitles g c = λ file told none.
+pub returns-in-Ok-clause-refused : goal.returns-in-Ok-clause-refused
+returns-in-Ok-clause-refused g c = λ file told none.
     absurd (none c.in-Ok.programme (c.in-Ok.ensures.exact file told))
 
 pub returns-in-Ok-clause-accepted : goal.returns-in-Ok-clause-accepted
 returns-in-Ok-clause-accepted g c = λ programme file told same bytes heard refused fine.
     let is = same_programme programme c.in-Ok.programme _ same (c.in-Ok.ensures.exact file told) in
     rw is (c.check.ensures.accepted bytes heard fine)
+
+pub returns-in-Ok-clause-counts : goal.returns-in-Ok-clause-counts
+returns-in-Ok-clause-counts g c = λ programme frames file told same bytes heard reads.
+    c.check.ensures.counts frames bytes heard reads
+
+pub returns-in-Ok-clause-first : goal.returns-in-Ok-clause-first
+returns-in-Ok-clause-first g c = λ programme frames unread file told same bytes heard reads no fine.
+    let is = same_programme programme c.in-Ok.programme _ same (c.in-Ok.ensures.exact file told) in
+    rw is (c.check.ensures.first frames unread bytes heard reads fine)
 
 pub returns-in-Ok-clause-robust : goal.returns-in-Ok-clause-robust
 returns-in-Ok-clause-robust g c = λ programme frames file told same bytes heard reads ok.

@@ -1,4 +1,3 @@
-use Rattle.std.proofs.Common.{◌≡◌, ap, arith}
 use Rattle.sub_check.proofs.ShownLemmas.{due_between_edges}
 use Rattle.sub_check.proofs.frame_rules.is_edge.Goals as goal
 

@@ -1,10 +1,9 @@
-use Rattle.std.proofs.Common.{◌≡◌, ℕ, ◌+◌, drop, length, get_or, sym, ap, ◌∙◌, subst, arith, rules}
+use Rattle.std.proofs.Common.{◌+◌, drop, get_or, sym, ap, ◌∙◌, subst, arith, rules}
 use Rattle.std.proofs.lemmas.List.{get_or-drop, length-drop}
 use Rattle.ttx_packet.proofs.BitOrderLemmas.{map-from_places}
 use Rattle.ttx_packet.specs.Parity.{code_of}
 use Rattle.ttx_page.specs.Page.{AreCodes}
 use Rattle.sub_check.proofs.CodesLemmas.{codes_small}
-use Rattle.sub_check.specs.PacketRules.{codes_of}
 use Rattle.sub_check.proofs.packet_rules.text_codes.Goals as goal
 
 pub returns-clause-value : goal.returns-clause-value

@@ -8,7 +8,6 @@ use Rattle.sub_check.proofs.OrderLemmas.{first_cell, gap_of_none}
 use Rattle.sub_check.proofs.ShownLemmas.{shows_from, shows_not, covered_from, Knows-counted}
 use Rattle.sub_check.proofs.ShownLemmas.{HeaderIs-some}
 use Rattle.sub_check.proofs.TakingLemmas.{Taken-from, fault_moved, past_more}
-use Rattle.ttx_packet.specs.PageHeader.{header}
 use Rattle.sub_check.specs.declared.fault.CheckFault.TheVariants as fault
 use Rattle.sub_check.proofs.ShownLemmas.{cells_above}
 use Rattle.sub_check.specs.FirstBroken.{packet_fault}

@@ -9,7 +9,6 @@ use Rattle.sub_check.specs.Following.{HeaderIs}
 use Rattle.sub_check.proofs.OrderLemmas.{first_gap_cell, first_gap}
 use Rattle.sub_check.proofs.ShownLemmas.{shows_from, shows_not, covered_from, covered_not}
 use Rattle.sub_check.proofs.ShownLemmas.{Knows-counted}
-use Rattle.ttx_packet.specs.PageHeader.{header}
 use Rattle.sub_check.proofs.ShownLemmas.{cells_above}
 use Rattle.sub_check.proofs.frame_rules.Checker.cross_gap.Goals as goal
 

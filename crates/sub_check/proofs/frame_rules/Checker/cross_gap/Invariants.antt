@@ -1,5 +1,5 @@
-use Rattle.std.proofs.Common.{◌≡◌, ℕ, List, ◌<◌, length, ◌-◌}
-use Rattle.sub_check.specs.Transmission.{SentFrame, Transmission}
+use Rattle.std.proofs.Common.{◌≡◌, ℕ, ◌<◌, length, ◌-◌}
+use Rattle.sub_check.specs.Transmission.{Transmission}
 use Rattle.sub_check.specs.Listening.{Knows}
 use Rattle.sub_check.specs.FrameRules.{Task, frame_at, joined}
 use Rattle.sub_check.specs.Good.{due_page}

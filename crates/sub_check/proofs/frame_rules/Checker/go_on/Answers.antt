@@ -34,7 +34,7 @@ returns-clause-exact c g frames task follows is =
     in
     c.take.ensures.exact g frames c.args.pes task crossed.1 is order crossed.0
 
-pub returns-in_err-cross_gap-clause-never : goal.returns-in_err-cross_gap-clause-never
-returns-in_err-cross_gap-clause-never c =
+pub returns-in_err-cross_gap-clause-own : goal.returns-in_err-cross_gap-clause-own
+returns-in_err-cross_gap-clause-own c =
     let p = err_from_is_err_and c.from_residual.result c.from_residual.ensures.1 in
-    rw (p.1, p.2) c.in_err-cross_gap.ensures.never
+    rw (p.1, p.2) c.in_err-cross_gap.ensures.own

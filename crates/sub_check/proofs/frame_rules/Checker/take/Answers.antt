@@ -9,7 +9,6 @@ use Rattle.sub_check.proofs.ShownLemmas.{shows_from, shows_not, covered_from, co
 use Rattle.sub_check.proofs.ShownLemmas.{Knows-counted}
 use Rattle.sub_check.proofs.TakingLemmas.{Taken-from, HeaderIs-more, rising_more, fault_moved}
 use Rattle.sub_check.proofs.TakingLemmas.{past_more}
-use Rattle.ttx_packet.specs.PageHeader.{header}
 use Rattle.sub_check.specs.declared.fault.CheckFault.TheVariants as fault
 use Rattle.sub_check.proofs.ShownLemmas.{cells_above}
 use Rattle.sub_check.specs.FirstBroken.{packet_fault}

@@ -1,5 +1,5 @@
 use Rattle.std.proofs.Common.{◌≡◌, ℕ, ◌+◌, ◌<◌, ◌++◌, List, [], ◌∷◌, length, take, get_or, cond}
-use Rattle.std.proofs.Common.{inl, inr, refl, sym, ap, ap₂, ◌∙◌, subst, arith, rules, append_assoc}
+use Rattle.std.proofs.Common.{sym, ap, ap₂, ◌∙◌, subst, rules, append_assoc}
 use Rattle.ttx_page.specs.PacketKind.{is_this_page, kind}
 use Rattle.sub_check.specs.Listening.{Knows}
 use Rattle.sub_check.specs.PacketRules.{IsClean, header_count, packets_of_units}
