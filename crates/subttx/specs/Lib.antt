@@ -2,3 +2,4 @@ pub mod Commands
 pub mod Requests
 pub mod Lines
 pub mod Listing
+pub mod LoadLines

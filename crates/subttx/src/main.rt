@@ -7,6 +7,7 @@
 mod answer;
 mod command;
 mod lines;
+mod load_lines;
 mod request;
 mod status;
 #[cfg(test)]
