@@ -20,6 +20,16 @@ use Rattle.subttx.specs.declared.request.UsageFault.TheVariants as fault
 abbrev pub usage_line : UsageFault → List ℕ
 usage_line fault.Words = codes "usage 0 Words\n"
 usage_line fault.BadHex = codes "usage 2 BadHex\n"
+usage_line fault.SameFile = codes "usage 7 SameFile\n"
+usage_line fault.BadPage = codes "usage 1 BadPage\n"
+usage_line fault.Every = codes "usage 80 Every\n"
+usage_line fault.Origin = codes "usage 81 Origin\n"
+usage_line fault.BadOption = codes "usage 83 BadOption\n"
+usage_line fault.BadTime = codes "usage 6 BadTime\n"
+usage_line fault.BadSkip = codes "usage 8 BadSkip\n"
+usage_line fault.BadFlip = codes "usage 5 BadFlip\n"
+usage_line fault.BadLose = codes "usage 84 BadLose\n"
+usage_line fault.BadReceiver = codes "usage 9 BadReceiver\n"
 usage_line fault.Open = codes "fault 90 Open\n"
 usage_line fault.Memory = codes "fault 91 Memory\n"
 

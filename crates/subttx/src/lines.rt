@@ -23,6 +23,16 @@ pub fn usage_text(fault: &UsageFault) -> &'static [u8]
     match fault {
         UsageFault::Words => b"usage 0 Words\n",
         UsageFault::BadHex => b"usage 2 BadHex\n",
+        UsageFault::SameFile => b"usage 7 SameFile\n",
+        UsageFault::BadPage => b"usage 1 BadPage\n",
+        UsageFault::Every => b"usage 80 Every\n",
+        UsageFault::Origin => b"usage 81 Origin\n",
+        UsageFault::BadOption => b"usage 83 BadOption\n",
+        UsageFault::BadTime => b"usage 6 BadTime\n",
+        UsageFault::BadSkip => b"usage 8 BadSkip\n",
+        UsageFault::BadFlip => b"usage 5 BadFlip\n",
+        UsageFault::BadLose => b"usage 84 BadLose\n",
+        UsageFault::BadReceiver => b"usage 9 BadReceiver\n",
         UsageFault::Open => b"fault 90 Open\n",
         UsageFault::Memory => b"fault 91 Memory\n",
     }

@@ -21,6 +21,36 @@ pub enum UsageFault {
     /// 2: HEX is not 84 hexadecimal digits.
     #[error("the packet is not 84 hexadecimal digits")]
     BadHex,
+    /// 7: the file to be written has the name of the input.
+    #[error("the input and the output have the same name")]
+    SameFile,
+    /// 1: the page is not a digit 1 to 8 and two hexadecimal digits, or is a page FF.
+    #[error("the page is not 100 to 8FE")]
+    BadPage,
+    /// 80: the repeat bound is not 1 to 1500 frames.
+    #[error("the repeat bound is not 1 to 1500 frames")]
+    Every,
+    /// 81: the PTS of frame 0 is not below 2^33.
+    #[error("the PTS of frame 0 does not have 33 bits")]
+    Origin,
+    /// 83: the national option is neither english nor german.
+    #[error("the national option is neither english nor german")]
+    BadOption,
+    /// 6: the time is not `HH:MM:SS:FF` of a day.
+    #[error("the time is not HH:MM:SS:FF of a day")]
+    BadTime,
+    /// 8: the number of packets to be skipped is no number of one to ten digits.
+    #[error("the packets to be skipped are no number")]
+    BadSkip,
+    /// 5: the flips are not 1 to 64 places `P:B:K`, or two are in one byte.
+    #[error("the flips are not 1 to 64 places")]
+    BadFlip,
+    /// 84: the lost packets are not 1 to 64 numbers, or two are equal.
+    #[error("the lost packets are not 1 to 64 numbers")]
+    BadLose,
+    /// 9: the receiver is neither blank nor keep.
+    #[error("the receiver is neither blank nor keep")]
+    BadReceiver,
     /// 91: memory ran out.
     #[error("memory ran out")]
     Memory,
