@@ -6,4 +6,6 @@ pub mod NearPackets
 pub mod MadePackets
 pub mod BitOrderLemmas
 pub mod RowPacketLemmas
+pub mod BlockLemmas
+pub mod LaneLemmas
 pub mod PageIdLemmas

@@ -1,10 +1,9 @@
 -- What is read of the packets that are made: law_of_header_packet, law_of_row_packet.
-use Rattle.std.proofs.Common.{◌≡◌, ℕ, zero, suc, ◌+◌, ◌*◌, ◌/◌, ◌%◌, ◌<◌, ◌≤◌, inl, Bool, true, false, ◌==◌, cond, List, ◌∷◌, ◌++◌, length, map, replicate, Option, Some, None, slice_index, refl, sym, ap, ◌∙◌, subst, arith, eq-eqb, ne_eqb, IsTrue}
-use Rattle.std.proofs.lemmas.List.{get_or-map, length-map, ext_get_or}
+use Rattle.std.proofs.Common.{◌≡◌, ℕ, [], zero, suc, ◌+◌, ◌*◌, ◌/◌, ◌%◌, ◌<◌, ◌≤◌, Bool, true, false, ◌==◌, List, ◌∷◌, ◌++◌, length, map, replicate, Option, Some, None, slice_index, refl, sym, ap, ◌∙◌, subst, arith, eq-eqb, ne_eqb, IsTrue}
+use Rattle.std.proofs.lemmas.List.{append-nil, get_or-map, length-map}
 use Rattle.std.proofs.lemmas.Option.{same_Some}
-use Rattle.ttx_packet.specs.declared.control.Control.{Control}
 use Rattle.ttx_packet.specs.declared.header.Header.{Header}
-use Rattle.ttx_packet.specs.Hamming84.{IsCodeWord, code_word, decoded}
+use Rattle.ttx_packet.specs.Hamming84.{IsCodeWord, code_word}
 use Rattle.ttx_packet.specs.Parity.{is_odd, code_of, odd_byte}
 use Rattle.ttx_packet.specs.PacketAddress.{PacketAddress, address, address_words}
 use Rattle.ttx_packet.specs.PageHeader.{bit, nibble, coded_header, header, header_numbers, header_packet, IsHeader, c4, c5, c6, c7, c8, c9, c10, c11, c12, c13, c14}
@@ -208,40 +207,6 @@ law_of_row_packet magazine y codes m one small forty all =
           (odd_of_code (slice_index codes column) (code column l));
     }
 
--- ---- a packet that was made byte by byte
-
--- The first byte of a row packet.
-row_first : (magazine y : ℕ) (codes : List ℕ)
-    → slice_index (row_packet magazine y codes) 0 ≡ code_word ((magazine + 8 * y) % 16)
-unfolding row_packet
-row_first magazine y codes = refl
-
--- The second byte of a row packet.
-row_second : (magazine y : ℕ) (codes : List ℕ)
-    → slice_index (row_packet magazine y codes) 1 ≡ code_word ((magazine + 8 * y) / 16)
-unfolding row_packet
-row_second magazine y codes = refl
-
--- A packet whose bytes are these one by one is the row packet.
-pub row_packet-from_bytes : (magazine y : ℕ) (codes packet : List ℕ)
-    → length packet ≡ 42
-    → length codes ≡ 40
-    → slice_index packet 0 ≡ code_word ((magazine + 8 * y) % 16)
-    → slice_index packet 1 ≡ code_word ((magazine + 8 * y) / 16)
-    → ((k : ℕ) → k < 40 → slice_index packet (k + 2) ≡ odd_byte (slice_index codes k))
-    → packet ≡ row_packet magazine y codes
-row_packet-from_bytes magazine y codes packet size forty low high done =
-    ext_get_or 0 packet (row_packet magazine y codes)
-    (size ∙ sym (row_whole magazine y codes forty)) (λ k below. at k (omega (arith, size)))
-  where
-    at : (k : ℕ) → k < 42 → slice_index packet k ≡ slice_index (row_packet magazine y codes) k
-    at zero l = low ∙ sym (row_first magazine y codes)
-    at (suc zero) l = high ∙ sym (row_second magazine y codes)
-    at (suc (suc k)) l =
-        let e : k + 2 ≡ suc (suc k) = omega arith in
-        subst (λ j. slice_index packet j ≡ slice_index (row_packet magazine y codes) j) e
-        (done k (omega arith) ∙ sym (row_text magazine y codes k forty (omega arith)))
-
 -- ---- a header that was made byte by byte
 
 -- Ten words, each that of its number, and 32 spaces are the header packet.
@@ -265,3 +230,15 @@ header_packet-from_words magazine h b0 b1 b2 b3 b4 b5 b6 b7 b8 b9 l e0 e1 e2 e3 
     let f0 : b0 ≡ code_word ((magazine + 8 * 0) % 16) = e0 ∙ ap code_word low in
     let f1 : b1 ≡ code_word ((magazine + 8 * 0) / 16) = e1 ∙ ap code_word high in
     rw (f0, f1, e2, e3, e4, e5, e6, e7, e8, e9) refl
+
+-- ---- a row that was made of two words and its text
+
+-- Two words, each that of its number, and the odd bytes of the codes are the row packet.
+pub row_packet-from_text : (magazine y low high : ℕ) (codes text : List ℕ)
+    → low ≡ code_word ((magazine + 8 * y) % 16)
+    → high ≡ code_word ((magazine + 8 * y) / 16)
+    → text ≡ map odd_byte codes
+    → low ∷ high ∷ (text ++ []) ≡ row_packet magazine y codes
+unfolding row_packet
+row_packet-from_text magazine y low high codes text l h t =
+    rw (append-nil text, l, h, t) refl

@@ -1,6 +1,7 @@
 pub mod OneBit
 pub mod Hamming84
 pub mod Parity
+pub mod Lanes
 pub mod BitOrder
 pub mod PacketAddress
 pub mod PageHeader

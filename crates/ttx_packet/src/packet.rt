@@ -11,7 +11,8 @@ use crate::bit_order::mirrored;
 use crate::control::Control;
 use crate::hamming::{ham, is_word, unham};
 use crate::header::Header;
-use crate::parity::{is_odd, par};
+use crate::parity::lanes::evens;
+use crate::parity::{is_odd, odd_bytes};
 use bitflags::Flags;
 use std::marker::Model;
 
@@ -158,9 +159,16 @@ impl Packet {
         ensures value { result ≡ first_even_byte self.now }
         ensures odd { IsNone result ↔ HasOddText self.now }
     {
-        for column in 0..40usize {
-            if !is_odd(self.bytes[column + 2]) {
-                return Some(column as u8);
+        let (blocks, rest) = self.data().as_chunks::<16>();
+        for (i, block) in blocks.iter().enumerate() {
+            let mask = evens(block);
+            if mask != 0 {
+                return Some((16 * i + mask.trailing_zeros() as usize) as u8);
+            }
+        }
+        for (j, byte) in rest.iter().enumerate() {
+            if !is_odd(*byte) {
+                return Some((32 + j) as u8);
             }
         }
         None
@@ -260,9 +268,7 @@ fn row_bytes(magazine: u8, row: u8, codes: &[u8; 40]) -> [u8; 42]
     let mut bytes = [0; 42];
     bytes[0] = ham(number % 16);
     bytes[1] = ham(number / 16);
-    for column in 0..40usize {
-        bytes[column + 2] = par(codes[column]);
-    }
+    bytes[2..].copy_from_slice(&odd_bytes(codes));
     bytes
 }
 
@@ -322,8 +328,33 @@ mod tests {
         let sent = packet.bytes();
         assert!(rt; sent[0] == 0x15 && sent[1] == 0x9B && sent[2] == 0xC1 && sent[41] == 0xC1);
         assert_eq!(rt; packet.first_even(), None);
-        let mut bytes = *packet.bytes();
-        bytes[41] = 0x41;
-        assert_eq!(rt; Packet::new(bytes).first_even(), Some(39));
+    }
+
+    // The plain form of `first_even`, byte by byte.
+    fn plain_first_even(packet: &Packet) -> Option<u8> {
+        for column in 0..40u8 {
+            if !is_odd(packet.data()[column as usize]) {
+                return Some(column);
+            }
+        }
+        None
+    }
+
+    #[test]
+    fn finds_the_only_even_byte_at_each_place(rt: HostRuntime) {
+        for column in 0..40u8 {
+            let mut bytes = [0x20; 42];
+            bytes[column as usize + 2] = 0xA0;
+            let packet = Packet::new(bytes);
+            assert_eq!(rt; packet.first_even(), Some(column));
+            assert_eq!(rt;
+                packet.first_even(),
+                plain_first_even(&packet),
+                "at {column}"
+            );
+        }
+        // Even bytes in the address are none of the text.
+        let packet = Packet::new([0x20; 42]);
+        assert_eq!(rt; packet.first_even(), plain_first_even(&packet));
     }
 }

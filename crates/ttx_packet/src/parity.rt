@@ -1,6 +1,10 @@
 //! Odd parity: seven code bits, and one bit that shows a single wrong bit.
-ghost use Rattle.std.specs.Prelude.{◌≡◌, ◌<◌};
+ghost use Rattle.std.specs.Prelude.{◌≡◌, ◌<◌, ℕ, map, slice_index};
 ghost use Rattle.ttx_packet.specs.Parity.{is_odd, odd_byte};
+
+pub(crate) mod lanes;
+
+use self::lanes::odd_block;
 
 /// Whether the count of ones in a byte is odd (EN 300 706, 8.1).
 #[tactic(auto, unfolding(crate::specs::Parity::is_odd))]
@@ -16,6 +20,22 @@ pub fn par(code: u8) -> u8
     ensures { result ≡ odd_byte code }
 {
     if is_odd(code) { code } else { code + 0x80 }
+}
+
+/// The bytes of odd parity of 40 codes, each below 128: those of a row.
+pub(crate) fn odd_bytes(codes: &[u8; 40]) -> [u8; 40]
+    requires { (k : ℕ) → slice_index codes.now k < 0x80 }
+    ensures { result ≡ map odd_byte codes.now }
+{
+    let mut bytes = [0; 40];
+    let (blocks, rest) = codes.as_chunks::<16>();
+    for (i, block) in blocks.iter().enumerate() {
+        bytes[16 * i..16 * i + 16].copy_from_slice(&odd_block(block));
+    }
+    for (j, code) in rest.iter().enumerate() {
+        bytes[32 + j] = par(*code);
+    }
+    bytes
 }
 
 #[cfg(test)]

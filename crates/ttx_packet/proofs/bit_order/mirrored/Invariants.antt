@@ -1,9 +1,17 @@
-use Rattle.std.proofs.Common.{◌≡◌, ℕ, ◌<◌, length, slice_index}
+use Rattle.std.proofs.Common.{◌≡◌, ◌+◌, ◌*◌, length, map, take}
 use Rattle.ttx_packet.specs.BitOrder.{mirror}
 use Rattle.ttx_packet.proofs.bit_order.mirrored.Given as goal
 
-abbrev pub invariant-loop-place : goal.invariant-loop-place
-invariant-loop-place l = record {
+-- The blocks before are mirrored.
+abbrev pub invariant-loop-i : goal.invariant-loop-i
+invariant-loop-i l = record {
   size : length l.other ≡ 42;
-  done : (k : ℕ) → k < l.place → slice_index l.other k ≡ mirror (slice_index l.bytes k);
+  done : take (16 * l.i) l.other ≡ map mirror (take (16 * l.i) l.bytes);
+}
+
+-- The bytes before are mirrored.
+abbrev pub invariant-loop-j : goal.invariant-loop-j
+invariant-loop-j l = record {
+  size : length l.other ≡ 42;
+  done : take (32 + l.j) l.other ≡ map mirror (take (32 + l.j) l.bytes);
 }

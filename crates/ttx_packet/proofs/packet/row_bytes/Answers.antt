@@ -1,9 +1,9 @@
-use Rattle.std.proofs.Common.{rules}
-use Rattle.ttx_packet.proofs.MadePackets.{row_packet-from_bytes}
+use Rattle.std.proofs.Common.{◌∙◌}
+use Rattle.ttx_packet.proofs.MadePackets.{row_packet-from_text}
 use Rattle.ttx_packet.proofs.packet.row_bytes.Goals as goal
 
 pub returns : goal.returns
 returns c =
-    let i = c.loop-column.invariant in
-    row_packet-from_bytes c.args.magazine c.args.row c.args.codes.now c.loop-column.bytes i.size
-    (search rules) i.low i.high (λ k l. i.done k (search rules))
+    row_packet-from_text c.args.magazine c.args.row c.ham.result c.ham-2.result c.args.codes.now
+    c.copy_from_slice.new.self c.ham.ensures c.ham-2.ensures
+    (c.copy_from_slice.ensures.after ∙ c.odd_bytes.ensures)

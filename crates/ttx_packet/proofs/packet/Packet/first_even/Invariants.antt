@@ -1,7 +1,13 @@
-use Rattle.std.proofs.Common.{◌≡◌, ℕ, ◌+◌, ◌<◌, true, slice_index}
+use Rattle.std.proofs.Common.{◌≡◌, ℕ, ◌+◌, ◌*◌, ◌<◌, true, slice_index, drop}
 use Rattle.ttx_packet.specs.Parity.{is_odd}
 use Rattle.ttx_packet.proofs.packet.Packet.first_even.Given as goal
 
-abbrev pub invariant-loop-column : goal.invariant-loop-column
-invariant-loop-column l =
-    (k : ℕ) → k < l.column → is_odd (slice_index l.self-inside.bytes (k + 2)) ≡ true
+-- The data bytes of the blocks before are odd.
+abbrev pub invariant-loop-i : goal.invariant-loop-i
+invariant-loop-i l =
+    (k : ℕ) → k < 16 * l.i → is_odd (slice_index (drop 2 l.self) k) ≡ true
+
+-- The data bytes before are odd.
+abbrev pub invariant-loop-j : goal.invariant-loop-j
+invariant-loop-j l =
+    (k : ℕ) → k < 32 + l.j → is_odd (slice_index (drop 2 l.self) k) ≡ true

@@ -1,0 +1,256 @@
+-- The kernels on lanes, byte by byte: mirror_lanes, even_lanes, odd_lanes; and the first byte of
+-- even parity that a mask tells: first_of_block.
+use Rattle.std.proofs.Common.{◌≡◌, ℕ, zero, suc, ◌+◌, ◌*◌, ◌/◌, ◌%◌, ◌^◌, ◌-◌, ◌<◌, ◌≤◌, Bool, true}
+use Rattle.std.proofs.Common.{false, not, cond}
+use Rattle.std.proofs.Common.{List, [], ◌∷◌, map, length, get_or, replicate, refl, sym, ap, ◌∙◌}
+use Rattle.std.proofs.Common.{arith, w8, w16, Fits, nat_eq, eqb-true, subst}
+use Rattle.std.specs.Prelude.{bit_xor, bit_and, bit_or}
+use Rattle.std.specs.Int.RustNames.{count_ones}
+use Rattle.std.proofs.lemmas.Bool.{agree_below_at}
+use Rattle.std.proofs.lemmas.List.{length-map, get_or-map, ext_get_or}
+use Rattle.std.proofs.lemmas.Simd.{zip2_splat, zip2_of_maps, bitmask_splat, map-map}
+use Rattle.std.proofs.lemmas.Simd.{length-chunk, mask_l-lt, trailing_mask_l, none_from_empty_mask}
+use Rattle.std.proofs.lemmas.Simd.{run_in_chunk_stops, run_in_chunk_fails}
+use Rattle.std.proofs.lemmas.Nat.Bits.{bit_at-trailing_zeros}
+use Rattle.std.specs.List.{prefix_len}
+use lib.Lanes.{zip2, mask_l, top, chunk, Each1}
+use lib.Count.{ones_in, count_trailing_zeros}
+use Rattle.ttx_packet.specs.BitOrder.{mirror}
+use Rattle.ttx_packet.specs.Lanes.{swapped, folded, is_even, evens_mask}
+use Rattle.ttx_packet.specs.Parity.{is_odd, odd_byte}
+
+-- A lane shifted to the right.
+abbrev pub down : ℕ → ℕ → ℕ
+down a b = a / 2 ^ b
+
+-- A lane shifted to the left.
+abbrev pub up : ℕ → ℕ → ℕ
+up a b = a * 2 ^ b % 2 ^ 8
+
+-- Lanes that fit a byte are below 256.
+pub lane_below : (v : List ℕ) → Each1 (Fits w8) v → (i : ℕ) → get_or v i 0 < 0x100
+lane_below [] h i = omega arith
+lane_below (x ∷ xs) h zero = h.0.fits
+lane_below (x ∷ xs) h (suc i) = lane_below xs h.1 i
+
+-- Two functions that agree on bytes agree on lanes of bytes.
+same_lanes : (f g : ℕ → ℕ) (v : List ℕ) (n : ℕ)
+    → ((x : ℕ) → x < n → f x ≡ g x)
+    → ((i : ℕ) → get_or v i 0 < n)
+    → map f v ≡ map g v
+same_lanes f g v n same below =
+    ext_get_or 0 (map f v) (map g v) (length-map v f ∙ sym (length-map v g)) (λ i h.
+    let within : i < length v = omega (arith, length-map v f) in
+    get_or-map f v i 0 0 within
+    ∙ same (get_or v i 0) (below i)
+    ∙ sym (get_or-map g v i 0 0 within))
+
+-- ---- the bits in the other order
+
+-- One step of the swapping, as the lanes compute it.
+pub swapped_lanes : (v : List ℕ) (n k m : ℕ) → length v ≡ n
+    → zip2 bit_or (zip2 bit_and (zip2 down v (replicate n k)) (replicate n m))
+    (zip2 up (zip2 bit_and v (replicate n m)) (replicate n k)) ≡ map (swapped k m) v
+swapped_lanes v n k m long =
+    let high : zip2 bit_and (zip2 down v (replicate n k)) (replicate n m)
+    ≡ map (λ x. bit_and (x / 2 ^ k) m) v =
+    ap (λ l. zip2 bit_and l (replicate n m)) (zip2_splat down v n k long)
+    ∙ zip2_splat bit_and (map (λ x. down x k) v) n m (length-map v (λ x. down x k) ∙ long)
+    ∙ map-map (λ x. bit_and x m) (λ x. down x k) v
+    in
+    let low : zip2 up (zip2 bit_and v (replicate n m)) (replicate n k)
+    ≡ map (λ x. bit_and x m * 2 ^ k % 2 ^ 8) v =
+    ap (λ l. zip2 up l (replicate n k)) (zip2_splat bit_and v n m long)
+    ∙ zip2_splat up (map (λ x. bit_and x m) v) n k (length-map v (λ x. bit_and x m) ∙ long)
+    ∙ map-map (λ x. up x k) (λ x. bit_and x m) v
+    in
+    zip2_of_maps bit_or (λ x. bit_and (x / 2 ^ k) m) (λ x. bit_and x m * 2 ^ k % 2 ^ 8) v high low
+
+-- The three steps of a byte.
+abbrev mirrors : ℕ → ℕ
+mirrors x = swapped 1 0x55 (swapped 2 0x33 (swapped 4 0x0F x))
+
+-- They are the definition: 256 cases, computed.
+mirrors_is : (x : ℕ) → x < 0x100 → mirrors x ≡ mirror x
+unfolding mirror
+mirrors_is x l =
+    eqb-true _ _ (agree_below_at (λ x. nat_eq (mirrors x) (mirror x)) (λ x. true) 0x100 x refl l)
+
+-- The three steps of lanes mirror each.
+pub mirror_lanes : (v a b c : List ℕ)
+    → ((i : ℕ) → get_or v i 0 < 0x100)
+    → a ≡ map (swapped 4 0x0F) v
+    → b ≡ map (swapped 2 0x33) a
+    → c ≡ map (swapped 1 0x55) b
+    → c ≡ map mirror v
+mirror_lanes v a b c fits ea eb ec =
+    ec
+    ∙ ap (map (swapped 1 0x55)) (eb ∙ ap (map (swapped 2 0x33)) ea
+    ∙ map-map (swapped 2 0x33) (swapped 4 0x0F) v)
+    ∙ map-map (swapped 1 0x55) (λ x. swapped 2 0x33 (swapped 4 0x0F x)) v
+    ∙ same_lanes mirrors mirror v 0x100 mirrors_is fits
+
+-- ---- parity
+
+-- Each element is itself.
+map_same : (v : List ℕ) → v ≡ map (λ x. x) v
+map_same [] = refl
+map_same (x ∷ xs) = ap (λ l. x ∷ l) (map_same xs)
+
+-- One step of the folding, as the lanes compute it.
+pub folded_lanes : (v : List ℕ) (n k : ℕ) → length v ≡ n
+    → zip2 bit_xor v (zip2 down v (replicate n k)) ≡ map (folded k) v
+folded_lanes v n k long =
+    zip2_of_maps bit_xor (λ x. x) (λ x. down x k) v (map_same v) (zip2_splat down v n k long)
+
+-- The three steps of a byte.
+abbrev pub folds : ℕ → ℕ
+folds x = folded 1 (folded 2 (folded 4 x))
+
+-- The three steps of lanes.
+pub folds_lanes : (v a b c : List ℕ)
+    → a ≡ map (folded 4) v
+    → b ≡ map (folded 2) a
+    → c ≡ map (folded 1) b
+    → c ≡ map folds v
+folds_lanes v a b c ea eb ec =
+    ec
+    ∙ ap (map (folded 1)) (eb ∙ ap (map (folded 2)) ea ∙ map-map (folded 2) (folded 4) v)
+    ∙ map-map (folded 1) (λ x. folded 2 (folded 4 x)) v
+
+-- What is not even is odd, and the other way round.
+odd_from_not_even : (odd : Bool) → not odd ≡ false → odd ≡ true
+odd_from_not_even true e = refl
+odd_from_not_even false e = absurd cc
+
+even_from_not_odd : (odd : Bool) → not odd ≡ true → odd ≡ false
+even_from_not_odd true e = absurd cc
+even_from_not_odd false e = refl
+
+-- The lowest bit after them.
+abbrev last_bit : ℕ → ℕ
+last_bit x = bit_and (folds x) 1
+
+-- It tells an even count of ones: 256 cases, computed.
+last_bit_is : (x : ℕ) → x < 0x100 → nat_eq (last_bit x) 0 ≡ is_even x
+unfolding is_odd count_ones ones_in
+last_bit_is x l = agree_below_at (λ x. nat_eq (last_bit x) 0) is_even 0x100 x refl l
+
+-- The lanes that are told even are those of even bytes.
+tested_lanes : (v : List ℕ) → ((i : ℕ) → get_or v i 0 < 0x100)
+    → map (λ x. nat_eq (last_bit x) 0) v ≡ map is_even v
+tested_lanes v fits =
+    let tested : ℕ → Bool = λ x. nat_eq (last_bit x) 0 in
+    ext_get_or false (map tested v) (map is_even v)
+    (length-map v tested ∙ sym (length-map v is_even)) (λ i h.
+    let within : i < length v = omega (arith, length-map v tested) in
+    get_or-map tested v i 0 false within
+    ∙ last_bit_is (get_or v i 0) (fits i)
+    ∙ sym (get_or-map is_even v i 0 false within))
+
+-- The mask that the comparison of the lanes gives.
+pub even_lanes : (v a b c : List ℕ)
+    → length v ≡ 16
+    → ((i : ℕ) → get_or v i 0 < 0x100)
+    → a ≡ map (folded 4) v
+    → b ≡ map (folded 2) a
+    → c ≡ map (folded 1) b
+    → mask_l (map (top 7) (zip2 (λ x y. cond (nat_eq x y) (2 ^ 8 - 1) 0)
+    (zip2 bit_and c (replicate 16 1)) (replicate 16 0))) % 2 ^ 64 ≡ evens_mask v
+even_lanes v a b c long fits ea eb ec =
+    let whole = folds_lanes v a b c ea eb ec in
+    let size : length c ≡ 16 = ap length whole ∙ length-map v folds ∙ long in
+    let bits : zip2 bit_and c (replicate 16 1) ≡ map last_bit v =
+    zip2_splat bit_and c 16 1 size
+    ∙ ap (map (λ x. bit_and x 1)) whole
+    ∙ map-map (λ x. bit_and x 1) folds v
+    in
+    bitmask_splat w8 nat_eq (zip2 bit_and c (replicate 16 1)) 16 0
+    (ap length bits ∙ length-map v last_bit ∙ long) (omega arith)
+    ∙ ap mask_l
+    (ap (map (λ x. nat_eq x 0)) bits
+    ∙ map-map (λ x. nat_eq x 0) last_bit v
+    ∙ tested_lanes v fits)
+
+-- An empty mask of a block: its bytes are odd. For `Packet::first_even`.
+pub odd_block_of_empty_mask : (xs : List ℕ) (i : ℕ)
+    → i + 16 ≤ length xs
+    → evens_mask (chunk i 16 xs) ≡ 0
+    → (k : ℕ)
+    → i ≤ k
+    → k < i + 16
+    → is_odd (get_or xs k 0) ≡ true
+odd_block_of_empty_mask xs i room none k from below =
+    odd_from_not_even _ (none_from_empty_mask is_even xs i 16 0 room none k from below)
+
+-- The lowest bit of the mask of a block: its byte is even, and those of the block before it odd.
+-- For `Packet::first_even`.
+pub record IsFirstOfBlock (xs : List ℕ) (i place : ℕ) : Type 0 where
+  pub within : place < i + 16
+  pub even : is_odd (get_or xs place 0) ≡ false
+  pub before : (k : ℕ) → i ≤ k → k < place → is_odd (get_or xs k 0) ≡ true
+
+pub first_of_block : (xs : List ℕ) (i m : ℕ)
+    → i + 16 ≤ length xs
+    → m ≡ evens_mask (chunk i 16 xs)
+    → (m ≡ 0 → ⊥)
+    → IsFirstOfBlock xs i (i + count_trailing_zeros 64 m)
+first_of_block xs i m room e some =
+    let block = chunk i 16 xs in
+    let size : length block ≡ 16 = length-chunk i 16 xs room in
+    let positive : 0 < mask_l (map is_even block) = subst (λ (x : ℕ). 0 < x) e (omega arith) in
+    let counted : count_trailing_zeros 64 m ≡ prefix_len (λ x. not (is_even x)) block =
+    ap (count_trailing_zeros 64) e ∙ trailing_mask_l is_even 64 block (omega arith) positive in
+    let narrow : count_trailing_zeros 16 (mask_l (map is_even block))
+    ≡ prefix_len (λ x. not (is_even x)) block =
+    trailing_mask_l is_even 16 block (omega arith) positive in
+    let below : mask_l (map is_even block) < 2 ^ length (map is_even block) =
+    mask_l-lt (map is_even block) in
+    let small : mask_l (map is_even block) < 2 ^ 16 =
+    rw (length-map block is_even ∙ size) at below in
+    let lowest : count_trailing_zeros 16 (mask_l (map is_even block)) < 16 =
+    (bit_at-trailing_zeros w16 (mask_l (map is_even block)) positive small).0 in
+    let within : count_trailing_zeros 64 m < 16 = omega arith in
+    record {
+      within = omega arith;
+      even = even_from_not_odd _
+          (run_in_chunk_stops is_even xs i 16 (count_trailing_zeros 64 m) 0 room counted within);
+      before = λ k from l. odd_from_not_even _
+          (run_in_chunk_fails is_even xs i 16 (count_trailing_zeros 64 m) 0 room counted k from l);
+    }
+
+-- A code with bit 8 set where the count of ones is even.
+abbrev odd_code : ℕ → ℕ
+odd_code x = bit_or x (bit_xor (folds x) 1 * 2 ^ 7 % 2 ^ 8)
+
+-- It is the odd byte of a code: 128 cases, computed.
+odd_code_is : (x : ℕ) → x < 0x80 → odd_code x ≡ odd_byte x
+unfolding is_odd count_ones ones_in
+odd_code_is x l =
+    eqb-true _ _ (agree_below_at (λ x. nat_eq (odd_code x) (odd_byte x)) (λ x. true) 0x80 x refl l)
+
+-- The lanes that are made of codes are their odd bytes.
+pub odd_lanes : (v a b c : List ℕ)
+    → length v ≡ 16
+    → ((i : ℕ) → get_or v i 0 < 0x80)
+    → a ≡ map (folded 4) v
+    → b ≡ map (folded 2) a
+    → c ≡ map (folded 1) b
+    → zip2 bit_or v (zip2 up (zip2 bit_xor c (replicate 16 1)) (replicate 16 7)) ≡ map odd_byte v
+odd_lanes v a b c long codes ea eb ec =
+    let whole = folds_lanes v a b c ea eb ec in
+    let size : length c ≡ 16 = ap length whole ∙ length-map v folds ∙ long in
+    let turned : ℕ → ℕ = λ x. bit_xor (folds x) 1 in
+    let bits : zip2 bit_xor c (replicate 16 1) ≡ map turned v =
+    zip2_splat bit_xor c 16 1 size
+    ∙ ap (map (λ x. bit_xor x 1)) whole
+    ∙ map-map (λ x. bit_xor x 1) folds v
+    in
+    let tops : zip2 up (zip2 bit_xor c (replicate 16 1)) (replicate 16 7)
+    ≡ map (λ x. up (turned x) 7) v =
+    ap (λ l. zip2 up l (replicate 16 7)) bits
+    ∙ zip2_splat up (map turned v) 16 7 (length-map v turned ∙ long)
+    ∙ map-map (λ x. up x 7) turned v
+    in
+    zip2_of_maps bit_or (λ x. x) (λ x. up (turned x) 7) v (map_same v) tops
+    ∙ same_lanes odd_code odd_byte v 0x80 odd_code_is codes

@@ -1,0 +1,51 @@
+//! The order of bits turned round in 16 bytes at once, a byte in each lane of a vector.
+//!
+//! Three steps, for n = 4, 2, 1 and the mask of the lower n bits of each 2 n:
+//!
+//! ```text
+//! lane = (lane >> n & mask) | (lane & mask) << n
+//! ```
+ghost use Rattle.std.specs.Prelude.{◌≡◌, ◌<◌, ℕ, map, slice_index};
+ghost use Rattle.ttx_packet.specs.BitOrder.{mirror};
+ghost use Rattle.ttx_packet.specs.Lanes.{swapped};
+
+use std::simd::prelude::*;
+
+// Each byte with its halves swapped.
+#[inline(always)]
+fn swap_halves(bytes: u8x16) -> u8x16
+    ensures lanes { result ≡ map (swapped 4 0x0F) bytes }
+    ensures fits { (k : ℕ) → slice_index bytes k < 0x100 }
+{
+    let mask = u8x16::splat(0x0F);
+    let n = u8x16::splat(4);
+    ((bytes >> n) & mask) | ((bytes & mask) << n)
+}
+
+// Each byte with the two pairs of bits of each half swapped.
+#[inline(always)]
+fn swap_pairs(bytes: u8x16) -> u8x16
+    ensures { result ≡ map (swapped 2 0x33) bytes }
+{
+    let mask = u8x16::splat(0x33);
+    let n = u8x16::splat(2);
+    ((bytes >> n) & mask) | ((bytes & mask) << n)
+}
+
+// Each byte with the two bits of each pair swapped.
+#[inline(always)]
+fn swap_bits(bytes: u8x16) -> u8x16
+    ensures { result ≡ map (swapped 1 0x55) bytes }
+{
+    let mask = u8x16::splat(0x55);
+    let n = u8x16::splat(1);
+    ((bytes >> n) & mask) | ((bytes & mask) << n)
+}
+
+// Each byte with its bits in the other order.
+#[inline(always)]
+pub(super) fn mirrored_block(block: &[u8; 16]) -> [u8; 16]
+    ensures { result ≡ map mirror block.now }
+{
+    swap_bits(swap_pairs(swap_halves(u8x16::from_array(*block)))).to_array()
+}

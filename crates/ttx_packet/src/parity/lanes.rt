@@ -1,0 +1,60 @@
+//! The parity of 16 bytes at once, a byte in each lane of a vector.
+//!
+//! Three steps, for n = 4, 2, 1, after which bit 1 of a lane tells whether its count of ones is
+//! odd:
+//!
+//! ```text
+//! lane = lane ^ lane >> n
+//! ```
+ghost use Rattle.std.specs.Prelude.{◌≡◌, ◌<◌, ℕ, map, slice_index};
+ghost use Rattle.ttx_packet.specs.Lanes.{evens_mask, folded};
+ghost use Rattle.ttx_packet.specs.Parity.{odd_byte};
+
+use std::simd::prelude::*;
+
+// Each byte with its high half folded onto its low half.
+#[inline(always)]
+fn fold_halves(bytes: u8x16) -> u8x16
+    ensures lanes { result ≡ map (folded 4) bytes }
+    ensures fits { (k : ℕ) → slice_index bytes k < 0x100 }
+{
+    bytes ^ (bytes >> u8x16::splat(4))
+}
+
+// Each byte folded by a pair of bits.
+#[inline(always)]
+fn fold_pairs(bytes: u8x16) -> u8x16
+    ensures { result ≡ map (folded 2) bytes }
+{
+    bytes ^ (bytes >> u8x16::splat(2))
+}
+
+// Each byte folded by a bit.
+#[inline(always)]
+fn fold_bits(bytes: u8x16) -> u8x16
+    ensures { result ≡ map (folded 1) bytes }
+{
+    bytes ^ (bytes >> u8x16::splat(1))
+}
+
+// A bit for each byte of even parity, the lowest for the first.
+#[inline(always)]
+pub(crate) fn evens(block: &[u8; 16]) -> u64
+    ensures { result ≡ evens_mask block.now }
+{
+    let folded = fold_bits(fold_pairs(fold_halves(u8x16::from_array(*block))));
+    (folded & u8x16::splat(1))
+        .simd_eq(u8x16::splat(0))
+        .to_bitmask()
+}
+
+// The bytes of odd parity of 16 codes.
+#[inline(always)]
+pub(super) fn odd_block(block: &[u8; 16]) -> [u8; 16]
+    requires { (k : ℕ) → slice_index block.now k < 0x80 }
+    ensures { result ≡ map odd_byte block.now }
+{
+    let codes = u8x16::from_array(*block);
+    let folded = fold_bits(fold_pairs(fold_halves(codes)));
+    (codes | ((folded ^ u8x16::splat(1)) << u8x16::splat(7))).to_array()
+}
