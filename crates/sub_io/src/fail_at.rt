@@ -2,16 +2,17 @@
 
 ghost use Rattle.std.specs.Prelude.{◌≡◌, ◌+◌, ◌<◌, ◌≤◌, length, Some, IfOk, IsErr, false, true};
 ghost use Rattle.std.specs.Io.{ReadsAtMost};
+ghost use Rattle.std.specs.Io.KnownBytes.{Keeps};
 ghost use Rattle.sub_io.specs.Countdown.{CountingDown, failures_with, fails_next, left_after};
 ghost use Rattle.sub_io.specs.Device.{CountsFailure, Pulls, Pushes};
 
-use crate::{Failed, Sink, Source};
+use crate::{Failed, Flush, Sink, Source};
 use std::marker::Model;
 
 /// A device that passes all calls but one on to the device inside; that one fails and does nothing.
 ///
-/// It is a source where the device inside is one, and a sink where that is one. Contracts see it as
-/// the device inside and its countdown.
+/// It is a source where the device inside is one, and a sink where that is one; a flush is a call
+/// too. Contracts see it as the device inside and its countdown.
 #[derive(Drop)]
 pub struct FailAt<D> {
     inner: D,
@@ -149,6 +150,35 @@ impl<K: Sink> Sink for FailAt<K> {
     }
 }
 
+impl<K: Flush> Flush for FailAt<K> {
+    /// Flushes the device inside.
+    ///
+    /// # Errors
+    ///
+    /// `Failed` at the call that is to fail, which does nothing, and where the device inside fails.
+    fn flush(&mut self) -> Result<(), Failed>
+        requires { failures_with self.old.left (K.failure_count self.old.device) < u64.MAX }
+
+        // The call that fails does nothing, each other is the inner device's, and all are counted.
+        ensures fails { fails_next self.old.left ≡ true →
+            IsErr result × (self.new.device ≡ self.old.device) }
+        ensures passed { fails_next self.old.left ≡ false → CountsFailure
+            (K.failure_count self.old.device) result (K.failure_count self.new.device) }
+        ensures left { self.new.left ≡ left_after self.old.left }
+
+        ensures bytes { Keeps (K.contents self.old.device) (K.contents self.new.device) }
+        ensures count { CountsFailure
+            (failures_with self.old.left (K.failure_count self.old.device))
+            result
+            (failures_with self.new.left (K.failure_count self.new.device)) }
+    {
+        if self.trips() {
+            return Err(Failed);
+        }
+        self.inner.flush()
+    }
+}
+
 #[cfg(test)]
 mod tests {
     use super::*;
@@ -165,8 +195,12 @@ mod tests {
                 assert!(rt; source.failures() < 9 && sink.failures() < 9);
                 let filled = fill(&mut source, &mut to);
                 assert_eq!(rt; filled.is_err(), call == k, "pull {call}, k {k}");
-                let put = put_all(&mut sink, b"x");
-                assert_eq!(rt; put.is_err(), call == k, "push {call}, k {k}");
+                let put = if call == 1 {
+                    sink.flush()
+                } else {
+                    put_all(&mut sink, b"x")
+                };
+                assert_eq!(rt; put.is_err(), call == k, "push or flush {call}, k {k}");
             }
             assert_eq!(rt; source.failures(), 1, "k {k}");
             assert_eq!(rt; sink.failures(), 1, "k {k}");

@@ -12,7 +12,8 @@
 //! put_all(&mut sink, &head)?; // sink.written() is "EBU"
 //! ```
 //!
-//! - `Source` and `Sink` are the traits, `fill` and `put_all` what the readers and writers call.
+//! - `Source` and `Sink` are the traits, `fill` and `put_all` what the readers and writers call;
+//!   `Flush` is a sink that may hold bytes back, as a buffered file.
 //! - `MemSource` and `MemSink` are devices over memory, `FromRead` and `IntoWrite` over std.
 //! - `FailAt` makes one chosen call of another device fail.
 #![tactic(auto)]
@@ -25,6 +26,6 @@ mod std_io;
 
 pub use fail_at::FailAt;
 pub use memory::{MemSink, MemSource};
-pub use sink::{Sink, put_all};
+pub use sink::{Flush, Sink, put_all};
 pub use source::{Failed, Source, fill};
 pub use std_io::{FromRead, IntoWrite};

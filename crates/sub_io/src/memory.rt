@@ -3,10 +3,11 @@
 ghost use Rattle.std.specs.Prelude.{◌≡◌, ℕ, ◌+◌, ◌-◌, ◌<◌, ◌≤◌, min, List, [], length, take, Ok};
 ghost use Rattle.std.specs.Prelude.{IfOk, IsErr, Some, ◌↔◌};
 ghost use Rattle.std.specs.Io.{ReadsAtMost};
+ghost use Rattle.std.specs.Io.KnownBytes.{Keeps};
 ghost use Rattle.sub_io.specs.Device.{CountsFailure, Pulls, Pushes};
 ghost use Rattle.sub_io.specs.Memory.{Written};
 
-use crate::{Failed, Sink, Source};
+use crate::{Failed, Flush, Sink, Source};
 use std::marker::Model;
 
 /// A source that gives the bytes of a slice. It never fails.
@@ -136,6 +137,18 @@ impl Sink for MemSink<'_> {
     /// How many pushes found the slice full.
     fn failures(&self) -> u64 {
         self.failures
+    }
+}
+
+impl Flush for MemSink<'_> {
+    /// Does nothing, since no byte is held back. It never fails.
+    fn flush(&mut self) -> Result<(), Failed>
+        ensures ok { result ≡ Ok tt }
+        ensures same { self.new ≡ self.old }
+        ensures bytes { Keeps (Some self.old.bytes) (Some self.new.bytes) }
+        ensures count { CountsFailure self.old.failure_count result self.new.failure_count }
+    {
+        Ok(())
     }
 }
 

@@ -1,6 +1,7 @@
 //! Devices that take bytes.
 
 ghost use Rattle.std.specs.Prelude.{◌≡◌, ℕ, ◌<◌, ◌≤◌, List, length, Option, IfOk};
+ghost use Rattle.std.specs.Io.KnownBytes.{Keeps};
 ghost use Rattle.sub_io.specs.Device.{CountsFailure, Pushes, Writes};
 
 use crate::Failed;
@@ -30,6 +31,23 @@ pub trait Sink {
     /// How many calls of `push` have failed.
     fn failures(&self) -> u64
         ensures { result ≡ failure_count self.now };
+}
+
+/// A sink that may hold back bytes that it has taken, as a buffered file does.
+///
+/// A failing write of such bytes comes late: at a later push, or only at `flush`.
+pub trait Flush: Sink {
+    /// Hands on all bytes that are held back. What the sink has taken stays as it was.
+    ///
+    /// # Errors
+    ///
+    /// `Failed` where the device failed: some bytes are still held back, and its count is one
+    /// higher.
+    fn flush(&mut self) -> Result<(), Failed>
+        requires { Self.failure_count self.old < u64.MAX }
+        ensures bytes { Keeps (Self.contents self.old) (Self.contents self.new) }
+        ensures count { CountsFailure (Self.failure_count self.old) result
+            (Self.failure_count self.new) };
 }
 
 /// Pushes all of `from`, in as many calls as the sink needs.

@@ -3,7 +3,7 @@
 ghost use Rattle.std.specs.Prelude.{◌≡◌, ℕ, ◌+◌};
 ghost use Rattle.sub_io.specs.Counted.{Counted};
 
-use crate::{Failed, Sink, Source};
+use crate::{Failed, Flush, Sink, Source};
 use std::io::{Read, Write};
 use std::marker::Model;
 
@@ -59,7 +59,7 @@ impl<R: Read> Source for FromRead<R> {
     }
 }
 
-/// A sink over a writer of std. One push is one `write`; it is never flushed from here.
+/// A sink over a writer of std. One push is one `write`, and a flush is the writer's.
 ///
 /// Each error of the writer is a failure, `Interrupted` too, and so is a write that takes no byte.
 ///
@@ -105,9 +105,24 @@ impl<W: Write> Sink for IntoWrite<W> {
         }
     }
 
-    /// How many writes have failed or taken no byte.
+    /// How many writes have failed or taken no byte, and how many flushes have failed.
     fn failures(&self) -> u64 {
         self.failures
+    }
+}
+
+impl<W: Write> Flush for IntoWrite<W> {
+    /// Flushes the writer.
+    ///
+    /// # Errors
+    ///
+    /// `Failed` at each error of the writer.
+    fn flush(&mut self) -> Result<(), Failed> {
+        if self.inner.flush().is_err() {
+            self.failures += 1;
+            return Err(Failed);
+        }
+        Ok(())
     }
 }
 
@@ -117,7 +132,7 @@ mod tests {
     use crate::{fill, put_all};
     use std::io::{self, Cursor};
 
-    // A reader and a writer of which each call is interrupted.
+    // A reader and a writer of which each call is interrupted, a flush too.
     #[derive(Drop)]
     struct Interrupted;
 
@@ -141,7 +156,7 @@ mod tests {
         }
 
         fn flush(&mut self) -> io::Result<()> {
-            Ok(())
+            Err(io::ErrorKind::Interrupted.into())
         }
     }
 
@@ -162,6 +177,7 @@ mod tests {
     fn writes_and_counts_a_call_that_writes_nothing(rt: HostRuntime) {
         let mut sink = IntoWrite::new(Cursor::new([0u8; 5]));
         assert_eq!(rt; put_all(&mut sink, b"sub"), Ok(()));
+        assert_eq!(rt; sink.flush(), Ok(()));
         assert_eq!(rt; sink.failures(), 0);
         // The writer has room for two bytes more, and then writes none.
         assert_eq!(rt; put_all(&mut sink, b"ttx"), Err(Failed));
@@ -170,5 +186,7 @@ mod tests {
         let mut sink = IntoWrite::new(Interrupted);
         assert_eq!(rt; put_all(&mut sink, b"x"), Err(Failed));
         assert_eq!(rt; sink.failures(), 1);
+        assert_eq!(rt; sink.flush(), Err(Failed));
+        assert_eq!(rt; sink.failures(), 2);
     }
 }
