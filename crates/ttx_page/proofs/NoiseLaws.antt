@@ -147,8 +147,8 @@ module _ (w : PageIdValue) (sent : List (List ℕ)) (fates : List (Option (List 
       ap (after_last_header (kind w)) (sym (map-sent_of-zip sent fates near))
       ∙ after-map (kind w) sent_of items
 
-  -- The span: the packets of the items'.
-  span-items : span (kind w) sent ≡ map sent_of (span (kind_of_item w) items)
+  -- The span: the packets of the items'. Also for `DropLaws`.
+  pub span-items : span (kind w) sent ≡ map sent_of (span (kind_of_item w) items)
   span-items =
       ap (span (kind w)) (sym (map-sent_of-zip sent fates near)) ∙ span-map (kind w) sent_of items
 

@@ -56,3 +56,10 @@ is_row row (ThisPage h) = false
 is_row row EndsPage = false
 is_row row (Row y) = y == row
 is_row row Other = false
+
+-- A packet of some row.
+abbrev pub is_some_row : PacketKind → Bool
+is_some_row (ThisPage h) = false
+is_some_row EndsPage = false
+is_some_row (Row y) = true
+is_some_row Other = false

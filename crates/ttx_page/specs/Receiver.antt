@@ -1,16 +1,17 @@
 -- The model receiver of one page: what it may do at each packet. It restates level 1 of EN 300 706;
--- the choice at a byte of even parity is (own).
+-- the choice at a byte of even parity is (own). Beside it, in the same words: a receiver that drops
+-- rows.
 use Rattle.std.specs.Prelude.{◌≡◌, ◌≢◌, ℕ, ◌⊎◌, Bool, true, false, List, [], ◌∷◌, MatchBool}
-use Rattle.std.specs.Prelude.{if◌then◌else◌, IsTrue, IsFalse}
+use Rattle.std.specs.Prelude.{if◌then◌else◌, ◌&&◌, is_some, IsTrue, IsFalse}
 use Rattle.ttx_packet.specs.Parity.{code_of, is_odd}
 use Rattle.ttx_packet.specs.PageHeader.{c4}
 use Rattle.ttx_packet.specs.PageId.{PageIdValue}
-use Rattle.ttx_packet.specs.RowPacket.{text_byte}
+use Rattle.ttx_packet.specs.RowPacket.{text_byte, first_even_byte}
 use Rattle.ttx_page.specs.declared.packet_kind.PacketKind.{PacketKind}
 use Rattle.ttx_page.specs.declared.packet_kind.PacketKind.TheVariants.{ThisPage, EndsPage, Row}
 use Rattle.ttx_page.specs.declared.packet_kind.PacketKind.TheVariants.{Other}
 use Rattle.ttx_page.specs.Page.{Rows, space, blank, cell, IsCell}
-use Rattle.ttx_page.specs.PacketKind.{kind}
+use Rattle.ttx_page.specs.PacketKind.{kind, is_some_row}
 
 -- A receiver has heard a header of its page or not, the page is open for rows or not, and the
 -- receiver holds a page.
@@ -83,3 +84,20 @@ KeepsCells w old packet new = AtEvenBytes (λ was is. is ≡ was) w old packet n
 -- The receiver blanks each cell whose byte is even.
 abbrev pub BlanksCells : PageIdValue → State → List ℕ → State → Type 0
 BlanksCells w old packet new = AtEvenBytes (λ was is. is ≡ space) w old packet new
+
+-- ---- receivers that drop rows
+
+-- The packet is a row of the page, and one of its 40 data bytes has even parity.
+abbrev pub is_dropped : PageIdValue → List ℕ → Bool
+is_dropped w packet = is_some_row (kind w packet) && is_some (first_even_byte packet)
+
+-- A receiver of page w that drops rows may go from one state to the other: it passes over a row
+-- with an even byte, and takes a step of the receiver relation at every other packet.
+abbrev pub StepDropping : PageIdValue → State → List ℕ → State → Type 0
+StepDropping w old packet new = MatchBool (is_dropped w packet) (new ≡ old) (Step w old packet new)
+
+-- It may go from one state to the other by hearing these packets, one step after another.
+abbrev pub HearsDropping : PageIdValue → State → List (List ℕ) → State → Type 0
+HearsDropping w old [] new = new ≡ old
+HearsDropping w old (packet ∷ packets) new =
+    (mid : State) × StepDropping w old packet mid × HearsDropping w mid packets new

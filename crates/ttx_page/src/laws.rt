@@ -2,6 +2,7 @@
 //! lost.
 //!
 //! The functions do nothing: the contract of each is a law over the definitions of `specs/`.
+ghost use Rattle.ttx_page.specs.DroppedRows.{LawOfDroppedRows, LawOfDropping};
 ghost use Rattle.ttx_page.specs.LostRows.{LawOfLostRows, LawOfMarkedLoss, LawOfNothingLost};
 ghost use Rattle.ttx_page.specs.Noise.{LawOfNoise, LawOfQuiet};
 ghost use Rattle.ttx_page.specs.Span.{LawOfSpan};
@@ -37,4 +38,16 @@ pub fn law_of_marked_loss()
 /// The law of lost rows with nothing lost is the law of noise.
 pub fn law_of_nothing_lost()
     ensures { LawOfNothingLost }
+{}
+
+/// What a receiver that drops rows holds is what a receiver of the relation holds of the same list
+/// with the dropped rows left out.
+pub fn law_of_dropping()
+    ensures { LawOfDropping }
+{}
+
+/// So the law of lost rows covers receivers that drop rows: a cell counts as hit where any byte of
+/// its row was hit, or the row was lost.
+pub fn law_of_dropped_rows()
+    ensures { LawOfDroppedRows }
 {}
