@@ -1,12 +1,11 @@
 -- Each PES file is read as frames in some way, `readable`; so what the steps show decides the
 -- answer of
 -- `check`, `accepted_from`.
-use Rattle.std.proofs.Common.{◌≡◌, ◌≢◌, ◌↔◌, ℕ, zero, suc, ◌+◌, ◌-◌, ◌*◌, ◌/◌, ◌%◌, ◌^◌, ◌<◌, ◌⊎◌}
+use Rattle.std.proofs.Common.{◌≡◌, ◌≢◌, ◌↔◌, ℕ, zero, suc, ◌+◌, ◌-◌, ◌/◌, ◌%◌, ◌^◌, ◌<◌, ◌⊎◌}
 use Rattle.std.proofs.Common.{inl, inr, List, []}
 use Rattle.std.proofs.Common.{◌∷◌, Option, Some, None, Result, Ok, Err, All, IsOk, IfOk, false}
 use Rattle.std.proofs.Common.{MatchResult, refl, sym, ap, ◌∙◌}
 use Rattle.std.proofs.Common.{subst, arith, length}
-use Rattle.std.specs.List.{AllByRecursion}
 use Rattle.std.proofs.lemmas.Bool.{cases_eq, cases_lt}
 use Rattle.std.proofs.lemmas.List.Elements.{All-from_recursion}
 use Rattle.std.specs.Prelude.{IfErr}
@@ -17,7 +16,7 @@ use Rattle.ttx_pes.specs.Reading.{answer_at, rest_after, most_packets}
 use Rattle.ttx_pes.specs.declared.fault.PesFault.{PesFault}
 use Rattle.sub_plan.specs.FrameTime.{frames_of_day, pts_of}
 use Rattle.sub_plan.specs.Options.{OptionsValue, IsOptions}
-use Rattle.sub_check.specs.Checking.{Accepts, HasCounts, is_source_failure}
+use Rattle.sub_check.specs.Checking.{Accepts, HasCounts, is_source_failure, is_source_fault}
 use Rattle.sub_check.specs.FirstBroken.{NamesFirst}
 use Rattle.sub_check.specs.FirstBroken.Place.{AtUnread}
 use Rattle.sub_check.specs.FrameRules.{Task, Unread, task_of}
@@ -28,6 +27,7 @@ use Rattle.sub_check.specs.PesReading.{ReadsAs}
 use Rattle.sub_check.specs.Transmission.{SentFrame, Transmission}
 use Rattle.sub_check.specs.declared.checker.Accepted.{Accepted}
 use Rattle.sub_check.specs.declared.fault.CheckFault.{CheckFault}
+use Rattle.sub_check.specs.declared.fault.CheckFault.TheVariants as fault
 use Rattle.sub_check.proofs.GoodLemmas.{Good-from_frames, GoodFrames-from_good, first-same}
 use Rattle.sub_check.proofs.GoodLemmas.{last-same, whole-is}
 use Rattle.sub_check.proofs.PesReadingLemmas.{reads-below}
@@ -194,6 +194,21 @@ pub first_from :
     → IfErr result (NamesFirst g frames)
 first_from g frames (Ok a) h = tt
 first_from g frames (Err f) h = h
+
+-- A refusal of a cell names the first place. For `check`.
+pub content_named :
+    (programme : ProgrammeValue) (options : OptionsValue) (unread : Option Unread)
+    (frames : Transmission) (frame row column : ℕ) (result : Result Accepted CheckFault)
+    → result ≡ Err (fault.Content frame row column)
+    → (is_source_failure result ≡ false
+    → MatchResult result (Accepts (task_of programme options unread) frames)
+    (NamesFirst (task_of programme options unread) frames))
+    → NamesFirst (task_of programme options unread) frames (fault.Content frame row column)
+content_named programme options unread frames frame row column (Ok a) e h = cc
+content_named programme options unread frames frame row column (Err f) e h =
+    let same : f ≡ fault.Content frame row column = cc in
+    subst (NamesFirst (task_of programme options unread) frames) same
+    (h (ap is_source_fault same))
 
 -- A file gives one programme. For `check_files`.
 pub same_programme :

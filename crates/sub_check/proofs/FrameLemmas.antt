@@ -1,5 +1,5 @@
 -- The frames of a range that pass a test, as a transmission: sent_at, sent_none, rises.
-use Rattle.std.proofs.Common.{◌≡◌, ℕ, zero, suc, ◌+◌, ◌-◌, ◌<◌, ◌≤◌, inl, inr, Bool, true, false}
+use Rattle.std.proofs.Common.{◌≡◌, ℕ, zero, suc, ◌+◌, ◌<◌, ◌≤◌, inl, inr, Bool, true, false}
 use Rattle.std.proofs.Common.{◌&&◌, nat_le, nat_lt, cond, List, [], ◌∷◌, ◌++◌, map, filter}
 use Rattle.std.proofs.Common.{flat_map, slice_index_or, All, refl, ap, ap₂, ◌∙◌}
 use Rattle.std.proofs.Common.{arith, append-nil}

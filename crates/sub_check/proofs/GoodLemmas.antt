@@ -2,7 +2,7 @@
 -- `GoodFrames-from_good`.
 use Rattle.std.proofs.Common.{◌≡◌, ℕ, zero, suc, ◌+◌, ◌-◌, ◌<◌, ◌≤◌, inl, inr, Bool, true, false}
 use Rattle.std.proofs.Common.{cond, ◌&&◌, ◌||◌, nat_le, nat_lt, List, [], ◌∷◌, ◌++◌, Option, Some}
-use Rattle.std.proofs.Common.{None, filter, length, take, drop, map, get_or, All, refl, sym, ap}
+use Rattle.std.proofs.Common.{None, filter, length, take, drop, get_or, All, refl, sym, ap}
 use Rattle.std.proofs.Common.{◌∙◌, subst, arith, IsTrue, IfSome, ◌⊎◌}
 use Rattle.std.specs.List.{AllByRecursion, flat_map, list_any}
 use Rattle.std.proofs.lemmas.List.{take_all, take-append-le}
@@ -24,7 +24,7 @@ use Rattle.sub_check.specs.Transmission.{SentFrame, Transmission, EachPacket, fi
 use Rattle.sub_check.specs.Transmission.{last_frame, packets_between, packets_of, on_air}
 use Rattle.stl_rows.specs.Programme.{ProgrammeValue, first_in, last_out}
 use Rattle.sub_plan.specs.Options.{OptionsValue}
-use Rattle.sub_check.specs.Good.{IsSubtitleHeader, IsEnhancement, Good, IsCleanSpan, due_page}
+use Rattle.sub_check.specs.Good.{IsSubtitleHeader, IsEnhancement, Good, IsCleanSpan}
 use Rattle.sub_check.proofs.GoodByPlace.{GoodFrames, IsFair, air, whole}
 use Rattle.sub_check.proofs.PacketLists.{Each-map}
 use Rattle.sub_check.proofs.ShownLemmas.{joined_more}
@@ -146,7 +146,7 @@ take-over (x ∷ xs) ys zero h = absurd (omega arith)
 take-over (x ∷ xs) ys (suc n) h = let e : suc n - suc (length xs) ≡ n - length xs = omega arith in
     ap (λ zs. x ∷ zs) (take-over xs ys n (omega arith)) ∙ ap (λ k. x ∷ (xs ++ take k ys)) (sym e)
 
-clean_span : (w : Watched) (rows : List (List ℕ)) → IsFair w rows → IsCleanSpan w.page rows
+pub clean_span : (w : Watched) (rows : List (List ℕ)) → IsFair w rows → IsCleanSpan w.page rows
 clean_span w rows h = record {
   odd = All-from_recursion (λ p. (row : ℕ) → kind w.page p ≡ Row row → HasOddText p) rows h.odd;
   same = All-from_recursion
@@ -170,7 +170,7 @@ clean_span w rows h = record {
   plain = All-from_recursion (λ p. IsEnhancement w.page p → ⊥) rows h.plain;
 }
 
-number_at : (t : Transmission) (i : ℕ) (d : SentFrame) → i < length t
+pub number_at : (t : Transmission) (i : ℕ) (d : SentFrame) → i < length t
     → (get_or t i d).frame ≡ frame_at t i
 number_at [] i d l = absurd (omega arith)
 number_at (s ∷ ss) zero d l = refl

@@ -1,9 +1,9 @@
 -- What each way out of the checker's loop shows of the whole file: `unread_refusal`,
 -- `empty_refusal`,
 -- `reaches_first`, `reaches_next`, `end_accepted`, `end_refused`.
-use Rattle.std.proofs.Common.{◌≡◌, ◌≢◌, ℕ, ◌+◌, ◌-◌, ◌<◌, ◌≤◌, List, [], ◌∷◌, ◌++◌, length, drop}
-use Rattle.std.proofs.Common.{take, get_or, map}
-use Rattle.std.proofs.Common.{Option, Some, None, Result, MatchResult, Ok, Err, All, refl, sym, ap}
+use Rattle.std.proofs.Common.{◌≡◌, ℕ, ◌+◌, ◌-◌, ◌<◌, ◌≤◌, List, [], ◌∷◌, length, drop}
+use Rattle.std.proofs.Common.{take, get_or}
+use Rattle.std.proofs.Common.{Option, Some, None, Result, MatchResult, Ok, Err, All, sym, ap}
 use Rattle.std.proofs.Common.{◌∙◌, subst, arith}
 use Rattle.std.specs.List.{AllByRecursion}
 use Rattle.std.proofs.lemmas.List.{get_or-map, take_more, take_all}
@@ -11,14 +11,14 @@ use Rattle.std.proofs.lemmas.List.Elements.{All-from_recursion}
 use Rattle.stl_rows.specs.Programme.{ProgrammeValue, last_out}
 use Rattle.ttx_pes.specs.DataUnit.{UnitValue, IsUnit}
 use Rattle.ttx_pes.specs.PesPacket.{PesValue, IsPesValue}
-use Rattle.ttx_pes.specs.Reading.{answer_at, rest_after, most_packets}
+use Rattle.ttx_pes.specs.Reading.{answer_at, rest_after}
 use Rattle.sub_plan.specs.Options.{OptionsValue}
-use Rattle.sub_check.specs.Checking.{Accepts, AreWhole, IsFrameOf, Reaches, TellsEnd, TellsFrame}
+use Rattle.sub_check.specs.Checking.{Accepts, AreWhole, Reaches, TellsEnd, TellsFrame}
 use Rattle.sub_check.specs.FirstBroken.{NamesFirst, unread_fault}
 use Rattle.sub_check.specs.Following.{Follows, FrameOk, IsSentFrame}
 use Rattle.sub_check.specs.FrameRules.{Unread, task_of, frame_at, packets_at, end_frame, joined}
 use Rattle.sub_check.specs.PacketRules.{header_count, packets_of_units}
-use Rattle.sub_check.specs.PesReading.{EndsAs, ReadsAs}
+use Rattle.sub_check.specs.PesReading.{ReadsAs}
 use Rattle.sub_check.specs.Transmission.{SentFrame, Transmission}
 use Rattle.sub_check.specs.declared.checker.Accepted.{Accepted}
 use Rattle.sub_check.specs.declared.fault.CheckFault.{CheckFault}
@@ -26,7 +26,7 @@ use Rattle.sub_check.specs.declared.fault.CheckFault.TheVariants as fault
 use Rattle.sub_check.specs.declared.frame_rules.Checker.{Checker}
 use Rattle.sub_check.proofs.OrderLemmas.{first_late, first_nothing, first_unread, holds_but_end}
 use Rattle.sub_check.proofs.PacketLists.{Each-push}
-use Rattle.sub_check.proofs.PesReadingLemmas.{ReadsNext, reads_next, reads_end, reads_fault}
+use Rattle.sub_check.proofs.PesReadingLemmas.{reads_next, reads_end, reads_fault}
 use Rattle.sub_check.proofs.PesReadingLemmas.{reads-below}
 
 -- ---- packets of 42 bytes

@@ -25,3 +25,6 @@ pub mod JudgeLemmas
 pub mod CheckLemmas
 pub mod FrameLemmas
 pub mod PlanLemmas
+pub mod PlanReading
+pub mod PesFileLemmas
+pub mod ContentLemmas

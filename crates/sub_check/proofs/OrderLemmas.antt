@@ -3,12 +3,12 @@ use Rattle.std.proofs.Common.{◌≡◌, ℕ, ◌+◌, ◌-◌, ◌<◌, inl, in
 use Rattle.std.proofs.Common.{get_or, refl, sym, ap, ◌∙◌, subst, arith, Some, None}
 use Rattle.std.proofs.lemmas.Option.{none-some}
 use Rattle.ttx_page.specs.Page.{IsCell}
-use Rattle.sub_check.specs.Transmission.{SentFrame, Transmission}
+use Rattle.sub_check.specs.Transmission.{Transmission}
 use Rattle.sub_check.specs.declared.packet_rules.PacketRule.{PacketRule}
 use Rattle.sub_check.specs.PacketRules.{IsFree, IsFirstFault, number_of}
 use Rattle.sub_check.specs.FrameRules.{Task, Unread, frame_at, packets_at, joined, end_frame}
 use Rattle.sub_check.specs.FrameRules.{HasHeader, Shows, IsCovered}
-use Rattle.sub_check.specs.FirstBroken.{Place, key, IsBefore, IsInGap, IsThere, Holds, HoldsBefore}
+use Rattle.sub_check.specs.FirstBroken.{IsBefore, IsInGap, Holds, HoldsBefore}
 use Rattle.sub_check.specs.FirstBroken.{HoldsEverywhere, NamesFirst, packet_fault, unread_fault}
 use Rattle.sub_check.specs.Following.{Keeps, OrderOk, GapOk, PacketsOk, EndOk, FrameOk}
 use Rattle.sub_check.specs.FirstBroken.Place.{AtOrder, AtStart, AtGapCell, AtGap, AtPacket, AtFirst}

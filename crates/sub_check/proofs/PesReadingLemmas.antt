@@ -1,28 +1,24 @@
 -- One PES packet read, in terms of the frames that a file is read as: `reads_next`, `reads_end`,
 -- `reads_fault`.
-use Rattle.std.proofs.Common.{Bool, true, false, cond, ◌==◌, ◌≡◌, ◌≢◌, ℕ, suc, ◌+◌, ◌-◌, ◌<◌, ◌≤◌}
+use Rattle.std.proofs.Common.{Bool, true, false, cond, ◌==◌, ◌≡◌, ◌≢◌, ℕ, suc, ◌+◌, ◌<◌, ◌≤◌}
 use Rattle.std.proofs.Common.{List, [], ◌∷◌, length, drop, get_or}
-use Rattle.std.proofs.Common.{Option, Some, None, Result, Ok, Err, refl, sym, ap, ◌∙◌, subst, arith}
-use Rattle.std.specs.List.{AllByRecursion}
+use Rattle.std.proofs.Common.{Option, Some, None, Ok, Err, refl, sym, ap, ◌∙◌, subst, arith}
 use Rattle.std.proofs.lemmas.List.{get_or-map, get_or-drop, length-drop, drop-drop}
 use Rattle.std.proofs.lemmas.Bool.{eq-eqb}
-use Rattle.ttx_pes.specs.DataUnit.{UnitValue, IsUnit}
-use Rattle.ttx_pes.specs.PesPacket.{PesValue, IsPesValue}
+use Rattle.ttx_pes.specs.PesPacket.{PesValue}
 use Rattle.sub_io.specs.Reading.{◌>>=◌}
 use Rattle.ttx_pes.specs.Reading.{answer_at, rest_after, most_packets, packet_at, is_read_failure}
 use Rattle.ttx_pes.specs.declared.fault.PesFault.TheVariants as fault
 use Rattle.ttx_pes.specs.declared.fault.PesFault.{PesFault}
-use Rattle.sub_plan.specs.FrameTime.{frames_of_day, pts_of}
-use Rattle.sub_check.specs.Checking.{IsFrameOf, AreWhole, is_source_fault}
+use Rattle.sub_check.specs.Checking.{IsFrameOf, is_source_fault}
 use Rattle.sub_check.specs.declared.fault.CheckFault.TheVariants as check_fault
 use Rattle.sub_check.specs.Following.{IsSentFrame}
-use Rattle.sub_check.specs.FrameRules.{Unread, frame_at, packets_at}
+use Rattle.sub_check.specs.FrameRules.{Unread}
 use Rattle.sub_check.specs.FrameRules.Unread.{BadPacket, NoFrame}
 use Rattle.sub_check.specs.PacketRules.{packets_of_units}
 use Rattle.sub_check.specs.PesFrames.{IsSentAs}
 use Rattle.sub_check.specs.PesReading.{EndsAs, ReadsAs}
 use Rattle.sub_check.specs.Transmission.{SentFrame, Transmission}
-use Rattle.sub_check.proofs.PacketLists.{Each-push}
 
 -- A frame of the list, from what stands behind those before it.
 is_sent :

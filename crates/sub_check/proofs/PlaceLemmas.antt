@@ -1,7 +1,7 @@
 -- A transmission is good exactly where what is asked holds at each place.
 use Rattle.std.proofs.Common.{◌≡◌, ℕ, ◌+◌, ◌-◌, ◌<◌, ◌≤◌, inl, inr, Bool, true, false, List, []}
 use Rattle.std.proofs.Common.{◌∷◌, ◌++◌, Option, Some, None, length, refl, sym, ap, ◌∙◌, subst}
-use Rattle.std.proofs.Common.{arith, Result, Ok, Err, IsOk, IfOk, ◌↔◌}
+use Rattle.std.proofs.Common.{arith}
 use Rattle.std.specs.Option.{option_or}
 use Rattle.std.specs.List.{AllByRecursion}
 use Rattle.std.proofs.lemmas.Bool.{cases_lt}
@@ -20,11 +20,10 @@ use Rattle.ttx_page.specs.Shown.{shown}
 use Rattle.sub_check.specs.PacketRules.{first_header, IsFree, IsClean}
 use Rattle.ttx_page.proofs.SpanPush.{span-this}
 use Rattle.sub_check.proofs.PushLemmas.{first_header-push}
-use Rattle.sub_check.specs.Transmission.{SentFrame, Transmission}
+use Rattle.sub_check.specs.Transmission.{Transmission}
 use Rattle.sub_check.specs.Good.{IsSubtitleHeader, IsEnhancement}
 use Rattle.sub_check.specs.FrameRules.{Task, frame_at, packets_at, joined, end_frame, HasHeader}
 use Rattle.sub_check.specs.FrameRules.{Shows, IsCovered}
-use Rattle.std.specs.Prelude.{IfErr}
 use Rattle.sub_check.specs.declared.fault.CheckFault.{CheckFault}
 use Rattle.sub_check.specs.FirstBroken.{HoldsEverywhere, NamesFirst}
 use Rattle.sub_check.specs.FirstBroken.Place.{AtOrder, AtStart, AtGapCell, AtGap, AtPacket, AtFirst}
@@ -73,7 +72,7 @@ IsFair-more w rows p h odd same plain = record {
     turn [] f = tt
     turn (x ∷ xs) f = ((λ row kp kx. (f row kp).0 kx), turn xs (λ row kp. (f row kp).1))
 
-fair_step : (w : Watched) (heard : List (List ℕ)) (p : List ℕ) → IsClean w heard p
+pub fair_step : (w : Watched) (heard : List (List ℕ)) (p : List ℕ) → IsClean w heard p
     → IsFair w (span (kind w.page) heard) → IsFair w (span (kind w.page) (heard ++ p ∷ []))
 fair_step w heard p clean h = go (kind w.page p) refl
   where
@@ -214,16 +213,16 @@ module _ (g : Task) (t : Transmission) (some_frames : 0 < g.every) (h : HoldsEve
     some = some;
     begins = h AtStart some;
     ends = h AtEnd some;
-    exact = at_sending t (AllByRecursion HasExactWords) tt
+    exact = at_sending t (length t) (omega arith) (AllByRecursion HasExactWords) tt
         (λ i k l m ih. Each-push HasExactWords (before t i k) (packet_at t i k) ih
         (clean_at i k l m rule.Address, clean_at i k l m rule.HeaderCode)) (length t)
         (omega arith);
     serial = all_agree (whole t)
-        (at_sending t (λ xs. AllByRecursion (Agrees xs) xs) tt
+        (at_sending t (length t) (omega arith) (λ xs. AllByRecursion (Agrees xs) xs) tt
         (λ i k l m ih. agree_step (before t i k) (packet_at t i k) (clean_at i k l m rule.Mode)
         ih) (length t) (omega arith));
     headers =
-        at_sending t
+        at_sending t (length t) (omega arith)
         (AllByRecursion
         (λ p. (x : Header) → kind g.watched.page p ≡ ThisPage x
         → IsSubtitleHeader g.watched.national x)) tt
@@ -232,7 +231,8 @@ module _ (g : Task) (t : Transmission) (some_frames : 0 < g.every) (h : HoldsEve
         → IsSubtitleHeader g.watched.national x) (before t i k)
         (packet_at t i k) ih (clean_at i k l m rule.Control))
         (length t) (omega arith);
-    fair = at_packet t (λ xs. IsFair g.watched (span (kind g.watched.page) xs))
+    fair = at_packet t (length t) (omega arith)
+        (λ xs. IsFair g.watched (span (kind g.watched.page) xs))
         (IsFair-none g.watched)
         (λ i k l m ih. fair_step g.watched (before t i k) (packet_at t i k) (clean_at i k l m)
         ih);

@@ -33,11 +33,12 @@ before_all t i l =
     ap (λ xs. joined t i ++ xs) (take_all (length (packets_at t i)) (packets_at t i) (omega arith))
     ∙ sym (joined_more t i l)
 
--- what holds of no packets, and goes on by each packet, holds of each prefix
-module _ (t : Transmission) (Q : List (List ℕ) → Type 0) (none : Q [])
-    (more : (i k : ℕ) → i < length t → k < length (packets_at t i) → Q (before t i k)
+-- What holds of no packets, and goes on by each packet of the first m frames, holds of each prefix
+-- of theirs.
+module _ (t : Transmission) (m : ℕ) (fits : m ≤ length t) (Q : List (List ℕ) → Type 0) (none : Q [])
+    (more : (i k : ℕ) → i < m → k < length (packets_at t i) → Q (before t i k)
     → Q (before t i k ++ packet_at t i k ∷ [])) where
-  within : (i : ℕ) → i < length t → Q (joined t i) → (k : ℕ) → k ≤ length (packets_at t i)
+  within : (i : ℕ) → i < m → Q (joined t i) → (k : ℕ) → k ≤ length (packets_at t i)
       → Q (before t i k)
   within i l base zero h = subst Q (sym (before_none t i)) base
   within i l base (suc k) h =
@@ -46,16 +47,16 @@ module _ (t : Transmission) (Q : List (List ℕ) → Type 0) (none : Q [])
       (subst Q (sym (before_more t i k (omega arith)))
       (more i k l (omega arith) (within i l base k (omega arith))))
 
-  pub at_sending : (n : ℕ) → n ≤ length t → Q (joined t n)
+  pub at_sending : (n : ℕ) → n ≤ m → Q (joined t n)
   at_sending zero h = none
   at_sending (suc n) h =
       let e : n + 1 ≡ suc n = omega arith in
-      subst (λ m. Q (joined t m)) e
+      subst (λ c. Q (joined t c)) e
       (subst Q (before_all t n (omega arith))
       (within n (omega arith) (at_sending n (omega arith)) (length (packets_at t n))
       (omega arith)))
 
-  pub at_packet : (i k : ℕ) → i < length t → k ≤ length (packets_at t i) → Q (before t i k)
+  pub at_packet : (i k : ℕ) → i < m → k ≤ length (packets_at t i) → Q (before t i k)
   at_packet i k l h = within i l (at_sending i (omega arith)) k h
 
 -- each prefix is the front of the whole

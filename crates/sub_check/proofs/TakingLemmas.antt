@@ -1,24 +1,23 @@
 -- One sending more.
 use Rattle.std.proofs.Common.{◌≡◌, ℕ, ◌+◌, ◌<◌, ◌≤◌, Option, nat_lt, inl, inr, Bool, true, false}
-use Rattle.std.proofs.Common.{cond, List, [], ◌∷◌, ◌++◌, length, take, get_or, refl, sym, ap, ap₂}
-use Rattle.std.proofs.Common.{◌∙◌, subst, arith, drop, suc}
+use Rattle.std.proofs.Common.{cond, List, [], ◌++◌, length, take, get_or, refl, sym, ap, ap₂}
+use Rattle.std.proofs.Common.{◌∙◌, subst, arith}
 use Rattle.std.proofs.lemmas.Bool.{cases_eq, true≢false}
 use Rattle.sub_check.specs.declared.packet_rules.Watched.{Watched}
 use Rattle.ttx_page.specs.PacketKind.{kind}
 use Rattle.ttx_page.specs.Span.{holds_header}
-use Rattle.sub_check.specs.Transmission.{SentFrame, Transmission}
+use Rattle.sub_check.specs.Transmission.{Transmission}
 use Rattle.sub_check.specs.declared.listener.Listener.{Listener}
 use Rattle.sub_check.specs.declared.packet_rules.PacketRule.{PacketRule}
 use Rattle.sub_check.specs.PacketRules.{IsFree, AreClean, IsFirstFault, header_count}
 use Rattle.sub_check.specs.Listening.{Knows}
 use Rattle.stl_rows.specs.Programme.{ProgrammeValue}
-use Rattle.std.proofs.lemmas.List.{get_or-map, length-drop, get_or-drop, drop-drop}
 use Rattle.ttx_packet.specs.PageId.{PageIdValue}
 use Rattle.stl_rows.specs.declared.national.National.{National}
 use Rattle.sub_plan.specs.Options.{OptionsValue}
 use Rattle.sub_check.specs.FrameRules.{Task, Unread, task_of, watched_of, frame_at, packets_at}
 use Rattle.sub_check.specs.FrameRules.{joined}
-use Rattle.sub_check.specs.Following.{PacketsOk, HeaderIs, IsSentFrame, IsTaskOf, FrameOk}
+use Rattle.sub_check.specs.Following.{PacketsOk, HeaderIs, IsTaskOf, FrameOk}
 use Rattle.sub_check.proofs.PacketLists.{holds-count}
 use Rattle.sub_check.proofs.ShownLemmas.{HeaderIs-none, HeaderIs-some, joined_more}
 

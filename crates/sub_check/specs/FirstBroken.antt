@@ -3,14 +3,13 @@
 -- asked is broken. Each sentence is about the frames up to its place.
 use Rattle.std.specs.Prelude.{◌≡◌, ℕ, ◌+◌, ◌-◌, ◌<◌, ◌≤◌, ◌⊎◌, List, [], ◌∷◌, ◌++◌, Option, Some}
 use Rattle.std.specs.Prelude.{None, length, take}
-use Rattle.std.specs.Prelude.{slice_index_or, ◌≢◌}
+use Rattle.std.specs.Prelude.{slice_index_or}
 use Rattle.ttx_page.specs.Page.{IsCell}
-use Rattle.ttx_pes.specs.declared.fault.PesFault.{PesFault}
 use Rattle.sub_check.specs.FrameRules.{Task, Unread, frame_at, packets_at, joined, end_frame}
 use Rattle.sub_check.specs.FrameRules.{HasHeader, Shows, IsCovered}
 use Rattle.sub_check.specs.FrameRules.Unread.{BadPacket, NoFrame}
 use Rattle.sub_check.specs.PacketRules.{IsFree, number_of}
-use Rattle.sub_check.specs.Transmission.{SentFrame, Transmission}
+use Rattle.sub_check.specs.Transmission.{Transmission}
 use Rattle.sub_check.specs.declared.fault.CheckFault.{CheckFault}
 use Rattle.sub_check.specs.declared.fault.CheckFault.TheVariants as fault
 use Rattle.sub_check.specs.declared.packet_rules.PacketRule.{PacketRule}

@@ -15,3 +15,4 @@ pub mod Following
 pub mod PesReading
 pub mod Checking
 pub mod Planned
+pub mod WrongContent

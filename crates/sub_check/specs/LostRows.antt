@@ -1,5 +1,5 @@
 -- A transmission that is robust where packets are lost too: any but page headers.
-use Rattle.std.specs.Prelude.{◌↔◌, ℕ, Bool, List, Option, Some, map, All, IsTrue, IsFalse}
+use Rattle.std.specs.Prelude.{ℕ, Bool, List, Option, Some, map, All, IsTrue, IsFalse}
 use Rattle.std.specs.List.{AllZip, items_where_true}
 use Rattle.ttx_packet.specs.OneBit.{AreNear}
 use Rattle.ttx_page.specs.LostRows.{Arrives, arrived, IsHitOrLost, MayBeMarked, fates_of}
@@ -7,7 +7,7 @@ use Rattle.ttx_page.specs.Receiver.{State, Hears}
 use Rattle.stl_rows.specs.Programme.{ProgrammeValue}
 use Rattle.sub_plan.specs.Options.{OptionsValue}
 use Rattle.sub_check.specs.Transmission.{Transmission, on_air}
-use Rattle.sub_check.specs.Robust.{IsListening, IsServed, Robust}
+use Rattle.sub_check.specs.Robust.{IsListening, IsServed}
 
 -- ---- by fates: beside each packet stands what was got of it, nothing where it was lost
 

@@ -1,7 +1,7 @@
 -- What is asked of a packet that is sent after others. Each rule looks back over the whole list of
 -- the
 -- packets before it, to the first packet of the transmission.
-use Rattle.std.specs.Prelude.{◌≡◌, ℕ, ◌≤◌, ◌<◌, List, [], ◌∷◌, ◌++◌, take, length, slice_index_or}
+use Rattle.std.specs.Prelude.{◌≡◌, ℕ, ◌<◌, List, [], ◌∷◌, ◌++◌, take, length, slice_index_or}
 use Rattle.std.specs.Prelude.{Option, Some, None, IsTrue, filter, map, drop}
 use Rattle.std.specs.List.{AllByRecursion}
 use Rattle.std.specs.Option.{option_or}

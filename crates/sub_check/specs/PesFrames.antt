@@ -1,9 +1,10 @@
 -- How PES packets are a transmission: by the PTS of frame 0, each PTS is that of a frame of the day
 -- (EN 300 472, PTS: 33 bits at 90 kHz).
-use Rattle.std.specs.Prelude.{◌≡◌, ℕ, ◌<◌, List, map}
-use Rattle.std.specs.List.{AllZip}
+use Rattle.std.specs.Prelude.{◌≡◌, ℕ, ◌<◌, ◌≤◌, List, length, map}
+use Rattle.std.specs.List.{AllZip, concat}
 use Rattle.ttx_pes.specs.DataUnit.{UnitValue}
-use Rattle.ttx_pes.specs.PesPacket.{PesValue}
+use Rattle.ttx_pes.specs.PesPacket.{IsPesPacket, PesValue}
+use Rattle.ttx_pes.specs.Reading.{most_packets}
 use Rattle.sub_plan.specs.FrameTime.{frames_of_day, pts_of}
 use Rattle.sub_check.specs.Transmission.{SentFrame, Transmission, IsRising}
 
@@ -18,3 +19,11 @@ pub record IsSentAs (origin : ℕ) (pes : PesValue) (s : SentFrame) : Type 0 whe
 pub record AreSentAs (origin : ℕ) (pes : List PesValue) (frames : Transmission) : Type 0 where
   pub each : AllZip (IsSentAs origin) pes frames
   pub rising : IsRising frames
+
+-- A PES file of these values: at most as many PES packets as a day has frames, one for each value,
+-- joined.
+pub record IsPesFile (values : List PesValue) (bytes : List ℕ) : Type 0 where
+  pub packets : List (List ℕ)
+  pub each : AllZip IsPesPacket values packets
+  pub few : length packets ≤ most_packets
+  pub joined : bytes ≡ concat packets

@@ -1,13 +1,14 @@
--- The transmission that a schedule is, and that it is good.
-use Rattle.std.specs.Prelude.{◌≡◌, ℕ, Bool, [], map}
+-- The transmission that a schedule is, that it is good, and that its bytes are read as it.
+use Rattle.std.specs.Prelude.{◌≡◌, ℕ, Bool, [], map, None}
 use Rattle.ttx_page.specs.Page.{Rows}
 use Rattle.stl_rows.specs.declared.national.National.{National}
 use Rattle.stl_rows.specs.Programme.{IsProgramme, ProgrammeValue}
 use Rattle.sub_plan.specs.Options.{IsOptions, OptionsValue}
-use Rattle.sub_plan.specs.Schedule.{due_in, plan_frames}
+use Rattle.sub_plan.specs.Schedule.{due_in, plan, plan_frames}
 use Rattle.sub_plan.specs.Sending.{sending}
 use Rattle.sub_check.specs.Transmission.{SentFrame, Transmission}
 use Rattle.sub_check.specs.Good.{Good}
+use Rattle.sub_check.specs.PesReading.{ReadsAs}
 
 -- A frame with the sending of the page that is due there.
 abbrev pub planned_at : (ℕ → Rows) → OptionsValue → National → Bool → ℕ → SentFrame
@@ -28,3 +29,12 @@ LawOfPlan =
     → (programme.records ≡ [] → ⊥)
     → IsOptions options
     → Good programme (planned programme options serial) options
+
+-- The bytes of the schedule of a programme are read to their end as that transmission.
+abbrev pub LawOfPlanRead : Type 0
+LawOfPlanRead =
+    (programme : ProgrammeValue) (options : OptionsValue) (serial : Bool)
+    → IsProgramme programme.national programme.records
+    → IsOptions options
+    → ReadsAs options.origin 0 (plan programme options serial) (planned programme options serial)
+    None

@@ -1,11 +1,13 @@
 //! The exact checker: a PES file against a programme, one PES packet at a time.
 ghost use Rattle.std.specs.Prelude.{◌≡◌, ℕ, ◌+◌, ◌<◌, ◌≤◌, ◌↔◌, MatchResult, OnOk, IfOk, IfErr};
-ghost use Rattle.std.specs.Prelude.{IsOk, Ok, Option, Some, None, false, if◌then◌else◌};
+ghost use Rattle.std.specs.Prelude.{IsOk, Ok, Err, Option, Some, None, Bool, false};
+ghost use Rattle.std.specs.Prelude.{◌≢◌, [], if◌then◌else◌};
 ghost use Rattle.sub_io.specs.Reading.{IfTold};
-ghost use Rattle.stl_rows.specs.Programme.{last_out};
+ghost use Rattle.stl_rows.specs.Programme.{IsProgramme, last_out};
 ghost use Rattle.ttx_pes.specs.Reading.{rest_after};
 ghost use Rattle.ttx_pes.specs.declared.progress.Progress.TheVariants.{Reading};
 ghost use Rattle.sub_plan.specs.Options.{IsOptions};
+ghost use Rattle.sub_plan.specs.Schedule.{plan};
 ghost use Rattle.sub_check.specs.Checking.{Accepts, HasCounts, IsRuleFault, TellsEnd, TellsFrame};
 ghost use Rattle.sub_check.specs.Checking.{is_source_failure, is_subtitle_refusal};
 ghost use Rattle.sub_check.specs.FirstBroken.{NamesFirst};
@@ -15,6 +17,7 @@ ghost use Rattle.sub_check.specs.LostRows.{RobustToMarkedLoss};
 ghost use Rattle.sub_check.specs.PesReading.{LawOfReadings, ReadsAs};
 ghost use Rattle.sub_check.specs.Robust.{Robust};
 ghost use Rattle.sub_check.specs.Transmission.{Transmission};
+ghost use Rattle.sub_check.specs.WrongContent.{IsWrongEverywhere};
 
 use crate::fault::CheckFault;
 use crate::frame_rules::{Checker, is_over};
@@ -117,6 +120,19 @@ pub fn check<S: Source>(
         ReadsAs options.now.origin 0 bytes frames unread
         → is_source_failure result ≡ false
         → IfErr result (NamesFirst (task_of programme.now options.now unread) frames)) }
+    // Where the page is refused at a cell, every receiver that starts at the first packet, with no
+    // bit wrong, shows another code there than is due.
+    ensures content { (frames : Transmission) (unread : Option Unread) (frame row column : ℕ)
+        → IfTold (S.remaining source.old) (λ bytes.
+        ReadsAs options.now.origin 0 bytes frames unread
+        → result ≡ Err (CheckFault.Content frame row column)
+        → IsWrongEverywhere programme.now options.now frames frame row column) }
+    // What `schedule` writes with the same options is accepted.
+    ensures schedule { (serial : Bool)
+        → S.remaining source.old ≡ Some (plan programme.now options.now serial)
+        → programme.now.records ≢ []
+        → is_source_failure result ≡ false
+        → IsOk result }
     // What is accepted is robust, with lost rows too.
     ensures robust { (frames : Transmission) → IfTold (S.remaining source.old) (λ bytes.
         ReadsAs options.now.origin 0 bytes frames None
@@ -153,6 +169,7 @@ fn judge<S: Source>(
         → MatchResult result (Accepts (task_of programme.now options.now unread) frames)
         (NamesFirst (task_of programme.now options.now unread) frames)) }
     ensures options { IsOptions options.now }
+    ensures programme { IsProgramme programme.now.national programme.now.records }
     ensures own { is_subtitle_refusal result ≡ false }
     ensures count { S.failure_count source.new
         ≡ S.failure_count source.old + (if is_source_failure result then 1 else 0) }

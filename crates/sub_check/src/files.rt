@@ -1,6 +1,6 @@
 //! A pair of files: the subtitle file, and the PES file that carries it.
 ghost use Rattle.std.specs.Prelude.{◌≡◌, ◌≢◌, ◌+◌, ◌<◌, ◌↔◌, IsOk, IfOk, IfErr, Ok, Option, None};
-ghost use Rattle.std.specs.Prelude.{true, false, if◌then◌else◌};
+ghost use Rattle.std.specs.Prelude.{ℕ, Err, true, false, if◌then◌else◌};
 ghost use Rattle.sub_io.specs.Reading.{IfTold};
 ghost use Rattle.stl_file.specs.Reader.{outcome_of};
 ghost use Rattle.stl_rows.specs.Loading.{loaded};
@@ -14,6 +14,7 @@ ghost use Rattle.sub_check.specs.LostRows.{RobustToMarkedLoss};
 ghost use Rattle.sub_check.specs.PesReading.{ReadsAs};
 ghost use Rattle.sub_check.specs.Robust.{Robust};
 ghost use Rattle.sub_check.specs.Transmission.{Transmission};
+ghost use Rattle.sub_check.specs.WrongContent.{IsWrongEverywhere};
 
 use crate::checker::{Accepted, check};
 use crate::fault::CheckFault;
@@ -74,6 +75,16 @@ pub fn check_files<S: Source, P: Source>(
         → is_subtitle_refusal result ≡ false
         → is_source_failure result ≡ false
         → IfErr result (NamesFirst (task_of programme options.now unread) frames))) }
+    // Where the page is refused at a cell, every receiver that starts at the first packet, with no
+    // bit wrong, shows another code there than is due.
+    ensures content { (programme : ProgrammeValue) (frames : Transmission) (unread : Option Unread)
+        (frame row column : ℕ)
+        → IfTold (S.remaining stl.old) (λ file.
+        loaded national (outcome_of file) ≡ Ok programme
+        → IfTold (P.remaining pes.old) (λ bytes.
+        ReadsAs options.now.origin 0 bytes frames unread
+        → result ≡ Err (CheckFault.Content frame row column)
+        → IsWrongEverywhere programme options.now frames frame row column)) }
     // What is accepted is robust, with lost rows too.
     ensures robust { (programme : ProgrammeValue) (frames : Transmission)
         → IfTold (S.remaining stl.old) (λ file.

@@ -3,7 +3,8 @@
 //! The functions do nothing: the contract of each is a law over the definitions of `specs/`.
 ghost use Rattle.sub_check.specs.Laws.{LawOfGood, LawOfGoodAndLoss, LawOfGoodAndMarkedLoss};
 ghost use Rattle.sub_check.specs.Laws.{LawOfAllKept, LawOfNothingLost, LawOfWindow};
-ghost use Rattle.sub_check.specs.Planned.{LawOfPlan};
+ghost use Rattle.sub_check.specs.PesReading.{LawOfPesFiles};
+ghost use Rattle.sub_check.specs.Planned.{LawOfPlan, LawOfPlanRead};
 ghost use Rattle.sub_check.specs.Rules.{LawOfRules};
 ghost use Rattle.sub_check.specs.StepByStep.{LawOfCleanSpans, LawOfRepeats, LawOfSpansByPacket};
 
@@ -64,4 +65,15 @@ pub fn law_of_repeats()
 /// for both national options.
 pub fn law_of_plan()
     ensures { LawOfPlan }
+{}
+
+/// The bytes of a schedule are read to their end as that transmission, frame by frame.
+pub fn law_of_plan_read()
+    ensures { LawOfPlanRead }
+{}
+
+/// What is read packet by packet as frames that rise is a PES file of the grammar that is sent as
+/// these frames, and the other way round.
+pub fn law_of_pes_files()
+    ensures { LawOfPesFiles }
 {}

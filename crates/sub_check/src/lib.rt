@@ -28,6 +28,6 @@ pub use fault::CheckFault;
 pub use files::check_files;
 pub use laws::{
     law_of_all_kept, law_of_clean_spans, law_of_good, law_of_good_and_loss,
-    law_of_good_and_marked_loss, law_of_nothing_lost, law_of_plan, law_of_repeats, law_of_rules,
-    law_of_spans_by_packet, law_of_window,
+    law_of_good_and_marked_loss, law_of_nothing_lost, law_of_pes_files, law_of_plan,
+    law_of_plan_read, law_of_repeats, law_of_rules, law_of_spans_by_packet, law_of_window,
 };

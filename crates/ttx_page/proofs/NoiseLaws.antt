@@ -351,7 +351,7 @@ AreNear-itself [] = tt
 AreNear-itself (b ∷ bs) = (inl refl, AreNear-itself bs)
 
 -- Packets are near themselves.
-AreNear-themselves : (packets : List (List ℕ)) → AllZip AreNear packets packets
+pub AreNear-themselves : (packets : List (List ℕ)) → AllZip AreNear packets packets
 AreNear-themselves [] = tt
 AreNear-themselves (p ∷ ps) = (AreNear-itself p, AreNear-themselves ps)
 

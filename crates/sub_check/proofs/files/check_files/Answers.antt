@@ -12,6 +12,10 @@ pub returns-in-Err-clause-first : goal.returns-in-Err-clause-first
 returns-in-Err-clause-first g c = λ programme frames unread file told same bytes heard reads no fine.
     cc
 
+pub returns-in-Err-clause-content : goal.returns-in-Err-clause-content
+returns-in-Err-clause-content g c =
+    λ programme frames unread frame row column file told same bytes heard reads is. cc
+
 pub returns-in-Err-clause-robust : goal.returns-in-Err-clause-robust
 returns-in-Err-clause-robust g c = λ programme frames file told same bytes heard reads ok. cc
 
@@ -32,6 +36,12 @@ pub returns-in-Ok-clause-first : goal.returns-in-Ok-clause-first
 returns-in-Ok-clause-first g c = λ programme frames unread file told same bytes heard reads no fine.
     let is = same_programme programme c.in-Ok.programme _ same (c.in-Ok.ensures.exact file told) in
     rw is (c.check.ensures.first frames unread bytes heard reads fine)
+
+pub returns-in-Ok-clause-content : goal.returns-in-Ok-clause-content
+returns-in-Ok-clause-content g c =
+    λ programme frames unread frame row column file told same bytes heard reads refusal.
+    let is = same_programme programme c.in-Ok.programme _ same (c.in-Ok.ensures.exact file told) in
+    rw is (c.check.ensures.content frames unread frame row column bytes heard reads refusal)
 
 pub returns-in-Ok-clause-robust : goal.returns-in-Ok-clause-robust
 returns-in-Ok-clause-robust g c = λ programme frames file told same bytes heard reads ok.

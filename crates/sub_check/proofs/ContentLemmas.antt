@@ -1,0 +1,301 @@
+-- Where content is refused, every receiver shows another code than is due: `wrong_everywhere`.
+use Rattle.std.proofs.Common.{slice_index, suc}
+use Rattle.std.proofs.Common.{◌≡◌, ℕ, ◌+◌, ◌-◌, ◌<◌, ◌≤◌, ◌⊎◌, inl, inr, true, List, [], ◌∷◌}
+use Rattle.std.proofs.Common.{◌++◌, ◌&&◌, cond, Option, Some, None, length, take, map}
+use Rattle.std.proofs.Common.{IsFalse, refl, sym, ap, ap₂, ◌∙◌, subst, arith, length-take}
+use Rattle.std.specs.List.{AllByRecursion, flat_map}
+use Rattle.std.proofs.lemmas.Bool.{cases_eq, le-leb, lt-ltb}
+use Rattle.std.proofs.lemmas.List.{get_or-take, take-map}
+use Rattle.std.proofs.lemmas.List.Elements.{All-from_recursion, recursion_from_All}
+use Rattle.ttx_packet.specs.PageHeader.{HasExactWords}
+use Rattle.ttx_page.specs.Noise.{ErasesPage, IsSound}
+use Rattle.ttx_page.specs.Page.{IsCell, cell}
+use Rattle.ttx_page.specs.PacketKind.{kind}
+use Rattle.ttx_page.specs.Receiver.{Hears, State}
+use Rattle.ttx_page.specs.Shown.{shown}
+use Rattle.ttx_page.specs.Span.{holds_header, span}
+use Rattle.ttx_page.proofs.NoiseLaws.{AreNear-themselves, law_of_noise, law_of_quiet}
+use Rattle.stl_rows.specs.Programme.{ProgrammeValue}
+use Rattle.sub_plan.specs.Options.{OptionsValue}
+use Rattle.sub_check.specs.FirstBroken.{IsFirst, NamesFirst, Place, unread_fault}
+use Rattle.sub_check.specs.FirstBroken.Place.{AtOrder, AtStart, AtGapCell, AtGap, AtPacket, AtFirst}
+use Rattle.sub_check.specs.FirstBroken.Place.{AtCell, AtFrame, AtUnread, AtNothing, AtEnd}
+use Rattle.sub_check.specs.FirstBroken.{IsBefore, fault_at}
+use Rattle.sub_check.specs.FrameRules.{HasHeader, Shows, Task, Unread, frame_at, joined, packets_at}
+use Rattle.sub_check.specs.FrameRules.{task_of}
+use Rattle.sub_check.specs.FrameRules.Unread.{BadPacket, NoFrame}
+use Rattle.sub_check.specs.PacketRules.{IsClean, number_of}
+use Rattle.sub_check.specs.Transmission.{IsRising, SentFrame, Transmission, first_frame, last_frame}
+use Rattle.sub_check.specs.Transmission.{on_air_until, packets_between}
+use Rattle.sub_check.specs.WrongContent.{IsWrongEverywhere}
+use Rattle.sub_check.specs.declared.fault.CheckFault.TheVariants as fault
+use Rattle.sub_check.specs.declared.packet_rules.PacketRule.TheVariants as rule
+use Rattle.sub_check.specs.declared.packet_rules.Watched.{Watched}
+use Rattle.sub_check.proofs.GoodByPlace.{IsFair}
+use Rattle.sub_check.proofs.GoodLemmas.{clean_span, first-same, last-same, number_at}
+use Rattle.sub_check.proofs.PacketLists.{Each-push}
+use Rattle.sub_check.proofs.PlaceLemmas.{IsFair-none, fair_step}
+use Rattle.sub_check.proofs.PrefixLemmas.{at_sending, before, packet_at, rises_strictly, rises_to}
+use Rattle.sub_check.proofs.TransmissionLemmas.{holds-append_left}
+
+-- ---- packets that keep the rules
+
+module _ (w : Watched) (frames : Transmission) (n : ℕ) (fits : n ≤ length frames)
+    (clean : (i k : ℕ) → i < n → k < length (packets_at frames i)
+    → IsClean w (before frames i k) (packet_at frames i k)) where
+  -- Their addresses and headers are code words.
+  exact : AllByRecursion HasExactWords (joined frames n)
+  exact =
+      at_sending frames n fits (AllByRecursion HasExactWords) tt
+      (λ i k l m ih. Each-push HasExactWords (before frames i k) (packet_at frames i k) ih
+      (clean i k l m rule.Address, clean i k l m rule.HeaderCode)) n (omega arith)
+
+  -- Each header of the page erases it.
+  erases : AllByRecursion (ErasesPage w.page) (joined frames n)
+  erases =
+      at_sending frames n fits (AllByRecursion (ErasesPage w.page)) tt
+      (λ i k l m ih. Each-push (ErasesPage w.page) (before frames i k) (packet_at frames i k) ih
+      (λ h e. (clean i k l m rule.Control h e).erases)) n (omega arith)
+
+  -- Their span is fair.
+  fair : IsFair w (span (kind w.page) (joined frames n))
+  fair =
+      at_sending frames n fits (λ xs. IsFair w (span (kind w.page) xs)) (IsFair-none w)
+      (λ i k l m ih. fair_step w (before frames i k) (packet_at frames i k) (clean i k l m) ih) n
+      (omega arith)
+
+  -- So they are what is asked for the law of quiet.
+  sound : IsSound w.page (joined frames n)
+  sound =
+      let c = clean_span w (span (kind w.page) (joined frames n)) fair in
+      record {
+        exact = All-from_recursion HasExactWords (joined frames n) exact;
+        erases = All-from_recursion (ErasesPage w.page) (joined frames n) erases;
+        odd = c.odd;
+        same = c.same;
+      }
+
+  -- With a header among them every receiver shows what they show.
+  all_show :
+      holds_header (kind w.page) (joined frames n) ≡ true
+      → (old new : State)
+      → IsFalse old.heard
+      → IsFalse old.is_open
+      → Hears w.page old (joined frames n) new
+      → (row column : ℕ)
+      → IsCell row column
+      → cell new.page row column ≡ shown w.page (joined frames n) row column
+  all_show head old new unheard shut hears row column is =
+      let sent = joined frames n in
+      let ends =
+      law_of_noise w.page sent sent old new sound (AreNear-themselves sent) unheard shut hears in
+      law_of_quiet w.page sent old new sound unheard shut hears (ends.heard ∙ head) row column is
+
+-- A header in the first frame is one in the first n frames.
+first_header-joined :
+    (w : Watched) (frames : Transmission) (n : ℕ)
+    → 0 < n
+    → n ≤ length frames
+    → holds_header (kind w.page) (packets_at frames 0) ≡ true
+    → holds_header (kind w.page) (joined frames n) ≡ true
+first_header-joined w [] n some fits head = absurd (omega arith)
+first_header-joined w (s ∷ frames) n some fits head =
+    let e : n ≡ suc (n - 1) = omega arith in
+    subst (λ m. holds_header (kind w.page) (joined (s ∷ frames) m) ≡ true) (sym e)
+    (holds-append_left (kind w.page) s.packets
+    (flat_map (λ (x : SentFrame). x.packets) (take (n - 1) frames)) head)
+
+-- ---- the first n frames
+
+-- All packets of frames within the bounds.
+between-all :
+    (frames : Transmission) (a b : ℕ)
+    → AllByRecursion (λ (s : SentFrame). (a ≤ s.frame) × (s.frame < b)) frames
+    → packets_between frames a b ≡ flat_map (λ (s : SentFrame). s.packets) frames
+between-all [] a b all = refl
+between-all (s ∷ frames) a b all =
+    ap₂ ◌++◌
+    (ap₂ (λ x y. cond (x && y) s.packets []) (le-leb a s.frame all.0.0) (lt-ltb s.frame b all.0.1))
+    (between-all frames a b all.1)
+
+module _ (frames : Transmission) (n f : ℕ) (some : 0 < n) (fits : n ≤ length frames)
+    (rising : (i : ℕ) → 0 < i → i < n → frame_at frames (i - 1) < frame_at frames i)
+    (up_to : frame_at frames (n - 1) ≤ f) where
+  -- The frames that are read.
+  abbrev read : Transmission
+  read = take n frames
+
+  -- There are n of them.
+  long : length read ≡ n
+  long = let e = length-take n frames in omega arith
+
+  -- Each is that of the list.
+  same_frame : (i : ℕ) → i < n → frame_at read i ≡ frame_at frames i
+  same_frame i l =
+      ap (λ xs. slice_index xs i) (sym (take-map (λ (s : SentFrame). s.frame) n frames))
+      ∙ get_or-take n (map (λ (s : SentFrame). s.frame) frames) i 0 l
+
+  -- They rise.
+  rising_read : (i : ℕ) → 0 < i → i < length read → frame_at read (i - 1) < frame_at read i
+  rising_read i a b =
+      let size = long in
+      let x = same_frame (i - 1) (omega arith) in
+      let y = same_frame i (omega arith) in
+      let r = rising i a (omega arith) in
+      omega arith
+
+  -- So they are a rising transmission.
+  rises_read : IsRising read
+  rises_read i j d l m =
+      let x = number_at read i d (omega arith) in
+      let y = number_at read j d m in
+      let r = rises_strictly read rising_read i j l m in
+      omega arith
+
+  -- The last one.
+  last_is : last_frame read ≡ frame_at frames (n - 1)
+  last_is =
+      last-same read ∙ ap (λ m. frame_at read (m - 1)) long ∙ same_frame (n - 1) (omega arith)
+
+  -- All of them are on air up to frame f.
+  on_air_is : on_air_until read f ≡ joined frames n
+  on_air_is =
+      between-all read (first_frame read) (f + 1)
+      (recursion_from_All
+      (λ (s : SentFrame). (first_frame read ≤ s.frame) × (s.frame < f + 1)) read
+      (λ k d l.
+      let size = long in
+      let first = first-same read in
+      let at = number_at read k d l in
+      let low = rises_to read rising_read 0 k (omega arith) l in
+      let high = rises_to read rising_read k (n - 1) (omega arith) (omega arith) in
+      let last = same_frame (n - 1) (omega arith) in
+      (omega arith, omega arith)))
+
+module _ (programme : ProgrammeValue) (options : OptionsValue) (unread : Option Unread)
+    (frames : Transmission) where
+  -- What the transmission is checked against.
+  abbrev g : Task
+  g = task_of programme options unread
+
+  -- Where the first n frames are read and keep the rules, and do not show what is due.
+  wrong_from :
+      (n f row column : ℕ)
+      → 0 < n
+      → n ≤ length frames
+      → ((i : ℕ) → 0 < i → i < n → frame_at frames (i - 1) < frame_at frames i)
+      → frame_at frames (n - 1) ≤ f
+      → (n < length frames → (frame_at frames (n - 1) ≡ f) ⊎ (f < frame_at frames n))
+      → ((i k : ℕ) → i < n → k < length (packets_at frames i)
+      → IsClean g.watched (before frames i k) (packet_at frames i k))
+      → HasHeader g frames 0
+      → IsCell row column
+      → (Shows g frames n f row column → ⊥)
+      → IsWrongEverywhere programme options frames f row column
+  wrong_from n f row column some fits rising up_to next clean head is other =
+      let last = last_is frames n f some fits rising up_to in
+      record {
+        read = take n frames;
+        are_read = record {
+          n = n;
+          some = some;
+          within = fits;
+          first_n = refl;
+          rising = rises_read frames n f some fits rising up_to;
+          up_to = omega (arith, last);
+          next = λ more. elim (next more) [ inl e ↦ inl (last ∙ e) | inr later ↦ inr later ];
+        };
+        wrong = λ old new unheard shut hears e.
+            other
+            (sym (all_show g.watched frames n fits clean
+            (first_header-joined g.watched frames n some fits head) old new unheard shut
+            (subst (λ ps. Hears options.page old ps new)
+            (on_air_is frames n f some fits rising up_to) hears) row column is)
+            ∙ e);
+      }
+
+  -- At the end of frame i of the list.
+  wrong_cell :
+      (i row column : ℕ)
+      → IsFirst g frames (AtCell i row column)
+      → IsWrongEverywhere programme options frames (frame_at frames i) row column
+  wrong_cell i row column first =
+      let there = first.there in
+      let same : frame_at frames (i + 1 - 1) ≡ frame_at frames i =
+      ap (frame_at frames) (omega arith) in
+      wrong_from (i + 1) (frame_at frames i) row column (omega arith) (omega (arith, there.0))
+      (λ j a b. first.earlier (AtOrder j) (before_here j 0 (62 ∷ []) (omega arith) (omega arith))
+      (a, omega (arith, there.0)))
+      (omega arith) (λ more. inl same)
+      (λ j k l m r. first.earlier (AtPacket j k r)
+      (before_here j 2 (k ∷ number_of r ∷ []) (omega arith) (omega arith)) (omega (arith, there.0), m))
+      (first.earlier AtFirst first_before (omega (arith, there.0))) there.1 first.broken
+    where
+      before_here : (j q : ℕ) (rest : List ℕ) → j ≤ i → q < 3
+          → IsBefore (0 ∷ j ∷ q ∷ rest) (0 ∷ i ∷ 3 ∷ 72 ∷ row ∷ column ∷ [])
+      before_here j q rest l m = elim (cases_eq j i) [
+        | inl e ↦ inr (refl, inr (e, inl m))
+        | inr less ↦ inr (refl, inl (omega arith))
+      ]
+
+      first_before : IsBefore (0 ∷ 0 ∷ 3 ∷ 71 ∷ []) (0 ∷ i ∷ 3 ∷ 72 ∷ row ∷ column ∷ [])
+      first_before = elim (cases_eq 0 i) [
+        | inl e ↦ inr (refl, inr (e, inr (refl, inl (omega arith))))
+        | inr less ↦ inr (refl, inl (omega arith))
+      ]
+
+  -- At the end of a frame before frame i of the list.
+  wrong_gap_cell :
+      (i f row column : ℕ)
+      → IsFirst g frames (AtGapCell i f row column)
+      → IsWrongEverywhere programme options frames f row column
+  wrong_gap_cell i f row column first =
+      let gap = first.there.0 in
+      wrong_from i f row column gap.0 (omega (arith, gap.1))
+      (λ j a b. first.earlier (AtOrder j) (inr (refl, inl b)) (a, omega (arith, gap.1)))
+      (omega (arith, gap.2)) (λ more. inr gap.3)
+      (λ j k l m r. first.earlier (AtPacket j k r) (inr (refl, inl l)) (omega (arith, gap.1), m))
+      (first.earlier AtFirst (inr (refl, inl gap.0)) (omega (arith, gap.1))) first.there.1
+      first.broken
+
+  -- What is not read is refused by no cell.
+  never_unread : (n f row column : ℕ) (u : Option Unread)
+      → fault.Content f row column ≡ unread_fault n u → ⊥
+  never_unread n f row column None e = cc
+  never_unread n f row column (Some (BadPacket p)) e = cc
+  never_unread n f row column (Some NoFrame) e = cc
+
+  -- A refusal that names a cell.
+  pub wrong_everywhere :
+      (f row column : ℕ)
+      → NamesFirst g frames (fault.Content f row column)
+      → IsWrongEverywhere programme options frames f row column
+  wrong_everywhere f row column (x, e, first) = go x e first
+    where
+      go : (y : Place) → fault.Content f row column ≡ fault_at g frames y → IsFirst g frames y
+          → IsWrongEverywhere programme options frames f row column
+      go (AtOrder i) e first = cc
+      go AtStart e first = cc
+      go (AtGapCell i h r c) e first =
+          let a : h ≡ f = cc in
+          let b : r ≡ row = cc in
+          let d : c ≡ column = cc in
+          rw (← a, ← b, ← d) (wrong_gap_cell i h r c first)
+      go (AtGap i h) e first = cc
+      go (AtPacket i k rule.Address) e first = cc
+      go (AtPacket i k rule.HeaderCode) e first = cc
+      go (AtPacket i k rule.Mode) e first = cc
+      go (AtPacket i k rule.Control) e first = cc
+      go (AtPacket i k rule.Parity) e first = cc
+      go (AtPacket i k rule.RowChanged) e first = cc
+      go (AtPacket i k rule.Enhancement) e first = cc
+      go AtFirst e first = cc
+      go (AtCell i r c) e first =
+          let a : frame_at frames i ≡ f = cc in
+          let b : r ≡ row = cc in
+          let d : c ≡ column = cc in
+          rw (← a, ← b, ← d) (wrong_cell i r c first)
+      go (AtFrame i) e first = cc
+      go AtUnread e first = absurd (never_unread (length frames) f row column unread e)
+      go AtNothing e first = cc
+      go AtEnd e first = cc
