@@ -1,6 +1,7 @@
 pub mod TransmissionLemmas
 pub mod RobustLemmas
 pub mod AllKept
+pub mod DroppedLemmas
 pub mod StepByStepLemmas
 pub mod RuleLemmas
 pub mod RuleTests

@@ -5,6 +5,7 @@ pub mod Rules
 pub mod StepByStep
 pub mod Robust
 pub mod LostRows
+pub mod DroppedRows
 pub mod Laws
 pub mod Examples
 pub mod PacketRules

@@ -86,7 +86,7 @@ HearsDropping-push w (p ∷ ps) packet old mid new run step =
 -- ---- a dropped row is a lost one
 
 -- The fate of a packet where rows are dropped.
-abbrev fate_of : PageIdValue → Option (List ℕ) → Option (List ℕ)
+abbrev pub fate_of : PageIdValue → Option (List ℕ) → Option (List ℕ)
 fate_of w None = None
 fate_of w (Some got) = cond (is_dropped w got) None (Some got)
 
@@ -105,6 +105,15 @@ arrived-map_fate_of w (Some got ∷ os) = go (is_dropped w got) (arrived-map_fat
         ≡ cond (not b) (got ∷ without_dropped w (arrived os)) (without_dropped w (arrived os))
     go true e = e
     go false e = ap (λ ps. got ∷ ps) e
+
+-- So a run that drops rows is one over what arrives by these fates.
+pub hears_arrived :
+    (w : PageIdValue) (fates : List (Option (List ℕ))) (old new : State)
+    → HearsDropping w old (arrived fates) new
+    → Hears w old (arrived (map (fate_of w) fates)) new
+hears_arrived w fates old new run =
+    subst (λ ps. Hears w old ps new) (sym (arrived-map_fate_of w fates))
+    (left_out w (arrived fates) old new run)
 
 -- A packet X/0 is no row.
 no_row_of_header :
@@ -142,7 +151,7 @@ row_may_be_lost w packet row a is zero_number =
     true≢false (sym head ∙ no_row_of_header w a.magazine (header packet))
 
 -- Where rows are dropped, no page header is lost.
-arrives_dropped :
+pub arrives_dropped :
     (w : PageIdValue) (sent : List (List ℕ)) (fates : List (Option (List ℕ)))
     → AllByRecursion HasExactWords sent
     → AllZip Arrives sent fates
@@ -226,7 +235,7 @@ zip-map_fate_of w (p ∷ ps) (o ∷ os) =
     ap (λ xs. (p, fate_of w o) ∷ xs) (zip-map_fate_of w ps os)
 
 -- A cell that is hit or lost where rows are dropped is in a row that is hit or lost.
-hit_in_row :
+pub hit_in_row :
     (w : PageIdValue) (sent : List (List ℕ)) (fates : List (Option (List ℕ))) (row column : ℕ)
     → AllZip Arrives sent fates
     → All (IsOddRow w) (span (kind w) sent)
@@ -261,8 +270,7 @@ law_of_dropped_rows w sent fates old new sound near unheard shut hears =
     let ends =
     law_of_lost_rows w sent (map (fate_of w) fates) old new sound
     (arrives_dropped w sent fates (recursion_from_All _ sent sound.exact) near) unheard shut
-    (subst (λ ps. Hears w old ps new) (sym (arrived-map_fate_of w fates))
-    ((law_of_dropping w (arrived fates) old new).0 hears)) in
+    (hears_arrived w fates old new hears) in
     record {
       heard = ends.heard;
       is_open = ends.is_open;
