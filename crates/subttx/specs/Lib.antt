@@ -3,3 +3,4 @@ pub mod Requests
 pub mod Lines
 pub mod Listing
 pub mod LoadLines
+pub mod Listening

@@ -6,8 +6,11 @@
 
 mod answer;
 mod command;
+mod flips;
 mod lines;
+mod listening;
 mod load_lines;
+mod numbers;
 mod request;
 mod status;
 #[cfg(test)]
