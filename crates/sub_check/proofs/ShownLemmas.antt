@@ -152,7 +152,7 @@ pub cells_above :
     → cell a r c ≡ cell b r c
 cells_above d r c is l = ap (λ xs. get_or xs c 0) (d.rows_above r is.0 l)
 
--- Where the next edge after the frame before is not this frame, the due page stays. For `is_edge`.
+-- Where the next edge after the frame before is not this frame, the due page stays. For `advance`.
 pub due_between_edges :
     (national : National) (records : List SubtitleValue) (frame : ℕ) (edge : Option ℕ)
     → 0 < frame
@@ -168,3 +168,24 @@ due_between_edges national records frame (Some e) some tells other =
     let l = tells.least frame edge (omega (arith, some)) in
     let m = tells.after in
     other (ap Some (omega (arith, some))))
+
+-- And it is the next edge after this frame. For `advance`.
+pub same_edge :
+    (records : List SubtitleValue) (frame : ℕ) (edge : Option ℕ)
+    → 0 < frame
+    → TellsNextEdge records (frame - 1) edge
+    → (edge ≡ Some frame → ⊥)
+    → TellsNextEdge records frame edge
+same_edge records frame None some tells other =
+    λ e is. let l = tells e is in omega (arith, some)
+same_edge records frame (Some edge) some tells other =
+    record {
+      is_edge = tells.is_edge;
+      after =
+          let m = tells.after in
+          elim (cases_eq edge frame) [
+            | inl e ↦ absurd (other (ap Some e))
+            | inr ne ↦ omega (arith, some)
+          ];
+      least = λ e is l. tells.least e is (omega arith);
+    }

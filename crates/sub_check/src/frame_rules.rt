@@ -1,8 +1,9 @@
 //! The rules of frames: their order, the frames between two PES packets, and what is due at each
 //! frame's end.
 ghost use Rattle.std.specs.Prelude.{◌≡◌, ℕ, ◌+◌, ◌-◌, ◌<◌, ◌≤◌, ◌↔◌, length, if◌then◌else◌};
-ghost use Rattle.std.specs.Prelude.{◌*◌, ◌≢◌, MatchResult, OnOk, IfOk, IfErr, IsTrue, IsFalse};
+ghost use Rattle.std.specs.Prelude.{◌*◌, MatchResult, OnOk, IfOk, IfErr, IsTrue};
 ghost use Rattle.std.specs.Prelude.{Some, nat_lt};
+ghost use Rattle.stl_rows.specs.DuePage.{TellsNextEdge};
 ghost use Rattle.sub_check.specs.Checking.{IsRuleFault};
 ghost use Rattle.sub_check.specs.FirstBroken.{NamesFirst, packet_fault};
 ghost use Rattle.sub_check.specs.FrameRules.{Task, frame_at};
@@ -24,6 +25,8 @@ pub(crate) struct Checker {
     pub listener: Listener,
     /// The page that is due.
     pub due: Page,
+    /// The next frame at which another page may be due.
+    pub edge: Option<u32>,
     /// The frame of the last PES packet.
     pub frame: u32,
     /// The frame of the last header of the page.
@@ -40,8 +43,10 @@ impl Checker {
     fn advance(&mut self, programme: &Programme, f: u32)
         requires some { 0 < f }
         requires due { self.old.due ≡ due_page programme.now (f - 1) }
+        requires edge { TellsNextEdge programme.now.records (f - 1) self.old.edge }
         requires count { self.old.listener.wrong ≡ differing self.old.listener.page self.old.due }
         ensures due { self.new.due ≡ due_page programme.now f }
+        ensures edge { TellsNextEdge programme.now.records f self.new.edge }
         ensures count { self.new.listener.wrong ≡ differing self.new.listener.page self.new.due }
         ensures frame { self.new.frame ≡ self.old.frame }
         ensures header_at { self.new.header_at ≡ self.old.header_at }
@@ -49,8 +54,9 @@ impl Checker {
         ensures listener { self.new.listener
             ≡ record self.old.listener { wrong = self.new.listener.wrong } }
     {
-        if is_edge(programme, f) {
+        if is_at(self.edge, f) {
             self.due = programme.due_page(f);
+            self.edge = programme.next_edge(f);
             self.listener.wrong = self.listener.page.differing_cells(&self.due);
         }
     }
@@ -60,12 +66,14 @@ impl Checker {
         requires header { self.old.header_at ≤ self.old.frame }
         requires later { self.old.frame < to }
         requires due { self.old.due ≡ due_page programme.now self.old.frame }
+        requires edge { TellsNextEdge programme.now.records self.old.frame self.old.edge }
         requires count { self.old.listener.wrong ≡ differing self.old.listener.page self.old.due }
         ensures frame { self.new.frame ≡ self.old.frame }
         ensures header_at { self.new.header_at ≡ self.old.header_at }
         ensures headers { self.new.headers ≡ self.old.headers }
         ensures own { IfErr result IsRuleFault }
         ensures due { OnOk result (self.new.due ≡ due_page programme.now (to - 1)) }
+        ensures edge { OnOk result (TellsNextEdge programme.now.records (to - 1) self.new.edge) }
         ensures count { OnOk result
             (self.new.listener.wrong ≡ differing self.new.listener.page self.new.due) }
         ensures exact { (g : Task) (frames : Transmission) (n : ℕ)
@@ -103,12 +111,15 @@ impl Checker {
         requires later { self.old.frame < frame }
         requires headers { self.old.headers ≤ 35 * self.old.frame + 35 }
         requires due { self.old.due ≡ due_page programme.now (frame - 1) }
+        requires edge { TellsNextEdge programme.now.records (frame - 1) self.old.edge }
         requires count { self.old.listener.wrong ≡ differing self.old.listener.page self.old.due }
         ensures own { IfErr result IsRuleFault }
         ensures header { OnOk result (self.new.header_at ≤ self.new.frame) }
         ensures frame { OnOk result (self.new.frame ≡ frame) }
         ensures headers { OnOk result (self.new.headers ≤ 35 * self.new.frame + 35) }
         ensures due { OnOk result (self.new.due ≡ due_page programme.now self.new.frame) }
+        ensures edge { OnOk result
+            (TellsNextEdge programme.now.records self.new.frame self.new.edge) }
         ensures count { OnOk result
             (self.new.listener.wrong ≡ differing self.new.listener.page self.new.due) }
         ensures exact { (g : Task) (frames : Transmission) (n : ℕ)
@@ -148,12 +159,15 @@ impl Checker {
         requires header { self.old.header_at ≤ self.old.frame }
         requires headers { self.old.headers ≤ 35 * self.old.frame + 35 }
         requires due { self.old.due ≡ due_page programme.now self.old.frame }
+        requires edge { TellsNextEdge programme.now.records self.old.frame self.old.edge }
         requires count { self.old.listener.wrong ≡ differing self.old.listener.page self.old.due }
         ensures own { IfErr result IsRuleFault }
         ensures header { OnOk result (self.new.header_at ≤ self.new.frame) }
         ensures later { OnOk result (self.old.frame ≤ self.new.frame) }
         ensures headers { OnOk result (self.new.headers ≤ 35 * self.new.frame + 35) }
         ensures due { OnOk result (self.new.due ≡ due_page programme.now self.new.frame) }
+        ensures edge { OnOk result
+            (TellsNextEdge programme.now.records self.new.frame self.new.edge) }
         ensures count { OnOk result
             (self.new.listener.wrong ≡ differing self.new.listener.page self.new.due) }
         ensures exact { (g : Task) (frames : Transmission)
@@ -183,6 +197,8 @@ impl Checker {
         ensures frame { IfOk result (λ checker. checker.frame ≡ frame) }
         ensures headers { IfOk result (λ checker. checker.headers ≤ 35 * checker.frame + 35) }
         ensures due { IfOk result (λ checker. checker.due ≡ due_page programme.now checker.frame) }
+        ensures edge { IfOk result (λ checker.
+            TellsNextEdge programme.now.records checker.frame checker.edge) }
         ensures count { IfOk result (λ checker.
             checker.listener.wrong ≡ differing checker.listener.page checker.due) }
         ensures exact { (g : Task) (frames : Transmission)
@@ -210,6 +226,7 @@ impl Checker {
         Ok(Checker {
             listener,
             due,
+            edge: programme.next_edge(frame),
             frame,
             header_at: frame,
             headers: u64::from(headers),
@@ -217,18 +234,9 @@ impl Checker {
     }
 }
 
-// Whether a subtitle begins or ends at a frame.
-fn is_edge(programme: &Programme, frame: u32) -> bool
-    requires { 0 < frame }
-    ensures { IsFalse result
-        → due_page programme.now frame ≡ due_page programme.now (frame - 1) }
-{
-    is_at(programme.next_edge(frame - 1), frame)
-}
-
 // Whether the edge is this frame.
 fn is_at(edge: Option<u32>, frame: u32) -> bool
-    ensures { IsFalse result → edge ≢ Some frame }
+    ensures { IsTrue result ↔ (edge ≡ Some frame) }
 {
     match edge {
         Some(edge) => edge == frame,

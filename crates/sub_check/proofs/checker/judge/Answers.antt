@@ -59,6 +59,7 @@ loop-pes-init g c =
       header = c.in_ok-checker.ensures.header;
       headers = c.in_ok-checker.ensures.headers;
       due = c.in_ok-checker.ensures.due;
+      edge = c.in_ok-checker.ensures.edge;
       count = c.in_ok-checker.ensures.count;
       reading =
           c.in_ok-read.ensures.progress c.in-Some.first
@@ -139,6 +140,7 @@ loop-pes-preserved g c =
       header = c.in_ok-go_on.ensures.header;
       headers = c.in_ok-go_on.ensures.headers;
       due = c.in_ok-go_on.ensures.due;
+      edge = c.in_ok-go_on.ensures.edge;
       count = c.in_ok-go_on.ensures.count;
       reading =
           c.in_ok-more.ensures.progress c.in-Some-more.frame

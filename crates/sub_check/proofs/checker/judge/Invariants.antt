@@ -1,6 +1,7 @@
 -- After so many PES packets, what is kept is what they say, and none of them broke a rule.
 use Rattle.std.proofs.Common.{◌≡◌, ◌+◌, ◌*◌, ◌≤◌, ℕ, List, Option, Some}
 use Rattle.ttx_page.specs.Differing.{differing}
+use Rattle.stl_rows.specs.DuePage.{TellsNextEdge}
 use Rattle.ttx_pes.specs.declared.progress.Progress.TheVariants.{Reading}
 use Rattle.sub_check.specs.Checking.{Reaches}
 use Rattle.sub_check.specs.FrameRules.{Unread, task_of}
@@ -15,6 +16,7 @@ invariant-loop-pes g l = record {
   header : l.checker.header_at ≤ l.checker.frame;
   headers : l.checker.headers ≤ 35 * l.checker.frame + 35;
   due : l.checker.due ≡ due_page l.programme l.checker.frame;
+  edge : TellsNextEdge l.programme.records l.checker.frame l.checker.edge;
   count : l.checker.listener.wrong ≡ differing l.checker.listener.page l.checker.due;
   reading : l.reader ≡ Reading l.pes;
   failures : g.S.Source.failure_count l.source ≡ g.S.Source.failure_count l.fn.source;

@@ -1,5 +1,6 @@
-use Rattle.std.proofs.Common.{ℕ, ◌≤◌, inl, inr, sym, ap, ◌∙◌, subst, arith}
+use Rattle.std.proofs.Common.{refl, ℕ, ◌≤◌, inl, inr, sym, ap, ◌∙◌, subst, arith}
 use Rattle.std.proofs.lemmas.Bool.{cases_eq}
+use Rattle.stl_rows.specs.DuePage.{TellsNextEdge}
 use Rattle.sub_check.specs.FrameRules.{frame_at, joined, Shows, IsCovered}
 use Rattle.sub_check.specs.Good.{due_page}
 use Rattle.sub_check.specs.FirstBroken.{IsInGap}
@@ -11,6 +12,24 @@ use Rattle.sub_check.proofs.ShownLemmas.{shows_from, shows_not, covered_from, co
 use Rattle.sub_check.proofs.ShownLemmas.{Knows-counted}
 use Rattle.sub_check.proofs.ShownLemmas.{cells_above}
 use Rattle.sub_check.proofs.frame_rules.Checker.cross_gap.Goals as goal
+
+pub loop-f-init : goal.loop-f-init
+loop-f-init c = record {
+  frame_same = refl;
+  header_same = refl;
+  headers_same = refl;
+  watched_same = refl;
+  due = c.requires.due ∙ ap (due_page c.args.programme.now) (omega arith);
+  edge = subst (λ x. TellsNextEdge c.args.programme.now.records x c.args.self.now.edge)
+      (omega arith) c.requires.edge;
+  count = c.requires.count;
+  fine = λ g frames n task follows there to_is.
+      let frame = follows.frame_is in (
+        follows.knows,
+        λ d row column l t. absurd (omega (arith, t.0.2)),
+        λ d l t. absurd (omega (arith, t.2)),
+      );
+}
 
 pub returns-in-Some-clause-exact : goal.returns-in-Some-clause-exact
 returns-in-Some-clause-exact c g frames n task follows there to_is order =
@@ -71,6 +90,8 @@ loop-f-preserved c =
       headers_same = c.advance.ensures.headers ∙ c.loop-f.invariant.headers_same;
       watched_same = kept ∙ c.loop-f.invariant.watched_same;
       due = c.advance.ensures.due ∙ ap (due_page p) (omega arith);
+      edge = subst (λ x. TellsNextEdge p.records x c.advance.new.self.edge) (omega arith)
+          c.advance.ensures.edge;
       count = c.advance.ensures.count;
       fine = λ g frames n task follows there to_is.
           let fine = c.loop-f.invariant.fine g frames n task follows there to_is in
@@ -119,3 +140,8 @@ returns-clause-exact c g frames n task follows there to_is order =
         past = follows.past;
       },
     )
+
+pub returns-clause-edge : goal.returns-clause-edge
+returns-clause-edge c =
+    subst (λ x. TellsNextEdge c.args.programme.now.records x c.loop-f.self.edge) (omega arith)
+    c.loop-f.invariant.edge

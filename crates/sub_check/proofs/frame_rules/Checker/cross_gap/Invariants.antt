@@ -1,4 +1,5 @@
 use Rattle.std.proofs.Common.{◌≡◌, ℕ, ◌<◌, length, ◌-◌}
+use Rattle.stl_rows.specs.DuePage.{TellsNextEdge}
 use Rattle.sub_check.specs.Transmission.{Transmission}
 use Rattle.sub_check.specs.Listening.{Knows}
 use Rattle.sub_check.specs.FrameRules.{Task, frame_at, joined}
@@ -15,6 +16,7 @@ invariant-loop-f l = record {
   headers_same : l.self.headers ≡ l.initial.self.headers;
   watched_same : l.self.listener.watched ≡ l.initial.self.listener.watched;
   due : l.self.due ≡ due_page l.programme (l.f - 1);
+  edge : TellsNextEdge l.programme.records (l.f - 1) l.self.edge;
   count : l.self.listener.wrong ≡ differing l.self.listener.page l.self.due;
   fine : (g : Task) (frames : Transmission) (n : ℕ) → IsTaskOf g l.programme l.every
       → Follows g frames n l.initial.self → n < length frames → frame_at frames n ≡ l.to
