@@ -10,7 +10,7 @@ use ttx_packet::{Packet, PageId};
 ///
 /// Its law is the clause `step` of `hear`: each packet takes it one step of the receiver relation,
 /// `specs/Receiver`. What the relation leaves open, a cell whose byte has even parity, a receiver
-/// chooses; `Keep` and `Blank` are the two ends.
+/// chooses; `Keep` and `Blank` are the two ends. `DropRow` is none of them: it drops a whole row.
 pub trait Receiver: Sized {
     /// The page that the receiver is tuned to.
     ghost tuned_to: { Self → PageIdValue };
