@@ -4,3 +4,4 @@ pub mod Lines
 pub mod Listing
 pub mod LoadLines
 pub mod Listening
+pub mod Writing

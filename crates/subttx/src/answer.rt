@@ -5,6 +5,7 @@
 
 mod packet;
 mod packets;
+mod schedule;
 mod show;
 
 ghost use Rattle.std.specs.Prelude.{◌≡◌, ◌≢◌, ◌+◌, ◌<◌, ◌≤◌, false};

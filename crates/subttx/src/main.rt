@@ -15,6 +15,7 @@ mod request;
 mod status;
 #[cfg(test)]
 mod tests;
+mod writing;
 
 ghost use Rattle.std.specs.Prelude.{◌<◌};
 
