@@ -5,6 +5,9 @@ ghost use Rattle.ttx_page.specs.Differing.{differing};
 ghost use Rattle.ttx_page.specs.Page.{blank, cell, row_at, AreCodes, DiffersFirst, IsCell, IsCode};
 ghost use Rattle.ttx_page.specs.Page.{IsPage, IsRow};
 
+mod lanes;
+
+use self::lanes::differing;
 use crate::differing::differing_columns;
 use std::marker::Model;
 
@@ -107,9 +110,17 @@ fn first_column(a: &[u8; 40], b: &[u8; 40]) -> Option<u8>
         × (slice_index a.now c ≢ slice_index b.now c)
         × ((k : ℕ) → k < c → slice_index a.now k ≡ slice_index b.now k)) }
 {
-    for i in 0..40 {
-        if a[i] != b[i] {
-            return Some(i as u8);
+    let (a_blocks, _) = a.as_chunks::<16>();
+    let (b_blocks, _) = b.as_chunks::<16>();
+    for i in 0..2usize {
+        let mask = differing(&a_blocks[i], &b_blocks[i]);
+        if mask != 0 {
+            return Some((16 * i + mask.trailing_zeros() as usize) as u8);
+        }
+    }
+    for column in 32..40usize {
+        if a[column] != b[column] {
+            return Some(column as u8);
         }
     }
     None
@@ -138,5 +149,49 @@ mod tests {
         page.set_row(1, &[0x7F; 40]);
         assert_eq!(rt; blank.first_difference(&page), Some((1, 0)));
         assert!(rt; page != blank);
+    }
+
+    // The plain form of `first_difference`, cell by cell.
+    fn plain_first_difference(a: &Page, b: &Page) -> Option<(u8, u8)> {
+        for row in 1..25u8 {
+            for column in 0..40u8 {
+                if a.cell(row, column) != b.cell(row, column) {
+                    return Some((row, column));
+                }
+            }
+        }
+        None
+    }
+
+    // The page with another code in a cell.
+    fn with_cell(page: &Page, row: u8, column: u8) -> Page
+        requires { IsCell row column }
+    {
+        let mut codes = *page.row(row);
+        codes[column as usize] = 0x0D;
+        let mut changed = *page;
+        changed.set_row(row, &codes);
+        changed
+    }
+
+    #[test]
+    fn finds_the_first_difference_as_the_plain_form(rt: HostRuntime) {
+        let blank = Page::blank();
+        for row in 1..25u8 {
+            for column in 0..40u8 {
+                let page = with_cell(&blank, row, column);
+                let found = page.first_difference(&blank);
+                assert_eq!(rt; found, Some((row, column)));
+                assert_eq!(rt; found, plain_first_difference(&page, &blank));
+                let second = with_cell(&page, 12, 20);
+                let found = second.first_difference(&blank);
+                assert_eq!(rt;
+                    found,
+                    plain_first_difference(&second, &blank),
+                    "{row} {column}"
+                );
+                assert_eq!(rt; blank.first_difference(&second), found);
+            }
+        }
     }
 }

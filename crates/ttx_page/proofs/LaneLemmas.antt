@@ -1,0 +1,144 @@
+-- Rows compared in blocks of 16 cells: mask_compared, blocks_same, first_of_blocks.
+use Rattle.std.proofs.Common.{◌≡◌, ◌≢◌, ℕ, ◌+◌, ◌<◌, ◌≤◌, ◌^◌, ◌%◌, Bool, true, false, not}
+use Rattle.std.proofs.Common.{List, [], ◌∷◌, map, length, get_or, refl, sym, ap, ap₂, ◌∙◌, arith}
+use Rattle.std.proofs.Common.{subst, cond, nat_eq, ◌-◌, w8, w16, eqb-true, eq-eqb, take_all, inl, inr}
+use Rattle.std.proofs.Common.{get_or-set_same, get_or-set_other, set}
+use Rattle.std.proofs.lemmas.Bool.{cases_eq}
+use Rattle.std.proofs.lemmas.Nat.Bits.{bit_at-trailing_zeros}
+use Rattle.std.proofs.lemmas.Simd.{length-zip2, get_or-zip2, length-chunk, get_or-chunk}
+use Rattle.std.proofs.lemmas.Simd.{mask_l-lt, mask_l-mod, tops_compared, trailing_mask_l}
+use Rattle.std.proofs.lemmas.Simd.{none_from_empty_mask, run_in_chunk_stops, run_in_chunk_fails}
+use Rattle.std.specs.List.{prefix_len}
+use lib.Count.{count_trailing_zeros}
+use lib.Lanes.{zip2, mask_l, top, chunk}
+use Rattle.ttx_page.specs.Lanes.{differ, differing_mask}
+use Rattle.ttx_page.specs.Page.{AreCodes}
+
+-- The mask that the comparison of the lanes gives. For `differing`.
+pub mask_compared : (a b : List ℕ)
+    → length a ≡ 16
+    → length b ≡ 16
+    → mask_l (map (top 7) (zip2 (λ x y. cond (differ x y) (2 ^ 8 - 1) 0) a b)) % 2 ^ 64
+    ≡ differing_mask a b
+mask_compared a b p q =
+    let size : length (zip2 differ a b) ≤ 64 =
+    omega (arith, length-zip2 differ a b (p ∙ sym q)) in
+    ap (λ m. mask_l m % 2 ^ 64) (tops_compared w8 differ a b) ∙ mask_l-mod _ 64 size
+
+-- What does not differ is equal, and the other way round.
+same_from_not_differ : (x y : ℕ) → differ x y ≡ false → x ≡ y
+same_from_not_differ x y e = go (nat_eq x y) refl e
+  where
+    go : (t : Bool) → nat_eq x y ≡ t → not t ≡ false → x ≡ y
+    go true p e = eqb-true x y p
+    go false p e = absurd cc
+
+other_from_differ : (x y : ℕ) → differ x y ≡ true → x ≢ y
+other_from_differ x y e same = let t : nat_eq x y ≡ true = eq-eqb x y same in
+    absurd (cc)
+
+-- A list of tests, each as it is.
+map_same : (v : List Bool) → v ≡ map (λ x. x) v
+map_same [] = refl
+map_same (x ∷ xs) = ap (λ l. x ∷ l) (map_same xs)
+
+-- A list is its whole chunk.
+chunk_whole : (v : List Bool) → length v ≡ 16 → chunk 0 16 v ≡ v
+chunk_whole v e = take_all 16 v (omega (arith, e))
+
+-- The tests of two blocks are those of the cells.
+tested : (xs ys : List ℕ) (a k : ℕ)
+    → a + 16 ≤ length xs
+    → a + 16 ≤ length ys
+    → k < 16
+    → get_or (zip2 differ (chunk a 16 xs) (chunk a 16 ys)) k false
+    ≡ differ (get_or xs (a + k) 0) (get_or ys (a + k) 0)
+tested xs ys a k p q l =
+    get_or-zip2 differ (chunk a 16 xs) (chunk a 16 ys) k 0 0 false
+    (omega (arith, length-chunk a 16 xs p)) (omega (arith, length-chunk a 16 ys q))
+    ∙ ap₂ differ (get_or-chunk a 16 xs k 0 l) (get_or-chunk a 16 ys k 0 l)
+
+-- Two blocks with an empty mask have equal cells. For `first_column`.
+pub blocks_same : (xs ys : List ℕ) (a : ℕ)
+    → a + 16 ≤ length xs
+    → a + 16 ≤ length ys
+    → differing_mask (chunk a 16 xs) (chunk a 16 ys) ≡ 0
+    → (k : ℕ)
+    → k < 16
+    → get_or xs (a + k) 0 ≡ get_or ys (a + k) 0
+blocks_same xs ys a p q e k l =
+    let ms = zip2 differ (chunk a 16 xs) (chunk a 16 ys) in
+    let size : length ms ≡ 16 =
+    length-zip2 differ (chunk a 16 xs) (chunk a 16 ys)
+    (length-chunk a 16 xs p ∙ sym (length-chunk a 16 ys q))
+    ∙ length-chunk a 16 xs p in
+    let empty : mask_l (map (λ x. x) (chunk 0 16 ms)) ≡ 0 =
+    ap mask_l (sym (map_same (chunk 0 16 ms)) ∙ chunk_whole ms size) ∙ e in
+    same_from_not_differ _ _
+    (sym (tested xs ys a k p q l)
+    ∙ none_from_empty_mask (λ x. x) ms 0 16 false (omega (arith, size)) empty k (omega arith) l)
+
+-- The lowest bit of the mask of two blocks: the first cell in which they differ.
+pub record IsFirstOfBlocks (xs ys : List ℕ) (a place : ℕ) : Type 0 where
+  pub within : place < 16
+  pub other : get_or xs (a + place) 0 ≢ get_or ys (a + place) 0
+  pub before : (k : ℕ) → k < place → get_or xs (a + k) 0 ≡ get_or ys (a + k) 0
+
+-- It tells that cell. For `first_column`.
+pub first_of_blocks : (xs ys : List ℕ) (a m : ℕ)
+    → a + 16 ≤ length xs
+    → a + 16 ≤ length ys
+    → m ≡ differing_mask (chunk a 16 xs) (chunk a 16 ys)
+    → (m ≡ 0 → ⊥)
+    → IsFirstOfBlocks xs ys a (count_trailing_zeros 64 m)
+first_of_blocks xs ys a m p q e some =
+    let ms = zip2 differ (chunk a 16 xs) (chunk a 16 ys) in
+    let size : length ms ≡ 16 =
+    length-zip2 differ (chunk a 16 xs) (chunk a 16 ys)
+    (length-chunk a 16 xs p ∙ sym (length-chunk a 16 ys q))
+    ∙ length-chunk a 16 xs p in
+    let plain : m ≡ mask_l (map (λ x. x) ms) = e ∙ ap mask_l (map_same ms) in
+    let positive : 0 < mask_l (map (λ x. x) ms) =
+    subst (λ (x : ℕ). 0 < x) plain (omega arith) in
+    let whole : prefix_len (λ x. not x) ms ≡ prefix_len (λ x. not x) (chunk 0 16 ms) =
+    ap (prefix_len (λ x. not x)) (sym (chunk_whole ms size)) in
+    let counted : count_trailing_zeros 64 m ≡ prefix_len (λ x. not x) ms =
+    ap (count_trailing_zeros 64) plain
+    ∙ trailing_mask_l (λ x. x) 64 ms (omega (arith, size)) positive in
+    let narrow : count_trailing_zeros 16 (mask_l (map (λ x. x) ms)) ≡ prefix_len (λ x. not x) ms =
+    trailing_mask_l (λ x. x) 16 ms (omega (arith, size)) positive in
+    let below : mask_l ms < 2 ^ length ms = mask_l-lt ms in
+    let small : mask_l ms < 2 ^ 16 = rw size at below in
+    let same : mask_l ms ≡ mask_l (map (λ x. x) ms) = ap mask_l (map_same ms) in
+    let least : mask_l (map (λ x. x) ms) < 2 ^ 16 = subst (λ (x : ℕ). x < 2 ^ 16) same small in
+    let lowest : count_trailing_zeros 16 (mask_l (map (λ x. x) ms)) < 16 =
+    (bit_at-trailing_zeros w16 (mask_l (map (λ x. x) ms)) positive least).0 in
+    let within : count_trailing_zeros 64 m < 16 = omega arith in
+    let start : count_trailing_zeros 64 m ≡ 0 + count_trailing_zeros 64 m = omega arith in
+    let room : 0 + 16 ≤ length ms = omega (arith, size) in
+    record {
+      within = within;
+      other = other_from_differ _ _
+          (sym (tested xs ys a (count_trailing_zeros 64 m) p q within)
+          ∙ ap (λ n. get_or ms n false) start
+          ∙ run_in_chunk_stops (λ x. x) ms 0 16 (count_trailing_zeros 64 m) false room
+          (counted ∙ whole) within);
+      before = λ k l. same_from_not_differ _ _
+          (sym (tested xs ys a k p q (omega (arith, within)))
+          ∙ run_in_chunk_fails (λ x. x) ms 0 16 (count_trailing_zeros 64 m) false room
+          (counted ∙ whole) k (omega arith) (omega (arith, l)));
+    }
+
+-- Codes with another code in one cell are codes. For tests.
+pub codes_set : (codes : List ℕ) (i code : ℕ)
+    → i < length codes
+    → AreCodes codes
+    → code < 128
+    → AreCodes (set codes i code)
+codes_set codes i code within are small k =
+    elim (cases_eq k i) [
+      | inl same ↦ subst (λ (n : ℕ). n < 128)
+          (sym (ap (λ j. get_or (set codes i code) j 0) same ∙ get_or-set_same codes i code 0 within))
+          small
+      | inr other ↦ subst (λ (n : ℕ). n < 128) (sym (get_or-set_other codes i k code 0 other)) (are k)
+    ]
