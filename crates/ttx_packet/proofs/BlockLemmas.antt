@@ -1,7 +1,9 @@
 -- Lists gone over in blocks: block_at, what a store of a block leaves (store_block) and of a byte
 -- (store_byte), and the whole list at the end (stored_whole).
-use Rattle.std.proofs.Common.{◌≡◌, ℕ, zero, suc, ◌+◌, ◌*◌, ◌<◌, ◌≤◌, List, [], ◌∷◌, ◌++◌, map, length}
-use Rattle.std.proofs.Common.{get_or, take, drop, sym, ap, ap₂, ◌∙◌, take_all, arith, subst, inl, inr}
+use Rattle.std.proofs.Common.{◌≡◌, ℕ, zero, suc, ◌+◌, ◌*◌, ◌<◌, ◌≤◌, List, [], ◌∷◌, ◌++◌, map}
+use Rattle.std.proofs.Common.{length}
+use Rattle.std.proofs.Common.{get_or, take, drop, sym, ap, ap₂, ◌∙◌, take_all, arith, subst, inl}
+use Rattle.std.proofs.Common.{inr}
 use Rattle.std.proofs.lemmas.List.{map-append, take_more, take_more_set, drop-drop, get_or_past}
 use Rattle.std.proofs.lemmas.Bool.{cases_lt}
 use Rattle.std.proofs.lemmas.Simd.{length-chunk, get_or-chunk}

@@ -1,12 +1,17 @@
 -- What is read of the packets that are made: law_of_header_packet, law_of_row_packet.
-use Rattle.std.proofs.Common.{◌≡◌, ℕ, [], zero, suc, ◌+◌, ◌*◌, ◌/◌, ◌%◌, ◌<◌, ◌≤◌, Bool, true, false, ◌==◌, List, ◌∷◌, ◌++◌, length, map, replicate, Option, Some, None, slice_index, refl, sym, ap, ◌∙◌, subst, arith, eq-eqb, ne_eqb, IsTrue}
+use Rattle.std.proofs.Common.{◌≡◌, ℕ, [], zero, suc, ◌+◌, ◌*◌, ◌/◌, ◌%◌, ◌<◌, ◌≤◌, Bool, true}
+use Rattle.std.proofs.Common.{false, ◌==◌, List, ◌∷◌, ◌++◌, length, map, replicate, Option, Some}
+use Rattle.std.proofs.Common.{None, slice_index, refl, sym, ap, ◌∙◌, subst, arith, eq-eqb, ne_eqb}
+use Rattle.std.proofs.Common.{IsTrue}
 use Rattle.std.proofs.lemmas.List.{append-nil, get_or-map, length-map}
 use Rattle.std.proofs.lemmas.Option.{same_Some}
 use Rattle.ttx_packet.specs.declared.header.Header.{Header}
 use Rattle.ttx_packet.specs.Hamming84.{IsCodeWord, code_word}
 use Rattle.ttx_packet.specs.Parity.{is_odd, code_of, odd_byte}
 use Rattle.ttx_packet.specs.PacketAddress.{PacketAddress, address, address_words}
-use Rattle.ttx_packet.specs.PageHeader.{bit, nibble, coded_header, header, header_numbers, header_packet, IsHeader, c4, c5, c6, c7, c8, c9, c10, c11, c12, c13, c14}
+use Rattle.ttx_packet.specs.PageHeader.{bit, nibble, coded_header, header, header_numbers}
+use Rattle.ttx_packet.specs.PageHeader.{header_packet, IsHeader, c4, c5, c6, c7, c8, c9, c10, c11}
+use Rattle.ttx_packet.specs.PageHeader.{c12, c13, c14}
 use Rattle.ttx_packet.specs.RowPacket.{row_packet}
 use Rattle.ttx_packet.specs.Laws.{LawOfHeaderPacket, LawOfRowPacket}
 use Rattle.ttx_packet.proofs.Hamming84Lemmas.{decoded-code_word, code_word_is_exact}

@@ -1,6 +1,7 @@
 -- The first byte of even parity: first_even_byte-at, first_even_byte-none, and the same of a
 -- packet's data bytes, as Packet::first_even goes over them.
-use Rattle.std.proofs.Common.{◌≡◌, ℕ, ◌+◌, ◌<◌, List, Option, Some, None, IsNone, ◌↔◌, true, false, not, slice_index, ap, sym, refl, ◌∙◌, arith, drop}
+use Rattle.std.proofs.Common.{◌≡◌, ℕ, ◌+◌, ◌<◌, List, Option, Some, None, IsNone, ◌↔◌, true, false}
+use Rattle.std.proofs.Common.{not, slice_index, ap, sym, refl, ◌∙◌, arith, drop}
 use Rattle.std.proofs.lemmas.List.{get_or-drop}
 use Rattle.ttx_packet.specs.Parity.{is_odd}
 use Rattle.ttx_packet.specs.RowPacket.{text_byte, first_even_byte, HasOddText}

@@ -1,7 +1,8 @@
 -- Rows compared in blocks of 16 cells: mask_compared, blocks_same, first_of_blocks.
 use Rattle.std.proofs.Common.{◌≡◌, ◌≢◌, ℕ, ◌+◌, ◌<◌, ◌≤◌, ◌^◌, ◌%◌, Bool, true, false, not}
 use Rattle.std.proofs.Common.{List, [], ◌∷◌, map, length, get_or, refl, sym, ap, ap₂, ◌∙◌, arith}
-use Rattle.std.proofs.Common.{subst, cond, nat_eq, ◌-◌, w8, w16, eqb-true, eq-eqb, take_all, inl, inr}
+use Rattle.std.proofs.Common.{subst, cond, nat_eq, ◌-◌, w8, w16, eqb-true, eq-eqb, take_all, inl}
+use Rattle.std.proofs.Common.{inr}
 use Rattle.std.proofs.Common.{get_or-set_same, get_or-set_other, set}
 use Rattle.std.proofs.lemmas.Bool.{cases_eq}
 use Rattle.std.proofs.lemmas.Nat.Bits.{bit_at-trailing_zeros}
@@ -138,7 +139,9 @@ pub codes_set : (codes : List ℕ) (i code : ℕ)
 codes_set codes i code within are small k =
     elim (cases_eq k i) [
       | inl same ↦ subst (λ (n : ℕ). n < 128)
-          (sym (ap (λ j. get_or (set codes i code) j 0) same ∙ get_or-set_same codes i code 0 within))
+          (sym (ap (λ j. get_or (set codes i code) j 0) same
+          ∙ get_or-set_same codes i code 0 within))
           small
-      | inr other ↦ subst (λ (n : ℕ). n < 128) (sym (get_or-set_other codes i k code 0 other)) (are k)
+      | inr other ↦ subst (λ (n : ℕ). n < 128)
+          (sym (get_or-set_other codes i k code 0 other)) (are k)
     ]

@@ -21,7 +21,9 @@ loop-i-preserved c =
     let stored : c.copy_from_slice.new.self ≡ map mirror (chunk (16 * i) 16 xs) =
     c.copy_from_slice.ensures.after ∙ block in
     let long : length c.copy_from_slice.new.self ≡ 16 =
-    ap length stored ∙ length-map (chunk (16 * i) 16 xs) mirror ∙ length-chunk (16 * i) 16 xs room in
+    ap length stored
+    ∙ length-map (chunk (16 * i) 16 xs) mirror
+    ∙ length-chunk (16 * i) 16 xs room in
     let width : 16 * i + 16 - 16 * i ≡ 16 = omega arith in
     let fits : 16 * i + (16 * i + 16 - 16 * i) ≤ length c.loop-i.other =
     omega (arith, c.loop-i.invariant.size) in

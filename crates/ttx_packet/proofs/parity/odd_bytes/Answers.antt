@@ -6,7 +6,8 @@ use Rattle.std.proofs.lemmas.Simd.{length-chunk}
 use borrow.Rule.Slice.PartMut.{mid_of, put_mid, same_len_mid}
 use lib.Lanes.{chunk}
 use Rattle.ttx_packet.specs.Parity.{odd_byte}
-use Rattle.ttx_packet.proofs.BlockLemmas.{below_in_chunk, block_at, store_block, store_byte, stored_whole}
+use Rattle.ttx_packet.proofs.BlockLemmas.{below_in_chunk, block_at, store_block, store_byte}
+use Rattle.ttx_packet.proofs.BlockLemmas.{stored_whole}
 use Rattle.ttx_packet.proofs.parity.odd_bytes.Goals as goal
 
 pub odd_block-requires : goal.odd_block-requires
@@ -31,7 +32,9 @@ loop-i-preserved c =
     let stored : c.copy_from_slice.new.self ≡ map odd_byte (chunk (16 * i) 16 xs) =
     c.copy_from_slice.ensures.after ∙ block in
     let long : length c.copy_from_slice.new.self ≡ 16 =
-    ap length stored ∙ length-map (chunk (16 * i) 16 xs) odd_byte ∙ length-chunk (16 * i) 16 xs room in
+    ap length stored
+    ∙ length-map (chunk (16 * i) 16 xs) odd_byte
+    ∙ length-chunk (16 * i) 16 xs room in
     let width : 16 * i + 16 - 16 * i ≡ 16 = omega arith in
     let fits : 16 * i + (16 * i + 16 - 16 * i) ≤ length c.loop-i.bytes =
     omega (arith, c.loop-i.invariant.size) in
