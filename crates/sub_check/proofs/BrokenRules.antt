@@ -21,7 +21,7 @@ use Rattle.stl_rows.specs.DrawnPage.{drawn, page_of, line_fault_kinds}
 use Rattle.stl_rows.specs.DuePage.{due}
 use Rattle.stl_rows.specs.Line.{is_boxed, is_double, prepared, row_of}
 use Rattle.sub_check.specs.Transmission.{SentFrame, Transmission}
-use Rattle.sub_check.specs.Good.{due_page}
+use Rattle.sub_plan.specs.Schedule.{due_in}
 use Rattle.sub_check.specs.Rules.{Rule, IsKept}
 use Rattle.sub_check.specs.Rules.Rule.{Frames, ExactWords, OneMode, SubtitleControl}
 use Rattle.sub_check.specs.Rules.Rule.{CleanSpans, RepeatBound, DuePages}
@@ -78,7 +78,7 @@ early_end_tests RepeatBound = refl
 early_end_tests DuePages = refl
 
 -- The subtitle without text has a blank page.
-early_end_due : due_page (one_subtitle []) 900000 ≡ blank
+early_end_due : due_in (one_subtitle []) 900000 ≡ blank
 unfolding due drawn page_of row_of line_fault_kinds prepared is_boxed is_double blank blank_row
 early_end_due = refl
 
@@ -97,7 +97,7 @@ early_end_others DuePages d =
     blank_tested (one_subtitle []) early_end
     (λ f l m.
     let last : f ≡ 900000 = omega arith in
-    ap (due_page (one_subtitle [])) last ∙ early_end_due)
+    ap (due_in (one_subtitle [])) last ∙ early_end_due)
     (early_end_tests DuePages)
 
 -- The TCO is 900001, the last frame 900000.

@@ -22,7 +22,8 @@ use Rattle.ttx_page.specs.Shown.{shown}
 use Rattle.ttx_page.specs.Span.{holds_header, span}
 use Rattle.ttx_page.proofs.NoiseSteps.{cell-blank}
 use Rattle.sub_check.specs.Transmission.{Transmission, on_air_until, packets_of}
-use Rattle.sub_check.specs.Good.{due_page, IsCleanSpan, HoldsHeader, ShowsDuePages}
+use Rattle.sub_plan.specs.Schedule.{due_in}
+use Rattle.sub_check.specs.Good.{IsCleanSpan, HoldsHeader, ShowsDuePages}
 use Rattle.sub_check.specs.Rules.{Rule, IsKept}
 use Rattle.sub_check.specs.Rules.Rule.{Frames, ExactWords, OneMode, SubtitleControl}
 use Rattle.sub_check.specs.Rules.Rule.{CleanSpans, RepeatBound, DuePages}
@@ -325,7 +326,7 @@ example_of_wrong_content =
     breaks DuePages no_subtitles wrong_content (each 1)
     (λ content.
     let named : IsCell 1 0 = (omega arith, omega arith, omega arith) in
-    let due_there : cell (due_page no_subtitles 900000) 1 0 ≡ space =
+    let due_there : cell (due_in no_subtitles 900000) 1 0 ≡ space =
     ap (λ page. cell page 1 0) (none_due 900000) ∙ cell-blank 1 0 named in
     let same : 0x21 ≡ 0x20 =
     sym wrong_content_shown ∙ content 900000 1 0 (omega arith) (omega arith) named ∙ due_there in

@@ -1,6 +1,5 @@
 -- Each PES file is read as frames in some way, `readable`; so what the steps show decides the
--- answer of
--- `check`, `accepted_from`.
+-- answer of `check`, `accepted_from`.
 use Rattle.std.proofs.Common.{◌≡◌, ◌≢◌, ◌↔◌, ℕ, zero, suc, ◌+◌, ◌-◌, ◌/◌, ◌%◌, ◌^◌, ◌<◌, ◌⊎◌}
 use Rattle.std.proofs.Common.{inl, inr, List, []}
 use Rattle.std.proofs.Common.{◌∷◌, Option, Some, None, Result, Ok, Err, All, IsOk, IfOk, false}
@@ -134,7 +133,8 @@ accepted_from programme options bytes (Ok a) is h =
           subst (ReadsAs options.origin 0 bytes frames) ended reads,
           Good-from_frames programme options unread frames
               (Good-from_holds (task_of programme options unread) frames is.least accepts.holds)
-              (All-from_recursion (λ (s : SentFrame). All (λ packet. length packet ≡ 42) s.packets) frames
+              (All-from_recursion
+              (λ (s : SentFrame). All (λ packet. length packet ≡ 42) s.packets) frames
               accepts.whole),
         )
 accepted_from programme options bytes (Err f) is h = (

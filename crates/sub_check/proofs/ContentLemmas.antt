@@ -228,7 +228,8 @@ module _ (programme : ProgrammeValue) (options : OptionsValue) (unread : Option 
       (a, omega (arith, there.0)))
       (omega arith) (λ more. inl same)
       (λ j k l m r. first.earlier (AtPacket j k r)
-      (before_here j 2 (k ∷ number_of r ∷ []) (omega arith) (omega arith)) (omega (arith, there.0), m))
+      (before_here j 2 (k ∷ number_of r ∷ []) (omega arith) (omega arith))
+      (omega (arith, there.0), m))
       (first.earlier AtFirst first_before (omega (arith, there.0))) there.1 first.broken
     where
       before_here : (j q : ℕ) (rest : List ℕ) → j ≤ i → q < 3

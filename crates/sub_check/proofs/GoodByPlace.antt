@@ -35,6 +35,7 @@ pub record IsFair (w : Watched) (packets : List (List ℕ)) : Type 0 where
       packets
   pub plain : AllByRecursion (λ p. IsEnhancement w.page p → ⊥) packets
 
+-- The seven rules, by places of the list of frames.
 pub record GoodFrames (g : Task) (frames : Transmission) : Type 0 where
   -- 1: frames rise, there is one, and they hold all subtitles
   pub rising : (i : ℕ) → 0 < i → i < length frames → frame_at frames (i - 1) < frame_at frames i

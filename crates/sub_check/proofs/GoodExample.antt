@@ -25,7 +25,8 @@ use Rattle.stl_rows.specs.Line.{is_boxed, is_double, prepared, row_of}
 use Rattle.stl_rows.specs.Programme.{ProgrammeValue}
 use Rattle.stl_rows.specs.TextCode.{cell_of, cell_of_pair}
 use Rattle.sub_check.specs.Transmission.{Transmission, on_air_until}
-use Rattle.sub_check.specs.Good.{due_page, ShowsDuePages}
+use Rattle.sub_plan.specs.Schedule.{due_in}
+use Rattle.sub_check.specs.Good.{ShowsDuePages}
 use Rattle.sub_check.specs.Rules.{Rule, AreFrames, IsKept}
 use Rattle.sub_check.specs.Rules.Rule.{Frames, ExactWords, OneMode, SubtitleControl}
 use Rattle.sub_check.specs.Rules.Rule.{CleanSpans, RepeatBound, DuePages}
@@ -74,12 +75,12 @@ abbrev hi_page : Rows
 hi_page = replicate 21 (replicate 40 0x20) ++ (hi_codes ∷ []) ++ replicate 2 (replicate 40 0x20)
 
 -- It is due in the first frame.
-due_first : due_page hi 900000 ≡ hi_page
+due_first : due_in hi 900000 ≡ hi_page
 unfolding due drawn page_of row_of line_fault_kinds prepared is_boxed is_double cell_of cell_of_pair
 due_first = refl
 
 -- And the blank page in the second.
-due_second : due_page hi 900001 ≡ blank
+due_second : due_in hi 900001 ≡ blank
 unfolding due
 due_second = refl
 
@@ -151,7 +152,7 @@ shows_page (suc k) column named =
 shown_first :
     (row column : ℕ)
     → IsCell row column
-    → shown page_888 (on_air_until frames 900000) row column ≡ cell (due_page hi 900000) row column
+    → shown page_888 (on_air_until frames 900000) row column ≡ cell (due_in hi 900000) row column
 shown_first row column named =
     ap (λ ps. code_in ps row column) span_first
     ∙ ap (λ k. shows (is_row row k) column) kind_22
@@ -162,7 +163,7 @@ shown_first row column named =
 shown_second :
     (row column : ℕ)
     → IsCell row column
-    → shown page_888 (on_air_until frames 900001) row column ≡ cell (due_page hi 900001) row column
+    → shown page_888 (on_air_until frames 900001) row column ≡ cell (due_in hi 900001) row column
 shown_second row column named =
     ap (λ ps. code_in ps row column) span_second
     ∙ sym (cell-blank row column named)
@@ -172,7 +173,7 @@ shown_second row column named =
 content : ShowsDuePages hi page_888 frames
 content f row column l m named =
     let P : ℕ → Type 0 =
-    λ f. shown page_888 (on_air_until frames f) row column ≡ cell (due_page hi f) row column in
+    λ f. shown page_888 (on_air_until frames f) row column ≡ cell (due_in hi f) row column in
     elim (cases_lt f 900001) [
       | inl first ↦
           let is : f ≡ 900000 = omega arith in

@@ -33,12 +33,14 @@ use Rattle.sub_check.proofs.PlaceLemmas.{IsFair-none}
 
 -- ---- frames and packets between two of them
 
+-- Before the next number is up to this one.
 lt_more : (a f : ℕ) → nat_lt a (f + 1) ≡ nat_le a f
 lt_more a f = elim (cases_lt f a) [
   | inl above ↦ le-ltb a (f + 1) (omega arith) ∙ sym (lt-leb a f above)
   | inr below ↦ lt-ltb a (f + 1) (omega arith) ∙ sym (le-leb a f below)
 ]
 
+-- The packets between two frames are those of the frames in the range.
 sent-filter : (t : Transmission) (g f : ℕ)
     → packets_between t g (f + 1) ≡ flat_map (λ (s : SentFrame). s.packets)
     (filter (λ (s : SentFrame). nat_le g s.frame && nat_le s.frame f) t)
@@ -62,13 +64,16 @@ sent-filter (s ∷ ss) g f =
     go true false e ih = cc
     go false true e ih = cc
 
+-- So both wordings of what is on air are one.
 air-same : (t : Transmission) (g j f : ℕ) → on_air t g j f ≡ air t g j f
 air-same t g j f = ap (drop j) (sent-filter t g f)
 
+-- The first frame is frame 0 of the list.
 pub first-same : (t : Transmission) → first_frame t ≡ frame_at t 0
 first-same [] = refl
 first-same (s ∷ ss) = refl
 
+-- The last frame is the last of the list.
 pub last-same : (t : Transmission) → last_frame t ≡ end_frame t
 last-same [] = refl
 last-same (s ∷ []) = refl
@@ -78,11 +83,13 @@ last-same (s ∷ u ∷ us) = last-same (u ∷ us)
 
 -- ---- each packet
 
+-- What holds of two lists joined holds of each.
 Each-left : (P : List ℕ → Type 0) (xs ys : List (List ℕ)) → AllByRecursion P (xs ++ ys)
     → AllByRecursion P xs × AllByRecursion P ys
 Each-left P [] ys h = (tt, h)
 Each-left P (x ∷ xs) ys h = let r = Each-left P xs ys h.1 in ((h.0, r.0), r.1)
 
+-- What holds of all packets holds of those of each frame.
 Each-parts : (P : List ℕ → Type 0) (t : Transmission)
     → AllByRecursion P (flat_map (λ (s : SentFrame). s.packets) t)
     → AllByRecursion (λ (s : SentFrame). All P s.packets) t
@@ -91,9 +98,11 @@ Each-parts P (s ∷ ss) h = let r =
     Each-left P s.packets (flat_map (λ (x : SentFrame). x.packets) ss) h in
     (All-from_recursion P s.packets r.0, Each-parts P ss r.1)
 
+-- All packets, frame after frame.
 pub whole-is : (t : Transmission) → whole t ≡ flat_map (λ (s : SentFrame). s.packets) t
 whole-is t = ap (flat_map (λ (s : SentFrame). s.packets)) (take_all (length t) t (omega arith))
 
+-- What holds of all packets holds of each packet of the transmission.
 each_packet : (P : List ℕ → Type 0) (t : Transmission) → AllByRecursion P (whole t) → EachPacket P t
 each_packet P t h =
     (All-from_recursion (λ (s : SentFrame). All P s.packets) t
@@ -101,6 +110,7 @@ each_packet P t h =
 
 -- ---- headers
 
+-- An item of the first of two lists is one of both, joined.
 any-left : {X : Type 0} (f : X → Bool) (xs ys : List X) → list_any f xs ≡ true
     → list_any f (xs ++ ys) ≡ true
 any-left f [] ys e = cc
@@ -112,11 +122,13 @@ any-left f (x ∷ xs) ys e = go (f x) e (any-left f xs ys)
     go true d ih = refl
     go false d ih = ih d
 
+-- And so is one of the second.
 any-right : {X : Type 0} (f : X → Bool) (xs ys : List X) → list_any f ys ≡ true
     → list_any f (xs ++ ys) ≡ true
 any-right f [] ys e = e
 any-right f (x ∷ xs) ys e = or_right (f x) (list_any f (xs ++ ys)) (any-right f xs ys e)
 
+-- A header in a frame of the list is one in the frame of the day.
 any_sent : (w : Watched) (t : Transmission) (j n : ℕ) → j < length t → frame_at t j ≡ n
     → holds_header (kind w.page) (packets_at t j) ≡ true
     → holds_header (kind w.page) (packets_of t n) ≡ true
@@ -139,6 +151,7 @@ any_sent w (s ∷ ss) (suc j) n l e h =
 
 -- ---- spans cut short
 
+-- A list joined to another, cut after its end.
 take-over : (xs ys : List (List ℕ)) (n : ℕ) → length xs ≤ n
     → take n (xs ++ ys) ≡ xs ++ take (n - length xs) ys
 take-over [] ys n h = ap (λ k. take k ys) (omega arith)
@@ -146,6 +159,7 @@ take-over (x ∷ xs) ys zero h = absurd (omega arith)
 take-over (x ∷ xs) ys (suc n) h = let e : suc n - suc (length xs) ≡ n - length xs = omega arith in
     ap (λ zs. x ∷ zs) (take-over xs ys n (omega arith)) ∙ ap (λ k. x ∷ (xs ++ take k ys)) (sym e)
 
+-- A fair span is clean.
 pub clean_span : (w : Watched) (rows : List (List ℕ)) → IsFair w rows → IsCleanSpan w.page rows
 clean_span w rows h = record {
   odd = All-from_recursion (λ p. (row : ℕ) → kind w.page p ≡ Row row → HasOddText p) rows h.odd;
@@ -170,18 +184,21 @@ clean_span w rows h = record {
   plain = All-from_recursion (λ p. IsEnhancement w.page p → ⊥) rows h.plain;
 }
 
+-- The number of a frame of the list.
 pub number_at : (t : Transmission) (i : ℕ) (d : SentFrame) → i < length t
     → (get_or t i d).frame ≡ frame_at t i
 number_at [] i d l = absurd (omega arith)
 number_at (s ∷ ss) zero d l = refl
 number_at (s ∷ ss) (suc i) d l = number_at ss i d (omega arith)
 
+-- What holds of the value of an option, if there is one.
 if_some : (o : Option ℕ) (P : ℕ → Type 0) → ((x : ℕ) → o ≡ Some x → P x) → IfSome o P
 if_some None P h = tt
 if_some (Some x) P h = h x refl
 
 module _ (programme : ProgrammeValue) (options : OptionsValue) (unread : Option Unread)
     (t : Transmission) (h : GoodFrames (task_of programme options unread) t) where
+  -- The packets of the first frames, cut anywhere, leave a fair span.
   cut_fair : (m : ℕ) → m ≤ length t → (n : ℕ)
       → IsFair (watched_of programme options) (span (kind options.page) (take n (joined t m)))
   cut_fair zero l zero = IsFair-none (watched_of programme options)
@@ -243,9 +260,11 @@ module _ (programme : ProgrammeValue) (options : OptionsValue) (unread : Option 
     ]
   ]
 
+  -- What is on air up to a frame, in both wordings.
   air-both : (f : ℕ) → on_air t (first_frame t) 0 f ≡ air t (frame_at t 0) 0 f
   air-both f = ap (λ x. on_air t x 0 f) (first-same t) ∙ air-same t (frame_at t 0) 0 f
 
+  -- So spans are clean.
   spans_of : (f n : ℕ) → f ≤ last_frame t
       → IsCleanSpan options.page (span (kind options.page) (take n (on_air t (first_frame t) 0 f)))
   spans_of f n l =
@@ -256,6 +275,7 @@ module _ (programme : ProgrammeValue) (options : OptionsValue) (unread : Option 
       (span (kind options.page) (take n xs))) (sym (air-both f ∙ on.2))
       (cut_fair on.0 on.1 n))
 
+  -- A header comes in each so many frames.
   repeats_of : (start : ℕ) → first_frame t ≤ start → start + options.every ≤ last_frame t + 1
       → (n : ℕ) × (start ≤ n) × (n < start + options.every) × IsTrue
       (holds_header (kind options.page) (packets_of t n))
@@ -270,6 +290,7 @@ module _ (programme : ProgrammeValue) (options : OptionsValue) (unread : Option 
             refl r.4,
       )
 
+  -- The frames rise.
   rising_of : (i j : ℕ) (d : SentFrame) → i < j → j < length t
       → (get_or t i d).frame < (get_or t j d).frame
   rising_of i j d l m =
@@ -278,6 +299,7 @@ module _ (programme : ProgrammeValue) (options : OptionsValue) (unread : Option 
       let b = number_at t j d within in
       let r = rises_strictly t h.rising i j l within in omega arith
 
+  -- A transmission that is good by places is good.
   pub Good-from_frames : EachPacket (λ packet. length packet ≡ 42) t → Good programme t options
   Good-from_frames sizes = record {
     whole = sizes;
@@ -318,11 +340,13 @@ module _ (programme : ProgrammeValue) (options : OptionsValue) (unread : Option 
 
 -- ---- and back
 
+-- What holds of two lists holds of both, joined.
 Each-append : (P : List ℕ → Type 0) (xs ys : List (List ℕ)) → AllByRecursion P xs
     → AllByRecursion P ys → AllByRecursion P (xs ++ ys)
 Each-append P [] ys h k = k
 Each-append P (x ∷ xs) ys h k = (h.0, Each-append P xs ys h.1 k)
 
+-- What holds of the packets of each frame holds of all packets.
 parts_back : (P : List ℕ → Type 0) (t : Transmission)
     → AllByRecursion (λ (x : SentFrame). All P x.packets) t
     → AllByRecursion P (flat_map (λ (s : SentFrame). s.packets) t)
@@ -331,11 +355,13 @@ parts_back P (s ∷ ss) h =
     Each-append P s.packets (flat_map (λ (x : SentFrame). x.packets) ss)
     (recursion_from_All P s.packets h.0) (parts_back P ss h.1)
 
+-- What holds of each packet of the transmission holds of all packets.
 packet_each : (P : List ℕ → Type 0) (t : Transmission) → EachPacket P t → AllByRecursion P (whole t)
 packet_each P t h =
     subst (AllByRecursion P) (sym (whole-is t))
     (parts_back P t (recursion_from_All (λ (x : SentFrame). All P x.packets) t h))
 
+-- An item of two lists joined is one of the first or of the second.
 any-split : {X : Type 0} (f : X → Bool) (xs ys : List X) → list_any f (xs ++ ys) ≡ true
     → (list_any f xs ≡ true) ⊎ (list_any f ys ≡ true)
 any-split f [] ys e = inr e
@@ -347,6 +373,7 @@ any-split f (x ∷ xs) ys e = go (f x) e (any-split f xs ys)
     go true d ih = inl refl
     go false d ih = ih d
 
+-- A header in a frame of the day is one in a frame of the list.
 sent_any : (w : Watched) (t : Transmission) (n : ℕ)
     → holds_header (kind w.page) (packets_of t n) ≡ true
     → (j : ℕ) × (j < length t) × (frame_at t j ≡ n) ×
@@ -378,10 +405,12 @@ sent_any w (s ∷ ss) n e =
         ]
     go false p d later = later d
 
+-- The same of the value of an option, the other way round.
 some_if : (o : Option ℕ) (P : ℕ → Type 0) → IfSome o P → (x : ℕ) → o ≡ Some x → P x
 some_if None P h x e = absurd (none-some x e)
 some_if (Some y) P h x e = subst P (same_Some y x e) h
 
+-- A clean span is fair.
 fair_back : (w : Watched) (rows : List (List ℕ)) → IsCleanSpan w.page rows → IsFair w rows
 fair_back w rows h = record {
   odd = recursion_from_All (λ p. (row : ℕ) → kind w.page p ≡ Row row → HasOddText p) rows h.odd;
@@ -409,9 +438,11 @@ fair_back w rows h = record {
 
 module _ (programme : ProgrammeValue) (options : OptionsValue) (t : Transmission)
     (h : Good programme t options) where
+  -- There is a frame.
   some_back : 0 < length t
   some_back = h.not_empty
 
+  -- Each frame is after the one before.
   rising_back : (i : ℕ) → 0 < i → i < length t → frame_at t (i - 1) < frame_at t i
   rising_back i a l =
       let nothing : SentFrame = record { frame = 0; packets = [] } in
@@ -419,9 +450,11 @@ module _ (programme : ProgrammeValue) (options : OptionsValue) (t : Transmission
       let x = number_at t (i - 1) nothing (omega arith) in
       let y = number_at t i nothing l in omega arith
 
+  -- What is on air up to a frame, in both wordings.
   air-back : (f : ℕ) → on_air t (first_frame t) 0 f ≡ air t (frame_at t 0) 0 f
   air-back f = ap (λ x. on_air t x 0 f) (first-same t) ∙ air-same t (frame_at t 0) 0 f
 
+  -- At each packet the span is fair.
   fair_at : (i k : ℕ) → i < length t → k ≤ length (packets_at t i)
       → IsFair (watched_of programme options)
       (span (kind options.page) (joined t i ++ take k (packets_at t i)))
@@ -441,6 +474,7 @@ module _ (programme : ProgrammeValue) (options : OptionsValue) (t : Transmission
       (subst (λ xs. IsCleanSpan options.page (span (kind options.page) xs))
       (ap (take n) (air-back f ∙ on ∙ joined_more t i l) ∙ cut) (h.spans f n (omega arith)))
 
+  -- The first frame has a header of the page.
   starts_back : HasHeader (task_of programme options None) t 0
   starts_back =
       let r = sent_any (watched_of programme options) t (first_frame t) h.opens in
@@ -451,6 +485,7 @@ module _ (programme : ProgrammeValue) (options : OptionsValue) (t : Transmission
             absurd (omega (arith, r.2))
       ]
 
+  -- A header comes in each so many frames.
   repeats_back : (a : ℕ) → frame_at t 0 ≤ a → a + options.every ≤ end_frame t + 1
       → (j : ℕ) × (j < length t) × (a ≤ frame_at t j) × (frame_at t j < a + options.every) ×
       HasHeader (task_of programme options None) t j
@@ -461,6 +496,7 @@ module _ (programme : ProgrammeValue) (options : OptionsValue) (t : Transmission
       let s = sent_any (watched_of programme options) t r.0 r.3 in
       (s.0, s.1, omega (arith, s.2, r.1), omega (arith, s.2, r.2), s.3)
 
+  -- A good transmission is good by places.
   pub GoodFrames-from_good : GoodFrames (task_of programme options None) t
   GoodFrames-from_good = record {
     complete = refl;

@@ -1,6 +1,5 @@
 -- What each way out of the checker's loop shows of the whole file: `unread_refusal`,
--- `empty_refusal`,
--- `reaches_first`, `reaches_next`, `end_accepted`, `end_refused`.
+-- `empty_refusal`, `reaches_first`, `reaches_next`, `end_accepted`, `end_refused`.
 use Rattle.std.proofs.Common.{◌≡◌, ℕ, ◌+◌, ◌-◌, ◌<◌, ◌≤◌, List, [], ◌∷◌, length, drop}
 use Rattle.std.proofs.Common.{take, get_or}
 use Rattle.std.proofs.Common.{Option, Some, None, Result, MatchResult, Ok, Err, All, sym, ap}
@@ -62,7 +61,8 @@ module _
     (programme : ProgrammeValue) (options : OptionsValue)
     (frames : Transmission) (unread : Option Unread)
   where
-    -- What keeps the file from being read on is the first that is broken, where all before it holds.
+    -- What keeps the file from being read on is the first that is broken, where all before it
+    -- holds.
     pub unread_refusal :
         (n : ℕ) (bytes : List ℕ) (v : PesValue) (f : CheckFault)
         → n ≤ length frames
@@ -105,7 +105,8 @@ module _
         → remaining ≡ Some (rest_after bytes)
         → IsPesValue v
         → Follows (task_of programme options unread) frames 1 c
-        → Reaches (task_of programme options unread) options.origin frames unread remaining 1 frame c
+        → Reaches (task_of programme options unread) options.origin frames unread remaining 1
+        frame c
     reaches_first bytes v frame remaining c reads (is, of) left value follows =
         let next = reads_next options.origin 0 bytes frames unread v frame reads is of in
         record {
@@ -139,8 +140,8 @@ module _
             → remaining ≡ Some (rest_after reached.rest)
             → IsPesValue v
             → Follows (task_of programme options unread) frames (n + 1) c
-            → Reaches (task_of programme options unread) options.origin frames unread remaining (n + 1)
-            first c
+            → Reaches (task_of programme options unread) options.origin frames unread remaining
+            (n + 1) first c
         reaches_next v frame remaining c (is, of) left value follows =
             let next =
             reads_next options.origin n reached.rest frames unread v frame reached.left is of in

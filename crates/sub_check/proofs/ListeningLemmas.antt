@@ -23,34 +23,41 @@ use Rattle.sub_check.proofs.PushLemmas.{first_header-push}
 use Rattle.sub_check.specs.Listening.{HoldsRows, IsSound}
 use Rattle.sub_check.proofs.PacketLists.{Each-push, Each-map}
 
+-- C11 of a header, if there is one.
 abbrev c11_of : Option Header → Option Bool
 c11_of o = option_map (λ (h : Header). (c11 h)) o
 
+-- C11 of the first of two headers.
 c11-or : (a b : Option Header) → c11_of (option_or a b) ≡ option_or (c11_of a) (c11_of b)
 c11-or None b = refl
 c11-or (Some x) b = refl
 
+-- C11 of the first header, one packet on.
 pub serial_more : (serial : Option Bool) (heard : List (List ℕ)) (p : List ℕ)
     → serial ≡ c11_of (first_header heard)
     → option_or serial (c11_of (header p)) ≡ c11_of (first_header (heard ++ p ∷ []))
 serial_more serial heard p e = ap (λ o. option_or o (c11_of (header p))) e
     ∙ sym (ap c11_of (first_header-push heard p) ∙ c11-or (first_header heard) (header p))
 
+-- With true nothing changes.
 and-true : (b : Bool) → b ≡ (b && true)
 and-true true = refl
 and-true false = refl
 
 module _ (w : Watched) (heard : List (List ℕ)) (p : List ℕ) where
+  -- A header of the page opens it.
   pub open_this : (h : Header) → kind w.page p ≡ ThisPage h
       → true ≡ is_open_after (kind w.page) (heard ++ p ∷ [])
   open_this h k = sym (open-this (kind w.page) heard p (ap is_this_page k))
 
+  -- A header that ends the page closes it.
   pub open_ends : kind w.page p ≡ EndsPage → false ≡ is_open_after (kind w.page) (heard ++ p ∷ [])
   open_ends k =
       sym (open-other (kind w.page) heard p (ap is_this_page k)
       ∙ and_right (is_open_after (kind w.page) heard) (not (ends_page (kind w.page p)))
       (ap (λ (x : PacketKind). not (ends_page x)) k))
 
+  -- Any other packet leaves it as it is.
   pub open_stays : (b : Bool) → is_this_page (kind w.page p) ≡ false
       → ends_page (kind w.page p) ≡ false → b ≡ is_open_after (kind w.page) heard
       → b ≡ is_open_after (kind w.page) (heard ++ p ∷ [])
@@ -66,10 +73,12 @@ module _ (w : Watched) (heard : List (List ℕ)) (p : List ℕ) where
       (span (kind w.page) heard ++ before_end (kind w.page) (p ∷ []))
       (span (kind w.page) heard) shut
 
+  -- Nothing at the end changes nothing.
   append-nil' : (xs : List (List ℕ)) → xs ++ [] ≡ xs
   append-nil' [] = refl
   append-nil' (x ∷ xs) = ap (λ ys. x ∷ ys) (append-nil' xs)
 
+  -- A header that ends the page is not in its span.
   pub span_ends : kind w.page p ≡ EndsPage
       → span (kind w.page) (heard ++ p ∷ []) ≡ span (kind w.page) heard
   span_ends k = span-other (kind w.page) heard p (ap is_this_page k)
@@ -85,6 +94,7 @@ module _ (w : Watched) (heard : List (List ℕ)) (p : List ℕ) where
           ∙ append-nil' (span (kind w.page) heard)
       both false = refl
 
+  -- While the page is open a packet that is no such header is in its span.
   pub span_open : is_this_page (kind w.page p) ≡ false → ends_page (kind w.page p) ≡ false
       → is_open_after (kind w.page) heard ≡ true
       → span (kind w.page) (heard ++ p ∷ []) ≡ span (kind w.page) heard ++ p ∷ []
@@ -98,6 +108,7 @@ module _ (w : Watched) (heard : List (List ℕ)) (p : List ℕ) where
 
 -- ---- the rows of the span
 
+-- With no packet each row is blank and unsent.
 pub HoldsRows-none : (w : Watched) → HoldsRows w [] (replicate 24 false) blank
 unfolding blank blank_row
 HoldsRows-none w = record {
@@ -107,12 +118,14 @@ HoldsRows-none w = record {
   blank = λ row low high e. get_or-replicate 24 (row - 1) (replicate 40 space) [] (omega arith);
 }
 
+-- A packet that is no row is not this row.
 no_row_of : (row : ℕ) (k : PacketKind) → ((y : ℕ) → k ≡ Row y → ⊥) → is_row row k ≡ false
 no_row_of row (ThisPage h) other = refl
 no_row_of row EndsPage other = refl
 no_row_of row (Row y) other = absurd (other y refl)
 no_row_of row Other other = refl
 
+-- With false nothing changes.
 or-false : (b c : Bool) → c ≡ false → b ≡ (b || c)
 or-false true c e = refl
 or-false false c e = sym e

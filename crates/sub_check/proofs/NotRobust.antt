@@ -24,7 +24,7 @@ use Rattle.ttx_page.specs.Receiver.{State, StepAt, Step, StoresByte, StoresRow}
 use Rattle.ttx_page.specs.Span.{holds_header}
 use Rattle.ttx_page.proofs.NoiseSteps.{cell-blank}
 use Rattle.sub_check.specs.Transmission.{Transmission}
-use Rattle.sub_check.specs.Good.{due_page}
+use Rattle.sub_plan.specs.Schedule.{due_in}
 use Rattle.sub_check.specs.Robust.{IsListening}
 use Rattle.sub_check.specs.Examples as example
 use Rattle.sub_check.specs.Examples.{x0, page_888, header_888, header_without_c4}
@@ -118,7 +118,7 @@ unfolding kind address header coded_header decoded is_near
 kind_888 = refl
 
 -- Nothing is due in the first cell but a space.
-due_space : (f : ℕ) → cell (due_page no_subtitles f) 1 0 ≡ 0x20
+due_space : (f : ℕ) → cell (due_in no_subtitles f) 1 0 ≡ 0x20
 due_space f =
     ap (λ page. cell page 1 0) (none_due f)
     ∙ cell-blank 1 0 (omega arith, omega arith, omega arith)
@@ -127,7 +127,7 @@ due_space f =
 not_served :
     (f code : ℕ) (Excuse : Type 0)
     → code ≢ 0x20
-    → (code ≡ cell (due_page no_subtitles f) 1 0) ⊎ ((code ≡ space) × Excuse)
+    → (code ≡ cell (due_in no_subtitles f) 1 0) ⊎ ((code ≡ space) × Excuse)
     → ⊥
 not_served f code Excuse other (inl due) = other (due ∙ due_space f)
 not_served f code Excuse other (inr hit) = other hit.0

@@ -5,7 +5,7 @@ use Rattle.std.proofs.lemmas.Option.{none-some}
 use Rattle.ttx_page.specs.Page.{IsCell}
 use Rattle.sub_check.specs.Transmission.{Transmission}
 use Rattle.sub_check.specs.declared.packet_rules.PacketRule.{PacketRule}
-use Rattle.sub_check.specs.PacketRules.{IsFree, IsFirstFault, number_of}
+use Rattle.sub_check.specs.PacketRules.{KeepsRule, BreaksFirstAt, number_of}
 use Rattle.sub_check.specs.FrameRules.{Task, Unread, frame_at, packets_at, joined, end_frame}
 use Rattle.sub_check.specs.FrameRules.{HasHeader, Shows, IsCovered}
 use Rattle.sub_check.specs.FirstBroken.{IsBefore, IsInGap, Holds, HoldsBefore}
@@ -17,11 +17,13 @@ use Rattle.sub_check.specs.declared.fault.CheckFault.TheVariants as fault
 
 -- ---- one key before another
 
+-- How a key of a frame of the list is before another: by the frame, by the part, or within it.
 data Split (a n b q : ℕ) (P : Type 0) : Type 0 where
   earlier : a < n → Split a n b q P
   sooner : a ≡ n → b < q → Split a n b q P
   here : a ≡ n → b ≡ q → P → Split a n b q P
 
+-- A key is before another in one of these ways.
 split : (a n b q : ℕ) (s t : List ℕ) → IsBefore (0 ∷ a ∷ b ∷ s) (0 ∷ n ∷ q ∷ t)
     → Split a n b q (IsBefore s t)
 split a n b q s t (inl l) = absurd (omega arith)
@@ -29,12 +31,14 @@ split a n b q s t (inr (e, inl l)) = earlier l
 split a n b q s t (inr (e, inr (f, inl l))) = sooner f l
 split a n b q s t (inr (e, inr (f, inr (h, r)))) = here f h r
 
+-- A key is before one of one number.
 one_before : (x y : ℕ) (xs : List ℕ) → IsBefore (x ∷ xs) (y ∷ []) → x < y
 one_before x y [] (inl l) = l
 one_before x y [] (inr r) = absurd r.1
 one_before x y (z ∷ zs) (inl l) = l
 one_before x y (z ∷ zs) (inr r) = absurd r.1
 
+-- One of the last places is before another by its number.
 one_more : {x y : ℕ} → IsBefore (1 ∷ x ∷ []) (1 ∷ y ∷ []) → x < y
 one_more (inl l) = absurd (omega arith)
 one_more (inr (e, inl l)) = l
@@ -95,8 +99,10 @@ module _ (g : Task) (frames : Transmission) (n : ℕ) (past : (j : ℕ) → j < 
     upto q tail order gap packets end local (AtPacket i k rule) b =
         elim (split i n 2 q (k ∷ number_of rule ∷ []) tail b) [
           | earlier l ↦ (past i l).packets.each k rule
-          | sooner e l ↦ subst (λ j. Keeps g frames (AtPacket j k rule)) (sym e) ((packets l).each k rule)
-          | here e h r ↦ subst (λ j. Keeps g frames (AtPacket j k rule)) (sym e) (local.packet h k rule r)
+          | sooner e l ↦ subst (λ j. Keeps g frames (AtPacket j k rule)) (sym e)
+              ((packets l).each k rule)
+          | here e h r ↦ subst (λ j. Keeps g frames (AtPacket j k rule)) (sym e)
+              (local.packet h k rule r)
         ]
     upto q tail order gap packets end local AtFirst b = elim (split 0 n 3 q (71 ∷ []) tail b) [
       | earlier l ↦ (past 0 l).end.first refl
@@ -124,7 +130,9 @@ module _ (g : Task) (frames : Transmission) (n : ℕ) (past : (j : ℕ) → j < 
     upto q tail order gap packets end local AtEnd (inr r) = absurd (omega arith)
 
     -- 62
-    pub first_order : (0 < n) → n < length frames → (frame_at frames (n - 1) < frame_at frames n → ⊥)
+    pub first_order : (0 < n)
+        → n < length frames
+        → (frame_at frames (n - 1) < frame_at frames n → ⊥)
         → NamesFirst g frames (fault.Order n)
     first_order some there broken = (
       AtOrder n,
@@ -213,7 +221,8 @@ module _ (g : Task) (frames : Transmission) (n : ℕ) (past : (j : ℕ) → j < 
         there = in_gap;
         broken = broken;
         earlier =
-            upto 1 (f ∷ 73 ∷ []) (λ l. order) (λ l. absurd (omega arith)) (λ l. absurd (omega arith))
+            upto 1 (f ∷ 73 ∷ []) (λ l. order) (λ l. absurd (omega arith))
+            (λ l. absurd (omega arith))
             (λ l. absurd (omega arith)) (record {
               order = λ e. absurd (omega arith);
               start = λ e. absurd (omega arith);
@@ -240,7 +249,7 @@ module _ (g : Task) (frames : Transmission) (n : ℕ) (past : (j : ℕ) → j < 
 
     -- 64 to 70
     pub first_packet : (k : ℕ) (rule : PacketRule) → n < length frames → OrderOk g frames n
-        → GapOk g frames n → IsFirstFault g.watched (joined frames n) (packets_at frames n) k rule
+        → GapOk g frames n → BreaksFirstAt g.watched (joined frames n) (packets_at frames n) k rule
         → NamesFirst g frames (packet_fault rule (frame_at frames n) k)
     first_packet k rule there order gap is = (
       AtPacket n k rule,
@@ -269,7 +278,7 @@ module _ (g : Task) (frames : Transmission) (n : ℕ) (past : (j : ℕ) → j < 
         packet_of j f (inl l) = λ there. is.clean j l f
         packet_of j f (inr (e, b)) =
             λ there. subst
-            (λ x. IsFree f g.watched (joined frames n ++ take x (packets_at frames n))
+            (λ x. KeepsRule f g.watched (joined frames n ++ take x (packets_at frames n))
             (get_or (packets_at frames n) x [])) (sym e)
             (is.first.earlier f (one_before (number_of f) (number_of rule) [] b))
 

@@ -16,21 +16,25 @@ use Rattle.ttx_page.specs.declared.packet_kind.PacketKind.TheVariants.{Other}
 use Rattle.ttx_page.specs.PacketKind.{is_row, is_this_page, kind}
 
 module _ {X : Type 0} where
+  -- What holds of each item and of one more.
   pub Each-push : (P : X → Type 0) (xs : List X) (x : X) → AllByRecursion P xs → P x
       → AllByRecursion P (xs ++ x ∷ [])
   Each-push P [] x h p = (p, tt)
   Each-push P (y ∷ ys) x h p = (h.0, Each-push P ys x h.1 p)
 
+  -- What follows of each item.
   pub Each-map : (P Q : X → Type 0) → ((x : X) → P x → Q x) → (xs : List X) → AllByRecursion P xs
       → AllByRecursion Q xs
   Each-map P Q f [] h = tt
   Each-map P Q f (y ∷ ys) h = (f y h.0, Each-map P Q f ys h.1)
 
+  -- What follows of each item from two facts.
   pub Each-join : (P Q S : X → Type 0) → ((x : X) → P x → Q x → S x) → (xs : List X)
       → AllByRecursion P xs → AllByRecursion Q xs → AllByRecursion S xs
   Each-join P Q S f [] h k = tt
   Each-join P Q S f (y ∷ ys) h k = (f y h.0 k.0, Each-join P Q S f ys h.1 k.1)
 
+  -- Where no item passes a test, each fails it.
   pub Each-none : (f : X → Bool) (xs : List X) → list_any f xs ≡ false
       → AllByRecursion (λ x. f x ≡ false) xs
   Each-none f [] e = tt
@@ -59,17 +63,20 @@ module _ {X : Type 0} where
       go true p d ih = (y, refl, p, h.0)
       go false p d ih = ih d
 
+  -- Where no item passes a test, none is found.
   pub find_none : (f : X → Bool) (xs : List X) → list_any f xs ≡ false → find f xs ≡ None
   find_none f [] e = refl
   find_none f (y ∷ ys) e = let p = or_parts (f y) (list_any f ys) e in
       cond-false (f y) (Some y) (find f ys) p.0 ∙ find_none f ys p.1
 
+-- A packet that passes the test for a row is that row.
 pub row_kind : (row : ℕ) (k : PacketKind) → is_row row k ≡ true → k ≡ Row row
 row_kind row (ThisPage h) e = cc
 row_kind row EndsPage e = cc
 row_kind row (Row y) e = ap Row (eqb-true y row e)
 row_kind row Other e = cc
 
+-- One that fails it is not.
 pub no_row : (row : ℕ) (k : PacketKind) → is_row row k ≡ false → k ≡ Row row → ⊥
 no_row row k e s = both_ways (is_row row k) e (ap (is_row row) s ∙ eq-eqb row row refl)
 

@@ -8,7 +8,7 @@ use Rattle.std.proofs.lemmas.Option.{none-some, same_Some}
 use Rattle.ttx_packet.specs.PacketAddress.{HasExactAddress, IsPacket, address, PacketAddress}
 use Rattle.ttx_packet.specs.RowPacket.{HasOddText}
 use Rattle.ttx_packet.specs.PageHeader.{header, c11}
-use Rattle.sub_check.specs.PacketRules.{codes_of, first_header, IsFree, IsClean, IsFirstFlaw}
+use Rattle.sub_check.specs.PacketRules.{codes_of, first_header, KeepsRule, IsClean, BreaksFirst}
 use Rattle.sub_check.specs.PacketRules.{number_of}
 use Rattle.ttx_packet.specs.declared.header.Header.{Header}
 use Rattle.sub_check.proofs.CodesLemmas.{same_packet}
@@ -83,10 +83,11 @@ kind-enhancement w p (a, e, m, low, high) =
     ) refl
 
 module _ (w : Watched) (before : List (List ℕ)) (p : List ℕ) where
-  pub clean_from : IsFree rule.Address w before p → IsFree rule.HeaderCode w before p
-      → IsFree rule.Mode w before p → IsFree rule.Control w before p
-      → IsFree rule.Parity w before p → IsFree rule.RowChanged w before p
-      → IsFree rule.Enhancement w before p → IsClean w before p
+  -- The seven rules together.
+  pub clean_from : KeepsRule rule.Address w before p → KeepsRule rule.HeaderCode w before p
+      → KeepsRule rule.Mode w before p → KeepsRule rule.Control w before p
+      → KeepsRule rule.Parity w before p → KeepsRule rule.RowChanged w before p
+      → KeepsRule rule.Enhancement w before p → IsClean w before p
   clean_from a h m c o r e rule.Address = a
   clean_from a h m c o r e rule.HeaderCode = h
   clean_from a h m c o r e rule.Mode = m
@@ -97,19 +98,22 @@ module _ (w : Watched) (before : List (List ℕ)) (p : List ℕ) where
 
   -- by what the packet is
   pub control_free : (k : PacketKind) → kind w.page p ≡ k → ((h : Header) → k ≡ ThisPage h → ⊥)
-      → IsFree rule.Control w before p
+      → KeepsRule rule.Control w before p
   control_free k e other h f = absurd (other h (sym e ∙ f))
 
+  -- A packet that is no row keeps the rule of parity.
   pub parity_free : (k : PacketKind) → kind w.page p ≡ k → ((row : ℕ) → k ≡ Row row → ⊥)
-      → IsFree rule.Parity w before p
+      → KeepsRule rule.Parity w before p
   parity_free k e other opened row f = absurd (other row (sym e ∙ f))
 
+  -- And that of rows that stay.
   pub changed_free : (k : PacketKind) → kind w.page p ≡ k → ((row : ℕ) → k ≡ Row row → ⊥)
-      → IsFree rule.RowChanged w before p
+      → KeepsRule rule.RowChanged w before p
   changed_free k e other opened row f = absurd (other row (sym e ∙ f))
 
+  -- A header or a row keeps the rule of packets X/25 to X/28.
   pub enhancement_free : (k : PacketKind) → kind w.page p ≡ k → (k ≡ Other → ⊥)
-      → IsFree rule.Enhancement w before p
+      → KeepsRule rule.Enhancement w before p
   enhancement_free k e other opened is = other (sym e ∙ kind-enhancement w p is)
 
   -- while the page is not open
@@ -121,6 +125,7 @@ module _ (w : Watched) (before : List (List ℕ)) (p : List ℕ) where
 module _ (w : Watched) (packets : List (List ℕ)) (sent : List Bool) (page : List (List ℕ))
     (h : HoldsRows w packets sent page) (row : ℕ) (low : 1 ≤ row) (high : row ≤ 24) (p : List ℕ)
     (is_row_of : kind w.page p ≡ Row row) where
+  -- Where the row was not sent, no packet of it stands in the span.
   pub rows_unsent : get_or sent (row - 1) false ≡ false
       → AllByRecursion (λ q. kind w.page q ≡ Row row → q ≡ p) packets
   rows_unsent e =
@@ -128,6 +133,7 @@ module _ (w : Watched) (packets : List (List ℕ)) (sent : List Bool) (page : Li
       (λ q other s. absurd (no_row row (kind w.page q) other s)) packets
       (Each-none (λ q. is_row row (kind w.page q)) packets (sym (h.marks row low high) ∙ e))
 
+  -- Where the row that is held has the codes of the packet, each packet of the row equals it.
   pub rows_equal : IsPacket p → HasExactAddress p → HasOddText p
       → get_or page (row - 1) [] ≡ codes_of p
       → AllByRecursion (λ q. kind w.page q ≡ Row row → q ≡ p) packets
@@ -138,6 +144,7 @@ module _ (w : Watched) (packets : List (List ℕ)) (sent : List Bool) (page : Li
       (address-row w q row k ∙ sym (address-row w p row is_row_of)) (s.odd row k) odd
       (c k ∙ e)) packets h.sound (h.same row low high)
 
+  -- Where it has other codes, some packet of the row differs.
   pub rows_other : get_or sent (row - 1) false ≡ true → (get_or page (row - 1) [] ≡ codes_of p → ⊥)
       → AllByRecursion (λ q. kind w.page q ≡ Row row → q ≡ p) packets → ⊥
   rows_other e other same =
@@ -154,11 +161,12 @@ module _ (w : Watched) (packets : List (List ℕ)) (sent : List Bool) (page : Li
 
 -- which rule is the first
 module _ (w : Watched) (before : List (List ℕ)) (p : List ℕ) where
-  pub first_mode : IsFree rule.Address w before p → IsFree rule.HeaderCode w before p
-      → (IsFree rule.Mode w before p → ⊥) → IsFirstFlaw w before p rule.Mode
+  -- The first rule that is broken: C11.
+  pub first_mode : KeepsRule rule.Address w before p → KeepsRule rule.HeaderCode w before p
+      → (KeepsRule rule.Mode w before p → ⊥) → BreaksFirst w before p rule.Mode
   first_mode a h broken = record { broken = broken; earlier = earlier }
     where
-      earlier : (g : PacketRule) → number_of g < 66 → IsFree g w before p
+      earlier : (g : PacketRule) → number_of g < 66 → KeepsRule g w before p
       earlier rule.Address l = a
       earlier rule.HeaderCode l = h
       earlier rule.Mode l = absurd (omega arith)
@@ -167,12 +175,13 @@ module _ (w : Watched) (before : List (List ℕ)) (p : List ℕ) where
       earlier rule.RowChanged l = absurd (omega arith)
       earlier rule.Enhancement l = absurd (omega arith)
 
-  pub first_control : IsFree rule.Address w before p → IsFree rule.HeaderCode w before p
-      → IsFree rule.Mode w before p → (IsFree rule.Control w before p → ⊥)
-      → IsFirstFlaw w before p rule.Control
+  -- The first rule that is broken: the control bits.
+  pub first_control : KeepsRule rule.Address w before p → KeepsRule rule.HeaderCode w before p
+      → KeepsRule rule.Mode w before p → (KeepsRule rule.Control w before p → ⊥)
+      → BreaksFirst w before p rule.Control
   first_control a h m broken = record { broken = broken; earlier = earlier }
     where
-      earlier : (g : PacketRule) → number_of g < 67 → IsFree g w before p
+      earlier : (g : PacketRule) → number_of g < 67 → KeepsRule g w before p
       earlier rule.Address l = a
       earlier rule.HeaderCode l = h
       earlier rule.Mode l = m
@@ -183,17 +192,18 @@ module _ (w : Watched) (before : List (List ℕ)) (p : List ℕ) where
 
   -- the later flaws, where the first four are free: given all but the broken one, which is then
   -- the first
-  pub first_of_clean : (f : PacketRule) → (IsFree f w before p → ⊥)
-      → ((g : PacketRule) → number_of g < number_of f → IsFree g w before p)
-      → IsFirstFlaw w before p f
+  pub first_of_clean : (f : PacketRule) → (KeepsRule f w before p → ⊥)
+      → ((g : PacketRule) → number_of g < number_of f → KeepsRule g w before p)
+      → BreaksFirst w before p f
   first_of_clean f broken earlier = record { broken = broken; earlier = earlier }
 
-  pub first_row : IsFree rule.Address w before p → IsFree rule.HeaderCode w before p
-      → IsFree rule.Mode w before p → IsFree rule.Control w before p
-      → (IsFree rule.Parity w before p → ⊥) → IsFirstFlaw w before p rule.Parity
+  -- The first rule that is broken: parity.
+  pub first_row : KeepsRule rule.Address w before p → KeepsRule rule.HeaderCode w before p
+      → KeepsRule rule.Mode w before p → KeepsRule rule.Control w before p
+      → (KeepsRule rule.Parity w before p → ⊥) → BreaksFirst w before p rule.Parity
   first_row a h m c broken = record { broken = broken; earlier = earlier }
     where
-      earlier : (g : PacketRule) → number_of g < 68 → IsFree g w before p
+      earlier : (g : PacketRule) → number_of g < 68 → KeepsRule g w before p
       earlier rule.Address l = a
       earlier rule.HeaderCode l = h
       earlier rule.Mode l = m
@@ -202,13 +212,14 @@ module _ (w : Watched) (before : List (List ℕ)) (p : List ℕ) where
       earlier rule.RowChanged l = absurd (omega arith)
       earlier rule.Enhancement l = absurd (omega arith)
 
-  pub first_changed : IsFree rule.Address w before p → IsFree rule.HeaderCode w before p
-      → IsFree rule.Mode w before p → IsFree rule.Control w before p
-      → IsFree rule.Parity w before p → (IsFree rule.RowChanged w before p → ⊥)
-      → IsFirstFlaw w before p rule.RowChanged
+  -- The first rule that is broken: the row has changed.
+  pub first_changed : KeepsRule rule.Address w before p → KeepsRule rule.HeaderCode w before p
+      → KeepsRule rule.Mode w before p → KeepsRule rule.Control w before p
+      → KeepsRule rule.Parity w before p → (KeepsRule rule.RowChanged w before p → ⊥)
+      → BreaksFirst w before p rule.RowChanged
   first_changed a h m c o broken = record { broken = broken; earlier = earlier }
     where
-      earlier : (g : PacketRule) → number_of g < 69 → IsFree g w before p
+      earlier : (g : PacketRule) → number_of g < 69 → KeepsRule g w before p
       earlier rule.Address l = a
       earlier rule.HeaderCode l = h
       earlier rule.Mode l = m
@@ -217,13 +228,14 @@ module _ (w : Watched) (before : List (List ℕ)) (p : List ℕ) where
       earlier rule.RowChanged l = absurd (omega arith)
       earlier rule.Enhancement l = absurd (omega arith)
 
-  pub first_enhancement : IsFree rule.Address w before p → IsFree rule.HeaderCode w before p
-      → IsFree rule.Mode w before p → IsFree rule.Control w before p
-      → IsFree rule.Parity w before p → IsFree rule.RowChanged w before p
-      → (IsFree rule.Enhancement w before p → ⊥) → IsFirstFlaw w before p rule.Enhancement
+  -- The first rule that is broken: a packet X/25 to X/28.
+  pub first_enhancement : KeepsRule rule.Address w before p → KeepsRule rule.HeaderCode w before p
+      → KeepsRule rule.Mode w before p → KeepsRule rule.Control w before p
+      → KeepsRule rule.Parity w before p → KeepsRule rule.RowChanged w before p
+      → (KeepsRule rule.Enhancement w before p → ⊥) → BreaksFirst w before p rule.Enhancement
   first_enhancement a h m c o r broken = record { broken = broken; earlier = earlier }
     where
-      earlier : (g : PacketRule) → number_of g < 70 → IsFree g w before p
+      earlier : (g : PacketRule) → number_of g < 70 → KeepsRule g w before p
       earlier rule.Address l = a
       earlier rule.HeaderCode l = h
       earlier rule.Mode l = m
@@ -236,13 +248,14 @@ module _ (w : Watched) (before : List (List ℕ)) (p : List ℕ) where
 pub mode_free : (serial : Option Bool) (w : Watched) (before : List (List ℕ)) (p : List ℕ)
     → serial ≡ option_map (λ (h : Header). (c11 h)) (first_header before)
     → ((h : Header) (first : Bool) → header p ≡ Some h → serial ≡ Some first → (c11 h) ≡ first)
-    → IsFree rule.Mode w before p
+    → KeepsRule rule.Mode w before p
 mode_free serial w before p is h k first e f =
     h k (c11 first) e (is ∙ ap (λ o. option_map (λ (x : Header). (c11 x)) o) f)
 
+-- Where the kept C11 differs, the rule of one mode is broken.
 pub mode_broken : (serial : Option Bool) (w : Watched) (before : List (List ℕ)) (p : List ℕ)
     → serial ≡ option_map (λ (h : Header). (c11 h)) (first_header before)
-    → IsFree rule.Mode w before p → (h : Header) (first : Bool) → header p ≡ Some h
+    → KeepsRule rule.Mode w before p → (h : Header) (first : Bool) → header p ≡ Some h
     → serial ≡ Some first → (c11 h) ≡ first
 mode_broken serial w before p is free k first e f = go (first_header before) refl (sym is ∙ f)
   where

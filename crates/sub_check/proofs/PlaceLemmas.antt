@@ -17,7 +17,7 @@ use Rattle.ttx_page.specs.PacketKind.{kind, is_this_page, ends_page}
 use Rattle.ttx_page.specs.Page.{cell, IsCell}
 use Rattle.ttx_page.specs.Span.{span, is_open_after}
 use Rattle.ttx_page.specs.Shown.{shown}
-use Rattle.sub_check.specs.PacketRules.{first_header, IsFree, IsClean}
+use Rattle.sub_check.specs.PacketRules.{first_header, KeepsRule, IsClean}
 use Rattle.ttx_page.proofs.SpanPush.{span-this}
 use Rattle.sub_check.proofs.PushLemmas.{first_header-push}
 use Rattle.sub_check.specs.Transmission.{Transmission}
@@ -38,9 +38,11 @@ use Rattle.sub_check.specs.declared.packet_rules.PacketRule.TheVariants as rule
 
 -- ---- one packet more in a span
 
+-- No packets are fair.
 pub IsFair-none : (w : Watched) → IsFair w []
 IsFair-none w = record { odd = tt; same = tt; plain = tt }
 
+-- A fair span with a packet more that may follow it.
 IsFair-more : (w : Watched) (rows : List (List ℕ)) (p : List ℕ) → IsFair w rows
     → ((row : ℕ) → kind w.page p ≡ Row row → HasOddText p)
     → ((row : ℕ) → kind w.page p ≡ Row row
@@ -72,6 +74,7 @@ IsFair-more w rows p h odd same plain = record {
     turn [] f = tt
     turn (x ∷ xs) f = ((λ row kp kx. (f row kp).0 kx), turn xs (λ row kp. (f row kp).1))
 
+-- After a packet that keeps the rules the span is fair still.
 pub fair_step : (w : Watched) (heard : List (List ℕ)) (p : List ℕ) → IsClean w heard p
     → IsFair w (span (kind w.page) heard) → IsFair w (span (kind w.page) (heard ++ p ∷ []))
 fair_step w heard p clean h = go (kind w.page p) refl
@@ -95,10 +98,12 @@ fair_step w heard p clean h = go (kind w.page p) refl
 
 -- ---- each header agrees with the first
 
+-- A header has the C11 of the first header.
 abbrev Agrees : List (List ℕ) → List ℕ → Type 0
 Agrees heard q = (b : Header) → header q ≡ Some b
     → (f : Header) × (first_header heard ≡ Some f) × ((c11 b) ≡ (c11 f))
 
+-- One packet more that agrees.
 agree_step : (heard : List (List ℕ)) (p : List ℕ)
     → ((h first : Header) → header p ≡ Some h → first_header heard ≡ Some first
     → (c11 h) ≡ (c11 first)) → AllByRecursion (Agrees heard) heard
@@ -118,6 +123,7 @@ agree_step heard p mode h =
     new b e (Some f) q =
         (f, first_header-push heard p ∙ ap (λ o. option_or o (header p)) q, mode b f e q)
 
+-- Where each header agrees with the first, any two agree.
 all_agree : (xs : List (List ℕ)) → AllByRecursion (Agrees xs) xs
     → AllByRecursion
     (λ p. AllByRecursion
@@ -145,11 +151,13 @@ first_pick P (x ∷ xs) f e h = go (header x) refl e (λ d. first_pick P xs f d 
     go None q d ih = ih d
     go (Some a) q d ih = (x, q ∙ d, h.0)
 
+-- What holds of each item holds of one in the middle.
 Each-at : {X : Type 0} (P : X → Type 0) (xs ys : List X) (x : X) → AllByRecursion P (xs ++ x ∷ ys)
     → P x
 Each-at P [] ys x h = h.0
 Each-at P (z ∷ zs) ys x h = Each-at P zs ys x h.1
 
+-- And of those in front.
 Each-front : {X : Type 0} (P : X → Type 0) (xs ys : List X) → AllByRecursion P (xs ++ ys)
     → AllByRecursion P xs
 Each-front P [] ys h = tt
@@ -158,16 +166,20 @@ Each-front P (z ∷ zs) ys h = (h.0, Each-front P zs ys h.1)
 -- ---- the law, one way
 
 module _ (g : Task) (t : Transmission) (some_frames : 0 < g.every) (h : HoldsEverywhere g t) where
+  -- There is a frame.
   some : 0 < length t
   some = h AtNothing tt
 
+  -- Each frame is after the one before.
   rising : (i : ℕ) → 0 < i → i < length t → frame_at t (i - 1) < frame_at t i
   rising i a b = h (AtOrder i) (a, b)
 
+  -- Each packet keeps the rules.
   clean_at : (i k : ℕ) → i < length t → k < length (packets_at t i)
       → IsClean g.watched (before t i k) (packet_at t i k)
   clean_at i k l m f = h (AtPacket i k f) (l, m)
 
+  -- At the end of each frame the due page is shown.
   shows_at : (f row column : ℕ) → frame_at t 0 ≤ f → f ≤ end_frame t → IsCell row column
       → shown g.watched.page (air t (frame_at t 0) 0 f) row column ≡ cell (g.due f) row column
   shows_at f row column low high is =
@@ -182,9 +194,11 @@ module _ (g : Task) (t : Transmission) (some_frames : 0 < g.every) (h : HoldsEve
         | inr (i, gap) ↦
             let on : air t (frame_at t 0) 0 f ≡ joined t i =
             air_is t rising i f gap.0 (omega (arith, gap.1)) (omega (arith, gap.2)) (λ m. gap.3) in
-            ap (λ xs. shown g.watched.page xs row column) on ∙ h (AtGapCell i f row column) (gap, is)
+            ap (λ xs. shown g.watched.page xs row column) on
+            ∙ h (AtGapCell i f row column) (gap, is)
       ]
 
+  -- A header comes in each so many frames.
   repeats_at : (a : ℕ) → frame_at t 0 ≤ a → a + g.every ≤ end_frame t + 1
       → (j : ℕ) × (j < length t) × (a ≤ frame_at t j) × (frame_at t j < a + g.every) × HasHeader g
       t j
@@ -206,6 +220,7 @@ module _ (g : Task) (t : Transmission) (some_frames : 0 < g.every) (h : HoldsEve
         ]
       ]
 
+  -- Where all that is asked holds, the transmission is good by places.
   pub Good-from_holds : GoodFrames g t
   Good-from_holds = record {
     rising = rising;
@@ -244,18 +259,21 @@ module _ (g : Task) (t : Transmission) (some_frames : 0 < g.every) (h : HoldsEve
 -- ---- the law, the other way
 
 module _ (g : Task) (t : Transmission) (h : GoodFrames g t) where
+  -- What holds of all packets holds of one.
   at : (P : List ℕ → Type 0) (i k : ℕ) → i < length t → k < length (packets_at t i)
       → AllByRecursion P (whole t) → P (packet_at t i k)
   at P i k l m all = let s = whole-split t i k l m in
       Each-at P (before t i k) s.0 (packet_at t i k) (subst (AllByRecursion P) s.1 all)
 
+  -- And of those before it.
   front : (P : List ℕ → Type 0) (i k : ℕ) → i < length t → k < length (packets_at t i)
       → AllByRecursion P (whole t) → AllByRecursion P (before t i k)
   front P i k l m all = let s = whole-split t i k l m in
       Each-front P (before t i k) (packet_at t i k ∷ s.0) (subst (AllByRecursion P) s.1 all)
 
+  -- Each packet has the C11 of the first header.
   mode_at : (i k : ℕ) → i < length t → k < length (packets_at t i)
-      → IsFree rule.Mode g.watched (before t i k) (packet_at t i k)
+      → KeepsRule rule.Mode g.watched (before t i k) (packet_at t i k)
   mode_at i k l m a f ea ef =
       let row =
       at (λ p. AllByRecursion
@@ -268,6 +286,7 @@ module _ (g : Task) (t : Transmission) (h : GoodFrames g t) where
       → header q ≡ Some b → (c11 a) ≡ (c11 b)) i k l m row) in
       q.2 a f ea q.1
 
+  -- While the page is open the span with the packet is fair.
   fair_open : (i k : ℕ) → i < length t → k < length (packets_at t i)
       → is_this_page (kind g.watched.page (packet_at t i k)) ≡ false
       → ends_page (kind g.watched.page (packet_at t i k)) ≡ false
@@ -280,6 +299,7 @@ module _ (g : Task) (t : Transmission) (h : GoodFrames g t) where
       ∙ span_open g.watched (before t i k) (packet_at t i k) this ends opened)
       (h.fair i (k + 1) l (omega arith))
 
+  -- Each packet keeps each rule.
   free_at : (i k : ℕ) → i < length t → k < length (packets_at t i)
       → IsClean g.watched (before t i k) (packet_at t i k)
   free_at i k l m rule.Address = (at HasExactWords i k l m h.exact).0
@@ -311,6 +331,7 @@ module _ (g : Task) (t : Transmission) (h : GoodFrames g t) where
       Each-at (λ x. IsEnhancement g.watched.page x → ⊥) (span (kind g.watched.page) (before t i k))
       [] (packet_at t i k) fair.plain is
 
+  -- A header is not too long ago.
   covered_at : (n f : ℕ) → f ≤ end_frame t → ((j : ℕ) → n ≤ j → j < length t → f < frame_at t j)
       → IsCovered g t n f
   covered_at n f high later = elim (cases_lt (f + 1) (frame_at t 0 + g.every)) [
@@ -325,9 +346,11 @@ module _ (g : Task) (t : Transmission) (h : GoodFrames g t) where
         ]
   ]
 
+  -- No frame is after the last.
   last_at_least : (i : ℕ) → i < length t → frame_at t i ≤ end_frame t
   last_at_least i l = rises_to t h.rising i (length t - 1) (omega arith) (omega arith)
 
+  -- After so many frames the due page is shown.
   shows_of : (n f row column : ℕ) → 0 < n → n ≤ length t → frame_at t (n - 1) ≤ f
       → (n < length t → f < frame_at t n) → f ≤ end_frame t → IsCell row column
       → Shows g t n f row column
@@ -336,6 +359,7 @@ module _ (g : Task) (t : Transmission) (h : GoodFrames g t) where
       sym (ap (λ xs. shown g.watched.page xs row column) (air_is t h.rising n f some le low high))
       ∙ h.shows f row column (omega arith) last is
 
+  -- Where the transmission is good by places, all that is asked holds.
   pub Holds-from_good : HoldsEverywhere g t
   Holds-from_good (AtOrder i) there = h.rising i there.0 there.1
   Holds-from_good AtStart there = h.begins

@@ -16,17 +16,21 @@ use Rattle.sub_check.proofs.ShownLemmas.{joined_more}
 abbrev pub before : Transmission → ℕ → ℕ → List (List ℕ)
 before t i k = joined t i ++ take k (packets_at t i)
 
+-- Packet k of frame i of the list.
 abbrev pub packet_at : Transmission → ℕ → ℕ → List ℕ
 packet_at t i k = get_or (packets_at t i) k []
 
+-- The packets before the next packet.
 pub before_more : (t : Transmission) (i k : ℕ) → k < length (packets_at t i)
     → before t i (k + 1) ≡ before t i k ++ packet_at t i k ∷ []
 before_more t i k l = ap (λ xs. joined t i ++ xs) (take_more (packets_at t i) k [] l)
     ∙ sym (append_assoc (joined t i) (take k (packets_at t i)) (packet_at t i k ∷ []))
 
+-- The packets before the first packet of a frame.
 before_none : (t : Transmission) (i : ℕ) → before t i 0 ≡ joined t i
 before_none t i = append-nil (joined t i)
 
+-- The packets before the end of a frame.
 before_all : (t : Transmission) (i : ℕ) → i < length t
     → before t i (length (packets_at t i)) ≡ joined t (i + 1)
 before_all t i l =
@@ -38,6 +42,7 @@ before_all t i l =
 module _ (t : Transmission) (m : ℕ) (fits : m ≤ length t) (Q : List (List ℕ) → Type 0) (none : Q [])
     (more : (i k : ℕ) → i < m → k < length (packets_at t i) → Q (before t i k)
     → Q (before t i k ++ packet_at t i k ∷ [])) where
+  -- So far in a frame, where it holds at the frame's start.
   within : (i : ℕ) → i < m → Q (joined t i) → (k : ℕ) → k ≤ length (packets_at t i)
       → Q (before t i k)
   within i l base zero h = subst Q (sym (before_none t i)) base
@@ -47,6 +52,7 @@ module _ (t : Transmission) (m : ℕ) (fits : m ≤ length t) (Q : List (List �
       (subst Q (sym (before_more t i k (omega arith)))
       (more i k l (omega arith) (within i l base k (omega arith))))
 
+  -- At the start of each frame.
   pub at_sending : (n : ℕ) → n ≤ m → Q (joined t n)
   at_sending zero h = none
   at_sending (suc n) h =
@@ -56,6 +62,7 @@ module _ (t : Transmission) (m : ℕ) (fits : m ≤ length t) (Q : List (List �
       (within n (omega arith) (at_sending n (omega arith)) (length (packets_at t n))
       (omega arith)))
 
+  -- And at each of its packets.
   pub at_packet : (i k : ℕ) → i < m → k ≤ length (packets_at t i) → Q (before t i k)
   at_packet i k l h = within i l (at_sending i (omega arith)) k h
 
@@ -72,6 +79,7 @@ joined-front t n (suc m) h =
           ∙ append_assoc (joined t n) ih.0 (packets_at t (n + m)),
     )
 
+-- All packets: those before packet k of frame i, that packet, and the others.
 pub whole-split : (t : Transmission) (i k : ℕ) → i < length t → k < length (packets_at t i)
     → (rest : List (List ℕ)) × (whole t ≡ before t i k ++ packet_at t i k ∷ rest)
 whole-split t i k l h =
@@ -103,10 +111,12 @@ module _ (t : Transmission)
       let e : frame_at t (i + suc m - 1) ≡ frame_at t (i + m) = ap (frame_at t) (omega arith) in
       omega arith
 
+  -- No frame is after a later one.
   pub rises_to : (i j : ℕ) → i ≤ j → j < length t → frame_at t i ≤ frame_at t j
   rises_to i j h l = let r = rises i (j - i) (omega arith) in
       let e : frame_at t (i + (j - i)) ≡ frame_at t j = ap (frame_at t) (omega arith) in omega arith
 
+  -- Each is before a later one.
   pub rises_strictly : (i j : ℕ) → i < j → j < length t → frame_at t i < frame_at t j
   rises_strictly i j h l = let r = rises_to i (j - 1) (omega arith) (omega arith) in
       let s = rising j (omega arith) l in omega arith
@@ -126,6 +136,7 @@ module _ (t : Transmission)
 
 -- ---- the packets on air up to a frame
 
+-- The frames of a range of numbers that is met by the first n are these.
 pub filter_take : (t : Transmission) (n g f : ℕ)
     → ((j : ℕ) → j < length t → j < n
     → (nat_le g (frame_at t j) && nat_le (frame_at t j) f) ≡ true)
@@ -150,6 +161,7 @@ filter_take (s ∷ ss) (suc n) g f kept other =
     (filter_take ss n g f (λ j l m. kept (suc j) (omega arith) (omega arith))
     (λ j l m. other (suc j) (omega arith) (omega arith)))
 
+-- What is on air up to a frame that is at or after the first n frames, and before the others.
 pub air_is : (t : Transmission)
     → ((i : ℕ) → 0 < i → i < length t → frame_at t (i - 1) < frame_at t i) → (n f : ℕ) → 0 < n
     → n ≤ length t → frame_at t (n - 1) ≤ f → (n < length t → f < frame_at t n)

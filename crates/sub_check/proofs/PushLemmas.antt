@@ -4,15 +4,18 @@ use Rattle.std.specs.Option.{option_or}
 use Rattle.ttx_packet.specs.PageHeader.{header}
 use Rattle.sub_check.specs.PacketRules.{first_header}
 
+-- The first of three options, in either way.
 or_assoc : {A : Type 0} (a b c : Option A)
     → option_or a (option_or b c) ≡ option_or (option_or a b) c
 or_assoc None b c = refl
 or_assoc (Some x) b c = refl
 
+-- With none nothing changes.
 or-none : {A : Type 0} (a : Option A) → option_or a None ≡ option_or None a
 or-none None = refl
 or-none (Some x) = refl
 
+-- The first header of a list that goes on by one packet.
 pub first_header-push : (xs : List (List ℕ)) (x : List ℕ)
     → first_header (xs ++ x ∷ []) ≡ option_or (first_header xs) (header x)
 first_header-push [] x = or-none (header x)

@@ -33,7 +33,8 @@ use Rattle.stl_rows.specs.DuePage.{due}
 use Rattle.stl_rows.specs.Programme.{ProgrammeValue}
 use Rattle.sub_check.specs.Transmission.{SentFrame, Transmission, IsRising, EachPacket, first_frame}
 use Rattle.sub_check.specs.Transmission.{last_frame, packets_of, on_air_until}
-use Rattle.sub_check.specs.Good.{due_page, IsInOneMode, IsSubtitleHeader, IsControlled}
+use Rattle.sub_plan.specs.Schedule.{due_in}
+use Rattle.sub_check.specs.Good.{IsInOneMode, IsSubtitleHeader, IsControlled}
 use Rattle.sub_check.specs.Good.{IsEnhancement, IsCleanSpan, HasCleanSpans, ShowsDuePages}
 use Rattle.sub_check.specs.Rules.{Rule, KeepsBound, IsKept}
 use Rattle.sub_check.specs.Rules.Rule.{Frames, ExactWords, OneMode, SubtitleControl}
@@ -410,7 +411,7 @@ pub blank_tested :
     → ((f : ℕ)
     → first_frame frames ≤ f
     → f ≤ last_frame frames
-    → due_page programme f ≡ blank)
+    → due_in programme f ≡ blank)
     → each_frame (is_blank_at frames) frames ≡ true
     → ShowsDuePages programme page_888 frames
 blank_tested programme frames blank_due e f row column l m named =
@@ -420,7 +421,7 @@ blank_tested programme frames blank_due e f row column l m named =
     ∙ ap (λ page. cell page row column) (sym (blank_due f l m))
 
 -- No subtitle, and so blank pages.
-pub none_due : (f : ℕ) → due_page no_subtitles f ≡ blank
+pub none_due : (f : ℕ) → due_in no_subtitles f ≡ blank
 unfolding due
 none_due f = refl
 

@@ -26,7 +26,7 @@ use Rattle.stl_rows.specs.Programme.{ProgrammeValue}
 use Rattle.sub_check.specs.Listening.{Knows, HoldsRows, IsSound}
 use Rattle.sub_check.specs.FrameRules.{Task, frame_at, packets_at, joined, HasHeader, Shows}
 use Rattle.sub_check.specs.FrameRules.{IsCovered}
-use Rattle.sub_check.specs.Good.{due_page}
+use Rattle.sub_plan.specs.Schedule.{due_in}
 use Rattle.sub_check.specs.Following.{IsTaskOf, HeaderIs}
 use Rattle.sub_check.proofs.PacketLists.{Each-find, Each-join, find_none, row_kind}
 
@@ -71,6 +71,7 @@ shown_is w packets sent page h row column is =
 module _ (g : Task) (p : ProgrammeValue) (every : ℕ) (task : IsTaskOf g p every)
     (frames : Transmission) (n f : ℕ) (s : Listener) (knows : Knows (joined frames n) s)
     (watched_is : s.watched ≡ g.watched) where
+  -- The page that is kept is what the packets show.
   kept_shown : (row column : ℕ) → IsCell row column
       → cell s.page row column ≡ shown g.watched.page (joined frames n) row column
   kept_shown row column is =
@@ -81,12 +82,13 @@ module _ (g : Task) (p : ProgrammeValue) (every : ℕ) (task : IsTaskOf g p ever
   -- the page that is kept equals the due page at a cell exactly where the transmission shows what
   -- is due
   pub shows_from : (row column : ℕ) → IsCell row column
-      → cell s.page row column ≡ cell (due_page p f) row column → Shows g frames n f row column
+      → cell s.page row column ≡ cell (due_in p f) row column → Shows g frames n f row column
   shows_from row column is e = sym (kept_shown row column is) ∙ e
       ∙ ap (λ d. cell d row column) (sym (task.due_is f))
 
+  -- And where they differ, so does what is shown from what is due.
   pub shows_not : (row column : ℕ) → IsCell row column
-      → (cell s.page row column ≡ cell (due_page p f) row column → ⊥)
+      → (cell s.page row column ≡ cell (due_in p f) row column → ⊥)
       → Shows g frames n f row column → ⊥
   shows_not row column is other shows =
       other (kept_shown row column is ∙ shows ∙ ap (λ d. cell d row column) (task.due_is f))
@@ -101,15 +103,18 @@ Knows-counted heard s n k =
 
 module _ (g : Task) (frames : Transmission) (n at f every : ℕ) (h : HeaderIs g frames n at)
     (same : g.every ≡ every) (past : at ≤ f) where
+  -- A header less than so many frames ago.
   pub covered_from : f - at < every → IsCovered g frames n f
   covered_from l = let found = h.found.2 in
       let below : f < frame_at frames h.found.0 + g.every = omega arith in
       inr (h.found.0, h.found.1, below, h.found.3)
 
+  -- And one longer ago.
   pub covered_not : every ≤ f - at → IsCovered g frames n f → ⊥
   covered_not l (inl e) = let b = h.begins in omega arith
   covered_not l (inr (j, i, e, head)) = let b = h.last j i head in omega arith
 
+-- A frame without a header leaves the last header's frame.
 pub HeaderIs-none : (g : Task) (frames : Transmission) (n at : ℕ) → HeaderIs g frames n at
     → (HasHeader g frames n → ⊥) → HeaderIs g frames (n + 1) at
 HeaderIs-none g frames n at h none = record {
@@ -122,6 +127,7 @@ HeaderIs-none g frames n at h none = record {
   begins = h.begins;
 }
 
+-- A frame with one is the last header's frame.
 pub HeaderIs-some : (g : Task) (frames : Transmission) (n : ℕ) → HasHeader g frames n
     → ((j : ℕ) → j < n + 1 → frame_at frames j ≤ frame_at frames n)
     → HeaderIs g frames (n + 1) (frame_at frames n)
@@ -133,6 +139,7 @@ HeaderIs-some g frames n head rising = record {
 
 -- ---- one sending more
 
+-- The packets of one frame more.
 pub joined_more : (frames : Transmission) (n : ℕ) → n < length frames
     → joined frames (n + 1) ≡ joined frames n ++ packets_at frames n
 joined_more [] n l = absurd (omega arith)

@@ -9,7 +9,7 @@ use Rattle.ttx_page.specs.Span.{holds_header}
 use Rattle.sub_check.specs.Transmission.{Transmission}
 use Rattle.sub_check.specs.declared.listener.Listener.{Listener}
 use Rattle.sub_check.specs.declared.packet_rules.PacketRule.{PacketRule}
-use Rattle.sub_check.specs.PacketRules.{IsFree, AreClean, IsFirstFault, header_count}
+use Rattle.sub_check.specs.PacketRules.{KeepsRule, AreClean, BreaksFirstAt, header_count}
 use Rattle.sub_check.specs.Listening.{Knows}
 use Rattle.stl_rows.specs.Programme.{ProgrammeValue}
 use Rattle.ttx_packet.specs.PageId.{PageIdValue}
@@ -21,6 +21,7 @@ use Rattle.sub_check.specs.Following.{PacketsOk, HeaderIs, IsTaskOf, FrameOk}
 use Rattle.sub_check.proofs.PacketLists.{holds-count}
 use Rattle.sub_check.proofs.ShownLemmas.{HeaderIs-none, HeaderIs-some, joined_more}
 
+-- What is kept after the packets of frame n of the list, and that they keep the rules.
 pub record Taken (g : Task) (frames : Transmission) (n : ℕ) (found : Bool) (headers : ℕ)
     (s : Listener) : Type 0 where
   pub packets : PacketsOk g frames n
@@ -29,6 +30,7 @@ pub record Taken (g : Task) (frames : Transmission) (n : ℕ) (found : Bool) (he
   pub header : holds_header (kind g.watched.page) (packets_at frames n) ≡ found
   pub count : header_count g.watched.page (packets_at frames n) ≡ headers
 
+-- That, from what the listener shows.
 pub Taken-from : (g : Task) (frames : Transmission) (n : ℕ) (found : Bool) (headers : ℕ)
     (s : Listener) (w : Watched) (ps : List (List ℕ))
     → n < length frames → packets_at frames n ≡ ps → w ≡ g.watched → s.watched ≡ w
@@ -39,10 +41,10 @@ Taken-from g frames n found headers s w ps there same watched kept is count m lo
     record {
       packets = record {
         each = λ k rule t. subst
-            (λ v. IsFree rule v (joined frames n ++ take k (packets_at frames n))
+            (λ v. KeepsRule rule v (joined frames n ++ take k (packets_at frames n))
             (get_or (packets_at frames n) k [])) watched
             (subst (λ xs. (k : ℕ) → k < length xs → (f : PacketRule)
-            → IsFree f w (joined frames n ++ take k xs) (get_or xs k [])) (sym same)
+            → KeepsRule f w (joined frames n ++ take k xs) (get_or xs k [])) (sym same)
             (subst (AreClean w (joined frames n) ps) (sym long) clean) k t.1 rule);
       };
       knows = subst (λ xs. Knows xs s)
@@ -59,6 +61,7 @@ Taken-from g frames n found headers s w ps there same watched kept is count m lo
           ∙ sym count;
     }
 
+-- The last header's frame, one frame on.
 pub HeaderIs-more : (g : Task) (frames : Transmission) (n at frame : ℕ) (found : Bool)
     → HeaderIs g frames n at → frame_at frames n ≡ frame
     → holds_header (kind g.watched.page) (packets_at frames n) ≡ found
@@ -71,6 +74,7 @@ HeaderIs-more g frames n at frame true h f e rising =
 HeaderIs-more g frames n at frame false h f e rising =
     HeaderIs-none g frames n at h (λ head. true≢false (sym head ∙ e))
 
+-- The frames rise, one frame on.
 pub rising_more : (frames : Transmission) (n frame next : ℕ)
     → ((j : ℕ) → j < n → frame_at frames j ≤ frame) → frame < next → frame_at frames n ≡ next
     → (j : ℕ) → j < n + 1 → frame_at frames j ≤ next
@@ -82,12 +86,13 @@ rising_more frames n frame next rising later is j l = elim (cases_eq j n) [
 -- the packets of a first fault are those of the sending
 pub fault_moved : (g : Task) (frames : Transmission) (n : ℕ) (w : Watched) (ps : List (List ℕ))
     (k : ℕ) (rule : PacketRule) → packets_at frames n ≡ ps → w ≡ g.watched
-    → IsFirstFault w (joined frames n) ps k rule
-    → IsFirstFault g.watched (joined frames n) (packets_at frames n) k rule
+    → BreaksFirstAt w (joined frames n) ps k rule
+    → BreaksFirstAt g.watched (joined frames n) (packets_at frames n) k rule
 fault_moved g frames n w ps k rule same watched is =
-    subst (λ v. IsFirstFault v (joined frames n) (packets_at frames n) k rule) watched
-    (subst (λ xs. IsFirstFault w (joined frames n) xs k rule) (sym same) is)
+    subst (λ v. BreaksFirstAt v (joined frames n) (packets_at frames n) k rule) watched
+    (subst (λ xs. BreaksFirstAt w (joined frames n) xs k rule) (sym same) is)
 
+-- All that is asked of the frames so far, one frame on.
 pub past_more : (g : Task) (frames : Transmission) (n : ℕ) → ((j : ℕ) → j < n → FrameOk g frames j)
     → FrameOk g frames n → (j : ℕ) → j < n + 1 → FrameOk g frames j
 past_more g frames n past here j l =

@@ -1,6 +1,5 @@
 -- The places of a transmission at which something is asked, their order, and the first at which
--- what is
--- asked is broken. Each sentence is about the frames up to its place.
+-- what is asked is broken. Each sentence is about the frames up to its place.
 use Rattle.std.specs.Prelude.{◌≡◌, ℕ, ◌+◌, ◌-◌, ◌<◌, ◌≤◌, ◌⊎◌, List, [], ◌∷◌, ◌++◌, Option, Some}
 use Rattle.std.specs.Prelude.{None, length, take}
 use Rattle.std.specs.Prelude.{slice_index_or}
@@ -8,7 +7,7 @@ use Rattle.ttx_page.specs.Page.{IsCell}
 use Rattle.sub_check.specs.FrameRules.{Task, Unread, frame_at, packets_at, joined, end_frame}
 use Rattle.sub_check.specs.FrameRules.{HasHeader, Shows, IsCovered}
 use Rattle.sub_check.specs.FrameRules.Unread.{BadPacket, NoFrame}
-use Rattle.sub_check.specs.PacketRules.{IsFree, number_of}
+use Rattle.sub_check.specs.PacketRules.{KeepsRule, number_of}
 use Rattle.sub_check.specs.Transmission.{Transmission}
 use Rattle.sub_check.specs.declared.fault.CheckFault.{CheckFault}
 use Rattle.sub_check.specs.declared.fault.CheckFault.TheVariants as fault
@@ -44,9 +43,8 @@ pub data Place : Type 0 where
   AtEnd : Place
 
 -- The numbers by which places are compared, the first of them first: the frame of the list, the
--- part of
--- what is asked of it, and within the part what is asked in order. What follows the list comes
--- last.
+-- part of what is asked of it, and within the part what is asked in order. What follows the list
+-- comes last.
 abbrev pub key : Place → List ℕ
 key (AtOrder i) = 0 ∷ i ∷ 0 ∷ 62 ∷ []
 key AtStart = 0 ∷ 0 ∷ 0 ∷ 63 ∷ []
@@ -97,7 +95,7 @@ Holds g frames (AtGapCell i f row column) = Shows g frames i f row column
 Holds g frames (AtGap i f) = IsCovered g frames i f
 -- The packet keeps the rule, sent after all packets before it.
 Holds g frames (AtPacket i k rule) =
-    IsFree rule g.watched (joined frames i ++ take k (packets_at frames i))
+    KeepsRule rule g.watched (joined frames i ++ take k (packets_at frames i))
     (slice_index_or (packets_at frames i) k [])
 -- The first frame has a header of the page.
 Holds g frames AtFirst = HasHeader g frames 0

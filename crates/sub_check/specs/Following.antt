@@ -6,7 +6,7 @@ use Rattle.sub_check.specs.declared.frame_rules.Checker.{Checker}
 use Rattle.sub_check.specs.declared.packet_rules.PacketRule.{PacketRule}
 use Rattle.sub_check.specs.Listening.{Knows}
 use Rattle.sub_check.specs.FrameRules.{Task, frame_at, packets_at, joined, HasHeader}
-use Rattle.sub_check.specs.Good.{due_page}
+use Rattle.sub_plan.specs.Schedule.{due_in}
 use Rattle.sub_check.specs.PacketRules.{header_count}
 use Rattle.sub_check.specs.FirstBroken.{Place, IsThere, Holds}
 use Rattle.sub_check.specs.FirstBroken.Place.{AtOrder, AtStart, AtGapCell, AtGap, AtPacket, AtFirst}
@@ -45,7 +45,7 @@ pub record FrameOk (g : Task) (frames : Transmission) (i : ℕ) : Type 0 where
 
 -- The task is that of the programme, with the repeat bound.
 pub record IsTaskOf (g : Task) (p : ProgrammeValue) (every : ℕ) : Type 0 where
-  pub due_is : (f : ℕ) → g.due f ≡ due_page p f
+  pub due_is : (f : ℕ) → g.due f ≡ due_in p f
   pub every_is : g.every ≡ every
   pub first_is : g.first_in ≡ first_in p.records
   pub last_is : g.last_out ≡ last_out p.records

@@ -11,21 +11,19 @@ use Rattle.ttx_page.specs.Span.{holds_header}
 use Rattle.ttx_pes.specs.declared.fault.PesFault.{PesFault}
 use Rattle.stl_rows.specs.Programme.{ProgrammeValue, first_in, last_out}
 use Rattle.sub_plan.specs.Options.{OptionsValue}
-use Rattle.sub_check.specs.Good.{due_page}
+use Rattle.sub_plan.specs.Schedule.{due_in}
 use Rattle.sub_check.specs.Transmission.{SentFrame, Transmission}
 use Rattle.sub_check.specs.declared.packet_rules.Watched.{Watched}
 
 -- Why the bytes of a PES file are not read as frames to their end: what follows the frames begins
--- with
--- no PES packet, by this fault, or with one whose PTS is that of no frame of the day.
+-- with no PES packet, by this fault, or with one whose PTS is that of no frame of the day.
 pub data Unread : Type 0 where
   BadPacket : PesFault → Unread
   NoFrame : Unread
 
 -- What a transmission is checked against: the page and its national option, the repeat bound, the
--- page
--- that is due at each frame, the first TCI and the last TCO; and what keeps the PES file from being
--- read to its end, if anything does.
+-- page that is due at each frame, the first TCI and the last TCO; and what keeps the PES file from
+-- being read to its end, if anything does.
 pub record Task : Type 0 where
   pub watched : Watched
   pub every : ℕ
@@ -43,7 +41,7 @@ abbrev pub task_of : ProgrammeValue → OptionsValue → Option Unread → Task
 task_of programme options unread = record {
   watched = watched_of programme options;
   every = options.every;
-  due = due_page programme;
+  due = due_in programme;
   first_in = first_in programme.records;
   last_out = last_out programme.records;
   unread = unread;
@@ -75,8 +73,7 @@ Shows g frames n f row column =
     shown g.watched.page (joined frames n) row column ≡ cell (g.due f) row column
 
 -- Of the frames of the day that end with f, as many as the repeat bound, one is before the first
--- frame
--- of the list, or has a header of the page.
+-- frame of the list, or has a header of the page.
 abbrev pub IsCovered : Task → Transmission → ℕ → ℕ → Type 0
 IsCovered g frames n f =
     (f + 1 < frame_at frames 0 + g.every)

@@ -1,5 +1,5 @@
 -- The seven rules of a good transmission. All are read on the packets as they are sent.
-use Rattle.std.specs.Prelude.{◌≡◌, ℕ, ◌+◌, ◌<◌, ◌≤◌, Bool, true, false, List, Some, length, take}
+use Rattle.std.specs.Prelude.{◌≡◌, ℕ, ◌+◌, ◌<◌, ◌≤◌, List, Some, length, take}
 use Rattle.std.specs.Prelude.{All, IfSome, IsTrue, IsFalse}
 use Rattle.ttx_packet.specs.declared.header.Header.{Header}
 use Rattle.ttx_packet.specs.PacketAddress.{PacketAddress, address}
@@ -8,29 +8,18 @@ use Rattle.ttx_packet.specs.PageHeader.{c4, c5, c6, c7, c10, c11, c12, c13, c14}
 use Rattle.ttx_packet.specs.PageId.{PageIdValue}
 use Rattle.ttx_page.specs.declared.packet_kind.PacketKind.TheVariants.{ThisPage}
 use Rattle.ttx_page.specs.Noise.{IsOddRow, IsSameRow}
-use Rattle.ttx_page.specs.Page.{Rows, cell, IsCell}
+use Rattle.ttx_page.specs.Page.{cell, IsCell}
 use Rattle.ttx_page.specs.PacketKind.{kind}
 use Rattle.ttx_page.specs.Shown.{shown}
 use Rattle.ttx_page.specs.Span.{holds_header, span}
 use Rattle.stl_rows.specs.declared.national.National.{National}
-use Rattle.stl_rows.specs.declared.national.National.TheVariants.{English, German}
-use Rattle.stl_rows.specs.DuePage.{due}
 use Rattle.stl_rows.specs.Programme.{ProgrammeValue, first_in, last_out}
 use Rattle.sub_plan.specs.Options.{OptionsValue}
+use Rattle.sub_plan.specs.Schedule.{due_in}
+use Rattle.sub_plan.specs.Sending.{has_c14}
 use Rattle.sub_check.specs.Transmission.{Transmission, IsRising, EachPacket, first_frame}
 use Rattle.sub_check.specs.Transmission.{last_frame}
 use Rattle.sub_check.specs.Transmission.{packets_of, on_air_until}
-
--- The page of a programme that is due at a frame: the drawn page of the subtitle with TCI up to the
--- frame and TCO after it, blank where there is none.
-abbrev pub due_page : ProgrammeValue → ℕ → Rows
-due_page programme f = due programme.national programme.records f
-
--- Of C12, C13 and C14, which name the national option character sub-set, only C14 tells English
--- (0 0 0) from German (0 0 1).
-abbrev pub has_c14 : National → Bool
-has_c14 English = false
-has_c14 German = true
 
 -- Two packets are in one mode, parallel or serial: where both are page headers, they agree on C11,
 -- magazine serial.
@@ -101,7 +90,7 @@ ShowsDuePages programme page transmission =
     → first_frame transmission ≤ f
     → f ≤ last_frame transmission
     → IsCell row column
-    → shown page (on_air_until transmission f) row column ≡ cell (due_page programme f) row column
+    → shown page (on_air_until transmission f) row column ≡ cell (due_in programme f) row column
 
 -- A good transmission of a programme on a page, with a repeat bound. The origin of the options is
 -- not looked at: it tells how PES packets are a transmission.

@@ -1,6 +1,5 @@
 -- What is asked of a packet that is sent after others. Each rule looks back over the whole list of
--- the
--- packets before it, to the first packet of the transmission.
+-- the packets before it, to the first packet of the transmission.
 use Rattle.std.specs.Prelude.{◌≡◌, ℕ, ◌<◌, List, [], ◌∷◌, ◌++◌, take, length, slice_index_or}
 use Rattle.std.specs.Prelude.{Option, Some, None, IsTrue, filter, map, drop}
 use Rattle.std.specs.List.{AllByRecursion}
@@ -38,40 +37,40 @@ abbrev pub header_count : PageIdValue → List (List ℕ) → ℕ
 header_count page packets = length (filter (λ p. is_this_page (kind page p)) packets)
 
 -- The packet p, sent after these packets, keeps the rule.
-abbrev pub IsFree : PacketRule → Watched → List (List ℕ) → List ℕ → Type 0
+abbrev pub KeepsRule : PacketRule → Watched → List (List ℕ) → List ℕ → Type 0
 -- Both address bytes are code words, with no bit wrong.
-IsFree rule.Address w before p = HasExactAddress p
+KeepsRule rule.Address w before p = HasExactAddress p
 -- In a packet X/0 the eight coded bytes are code words, with no bit wrong.
-IsFree rule.HeaderCode w before p =
+KeepsRule rule.HeaderCode w before p =
     (a : PacketAddress) → address p ≡ Some a → a.packet_number ≡ 0 → HasExactHeader p
 -- A page header, of any page, has the C11 of the first one.
-IsFree rule.Mode w before p =
+KeepsRule rule.Mode w before p =
     (h first : Header)
     → header p ≡ Some h
     → first_header before ≡ Some first
     → c11 h ≡ c11 first
 -- A header of the page is a subtitle's.
-IsFree rule.Control w before p =
+KeepsRule rule.Control w before p =
     (h : Header) → kind w.page p ≡ ThisPage h → IsSubtitleHeader w.national h
 -- While the page is open a row of it has 40 bytes of odd parity.
-IsFree rule.Parity w before p =
+KeepsRule rule.Parity w before p =
     IsTrue (is_open_after (kind w.page) before)
     → (row : ℕ)
     → kind w.page p ≡ Row row
     → HasOddText p
 -- While the page is open a row equals each packet of its row since the last header of the page.
-IsFree rule.RowChanged w before p =
+KeepsRule rule.RowChanged w before p =
     IsTrue (is_open_after (kind w.page) before)
     → (row : ℕ)
     → kind w.page p ≡ Row row
     → AllByRecursion (λ q. kind w.page q ≡ Row row → q ≡ p) (span (kind w.page) before)
 -- While the page is open no packet X/25 to X/28 of its magazine comes.
-IsFree rule.Enhancement w before p =
+KeepsRule rule.Enhancement w before p =
     IsTrue (is_open_after (kind w.page) before) → IsEnhancement w.page p → ⊥
 
 -- It keeps all seven.
 abbrev pub IsClean : Watched → List (List ℕ) → List ℕ → Type 0
-IsClean w before p = (f : PacketRule) → IsFree f w before p
+IsClean w before p = (f : PacketRule) → KeepsRule f w before p
 
 -- The number of the refusal that tells the rule.
 abbrev pub number_of : PacketRule → ℕ
@@ -84,10 +83,10 @@ number_of rule.RowChanged = 69
 number_of rule.Enhancement = 70
 
 -- It breaks this rule, and none of a lower number.
-pub record IsFirstFlaw (w : Watched) (before : List (List ℕ)) (p : List ℕ) (f : PacketRule)
+pub record BreaksFirst (w : Watched) (before : List (List ℕ)) (p : List ℕ) (f : PacketRule)
     : Type 0 where
-  pub broken : IsFree f w before p → ⊥
-  pub earlier : (g : PacketRule) → number_of g < number_of f → IsFree g w before p
+  pub broken : KeepsRule f w before p → ⊥
+  pub earlier : (g : PacketRule) → number_of g < number_of f → KeepsRule g w before p
 
 -- The first n packets of a frame keep all rules, sent after these.
 abbrev pub AreClean : Watched → List (List ℕ) → List (List ℕ) → ℕ → Type 0
@@ -95,9 +94,9 @@ AreClean w before packets n =
     (k : ℕ) → k < n → IsClean w (before ++ take k packets) (slice_index_or packets k [])
 
 -- Packet k of a frame breaks the rule, none of a lower number, and the packets before it keep all.
-pub record IsFirstFault
+pub record BreaksFirstAt
     (w : Watched) (before packets : List (List ℕ)) (k : ℕ) (f : PacketRule)
     : Type 0 where
   pub exists : k < length packets
   pub clean : AreClean w before packets k
-  pub first : IsFirstFlaw w (before ++ take k packets) (slice_index_or packets k []) f
+  pub first : BreaksFirst w (before ++ take k packets) (slice_index_or packets k []) f

@@ -10,7 +10,7 @@ use Rattle.ttx_page.specs.Span.{holds_header}
 use Rattle.stl_rows.specs.Programme.{ProgrammeValue}
 use Rattle.sub_plan.specs.Options.{OptionsValue}
 use Rattle.sub_check.specs.Transmission.{Transmission, first_frame, last_frame, packets_of, on_air}
-use Rattle.sub_check.specs.Good.{due_page}
+use Rattle.sub_plan.specs.Schedule.{due_in}
 
 -- A start at packet j of frame g, and a stop at the end of frame f, within the transmission. With j
 -- the number of packets of frame g, one starts after all of them.
@@ -35,7 +35,7 @@ pub record IsServed
       IsTrue (holds_header (kind options.page) sent)
       → (row column : ℕ)
       → IsCell row column
-      → (cell new.page row column ≡ cell (due_page programme f) row column)
+      → (cell new.page row column ≡ cell (due_in programme f) row column)
       ⊎ ((cell new.page row column ≡ space) × IsExcused row column)
 
 -- A robust transmission: wherever one starts and stops, whatever is got with at most one bit wrong

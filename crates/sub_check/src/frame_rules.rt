@@ -7,7 +7,7 @@ ghost use Rattle.stl_rows.specs.DuePage.{TellsNextEdge};
 ghost use Rattle.sub_check.specs.Checking.{IsRuleFault};
 ghost use Rattle.sub_check.specs.FirstBroken.{NamesFirst, packet_fault};
 ghost use Rattle.sub_check.specs.FrameRules.{Task, frame_at};
-ghost use Rattle.sub_check.specs.Good.{due_page};
+ghost use Rattle.sub_plan.specs.Schedule.{due_in};
 ghost use Rattle.sub_check.specs.PacketRules.{packets_of_units};
 ghost use Rattle.ttx_page.specs.Differing.{differing};
 ghost use Rattle.sub_check.specs.Transmission.{Transmission};
@@ -42,10 +42,10 @@ impl Checker {
     // Goes on to a frame: where a subtitle begins or ends, the due page is drawn anew.
     fn advance(&mut self, programme: &Programme, f: u32)
         requires some { 0 < f }
-        requires due { self.old.due ≡ due_page programme.now (f - 1) }
+        requires due { self.old.due ≡ due_in programme.now (f - 1) }
         requires edge { TellsNextEdge programme.now.records (f - 1) self.old.edge }
         requires count { self.old.listener.wrong ≡ differing self.old.listener.page self.old.due }
-        ensures due { self.new.due ≡ due_page programme.now f }
+        ensures due { self.new.due ≡ due_in programme.now f }
         ensures edge { TellsNextEdge programme.now.records f self.new.edge }
         ensures count { self.new.listener.wrong ≡ differing self.new.listener.page self.new.due }
         ensures frame { self.new.frame ≡ self.old.frame }
@@ -65,14 +65,14 @@ impl Checker {
     fn cross_gap(&mut self, programme: &Programme, to: u32, every: u32) -> Result<(), CheckFault>
         requires header { self.old.header_at ≤ self.old.frame }
         requires later { self.old.frame < to }
-        requires due { self.old.due ≡ due_page programme.now self.old.frame }
+        requires due { self.old.due ≡ due_in programme.now self.old.frame }
         requires edge { TellsNextEdge programme.now.records self.old.frame self.old.edge }
         requires count { self.old.listener.wrong ≡ differing self.old.listener.page self.old.due }
         ensures frame { self.new.frame ≡ self.old.frame }
         ensures header_at { self.new.header_at ≡ self.old.header_at }
         ensures headers { self.new.headers ≡ self.old.headers }
         ensures own { IfErr result IsRuleFault }
-        ensures due { OnOk result (self.new.due ≡ due_page programme.now (to - 1)) }
+        ensures due { OnOk result (self.new.due ≡ due_in programme.now (to - 1)) }
         ensures edge { OnOk result (TellsNextEdge programme.now.records (to - 1) self.new.edge) }
         ensures count { OnOk result
             (self.new.listener.wrong ≡ differing self.new.listener.page self.new.due) }
@@ -110,14 +110,14 @@ impl Checker {
         requires header { self.old.header_at ≤ self.old.frame }
         requires later { self.old.frame < frame }
         requires headers { self.old.headers ≤ 35 * self.old.frame + 35 }
-        requires due { self.old.due ≡ due_page programme.now (frame - 1) }
+        requires due { self.old.due ≡ due_in programme.now (frame - 1) }
         requires edge { TellsNextEdge programme.now.records (frame - 1) self.old.edge }
         requires count { self.old.listener.wrong ≡ differing self.old.listener.page self.old.due }
         ensures own { IfErr result IsRuleFault }
         ensures header { OnOk result (self.new.header_at ≤ self.new.frame) }
         ensures frame { OnOk result (self.new.frame ≡ frame) }
         ensures headers { OnOk result (self.new.headers ≤ 35 * self.new.frame + 35) }
-        ensures due { OnOk result (self.new.due ≡ due_page programme.now self.new.frame) }
+        ensures due { OnOk result (self.new.due ≡ due_in programme.now self.new.frame) }
         ensures edge { OnOk result
             (TellsNextEdge programme.now.records self.new.frame self.new.edge) }
         ensures count { OnOk result
@@ -158,14 +158,14 @@ impl Checker {
         requires few { length units.now ≤ 35 }
         requires header { self.old.header_at ≤ self.old.frame }
         requires headers { self.old.headers ≤ 35 * self.old.frame + 35 }
-        requires due { self.old.due ≡ due_page programme.now self.old.frame }
+        requires due { self.old.due ≡ due_in programme.now self.old.frame }
         requires edge { TellsNextEdge programme.now.records self.old.frame self.old.edge }
         requires count { self.old.listener.wrong ≡ differing self.old.listener.page self.old.due }
         ensures own { IfErr result IsRuleFault }
         ensures header { OnOk result (self.new.header_at ≤ self.new.frame) }
         ensures later { OnOk result (self.old.frame ≤ self.new.frame) }
         ensures headers { OnOk result (self.new.headers ≤ 35 * self.new.frame + 35) }
-        ensures due { OnOk result (self.new.due ≡ due_page programme.now self.new.frame) }
+        ensures due { OnOk result (self.new.due ≡ due_in programme.now self.new.frame) }
         ensures edge { OnOk result
             (TellsNextEdge programme.now.records self.new.frame self.new.edge) }
         ensures count { OnOk result
@@ -196,7 +196,7 @@ impl Checker {
         ensures header { IfOk result (λ checker. checker.header_at ≤ checker.frame) }
         ensures frame { IfOk result (λ checker. checker.frame ≡ frame) }
         ensures headers { IfOk result (λ checker. checker.headers ≤ 35 * checker.frame + 35) }
-        ensures due { IfOk result (λ checker. checker.due ≡ due_page programme.now checker.frame) }
+        ensures due { IfOk result (λ checker. checker.due ≡ due_in programme.now checker.frame) }
         ensures edge { IfOk result (λ checker.
             TellsNextEdge programme.now.records checker.frame checker.edge) }
         ensures count { IfOk result (λ checker.

@@ -39,7 +39,7 @@ pub(crate) struct Listener {
 }
 
 impl Listener {
-    ghost use Rattle.sub_check.specs.PacketRules.{AreClean, IsClean, IsFirstFault, IsFirstFlaw};
+    ghost use Rattle.sub_check.specs.PacketRules.{AreClean, IsClean, BreaksFirstAt, BreaksFirst};
     ghost use Rattle.sub_check.specs.Listening.{Knows};
 
     /// Nothing was heard.
@@ -62,7 +62,7 @@ impl Listener {
         ensures { (heard : List (List ℕ)) → Knows heard self.now
             → MatchOption result
             (IsClean self.now.watched heard packet.now)
-            (IsFirstFlaw self.now.watched heard packet.now) }
+            (BreaksFirst self.now.watched heard packet.now) }
     {
         if !packet.is_clean_address() {
             return Some(PacketRule::Address);
@@ -148,7 +148,7 @@ impl Listener {
         ensures knows { (heard : List (List ℕ)) → Knows heard self.old → MatchResult result
             (λ _. AreClean self.old.watched heard (packets_of_units units.now) (length units.now)
             × Knows (heard ++ packets_of_units units.now) self.new)
-            (λ fault. IsFirstFault self.old.watched heard (packets_of_units units.now)
+            (λ fault. BreaksFirstAt self.old.watched heard (packets_of_units units.now)
             fault.packet fault.rule) }
     {
         let mut headers = 0;

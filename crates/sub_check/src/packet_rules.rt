@@ -7,7 +7,8 @@ ghost use Rattle.ttx_packet.specs.Parity.{code_of};
 ghost use Rattle.ttx_packet.specs.RowPacket.{HasOddText};
 ghost use Rattle.ttx_packet.specs.declared.header.Header.{Header};
 ghost use Rattle.ttx_page.specs.Page.{AreCodes};
-ghost use Rattle.sub_check.specs.Good.{IsEnhancement, IsSubtitleHeader, has_c14};
+ghost use Rattle.sub_plan.specs.Sending.{has_c14};
+ghost use Rattle.sub_check.specs.Good.{IsEnhancement, IsSubtitleHeader};
 ghost use Rattle.sub_check.specs.PacketRules.{codes_of};
 
 use bitflags::Flags;

@@ -5,7 +5,7 @@ use Rattle.stl_rows.specs.DuePage.{TellsNextEdge}
 use Rattle.ttx_pes.specs.declared.progress.Progress.TheVariants.{Reading}
 use Rattle.sub_check.specs.Checking.{Reaches}
 use Rattle.sub_check.specs.FrameRules.{Unread, task_of}
-use Rattle.sub_check.specs.Good.{due_page}
+use Rattle.sub_plan.specs.Schedule.{due_in}
 use Rattle.sub_check.specs.PesReading.{ReadsAs}
 use Rattle.sub_check.specs.Transmission.{Transmission}
 use Rattle.sub_check.proofs.checker.judge.Given as goal
@@ -15,7 +15,7 @@ invariant-loop-pes g l = record {
   later : l.first ≤ l.checker.frame;
   header : l.checker.header_at ≤ l.checker.frame;
   headers : l.checker.headers ≤ 35 * l.checker.frame + 35;
-  due : l.checker.due ≡ due_page l.programme l.checker.frame;
+  due : l.checker.due ≡ due_in l.programme l.checker.frame;
   edge : TellsNextEdge l.programme.records l.checker.frame l.checker.edge;
   count : l.checker.listener.wrong ≡ differing l.checker.listener.page l.checker.due;
   reading : l.reader ≡ Reading l.pes;

@@ -9,8 +9,8 @@ pub returns-in-Err-clause-accepted : goal.returns-in-Err-clause-accepted
 returns-in-Err-clause-accepted g c = λ programme file told same bytes heard refused fine. cc
 
 pub returns-in-Err-clause-first : goal.returns-in-Err-clause-first
-returns-in-Err-clause-first g c = λ programme frames unread file told same bytes heard reads no fine.
-    cc
+returns-in-Err-clause-first g c =
+    λ programme frames unread file told same bytes heard reads no fine. cc
 
 pub returns-in-Err-clause-content : goal.returns-in-Err-clause-content
 returns-in-Err-clause-content g c =

@@ -2,7 +2,7 @@ use Rattle.std.proofs.Common.{refl, ℕ, ◌≤◌, inl, inr, sym, ap, ◌∙◌
 use Rattle.std.proofs.lemmas.Bool.{cases_eq}
 use Rattle.stl_rows.specs.DuePage.{TellsNextEdge}
 use Rattle.sub_check.specs.FrameRules.{frame_at, joined, Shows, IsCovered}
-use Rattle.sub_check.specs.Good.{due_page}
+use Rattle.sub_plan.specs.Schedule.{due_in}
 use Rattle.sub_check.specs.FirstBroken.{IsInGap}
 use Rattle.sub_check.specs.Listening.{Knows}
 use Rattle.sub_check.specs.declared.listener.Listener.{Listener}
@@ -19,7 +19,7 @@ loop-f-init c = record {
   header_same = refl;
   headers_same = refl;
   watched_same = refl;
-  due = c.requires.due ∙ ap (due_page c.args.programme.now) (omega arith);
+  due = c.requires.due ∙ ap (due_in c.args.programme.now) (omega arith);
   edge = subst (λ x. TellsNextEdge c.args.programme.now.records x c.args.self.now.edge)
       (omega arith) c.requires.edge;
   count = c.requires.count;
@@ -89,7 +89,7 @@ loop-f-preserved c =
       header_same = c.advance.ensures.header_at ∙ c.loop-f.invariant.header_same;
       headers_same = c.advance.ensures.headers ∙ c.loop-f.invariant.headers_same;
       watched_same = kept ∙ c.loop-f.invariant.watched_same;
-      due = c.advance.ensures.due ∙ ap (due_page p) (omega arith);
+      due = c.advance.ensures.due ∙ ap (due_in p) (omega arith);
       edge = subst (λ x. TellsNextEdge p.records x c.advance.new.self.edge) (omega arith)
           c.advance.ensures.edge;
       count = c.advance.ensures.count;

@@ -3,7 +3,7 @@ use Rattle.stl_rows.specs.DuePage.{TellsNextEdge}
 use Rattle.sub_check.specs.Transmission.{Transmission}
 use Rattle.sub_check.specs.Listening.{Knows}
 use Rattle.sub_check.specs.FrameRules.{Task, frame_at, joined}
-use Rattle.sub_check.specs.Good.{due_page}
+use Rattle.sub_plan.specs.Schedule.{due_in}
 use Rattle.ttx_page.specs.Differing.{differing}
 use Rattle.sub_check.specs.FirstBroken.Place.{AtGapCell, AtGap}
 use Rattle.sub_check.specs.Following.{Keeps, Follows, IsTaskOf}
@@ -15,7 +15,7 @@ invariant-loop-f l = record {
   header_same : l.self.header_at ≡ l.initial.self.header_at;
   headers_same : l.self.headers ≡ l.initial.self.headers;
   watched_same : l.self.listener.watched ≡ l.initial.self.listener.watched;
-  due : l.self.due ≡ due_page l.programme (l.f - 1);
+  due : l.self.due ≡ due_in l.programme (l.f - 1);
   edge : TellsNextEdge l.programme.records (l.f - 1) l.self.edge;
   count : l.self.listener.wrong ≡ differing l.self.listener.page l.self.due;
   fine : (g : Task) (frames : Transmission) (n : ℕ) → IsTaskOf g l.programme l.every
