@@ -1,13 +1,22 @@
 -- The commands of the program, as `clap` sees them.
-use Rattle.std.specs.Prelude.{ℕ, Bool, true, List, [], ◌∷◌, Option, codes, map}
+use Rattle.std.specs.Prelude.{ℕ, Bool, true, List, [], ◌∷◌, Option, Some, codes, map}
 use Rattle.std.specs.Borrow.{Bor}
 use Rattle.clap.specs.Kinds.{Kinds}
 use Rattle.clap.specs.Words.{App, Row, Rule, Text, fault_of, new_app, new_rule, subcommand_of}
 use Rattle.clap.specs.Words.{takes, with_rule, with_subcommand}
+use Rattle.clap.specs.declared.builder.action.ArgAction.TheVariants.{SetTrue}
 
 -- An argument that has to be there.
 abbrev pub required_rule : Text → Rule
 required_rule id = record (new_rule id) { required = true }
+
+-- An option `--name TEXT`, and the text that it has where it is left out.
+abbrev pub option_rule : Text → Text → Rule
+option_rule id value = record (new_rule id) { long = Some id; defaults = value ∷ [] }
+
+-- A flag `--name`.
+abbrev pub flag_rule : Text → Rule
+flag_rule id = record (new_rule id) { long = Some id; action = Some SetTrue }
 
 -- `packet HEX`
 abbrev pub packet_app : App
@@ -21,6 +30,33 @@ packets_app = with_rule (new_app (codes "packets")) (required_rule (codes "pes")
 abbrev pub show_app : App
 show_app = with_rule (new_app (codes "show")) (required_rule (codes "stl"))
 
+-- `STL PES`: a subtitle file and the file of PES packets that goes with it.
+abbrev pub with_pair : App → App
+with_pair app =
+    with_rule (with_rule app (required_rule (codes "stl"))) (required_rule (codes "pes"))
+
+-- `[--page P] [--origin T]`: the page, and the PTS of frame 0.
+abbrev pub with_page_and_origin : App → App
+with_page_and_origin app =
+    with_rule (with_rule app (option_rule (codes "page") (codes "888")))
+    (option_rule (codes "origin") (codes "0"))
+
+-- `[--every N]`: the repeat bound in frames.
+abbrev pub with_every : App → App
+with_every app = with_rule app (option_rule (codes "every") (codes "250"))
+
+-- `[--option O]`: the national option.
+abbrev pub with_national : App → App
+with_national app = with_rule app (option_rule (codes "option") (codes "english"))
+
+-- `STL PES [--page P] [--every N] [--origin T] [--option O]`
+abbrev pub with_schedule : App → App
+with_schedule app = with_national (with_every (with_page_and_origin (with_pair app)))
+
+-- `schedule STL PES [--page P] [--every N] [--origin T] [--serial] [--option O]`
+abbrev pub schedule_app : App
+schedule_app = with_rule (with_schedule (new_app (codes "schedule"))) (flag_rule (codes "serial"))
+
 -- The program before its commands: it offers neither help nor a version, and wants a command.
 abbrev pub bare_app : App
 bare_app = let plain = new_app (codes "subttx") in record plain {
@@ -32,11 +68,15 @@ bare_app = let plain = new_app (codes "subttx") in record plain {
   };
 }
 
+-- The commands that list what a packet or a file holds.
+abbrev pub with_listings : App → App
+with_listings app =
+    with_subcommand (with_subcommand (with_subcommand app packet_app.top) packets_app.top)
+    show_app.top
+
 -- The program and its commands.
 unfoldable pub subttx_app : App
-subttx_app =
-    with_subcommand
-    (with_subcommand (with_subcommand bare_app packet_app.top) packets_app.top) show_app.top
+subttx_app = with_subcommand (with_listings bare_app) schedule_app.top
 
 -- What `clap`'s contract says of words, as functions of them. The kinds of its refusal: none where
 -- it takes the words.
@@ -53,7 +93,8 @@ are_sound words = takes subttx_app words
 
 -- The names of the commands.
 abbrev pub command_names : List Text
-command_names = codes "packet" ∷ codes "packets" ∷ codes "show" ∷ []
+command_names =
+    codes "packet" ∷ codes "packets" ∷ codes "show" ∷ codes "schedule" ∷ []
 
 -- The words of the command line as texts.
 abbrev pub texts_of : List (Bor (List ℕ)) → List Text

@@ -1,7 +1,9 @@
 pub mod Commands
+pub mod Arguments
 pub mod Requests
 pub mod Lines
 pub mod Listing
 pub mod LoadLines
 pub mod Listening
 pub mod Writing
+pub mod Answering

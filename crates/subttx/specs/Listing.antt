@@ -1,5 +1,5 @@
 -- What the commands print, whole, and how they end.
-use Rattle.std.specs.Prelude.{⊤, ◌≡◌, ◌≢◌, ℕ, ◌+◌, ◌≤◌, ◌==◌, Bool, true, false, nat_le, List}
+use Rattle.std.specs.Prelude.{◌≡◌, ◌≢◌, ℕ, ◌+◌, ◌≤◌, ◌==◌, Bool, true, false, nat_le, List}
 use Rattle.std.specs.Prelude.{◌++◌, codes, drop}
 use Rattle.std.specs.Prelude.{Option, Some, None, option_map, if◌then◌else◌}
 use Rattle.ttx_packet.specs.PacketAddress.{address, address_pair}
@@ -12,8 +12,6 @@ use Rattle.stl_file.specs.declared.fault.StlFault.{StlFault}
 use Rattle.stl_file.specs.declared.fault.StlFault.TheVariants as stl
 use Rattle.sub_io.specs.Device.{AppendsPrefix}
 use Rattle.subttx.specs.Lines.{address_line, header_line, text_line}
-use Rattle.subttx.specs.declared.request.Request.{Request}
-use Rattle.subttx.specs.declared.request.Request.TheVariants as ask
 use Rattle.subttx.specs.declared.status.Status.{Status}
 use Rattle.subttx.specs.declared.status.Status.TheVariants.{Done, Refused, Fault}
 
@@ -71,12 +69,6 @@ pub record CountsFault (old : ℕ) (status : Status) (new : ℕ) : Type 0 where
   pub kept : status ≢ Fault → new ≡ old
   pub risen : old ≤ new
   pub once : new ≤ old + 1
-
--- The fact holds of the bytes of a `packet` request.
-abbrev pub ForPacket : Request → (List ℕ → Type 0) → Type 0
-ForPacket (ask.Packet bytes) P = P bytes
-ForPacket (ask.Packets pes) P = ⊤
-ForPacket (ask.Show stl) P = ⊤
 
 -- A fault of a PES file that is read is the device's only where the source failed.
 abbrev pub pes_status : PesFault → Status

@@ -1,39 +1,99 @@
 -- How the words of the command line are read.
 use Rattle.std.specs.Prelude.{◌≡◌, ◌≢◌, ◌⊎◌, ⊤, Bool, true, false, List, [], ◌∷◌, Option}
-use Rattle.std.specs.Prelude.{Some, None, Ok, codes, unwrap_or, is_ok, if◌then◌else◌}
+use Rattle.std.specs.Prelude.{Some, None, Ok, codes, is_ok, if◌then◌else◌}
+use Rattle.std.specs.Result.{result_err}
 use Rattle.std.specs.Str.{bytes_eq}
-use Rattle.clap.specs.Words.{Text, Row, first_of}
+use Rattle.clap.specs.Words.{Text, Row}
 use Rattle.hex.specs.Hex.{decode_sized}
+use Rattle.stl_rows.specs.declared.national.National.{National}
+use Rattle.sub_plan.specs.Options.{OptionsValue}
+use Rattle.subttx.specs.Arguments.{is_set, national_of, options_of, text_of}
 use Rattle.subttx.specs.Commands.{are_sound, command_in, refusals}
 use Rattle.subttx.specs.declared.request.Request.{Request}
 use Rattle.subttx.specs.declared.request.Request.TheVariants as ask
 use Rattle.subttx.specs.declared.request.UsageFault.{UsageFault}
 use Rattle.subttx.specs.declared.request.UsageFault.TheVariants as fault
 
--- The text of an argument, defaults included.
-abbrev pub text_of : Text → List Row → Text
-text_of id rows = unwrap_or (first_of id rows) []
+-- ---- the program's own faults
 
--- `packet HEX`: the digits are 84, of either case.
-abbrev pub packet_fault : List Row → Option UsageFault
-packet_fault rows = if is_ok (decode_sized (text_of (codes "hex") rows) 42) then None
+-- The first fault of several, in this order.
+abbrev pub first_fault : List (Option UsageFault) → Option UsageFault
+first_fault [] = None
+first_fault (None ∷ rest) = first_fault rest
+first_fault (Some fault ∷ rest) = Some fault
+
+-- HEX is 84 digits, of either case.
+abbrev pub hex_fault : List Row → Option UsageFault
+hex_fault rows = if is_ok (decode_sized (text_of (codes "hex") rows) 42) then None
     else Some fault.BadHex
 
--- The first fault of a command's arguments, by the program's own rules (own).
+-- The file to be written has another name than the input.
+abbrev pub same_file_fault : Text → Text → Option UsageFault
+same_file_fault input output = if bytes_eq input output then Some fault.SameFile else None
+
+-- The faults of each command, in the order in which they are told.
+abbrev pub packet_faults : List Row → List (Option UsageFault)
+packet_faults rows = hex_fault rows ∷ []
+
+abbrev pub schedule_faults : List Row → List (Option UsageFault)
+schedule_faults rows =
+    same_file_fault (text_of (codes "stl") rows) (text_of (codes "pes") rows)
+    ∷ result_err (options_of rows) ∷ result_err (national_of rows) ∷ []
+
+-- The faults that a command's arguments can have by the program's own rules (own).
+abbrev pub own_faults : Text → List Row → List (Option UsageFault)
+own_faults name rows =
+    if bytes_eq name (codes "packet") then packet_faults rows
+    else (if bytes_eq name (codes "schedule") then schedule_faults rows else [])
+
+-- The first of them, where there is one.
 abbrev pub own_fault : Text → List Row → Option UsageFault
-own_fault name rows = if bytes_eq name (codes "packet") then packet_fault rows else None
+own_fault name rows = first_fault (own_faults name rows)
+
+-- A fault of the program's own rules: neither one that `clap` tells nor one of the machine.
+abbrev pub is_own : UsageFault → Bool
+is_own fault.Words = false
+is_own fault.Memory = false
+is_own fault.Open = false
+is_own _ = true
+
+-- ---- requests
 
 -- The name of the command that a request is made by.
 abbrev pub command_of : Request → Text
 command_of (ask.Packet bytes) = codes "packet"
 command_of (ask.Packets pes) = codes "packets"
 command_of (ask.Show stl) = codes "show"
+command_of (ask.Schedule stl pes options serial national) = codes "schedule"
+
+-- The files, the options and the national option of a schedule that is written or checked.
+pub record HoldsPair
+    (rows : List Row) (stl pes : Text) (options : OptionsValue) (national : National) : Type 0 where
+  pub stl_is : stl ≡ text_of (codes "stl") rows
+  pub pes_is : pes ≡ text_of (codes "pes") rows
+  pub options_are : options_of rows ≡ Ok options
+  pub national_is : national_of rows ≡ Ok national
 
 -- The request holds the values of its command's arguments.
 abbrev pub Holds : List Row → Request → Type 0
 Holds rows (ask.Packet bytes) = decode_sized (text_of (codes "hex") rows) 42 ≡ Ok bytes
 Holds rows (ask.Packets pes) = pes.now ≡ text_of (codes "pes") rows
 Holds rows (ask.Show stl) = stl.now ≡ text_of (codes "stl") rows
+Holds rows (ask.Schedule stl pes options serial national) =
+    HoldsPair rows stl.now pes.now options national × (serial ≡ is_set (codes "serial") rows)
+
+-- The request is that of a command and its arguments.
+pub record IsRequestBy (name : Text) (rows : List Row) (request : Request) : Type 0 where
+  pub named : command_of request ≡ name
+  pub clean : own_fault name rows ≡ None
+  pub holds : Holds rows request
+
+-- The fault is the first of a command and its arguments.
+pub record IsFaultBy (name : Text) (rows : List Row) (fault : UsageFault) : Type 0 where
+  pub first : own_fault name rows ≡ Some fault
+  pub own : is_own fault ≡ true
+
+-- ---- words
 
 -- `clap` takes the words, and they give this command these arguments.
 pub record Names (words : List Text) (name : Text) (rows : List Row) : Type 0 where
@@ -42,17 +102,17 @@ pub record Names (words : List Text) (name : Text) (rows : List Row) : Type 0 wh
 
 -- The request is the one that the words ask for.
 pub record AsksFor (words : List Text) (request : Request) : Type 0 where
+  pub name : Text
   pub rows : List Row
-  pub named : Names words (command_of request) rows
-  pub clean : own_fault (command_of request) rows ≡ None
-  pub holds : Holds rows request
+  pub named : Names words name rows
+  pub asked : IsRequestBy name rows request
 
 -- A command's arguments break one of the program's own rules, and this is the first fault.
 pub record Breaks (words : List Text) (fault : UsageFault) : Type 0 where
   pub name : Text
   pub rows : List Row
   pub named : Names words name rows
-  pub first : own_fault name rows ≡ Some fault
+  pub broken : IsFaultBy name rows fault
 
 -- The fault is one that the words have: `clap` refuses them, or they break the program's own rule.
 -- Want of memory says nothing of the words, and no file is opened by reading them.
@@ -67,18 +127,21 @@ abbrev pub names_first : Request → Bool
 names_first (ask.Packet bytes) = false
 names_first (ask.Packets pes) = true
 names_first (ask.Show stl) = true
+names_first (ask.Schedule stl pes options serial national) = true
 
 -- Whether it reads a second input.
 abbrev pub names_second : Request → Bool
 names_second (ask.Packet bytes) = false
 names_second (ask.Packets pes) = false
 names_second (ask.Show stl) = false
+names_second (ask.Schedule stl pes options serial national) = false
 
 -- Whether it writes a file.
 abbrev pub names_file : Request → Bool
 names_file (ask.Packet bytes) = false
 names_file (ask.Packets pes) = false
 names_file (ask.Show stl) = false
+names_file (ask.Schedule stl pes options serial national) = true
 
 -- The name is one of these.
 abbrev pub IsOneOf : List Text → Text → Type 0

@@ -12,25 +12,30 @@ ghost use Rattle.std.specs.Prelude.{◌≡◌, ◌≢◌, ◌+◌, ◌<◌, ◌�
 ghost use Rattle.std.specs.Io.KnownBytes.{Appends};
 ghost use Rattle.sub_io.specs.Device.{AppendsPrefix};
 ghost use Rattle.subttx.specs.Lines.{usage_line};
-ghost use Rattle.subttx.specs.Listing.{CountsFault, ForPacket, Prints, packet_listing};
+ghost use Rattle.sub_io.specs.Reading.{IfTold};
+ghost use Rattle.subttx.specs.Answering.{ForPacket, ForSchedule, takes_memory};
+ghost use Rattle.subttx.specs.Listing.{CountsFault, Prints, packet_listing};
 ghost use Rattle.subttx.specs.Requests.{names_file, names_first, names_second};
+ghost use Rattle.subttx.specs.Writing.{Answers, PrintsMemory, schedule_writing};
 
 use crate::lines::usage_text;
 use crate::request::{Request, UsageFault};
 use crate::status::Status;
 use packet::show_packet;
 use packets::list_packets;
+use schedule::write_schedule;
 use show::list_subtitles;
 use std::alloc::Global;
-use sub_io::{Sink, Source, put_all};
+use sub_io::{Flush, Sink, Source, put_all};
 
 /// Answers a request that `Request::parse` gave.
 ///
 /// `first` is the subtitle file or the only input, `second` the PES file of a check, `file` the
 /// file to be written and `out` the standard output. Devices that the request does not name are
-/// not touched. `Fault` where a device failed; what was printed until then stays.
-pub fn answer<S: Source, T: Source, F: Sink, K: Sink>(
-    _alloc: Global,
+/// not touched. `Fault` where a device failed, or where memory ran out; what was printed until then
+/// stays.
+pub fn answer<S: Source, T: Source, F: Flush, K: Sink>(
+    alloc: Global,
     request: &Request<'_>,
     first: &mut S,
     second: &mut T,
@@ -45,6 +50,22 @@ pub fn answer<S: Source, T: Source, F: Sink, K: Sink>(
     // `packet` prints the text of the 42 bytes, and reads no device.
     ensures packet { ForPacket request.now (λ bytes.
         Prints (K.contents out.old) (K.contents out.new) (packet_listing bytes) result) }
+
+    // `schedule` writes and prints what the bytes of the subtitle file decide.
+    ensures schedule { ForSchedule request.now (λ options serial national.
+        IfTold (S.remaining first.old) (λ bytes. Answers
+        (F.contents file.old) (F.contents file.new) (K.contents out.old) (K.contents out.new)
+        (schedule_writing national options serial bytes)
+        result)) }
+
+    // Its status is `Fault` only where a device failed, or want of memory is printed.
+    ensures schedule_fault { ForSchedule request.now (λ options serial national.
+        result ≡ Status.Fault
+        → S.failure_count first.new ≡ S.failure_count first.old
+        → F.failure_count file.new ≡ F.failure_count file.old
+        → K.failure_count out.new ≡ K.failure_count out.old
+        → PrintsMemory national (S.remaining first.old) (K.contents out.old)
+        (K.contents out.new)) }
 
     // Devices that are not named stay as they are.
     ensures first { names_first request.now ≡ false → first.new ≡ first.old }
@@ -61,8 +82,9 @@ pub fn answer<S: Source, T: Source, F: Sink, K: Sink>(
     ensures out_count { CountsFault (K.failure_count out.old) result
         (K.failure_count out.new) }
 
-    // The status is `Fault` only where a device failed.
-    ensures fault { result ≡ Status.Fault
+    // The status of a command that takes no memory is `Fault` only where a device failed.
+    ensures fault { takes_memory request.now ≡ false
+        → result ≡ Status.Fault
         → S.failure_count first.old + T.failure_count second.old + F.failure_count file.old
         + K.failure_count out.old
         < S.failure_count first.new + T.failure_count second.new + F.failure_count file.new
@@ -72,6 +94,12 @@ pub fn answer<S: Source, T: Source, F: Sink, K: Sink>(
         Request::Packet { bytes } => show_packet(bytes, out),
         Request::Packets { .. } => list_packets(first, out),
         Request::Show { .. } => list_subtitles(first, out),
+        Request::Schedule {
+            options,
+            serial,
+            national,
+            ..
+        } => { write_schedule(alloc, first, *national, options, *serial, file, out) }
     }
 }
 

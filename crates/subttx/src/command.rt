@@ -5,10 +5,12 @@
 ghost use Rattle.std.specs.Prelude.{◌≡◌, IfOk, false};
 ghost use Rattle.clap.specs.Words.{app_of, with_rule, with_subcommand};
 ghost use Rattle.clap.specs.declared.builder.command.Command.TheViews.{out-Command};
-ghost use Rattle.subttx.specs.Commands.{bare_app, packet_app, packets_app};
-ghost use Rattle.subttx.specs.Commands.{required_rule, show_app, subttx_app};
+ghost use Rattle.subttx.specs.Commands.{bare_app, flag_rule, option_rule, packet_app};
+ghost use Rattle.subttx.specs.Commands.{packets_app, required_rule, schedule_app, show_app};
+ghost use Rattle.subttx.specs.Commands.{subttx_app, with_every, with_listings, with_national};
+ghost use Rattle.subttx.specs.Commands.{with_page_and_origin, with_pair, with_schedule};
 
-use clap::{Arg, Command};
+use clap::{Arg, ArgAction, Command};
 use std::alloc::{AllocError, Global};
 
 // Adds an argument that has to be there.
@@ -23,6 +25,35 @@ fn with_required<'a>(
         → IfOk result (λ c. (out-Command c).has_globals ≡ false) }
 {
     command.arg(Arg::new(alloc, id).required(true))
+}
+
+// Adds an option with the text that it has where it is left out.
+fn with_option<'a>(
+    command: Command<'a>,
+    alloc: Global,
+    id: &'a str,
+    value: &'a str,
+) -> Result<Command<'a>, AllocError>
+    ensures app { IfOk result (λ c.
+        app_of c ≡ with_rule (app_of command.entry) (option_rule id.entry.now value.entry.now)) }
+    ensures local { (out-Command command.entry).has_globals ≡ false
+        → IfOk result (λ c. (out-Command c).has_globals ≡ false) }
+{
+    command.arg(Arg::new(alloc, id).long(id).default_value(value))
+}
+
+// Adds a flag.
+fn with_flag<'a>(
+    command: Command<'a>,
+    alloc: Global,
+    id: &'a str,
+) -> Result<Command<'a>, AllocError>
+    ensures app { IfOk result (λ c.
+        app_of c ≡ with_rule (app_of command.entry) (flag_rule id.entry.now)) }
+    ensures local { (out-Command command.entry).has_globals ≡ false
+        → IfOk result (λ c. (out-Command c).has_globals ≡ false) }
+{
+    command.arg(Arg::new(alloc, id).long(id).action(ArgAction::SetTrue))
 }
 
 // `packet HEX`
@@ -49,6 +80,65 @@ fn show_command<'a>(alloc: Global) -> Result<Command<'a>, AllocError>
     with_required(Command::new(alloc, "show"), alloc, "stl")
 }
 
+// `STL PES`
+fn with_pair<'a>(command: Command<'a>, alloc: Global) -> Result<Command<'a>, AllocError>
+    ensures app { IfOk result (λ c. app_of c ≡ with_pair (app_of command.entry)) }
+    ensures local { (out-Command command.entry).has_globals ≡ false
+        → IfOk result (λ c. (out-Command c).has_globals ≡ false) }
+{
+    let command = with_required(command, alloc, "stl")?;
+    with_required(command, alloc, "pes")
+}
+
+// `[--page P] [--origin T]`
+fn with_page_and_origin<'a>(command: Command<'a>, alloc: Global) -> Result<Command<'a>, AllocError>
+    ensures app { IfOk result (λ c. app_of c ≡ with_page_and_origin (app_of command.entry)) }
+    ensures local { (out-Command command.entry).has_globals ≡ false
+        → IfOk result (λ c. (out-Command c).has_globals ≡ false) }
+{
+    let command = with_option(command, alloc, "page", "888")?;
+    with_option(command, alloc, "origin", "0")
+}
+
+// `[--every N]`
+fn with_every<'a>(command: Command<'a>, alloc: Global) -> Result<Command<'a>, AllocError>
+    ensures app { IfOk result (λ c. app_of c ≡ with_every (app_of command.entry)) }
+    ensures local { (out-Command command.entry).has_globals ≡ false
+        → IfOk result (λ c. (out-Command c).has_globals ≡ false) }
+{
+    with_option(command, alloc, "every", "250")
+}
+
+// `[--option O]`
+fn with_national<'a>(command: Command<'a>, alloc: Global) -> Result<Command<'a>, AllocError>
+    ensures app { IfOk result (λ c. app_of c ≡ with_national (app_of command.entry)) }
+    ensures local { (out-Command command.entry).has_globals ≡ false
+        → IfOk result (λ c. (out-Command c).has_globals ≡ false) }
+{
+    with_option(command, alloc, "option", "english")
+}
+
+// `STL PES [--page P] [--every N] [--origin T] [--option O]`
+fn with_schedule<'a>(command: Command<'a>, alloc: Global) -> Result<Command<'a>, AllocError>
+    ensures app { IfOk result (λ c. app_of c ≡ with_schedule (app_of command.entry)) }
+    ensures local { (out-Command command.entry).has_globals ≡ false
+        → IfOk result (λ c. (out-Command c).has_globals ≡ false) }
+{
+    let command = with_pair(command, alloc)?;
+    let command = with_page_and_origin(command, alloc)?;
+    let command = with_every(command, alloc)?;
+    with_national(command, alloc)
+}
+
+// `schedule STL PES [--page P] [--every N] [--origin T] [--serial] [--option O]`
+fn schedule_command<'a>(alloc: Global) -> Result<Command<'a>, AllocError>
+    ensures app { IfOk result (λ c. app_of c ≡ schedule_app) }
+    ensures local { IfOk result (λ c. (out-Command c).has_globals ≡ false) }
+{
+    let command = with_schedule(Command::new(alloc, "schedule"), alloc)?;
+    with_flag(command, alloc, "serial")
+}
+
 // The program before its commands.
 fn bare_program<'a>(alloc: Global) -> Command<'a>
     ensures app { app_of result ≡ bare_app }
@@ -72,6 +162,17 @@ fn with_command<'a>(program: Command<'a>, command: Command<'a>) -> Result<Comman
     program.subcommand(command)
 }
 
+// Adds the commands that list what a packet or a file holds.
+fn with_listings<'a>(program: Command<'a>, alloc: Global) -> Result<Command<'a>, AllocError>
+    ensures app { IfOk result (λ c. app_of c ≡ with_listings (app_of program.entry)) }
+    ensures local { (out-Command program.entry).has_globals ≡ false
+        → IfOk result (λ c. (out-Command c).has_globals ≡ false) }
+{
+    let program = with_command(program, packet_command(alloc)?)?;
+    let program = with_command(program, packets_command(alloc)?)?;
+    with_command(program, show_command(alloc)?)
+}
+
 /// The program and its commands.
 ///
 /// # Errors
@@ -82,7 +183,6 @@ pub fn subttx_command<'a>(alloc: Global) -> Result<Command<'a>, AllocError>
     ensures app { IfOk result (λ c. app_of c ≡ subttx_app) }
     ensures local { IfOk result (λ c. (out-Command c).has_globals ≡ false) }
 {
-    let program = with_command(bare_program(alloc), packet_command(alloc)?)?;
-    let program = with_command(program, packets_command(alloc)?)?;
-    with_command(program, show_command(alloc)?)
+    let program = with_listings(bare_program(alloc), alloc)?;
+    with_command(program, schedule_command(alloc)?)
 }

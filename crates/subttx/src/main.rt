@@ -17,7 +17,7 @@ mod status;
 mod tests;
 mod writing;
 
-ghost use Rattle.std.specs.Prelude.{◌<◌};
+ghost use Rattle.std.specs.Prelude.{◌≡◌, ◌<◌, IfOk};
 
 use request::{Request, UsageFault};
 use status::Status;
@@ -70,8 +70,8 @@ fn words_of<R: AllocGlobal + Env>(rt: &R) -> Result<Vec<String>, UsageFault> {
     args.collect(rt.alloc()).map_err(|_| UsageFault::Memory)
 }
 
-// Opens the files that the request names, in the order of the words. At the first that fails it
-// opens no more.
+// Opens the files that the request names, in the order of the words, and creates the one that it
+// writes. At the first that fails it opens no more.
 fn open_and_answer<R: AllocGlobal + Files, K: Sink>(
     rt: &R,
     request: &Request<'_>,
@@ -83,10 +83,43 @@ fn open_and_answer<R: AllocGlobal + Files, K: Sink>(
         Request::Packet { .. } => answer_input(rt, request, &mut MemSource::new(&[]), out),
         Request::Packets { pes } => answer_file(rt, request, pes, out),
         Request::Show { stl } => answer_file(rt, request, stl, out),
+        Request::Schedule { stl, pes, .. } => answer_into(rt, request, stl, pes, out),
     }
 }
 
-// Answers a request with the one file that it names.
+// Opens a file to be read, through a buffer.
+fn open_input<R: AllocGlobal + Files>(
+    rt: &R,
+    name: &str,
+) -> Result<FromRead<BufReader<R::File>>, UsageFault>
+    ensures { IfOk result (λ source. source.failure_count ≡ 0) }
+{
+    let Ok(file) = fs::open(rt, name) else {
+        return Err(UsageFault::Open);
+    };
+    match BufReader::new(rt.alloc(), file) {
+        Ok(reader) => Ok(FromRead::new(reader)),
+        Err(_) => Err(UsageFault::Memory),
+    }
+}
+
+// Creates a file to be written, through a buffer that the answer flushes.
+fn create_output<R: AllocGlobal + Files>(
+    rt: &R,
+    name: &str,
+) -> Result<IntoWrite<BufWriter<R::File>>, UsageFault>
+    ensures { IfOk result (λ sink. sink.failure_count ≡ 0) }
+{
+    let Ok(file) = fs::create(rt, name) else {
+        return Err(UsageFault::Open);
+    };
+    match BufWriter::new(rt.alloc(), file) {
+        Ok(writer) => Ok(IntoWrite::new(writer)),
+        Err(_) => Err(UsageFault::Memory),
+    }
+}
+
+// Answers a request with the one file that it reads.
 fn answer_file<R: AllocGlobal + Files, K: Sink>(
     rt: &R,
     request: &Request<'_>,
@@ -95,13 +128,10 @@ fn answer_file<R: AllocGlobal + Files, K: Sink>(
 ) -> Status
     requires { K.failure_count out.old < u64.MAX }
 {
-    let Ok(file) = fs::open(rt, name) else {
-        return answer::say(&UsageFault::Open, out);
-    };
-    let Ok(reader) = BufReader::new(rt.alloc(), file) else {
-        return answer::say(&UsageFault::Memory, out);
-    };
-    answer_input(rt, request, &mut FromRead::new(reader), out)
+    match open_input(rt, name) {
+        Ok(mut first) => answer_input(rt, request, &mut first, out),
+        Err(fault) => answer::say(&fault, out),
+    }
 }
 
 // Answers a request with one input at most. For a device that it does not name, an empty one is
@@ -126,4 +156,34 @@ fn answer_input<R: AllocGlobal, S: Source, K: Sink>(
         &mut no_file,
         out,
     )
+}
+
+// Answers a request with the file that it reads and the one that it writes.
+fn answer_into<R: AllocGlobal + Files, K: Sink>(
+    rt: &R,
+    request: &Request<'_>,
+    input: &str,
+    output: &str,
+    out: &mut K,
+) -> Status
+    requires { K.failure_count out.old < u64.MAX }
+{
+    let mut first = match open_input(rt, input) {
+        Ok(first) => first,
+        Err(fault) => return answer::say(&fault, out),
+    };
+    let mut no_second = MemSource::new(&[]);
+    match create_output(rt, output) {
+        Ok(mut file) => {
+            answer::answer(
+                rt.alloc(),
+                request,
+                &mut first,
+                &mut no_second,
+                &mut file,
+                out,
+            )
+        }
+        Err(fault) => answer::say(&fault, out),
+    }
 }

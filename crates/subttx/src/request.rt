@@ -1,13 +1,19 @@
 //! What the words of the command line ask for.
-ghost use Rattle.std.specs.Prelude.{◌≡◌, [], IfErr, IfOk, IsOk, None, OnOk, Some, codes, option_map};
+mod arguments;
+mod reading;
+
+ghost use Rattle.std.specs.Prelude.{◌≡◌, [], IfErr, IfOk, OnOk, option_map};
 ghost use Rattle.clap.specs.Words.{found_of, rows_of, subcommand_rows_of};
 ghost use Rattle.subttx.specs.Commands.{command_in, refusals, texts_of};
-ghost use Rattle.subttx.specs.Requests.{Holds, IsFaultOf, command_of, packet_fault, text_of};
+ghost use Rattle.subttx.specs.Requests.{IsFaultOf};
 
 use crate::command::subttx_command;
 use clap::ArgMatches;
 use clap::error::ErrorKind;
+use reading::read_command;
 use std::alloc::Global;
+use stl_rows::National;
+use sub_plan::Options;
 use thiserror::Error;
 
 /// Why the program can't do what its words ask for, in the order in which faults are told.
@@ -77,6 +83,19 @@ pub enum Request<'a> {
         /// The name of the subtitle file.
         stl: &'a str,
     },
+    /// `schedule STL PES`: writes a schedule of a subtitle file.
+    Schedule {
+        /// The name of the subtitle file.
+        stl: &'a str,
+        /// The name of the file of PES packets to be written, another one.
+        pes: &'a str,
+        /// The page, the repeat bound and the PTS of frame 0.
+        options: Options,
+        /// Whether the headers are those of serial mode (C11 set).
+        serial: bool,
+        /// The national option by which the text is read.
+        national: National,
+    },
 }
 
 impl<'a> Request<'a> {
@@ -90,23 +109,16 @@ impl<'a> Request<'a> {
     /// # Errors
     ///
     /// `Words` where `clap` refuses the words. Then the first fault of the command's arguments:
-    /// `BadHex`. `Memory` where memory ran out before that was known.
+    /// `BadHex`, `SameFile`, `BadPage`, `Every`, `Origin`, `BadOption`. `Memory` where memory ran
+    /// out before that was known.
     pub fn parse(alloc: Global, words: &'a [&'a str]) -> Result<Request<'a>, UsageFault>
         ensures request { IfOk result (AsksFor (texts_of words.now)) }
         ensures fault { IfErr result (IsFaultOf (texts_of words.now)) }
     {
         let matches = matches_of(alloc, words)?;
-        let Some((name, inner)) = command_of(&matches) else {
-            return Err(UsageFault::Words);
-        };
-        if name == "packet" {
-            packet_request(inner)
-        } else if name == "packets" {
-            packets_request(inner)
-        } else if name == "show" {
-            show_request(inner)
-        } else {
-            Err(UsageFault::Words)
+        match command_of(&matches) {
+            Some((name, arguments)) => read_command(name, arguments),
+            None => Err(UsageFault::Words),
         }
     }
 }
@@ -135,51 +147,4 @@ fn command_of<'a, 'm>(matches: &'m ArgMatches<'a>) -> Option<(&'a str, &'m ArgMa
         ≡ subcommand_rows_of matches.now }
 {
     matches.subcommand()
-}
-
-// The text of an argument, defaults included.
-fn text_at<'a>(matches: &ArgMatches<'a>, id: &str) -> &'a str
-    ensures { result.now ≡ text_of id.now (rows_of (found_of matches.now)) }
-{
-    match matches.get_str(id) {
-        Some(text) => text,
-        None => "",
-    }
-}
-
-// `packet HEX`
-fn packet_request<'a>(matches: &ArgMatches<'a>) -> Result<Request<'a>, UsageFault>
-    ensures holds { IfOk result (Holds (rows_of (found_of matches.now))) }
-    ensures named { IfOk result (λ r. command_of r ≡ codes "packet") }
-    ensures clean { OnOk result (packet_fault (rows_of (found_of matches.now)) ≡ None) }
-    ensures fault { IfErr result (λ e. packet_fault (rows_of (found_of matches.now)) ≡ Some e) }
-    ensures own { IfErr result (λ e. e ≡ UsageFault.BadHex) }
-{
-    let mut bytes = [0u8; 42];
-    match hex::decode_to_slice(text_at(matches, "hex"), &mut bytes) {
-        Ok(()) => Ok(Request::Packet { bytes }),
-        Err(_) => Err(UsageFault::BadHex),
-    }
-}
-
-// `packets PES`
-fn packets_request<'a>(matches: &ArgMatches<'a>) -> Result<Request<'a>, UsageFault>
-    ensures ok { IsOk result }
-    ensures holds { IfOk result (Holds (rows_of (found_of matches.now))) }
-    ensures named { IfOk result (λ r. command_of r ≡ codes "packets") }
-{
-    Ok(Request::Packets {
-        pes: text_at(matches, "pes"),
-    })
-}
-
-// `show STL`
-fn show_request<'a>(matches: &ArgMatches<'a>) -> Result<Request<'a>, UsageFault>
-    ensures ok { IsOk result }
-    ensures holds { IfOk result (Holds (rows_of (found_of matches.now))) }
-    ensures named { IfOk result (λ r. command_of r ≡ codes "show") }
-{
-    Ok(Request::Show {
-        stl: text_at(matches, "stl"),
-    })
 }

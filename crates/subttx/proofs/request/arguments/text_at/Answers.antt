@@ -3,7 +3,7 @@ use Rattle.std.proofs.Common.{◌≡◌, ◌∙◌, ap, [], Option, unwrap_or}
 use Rattle.clap.specs.Words.{Text, found_of, first_value, first_of, rows_of}
 use Rattle.clap.specs.declared.parser.matches.ArgMatches.{ArgMatches}
 use Rattle.clap.proofs.WalkLemmas.{first_value-rows}
-use Rattle.subttx.proofs.request.text_at.Goals as goal
+use Rattle.subttx.proofs.request.arguments.text_at.Goals as goal
 
 -- the text of an id, once as `get_str` says it and once by the rows
 text-rows : (matches : ArgMatches) (id : Text) (found : Option Text)

@@ -1,0 +1,21 @@
+-- What is said of the answer to a request, command by command.
+use Rattle.std.specs.Prelude.{⊤, ℕ, Bool, true, false, List}
+use Rattle.stl_rows.specs.declared.national.National.{National}
+use Rattle.sub_plan.specs.Options.{OptionsValue}
+use Rattle.subttx.specs.declared.request.Request.{Request}
+use Rattle.subttx.specs.declared.request.Request.TheVariants as ask
+
+-- The fact holds of the bytes of a `packet` request.
+abbrev pub ForPacket : Request → (List ℕ → Type 0) → Type 0
+ForPacket (ask.Packet bytes) P = P bytes
+ForPacket _ P = ⊤
+
+-- The fact holds of what a `schedule` request asks for.
+abbrev pub ForSchedule : Request → (OptionsValue → Bool → National → Type 0) → Type 0
+ForSchedule (ask.Schedule stl pes options serial national) P = P options serial national
+ForSchedule _ P = ⊤
+
+-- Whether the answer takes memory: a programme, or a whole file, is kept in it.
+abbrev pub takes_memory : Request → Bool
+takes_memory (ask.Schedule stl pes options serial national) = true
+takes_memory _ = false

@@ -1,0 +1,85 @@
+//! The arguments of each command, read as a request.
+ghost use Rattle.std.specs.Prelude.{◌≡◌, IfErr, IfOk, IsOk, codes};
+ghost use Rattle.clap.specs.Words.{found_of, rows_of};
+ghost use Rattle.subttx.specs.Commands.{command_names};
+ghost use Rattle.subttx.specs.Requests.{IsFaultBy, IsOneOf, IsRequestBy};
+
+use super::arguments::{flag_at, national_at, options_at, text_at};
+use super::{Request, UsageFault};
+use clap::ArgMatches;
+
+/// Reads the arguments of a command, whose name must be one of the program's commands.
+///
+/// # Errors
+///
+/// The first fault of the arguments by the program's own rules.
+pub fn read_command<'a>(name: &str, matches: &ArgMatches<'a>) -> Result<Request<'a>, UsageFault>
+    requires { IsOneOf command_names name.now }
+    ensures request { IfOk result (IsRequestBy name.now (rows_of (found_of matches.now))) }
+    ensures fault { IfErr result (IsFaultBy name.now (rows_of (found_of matches.now))) }
+{
+    if name == "packet" {
+        read_packet(matches)
+    } else if name == "packets" {
+        read_packets(matches)
+    } else if name == "show" {
+        read_show(matches)
+    } else {
+        read_schedule(matches)
+    }
+}
+
+// `packet HEX`
+fn read_packet<'a>(matches: &ArgMatches<'a>) -> Result<Request<'a>, UsageFault>
+    ensures request { IfOk result (IsRequestBy (codes "packet") (rows_of (found_of matches.now))) }
+    ensures fault { IfErr result (IsFaultBy (codes "packet") (rows_of (found_of matches.now))) }
+{
+    let mut bytes = [0u8; 42];
+    match hex::decode_to_slice(text_at(matches, "hex"), &mut bytes) {
+        Ok(()) => Ok(Request::Packet { bytes }),
+        Err(_) => Err(UsageFault::BadHex),
+    }
+}
+
+// `packets PES`
+fn read_packets<'a>(matches: &ArgMatches<'a>) -> Result<Request<'a>, UsageFault>
+    ensures ok { IsOk result }
+    ensures request { IfOk result (IsRequestBy (codes "packets") (rows_of (found_of matches.now))) }
+{
+    Ok(Request::Packets {
+        pes: text_at(matches, "pes"),
+    })
+}
+
+// `show STL`
+fn read_show<'a>(matches: &ArgMatches<'a>) -> Result<Request<'a>, UsageFault>
+    ensures ok { IsOk result }
+    ensures request { IfOk result (IsRequestBy (codes "show") (rows_of (found_of matches.now))) }
+{
+    Ok(Request::Show {
+        stl: text_at(matches, "stl"),
+    })
+}
+
+// `schedule STL PES [--page P] [--every N] [--origin T] [--serial] [--option O]`
+fn read_schedule<'a>(matches: &ArgMatches<'a>) -> Result<Request<'a>, UsageFault>
+    ensures request { IfOk result
+        (IsRequestBy (codes "schedule") (rows_of (found_of matches.now))) }
+    ensures fault { IfErr result (IsFaultBy (codes "schedule") (rows_of (found_of matches.now))) }
+{
+    let stl = text_at(matches, "stl");
+    let pes = text_at(matches, "pes");
+    if stl == pes {
+        return Err(UsageFault::SameFile);
+    }
+    let options = options_at(matches)?;
+    let national = national_at(matches)?;
+    let serial = flag_at(matches, "serial");
+    Ok(Request::Schedule {
+        stl,
+        pes,
+        options,
+        serial,
+        national,
+    })
+}
