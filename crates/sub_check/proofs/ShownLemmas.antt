@@ -94,9 +94,9 @@ module _ (g : Task) (p : ProgrammeValue) (every : ℕ) (task : IsTaskOf g p ever
       other (kept_shown row column is ∙ shows ∙ ap (λ d. cell d row column) (task.due_is f))
 
 -- counting afresh changes nothing else
-pub Knows-counted : (heard : List (List ℕ)) (s : Listener) (n : ℕ) → Knows heard s
-    → Knows heard (record s { wrong = n })
-Knows-counted heard s n k =
+pub Knows-counted : (heard : List (List ℕ)) (s : Listener) (n m : ℕ) → Knows heard s
+    → Knows heard (record s { wrong = n; blank_wrong = m })
+Knows-counted heard s n m k =
     record { serial_is = k.serial_is; open_is = k.open_is; rows_are = k.rows_are }
 
 -- ---- headers

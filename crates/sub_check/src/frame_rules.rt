@@ -9,7 +9,6 @@ ghost use Rattle.sub_check.specs.FirstBroken.{NamesFirst, packet_fault};
 ghost use Rattle.sub_check.specs.FrameRules.{Task, frame_at};
 ghost use Rattle.sub_plan.specs.Schedule.{due_in};
 ghost use Rattle.sub_check.specs.PacketRules.{packets_of_units};
-ghost use Rattle.ttx_page.specs.Differing.{differing};
 ghost use Rattle.sub_check.specs.Transmission.{Transmission};
 
 use crate::fault::CheckFault;
@@ -37,6 +36,7 @@ pub(crate) struct Checker {
 
 impl Checker {
     ghost use Rattle.sub_check.specs.Listening.{Knows};
+    ghost use Rattle.sub_check.specs.PageCount.{IsCounted};
     ghost use Rattle.sub_check.specs.Following.{Follows, GapOk, IsSentFrame, IsTaskOf, OrderOk};
 
     // Goes on to a frame: where a subtitle begins or ends, the due page is drawn anew.
@@ -44,20 +44,23 @@ impl Checker {
         requires some { 0 < f }
         requires due { self.old.due ≡ due_in programme.now (f - 1) }
         requires edge { TellsNextEdge programme.now.records (f - 1) self.old.edge }
-        requires count { self.old.listener.wrong ≡ differing self.old.listener.page self.old.due }
+        requires count { IsCounted self.old.listener self.old.due }
         ensures due { self.new.due ≡ due_in programme.now f }
         ensures edge { TellsNextEdge programme.now.records f self.new.edge }
-        ensures count { self.new.listener.wrong ≡ differing self.new.listener.page self.new.due }
+        ensures count { IsCounted self.new.listener self.new.due }
         ensures frame { self.new.frame ≡ self.old.frame }
         ensures header_at { self.new.header_at ≡ self.old.header_at }
         ensures headers { self.new.headers ≡ self.old.headers }
-        ensures listener { self.new.listener
-            ≡ record self.old.listener { wrong = self.new.listener.wrong } }
+        ensures listener { self.new.listener ≡ record self.old.listener {
+          wrong = self.new.listener.wrong;
+          blank_wrong = self.new.listener.blank_wrong;
+        } }
     {
         if is_at(self.edge, f) {
             self.due = programme.due_page(f);
             self.edge = programme.next_edge(f);
             self.listener.wrong = self.listener.page.differing_cells(&self.due);
+            self.listener.blank_wrong = Page::blank().differing_cells(&self.due);
         }
     }
 
@@ -67,15 +70,14 @@ impl Checker {
         requires later { self.old.frame < to }
         requires due { self.old.due ≡ due_in programme.now self.old.frame }
         requires edge { TellsNextEdge programme.now.records self.old.frame self.old.edge }
-        requires count { self.old.listener.wrong ≡ differing self.old.listener.page self.old.due }
+        requires count { IsCounted self.old.listener self.old.due }
         ensures frame { self.new.frame ≡ self.old.frame }
         ensures header_at { self.new.header_at ≡ self.old.header_at }
         ensures headers { self.new.headers ≡ self.old.headers }
         ensures own { IfErr result IsRuleFault }
         ensures due { OnOk result (self.new.due ≡ due_in programme.now (to - 1)) }
         ensures edge { OnOk result (TellsNextEdge programme.now.records (to - 1) self.new.edge) }
-        ensures count { OnOk result
-            (self.new.listener.wrong ≡ differing self.new.listener.page self.new.due) }
+        ensures count { OnOk result (IsCounted self.new.listener self.new.due) }
         ensures exact { (g : Task) (frames : Transmission) (n : ℕ)
             → IsTaskOf g programme.now every → Follows g frames n self.old
             → n < length frames → frame_at frames n ≡ to → OrderOk g frames n
@@ -112,7 +114,7 @@ impl Checker {
         requires headers { self.old.headers ≤ 35 * self.old.frame + 35 }
         requires due { self.old.due ≡ due_in programme.now (frame - 1) }
         requires edge { TellsNextEdge programme.now.records (frame - 1) self.old.edge }
-        requires count { self.old.listener.wrong ≡ differing self.old.listener.page self.old.due }
+        requires count { IsCounted self.old.listener self.old.due }
         ensures own { IfErr result IsRuleFault }
         ensures header { OnOk result (self.new.header_at ≤ self.new.frame) }
         ensures frame { OnOk result (self.new.frame ≡ frame) }
@@ -120,8 +122,7 @@ impl Checker {
         ensures due { OnOk result (self.new.due ≡ due_in programme.now self.new.frame) }
         ensures edge { OnOk result
             (TellsNextEdge programme.now.records self.new.frame self.new.edge) }
-        ensures count { OnOk result
-            (self.new.listener.wrong ≡ differing self.new.listener.page self.new.due) }
+        ensures count { OnOk result (IsCounted self.new.listener self.new.due) }
         ensures exact { (g : Task) (frames : Transmission) (n : ℕ)
             → IsTaskOf g programme.now every → Follows g frames n self.old
             → IsSentFrame frames n frame (packets_of_units units.now)
@@ -160,7 +161,7 @@ impl Checker {
         requires headers { self.old.headers ≤ 35 * self.old.frame + 35 }
         requires due { self.old.due ≡ due_in programme.now self.old.frame }
         requires edge { TellsNextEdge programme.now.records self.old.frame self.old.edge }
-        requires count { self.old.listener.wrong ≡ differing self.old.listener.page self.old.due }
+        requires count { IsCounted self.old.listener self.old.due }
         ensures own { IfErr result IsRuleFault }
         ensures header { OnOk result (self.new.header_at ≤ self.new.frame) }
         ensures later { OnOk result (self.old.frame ≤ self.new.frame) }
@@ -168,8 +169,7 @@ impl Checker {
         ensures due { OnOk result (self.new.due ≡ due_in programme.now self.new.frame) }
         ensures edge { OnOk result
             (TellsNextEdge programme.now.records self.new.frame self.new.edge) }
-        ensures count { OnOk result
-            (self.new.listener.wrong ≡ differing self.new.listener.page self.new.due) }
+        ensures count { OnOk result (IsCounted self.new.listener self.new.due) }
         ensures exact { (g : Task) (frames : Transmission)
             → IsTaskOf g programme.now every → Follows g frames pes self.old
             → IsSentFrame frames pes frame (packets_of_units units.now)
@@ -199,8 +199,7 @@ impl Checker {
         ensures due { IfOk result (λ checker. checker.due ≡ due_in programme.now checker.frame) }
         ensures edge { IfOk result (λ checker.
             TellsNextEdge programme.now.records checker.frame checker.edge) }
-        ensures count { IfOk result (λ checker.
-            checker.listener.wrong ≡ differing checker.listener.page checker.due) }
+        ensures count { IfOk result (λ checker. IsCounted checker.listener checker.due) }
         ensures exact { (g : Task) (frames : Transmission)
             → IsTaskOf g programme.now every → g.watched ≡ watched
             → IsSentFrame frames 0 frame (packets_of_units units.now)
@@ -212,6 +211,7 @@ impl Checker {
         let due = programme.due_page(frame);
         let mut listener = Listener::new(watched);
         listener.wrong = listener.page.differing_cells(&due);
+        listener.blank_wrong = Page::blank().differing_cells(&due);
         let headers = match listener.hear_all(units, &due) {
             Err(fault) => return Err(fault_of(fault.rule, frame, fault.packet)),
             Ok(headers) => headers,

@@ -36,11 +36,14 @@ pub(crate) struct Listener {
     pub page: Page,
     /// How many cells of the page differ from the due page.
     pub wrong: u16,
+    /// How many cells of the blank page do: what `wrong` is behind a header of the page.
+    pub blank_wrong: u16,
 }
 
 impl Listener {
     ghost use Rattle.sub_check.specs.PacketRules.{AreClean, IsClean, BreaksFirstAt, BreaksFirst};
     ghost use Rattle.sub_check.specs.Listening.{Knows};
+    ghost use Rattle.sub_check.specs.PageCount.{IsCounted};
 
     /// Nothing was heard.
     pub fn new(watched: Watched) -> Self
@@ -54,6 +57,7 @@ impl Listener {
             sent: [false; 24],
             page: Page::blank(),
             wrong: 0,
+            blank_wrong: 0,
         }
     }
 
@@ -107,10 +111,10 @@ impl Listener {
 
     /// Hears a packet that breaks no rule, and says whether it is a header of the page.
     pub fn hear(&mut self, packet: &Packet, due: &Page) -> bool
-        requires { self.old.wrong ≡ differing self.old.page due.now }
+        requires { IsCounted self.old due.now }
         ensures header { result ≡ is_this_page (kind self.old.watched.page packet.now) }
         ensures watched { self.new.watched ≡ self.old.watched }
-        ensures wrong { self.new.wrong ≡ differing self.new.page due.now }
+        ensures counted { IsCounted self.new due.now }
         ensures knows { (heard : List (List ℕ)) → Knows heard self.old
             → IsClean self.old.watched heard packet.now
             → Knows (heard ++ packet.now ∷ []) self.new }
@@ -118,7 +122,7 @@ impl Listener {
         self.serial = first_serial(self.serial, packet);
         match PacketKind::of(self.watched.page, packet) {
             PacketKind::ThisPage(_) => {
-                self.start(due);
+                self.start();
                 true
             }
             PacketKind::EndsPage => {
@@ -139,9 +143,9 @@ impl Listener {
     /// the page were among them.
     pub fn hear_all(&mut self, units: &[Unit], due: &Page) -> Result<u32, BrokenRule>
         requires few { length units.now ≤ 35 }
-        requires wrong { self.old.wrong ≡ differing self.old.page due.now }
+        requires counted { IsCounted self.old due.now }
         ensures watched { self.new.watched ≡ self.old.watched }
-        ensures wrong { self.new.wrong ≡ differing self.new.page due.now }
+        ensures counted { IsCounted self.new due.now }
         ensures headers { IfOk result (λ headers.
             headers ≡ header_count self.old.watched.page (packets_of_units units.now)) }
         ensures few { IfOk result (λ headers. headers ≤ 35) }
@@ -179,18 +183,18 @@ impl Listener {
     }
 
     // A header of the page: it is blank, and no row was sent.
-    fn start(&mut self, due: &Page)
+    fn start(&mut self)
         ensures { self.new ≡ record self.old {
           is_open = true;
           sent = replicate 24 false;
           page = blank;
-          wrong = differing blank due.now;
+          wrong = self.old.blank_wrong;
         } }
     {
         self.is_open = true;
         self.sent = [false; 24];
         self.page = Page::blank();
-        self.wrong = self.page.differing_cells(due);
+        self.wrong = self.blank_wrong;
     }
 
     // A row is sent.

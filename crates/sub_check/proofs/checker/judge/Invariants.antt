@@ -1,6 +1,5 @@
 -- After so many PES packets, what is kept is what they say, and none of them broke a rule.
 use Rattle.std.proofs.Common.{◌≡◌, ◌+◌, ◌*◌, ◌≤◌, ℕ, List, Option, Some}
-use Rattle.ttx_page.specs.Differing.{differing}
 use Rattle.stl_rows.specs.DuePage.{TellsNextEdge}
 use Rattle.ttx_pes.specs.declared.progress.Progress.TheVariants.{Reading}
 use Rattle.sub_check.specs.Checking.{Reaches}
@@ -8,6 +7,7 @@ use Rattle.sub_check.specs.FrameRules.{Unread, task_of}
 use Rattle.sub_plan.specs.Schedule.{due_in}
 use Rattle.sub_check.specs.PesReading.{ReadsAs}
 use Rattle.sub_check.specs.Transmission.{Transmission}
+use Rattle.sub_check.specs.PageCount.{IsCounted}
 use Rattle.sub_check.proofs.checker.judge.Given as goal
 
 abbrev pub invariant-loop-pes : goal.invariant-loop-pes
@@ -17,7 +17,7 @@ invariant-loop-pes g l = record {
   headers : l.checker.headers ≤ 35 * l.checker.frame + 35;
   due : l.checker.due ≡ due_in l.programme l.checker.frame;
   edge : TellsNextEdge l.programme.records l.checker.frame l.checker.edge;
-  count : l.checker.listener.wrong ≡ differing l.checker.listener.page l.checker.due;
+  count : IsCounted l.checker.listener l.checker.due;
   reading : l.reader ≡ Reading l.pes;
   failures : g.S.Source.failure_count l.source ≡ g.S.Source.failure_count l.fn.source;
   told :

@@ -34,7 +34,7 @@ returns-in-Err-clause-exact c g frames task watched is =
     let same = is.packets_are in
     let first =
     c.in-Err.ensures.knows []
-    (Knows-counted [] c.new-listener.result _ c.new-listener.ensures.knows) in
+    (Knows-counted [] c.new-listener.result _ _ c.new-listener.ensures.knows) in
     let order : OrderOk g frames 0 =
     record {
       order = λ t. absurd (omega (arith, t.0));
@@ -55,7 +55,7 @@ returns-then-not-found-clause-exact c g frames task watched is =
     let same = is.packets_are in
     let both =
     c.in-Ok.ensures.knows []
-    (Knows-counted [] c.new-listener.result _ c.new-listener.ensures.knows) in
+    (Knows-counted [] c.new-listener.result _ _ c.new-listener.ensures.knows) in
     let order : OrderOk g frames 0 =
     record {
       order = λ t. absurd (omega (arith, t.0));
@@ -79,7 +79,7 @@ returns-in-Some-clause-exact c g frames task watched is =
     let same = is.packets_are in
     let both =
     c.in-Ok.ensures.knows []
-    (Knows-counted [] c.new-listener.result _ c.new-listener.ensures.knows) in
+    (Knows-counted [] c.new-listener.result _ _ c.new-listener.ensures.knows) in
     let order : OrderOk g frames 0 =
     record {
       order = λ t. absurd (omega (arith, t.0));
@@ -114,7 +114,7 @@ returns-clause-exact c g frames task watched is =
     let same = is.packets_are in
     let both =
     c.in-Ok.ensures.knows []
-    (Knows-counted [] c.new-listener.result _ c.new-listener.ensures.knows) in
+    (Knows-counted [] c.new-listener.result _ _ c.new-listener.ensures.knows) in
     let order : OrderOk g frames 0 =
     record {
       order = λ t. absurd (omega (arith, t.0));

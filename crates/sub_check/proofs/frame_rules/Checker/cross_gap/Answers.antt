@@ -41,7 +41,7 @@ returns-in-Some-clause-exact c g frames n task follows there to_is order =
     let watched = kept ∙ c.loop-f.invariant.watched_same ∙ follows.watched_is in
     let knows =
     subst (Knows (joined frames n)) (sym c.advance.ensures.listener)
-    (Knows-counted (joined frames n) c.loop-f.self.listener _ fine.0) in
+    (Knows-counted (joined frames n) c.loop-f.self.listener _ _ fine.0) in
     let some = follows.some in
     let frame = follows.frame_is in
     let in_gap : IsInGap frames n f = (some, there, omega arith, omega arith) in
@@ -64,7 +64,7 @@ returns-then-f-self-clause-exact c g frames n task follows there to_is order =
     let watched = kept ∙ c.loop-f.invariant.watched_same ∙ follows.watched_is in
     let knows =
     subst (Knows (joined frames n)) (sym c.advance.ensures.listener)
-    (Knows-counted (joined frames n) c.loop-f.self.listener _ fine.0) in
+    (Knows-counted (joined frames n) c.loop-f.self.listener _ _ fine.0) in
     let some = follows.some in
     let frame = follows.frame_is in
     let in_gap : IsInGap frames n f = (some, there, omega arith, omega arith) in
@@ -98,7 +98,7 @@ loop-f-preserved c =
           let watched = kept ∙ c.loop-f.invariant.watched_same ∙ follows.watched_is in
           let knows =
           subst (Knows (joined frames n)) (sym c.advance.ensures.listener)
-          (Knows-counted (joined frames n) c.loop-f.self.listener _ fine.0) in
+          (Knows-counted (joined frames n) c.loop-f.self.listener _ _ fine.0) in
           let h : HeaderIs g frames n c.advance.new.self.header_at =
           subst (λ x. HeaderIs g frames n x)
           (sym (c.advance.ensures.header_at ∙ c.loop-f.invariant.header_same))

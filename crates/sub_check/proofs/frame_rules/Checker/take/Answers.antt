@@ -26,7 +26,7 @@ returns-in-Err-clause-exact c g frames n task follows is order gap =
     let first =
     c.in-Err.ensures.knows (joined frames n)
     (subst (Knows (joined frames n)) (sym c.advance.ensures.listener)
-    (Knows-counted (joined frames n) c.args.self.now.listener _ follows.knows)) in
+    (Knows-counted (joined frames n) c.args.self.now.listener _ _ follows.knows)) in
     subst (NamesFirst g frames) (sym c.fault_of.ensures.value)
     (subst (λ x. NamesFirst g frames (packet_fault c.in-Err.fault.rule x c.in-Err.fault.packet))
     is.frame_is
@@ -42,7 +42,7 @@ returns-in-Some-clause-exact c g frames n task follows is order gap =
     let both =
     c.in-Ok.ensures.knows (joined frames n)
     (subst (Knows (joined frames n)) (sym c.advance.ensures.listener)
-    (Knows-counted (joined frames n) c.args.self.now.listener _ follows.knows)) in
+    (Knows-counted (joined frames n) c.args.self.now.listener _ _ follows.knows)) in
     let taken =
     Taken-from g frames n c.any_header-found.result c.in-Ok.headers c.hear_all.new.self _ _
     is.there same
@@ -71,7 +71,7 @@ returns-then-frame-self-clause-exact c g frames n task follows is order gap =
     let both =
     c.in-Ok.ensures.knows (joined frames n)
     (subst (Knows (joined frames n)) (sym c.advance.ensures.listener)
-    (Knows-counted (joined frames n) c.args.self.now.listener _ follows.knows)) in
+    (Knows-counted (joined frames n) c.args.self.now.listener _ _ follows.knows)) in
     let taken =
     Taken-from g frames n c.any_header-found.result c.in-Ok.headers c.hear_all.new.self _ _
     is.there same
@@ -109,7 +109,7 @@ returns-clause-exact c g frames n task follows is order gap =
     let both =
     c.in-Ok.ensures.knows (joined frames n)
     (subst (Knows (joined frames n)) (sym c.advance.ensures.listener)
-    (Knows-counted (joined frames n) c.args.self.now.listener _ follows.knows)) in
+    (Knows-counted (joined frames n) c.args.self.now.listener _ _ follows.knows)) in
     let taken =
     Taken-from g frames n c.any_header-found.result c.in-Ok.headers c.hear_all.new.self _ _
     is.there same

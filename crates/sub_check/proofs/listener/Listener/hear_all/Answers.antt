@@ -24,7 +24,7 @@ loop-k-preserved c =
     let header = c.hear.ensures.header in
     record {
       same = c.hear.ensures.watched ∙ i.same;
-      count = c.hear.ensures.wrong;
+      count = c.hear.ensures.counted;
       few = search rules;
       header =
           one

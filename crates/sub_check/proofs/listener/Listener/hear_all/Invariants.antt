@@ -1,13 +1,13 @@
 use Rattle.std.proofs.Common.{◌≡◌, ◌≤◌, ℕ, List, ◌++◌, take}
-use Rattle.ttx_page.specs.Differing.{differing}
 use Rattle.sub_check.specs.PacketRules.{AreClean, header_count, packets_of_units}
 use Rattle.sub_check.specs.Listening.{Knows}
+use Rattle.sub_check.specs.PageCount.{IsCounted}
 use Rattle.sub_check.proofs.listener.Listener.hear_all.Given as goal
 
 abbrev pub invariant-loop-k : goal.invariant-loop-k
 invariant-loop-k l = record {
   same : l.self.watched ≡ l.initial.self.watched;
-  count : l.self.wrong ≡ differing l.self.page l.due;
+  count : IsCounted l.self l.due;
   few : l.headers ≤ l.k;
   header :
       l.headers ≡ header_count l.initial.self.watched.page (take l.k (packets_of_units l.units));
