@@ -1,3 +1,4 @@
 pub mod CommandLemmas
 pub mod ListeningLemmas
 pub mod WritingLemmas
+pub mod VerdictLemmas

@@ -7,3 +7,5 @@ pub mod LoadLines
 pub mod Listening
 pub mod Writing
 pub mod Answering
+pub mod CheckLines
+pub mod Verdict

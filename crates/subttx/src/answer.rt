@@ -3,6 +3,7 @@
 //! A file of `answer/` has each command's work; here a request is handed to its own, and the
 //! lines of refused words are printed.
 
+pub mod check;
 mod packet;
 mod packets;
 mod schedule;

@@ -5,6 +5,7 @@
 #![tactic(auto)]
 
 mod answer;
+mod check_lines;
 mod command;
 mod flips;
 mod lines;

@@ -1,4 +1,5 @@
 //! What the program prints, over devices in memory.
+mod check;
 mod packet;
 mod packets;
 mod show;
