@@ -61,8 +61,10 @@ impl Listener {
         }
     }
 
-    /// The first rule that a packet breaks which comes now.
-    pub fn broken_rule(&self, packet: &Packet) -> Option<PacketRule>
+    /// The first rule that a packet of this kind breaks which comes now.
+    pub fn broken_rule(&self, packet: &Packet, found: PacketKind) -> Option<PacketRule>
+        requires kind { found ≡ kind self.now.watched.page packet.now }
+        requires row { (row : ℕ) → found ≡ PacketKind.Row row → (1 ≤ row) × (row ≤ 24) }
         ensures { (heard : List (List ℕ)) → Knows heard self.now
             → MatchOption result
             (IsClean self.now.watched heard packet.now)
@@ -77,7 +79,7 @@ impl Listener {
         if !has_mode(self.serial, packet) {
             return Some(PacketRule::Mode);
         }
-        match PacketKind::of(self.watched.page, packet) {
+        match found {
             PacketKind::ThisPage(header) => {
                 if is_subtitle_header(self.watched.national, &header) {
                     None
@@ -109,9 +111,12 @@ impl Listener {
         }
     }
 
-    /// Hears a packet that breaks no rule, and says whether it is a header of the page.
-    pub fn hear(&mut self, packet: &Packet, due: &Page) -> bool
-        requires { IsCounted self.old due.now }
+    /// Hears a packet of this kind that breaks no rule, and says whether it is a header of the
+    /// page.
+    pub fn hear(&mut self, packet: &Packet, found: PacketKind, due: &Page) -> bool
+        requires kind { found ≡ kind self.old.watched.page packet.now }
+        requires row { (row : ℕ) → found ≡ PacketKind.Row row → (1 ≤ row) × (row ≤ 24) }
+        requires counted { IsCounted self.old due.now }
         ensures header { result ≡ is_this_page (kind self.old.watched.page packet.now) }
         ensures watched { self.new.watched ≡ self.old.watched }
         ensures counted { IsCounted self.new due.now }
@@ -120,7 +125,7 @@ impl Listener {
             → Knows (heard ++ packet.now ∷ []) self.new }
     {
         self.serial = first_serial(self.serial, packet);
-        match PacketKind::of(self.watched.page, packet) {
+        match found {
             PacketKind::ThisPage(_) => {
                 self.start();
                 true
@@ -158,11 +163,12 @@ impl Listener {
         let mut headers = 0;
         for k in 0..units.len() {
             let packet = units[k].packet();
-            if let Some(rule) = self.broken_rule(packet) {
+            let found = PacketKind::of(self.watched.page, packet);
+            if let Some(rule) = self.broken_rule(packet, found) {
                 let packet = k as u32;
                 return Err(BrokenRule { packet, rule });
             }
-            headers = counted(headers, self.hear(packet, due));
+            headers = counted(headers, self.hear(packet, found, due));
         }
         Ok(headers)
     }

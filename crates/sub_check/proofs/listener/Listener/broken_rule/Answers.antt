@@ -28,7 +28,7 @@ pub returns-then-is_subtitle_header : goal.returns-then-is_subtitle_header
 returns-then-is_subtitle_header c heard known =
     let w = c.args.self.now.watched in
     let p = c.args.packet.now in
-    let k : kind w.page p ≡ ThisPage c.in-ThisPage.header = sym c.in-ThisPage.ensures.value in
+    let k : kind w.page p ≡ ThisPage c.in-ThisPage.header = sym c.requires.kind ∙ c.in-ThisPage.is in
     clean_from w heard p (c.is_clean_address.ensures.0 c.if-not-is_clean_address.false)
     (c.has_exact_codes.ensures.0 c.if-not-has_exact_codes.false)
     (mode_free _ w heard p known.serial_is (c.has_mode.ensures.0 c.if-not-has_mode.false))
@@ -41,7 +41,7 @@ pub returns-else-is_subtitle_header : goal.returns-else-is_subtitle_header
 returns-else-is_subtitle_header c heard known =
     let w = c.args.self.now.watched in
     let p = c.args.packet.now in
-    let k : kind w.page p ≡ ThisPage c.in-ThisPage.header = sym c.in-ThisPage.ensures.value in
+    let k : kind w.page p ≡ ThisPage c.in-ThisPage.header = sym c.requires.kind ∙ c.in-ThisPage.is in
     first_control w heard p (c.is_clean_address.ensures.0 c.if-not-is_clean_address.false)
     (c.has_exact_codes.ensures.0 c.if-not-has_exact_codes.false)
     (mode_free _ w heard p known.serial_is (c.has_mode.ensures.0 c.if-not-has_mode.false))
@@ -52,7 +52,7 @@ pub returns-in-EndsPage : goal.returns-in-EndsPage
 returns-in-EndsPage c heard known =
     let w = c.args.self.now.watched in
     let p = c.args.packet.now in
-    let k : kind w.page p ≡ EndsPage = sym c.in-EndsPage.ensures.value in
+    let k : kind w.page p ≡ EndsPage = sym c.requires.kind ∙ c.in-EndsPage.is in
     clean_from w heard p (c.is_clean_address.ensures.0 c.if-not-is_clean_address.false)
     (c.has_exact_codes.ensures.0 c.if-not-has_exact_codes.false)
     (mode_free _ w heard p known.serial_is (c.has_mode.ensures.0 c.if-not-has_mode.false))
@@ -64,7 +64,7 @@ pub returns-then-not-self : goal.returns-then-not-self
 returns-then-not-self c heard known =
     let w = c.args.self.now.watched in
     let p = c.args.packet.now in
-    let k : kind w.page p ≡ Row c.in-Row.row = sym c.in-Row.ensures.value in
+    let k : kind w.page p ≡ Row c.in-Row.row = sym c.requires.kind ∙ c.in-Row.is in
     let shut : is_open_after (kind w.page) heard ≡ false = sym known.open_is ∙ c.if-not-self.true in
     clean_from w heard p (c.is_clean_address.ensures.0 c.if-not-is_clean_address.false)
     (c.has_exact_codes.ensures.0 c.if-not-has_exact_codes.false)
@@ -78,7 +78,7 @@ pub returns-then-not-has_odd_text : goal.returns-then-not-has_odd_text
 returns-then-not-has_odd_text c heard known =
     let w = c.args.self.now.watched in
     let p = c.args.packet.now in
-    let k : kind w.page p ≡ Row c.in-Row.row = sym c.in-Row.ensures.value in
+    let k : kind w.page p ≡ Row c.in-Row.row = sym c.requires.kind ∙ c.in-Row.is in
     first_row w heard p (c.is_clean_address.ensures.0 c.if-not-is_clean_address.false)
     (c.has_exact_codes.ensures.0 c.if-not-has_exact_codes.false)
     (mode_free _ w heard p known.serial_is (c.has_mode.ensures.0 c.if-not-has_mode.false))
@@ -90,8 +90,8 @@ pub returns-then-not-holds_row : goal.returns-then-not-holds_row
 returns-then-not-holds_row c heard known =
     let w = c.args.self.now.watched in
     let p = c.args.packet.now in
-    let k : kind w.page p ≡ Row c.in-Row.row = sym c.in-Row.ensures.value in
-    let range = c.in-Row.ensures.row c.in-Row.row refl in
+    let k : kind w.page p ≡ Row c.in-Row.row = sym c.requires.kind ∙ c.in-Row.is in
+    let range = c.requires.row c.in-Row.row c.in-Row.is in
     first_changed w heard p (c.is_clean_address.ensures.0 c.if-not-is_clean_address.false)
     (c.has_exact_codes.ensures.0 c.if-not-has_exact_codes.false)
     (mode_free _ w heard p known.serial_is (c.has_mode.ensures.0 c.if-not-has_mode.false))
@@ -105,8 +105,8 @@ pub returns-else-self-at : goal.returns-else-self-at
 returns-else-self-at c heard known =
     let w = c.args.self.now.watched in
     let p = c.args.packet.now in
-    let k : kind w.page p ≡ Row c.in-Row.row = sym c.in-Row.ensures.value in
-    let range = c.in-Row.ensures.row c.in-Row.row refl in
+    let k : kind w.page p ≡ Row c.in-Row.row = sym c.requires.kind ∙ c.in-Row.is in
+    let range = c.requires.row c.in-Row.row c.in-Row.is in
     let exact = c.is_clean_address.ensures.0 c.if-not-is_clean_address.false in
     let odd : HasOddText p = c.has_odd_text.ensures.0 c.if-not-has_odd_text.false in
     clean_from w heard p exact (c.has_exact_codes.ensures.0 c.if-not-has_exact_codes.false)
@@ -126,7 +126,7 @@ pub returns-else-self : goal.returns-else-self
 returns-else-self c heard known =
     let w = c.args.self.now.watched in
     let p = c.args.packet.now in
-    let k : kind w.page p ≡ Other = sym c.in-Other.ensures.value in
+    let k : kind w.page p ≡ Other = sym c.requires.kind ∙ c.in-Other.is in
     clean_from w heard p (c.is_clean_address.ensures.0 c.if-not-is_clean_address.false)
     (c.has_exact_codes.ensures.0 c.if-not-has_exact_codes.false)
     (mode_free _ w heard p known.serial_is (c.has_mode.ensures.0 c.if-not-has_mode.false))

@@ -17,7 +17,7 @@ pub returns-in-ThisPage-clause-knows : goal.returns-in-ThisPage-clause-knows
 returns-in-ThisPage-clause-knows c heard known clean =
     let w = c.args.self.now.watched in
     let p = c.args.packet.now in
-    let k : kind w.page p ≡ ThisPage c.in-ThisPage.field-0 = sym c.in-ThisPage.ensures.value in
+    let k : kind w.page p ≡ ThisPage c.in-ThisPage.field-0 = sym c.requires.kind ∙ c.in-ThisPage.is in
     subst (Knows (heard ++ p ∷ [])) (sym c.start.ensures) (record {
       serial_is = c.first_serial-self.ensures
           ∙ serial_more c.args.self.now.serial heard p known.serial_is;
@@ -31,7 +31,7 @@ pub returns-in-EndsPage-clause-knows : goal.returns-in-EndsPage-clause-knows
 returns-in-EndsPage-clause-knows c heard known clean =
     let w = c.args.self.now.watched in
     let p = c.args.packet.now in
-    let k : kind w.page p ≡ EndsPage = sym c.in-EndsPage.ensures.value in
+    let k : kind w.page p ≡ EndsPage = sym c.requires.kind ∙ c.in-EndsPage.is in
     record {
       serial_is = c.first_serial-self.ensures
           ∙ serial_more c.args.self.now.serial heard p known.serial_is;
@@ -45,8 +45,8 @@ pub returns-then-self-clause-knows : goal.returns-then-self-clause-knows
 returns-then-self-clause-knows c heard known clean =
     let w = c.args.self.now.watched in
     let p = c.args.packet.now in
-    let k : kind w.page p ≡ Row c.in-Row.row = sym c.in-Row.ensures.value in
-    let range = c.in-Row.ensures.row c.in-Row.row refl in
+    let k : kind w.page p ≡ Row c.in-Row.row = sym c.requires.kind ∙ c.in-Row.is in
+    let range = c.requires.row c.in-Row.row c.in-Row.is in
     let opened : is_open_after (kind w.page) heard ≡ true = sym known.open_is ∙ c.if-self.true in
     let odd = clean rule.Parity opened in
     let n : ℕ = c.in-Row.row in
@@ -76,7 +76,7 @@ pub returns-else-self-clause-knows : goal.returns-else-self-clause-knows
 returns-else-self-clause-knows c heard known clean =
     let w = c.args.self.now.watched in
     let p = c.args.packet.now in
-    let k : kind w.page p ≡ Row c.in-Row.row = sym c.in-Row.ensures.value in
+    let k : kind w.page p ≡ Row c.in-Row.row = sym c.requires.kind ∙ c.in-Row.is in
     let shut : is_open_after (kind w.page) heard ≡ false = sym known.open_is ∙ c.if-self.false in
     record {
       serial_is = c.first_serial-self.ensures
@@ -91,7 +91,7 @@ pub returns-in-Other-clause-knows : goal.returns-in-Other-clause-knows
 returns-in-Other-clause-knows c heard known clean =
     let w = c.args.self.now.watched in
     let p = c.args.packet.now in
-    let k : kind w.page p ≡ Other = sym c.in-Other.ensures.value in
+    let k : kind w.page p ≡ Other = sym c.requires.kind ∙ c.in-Other.is in
     record {
       serial_is = c.first_serial-self.ensures
           ∙ serial_more c.args.self.now.serial heard p known.serial_is;
