@@ -15,7 +15,13 @@ abbrev pub ForSchedule : Request → (OptionsValue → Bool → National → Typ
 ForSchedule (ask.Schedule stl pes options serial national) P = P options serial national
 ForSchedule _ P = ⊤
 
+-- The fact holds of what a `check` request asks for.
+abbrev pub ForCheck : Request → (OptionsValue → National → Type 0) → Type 0
+ForCheck (ask.Check stl pes options national) P = P options national
+ForCheck _ P = ⊤
+
 -- Whether the answer takes memory: a programme, or a whole file, is kept in it.
 abbrev pub takes_memory : Request → Bool
 takes_memory (ask.Schedule stl pes options serial national) = true
+takes_memory (ask.Check stl pes options national) = true
 takes_memory _ = false

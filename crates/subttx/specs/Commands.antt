@@ -57,6 +57,10 @@ with_schedule app = with_national (with_every (with_page_and_origin (with_pair a
 abbrev pub schedule_app : App
 schedule_app = with_rule (with_schedule (new_app (codes "schedule"))) (flag_rule (codes "serial"))
 
+-- `check STL PES [--page P] [--every N] [--origin T] [--option O]`
+abbrev pub check_app : App
+check_app = with_schedule (new_app (codes "check"))
+
 -- The program before its commands: it offers neither help nor a version, and wants a command.
 abbrev pub bare_app : App
 bare_app = let plain = new_app (codes "subttx") in record plain {
@@ -74,9 +78,14 @@ with_listings app =
     with_subcommand (with_subcommand (with_subcommand app packet_app.top) packets_app.top)
     show_app.top
 
+-- The commands that write a file, or judge a pair of files.
+abbrev pub with_makers : App → App
+with_makers app =
+    with_subcommand (with_subcommand app schedule_app.top) check_app.top
+
 -- The program and its commands.
 unfoldable pub subttx_app : App
-subttx_app = with_subcommand (with_listings bare_app) schedule_app.top
+subttx_app = with_makers (with_listings bare_app)
 
 -- What `clap`'s contract says of words, as functions of them. The kinds of its refusal: none where
 -- it takes the words.
@@ -94,7 +103,8 @@ are_sound words = takes subttx_app words
 -- The names of the commands.
 abbrev pub command_names : List Text
 command_names =
-    codes "packet" ∷ codes "packets" ∷ codes "show" ∷ codes "schedule" ∷ []
+    codes "packet" ∷ codes "packets" ∷ codes "show" ∷ codes "schedule"
+    ∷ codes "check" ∷ []
 
 -- The words of the command line as texts.
 abbrev pub texts_of : List (Bor (List ℕ)) → List Text

@@ -40,11 +40,15 @@ schedule_faults rows =
     same_file_fault (text_of (codes "stl") rows) (text_of (codes "pes") rows)
     ∷ result_err (options_of rows) ∷ result_err (national_of rows) ∷ []
 
+abbrev pub check_faults : List Row → List (Option UsageFault)
+check_faults rows = result_err (options_of rows) ∷ result_err (national_of rows) ∷ []
+
 -- The faults that a command's arguments can have by the program's own rules (own).
 abbrev pub own_faults : Text → List Row → List (Option UsageFault)
 own_faults name rows =
     if bytes_eq name (codes "packet") then packet_faults rows
-    else (if bytes_eq name (codes "schedule") then schedule_faults rows else [])
+    else (if bytes_eq name (codes "schedule") then schedule_faults rows
+    else (if bytes_eq name (codes "check") then check_faults rows else []))
 
 -- The first of them, where there is one.
 abbrev pub own_fault : Text → List Row → Option UsageFault
@@ -65,6 +69,7 @@ command_of (ask.Packet bytes) = codes "packet"
 command_of (ask.Packets pes) = codes "packets"
 command_of (ask.Show stl) = codes "show"
 command_of (ask.Schedule stl pes options serial national) = codes "schedule"
+command_of (ask.Check stl pes options national) = codes "check"
 
 -- The files, the options and the national option of a schedule that is written or checked.
 pub record HoldsPair
@@ -81,6 +86,8 @@ Holds rows (ask.Packets pes) = pes.now ≡ text_of (codes "pes") rows
 Holds rows (ask.Show stl) = stl.now ≡ text_of (codes "stl") rows
 Holds rows (ask.Schedule stl pes options serial national) =
     HoldsPair rows stl.now pes.now options national × (serial ≡ is_set (codes "serial") rows)
+Holds rows (ask.Check stl pes options national) =
+    HoldsPair rows stl.now pes.now options national
 
 -- The request is that of a command and its arguments.
 pub record IsRequestBy (name : Text) (rows : List Row) (request : Request) : Type 0 where
@@ -128,6 +135,7 @@ names_first (ask.Packet bytes) = false
 names_first (ask.Packets pes) = true
 names_first (ask.Show stl) = true
 names_first (ask.Schedule stl pes options serial national) = true
+names_first (ask.Check stl pes options national) = true
 
 -- Whether it reads a second input.
 abbrev pub names_second : Request → Bool
@@ -135,6 +143,7 @@ names_second (ask.Packet bytes) = false
 names_second (ask.Packets pes) = false
 names_second (ask.Show stl) = false
 names_second (ask.Schedule stl pes options serial national) = false
+names_second (ask.Check stl pes options national) = true
 
 -- Whether it writes a file.
 abbrev pub names_file : Request → Bool
@@ -142,6 +151,7 @@ names_file (ask.Packet bytes) = false
 names_file (ask.Packets pes) = false
 names_file (ask.Show stl) = false
 names_file (ask.Schedule stl pes options serial national) = true
+names_file (ask.Check stl pes options national) = false
 
 -- The name is one of these.
 abbrev pub IsOneOf : List Text → Text → Type 0

@@ -9,24 +9,32 @@ mod packets;
 mod schedule;
 mod show;
 
-ghost use Rattle.std.specs.Prelude.{◌≡◌, ◌≢◌, ◌+◌, ◌<◌, ◌≤◌, false};
+ghost use Rattle.std.specs.Prelude.{◌≡◌, ◌≢◌, ◌↔◌, ◌+◌, ◌<◌, ◌≤◌, Result, false, true};
+ghost use Rattle.std.specs.Prelude.{if◌then◌else◌};
 ghost use Rattle.std.specs.Io.KnownBytes.{Appends};
 ghost use Rattle.sub_io.specs.Device.{AppendsPrefix};
-ghost use Rattle.subttx.specs.Lines.{usage_line};
 ghost use Rattle.sub_io.specs.Reading.{IfTold};
-ghost use Rattle.subttx.specs.Answering.{ForPacket, ForSchedule, takes_memory};
+ghost use Rattle.stl_file.specs.Reader.{outcome_of};
+ghost use Rattle.sub_check.specs.Checking.{TellsSubtitles, is_source_failure};
+ghost use Rattle.sub_check.specs.Checking.{is_subtitle_refusal, is_subtitle_source_failure};
+ghost use Rattle.subttx.specs.Answering.{ForCheck, ForPacket, ForSchedule, takes_memory};
+ghost use Rattle.subttx.specs.CheckLines.{verdict};
+ghost use Rattle.subttx.specs.Lines.{usage_line};
 ghost use Rattle.subttx.specs.Listing.{CountsFault, Prints, packet_listing};
 ghost use Rattle.subttx.specs.Requests.{names_file, names_first, names_second};
+ghost use Rattle.subttx.specs.Verdict.{IsAccepted, IsAnswer, PrintsOrFails};
 ghost use Rattle.subttx.specs.Writing.{Answers, PrintsMemory, schedule_writing};
 
 use crate::lines::usage_text;
 use crate::request::{Request, UsageFault};
 use crate::status::Status;
+use check::print_verdict;
 use packet::show_packet;
 use packets::list_packets;
 use schedule::write_schedule;
 use show::list_subtitles;
 use std::alloc::Global;
+use sub_check::{Accepted, CheckFault};
 use sub_io::{Flush, Sink, Source, put_all};
 
 /// Answers a request that `Request::parse` gave.
@@ -68,6 +76,38 @@ pub fn answer<S: Source, T: Source, F: Flush, K: Sink>(
         → PrintsMemory national (S.remaining first.old) (K.contents out.old)
         (K.contents out.new)) }
 
+    // `check` prints one answer. It tells which device failed, and where the files tell their bytes
+    // these decide it. Where it refuses the subtitle file, no PES byte is read.
+    ensures check { ForCheck request.now (λ options national. (answer : Result Accepted CheckFault)
+        × PrintsOrFails (K.failure_count out.old) (K.contents out.old)
+        (K.failure_count out.new) (K.contents out.new) (verdict answer) result
+        × (S.failure_count first.new
+        ≡ S.failure_count first.old + (if is_subtitle_source_failure answer then 1 else 0))
+        × (T.failure_count second.new
+        ≡ T.failure_count second.old + (if is_source_failure answer then 1 else 0))
+        × (is_subtitle_refusal answer ≡ true → second.new ≡ second.old)
+        × IfTold (S.remaining first.old) (λ file.
+        TellsSubtitles national (outcome_of file) answer
+        × IfTold (T.remaining second.old) (λ bytes.
+        IsAnswer national options file bytes answer))) }
+
+    // Failing devices and want of memory aside, its status is `Done` exactly where the PES file is
+    // read to its end as a good transmission of the programme of the subtitle file.
+    ensures check_done { ForCheck request.now (λ options national.
+        IfTold (S.remaining first.old) (λ file. IfTold (T.remaining second.old) (λ bytes.
+        result ≢ Status.Fault
+        → (result ≡ Status.Done)
+        ↔ ((accepted : Accepted) × IsAccepted national options file bytes accepted)))) }
+
+    // Its status is `Fault` only where a device failed, or want of memory is printed.
+    ensures check_fault { ForCheck request.now (λ options national.
+        result ≡ Status.Fault
+        → S.failure_count first.new ≡ S.failure_count first.old
+        → T.failure_count second.new ≡ T.failure_count second.old
+        → K.failure_count out.new ≡ K.failure_count out.old
+        → PrintsMemory national (S.remaining first.old) (K.contents out.old)
+        (K.contents out.new)) }
+
     // Devices that are not named stay as they are.
     ensures first { names_first request.now ≡ false → first.new ≡ first.old }
     ensures second { names_second request.now ≡ false → second.new ≡ second.old }
@@ -101,6 +141,11 @@ pub fn answer<S: Source, T: Source, F: Flush, K: Sink>(
             national,
             ..
         } => { write_schedule(alloc, first, *national, options, *serial, file, out) }
+        Request::Check {
+            options,
+            national,
+            ..
+        } => { print_verdict(alloc, first, second, *national, options, out) }
     }
 }
 

@@ -5,10 +5,13 @@
 ghost use Rattle.std.specs.Prelude.{◌≡◌, IfOk, false};
 ghost use Rattle.clap.specs.Words.{app_of, with_rule, with_subcommand};
 ghost use Rattle.clap.specs.declared.builder.command.Command.TheViews.{out-Command};
-ghost use Rattle.subttx.specs.Commands.{bare_app, flag_rule, option_rule, packet_app};
-ghost use Rattle.subttx.specs.Commands.{packets_app, required_rule, schedule_app, show_app};
-ghost use Rattle.subttx.specs.Commands.{subttx_app, with_every, with_listings, with_national};
-ghost use Rattle.subttx.specs.Commands.{with_page_and_origin, with_pair, with_schedule};
+ghost use Rattle.subttx.specs.Commands.{bare_app, check_app, flag_rule};
+ghost use Rattle.subttx.specs.Commands.{option_rule, packet_app};
+ghost use Rattle.subttx.specs.Commands.{packets_app, required_rule};
+ghost use Rattle.subttx.specs.Commands.{schedule_app, show_app, subttx_app, with_every};
+ghost use Rattle.subttx.specs.Commands.{with_listings, with_makers, with_national};
+ghost use Rattle.subttx.specs.Commands.{with_page_and_origin, with_pair};
+ghost use Rattle.subttx.specs.Commands.{with_schedule};
 
 use clap::{Arg, ArgAction, Command};
 use std::alloc::{AllocError, Global};
@@ -139,6 +142,14 @@ fn schedule_command<'a>(alloc: Global) -> Result<Command<'a>, AllocError>
     with_flag(command, alloc, "serial")
 }
 
+// `check STL PES [--page P] [--every N] [--origin T] [--option O]`
+fn check_command<'a>(alloc: Global) -> Result<Command<'a>, AllocError>
+    ensures app { IfOk result (λ c. app_of c ≡ check_app) }
+    ensures local { IfOk result (λ c. (out-Command c).has_globals ≡ false) }
+{
+    with_schedule(Command::new(alloc, "check"), alloc)
+}
+
 // The program before its commands.
 fn bare_program<'a>(alloc: Global) -> Command<'a>
     ensures app { app_of result ≡ bare_app }
@@ -173,6 +184,16 @@ fn with_listings<'a>(program: Command<'a>, alloc: Global) -> Result<Command<'a>,
     with_command(program, show_command(alloc)?)
 }
 
+// Adds the commands that write a file, or judge a pair of files.
+fn with_makers<'a>(program: Command<'a>, alloc: Global) -> Result<Command<'a>, AllocError>
+    ensures app { IfOk result (λ c. app_of c ≡ with_makers (app_of program.entry)) }
+    ensures local { (out-Command program.entry).has_globals ≡ false
+        → IfOk result (λ c. (out-Command c).has_globals ≡ false) }
+{
+    let program = with_command(program, schedule_command(alloc)?)?;
+    with_command(program, check_command(alloc)?)
+}
+
 /// The program and its commands.
 ///
 /// # Errors
@@ -184,5 +205,5 @@ pub fn subttx_command<'a>(alloc: Global) -> Result<Command<'a>, AllocError>
     ensures local { IfOk result (λ c. (out-Command c).has_globals ≡ false) }
 {
     let program = with_listings(bare_program(alloc), alloc)?;
-    with_command(program, schedule_command(alloc)?)
+    with_makers(program, alloc)
 }

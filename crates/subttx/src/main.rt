@@ -85,6 +85,7 @@ fn open_and_answer<R: AllocGlobal + Files, K: Sink>(
         Request::Packets { pes } => answer_file(rt, request, pes, out),
         Request::Show { stl } => answer_file(rt, request, stl, out),
         Request::Schedule { stl, pes, .. } => answer_into(rt, request, stl, pes, out),
+        Request::Check { stl, pes, .. } => answer_pair(rt, request, stl, pes, out),
     }
 }
 
@@ -146,17 +147,45 @@ fn answer_input<R: AllocGlobal, S: Source, K: Sink>(
     requires first { S.failure_count first.old < u64.MAX }
     requires out { K.failure_count out.old < u64.MAX }
 {
+    let mut no_second = MemSource::new(&[]);
+    answer_inputs(rt, request, first, &mut no_second, out)
+}
+
+// Answers a request with the two files that it reads.
+fn answer_pair<R: AllocGlobal + Files, K: Sink>(
+    rt: &R,
+    request: &Request<'_>,
+    first_name: &str,
+    second_name: &str,
+    out: &mut K,
+) -> Status
+    requires { K.failure_count out.old < u64.MAX }
+{
+    let mut first = match open_input(rt, first_name) {
+        Ok(first) => first,
+        Err(fault) => return answer::say(&fault, out),
+    };
+    match open_input(rt, second_name) {
+        Ok(mut second) => answer_inputs(rt, request, &mut first, &mut second, out),
+        Err(fault) => answer::say(&fault, out),
+    }
+}
+
+// Answers a request that writes no file.
+fn answer_inputs<R: AllocGlobal, S: Source, T: Source, K: Sink>(
+    rt: &R,
+    request: &Request<'_>,
+    first: &mut S,
+    second: &mut T,
+    out: &mut K,
+) -> Status
+    requires first { S.failure_count first.old < u64.MAX }
+    requires second { T.failure_count second.old < u64.MAX }
+    requires out { K.failure_count out.old < u64.MAX }
+{
     let mut room = [0u8; 0];
     let mut no_file = MemSink::new(&mut room);
-    let mut no_second = MemSource::new(&[]);
-    answer::answer(
-        rt.alloc(),
-        request,
-        first,
-        &mut no_second,
-        &mut no_file,
-        out,
-    )
+    answer::answer(rt.alloc(), request, first, second, &mut no_file, out)
 }
 
 // Answers a request with the file that it reads and the one that it writes.

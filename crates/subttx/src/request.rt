@@ -96,6 +96,17 @@ pub enum Request<'a> {
         /// The national option by which the text is read.
         national: National,
     },
+    /// `check STL PES`: checks that a file of PES packets shows a subtitle file.
+    Check {
+        /// The name of the subtitle file.
+        stl: &'a str,
+        /// The name of the file of PES packets.
+        pes: &'a str,
+        /// The page, the repeat bound and the PTS of frame 0.
+        options: Options,
+        /// The national option by which the text is read.
+        national: National,
+    },
 }
 
 impl<'a> Request<'a> {

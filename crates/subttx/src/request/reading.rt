@@ -24,8 +24,10 @@ pub fn read_command<'a>(name: &str, matches: &ArgMatches<'a>) -> Result<Request<
         read_packets(matches)
     } else if name == "show" {
         read_show(matches)
-    } else {
+    } else if name == "schedule" {
         read_schedule(matches)
+    } else {
+        read_check(matches)
     }
 }
 
@@ -80,6 +82,21 @@ fn read_schedule<'a>(matches: &ArgMatches<'a>) -> Result<Request<'a>, UsageFault
         pes,
         options,
         serial,
+        national,
+    })
+}
+
+// `check STL PES [--page P] [--every N] [--origin T] [--option O]`
+fn read_check<'a>(matches: &ArgMatches<'a>) -> Result<Request<'a>, UsageFault>
+    ensures request { IfOk result (IsRequestBy (codes "check") (rows_of (found_of matches.now))) }
+    ensures fault { IfErr result (IsFaultBy (codes "check") (rows_of (found_of matches.now))) }
+{
+    let options = options_at(matches)?;
+    let national = national_at(matches)?;
+    Ok(Request::Check {
+        stl: text_at(matches, "stl"),
+        pes: text_at(matches, "pes"),
+        options,
         national,
     })
 }
