@@ -35,7 +35,7 @@ use Rattle.sub_check.proofs.GoodByPlace.{IsFair}
 use Rattle.sub_check.proofs.GoodLemmas.{clean_span, first-same, last-same, number_at}
 use Rattle.sub_check.proofs.PacketLists.{Each-push}
 use Rattle.sub_check.proofs.PlaceLemmas.{IsFair-none, fair_step}
-use Rattle.sub_check.proofs.PrefixLemmas.{at_sending, before, packet_at, rises_strictly, rises_to}
+use Rattle.sub_check.proofs.PrefixLemmas.{at_start, before, packet_at, rises_strictly, rises_to}
 use Rattle.sub_check.proofs.TransmissionLemmas.{holds-append_left}
 
 -- ---- packets that keep the rules
@@ -46,21 +46,21 @@ module _ (w : Watched) (frames : Transmission) (n : ℕ) (fits : n ≤ length fr
   -- Their addresses and headers are code words.
   exact : AllByRecursion HasExactWords (joined frames n)
   exact =
-      at_sending frames n fits (AllByRecursion HasExactWords) tt
+      at_start frames n fits (AllByRecursion HasExactWords) tt
       (λ i k l m ih. Each-push HasExactWords (before frames i k) (packet_at frames i k) ih
       (clean i k l m rule.Address, clean i k l m rule.HeaderCode)) n (omega arith)
 
   -- Each header of the page erases it.
   erases : AllByRecursion (ErasesPage w.page) (joined frames n)
   erases =
-      at_sending frames n fits (AllByRecursion (ErasesPage w.page)) tt
+      at_start frames n fits (AllByRecursion (ErasesPage w.page)) tt
       (λ i k l m ih. Each-push (ErasesPage w.page) (before frames i k) (packet_at frames i k) ih
       (λ h e. (clean i k l m rule.Control h e).erases)) n (omega arith)
 
   -- Their span is fair.
   fair : IsFair w (span (kind w.page) (joined frames n))
   fair =
-      at_sending frames n fits (λ xs. IsFair w (span (kind w.page) xs)) (IsFair-none w)
+      at_start frames n fits (λ xs. IsFair w (span (kind w.page) xs)) (IsFair-none w)
       (λ i k l m ih. fair_step w (before frames i k) (packet_at frames i k) (clean i k l m) ih) n
       (omega arith)
 

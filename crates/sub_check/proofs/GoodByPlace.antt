@@ -16,17 +16,17 @@ use Rattle.sub_check.specs.Transmission.{SentFrame, Transmission}
 use Rattle.sub_check.specs.Good.{IsSubtitleHeader, IsEnhancement}
 use Rattle.sub_check.specs.FrameRules.{Task, frame_at, packets_at, joined, end_frame, HasHeader}
 
--- the packets of frames g to f, joined, without the first j of those in frame g
+-- The packets of frames g to f, joined, without the first j of those in frame g.
 abbrev pub air : Transmission → ℕ → ℕ → ℕ → List (List ℕ)
 air frames g j f =
     drop j (flat_map (λ (s : SentFrame). s.packets)
     (filter (λ (s : SentFrame). nat_le g s.frame && nat_le s.frame f) frames))
 
--- all packets
+-- All packets.
 abbrev pub whole : Transmission → List (List ℕ)
 whole frames = joined frames (length frames)
 
--- what stands in a span: rows with odd text, those of one row equal, and no packet 25 to 28
+-- What stands in a span: rows with odd text, those of one row equal, and no packet 25 to 28.
 pub record IsFair (w : Watched) (packets : List (List ℕ)) : Type 0 where
   pub odd : AllByRecursion (λ p. (row : ℕ) → kind w.page p ≡ Row row → HasOddText p) packets
   pub same : AllByRecursion

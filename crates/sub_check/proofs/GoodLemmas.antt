@@ -228,7 +228,7 @@ module _ (programme : ProgrammeValue) (options : OptionsValue) (unread : Option 
             ])
       ])
 
-  -- what is on air up to a frame is the packets of the first frames
+  -- What is on air up to a frame is the packets of the first frames.
   joined_at : (f : ℕ) → f ≤ end_frame t
       → (m : ℕ) × (m ≤ length t) × (air t (frame_at t 0) 0 f ≡ joined t m)
   joined_at f high = elim (cases_lt f (frame_at t 0)) [

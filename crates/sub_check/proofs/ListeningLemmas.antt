@@ -20,7 +20,7 @@ use Rattle.ttx_page.specs.Page.{blank_row, blank, space}
 use Rattle.ttx_page.specs.Span.{span, is_open_after, before_end}
 use Rattle.ttx_page.proofs.SpanPush.{span-other, open-this, open-other, list_any-push}
 use Rattle.sub_check.proofs.PushLemmas.{first_header-push}
-use Rattle.sub_check.specs.Listening.{HoldsRows, IsSound}
+use Rattle.sub_check.specs.Listening.{HoldsRows, IsSoundRow}
 use Rattle.sub_check.proofs.PacketLists.{Each-push, Each-map}
 
 -- C11 of a header, if there is one.
@@ -65,7 +65,7 @@ module _ (w : Watched) (heard : List (List ℕ)) (p : List ℕ) where
       ∙ sym (open-other (kind w.page) heard p this
       ∙ ap (λ x. is_open_after (kind w.page) heard && not x) ends)
 
-  -- the span stays where the page is not open, or ends
+  -- The span stays where the page is not open, or ends.
   pub span_shut : is_this_page (kind w.page p) ≡ false → is_open_after (kind w.page) heard ≡ false
       → span (kind w.page) (heard ++ p ∷ []) ≡ span (kind w.page) heard
   span_shut this shut = span-other (kind w.page) heard p this
@@ -132,11 +132,11 @@ or-false false c e = sym e
 
 module _ (w : Watched) (packets : List (List ℕ)) (sent : List Bool) (page : List (List ℕ))
     (p : List ℕ) (h : HoldsRows w packets sent page) where
-  -- a packet that is no row
+  -- A packet that is no row.
   pub HoldsRows-other : ((y : ℕ) → kind w.page p ≡ Row y → ⊥)
       → HoldsRows w (packets ++ p ∷ []) sent page
   HoldsRows-other other = record {
-    sound = Each-push (IsSound w) packets p h.sound
+    sound = Each-push (IsSoundRow w) packets p h.sound
         (record {
           whole = λ row e. absurd (other row e);
           exact =
@@ -152,14 +152,14 @@ module _ (w : Watched) (packets : List (List ℕ)) (sent : List Bool) (page : Li
     blank = h.blank;
   }
 
-  -- a row
+  -- A row.
   pub HoldsRows-row : (y : ℕ) → 1 ≤ y → y ≤ 24 → length sent ≡ 24 → length page ≡ 24
-      → kind w.page p ≡ Row y → IsSound w p
+      → kind w.page p ≡ Row y → IsSoundRow w p
       → AllByRecursion (λ q. kind w.page q ≡ Row y → q ≡ p) packets
       → HoldsRows w (packets ++ p ∷ []) (set sent (y - 1) true)
       (set page (y - 1) (codes_of p))
   HoldsRows-row y low high long tall k sound equal = record {
-    sound = Each-push (IsSound w) packets p h.sound sound;
+    sound = Each-push (IsSoundRow w) packets p h.sound sound;
     marks = λ row a b. marks row a b (cases_eq row y)
         ∙ sym (list_any-push (kind w.page) (λ q. is_row row (kind w.page q)) packets p);
     same = λ row a b. same row a b (cases_eq row y);
@@ -221,7 +221,7 @@ module _ (w : Watched) (packets : List (List ℕ)) (sent : List Bool) (page : Li
           get_or-set_other page (y - 1) (row - 1) (codes_of p) [] other
           ∙ h.blank row a b (sym (get_or-set_other sent (y - 1) (row - 1) true false other) ∙ f)
 
--- a packet that is nothing to the page
+-- A packet that is nothing to the page.
 pub HoldsRows-passes : (w : Watched) (heard : List (List ℕ)) (p : List ℕ) (sent : List Bool)
     (page : List (List ℕ)) → kind w.page p ≡ Other
     → HoldsRows w (span (kind w.page) heard) sent page

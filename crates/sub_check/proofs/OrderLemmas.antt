@@ -44,7 +44,7 @@ one_more (inl l) = absurd (omega arith)
 one_more (inr (e, inl l)) = l
 one_more (inr (e, inr m)) = absurd m.1
 
--- what holds of the place's own part, up to the tail of the key
+-- What holds of the place's own part, up to the tail of the key.
 record Here (g : Task) (frames : Transmission) (n q : ℕ) (tail : List ℕ) : Type 0 where
   pub order : 0 ≡ q → IsBefore (62 ∷ []) tail → Keeps g frames (AtOrder n)
   pub start : 0 ≡ q → 0 ≡ n → IsBefore (63 ∷ []) tail → Keeps g frames AtStart
@@ -58,7 +58,7 @@ record Here (g : Task) (frames : Transmission) (n q : ℕ) (tail : List ℕ) : T
       → Keeps g frames (AtCell n row column)
   pub frame : 3 ≡ q → IsBefore (73 ∷ []) tail → Keeps g frames (AtFrame n)
 
--- there is no gap before the first sending
+-- There is no gap before the first frame of the list.
 pub gap_of_none : (g : Task) (frames : Transmission) → GapOk g frames 0
 gap_of_none g frames =
     record {
@@ -129,7 +129,7 @@ module _ (g : Task) (frames : Transmission) (n : ℕ) (past : (j : ℕ) → j < 
     upto q tail order gap packets end local AtEnd (inl l) = absurd (omega arith)
     upto q tail order gap packets end local AtEnd (inr r) = absurd (omega arith)
 
-    -- 62
+    -- Order.
     pub first_order : (0 < n)
         → n < length frames
         → (frame_at frames (n - 1) < frame_at frames n → ⊥)
@@ -155,13 +155,13 @@ module _ (g : Task) (frames : Transmission) (n : ℕ) (past : (j : ℕ) → j < 
       },
     )
 
-    -- a frame of the gap before which the gap is fine
+    -- A frame of the gap before which the gap is fine.
     pub GapUpto : ℕ → Type 0
     GapUpto f =
         ((d row column : ℕ) → d < f → Keeps g frames (AtGapCell n d row column)) ×
         ((d : ℕ) → d < f → Keeps g frames (AtGap n d))
 
-    -- 72 before a sending
+    -- Content, before a frame of the list.
     pub first_gap_cell : (f row column : ℕ) → OrderOk g frames n
         → ((d row column : ℕ) → d < f → Keeps g frames (AtGapCell n d row column))
         → ((d : ℕ) → d < f → Keeps g frames (AtGap n d))
@@ -207,7 +207,7 @@ module _ (g : Task) (frames : Transmission) (n : ℕ) (past : (j : ℕ) → j < 
         gap_of d (inr (e, inl l)) = absurd (omega arith)
         gap_of d (inr (e, inr m)) = absurd (omega arith)
 
-    -- 73 before a sending
+    -- Gap, before a frame of the list.
     pub first_gap : (f : ℕ) → OrderOk g frames n
         → ((d row column : ℕ) → d < f → Keeps g frames (AtGapCell n d row column))
         → ((d : ℕ) → d < f → Keeps g frames (AtGap n d))
@@ -247,7 +247,7 @@ module _ (g : Task) (frames : Transmission) (n : ℕ) (past : (j : ℕ) → j < 
         gap_of d (inr (e, inl l)) = absurd (omega arith)
         gap_of d (inr (e, inr m)) = absurd m.1
 
-    -- 64 to 70
+    -- The rules of a packet.
     pub first_packet : (k : ℕ) (rule : PacketRule) → n < length frames → OrderOk g frames n
         → GapOk g frames n → BreaksFirstAt g.watched (joined frames n) (packets_at frames n) k rule
         → NamesFirst g frames (packet_fault rule (frame_at frames n) k)
@@ -282,7 +282,7 @@ module _ (g : Task) (frames : Transmission) (n : ℕ) (past : (j : ℕ) → j < 
             (get_or (packets_at frames n) x [])) (sym e)
             (is.first.earlier f (one_before (number_of f) (number_of rule) [] b))
 
-    -- 72 at the end of a sending
+    -- Content, at the end of a frame of the list.
     pub first_cell : (row column : ℕ) → n < length frames → OrderOk g frames n → GapOk g frames n
         → PacketsOk g frames n → (n ≡ 0 → HasHeader g frames 0)
         → IsCell row column → (Shows g frames (n + 1) (frame_at frames n) row column → ⊥)
@@ -322,7 +322,7 @@ module _ (g : Task) (frames : Transmission) (n : ℕ) (past : (j : ℕ) → j < 
         frame_of (inl l) = absurd (omega arith)
         frame_of (inr m) = absurd (omega arith)
 
-    -- 73 at the end of a sending
+    -- Gap, at the end of a frame of the list.
     pub first_frame : n < length frames → OrderOk g frames n → GapOk g frames n
         → PacketsOk g frames n → (n ≡ 0 → HasHeader g frames 0)
         → ((r c : ℕ) → IsCell r c → Shows g frames (n + 1) (frame_at frames n) r c)
@@ -349,7 +349,7 @@ module _ (g : Task) (frames : Transmission) (n : ℕ) (past : (j : ℕ) → j < 
       },
     )
 
--- 63
+-- Early.
 pub first_early : (g : Task) (frames : Transmission) → 0 < length frames
     → (Holds g frames AtStart → ⊥) → NamesFirst g frames (fault.Early (frame_at frames 0))
 first_early g frames some broken = (
@@ -374,7 +374,7 @@ first_early g frames some broken = (
   },
 )
 
--- 71
+-- NoFirstHeader.
 pub first_header_missing : (g : Task) (frames : Transmission) → 0 < length frames
     → OrderOk g frames 0 → PacketsOk g frames 0 → (HasHeader g frames 0 → ⊥)
     → NamesFirst g frames (fault.NoFirstHeader (frame_at frames 0))
@@ -402,7 +402,7 @@ first_header_missing g frames some order packets broken = (
     later : (r c : ℕ) → IsBefore (72 ∷ r ∷ c ∷ []) (71 ∷ []) → ⊥
     later r c b = let l = one_before 72 71 (r ∷ c ∷ []) b in omega arith
 
--- 60
+-- Empty.
 pub first_nothing : (g : Task) (frames : Transmission) → g.unread ≡ None → length frames ≡ 0
     → NamesFirst g frames fault.Empty
 first_nothing g frames ended none =
@@ -423,7 +423,7 @@ first_nothing g frames ended none =
     nowhere AtNothing (inr (e, inr m)) t = absurd m.1
     nowhere AtEnd b t = absurd (omega (arith, t))
 
--- 30 to 44, and 61
+-- What is not read: the faults of a PES packet, and OffFrame.
 pub first_unread : (g : Task) (frames : Transmission)
     → ((j : ℕ) → j < length frames → FrameOk g frames j) → (u : Unread) → g.unread ≡ Some u
     → NamesFirst g frames (unread_fault (length frames) (Some u))
@@ -447,7 +447,7 @@ first_unread g frames past u is = (
     earlier_of AtNothing b t = absurd (let l = one_more b in omega arith)
     earlier_of AtEnd b t = absurd (let l = one_more b in omega arith)
 
--- all places hold where all frames are fine
+-- All places hold where all frames are fine.
 pub holds_but_end : (g : Task) (frames : Transmission) → g.unread ≡ None
     → ((j : ℕ) → j < length frames → FrameOk g frames j) → 0 < length frames → Keeps g frames AtEnd
     → HoldsEverywhere g frames
@@ -463,7 +463,7 @@ holds_but_end g frames ended past some end AtUnread t = ended
 holds_but_end g frames ended past some end AtNothing t = some
 holds_but_end g frames ended past some end AtEnd t = end t
 
--- 74
+-- Late.
 pub first_late : (g : Task) (frames : Transmission) → g.unread ≡ None
     → ((j : ℕ) → j < length frames → FrameOk g frames j) → 0 < length frames
     → (Holds g frames AtEnd → ⊥) → NamesFirst g frames (fault.Late (end_frame frames))

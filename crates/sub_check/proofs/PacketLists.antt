@@ -40,7 +40,7 @@ module _ {X : Type 0} where
   Each-none f [] e = tt
   Each-none f (y ∷ ys) e = let p = or_parts (f y) (list_any f ys) e in (p.0, Each-none f ys p.1)
 
-  -- an element that passes the test, with what holds of each
+  -- An element that passes the test, with what holds of each.
   pub Each-pick : (f : X → Bool) (P : X → Type 0) (xs : List X) → list_any f xs ≡ true
       → AllByRecursion P xs → (x : X) × (f x ≡ true) × P x
   Each-pick f P [] e h = cc
@@ -51,7 +51,7 @@ module _ {X : Type 0} where
       go true p d ih = (y, p, h.0)
       go false p d ih = ih d
 
-  -- the first element that passes the test, with what holds of each
+  -- The first element that passes the test, with what holds of each.
   pub Each-find : (f : X → Bool) (P : X → Type 0) (xs : List X) → list_any f xs ≡ true
       → AllByRecursion P xs → (x : X) × (find f xs ≡ Some x) × (f x ≡ true) × P x
   Each-find f P [] e h = cc

@@ -20,12 +20,12 @@ use Rattle.ttx_page.specs.PacketKind.{kind, kind_at, kind_of_header, is_row}
 use Rattle.ttx_page.specs.Span.{is_open_after}
 use Rattle.sub_check.specs.declared.packet_rules.PacketRule.{PacketRule}
 use Rattle.sub_check.specs.Good.{IsEnhancement}
-use Rattle.sub_check.specs.Listening.{HoldsRows, IsSound}
+use Rattle.sub_check.specs.Listening.{HoldsRows, IsSoundRow}
 use Rattle.sub_check.proofs.PacketLists.{Each-map, Each-join, Each-none, Each-pick, row_kind}
 use Rattle.sub_check.proofs.PacketLists.{no_row}
 use Rattle.sub_check.specs.declared.packet_rules.PacketRule.TheVariants as rule
 
--- a row has an address of the magazine with its number
+-- A row has an address of the magazine with its number.
 pub address-row : (w : Watched) (p : List ℕ) (row : ℕ) → kind w.page p ≡ Row row
     → address p ≡ Some (record { magazine = w.page.magazine; packet_number = row })
 unfolding kind
@@ -68,7 +68,7 @@ address-row w p row e = go (address p) refl e
         zero_or false e =
             row_or ((a.magazine == w.page.magazine) && nat_le a.packet_number 24) refl e
 
--- a packet 25 to 28 is neither a header nor a row
+-- A packet 25 to 28 is neither a header nor a row.
 pub kind-enhancement : (w : Watched) (p : List ℕ) → IsEnhancement w.page p → kind w.page p ≡ Other
 unfolding kind
 kind-enhancement w p (a, e, m, low, high) =
@@ -96,7 +96,7 @@ module _ (w : Watched) (before : List (List ℕ)) (p : List ℕ) where
   clean_from a h m c o r e rule.RowChanged = r
   clean_from a h m c o r e rule.Enhancement = e
 
-  -- by what the packet is
+  -- By what the packet is.
   pub control_free : (k : PacketKind) → kind w.page p ≡ k → ((h : Header) → k ≡ ThisPage h → ⊥)
       → KeepsRule rule.Control w before p
   control_free k e other h f = absurd (other h (sym e ∙ f))
@@ -116,12 +116,12 @@ module _ (w : Watched) (before : List (List ℕ)) (p : List ℕ) where
       → KeepsRule rule.Enhancement w before p
   enhancement_free k e other opened is = other (sym e ∙ kind-enhancement w p is)
 
-  -- while the page is not open
+  -- While the page is not open.
   pub shut : (b : Bool) → is_open_after (kind w.page) before ≡ b → b ≡ false
       → IsTrue (is_open_after (kind w.page) before) → ⊥
   shut b e f g = true≢false (sym g ∙ e ∙ f)
 
--- the row that is held equals the packet's where each packet of the row does
+-- The row that is held equals the packet's where each packet of the row does.
 module _ (w : Watched) (packets : List (List ℕ)) (sent : List Bool) (page : List (List ℕ))
     (h : HoldsRows w packets sent page) (row : ℕ) (low : 1 ≤ row) (high : row ≤ 24) (p : List ℕ)
     (is_row_of : kind w.page p ≡ Row row) where
@@ -138,7 +138,8 @@ module _ (w : Watched) (packets : List (List ℕ)) (sent : List Bool) (page : Li
       → get_or page (row - 1) [] ≡ codes_of p
       → AllByRecursion (λ q. kind w.page q ≡ Row row → q ≡ p) packets
   rows_equal whole exact odd e =
-      Each-join (IsSound w) (λ q. kind w.page q ≡ Row row → codes_of q ≡ get_or page (row - 1) [])
+      Each-join (IsSoundRow w)
+      (λ q. kind w.page q ≡ Row row → codes_of q ≡ get_or page (row - 1) [])
       (λ q. kind w.page q ≡ Row row → q ≡ p)
       (λ q s c k. same_packet q p (s.whole row k) whole (s.exact row k) exact
       (address-row w q row k ∙ sym (address-row w p row is_row_of)) (s.odd row k) odd
@@ -159,7 +160,7 @@ module _ (w : Watched) (packets : List (List ℕ)) (sent : List Bool) (page : Li
       let k = row_kind row (kind w.page q.0) q.1 in
       other (sym (q.2.0 k) ∙ ap codes_of (q.2.1 k))
 
--- which rule is the first
+-- Which rule is the first.
 module _ (w : Watched) (before : List (List ℕ)) (p : List ℕ) where
   -- The first rule that is broken: C11.
   pub first_mode : KeepsRule rule.Address w before p → KeepsRule rule.HeaderCode w before p
@@ -190,8 +191,8 @@ module _ (w : Watched) (before : List (List ℕ)) (p : List ℕ) where
       earlier rule.RowChanged l = absurd (omega arith)
       earlier rule.Enhancement l = absurd (omega arith)
 
-  -- the later flaws, where the first four are free: given all but the broken one, which is then
-  -- the first
+  -- The later flaws, where the first four are free: given all but the broken one, which is then
+  -- the first.
   pub first_of_clean : (f : PacketRule) → (KeepsRule f w before p → ⊥)
       → ((g : PacketRule) → number_of g < number_of f → KeepsRule g w before p)
       → BreaksFirst w before p f

@@ -32,7 +32,7 @@ use Rattle.sub_check.proofs.GoodByPlace.{GoodFrames, IsFair, air, whole}
 use Rattle.sub_check.proofs.PacketLists.{Each-push, Each-map, Each-join}
 use Rattle.sub_check.proofs.ListeningLemmas.{span_shut, span_ends, span_open}
 use Rattle.sub_check.proofs.PacketRuleLemmas.{kind-enhancement}
-use Rattle.sub_check.proofs.PrefixLemmas.{before, packet_at, at_sending, at_packet, whole-split}
+use Rattle.sub_check.proofs.PrefixLemmas.{before, packet_at, at_start, at_packet, whole-split}
 use Rattle.sub_check.proofs.PrefixLemmas.{before_more, rises_to, rises_strictly, locate, air_is}
 use Rattle.sub_check.specs.declared.packet_rules.PacketRule.TheVariants as rule
 
@@ -139,7 +139,7 @@ all_agree xs h =
     let s : x.0 ≡ y.0 = same_Some x.0 y.0 (sym x.1 ∙ y.1) in x.2
     ∙ ap (λ (z : Header). (c11 z)) s ∙ sym y.2) xs h) xs h
 
--- a packet of the list has the first header
+-- A packet of the list has the first header.
 first_pick : (P : List ℕ → Type 0) (xs : List (List ℕ)) (f : Header) → first_header xs ≡ Some f
     → AllByRecursion P xs → (q : List ℕ) × (header q ≡ Some f) × P q
 first_pick P [] f e h = absurd (none-some f e)
@@ -228,16 +228,16 @@ module _ (g : Task) (t : Transmission) (some_frames : 0 < g.every) (h : HoldsEve
     some = some;
     begins = h AtStart some;
     ends = h AtEnd some;
-    exact = at_sending t (length t) (omega arith) (AllByRecursion HasExactWords) tt
+    exact = at_start t (length t) (omega arith) (AllByRecursion HasExactWords) tt
         (λ i k l m ih. Each-push HasExactWords (before t i k) (packet_at t i k) ih
         (clean_at i k l m rule.Address, clean_at i k l m rule.HeaderCode)) (length t)
         (omega arith);
     serial = all_agree (whole t)
-        (at_sending t (length t) (omega arith) (λ xs. AllByRecursion (Agrees xs) xs) tt
+        (at_start t (length t) (omega arith) (λ xs. AllByRecursion (Agrees xs) xs) tt
         (λ i k l m ih. agree_step (before t i k) (packet_at t i k) (clean_at i k l m rule.Mode)
         ih) (length t) (omega arith));
     headers =
-        at_sending t (length t) (omega arith)
+        at_start t (length t) (omega arith)
         (AllByRecursion
         (λ p. (x : Header) → kind g.watched.page p ≡ ThisPage x
         → IsSubtitleHeader g.watched.national x)) tt

@@ -12,7 +12,7 @@ use Rattle.sub_check.specs.FirstBroken.{IsInGap}
 use Rattle.sub_check.proofs.GoodByPlace.{air, whole}
 use Rattle.sub_check.proofs.ShownLemmas.{joined_more}
 
--- the packets before packet k of sending i, and that packet
+-- The packets before packet k of frame i of the list, and that packet.
 abbrev pub before : Transmission → ℕ → ℕ → List (List ℕ)
 before t i k = joined t i ++ take k (packets_at t i)
 
@@ -53,20 +53,20 @@ module _ (t : Transmission) (m : ℕ) (fits : m ≤ length t) (Q : List (List �
       (more i k l (omega arith) (within i l base k (omega arith))))
 
   -- At the start of each frame.
-  pub at_sending : (n : ℕ) → n ≤ m → Q (joined t n)
-  at_sending zero h = none
-  at_sending (suc n) h =
+  pub at_start : (n : ℕ) → n ≤ m → Q (joined t n)
+  at_start zero h = none
+  at_start (suc n) h =
       let e : n + 1 ≡ suc n = omega arith in
       subst (λ c. Q (joined t c)) e
       (subst Q (before_all t n (omega arith))
-      (within n (omega arith) (at_sending n (omega arith)) (length (packets_at t n))
+      (within n (omega arith) (at_start n (omega arith)) (length (packets_at t n))
       (omega arith)))
 
   -- And at each of its packets.
   pub at_packet : (i k : ℕ) → i < m → k ≤ length (packets_at t i) → Q (before t i k)
-  at_packet i k l h = within i l (at_sending i (omega arith)) k h
+  at_packet i k l h = within i l (at_start i (omega arith)) k h
 
--- each prefix is the front of the whole
+-- Each prefix is the front of the whole.
 joined-front : (t : Transmission) (n m : ℕ) → n + m ≤ length t
     → (rest : List (List ℕ)) × (joined t (n + m) ≡ joined t n ++ rest)
 joined-front t n zero h = ([], ap (joined t) (omega arith) ∙ sym (append-nil (joined t n)))
@@ -101,7 +101,7 @@ whole-split t i k l h =
 
 module _ (t : Transmission)
     (rising : (i : ℕ) → 0 < i → i < length t → frame_at t (i - 1) < frame_at t i) where
-  -- frames rise
+  -- Frames rise.
   pub rises : (i m : ℕ) → i + m < length t → frame_at t i ≤ frame_at t (i + m)
   rises i zero h = let e : frame_at t i ≡ frame_at t (i + 0) = ap (frame_at t) (omega arith) in
       omega arith
@@ -121,7 +121,7 @@ module _ (t : Transmission)
   rises_strictly i j h l = let r = rises_to i (j - 1) (omega arith) (omega arith) in
       let s = rising j (omega arith) l in omega arith
 
-  -- a frame from the first on is that of a sending, or in a gap
+  -- A frame of the day from the first on is in the list, or in a gap.
   pub locate : (n f : ℕ) → n < length t → frame_at t 0 ≤ f → f ≤ frame_at t n
       → ((i : ℕ) × (i < length t) × (frame_at t i ≡ f)) ⊎ ((i : ℕ) × IsInGap t i f)
   locate zero f l a b = inl (0, l, omega arith)

@@ -23,14 +23,14 @@ use Rattle.ttx_page.specs.Shown.{shown}
 use Rattle.sub_check.specs.Transmission.{SentFrame, Transmission}
 use Rattle.sub_check.specs.declared.listener.Listener.{Listener}
 use Rattle.stl_rows.specs.Programme.{ProgrammeValue}
-use Rattle.sub_check.specs.Listening.{Knows, HoldsRows, IsSound}
+use Rattle.sub_check.specs.Listening.{Knows, HoldsRows, IsSoundRow}
 use Rattle.sub_check.specs.FrameRules.{Task, frame_at, packets_at, joined, HasHeader, Shows}
 use Rattle.sub_check.specs.FrameRules.{IsCovered}
 use Rattle.sub_plan.specs.Schedule.{due_in}
 use Rattle.sub_check.specs.Following.{IsTaskOf, HeaderIs}
 use Rattle.sub_check.proofs.PacketLists.{Each-find, Each-join, find_none, row_kind}
 
--- a cell of the page that is kept is what the packets show
+-- A cell of the page that is kept is what the packets show.
 pub shown_is : (w : Watched) (packets : List (List ℕ)) (sent : List Bool) (page : List (List ℕ))
     → HoldsRows w packets sent page → (row column : ℕ) → IsCell row column
     → cell page row column ≡ unwrap_or
@@ -53,7 +53,7 @@ shown_is w packets sent page h row column is =
         let q = Each-find (λ p. is_row row (kind w.page p))
         (λ p. (kind w.page p ≡ Row row → IsPacket p) ×
         (kind w.page p ≡ Row row → codes_of p ≡ get_or page (row - 1) [])) packets e
-        (Each-join (IsSound w)
+        (Each-join (IsSoundRow w)
         (λ p. kind w.page p ≡ Row row → codes_of p ≡ get_or page (row - 1) [])
         (λ p. (kind w.page p ≡ Row row → IsPacket p) ×
         (kind w.page p ≡ Row row → codes_of p ≡ get_or page (row - 1) []))
@@ -79,8 +79,8 @@ module _ (g : Task) (p : ProgrammeValue) (every : ℕ) (task : IsTaskOf g p ever
       knows.rows_are row column is
       ∙ ap (λ w. shown w.page (joined frames n) row column) watched_is
 
-  -- the page that is kept equals the due page at a cell exactly where the transmission shows what
-  -- is due
+  -- The page that is kept equals the due page at a cell exactly where the transmission shows what
+  -- is due.
   pub shows_from : (row column : ℕ) → IsCell row column
       → cell s.page row column ≡ cell (due_in p f) row column → Shows g frames n f row column
   shows_from row column is e = sym (kept_shown row column is) ∙ e
@@ -93,7 +93,7 @@ module _ (g : Task) (p : ProgrammeValue) (every : ℕ) (task : IsTaskOf g p ever
   shows_not row column is other shows =
       other (kept_shown row column is ∙ shows ∙ ap (λ d. cell d row column) (task.due_is f))
 
--- counting afresh changes nothing else
+-- Counting afresh changes nothing else.
 pub Knows-counted : (heard : List (List ℕ)) (s : Listener) (n m : ℕ) → Knows heard s
     → Knows heard (record s { wrong = n; blank_wrong = m })
 Knows-counted heard s n m k =
@@ -137,7 +137,7 @@ HeaderIs-some g frames n head rising = record {
   begins = rising 0 (omega arith);
 }
 
--- ---- one sending more
+-- ---- one frame more
 
 -- The packets of one frame more.
 pub joined_more : (frames : Transmission) (n : ℕ) → n < length frames

@@ -1,4 +1,4 @@
--- One sending more.
+-- What is kept, one frame of the list on.
 use Rattle.std.proofs.Common.{◌≡◌, ℕ, ◌+◌, ◌<◌, ◌≤◌, Option, nat_lt, inl, inr, Bool, true, false}
 use Rattle.std.proofs.Common.{cond, List, [], ◌++◌, length, take, get_or, refl, sym, ap, ap₂}
 use Rattle.std.proofs.Common.{◌∙◌, subst, arith}
@@ -83,7 +83,7 @@ rising_more frames n frame next rising later is j l = elim (cases_eq j n) [
   | inr other ↦ let r = rising j (omega arith) in omega arith
 ]
 
--- the packets of a first fault are those of the sending
+-- The packets of a first fault are those of the frame.
 pub fault_moved : (g : Task) (frames : Transmission) (n : ℕ) (w : Watched) (ps : List (List ℕ))
     (k : ℕ) (rule : PacketRule) → packets_at frames n ≡ ps → w ≡ g.watched
     → BreaksFirstAt w (joined frames n) ps k rule

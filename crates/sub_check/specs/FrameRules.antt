@@ -1,6 +1,5 @@
 -- What is asked at the end of each frame, in terms of the first frames of a transmission and of a
--- task:
--- what the transmission is checked against.
+-- task: what the transmission is checked against.
 use Rattle.std.specs.Prelude.{◌≡◌, ℕ, ◌+◌, ◌-◌, ◌<◌, ◌⊎◌, true, List, [], Option, map, take}
 use Rattle.std.specs.Prelude.{length}
 use Rattle.std.specs.Prelude.{slice_index, slice_index_or, flat_map}

@@ -14,16 +14,16 @@ use Rattle.ttx_page.specs.Page.{space}
 use Rattle.sub_check.specs.declared.listener.Listener.{Listener}
 use Rattle.ttx_packet.specs.PageHeader.{c11}
 
--- a row in the span is whole, with an exact address and odd text
-pub record IsSound (w : Watched) (p : List ℕ) : Type 0 where
+-- A row in the span is whole, with an exact address and odd text.
+pub record IsSoundRow (w : Watched) (p : List ℕ) : Type 0 where
   pub whole : (row : ℕ) → kind w.page p ≡ Row row → IsPacket p
   pub exact : (row : ℕ) → kind w.page p ≡ Row row → HasExactAddress p
   pub odd : (row : ℕ) → kind w.page p ≡ Row row → HasOddText p
 
--- the marks and the page are those of the packets of the span
+-- The marks and the page are those of the packets of the span.
 pub record HoldsRows (w : Watched) (packets : List (List ℕ)) (sent : List Bool)
     (page : List (List ℕ)) : Type 0 where
-  pub sound : AllByRecursion (IsSound w) packets
+  pub sound : AllByRecursion (IsSoundRow w) packets
   pub marks : (row : ℕ) → 1 ≤ row → row ≤ 24
       → slice_index_or sent (row - 1) false ≡ list_any (λ q. is_row row (kind w.page q)) packets
   pub same : (row : ℕ) → 1 ≤ row → row ≤ 24
@@ -32,7 +32,7 @@ pub record HoldsRows (w : Watched) (packets : List (List ℕ)) (sent : List Bool
   pub blank : (row : ℕ) → 1 ≤ row → row ≤ 24 → slice_index_or sent (row - 1) false ≡ false
       → slice_index_or page (row - 1) [] ≡ replicate 40 space
 
--- what is kept is what the packets say, looking back over all of them
+-- What is kept is what the packets say, looking back over all of them.
 pub record Knows (heard : List (List ℕ)) (s : Listener) : Type 0 where
   pub serial_is : s.serial ≡ option_map (λ (h : Header). c11 h) (first_header heard)
   pub open_is : s.is_open ≡ is_open_after (kind s.watched.page) heard

@@ -1,10 +1,11 @@
 //! A pair of files: the subtitle file, and the PES file that carries it.
 ghost use Rattle.std.specs.Prelude.{◌≡◌, ◌≢◌, ◌+◌, ◌<◌, ◌↔◌, IsOk, IfOk, IfErr, Ok, Option, None};
-ghost use Rattle.std.specs.Prelude.{ℕ, Err, true, false, if◌then◌else◌};
+ghost use Rattle.std.specs.Prelude.{ℕ, Err, Some, Bool, true, false, [], if◌then◌else◌};
 ghost use Rattle.sub_io.specs.Reading.{IfTold};
 ghost use Rattle.stl_file.specs.Reader.{outcome_of};
 ghost use Rattle.stl_rows.specs.Loading.{loaded};
 ghost use Rattle.stl_rows.specs.Programme.{ProgrammeValue};
+ghost use Rattle.sub_plan.specs.Schedule.{plan};
 ghost use Rattle.sub_check.specs.Checking.{HasCounts, TellsSubtitles, is_source_failure};
 ghost use Rattle.sub_check.specs.Checking.{is_subtitle_refusal, is_subtitle_source_failure};
 ghost use Rattle.sub_check.specs.FirstBroken.{NamesFirst};
@@ -85,6 +86,15 @@ pub fn check_files<S: Source, P: Source>(
         ReadsAs options.now.origin 0 bytes frames unread
         → result ≡ Err (CheckFault.Content frame row column)
         → IsWrongEverywhere programme options.now frames frame row column)) }
+    // What `schedule` writes of that programme with the same options is accepted.
+    ensures schedule { (programme : ProgrammeValue) (serial : Bool)
+        → IfTold (S.remaining stl.old) (λ file.
+        loaded national (outcome_of file) ≡ Ok programme
+        → P.remaining pes.old ≡ Some (plan programme options.now serial)
+        → programme.records ≢ []
+        → is_subtitle_refusal result ≡ false
+        → is_source_failure result ≡ false
+        → IsOk result) }
     // What is accepted is robust, with lost rows too.
     ensures robust { (programme : ProgrammeValue) (frames : Transmission)
         → IfTold (S.remaining stl.old) (λ file.

@@ -1,3 +1,4 @@
+-- The law: DroppedLemmas.
 use Rattle.sub_check.proofs.DroppedLemmas.{law_of_good_dropping_and_loss}
 use Rattle.sub_check.proofs.dropping.law_of_good_dropping_and_loss.Goals as goal
 

@@ -1,3 +1,4 @@
+-- The example: GoodExample.
 use Rattle.sub_check.proofs.GoodExample as example
 use Rattle.sub_check.proofs.examples.example_of_good.Goals as goal
 

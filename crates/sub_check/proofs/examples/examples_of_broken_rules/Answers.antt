@@ -1,3 +1,4 @@
+-- The examples: BrokenRules, BrokenSpans.
 use Rattle.sub_check.proofs.BrokenRules as broken
 use Rattle.sub_check.proofs.BrokenSpans as broken_later
 use Rattle.sub_check.proofs.examples.examples_of_broken_rules.Goals as goal

@@ -1,3 +1,4 @@
+-- The examples: NotRobust.
 use Rattle.sub_check.proofs.NotRobust as not_robust
 use Rattle.sub_check.proofs.examples.examples_of_no_robustness.Goals as goal
 

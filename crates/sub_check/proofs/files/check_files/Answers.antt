@@ -16,6 +16,9 @@ pub returns-in-Err-clause-content : goal.returns-in-Err-clause-content
 returns-in-Err-clause-content g c =
     λ programme frames unread frame row column file told same bytes heard reads is. cc
 
+pub returns-in-Err-clause-schedule : goal.returns-in-Err-clause-schedule
+returns-in-Err-clause-schedule g c = λ programme serial file told same heard some refused fine. cc
+
 pub returns-in-Err-clause-robust : goal.returns-in-Err-clause-robust
 returns-in-Err-clause-robust g c = λ programme frames file told same bytes heard reads ok. cc
 
@@ -42,6 +45,11 @@ returns-in-Ok-clause-content g c =
     λ programme frames unread frame row column file told same bytes heard reads refusal.
     let is = same_programme programme c.in-Ok.programme _ same (c.in-Ok.ensures.exact file told) in
     rw is (c.check.ensures.content frames unread frame row column bytes heard reads refusal)
+
+pub returns-in-Ok-clause-schedule : goal.returns-in-Ok-clause-schedule
+returns-in-Ok-clause-schedule g c = λ programme serial file told same heard some refused fine.
+    let is = same_programme programme c.in-Ok.programme _ same (c.in-Ok.ensures.exact file told) in
+    c.check.ensures.schedule serial (rw is at heard) (rw is at some) fine
 
 pub returns-in-Ok-clause-robust : goal.returns-in-Ok-clause-robust
 returns-in-Ok-clause-robust g c = λ programme frames file told same bytes heard reads ok.

@@ -1,3 +1,4 @@
+-- The law: RobustLemmas.
 use Rattle.sub_check.proofs.RobustLemmas.{law_of_good}
 use Rattle.sub_check.proofs.laws.law_of_good.Goals as goal
 

@@ -1,3 +1,4 @@
+-- The law: PlanLemmas.
 use Rattle.sub_check.proofs.PlanLemmas.{law_of_plan}
 use Rattle.sub_check.proofs.laws.law_of_plan.Goals as goal
 

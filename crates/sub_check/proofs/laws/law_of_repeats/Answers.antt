@@ -1,3 +1,4 @@
+-- The law: StepByStepLemmas.
 use Rattle.sub_check.proofs.StepByStepLemmas.{law_of_repeats}
 use Rattle.sub_check.proofs.laws.law_of_repeats.Goals as goal
 

@@ -1,3 +1,4 @@
+-- The law: RuleLemmas.
 use Rattle.sub_check.proofs.RuleLemmas.{law_of_rules}
 use Rattle.sub_check.proofs.laws.law_of_rules.Goals as goal
 

@@ -1,3 +1,4 @@
+-- A packet with no address, or another number, has no coded bytes.
 use Rattle.std.proofs.Common.{refl}
 use Rattle.std.proofs.lemmas.Bool.{iff_false}
 use Rattle.sub_check.proofs.packet_rules.has_exact_codes.Goals as goal

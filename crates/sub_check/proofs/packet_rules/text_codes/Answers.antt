@@ -1,3 +1,4 @@
+-- One code more: CodesLemmas.
 use Rattle.std.proofs.Common.{◌+◌, drop, get_or, sym, ap, ◌∙◌, subst, arith, rules}
 use Rattle.std.proofs.lemmas.List.{get_or-drop, length-drop}
 use Rattle.ttx_packet.proofs.BitOrderLemmas.{map-from_places}

@@ -1,3 +1,4 @@
+-- The codes so far are those of the text.
 use Rattle.std.proofs.Common.{◌≡◌, ℕ, ◌+◌, ◌<◌, ◌%◌, length, slice_index}
 use Rattle.sub_check.proofs.packet_rules.text_codes.Given as goal
 

@@ -1,3 +1,4 @@
+-- The first frame of the list: each refusal is the first place, OrderLemmas.
 use Rattle.std.proofs.Common.{refl, ◌≡◌, ℕ, ◌<◌, ◌≤◌, [], sym, ap, ◌∙◌, subst, arith}
 use Rattle.std.proofs.lemmas.Bool.{iff_false, true≢false}
 use Rattle.sub_check.specs.FrameRules.{frame_at, HasHeader}

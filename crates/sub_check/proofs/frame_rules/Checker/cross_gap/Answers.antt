@@ -1,3 +1,4 @@
+-- The frames between two PES packets: each refusal is the first place, OrderLemmas.
 use Rattle.std.proofs.Common.{refl, ℕ, ◌≤◌, inl, inr, sym, ap, ◌∙◌, subst, arith}
 use Rattle.std.proofs.lemmas.Bool.{cases_eq}
 use Rattle.stl_rows.specs.DuePage.{TellsNextEdge}

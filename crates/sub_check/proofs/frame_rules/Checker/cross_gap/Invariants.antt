@@ -1,3 +1,4 @@
+-- The frames of the day so far show what is due, and a header is not too long ago.
 use Rattle.std.proofs.Common.{◌≡◌, ℕ, ◌<◌, length, ◌-◌}
 use Rattle.stl_rows.specs.DuePage.{TellsNextEdge}
 use Rattle.sub_check.specs.Transmission.{Transmission}

@@ -1,3 +1,4 @@
+-- Order, the frames before, and the frame itself.
 use Rattle.std.proofs.Common.{arith}
 use Rattle.std.proofs.lemmas.Result.{err_from_is_err_and}
 use Rattle.sub_check.specs.Following.{OrderOk}

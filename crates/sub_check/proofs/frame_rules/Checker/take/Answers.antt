@@ -1,3 +1,4 @@
+-- A frame of the list: each refusal is the first place, OrderLemmas.
 use Rattle.std.proofs.Common.{◌≡◌, ℕ, ◌+◌, ◌-◌, ◌≤◌, sym, ap, ap₂, ◌∙◌, subst, arith}
 use Rattle.sub_check.specs.declared.listener.Listener.{Listener}
 use Rattle.sub_check.specs.FrameRules.{frame_at, joined}

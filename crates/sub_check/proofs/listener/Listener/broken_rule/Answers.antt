@@ -1,3 +1,4 @@
+-- Each way out names the first rule that is broken: PacketRuleLemmas.
 use Rattle.std.proofs.Common.{◌≡◌, false, refl, sym, ◌∙◌}
 use Rattle.std.proofs.lemmas.Bool.{true≢false, iff_false}
 use Rattle.ttx_packet.specs.RowPacket.{HasOddText}

@@ -1,3 +1,4 @@
+-- A count of 0 is that of equal pages.
 use Rattle.std.proofs.Common.{arith}
 use Rattle.ttx_page.proofs.DifferingLemmas.{cells_same}
 use Rattle.sub_check.proofs.listener.Listener.first_wrong.Goals as goal

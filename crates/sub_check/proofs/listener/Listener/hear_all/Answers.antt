@@ -1,3 +1,4 @@
+-- One packet on, and the first that breaks a rule.
 use Rattle.std.proofs.Common.{◌≡◌, ℕ, ◌+◌, ◌<◌, ◌++◌, List, [], ◌∷◌, length, take, get_or, cond}
 use Rattle.std.proofs.Common.{sym, ap, ap₂, ◌∙◌, subst, rules, append_assoc}
 use Rattle.ttx_page.specs.PacketKind.{is_this_page, kind}

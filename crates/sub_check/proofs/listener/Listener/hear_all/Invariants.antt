@@ -1,3 +1,4 @@
+-- The packets so far keep the rules, and what is kept is what they say.
 use Rattle.std.proofs.Common.{◌≡◌, ◌≤◌, ℕ, List, ◌++◌, take}
 use Rattle.sub_check.specs.PacketRules.{AreClean, header_count, packets_of_units}
 use Rattle.sub_check.specs.Listening.{Knows}

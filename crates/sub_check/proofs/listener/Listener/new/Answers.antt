@@ -1,3 +1,4 @@
+-- With nothing heard nothing is kept.
 use Rattle.std.proofs.Common.{[], false, replicate, refl, sym, subst}
 use Rattle.sub_check.specs.Listening.{HoldsRows}
 use Rattle.sub_check.proofs.ListeningLemmas.{HoldsRows-none}

@@ -1,3 +1,4 @@
+-- The count changes by that of the row.
 use Rattle.std.proofs.Common.{◌-◌, ap, arith}
 use Rattle.ttx_page.specs.Differing.{differing}
 use Rattle.ttx_page.proofs.DifferingLemmas.{row_le, rows_le, rows-set}
