@@ -12,3 +12,4 @@ pub mod Sound
 pub mod Passes
 pub mod Finish
 pub mod Normals
+pub mod FirstBytes

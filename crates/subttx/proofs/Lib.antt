@@ -2,3 +2,4 @@ pub mod CommandLemmas
 pub mod ListeningLemmas
 pub mod WritingLemmas
 pub mod VerdictLemmas
+pub mod NormalLemmas

@@ -1,6 +1,11 @@
--- What is printed of the faults of devices and memory, by the kind of fault.
-use Rattle.std.proofs.Common.{◌≡◌, ℕ, List, Option}
+-- What is written and what is printed, by how the work ended; main lemmas: fault_line-loading,
+-- prefix-of_work.
+use Rattle.std.proofs.Common.{◌≡◌, ℕ, List, Option, arith}
+use Rattle.std.specs.Io.KnownBytes.{Keeps}
+use Rattle.std.proofs.KnownBytes.{Appends-kept, Appends-nil}
+use Rattle.sub_io.specs.Device.{AppendsPrefix}
 use Rattle.sub_io.specs.Reading.{IfTold}
+use Rattle.sub_io.proofs.DeviceLemmas.{AppendsPrefix-whole}
 use Rattle.stl_file.specs.Reader.{outcome_of}
 use Rattle.stl_file.specs.declared.fault.StlFault.TheVariants.{Read}
 use Rattle.stl_rows.specs.Loading.{TellsFault}
@@ -8,8 +13,9 @@ use Rattle.stl_rows.specs.declared.fault.LoadFaultKind.{LoadFaultKind}
 use Rattle.stl_rows.specs.declared.fault.LoadFaultKind.TheVariants.{File, Memory}
 use Rattle.stl_rows.specs.declared.national.National.{National}
 use Rattle.subttx.specs.LoadLines.{load_kind_line}
-use Rattle.subttx.specs.Writing.{HasScheduleFaultLine, load_end}
+use Rattle.subttx.specs.Writing.{HasScheduleFaultLine, Works, Writing, load_end}
 use Rattle.subttx.specs.declared.writing.End.{End}
+use Rattle.subttx.specs.declared.writing.End.TheVariants as end
 
 -- A fault of loading: a refusal has no such line.
 fault_line-kind : (national : National) (told : Option (List ℕ)) (line : List ℕ) (block : ℕ)
@@ -23,10 +29,29 @@ fault_line-kind national told line block kind is t = tt
 
 -- The same of the end that goes with the fault.
 pub fault_line-loading : (national : National) (told : Option (List ℕ)) (line : List ℕ) (block : ℕ)
-    (kind : LoadFaultKind) (end : End)
-    → end ≡ load_end kind
+    (kind : LoadFaultKind) (ending : End)
+    → ending ≡ load_end kind
     → line ≡ load_kind_line kind block
     → IfTold told (λ bytes. TellsFault national (outcome_of bytes) block kind)
-    → HasScheduleFaultLine national told line end
-fault_line-loading national told line block kind end end_is is t =
+    → HasScheduleFaultLine national told line ending
+fault_line-loading national told line block kind ending end_is is t =
     rw end_is (fault_line-kind national told line block kind is t)
+
+-- ---- what was written
+
+-- nothing is a prefix
+prefix-none : (old new : Option (List ℕ)) (bytes : List ℕ)
+    → Keeps old new
+    → AppendsPrefix old new bytes
+prefix-none old new bytes kept =
+    (0, omega arith, Appends-kept old old new _ (Appends-nil old) kept)
+
+-- however the work ended, a prefix was written
+pub prefix-of_work : (old new : Option (List ℕ)) (line : List ℕ) (w : Writing) (end : End)
+    → Works old new line w end
+    → AppendsPrefix old new w.file
+prefix-of_work old new line w end.Written h = AppendsPrefix-whole old new w.file h.file
+prefix-of_work old new line w end.Refused h = AppendsPrefix-whole old new w.file h.file
+prefix-of_work old new line w end.ReadFailed h = prefix-none old new w.file h
+prefix-of_work old new line w end.WriteFailed h = h
+prefix-of_work old new line w end.NoMemory h = prefix-none old new w.file h

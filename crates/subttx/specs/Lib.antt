@@ -9,3 +9,4 @@ pub mod Writing
 pub mod Answering
 pub mod CheckLines
 pub mod Verdict
+pub mod NormalWriting

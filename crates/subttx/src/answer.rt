@@ -4,6 +4,7 @@
 //! lines of refused words are printed.
 
 pub mod check;
+mod normal;
 mod packet;
 mod packets;
 mod schedule;
