@@ -3,3 +3,4 @@ pub mod ListeningLemmas
 pub mod WritingLemmas
 pub mod VerdictLemmas
 pub mod NormalLemmas
+pub mod ListeningRunLemmas

@@ -10,3 +10,6 @@ pub mod Answering
 pub mod CheckLines
 pub mod Verdict
 pub mod NormalWriting
+pub mod Reception
+pub mod StateText
+pub mod ListeningRun

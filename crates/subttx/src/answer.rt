@@ -4,11 +4,13 @@
 //! lines of refused words are printed.
 
 pub mod check;
+pub mod listen;
 mod normal;
 mod packet;
 mod packets;
 mod schedule;
 mod show;
+mod state;
 
 ghost use Rattle.std.specs.Prelude.{◌≡◌, ◌≢◌, ◌↔◌, ◌+◌, ◌<◌, ◌≤◌, Result, false, true};
 ghost use Rattle.std.specs.Prelude.{if◌then◌else◌};

@@ -163,9 +163,9 @@ pub fn push_stl_fault<const N: usize>(line: &mut ArrayVec<u8, N>, fault: StlFaul
     push_text(line, b"\n");
 }
 
-// Appends two decimal digits.
+/// Appends two decimal digits.
 #[tactic(auto, unfolding(crate::specs::Lines::two_digits))]
-fn push_two_digits<const N: usize>(line: &mut ArrayVec<u8, N>, number: u8)
+pub fn push_two_digits<const N: usize>(line: &mut ArrayVec<u8, N>, number: u8)
     requires { array_vec_len line.old + 2 ≤ N }
     ensures items { line.new.items ≡ line.old.items ++ two_digits number }
     ensures len { array_vec_len line.new ≡ array_vec_len line.old + 2 }

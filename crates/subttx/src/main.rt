@@ -12,6 +12,7 @@ mod lines;
 mod listening;
 mod load_lines;
 mod numbers;
+mod reception;
 mod request;
 mod status;
 #[cfg(test)]
