@@ -142,6 +142,8 @@ pub fn check<S: Source>(
         ReadsAs options.now.origin 0 bytes frames None
         → IsOk result
         → RobustToMarkedLoss programme.now frames options.now) }
+    // No answer refuses a subtitle file, and `Read` is told exactly where the source failed in this
+    // call.
     ensures own { is_subtitle_refusal result ≡ false }
     ensures count { S.failure_count source.new
         ≡ S.failure_count source.old + (if is_source_failure result then 1 else 0) }

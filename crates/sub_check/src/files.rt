@@ -104,6 +104,7 @@ pub fn check_files<S: Source, P: Source>(
         → IsOk result
         → Robust programme frames options.now
         × RobustToMarkedLoss programme frames options.now)) }
+    // Each source failed in this call exactly where its `Read` is told.
     ensures stl_count { S.failure_count stl.new
         ≡ S.failure_count stl.old + (if is_subtitle_source_failure result then 1 else 0) }
     ensures pes_count { P.failure_count pes.new
