@@ -1,5 +1,5 @@
 -- How the arguments of a command are read (own).
-use Rattle.std.specs.Prelude.{◌≡◌, ℕ, ◌^◌, ◌-◌, Bool, ◌&&◌, List, [], Option, Some, None, Result, Ok}
+use Rattle.std.specs.Prelude.{ℕ, ◌^◌, ◌-◌, Bool, ◌&&◌, List, [], Option, Some, None, Result, Ok}
 use Rattle.std.specs.Prelude.{codes, nat_le, ok_or, unwrap_or, if◌then◌else◌}
 use Rattle.std.specs.Str.{bytes_eq}
 use Rattle.clap.specs.Words.{Row, Text, first_of}
@@ -8,7 +8,10 @@ use Rattle.ttx_packet.specs.PageId.{PageIdValue, page_of_text}
 use Rattle.stl_rows.specs.declared.national.National.{National}
 use Rattle.stl_rows.specs.declared.national.National.TheVariants.{English, German}
 use Rattle.sub_plan.specs.Options.{OptionsValue}
-use Rattle.subttx.specs.Listening.{number_of_text}
+use Rattle.subttx.specs.Listening.{flips_of_text, frame_of_text, number_of_text, numbers_of_text}
+use Rattle.subttx.specs.Listening.{receiver_of_text}
+use Rattle.subttx.specs.declared.flips.Flip.{Flip}
+use Rattle.subttx.specs.declared.listening.ReceiverKind.{ReceiverKind}
 use Rattle.subttx.specs.declared.request.UsageFault.{UsageFault}
 use Rattle.subttx.specs.declared.request.UsageFault.TheVariants as fault
 
@@ -53,3 +56,37 @@ national_of_text text =
 -- `[--option O]`
 abbrev pub national_of : List Row → Result National UsageFault
 national_of rows = ok_or (national_of_text (text_of (codes "option") rows)) fault.BadOption
+
+-- ---- the arguments of `listen`
+
+-- `[--page P] [--origin T]`: options whose repeat bound is not looked at.
+abbrev pub tuning_of : List Row → Result OptionsValue UsageFault
+tuning_of rows = do
+  page ← page_of rows
+  options_with page (Some 1) (number_of_text (text_of (codes "origin") rows))
+
+-- `--at TIME`
+abbrev pub time_of : List Row → Result ℕ UsageFault
+time_of rows = ok_or (frame_of_text (text_of (codes "at") rows)) fault.BadTime
+
+-- `[--skip N]`
+abbrev pub skip_of : List Row → Result ℕ UsageFault
+skip_of rows = ok_or (number_of_text (text_of (codes "skip") rows)) fault.BadSkip
+
+-- What the text of a list says. An option that is left out stands for the empty list, and one with
+-- an empty text does not.
+abbrev pub said_if_given : {A : Type 0} → (Text → Option (List A)) → Option Text → Option (List A)
+said_if_given said None = Some []
+said_if_given said (Some text) = said text
+
+-- `[--flip F]`
+abbrev pub flips_of : List Row → Result (List Flip) UsageFault
+flips_of rows = ok_or (said_if_given flips_of_text (first_of (codes "flip") rows)) fault.BadFlip
+
+-- `[--lose L]`
+abbrev pub lost_of : List Row → Result (List ℕ) UsageFault
+lost_of rows = ok_or (said_if_given numbers_of_text (first_of (codes "lose") rows)) fault.BadLose
+
+-- `[--receiver R]`
+abbrev pub receiver_of : List Row → Result ReceiverKind UsageFault
+receiver_of rows = ok_or (receiver_of_text (text_of (codes "receiver") rows)) fault.BadReceiver

@@ -14,6 +14,14 @@ required_rule id = record (new_rule id) { required = true }
 abbrev pub option_rule : Text → Text → Rule
 option_rule id value = record (new_rule id) { long = Some id; defaults = value ∷ [] }
 
+-- An option that may be left out and then has no text.
+abbrev pub bare_option_rule : Text → Rule
+bare_option_rule id = record (new_rule id) { long = Some id }
+
+-- An option that has to be there.
+abbrev pub required_option_rule : Text → Rule
+required_option_rule id = record (new_rule id) { long = Some id; required = true }
+
 -- A flag `--name`.
 abbrev pub flag_rule : Text → Rule
 flag_rule id = record (new_rule id) { long = Some id; action = Some SetTrue }
@@ -29,6 +37,11 @@ packets_app = with_rule (new_app (codes "packets")) (required_rule (codes "pes")
 -- `show STL`
 abbrev pub show_app : App
 show_app = with_rule (new_app (codes "show")) (required_rule (codes "stl"))
+
+-- `normal IN OUT`
+abbrev pub normal_app : App
+normal_app = with_rule (with_rule (new_app (codes "normal")) (required_rule (codes "in")))
+    (required_rule (codes "out"))
 
 -- `STL PES`: a subtitle file and the file of PES packets that goes with it.
 abbrev pub with_pair : App → App
@@ -61,6 +74,26 @@ schedule_app = with_rule (with_schedule (new_app (codes "schedule"))) (flag_rule
 abbrev pub check_app : App
 check_app = with_schedule (new_app (codes "check"))
 
+-- `--at TIME [--skip N]`: the last frame that is heard, and how many packets are passed over.
+abbrev pub with_window : App → App
+with_window app =
+    with_rule (with_rule app (required_option_rule (codes "at")))
+    (option_rule (codes "skip") (codes "0"))
+
+-- `[--flip F] [--lose L]`: the bits that are received wrong, and the packets that are lost.
+abbrev pub with_noise : App → App
+with_noise app =
+    with_rule (with_rule app (bare_option_rule (codes "flip"))) (bare_option_rule (codes "lose"))
+
+-- `[--receiver R]`
+abbrev pub with_receiver : App → App
+with_receiver app = with_rule app (option_rule (codes "receiver") (codes "blank"))
+
+-- `listen PES [--page P] [--origin T] --at TIME [--skip N] [--flip F] [--lose L] [--receiver R]`
+abbrev pub listen_app : App
+listen_app = with_receiver (with_noise (with_window (with_page_and_origin
+    (with_rule (new_app (codes "listen")) (required_rule (codes "pes"))))))
+
 -- The program before its commands: it offers neither help nor a version, and wants a command.
 abbrev pub bare_app : App
 bare_app = let plain = new_app (codes "subttx") in record plain {
@@ -81,11 +114,12 @@ with_listings app =
 -- The commands that write a file, or judge a pair of files.
 abbrev pub with_makers : App → App
 with_makers app =
-    with_subcommand (with_subcommand app schedule_app.top) check_app.top
+    with_subcommand (with_subcommand (with_subcommand app normal_app.top) schedule_app.top)
+    check_app.top
 
 -- The program and its commands.
 unfoldable pub subttx_app : App
-subttx_app = with_makers (with_listings bare_app)
+subttx_app = with_subcommand (with_makers (with_listings bare_app)) listen_app.top
 
 -- What `clap`'s contract says of words, as functions of them. The kinds of its refusal: none where
 -- it takes the words.
@@ -103,8 +137,8 @@ are_sound words = takes subttx_app words
 -- The names of the commands.
 abbrev pub command_names : List Text
 command_names =
-    codes "packet" ∷ codes "packets" ∷ codes "show" ∷ codes "schedule"
-    ∷ codes "check" ∷ []
+    codes "packet" ∷ codes "packets" ∷ codes "show" ∷ codes "normal" ∷ codes "schedule"
+    ∷ codes "check" ∷ codes "listen" ∷ []
 
 -- The words of the command line as texts.
 abbrev pub texts_of : List (Bor (List ℕ)) → List Text

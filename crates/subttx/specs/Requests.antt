@@ -7,8 +7,10 @@ use Rattle.clap.specs.Words.{Text, Row}
 use Rattle.hex.specs.Hex.{decode_sized}
 use Rattle.stl_rows.specs.declared.national.National.{National}
 use Rattle.sub_plan.specs.Options.{OptionsValue}
-use Rattle.subttx.specs.Arguments.{is_set, national_of, options_of, text_of}
+use Rattle.subttx.specs.Arguments.{flips_of, is_set, lost_of, national_of, options_of}
+use Rattle.subttx.specs.Arguments.{receiver_of, skip_of, text_of, time_of, tuning_of}
 use Rattle.subttx.specs.Commands.{are_sound, command_in, refusals}
+use Rattle.subttx.specs.declared.listening.Listening.{Listening}
 use Rattle.subttx.specs.declared.request.Request.{Request}
 use Rattle.subttx.specs.declared.request.Request.TheVariants as ask
 use Rattle.subttx.specs.declared.request.UsageFault.{UsageFault}
@@ -35,6 +37,10 @@ same_file_fault input output = if bytes_eq input output then Some fault.SameFile
 abbrev pub packet_faults : List Row → List (Option UsageFault)
 packet_faults rows = hex_fault rows ∷ []
 
+abbrev pub normal_faults : List Row → List (Option UsageFault)
+normal_faults rows =
+    same_file_fault (text_of (codes "in") rows) (text_of (codes "out") rows) ∷ []
+
 abbrev pub schedule_faults : List Row → List (Option UsageFault)
 schedule_faults rows =
     same_file_fault (text_of (codes "stl") rows) (text_of (codes "pes") rows)
@@ -43,12 +49,19 @@ schedule_faults rows =
 abbrev pub check_faults : List Row → List (Option UsageFault)
 check_faults rows = result_err (options_of rows) ∷ result_err (national_of rows) ∷ []
 
+abbrev pub listen_faults : List Row → List (Option UsageFault)
+listen_faults rows =
+    result_err (tuning_of rows) ∷ result_err (time_of rows) ∷ result_err (skip_of rows)
+    ∷ result_err (flips_of rows) ∷ result_err (lost_of rows) ∷ result_err (receiver_of rows) ∷ []
+
 -- The faults that a command's arguments can have by the program's own rules (own).
 abbrev pub own_faults : Text → List Row → List (Option UsageFault)
 own_faults name rows =
     if bytes_eq name (codes "packet") then packet_faults rows
+    else (if bytes_eq name (codes "normal") then normal_faults rows
     else (if bytes_eq name (codes "schedule") then schedule_faults rows
-    else (if bytes_eq name (codes "check") then check_faults rows else []))
+    else (if bytes_eq name (codes "check") then check_faults rows
+    else (if bytes_eq name (codes "listen") then listen_faults rows else []))))
 
 -- The first of them, where there is one.
 abbrev pub own_fault : Text → List Row → Option UsageFault
@@ -68,8 +81,10 @@ abbrev pub command_of : Request → Text
 command_of (ask.Packet bytes) = codes "packet"
 command_of (ask.Packets pes) = codes "packets"
 command_of (ask.Show stl) = codes "show"
+command_of (ask.Normal input output) = codes "normal"
 command_of (ask.Schedule stl pes options serial national) = codes "schedule"
 command_of (ask.Check stl pes options national) = codes "check"
+command_of (ask.Listen pes listening) = codes "listen"
 
 -- The files, the options and the national option of a schedule that is written or checked.
 pub record HoldsPair
@@ -79,15 +94,28 @@ pub record HoldsPair
   pub options_are : options_of rows ≡ Ok options
   pub national_is : national_of rows ≡ Ok national
 
+-- The values of `listen`.
+pub record HoldsListening (rows : List Row) (l : Listening) : Type 0 where
+  pub options_are : tuning_of rows ≡ Ok l.options
+  pub at_is : time_of rows ≡ Ok l.at
+  pub skip_is : skip_of rows ≡ Ok l.skip
+  pub flips_are : flips_of rows ≡ Ok l.flips.items
+  pub lost_are : lost_of rows ≡ Ok l.lost.items
+  pub receiver_is : receiver_of rows ≡ Ok l.receiver
+
 -- The request holds the values of its command's arguments.
 abbrev pub Holds : List Row → Request → Type 0
 Holds rows (ask.Packet bytes) = decode_sized (text_of (codes "hex") rows) 42 ≡ Ok bytes
 Holds rows (ask.Packets pes) = pes.now ≡ text_of (codes "pes") rows
 Holds rows (ask.Show stl) = stl.now ≡ text_of (codes "stl") rows
+Holds rows (ask.Normal input output) =
+    (input.now ≡ text_of (codes "in") rows) × (output.now ≡ text_of (codes "out") rows)
 Holds rows (ask.Schedule stl pes options serial national) =
     HoldsPair rows stl.now pes.now options national × (serial ≡ is_set (codes "serial") rows)
 Holds rows (ask.Check stl pes options national) =
     HoldsPair rows stl.now pes.now options national
+Holds rows (ask.Listen pes listening) =
+    (pes.now ≡ text_of (codes "pes") rows) × HoldsListening rows listening
 
 -- The request is that of a command and its arguments.
 pub record IsRequestBy (name : Text) (rows : List Row) (request : Request) : Type 0 where
@@ -99,6 +127,11 @@ pub record IsRequestBy (name : Text) (rows : List Row) (request : Request) : Typ
 pub record IsFaultBy (name : Text) (rows : List Row) (fault : UsageFault) : Type 0 where
   pub first : own_fault name rows ≡ Some fault
   pub own : is_own fault ≡ true
+
+-- The fault is the first of a command and its arguments, or memory ran out before it was known.
+abbrev pub IsFaultOrMemory : Text → List Row → UsageFault → Type 0
+IsFaultOrMemory name rows fault.Memory = ⊤
+IsFaultOrMemory name rows other = IsFaultBy name rows other
 
 -- ---- words
 
@@ -134,24 +167,30 @@ abbrev pub names_first : Request → Bool
 names_first (ask.Packet bytes) = false
 names_first (ask.Packets pes) = true
 names_first (ask.Show stl) = true
+names_first (ask.Normal input output) = true
 names_first (ask.Schedule stl pes options serial national) = true
 names_first (ask.Check stl pes options national) = true
+names_first (ask.Listen pes listening) = true
 
 -- Whether it reads a second input.
 abbrev pub names_second : Request → Bool
 names_second (ask.Packet bytes) = false
 names_second (ask.Packets pes) = false
 names_second (ask.Show stl) = false
+names_second (ask.Normal input output) = false
 names_second (ask.Schedule stl pes options serial national) = false
 names_second (ask.Check stl pes options national) = true
+names_second (ask.Listen pes listening) = false
 
 -- Whether it writes a file.
 abbrev pub names_file : Request → Bool
 names_file (ask.Packet bytes) = false
 names_file (ask.Packets pes) = false
 names_file (ask.Show stl) = false
+names_file (ask.Normal input output) = true
 names_file (ask.Schedule stl pes options serial national) = true
 names_file (ask.Check stl pes options national) = false
+names_file (ask.Listen pes listening) = false
 
 -- The name is one of these.
 abbrev pub IsOneOf : List Text → Text → Type 0

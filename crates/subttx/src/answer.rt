@@ -12,26 +12,35 @@ mod schedule;
 mod show;
 mod state;
 
-ghost use Rattle.std.specs.Prelude.{◌≡◌, ◌≢◌, ◌↔◌, ◌+◌, ◌<◌, ◌≤◌, Result, false, true};
-ghost use Rattle.std.specs.Prelude.{if◌then◌else◌};
+ghost use Rattle.std.specs.Prelude.{◌≡◌, ◌≢◌, ◌↔◌, ◌+◌, ◌<◌, ◌≤◌, Option, Result, false};
+ghost use Rattle.std.specs.Prelude.{if◌then◌else◌, true};
 ghost use Rattle.std.specs.Io.KnownBytes.{Appends};
 ghost use Rattle.sub_io.specs.Device.{AppendsPrefix};
 ghost use Rattle.sub_io.specs.Reading.{IfTold};
 ghost use Rattle.stl_file.specs.Reader.{outcome_of};
 ghost use Rattle.sub_check.specs.Checking.{TellsSubtitles, is_source_failure};
 ghost use Rattle.sub_check.specs.Checking.{is_subtitle_refusal, is_subtitle_source_failure};
-ghost use Rattle.subttx.specs.Answering.{ForCheck, ForPacket, ForSchedule, takes_memory};
+ghost use Rattle.sub_check.specs.FrameRules.{Unread};
+ghost use Rattle.sub_check.specs.PesReading.{ReadsAs};
+ghost use Rattle.sub_check.specs.Transmission.{Transmission};
+ghost use Rattle.subttx.specs.Answering.{ForCheck, ForListen, ForNormal, ForPacket, ForSchedule};
+ghost use Rattle.subttx.specs.Answering.{takes_memory};
 ghost use Rattle.subttx.specs.CheckLines.{verdict};
 ghost use Rattle.subttx.specs.Lines.{usage_line};
-ghost use Rattle.subttx.specs.Listing.{CountsFault, Prints, packet_listing};
+ghost use Rattle.subttx.specs.Listing.{CountsFault, Listing, Prints, packet_listing};
+ghost use Rattle.subttx.specs.ListeningRun.{Listens};
+ghost use Rattle.subttx.specs.NormalWriting.{normal_writing};
 ghost use Rattle.subttx.specs.Requests.{names_file, names_first, names_second};
 ghost use Rattle.subttx.specs.Verdict.{IsAccepted, IsAnswer, PrintsOrFails};
 ghost use Rattle.subttx.specs.Writing.{Answers, PrintsMemory, schedule_writing};
+ghost use Rattle.subttx.specs.declared.request.UsageFault.TheVariants.{Memory};
 
 use crate::lines::usage_text;
 use crate::request::{Request, UsageFault};
 use crate::status::Status;
 use check::print_verdict;
+use listen::print_listening;
+use normal::write_normal;
 use packet::show_packet;
 use packets::list_packets;
 use schedule::write_schedule;
@@ -62,6 +71,19 @@ pub fn answer<S: Source, T: Source, F: Flush, K: Sink>(
     // `packet` prints the text of the 42 bytes, and reads no device.
     ensures packet { ForPacket request.now (λ bytes.
         Prints (K.contents out.old) (K.contents out.new) (packet_listing bytes) result) }
+
+    // `normal` writes and prints what the bytes of the input decide.
+    ensures normal { ForNormal request.now (IfTold (S.remaining first.old) (λ bytes. Answers
+        (F.contents file.old) (F.contents file.new) (K.contents out.old) (K.contents out.new)
+        (normal_writing bytes)
+        result)) }
+
+    // Its status is `Fault` only where a device failed, or want of memory is printed.
+    ensures normal_fault { ForNormal request.now (result ≡ Status.Fault
+        → S.failure_count first.new ≡ S.failure_count first.old
+        → F.failure_count file.new ≡ F.failure_count file.old
+        → K.failure_count out.new ≡ K.failure_count out.old
+        → Appends (K.contents out.old) (K.contents out.new) (usage_line Memory)) }
 
     // `schedule` writes and prints what the bytes of the subtitle file decide.
     ensures schedule { ForSchedule request.now (λ options serial national.
@@ -111,6 +133,16 @@ pub fn answer<S: Source, T: Source, F: Flush, K: Sink>(
         → PrintsMemory national (S.remaining first.old) (K.contents out.old)
         (K.contents out.new)) }
 
+    // `listen` prints what a receiver shows that heard the frames of the PES file, or the refusal.
+    ensures listen { ForListen request.now (λ listening.
+        (frames : Transmission) (unread : Option Unread)
+        → IfTold (S.remaining first.old) (λ bytes.
+        ReadsAs listening.options.origin 0 bytes frames unread
+        → S.failure_count first.new ≡ S.failure_count first.old
+        → (listing : Listing)
+        × Listens listening frames unread listing
+        × Prints (K.contents out.old) (K.contents out.new) listing result)) }
+
     // Devices that are not named stay as they are.
     ensures first { names_first request.now ≡ false → first.new ≡ first.old }
     ensures second { names_second request.now ≡ false → second.new ≡ second.old }
@@ -144,11 +176,13 @@ pub fn answer<S: Source, T: Source, F: Flush, K: Sink>(
             national,
             ..
         } => { write_schedule(alloc, first, *national, options, *serial, file, out) }
+        Request::Normal { .. } => write_normal(alloc, first, file, out),
         Request::Check {
             options,
             national,
             ..
         } => { print_verdict(alloc, first, second, *national, options, out) }
+        Request::Listen { listening, .. } => print_listening(first, listening, out),
     }
 }
 

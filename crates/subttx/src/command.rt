@@ -5,13 +5,13 @@
 ghost use Rattle.std.specs.Prelude.{◌≡◌, IfOk, false};
 ghost use Rattle.clap.specs.Words.{app_of, with_rule, with_subcommand};
 ghost use Rattle.clap.specs.declared.builder.command.Command.TheViews.{out-Command};
-ghost use Rattle.subttx.specs.Commands.{bare_app, check_app, flag_rule};
-ghost use Rattle.subttx.specs.Commands.{option_rule, packet_app};
-ghost use Rattle.subttx.specs.Commands.{packets_app, required_rule};
+ghost use Rattle.subttx.specs.Commands.{bare_app, bare_option_rule, check_app, flag_rule};
+ghost use Rattle.subttx.specs.Commands.{listen_app, normal_app, option_rule, packet_app};
+ghost use Rattle.subttx.specs.Commands.{packets_app, required_option_rule, required_rule};
 ghost use Rattle.subttx.specs.Commands.{schedule_app, show_app, subttx_app, with_every};
-ghost use Rattle.subttx.specs.Commands.{with_listings, with_makers, with_national};
-ghost use Rattle.subttx.specs.Commands.{with_page_and_origin, with_pair};
-ghost use Rattle.subttx.specs.Commands.{with_schedule};
+ghost use Rattle.subttx.specs.Commands.{with_listings, with_makers, with_national, with_noise};
+ghost use Rattle.subttx.specs.Commands.{with_page_and_origin, with_pair, with_receiver};
+ghost use Rattle.subttx.specs.Commands.{with_schedule, with_window};
 
 use clap::{Arg, ArgAction, Command};
 use std::alloc::{AllocError, Global};
@@ -43,6 +43,34 @@ fn with_option<'a>(
         → IfOk result (λ c. (out-Command c).has_globals ≡ false) }
 {
     command.arg(Arg::new(alloc, id).long(id).default_value(value))
+}
+
+// Adds an option that may be left out and then has no text.
+fn with_bare_option<'a>(
+    command: Command<'a>,
+    alloc: Global,
+    id: &'a str,
+) -> Result<Command<'a>, AllocError>
+    ensures app { IfOk result (λ c.
+        app_of c ≡ with_rule (app_of command.entry) (bare_option_rule id.entry.now)) }
+    ensures local { (out-Command command.entry).has_globals ≡ false
+        → IfOk result (λ c. (out-Command c).has_globals ≡ false) }
+{
+    command.arg(Arg::new(alloc, id).long(id))
+}
+
+// Adds an option that has to be there.
+fn with_required_option<'a>(
+    command: Command<'a>,
+    alloc: Global,
+    id: &'a str,
+) -> Result<Command<'a>, AllocError>
+    ensures app { IfOk result (λ c.
+        app_of c ≡ with_rule (app_of command.entry) (required_option_rule id.entry.now)) }
+    ensures local { (out-Command command.entry).has_globals ≡ false
+        → IfOk result (λ c. (out-Command c).has_globals ≡ false) }
+{
+    command.arg(Arg::new(alloc, id).long(id).required(true))
 }
 
 // Adds a flag.
@@ -81,6 +109,15 @@ fn show_command<'a>(alloc: Global) -> Result<Command<'a>, AllocError>
     ensures local { IfOk result (λ c. (out-Command c).has_globals ≡ false) }
 {
     with_required(Command::new(alloc, "show"), alloc, "stl")
+}
+
+// `normal IN OUT`
+fn normal_command<'a>(alloc: Global) -> Result<Command<'a>, AllocError>
+    ensures app { IfOk result (λ c. app_of c ≡ normal_app) }
+    ensures local { IfOk result (λ c. (out-Command c).has_globals ≡ false) }
+{
+    let command = with_required(Command::new(alloc, "normal"), alloc, "in")?;
+    with_required(command, alloc, "out")
 }
 
 // `STL PES`
@@ -150,6 +187,47 @@ fn check_command<'a>(alloc: Global) -> Result<Command<'a>, AllocError>
     with_schedule(Command::new(alloc, "check"), alloc)
 }
 
+// `--at TIME [--skip N]`
+fn with_window<'a>(command: Command<'a>, alloc: Global) -> Result<Command<'a>, AllocError>
+    ensures app { IfOk result (λ c. app_of c ≡ with_window (app_of command.entry)) }
+    ensures local { (out-Command command.entry).has_globals ≡ false
+        → IfOk result (λ c. (out-Command c).has_globals ≡ false) }
+{
+    let command = with_required_option(command, alloc, "at")?;
+    with_option(command, alloc, "skip", "0")
+}
+
+// `[--flip F] [--lose L]`
+fn with_noise<'a>(command: Command<'a>, alloc: Global) -> Result<Command<'a>, AllocError>
+    ensures app { IfOk result (λ c. app_of c ≡ with_noise (app_of command.entry)) }
+    ensures local { (out-Command command.entry).has_globals ≡ false
+        → IfOk result (λ c. (out-Command c).has_globals ≡ false) }
+{
+    let command = with_bare_option(command, alloc, "flip")?;
+    with_bare_option(command, alloc, "lose")
+}
+
+// `[--receiver R]`
+fn with_receiver<'a>(command: Command<'a>, alloc: Global) -> Result<Command<'a>, AllocError>
+    ensures app { IfOk result (λ c. app_of c ≡ with_receiver (app_of command.entry)) }
+    ensures local { (out-Command command.entry).has_globals ≡ false
+        → IfOk result (λ c. (out-Command c).has_globals ≡ false) }
+{
+    with_option(command, alloc, "receiver", "blank")
+}
+
+// `listen PES [--page P] [--origin T] --at TIME [--skip N] [--flip F] [--lose L] [--receiver R]`
+fn listen_command<'a>(alloc: Global) -> Result<Command<'a>, AllocError>
+    ensures app { IfOk result (λ c. app_of c ≡ listen_app) }
+    ensures local { IfOk result (λ c. (out-Command c).has_globals ≡ false) }
+{
+    let command = with_required(Command::new(alloc, "listen"), alloc, "pes")?;
+    let command = with_page_and_origin(command, alloc)?;
+    let command = with_window(command, alloc)?;
+    let command = with_noise(command, alloc)?;
+    with_receiver(command, alloc)
+}
+
 // The program before its commands.
 fn bare_program<'a>(alloc: Global) -> Command<'a>
     ensures app { app_of result ≡ bare_app }
@@ -190,6 +268,7 @@ fn with_makers<'a>(program: Command<'a>, alloc: Global) -> Result<Command<'a>, A
     ensures local { (out-Command program.entry).has_globals ≡ false
         → IfOk result (λ c. (out-Command c).has_globals ≡ false) }
 {
+    let program = with_command(program, normal_command(alloc)?)?;
     let program = with_command(program, schedule_command(alloc)?)?;
     with_command(program, check_command(alloc)?)
 }
@@ -205,5 +284,6 @@ pub fn subttx_command<'a>(alloc: Global) -> Result<Command<'a>, AllocError>
     ensures local { IfOk result (λ c. (out-Command c).has_globals ≡ false) }
 {
     let program = with_listings(bare_program(alloc), alloc)?;
-    with_makers(program, alloc)
+    let program = with_makers(program, alloc)?;
+    with_command(program, listen_command(alloc)?)
 }

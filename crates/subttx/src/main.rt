@@ -85,8 +85,10 @@ fn open_and_answer<R: AllocGlobal + Files, K: Sink>(
         Request::Packet { .. } => answer_input(rt, request, &mut MemSource::new(&[]), out),
         Request::Packets { pes } => answer_file(rt, request, pes, out),
         Request::Show { stl } => answer_file(rt, request, stl, out),
+        Request::Normal { input, output } => answer_into(rt, request, input, output, out),
         Request::Schedule { stl, pes, .. } => answer_into(rt, request, stl, pes, out),
         Request::Check { stl, pes, .. } => answer_pair(rt, request, stl, pes, out),
+        Request::Listen { pes, .. } => answer_file(rt, request, pes, out),
     }
 }
 

@@ -1,5 +1,6 @@
 //! What the words of the command line ask for.
 mod arguments;
+mod hearing;
 mod reading;
 
 ghost use Rattle.std.specs.Prelude.{◌≡◌, [], IfErr, IfOk, OnOk, option_map};
@@ -8,6 +9,7 @@ ghost use Rattle.subttx.specs.Commands.{command_in, refusals, texts_of};
 ghost use Rattle.subttx.specs.Requests.{IsFaultOf};
 
 use crate::command::subttx_command;
+use crate::listening::Listening;
 use clap::ArgMatches;
 use clap::error::ErrorKind;
 use reading::read_command;
@@ -83,6 +85,13 @@ pub enum Request<'a> {
         /// The name of the subtitle file.
         stl: &'a str,
     },
+    /// `normal IN OUT`: writes the normal form of a subtitle file.
+    Normal {
+        /// The name of the subtitle file.
+        input: &'a str,
+        /// The name of the file to be written, another one.
+        output: &'a str,
+    },
     /// `schedule STL PES`: writes a schedule of a subtitle file.
     Schedule {
         /// The name of the subtitle file.
@@ -107,6 +116,13 @@ pub enum Request<'a> {
         /// The national option by which the text is read.
         national: National,
     },
+    /// `listen PES`: runs one receiver.
+    Listen {
+        /// The name of the file of PES packets.
+        pes: &'a str,
+        /// What the receiver hears.
+        listening: Listening,
+    },
 }
 
 impl<'a> Request<'a> {
@@ -120,15 +136,15 @@ impl<'a> Request<'a> {
     /// # Errors
     ///
     /// `Words` where `clap` refuses the words. Then the first fault of the command's arguments:
-    /// `BadHex`, `SameFile`, `BadPage`, `Every`, `Origin`, `BadOption`. `Memory` where memory ran
-    /// out before that was known.
+    /// `BadHex`, `SameFile`, `BadPage`, `Every`, `Origin`, `BadOption`, `BadTime`, `BadSkip`,
+    /// `BadFlip`, `BadLose`, `BadReceiver`. `Memory` where memory ran out before that was known.
     pub fn parse(alloc: Global, words: &'a [&'a str]) -> Result<Request<'a>, UsageFault>
         ensures request { IfOk result (AsksFor (texts_of words.now)) }
         ensures fault { IfErr result (IsFaultOf (texts_of words.now)) }
     {
         let matches = matches_of(alloc, words)?;
         match command_of(&matches) {
-            Some((name, arguments)) => read_command(name, arguments),
+            Some((name, arguments)) => read_command(alloc, name, arguments),
             None => Err(UsageFault::Words),
         }
     }

@@ -2,6 +2,7 @@
 mod check;
 mod packet;
 mod packets;
+mod requests;
 mod show;
 mod words;
 

@@ -2,21 +2,28 @@
 ghost use Rattle.std.specs.Prelude.{◌≡◌, IfErr, IfOk, IsOk, codes};
 ghost use Rattle.clap.specs.Words.{found_of, rows_of};
 ghost use Rattle.subttx.specs.Commands.{command_names};
-ghost use Rattle.subttx.specs.Requests.{IsFaultBy, IsOneOf, IsRequestBy};
+ghost use Rattle.subttx.specs.Requests.{IsFaultBy, IsFaultOrMemory, IsOneOf, IsRequestBy};
 
 use super::arguments::{flag_at, national_at, options_at, text_at};
+use super::hearing::listening_at;
 use super::{Request, UsageFault};
 use clap::ArgMatches;
+use std::alloc::Global;
 
 /// Reads the arguments of a command, whose name must be one of the program's commands.
 ///
 /// # Errors
 ///
-/// The first fault of the arguments by the program's own rules.
-pub fn read_command<'a>(name: &str, matches: &ArgMatches<'a>) -> Result<Request<'a>, UsageFault>
+/// The first fault of the arguments by the program's own rules, or `Memory` where memory ran out
+/// before that was known.
+pub fn read_command<'a>(
+    alloc: Global,
+    name: &str,
+    matches: &ArgMatches<'a>,
+) -> Result<Request<'a>, UsageFault>
     requires { IsOneOf command_names name.now }
     ensures request { IfOk result (IsRequestBy name.now (rows_of (found_of matches.now))) }
-    ensures fault { IfErr result (IsFaultBy name.now (rows_of (found_of matches.now))) }
+    ensures fault { IfErr result (IsFaultOrMemory name.now (rows_of (found_of matches.now))) }
 {
     if name == "packet" {
         read_packet(matches)
@@ -24,10 +31,14 @@ pub fn read_command<'a>(name: &str, matches: &ArgMatches<'a>) -> Result<Request<
         read_packets(matches)
     } else if name == "show" {
         read_show(matches)
+    } else if name == "normal" {
+        read_normal(matches)
     } else if name == "schedule" {
         read_schedule(matches)
-    } else {
+    } else if name == "check" {
         read_check(matches)
+    } else {
+        read_listen(alloc, matches)
     }
 }
 
@@ -61,6 +72,19 @@ fn read_show<'a>(matches: &ArgMatches<'a>) -> Result<Request<'a>, UsageFault>
     Ok(Request::Show {
         stl: text_at(matches, "stl"),
     })
+}
+
+// `normal IN OUT`
+fn read_normal<'a>(matches: &ArgMatches<'a>) -> Result<Request<'a>, UsageFault>
+    ensures request { IfOk result (IsRequestBy (codes "normal") (rows_of (found_of matches.now))) }
+    ensures fault { IfErr result (IsFaultBy (codes "normal") (rows_of (found_of matches.now))) }
+{
+    let input = text_at(matches, "in");
+    let output = text_at(matches, "out");
+    if input == output {
+        return Err(UsageFault::SameFile);
+    }
+    Ok(Request::Normal { input, output })
 }
 
 // `schedule STL PES [--page P] [--every N] [--origin T] [--serial] [--option O]`
@@ -98,5 +122,18 @@ fn read_check<'a>(matches: &ArgMatches<'a>) -> Result<Request<'a>, UsageFault>
         pes: text_at(matches, "pes"),
         options,
         national,
+    })
+}
+
+// `listen PES [--page P] [--origin T] --at TIME [--skip N] [--flip F] [--lose L] [--receiver R]`
+fn read_listen<'a>(alloc: Global, matches: &ArgMatches<'a>) -> Result<Request<'a>, UsageFault>
+    ensures request { IfOk result (IsRequestBy (codes "listen") (rows_of (found_of matches.now))) }
+    ensures fault { IfErr result
+        (IsFaultOrMemory (codes "listen") (rows_of (found_of matches.now))) }
+{
+    let listening = listening_at(alloc, matches)?;
+    Ok(Request::Listen {
+        pes: text_at(matches, "pes"),
+        listening,
     })
 }

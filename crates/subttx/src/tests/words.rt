@@ -1,10 +1,36 @@
 //! Words that are refused before anything is read.
-use super::assert_prints;
+use super::{assert_prints, assert_prints_into};
+use crate::request::Request;
 use crate::status::Status;
+use std::alloc::Global;
+use std::process::Abort;
+
+// Asserts the line of words that are refused.
+fn assert_refuses<'a>(rt: &(impl Abort + Alloc<A = Global>), words: &'a [&'a str], want: &[u8]) {
+    let mut room = [0u8; 32];
+    assert_prints_into(rt, &mut room, words, want, Status::Fault);
+}
+
+#[test]
+fn prints_the_line_of_refused_words(rt: HostRuntime) {
+    assert_prints(&rt, &["subttx"], b"usage 0 Words\n", Status::Fault);
+    assert_prints(
+        &rt,
+        &["subttx", "packet", "15"],
+        b"usage 2 BadHex\n",
+        Status::Fault,
+    );
+    assert_prints(
+        &rt,
+        &["subttx", "normal", "a", "a"],
+        b"usage 7 SameFile\n",
+        Status::Fault,
+    );
+}
 
 #[test]
 fn refuses_words_that_are_no_command(rt: HostRuntime) {
-    let no_words: [&[&str]; 12] = [
+    let no_words: [&[&str]; 24] = [
         &["subttx"],
         &["subttx", "--help"],
         &["subttx", "-h"],
@@ -17,9 +43,29 @@ fn refuses_words_that_are_no_command(rt: HostRuntime) {
         &["subttx", "packet", "15", "15"],
         &["subttx", "packet", "--hex", "15"],
         &["subttx", "Packet", "15"],
+        &["subttx", "check", "a.stl"],
+        &["subttx", "check", "a.stl", "b.pes", "c.pes"],
+        &["subttx", "check", "a.stl", "b.pes", "--serial"],
+        &["subttx", "check", "a.stl", "b.pes", "--page"],
+        &["subttx", "check", "a.stl", "b.pes", "--pages", "888"],
+        &["subttx", "schedule", "a.stl", "b.pes", "--serial=true"],
+        &["subttx", "normal", "a.stl"],
+        &["subttx", "normal", "a.stl", "b.stl", "--page", "888"],
+        &["subttx", "listen", "b.pes"], // `--at` has no default
+        &["subttx", "listen", "--at", "10:00:00:10"],
+        &[
+            "subttx",
+            "listen",
+            "b.pes",
+            "--at",
+            "10:00:00:10",
+            "--every",
+            "25",
+        ],
+        &["subttx", "--page", "888", "check", "a.stl", "b.pes"],
     ];
     for words in no_words {
-        assert_prints(&rt, words, b"usage 0 Words\n", Status::Fault);
+        assert_refuses(&rt, words, b"usage 0 Words\n");
     }
 }
 
@@ -39,11 +85,287 @@ fn refuses_digits_that_are_no_packet(rt: HostRuntime) {
         "g515d0d015d015d002152020202020202020202020202020202020202020202020202020202020202020",
     ];
     for hex in digits {
-        assert_prints(
-            &rt,
-            &["subttx", "packet", hex],
-            b"usage 2 BadHex\n",
-            Status::Fault,
-        );
+        assert_refuses(&rt, &["subttx", "packet", hex], b"usage 2 BadHex\n");
+    }
+}
+
+// The arguments of a schedule in the order in which their faults are told.
+#[test]
+fn tells_the_first_fault_of_a_schedule(rt: HostRuntime) {
+    // PES, page, every, origin, option, line
+    for (pes, page, every, origin, option, want) in [
+        (
+            "a",
+            "8FF",
+            "0",
+            "x",
+            "french",
+            b"usage 7 SameFile\n".as_slice(),
+        ),
+        ("b", "8FF", "0", "x", "french", b"usage 1 BadPage\n"),
+        ("b", "088", "250", "0", "english", b"usage 1 BadPage\n"),
+        ("b", "", "250", "0", "english", b"usage 1 BadPage\n"),
+        ("b", "888", "0", "x", "french", b"usage 80 Every\n"),
+        (
+            "b",
+            "888",
+            "x",
+            "8589934592",
+            "english",
+            b"usage 80 Every\n",
+        ),
+        ("b", "888", "1501", "0", "english", b"usage 80 Every\n"),
+        (
+            "b",
+            "888",
+            "00000000001",
+            "0",
+            "english",
+            b"usage 80 Every\n",
+        ), // eleven digits
+        ("b", "888", "+1", "0", "english", b"usage 80 Every\n"),
+        ("b", "888", "", "0", "english", b"usage 80 Every\n"),
+        (
+            "b",
+            "888",
+            "1500",
+            "8589934592",
+            "french",
+            b"usage 81 Origin\n",
+        ),
+        ("b", "888", "1", "x", "german", b"usage 81 Origin\n"),
+        (
+            "b",
+            "888",
+            "1",
+            "99999999990",
+            "german",
+            b"usage 81 Origin\n",
+        ),
+        (
+            "b",
+            "888",
+            "1",
+            "8589934591",
+            "french",
+            b"usage 83 BadOption\n",
+        ),
+        ("b", "888", "1", "0", "English", b"usage 83 BadOption\n"),
+        ("b", "888", "1", "0", "", b"usage 83 BadOption\n"),
+    ] {
+        let words = [
+            "subttx", "schedule", "a", pes, "--page", page, "--every", every, "--origin", origin,
+            "--option", option,
+        ];
+        assert_refuses(&rt, &words, want);
+        // The same of a check, which may name one file twice.
+        let words = [
+            "subttx", "check", "--option", option, "--origin", origin, "--every", every, "--page",
+            page, "a", pes,
+        ];
+        let want = if pes == "a" {
+            b"usage 1 BadPage\n"
+        } else {
+            want
+        };
+        assert_refuses(&rt, &words, want);
+    }
+    assert_refuses(&rt, &["subttx", "normal", "a", "a"], b"usage 7 SameFile\n");
+}
+
+// The arguments of a receiver in the order in which their faults are told.
+#[test]
+fn tells_the_first_fault_of_a_receiver(rt: HostRuntime) {
+    let time = "10:00:00:10";
+    // page, origin, at, skip, flip, lose, receiver, line
+    for (page, origin, at, skip, flip, lose, receiver, want) in [
+        (
+            "8FF",
+            "x",
+            "x",
+            "x",
+            "x",
+            "x",
+            "x",
+            b"usage 1 BadPage\n".as_slice(),
+        ),
+        (
+            "888",
+            "8589934592",
+            "x",
+            "x",
+            "x",
+            "x",
+            "x",
+            b"usage 81 Origin\n",
+        ),
+        (
+            "888",
+            "0",
+            "24:00:00:00",
+            "x",
+            "x",
+            "x",
+            "x",
+            b"usage 6 BadTime\n",
+        ),
+        (
+            "888",
+            "0",
+            "10:00:00:25",
+            "0",
+            "0:0:1",
+            "0",
+            "keep",
+            b"usage 6 BadTime\n",
+        ),
+        (
+            "888",
+            "0",
+            "1:00:00:10",
+            "0",
+            "0:0:1",
+            "0",
+            "keep",
+            b"usage 6 BadTime\n",
+        ),
+        ("888", "0", time, "x", "x", "x", "x", b"usage 8 BadSkip\n"),
+        (
+            "888",
+            "0",
+            time,
+            "0",
+            "1:21:1,1:21:2",
+            "x",
+            "x",
+            b"usage 5 BadFlip\n",
+        ),
+        ("888", "0", time, "0", "", "0", "keep", b"usage 5 BadFlip\n"),
+        (
+            "888",
+            "0",
+            time,
+            "0",
+            "0:42:1",
+            "0",
+            "keep",
+            b"usage 5 BadFlip\n",
+        ),
+        (
+            "888",
+            "0",
+            time,
+            "0",
+            "0:0:0",
+            "0",
+            "keep",
+            b"usage 5 BadFlip\n",
+        ),
+        (
+            "888",
+            "0",
+            time,
+            "0",
+            "0:41:8",
+            "1,1",
+            "x",
+            b"usage 84 BadLose\n",
+        ),
+        (
+            "888",
+            "0",
+            time,
+            "0",
+            "0:41:8",
+            "1,01",
+            "keep",
+            b"usage 84 BadLose\n",
+        ),
+        (
+            "888",
+            "0",
+            time,
+            "0",
+            "0:41:8",
+            "",
+            "keep",
+            b"usage 84 BadLose\n",
+        ),
+        (
+            "888",
+            "0",
+            time,
+            "0",
+            "0:41:8",
+            "1,2",
+            "all",
+            b"usage 9 BadReceiver\n",
+        ),
+    ] {
+        let words = [
+            "subttx",
+            "listen",
+            "a",
+            "--page",
+            page,
+            "--origin",
+            origin,
+            "--at",
+            at,
+            "--skip",
+            skip,
+            "--flip",
+            flip,
+            "--lose",
+            lose,
+            "--receiver",
+            receiver,
+        ];
+        assert_refuses(&rt, &words, want);
+    }
+}
+
+// What `clap` makes of words that begin with a dash, and of options that are repeated.
+#[test]
+fn reads_dashes_as_clap_does(rt: HostRuntime) {
+    let refused: [&[&str]; 6] = [
+        &["subttx", "check", "-a", "b"],
+        &["subttx", "check", "a", "b", "--every", "-1"],
+        &[
+            "subttx", "check", "a", "b", "--page", "888", "--page", "888",
+        ],
+        &["subttx", "check", "a", "b", "--", "--page", "888"],
+        &["subttx", "schedule", "a", "b", "--serial", "--serial"],
+        &["subttx", "--", "check", "a", "b"],
+    ];
+    for words in refused {
+        assert_refuses(&rt, words, b"usage 0 Words\n");
+    }
+    assert_refuses(
+        &rt,
+        &["subttx", "check", "a", "b", "--every=-1"],
+        b"usage 80 Every\n",
+    );
+    let taken: [&[&str]; 4] = [
+        &["subttx", "check", "--", "-a", "-"],
+        &["subttx", "check", "--page", "888", "--", "-a", "-"],
+        &["subttx", "check", "--page=888", "--", "-a", "-"],
+        &[
+            "subttx",
+            "check",
+            "--every=250",
+            "--option=english",
+            "--",
+            "-a",
+            "-",
+        ],
+    ];
+    for words in taken {
+        match Request::parse(rt.alloc(), words) {
+            Ok(Request::Check { stl, pes, .. }) => {
+                assert_eq!(rt; (stl, pes), ("-a", "-"), "of {words:?}");
+            }
+            _ => panic!(rt; "{words:?} is no check"),
+        }
     }
 }

@@ -12,3 +12,9 @@ returns-in-Check-clause-check_done g c = rw c.in-Check.is c.print_verdict.ensure
 
 pub returns-in-Check-clause-check_fault : goal.returns-in-Check-clause-check_fault
 returns-in-Check-clause-check_fault g c = rw c.in-Check.is c.print_verdict.ensures.fault
+
+pub returns-in-Normal-clause-normal_fault : goal.returns-in-Normal-clause-normal_fault
+returns-in-Normal-clause-normal_fault g c = rw c.in-Normal.is c.write_normal.ensures.fault
+
+pub returns-in-Listen-clause-listen : goal.returns-in-Listen-clause-listen
+returns-in-Listen-clause-listen g c = rw c.in-Listen.is c.print_listening.ensures.exact

@@ -1,0 +1,134 @@
+//! The requests that words are read as.
+use crate::flips::Flip;
+use crate::listening::ReceiverKind;
+use crate::request::Request;
+use std::test::Fail;
+use stl_rows::National;
+
+#[test]
+fn reads_the_words_of_files(rt: HostRuntime) -> Result<(), Fail> {
+    let alloc = rt.alloc();
+    let words = ["subttx", "normal", "a", "b"];
+    let Ok(Request::Normal { input, output }) = Request::parse(alloc, &words) else {
+        return Err("normal".into());
+    };
+    assert_eq!(rt; (input, output), ("a", "b"));
+    // defaults
+    let words = ["subttx", "schedule", "a", "b"];
+    let Ok(
+        Request::Schedule {
+            stl,
+            pes,
+            options,
+            serial,
+            national,
+        },
+    ) = Request::parse(alloc, &words)
+    else {
+        return Err("schedule".into());
+    };
+    assert_eq!(rt; (stl, pes), ("a", "b"));
+    assert_eq!(rt;
+        (options.page().magazine(), options.page().page()),
+        (0, 0x88)
+    );
+    assert_eq!(rt; (options.every(), options.origin()), (250, 0));
+    assert_eq!(rt; (serial, national), (false, National::English));
+    // zeros in front, and options before the names
+    let words = [
+        "subttx",
+        "schedule",
+        "--serial",
+        "--page=18a",
+        "--every",
+        "0000000025",
+        "--origin",
+        "8589934591",
+        "--option",
+        "german",
+        "a",
+        "b",
+    ];
+    let Ok(
+        Request::Schedule {
+            stl,
+            pes,
+            options,
+            serial,
+            national,
+        },
+    ) = Request::parse(alloc, &words)
+    else {
+        return Err("schedule with options".into());
+    };
+    assert_eq!(rt; (stl, pes), ("a", "b"));
+    assert_eq!(rt;
+        (options.page().magazine(), options.page().page()),
+        (1, 0x8A)
+    );
+    assert_eq!(rt; (options.every(), options.origin()), (25, 8_589_934_591));
+    assert_eq!(rt; (serial, national), (true, National::German));
+    Ok(())
+}
+
+#[test]
+fn reads_the_words_of_a_receiver(rt: HostRuntime) -> Result<(), Fail> {
+    let alloc = rt.alloc();
+    // defaults
+    let words = ["subttx", "listen", "a", "--at", "10:00:00:10"];
+    let Ok(Request::Listen { pes, listening }) = Request::parse(alloc, &words) else {
+        return Err("listen".into());
+    };
+    assert_eq!(rt; (pes, listening.at, listening.skip), ("a", 900_010, 0));
+    assert_eq!(rt; (listening.flips.len(), listening.lost.len()), (0, 0));
+    assert_eq!(rt; listening.receiver, ReceiverKind::Blank);
+    let page = listening.options.page();
+    assert_eq!(rt;
+        (page.magazine(), page.page(), listening.options.origin()),
+        (0, 0x88, 0)
+    );
+    let words = [
+        "subttx",
+        "listen",
+        "a",
+        "--page",
+        "100",
+        "--origin",
+        "1",
+        "--at",
+        "23:59:59:24",
+        "--skip",
+        "07",
+        "--flip",
+        "1:21:1,02:0:8",
+        "--lose",
+        "3,4",
+        "--receiver",
+        "keep",
+    ];
+    let Ok(Request::Listen { pes, listening }) = Request::parse(alloc, &words) else {
+        return Err("listen with options".into());
+    };
+    assert_eq!(rt; (pes, listening.at, listening.skip), ("a", 2_159_999, 7));
+    let flips = [
+        Flip {
+            packet: 1,
+            byte: 21,
+            bit: 1,
+        },
+        Flip {
+            packet: 2,
+            byte: 0,
+            bit: 8,
+        },
+    ];
+    assert!(rt; listening.flips.as_slice() == flips.as_slice());
+    assert!(rt; listening.lost.as_slice() == [3, 4].as_slice());
+    assert_eq!(rt; listening.receiver, ReceiverKind::Keep);
+    let page = listening.options.page();
+    assert_eq!(rt;
+        (page.magazine(), page.page(), listening.options.origin()),
+        (1, 0, 1)
+    );
+    Ok(())
+}
