@@ -21,7 +21,8 @@ use Rattle.stl_file.specs.Reading.{Outcome}
 use Rattle.stl_file.specs.Subtitle.{SubtitleValue}
 use Rattle.stl_file.proofs.FirstBytes.{outcome_of-first}
 use Rattle.subttx.specs.Lines.{stl_fault_line}
-use Rattle.subttx.specs.NormalWriting.{HasNormalFaultLine, PrintsReadFault, TellsRead, most_read}
+use Rattle.subttx.specs.NormalWriting.{HasNormalFaultLine, IsMemoryLine, PrintsReadFault}
+use Rattle.subttx.specs.NormalWriting.{TellsRead, most_read}
 use Rattle.subttx.specs.NormalWriting.{normal_of, normal_writing, read_block}
 use Rattle.subttx.specs.Writing.{Completes, is_read_end, written, written_line}
 use Rattle.subttx.specs.declared.answer.normal.InputFault.TheVariants as input
@@ -234,3 +235,10 @@ read-ended end.Refused n n' e d = absurd (d (omega (arith, e)))
 read-ended end.ReadFailed n n' e d = refl
 read-ended end.WriteFailed n n' e d = absurd (d (omega (arith, e)))
 read-ended end.NoMemory n n' e d = absurd (d (omega (arith, e)))
+
+-- want of memory is told by its line
+pub memory-line : (old new : Option (List ℕ)) (line : List ℕ) (ending : End)
+    → HasNormalFaultLine old new line ending
+    → ending ≡ end.NoMemory
+    → IsMemoryLine line
+memory-line old new line ending h is = subst (HasNormalFaultLine old new line) is h

@@ -1,6 +1,7 @@
 -- What is written and what is printed, by how the work ended; main lemmas: fault_line-loading,
--- prefix-of_work.
-use Rattle.std.proofs.Common.{◌≡◌, ℕ, List, Option, arith}
+-- prefix-of_work, all-of_work.
+use Rattle.std.proofs.Common.{◌≡◌, ℕ, ◌+◌, List, Option, arith, refl, subst, inl, inr}
+use Rattle.std.proofs.Common.{if◌then◌else◌}
 use Rattle.std.specs.Io.KnownBytes.{Keeps}
 use Rattle.std.proofs.KnownBytes.{Appends-kept, Appends-nil}
 use Rattle.sub_io.specs.Device.{AppendsPrefix}
@@ -13,7 +14,8 @@ use Rattle.stl_rows.specs.declared.fault.LoadFaultKind.{LoadFaultKind}
 use Rattle.stl_rows.specs.declared.fault.LoadFaultKind.TheVariants.{File, Memory}
 use Rattle.stl_rows.specs.declared.national.National.{National}
 use Rattle.subttx.specs.LoadLines.{load_kind_line}
-use Rattle.subttx.specs.Writing.{HasScheduleFaultLine, Works, Writing, load_end}
+use Rattle.subttx.specs.Writing.{HasScheduleFaultLine, IsMemoryLine, Works, Writing}
+use Rattle.subttx.specs.Writing.{WritesAllOrNoMemory, is_read_end, is_write_end, load_end}
 use Rattle.subttx.specs.declared.writing.End.{End}
 use Rattle.subttx.specs.declared.writing.End.TheVariants as end
 
@@ -55,3 +57,34 @@ prefix-of_work old new line w end.Refused h = AppendsPrefix-whole old new w.file
 prefix-of_work old new line w end.ReadFailed h = prefix-none old new w.file h
 prefix-of_work old new line w end.WriteFailed h = h
 prefix-of_work old new line w end.NoMemory h = prefix-none old new w.file h
+
+-- where neither the input nor the file failed, all was written, or memory was refused
+pub all-of_work : (ending : End) (n n' m m' : ℕ) (old new out out' : Option (List ℕ))
+    (line : List ℕ) (w : Writing) (IsLine : List ℕ → Type 0)
+    → n' ≡ n + (if is_read_end ending then 1 else 0)
+    → m' ≡ m + (if is_write_end ending then 1 else 0)
+    → Works old new line w ending
+    → (ending ≡ end.NoMemory → IsLine line)
+    → AppendsPrefix out out' line
+    → n' ≡ n
+    → m' ≡ m
+    → WritesAllOrNoMemory old new out out' w IsLine
+all-of_work end.Written n n' m m' old new out out' line w IsLine e f h is p same kept =
+    inl (h.file, subst (AppendsPrefix out out') h.text p)
+all-of_work end.Refused n n' m m' old new out out' line w IsLine e f h is p same kept =
+    inl (h.file, subst (AppendsPrefix out out') h.text p)
+all-of_work end.ReadFailed n n' m m' old new out out' line w IsLine e f h is p same kept =
+    absurd (omega (arith, e, same))
+all-of_work end.WriteFailed n n' m m' old new out out' line w IsLine e f h is p same kept =
+    absurd (omega (arith, f, kept))
+all-of_work end.NoMemory n n' m m' old new out out' line w IsLine e f h is p same kept =
+    inr (line, h, is refl, p)
+
+-- want of memory is told at a block
+pub memory-line : (national : National) (told : Option (List ℕ)) (line : List ℕ) (ending : End)
+    → HasScheduleFaultLine national told line ending
+    → ending ≡ end.NoMemory
+    → IsMemoryLine line
+memory-line national told line ending h is =
+    let told_is = subst (HasScheduleFaultLine national told line) is h in
+    (told_is.0, told_is.1)

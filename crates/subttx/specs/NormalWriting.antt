@@ -72,3 +72,7 @@ abbrev pub PrintsReadFault :
 PrintsReadFault old new out out' =
     (bytes : List ℕ) × Consumes old new bytes
     × AppendsPrefix out out' (stl_fault_line stl.Read (read_block (length bytes)))
+
+-- The line of want of memory.
+abbrev pub IsMemoryLine : List ℕ → Type 0
+IsMemoryLine line = line ≡ usage_line usage.Memory

@@ -1,5 +1,5 @@
 -- What the commands that write a file do: the bytes of the file, and the line that is printed.
-use Rattle.std.specs.Prelude.{◌≡◌, ℕ, List, [], ◌∷◌, ◌++◌, codes, decimal, length}
+use Rattle.std.specs.Prelude.{◌≡◌, ◌⊎◌, ℕ, List, [], ◌∷◌, ◌++◌, codes, decimal, length}
 use Rattle.std.specs.Prelude.{Bool, true, false, Option, Result, Ok, Err}
 use Rattle.std.specs.Io.KnownBytes.{Appends, Keeps}
 use Rattle.sub_io.specs.Device.{AppendsPrefix}
@@ -49,6 +49,14 @@ Answers file file' out out' w Done = Appends file file' w.file × Prints out out
 Answers file file' out out' w Refused =
     Appends file file' w.file × Prints out out' w.listing Refused
 Answers file file' out out' w Fault = AppendsPrefix file file' w.file
+
+-- All bytes of the file were written, and what was printed is a prefix of its line; or memory was
+-- refused: no byte was written, and what was printed is a prefix of that line.
+abbrev pub WritesAllOrNoMemory : Option (List ℕ) → Option (List ℕ) → Option (List ℕ)
+    → Option (List ℕ) → Writing → (List ℕ → Type 0) → Type 0
+WritesAllOrNoMemory file file' out out' w IsMemoryLine =
+    (Appends file file' w.file × AppendsPrefix out out' w.listing.text)
+    ⊎ ((line : List ℕ) × Keeps file file' × IsMemoryLine line × AppendsPrefix out out' line)
 
 -- ---- the work, before its line is printed
 
@@ -118,6 +126,10 @@ HasScheduleFaultLine national told line end.NoMemory =
     (block : ℕ) × (line ≡ load_kind_line Memory block)
     × IfTold told (λ bytes. EndsRecord national [] block (outcome_of bytes))
 HasScheduleFaultLine national told line _ = Unit {0}
+
+-- The line of want of memory at a TTI block.
+abbrev pub IsMemoryLine : List ℕ → Type 0
+IsMemoryLine line = (block : ℕ) × (line ≡ load_kind_line Memory block)
 
 -- Want of memory is printed, with the last block of a subtitle that the file gives.
 abbrev pub PrintsMemory :

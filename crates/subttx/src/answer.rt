@@ -5,10 +5,10 @@
 
 pub mod check;
 pub mod listen;
-mod normal;
+pub mod normal;
 mod packet;
 mod packets;
-mod schedule;
+pub mod schedule;
 mod show;
 mod state;
 

@@ -1,9 +1,12 @@
 //! What the program prints, over devices in memory.
 mod check;
+mod normal;
 mod packet;
 mod packets;
 mod requests;
+mod schedule;
 mod show;
+mod watched;
 mod words;
 
 use crate::answer::{answer, say};

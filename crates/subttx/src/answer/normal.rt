@@ -8,10 +8,12 @@ ghost use Rattle.stl_file.specs.Fault.{is_write};
 ghost use Rattle.stl_file.specs.NormalForm.{NormalAnswers};
 ghost use Rattle.subttx.specs.Lines.{usage_line};
 ghost use Rattle.subttx.specs.Listing.{CountsFault};
-ghost use Rattle.subttx.specs.NormalWriting.{HasNormalFaultLine, PrintsReadFault, TellsRead};
+ghost use Rattle.subttx.specs.NormalWriting.{HasNormalFaultLine, IsMemoryLine, PrintsReadFault};
+ghost use Rattle.subttx.specs.NormalWriting.{TellsRead};
 ghost use Rattle.subttx.specs.NormalWriting.{is_read_failure, most_read, normal_writing};
 ghost use Rattle.subttx.specs.NormalWriting.{read_block};
-ghost use Rattle.subttx.specs.Writing.{Answers, Works, is_read_end, is_write_end};
+ghost use Rattle.subttx.specs.Writing.{Answers, Works, WritesAllOrNoMemory, is_read_end};
+ghost use Rattle.subttx.specs.Writing.{is_write_end};
 ghost use Rattle.subttx.specs.declared.request.UsageFault.TheVariants.{Memory};
 
 use crate::lines::{push_stl_fault, push_text, usage_text};
@@ -60,6 +62,16 @@ pub fn write_normal<S: Source, F: Flush, K: Sink>(
         (F.contents file.old) (F.contents file.new) (K.contents out.old) (K.contents out.new)
         (normal_writing bytes)
         result) }
+
+    // Where neither file fails, all is written, whether or not `out` takes the line; or there is no
+    // memory for it.
+    ensures whole { IfTold (S.remaining input.old) (λ bytes.
+        S.failure_count input.new ≡ S.failure_count input.old
+        → F.failure_count file.new ≡ F.failure_count file.old
+        → WritesAllOrNoMemory
+        (F.contents file.old) (F.contents file.new) (K.contents out.old) (K.contents out.new)
+        (normal_writing bytes)
+        IsMemoryLine) }
 
     // Each device fails once at most, and not where the status is another than `Fault`.
     ensures input_count { CountsFault (S.failure_count input.old) result
@@ -249,4 +261,36 @@ fn pull_behind<A: Allocator, S: Source>(
     ensures count { CountsFailure (S.failure_count input.old) result (S.failure_count input.new) }
 {
     input.pull(&mut bytes[len..])
+}
+
+#[cfg(test)]
+mod tests {
+    use super::*;
+    use linked_list_allocator::LocalHeap;
+    use std::test::Fail;
+    use sub_io::MemSource;
+
+    #[test]
+    fn tells_each_growth_that_is_refused(rt: HostRuntime) -> Result<(), Fail> {
+        // Read in rooms of 65,536, 131,072 and 262,144 bytes.
+        let mut input = Vec::new(rt.alloc());
+        for _ in 0..1200 {
+            input.extend_from_slice(&[0x20; 128])?;
+        }
+        // how much memory there is, and whether it is enough
+        for (size, enough) in [
+            (0, false),
+            (60_000, false),
+            (100_000, false),
+            (220_000, false),
+            (1_000_000, true),
+        ] {
+            let heap = LocalHeap::new(rt.alloc(), size)?;
+            match read_input(&heap, &mut MemSource::new(input.as_slice())) {
+                Ok(bytes) => assert!(rt; enough && bytes.as_slice() == input.as_slice(), "{size}"),
+                Err(fault) => assert!(rt; !enough && fault == InputFault::Memory, "{size}"),
+            }
+        }
+        Ok(())
+    }
 }

@@ -7,7 +7,8 @@ ghost use Rattle.sub_io.specs.Reading.{IfTold};
 ghost use Rattle.sub_plan.specs.Schedule.{is_write_failure, plan, plan_frames};
 ghost use Rattle.sub_plan.specs.declared.fault.PlanFault.TheVariants.{NoSubtitles};
 ghost use Rattle.subttx.specs.Listing.{CountsFault};
-ghost use Rattle.subttx.specs.Writing.{Answers, HasScheduleFaultLine, PrintsMemory, Works};
+ghost use Rattle.subttx.specs.Writing.{Answers, HasScheduleFaultLine, IsMemoryLine, PrintsMemory};
+ghost use Rattle.subttx.specs.Writing.{Works, WritesAllOrNoMemory};
 ghost use Rattle.subttx.specs.Writing.{is_read_end, is_write_end, load_end, schedule_of};
 ghost use Rattle.subttx.specs.Writing.{schedule_writing};
 
@@ -44,6 +45,16 @@ pub fn write_schedule<S: Source, F: Flush, K: Sink>(
         (F.contents file.old) (F.contents file.new) (K.contents out.old) (K.contents out.new)
         (schedule_writing national options.now serial bytes)
         result) }
+
+    // Where neither file fails, all is written, whether or not `out` takes the line; or there is no
+    // memory for it.
+    ensures whole { IfTold (S.remaining stl.old) (λ bytes.
+        S.failure_count stl.new ≡ S.failure_count stl.old
+        → F.failure_count file.new ≡ F.failure_count file.old
+        → WritesAllOrNoMemory
+        (F.contents file.old) (F.contents file.new) (K.contents out.old) (K.contents out.new)
+        (schedule_writing national options.now serial bytes)
+        IsMemoryLine) }
 
     // Each device fails once at most, and not where the status is another than `Fault`.
     ensures stl_count { CountsFault (S.failure_count stl.old) result (S.failure_count stl.new) }

@@ -1,0 +1,217 @@
+//! `normal`: what is written and printed of subtitle files, whole, refused, and where a device
+//! fails.
+ghost use Rattle.std.specs.Prelude.{◌<◌};
+
+use super::watched::Watched;
+use crate::answer::normal::write_normal;
+use crate::status::Status;
+use std::alloc::Global;
+use std::process::Abort;
+use sub_io::{FailAt, Failed, MemSink, MemSource, Sink, Source};
+
+// The head of a TTI block: group 0, subtitle 1, from 10:00:00:00 to 10:00:02:00, row 22, centred.
+const HEAD: [u8; 16] = [0, 1, 0, 0, 0, 10, 0, 0, 0, 10, 0, 2, 0, 22, 2, 0];
+
+// Puts a TTI block with a text field of one byte, as the block of this number from 0 on.
+fn put_block(file: &mut [u8], number: usize, ebn: u8, cf: u8, text: u8) {
+    let Some(block) = file.get_mut(1024 + 128 * number.min(3)..) else {
+        return;
+    };
+    for (place, byte) in block.iter_mut().take(128).enumerate() {
+        *byte = match place {
+            3 => ebn,
+            15 => cf,
+            _ => HEAD.get(place).copied().unwrap_or(text),
+        };
+    }
+}
+
+// A GSI block, a comment, user data, and a subtitle of two blocks.
+fn commented() -> [u8; 1536] {
+    let mut file = [0x20; 1536];
+    file[3..11].copy_from_slice(b"STL25.01");
+    file[11..14].copy_from_slice(b"100");
+    put_block(&mut file, 0, 0xFF, 1, 0x43);
+    put_block(&mut file, 1, 0xFE, 0, 0x55);
+    put_block(&mut file, 2, 0x00, 0, 0x41);
+    put_block(&mut file, 3, 0xFF, 0, 0x42);
+    file
+}
+
+// The normal form of that: two blocks, and the counts TNB and TNS.
+fn normal_form() -> [u8; 1280] {
+    let mut want = [0x20; 1280];
+    want[3..11].copy_from_slice(b"STL25.01");
+    want[11..14].copy_from_slice(b"100");
+    want[238..248].copy_from_slice(b"0000200001");
+    put_block(&mut want, 0, 0x00, 0, 0x41);
+    put_block(&mut want, 1, 0xFF, 0, 0x42);
+    want
+}
+
+// Asserts that a file is refused by this line, and that nothing is written.
+fn assert_refuses(rt: &(impl Abort + Alloc<A = Global>), input: &[u8], line: &[u8]) {
+    let mut room = [0; 1536];
+    let mut file = MemSink::new(&mut room);
+    let mut text = [0; 64];
+    let mut out = MemSink::new(&mut text);
+    let status = write_normal(rt.alloc(), &mut MemSource::new(input), &mut file, &mut out);
+    assert_eq!(rt; status, Status::Refused);
+    assert!(rt; out.written() == line);
+    assert_eq!(rt; file.written().len(), 0);
+}
+
+#[test]
+fn writes_the_normal_form_and_that_again(rt: HostRuntime) {
+    let (input, want) = (commented(), normal_form());
+    for bytes in [&input[..], &want[..]] {
+        let mut room = [0; 1536];
+        let mut file = MemSink::new(&mut room);
+        let mut text = [0; 64];
+        let mut out = MemSink::new(&mut text);
+        let status = write_normal(rt.alloc(), &mut MemSource::new(bytes), &mut file, &mut out);
+        assert_eq!(rt; status, Status::Done);
+        assert!(rt; out.written() == b"written 1 subtitles\n".as_slice());
+        assert!(rt; file.written() == want.as_slice());
+    }
+}
+
+#[test]
+fn refuses_files_at_the_first_fault(rt: HostRuntime) {
+    // the byte that is changed and its value in the file of a comment, user data and a subtitle
+    let changes: [(usize, u8, &[u8]); 14] = [
+        (1411, 0x01, b"refused 24 Unfinished block 4\n"), // EBN of the last block
+        (1409, 2, b"refused 22 Sequence block 4\n"), // SN
+        (1284, 1, b"refused 16 Cumulative block 3\n"), // CS
+        (13, b'1', b"refused 14 Alphabet block 0\n"), // CCT
+        (6, b'3', b"refused 11 Format block 0\n"), // DFC is STL35.01
+        (11, b'0', b"refused 13 Display block 0\n"), // DSC
+        (1283, 0xF0, b"refused 15 Extension block 3\n"), // EBN
+        (1295, 2, b"refused 17 CommentFlag block 3\n"), // CF
+        (1294, 4, b"refused 18 Justify block 3\n"), // JC
+        (1293, 0, b"refused 19 Row block 3\n"), // VP
+        (1293, 24, b"refused 19 Row block 3\n"),
+        (1288, 25, b"refused 20 Time block 3\n"), // TCI
+        (1291, 0, b"refused 21 EmptyTime block 3\n"), // TCO is TCI
+        (1287, 3, b"refused 21 EmptyTime block 3\n"), // TCI behind TCO
+    ];
+    for (place, value, line) in changes {
+        let mut input = commented();
+        assert!(rt; place < 1536);
+        input[place] = value;
+        assert_refuses(&rt, &input, line);
+    }
+}
+
+#[test]
+fn refuses_other_formats_and_cut_files(rt: HostRuntime) {
+    let mut input = commented();
+    for (len, line) in [
+        (1023usize, b"refused 10 Truncated block 0\n"),
+        (1151, b"refused 10 Truncated block 1\n"),
+    ] {
+        assert!(rt; len <= 1536);
+        assert_refuses(&rt, &input[..len], line);
+    }
+    input[3..11].copy_from_slice(b"STL30.01");
+    assert_refuses(&rt, &input, b"refused 12 Rate block 0\n");
+}
+
+#[test]
+fn writes_a_prefix_where_a_device_fails(rt: HostRuntime) {
+    let (input, want) = (commented(), normal_form());
+    for len in 0..1280 {
+        let mut room = [0; 1280];
+        let mut file = Watched::new(MemSink::new(&mut room[..len]));
+        let mut text = [0; 64];
+        let mut out = MemSink::new(&mut text);
+        let status = write_normal(rt.alloc(), &mut MemSource::new(&input), &mut file, &mut out);
+        assert_eq!(rt; status, Status::Fault, "{len} bytes");
+        assert!(rt;
+            out.written() == b"fault 29 Write\n".as_slice(),
+            "{len} bytes"
+        );
+        let given = file.inner().written();
+        assert!(rt;
+            given.len() == len && want.starts_with(given),
+            "{len} bytes"
+        );
+        assert_eq!(rt; file.late_calls(), 0, "{len} bytes");
+    }
+    // The file is whole where the line is not: the output has room for so many bytes.
+    for len in 0..20 {
+        let mut room = [0; 1280];
+        let mut file = MemSink::new(&mut room);
+        let mut text = [0; 20];
+        let mut out = Watched::new(MemSink::new(&mut text[..len]));
+        let status = write_normal(rt.alloc(), &mut MemSource::new(&input), &mut file, &mut out);
+        assert_eq!(rt; status, Status::Fault, "{len} bytes");
+        assert!(rt; file.written() == want.as_slice(), "{len} bytes");
+        assert_eq!(rt; out.late_calls(), 0, "{len} bytes");
+    }
+    // The GSI block, a push of the subtitle, and the flush: the call that fails.
+    for call in 0..3 {
+        let mut room = [0; 1280];
+        let mut file = Watched::new(FailAt::new(MemSink::new(&mut room), call));
+        let mut text = [0; 64];
+        let mut out = MemSink::new(&mut text);
+        let status = write_normal(rt.alloc(), &mut MemSource::new(&input), &mut file, &mut out);
+        assert_eq!(rt; status, Status::Fault, "call {call}");
+        assert!(rt;
+            out.written() == b"fault 29 Write\n".as_slice(),
+            "call {call}"
+        );
+        assert_eq!(rt; file.late_calls(), 0, "call {call}");
+    }
+}
+
+// A source that gives one byte a pull.
+#[derive(Drop)]
+struct Drip<'a> {
+    rest: &'a [u8],
+}
+
+impl Source for Drip<'_> {
+    ghost use Rattle.std.specs.Prelude.{None};
+
+    ghost remaining = { λ _. None };
+
+    ghost failure_count = { λ _. 0 };
+
+    fn pull(&mut self, to: &mut [u8]) -> Result<usize, Failed> {
+        let (Some(first), Some((byte, rest))) = (to.first_mut(), self.rest.split_first()) else {
+            return Ok(0);
+        };
+        *first = *byte;
+        self.rest = rest;
+        Ok(1)
+    }
+
+    fn failures(&self) -> u64 {
+        0
+    }
+}
+
+#[test]
+fn tells_a_failed_read_before_any_refusal(rt: HostRuntime) {
+    let mut input = commented();
+    input[3] = b'x';
+    // the byte that was asked for
+    for (call, line) in [
+        (0, b"fault 26 Read block 0\n"),
+        (1023, b"fault 26 Read block 0\n"),
+        (1024, b"fault 26 Read block 1\n"),
+        (1151, b"fault 26 Read block 1\n"),
+        (1152, b"fault 26 Read block 2\n"),
+        (1536, b"fault 26 Read block 5\n"),
+    ] {
+        let mut source = FailAt::new(Drip { rest: &input }, call);
+        let mut file = MemSink::new(&mut []);
+        let mut text = [0; 64];
+        let mut out = MemSink::new(&mut text);
+        let status = write_normal(rt.alloc(), &mut source, &mut file, &mut out);
+        assert_eq!(rt; status, Status::Fault, "call {call}");
+        assert!(rt; out.written() == line.as_slice(), "call {call}");
+        assert_eq!(rt; file.failures(), 0, "call {call}");
+    }
+}

@@ -1,0 +1,287 @@
+//! `schedule`: what is written and printed of subtitle files, whole, refused, and where a device
+//! fails.
+ghost use Rattle.std.specs.Prelude.{◌<◌};
+
+use super::watched::Watched;
+use crate::answer::schedule::write_schedule;
+use crate::status::Status;
+use std::alloc::Global;
+use std::process::Abort;
+use std::test::Fail;
+use stl_rows::National;
+use sub_io::{FailAt, Flush, MemSink, MemSource, Sink, Source};
+use sub_plan::Options;
+use ttx_packet::PageId;
+
+/// The first PES packet of the schedule of `hi`: page 888, frame 900,000.
+#[rattlefmt::skip]
+const FIRST: [u8; 184] = [
+    // start code, length, flags, PTS
+    0x00, 0x00, 0x01, 0xBD, 0x00, 0xB2, 0x84, 0x80, 0x24, 0x27, 0x04, 0x79, 0xF4, 0x01,
+    0xFF, 0xFF, 0xFF, 0xFF, 0xFF, 0xFF, 0xFF, 0xFF, 0xFF, 0xFF, 0xFF, 0xFF, 0xFF, 0xFF, 0xFF, 0xFF,
+    0xFF, 0xFF, 0xFF, 0xFF, 0xFF, 0xFF, 0xFF, 0xFF, 0xFF, 0xFF, 0xFF, 0xFF, 0xFF, 0xFF, 0xFF, 0x10,
+    // the header of the page
+    0x03, 0x2C, 0xE7, 0xE4,
+    0xA8, 0xA8, 0x0B, 0x0B, 0xA8, 0x0B, 0xA8, 0x0B, 0x40, 0xA8, 0x04, 0x04, 0x04, 0x04, 0x04, 0x04,
+    0x04, 0x04, 0x04, 0x04, 0x04, 0x04, 0x04, 0x04, 0x04, 0x04, 0x04, 0x04, 0x04, 0x04, 0x04, 0x04,
+    0x04, 0x04, 0x04, 0x04, 0x04, 0x04, 0x04, 0x04, 0x04, 0x04,
+    // row 22
+    0x03, 0x2C, 0xE8, 0xE4,
+    0xA8, 0xD9, 0x04, 0x04, 0x04, 0x04, 0x04, 0x04, 0x04, 0x04, 0x04, 0x04, 0x04, 0x04, 0x04, 0x04,
+    0x04, 0x04, 0xB0, 0xD0, 0xD0, 0x13, 0x97, 0x51, 0x51, 0x04, 0x04, 0x04, 0x04, 0x04, 0x04, 0x04,
+    0x04, 0x04, 0x04, 0x04, 0x04, 0x04, 0x04, 0x04, 0x04, 0x04,
+    // the closing header
+    0x03, 0x2C, 0xE9, 0xE4,
+    0xA8, 0xA8, 0x57, 0x57, 0x57, 0xF4, 0x57, 0x7A, 0xA8, 0xA8, 0x04, 0x04, 0x04, 0x04, 0x04, 0x04,
+    0x04, 0x04, 0x04, 0x04, 0x04, 0x04, 0x04, 0x04, 0x04, 0x04, 0x04, 0x04, 0x04, 0x04, 0x04, 0x04,
+    0x04, 0x04, 0x04, 0x04, 0x04, 0x04, 0x04, 0x04, 0x04, 0x04,
+];
+
+// A TTI block of subtitle 1: its last block, from 10:00:00:00 to 10:00:02:00, in row 22, centred;
+// double height, start box twice, Hi, end box twice.
+fn block() -> [u8; 128] {
+    let mut block = [0x8F; 128];
+    block[..16].copy_from_slice(&[0, 1, 0, 0xFF, 0, 10, 0, 0, 0, 10, 0, 2, 0, 22, 2, 0]);
+    block[16..23].copy_from_slice(&[0x0D, 0x0B, 0x0B, 0x48, 0x69, 0x0A, 0x0A]);
+    block
+}
+
+// A GSI block and that TTI block.
+fn hi() -> [u8; 1152] {
+    let mut file = [0x20; 1152];
+    file[3..11].copy_from_slice(b"STL25.01");
+    file[11..14].copy_from_slice(b"100");
+    file[1024..].copy_from_slice(&block());
+    file
+}
+
+// A GSI block and these TTI blocks.
+fn file_of(first: [u8; 128], second: [u8; 128]) -> [u8; 1280] {
+    let mut file = [0x20; 1280];
+    file[3..11].copy_from_slice(b"STL25.01");
+    file[11..14].copy_from_slice(b"100");
+    file[1024..1152].copy_from_slice(&first);
+    file[1152..].copy_from_slice(&second);
+    file
+}
+
+// What is asked for beside the file, and the answer: how many bytes are written, and the line.
+#[derive(Clone, Copy)]
+struct Case<'a> {
+    national: National,
+    every: u64,
+    serial: bool,
+    len: usize,
+    line: &'a [u8],
+    status: Status,
+}
+
+// The schedule every 250 frames of an English file is refused.
+fn refused(line: &[u8]) -> Case<'_> {
+    Case {
+        national: National::English,
+        every: 250,
+        serial: false,
+        len: 0,
+        line,
+        status: Status::Refused,
+    }
+}
+
+// The schedule of an English file is written.
+fn written(every: u64, len: usize, line: &[u8]) -> Case<'_> {
+    Case {
+        every,
+        len,
+        status: Status::Done,
+        ..refused(line)
+    }
+}
+
+// Answers `schedule` of page 888.
+fn answer_of<S: Source, F: Flush, K: Sink>(
+    rt: &impl Alloc<A = Global>,
+    stl: &mut S,
+    case: Case,
+    file: &mut F,
+    out: &mut K,
+) -> Option<Status>
+    requires stl { S.failure_count stl.old < u64.MAX }
+    requires file { F.failure_count file.old < u64.MAX }
+    requires out { K.failure_count out.old < u64.MAX }
+{
+    let options = Options::new(PageId::parse("888").ok()?, case.every, 0).ok()?;
+    let status = write_schedule(
+        rt.alloc(),
+        stl,
+        case.national,
+        &options,
+        case.serial,
+        file,
+        out,
+    );
+    Some(status)
+}
+
+// Asserts what is written and printed of a file, and gives the byte that has C11 to C14 of the
+// first header.
+fn assert_answers(rt: &(impl Abort + Alloc<A = Global>), stl: &[u8], case: Case) -> Option<u8> {
+    let mut room = [0; 1000];
+    let mut file = MemSink::new(&mut room);
+    let mut line = [0; 64];
+    let mut out = MemSink::new(&mut line);
+    let status = answer_of(rt, &mut MemSource::new(stl), case, &mut file, &mut out);
+    assert_eq!(rt; status, Some(case.status));
+    assert!(rt; out.written() == case.line);
+    assert_eq!(rt; file.written().len(), case.len);
+    file.written().get(59).copied()
+}
+
+#[test]
+fn writes_and_refuses_files(rt: HostRuntime) {
+    let hi = block();
+    let mut later = hi;
+    later[5..13].copy_from_slice(&[10, 0, 2, 0, 10, 0, 4, 0]);
+    let mut other = later;
+    other[19] = 0x41;
+    let mut overlap = other;
+    overlap[7] = 1;
+    let mut before = other;
+    before[5] = 9;
+    let mut blank = hi;
+    blank[16..23].copy_from_slice(&[0x8F; 7]);
+    let mut control = hi;
+    control[16] = 0x0E;
+    let mut cumulative = hi;
+    cumulative[4] = 1;
+    let two = b"written 2 transmissions\n";
+    let three = b"written 3 transmissions\n";
+    // the first and the second block, how many bytes of the file, the answer
+    let cases: [([u8; 128], [u8; 128], usize, Case); 10] = [
+        (hi, hi, 1152, written(250, 368, two)),
+        (hi, hi, 1152, written(25, 552, three)),
+        (blank, hi, 1152, written(250, 368, two)),
+        (hi, hi, 1024, refused(b"refused 82 NoSubtitles\n")),
+        (hi, other, 1280, written(250, 552, three)),
+        (hi, later, 1280, written(250, 368, two)),
+        (hi, overlap, 1280, refused(b"refused 57 Overlap block 2\n")),
+        (
+            hi,
+            before,
+            1280,
+            refused(b"refused 56 OutOfOrder block 2\n"),
+        ),
+        (
+            control,
+            hi,
+            1152,
+            refused(b"refused 51 Control block 1 at 0\n"),
+        ),
+        (
+            hi,
+            cumulative,
+            1280,
+            refused(b"refused 16 Cumulative block 2\n"),
+        ),
+    ];
+    for (first, second, len, case) in cases {
+        let file = file_of(first, second);
+        assert!(rt; len <= 1280);
+        assert_answers(&rt, &file[..len], case);
+    }
+}
+
+#[test]
+fn sets_the_control_bits_of_the_option_and_the_mode(rt: HostRuntime) {
+    let stl = hi();
+    // national option, serial, the byte with C11 to C14 of the first header, as it is sent
+    for (national, serial, want) in [
+        (National::English, false, 0xA8),
+        (National::English, true, 0x40),
+        (National::German, false, 0x0B),
+        (National::German, true, 0xE3),
+    ] {
+        let case = Case {
+            national,
+            serial,
+            ..written(250, 368, b"written 2 transmissions\n")
+        };
+        assert_eq!(rt; assert_answers(&rt, &stl, case), Some(want));
+    }
+}
+
+#[test]
+fn writes_a_prefix_where_a_device_fails(rt: HostRuntime) -> Result<(), Fail> {
+    let stl = hi();
+    let line = b"written 2 transmissions\n";
+    let case = written(250, 368, line);
+    let mut whole = [0; 368];
+    let mut file = MemSink::new(&mut whole);
+    let mut room = [0; 64];
+    let mut out = MemSink::new(&mut room);
+    answer_of(&rt, &mut MemSource::new(&stl), case, &mut file, &mut out).ok_or("options")?;
+    assert!(rt; file.written().starts_with(&FIRST));
+    let want = file.written();
+    // A file of fewer bytes.
+    for len in 0..368 {
+        let mut small = [0; 368];
+        let mut file = Watched::new(MemSink::new(&mut small[..len]));
+        let mut room = [0; 64];
+        let mut out = MemSink::new(&mut room);
+        let status = answer_of(&rt, &mut MemSource::new(&stl), case, &mut file, &mut out);
+        assert_eq!(rt; status, Some(Status::Fault), "{len} bytes");
+        assert!(rt;
+            out.written() == b"fault 42 Write\n".as_slice(),
+            "{len} bytes"
+        );
+        assert!(rt;
+            file.inner().written().len() == len && want.starts_with(file.inner().written())
+        );
+        assert_eq!(rt; file.late_calls(), 0, "{len} bytes");
+    }
+    // Two pushes of the file and its flush: the call that fails.
+    for call in 0..3 {
+        let mut small = [0; 368];
+        let mut file = Watched::new(FailAt::new(MemSink::new(&mut small), call));
+        let mut room = [0; 64];
+        let mut out = MemSink::new(&mut room);
+        let status = answer_of(&rt, &mut MemSource::new(&stl), case, &mut file, &mut out);
+        assert_eq!(rt; status, Some(Status::Fault), "call {call}");
+        assert!(rt;
+            out.written() == b"fault 42 Write\n".as_slice(),
+            "call {call}"
+        );
+        assert_eq!(rt; file.late_calls(), 0, "call {call}");
+    }
+    // The file is whole where the line is not: the output has room for so many bytes.
+    for len in 0..24 {
+        let mut small = [0; 368];
+        let mut file = MemSink::new(&mut small);
+        let mut room = [0; 24];
+        let mut out = Watched::new(MemSink::new(&mut room[..len]));
+        let status = answer_of(&rt, &mut MemSource::new(&stl), case, &mut file, &mut out);
+        assert_eq!(rt; status, Some(Status::Fault), "{len} bytes");
+        assert!(rt; file.written() == want, "{len} bytes");
+        assert_eq!(rt; out.late_calls(), 0, "{len} bytes");
+    }
+    Ok(())
+}
+
+#[test]
+fn tells_a_failing_subtitle_file(rt: HostRuntime) {
+    let stl = file_of(block(), block());
+    for (call, line) in [
+        (0, b"fault 26 Read block 0\n"),
+        (1, b"fault 26 Read block 1\n"),
+        (2, b"fault 26 Read block 2\n"),
+    ] {
+        let mut file = MemSink::new(&mut []);
+        let mut room = [0; 64];
+        let mut out = MemSink::new(&mut room);
+        let mut source = FailAt::new(MemSource::new(&stl), call);
+        let status = answer_of(&rt, &mut source, refused(line), &mut file, &mut out);
+        assert_eq!(rt; status, Some(Status::Fault));
+        assert!(rt; out.written() == line.as_slice());
+        assert_eq!(rt; file.failures(), 0);
+    }
+}
