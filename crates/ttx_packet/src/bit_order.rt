@@ -15,6 +15,7 @@ pub fn mirror(byte: u8) -> u8
 }
 
 /// The 42 bytes of a packet, each with its bits in the other order. One kernel for both directions.
+#[inline(always)]
 pub fn mirrored(bytes: &[u8; 42]) -> [u8; 42]
     ensures { result ≡ map mirror bytes.now }
 {
