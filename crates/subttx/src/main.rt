@@ -24,6 +24,7 @@ ghost use Rattle.std.specs.Prelude.{◌≡◌, ◌<◌, IfOk};
 use request::{Request, UsageFault};
 use status::Status;
 use std::io::{self, BufReader, BufWriter, Write};
+use std::os::unix::fs::MetadataExt;
 use std::process::ExitCode;
 use std::rt::{Env, Files};
 use std::{env, fs};
@@ -105,6 +106,15 @@ fn open_input<R: AllocGlobal + Files>(
     match BufReader::new(rt.alloc(), file) {
         Ok(reader) => Ok(FromRead::new(reader)),
         Err(_) => Err(UsageFault::Memory),
+    }
+}
+
+// Whether two names are those of one file, by a link or by another way to it: to create the one
+// would empty the other. A file that is not there is no other's.
+fn is_one_file<R: Files>(rt: &R, first: &str, second: &str) -> bool {
+    match (fs::metadata(rt, first), fs::metadata(rt, second)) {
+        (Ok(one), Ok(other)) => one.dev() == other.dev() && one.ino() == other.ino(),
+        _ => false,
     }
 }
 
@@ -205,6 +215,9 @@ fn answer_into<R: AllocGlobal + Files, K: Sink>(
         Ok(first) => first,
         Err(fault) => return answer::say(&fault, out),
     };
+    if is_one_file(rt, input, output) {
+        return answer::say(&UsageFault::Open, out);
+    }
     let mut no_second = MemSource::new(&[]);
     match create_output(rt, output) {
         Ok(mut file) => {
