@@ -1,7 +1,8 @@
 -- Lists of texts read one after the other, for the parsers of lists. Main lemmas: said_by_all-none
 -- and said_by_all-more.
-use Rattle.std.proofs.Common.{◌≡◌, ◌∙◌, ap, refl, sym, ℕ, suc, ◌+◌, ◌-◌, ◌*◌, ◌^◌, ◌<◌, List, [], ◌∷◌, ◌++◌, drop, length}
-use Rattle.std.proofs.Common.{map, Option, Some, None, option_map, get_or, take, true, arith, rules, subst}
+use Rattle.std.proofs.Common.{◌≡◌, ◌∙◌, ap, refl, sym, ℕ, suc, ◌+◌, ◌-◌, ◌*◌, ◌^◌, ◌<◌, List, []}
+use Rattle.std.proofs.Common.{◌∷◌, ◌++◌, drop, length, map, Option, Some, None, option_map, get_or}
+use Rattle.std.proofs.Common.{take, true, arith, rules, subst}
 use Rattle.std.proofs.Math.Nat.{pow-suc}
 use Rattle.std.specs.Char.{is_ascii_digit, digit_value}
 use Rattle.std.specs.Str.Parse.{digits_value}

@@ -26,7 +26,8 @@ use Rattle.subttx.specs.ListeningRun.{AreHeard, EndsAfter, IsHeard, RefusesAfter
 use Rattle.subttx.specs.ListeningRun.{IsOldPage, Listens, is_source_fault, least_frame}
 use Rattle.subttx.specs.ListeningRun.{listing_of, unread_fault}
 use Rattle.ttx_page.specs.Page.{Rows}
-use Rattle.subttx.specs.Reception.{Reception, as_received, first_lost_header, is_heard, is_lost, with_flips}
+use Rattle.subttx.specs.Reception.{Reception, as_received, first_lost_header, is_heard, is_lost}
+use Rattle.subttx.specs.Reception.{with_flips}
 use Rattle.subttx.specs.Reception.{may_be_lost_at, reception_of}
 use Rattle.subttx.specs.declared.answer.listen.ListenFault.{ListenFault}
 use Rattle.subttx.specs.declared.answer.listen.ListenFault.TheVariants as fault
@@ -58,7 +59,8 @@ read_told index pes.TooMany e = refl
 -- one packet more that is not lost, or may be
 lost_further : (k : ℕ) (is : Bool) (further : Option ℕ)
     → is ≡ false
-    → option_map (λ place. place + k) (if is then Some 0 else option_map (λ place. place + 1) further)
+    → option_map (λ place. place + k)
+    (if is then Some 0 else option_map (λ place. place + 1) further)
     ≡ option_map (λ place. place + (k + 1)) further
 lost_further k true further e = cc
 lost_further k false None e = refl
@@ -189,7 +191,10 @@ zero_more : (n : ℕ) → n ≡ 0 + n
 zero_more n = omega arith
 
 -- a count that did not rise
-pub did_not_rise : (b : Bool) (old new : ℕ) → new ≡ old + (if b then 1 else 0) → new ≡ old → b ≡ false
+pub did_not_rise : (b : Bool) (old new : ℕ)
+    → new ≡ old + (if b then 1 else 0)
+    → new ≡ old
+    → b ≡ false
 did_not_rise true old new counted same = absurd (omega (arith, counted, same))
 did_not_rise false old new counted same = refl
 
@@ -255,7 +260,8 @@ module _
             → TellsNext l.options.origin n reached.rest v (Err f)
             → Runs l frames unread w old now (Err f)
         ends_unread v f (u, is, ends) =
-            let at = reads_fault l.options.origin n reached.rest frames unread u reached.left ends in
+            let at =
+            reads_fault l.options.origin n reached.rest frames unread u reached.left ends in
             let within = reached.within in
             let all : n ≡ length frames = omega (arith, at.0) in
             record {

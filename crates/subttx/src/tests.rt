@@ -1,5 +1,6 @@
 //! What the program prints, over devices in memory.
-mod check;
+pub mod check;
+mod listen;
 mod normal;
 mod packet;
 mod packets;

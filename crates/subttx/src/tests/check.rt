@@ -2,6 +2,6 @@
 mod cut;
 mod devices;
 mod failing;
-mod makers;
+pub mod makers;
 mod many;
 mod rows;

@@ -6,13 +6,14 @@ use Rattle.subttx.proofs.flips.flips_of.Goals as goal
 
 pub returns-in_default : goal.returns-in_default
 returns-in_default c =
-    sym (said_by_all-none flip_of_text (λ x. x.now) c.args.items.now c.loop-i.flips.items c.loop-i.i
-    _ _ c.loop-i.invariant c.loop-i-test.true (sym c.parse_flip.ensures ∙ c.in_default.is))
+    sym (said_by_all-none flip_of_text (λ x. x.now) c.args.items.now
+    c.loop-i.flips.items c.loop-i.i _ _ c.loop-i.invariant c.loop-i-test.true
+    (sym c.parse_flip.ensures ∙ c.in_default.is))
 
 pub loop-i-preserved : goal.loop-i-preserved
 loop-i-preserved c =
-    said_by_all-more flip_of_text (λ x. x.now) c.args.items.now c.loop-i.flips.items c.loop-i.i _
-    c.in-Some.flip _ c.loop-i.invariant c.loop-i-test.true
+    said_by_all-more flip_of_text (λ x. x.now) c.args.items.now
+    c.loop-i.flips.items c.loop-i.i _ c.in-Some.flip _ c.loop-i.invariant c.loop-i-test.true
     (sym c.parse_flip.ensures ∙ c.in-Some.is)
     ∙ ap (λ so_far. option_map (λ rest. so_far ++ rest)
     (said_by_all flip_of_text (map (λ x. x.now) (drop (c.loop-i.i + 1) c.args.items.now))))

@@ -1,6 +1,6 @@
 -- Each way out of the loop tells what the file is; by ListeningRunLemmas.
-use Rattle.std.proofs.Common.{◌+◌, ◌≡◌, List, Option, Result, ℕ, Err, Ok, Some, ap, arith, subst, sym}
-use Rattle.std.proofs.Common.{◌∙◌, ◌≤◌, length, refl}
+use Rattle.std.proofs.Common.{◌+◌, ◌≤◌, ◌∙◌, List, Option, Result, ℕ, Err, Ok, ap, arith, length}
+use Rattle.std.proofs.Common.{refl, subst, sym}
 use Rattle.std.proofs.lemmas.Result.{err_from_is_err_and}
 use Rattle.ttx_packet.specs.PageId.{PageIdValue}
 use Rattle.ttx_page.specs.Receiver.{Hears}

@@ -1,0 +1,209 @@
+//! `listen`: what a receiver shows of the schedule of `Hi`.
+ghost use Rattle.std.specs.Prelude.{◌<◌};
+
+use crate::answer::listen::print_listening;
+use crate::flips::{Flip, parse_flips};
+use crate::listening::{Listening, ReceiverKind, parse_time};
+use crate::numbers::{parse_number, parse_numbers};
+use crate::status::Status;
+use crate::tests::check::makers::{options, schedule_of_hi};
+use std::alloc::Global;
+use std::process::Abort;
+use std::test::Fail;
+use sub_io::{FailAt, MemSink, MemSource, Sink, Source};
+
+// What is shown of `Hi`, and where its first letter is hit.
+const HI: &str = "heard yes\nopen no\nrow 22 |                ...Hi..                 |\n";
+
+const HIT: &str = "heard yes\nopen no\nrow 22 |                ... i..                 |\n";
+
+const BLANK: &str = "heard yes\nopen no\nblank\n";
+
+const NOTHING: &str = "heard no\n";
+
+// One flip in each byte of the header that has a code word.
+const HEADER_FLIPS: &str = "0:0:1,0:1:2,0:2:3,0:3:4,0:4:5,0:5:6,0:6:7,0:7:8,0:8:1,0:9:2";
+
+// A listening to page 888, by the words of its options; no flips and none lost where they are
+// empty.
+fn listening(
+    alloc: Global,
+    at: &str,
+    skip: &str,
+    flips: &str,
+    lost: &str,
+    receiver: ReceiverKind,
+) -> Result<Listening, Fail> {
+    let flips = if flips.is_empty() {
+        Vec::new(alloc)
+    } else {
+        parse_flips(alloc, flips)?.ok_or("flips")?
+    };
+    let lost = if lost.is_empty() {
+        Vec::new(alloc)
+    } else {
+        parse_numbers(alloc, lost)?.ok_or("numbers")?
+    };
+    Ok(Listening {
+        options: options("888", 250, 0)?,
+        at: parse_time(at).ok_or("a time")?,
+        skip: parse_number(skip).ok_or("a number")?,
+        flips,
+        lost,
+        receiver,
+    })
+}
+
+// Asserts what is printed of a source, and the status that its first word tells.
+fn assert_hears<S: Source>(rt: &impl Abort, pes: &mut S, listening: &Listening, want: &[u8])
+    requires { S.failure_count pes.old < u64.MAX }
+{
+    let mut room = [0; 128];
+    let mut out = MemSink::new(&mut room);
+    let status = print_listening(pes, listening, &mut out);
+    assert!(rt; out.written() == want);
+    let wanted = if want.starts_with(b"heard ") {
+        Status::Done
+    } else if want.starts_with(b"refused ") {
+        Status::Refused
+    } else {
+        Status::Fault
+    };
+    assert_eq!(rt; status, wanted);
+}
+
+#[test]
+fn shows_what_a_receiver_got(rt: HostRuntime) -> Result<(), Fail> {
+    let alloc = rt.alloc();
+    let pes = schedule_of_hi(alloc, 25)?;
+    // time, packets passed over, flips, lost packets, text
+    for (at, skip, flips, lost, want) in [
+        ("10:00:00:10", "0", "", "", HI),
+        ("10:00:00:10", "0", "1:21:1", "", HIT),
+        ("10:00:00:10", "0", HEADER_FLIPS, "", HI), // corrected
+        ("10:00:00:10", "1", "", "", NOTHING),
+        ("10:00:01:00", "1", "", "", HI),
+        ("10:00:02:00", "0", "", "", BLANK),
+        ("09:59:59:24", "0", "", "", NOTHING),
+        ("10:00:00:10", "0", "", "1", BLANK),
+        ("10:00:01:00", "0", "", "1", HI),
+        ("10:00:00:10", "1", "", "0", NOTHING),
+        ("10:00:00:10", "0", "1:21:1", "1", BLANK),
+        // packets are counted over the whole file, those passed over too
+        ("10:00:01:00", "0", "4:21:1", "", HIT),
+        ("10:00:01:00", "0", "", "4", BLANK),
+        ("10:00:01:00", "3", "4:21:1", "", HIT),
+        // a packet that is passed over, comes after the time, or is not there
+        ("10:00:01:00", "3", "1:21:1", "0,1", HI),
+        ("10:00:00:10", "0", "4:21:1", "3,4", HI),
+        ("10:00:00:10", "0", "9999999999:41:8", "9999999999", HI),
+        (
+            "10:00:00:10",
+            "0",
+            "",
+            "0",
+            "refused 76 LostHeader frame 10:00:00:00 packet 0\n",
+        ),
+        (
+            "10:00:00:10",
+            "0",
+            "",
+            "1,2",
+            "refused 76 LostHeader frame 10:00:00:00 packet 2\n",
+        ),
+        (
+            "10:00:01:00",
+            "3",
+            "",
+            "3,0",
+            "refused 76 LostHeader frame 10:00:01:00 packet 0\n",
+        ),
+    ] {
+        for receiver in [ReceiverKind::Keep, ReceiverKind::Blank] {
+            let listening = listening(alloc, at, skip, flips, lost, receiver)?;
+            let mut source = MemSource::new(pes.as_slice());
+            assert_hears(&rt, &mut source, &listening, want.as_bytes());
+        }
+    }
+    Ok(())
+}
+
+// Each single flip in the packets of one sending: a cell is the due one, or a space where its byte
+// was hit.
+#[test]
+fn shows_a_space_where_a_byte_was_hit(rt: HostRuntime) -> Result<(), Fail> {
+    let alloc = rt.alloc();
+    let pes = schedule_of_hi(alloc, 250)?;
+    for receiver in [ReceiverKind::Keep, ReceiverKind::Blank] {
+        let mut listening = listening(alloc, "10:00:00:10", "0", "0:0:1", "", receiver)?;
+        for packet in 0..3u64 {
+            for byte in 0..42u8 {
+                for bit in 1..9u8 {
+                    listening.flips.clear();
+                    listening.flips.push(Flip { packet, byte, bit })?;
+                    let mut want = [0; 68];
+                    want.copy_from_slice(HI.as_bytes().get(..68).ok_or("a text")?);
+                    if packet == 1 && byte >= 2 {
+                        want[byte as usize + 24] = b' ';
+                    }
+                    let mut source = MemSource::new(pes.as_slice());
+                    assert_hears(&rt, &mut source, &listening, &want);
+                }
+            }
+        }
+    }
+    Ok(())
+}
+
+#[test]
+fn tells_faults_of_a_file_as_far_as_it_is_read(rt: HostRuntime) -> Result<(), Fail> {
+    let alloc = rt.alloc();
+    let pes = schedule_of_hi(alloc, 25)?;
+    let mut twice = schedule_of_hi(alloc, 25)?;
+    twice.extend_from_slice(pes.as_slice())?;
+    let cut = pes.as_slice().get(..194).ok_or("a cut file")?;
+    // file, time, text
+    for (file, at, want) in [
+        (cut, "10:00:00:10", "refused 30 Truncated pes 1\n"), // the packet after the time
+        (cut, "09:00:00:00", NOTHING), // not read so far
+        (twice.as_slice(), "10:00:02:00", "refused 62 Order pes 3\n"),
+        (twice.as_slice(), "10:00:01:24", HI),
+        (&b"RIFF...."[..], "10:00:00:10", "refused 31 Start pes 0\n"),
+        (&[], "10:00:00:10", NOTHING),
+    ] {
+        let listening = listening(alloc, at, "0", "", "", ReceiverKind::Blank)?;
+        assert_hears(&rt, &mut MemSource::new(file), &listening, want.as_bytes());
+    }
+    let mut off = listening(alloc, "10:00:00:10", "0", "", "", ReceiverKind::Keep)?;
+    off.options = options("888", 250, 1)?;
+    let mut source = MemSource::new(pes.as_slice());
+    assert_hears(&rt, &mut source, &off, b"refused 61 OffFrame pes 0\n");
+    Ok(())
+}
+
+#[test]
+fn ends_with_2_where_a_device_fails(rt: HostRuntime) -> Result<(), Fail> {
+    let alloc = rt.alloc();
+    let pes = schedule_of_hi(alloc, 25)?;
+    let listening = listening(alloc, "10:00:00:10", "0", "", "", ReceiverKind::Keep)?;
+    // the call that fails, the text
+    for (call, want) in [
+        (0, "fault 41 Read pes 0\n"),
+        (1, "fault 41 Read pes 0\n"),
+        (2, "fault 41 Read pes 1\n"),
+        (3, "fault 41 Read pes 1\n"),
+        (4, HI), // not called
+    ] {
+        let mut source = FailAt::new(MemSource::new(pes.as_slice()), call);
+        assert_hears(&rt, &mut source, &listening, want.as_bytes());
+    }
+    for len in 0..HI.len() {
+        let mut room = vec![in alloc; 0; len]?;
+        let mut out = MemSink::new(room.as_mut_slice());
+        let status = print_listening(&mut MemSource::new(pes.as_slice()), &listening, &mut out);
+        assert_eq!(rt; status, Status::Fault);
+        assert!(rt; HI.as_bytes().starts_with(out.written()));
+        assert_eq!(rt; out.written().len(), len);
+    }
+    Ok(())
+}
