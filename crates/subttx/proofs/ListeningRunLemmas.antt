@@ -1,6 +1,6 @@
 -- What each way out of the loop of `listen` shows of the whole file.
-use Rattle.std.proofs.Common.{◌≡◌, ◌≢◌, ◌∙◌, ap, refl, sym, subst, arith, ℕ, suc, ◌+◌, ◌<◌, ◌≤◌}
-use Rattle.std.proofs.Common.{◌⊎◌, inl, inr, Bool, true, false, ◌&&◌, not, List, [], ◌∷◌, ◌++◌}
+use Rattle.std.proofs.Common.{◌≡◌, ◌∙◌, ap, refl, sym, subst, arith, ℕ, suc, ◌+◌, ◌<◌, ◌≤◌}
+use Rattle.std.proofs.Common.{inl, inr, Bool, true, false, ◌&&◌, not, List, [], ◌∷◌, ◌++◌}
 use Rattle.std.proofs.Common.{length, drop, get_or, Option, Some, None, option_map, Result, Ok, Err}
 use Rattle.std.proofs.Common.{if◌then◌else◌}
 use Rattle.std.proofs.lemmas.List.{at_drop_more}
@@ -14,7 +14,7 @@ use Rattle.ttx_pes.specs.PesPacket.{PesValue}
 use Rattle.ttx_pes.specs.Reading.{is_read_failure, most_packets, rest_after}
 use Rattle.ttx_pes.specs.declared.fault.PesFault.{PesFault}
 use Rattle.ttx_pes.specs.declared.fault.PesFault.TheVariants as pes
-use Rattle.sub_check.specs.FrameRules.{Unread, frame_at, joined, packets_at}
+use Rattle.sub_check.specs.FrameRules.{Unread, frame_at, joined}
 use Rattle.sub_check.specs.FrameRules.Unread.{BadPacket, NoFrame}
 use Rattle.sub_check.specs.PacketRules.{packets_of_units}
 use Rattle.sub_check.specs.PesReading.{ReadsAs}
@@ -22,7 +22,7 @@ use Rattle.sub_check.specs.Transmission.{Transmission}
 use Rattle.sub_check.proofs.PesReadingLemmas.{ReadsNext, reads-below, reads_end, reads_fault}
 use Rattle.sub_check.proofs.PesReadingLemmas.{reads_next}
 use Rattle.sub_check.proofs.ShownLemmas.{joined_more}
-use Rattle.subttx.specs.ListeningRun.{AreHeard, EndsAfter, IsHeard, RefusesAfter, Runs, TellsNext}
+use Rattle.subttx.specs.ListeningRun.{AreHeard, IsHeard, RefusesAfter, Runs, TellsNext}
 use Rattle.subttx.specs.ListeningRun.{IsOldPage, Listens, is_source_fault, least_frame}
 use Rattle.subttx.specs.ListeningRun.{listing_of, unread_fault}
 use Rattle.ttx_page.specs.Page.{Rows}

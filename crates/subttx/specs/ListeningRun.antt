@@ -1,5 +1,5 @@
 -- What `listen` answers: the frames up to TIME that are heard, what ends them, and what is printed.
-use Rattle.std.specs.Prelude.{◌≡◌, ◌≢◌, ℕ, zero, suc, ◌+◌, ◌<◌, ◌≤◌, ◌⊎◌, Bool, true, false, List}
+use Rattle.std.specs.Prelude.{◌≡◌, ℕ, zero, suc, ◌+◌, ◌<◌, ◌≤◌, ◌⊎◌, Bool, true, false, List}
 use Rattle.std.specs.Prelude.{length, ◌++◌, codes, decimal, Option, Some, None, Result, Ok, Err}
 use Rattle.std.specs.Prelude.{MatchResult}
 use Rattle.ttx_packet.specs.PageId.{PageIdValue}
@@ -14,7 +14,7 @@ use Rattle.sub_check.specs.FrameRules.Unread.{BadPacket, NoFrame}
 use Rattle.sub_check.specs.PesReading.{EndsAs}
 use Rattle.sub_check.specs.Transmission.{Transmission}
 use Rattle.subttx.specs.Lines.{pes_fault_line, time_text}
-use Rattle.subttx.specs.Listing.{Listing, Prints, done, pes_status, refused}
+use Rattle.subttx.specs.Listing.{Listing, done, pes_status}
 use Rattle.subttx.specs.Reception.{as_received, first_lost_header, reception_of}
 use Rattle.subttx.specs.StateText.{state_text}
 use Rattle.subttx.specs.declared.answer.listen.ListenFault.{ListenFault}

@@ -1,8 +1,8 @@
 -- What a receiver gets of the packets of a file: some are passed over, some are lost, and bits are
 -- flipped (own). Packets are numbered from 0 over the whole file.
-use Rattle.std.specs.Prelude.{ℕ, ◌+◌, ◌-◌, ◌^◌, Bool, true, false, not, ◌&&◌, List, [], ◌∷◌}
+use Rattle.std.specs.Prelude.{ℕ, ◌+◌, ◌-◌, ◌^◌, Bool, false, not, ◌&&◌, List, [], ◌∷◌}
 use Rattle.std.specs.Prelude.{Option, Some, None, option_map, bit_xor, slice_index, slice_set}
-use Rattle.std.specs.Prelude.{if◌then◌else◌, ◌==◌, nat_le, nat_lt}
+use Rattle.std.specs.Prelude.{if◌then◌else◌, ◌==◌, nat_le}
 use Rattle.std.specs.List.{list_any}
 use Rattle.ttx_packet.specs.PacketAddress.{PacketAddress, address}
 use Rattle.subttx.specs.declared.flips.Flip.{Flip}
