@@ -28,7 +28,7 @@ pub trait Sink {
         ensures bytes { Pushes (contents self.old) (contents self.new) from.now result }
         ensures count { CountsFailure (failure_count self.old) result (failure_count self.new) };
 
-    /// How many calls of `push` have failed.
+    /// How many calls have failed.
     fn failures(&self) -> u64
         ensures { result ≡ failure_count self.now };
 }
