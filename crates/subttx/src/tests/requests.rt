@@ -3,7 +3,6 @@ use crate::flips::Flip;
 use crate::listening::ReceiverKind;
 use crate::request::Request;
 use std::test::Fail;
-use stl_rows::National;
 
 #[test]
 fn reads_the_words_of_files(rt: HostRuntime) -> Result<(), Fail> {
@@ -13,61 +12,6 @@ fn reads_the_words_of_files(rt: HostRuntime) -> Result<(), Fail> {
         return Err("normal".into());
     };
     assert_eq!(rt; (input, output), ("a", "b"));
-    // defaults
-    let words = ["subttx", "schedule", "a", "b"];
-    let Ok(
-        Request::Schedule {
-            stl,
-            pes,
-            options,
-            serial,
-            national,
-        },
-    ) = Request::parse(alloc, &words)
-    else {
-        return Err("schedule".into());
-    };
-    assert_eq!(rt; (stl, pes), ("a", "b"));
-    assert_eq!(rt;
-        (options.page().magazine(), options.page().page()),
-        (0, 0x88)
-    );
-    assert_eq!(rt; (options.every(), options.origin()), (250, 0));
-    assert_eq!(rt; (serial, national), (false, National::English));
-    // zeros in front, and options before the names
-    let words = [
-        "subttx",
-        "schedule",
-        "--serial",
-        "--page=18a",
-        "--every",
-        "0000000025",
-        "--origin",
-        "8589934591",
-        "--option",
-        "german",
-        "a",
-        "b",
-    ];
-    let Ok(
-        Request::Schedule {
-            stl,
-            pes,
-            options,
-            serial,
-            national,
-        },
-    ) = Request::parse(alloc, &words)
-    else {
-        return Err("schedule with options".into());
-    };
-    assert_eq!(rt; (stl, pes), ("a", "b"));
-    assert_eq!(rt;
-        (options.page().magazine(), options.page().page()),
-        (1, 0x8A)
-    );
-    assert_eq!(rt; (options.every(), options.origin()), (25, 8_589_934_591));
-    assert_eq!(rt; (serial, national), (true, National::German));
     Ok(())
 }
 
