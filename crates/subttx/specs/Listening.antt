@@ -29,6 +29,7 @@ number_of_text text = if is_number text then Some (digits_value 10 text) else No
 abbrev pub comma : ℕ
 comma = 0x2C
 
+-- It parts the fields of a time, and those of a flip.
 abbrev pub colon : ℕ
 colon = 0x3A
 

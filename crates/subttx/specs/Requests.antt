@@ -33,22 +33,26 @@ hex_fault rows = if is_ok (decode_sized (text_of (codes "hex") rows) 42) then No
 abbrev pub same_file_fault : Text → Text → Option UsageFault
 same_file_fault input output = if bytes_eq input output then Some fault.SameFile else None
 
--- The faults of each command, in the order in which they are told.
+-- The faults of each command stand in the order in which they are told. Of `packet`:
 abbrev pub packet_faults : List Row → List (Option UsageFault)
 packet_faults rows = hex_fault rows ∷ []
 
+-- Of `normal`: equal names.
 abbrev pub normal_faults : List Row → List (Option UsageFault)
 normal_faults rows =
     same_file_fault (text_of (codes "in") rows) (text_of (codes "out") rows) ∷ []
 
+-- Of `schedule`: equal names, the page, the repeat bound, the origin, the national option.
 abbrev pub schedule_faults : List Row → List (Option UsageFault)
 schedule_faults rows =
     same_file_fault (text_of (codes "stl") rows) (text_of (codes "pes") rows)
     ∷ result_err (options_of rows) ∷ result_err (national_of rows) ∷ []
 
+-- Of `check`: the same without equal names.
 abbrev pub check_faults : List Row → List (Option UsageFault)
 check_faults rows = result_err (options_of rows) ∷ result_err (national_of rows) ∷ []
 
+-- Of `listen`: page and origin, then TIME, the skip, the flips, the losses, the receiver.
 abbrev pub listen_faults : List Row → List (Option UsageFault)
 listen_faults rows =
     result_err (tuning_of rows) ∷ result_err (time_of rows) ∷ result_err (skip_of rows)
