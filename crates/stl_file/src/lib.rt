@@ -39,6 +39,3 @@ pub use subtitle::Subtitle;
 pub use time_code::TimeCode;
 pub use tti::Tti;
 pub use writer::write_subtitle;
-
-#[cfg(test)]
-mod tests;

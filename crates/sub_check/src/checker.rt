@@ -202,6 +202,3 @@ fn judge<S: Source>(
         fault,
     })
 }
-
-#[cfg(test)]
-mod tests;

@@ -115,6 +115,3 @@ pub fn check_files<S: Source, P: Source>(
         Ok(programme) => check(&programme, pes, options),
     }
 }
-
-#[cfg(test)]
-mod tests;

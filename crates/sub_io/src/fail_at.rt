@@ -178,32 +178,3 @@ impl<K: Flush> Flush for FailAt<K> {
         self.inner.flush()
     }
 }
-
-#[cfg(test)]
-mod tests {
-    use super::*;
-    use crate::{MemSink, MemSource, fill, put_all};
-
-    #[test]
-    fn fails_at_one_call_and_at_no_other(rt: HostRuntime) {
-        for k in 0..3 {
-            let mut source = FailAt::new(MemSource::new(b"abcdef"), k);
-            let mut room = [0; 6];
-            let mut sink = FailAt::new(MemSink::new(&mut room), k);
-            for call in 0..4 {
-                let mut to = [0; 2];
-                assert!(rt; source.failures() < 9 && sink.failures() < 9);
-                let filled = fill(&mut source, &mut to);
-                assert_eq!(rt; filled.is_err(), call == k, "pull {call}, k {k}");
-                let put = if call == 1 {
-                    sink.flush()
-                } else {
-                    put_all(&mut sink, b"x")
-                };
-                assert_eq!(rt; put.is_err(), call == k, "push or flush {call}, k {k}");
-            }
-            assert_eq!(rt; source.failures(), 1, "k {k}");
-            assert_eq!(rt; sink.failures(), 1, "k {k}");
-        }
-    }
-}

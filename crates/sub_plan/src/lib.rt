@@ -24,6 +24,3 @@ pub use laws::{
 };
 pub use options::Options;
 pub use scheduling::schedule;
-
-#[cfg(test)]
-mod tests;

@@ -1,6 +1,30 @@
 //! Tests over several crates, and values from outside programs. Nothing here is part of the
 //! product.
+//!
+//! The libraries keep no tests of their own: a crate that has some is proved twice.
 #![tactic(auto)]
 
 #[cfg(test)]
+mod checks;
+#[cfg(test)]
+mod devices;
+#[cfg(test)]
+mod dropped_rows;
+#[cfg(test)]
 mod libzvbi;
+#[cfg(test)]
+mod options;
+#[cfg(test)]
+mod packets;
+#[cfg(test)]
+mod pages;
+#[cfg(test)]
+mod pairs;
+#[cfg(test)]
+mod pes_packets;
+#[cfg(test)]
+mod receivers;
+#[cfg(test)]
+mod schedules;
+#[cfg(test)]
+mod subtitle_files;

@@ -66,34 +66,3 @@ pub fn is_word(byte: u8) -> bool
         None => false,
     }
 }
-
-#[cfg(test)]
-mod tests {
-    use super::*;
-
-    #[test]
-    fn decodes_hamming_8_4(rt: HostRuntime) {
-        // byte, number
-        for (byte, want) in [
-            (0x15, Some(0)), // the code word of 0
-            (0x14, Some(0)), // P1 wrong: corrected
-            (0xD1, Some(8)), // P1 wrong in the code word of 8
-            (0x16, None), // two bits wrong: refused
-        ] {
-            assert_eq!(rt; unham(byte), want, "at {byte:#04X}");
-        }
-        let mut nothing = 0u16;
-        for byte in 0..=255u8 {
-            if unham(byte).is_none() {
-                nothing = nothing.saturating_add(1);
-            }
-        }
-        assert_eq!(rt; nothing, 112);
-    }
-
-    #[test]
-    fn codes_hamming_8_4(rt: HostRuntime) {
-        assert_eq!(rt; ham(8), 0xD0);
-        assert!(rt; is_word(0xD0) && !is_word(0xD1));
-    }
-}

@@ -102,29 +102,3 @@ fn page_of_numbers(digit: u8, page: u8) -> Option<PageId>
         None
     }
 }
-
-#[cfg(test)]
-mod tests {
-    use super::*;
-
-    #[test]
-    fn reads_page_numbers(rt: HostRuntime) {
-        // text, magazine and page number
-        for (text, want) in [
-            ("18a", Some((1, 0x8A))),
-            ("888", Some((0, 0x88))), // magazine 8 is sent as 0
-            ("7FE", Some((7, 0xFE))),
-            ("088", None), // no magazine 0
-            ("988", None), // no magazine 9
-            ("8FF", None), // not displayed
-            ("88", None),
-            ("8G8", None),
-            ("8888", None),
-        ] {
-            let got = PageId::parse(text)
-                .ok()
-                .map(|id| (id.magazine(), id.page()));
-            assert_eq!(rt; got, want, "of {text}");
-        }
-    }
-}

@@ -37,18 +37,3 @@ pub(crate) fn odd_bytes(codes: &[u8; 40]) -> [u8; 40]
     }
     bytes
 }
-
-#[cfg(test)]
-mod tests {
-    use super::*;
-
-    #[test]
-    fn makes_odd_bytes(rt: HostRuntime) {
-        // code, byte
-        for (code, want) in [(0x20, 0x20), (0x41, 0xC1), (0x0A, 0x8A), (0x0D, 0x0D)] {
-            assert_eq!(rt; par(code), want, "at {code:#04X}");
-            assert!(rt; is_odd(want));
-        }
-        assert!(rt; !is_odd(0xA0));
-    }
-}

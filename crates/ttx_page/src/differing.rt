@@ -18,24 +18,3 @@ pub fn differing_columns(a: &[u8; 40], b: &[u8; 40]) -> u16
     }
     count
 }
-
-#[cfg(test)]
-mod tests {
-    use super::*;
-    use crate::Page;
-
-    #[test]
-    fn counts_cells(rt: HostRuntime) {
-        let blank = Page::blank();
-        let mut codes = [0x20; 40];
-        assert_eq!(rt; differing_columns(&codes, blank.row(1)), 0);
-        codes[0] = 0x0D;
-        codes[39] = 0x0A;
-        assert_eq!(rt; differing_columns(&codes, blank.row(1)), 2);
-        let mut page = blank;
-        page.set_row(1, &codes);
-        page.set_row(24, &codes);
-        assert_eq!(rt; page.differing_cells(&blank), 4);
-        assert_eq!(rt; page.differing_cells(&page), 0);
-    }
-}

@@ -100,6 +100,3 @@ fn is_dropped(watched: PageId, packet: &Packet) -> bool
         _ => false,
     }
 }
-
-#[cfg(test)]
-mod tests;

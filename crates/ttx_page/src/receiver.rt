@@ -57,6 +57,3 @@ pub fn hear_all<R: Receiver>(receiver: &mut R, packets: &[Packet])
         receiver.hear(packet);
     }
 }
-
-#[cfg(test)]
-mod tests;

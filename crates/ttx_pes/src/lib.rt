@@ -37,6 +37,3 @@ pub use progress::Progress;
 pub use reader::PesReader;
 pub use unit::Unit;
 pub use writer::PesWriter;
-
-#[cfg(test)]
-mod tests;

@@ -1,7 +1,0 @@
--- What the loop keeps: the source did not fail.
-use Rattle.std.proofs.Common.{◌≡◌}
-use Rattle.stl_file.proofs.tests.files.read_all.Given as goal
-
-abbrev pub invariant-loop-count : goal.invariant-loop-count
-invariant-loop-count g l =
-    g.S.Source.failure_count l.source ≡ g.S.Source.failure_count l.initial.source

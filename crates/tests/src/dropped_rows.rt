@@ -1,0 +1,110 @@
+//! A receiver that drops rows, at each single wrong bit of a subtitle's first sending.
+ghost use Rattle.std.specs.Prelude.{◌<◌};
+
+use crate::receivers::old_page;
+use ttx_packet::{Packet, PageId};
+use ttx_page::{DropRow, Page};
+
+// The three packets of the first PES packet of a schedule of `Hi`, and the page that they show.
+
+// Page 888, C4 C6 C7.
+#[rattlefmt::skip]
+const HEADER: [u8; 42] = [
+    0x15, 0x15, 0xD0, 0xD0, 0x15, 0xD0, 0x15, 0xD0, 0x02, 0x15,
+    0x20, 0x20, 0x20, 0x20, 0x20, 0x20, 0x20, 0x20, 0x20, 0x20, 0x20, 0x20, 0x20, 0x20, 0x20, 0x20,
+    0x20, 0x20, 0x20, 0x20, 0x20, 0x20, 0x20, 0x20, 0x20, 0x20, 0x20, 0x20, 0x20, 0x20, 0x20, 0x20,
+];
+// Row 22 of magazine 8.
+#[rattlefmt::skip]
+const ROW_22: [u8; 42] = [
+    0x15, 0x9B,
+    0x20, 0x20, 0x20, 0x20, 0x20, 0x20, 0x20, 0x20, 0x20, 0x20, 0x20, 0x20, 0x20, 0x20, 0x20, 0x20,
+    0x0D, 0x0B, 0x0B, 0xC8, 0xE9, 0x8A, 0x8A,
+    0x20, 0x20, 0x20, 0x20, 0x20, 0x20, 0x20, 0x20, 0x20, 0x20, 0x20, 0x20, 0x20, 0x20, 0x20, 0x20,
+    0x20,
+];
+// The closing header, page 8FF.
+#[rattlefmt::skip]
+const CLOSING: [u8; 42] = [
+    0x15, 0x15, 0xEA, 0xEA, 0xEA, 0x2F, 0xEA, 0x5E, 0x15, 0x15,
+    0x20, 0x20, 0x20, 0x20, 0x20, 0x20, 0x20, 0x20, 0x20, 0x20, 0x20, 0x20, 0x20, 0x20, 0x20, 0x20,
+    0x20, 0x20, 0x20, 0x20, 0x20, 0x20, 0x20, 0x20, 0x20, 0x20, 0x20, 0x20, 0x20, 0x20, 0x20, 0x20,
+];
+// The codes of row 22.
+#[rattlefmt::skip]
+const CODES: [u8; 40] = [
+    0x20, 0x20, 0x20, 0x20, 0x20, 0x20, 0x20, 0x20, 0x20, 0x20, 0x20, 0x20, 0x20, 0x20, 0x20, 0x20,
+    0x0D, 0x0B, 0x0B, 0x48, 0x69, 0x0A, 0x0A,
+    0x20, 0x20, 0x20, 0x20, 0x20, 0x20, 0x20, 0x20, 0x20, 0x20, 0x20, 0x20, 0x20, 0x20, 0x20, 0x20,
+    0x20,
+];
+
+// The page that the packets show.
+fn shown_page() -> Page {
+    let mut page = Page::blank();
+    page.set_row(22, &CODES);
+    page
+}
+
+// The three packets, of which one byte has these bits wrong.
+fn sending(number: usize, place: usize, bits: u8) -> [Packet; 3]
+    requires number { number < 3 }
+    requires place { place < 42 }
+{
+    let mut bytes = [HEADER, ROW_22, CLOSING];
+    bytes[number][place] ^= bits;
+    [
+        Packet::new(bytes[0]),
+        Packet::new(bytes[1]),
+        Packet::new(bytes[2]),
+    ]
+}
+
+#[test]
+fn drops_the_row_at_each_wrong_bit_of_its_text(rt: HostRuntime) {
+    let page_id = PageId::parse("888").expect(&rt, "page 888");
+    let whole = shown_page();
+    for flip in 0..3 * 42 * 8usize {
+        let (number, place) = (flip / 336, flip / 8 % 42);
+        let bits = [1, 2, 4, 8, 0x10, 0x20, 0x40, 0x80][flip % 8];
+        let mut receiver = DropRow::tune(page_id, old_page());
+        receiver.hear_all(&sending(number, place, bits));
+        let is_text = number == 1 && place >= 2;
+        let want = if is_text { Page::blank() } else { whole };
+        assert_eq!(rt;
+            *receiver.page(),
+            want,
+            "packet {number} byte {place} bit {bits:#04X}"
+        );
+        // The row is whole again after the next repeat.
+        receiver.hear_all(&sending(0, 0, 0));
+        assert_eq!(rt;
+            *receiver.page(),
+            whole,
+            "packet {number} byte {place} bit {bits:#04X}"
+        );
+    }
+}
+
+#[test]
+fn keeps_what_the_row_held(rt: HostRuntime) {
+    let page_id = PageId::parse("888").expect(&rt, "page 888");
+    let mut receiver = DropRow::tune(page_id, old_page());
+    assert_eq!(rt; receiver.watched(), page_id);
+    assert!(rt; !receiver.heard() && !receiver.open());
+    receiver.hear(&Packet::new(ROW_22));
+    assert_eq!(rt; *receiver.page(), old_page());
+    receiver.hear(&Packet::new(HEADER));
+    receiver.hear(&Packet::new(ROW_22));
+    assert!(rt; receiver.heard() && receiver.open());
+    let before = *receiver.page();
+    assert_eq!(rt; before.cell(22, 19), 0x48);
+    // The same row, but for byte 20, another code of odd parity, and byte 21, which is even.
+    let mut bytes = ROW_22;
+    bytes[20] = 0xE9;
+    bytes[21] = 0x41;
+    receiver.hear(&Packet::new(bytes));
+    assert_eq!(rt; *receiver.page(), before);
+    receiver.hear(&Packet::new(CLOSING));
+    assert!(rt; receiver.heard() && !receiver.open());
+}

@@ -1,0 +1,38 @@
+//! Options of a transmission.
+use std::test::Fail;
+use sub_plan::{OptionFault, Options};
+use ttx_packet::PageId;
+
+#[test]
+fn tells_frames_and_their_times(rt: HostRuntime) -> Result<(), Fail> {
+    let page = PageId::parse("888").ok().ok_or("page")?;
+    // repeat bound, origin, what is wrong
+    for (every, origin, want) in [
+        (1, 0, None),
+        (1500, 0x1_FFFF_FFFF, None),
+        (0, 0, Some(OptionFault::Every)),
+        (1501, 0x2_0000_0000, Some(OptionFault::Every)), // told before the origin
+        (1, 0x2_0000_0000, Some(OptionFault::Origin)),
+    ] {
+        let got = Options::new(page, every, origin);
+        assert_eq!(rt; got.err(), want, "of {every} {origin}");
+    }
+    // origin, frame, PTS
+    for (origin, frame, pts) in [
+        (0, 900_000, 3_240_000_000),
+        (8_589_930_992, 0, 8_589_930_992),
+        (8_589_930_992, 1, 0), // past 33 bits
+        (1, 2_159_999, 7_775_996_401),
+    ] {
+        let options = Options::new(page, 250, origin).ok().ok_or("options")?;
+        assert_eq!(rt; options.pts_of(frame), pts);
+        assert_eq!(rt; options.frame_of(pts), Some(frame));
+        assert_eq!(rt; options.frame_of(pts + 1), None);
+        assert_eq!(rt; options.frame_of(pts + 0x2_0000_0000), None);
+        assert_eq!(rt; options.page(), page);
+        assert_eq!(rt; (options.every(), options.origin()), (250, origin));
+    }
+    let options = Options::new(page, 250, 0).ok().ok_or("options")?;
+    assert_eq!(rt; options.frame_of(7_776_000_000), None); // frame 2,160,000
+    Ok(())
+}

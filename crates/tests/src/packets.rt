@@ -1,0 +1,180 @@
+//! Codes, packets and page numbers.
+use bitflags::Flags;
+use ttx_packet::{
+    Control, Header, Packet, PageId, ham, is_odd, is_word, mirror, mirrored, par, unham,
+};
+
+#[test]
+fn decodes_hamming_8_4(rt: HostRuntime) {
+    // byte, number
+    for (byte, want) in [
+        (0x15, Some(0)), // the code word of 0
+        (0x14, Some(0)), // P1 wrong: corrected
+        (0xD1, Some(8)), // P1 wrong in the code word of 8
+        (0x16, None), // two bits wrong: refused
+    ] {
+        assert_eq!(rt; unham(byte), want, "at {byte:#04X}");
+    }
+    let mut nothing = 0u16;
+    for byte in 0..=255u8 {
+        if unham(byte).is_none() {
+            nothing = nothing.saturating_add(1);
+        }
+    }
+    assert_eq!(rt; nothing, 112);
+}
+
+#[test]
+fn codes_hamming_8_4(rt: HostRuntime) {
+    assert_eq!(rt; ham(8), 0xD0);
+    assert!(rt; is_word(0xD0) && !is_word(0xD1));
+}
+
+#[test]
+fn mirrors_bytes(rt: HostRuntime) {
+    // byte, mirrored
+    for (byte, want) in [(0x27, 0xE4), (0x15, 0xA8), (0xD0, 0x0B)] {
+        assert_eq!(rt; mirror(byte), want, "at {byte:#04X}");
+    }
+}
+
+// The plain form of `mirrored`, byte by byte.
+fn plain_mirrored(bytes: &[u8; 42]) -> [u8; 42] {
+    let mut other = [0; 42];
+    for place in 0..42usize {
+        other[place] = mirror(bytes[place]);
+    }
+    other
+}
+
+#[test]
+fn mirrors_42_bytes_as_the_plain_form(rt: HostRuntime) {
+    for byte in 0..=255u8 {
+        let equal = [byte; 42];
+        assert_eq!(rt;
+            mirrored(&equal),
+            plain_mirrored(&equal),
+            "42 of {byte:#04X}"
+        );
+    }
+    let mut places = [0; 42];
+    for place in 0..42u8 {
+        places[place as usize] = place;
+    }
+    assert_eq!(rt; mirrored(&places), plain_mirrored(&places));
+    assert_eq!(rt; mirrored(&places)[1], 0x80);
+    assert_eq!(rt; mirrored(&places)[41], 0x94);
+}
+
+#[test]
+fn makes_odd_bytes(rt: HostRuntime) {
+    // code, byte
+    for (code, want) in [(0x20, 0x20), (0x41, 0xC1), (0x0A, 0x8A), (0x0D, 0x0D)] {
+        assert_eq!(rt; par(code), want, "at {code:#04X}");
+        assert!(rt; is_odd(want));
+    }
+    assert!(rt; !is_odd(0xA0));
+}
+
+// The header of page 888 in parallel mode, with a text of spaces.
+const HEADER_888: [u8; 10] = [0x15, 0x15, 0xD0, 0xD0, 0x15, 0xD0, 0x15, 0xD0, 0x02, 0x15];
+
+#[test]
+fn makes_and_reads_a_header(rt: HostRuntime) {
+    let control = Control::C4.union(Control::C6).union(Control::C7);
+    let header = Header {
+        page: 0x88,
+        subcode: 0,
+        control,
+    };
+    let packet = Packet::of_header(0, &header);
+    let mut bytes = [0x20; 42];
+    bytes[..10].copy_from_slice(&HEADER_888);
+    assert_eq!(rt; *packet.bytes(), bytes);
+    assert_eq!(rt; packet.data()[0], 0xD0);
+    assert_eq!(rt; packet.mirrored()[3], 0x0B);
+    assert!(rt; packet.is_clean_address() && packet.is_clean_header());
+    assert_eq!(rt; packet.address(), Some((0, 0)));
+    assert_eq!(rt; packet.header(), Some(header));
+    assert_eq!(rt; packet.coded_header(), Some(header));
+    assert_eq!(rt; Packet::new(*packet.bytes()), packet);
+}
+
+#[test]
+fn reads_addresses(rt: HostRuntime) {
+    // the two address bytes, magazine and packet number
+    for (first, second, want) in [
+        (0x15, 0x8C, Some((0, 20))),
+        (0xD0, 0x8C, Some((0, 21))),
+        (0x15, 0x9B, Some((0, 22))),
+        (0x15, 0xB6, Some((0, 26))),
+        (0x02, 0x15, Some((1, 0))),
+        (0x16, 0x15, None), // two bits wrong
+    ] {
+        let mut bytes = [0x20; 42];
+        bytes[0] = first;
+        bytes[1] = second;
+        assert_eq!(rt;
+            Packet::new(bytes).address(),
+            want,
+            "of {first:#04X} {second:#04X}"
+        );
+    }
+}
+
+#[test]
+fn makes_and_reads_a_row(rt: HostRuntime) {
+    let packet = Packet::of_row(0, 22, &[0x41; 40]);
+    let sent = packet.bytes();
+    assert!(rt; sent[0] == 0x15 && sent[1] == 0x9B && sent[2] == 0xC1 && sent[41] == 0xC1);
+    assert_eq!(rt; packet.first_even(), None);
+}
+
+// The plain form of `first_even`, byte by byte.
+fn plain_first_even(packet: &Packet) -> Option<u8> {
+    for column in 0..40u8 {
+        if !is_odd(packet.data()[column as usize]) {
+            return Some(column);
+        }
+    }
+    None
+}
+
+#[test]
+fn finds_the_only_even_byte_at_each_place(rt: HostRuntime) {
+    for column in 0..40u8 {
+        let mut bytes = [0x20; 42];
+        bytes[column as usize + 2] = 0xA0;
+        let packet = Packet::new(bytes);
+        assert_eq!(rt; packet.first_even(), Some(column));
+        assert_eq!(rt;
+            packet.first_even(),
+            plain_first_even(&packet),
+            "at {column}"
+        );
+    }
+    // Even bytes in the address are none of the text.
+    let packet = Packet::new([0x20; 42]);
+    assert_eq!(rt; packet.first_even(), plain_first_even(&packet));
+}
+
+#[test]
+fn reads_page_numbers(rt: HostRuntime) {
+    // text, magazine and page number
+    for (text, want) in [
+        ("18a", Some((1, 0x8A))),
+        ("888", Some((0, 0x88))), // magazine 8 is sent as 0
+        ("7FE", Some((7, 0xFE))),
+        ("088", None), // no magazine 0
+        ("988", None), // no magazine 9
+        ("8FF", None), // not displayed
+        ("88", None),
+        ("8G8", None),
+        ("8888", None),
+    ] {
+        let got = PageId::parse(text)
+            .ok()
+            .map(|id| (id.magazine(), id.page()));
+        assert_eq!(rt; got, want, "of {text}");
+    }
+}

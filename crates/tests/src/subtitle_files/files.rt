@@ -1,0 +1,89 @@
+//! Files as bytes, and what a reader says of a whole source.
+
+ghost use Rattle.std.specs.Prelude.{◌≡◌, ◌+◌, ◌<◌, ◌≤◌, length};
+
+use stl_file::{StlFault, StlReader};
+use sub_io::Source;
+
+/// SGN 7, SN 0105, EBN 00, CS 0, 00:00:01:00 to 00:00:02:00, row 20, centred, CF 0.
+pub(crate) const FIRST: [u8; 16] = [7, 5, 1, 0x00, 0, 0, 0, 1, 0, 0, 0, 2, 0, 20, 2, 0];
+
+/// The last block of the same subtitle.
+pub(crate) const LAST: [u8; 16] = [7, 5, 1, 0xff, 0, 0, 0, 1, 0, 0, 0, 2, 0, 20, 2, 0];
+
+/// A subtitle of one block, 00:00:02:00 to 00:00:04:24.
+pub(crate) const ALONE: [u8; 16] = [7, 6, 1, 0xff, 0, 0, 0, 2, 0, 0, 0, 4, 24, 1, 0, 0];
+
+/// A comment: CF 1. Its CS, times, VP and JC are not looked at.
+pub(crate) const COMMENT: [u8; 16] = [7, 5, 1, 0xff, 9, 9, 99, 9, 9, 9, 9, 9, 9, 99, 9, 1];
+
+/// User data: EBN FE, whatever its CF.
+pub(crate) const USER_DATA: [u8; 16] = [9, 9, 9, 0xfe, 9, 9, 9, 9, 9, 9, 9, 9, 9, 99, 9, 9];
+
+/// Puts bytes at a place.
+pub(crate) fn put(file: &mut [u8], at: usize, bytes: &[u8])
+    requires { at + length bytes.now ≤ length file.old }
+    ensures { length file.new ≡ length file.old }
+{
+    file[at..at + bytes.len()].copy_from_slice(bytes);
+}
+
+/// Sets one byte, where the file is so long.
+pub(crate) fn set(file: &mut [u8], at: usize, byte: u8)
+    ensures { length file.new ≡ length file.old }
+{
+    if at < file.len() {
+        file[at] = byte;
+    }
+}
+
+/// A GSI block that is taken; its other bytes are spaces.
+pub(crate) fn gsi() -> [u8; 1024] {
+    let mut bytes = [b' '; 1024];
+    put(&mut bytes, 3, b"STL25.01".as_slice());
+    bytes[11] = b'1';
+    bytes[12] = b'0';
+    bytes[13] = b'0';
+    put(&mut bytes, 238, b"9999988888".as_slice());
+    bytes
+}
+
+/// A block with these fields, whose text field holds one byte everywhere.
+pub(crate) fn block(head: &[u8; 16], text: u8) -> [u8; 128] {
+    let mut bytes = [text; 128];
+    bytes[..16].copy_from_slice(head);
+    bytes
+}
+
+/// A comment, a subtitle of two blocks with user data between them, and a subtitle of one block
+/// with two bytes of text: 2 subtitles in 5 blocks.
+pub(crate) fn a_file() -> [u8; 1664] {
+    let mut file = [0; 1664];
+    put(&mut file, 0, gsi().as_slice());
+    put(&mut file, 1024, block(&COMMENT, b'c').as_slice());
+    put(&mut file, 1152, block(&FIRST, b'A').as_slice());
+    put(&mut file, 1280, block(&USER_DATA, b'u').as_slice());
+    put(&mut file, 1408, block(&LAST, b'B').as_slice());
+    put(&mut file, 1536, block(&ALONE, 0x8f).as_slice());
+    file[1552] = b'H';
+    file[1553] = b'i';
+    file
+}
+
+/// How many subtitles a source gives, the fault after them, and the block then.
+pub(crate) fn read_all<S: Source>(source: &mut S) -> (u32, Option<StlFault>, u32)
+    requires { S.failure_count source.old < u64.MAX }
+{
+    let mut reader = match StlReader::open(source) {
+        Ok(reader) => reader,
+        Err(fault) => return (0, Some(fault), 0),
+    };
+    for count in 0..100 {
+        match reader.next(source) {
+            Ok(Some(_)) => {}
+            Ok(None) => return (count, None, reader.block()),
+            Err(fault) => return (count, Some(fault), reader.block()),
+        }
+    }
+    (100, None, reader.block())
+}

@@ -1,6 +1,0 @@
-use Rattle.std.proofs.Common.{refl, replicate}
-use Rattle.ttx_page.proofs.PageLemmas.{codes_from_test}
-use Rattle.ttx_page.proofs.drop_row.tests.old_page.Goals as goal
-
-pub set_row-requires-clause-codes : goal.set_row-requires-clause-codes
-set_row-requires-clause-codes c = codes_from_test (replicate 40 0x3F) refl
