@@ -27,8 +27,8 @@ use Rattle.sub_check.specs.Transmission.{SentFrame, Transmission}
 use Rattle.sub_check.specs.declared.checker.Accepted.{Accepted}
 use Rattle.sub_check.specs.declared.fault.CheckFault.{CheckFault}
 use Rattle.sub_check.specs.declared.fault.CheckFault.TheVariants as fault
-use Rattle.sub_check.proofs.GoodLemmas.{Good-from_frames, GoodFrames-from_good, first-same}
-use Rattle.sub_check.proofs.GoodLemmas.{last-same, whole-is}
+use Rattle.sub_check.proofs.GoodLemmas.{Good-from_frames, first-same, last-same, whole-is}
+use Rattle.sub_check.proofs.PlacesOfGood.{GoodFrames-from_good}
 use Rattle.sub_check.proofs.PesReadingLemmas.{reads-below}
 use Rattle.sub_check.proofs.PlaceLemmas.{Good-from_holds, refuted}
 

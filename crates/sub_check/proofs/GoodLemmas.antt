@@ -1,17 +1,14 @@
--- A transmission that is good by places is good, and the other way round: `Good-from_frames`,
--- `GoodFrames-from_good`.
+-- A transmission that is good by places is good: `Good-from_frames`.
 use Rattle.std.proofs.Common.{◌≡◌, ℕ, zero, suc, ◌+◌, ◌-◌, ◌<◌, ◌≤◌, inl, inr, Bool, true, false}
 use Rattle.std.proofs.Common.{cond, ◌&&◌, ◌||◌, nat_le, nat_lt, List, [], ◌∷◌, ◌++◌, Option, Some}
-use Rattle.std.proofs.Common.{None, filter, length, take, drop, get_or, All, refl, sym, ap}
-use Rattle.std.proofs.Common.{◌∙◌, subst, arith, IsTrue, IfSome, ◌⊎◌}
+use Rattle.std.proofs.Common.{None, filter, length, take, drop, get_or, All, refl, sym, ap, ◌∙◌}
+use Rattle.std.proofs.Common.{subst, arith, IsTrue, IfSome}
 use Rattle.std.specs.List.{AllByRecursion, flat_map, list_any}
 use Rattle.std.proofs.lemmas.List.{take_all, take-append-le}
-use Rattle.std.proofs.lemmas.List.Elements.{All-from_recursion, recursion_from_All}
-use Rattle.std.proofs.lemmas.Option.{none-some, same_Some}
-use Rattle.std.proofs.lemmas.Bool.{cases_eq, and_parts, leb-true, ltb-true, cases_lt, lt-ltb}
-use Rattle.std.proofs.lemmas.Bool.{le-ltb, le-leb, lt-leb, and_right, or_right}
-use Rattle.sub_check.specs.FrameRules.{HasHeader, Unread, task_of, watched_of, frame_at, packets_at}
-use Rattle.sub_check.specs.FrameRules.{joined, end_frame}
+use Rattle.std.proofs.lemmas.List.Elements.{All-from_recursion}
+use Rattle.std.proofs.lemmas.Bool.{cases_lt, lt-ltb, le-ltb, le-leb, lt-leb, and_right, or_right}
+use Rattle.sub_check.specs.FrameRules.{Unread, task_of, watched_of, frame_at, packets_at, joined}
+use Rattle.sub_check.specs.FrameRules.{end_frame}
 use Rattle.ttx_packet.specs.PageHeader.{HasExactWords, header, c11}
 use Rattle.ttx_packet.specs.RowPacket.{HasOddText}
 use Rattle.ttx_packet.specs.declared.header.Header.{Header}
@@ -80,6 +77,10 @@ last-same (s ∷ []) = refl
 last-same (s ∷ u ∷ us) = last-same (u ∷ us)
     ∙ let e : suc (suc (length us) - 1) ≡ suc (suc (length us)) - 1 = omega arith in
     ap (frame_at (s ∷ u ∷ us)) e
+
+-- What is on air from the first frame up to a frame, in both wordings.
+pub air-both : (t : Transmission) (f : ℕ) → on_air t (first_frame t) 0 f ≡ air t (frame_at t 0) 0 f
+air-both t f = ap (λ x. on_air t x 0 f) (first-same t) ∙ air-same t (frame_at t 0) 0 f
 
 -- ---- each packet
 
@@ -152,7 +153,7 @@ any_sent w (s ∷ ss) (suc j) n l e h =
 -- ---- spans cut short
 
 -- A list joined to another, cut after its end.
-take-over : (xs ys : List (List ℕ)) (n : ℕ) → length xs ≤ n
+pub take-over : (xs ys : List (List ℕ)) (n : ℕ) → length xs ≤ n
     → take n (xs ++ ys) ≡ xs ++ take (n - length xs) ys
 take-over [] ys n h = ap (λ k. take k ys) (omega arith)
 take-over (x ∷ xs) ys zero h = absurd (omega arith)
@@ -260,10 +261,6 @@ module _ (programme : ProgrammeValue) (options : OptionsValue) (unread : Option 
     ]
   ]
 
-  -- What is on air up to a frame, in both wordings.
-  air-both : (f : ℕ) → on_air t (first_frame t) 0 f ≡ air t (frame_at t 0) 0 f
-  air-both f = ap (λ x. on_air t x 0 f) (first-same t) ∙ air-same t (frame_at t 0) 0 f
-
   -- So spans are clean.
   spans_of : (f n : ℕ) → f ≤ last_frame t
       → IsCleanSpan options.page (span (kind options.page) (take n (on_air t (first_frame t) 0 f)))
@@ -272,7 +269,7 @@ module _ (programme : ProgrammeValue) (options : OptionsValue) (unread : Option 
       let on = joined_at f (omega arith) in
       clean_span (watched_of programme options) _
       (subst (λ xs. IsFair (watched_of programme options)
-      (span (kind options.page) (take n xs))) (sym (air-both f ∙ on.2))
+      (span (kind options.page) (take n xs))) (sym (air-both t f ∙ on.2))
       (cut_fair on.0 on.1 n))
 
   -- A header comes in each so many frames.
@@ -334,203 +331,6 @@ module _ (programme : ProgrammeValue) (options : OptionsValue) (unread : Option 
         h.starts;
     repeats = repeats_of;
     content = λ f row column low high is. let first = first-same t in let last = last-same t in
-        ap (λ xs. shown options.page xs row column) (air-both f)
+        ap (λ xs. shown options.page xs row column) (air-both t f)
         ∙ h.shows f row column (omega arith) (omega arith) is;
-  }
-
--- ---- and back
-
--- What holds of two lists holds of both, joined.
-Each-append : (P : List ℕ → Type 0) (xs ys : List (List ℕ)) → AllByRecursion P xs
-    → AllByRecursion P ys → AllByRecursion P (xs ++ ys)
-Each-append P [] ys h k = k
-Each-append P (x ∷ xs) ys h k = (h.0, Each-append P xs ys h.1 k)
-
--- What holds of the packets of each frame holds of all packets.
-parts_back : (P : List ℕ → Type 0) (t : Transmission)
-    → AllByRecursion (λ (x : SentFrame). All P x.packets) t
-    → AllByRecursion P (flat_map (λ (s : SentFrame). s.packets) t)
-parts_back P [] h = tt
-parts_back P (s ∷ ss) h =
-    Each-append P s.packets (flat_map (λ (x : SentFrame). x.packets) ss)
-    (recursion_from_All P s.packets h.0) (parts_back P ss h.1)
-
--- What holds of each packet of the transmission holds of all packets.
-packet_each : (P : List ℕ → Type 0) (t : Transmission) → EachPacket P t → AllByRecursion P (whole t)
-packet_each P t h =
-    subst (AllByRecursion P) (sym (whole-is t))
-    (parts_back P t (recursion_from_All (λ (x : SentFrame). All P x.packets) t h))
-
--- An item of two lists joined is one of the first or of the second.
-any-split : {X : Type 0} (f : X → Bool) (xs ys : List X) → list_any f (xs ++ ys) ≡ true
-    → (list_any f xs ≡ true) ⊎ (list_any f ys ≡ true)
-any-split f [] ys e = inr e
-any-split f (x ∷ xs) ys e = go (f x) e (any-split f xs ys)
-  where
-    go : (b : Bool) → (b || list_any f (xs ++ ys)) ≡ true
-        → (list_any f (xs ++ ys) ≡ true → (list_any f xs ≡ true) ⊎ (list_any f ys ≡ true))
-        → ((b || list_any f xs) ≡ true) ⊎ (list_any f ys ≡ true)
-    go true d ih = inl refl
-    go false d ih = ih d
-
--- A header in a frame of the day is one in a frame of the list.
-sent_any : (w : Watched) (t : Transmission) (n : ℕ)
-    → holds_header (kind w.page) (packets_of t n) ≡ true
-    → (j : ℕ) × (j < length t) × (frame_at t j ≡ n) ×
-    (holds_header (kind w.page) (packets_at t j) ≡ true)
-sent_any w [] n e = cc
-sent_any w (s ∷ ss) n e =
-    let later : (holds_header (kind w.page) (packets_of ss n) ≡ true)
-    → (j : ℕ) × (j < length (s ∷ ss)) × (frame_at (s ∷ ss) j ≡ n) ×
-    (holds_header (kind w.page) (packets_at (s ∷ ss) j) ≡ true) =
-    λ d. (let r = sent_any w ss n d in (suc r.0, omega (arith, r.1), r.2, r.3)) in
-    go (nat_le n s.frame && nat_lt s.frame (n + 1)) refl e later
-  where
-    go : (b : Bool) → (nat_le n s.frame && nat_lt s.frame (n + 1)) ≡ b
-        → list_any (λ x. is_this_page (kind w.page x)) (cond b s.packets [] ++ packets_of ss n) ≡
-        true
-        → (holds_header (kind w.page) (packets_of ss n) ≡ true
-        → (j : ℕ) × (j < length (s ∷ ss)) × (frame_at (s ∷ ss) j ≡ n) ×
-        (holds_header (kind w.page) (packets_at (s ∷ ss) j) ≡ true))
-        → (j : ℕ) × (j < length (s ∷ ss)) × (frame_at (s ∷ ss) j ≡ n) ×
-        (holds_header (kind w.page) (packets_at (s ∷ ss) j) ≡ true)
-    go true p d later =
-        elim (any-split (λ x. is_this_page (kind w.page x)) s.packets (packets_of ss n) d) [
-          | inl here ↦
-              let parts = and_parts (nat_le n s.frame) (nat_lt s.frame (n + 1)) p in
-              let low = leb-true n s.frame parts.0 in
-              let high = ltb-true s.frame (n + 1) parts.1 in
-              (0, omega arith, omega arith, here)
-          | inr there ↦ later there
-        ]
-    go false p d later = later d
-
--- The same of the value of an option, the other way round.
-some_if : (o : Option ℕ) (P : ℕ → Type 0) → IfSome o P → (x : ℕ) → o ≡ Some x → P x
-some_if None P h x e = absurd (none-some x e)
-some_if (Some y) P h x e = subst P (same_Some y x e) h
-
--- A clean span is fair.
-fair_back : (w : Watched) (rows : List (List ℕ)) → IsCleanSpan w.page rows → IsFair w rows
-fair_back w rows h = record {
-  odd = recursion_from_All (λ p. (row : ℕ) → kind w.page p ≡ Row row → HasOddText p) rows h.odd;
-  same = Each-map
-      (λ first. All
-      (λ second. (row : ℕ) → kind w.page first ≡ Row row → kind w.page second ≡ Row row
-      → first ≡ second) rows)
-      (λ p. AllByRecursion
-      (λ q. (row : ℕ) → kind w.page q ≡ Row row → kind w.page p ≡ Row row → q ≡ p)
-      rows)
-      (λ p a. Each-map
-      (λ second. (row : ℕ) → kind w.page p ≡ Row row → kind w.page second ≡ Row row
-      → p ≡ second)
-      (λ q. (row : ℕ) → kind w.page q ≡ Row row → kind w.page p ≡ Row row → q ≡ p)
-      (λ q b row kq kp. sym (b row kp kq)) rows
-      (recursion_from_All
-      (λ second. (row : ℕ) → kind w.page p ≡ Row row
-      → kind w.page second ≡ Row row → p ≡ second) rows a)) rows
-      (recursion_from_All
-      (λ first. All
-      (λ second. (row : ℕ) → kind w.page first ≡ Row row → kind w.page second ≡ Row row
-      → first ≡ second) rows) rows h.same);
-  plain = recursion_from_All (λ p. IsEnhancement w.page p → ⊥) rows h.plain;
-}
-
-module _ (programme : ProgrammeValue) (options : OptionsValue) (t : Transmission)
-    (h : Good programme t options) where
-  -- There is a frame.
-  some_back : 0 < length t
-  some_back = h.not_empty
-
-  -- Each frame is after the one before.
-  rising_back : (i : ℕ) → 0 < i → i < length t → frame_at t (i - 1) < frame_at t i
-  rising_back i a l =
-      let nothing : SentFrame = record { frame = 0; packets = [] } in
-      let r = h.rising (i - 1) i nothing (omega arith) (omega arith) in
-      let x = number_at t (i - 1) nothing (omega arith) in
-      let y = number_at t i nothing l in omega arith
-
-  -- What is on air up to a frame, in both wordings.
-  air-back : (f : ℕ) → on_air t (first_frame t) 0 f ≡ air t (frame_at t 0) 0 f
-  air-back f = ap (λ x. on_air t x 0 f) (first-same t) ∙ air-same t (frame_at t 0) 0 f
-
-  -- At each packet the span is fair.
-  fair_at : (i k : ℕ) → i < length t → k ≤ length (packets_at t i)
-      → IsFair (watched_of programme options)
-      (span (kind options.page) (joined t i ++ take k (packets_at t i)))
-  fair_at i k l m =
-      let f : ℕ = frame_at t i in
-      let n : ℕ = length (joined t i) + k in
-      let last = last-same t in
-      let within = rises_to t rising_back i (length t - 1) (omega arith) (omega arith) in
-      let back : frame_at t (i + 1 - 1) ≡ frame_at t i = ap (frame_at t) (omega arith) in
-      let on : air t (frame_at t 0) 0 f ≡ joined t (i + 1) =
-      air_is t rising_back (i + 1) f (omega arith) (omega arith) (omega arith)
-      (λ z. rises_strictly t rising_back i (i + 1) (omega arith) z) in
-      let cut : take n (joined t i ++ packets_at t i) ≡ joined t i ++ take k (packets_at t i) =
-      take-over (joined t i) (packets_at t i) n (omega arith)
-      ∙ ap (λ x. joined t i ++ take x (packets_at t i)) (omega arith) in
-      fair_back (watched_of programme options) _
-      (subst (λ xs. IsCleanSpan options.page (span (kind options.page) xs))
-      (ap (take n) (air-back f ∙ on ∙ joined_more t i l) ∙ cut) (h.spans f n (omega arith)))
-
-  -- The first frame has a header of the page.
-  starts_back : HasHeader (task_of programme options None) t 0
-  starts_back =
-      let r = sent_any (watched_of programme options) t (first_frame t) h.opens in
-      let first = first-same t in
-      elim (cases_eq r.0 0) [
-        | inl e ↦ subst (λ j. HasHeader (task_of programme options None) t j) e r.3
-        | inr other ↦ let s = rises_strictly t rising_back 0 r.0 (omega arith) r.1 in
-            absurd (omega (arith, r.2))
-      ]
-
-  -- A header comes in each so many frames.
-  repeats_back : (a : ℕ) → frame_at t 0 ≤ a → a + options.every ≤ end_frame t + 1
-      → (j : ℕ) × (j < length t) × (a ≤ frame_at t j) × (frame_at t j < a + options.every) ×
-      HasHeader (task_of programme options None) t j
-  repeats_back a low high =
-      let first = first-same t in
-      let last = last-same t in
-      let r = h.repeats a (omega arith) (omega arith) in
-      let s = sent_any (watched_of programme options) t r.0 r.3 in
-      (s.0, s.1, omega (arith, s.2, r.1), omega (arith, s.2, r.2), s.3)
-
-  -- A good transmission is good by places.
-  pub GoodFrames-from_good : GoodFrames (task_of programme options None) t
-  GoodFrames-from_good = record {
-    complete = refl;
-    rising = rising_back;
-    some = some_back;
-    begins = λ x e. let first = first-same t in
-        let b = some_if (first_in programme.records) (λ frame. first_frame t ≤ frame) h.starts x e
-        in omega arith;
-    ends = λ x e. let last = last-same t in
-        let b = some_if (last_out programme.records) (λ frame. frame ≤ last_frame t) h.lasts x e in
-        omega arith;
-    exact = packet_each HasExactWords t h.exact;
-    serial = Each-map
-        (λ one. EachPacket
-        (λ other. (a b : Header) → header one ≡ Some a → header other ≡ Some b
-        → (c11 a) ≡ (c11 b)) t)
-        (λ p. AllByRecursion
-        (λ q. (a b : Header) → header p ≡ Some a → header q ≡ Some b
-        → (c11 a) ≡ (c11 b)) (whole t))
-        (λ p a. packet_each
-        (λ q. (a b : Header) → header p ≡ Some a → header q ≡ Some b
-        → (c11 a) ≡ (c11 b)) t a) (whole t)
-        (packet_each
-        (λ one. EachPacket
-        (λ other. (a b : Header) → header one ≡ Some a → header other ≡ Some b
-        → (c11 a) ≡ (c11 b)) t) t h.serial);
-    headers =
-        packet_each
-        (λ p. (x : Header) → kind options.page p ≡ ThisPage x
-        → IsSubtitleHeader programme.national x) t h.control;
-    fair = fair_at;
-    starts = starts_back;
-    repeats = repeats_back;
-    shows = λ f row column low high is. let first = first-same t in let last = last-same t in
-        ap (λ xs. shown options.page xs row column) (sym (air-back f))
-        ∙ h.content f row column (omega arith) (omega arith) is;
   }

@@ -21,6 +21,7 @@ pub mod GoodByPlace
 pub mod PrefixLemmas
 pub mod PlaceLemmas
 pub mod GoodLemmas
+pub mod PlacesOfGood
 pub mod PesReadingLemmas
 pub mod JudgeLemmas
 pub mod CheckLemmas
