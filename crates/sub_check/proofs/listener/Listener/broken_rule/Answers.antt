@@ -10,9 +10,13 @@ use Rattle.sub_check.proofs.PacketRuleLemmas.{clean_from, control_free, parity_f
 use Rattle.sub_check.proofs.PacketRuleLemmas.{enhancement_free, rows_unsent, rows_equal, rows_other}
 use Rattle.sub_check.proofs.PacketRuleLemmas.{mode_free, mode_broken, first_mode, first_control}
 use Rattle.sub_check.proofs.PacketRuleLemmas.{first_row, first_changed}
-use Rattle.sub_check.proofs.listener.Listener.broken_rule.Goals.{else-self-at-via-then-self-at+else-not-holds_row}
+use Rattle.sub_check.proofs.listener.Listener.broken_rule.Goals.{
+  else-self-at-via-then-self-at+else-not-holds_row,
+}
 use Rattle.sub_check.proofs.listener.Listener.broken_rule.Goals.{else-self-at-via-else-self-at}
-use Rattle.sub_check.proofs.listener.Listener.broken_rule.Goals.{else-self-via-then-self+else-is_enhancement}
+use Rattle.sub_check.proofs.listener.Listener.broken_rule.Goals.{
+  else-self-via-then-self+else-is_enhancement,
+}
 use Rattle.sub_check.proofs.listener.Listener.broken_rule.Goals.{else-self-via-else-self}
 use Rattle.sub_check.proofs.listener.Listener.broken_rule.Goals as goal
 
@@ -29,7 +33,8 @@ pub returns-then-is_subtitle_header : goal.returns-then-is_subtitle_header
 returns-then-is_subtitle_header c heard known =
     let w = c.args.self.now.watched in
     let p = c.args.packet.now in
-    let k : kind w.page p ≡ ThisPage c.in-ThisPage.header = sym c.requires.kind ∙ c.in-ThisPage.is in
+    let k : kind w.page p ≡ ThisPage c.in-ThisPage.header =
+    sym c.requires.kind ∙ c.in-ThisPage.is in
     clean_from w heard p (c.is_clean_address.ensures.0 c.if-not-is_clean_address.false)
     (c.has_exact_codes.ensures.0 c.if-not-has_exact_codes.false)
     (mode_free _ w heard p known.serial_is (c.has_mode.ensures.0 c.if-not-has_mode.false))
@@ -42,7 +47,8 @@ pub returns-else-is_subtitle_header : goal.returns-else-is_subtitle_header
 returns-else-is_subtitle_header c heard known =
     let w = c.args.self.now.watched in
     let p = c.args.packet.now in
-    let k : kind w.page p ≡ ThisPage c.in-ThisPage.header = sym c.requires.kind ∙ c.in-ThisPage.is in
+    let k : kind w.page p ≡ ThisPage c.in-ThisPage.header =
+    sym c.requires.kind ∙ c.in-ThisPage.is in
     first_control w heard p (c.is_clean_address.ensures.0 c.if-not-is_clean_address.false)
     (c.has_exact_codes.ensures.0 c.if-not-has_exact_codes.false)
     (mode_free _ w heard p known.serial_is (c.has_mode.ensures.0 c.if-not-has_mode.false))

@@ -18,7 +18,8 @@ pub returns-in-ThisPage-clause-knows : goal.returns-in-ThisPage-clause-knows
 returns-in-ThisPage-clause-knows c heard known clean =
     let w = c.args.self.now.watched in
     let p = c.args.packet.now in
-    let k : kind w.page p ≡ ThisPage c.in-ThisPage.field-0 = sym c.requires.kind ∙ c.in-ThisPage.is in
+    let k : kind w.page p ≡ ThisPage c.in-ThisPage.field-0 =
+    sym c.requires.kind ∙ c.in-ThisPage.is in
     subst (Knows (heard ++ p ∷ [])) (sym c.start.ensures) (record {
       serial_is = c.first_serial-self.ensures
           ∙ serial_more c.args.self.now.serial heard p known.serial_is;
