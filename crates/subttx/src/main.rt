@@ -34,9 +34,12 @@ fn main(rt: HostRuntime) -> ExitCode {
     ExitCode::from(run(&rt).code())
 }
 
+// Bytes of each buffer: what a system call reads or writes at once.
+const BUFFER: usize = 0x1_0000;
+
 // Runs the program over standard output, which gets what is printed through one buffer.
 fn run<R: AllocGlobal + Env + Files + Print>(rt: &R) -> Status {
-    let Ok(mut buffer) = BufWriter::new(rt.alloc(), io::writer(rt)) else {
+    let Ok(mut buffer) = BufWriter::with_capacity(rt.alloc(), BUFFER, io::writer(rt)) else {
         return answer::say(&UsageFault::Memory, &mut IntoWrite::new(io::writer(rt)));
     };
     let status = answer_words(rt, &mut IntoWrite::new(&mut buffer));
@@ -103,7 +106,7 @@ fn open_input<R: AllocGlobal + Files>(
     let Ok(file) = fs::open(rt, name) else {
         return Err(UsageFault::Open);
     };
-    match BufReader::new(rt.alloc(), file) {
+    match BufReader::with_capacity(rt.alloc(), BUFFER, file) {
         Ok(reader) => Ok(FromRead::new(reader)),
         Err(_) => Err(UsageFault::Memory),
     }
@@ -128,7 +131,7 @@ fn create_output<R: AllocGlobal + Files>(
     let Ok(file) = fs::create(rt, name) else {
         return Err(UsageFault::Open);
     };
-    match BufWriter::new(rt.alloc(), file) {
+    match BufWriter::with_capacity(rt.alloc(), BUFFER, file) {
         Ok(writer) => Ok(IntoWrite::new(writer)),
         Err(_) => Err(UsageFault::Memory),
     }
