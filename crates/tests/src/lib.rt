@@ -1,7 +1,6 @@
-//! Tests over several crates, and values from outside programs. Nothing here is part of the
-//! product.
+//! Tests of the libraries, and values from outside programs. Nothing here is part of the product.
 //!
-//! The libraries keep no tests of their own: a crate that has some is proved twice.
+//! The libraries keep no tests of their own, since a crate that has some is proved twice.
 #![tactic(auto)]
 
 #[cfg(test)]
