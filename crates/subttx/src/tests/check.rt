@@ -1,6 +1,6 @@
 //! `check`: verdicts on subtitle files and PES files.
 mod cut;
-mod devices;
+pub mod devices;
 mod failing;
 pub mod makers;
 mod many;

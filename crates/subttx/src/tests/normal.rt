@@ -2,19 +2,33 @@
 //! fails.
 ghost use Rattle.std.specs.Prelude.{◌<◌};
 
+use super::check::devices::{Drip, Endless};
 use super::watched::Watched;
 use crate::answer::normal::write_normal;
 use crate::status::Status;
 use std::alloc::Global;
 use std::process::Abort;
-use sub_io::{FailAt, Failed, MemSink, MemSource, Sink, Source};
+use sub_io::{FailAt, MemSink, MemSource, Sink, Source};
 
 // The head of a TTI block: group 0, subtitle 1, from 10:00:00:00 to 10:00:02:00, row 22, centred.
 const HEAD: [u8; 16] = [0, 1, 0, 0, 0, 10, 0, 0, 0, 10, 0, 2, 0, 22, 2, 0];
 
-// Puts a TTI block with a text field of one byte, as the block of this number from 0 on.
+// The counts TNB and TNS are not looked at.
+const NO_COUNTS: &[u8; 10] = b"          ";
+
+// Puts DFC, DSC and CCT of a GSI block, and the counts TNB and TNS.
+fn put_gsi(file: &mut [u8], counts: &[u8; 10]) {
+    if let Some(fields) = file.get_mut(3..14) {
+        fields.copy_from_slice(b"STL25.01100");
+    }
+    if let Some(fields) = file.get_mut(238..248) {
+        fields.copy_from_slice(counts);
+    }
+}
+
+// Puts a TTI block with a text field of one byte, as the block of this number from 0 to 9.
 fn put_block(file: &mut [u8], number: usize, ebn: u8, cf: u8, text: u8) {
-    let Some(block) = file.get_mut(1024 + 128 * number.min(3)..) else {
+    let Some(block) = file.get_mut(1024 + 128 * number.min(9)..) else {
         return;
     };
     for (place, byte) in block.iter_mut().take(128).enumerate() {
@@ -29,8 +43,7 @@ fn put_block(file: &mut [u8], number: usize, ebn: u8, cf: u8, text: u8) {
 // A GSI block, a comment, user data, and a subtitle of two blocks.
 fn commented() -> [u8; 1536] {
     let mut file = [0x20; 1536];
-    file[3..11].copy_from_slice(b"STL25.01");
-    file[11..14].copy_from_slice(b"100");
+    put_gsi(&mut file, NO_COUNTS);
     put_block(&mut file, 0, 0xFF, 1, 0x43);
     put_block(&mut file, 1, 0xFE, 0, 0x55);
     put_block(&mut file, 2, 0x00, 0, 0x41);
@@ -41,24 +54,35 @@ fn commented() -> [u8; 1536] {
 // The normal form of that: two blocks, and the counts TNB and TNS.
 fn normal_form() -> [u8; 1280] {
     let mut want = [0x20; 1280];
-    want[3..11].copy_from_slice(b"STL25.01");
-    want[11..14].copy_from_slice(b"100");
-    want[238..248].copy_from_slice(b"0000200001");
+    put_gsi(&mut want, b"0000200001");
     put_block(&mut want, 0, 0x00, 0, 0x41);
     put_block(&mut want, 1, 0xFF, 0, 0x42);
     want
 }
 
-// Asserts that a file is refused by this line, and that nothing is written.
-fn assert_refuses(rt: &(impl Abort + Alloc<A = Global>), input: &[u8], line: &[u8]) {
+// Asserts the line that is printed of a source, and how many bytes are written: none where it is
+// refused.
+fn assert_writes<S: Source>(
+    rt: &(impl Abort + Alloc<A = Global>),
+    input: &mut S,
+    line: &[u8],
+    len: usize,
+)
+    requires { S.failure_count input.old < u64.MAX }
+{
     let mut room = [0; 1536];
     let mut file = MemSink::new(&mut room);
     let mut text = [0; 64];
     let mut out = MemSink::new(&mut text);
-    let status = write_normal(rt.alloc(), &mut MemSource::new(input), &mut file, &mut out);
-    assert_eq!(rt; status, Status::Refused);
+    let status = write_normal(rt.alloc(), input, &mut file, &mut out);
     assert!(rt; out.written() == line);
-    assert_eq!(rt; file.written().len(), 0);
+    assert_eq!(rt; file.written().len(), len);
+    let want = if len == 0 {
+        Status::Refused
+    } else {
+        Status::Done
+    };
+    assert_eq!(rt; status, want);
 }
 
 #[test]
@@ -99,22 +123,51 @@ fn refuses_files_at_the_first_fault(rt: HostRuntime) {
         let mut input = commented();
         assert!(rt; place < 1536);
         input[place] = value;
-        assert_refuses(&rt, &input, line);
+        assert_writes(&rt, &mut MemSource::new(&input), line, 0);
     }
 }
 
+#[rattlefmt::skip]
 #[test]
-fn refuses_other_formats_and_cut_files(rt: HostRuntime) {
+fn answers_files_of_each_length(rt: HostRuntime) {
     let mut input = commented();
-    for (len, line) in [
-        (1023usize, b"refused 10 Truncated block 0\n"),
-        (1151, b"refused 10 Truncated block 1\n"),
+    // the first length and the one behind the last, the line, how many bytes are written
+    for (begin, end, line, written) in [
+        (0, 1024, &b"refused 10 Truncated block 0\n"[..], 0),
+        (1024, 1025, b"written 0 subtitles\n", 1024),
+        (1025, 1152, b"refused 10 Truncated block 1\n", 0),
+        (1152, 1153, b"written 0 subtitles\n", 1024), // a comment
+        (1153, 1280, b"refused 10 Truncated block 2\n", 0),
+        (1280, 1281, b"written 0 subtitles\n", 1024), // and user data
+        (1281, 1408, b"refused 10 Truncated block 3\n", 0),
+        (1408, 1409, b"refused 24 Unfinished block 3\n", 0),
+        (1409, 1536, b"refused 10 Truncated block 4\n", 0),
+        (1536, 1537, b"written 1 subtitles\n", 1280),
     ] {
-        assert!(rt; len <= 1536);
-        assert_refuses(&rt, &input[..len], line);
+        for len in begin..end {
+            assert!(rt; len <= input.len());
+            assert_writes(&rt, &mut MemSource::new(&input[..len]), line, written);
+        }
     }
     input[3..11].copy_from_slice(b"STL30.01");
-    assert_refuses(&rt, &input, b"refused 12 Rate block 0\n");
+    assert_writes(&rt, &mut MemSource::new(&input), b"refused 12 Rate block 0\n", 0);
+}
+
+#[test]
+fn refuses_too_many_blocks(rt: HostRuntime) {
+    // of one subtitle
+    let mut long = [0x20; 2304];
+    put_gsi(&mut long, NO_COUNTS);
+    for number in 0..10 {
+        put_block(&mut long, number, 0, 0, 0x41);
+    }
+    let line = b"refused 23 TooLong block 10\n";
+    assert_writes(&rt, &mut MemSource::new(&long), line, 0);
+    // of a file: comments without end
+    let mut gsi = [0x20; 1024];
+    put_gsi(&mut gsi, NO_COUNTS);
+    let line = b"refused 25 TooManyBlocks block 100000\n";
+    assert_writes(&rt, &mut Endless::new(&gsi, &[1; 128]), line, 0);
 }
 
 #[test]
@@ -165,33 +218,6 @@ fn writes_a_prefix_where_a_device_fails(rt: HostRuntime) {
     }
 }
 
-// A source that gives one byte a pull.
-#[derive(Drop)]
-struct Drip<'a> {
-    rest: &'a [u8],
-}
-
-impl Source for Drip<'_> {
-    ghost use Rattle.std.specs.Prelude.{None};
-
-    ghost remaining = { λ _. None };
-
-    ghost failure_count = { λ _. 0 };
-
-    fn pull(&mut self, to: &mut [u8]) -> Result<usize, Failed> {
-        let (Some(first), Some((byte, rest))) = (to.first_mut(), self.rest.split_first()) else {
-            return Ok(0);
-        };
-        *first = *byte;
-        self.rest = rest;
-        Ok(1)
-    }
-
-    fn failures(&self) -> u64 {
-        0
-    }
-}
-
 #[test]
 fn tells_a_failed_read_before_any_refusal(rt: HostRuntime) {
     let mut input = commented();
@@ -205,7 +231,7 @@ fn tells_a_failed_read_before_any_refusal(rt: HostRuntime) {
         (1152, b"fault 26 Read block 2\n"),
         (1536, b"fault 26 Read block 5\n"),
     ] {
-        let mut source = FailAt::new(Drip { rest: &input }, call);
+        let mut source = FailAt::new(Drip::new(&input), call);
         let mut file = MemSink::new(&mut []);
         let mut text = [0; 64];
         let mut out = MemSink::new(&mut text);

@@ -1,11 +1,13 @@
 //! `packets`: what is printed of PES files.
 ghost use Rattle.std.specs.Prelude.{◌<◌};
 
+use super::check::makers::schedule_of_hi;
 use crate::answer::answer;
 use crate::request::Request;
 use crate::status::Status;
 use std::alloc::Global;
 use std::process::Abort;
+use std::test::Fail;
 use sub_io::{FailAt, MemSink, MemSource, Sink, Source};
 
 // A PES packet of page 888 at frame 900,000: its header, row 22 with Hi, and the closing header.
@@ -36,6 +38,20 @@ const HI_LINES: &[u8] = b"pes 0 pts 3240000000\n\
     unit 2 id 03 field 1 line 9 1515eaeaea2fea5e1515\
     2020202020202020202020202020202020202020202020202020202020202020\n";
 
+// What `packets` prints of it and of the closing PES packet behind it.
+const SCHEDULE_LINES: &[u8] = b"pes 0 pts 3240000000\n\
+    unit 0 id 03 field 1 line 7 1515d0d015d015d00215\
+    2020202020202020202020202020202020202020202020202020202020202020\n\
+    unit 1 id 03 field 1 line 8 159b20202020202020202020202020202020\
+    0d0b0bc8e98a8a2020202020202020202020202020202020\n\
+    unit 2 id 03 field 1 line 9 1515eaeaea2fea5e1515\
+    2020202020202020202020202020202020202020202020202020202020202020\n\
+    pes 1 pts 3240180000\n\
+    unit 0 id 03 field 1 line 7 1515d0d015d015d00215\
+    2020202020202020202020202020202020202020202020202020202020202020\n\
+    unit 1 id 03 field 1 line 8 1515eaeaea2fea5e1515\
+    2020202020202020202020202020202020202020202020202020202020202020\n";
+
 // Asserts what `packets` prints of a source, and how it ends.
 fn assert_lists<S: Source + Drop>(
     rt: &(impl Abort + Alloc<A = Global>),
@@ -46,7 +62,7 @@ fn assert_lists<S: Source + Drop>(
 )
     requires { S.failure_count pes < u64.MAX }
 {
-    let mut room = [0u8; 512];
+    let mut room = [0u8; 768];
     let mut out = MemSink::new(&mut room);
     let mut no_room = [0u8; 0];
     let given = answer(
@@ -66,15 +82,8 @@ fn assert_lists<S: Source + Drop>(
 #[test]
 fn lists_pes_packets(rt: HostRuntime) {
     // bytes of a file, the lines before the last, the last, the status
-    let files: [(&[u8], &[u8], &[u8], Status); 4] = [
+    let files: [(&[u8], &[u8], &[u8], Status); 2] = [
         (&HI, HI_LINES, b"1 pes\n", Status::Done),
-        (b"", b"", b"0 pes\n", Status::Done),
-        (
-            &HI[..183],
-            b"",
-            b"refused 30 Truncated pes 0\n",
-            Status::Refused,
-        ),
         (
             b"RIFF....",
             b"",
@@ -85,6 +94,37 @@ fn lists_pes_packets(rt: HostRuntime) {
     for (bytes, first, last, status) in files {
         assert_lists(&rt, MemSource::new(bytes), first, last, status);
     }
+}
+
+#[test]
+fn lists_the_whole_packets_of_a_cut_file(rt: HostRuntime) -> Result<(), Fail> {
+    let pes = schedule_of_hi(rt.alloc(), 250)?;
+    // the first length and the one behind the last, the lines before the last, the last, the status
+    for (begin, end, first, last, status) in [
+        (0, 1, &b""[..], &b"0 pes\n"[..], Status::Done),
+        (
+            1,
+            184,
+            b"",
+            b"refused 30 Truncated pes 0\n",
+            Status::Refused,
+        ),
+        (184, 185, HI_LINES, b"1 pes\n", Status::Done),
+        (
+            185,
+            368,
+            HI_LINES,
+            b"refused 30 Truncated pes 1\n",
+            Status::Refused,
+        ),
+        (368, 369, SCHEDULE_LINES, b"2 pes\n", Status::Done),
+    ] {
+        for len in begin..end {
+            let front = pes.as_slice().get(..len).ok_or("a front")?;
+            assert_lists(&rt, MemSource::new(front), first, last, status);
+        }
+    }
+    Ok(())
 }
 
 #[test]

@@ -1,8 +1,37 @@
 //! The requests that words are read as.
+use super::check::makers::options;
 use crate::flips::Flip;
 use crate::listening::ReceiverKind;
 use crate::request::Request;
+use std::process::Abort;
 use std::test::Fail;
+use stl_rows::National;
+use sub_plan::Options;
+
+// Asserts that a request is the schedule of files a and b with these options.
+fn assert_schedules(
+    rt: &impl Abort,
+    request: &Request<'_>,
+    want: &Options,
+    is_serial: bool,
+    option: National,
+) {
+    match request {
+        Request::Schedule {
+            stl,
+            pes,
+            options,
+            serial,
+            national,
+        } => {
+            assert_eq!(rt; (*stl, *pes), ("a", "b"));
+            assert_eq!(rt; *options, *want);
+            assert_eq!(rt; *serial, is_serial);
+            assert!(rt; *national == option);
+        }
+        _ => panic!(rt; "no schedule"),
+    }
+}
 
 #[test]
 fn reads_the_words_of_files(rt: HostRuntime) -> Result<(), Fail> {
@@ -12,6 +41,27 @@ fn reads_the_words_of_files(rt: HostRuntime) -> Result<(), Fail> {
         return Err("normal".into());
     };
     assert_eq!(rt; (input, output), ("a", "b"));
+    Ok(())
+}
+
+#[test]
+fn reads_the_words_of_a_schedule(rt: HostRuntime) -> Result<(), Fail> {
+    let alloc = rt.alloc();
+    let defaults: &[&str] = &["subttx", "schedule", "a", "b"];
+    let given: &[&str] = &[
+        "subttx", "schedule", "a", "b", "--serial", "--page", "100", "--every", "25", "--origin",
+        "1", "--option", "german",
+    ];
+    // words, options, serial mode, national option
+    for (words, options, serial, national) in [
+        (defaults, options("888", 250, 0)?, false, National::English),
+        (given, options("100", 25, 1)?, true, National::German),
+    ] {
+        match Request::parse(alloc, words) {
+            Ok(request) => assert_schedules(&rt, &request, &options, serial, national),
+            Err(_) => return Err("a request".into()),
+        }
+    }
     Ok(())
 }
 

@@ -46,12 +46,12 @@ fn block() -> [u8; 128] {
     block
 }
 
-// A GSI block and that TTI block.
-fn hi() -> [u8; 1152] {
+// A GSI block and this TTI block.
+fn file_of_one(block: [u8; 128]) -> [u8; 1152] {
     let mut file = [0x20; 1152];
     file[3..11].copy_from_slice(b"STL25.01");
     file[11..14].copy_from_slice(b"100");
-    file[1024..].copy_from_slice(&block());
+    file[1024..].copy_from_slice(&block);
     file
 }
 
@@ -123,18 +123,15 @@ fn answer_of<S: Source, F: Flush, K: Sink>(
     Some(status)
 }
 
-// Asserts what is written and printed of a file, and gives the byte that has C11 to C14 of the
-// first header.
-fn assert_answers(rt: &(impl Abort + Alloc<A = Global>), stl: &[u8], case: Case) -> Option<u8> {
-    let mut room = [0; 1000];
-    let mut file = MemSink::new(&mut room);
+// Asserts what is written and printed of a file, which is written into a room.
+fn assert_answers(rt: &(impl Abort + Alloc<A = Global>), stl: &[u8], case: Case, room: &mut [u8]) {
+    let mut file = MemSink::new(room);
     let mut line = [0; 64];
     let mut out = MemSink::new(&mut line);
     let status = answer_of(rt, &mut MemSource::new(stl), case, &mut file, &mut out);
     assert_eq!(rt; status, Some(case.status));
     assert!(rt; out.written() == case.line);
     assert_eq!(rt; file.written().len(), case.len);
-    file.written().get(59).copied()
 }
 
 #[test]
@@ -187,13 +184,37 @@ fn writes_and_refuses_files(rt: HostRuntime) {
     for (first, second, len, case) in cases {
         let file = file_of(first, second);
         assert!(rt; len <= 1280);
-        assert_answers(&rt, &file[..len], case);
+        assert_answers(&rt, &file[..len], case, &mut [0; 1000]);
+    }
+}
+
+#[test]
+fn sends_23_rows_in_one_pes_packet(rt: HostRuntime) {
+    let mut rows = block();
+    rows[13] = 1; // VP
+    for (place, byte) in rows[16..61].iter_mut().enumerate() {
+        *byte = if place % 2 == 0 { 0x41 } else { 0x8A };
+    }
+    let mut room = [0; 1472];
+    let case = written(250, 1472, b"written 2 transmissions\n");
+    assert_answers(&rt, &file_of_one(rows), case, &mut room);
+    assert_eq!(rt; (room[4], room[5]), (0x05, 0x02));
+    // a header, 23 rows and the closing header, on lines 7 to 22 of the first field and 7 to 15 of
+    // the second; two stuffing units
+    for unit in 0..27 {
+        let (id, line) = match unit {
+            0..=15 => (0x03, 0xE7 + unit),
+            16..=24 => (0x03, 0xC7 + unit - 16),
+            _ => (0xFF, 0xFF),
+        };
+        let place = 46 + 46 * usize::from(unit);
+        assert_eq!(rt; (room[place], room[place + 2]), (id, line), "unit {unit}");
     }
 }
 
 #[test]
 fn sets_the_control_bits_of_the_option_and_the_mode(rt: HostRuntime) {
-    let stl = hi();
+    let stl = file_of_one(block());
     // national option, serial, the byte with C11 to C14 of the first header, as it is sent
     for (national, serial, want) in [
         (National::English, false, 0xA8),
@@ -206,13 +227,15 @@ fn sets_the_control_bits_of_the_option_and_the_mode(rt: HostRuntime) {
             serial,
             ..written(250, 368, b"written 2 transmissions\n")
         };
-        assert_eq!(rt; assert_answers(&rt, &stl, case), Some(want));
+        let mut room = [0; 368];
+        assert_answers(&rt, &stl, case, &mut room);
+        assert_eq!(rt; room[59], want);
     }
 }
 
 #[test]
 fn writes_a_prefix_where_a_device_fails(rt: HostRuntime) -> Result<(), Fail> {
-    let stl = hi();
+    let stl = file_of_one(block());
     let line = b"written 2 transmissions\n";
     let case = written(250, 368, line);
     let mut whole = [0; 368];

@@ -90,6 +90,36 @@ fn shows_subtitles_as_far_as_the_first_refusal(rt: HostRuntime) {
 }
 
 #[test]
+fn shows_a_file_of_each_length(rt: HostRuntime) {
+    let good = one_subtitle();
+    let line = b"00001 10:00:00:00 10:00:02:00 vp 22 jc 2 text 0d0b0b48690a0a\n1 subtitles\n";
+    // the first length and the one behind the last, text
+    for (begin, end, want, status) in [
+        (
+            0,
+            1024,
+            &b"refused 10 Truncated block 0\n"[..],
+            Status::Refused,
+        ),
+        (1024, 1025, b"0 subtitles\n", Status::Done),
+        (
+            1025,
+            1152,
+            b"refused 10 Truncated block 1\n",
+            Status::Refused,
+        ),
+        (1152, 1153, line, Status::Done),
+    ] {
+        for len in begin..end {
+            assert!(rt; len <= good.len());
+            let mut room = [0; 128];
+            let source = &mut MemSource::new(&good[..len]);
+            assert_shows_into(&rt, &mut room, source, want, status);
+        }
+    }
+}
+
+#[test]
 fn tells_a_failing_source_by_its_block(rt: HostRuntime) {
     let good = one_subtitle();
     let line =

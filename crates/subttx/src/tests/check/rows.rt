@@ -15,25 +15,21 @@ fn accepts_what_was_scheduled(rt: HostRuntime) -> Result<(), Fail> {
     let hi = hi(alloc)?;
     let no_cells = file_of(alloc, 22, &[])?;
     let rows = file_of(alloc, 20, &[0x0D, 0x41, 0x8A, 0x8A, 0x0D, 0x42])?;
+    let all_rows = file_of(
+        alloc,
+        1,
+        b"A\x8AA\x8AA\x8AA\x8AA\x8AA\x8AA\x8AA\x8AA\x8AA\x8AA\x8AA\x8A\
+        A\x8AA\x8AA\x8AA\x8AA\x8AA\x8AA\x8AA\x8AA\x8AA\x8AA",
+    )?;
+    let two = "accepted 51 frames 2 transmissions\n";
     // subtitle file, repeat bound, serial mode, bytes of the schedule, line
     for (file, frames, serial, len, want) in [
-        (&hi, 250, false, 368, "accepted 51 frames 2 transmissions\n"),
+        (&hi, 250, false, 368, two),
         (&hi, 25, false, 552, "accepted 51 frames 3 transmissions\n"),
         (&hi, 1, true, 9384, "accepted 51 frames 51 transmissions\n"),
-        (
-            &no_cells,
-            250,
-            false,
-            368,
-            "accepted 51 frames 2 transmissions\n",
-        ),
-        (
-            &rows,
-            250,
-            false,
-            552,
-            "accepted 51 frames 2 transmissions\n",
-        ),
+        (&no_cells, 250, false, 368, two),
+        (&rows, 250, false, 552, two),
+        (&all_rows, 250, false, 1472, two),
     ] {
         let options = every(frames)?;
         let file = file.as_slice();
