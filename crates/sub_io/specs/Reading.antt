@@ -1,8 +1,8 @@
 -- Words that the definitions of all readers share.
 use Rattle.std.specs.Prelude.{◌≡◌, ℕ, ◌<◌, List, Option, Some, Result, Ok, Err, slice_index}
 
--- one step of a reading after another: the first fault ends it
 infixl 10 ◌>>=◌
+-- one step of a reading after another: the first fault ends it
 abbrev pub ◌>>=◌ : {A B E : Type 0} → Result A E → (A → Result B E) → Result B E
 (Ok x) >>= f = f x
 (Err e) >>= f = Err e
