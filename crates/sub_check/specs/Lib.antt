@@ -18,3 +18,4 @@ pub mod PesReading
 pub mod Checking
 pub mod Planned
 pub mod WrongContent
+pub mod CheckedFiles

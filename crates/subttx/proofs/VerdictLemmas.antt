@@ -1,7 +1,7 @@
--- The answer of a check by the clauses of `check_files`, `answered`; where the files are accepted,
+-- The answer of a check by the clause of `check_files`, `answered`; where the files are accepted,
 -- `done-exactly`; where memory was refused, `memory-printed`. All serve `print_verdict`.
-use Rattle.std.proofs.Common.{◌≡◌, ◌≢◌, ◌↔◌, ℕ, ◌^◌, ◌<◌, List, Option, None, Result, Ok, Err}
-use Rattle.std.proofs.Common.{IsOk, IfOk, IfErr, Bool, true, false, refl, arith, ◌+◌, if◌then◌else◌}
+use Rattle.std.proofs.Common.{◌≡◌, ◌≢◌, ◌↔◌, ℕ, ◌^◌, ◌<◌, List, Option, Some, Result, Ok, Err}
+use Rattle.std.proofs.Common.{IsOk, Bool, true, false, refl, arith, ◌+◌, if◌then◌else◌}
 use Rattle.std.specs.Io.KnownBytes.{Appends}
 use Rattle.sub_io.specs.Reading.{IfTold}
 use Rattle.ttx_pes.specs.declared.PesFault.TheVariants as pes_fault
@@ -15,14 +15,11 @@ use Rattle.stl_rows.specs.declared.national.National.{National}
 use Rattle.stl_rows.specs.Loading.{TellsFault, is_read_kind, loaded}
 use Rattle.stl_rows.specs.Programme.{ProgrammeValue}
 use Rattle.sub_plan.specs.Options.{OptionsValue}
-use Rattle.sub_check.specs.Checking.{HasCounts, TellsSubtitles, is_source_failure}
-use Rattle.sub_check.specs.Checking.{is_source_fault, is_subtitle_fault, is_subtitle_refusal}
+use Rattle.sub_check.specs.CheckedFiles.{AreChecked}
+use Rattle.sub_check.specs.Checking.{TellsSubtitles, is_source_failure, is_source_fault}
+use Rattle.sub_check.specs.Checking.{is_subtitle_fault, is_subtitle_refusal}
 use Rattle.sub_check.specs.Checking.{is_subtitle_source_failure, is_subtitle_source_fault}
-use Rattle.sub_check.specs.FirstBroken.{NamesFirst}
-use Rattle.sub_check.specs.FrameRules.{Unread, task_of}
-use Rattle.sub_check.specs.Good.{Good}
-use Rattle.sub_check.specs.PesReading.{LawOfReadings, ReadsAs}
-use Rattle.sub_check.specs.Transmission.{Transmission}
+use Rattle.sub_check.specs.PesReading.{LawOfReadings}
 use Rattle.sub_check.specs.declared.checker.Accepted.{Accepted}
 use Rattle.sub_check.specs.declared.fault.CheckFault.{CheckFault}
 use Rattle.sub_check.specs.declared.fault.CheckFault.TheVariants as fault
@@ -31,44 +28,6 @@ use Rattle.subttx.specs.LoadLines.{load_kind_line, load_status}
 use Rattle.subttx.specs.Verdict.{IsAccepted, IsAnswer}
 use Rattle.subttx.specs.Writing.{PrintsMemory}
 use Rattle.subttx.specs.declared.status.Status.TheVariants.{Done, Fault}
-
--- What `check_files` says of the bytes of a PES file that is checked against a programme: it is
--- accepted exactly where it is good, with its counts, or refused by its first broken place.
-pub record IsChecked
-    (options : OptionsValue) (bytes : List ℕ) (programme : ProgrammeValue)
-    (answer : Result Accepted CheckFault)
-    : Type 0 where
-  pub accepted :
-      is_subtitle_refusal answer ≡ false
-      → is_source_failure answer ≡ false
-      → IsOk answer
-      ↔ ((frames : Transmission)
-      × ReadsAs options.origin 0 bytes frames None
-      × Good programme frames options)
-  pub counts :
-      (frames : Transmission)
-      → ReadsAs options.origin 0 bytes frames None
-      → IfOk answer (HasCounts options.page frames)
-  pub first :
-      (frames : Transmission) (unread : Option Unread)
-      → ReadsAs options.origin 0 bytes frames unread
-      → is_subtitle_refusal answer ≡ false
-      → is_source_failure answer ≡ false
-      → IfErr answer (NamesFirst (task_of programme options unread) frames)
-
--- What it says of both files.
-pub record AreChecked
-    (national : National) (options : OptionsValue) (file bytes : List ℕ)
-    (answer : Result Accepted CheckFault)
-    : Type 0 where
-  pub subtitles : TellsSubtitles national (outcome_of file) answer
-  pub refused :
-      ((programme : ProgrammeValue) → loaded national (outcome_of file) ≢ Ok programme)
-      → is_subtitle_refusal answer ≡ true
-  pub checked :
-      (programme : ProgrammeValue)
-      → loaded national (outcome_of file) ≡ Ok programme
-      → IsChecked options bytes programme answer
 
 -- A file whose PES file was looked at gives a programme. For `answered`.
 has_programme :
@@ -90,11 +49,11 @@ has_programme national outcome answer refused looked = go (loaded national outco
 -- What is accepted. For `answered`.
 accepted_from :
     (national : National) (options : OptionsValue) (file bytes : List ℕ) (a : Accepted)
-    → AreChecked national options file bytes (Ok a)
+    → AreChecked national options file (Some bytes) (Ok a)
     → IsAccepted national options file bytes a
 accepted_from national options file bytes a are =
     let given = has_programme national (outcome_of file) (Ok a) are.refused refl in
-    let checked = are.checked given.0 given.1 in
+    let checked = are.checked given.0 given.1 bytes refl in
     let good = (checked.accepted refl refl).0 refl in
     record {
       programme = given.0;
@@ -105,13 +64,13 @@ accepted_from national options file bytes a are =
       counts = checked.counts good.0 good.1;
     }
 
--- The clauses of `check_files` are those of an answer.
+-- What is told of both files is what an answer tells.
 pub answered :
     (national : National) (options : OptionsValue) (file bytes : List ℕ)
     (answer : Result Accepted CheckFault)
     → options.origin < 2 ^ 33
     → LawOfReadings
-    → AreChecked national options file bytes answer
+    → AreChecked national options file (Some bytes) answer
     → IsAnswer national options file bytes answer
 answered national options file bytes (Ok a) low readings are = record {
   subtitles = are.subtitles;
@@ -128,7 +87,9 @@ answered national options file bytes (Err f) low readings are = record {
         unread = reading.1;
         loads = given.1;
         reads = reading.2;
-        first = (are.checked given.0 given.1).first reading.0 reading.1 reading.2 looked fine;
+        first =
+            (are.checked given.0 given.1 bytes refl).first reading.0 reading.1 reading.2 looked
+            fine;
       };
 }
 
@@ -177,7 +138,7 @@ looked-of_status national outcome programme f is told other = refl
 pub done-exactly :
     (national : National) (options : OptionsValue) (file bytes : List ℕ)
     (answer : Result Accepted CheckFault)
-    → AreChecked national options file bytes answer
+    → AreChecked national options file (Some bytes) answer
     → (verdict answer).status ≢ Fault
     → ((verdict answer).status ≡ Done)
     ↔ ((a : Accepted) × IsAccepted national options file bytes a)
@@ -186,7 +147,7 @@ done-exactly national options file bytes (Ok a) are other =
 done-exactly national options file bytes (Err f) are other = (
   λ done. absurd (check_status-not_done f done),
   λ is.
-      let checked = are.checked is.1.programme is.1.loads in
+      let checked = are.checked is.1.programme is.1.loads bytes refl in
       let looked =
       looked-of_status national (outcome_of file) is.1.programme f is.1.loads are.subtitles
       other in

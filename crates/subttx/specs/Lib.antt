@@ -7,6 +7,7 @@ pub mod LoadLines
 pub mod Listening
 pub mod Writing
 pub mod Answering
+pub mod DeviceCall
 pub mod CheckLines
 pub mod Verdict
 pub mod NormalWriting

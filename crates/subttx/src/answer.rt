@@ -12,28 +12,17 @@ pub mod schedule;
 mod show;
 mod state;
 
-ghost use Rattle.std.specs.Prelude.{◌≡◌, ◌≢◌, ◌↔◌, ◌+◌, ◌<◌, ◌≤◌, Option, Result, false};
-ghost use Rattle.std.specs.Prelude.{if◌then◌else◌, true};
+ghost use Rattle.std.specs.Prelude.{◌≡◌, ◌+◌, ◌<◌, false};
 ghost use Rattle.std.specs.Io.KnownBytes.{Appends};
 ghost use Rattle.sub_io.specs.Device.{AppendsPrefix};
-ghost use Rattle.sub_io.specs.Reading.{IfTold};
-ghost use Rattle.stl_file.specs.Reader.{outcome_of};
-ghost use Rattle.sub_check.specs.Checking.{TellsSubtitles, is_source_failure};
-ghost use Rattle.sub_check.specs.Checking.{is_subtitle_refusal, is_subtitle_source_failure};
-ghost use Rattle.sub_check.specs.FrameRules.{Unread};
-ghost use Rattle.sub_check.specs.PesReading.{ReadsAs};
-ghost use Rattle.sub_check.specs.Transmission.{Transmission};
+ghost use Rattle.subttx.specs.Answering.{AnswersCheck, AnswersListen, AnswersNormal};
+ghost use Rattle.subttx.specs.Answering.{AnswersSchedule};
 ghost use Rattle.subttx.specs.Answering.{ForCheck, ForListen, ForNormal, ForPacket, ForSchedule};
 ghost use Rattle.subttx.specs.Answering.{takes_memory};
-ghost use Rattle.subttx.specs.CheckLines.{verdict};
+ghost use Rattle.subttx.specs.DeviceCall.{sink_call, source_call};
 ghost use Rattle.subttx.specs.Lines.{usage_line};
-ghost use Rattle.subttx.specs.Listing.{CountsFault, Listing, Prints, packet_listing};
-ghost use Rattle.subttx.specs.ListeningRun.{Listens};
-ghost use Rattle.subttx.specs.NormalWriting.{normal_writing};
+ghost use Rattle.subttx.specs.Listing.{CountsFault, Prints, packet_listing};
 ghost use Rattle.subttx.specs.Requests.{names_file, names_first, names_second};
-ghost use Rattle.subttx.specs.Verdict.{IsAccepted, IsAnswer, PrintsOrFails};
-ghost use Rattle.subttx.specs.Writing.{Answers, PrintsMemory, schedule_writing};
-ghost use Rattle.subttx.specs.declared.request.UsageFault.TheVariants.{Memory};
 
 use crate::lines::usage_text;
 use crate::request::{Request, UsageFault};
@@ -46,7 +35,6 @@ use packets::list_packets;
 use schedule::write_schedule;
 use show::list_subtitles;
 use std::alloc::Global;
-use sub_check::{Accepted, CheckFault};
 use sub_io::{Flush, Sink, Source, put_all};
 
 /// Answers a request that `Request::parse` gave.
@@ -73,75 +61,28 @@ pub fn answer<S: Source, T: Source, F: Flush, K: Sink>(
         Prints (K.contents out.old) (K.contents out.new) (packet_listing bytes) result) }
 
     // `normal` writes and prints what the bytes of the input decide.
-    ensures normal { ForNormal request.now (IfTold (S.remaining first.old) (λ bytes. Answers
-        (F.contents file.old) (F.contents file.new) (K.contents out.old) (K.contents out.new)
-        (normal_writing bytes)
-        result)) }
-
-    // Its status is `Fault` only where a device failed, or want of memory is printed.
-    ensures normal_fault { ForNormal request.now (result ≡ Status.Fault
-        → S.failure_count first.new ≡ S.failure_count first.old
-        → F.failure_count file.new ≡ F.failure_count file.old
-        → K.failure_count out.new ≡ K.failure_count out.old
-        → Appends (K.contents out.old) (K.contents out.new) (usage_line Memory)) }
+    ensures normal { ForNormal request.now (AnswersNormal
+        (source_call S.remaining S.failure_count first.old first.new)
+        (sink_call F.contents F.failure_count file.old file.new)
+        (sink_call K.contents K.failure_count out.old out.new) result) }
 
     // `schedule` writes and prints what the bytes of the subtitle file decide.
     ensures schedule { ForSchedule request.now (λ options serial national.
-        IfTold (S.remaining first.old) (λ bytes. Answers
-        (F.contents file.old) (F.contents file.new) (K.contents out.old) (K.contents out.new)
-        (schedule_writing national options serial bytes)
-        result)) }
+        AnswersSchedule national options serial
+        (source_call S.remaining S.failure_count first.old first.new)
+        (sink_call F.contents F.failure_count file.old file.new)
+        (sink_call K.contents K.failure_count out.old out.new) result) }
 
-    // Its status is `Fault` only where a device failed, or want of memory is printed.
-    ensures schedule_fault { ForSchedule request.now (λ options serial national.
-        result ≡ Status.Fault
-        → S.failure_count first.new ≡ S.failure_count first.old
-        → F.failure_count file.new ≡ F.failure_count file.old
-        → K.failure_count out.new ≡ K.failure_count out.old
-        → PrintsMemory national (S.remaining first.old) (K.contents out.old)
-        (K.contents out.new)) }
-
-    // `check` prints one answer. It tells which device failed, and where the files tell their bytes
-    // these decide it. Where it refuses the subtitle file, no PES byte is read.
-    ensures check { ForCheck request.now (λ options national. (answer : Result Accepted CheckFault)
-        × PrintsOrFails (K.failure_count out.old) (K.contents out.old)
-        (K.failure_count out.new) (K.contents out.new) (verdict answer) result
-        × (S.failure_count first.new
-        ≡ S.failure_count first.old + (if is_subtitle_source_failure answer then 1 else 0))
-        × (T.failure_count second.new
-        ≡ T.failure_count second.old + (if is_source_failure answer then 1 else 0))
-        × (is_subtitle_refusal answer ≡ true → second.new ≡ second.old)
-        × IfTold (S.remaining first.old) (λ file.
-        TellsSubtitles national (outcome_of file) answer
-        × IfTold (T.remaining second.old) (λ bytes.
-        IsAnswer national options file bytes answer))) }
-
-    // Failing devices and want of memory aside, its status is `Done` exactly where the PES file is
-    // read to its end as a good transmission of the programme of the subtitle file.
-    ensures check_done { ForCheck request.now (λ options national.
-        IfTold (S.remaining first.old) (λ file. IfTold (T.remaining second.old) (λ bytes.
-        result ≢ Status.Fault
-        → (result ≡ Status.Done)
-        ↔ ((accepted : Accepted) × IsAccepted national options file bytes accepted)))) }
-
-    // Its status is `Fault` only where a device failed, or want of memory is printed.
-    ensures check_fault { ForCheck request.now (λ options national.
-        result ≡ Status.Fault
-        → S.failure_count first.new ≡ S.failure_count first.old
-        → T.failure_count second.new ≡ T.failure_count second.old
-        → K.failure_count out.new ≡ K.failure_count out.old
-        → PrintsMemory national (S.remaining first.old) (K.contents out.old)
-        (K.contents out.new)) }
+    // `check` prints one answer, which the bytes of both files decide.
+    ensures check { ForCheck request.now (λ options national. AnswersCheck national options
+        (source_call S.remaining S.failure_count first.old first.new)
+        (source_call T.remaining T.failure_count second.old second.new)
+        (sink_call K.contents K.failure_count out.old out.new) result) }
 
     // `listen` prints what a receiver shows that heard the frames of the PES file, or the refusal.
-    ensures listen { ForListen request.now (λ listening.
-        (frames : Transmission) (unread : Option Unread)
-        → IfTold (S.remaining first.old) (λ bytes.
-        ReadsAs listening.options.origin 0 bytes frames unread
-        → S.failure_count first.new ≡ S.failure_count first.old
-        → (listing : Listing)
-        × Listens listening frames unread listing
-        × Prints (K.contents out.old) (K.contents out.new) listing result)) }
+    ensures listen { ForListen request.now (λ listening. AnswersListen listening
+        (source_call S.remaining S.failure_count first.old first.new)
+        (sink_call K.contents K.failure_count out.old out.new) result) }
 
     // Devices that are not named stay as they are.
     ensures first { names_first request.now ≡ false → first.new ≡ first.old }

@@ -10,8 +10,10 @@ ghost use Rattle.ttx_pes.specs.declared.progress.Progress.TheVariants.{Reading};
 ghost use Rattle.sub_check.specs.FrameRules.{Unread};
 ghost use Rattle.sub_check.specs.PesReading.{ReadsAs};
 ghost use Rattle.sub_check.specs.Transmission.{Transmission};
-ghost use Rattle.subttx.specs.Listing.{CountsFault, Listing, Prints};
-ghost use Rattle.subttx.specs.ListeningRun.{IsOldPage, Listens, Runs, TellsNext};
+ghost use Rattle.subttx.specs.Answering.{AnswersListen};
+ghost use Rattle.subttx.specs.DeviceCall.{sink_call, source_call};
+ghost use Rattle.subttx.specs.Listing.{CountsFault, Prints};
+ghost use Rattle.subttx.specs.ListeningRun.{IsOldPage, Runs, TellsNext};
 ghost use Rattle.subttx.specs.ListeningRun.{is_source_failure, is_source_fault, listen_fault_line};
 ghost use Rattle.subttx.specs.ListeningRun.{listen_status, lost_header_line};
 
@@ -81,13 +83,9 @@ pub fn print_listening<S: Source, K: Sink>(
     requires out { K.failure_count out.old < u64.MAX }
     // Where the source tells its bytes and does not fail, they are read as frames, and what is
     // printed is the state of a receiver that heard what it gets of them, or the refusal.
-    ensures exact { (frames : Transmission) (unread : Option Unread)
-        → IfTold (S.remaining pes.old) (λ bytes.
-        ReadsAs listening.now.options.origin 0 bytes frames unread
-        → S.failure_count pes.new ≡ S.failure_count pes.old
-        → (listing : Listing)
-        × Listens listening.now frames unread listing
-        × Prints (K.contents out.old) (K.contents out.new) listing result) }
+    ensures exact { AnswersListen listening.now
+        (source_call S.remaining S.failure_count pes.old pes.new)
+        (sink_call K.contents K.failure_count out.old out.new) result }
     ensures first_count { CountsFault (S.failure_count pes.old) result (S.failure_count pes.new) }
     ensures out_count { CountsFault (K.failure_count out.old) result (K.failure_count out.new) }
     ensures fault { result ≡ Status.Fault
@@ -108,13 +106,9 @@ fn listen<R: Receiver + Drop, S: Source, K: Sink>(
 ) -> Status
     requires first { S.failure_count pes.old < u64.MAX }
     requires out { K.failure_count out.old < u64.MAX }
-    ensures exact { (frames : Transmission) (unread : Option Unread)
-        → IfTold (S.remaining pes.old) (λ bytes.
-        ReadsAs listening.now.options.origin 0 bytes frames unread
-        → S.failure_count pes.new ≡ S.failure_count pes.old
-        → (listing : Listing)
-        × Listens listening.now frames unread listing
-        × Prints (K.contents out.old) (K.contents out.new) listing result) }
+    ensures exact { AnswersListen listening.now
+        (source_call S.remaining S.failure_count pes.old pes.new)
+        (sink_call K.contents K.failure_count out.old out.new) result }
     ensures first_count { CountsFault (S.failure_count pes.old) result (S.failure_count pes.new) }
     ensures out_count { CountsFault (K.failure_count out.old) result (K.failure_count out.new) }
     ensures fault { result ≡ Status.Fault

@@ -1,0 +1,38 @@
+-- What the clauses of a command speak of: its devices, each before and after the call.
+use Rattle.std.specs.Prelude.{ℕ, List, Option}
+
+-- A source in a call: as it was and as it is, the bytes that it had left before, where it tells
+-- them, and how often it had failed before and after.
+pub record SourceCall (S : Type 0) : Type 0 where
+  pub old : S
+  pub new : S
+  pub told : Option (List ℕ)
+  pub old_count : ℕ
+  pub new_count : ℕ
+
+-- A sink in a call: the bytes that it had taken before and after, where it tells them, and how often
+-- it had failed.
+pub record SinkCall : Type 0 where
+  pub old : Option (List ℕ)
+  pub new : Option (List ℕ)
+  pub old_count : ℕ
+  pub new_count : ℕ
+
+-- A source in a call, by what is left in such a source and how often it has failed.
+abbrev pub source_call : {S : Type 0} → (S → Option (List ℕ)) → (S → ℕ) → S → S → SourceCall S
+source_call remaining failure_count old new = record {
+  old = old;
+  new = new;
+  told = remaining old;
+  old_count = failure_count old;
+  new_count = failure_count new;
+}
+
+-- A sink in a call, by what such a sink has taken and how often it has failed.
+abbrev pub sink_call : {K : Type 0} → (K → Option (List ℕ)) → (K → ℕ) → K → K → SinkCall
+sink_call contents failure_count old new = record {
+  old = contents old;
+  new = contents new;
+  old_count = failure_count old;
+  new_count = failure_count new;
+}
