@@ -1,11 +1,12 @@
 -- Hamming 8/4: the definition by nearness, the function, and what one wrong bit leaves
 -- (decoded-near).
-use Rattle.std.proofs.Common.{◌≡◌, ◌≢◌, ℕ, ◌^◌, ◌<◌, inl, inr, Bool, true, false, not, cond, ◌==◌, ◌&&◌, ◌||◌, Option, Some, None, bit_xor}
-use Rattle.std.proofs.Common.{◌∙◌, refl, sym, ap, subst, get_or, nat_eq, nat_lt, eqb-true}
+use Rattle.std.proofs.Common.{◌≡◌, ℕ, ◌^◌, ◌<◌, inl, inr, Bool, true, false, not, cond, ◌==◌, ◌||◌, Option, Some, None, bit_xor}
+use Rattle.std.proofs.Common.{◌∙◌, ◌%◌, refl, sym, ap, subst, get_or, nat_eq, nat_lt, eqb-true}
 use Rattle.std.proofs.lemmas.Bool.{agree_below, agree_below_at, or_cases, ltb-true}
+use Rattle.std.proofs.lemmas.Bool.{lt-ltb, not-true, true≢false}
 use Rattle.std.proofs.lemmas.Option.{none-some, same_Some}
 use Rattle.ttx_packet.specs.OneBit.{IsNear, is_near}
-use Rattle.ttx_packet.specs.Hamming84.{IsCodeWord, Decodes, code_word, code_words, decoded}
+use Rattle.ttx_packet.specs.Hamming84.{IsCodeWord, Decodes, code_word, decoded}
 use Rattle.ttx_packet.specs.declared.hamming.TheConstants.{DECODED}
 use Rattle.ttx_packet.proofs.OneBitLemmas.{first_below_is, near_from_test}
 
@@ -77,7 +78,7 @@ code_word_is_exact n l = (n, l, refl)
 
 -- What an entry of the table says.
 abbrev entry : ℕ → Option ℕ
-entry b = cond (nat_eq (get_or DECODED b 0) 255) None (Some (get_or DECODED b 0))
+entry b = cond (nat_eq (get_or DECODED b 0) 255) None (Some (get_or DECODED b 0 % 16))
 
 -- Whether two answers are the same.
 abbrev same_answer : Option ℕ → Option ℕ → Bool
@@ -100,17 +101,24 @@ decoded-by_table b l =
     same_answer-true _ _
     (agree_below_at (λ b. same_answer (decoded b) (entry b)) (λ b. true) 0x100 b refl l)
 
--- An entry that is no number below 16 says that the byte decodes to nothing.
-abbrev is_entry : ℕ → Bool
-is_entry b = nat_lt (get_or DECODED b 0) 16 || nat_eq (get_or DECODED b 0) 255
-
--- A number of the table is below 16.
-pub entry_small : (b : ℕ) → b < 0x100 → get_or DECODED b 0 ≢ 255 → get_or DECODED b 0 < 16
-entry_small b l number =
-    elim (or_cases _ _ (agree_below_at is_entry (λ b. true) 0x100 b refl l)) [
-      | inl small ↦ ltb-true _ _ small
-      | inr nothing ↦ absurd (number (eqb-true _ _ nothing))
+-- An entry below 16 is the number of the code word at its place: 256 cases, computed.
+pub word_from_entry : (b : ℕ) → b < 0x100 → get_or DECODED b 0 < 16 → IsCodeWord b
+word_from_entry b l small =
+    let n = get_or DECODED b 0 in
+    let test : ℕ → Bool = λ b. not (nat_lt (get_or DECODED b 0) 16)
+    || nat_eq b (code_word (get_or DECODED b 0)) in
+    elim (or_cases _ _ (agree_below_at test (λ b. true) 0x100 b refl l)) [
+      | inl large ↦ absurd (true≢false (sym (lt-ltb n 16 small) ∙ not-true (nat_lt n 16) large))
+      | inr same ↦ (n, small, eqb-true _ _ same)
     ]
+
+-- The entry of a code word is below 16: 16 cases, computed.
+pub entry_from_word : (b : ℕ) → IsCodeWord b → get_or DECODED b 0 < 16
+entry_from_word b word =
+    ltb-true _ _
+    (subst (λ b. nat_lt (get_or DECODED b 0) 16 ≡ true) (sym word.2)
+    (agree_below_at (λ n. nat_lt (get_or DECODED (code_word n) 0) 16) (λ n. true) 16 word.0 refl
+    word.1))
 
 -- A byte that decodes to nothing is no code word.
 pub none-code_word : (b : ℕ) → decoded b ≡ None → IsCodeWord b → ⊥

@@ -1,6 +1,6 @@
 -- Page numbers as people write them (EN 300 706, page number): a magazine digit 1 to 8 and two
 -- hexadecimal digits, 100 to 8FE.
-use Rattle.std.specs.Prelude.{ℕ, ◌+◌, ◌-◌, ◌*◌, ◌%◌, Bool, ◌&&◌, ◌||◌, List, [], ◌∷◌, Option, Some, None}
+use Rattle.std.specs.Prelude.{ℕ, ◌+◌, ◌-◌, ◌*◌, ◌%◌, Bool, ◌&&◌, List, [], ◌∷◌, Option, Some, None}
 use Rattle.std.specs.Prelude.{◌==◌, nat_le, if◌then◌else◌, not}
 use Rattle.ttx_packet.specs.PacketAddress.{◌>>=◌}
 

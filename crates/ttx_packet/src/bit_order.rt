@@ -15,17 +15,18 @@ pub fn mirror(byte: u8) -> u8
 }
 
 /// The 42 bytes of a packet, each with its bits in the other order. One kernel for both directions.
+///
+/// The last block of 16 has six bytes of the one before it, so that no byte is left to go alone.
 #[inline(always)]
 pub fn mirrored(bytes: &[u8; 42]) -> [u8; 42]
     ensures { result ≡ map mirror bytes.now }
 {
     let mut other = [0; 42];
-    let (blocks, rest) = bytes.as_chunks::<16>();
+    let (blocks, _) = bytes.as_chunks::<16>();
     for (i, block) in blocks.iter().enumerate() {
         other[16 * i..16 * i + 16].copy_from_slice(&mirrored_block(block));
     }
-    for (j, byte) in rest.iter().enumerate() {
-        other[32 + j] = mirror(*byte);
-    }
+    let last = mirrored_block(bytes.last_chunk().unwrap());
+    other[26..42].copy_from_slice(&last);
     other
 }

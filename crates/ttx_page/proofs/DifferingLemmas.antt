@@ -11,7 +11,7 @@ abbrev bit : Bool → ℕ
 bit b = cond b 0 1
 
 -- What two codes add.
-abbrev one : ℕ → ℕ → ℕ
+abbrev pub one : ℕ → ℕ → ℕ
 one x y = bit (x == y)
 
 -- At most one.
@@ -226,9 +226,6 @@ none_differs xs ys h =
     let s : i + 1 - 1 ≡ i = omega arith in
     subst (λ j. get_or (get_or xs j []) k 0 ≡ get_or (get_or ys j []) k 0) s
     (h (i + 1) k (omega arith, omega arith, b)))
-
--- What the loop of `differing_columns` cites.
-pub ruleset columns = (columns_none, columns_same_more, columns_other_more)
 
 -- What the loop of `differing_cells` cites.
 pub ruleset rows = (rows_none, rows_more)

@@ -1,30 +1,110 @@
--- Rows compared in blocks of 16 cells: mask_compared, blocks_same, first_of_blocks.
+-- Rows compared in blocks: mask_compared, blocks_same, first_of_blocks; and how many cells of a
+-- block differ: ones_compared, columns_in_chunk.
 use Rattle.std.proofs.Common.{◌≡◌, ◌≢◌, ℕ, ◌+◌, ◌<◌, ◌≤◌, ◌^◌, ◌%◌, Bool, true, false, not}
 use Rattle.std.proofs.Common.{List, [], ◌∷◌, map, length, get_or, refl, sym, ap, ap₂, ◌∙◌, arith}
 use Rattle.std.proofs.Common.{subst, cond, nat_eq, ◌-◌, w8, w16, eqb-true, eq-eqb, take_all, inl}
 use Rattle.std.proofs.Common.{inr}
-use Rattle.std.proofs.Common.{get_or-set_same, get_or-set_other, set}
-use Rattle.std.proofs.lemmas.Bool.{cases_eq}
+use Rattle.std.proofs.Common.{get_or-set_same, get_or-set_other, set, zero, suc, take}
+use Rattle.std.proofs.lemmas.Bool.{cases_eq, ne_eqb}
+use Rattle.std.proofs.lemmas.List.Sums.{count_by_more_no, count_by_more_yes}
 use Rattle.std.proofs.lemmas.Nat.Bits.{bit_at-trailing_zeros}
 use Rattle.std.proofs.lemmas.Simd.{length-zip2, get_or-zip2, length-chunk, get_or-chunk}
 use Rattle.std.proofs.lemmas.Simd.{mask_l-lt, mask_l-mod, tops_compared, trailing_mask_l}
-use Rattle.std.proofs.lemmas.Simd.{none_from_empty_mask, run_in_chunk_stops, run_in_chunk_fails}
-use Rattle.std.specs.List.{prefix_len}
+use Rattle.std.proofs.lemmas.Simd.{ones-mask_l, none_from_empty_mask, run_in_chunk_stops, run_in_chunk_fails}
+use Rattle.std.specs.List.{prefix_len, count_by}
+use Rattle.std.specs.Int.RustNames.{count_ones}
 use lib.Count.{count_trailing_zeros}
 use lib.Lanes.{zip2, mask_l, top, chunk}
 use Rattle.ttx_page.specs.Lanes.{differ, differing_mask}
+use Rattle.ttx_page.specs.Differing.{columns_differing}
 use Rattle.ttx_page.specs.Page.{AreCodes}
+use Rattle.ttx_page.proofs.DifferingLemmas.{columns_none, columns_more, columns_same_more}
+use Rattle.ttx_page.proofs.DifferingLemmas.{columns_other_more, one}
 
 -- The mask that the comparison of the lanes gives. For `differing`.
-pub mask_compared : (a b : List ℕ)
-    → length a ≡ 16
-    → length b ≡ 16
+pub mask_compared : (a b : List ℕ) (n : ℕ)
+    → length a ≡ n
+    → length b ≡ n
+    → n ≤ 64
     → mask_l (map (top 7) (zip2 (λ x y. cond (differ x y) (2 ^ 8 - 1) 0) a b)) % 2 ^ 64
     ≡ differing_mask a b
-mask_compared a b p q =
+mask_compared a b n p q l =
     let size : length (zip2 differ a b) ≤ 64 =
     omega (arith, length-zip2 differ a b (p ∙ sym q)) in
     ap (λ m. mask_l m % 2 ^ 64) (tops_compared w8 differ a b) ∙ mask_l-mod _ 64 size
+
+-- A list of tests, each as it is.
+map_same : (v : List Bool) → v ≡ map (λ x. x) v
+map_same [] = refl
+map_same (x ∷ xs) = ap (λ l. x ∷ l) (map_same xs)
+
+-- The first k tests are true as often as the first k cells differ.
+tests_counted : (a b : List ℕ) (k : ℕ)
+    → k ≤ length a
+    → length a ≡ length b
+    → count_by (λ x. x) (take k (zip2 differ a b)) ≡ columns_differing k a b
+tests_counted a b zero l e = sym (columns_none a b)
+tests_counted a b (suc k) l e =
+    let ms = zip2 differ a b in
+    let x = get_or a k 0 in
+    let y = get_or b k 0 in
+    let before = tests_counted a b k (omega arith) e in
+    let within : k < length ms = omega (arith, length-zip2 differ a b e) in
+    let test : get_or ms k false ≡ differ x y =
+    get_or-zip2 differ a b k 0 0 false (omega arith) (omega arith) in
+    let next : k + 1 ≡ suc k = omega arith in
+    subst (λ n. count_by (λ x. x) (take n ms) ≡ columns_differing n a b) next (elim (cases_eq x y) [
+      | inl same ↦
+          count_by_more_no (λ x. x) ms k false within
+          (test ∙ ap not (eq-eqb x y same))
+          ∙ before
+          ∙ sym (columns_same_more k a b same)
+      | inr other ↦
+          count_by_more_yes (λ x. x) ms k false within
+          (test ∙ ap not (ne_eqb x y other))
+          ∙ ap (λ n. n + 1) before
+          ∙ sym (columns_other_more k a b other)
+    ])
+
+-- The ones of that mask are as many as the cells that differ. For `differing_of_16`.
+pub ones_compared : (a b : List ℕ) (n : ℕ)
+    → length a ≡ n
+    → length b ≡ n
+    → n ≤ 64
+    → count_ones
+    (mask_l (map (top 7) (zip2 (λ x y. cond (differ x y) (2 ^ 8 - 1) 0) a b)) % 2 ^ 64)
+    ≡ columns_differing n a b
+ones_compared a b n p q l =
+    let ms = zip2 differ a b in
+    let size : length ms ≡ n = length-zip2 differ a b (p ∙ sym q) ∙ p in
+    ap count_ones (mask_compared a b n p q l ∙ ap mask_l (map_same ms))
+    ∙ ones-mask_l (λ x. x) ms
+    ∙ ap (count_by (λ x. x)) (sym (take_all n ms (omega (arith, size))))
+    ∙ tests_counted a b n (omega (arith, p)) (p ∙ sym q)
+
+-- The columns of two rows that differ, up to a place and in the block from there. For
+-- `differing_columns`.
+pub columns_in_chunk : (xs ys : List ℕ) (a n k : ℕ)
+    → k ≤ n
+    → columns_differing (a + k) xs ys
+    ≡ columns_differing a xs ys + columns_differing k (chunk a n xs) (chunk a n ys)
+columns_in_chunk xs ys a n zero l =
+    let none = columns_none (chunk a n xs) (chunk a n ys) in
+    let here : a + 0 ≡ a = omega arith in
+    ap (λ m. columns_differing m xs ys) here ∙ omega (arith, none)
+columns_in_chunk xs ys a n (suc k) l =
+    let before = columns_in_chunk xs ys a n k (omega arith) in
+    let step : a + suc k ≡ a + k + 1 = omega arith in
+    let next : k + 1 ≡ suc k = omega arith in
+    let whole = columns_more (a + k) xs ys in
+    let part = subst (λ m. columns_differing m (chunk a n xs) (chunk a n ys)
+    ≡ columns_differing k (chunk a n xs) (chunk a n ys)
+    + one (get_or (chunk a n xs) k 0) (get_or (chunk a n ys) k 0)) next
+    (columns_more k (chunk a n xs) (chunk a n ys)) in
+    let cells : one (get_or (chunk a n xs) k 0) (get_or (chunk a n ys) k 0)
+    ≡ one (get_or xs (a + k) 0) (get_or ys (a + k) 0) =
+    ap₂ one (get_or-chunk a n xs k 0 (omega arith)) (get_or-chunk a n ys k 0 (omega arith)) in
+    ap (λ m. columns_differing m xs ys) step ∙ omega (arith, before, whole, part, cells)
 
 -- What does not differ is equal, and the other way round.
 same_from_not_differ : (x y : ℕ) → differ x y ≡ false → x ≡ y
@@ -37,11 +117,6 @@ same_from_not_differ x y e = go (nat_eq x y) refl e
 other_from_differ : (x y : ℕ) → differ x y ≡ true → x ≢ y
 other_from_differ x y e same = let t : nat_eq x y ≡ true = eq-eqb x y same in
     absurd (cc)
-
--- A list of tests, each as it is.
-map_same : (v : List Bool) → v ≡ map (λ x. x) v
-map_same [] = refl
-map_same (x ∷ xs) = ap (λ l. x ∷ l) (map_same xs)
 
 -- A list is its whole chunk.
 chunk_whole : (v : List Bool) → length v ≡ 16 → chunk 0 16 v ≡ v

@@ -2,19 +2,22 @@
 ghost use Rattle.std.specs.Prelude.{◌≡◌, ◌≤◌};
 ghost use Rattle.ttx_page.specs.Differing.{row_differing};
 
+mod lanes;
+
+use self::lanes::{differing_of_8, differing_of_16};
+
 /// How many of the 40 columns of two rows differ.
 ///
 /// Where one row of a page is stored anew, the page's count changes by what this changes.
-#[tactic(auto, using(crate::proofs::DifferingLemmas::columns))]
 pub fn differing_columns(a: &[u8; 40], b: &[u8; 40]) -> u16
     ensures value { result ≡ row_differing a.now b.now }
     ensures range { result ≤ 40 }
 {
+    let (a_blocks, _) = a.as_chunks::<16>();
+    let (b_blocks, _) = b.as_chunks::<16>();
     let mut count = 0;
-    for i in 0..40 {
-        if a[i] != b[i] {
-            count += 1;
-        }
+    for i in 0..2usize {
+        count += differing_of_16(&a_blocks[i], &b_blocks[i]);
     }
-    count
+    count + differing_of_8(a.last_chunk().unwrap(), b.last_chunk().unwrap())
 }

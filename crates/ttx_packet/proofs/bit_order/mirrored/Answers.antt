@@ -1,12 +1,11 @@
-use Rattle.std.proofs.Common.{◌≡◌, ◌+◌, ◌*◌, ◌/◌, ◌-◌, ◌<◌, ◌≤◌, [], map, length, get_or, arith}
-use Rattle.std.proofs.Common.{rules, refl, sym, ◌∙◌, ap}
-use Rattle.std.proofs.Math.ListN.{length-set}
-use Rattle.std.proofs.lemmas.List.{length-map, get_or-drop}
+use Rattle.std.proofs.Common.{◌≡◌, ◌+◌, ◌*◌, ◌/◌, ◌-◌, ◌<◌, ◌≤◌, [], map, length, get_or, arith, take, drop, take_all}
+use Rattle.std.proofs.Common.{rules, sym, ◌∙◌, ap}
+use Rattle.std.proofs.lemmas.List.{length-map, length-drop}
 use Rattle.std.proofs.lemmas.Simd.{length-chunk}
 use borrow.Rule.Slice.PartMut.{mid_of, put_mid, same_len_mid}
 use lib.Lanes.{chunk}
 use Rattle.ttx_packet.specs.BitOrder.{mirror}
-use Rattle.ttx_packet.proofs.BlockLemmas.{block_at, store_block, store_byte, stored_whole}
+use Rattle.ttx_packet.proofs.BlockLemmas.{block_at, store_block, stored_whole, fewer}
 use Rattle.ttx_packet.proofs.bit_order.mirrored.Goals as goal
 
 pub loop-i-preserved : goal.loop-i-preserved
@@ -41,30 +40,23 @@ loop-i-preserved c =
           within;
     }
 
-pub loop-j-preserved : goal.loop-j-preserved
-loop-j-preserved c =
-    let xs = c.args.bytes.now in
-    let j = c.loop-j.j in
-    let back : length xs / 16 * 16 ≡ 32 = rw c.told-bytes refl in
-    let byte : get_or c.as_chunks.result.1.now j 0 ≡ get_or xs (32 + j) 0 =
-    ap (λ l. get_or l j 0) c.as_chunks.ensures.back
-    ∙ get_or-drop _ xs j 0
-    ∙ ap (λ n. get_or xs (n + j) 0) back in
-    let in_xs : 32 + j < length xs = omega (arith, c.as_chunks.ensures.back_len) in
-    let in_out : 32 + j < length c.loop-j.other =
-    omega (arith, c.as_chunks.ensures.back_len, c.loop-j.invariant.size) in
-    record {
-      size = simp length-set c.loop-j.invariant.size;
-      done = store_byte mirror xs c.loop-j.other (32 + j) (32 + (j + 1)) c.mirror.result
-          (omega arith) c.loop-j.invariant.done (c.mirror.ensures ∙ ap mirror byte) in_xs in_out;
-    }
-
 pub returns : goal.returns
 returns c =
     let xs = c.args.bytes.now in
-    let other = c.loop-j.other in
-    let long : length other ≡ 42 = c.loop-j.invariant.size in
-    let rest : length c.as_chunks.result.1.now ≡ 10 =
-    c.as_chunks.ensures.back_len ∙ rw c.told-bytes refl in
-    stored_whole mirror xs other (32 + c.loop-j.j) (omega arith) (omega arith)
-    c.loop-j.invariant.done
+    let other = c.loop-i.other in
+    let front : take 26 other ≡ map mirror (take 26 xs) =
+    fewer mirror xs other 26 (16 * c.loop-i.i) (omega arith) c.loop-i.invariant.done in
+    let all : chunk 26 16 xs ≡ drop 26 xs = take_all 16 (drop 26 xs) (omega (arith, length-drop 26 xs)) in
+    let last : c.unwrap.result.now ≡ drop 26 xs = search rules in
+    let block : c.copy_from_slice-2.new.self ≡ map mirror (chunk 26 16 xs) =
+    c.copy_from_slice-2.ensures.after ∙ c.mirrored_block-last.ensures
+    ∙ ap (map mirror) (last ∙ sym all) in
+    let long : length c.copy_from_slice-2.new.self ≡ 16 =
+    ap length block ∙ length-map (chunk 26 16 xs) mirror ∙ length-chunk 26 16 xs (omega arith) in
+    let middle : length (mid_of 26 16 other) ≡ 16 = length-chunk 26 16 other (omega arith) in
+    let kept : length (put_mid 26 16 other c.copy_from_slice-2.new.self) ≡ 42 =
+    same_len_mid 26 16 other c.copy_from_slice-2.new.self (long ∙ sym middle)
+    ∙ c.loop-i.invariant.size in
+    stored_whole mirror xs _ 42 (omega (arith, kept)) (omega arith)
+    (store_block mirror xs other c.copy_from_slice-2.new.self 26 16 42 (omega arith) front block
+    long (omega arith))

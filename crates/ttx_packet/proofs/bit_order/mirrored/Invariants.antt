@@ -1,4 +1,4 @@
-use Rattle.std.proofs.Common.{◌≡◌, ◌+◌, ◌*◌, length, map, take}
+use Rattle.std.proofs.Common.{◌≡◌, ◌*◌, length, map, take}
 use Rattle.ttx_packet.specs.BitOrder.{mirror}
 use Rattle.ttx_packet.proofs.bit_order.mirrored.Given as goal
 
@@ -7,11 +7,4 @@ abbrev pub invariant-loop-i : goal.invariant-loop-i
 invariant-loop-i l = record {
   size : length l.other ≡ 42;
   done : take (16 * l.i) l.other ≡ map mirror (take (16 * l.i) l.bytes);
-}
-
--- The bytes before are mirrored.
-abbrev pub invariant-loop-j : goal.invariant-loop-j
-invariant-loop-j l = record {
-  size : length l.other ≡ 42;
-  done : take (32 + l.j) l.other ≡ map mirror (take (32 + l.j) l.bytes);
 }

@@ -1,6 +1,6 @@
-use Rattle.std.proofs.Common.{arith, ◌≡◌, ◌∙◌, ap, sym, eq-eqb}
+use Rattle.std.proofs.Common.{arith, ◌∙◌, sym, eq-eqb}
 use Rattle.std.proofs.lemmas.Bool.{cond-true, cond-false, ne_eqb}
-use Rattle.ttx_packet.proofs.Hamming84Lemmas.{decoded-by_table, decoded_from, decodes_from, entry_small}
+use Rattle.ttx_packet.proofs.Hamming84Lemmas.{decoded-by_table, decoded_from, decodes_from}
 use Rattle.ttx_packet.proofs.hamming.unham.Goals as goal
 
 pub returns-then-number : goal.returns-then-number
@@ -30,5 +30,5 @@ returns-else-number c =
             λ is. sym some
                 ∙ decoded_from c.args.byte n is,
           );
-      small = entry_small c.args.byte (omega arith) c.if-number.false;
+      small = omega arith;
     }

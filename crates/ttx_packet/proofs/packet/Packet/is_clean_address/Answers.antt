@@ -1,4 +1,4 @@
-use Rattle.std.proofs.Common.{ℕ, zero, suc, ◌<◌, List, ◌↔◌, IsTrue, slice_index, subst, arith}
+use Rattle.std.proofs.Common.{ℕ, zero, suc, List, ◌↔◌, IsTrue, slice_index, subst, arith}
 use Rattle.ttx_packet.specs.Hamming84.{IsCodeWord}
 use Rattle.ttx_packet.specs.PacketAddress.{HasExactAddress}
 use Rattle.ttx_packet.proofs.packet.Packet.is_clean_address.Goals as goal

@@ -1,4 +1,4 @@
-use Rattle.std.proofs.Common.{◌≡◌, ◌∙◌, ap, sym, ok_or, length}
+use Rattle.std.proofs.Common.{◌∙◌, ap, sym, ok_or, length}
 use Rattle.ttx_packet.specs.declared.page_id.PageFault.TheVariants.{BadPage}
 use Rattle.ttx_packet.proofs.PageIdLemmas.{page_of_text-other_length, three_bytes}
 use Rattle.ttx_packet.specs.PageId.{page_of_text}

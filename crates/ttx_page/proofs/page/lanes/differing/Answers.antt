@@ -1,5 +1,6 @@
+use Rattle.std.proofs.Common.{arith}
 use Rattle.ttx_page.proofs.LaneLemmas.{mask_compared}
 use Rattle.ttx_page.proofs.page.lanes.differing.Goals as goal
 
 pub returns : goal.returns
-returns c = mask_compared c.args.a.now c.args.b.now c.told-a c.told-b
+returns c = mask_compared c.args.a.now c.args.b.now 16 c.told-a c.told-b (omega arith)

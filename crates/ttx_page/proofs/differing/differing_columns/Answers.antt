@@ -1,0 +1,54 @@
+-- A block more, and the last: columns_in_chunk.
+use Rattle.std.proofs.Common.{◌≡◌, ◌+◌, ◌*◌, ◌/◌, [], length, get_or, drop, take_all, arith, rules}
+use Rattle.std.proofs.Common.{sym, ap, ap₂, ◌∙◌}
+use Rattle.std.proofs.lemmas.List.{length-drop}
+use lib.Lanes.{chunk}
+use Rattle.ttx_packet.proofs.BlockLemmas.{block_at}
+use Rattle.ttx_page.specs.Differing.{columns_differing}
+use Rattle.ttx_page.proofs.DifferingLemmas.{columns_le, columns_none}
+use Rattle.ttx_page.proofs.LaneLemmas.{columns_in_chunk}
+use Rattle.ttx_page.proofs.differing.differing_columns.Goals as goal
+
+pub loop-i-init : goal.loop-i-init
+loop-i-init c = (omega arith, sym (columns_none c.args.a.now c.args.b.now))
+
+pub loop-i-preserved : goal.loop-i-preserved
+loop-i-preserved c =
+    let xs = c.args.a.now in
+    let ys = c.args.b.now in
+    let i = c.loop-i.i in
+    let block : c.differing_of_16-count.result
+    ≡ columns_differing 16 (chunk (16 * i) 16 xs) (chunk (16 * i) 16 ys) =
+    c.differing_of_16-count.ensures.value
+    ∙ ap₂ (columns_differing 16)
+    (ap (λ l. get_or l i []) c.as_chunks.ensures.front
+    ∙ block_at 16 (length xs / 16) xs i (omega arith))
+    (ap (λ l. get_or l i []) c.as_chunks-2.ensures.front
+    ∙ block_at 16 (length ys / 16) ys i (omega arith)) in
+    let next : 16 * i + 16 ≡ 16 * (i + 1) = omega arith in
+    let more = columns_in_chunk xs ys (16 * i) 16 16 (omega arith) in (
+      omega arith,
+      omega (arith, c.loop-i.invariant.1, block, more)
+          ∙ ap (λ n. columns_differing n xs ys) next,
+    )
+
+pub returns : goal.returns
+returns c =
+    let xs = c.args.a.now in
+    let ys = c.args.b.now in
+    let last : c.unwrap.result.now ≡ drop 32 xs = search rules in
+    let last-2 : c.unwrap-2.result.now ≡ drop 32 ys = search rules in
+    let all : chunk 32 8 xs ≡ drop 32 xs =
+    take_all 8 (drop 32 xs) (omega (arith, length-drop 32 xs)) in
+    let all-2 : chunk 32 8 ys ≡ drop 32 ys =
+    take_all 8 (drop 32 ys) (omega (arith, length-drop 32 ys)) in
+    let value : c.loop-i.count + c.differing_of_8.result ≡ columns_differing 40 xs ys =
+    let blocks : 16 * c.loop-i.i ≡ 32 = omega arith in
+    omega (
+      arith,
+      c.loop-i.invariant.1 ∙ ap (λ n. columns_differing n xs ys) blocks,
+      columns_in_chunk xs ys 32 8 8 (omega arith),
+      c.differing_of_8.ensures.value
+          ∙ ap₂ (columns_differing 8) (last ∙ sym all) (last-2 ∙ sym all-2),
+    ) in
+    record { value = value; range = omega (arith, value, columns_le 40 xs ys) }
