@@ -33,10 +33,13 @@ c11-or None b = refl
 c11-or (Some x) b = refl
 
 -- C11 of the first header, one packet on.
-pub serial_more : (serial : Option Bool) (heard : List (List ℕ)) (p : List ℕ)
+pub serial_more : (serial : Option Bool) (read : Option Header) (heard : List (List ℕ)) (p : List ℕ)
+    → read ≡ header p
     → serial ≡ c11_of (first_header heard)
-    → option_or serial (c11_of (header p)) ≡ c11_of (first_header (heard ++ p ∷ []))
-serial_more serial heard p e = ap (λ o. option_or o (c11_of (header p))) e
+    → option_or serial (c11_of read) ≡ c11_of (first_header (heard ++ p ∷ []))
+serial_more serial read heard p same e =
+    ap (λ r. option_or serial (c11_of r)) same
+    ∙ ap (λ o. option_or o (c11_of (header p))) e
     ∙ sym (ap c11_of (first_header-push heard p) ∙ c11-or (first_header heard) (header p))
 
 -- With true nothing changes.

@@ -1,13 +1,13 @@
 -- The flaws of a packet that comes after others, by what is kept of them.
 use Rattle.std.proofs.Common.{◌≡◌, ℕ, ◌<◌, ◌≤◌, ◌-◌, Bool, true, false, cond, ◌&&◌, ◌==◌, nat_le}
 use Rattle.std.proofs.Common.{List, [], Option, Some, None, option_map, IsTrue, get_or, refl, sym}
-use Rattle.std.proofs.Common.{ap, ◌∙◌, ap₂, arith, ne_eqb, eqb-true}
+use Rattle.std.proofs.Common.{ap, ◌∙◌, ap₂, arith, ne_eqb, eqb-true, option_and_then}
 use Rattle.std.specs.List.{AllByRecursion}
 use Rattle.std.proofs.lemmas.Bool.{and_parts, and_right, lt-leb, true≢false}
 use Rattle.std.proofs.lemmas.Option.{none-some, same_Some}
 use Rattle.ttx_packet.specs.PacketAddress.{HasExactAddress, IsPacket, address, PacketAddress}
 use Rattle.ttx_packet.specs.RowPacket.{HasOddText}
-use Rattle.ttx_packet.specs.PageHeader.{header, c11}
+use Rattle.ttx_packet.specs.PageHeader.{coded_header, header, c11}
 use Rattle.sub_check.specs.PacketRules.{codes_of, first_header, KeepsRule, IsClean, BreaksFirst}
 use Rattle.sub_check.specs.PacketRules.{number_of}
 use Rattle.ttx_packet.specs.declared.header.Header.{Header}
@@ -245,22 +245,45 @@ module _ (w : Watched) (before : List (List ℕ)) (p : List ℕ) where
       earlier rule.RowChanged l = r
       earlier rule.Enhancement l = absurd (omega arith)
 
--- C11 of the first header, as it is kept
-pub mode_free : (serial : Option Bool) (w : Watched) (before : List (List ℕ)) (p : List ℕ)
+-- C11 of the first header, as it is kept, and the header that was read.
+pub mode_free : (serial : Option Bool) (read : Option Header) (w : Watched)
+    (before : List (List ℕ)) (p : List ℕ)
+    → read ≡ header p
     → serial ≡ option_map (λ (h : Header). (c11 h)) (first_header before)
-    → ((h : Header) (first : Bool) → header p ≡ Some h → serial ≡ Some first → (c11 h) ≡ first)
+    → ((h : Header) (first : Bool) → read ≡ Some h → serial ≡ Some first → (c11 h) ≡ first)
     → KeepsRule rule.Mode w before p
-mode_free serial w before p is h k first e f =
-    h k (c11 first) e (is ∙ ap (λ o. option_map (λ (x : Header). (c11 x)) o) f)
+mode_free serial read w before p same is h k first e f =
+    h k (c11 first) (same ∙ e) (is ∙ ap (λ o. option_map (λ (x : Header). (c11 x)) o) f)
 
 -- Where the kept C11 differs, the rule of one mode is broken.
-pub mode_broken : (serial : Option Bool) (w : Watched) (before : List (List ℕ)) (p : List ℕ)
+pub mode_broken : (serial : Option Bool) (read : Option Header) (w : Watched)
+    (before : List (List ℕ)) (p : List ℕ)
+    → read ≡ header p
     → serial ≡ option_map (λ (h : Header). (c11 h)) (first_header before)
-    → KeepsRule rule.Mode w before p → (h : Header) (first : Bool) → header p ≡ Some h
+    → KeepsRule rule.Mode w before p → (h : Header) (first : Bool) → read ≡ Some h
     → serial ≡ Some first → (c11 h) ≡ first
-mode_broken serial w before p is free k first e f = go (first_header before) refl (sym is ∙ f)
+mode_broken serial read w before p same is free k first e f =
+    go (first_header before) refl (sym is ∙ f)
   where
     go : (o : Option Header) → first_header before ≡ o
         → option_map (λ (x : Header). (c11 x)) o ≡ Some first → (c11 k) ≡ first
     go None q g = absurd (none-some first g)
-    go (Some z) q g = free k z e q ∙ same_Some _ _ g
+    go (Some z) q g = free k z (sym same ∙ e) q ∙ same_Some _ _ g
+
+-- A packet with a page header is X/0.
+pub header_is_zero : (p : List ℕ) (h : Header) → header p ≡ Some h
+    → (a : PacketAddress) × (address p ≡ Some a) × (a.packet_number ≡ 0)
+unfolding header
+header_is_zero p h e = go (address p) refl e
+  where
+    zero_or : (a : PacketAddress) (b : Bool) → (a.packet_number == 0) ≡ b
+        → cond b (coded_header p) None ≡ Some h → a.packet_number ≡ 0
+    zero_or a true t f = eqb-true a.packet_number 0 t
+    zero_or a false t f = absurd (none-some h f)
+
+    go : (o : Option PacketAddress) → address p ≡ o
+        → option_and_then (λ (a : PacketAddress). cond (a.packet_number == 0) (coded_header p) None) o
+        ≡ Some h
+        → (a : PacketAddress) × (address p ≡ Some a) × (a.packet_number ≡ 0)
+    go None q f = absurd (none-some h f)
+    go (Some a) q f = (a, q, zero_or a (a.packet_number == 0) refl f)

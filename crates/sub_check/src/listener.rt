@@ -2,6 +2,7 @@
 ghost use Rattle.std.specs.Prelude.{◌≡◌, ℕ, ◌+◌, ◌-◌, ◌<◌, ◌≤◌, ◌++◌, List, [], ◌∷◌, MatchOption};
 ghost use Rattle.std.specs.Prelude.{MatchResult, IfOk, length, true, false, replicate, slice_set};
 ghost use Rattle.std.specs.Prelude.{if◌then◌else◌};
+ghost use Rattle.ttx_packet.specs.PageHeader.{header};
 ghost use Rattle.ttx_page.specs.Page.{AreCodes, DiffersFirst, IsCell, IsPage, blank, cell};
 ghost use Rattle.ttx_page.specs.PacketKind.{is_this_page, kind};
 ghost use Rattle.sub_check.specs.PacketRules.{header_count, packets_of_units};
@@ -12,7 +13,7 @@ use crate::packet_rules::{
     is_subtitle_header, text_codes,
 };
 use crate::page_count::{codes_wrong, holds_row, row_wrong};
-use ttx_packet::Packet;
+use ttx_packet::{Header, Packet};
 use ttx_page::{PacketKind, Page};
 use ttx_pes::Unit;
 
@@ -61,9 +62,15 @@ impl Listener {
         }
     }
 
-    /// The first rule that a packet of this kind breaks which comes now.
-    pub fn broken_rule(&self, packet: &Packet, found: PacketKind) -> Option<PacketRule>
+    /// The first rule that a packet of this kind, with this page header, breaks which comes now.
+    pub fn broken_rule(
+        &self,
+        packet: &Packet,
+        found: PacketKind,
+        page_header: Option<Header>,
+    ) -> Option<PacketRule>
         requires kind { found ≡ kind self.now.watched.page packet.now }
+        requires page_header { page_header ≡ header packet.now }
         requires row { (row : ℕ) → found ≡ PacketKind.Row row → (1 ≤ row) × (row ≤ 24) }
         ensures { (heard : List (List ℕ)) → Knows heard self.now
             → MatchOption result
@@ -73,10 +80,10 @@ impl Listener {
         if !packet.is_clean_address() {
             return Some(PacketRule::Address);
         }
-        if !has_exact_codes(packet) {
+        if !has_exact_codes(packet, page_header) {
             return Some(PacketRule::HeaderCode);
         }
-        if !has_mode(self.serial, packet) {
+        if !has_mode(self.serial, page_header) {
             return Some(PacketRule::Mode);
         }
         match found {
@@ -113,8 +120,15 @@ impl Listener {
 
     /// Hears a packet of this kind that breaks no rule, and says whether it is a header of the
     /// page.
-    pub fn hear(&mut self, packet: &Packet, found: PacketKind, due: &Page) -> bool
+    pub fn hear(
+        &mut self,
+        packet: &Packet,
+        found: PacketKind,
+        page_header: Option<Header>,
+        due: &Page,
+    ) -> bool
         requires kind { found ≡ kind self.old.watched.page packet.now }
+        requires page_header { page_header ≡ header packet.now }
         requires row { (row : ℕ) → found ≡ PacketKind.Row row → (1 ≤ row) × (row ≤ 24) }
         requires counted { IsCounted self.old due.now }
         ensures header { result ≡ is_this_page (kind self.old.watched.page packet.now) }
@@ -124,7 +138,7 @@ impl Listener {
             → IsClean self.old.watched heard packet.now
             → Knows (heard ++ packet.now ∷ []) self.new }
     {
-        self.serial = first_serial(self.serial, packet);
+        self.serial = first_serial(self.serial, page_header);
         match found {
             PacketKind::ThisPage(_) => {
                 self.start();
@@ -163,12 +177,12 @@ impl Listener {
         let mut headers = 0;
         for k in 0..units.len() {
             let packet = units[k].packet();
-            let found = PacketKind::of(self.watched.page, packet);
-            if let Some(rule) = self.broken_rule(packet, found) {
+            let (found, page_header) = PacketKind::with_header(self.watched.page, packet);
+            if let Some(rule) = self.broken_rule(packet, found, page_header) {
                 let packet = k as u32;
                 return Err(BrokenRule { packet, rule });
             }
-            headers = counted(headers, self.hear(packet, found, due));
+            headers = counted(headers, self.hear(packet, found, page_header, due));
         }
         Ok(headers)
     }

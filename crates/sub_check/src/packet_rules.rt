@@ -52,15 +52,16 @@ fn is_header_packet(packet: &Packet) -> bool
     }
 }
 
-/// Whether in a packet X/0 the eight coded bytes are code words.
-pub(crate) fn has_exact_codes(packet: &Packet) -> bool
+/// Whether in a packet X/0 the eight coded bytes are code words. `page_header` is what they say.
+pub(crate) fn has_exact_codes(packet: &Packet, page_header: Option<Header>) -> bool
+    requires { page_header ≡ header packet.now }
     ensures { IsTrue result ↔ ((a : PacketAddress)
         → address packet.now ≡ Some a → a.packet_number ≡ 0 → HasExactHeader packet.now) }
 {
-    if !is_header_packet(packet) {
-        return true;
+    match page_header {
+        Some(_) => packet.is_clean_header(),
+        None => !is_header_packet(packet) || packet.is_clean_header(),
     }
-    packet.is_clean_header()
 }
 
 /// C11, magazine serial.
@@ -70,24 +71,24 @@ fn is_serial(header: &Header) -> bool
     header.control.contains(Control::C11)
 }
 
-/// Whether a header has the C11 of the first one.
-pub(crate) fn has_mode(serial: Option<bool>, packet: &Packet) -> bool
+/// Whether a header, where there is one, has the C11 of the first one.
+pub(crate) fn has_mode(serial: Option<bool>, page_header: Option<Header>) -> bool
     ensures { IsTrue result ↔ ((h : Header) (first : Bool)
-        → header packet.now ≡ Some h → serial ≡ Some first → c11 h ≡ first) }
+        → page_header ≡ Some h → serial ≡ Some first → c11 h ≡ first) }
 {
-    match (packet.header(), serial) {
+    match (page_header, serial) {
         (Some(header), Some(first)) => is_serial(&header) == first,
         _ => true,
     }
 }
 
-/// C11 of the first header, one packet on.
-pub(crate) fn first_serial(serial: Option<bool>, packet: &Packet) -> Option<bool>
-    ensures { result ≡ option_or serial (option_map (λ (h : Header). c11 h) (header packet.now)) }
+/// C11 of the first header, one packet with this header or none on.
+pub(crate) fn first_serial(serial: Option<bool>, page_header: Option<Header>) -> Option<bool>
+    ensures { result ≡ option_or serial (option_map (λ (h : Header). c11 h) page_header) }
 {
     match serial {
         Some(first) => Some(first),
-        None => match packet.header() {
+        None => match page_header {
             Some(header) => Some(is_serial(&header)),
             None => None,
         },

@@ -106,6 +106,7 @@ impl Packet {
     /// the address already.
     ///
     /// `None` where one of them decodes to nothing.
+    #[inline(always)]
     #[tactic(auto, unfolding(crate::specs::PageHeader::coded_header))]
     pub fn coded_header(&self) -> Option<Header>
         ensures { result ≡ coded_header self.now }

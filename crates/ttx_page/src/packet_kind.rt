@@ -22,38 +22,50 @@ pub enum PacketKind {
 
 impl PacketKind {
     ghost use Rattle.ttx_page.specs.PacketKind.{kind};
+    ghost use Rattle.ttx_packet.specs.PageHeader.{header};
 
     /// What a packet is to a receiver of a page.
-    ///
-    /// It reads the address once, and the coded bytes of a header alone.
-    #[tactic(auto, unfolding(crate::specs::PacketKind::kind, ttx_packet::specs::PageHeader::header))]
     pub fn of(watched: PageId, packet: &Packet) -> PacketKind
         ensures value { result ≡ kind watched packet.now }
         ensures row { (row : ℕ) → result ≡ PacketKind.Row row → (1 ≤ row) × (row ≤ 24) }
     {
+        PacketKind::with_header(watched, packet).0
+    }
+
+    /// What a packet is to a receiver of a page, and its page header, of whatever page: `None`
+    /// where the packet has none. For a caller that looks at every header.
+    ///
+    /// It reads the address once, and the coded bytes of a header alone.
+    #[inline(always)]
+    #[tactic(auto, unfolding(crate::specs::PacketKind::kind, ttx_packet::specs::PageHeader::header))]
+    pub fn with_header(watched: PageId, packet: &Packet) -> (PacketKind, Option<Header>)
+        ensures kind { result.0 ≡ kind watched packet.now }
+        ensures header { result.1 ≡ header packet.now }
+        ensures row { (row : ℕ) → result.0 ≡ PacketKind.Row row → (1 ≤ row) × (row ≤ 24) }
+    {
         let Some((magazine, packet_number)) = packet.address() else {
-            return PacketKind::Other;
+            return (PacketKind::Other, None);
         };
         let is_magazine = magazine == watched.magazine();
         if packet_number == 0 {
             let Some(header) = packet.coded_header() else {
-                return PacketKind::Other;
+                return (PacketKind::Other, None);
             };
             if is_magazine {
                 if header.page == watched.page() {
-                    PacketKind::ThisPage(header)
+                    (PacketKind::ThisPage(header), Some(header))
                 } else {
-                    PacketKind::EndsPage
+                    (PacketKind::EndsPage, Some(header))
                 }
             } else if is_serial(&header) {
-                PacketKind::EndsPage
+                (PacketKind::EndsPage, Some(header))
             } else {
-                PacketKind::Other
+                (PacketKind::Other, Some(header))
             }
         } else if is_magazine && packet_number <= 24 {
-            PacketKind::Row(packet_number)
+            (PacketKind::Row(packet_number), None)
         } else {
-            PacketKind::Other
+            (PacketKind::Other, None)
         }
     }
 }

@@ -22,7 +22,7 @@ returns-in-ThisPage-clause-knows c heard known clean =
     sym c.requires.kind ∙ c.in-ThisPage.is in
     subst (Knows (heard ++ p ∷ [])) (sym c.start.ensures) (record {
       serial_is = c.first_serial-self.ensures
-          ∙ serial_more c.args.self.now.serial heard p known.serial_is;
+          ∙ serial_more c.args.self.now.serial _ heard p c.requires.page_header known.serial_is;
       open_is = open_this w heard p _ k;
       rows_are =
           subst (λ rows. HoldsRows w rows (replicate 24 false) blank)
@@ -36,7 +36,7 @@ returns-in-EndsPage-clause-knows c heard known clean =
     let k : kind w.page p ≡ EndsPage = sym c.requires.kind ∙ c.in-EndsPage.is in
     record {
       serial_is = c.first_serial-self.ensures
-          ∙ serial_more c.args.self.now.serial heard p known.serial_is;
+          ∙ serial_more c.args.self.now.serial _ heard p c.requires.page_header known.serial_is;
       open_is = open_ends w heard p k;
       rows_are =
           subst (λ rows. HoldsRows w rows c.args.self.now.sent c.args.self.now.page)
@@ -63,7 +63,7 @@ returns-then-self-clause-knows c heard known clean =
     }) (clean rule.RowChanged opened n k) in
     subst (Knows (heard ++ p ∷ [])) (sym c.store.ensures.kept) (record {
       serial_is = c.first_serial-self.ensures
-          ∙ serial_more c.args.self.now.serial heard p known.serial_is;
+          ∙ serial_more c.args.self.now.serial _ heard p c.requires.page_header known.serial_is;
       open_is = open_stays w heard p _ (ap is_this_page k) (ap ends_page k) known.open_is;
       rows_are =
           subst (λ packets. HoldsRows w packets (set c.args.self.now.sent (n - 1) true)
@@ -82,7 +82,7 @@ returns-else-self-clause-knows c heard known clean =
     let shut : is_open_after (kind w.page) heard ≡ false = sym known.open_is ∙ c.if-self.false in
     record {
       serial_is = c.first_serial-self.ensures
-          ∙ serial_more c.args.self.now.serial heard p known.serial_is;
+          ∙ serial_more c.args.self.now.serial _ heard p c.requires.page_header known.serial_is;
       open_is = open_stays w heard p _ (ap is_this_page k) (ap ends_page k) known.open_is;
       rows_are =
           subst (λ rows. HoldsRows w rows c.args.self.now.sent c.args.self.now.page)
@@ -96,7 +96,7 @@ returns-in-Other-clause-knows c heard known clean =
     let k : kind w.page p ≡ Other = sym c.requires.kind ∙ c.in-Other.is in
     record {
       serial_is = c.first_serial-self.ensures
-          ∙ serial_more c.args.self.now.serial heard p known.serial_is;
+          ∙ serial_more c.args.self.now.serial _ heard p c.requires.page_header known.serial_is;
       open_is = open_stays w heard p _ (ap is_this_page k) (ap ends_page k) known.open_is;
       rows_are =
           HoldsRows-passes w heard p c.args.self.now.sent c.args.self.now.page k known.rows_are;
