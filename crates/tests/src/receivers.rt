@@ -104,4 +104,6 @@ fn tells_what_a_packet_is(rt: HostRuntime) {
         PacketKind::of(page_id, &packet(HEADER)),
         PacketKind::ThisPage(header)
     );
+    let (_, other) = PacketKind::with_header(page_id, &packet(PAGE_188));
+    assert_eq!(rt; other, packet(PAGE_188).header(), "of another page");
 }

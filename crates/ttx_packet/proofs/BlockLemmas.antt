@@ -5,7 +5,6 @@ use Rattle.std.proofs.Common.{length}
 use Rattle.std.proofs.Common.{get_or, take, drop, sym, ap, ap₂, ◌∙◌, take_all, arith, subst, inl}
 use Rattle.std.proofs.Common.{inr}
 use Rattle.std.proofs.lemmas.List.{map-append, take_more, take_more_set, drop-drop, get_or_past}
-use Rattle.std.proofs.lemmas.List.{take-map, take-take}
 use Rattle.std.proofs.lemmas.Bool.{cases_lt}
 use Rattle.std.proofs.lemmas.Simd.{length-chunk, get_or-chunk}
 use Rattle.std.proofs.lemmas.Slice.{take-put_mid}
@@ -40,28 +39,19 @@ below_in_chunk b a n xs room below k =
           (omega (arith, below (length xs)))
     ]
 
--- Where the first a bytes are f of those of xs, a block of f of its next bytes makes them more.
-pub store_block : (f : ℕ → ℕ) (xs out ys : List ℕ) (a k m : ℕ)
-    → m ≡ a + 16
+-- Where the first a bytes are f of those of xs, a block of f of its next w makes them more.
+pub store_block : (f : ℕ → ℕ) (xs out ys : List ℕ) (a w k m : ℕ)
+    → m ≡ a + w
     → take a out ≡ map f (take a xs)
-    → ys ≡ map f (chunk a 16 xs)
-    → length ys ≡ 16
+    → ys ≡ map f (chunk a w xs)
+    → length ys ≡ w
     → a ≤ length out
     → take m (put_mid a k out ys) ≡ map f (take m xs)
-store_block f xs out ys a k m e front block long within =
+store_block f xs out ys a w k m e front block long within =
     take-put_mid a k out ys m (e ∙ ap (λ n. a + n) (sym long)) within
     ∙ ap₂ (λ x y. x ++ y) front block
-    ∙ sym (map-append f (take a xs) (chunk a 16 xs))
-    ∙ ap (map f) (sym (take-add a 16 xs) ∙ ap (λ n. take n xs) (sym e))
-
--- Where the first m bytes are f of those of xs, so are the first a.
-pub fewer : (f : ℕ → ℕ) (xs out : List ℕ) (a m : ℕ)
-    → a ≤ m
-    → take m out ≡ map f (take m xs)
-    → take a out ≡ map f (take a xs)
-fewer f xs out a m l e =
-    sym (take-take a m out l) ∙ ap (take a) e ∙ take-map f a (take m xs)
-    ∙ ap (map f) (take-take a m xs l)
+    ∙ sym (map-append f (take a xs) (chunk a w xs))
+    ∙ ap (map f) (sym (take-add a w xs) ∙ ap (λ n. take n xs) (sym e))
 
 -- The same with one byte.
 pub store_byte : (f : ℕ → ℕ) (xs out : List ℕ) (a m y : ℕ)

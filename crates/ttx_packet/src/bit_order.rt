@@ -16,7 +16,7 @@ pub fn mirror(byte: u8) -> u8
 
 /// The 42 bytes of a packet, each with its bits in the other order. One kernel for both directions.
 ///
-/// The last block of 16 has six bytes of the one before it, so that no byte is left to go alone.
+/// The last ten are those of a block that begins six bytes before them, so that none goes alone.
 #[inline(always)]
 pub fn mirrored(bytes: &[u8; 42]) -> [u8; 42]
     ensures { result ≡ map mirror bytes.now }
@@ -27,6 +27,6 @@ pub fn mirrored(bytes: &[u8; 42]) -> [u8; 42]
         other[16 * i..16 * i + 16].copy_from_slice(&mirrored_block(block));
     }
     let last = mirrored_block(bytes.last_chunk().unwrap());
-    other[26..42].copy_from_slice(&last);
+    other[32..42].copy_from_slice(&last[6..16]);
     other
 }

@@ -6,9 +6,8 @@ use bitflags::{Flag, Flags, bitflag_items};
 /// The control bits C4 to C14 of a page header (EN 300 706, page header), as a set.
 ///
 /// C4 erase page, C5 newsflash, C6 subtitle, C7 suppress header, C8 update indicator, C9
-/// interrupted
-/// sequence, C10 inhibit display, C11 magazine serial, C12 to C14 national option character
-/// sub-set.
+/// interrupted sequence, C10 inhibit display, C11 magazine serial, C12 to C14 national option
+/// character sub-set.
 #[derive(Clone, Copy, PartialEq, Eq, Debug)]
 pub struct Control(u16);
 

@@ -17,8 +17,7 @@ use bitflags::Flags;
 use std::marker::Model;
 
 /// A Teletext packet (EN 300 706): two address bytes and 40 data bytes, in the order of sending,
-/// bit 1
-/// the least significant bit of a byte. Run-in and framing code are left out.
+/// bit 1 the least significant bit of a byte. Run-in and framing code are left out.
 #[derive(Clone, Copy, Debug, PartialEq, Eq)]
 pub struct Packet {
     bytes: [u8; 42],
@@ -63,8 +62,7 @@ impl Packet {
     }
 
     /// The 42 bytes as a DVB data unit carries them, each with its bits in the other order (EN 300
-    /// 472,
-    /// data field syntax).
+    /// 472, data field syntax).
     pub fn mirrored(&self) -> [u8; 42]
         ensures { result ≡ map mirror self.now }
     {
@@ -72,8 +70,7 @@ impl Packet {
     }
 
     /// The magazine, 0 to 7, and the packet number Y, 0 to 31, each wrong bit corrected (EN 300
-    /// 706,
-    /// magazine and packet address). Magazine 0 is magazine 8.
+    /// 706, magazine and packet address). Magazine 0 is magazine 8.
     ///
     /// `None` where an address byte decodes to nothing.
     #[tactic(auto, unfolding(crate::specs::PacketAddress::address))]
@@ -142,8 +139,7 @@ impl Packet {
     }
 
     /// Whether the eight coded bytes of a header are code words, with no bit to correct (EN 300
-    /// 706,
-    /// 8.2). The address is not looked at.
+    /// 706, 8.2). The address is not looked at.
     pub fn is_clean_header(&self) -> bool
         ensures { IsTrue result ↔ HasExactHeader self.now }
     {
@@ -179,8 +175,7 @@ impl Packet {
     /// header).
     ///
     /// `magazine` is 0 to 7; the subcode has no bit outside `0x3F7F`, and the control bits are C4
-    /// to
-    /// C14 alone.
+    /// to C14 alone.
     pub fn of_header(magazine: u8, header: &Header) -> Packet
         requires magazine { magazine < 8 }
         requires subcode { header.now.subcode < 0x4000 }
@@ -190,8 +185,7 @@ impl Packet {
     }
 
     /// A row of a page as packet X/1 to X/24: 40 bytes of odd parity (EN 300 706, packets for
-    /// direct
-    /// display).
+    /// direct display).
     ///
     /// `magazine` is 0 to 7, `row` 1 to 24, and the codes are below 128.
     pub fn of_row(magazine: u8, row: u8, codes: &[u8; 40]) -> Packet

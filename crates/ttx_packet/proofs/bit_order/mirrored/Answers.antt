@@ -1,11 +1,11 @@
-use Rattle.std.proofs.Common.{◌≡◌, ◌+◌, ◌*◌, ◌/◌, ◌-◌, ◌<◌, ◌≤◌, [], map, length, get_or, arith, take, drop, take_all}
-use Rattle.std.proofs.Common.{rules, sym, ◌∙◌, ap}
-use Rattle.std.proofs.lemmas.List.{length-map, length-drop}
+use Rattle.std.proofs.Common.{◌≡◌, ◌+◌, ◌*◌, ◌/◌, ◌-◌, ◌<◌, ◌≤◌, [], map, length, get_or, arith, take, drop}
+use Rattle.std.proofs.Common.{rules, sym, ◌∙◌, ap, subst}
+use Rattle.std.proofs.lemmas.List.{length-map, drop-drop, drop-map, take-map}
 use Rattle.std.proofs.lemmas.Simd.{length-chunk}
 use borrow.Rule.Slice.PartMut.{mid_of, put_mid, same_len_mid}
 use lib.Lanes.{chunk}
 use Rattle.ttx_packet.specs.BitOrder.{mirror}
-use Rattle.ttx_packet.proofs.BlockLemmas.{block_at, store_block, stored_whole, fewer}
+use Rattle.ttx_packet.proofs.BlockLemmas.{block_at, store_block, stored_whole}
 use Rattle.ttx_packet.proofs.bit_order.mirrored.Goals as goal
 
 pub loop-i-preserved : goal.loop-i-preserved
@@ -35,7 +35,7 @@ loop-i-preserved c =
     (long ∙ sym middle) ∙ c.loop-i.invariant.size in
     record {
       size = kept;
-      done = store_block mirror xs c.loop-i.other c.copy_from_slice.new.self (16 * i)
+      done = store_block mirror xs c.loop-i.other c.copy_from_slice.new.self (16 * i) 16
           (16 * i + 16 - 16 * i) (16 * (i + 1)) (omega arith) c.loop-i.invariant.done stored long
           within;
     }
@@ -44,19 +44,24 @@ pub returns : goal.returns
 returns c =
     let xs = c.args.bytes.now in
     let other = c.loop-i.other in
-    let front : take 26 other ≡ map mirror (take 26 xs) =
-    fewer mirror xs other 26 (16 * c.loop-i.i) (omega arith) c.loop-i.invariant.done in
-    let all : chunk 26 16 xs ≡ drop 26 xs = take_all 16 (drop 26 xs) (omega (arith, length-drop 26 xs)) in
-    let last : c.unwrap.result.now ≡ drop 26 xs = search rules in
-    let block : c.copy_from_slice-2.new.self ≡ map mirror (chunk 26 16 xs) =
-    c.copy_from_slice-2.ensures.after ∙ c.mirrored_block-last.ensures
-    ∙ ap (map mirror) (last ∙ sym all) in
-    let long : length c.copy_from_slice-2.new.self ≡ 16 =
-    ap length block ∙ length-map (chunk 26 16 xs) mirror ∙ length-chunk 26 16 xs (omega arith) in
-    let middle : length (mid_of 26 16 other) ≡ 16 = length-chunk 26 16 other (omega arith) in
-    let kept : length (put_mid 26 16 other c.copy_from_slice-2.new.self) ≡ 42 =
-    same_len_mid 26 16 other c.copy_from_slice-2.new.self (long ∙ sym middle)
+    let all = c.unwrap.result.now in
+    let whole : all ≡ drop 26 xs = search rules in
+    let blocks : 16 * c.loop-i.i ≡ 32 = omega arith in
+    let front : take 32 other ≡ map mirror (take 32 xs) =
+    subst (λ n. take n other ≡ map mirror (take n xs)) blocks c.loop-i.invariant.done in
+    let part : take 10 (drop 6 (drop 26 xs)) ≡ chunk 32 10 xs = ap (take 10) (drop-drop 6 26 xs) in
+    let block : c.copy_from_slice-2.new.self ≡ map mirror (chunk 32 10 xs) =
+    c.copy_from_slice-2.ensures.after
+    ∙ ap (λ l. take 10 (drop 6 l)) (c.mirrored_block-last.ensures ∙ ap (map mirror) whole)
+    ∙ ap (take 10) (drop-map mirror 6 (drop 26 xs))
+    ∙ take-map mirror 10 (drop 6 (drop 26 xs))
+    ∙ ap (map mirror) part in
+    let long : length c.copy_from_slice-2.new.self ≡ 10 =
+    ap length block ∙ length-map (chunk 32 10 xs) mirror ∙ length-chunk 32 10 xs (omega arith) in
+    let middle : length (mid_of 32 10 other) ≡ 10 = length-chunk 32 10 other (omega arith) in
+    let kept : length (put_mid 32 10 other c.copy_from_slice-2.new.self) ≡ 42 =
+    same_len_mid 32 10 other c.copy_from_slice-2.new.self (long ∙ sym middle)
     ∙ c.loop-i.invariant.size in
     stored_whole mirror xs _ 42 (omega (arith, kept)) (omega arith)
-    (store_block mirror xs other c.copy_from_slice-2.new.self 26 16 42 (omega arith) front block
+    (store_block mirror xs other c.copy_from_slice-2.new.self 32 10 10 42 (omega arith) front block
     long (omega arith))

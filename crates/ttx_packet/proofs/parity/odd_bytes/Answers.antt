@@ -47,7 +47,7 @@ loop-i-preserved c =
     (long ∙ sym middle) ∙ c.loop-i.invariant.size in
     record {
       size = kept;
-      done = store_block odd_byte xs c.loop-i.bytes c.copy_from_slice.new.self (16 * i)
+      done = store_block odd_byte xs c.loop-i.bytes c.copy_from_slice.new.self (16 * i) 16
           (16 * i + 16 - 16 * i) (16 * (i + 1)) (omega arith) c.loop-i.invariant.done stored long
           within;
     }
