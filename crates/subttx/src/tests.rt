@@ -10,12 +10,39 @@ mod show;
 mod watched;
 mod words;
 
+ghost use Rattle.std.specs.Prelude.{◌<◌};
+
 use crate::answer::{answer, say};
 use crate::request::Request;
 use crate::status::Status;
 use std::alloc::Global;
 use std::process::Abort;
-use sub_io::{MemSink, MemSource, Sink};
+use sub_io::{MemSink, MemSource, Sink, Source};
+
+// Answers a request of one input at most, which writes no file.
+fn answer_of<S: Source, K: Sink>(
+    alloc: Global,
+    request: &Request<'_>,
+    first: &mut S,
+    out: &mut K,
+) -> Status
+    requires first { S.failure_count first.old < u64.MAX }
+    requires out { K.failure_count out.old < u64.MAX }
+{
+    let mut second = MemSource::new(&[]);
+    let mut file = MemSink::new(&mut []);
+    answer(alloc, request, first, &mut second, &mut file, out)
+}
+
+// Answers words that read no file.
+fn answer_words<'a, K: Sink>(alloc: Global, words: &'a [&'a str], out: &mut K) -> Status
+    requires { K.failure_count out.old < u64.MAX }
+{
+    match Request::parse(alloc, words) {
+        Ok(request) => answer_of(alloc, &request, &mut MemSource::new(&[]), out),
+        Err(fault) => say(&fault, out),
+    }
+}
 
 // Asserts what the program prints for words, where `out` has room for so many bytes.
 fn assert_prints_into<'a>(
@@ -26,20 +53,7 @@ fn assert_prints_into<'a>(
     status: Status,
 ) {
     let mut out = MemSink::new(room);
-    let given = match Request::parse(rt.alloc(), words) {
-        Ok(request) => {
-            let mut no_room = [0u8; 0];
-            answer(
-                rt.alloc(),
-                &request,
-                &mut MemSource::new(&[]),
-                &mut MemSource::new(&[]),
-                &mut MemSink::new(&mut no_room),
-                &mut out,
-            )
-        }
-        Err(fault) => say(&fault, &mut out),
-    };
+    let given = answer_words(rt.alloc(), words, &mut out);
     assert!(rt; out.written() == want, "at {words:?}");
     assert_eq!(rt; given, status, "at {words:?}");
 }

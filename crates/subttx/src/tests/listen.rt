@@ -72,58 +72,62 @@ fn assert_hears<S: Source>(rt: &impl Abort, pes: &mut S, listening: &Listening, 
     assert_eq!(rt; status, wanted);
 }
 
+const LOST_0: &str = "refused 76 LostHeader frame 10:00:00:00 packet 0\n";
+
+const LOST_2: &str = "refused 76 LostHeader frame 10:00:00:00 packet 2\n";
+
+const LATER_LOST_0: &str = "refused 76 LostHeader frame 10:00:01:00 packet 0\n";
+
+// What is printed of the schedule of `Hi` every 25 frames.
+#[rattlefmt::skip]
+const HEARINGS: [(&str, &str, &str, &str, &str); 20] = [
+    // time, packets passed over, flips, lost packets, text
+    ("10:00:00:10", "0", "", "", HI),
+    ("10:00:00:10", "0", "1:21:1", "", HIT),
+    ("10:00:00:10", "0", HEADER_FLIPS, "", HI), // corrected
+    ("10:00:00:10", "1", "", "", NOTHING),
+    ("10:00:01:00", "1", "", "", HI),
+    ("10:00:02:00", "0", "", "", BLANK),
+    ("09:59:59:24", "0", "", "", NOTHING),
+    ("10:00:00:10", "0", "", "1", BLANK),
+    ("10:00:01:00", "0", "", "1", HI),
+    ("10:00:00:10", "1", "", "0", NOTHING),
+    ("10:00:00:10", "0", "1:21:1", "1", BLANK),
+    // packets are counted over the whole file, those passed over too
+    ("10:00:01:00", "0", "4:21:1", "", HIT),
+    ("10:00:01:00", "0", "", "4", BLANK),
+    ("10:00:01:00", "3", "4:21:1", "", HIT),
+    // a packet that is passed over, comes after the time, or is not there
+    ("10:00:01:00", "3", "1:21:1", "0,1", HI),
+    ("10:00:00:10", "0", "4:21:1", "3,4", HI),
+    ("10:00:00:10", "0", "9999999999:41:8", "9999999999", HI),
+    ("10:00:00:10", "0", "", "0", LOST_0),
+    ("10:00:00:10", "0", "", "1,2", LOST_2),
+    ("10:00:01:00", "3", "", "3,0", LATER_LOST_0),
+];
+
+// Asserts what is printed of bytes for the words of the options, with both receivers.
+fn assert_hears_by_words(
+    rt: &(impl Abort + Alloc<A = Global>),
+    pes: &[u8],
+    at: &str,
+    skip: &str,
+    flips: &str,
+    lost: &str,
+    want: &str,
+) -> Result<(), Fail> {
+    for receiver in [ReceiverKind::Keep, ReceiverKind::Blank] {
+        let listening = listening(rt.alloc(), at, skip, flips, lost, receiver)?;
+        assert_hears(rt, &mut MemSource::new(pes), &listening, want.as_bytes());
+    }
+    Ok(())
+}
+
 #[test]
 fn shows_what_a_receiver_got(rt: HostRuntime) -> Result<(), Fail> {
-    let alloc = rt.alloc();
-    let pes = schedule_of_hi(alloc, 25)?;
-    // time, packets passed over, flips, lost packets, text
-    for (at, skip, flips, lost, want) in [
-        ("10:00:00:10", "0", "", "", HI),
-        ("10:00:00:10", "0", "1:21:1", "", HIT),
-        ("10:00:00:10", "0", HEADER_FLIPS, "", HI), // corrected
-        ("10:00:00:10", "1", "", "", NOTHING),
-        ("10:00:01:00", "1", "", "", HI),
-        ("10:00:02:00", "0", "", "", BLANK),
-        ("09:59:59:24", "0", "", "", NOTHING),
-        ("10:00:00:10", "0", "", "1", BLANK),
-        ("10:00:01:00", "0", "", "1", HI),
-        ("10:00:00:10", "1", "", "0", NOTHING),
-        ("10:00:00:10", "0", "1:21:1", "1", BLANK),
-        // packets are counted over the whole file, those passed over too
-        ("10:00:01:00", "0", "4:21:1", "", HIT),
-        ("10:00:01:00", "0", "", "4", BLANK),
-        ("10:00:01:00", "3", "4:21:1", "", HIT),
-        // a packet that is passed over, comes after the time, or is not there
-        ("10:00:01:00", "3", "1:21:1", "0,1", HI),
-        ("10:00:00:10", "0", "4:21:1", "3,4", HI),
-        ("10:00:00:10", "0", "9999999999:41:8", "9999999999", HI),
-        (
-            "10:00:00:10",
-            "0",
-            "",
-            "0",
-            "refused 76 LostHeader frame 10:00:00:00 packet 0\n",
-        ),
-        (
-            "10:00:00:10",
-            "0",
-            "",
-            "1,2",
-            "refused 76 LostHeader frame 10:00:00:00 packet 2\n",
-        ),
-        (
-            "10:00:01:00",
-            "3",
-            "",
-            "3,0",
-            "refused 76 LostHeader frame 10:00:01:00 packet 0\n",
-        ),
-    ] {
-        for receiver in [ReceiverKind::Keep, ReceiverKind::Blank] {
-            let listening = listening(alloc, at, skip, flips, lost, receiver)?;
-            let mut source = MemSource::new(pes.as_slice());
-            assert_hears(&rt, &mut source, &listening, want.as_bytes());
-        }
+    let pes = schedule_of_hi(rt.alloc(), 25)?;
+    for (at, skip, flips, lost, want) in HEARINGS {
+        assert_hears_by_words(&rt, pes.as_slice(), at, skip, flips, lost, want)?;
     }
     Ok(())
 }
@@ -181,6 +185,23 @@ fn tells_faults_of_a_file_as_far_as_it_is_read(rt: HostRuntime) -> Result<(), Fa
     Ok(())
 }
 
+// Asserts that an output of so many bytes gets the first of the lines.
+fn assert_takes(rt: &impl Abort, pes: &[u8], listening: &Listening, len: usize) {
+    let mut room = [0; 128];
+    assert!(rt; len <= room.len());
+    let mut out = MemSink::new(&mut room[..len]);
+    let status = print_listening(&mut MemSource::new(pes), listening, &mut out);
+    assert_eq!(rt; status, Status::Fault);
+    assert!(rt; HI.as_bytes().starts_with(out.written()));
+    assert_eq!(rt; out.written().len(), len);
+}
+
+// Asserts what is printed of bytes whose source fails at a call.
+fn assert_fails_at(rt: &impl Abort, pes: &[u8], listening: &Listening, call: u64, want: &str) {
+    let mut source = FailAt::new(MemSource::new(pes), call);
+    assert_hears(rt, &mut source, listening, want.as_bytes());
+}
+
 #[test]
 fn ends_with_2_where_a_device_fails(rt: HostRuntime) -> Result<(), Fail> {
     let alloc = rt.alloc();
@@ -194,16 +215,10 @@ fn ends_with_2_where_a_device_fails(rt: HostRuntime) -> Result<(), Fail> {
         (3, "fault 41 Read pes 1\n"),
         (4, HI), // not called
     ] {
-        let mut source = FailAt::new(MemSource::new(pes.as_slice()), call);
-        assert_hears(&rt, &mut source, &listening, want.as_bytes());
+        assert_fails_at(&rt, pes.as_slice(), &listening, call, want);
     }
     for len in 0..HI.len() {
-        let mut room = vec![in alloc; 0; len]?;
-        let mut out = MemSink::new(room.as_mut_slice());
-        let status = print_listening(&mut MemSource::new(pes.as_slice()), &listening, &mut out);
-        assert_eq!(rt; status, Status::Fault);
-        assert!(rt; HI.as_bytes().starts_with(out.written()));
-        assert_eq!(rt; out.written().len(), len);
+        assert_takes(&rt, pes.as_slice(), &listening, len);
     }
     Ok(())
 }

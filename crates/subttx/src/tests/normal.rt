@@ -8,7 +8,7 @@ use crate::answer::normal::write_normal;
 use crate::status::Status;
 use std::alloc::Global;
 use std::process::Abort;
-use sub_io::{FailAt, MemSink, MemSource, Sink, Source};
+use sub_io::{FailAt, Flush, MemSink, MemSource, Sink, Source};
 
 // The head of a TTI block: group 0, subtitle 1, from 10:00:00:00 to 10:00:02:00, row 22, centred.
 const HEAD: [u8; 16] = [0, 1, 0, 0, 0, 10, 0, 0, 0, 10, 0, 2, 0, 22, 2, 0];
@@ -170,51 +170,66 @@ fn refuses_too_many_blocks(rt: HostRuntime) {
     assert_writes(&rt, &mut Endless::new(&gsi, &[1; 128]), line, 0);
 }
 
+// Asserts the line where the file fails.
+fn assert_write_fails<F: Flush>(rt: &(impl Abort + Alloc<A = Global>), file: &mut F)
+    requires { F.failure_count file.old < u64.MAX }
+{
+    let input = commented();
+    let mut text = [0; 64];
+    let mut out = MemSink::new(&mut text);
+    let status = write_normal(rt.alloc(), &mut MemSource::new(&input), file, &mut out);
+    assert_eq!(rt; status, Status::Fault);
+    assert!(rt; out.written() == b"fault 29 Write\n".as_slice());
+}
+
+// Asserts that a file of so many bytes gets the first of the normal form.
+fn assert_takes(rt: &(impl Abort + Alloc<A = Global>), want: &[u8], len: usize) {
+    let mut room = [0; 1280];
+    assert!(rt; len <= room.len());
+    let mut file = Watched::new(MemSink::new(&mut room[..len]));
+    assert_write_fails(rt, &mut file);
+    let given = file.inner().written();
+    assert!(rt;
+        given.len() == len && want.starts_with(given),
+        "{len} bytes"
+    );
+    assert_eq!(rt; file.late_calls(), 0);
+}
+
+// Asserts that a file is left alone after the call that fails.
+fn assert_stops_at(rt: &(impl Abort + Alloc<A = Global>), call: u64) {
+    let mut room = [0; 1280];
+    let mut file = Watched::new(FailAt::new(MemSink::new(&mut room), call));
+    assert_write_fails(rt, &mut file);
+    assert_eq!(rt; file.late_calls(), 0, "call {call}");
+}
+
+// Asserts that the file is whole where the output has room for so many bytes of the line.
+fn assert_keeps_the_file(rt: &(impl Abort + Alloc<A = Global>), want: &[u8], len: usize) {
+    let input = commented();
+    let mut room = [0; 1280];
+    let mut file = MemSink::new(&mut room);
+    let mut text = [0; 20];
+    assert!(rt; len <= text.len());
+    let mut out = Watched::new(MemSink::new(&mut text[..len]));
+    let status = write_normal(rt.alloc(), &mut MemSource::new(&input), &mut file, &mut out);
+    assert_eq!(rt; status, Status::Fault);
+    assert!(rt; file.written() == want, "{len} bytes");
+    assert_eq!(rt; out.late_calls(), 0);
+}
+
 #[test]
 fn writes_a_prefix_where_a_device_fails(rt: HostRuntime) {
-    let (input, want) = (commented(), normal_form());
+    let want = normal_form();
     for len in 0..1280 {
-        let mut room = [0; 1280];
-        let mut file = Watched::new(MemSink::new(&mut room[..len]));
-        let mut text = [0; 64];
-        let mut out = MemSink::new(&mut text);
-        let status = write_normal(rt.alloc(), &mut MemSource::new(&input), &mut file, &mut out);
-        assert_eq!(rt; status, Status::Fault, "{len} bytes");
-        assert!(rt;
-            out.written() == b"fault 29 Write\n".as_slice(),
-            "{len} bytes"
-        );
-        let given = file.inner().written();
-        assert!(rt;
-            given.len() == len && want.starts_with(given),
-            "{len} bytes"
-        );
-        assert_eq!(rt; file.late_calls(), 0, "{len} bytes");
+        assert_takes(&rt, &want, len);
     }
-    // The file is whole where the line is not: the output has room for so many bytes.
-    for len in 0..20 {
-        let mut room = [0; 1280];
-        let mut file = MemSink::new(&mut room);
-        let mut text = [0; 20];
-        let mut out = Watched::new(MemSink::new(&mut text[..len]));
-        let status = write_normal(rt.alloc(), &mut MemSource::new(&input), &mut file, &mut out);
-        assert_eq!(rt; status, Status::Fault, "{len} bytes");
-        assert!(rt; file.written() == want.as_slice(), "{len} bytes");
-        assert_eq!(rt; out.late_calls(), 0, "{len} bytes");
-    }
-    // The GSI block, a push of the subtitle, and the flush: the call that fails.
+    // The GSI block, a push of the subtitle, and the flush.
     for call in 0..3 {
-        let mut room = [0; 1280];
-        let mut file = Watched::new(FailAt::new(MemSink::new(&mut room), call));
-        let mut text = [0; 64];
-        let mut out = MemSink::new(&mut text);
-        let status = write_normal(rt.alloc(), &mut MemSource::new(&input), &mut file, &mut out);
-        assert_eq!(rt; status, Status::Fault, "call {call}");
-        assert!(rt;
-            out.written() == b"fault 29 Write\n".as_slice(),
-            "call {call}"
-        );
-        assert_eq!(rt; file.late_calls(), 0, "call {call}");
+        assert_stops_at(&rt, call);
+    }
+    for len in 0..20 {
+        assert_keeps_the_file(&rt, &want, len);
     }
 }
 

@@ -1,6 +1,5 @@
 //! `packet`: what is printed of packets of each number.
-use super::assert_prints;
-use crate::answer::answer;
+use super::{answer_of, assert_prints};
 use crate::request::Request;
 use crate::status::Status;
 use std::test::Fail;
@@ -118,15 +117,8 @@ fn shows_each_packet_number(rt: HostRuntime) -> Result<(), Fail> {
         let want = format!(in rt.alloc(); "magazine {shown} packet {y}\n{text}")?;
         let mut room = [0u8; 80];
         let mut out = MemSink::new(&mut room);
-        let mut no_room = [0u8; 0];
-        let status = answer(
-            rt.alloc(),
-            &Request::Packet { bytes },
-            &mut MemSource::new(&[]),
-            &mut MemSource::new(&[]),
-            &mut MemSink::new(&mut no_room),
-            &mut out,
-        );
+        let request = Request::Packet { bytes };
+        let status = answer_of(rt.alloc(), &request, &mut MemSource::new(&[]), &mut out);
         assert_eq!(rt; status, Status::Done, "packet number {y}");
         assert!(rt; out.written() == want.as_bytes(), "packet number {y}");
     }
@@ -137,15 +129,8 @@ fn shows_each_packet_number(rt: HostRuntime) -> Result<(), Fail> {
 fn ends_with_2_at_a_failing_push(rt: HostRuntime) {
     let mut room = [0u8; 80];
     let mut out = FailAt::new(MemSink::new(&mut room), 0);
-    let mut no_room = [0u8; 0];
-    let status = answer(
-        rt.alloc(),
-        &Request::Packet { bytes: [0x16; 42] },
-        &mut MemSource::new(&[]),
-        &mut MemSource::new(&[]),
-        &mut MemSink::new(&mut no_room),
-        &mut out,
-    );
+    let request = Request::Packet { bytes: [0x16; 42] };
+    let status = answer_of(rt.alloc(), &request, &mut MemSource::new(&[]), &mut out);
     assert_eq!(rt; status, Status::Fault);
     assert_eq!(rt; out.failures(), 1);
 }

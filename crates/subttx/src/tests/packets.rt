@@ -1,8 +1,8 @@
 //! `packets`: what is printed of PES files.
 ghost use Rattle.std.specs.Prelude.{◌<◌};
 
+use super::answer_of;
 use super::check::makers::schedule_of_hi;
-use crate::answer::answer;
 use crate::request::Request;
 use crate::status::Status;
 use std::alloc::Global;
@@ -64,15 +64,8 @@ fn assert_lists<S: Source + Drop>(
 {
     let mut room = [0u8; 768];
     let mut out = MemSink::new(&mut room);
-    let mut no_room = [0u8; 0];
-    let given = answer(
-        rt.alloc(),
-        &Request::Packets { pes: "a.pes" },
-        &mut pes,
-        &mut MemSource::new(&[]),
-        &mut MemSink::new(&mut no_room),
-        &mut out,
-    );
+    let request = Request::Packets { pes: "a.pes" };
+    let given = answer_of(rt.alloc(), &request, &mut pes, &mut out);
     assert_eq!(rt; given, status);
     let written = out.written();
     assert!(rt; written.starts_with(first) && written.ends_with(last));

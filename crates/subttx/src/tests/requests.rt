@@ -65,64 +65,81 @@ fn reads_the_words_of_a_schedule(rt: HostRuntime) -> Result<(), Fail> {
     Ok(())
 }
 
+// Asserts that a request is to listen to file a with this page and PTS of frame 0, up to a frame,
+// with so many packets passed over, and with these flips and lost packets.
+fn assert_listens(
+    rt: &impl Abort,
+    request: &Request<'_>,
+    want: &Options,
+    (at, skip): (u32, u64),
+    flips: &[Flip],
+    lost: &[u64],
+    receiver: ReceiverKind,
+) {
+    match request {
+        Request::Listen { pes, listening } => {
+            assert_eq!(rt; *pes, "a");
+            assert_eq!(rt; listening.options.page(), want.page());
+            assert_eq!(rt; listening.options.origin(), want.origin());
+            assert_eq!(rt; (listening.at, listening.skip), (at, skip));
+            assert!(rt; listening.flips.as_slice() == flips);
+            assert!(rt; listening.lost.as_slice() == lost);
+            assert_eq!(rt; listening.receiver, receiver);
+        }
+        _ => panic!(rt; "no listening"),
+    }
+}
+
 #[test]
 fn reads_the_words_of_a_receiver(rt: HostRuntime) -> Result<(), Fail> {
-    let alloc = rt.alloc();
-    // defaults
-    let words = ["subttx", "listen", "a", "--at", "10:00:00:10"];
-    let Ok(Request::Listen { pes, listening }) = Request::parse(alloc, &words) else {
-        return Err("listen".into());
-    };
-    assert_eq!(rt; (pes, listening.at, listening.skip), ("a", 900_010, 0));
-    assert_eq!(rt; (listening.flips.len(), listening.lost.len()), (0, 0));
-    assert_eq!(rt; listening.receiver, ReceiverKind::Blank);
-    let page = listening.options.page();
-    assert_eq!(rt;
-        (page.magazine(), page.page(), listening.options.origin()),
-        (0, 0x88, 0)
-    );
+    let defaults = ["subttx", "listen", "a", "--at", "10:00:00:10"];
+    let options = options("888", 250, 0)?;
+    match Request::parse(rt.alloc(), &defaults) {
+        Ok(request) => {
+            let numbers = (900_010, 0);
+            assert_listens(
+                &rt,
+                &request,
+                &options,
+                numbers,
+                &[],
+                &[],
+                ReceiverKind::Blank,
+            );
+        }
+        Err(_) => return Err("a request".into()),
+    }
+    Ok(())
+}
+
+// The flips of `--flip 1:21:1,02:0:8`.
+const FLIPS: [Flip; 2] = [
+    Flip {
+        packet: 1,
+        byte: 21,
+        bit: 1,
+    },
+    Flip {
+        packet: 2,
+        byte: 0,
+        bit: 8,
+    },
+];
+
+#[rattlefmt::skip]
+#[test]
+fn reads_all_words_of_a_receiver(rt: HostRuntime) -> Result<(), Fail> {
     let words = [
-        "subttx",
-        "listen",
-        "a",
-        "--page",
-        "100",
-        "--origin",
-        "1",
-        "--at",
-        "23:59:59:24",
-        "--skip",
-        "07",
-        "--flip",
-        "1:21:1,02:0:8",
-        "--lose",
-        "3,4",
-        "--receiver",
-        "keep",
+        "subttx", "listen", "a", "--page", "100", "--origin", "1", "--at", "23:59:59:24",
+        "--skip", "07", "--flip", "1:21:1,02:0:8", "--lose", "3,4", "--receiver", "keep",
     ];
-    let Ok(Request::Listen { pes, listening }) = Request::parse(alloc, &words) else {
-        return Err("listen with options".into());
-    };
-    assert_eq!(rt; (pes, listening.at, listening.skip), ("a", 2_159_999, 7));
-    let flips = [
-        Flip {
-            packet: 1,
-            byte: 21,
-            bit: 1,
-        },
-        Flip {
-            packet: 2,
-            byte: 0,
-            bit: 8,
-        },
-    ];
-    assert!(rt; listening.flips.as_slice() == flips.as_slice());
-    assert!(rt; listening.lost.as_slice() == [3, 4].as_slice());
-    assert_eq!(rt; listening.receiver, ReceiverKind::Keep);
-    let page = listening.options.page();
-    assert_eq!(rt;
-        (page.magazine(), page.page(), listening.options.origin()),
-        (1, 0, 1)
-    );
+    let options = options("100", 250, 1)?;
+    match Request::parse(rt.alloc(), &words) {
+        Ok(request) => {
+            let numbers = (2_159_999, 7);
+            assert_listens(&rt, &request, &options, numbers, &FLIPS, &[3, 4], ReceiverKind::Keep);
+        }
+        Err(_) => return Err("a request".into()),
+    }
     Ok(())
 }

@@ -7,7 +7,6 @@ use crate::answer::schedule::write_schedule;
 use crate::status::Status;
 use std::alloc::Global;
 use std::process::Abort;
-use std::test::Fail;
 use stl_rows::National;
 use sub_io::{FailAt, Flush, MemSink, MemSource, Sink, Source};
 use sub_plan::Options;
@@ -233,61 +232,82 @@ fn sets_the_control_bits_of_the_option_and_the_mode(rt: HostRuntime) {
     }
 }
 
-#[test]
-fn writes_a_prefix_where_a_device_fails(rt: HostRuntime) -> Result<(), Fail> {
+// Answers `schedule` of one subtitle every 250 frames.
+fn answer_of_one<F: Flush, K: Sink>(
+    rt: &impl Alloc<A = Global>,
+    file: &mut F,
+    out: &mut K,
+) -> Option<Status>
+    requires file { F.failure_count file.old < u64.MAX }
+    requires out { K.failure_count out.old < u64.MAX }
+{
     let stl = file_of_one(block());
-    let line = b"written 2 transmissions\n";
-    let case = written(250, 368, line);
-    let mut whole = [0; 368];
-    let mut file = MemSink::new(&mut whole);
+    let case = written(250, 368, b"written 2 transmissions\n");
+    answer_of(rt, &mut MemSource::new(&stl), case, file, out)
+}
+
+// Asserts the line where the file fails.
+fn assert_write_fails<F: Flush>(rt: &(impl Abort + Alloc<A = Global>), file: &mut F)
+    requires { F.failure_count file.old < u64.MAX }
+{
     let mut room = [0; 64];
     let mut out = MemSink::new(&mut room);
-    answer_of(&rt, &mut MemSource::new(&stl), case, &mut file, &mut out).ok_or("options")?;
-    assert!(rt; file.written().starts_with(&FIRST));
-    let want = file.written();
-    // A file of fewer bytes.
+    let status = answer_of_one(rt, file, &mut out);
+    assert_eq!(rt; status, Some(Status::Fault));
+    assert!(rt; out.written() == b"fault 42 Write\n".as_slice());
+}
+
+// Asserts that a file of so many bytes gets the first of a schedule.
+fn assert_takes(rt: &(impl Abort + Alloc<A = Global>), want: &[u8], len: usize) {
+    let mut room = [0; 368];
+    assert!(rt; len <= room.len());
+    let mut file = Watched::new(MemSink::new(&mut room[..len]));
+    assert_write_fails(rt, &mut file);
+    let given = file.inner().written();
+    assert!(rt;
+        given.len() == len && want.starts_with(given),
+        "{len} bytes"
+    );
+    assert_eq!(rt; file.late_calls(), 0);
+}
+
+// Asserts that a file is left alone after the call that fails.
+fn assert_stops_at(rt: &(impl Abort + Alloc<A = Global>), call: u64) {
+    let mut room = [0; 368];
+    let mut file = Watched::new(FailAt::new(MemSink::new(&mut room), call));
+    assert_write_fails(rt, &mut file);
+    assert_eq!(rt; file.late_calls(), 0, "call {call}");
+}
+
+// Asserts that the file is whole where the output has room for so many bytes of the line.
+fn assert_keeps_the_file(rt: &(impl Abort + Alloc<A = Global>), want: &[u8], len: usize) {
+    let mut room = [0; 368];
+    let mut file = MemSink::new(&mut room);
+    let mut text = [0; 24];
+    assert!(rt; len <= text.len());
+    let mut out = Watched::new(MemSink::new(&mut text[..len]));
+    let status = answer_of_one(rt, &mut file, &mut out);
+    assert_eq!(rt; status, Some(Status::Fault));
+    assert!(rt; file.written() == want, "{len} bytes");
+    assert_eq!(rt; out.late_calls(), 0);
+}
+
+#[test]
+fn writes_a_prefix_where_a_device_fails(rt: HostRuntime) {
+    let mut room = [0; 368];
+    let case = written(250, 368, b"written 2 transmissions\n");
+    assert_answers(&rt, &file_of_one(block()), case, &mut room);
+    assert!(rt; room.starts_with(&FIRST));
     for len in 0..368 {
-        let mut small = [0; 368];
-        let mut file = Watched::new(MemSink::new(&mut small[..len]));
-        let mut room = [0; 64];
-        let mut out = MemSink::new(&mut room);
-        let status = answer_of(&rt, &mut MemSource::new(&stl), case, &mut file, &mut out);
-        assert_eq!(rt; status, Some(Status::Fault), "{len} bytes");
-        assert!(rt;
-            out.written() == b"fault 42 Write\n".as_slice(),
-            "{len} bytes"
-        );
-        assert!(rt;
-            file.inner().written().len() == len && want.starts_with(file.inner().written())
-        );
-        assert_eq!(rt; file.late_calls(), 0, "{len} bytes");
+        assert_takes(&rt, &room, len);
     }
-    // Two pushes of the file and its flush: the call that fails.
+    // Two pushes of the file and its flush.
     for call in 0..3 {
-        let mut small = [0; 368];
-        let mut file = Watched::new(FailAt::new(MemSink::new(&mut small), call));
-        let mut room = [0; 64];
-        let mut out = MemSink::new(&mut room);
-        let status = answer_of(&rt, &mut MemSource::new(&stl), case, &mut file, &mut out);
-        assert_eq!(rt; status, Some(Status::Fault), "call {call}");
-        assert!(rt;
-            out.written() == b"fault 42 Write\n".as_slice(),
-            "call {call}"
-        );
-        assert_eq!(rt; file.late_calls(), 0, "call {call}");
+        assert_stops_at(&rt, call);
     }
-    // The file is whole where the line is not: the output has room for so many bytes.
     for len in 0..24 {
-        let mut small = [0; 368];
-        let mut file = MemSink::new(&mut small);
-        let mut room = [0; 24];
-        let mut out = Watched::new(MemSink::new(&mut room[..len]));
-        let status = answer_of(&rt, &mut MemSource::new(&stl), case, &mut file, &mut out);
-        assert_eq!(rt; status, Some(Status::Fault), "{len} bytes");
-        assert!(rt; file.written() == want, "{len} bytes");
-        assert_eq!(rt; out.late_calls(), 0, "{len} bytes");
+        assert_keeps_the_file(&rt, &room, len);
     }
-    Ok(())
 }
 
 #[test]

@@ -1,7 +1,7 @@
 //! `show`: what is printed of subtitle files, whole and refused.
 ghost use Rattle.std.specs.Prelude.{◌<◌};
 
-use crate::answer::answer;
+use super::answer_of;
 use crate::request::Request;
 use crate::status::Status;
 use std::alloc::Global;
@@ -31,15 +31,7 @@ fn assert_shows_into<S: Source>(
     requires { S.failure_count file.old < u64.MAX }
 {
     let mut out = MemSink::new(room);
-    let mut no_room = [0u8; 0];
-    let given = answer(
-        rt.alloc(),
-        &Request::Show { stl: "a.stl" },
-        file,
-        &mut MemSource::new(&[]),
-        &mut MemSink::new(&mut no_room),
-        &mut out,
-    );
+    let given = answer_of(rt.alloc(), &Request::Show { stl: "a.stl" }, file, &mut out);
     assert!(rt; out.written() == want);
     assert_eq!(rt; given, status);
 }

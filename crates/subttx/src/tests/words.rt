@@ -89,76 +89,117 @@ fn refuses_digits_that_are_no_packet(rt: HostRuntime) {
     }
 }
 
-// The arguments of a schedule in the order in which their faults are told.
+// The arguments of a schedule, in the order in which their faults are told, and the line.
 #[rattlefmt::skip]
+const SCHEDULES: [(&str, &str, &str, &str, &str); 15] = [
+    // page, every, origin, option, line
+    ("8FF", "0", "x", "french", "usage 1 BadPage\n"),
+    ("088", "250", "0", "english", "usage 1 BadPage\n"),
+    ("", "250", "0", "english", "usage 1 BadPage\n"),
+    ("888", "0", "x", "french", "usage 80 Every\n"),
+    ("888", "x", "8589934592", "english", "usage 80 Every\n"),
+    ("888", "1501", "0", "english", "usage 80 Every\n"),
+    ("888", "00000000001", "0", "english", "usage 80 Every\n"), // eleven digits
+    ("888", "+1", "0", "english", "usage 80 Every\n"),
+    ("888", "", "0", "english", "usage 80 Every\n"),
+    ("888", "1500", "8589934592", "french", "usage 81 Origin\n"),
+    ("888", "1", "x", "german", "usage 81 Origin\n"),
+    ("888", "1", "99999999990", "german", "usage 81 Origin\n"),
+    ("888", "1", "8589934591", "french", "usage 83 BadOption\n"),
+    ("888", "1", "0", "English", "usage 83 BadOption\n"),
+    ("888", "1", "0", "", "usage 83 BadOption\n"),
+];
+
+// Asserts the line of the words of a schedule.
+fn assert_schedule_refused(
+    rt: &(impl Abort + Alloc<A = Global>),
+    pes: &str,
+    page: &str,
+    every: &str,
+    origin: &str,
+    option: &str,
+    want: &str,
+) {
+    let words = [
+        "subttx", "schedule", "a", pes, "--page", page, "--every", every, "--origin", origin,
+        "--option", option,
+    ];
+    assert_refuses(rt, &words, want.as_bytes());
+}
+
+// The same of a check, which may name one file twice.
+fn assert_check_refused(
+    rt: &(impl Abort + Alloc<A = Global>),
+    pes: &str,
+    page: &str,
+    every: &str,
+    origin: &str,
+    option: &str,
+    want: &str,
+) {
+    let words = [
+        "subttx", "check", "--option", option, "--origin", origin, "--every", every, "--page",
+        page, "a", pes,
+    ];
+    assert_refuses(rt, &words, want.as_bytes());
+}
+
 #[test]
 fn tells_the_first_fault_of_a_schedule(rt: HostRuntime) {
-    // PES, page, every, origin, option, line
-    for (pes, page, every, origin, option, want) in [
-        ("a", "8FF", "0", "x", "french", b"usage 7 SameFile\n".as_slice()),
-        ("b", "8FF", "0", "x", "french", b"usage 1 BadPage\n"),
-        ("b", "088", "250", "0", "english", b"usage 1 BadPage\n"),
-        ("b", "", "250", "0", "english", b"usage 1 BadPage\n"),
-        ("b", "888", "0", "x", "french", b"usage 80 Every\n"),
-        ("b", "888", "x", "8589934592", "english", b"usage 80 Every\n"),
-        ("b", "888", "1501", "0", "english", b"usage 80 Every\n"),
-        ("b", "888", "00000000001", "0", "english", b"usage 80 Every\n"), // eleven digits
-        ("b", "888", "+1", "0", "english", b"usage 80 Every\n"),
-        ("b", "888", "", "0", "english", b"usage 80 Every\n"),
-        ("b", "888", "1500", "8589934592", "french", b"usage 81 Origin\n"),
-        ("b", "888", "1", "x", "german", b"usage 81 Origin\n"),
-        ("b", "888", "1", "99999999990", "german", b"usage 81 Origin\n"),
-        ("b", "888", "1", "8589934591", "french", b"usage 83 BadOption\n"),
-        ("b", "888", "1", "0", "English", b"usage 83 BadOption\n"),
-        ("b", "888", "1", "0", "", b"usage 83 BadOption\n"),
-    ] {
-        let words = [
-            "subttx", "schedule", "a", pes, "--page", page, "--every", every, "--origin", origin,
-            "--option", option,
-        ];
-        assert_refuses(&rt, &words, want);
-        // The same of a check, which may name one file twice.
-        let words = [
-            "subttx", "check", "--option", option, "--origin", origin, "--every", every, "--page",
-            page, "a", pes,
-        ];
-        let want = if pes == "a" {
-            b"usage 1 BadPage\n"
-        } else {
-            want
-        };
-        assert_refuses(&rt, &words, want);
+    for (page, every, origin, option, want) in SCHEDULES {
+        assert_schedule_refused(&rt, "b", page, every, origin, option, want);
+        assert_check_refused(&rt, "b", page, every, origin, option, want);
     }
+    assert_schedule_refused(&rt, "a", "8FF", "0", "x", "french", "usage 7 SameFile\n");
+    assert_check_refused(&rt, "a", "8FF", "0", "x", "french", "usage 1 BadPage\n");
     assert_refuses(&rt, &["subttx", "normal", "a", "a"], b"usage 7 SameFile\n");
 }
 
-// The arguments of a receiver in the order in which their faults are told.
+const TIME: &str = "10:00:00:10";
+
+// The arguments of a receiver, in the order in which their faults are told, and the line.
 #[rattlefmt::skip]
+const RECEIVERS: [(&str, &str, &str, &str, &str, &str, &str, &str); 14] = [
+    // page, origin, at, skip, flip, lose, receiver, line
+    ("8FF", "x", "x", "x", "x", "x", "x", "usage 1 BadPage\n"),
+    ("888", "8589934592", "x", "x", "x", "x", "x", "usage 81 Origin\n"),
+    ("888", "0", "24:00:00:00", "x", "x", "x", "x", "usage 6 BadTime\n"),
+    ("888", "0", "10:00:00:25", "0", "0:0:1", "0", "keep", "usage 6 BadTime\n"),
+    ("888", "0", "1:00:00:10", "0", "0:0:1", "0", "keep", "usage 6 BadTime\n"),
+    ("888", "0", TIME, "x", "x", "x", "x", "usage 8 BadSkip\n"),
+    ("888", "0", TIME, "0", "1:21:1,1:21:2", "x", "x", "usage 5 BadFlip\n"),
+    ("888", "0", TIME, "0", "", "0", "keep", "usage 5 BadFlip\n"),
+    ("888", "0", TIME, "0", "0:42:1", "0", "keep", "usage 5 BadFlip\n"),
+    ("888", "0", TIME, "0", "0:0:0", "0", "keep", "usage 5 BadFlip\n"),
+    ("888", "0", TIME, "0", "0:41:8", "1,1", "x", "usage 84 BadLose\n"),
+    ("888", "0", TIME, "0", "0:41:8", "1,01", "keep", "usage 84 BadLose\n"),
+    ("888", "0", TIME, "0", "0:41:8", "", "keep", "usage 84 BadLose\n"),
+    ("888", "0", TIME, "0", "0:41:8", "1,2", "all", "usage 9 BadReceiver\n"),
+];
+
 #[test]
 fn tells_the_first_fault_of_a_receiver(rt: HostRuntime) {
-    let time = "10:00:00:10";
-    // page, origin, at, skip, flip, lose, receiver, line
-    for (page, origin, at, skip, flip, lose, receiver, want) in [
-        ("8FF", "x", "x", "x", "x", "x", "x", b"usage 1 BadPage\n".as_slice()),
-        ("888", "8589934592", "x", "x", "x", "x", "x", b"usage 81 Origin\n"),
-        ("888", "0", "24:00:00:00", "x", "x", "x", "x", b"usage 6 BadTime\n"),
-        ("888", "0", "10:00:00:25", "0", "0:0:1", "0", "keep", b"usage 6 BadTime\n"),
-        ("888", "0", "1:00:00:10", "0", "0:0:1", "0", "keep", b"usage 6 BadTime\n"),
-        ("888", "0", time, "x", "x", "x", "x", b"usage 8 BadSkip\n"),
-        ("888", "0", time, "0", "1:21:1,1:21:2", "x", "x", b"usage 5 BadFlip\n"),
-        ("888", "0", time, "0", "", "0", "keep", b"usage 5 BadFlip\n"),
-        ("888", "0", time, "0", "0:42:1", "0", "keep", b"usage 5 BadFlip\n"),
-        ("888", "0", time, "0", "0:0:0", "0", "keep", b"usage 5 BadFlip\n"),
-        ("888", "0", time, "0", "0:41:8", "1,1", "x", b"usage 84 BadLose\n"),
-        ("888", "0", time, "0", "0:41:8", "1,01", "keep", b"usage 84 BadLose\n"),
-        ("888", "0", time, "0", "0:41:8", "", "keep", b"usage 84 BadLose\n"),
-        ("888", "0", time, "0", "0:41:8", "1,2", "all", b"usage 9 BadReceiver\n"),
-    ] {
+    for (page, origin, at, skip, flip, lose, receiver, want) in RECEIVERS {
         let words = [
-            "subttx", "listen", "a", "--page", page, "--origin", origin, "--at", at, "--skip", skip,
-            "--flip", flip, "--lose", lose, "--receiver", receiver,
+            "subttx",
+            "listen",
+            "a",
+            "--page",
+            page,
+            "--origin",
+            origin,
+            "--at",
+            at,
+            "--skip",
+            skip,
+            "--flip",
+            flip,
+            "--lose",
+            lose,
+            "--receiver",
+            receiver,
         ];
-        assert_refuses(&rt, &words, want);
+        assert_refuses(&rt, &words, want.as_bytes());
     }
 }
 

@@ -1,27 +1,49 @@
 //! Verdicts where a source fails, gives a byte at a time, or never ends.
 use super::devices::{Counting, Drip, Endless};
 use super::makers::{assert_checks, every, hi, push_gsi, schedule_of_hi};
+use std::alloc::Global;
+use std::process::Abort;
 use std::test::Fail;
 use stl_rows::National;
 use sub_io::{FailAt, MemSource, Source};
+use sub_plan::Options;
+
+// Asserts the line of a check whose sources give a byte a pull and fail at these pulls. Gives how
+// often each was pulled and failed.
+fn assert_fails(
+    rt: &(impl Abort + Alloc<A = Global>),
+    stl: Drip<'_>,
+    stl_pull: u64,
+    pes: Drip<'_>,
+    pes_pull: u64,
+    options: &Options,
+    want: &str,
+) -> (u64, u64, u64, u64) {
+    let mut stl = Counting::new(FailAt::new(stl, stl_pull));
+    let mut pes = Counting::new(FailAt::new(pes, pes_pull));
+    assert_checks(rt, &mut stl, &mut pes, National::English, options, want);
+    (stl.pulls(), stl.failures(), pes.pulls(), pes.failures())
+}
 
 #[test]
 fn tells_the_pes_packet_of_a_failing_pull(rt: HostRuntime) -> Result<(), Fail> {
     let alloc = rt.alloc();
     let (file, pes) = (hi(alloc)?, schedule_of_hi(alloc, 250)?);
     let options = every(250)?;
-    // 368 pulls give a byte each, and one the end.
-    for k in 0..=369 {
-        let want = if k < 369 {
-            format!(in alloc; "fault 41 Read pes {}\n", k / 184)?
-        } else {
-            format!(in alloc; "accepted 51 frames 2 transmissions\n")?
-        };
-        let mut stl = Drip::new(file.as_slice());
-        let mut pes = Counting::new(FailAt::new(Drip::new(pes.as_slice()), k));
-        assert_checks(&rt, &mut stl, &mut pes, National::English, &options, &want);
-        assert_eq!(rt; pes.failures(), u64::from(k < 369), "pull {k}");
-        assert_eq!(rt; pes.pulls(), (k + 1).min(369), "pull {k}");
+    // 368 pulls give a byte each, and one the end. The first pull, the one behind the last, line
+    for (begin, end, want) in [
+        (0, 184, "fault 41 Read pes 0\n"),
+        (184, 368, "fault 41 Read pes 1\n"),
+        (368, 369, "fault 41 Read pes 2\n"),
+        (369, 370, "accepted 51 frames 2 transmissions\n"),
+    ] {
+        for k in begin..end {
+            let (stl, pes) = (Drip::new(file.as_slice()), Drip::new(pes.as_slice()));
+            // 1152 pulls of the subtitle source give a byte each, and one the end.
+            let counts = assert_fails(&rt, stl, 1153, pes, k, &options, want);
+            let fails = u64::from(k < 369);
+            assert_eq!(rt; counts, (1153, 0, (k + 1).min(369), fails), "pull {k}");
+        }
     }
     Ok(())
 }
@@ -31,16 +53,18 @@ fn tells_the_block_of_a_failing_pull(rt: HostRuntime) -> Result<(), Fail> {
     let alloc = rt.alloc();
     let (file, pes) = (hi(alloc)?, schedule_of_hi(alloc, 250)?);
     let options = every(250)?;
-    // 1152 pulls give a byte each, and one the end.
-    for k in 0..1153 {
-        let block = if k < 1024 { 0 } else { (k - 1024) / 128 + 1 };
-        let want = format!(in alloc; "fault 26 Read block {block}\n")?;
-        let mut stl = Counting::new(FailAt::new(Drip::new(file.as_slice()), k));
-        // The PES source would fail too.
-        let mut pes = Counting::new(FailAt::new(Drip::new(pes.as_slice()), 0));
-        assert_checks(&rt, &mut stl, &mut pes, National::English, &options, &want);
-        assert_eq!(rt; (stl.failures(), stl.pulls()), (1, k + 1), "pull {k}");
-        assert_eq!(rt; (pes.failures(), pes.pulls()), (0, 0), "pull {k}");
+    // 1152 pulls give a byte each, and one the end. The first pull, the one behind the last, line
+    for (begin, end, want) in [
+        (0, 1024, "fault 26 Read block 0\n"),
+        (1024, 1152, "fault 26 Read block 1\n"),
+        (1152, 1153, "fault 26 Read block 2\n"),
+    ] {
+        for k in begin..end {
+            let (stl, pes) = (Drip::new(file.as_slice()), Drip::new(pes.as_slice()));
+            // The PES source would fail too.
+            let counts = assert_fails(&rt, stl, k, pes, 0, &options, want);
+            assert_eq!(rt; counts, (k + 1, 1, 0, 0), "pull {k}");
+        }
     }
     Ok(())
 }

@@ -177,3 +177,21 @@ pub fn assert_tells(
     let (mut stl, mut pes) = (MemSource::new(stl), MemSource::new(pes));
     assert_checks(rt, &mut stl, &mut pes, National::English, options, want);
 }
+
+/// Asserts the line of a check of two files where a byte of the PES file is changed from one value
+/// to another. It is changed back.
+pub fn assert_judges(
+    rt: &(impl Abort + Alloc<A = Global>),
+    stl: &[u8],
+    pes: &mut [u8],
+    at: usize,
+    (from, to): (u8, u8),
+    options: &Options,
+    want: &str,
+) {
+    assert!(rt; at < pes.len());
+    assert_eq!(rt; pes[at], from, "at {at}");
+    pes[at] = to;
+    assert_tells(rt, stl, pes, options, want);
+    pes[at] = from;
+}

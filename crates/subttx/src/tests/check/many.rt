@@ -4,9 +4,12 @@ use super::makers::{
 };
 use crate::answer::check::print_verdict;
 use crate::status::Status;
+use std::alloc::Global;
+use std::process::Abort;
 use std::test::Fail;
 use stl_rows::National;
 use sub_io::{MemSink, MemSource, Sink};
+use sub_plan::Options;
 
 #[test]
 fn accepts_2000_subtitles(rt: HostRuntime) -> Result<(), Fail> {
@@ -24,25 +27,32 @@ fn accepts_2000_subtitles(rt: HostRuntime) -> Result<(), Fail> {
     Ok(())
 }
 
+// Asserts that an output of so many bytes gets the first of the line.
+fn assert_fills(
+    rt: &(impl Abort + Alloc<A = Global>),
+    stl: &[u8],
+    pes: &[u8],
+    options: &Options,
+    len: usize,
+) {
+    let want = b"accepted 51 frames 2 transmissions\n";
+    let mut room = [0; 35];
+    assert!(rt; len <= room.len());
+    let mut out = MemSink::new(&mut room[..len]);
+    let (mut stl, mut pes) = (MemSource::new(stl), MemSource::new(pes));
+    let national = National::English;
+    let status = print_verdict(rt.alloc(), &mut stl, &mut pes, national, options, &mut out);
+    assert_eq!(rt; (status, out.failures()), (Status::Fault, 1));
+    assert!(rt; out.written() == &want[..len], "room of {len}");
+}
+
 #[test]
 fn ends_with_2_where_the_output_is_full(rt: HostRuntime) -> Result<(), Fail> {
     let alloc = rt.alloc();
     let (file, pes) = (hi(alloc)?, schedule_of_hi(alloc, 250)?);
     let options = every(250)?;
-    let want = b"accepted 51 frames 2 transmissions\n";
-    for len in 0..want.len() {
-        let mut room = [0; 35];
-        assert!(rt; len <= room.len());
-        let mut out = MemSink::new(&mut room[..len]);
-        let (mut stl, mut pes) = (
-            MemSource::new(file.as_slice()),
-            MemSource::new(pes.as_slice()),
-        );
-        let national = National::English;
-        let status = print_verdict(alloc, &mut stl, &mut pes, national, &options, &mut out);
-        assert_eq!(rt; status, Status::Fault, "room of {len}");
-        assert_eq!(rt; out.failures(), 1, "room of {len}");
-        assert_eq!(rt; out.written(), &want[..len], "room of {len}");
+    for len in 0..35 {
+        assert_fills(&rt, file.as_slice(), pes.as_slice(), &options, len);
     }
     Ok(())
 }

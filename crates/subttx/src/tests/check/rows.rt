@@ -1,7 +1,7 @@
 //! Verdicts on small programmes, and on PES files with one thing wrong.
 use super::makers::{
-    HI, TEN, assert_checks, assert_tells, every, file_of, first_packets, hi, options, push_gsi,
-    push_pes, push_subtitle, schedule_of, schedule_of_hi,
+    HI, TEN, assert_checks, assert_judges, assert_tells, every, file_of, first_packets, hi,
+    options, push_gsi, push_pes, push_subtitle, schedule_of, schedule_of_hi,
 };
 use std::alloc::Global;
 use std::test::Fail;
@@ -103,46 +103,39 @@ fn refuses_two_subtitles_out_of_order(rt: HostRuntime) -> Result<(), Fail> {
     Ok(())
 }
 
+#[rattlefmt::skip]
+const WRONG_BYTES: [(u8, u8, u8, u8, &str); 6] = [
+    // packet, byte of it, its value, what it becomes, line
+    // the H of the row
+    (1, 21, 0xC8, 0x48, "refused 68 Parity frame 10:00:00:00 packet 1\n"),
+    // C4 of the header
+    (0, 5, 0xD0, 0x15, "refused 67 Control frame 10:00:00:00 packet 0\n"),
+    // the row's address, with a wrong bit
+    (1, 1, 0x9B, 0x9A, "refused 64 Address frame 10:00:00:00 packet 1\n"),
+    // the page tens: one bit wrong, and two
+    (0, 3, 0xD0, 0xD1, "refused 65 HeaderCode frame 10:00:00:00 packet 0\n"),
+    (0, 3, 0xD0, 0x16, "refused 65 HeaderCode frame 10:00:00:00 packet 0\n"),
+    // C11 of the closing header
+    (2, 9, 0x15, 0x02, "refused 66 Mode frame 10:00:00:00 packet 2\n"),
+];
+
 #[test]
 fn names_the_packet_of_a_wrong_byte(rt: HostRuntime) -> Result<(), Fail> {
     let alloc = rt.alloc();
-    let file = hi(alloc)?;
-    let good = schedule_of_hi(alloc, 250)?;
+    let (file, mut pes) = (hi(alloc)?, schedule_of_hi(alloc, 250)?);
     let options = every(250)?;
-    // packet, byte of it, its value, what it becomes, line
-    let changes: [(u8, u8, u8, u8, &str); 6] = [
-        // the H of the row
-        (1, 21, 0xC8, 0x48, "68 Parity frame 10:00:00:00 packet 1\n"),
-        // C4 of the header
-        (0, 5, 0xD0, 0x15, "67 Control frame 10:00:00:00 packet 0\n"),
-        // the row's address, with a wrong bit
-        (1, 1, 0x9B, 0x9A, "64 Address frame 10:00:00:00 packet 1\n"),
-        // the page tens: one bit wrong, and two
-        (
-            0,
-            3,
-            0xD0,
-            0xD1,
-            "65 HeaderCode frame 10:00:00:00 packet 0\n",
-        ),
-        (
-            0,
-            3,
-            0xD0,
-            0x16,
-            "65 HeaderCode frame 10:00:00:00 packet 0\n",
-        ),
-        // C11 of the closing header
-        (2, 9, 0x15, 0x02, "66 Mode frame 10:00:00:00 packet 2\n"),
-    ];
-    for (packet, byte, from, to, want) in changes {
-        let mut pes = good.clone()?;
-        let place = 50 + 46 * packet as usize + byte as usize;
-        let place = pes.as_mut_slice().get_mut(place).ok_or("a place")?;
-        assert_eq!(rt; *place, mirror(from), "of {want}");
-        *place = mirror(to);
-        let want = format!(in alloc; "refused {want}")?;
-        assert_tells(&rt, file.as_slice(), pes.as_slice(), &options, &want);
+    for (packet, byte, from, to, want) in WRONG_BYTES {
+        let at = 50 + 46 * packet as usize + byte as usize;
+        let change = (mirror(from), mirror(to));
+        assert_judges(
+            &rt,
+            file.as_slice(),
+            pes.as_mut_slice(),
+            at,
+            change,
+            &options,
+            want,
+        );
     }
     Ok(())
 }
