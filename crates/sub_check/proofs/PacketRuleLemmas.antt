@@ -282,7 +282,8 @@ header_is_zero p h e = go (address p) refl e
     zero_or a false t f = absurd (none-some h f)
 
     go : (o : Option PacketAddress) → address p ≡ o
-        → option_and_then (λ (a : PacketAddress). cond (a.packet_number == 0) (coded_header p) None) o
+        → option_and_then
+        (λ (a : PacketAddress). cond (a.packet_number == 0) (coded_header p) None) o
         ≡ Some h
         → (a : PacketAddress) × (address p ≡ Some a) × (a.packet_number ≡ 0)
     go None q f = absurd (none-some h f)

@@ -1,6 +1,7 @@
 -- Hamming 8/4: the definition by nearness, the function, and what one wrong bit leaves
 -- (decoded-near).
-use Rattle.std.proofs.Common.{◌≡◌, ℕ, ◌^◌, ◌<◌, inl, inr, Bool, true, false, not, cond, ◌==◌, ◌||◌, Option, Some, None, bit_xor}
+use Rattle.std.proofs.Common.{◌≡◌, ℕ, ◌^◌, ◌<◌, inl, inr, Bool, true, false, not, cond, ◌==◌}
+use Rattle.std.proofs.Common.{◌||◌, Option, Some, None, bit_xor}
 use Rattle.std.proofs.Common.{◌∙◌, ◌%◌, refl, sym, ap, subst, get_or, nat_eq, nat_lt, eqb-true}
 use Rattle.std.proofs.lemmas.Bool.{agree_below, agree_below_at, or_cases, ltb-true}
 use Rattle.std.proofs.lemmas.Bool.{lt-ltb, not-true, true≢false}

@@ -1,5 +1,6 @@
 -- Nearness as a test: what `is_near` computes is `IsNear` (near_from_test, is_near_from).
-use Rattle.std.proofs.Common.{◌≡◌, ℕ, zero, suc, ◌^◌, ◌<◌, inl, inr, Bool, true, false, ◌==◌, cond, Option, Some, None}
+use Rattle.std.proofs.Common.{◌≡◌, ℕ, zero, suc, ◌^◌, ◌<◌, inl, inr, Bool, true, false, ◌==◌}
+use Rattle.std.proofs.Common.{cond, Option, Some, None}
 use Rattle.std.proofs.Common.{is_some, bit_xor, refl, sym, subst, arith, eq-eqb, eqb-true}
 use Rattle.std.specs.Option.{option_or}
 use Rattle.std.proofs.lemmas.Bool.{or_left, or_right, or_cases, cases_eq, cases_Bool}

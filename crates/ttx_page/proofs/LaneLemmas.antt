@@ -10,7 +10,8 @@ use Rattle.std.proofs.lemmas.List.Sums.{count_by_more_no, count_by_more_yes}
 use Rattle.std.proofs.lemmas.Nat.Bits.{bit_at-trailing_zeros}
 use Rattle.std.proofs.lemmas.Simd.{length-zip2, get_or-zip2, length-chunk, get_or-chunk}
 use Rattle.std.proofs.lemmas.Simd.{mask_l-lt, mask_l-mod, tops_compared, trailing_mask_l}
-use Rattle.std.proofs.lemmas.Simd.{ones-mask_l, none_from_empty_mask, run_in_chunk_stops, run_in_chunk_fails}
+use Rattle.std.proofs.lemmas.Simd.{ones-mask_l, none_from_empty_mask, run_in_chunk_stops}
+use Rattle.std.proofs.lemmas.Simd.{run_in_chunk_fails}
 use Rattle.std.specs.List.{prefix_len, count_by}
 use Rattle.std.specs.Int.RustNames.{count_ones}
 use lib.Count.{count_trailing_zeros}

@@ -1,4 +1,5 @@
-use Rattle.std.proofs.Common.{◌≡◌, ◌+◌, ◌*◌, ◌/◌, ◌-◌, ◌<◌, ◌≤◌, [], map, length, get_or, arith, take, drop}
+use Rattle.std.proofs.Common.{◌≡◌, ◌+◌, ◌*◌, ◌/◌, ◌-◌, ◌<◌, ◌≤◌, [], map, length}
+use Rattle.std.proofs.Common.{get_or, arith, take, drop}
 use Rattle.std.proofs.Common.{rules, sym, ◌∙◌, ap, subst}
 use Rattle.std.proofs.lemmas.List.{length-map, drop-drop, drop-map, take-map}
 use Rattle.std.proofs.lemmas.Simd.{length-chunk}

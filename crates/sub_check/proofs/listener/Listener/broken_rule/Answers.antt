@@ -37,7 +37,8 @@ returns-then-is_subtitle_header c heard known =
     sym c.requires.kind ∙ c.in-ThisPage.is in
     clean_from w heard p (c.is_clean_address.ensures.0 c.if-not-is_clean_address.false)
     (c.has_exact_codes.ensures.0 c.if-not-has_exact_codes.false)
-    (mode_free _ _ w heard p c.requires.page_header known.serial_is (c.has_mode.ensures.0 c.if-not-has_mode.false))
+    (mode_free _ _ w heard p c.requires.page_header known.serial_is
+    (c.has_mode.ensures.0 c.if-not-has_mode.false))
     (λ h e. let same : c.in-ThisPage.header ≡ h = cc in
     rw (← same) (c.is_subtitle_header.ensures.0 c.if-is_subtitle_header.true))
     (parity_free w heard p _ k (λ row e. cc)) (changed_free w heard p _ k (λ row e. cc))
@@ -51,7 +52,8 @@ returns-else-is_subtitle_header c heard known =
     sym c.requires.kind ∙ c.in-ThisPage.is in
     first_control w heard p (c.is_clean_address.ensures.0 c.if-not-is_clean_address.false)
     (c.has_exact_codes.ensures.0 c.if-not-has_exact_codes.false)
-    (mode_free _ _ w heard p c.requires.page_header known.serial_is (c.has_mode.ensures.0 c.if-not-has_mode.false))
+    (mode_free _ _ w heard p c.requires.page_header known.serial_is
+    (c.has_mode.ensures.0 c.if-not-has_mode.false))
     (λ free. iff_false c.is_subtitle_header.ensures c.if-is_subtitle_header.false
     (free c.in-ThisPage.header k))
 
@@ -62,7 +64,8 @@ returns-in-EndsPage c heard known =
     let k : kind w.page p ≡ EndsPage = sym c.requires.kind ∙ c.in-EndsPage.is in
     clean_from w heard p (c.is_clean_address.ensures.0 c.if-not-is_clean_address.false)
     (c.has_exact_codes.ensures.0 c.if-not-has_exact_codes.false)
-    (mode_free _ _ w heard p c.requires.page_header known.serial_is (c.has_mode.ensures.0 c.if-not-has_mode.false))
+    (mode_free _ _ w heard p c.requires.page_header known.serial_is
+    (c.has_mode.ensures.0 c.if-not-has_mode.false))
     (control_free w heard p _ k (λ h e. cc))
     (parity_free w heard p _ k (λ row e. cc)) (changed_free w heard p _ k (λ row e. cc))
     (enhancement_free w heard p _ k (λ e. cc))
@@ -75,7 +78,8 @@ returns-then-not-self c heard known =
     let shut : is_open_after (kind w.page) heard ≡ false = sym known.open_is ∙ c.if-not-self.true in
     clean_from w heard p (c.is_clean_address.ensures.0 c.if-not-is_clean_address.false)
     (c.has_exact_codes.ensures.0 c.if-not-has_exact_codes.false)
-    (mode_free _ _ w heard p c.requires.page_header known.serial_is (c.has_mode.ensures.0 c.if-not-has_mode.false))
+    (mode_free _ _ w heard p c.requires.page_header known.serial_is
+    (c.has_mode.ensures.0 c.if-not-has_mode.false))
     (control_free w heard p _ k (λ h e. cc))
     (λ opened row e. absurd (true≢false (sym opened ∙ shut)))
     (λ opened row e. absurd (true≢false (sym opened ∙ shut)))
@@ -88,7 +92,8 @@ returns-then-not-has_odd_text c heard known =
     let k : kind w.page p ≡ Row c.in-Row.row = sym c.requires.kind ∙ c.in-Row.is in
     first_row w heard p (c.is_clean_address.ensures.0 c.if-not-is_clean_address.false)
     (c.has_exact_codes.ensures.0 c.if-not-has_exact_codes.false)
-    (mode_free _ _ w heard p c.requires.page_header known.serial_is (c.has_mode.ensures.0 c.if-not-has_mode.false))
+    (mode_free _ _ w heard p c.requires.page_header known.serial_is
+    (c.has_mode.ensures.0 c.if-not-has_mode.false))
     (control_free w heard p _ k (λ h e. cc))
     (λ free. iff_false c.has_odd_text.ensures c.if-not-has_odd_text.true
     (free (sym known.open_is ∙ c.if-not-self.false) c.in-Row.row k))
@@ -101,7 +106,8 @@ returns-then-not-holds_row c heard known =
     let range = c.requires.row c.in-Row.row c.in-Row.is in
     first_changed w heard p (c.is_clean_address.ensures.0 c.if-not-is_clean_address.false)
     (c.has_exact_codes.ensures.0 c.if-not-has_exact_codes.false)
-    (mode_free _ _ w heard p c.requires.page_header known.serial_is (c.has_mode.ensures.0 c.if-not-has_mode.false))
+    (mode_free _ _ w heard p c.requires.page_header known.serial_is
+    (c.has_mode.ensures.0 c.if-not-has_mode.false))
     (control_free w heard p _ k (λ h e. cc))
     (λ opened row e. c.has_odd_text.ensures.0 c.if-not-has_odd_text.false)
     (λ free. rows_other w _ _ _ known.rows_are c.in-Row.row range.0 range.1 p k c.if-self-at.true
@@ -117,7 +123,8 @@ returns-else-self-at c heard known =
     let exact = c.is_clean_address.ensures.0 c.if-not-is_clean_address.false in
     let odd : HasOddText p = c.has_odd_text.ensures.0 c.if-not-has_odd_text.false in
     clean_from w heard p exact (c.has_exact_codes.ensures.0 c.if-not-has_exact_codes.false)
-    (mode_free _ _ w heard p c.requires.page_header known.serial_is (c.has_mode.ensures.0 c.if-not-has_mode.false))
+    (mode_free _ _ w heard p c.requires.page_header known.serial_is
+    (c.has_mode.ensures.0 c.if-not-has_mode.false))
     (control_free w heard p _ k (λ h e. cc))
     (λ opened row e. odd)
     (λ opened row e. let same : c.in-Row.row ≡ row = cc in rw (← same) (elim c.else-self-at.branch [
@@ -136,7 +143,8 @@ returns-else-self c heard known =
     let k : kind w.page p ≡ Other = sym c.requires.kind ∙ c.in-Other.is in
     clean_from w heard p (c.is_clean_address.ensures.0 c.if-not-is_clean_address.false)
     (c.has_exact_codes.ensures.0 c.if-not-has_exact_codes.false)
-    (mode_free _ _ w heard p c.requires.page_header known.serial_is (c.has_mode.ensures.0 c.if-not-has_mode.false))
+    (mode_free _ _ w heard p c.requires.page_header known.serial_is
+    (c.has_mode.ensures.0 c.if-not-has_mode.false))
     (control_free w heard p _ k (λ h e. cc))
     (parity_free w heard p _ k (λ row e. cc)) (changed_free w heard p _ k (λ row e. cc))
     (λ opened is. elim c.else-self.branch [
