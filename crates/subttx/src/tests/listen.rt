@@ -123,13 +123,18 @@ fn assert_hears_by_words(
     Ok(())
 }
 
+// Asserts all of them of these bytes.
+fn assert_hearings(rt: &(impl Abort + Alloc<A = Global>), pes: &[u8]) -> Result<(), Fail> {
+    for (at, skip, flips, lost, want) in HEARINGS {
+        assert_hears_by_words(rt, pes, at, skip, flips, lost, want)?;
+    }
+    Ok(())
+}
+
 #[test]
 fn shows_what_a_receiver_got(rt: HostRuntime) -> Result<(), Fail> {
     let pes = schedule_of_hi(rt.alloc(), 25)?;
-    for (at, skip, flips, lost, want) in HEARINGS {
-        assert_hears_by_words(&rt, pes.as_slice(), at, skip, flips, lost, want)?;
-    }
-    Ok(())
+    assert_hearings(&rt, pes.as_slice())
 }
 
 // Each single flip in the packets of one sending: a cell is the due one, or a space where its byte
@@ -175,8 +180,7 @@ fn tells_faults_of_a_file_as_far_as_it_is_read(rt: HostRuntime) -> Result<(), Fa
         (&b"RIFF...."[..], "10:00:00:10", "refused 31 Start pes 0\n"),
         (&[], "10:00:00:10", NOTHING),
     ] {
-        let listening = listening(alloc, at, "0", "", "", ReceiverKind::Blank)?;
-        assert_hears(&rt, &mut MemSource::new(file), &listening, want.as_bytes());
+        assert_hears_by_words(&rt, file, at, "0", "", "", want)?;
     }
     let mut off = listening(alloc, "10:00:00:10", "0", "", "", ReceiverKind::Keep)?;
     off.options = options("888", 250, 1)?;

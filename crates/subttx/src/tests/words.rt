@@ -155,51 +155,57 @@ fn tells_the_first_fault_of_a_schedule(rt: HostRuntime) {
     assert_refuses(&rt, &["subttx", "normal", "a", "a"], b"usage 7 SameFile\n");
 }
 
-const TIME: &str = "10:00:00:10";
-
-// The arguments of a receiver, in the order in which their faults are told, and the line.
+// The arguments of a receiver in the order in which their faults are told.
 #[rattlefmt::skip]
-const RECEIVERS: [(&str, &str, &str, &str, &str, &str, &str, &str); 14] = [
-    // page, origin, at, skip, flip, lose, receiver, line
-    ("8FF", "x", "x", "x", "x", "x", "x", "usage 1 BadPage\n"),
-    ("888", "8589934592", "x", "x", "x", "x", "x", "usage 81 Origin\n"),
-    ("888", "0", "24:00:00:00", "x", "x", "x", "x", "usage 6 BadTime\n"),
-    ("888", "0", "10:00:00:25", "0", "0:0:1", "0", "keep", "usage 6 BadTime\n"),
-    ("888", "0", "1:00:00:10", "0", "0:0:1", "0", "keep", "usage 6 BadTime\n"),
-    ("888", "0", TIME, "x", "x", "x", "x", "usage 8 BadSkip\n"),
-    ("888", "0", TIME, "0", "1:21:1,1:21:2", "x", "x", "usage 5 BadFlip\n"),
-    ("888", "0", TIME, "0", "", "0", "keep", "usage 5 BadFlip\n"),
-    ("888", "0", TIME, "0", "0:42:1", "0", "keep", "usage 5 BadFlip\n"),
-    ("888", "0", TIME, "0", "0:0:0", "0", "keep", "usage 5 BadFlip\n"),
-    ("888", "0", TIME, "0", "0:41:8", "1,1", "x", "usage 84 BadLose\n"),
-    ("888", "0", TIME, "0", "0:41:8", "1,01", "keep", "usage 84 BadLose\n"),
-    ("888", "0", TIME, "0", "0:41:8", "", "keep", "usage 84 BadLose\n"),
-    ("888", "0", TIME, "0", "0:41:8", "1,2", "all", "usage 9 BadReceiver\n"),
-];
-
 #[test]
 fn tells_the_first_fault_of_a_receiver(rt: HostRuntime) {
-    for (page, origin, at, skip, flip, lose, receiver, want) in RECEIVERS {
-        let words = [
-            "subttx",
-            "listen",
-            "a",
-            "--page",
-            page,
-            "--origin",
-            origin,
-            "--at",
-            at,
-            "--skip",
-            skip,
-            "--flip",
-            flip,
-            "--lose",
-            lose,
-            "--receiver",
-            receiver,
-        ];
-        assert_refuses(&rt, &words, want.as_bytes());
+    // words, line
+    let refused: [(&[&str], &[u8]); 14] = [
+        (&["subttx", "listen", "a", "--page", "8FF", "--origin", "x", "--at", "x",
+            "--skip", "x", "--flip", "x", "--lose", "x", "--receiver", "x"],
+            b"usage 1 BadPage\n"),
+        (&["subttx", "listen", "a", "--page", "888", "--origin", "8589934592", "--at", "x",
+            "--skip", "x", "--flip", "x", "--lose", "x", "--receiver", "x"],
+            b"usage 81 Origin\n"),
+        (&["subttx", "listen", "a", "--page", "888", "--origin", "0", "--at", "24:00:00:00",
+            "--skip", "x", "--flip", "x", "--lose", "x", "--receiver", "x"],
+            b"usage 6 BadTime\n"),
+        (&["subttx", "listen", "a", "--page", "888", "--origin", "0", "--at", "10:00:00:25",
+            "--skip", "0", "--flip", "0:0:1", "--lose", "0", "--receiver", "keep"],
+            b"usage 6 BadTime\n"),
+        (&["subttx", "listen", "a", "--page", "888", "--origin", "0", "--at", "1:00:00:10",
+            "--skip", "0", "--flip", "0:0:1", "--lose", "0", "--receiver", "keep"],
+            b"usage 6 BadTime\n"),
+        (&["subttx", "listen", "a", "--page", "888", "--origin", "0", "--at", "10:00:00:10",
+            "--skip", "x", "--flip", "x", "--lose", "x", "--receiver", "x"],
+            b"usage 8 BadSkip\n"),
+        (&["subttx", "listen", "a", "--page", "888", "--origin", "0", "--at", "10:00:00:10",
+            "--skip", "0", "--flip", "1:21:1,1:21:2", "--lose", "x", "--receiver", "x"],
+            b"usage 5 BadFlip\n"),
+        (&["subttx", "listen", "a", "--page", "888", "--origin", "0", "--at", "10:00:00:10",
+            "--skip", "0", "--flip", "", "--lose", "0", "--receiver", "keep"],
+            b"usage 5 BadFlip\n"),
+        (&["subttx", "listen", "a", "--page", "888", "--origin", "0", "--at", "10:00:00:10",
+            "--skip", "0", "--flip", "0:42:1", "--lose", "0", "--receiver", "keep"],
+            b"usage 5 BadFlip\n"),
+        (&["subttx", "listen", "a", "--page", "888", "--origin", "0", "--at", "10:00:00:10",
+            "--skip", "0", "--flip", "0:0:0", "--lose", "0", "--receiver", "keep"],
+            b"usage 5 BadFlip\n"),
+        (&["subttx", "listen", "a", "--page", "888", "--origin", "0", "--at", "10:00:00:10",
+            "--skip", "0", "--flip", "0:41:8", "--lose", "1,1", "--receiver", "x"],
+            b"usage 84 BadLose\n"),
+        (&["subttx", "listen", "a", "--page", "888", "--origin", "0", "--at", "10:00:00:10",
+            "--skip", "0", "--flip", "0:41:8", "--lose", "1,01", "--receiver", "keep"],
+            b"usage 84 BadLose\n"),
+        (&["subttx", "listen", "a", "--page", "888", "--origin", "0", "--at", "10:00:00:10",
+            "--skip", "0", "--flip", "0:41:8", "--lose", "", "--receiver", "keep"],
+            b"usage 84 BadLose\n"),
+        (&["subttx", "listen", "a", "--page", "888", "--origin", "0", "--at", "10:00:00:10",
+            "--skip", "0", "--flip", "0:41:8", "--lose", "1,2", "--receiver", "all"],
+            b"usage 9 BadReceiver\n"),
+    ];
+    for (words, want) in refused {
+        assert_refuses(&rt, words, want);
     }
 }
 

@@ -4,6 +4,7 @@ use super::makers::{
     options, push_gsi, push_pes, push_subtitle, schedule_of, schedule_of_hi,
 };
 use std::alloc::Global;
+use std::process::Abort;
 use std::test::Fail;
 use stl_rows::National;
 use sub_io::MemSource;
@@ -263,33 +264,35 @@ fn hears_a_header_of_another_page_by_its_mode(rt: HostRuntime) -> Result<(), Fai
     Ok(())
 }
 
+// Asserts the line of a check of `Hi` and its schedule with a packet more behind the row.
+fn assert_adds(
+    rt: &(impl Abort + Alloc<A = Global>),
+    file: &[u8],
+    good: &[u8],
+    packet: Packet,
+    want: &str,
+) -> Result<(), Fail> {
+    let options = every(250)?;
+    let pes = with_packet(rt.alloc(), good, 2, packet)?;
+    assert_tells(rt, file, pes.as_slice(), &options, want);
+    Ok(())
+}
+
 #[test]
 fn compares_packets_of_one_row(rt: HostRuntime) -> Result<(), Fail> {
     let alloc = rt.alloc();
-    let file = hi(alloc)?;
-    let (file, options) = (file.as_slice(), every(250)?);
-    let good = schedule_of_hi(alloc, 250)?;
-    let packets = first_packets(alloc, good.as_slice())?;
+    let (file, good) = (hi(alloc)?, schedule_of_hi(alloc, 250)?);
+    let (file, good) = (file.as_slice(), good.as_slice());
+    let packets = first_packets(alloc, good)?;
     let row = *packets.get(1).ok_or("a row")?;
     let mut other = *row.bytes();
     other[21] = 0x68;
-    // packet behind the row, line
-    for (packet, want) in [
-        (
-            Packet::new(other),
-            "refused 69 RowChanged frame 10:00:00:00 packet 2\n",
-        ),
-        // packet 26 of magazine 8
-        (
-            packet_of(&[0x15, 0xB6]),
-            "refused 70 Enhancement frame 10:00:00:00 packet 2\n",
-        ),
-        (row, "accepted 51 frames 2 transmissions\n"),
-    ] {
-        let pes = with_packet(alloc, good.as_slice(), 2, packet)?;
-        assert_tells(&rt, file, pes.as_slice(), &options, want);
-    }
-    Ok(())
+    let changed = "refused 69 RowChanged frame 10:00:00:00 packet 2\n";
+    assert_adds(&rt, file, good, Packet::new(other), changed)?;
+    // packet 26 of magazine 8
+    let enhancement = "refused 70 Enhancement frame 10:00:00:00 packet 2\n";
+    assert_adds(&rt, file, good, packet_of(&[0x15, 0xB6]), enhancement)?;
+    assert_adds(&rt, file, good, row, "accepted 51 frames 2 transmissions\n")
 }
 
 #[test]
