@@ -4,3 +4,4 @@ pub mod WritingLemmas
 pub mod VerdictLemmas
 pub mod NormalLemmas
 pub mod ListeningRunLemmas
+pub mod FileListingLemmas

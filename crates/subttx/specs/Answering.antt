@@ -15,6 +15,7 @@ use Rattle.sub_check.specs.declared.checker.Accepted.{Accepted}
 use Rattle.sub_check.specs.declared.fault.CheckFault.{CheckFault}
 use Rattle.subttx.specs.CheckLines.{verdict}
 use Rattle.subttx.specs.DeviceCall.{SinkCall, SourceCall}
+use Rattle.subttx.specs.FileListing.{packets_listing, show_listing}
 use Rattle.subttx.specs.Lines.{usage_line}
 use Rattle.subttx.specs.Listing.{Listing, Prints}
 use Rattle.subttx.specs.ListeningRun.{Listens}
@@ -34,6 +35,16 @@ use Rattle.subttx.specs.declared.status.Status.TheVariants.{Done, Fault}
 abbrev pub ForPacket : Request → (List ℕ → Type 0) → Type 0
 ForPacket (ask.Packet bytes) P = P bytes
 ForPacket _ P = ⊤
+
+-- The fact holds, where a `packets` is asked for.
+abbrev pub ForPackets : Request → Type 0 → Type 0
+ForPackets (ask.Packets pes) P = P
+ForPackets _ P = ⊤
+
+-- The fact holds, where a `show` is asked for.
+abbrev pub ForShow : Request → Type 0 → Type 0
+ForShow (ask.Show stl) P = P
+ForShow _ P = ⊤
 
 -- The fact holds, where a `normal` is asked for.
 abbrev pub ForNormal : Request → Type 0 → Type 0
@@ -63,6 +74,20 @@ takes_memory (ask.Check stl pes options national) = true
 takes_memory _ = false
 
 -- ---- what each command answers
+
+-- `packets` prints what the bytes of the PES file decide.
+abbrev pub AnswersPackets : {S : Type 0} → SourceCall S → SinkCall → Status → Type 0
+AnswersPackets pes out status =
+    IfTold pes.told (λ bytes.
+    pes.new_count ≡ pes.old_count
+    → Prints out.old out.new (packets_listing bytes) status)
+
+-- `show` prints what the bytes of the subtitle file decide.
+abbrev pub AnswersShow : {S : Type 0} → SourceCall S → SinkCall → Status → Type 0
+AnswersShow stl out status =
+    IfTold stl.told (λ bytes.
+    stl.new_count ≡ stl.old_count
+    → Prints out.old out.new (show_listing bytes) status)
 
 -- `normal` writes and prints what the bytes of its input decide.
 pub record AnswersNormal

@@ -14,3 +14,4 @@ pub mod NormalWriting
 pub mod Reception
 pub mod StateText
 pub mod ListeningRun
+pub mod FileListing

@@ -12,13 +12,21 @@ pub mod schedule;
 mod show;
 mod state;
 
-ghost use Rattle.std.specs.Prelude.{◌≡◌, ◌+◌, ◌<◌, false};
+ghost use Rattle.std.specs.Prelude.{◌≡◌, ◌≢◌, ◌+◌, ◌<◌, None, Ok, false};
 ghost use Rattle.std.specs.Io.KnownBytes.{Appends};
 ghost use Rattle.sub_io.specs.Device.{AppendsPrefix};
+ghost use Rattle.sub_io.specs.Reading.{IfTold};
+ghost use Rattle.stl_file.specs.Reader.{outcome_of};
+ghost use Rattle.stl_rows.specs.Loading.{loaded};
+ghost use Rattle.stl_rows.specs.Programme.{ProgrammeValue};
+ghost use Rattle.sub_check.specs.LostRows.{RobustToMarkedLoss};
+ghost use Rattle.sub_check.specs.PesReading.{ReadsAs};
+ghost use Rattle.sub_check.specs.Robust.{Robust};
+ghost use Rattle.sub_check.specs.Transmission.{Transmission};
 ghost use Rattle.subttx.specs.Answering.{AnswersCheck, AnswersListen, AnswersNormal};
-ghost use Rattle.subttx.specs.Answering.{AnswersSchedule};
-ghost use Rattle.subttx.specs.Answering.{ForCheck, ForListen, ForNormal, ForPacket, ForSchedule};
-ghost use Rattle.subttx.specs.Answering.{takes_memory};
+ghost use Rattle.subttx.specs.Answering.{AnswersPackets, AnswersSchedule, AnswersShow};
+ghost use Rattle.subttx.specs.Answering.{ForCheck, ForListen, ForNormal, ForPacket, ForPackets};
+ghost use Rattle.subttx.specs.Answering.{ForSchedule, ForShow, takes_memory};
 ghost use Rattle.subttx.specs.DeviceCall.{sink_call, source_call};
 ghost use Rattle.subttx.specs.Lines.{usage_line};
 ghost use Rattle.subttx.specs.Listing.{CountsFault, Prints, packet_listing};
@@ -60,6 +68,14 @@ pub fn answer<S: Source, T: Source, F: Flush, K: Sink>(
     ensures packet { ForPacket request.now (λ bytes.
         Prints (K.contents out.old) (K.contents out.new) (packet_listing bytes) result) }
 
+    // `packets` and `show` print what the bytes of their file decide.
+    ensures packets { ForPackets request.now (AnswersPackets
+        (source_call S.remaining S.failure_count first.old first.new)
+        (sink_call K.contents K.failure_count out.old out.new) result) }
+    ensures show { ForShow request.now (AnswersShow
+        (source_call S.remaining S.failure_count first.old first.new)
+        (sink_call K.contents K.failure_count out.old out.new) result) }
+
     // `normal` writes and prints what the bytes of the input decide.
     ensures normal { ForNormal request.now (AnswersNormal
         (source_call S.remaining S.failure_count first.old first.new)
@@ -78,6 +94,24 @@ pub fn answer<S: Source, T: Source, F: Flush, K: Sink>(
         (source_call S.remaining S.failure_count first.old first.new)
         (source_call T.remaining T.failure_count second.old second.new)
         (sink_call K.contents K.failure_count out.old out.new) result) }
+
+    // What `check` accepts is robust, with lost rows too: every receiver shows each due page within
+    // the repeat bound, but for cells whose byte was hit.
+    ensures check_robust { ForCheck request.now (λ options national.
+        (programme : ProgrammeValue) (frames : Transmission)
+        → IfTold (S.remaining first.old) (λ file.
+        loaded national (outcome_of file) ≡ Ok programme
+        → IfTold (T.remaining second.old) (λ bytes.
+        ReadsAs options.origin 0 bytes frames None
+        → result ≡ Status.Done
+        → Robust programme frames options
+        × RobustToMarkedLoss programme frames options))) }
+
+    // A subtitle file that gives no programme is not accepted, and no PES byte is read.
+    ensures check_subtitles { ForCheck request.now (λ options national.
+        IfTold (S.remaining first.old) (λ file.
+        ((programme : ProgrammeValue) → loaded national (outcome_of file) ≢ Ok programme)
+        → (result ≢ Status.Done) × (second.new ≡ second.old))) }
 
     // `listen` prints what a receiver shows that heard the frames of the PES file, or the refusal.
     ensures listen { ForListen request.now (λ listening. AnswersListen listening

@@ -3,7 +3,11 @@ ghost use Rattle.std.specs.Prelude.{◌≡◌, ◌+◌, ◌≤◌, ◌<◌, ◌+
 ghost use Rattle.std.specs.Prelude.{Some, if◌then◌else◌};
 ghost use Rattle.arrayvec.specs.ArrayVec.{array_vec_len};
 ghost use Rattle.subttx.specs.Lines.{pes_line, unit_line};
-ghost use Rattle.subttx.specs.Listing.{CountsFault, ends_in_fault};
+ghost use Rattle.sub_io.specs.Reading.{IfTold};
+ghost use Rattle.ttx_pes.specs.Reading.{answer_at, rest_after};
+ghost use Rattle.ttx_pes.specs.declared.progress.Progress.TheVariants.{Reading};
+ghost use Rattle.subttx.specs.FileListing.{PrintsLines, frame_lines, packets_listing, pes_lines};
+ghost use Rattle.subttx.specs.Listing.{CountsFault, Prints, ends_in_fault};
 
 use crate::lines::{pes_status, push_decimal, push_lower_hex, push_pes_fault, push_text};
 use crate::status::Status;
@@ -23,6 +27,10 @@ const MOST_CALLS: u32 = 2_160_001;
 pub fn list_packets<S: Source, K: Sink>(first: &mut S, out: &mut K) -> Status
     requires first { S.failure_count first.old < u64.MAX }
     requires out { K.failure_count out.old < u64.MAX }
+    // Where the source tells its bytes and does not fail, they decide what is printed.
+    ensures prints { IfTold (S.remaining first.old) (λ bytes.
+        S.failure_count first.new ≡ S.failure_count first.old
+        → Prints (K.contents out.old) (K.contents out.new) (packets_listing bytes) result) }
     ensures first_count { CountsFault (S.failure_count first.old) result
         (S.failure_count first.new) }
     ensures out_count { CountsFault (K.failure_count out.old) result (K.failure_count out.new) }
@@ -54,6 +62,14 @@ fn list_next<S: Source, K: Sink>(
 ) -> Option<Status>
     requires first { S.failure_count first.old < u64.MAX }
     requires out { K.failure_count out.old < u64.MAX }
+    requires reading { reader.old ≡ Reading index }
+    ensures lines { IfTold (S.remaining first.old) (λ bytes.
+        S.failure_count first.new ≡ S.failure_count first.old
+        → PrintsLines (K.contents out.old) (K.contents out.new)
+        (pes_lines index (answer_at index bytes)) result) }
+    ensures left { IfTold (S.remaining first.old) (λ bytes.
+        result ≡ None → S.remaining first.new ≡ Some (rest_after bytes)) }
+    ensures reading { result ≡ None → reader.new ≡ Reading (index + 1) }
     ensures first_more { result ≡ None → S.failure_count first.new ≡ S.failure_count first.old }
     ensures out_more { result ≡ None → K.failure_count out.new ≡ K.failure_count out.old }
     ensures first_count { IfSome result (λ s. CountsFault (S.failure_count first.old) s
@@ -79,8 +95,16 @@ fn make_next<S: Source>(
     frame: &mut PesFrame,
     text: &mut Text,
 ) -> Option<Status>
-    requires { S.failure_count first.old < u64.MAX }
-    ensures { S.failure_count first.new
+    requires first { S.failure_count first.old < u64.MAX }
+    requires reading { reader.old ≡ Reading index }
+    ensures lines { IfTold (S.remaining first.old) (λ bytes.
+        S.failure_count first.new ≡ S.failure_count first.old
+        → (text.new.items ≡ (pes_lines index (answer_at index bytes)).text)
+        × (result ≡ (pes_lines index (answer_at index bytes)).end)) }
+    ensures left { IfTold (S.remaining first.old) (λ bytes.
+        result ≡ None → S.remaining first.new ≡ Some (rest_after bytes)) }
+    ensures reading { result ≡ None → reader.new ≡ Reading (index + 1) }
+    ensures count { S.failure_count first.new
         ≡ S.failure_count first.old + (if ends_in_fault result then 1 else 0) }
 {
     text.clear();
@@ -104,11 +128,12 @@ fn make_next<S: Source>(
 // Appends the lines of a PES packet and of its Teletext units.
 fn push_frame(text: &mut Text, index: u32, frame: &PesFrame)
     requires { array_vec_len text.old ≡ 0 }
+    ensures { text.new.items ≡ text.old.items ++ frame_lines index frame.now }
 {
     push_pes(text, index, frame.pts());
     let units = frame.units();
-    for (number, unit) in units.iter().enumerate() {
-        push_unit(text, number, unit);
+    for number in 0..units.len() {
+        push_unit(text, number, &units[number]);
     }
 }
 

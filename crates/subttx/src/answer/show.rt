@@ -1,10 +1,18 @@
 //! `show STL`: lists subtitles.
 ghost use Rattle.std.specs.Prelude.{◌≡◌, ◌+◌, ◌≤◌, ◌<◌, ◌++◌, None, IfSome};
-ghost use Rattle.std.specs.Prelude.{Some, if◌then◌else◌};
+ghost use Rattle.std.specs.Prelude.{Option, Result, Some, if◌then◌else◌};
 ghost use Rattle.arrayvec.specs.ArrayVec.{array_vec_len};
+ghost use Rattle.sub_io.specs.Reading.{IfTold};
 ghost use Rattle.stl_file.specs.Gsi.{five_digits};
+ghost use Rattle.stl_file.specs.Reader.{Answers, outcome_left};
+ghost use Rattle.stl_file.specs.Subtitle.{SubtitleValue};
+ghost use Rattle.stl_file.specs.Tti.{most_blocks};
+ghost use Rattle.stl_file.specs.declared.fault.StlFault.{StlFault};
+ghost use Rattle.stl_file.specs.declared.progress.Progress.TheVariants.{Reading};
+ghost use Rattle.subttx.specs.FileListing.{PrintsLines, show_listing, subtitle_lines};
+ghost use Rattle.subttx.specs.FileListing.{subtitles_from};
 ghost use Rattle.subttx.specs.Lines.{subtitle_line};
-ghost use Rattle.subttx.specs.Listing.{CountsFault, ends_in_fault};
+ghost use Rattle.subttx.specs.Listing.{CountsFault, Prints, ends_in_fault};
 
 use crate::lines::{
     push_decimal, push_stl_fault, push_text, push_text_digits, push_time, stl_status,
@@ -28,6 +36,10 @@ const MOST_CALLS: u32 = 100_000;
 pub fn list_subtitles<S: Source, K: Sink>(first: &mut S, out: &mut K) -> Status
     requires first { S.failure_count first.old < u64.MAX }
     requires out { K.failure_count out.old < u64.MAX }
+    // Where the source tells its bytes and does not fail, they decide what is printed.
+    ensures prints { IfTold (S.remaining first.old) (λ bytes.
+        S.failure_count first.new ≡ S.failure_count first.old
+        → Prints (K.contents out.old) (K.contents out.new) (show_listing bytes) result) }
     ensures first_count { CountsFault (S.failure_count first.old) result
         (S.failure_count first.new) }
     ensures out_count { CountsFault (K.failure_count out.old) result (K.failure_count out.new) }
@@ -52,6 +64,12 @@ pub fn list_subtitles<S: Source, K: Sink>(first: &mut S, out: &mut K) -> Status
 fn list_behind<S: Source, K: Sink>(mut reader: StlReader, first: &mut S, out: &mut K) -> Status
     requires first { S.failure_count first.old < u64.MAX }
     requires out { K.failure_count out.old < u64.MAX }
+    requires reading { reader.progress ≡ Reading }
+    requires start { reader.block ≡ 0 }
+    ensures prints { IfTold (S.remaining first.old) (λ bytes.
+        S.failure_count first.new ≡ S.failure_count first.old
+        → Prints (K.contents out.old) (K.contents out.new)
+        (subtitles_from 0 (outcome_left reader bytes)) result) }
     ensures first_count { CountsFault (S.failure_count first.old) result
         (S.failure_count first.new) }
     ensures out_count { CountsFault (K.failure_count out.old) result (K.failure_count out.new) }
@@ -80,6 +98,16 @@ fn list_next<S: Source, K: Sink>(
 ) -> Option<Status>
     requires first { S.failure_count first.old < u64.MAX }
     requires out { K.failure_count out.old < u64.MAX }
+    requires reading { reader.old.progress ≡ Reading }
+    ensures lines { IfTold (S.remaining first.old) (λ bytes.
+        S.failure_count first.new ≡ S.failure_count first.old
+        → (found : Result (Option SubtitleValue) StlFault)
+        × Answers reader.old bytes reader.new (S.remaining first.new) found
+        × PrintsLines (K.contents out.old) (K.contents out.new)
+        (subtitle_lines count reader.new.block found) result) }
+    ensures reading { result ≡ None → reader.new.progress ≡ Reading }
+    ensures block { result ≡ None → reader.old.block < reader.new.block }
+    ensures most { result ≡ None → reader.new.block ≤ most_blocks }
     ensures first_more { result ≡ None → S.failure_count first.new ≡ S.failure_count first.old }
     ensures out_more { result ≡ None → K.failure_count out.new ≡ K.failure_count out.old }
     ensures first_count { IfSome result (λ s. CountsFault (S.failure_count first.old) s
@@ -104,8 +132,18 @@ fn make_next<S: Source>(
     count: u32,
     text: &mut Text,
 ) -> Option<Status>
-    requires { S.failure_count first.old < u64.MAX }
-    ensures { S.failure_count first.new
+    requires first { S.failure_count first.old < u64.MAX }
+    requires reading { reader.old.progress ≡ Reading }
+    ensures lines { IfTold (S.remaining first.old) (λ bytes.
+        S.failure_count first.new ≡ S.failure_count first.old
+        → (found : Result (Option SubtitleValue) StlFault)
+        × Answers reader.old bytes reader.new (S.remaining first.new) found
+        × (text.new.items ≡ (subtitle_lines count reader.new.block found).text)
+        × (result ≡ (subtitle_lines count reader.new.block found).end)) }
+    ensures reading { result ≡ None → reader.new.progress ≡ Reading }
+    ensures block { result ≡ None → reader.old.block < reader.new.block }
+    ensures most { result ≡ None → reader.new.block ≤ most_blocks }
+    ensures count { S.failure_count first.new
         ≡ S.failure_count first.old + (if ends_in_fault result then 1 else 0) }
 {
     text.clear();

@@ -16,5 +16,11 @@ returns-in-Schedule-clause-schedule g c = rw c.in-Schedule.is (record {
 pub returns-in-Check-clause-check : goal.returns-in-Check-clause-check
 returns-in-Check-clause-check g c = rw c.in-Check.is c.print_verdict.ensures.check
 
+pub returns-in-Check-clause-check_robust : goal.returns-in-Check-clause-check_robust
+returns-in-Check-clause-check_robust g c = rw c.in-Check.is c.print_verdict.ensures.robust
+
+pub returns-in-Check-clause-check_subtitles : goal.returns-in-Check-clause-check_subtitles
+returns-in-Check-clause-check_subtitles g c = rw c.in-Check.is c.print_verdict.ensures.subtitles
+
 pub returns-in-Listen-clause-listen : goal.returns-in-Listen-clause-listen
 returns-in-Listen-clause-listen g c = rw c.in-Listen.is c.print_listening.ensures.exact
