@@ -1,6 +1,6 @@
 -- A listing that is printed piece after piece. Main lemmas: listed-more, listed-whole,
 -- packets_from-next, subtitles_from-next.
-use Rattle.std.proofs.Common.{◌≡◌, ◌∙◌, ap, refl, sym, subst, arith, ℕ, zero, suc, ◌+◌, ◌-◌, ◌<◌}
+use Rattle.std.proofs.Common.{◌≡◌, ◌∙◌, ap, refl, sym, subst, arith, ℕ, suc, ◌+◌, ◌-◌, ◌<◌}
 use Rattle.std.proofs.Common.{List, [], ◌∷◌, ◌++◌, append_assoc, drop, length, get_or}
 use Rattle.std.proofs.Common.{Bool, true, false, if◌then◌else◌, Option, Some, None, Result, Ok, Err}
 use Rattle.std.proofs.lemmas.List.{append-nil, at_drop_more}
