@@ -1,5 +1,6 @@
 -- The order of bits: reverse_bits is the definition's mirror, and mirroring twice gives the byte.
-use Rattle.std.proofs.Common.{◌≡◌, ℕ, ◌<◌, List, length, map, slice_index, true, ◌==◌, arith, refl, sym, ◌∙◌, eqb-true}
+use Rattle.std.proofs.Common.{◌≡◌, ℕ, ◌<◌, List, length, map, slice_index, true, ◌==◌, arith, refl}
+use Rattle.std.proofs.Common.{sym, ◌∙◌, eqb-true}
 use Rattle.std.specs.Int.{reverse_bits_onto}
 use Rattle.std.proofs.lemmas.Bool.{agree_below_at}
 use Rattle.std.proofs.lemmas.List.{get_or-map, length-map, ext_get_or}

@@ -1,5 +1,7 @@
 -- A packet's address and header under one wrong bit in each byte: address-near, header-near.
-use Rattle.std.proofs.Common.{◌≡◌, ℕ, zero, suc, inl, ◌==◌, cond, Bool, true, false, List, [], ◌∷◌, slice_index, Option, Some, None, refl, arith, option_and_then, eqb-true}
+use Rattle.std.proofs.Common.{◌≡◌, ℕ, zero, suc, inl, ◌==◌, cond, Bool, true, false, List, [], ◌∷◌}
+use Rattle.std.proofs.Common.{slice_index, Option, Some, None, refl, arith, option_and_then}
+use Rattle.std.proofs.Common.{eqb-true}
 use Rattle.ttx_packet.specs.OneBit.{IsNear, AreNear}
 use Rattle.ttx_packet.specs.Hamming84.{IsCodeWord}
 use Rattle.ttx_packet.specs.PacketAddress.{decoded_at, address, PacketAddress, HasExactAddress}

@@ -1,7 +1,9 @@
 -- Odd parity: one changed bit makes the count of ones even (even_from_changed), and what odd_byte
 -- gives.
-use Rattle.std.proofs.Common.{◌≡◌, ◌≢◌, ℕ, zero, suc, ◌+◌, ◌*◌, ◌/◌, ◌%◌, ◌^◌, ◌<◌, inl, inr, Bool, true, false, cond, bit_xor}
-use Rattle.std.proofs.Common.{refl, sym, subst, arith, eqb-true, ne_eqb, IsTrue, IsFalse, div-add-mod', pow-suc}
+use Rattle.std.proofs.Common.{◌≡◌, ◌≢◌, ℕ, zero, suc, ◌+◌, ◌*◌, ◌/◌, ◌%◌, ◌^◌, ◌<◌, inl, inr, Bool}
+use Rattle.std.proofs.Common.{true, false, cond, bit_xor}
+use Rattle.std.proofs.Common.{refl, sym, subst, arith, eqb-true, ne_eqb, IsTrue, IsFalse}
+use Rattle.std.proofs.Common.{div-add-mod', pow-suc}
 use Rattle.std.specs.Int.RustNames.{count_ones}
 use Rattle.std.proofs.lemmas.Bool.{agree_below, agree_below_at}
 use Rattle.std.proofs.lemmas.Nat.{xor_block, ones_cat, ones_le_self}

@@ -1,5 +1,6 @@
 -- What one wrong bit in each byte leaves of a packet, and what is read of a packet that was made.
-use Rattle.std.specs.Prelude.{◌≡◌, ◌≢◌, ◌↔◌, ℕ, ◌<◌, ◌≤◌, List, length, Some, None, All, IsTrue, IsFalse}
+use Rattle.std.specs.Prelude.{◌≡◌, ◌≢◌, ◌↔◌, ℕ, ◌<◌, ◌≤◌, List, length, Some, None, All, IsTrue}
+use Rattle.std.specs.Prelude.{IsFalse}
 use Rattle.std.specs.Prelude.{slice_index}
 use Rattle.ttx_packet.specs.declared.header.Header.{Header}
 use Rattle.ttx_packet.specs.OneBit.{IsNear, AreNear}

@@ -13,10 +13,13 @@
 --
 -- C4 erase page, C5 newsflash, C6 subtitle, C7 suppress header, C8 update indicator, C9 interrupted
 -- sequence, C10 inhibit display, C11 magazine serial, C12 to C14 national option character sub-set.
-use Rattle.std.specs.Prelude.{◌≡◌, ℕ, ◌+◌, ◌*◌, ◌/◌, ◌%◌, ◌<◌, ◌≤◌, Bool, true, false, List, [], ◌∷◌, ◌++◌}
-use Rattle.std.specs.Prelude.{Option, Some, None, ◌==◌, map, replicate, slice_index, bit_and, if◌then◌else◌}
+use Rattle.std.specs.Prelude.{◌≡◌, ℕ, ◌+◌, ◌*◌, ◌/◌, ◌%◌, ◌<◌, ◌≤◌, Bool, true, false, List, []}
+use Rattle.std.specs.Prelude.{◌∷◌, ◌++◌}
+use Rattle.std.specs.Prelude.{Option, Some, None, ◌==◌, map, replicate, slice_index, bit_and}
+use Rattle.std.specs.Prelude.{if◌then◌else◌}
 use Rattle.ttx_packet.specs.Hamming84.{IsCodeWord, code_word}
-use Rattle.ttx_packet.specs.PacketAddress.{◌>>=◌, PacketAddress, decoded_at, address, HasExactAddress, address_words}
+use Rattle.ttx_packet.specs.PacketAddress.{◌>>=◌, PacketAddress, decoded_at, address}
+use Rattle.ttx_packet.specs.PacketAddress.{HasExactAddress, address_words}
 use Rattle.ttx_packet.specs.declared.control.Control.{Control}
 use Rattle.ttx_packet.specs.declared.header.Header.{Header}
 

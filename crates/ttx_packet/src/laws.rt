@@ -1,6 +1,7 @@
 //! What one wrong bit in each byte leaves of a packet, and what is read of a packet that was made.
 ghost use Rattle.ttx_packet.specs.Laws.{LawOfAddress, LawOfDecoding, LawOfHeader};
-ghost use Rattle.ttx_packet.specs.Laws.{LawOfHeaderPacket, LawOfMirror, LawOfParity, LawOfRowPacket};
+ghost use Rattle.ttx_packet.specs.Laws.{LawOfHeaderPacket, LawOfMirror, LawOfParity};
+ghost use Rattle.ttx_packet.specs.Laws.{LawOfRowPacket};
 
 /// A byte decodes to a number exactly where it is within one bit of the number's code word.
 pub fn law_of_decoding()

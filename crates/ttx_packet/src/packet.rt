@@ -37,7 +37,8 @@ impl Model for Packet {
 }
 
 impl Packet {
-    ghost use Rattle.ttx_packet.specs.PageHeader.{HasExactHeader, coded_header, header, header_packet};
+    ghost use Rattle.ttx_packet.specs.PageHeader.{HasExactHeader, coded_header, header};
+    ghost use Rattle.ttx_packet.specs.PageHeader.{header_packet};
 
     /// The packet of these 42 bytes, whatever they are.
     pub fn new(bytes: [u8; 42]) -> Packet

@@ -1,4 +1,5 @@
-use Rattle.std.proofs.Common.{ℕ, List, ◌↔◌, IsTrue, true, false, refl, sym, subst, slice_index, arith, inl, inr}
+use Rattle.std.proofs.Common.{ℕ, List, ◌↔◌, IsTrue, true, false, refl, sym, subst, slice_index}
+use Rattle.std.proofs.Common.{arith, inl, inr}
 use Rattle.std.proofs.lemmas.Bool.{cases_eq}
 use Rattle.ttx_packet.specs.Hamming84.{IsCodeWord}
 use Rattle.ttx_packet.specs.PageHeader.{HasExactHeader}
