@@ -39,8 +39,15 @@ pub struct Accepted {
     pub transmissions: u64,
 }
 
-// Reads the next PES packet, the one of this number from 0, and gives its frame: None at the end.
-fn next_frame<S: Source>(
+/// Reads the next PES packet, the one of this number from 0, and gives the frame of the day that its
+/// PTS is that of (EN 300 472, PTS): `None` at the end of the source.
+///
+/// `packet` holds what was read.
+///
+/// # Errors
+///
+/// `Pes` with the fault of the packet, `OffFrame` where its PTS is that of no frame of the day.
+pub fn next_frame<S: Source>(
     reader: &mut PesReader,
     source: &mut S,
     options: &Options,
@@ -55,6 +62,7 @@ fn next_frame<S: Source>(
         OnOk result (S.remaining source.new ≡ Some (rest_after bytes))) }
     ensures own { is_subtitle_refusal result ≡ false }
     ensures progress { (frame : ℕ) → result ≡ Ok (Some frame) → reader.new ≡ Reading (pes + 1) }
+    ensures day { (frame : ℕ) → result ≡ Ok (Some frame) → frame < 2160000 }
     ensures count { S.failure_count source.new
         ≡ S.failure_count source.old + (if is_source_failure result then 1 else 0) }
 {

@@ -23,7 +23,7 @@ mod listener;
 mod packet_rules;
 mod page_count;
 
-pub use checker::{Accepted, check, law_of_readings};
+pub use checker::{Accepted, check, law_of_readings, next_frame};
 pub use dropping::{law_of_good_and_dropping, law_of_good_dropping_and_loss};
 pub use examples::{example_of_good, examples_of_broken_rules, examples_of_no_robustness};
 pub use fault::CheckFault;

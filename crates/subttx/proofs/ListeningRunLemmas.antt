@@ -1,5 +1,5 @@
 -- What each way out of the loop of `listen` shows of the whole file.
-use Rattle.std.proofs.Common.{◌≡◌, ◌∙◌, ap, refl, sym, subst, arith, ℕ, suc, ◌+◌, ◌<◌, ◌≤◌}
+use Rattle.std.proofs.Common.{◌≡◌, ◌≢◌, ◌∙◌, ap, refl, sym, subst, arith, ℕ, suc, ◌+◌, ◌<◌, ◌≤◌}
 use Rattle.std.proofs.Common.{inl, inr, Bool, true, false, ◌&&◌, not, List, [], ◌∷◌, ◌++◌}
 use Rattle.std.proofs.Common.{length, drop, get_or, Option, Some, None, option_map, Result, Ok, Err}
 use Rattle.std.proofs.Common.{if◌then◌else◌}
@@ -11,20 +11,23 @@ use Rattle.ttx_packet.specs.PacketAddress.{address}
 use Rattle.ttx_page.specs.Receiver.{Hears, State, Step}
 use Rattle.ttx_pes.specs.DataUnit.{UnitValue}
 use Rattle.ttx_pes.specs.PesPacket.{PesValue}
-use Rattle.ttx_pes.specs.Reading.{is_read_failure, most_packets, rest_after}
-use Rattle.ttx_pes.specs.declared.fault.PesFault.{PesFault}
+use Rattle.ttx_pes.specs.Reading.{most_packets, rest_after}
 use Rattle.ttx_pes.specs.declared.fault.PesFault.TheVariants as pes
+use Rattle.sub_check.specs.Checking.{TellsFrame}
+use Rattle.sub_check.specs.FirstBroken.{unread_fault}
 use Rattle.sub_check.specs.FrameRules.{Unread, frame_at, joined}
 use Rattle.sub_check.specs.FrameRules.Unread.{BadPacket, NoFrame}
 use Rattle.sub_check.specs.PacketRules.{packets_of_units}
 use Rattle.sub_check.specs.PesReading.{ReadsAs}
 use Rattle.sub_check.specs.Transmission.{Transmission}
+use Rattle.sub_check.specs.declared.fault.CheckFault.{CheckFault}
+use Rattle.sub_check.specs.declared.fault.CheckFault.TheVariants as check
 use Rattle.sub_check.proofs.PesReadingLemmas.{ReadsNext, reads-below, reads_end, reads_fault}
 use Rattle.sub_check.proofs.PesReadingLemmas.{reads_next}
 use Rattle.sub_check.proofs.ShownLemmas.{joined_more}
-use Rattle.subttx.specs.ListeningRun.{AreHeard, IsHeard, RefusesAfter, Runs, TellsNext}
+use Rattle.subttx.specs.ListeningRun.{AreHeard, IsHeard, RefusesAfter, Runs, is_subtitle_fault}
 use Rattle.subttx.specs.ListeningRun.{IsOldPage, Listens, is_source_fault, least_frame}
-use Rattle.subttx.specs.ListeningRun.{listing_of, unread_fault}
+use Rattle.subttx.specs.ListeningRun.{listen_status, listing_of}
 use Rattle.ttx_page.specs.Page.{Rows}
 use Rattle.subttx.specs.Reception.{Reception, as_received, first_lost_header, is_heard, is_lost}
 use Rattle.subttx.specs.Reception.{with_flips}
@@ -32,27 +35,23 @@ use Rattle.subttx.specs.Reception.{may_be_lost_at, reception_of}
 use Rattle.subttx.specs.declared.answer.listen.ListenFault.{ListenFault}
 use Rattle.subttx.specs.declared.answer.listen.ListenFault.TheVariants as fault
 use Rattle.subttx.specs.declared.listening.Listening.{Listening}
+use Rattle.subttx.specs.declared.status.Status.TheVariants.{Fault}
 
--- Where the answer is no failure of the source, neither is the reader's. For `next_frame`.
-pub read_told :
-    (index : ℕ) (f : PesFault)
-    → is_source_fault (fault.Pes index f) ≡ false
-    → is_read_failure {X = Bool} (Err f) ≡ false
-read_told index pes.Truncated e = refl
-read_told index pes.Start e = refl
-read_told index pes.Length e = refl
-read_told index pes.Flags e = refl
-read_told index pes.NoTime e = refl
-read_told index pes.HeaderLength e = refl
-read_told index pes.Time e = refl
-read_told index pes.DataId e = refl
-read_told index pes.UnitLength e = refl
-read_told index pes.Framing e = refl
-read_told index pes.LineOrder e = refl
-read_told index pes.Read e = cc
-read_told index pes.Write e = refl
-read_told index pes.Ended e = refl
-read_told index pes.TooMany e = refl
+-- ---- faults
+
+-- A fault of neither file's source nor of a subtitle file is a refusal. For `print_fault`.
+pub listen_status-not_fault : (f : ListenFault)
+    → is_source_fault f ≡ false
+    → is_subtitle_fault f ≡ false
+    → listen_status f ≢ Fault
+listen_status-not_fault (fault.File (check.Subtitles f)) fine own is = cc
+listen_status-not_fault (fault.File (check.Pes index pes.Read)) fine own is = cc
+listen_status-not_fault f fine own is = cc
+
+-- The fault of a source that failed has the status `Fault`. For `print_fault`.
+pub listen_status-source : (f : ListenFault) → is_source_fault f ≡ true → listen_status f ≡ Fault
+listen_status-source (fault.File (check.Pes index pes.Read)) failed = refl
+listen_status-source f failed = cc
 
 -- ---- lists of packets
 
@@ -243,7 +242,7 @@ module _
       where
         -- the file ends
         pub ends_at_end : (v : PesValue)
-            → TellsNext l.options.origin n reached.rest v (Ok None)
+            → TellsFrame l.options.origin n reached.rest v (Ok None)
             → Runs l frames unread w old now (Ok tt)
         ends_at_end v told =
             let at = reads_end l.options.origin n reached.rest frames unread reached.left told in
@@ -256,9 +255,9 @@ module _
             }
 
         -- it is not read on
-        pub ends_unread : (v : PesValue) (f : ListenFault)
-            → TellsNext l.options.origin n reached.rest v (Err f)
-            → Runs l frames unread w old now (Err f)
+        pub ends_unread : (v : PesValue) (f : CheckFault)
+            → TellsFrame l.options.origin n reached.rest v (Err f)
+            → Runs l frames unread w old now (Err (fault.File f))
         ends_unread v f (u, is, ends) =
             let at =
             reads_fault l.options.origin n reached.rest frames unread u reached.left ends in
@@ -268,19 +267,21 @@ module _
               n = n;
               heard = reached.heard;
               run = reached.run;
-              ends = subst (RefusesAfter l frames unread n) (sym is) (refuses u all at.1);
+              ends =
+                  subst (λ g. RefusesAfter l frames unread n (fault.File g)) (sym is)
+                  (refuses u all at.1);
             }
           where
             refuses : (x : Unread)
                 → n ≡ length frames
                 → unread ≡ Some x
-                → RefusesAfter l frames unread n (unread_fault n x)
+                → RefusesAfter l frames unread n (fault.File (unread_fault n (Some x)))
             refuses (BadPacket h) all is = (BadPacket h, all, is, refl)
             refuses NoFrame all is = (NoFrame, all, is, refl)
 
         module _
             (v : PesValue) (frame : ℕ)
-            (told : TellsNext l.options.origin n reached.rest v (Ok (Some frame)))
+            (told : TellsFrame l.options.origin n reached.rest v (Ok (Some frame)))
           where
             next : ReadsNext l.options.origin n reached.rest frames unread v frame
             next =
@@ -288,7 +289,8 @@ module _
                 told.1
 
             -- its frame is not after the one before
-            pub ends_order : frame < least → Runs l frames unread w old now (Err (fault.Order n))
+            pub ends_order : frame < least
+                → Runs l frames unread w old now (Err (fault.File (check.Order n)))
             ends_order early =
                 let frame_is = next.sent.frame_is in
                 let least_is = reached.least_is in

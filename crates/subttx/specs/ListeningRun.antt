@@ -5,16 +5,14 @@ use Rattle.std.specs.Prelude.{MatchResult}
 use Rattle.ttx_packet.specs.PageId.{PageIdValue}
 use Rattle.ttx_page.specs.Page.{Rows, IsCell, cell}
 use Rattle.ttx_page.specs.Receiver.{Hears, State}
-use Rattle.ttx_pes.specs.PesPacket.{PesValue}
-use Rattle.ttx_pes.specs.Reading.{answer_at}
-use Rattle.ttx_pes.specs.declared.fault.PesFault.TheVariants as pes
-use Rattle.sub_check.specs.Checking.{IsFrameOf}
+use Rattle.sub_check.specs.Checking as checking
+use Rattle.sub_check.specs.FirstBroken.{unread_fault}
 use Rattle.sub_check.specs.FrameRules.{Unread, frame_at, joined, packets_at}
-use Rattle.sub_check.specs.FrameRules.Unread.{BadPacket, NoFrame}
-use Rattle.sub_check.specs.PesReading.{EndsAs}
 use Rattle.sub_check.specs.Transmission.{Transmission}
-use Rattle.subttx.specs.Lines.{pes_fault_line, time_text}
-use Rattle.subttx.specs.Listing.{Listing, done, pes_status}
+use Rattle.sub_check.specs.declared.fault.CheckFault.TheVariants as check
+use Rattle.subttx.specs.CheckLines.{check_fault_line, check_status}
+use Rattle.subttx.specs.Lines.{time_text}
+use Rattle.subttx.specs.Listing.{Listing, done}
 use Rattle.subttx.specs.Reception.{as_received, first_lost_header, reception_of}
 use Rattle.subttx.specs.StateText.{state_text}
 use Rattle.subttx.specs.declared.answer.listen.ListenFault.{ListenFault}
@@ -33,40 +31,28 @@ lost_header_line frame packet =
 
 -- The line of a fault (own).
 abbrev pub listen_fault_line : ListenFault → List ℕ
-listen_fault_line (fault.Pes index f) = pes_fault_line f index
-listen_fault_line (fault.OffFrame index) =
-    codes "refused 61 OffFrame pes " ++ decimal index ++ codes "\n"
-listen_fault_line (fault.Order index) =
-    codes "refused 62 Order pes " ++ decimal index ++ codes "\n"
+listen_fault_line (fault.File f) = check_fault_line f
 listen_fault_line (fault.LostHeader frame packet) = lost_header_line frame packet
 
 -- Its status.
 abbrev pub listen_status : ListenFault → Status
-listen_status (fault.Pes index f) = pes_status f
-listen_status _ = Refused
-
--- What keeps a file from being read on, as a fault of its PES packet.
-abbrev pub unread_fault : ℕ → Unread → ListenFault
-unread_fault index (BadPacket f) = fault.Pes index f
-unread_fault index NoFrame = fault.OffFrame index
+listen_status (fault.File f) = check_status f
+listen_status (fault.LostHeader frame packet) = Refused
 
 -- The fault is that of a source that failed.
 abbrev pub is_source_fault : ListenFault → Bool
-is_source_fault (fault.Pes index pes.Read) = true
-is_source_fault _ = false
+is_source_fault (fault.File f) = checking.is_source_fault f
+is_source_fault (fault.LostHeader frame packet) = false
 
 -- The answer is that fault.
 abbrev pub is_source_failure : {X : Type 0} → Result X ListenFault → Bool
 is_source_failure (Err f) = is_source_fault f
 is_source_failure (Ok x) = false
 
--- What is read of the bytes after so many PES packets, where the packet read is this value.
-abbrev pub TellsNext : ℕ → ℕ → List ℕ → PesValue → Result (Option ℕ) ListenFault → Type 0
-TellsNext origin index bytes v (Ok None) = answer_at index bytes ≡ Ok None
-TellsNext origin index bytes v (Ok (Some frame)) =
-    (answer_at index bytes ≡ Ok (Some v)) × IsFrameOf origin v.pts frame
-TellsNext origin index bytes v (Err f) =
-    (u : Unread) × (f ≡ unread_fault index u) × EndsAs origin index bytes (Some u)
+-- The fault is one of a subtitle file, which is not read here.
+abbrev pub is_subtitle_fault : ListenFault → Bool
+is_subtitle_fault (fault.File f) = checking.is_subtitle_fault f
+is_subtitle_fault (fault.LostHeader frame packet) = false
 
 -- ---- what is heard
 
@@ -102,7 +88,7 @@ EndsAfter l frames unread n =
 -- After n frames the file is refused by this fault, as it stands: it is not read on, its next frame
 -- is not after the one before, or a page header of the next frame is lost.
 abbrev pub RefusesAfter : Listening → Transmission → Option Unread → ℕ → ListenFault → Type 0
-RefusesAfter l frames unread n (fault.Order index) =
+RefusesAfter l frames unread n (fault.File (check.Order index)) =
     (index ≡ n) × (n < length frames) × (frame_at frames n < least_frame frames n)
 RefusesAfter l frames unread n (fault.LostHeader frame packet) =
     (n < length frames)
@@ -112,7 +98,8 @@ RefusesAfter l frames unread n (fault.LostHeader frame packet) =
     × (first_lost_header (reception_of l) (first_number frames n) (packets_at frames n)
     ≡ Some packet)
 RefusesAfter l frames unread n f =
-    (u : Unread) × (n ≡ length frames) × (unread ≡ Some u) × (f ≡ unread_fault n u)
+    (u : Unread) × (n ≡ length frames) × (unread ≡ Some u)
+    × (f ≡ fault.File (unread_fault n (Some u)))
 
 -- ---- the run of a receiver
 

@@ -36,8 +36,8 @@ pub fn push_verdict<const N: usize>(
     }
 }
 
-// The status that goes with a fault: `Fault` where a device failed or memory ran out.
-fn check_status(fault: CheckFault) -> Status
+/// The status that goes with a fault: `Fault` where a device failed or memory ran out.
+pub fn check_status(fault: CheckFault) -> Status
     ensures { result ≡ check_status fault }
 {
     match fault {
@@ -59,8 +59,8 @@ fn push_accepted<const N: usize>(line: &mut ArrayVec<u8, N>, accepted: Accepted)
     push_text(line, b" transmissions\n");
 }
 
-// Appends the line of a fault.
-fn push_check_fault<const N: usize>(line: &mut ArrayVec<u8, N>, fault: CheckFault)
+/// Appends the line of a fault.
+pub fn push_check_fault<const N: usize>(line: &mut ArrayVec<u8, N>, fault: CheckFault)
     requires { array_vec_len line.old + 96 ≤ N }
     ensures items { line.new.items ≡ line.old.items ++ check_fault_line fault }
 {

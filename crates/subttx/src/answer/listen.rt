@@ -1,33 +1,32 @@
 //! `listen PES`: runs one receiver over the PES packets of a file.
-ghost use Rattle.std.specs.Prelude.{◌≡◌, ℕ, ◌+◌, ◌*◌, ◌≤◌, ◌<◌, ◌++◌, Ok, OnOk, Option, Some};
-ghost use Rattle.std.specs.Prelude.{codes, decimal, false, if◌then◌else◌, length, slice_index};
-ghost use Rattle.std.specs.Prelude.{true};
+ghost use Rattle.std.specs.Prelude.{◌≡◌, ℕ, ◌+◌, ◌*◌, ◌≤◌, ◌<◌, ◌++◌, IfErr, Option};
+ghost use Rattle.std.specs.Prelude.{false, if◌then◌else◌, slice_index, true};
 ghost use Rattle.arrayvec.specs.ArrayVec.{array_vec_len};
 ghost use Rattle.sub_io.specs.Reading.{IfTold};
 ghost use Rattle.ttx_page.specs.Page.{AreCodes};
-ghost use Rattle.ttx_pes.specs.Reading.{rest_after};
-ghost use Rattle.ttx_pes.specs.declared.progress.Progress.TheVariants.{Reading};
 ghost use Rattle.sub_check.specs.FrameRules.{Unread};
 ghost use Rattle.sub_check.specs.PesReading.{ReadsAs};
 ghost use Rattle.sub_check.specs.Transmission.{Transmission};
 ghost use Rattle.subttx.specs.Answering.{AnswersListen};
 ghost use Rattle.subttx.specs.DeviceCall.{sink_call, source_call};
 ghost use Rattle.subttx.specs.Listing.{CountsFault, Prints};
-ghost use Rattle.subttx.specs.ListeningRun.{IsOldPage, Runs, TellsNext};
-ghost use Rattle.subttx.specs.ListeningRun.{is_source_failure, is_source_fault, listen_fault_line};
-ghost use Rattle.subttx.specs.ListeningRun.{listen_status, lost_header_line};
+ghost use Rattle.subttx.specs.ListeningRun.{IsOldPage, Runs, is_source_failure, is_source_fault};
+ghost use Rattle.subttx.specs.ListeningRun.{is_subtitle_fault, listen_fault_line, listen_status};
+ghost use Rattle.subttx.specs.ListeningRun.{lost_header_line};
+ghost use Rattle.subttx.specs.declared.answer.listen.ListenFault.TheVariants.{File};
 
 use crate::answer::state::print_state;
-use crate::lines::{pes_status, push_decimal, push_pes_fault, push_text, push_time};
+use crate::check_lines::{check_status, push_check_fault};
+use crate::lines::{push_decimal, push_text, push_time};
 use crate::listening::{Listening, ReceiverKind};
 use crate::reception::{first_lost_header, hear_units};
 use crate::status::Status;
 use arrayvec::ArrayVec;
 use stl_file::TimeCode;
+use sub_check::{CheckFault, next_frame};
 use sub_io::{Sink, Source, put_all};
-use sub_plan::Options;
 use ttx_page::{Blank, Keep, Page, Receiver};
-use ttx_pes::{PesFault, PesFrame, PesReader};
+use ttx_pes::{PesFrame, PesReader};
 
 // Room for the line of a fault.
 type Line = ArrayVec<u8, 96>;
@@ -35,26 +34,11 @@ type Line = ArrayVec<u8, 96>;
 /// The PES packets of a file at most: one for each frame of a day.
 const MOST_PACKETS: u32 = 2_160_000;
 
-/// Why a PES file is not heard. `pes` counts PES packets from 0.
+/// Why a PES file is not heard.
 #[derive(Clone, Copy, Debug, PartialEq, Eq)]
 pub enum ListenFault {
-    /// A PES packet is no PES packet with Teletext, or the source failed.
-    Pes {
-        /// The PES packet.
-        pes: u32,
-        /// What is wrong with it.
-        fault: PesFault,
-    },
-    /// 61: a PTS is that of no frame of the day.
-    OffFrame {
-        /// The PES packet.
-        pes: u32,
-    },
-    /// 62: a frame is not after the one before.
-    Order {
-        /// The PES packet.
-        pes: u32,
-    },
+    /// It is not read on, or a frame is not after the one before: what `check` tells of it.
+    File(CheckFault),
     /// 76: a packet that is listed as lost is a page header, or has no address.
     LostHeader {
         /// The frame.
@@ -62,6 +46,14 @@ pub enum ListenFault {
         /// The packet, counted from 0 among the Teletext units of its PES packet.
         packet: u32,
     },
+}
+
+impl From<CheckFault> for ListenFault {
+    ghost from_gives = { λ fault e. e ≡ File fault };
+
+    fn from(fault: CheckFault) -> ListenFault {
+        ListenFault::File(fault)
+    }
 }
 
 /// Runs a receiver over the PES packets of a file up to TIME, and prints what it has heard and
@@ -155,6 +147,7 @@ fn hear_file<R: Receiver, S: Source>(
         → is_source_failure result ≡ false
         → Runs listening.now frames unread (R.tuned_to receiver.old) (R.state receiver.old)
         (R.state receiver.new) result) }
+    ensures own { IfErr result (λ f. is_subtitle_fault f ≡ false) }
     ensures count { S.failure_count pes.new
         ≡ S.failure_count pes.old + (if is_source_failure result then 1 else 0) }
 {
@@ -168,7 +161,8 @@ fn hear_file<R: Receiver, S: Source>(
             return Ok(());
         };
         if frame < least {
-            return Err(ListenFault::Order { pes: index });
+            let fault = CheckFault::Order { pes: index };
+            return Err(ListenFault::File(fault));
         }
         if frame > listening.at {
             return Ok(());
@@ -186,38 +180,10 @@ fn hear_file<R: Receiver, S: Source>(
     Ok(())
 }
 
-// Reads the next PES packet, the one of this number from 0, and gives its frame: None at the end.
-fn next_frame<S: Source>(
-    reader: &mut PesReader,
-    source: &mut S,
-    options: &Options,
-    pes: u32,
-    packet: &mut PesFrame,
-) -> Result<Option<u32>, ListenFault>
-    requires failures { S.failure_count source.old < u64.MAX }
-    requires reading { reader.old ≡ Reading pes }
-    ensures exact { IfTold (S.remaining source.old) (λ bytes. is_source_failure result ≡ false
-        → TellsNext options.now.origin pes bytes packet.new result) }
-    ensures left { IfTold (S.remaining source.old) (λ bytes.
-        OnOk result (S.remaining source.new ≡ Some (rest_after bytes))) }
-    ensures progress { (frame : ℕ) → result ≡ Ok (Some frame) → reader.new ≡ Reading (pes + 1) }
-    ensures day { (frame : ℕ) → result ≡ Ok (Some frame) → frame < 2160000 }
-    ensures count { S.failure_count source.new
-        ≡ S.failure_count source.old + (if is_source_failure result then 1 else 0) }
-{
-    match reader.next_into(source, packet) {
-        Err(fault) => Err(ListenFault::Pes { pes, fault }),
-        Ok(false) => Ok(None),
-        Ok(true) => match options.frame_of(packet.pts()) {
-            Some(frame) => Ok(Some(frame)),
-            None => Err(ListenFault::OffFrame { pes }),
-        },
-    }
-}
-
 // Prints the line of a fault.
 fn print_fault<K: Sink>(fault: &ListenFault, out: &mut K) -> Status
-    requires { K.failure_count out.old < u64.MAX }
+    requires out { K.failure_count out.old < u64.MAX }
+    requires own { is_subtitle_fault fault.now ≡ false }
     ensures prints { Prints (K.contents out.old) (K.contents out.new)
         (record { text = listen_fault_line fault.now; status = listen_status fault.now }) result }
     ensures count { CountsFault (K.failure_count out.old) result (K.failure_count out.new) }
@@ -238,8 +204,8 @@ fn listen_status(fault: &ListenFault) -> Status
     ensures { result ≡ listen_status fault.now }
 {
     match fault {
-        ListenFault::Pes { pes: _, fault } => pes_status(*fault),
-        _ => Status::Refused,
+        ListenFault::File(fault) => check_status(*fault),
+        ListenFault::LostHeader { .. } => Status::Refused,
     }
 }
 
@@ -249,22 +215,9 @@ fn push_fault(line: &mut Line, fault: &ListenFault)
     ensures items { line.new.items ≡ line.old.items ++ listen_fault_line fault.now }
 {
     match fault {
-        ListenFault::Pes { pes, fault } => push_pes_fault(line, *fault, *pes),
-        ListenFault::OffFrame { pes } => push_pes_line(line, b"refused 61 OffFrame pes ", *pes),
-        ListenFault::Order { pes } => push_pes_line(line, b"refused 62 Order pes ", *pes),
+        ListenFault::File(fault) => push_check_fault(line, *fault),
         ListenFault::LostHeader { frame, packet } => push_lost_header(line, *frame, *packet),
     }
-}
-
-// Appends the line of a fault that names a PES packet.
-fn push_pes_line(line: &mut Line, words: &[u8], pes: u32)
-    requires empty { array_vec_len line.old ≡ 0 }
-    requires few { length words.now ≤ 32 }
-    ensures { line.new.items ≡ line.old.items ++ words.now ++ decimal pes ++ codes "\n" }
-{
-    push_text(line, words);
-    push_decimal(line, u64::from(pes));
-    push_text(line, b"\n");
 }
 
 // Appends the line of a page header that is lost.

@@ -1,5 +1,5 @@
 -- What is read is told: the fault of the packet, its one frame, or that it has none.
-use Rattle.std.proofs.Common.{Ok, refl, sym, ap, ◌∙◌}
+use Rattle.std.proofs.Common.{◌≡◌, ◌<◌, ℕ, Ok, refl, sym, ap, subst, ◌∙◌}
 use Rattle.std.proofs.lemmas.Option.{none-some, same_Some}
 use Rattle.ttx_pes.specs.Reader.{given_frame}
 use Rattle.sub_check.specs.FrameRules.Unread.{BadPacket, NoFrame}
@@ -44,3 +44,8 @@ returns-in-None-clause-exact g c = λ bytes told fine.
             none-some frame ((c.in-None.ensures frame).1 (day, e ∙ sym c.pts.ensures.value)),
       ),
     )
+
+pub returns-in-Some-clause-day : goal.returns-in-Some-clause-day
+returns-in-Some-clause-day g c = λ frame same.
+    let is : c.in-Some.frame ≡ frame = cc in
+    subst (λ (f : ℕ). f < 2160000) is ((c.in-Some.ensures c.in-Some.frame).0 refl).0

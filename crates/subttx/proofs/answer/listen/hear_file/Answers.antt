@@ -6,9 +6,9 @@ use Rattle.ttx_packet.specs.PageId.{PageIdValue}
 use Rattle.ttx_page.specs.Receiver.{Hears}
 use Rattle.ttx_pes.specs.DataUnit.{UnitValue}
 use Rattle.sub_check.specs.PacketRules.{packets_of_units}
+use Rattle.sub_check.specs.declared.fault.CheckFault.{CheckFault}
 use Rattle.subttx.specs.ListeningRun.{Runs}
 use Rattle.subttx.specs.Reception.{as_received, first_lost_header, reception_of}
-use Rattle.subttx.specs.declared.answer.listen.ListenFault.{ListenFault}
 use Rattle.subttx.specs.declared.answer.listen.ListenFault.TheVariants as fault
 use Rattle.subttx.proofs.ListeningRunLemmas.{Reaches, ends_at_end, ends_late, ends_lost, ends_order}
 use Rattle.subttx.proofs.ListeningRunLemmas.{ends_unread, reaches_next}
@@ -75,7 +75,7 @@ loop-index-preserved g c =
     let value = c.units-units.ensures.value in
     let units =
     subst (λ (us : List UnitValue). length us ≤ 35) (sym value) c.units-units.ensures.frame.few in
-    let given = ap (λ x. let r : Result (Option ℕ) ListenFault = Ok x in r) c.in-Some.is in
+    let given = ap (λ x. let r : Result (Option ℕ) CheckFault = Ok x in r) c.in-Some.is in
     let day = c.in_ok-next.ensures.day c.in-Some.frame given in
     let rises = c.if-frame-least.false in
     let in_time = c.if-frame-listening.false in
