@@ -39,8 +39,8 @@ pub struct Accepted {
     pub transmissions: u64,
 }
 
-/// Reads the next PES packet, the one of this number from 0, and gives the frame of the day that its
-/// PTS is that of (EN 300 472, PTS): `None` at the end of the source.
+/// Reads the next PES packet, the one of this number from 0, and gives the frame of the day that
+/// its PTS is that of (EN 300 472, PTS): `None` at the end of the source.
 ///
 /// `packet` holds what was read.
 ///

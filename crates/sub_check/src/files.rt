@@ -29,8 +29,8 @@ pub fn check_files<S: Source, P: Source>(
 ) -> Result<Accepted, CheckFault>
     requires stl { S.failure_count stl.old < u64.MAX }
     requires pes { P.failure_count pes.old < u64.MAX }
-    // Where the sources tell their bytes, these decide the answer: what is refused, what is accepted
-    // and is robust.
+    // Where the sources tell their bytes, these decide the answer: what is refused, what is
+    // accepted and is robust.
     ensures checked { IfTold (S.remaining stl.old) (λ file.
         AreChecked national options.now file (P.remaining pes.old) result) }
     // Where the subtitle file is refused, no PES byte is read.

@@ -10,8 +10,8 @@ pub record SourceCall (S : Type 0) : Type 0 where
   pub old_count : ℕ
   pub new_count : ℕ
 
--- A sink in a call: the bytes that it had taken before and after, where it tells them, and how often
--- it had failed.
+-- A sink in a call: the bytes that it had taken before and after, where it tells them, and how
+-- often it had failed before and after.
 pub record SinkCall : Type 0 where
   pub old : Option (List ℕ)
   pub new : Option (List ℕ)

@@ -29,7 +29,8 @@ returns-in-Ok-clause-checked g c = λ file told.
           rw (same_programme programme c.in-Ok.programme _ loads given) (record {
             accepted = λ looked fine. made.accepted bytes heard fine;
             counts = λ frames reads. made.counts frames bytes heard reads;
-            first = λ frames unread reads looked fine. made.first frames unread bytes heard reads fine;
+            first = λ frames unread reads looked fine.
+                made.first frames unread bytes heard reads fine;
             content = λ frames unread frame row column reads is.
                 made.content frames unread frame row column bytes heard reads is;
             schedule = λ serial planned some looked fine.
