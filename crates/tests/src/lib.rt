@@ -8,6 +8,8 @@ mod checks;
 #[cfg(test)]
 mod devices;
 #[cfg(test)]
+mod drip;
+#[cfg(test)]
 mod dropped_rows;
 #[cfg(test)]
 mod libzvbi;

@@ -3,6 +3,7 @@
 ghost use Rattle.std.specs.Prelude.{◌≡◌, ◌+◌, ◌<◌, ◌≤◌, length, None};
 ghost use Rattle.std.specs.Io.{ReadsAtMost};
 
+use crate::drip::Drip;
 use std::marker::Model;
 use std::process::Abort;
 use std::test::*;
@@ -226,34 +227,6 @@ fn a_frame_gives_back_what_breaks_its_order(rt: HostRuntime) {
     assert_eq!(rt; frame.units().len(), 35);
 }
 
-/// A source that gives one byte a pull, and tells nothing.
-#[derive(Drop)]
-struct Drip<'a> {
-    bytes: &'a [u8],
-}
-
-impl Source for Drip<'_> {
-    ghost remaining = { λ _. None };
-
-    ghost failure_count = { λ _. 0 };
-
-    fn pull(&mut self, to: &mut [u8]) -> Result<usize, Failed> {
-        let Some((byte, rest)) = self.bytes.split_first() else {
-            return Ok(0);
-        };
-        if to.is_empty() {
-            return Ok(0);
-        }
-        to[0] = *byte;
-        self.bytes = rest;
-        Ok(1)
-    }
-
-    fn failures(&self) -> u64 {
-        0
-    }
-}
-
 /// A sink that takes one byte a push, and tells nothing.
 #[derive(Drop)]
 struct Trickle {
@@ -284,7 +257,7 @@ fn a_failing_pull_is_told_at_once_and_ends_the_reader(rt: HostRuntime) {
     let file = twice();
     // 368 pulls give a byte each, and one the end.
     for k in 0..=369u64 {
-        let mut source = FailAt::new(Drip { bytes: &file }, k);
+        let mut source = FailAt::new(Drip { rest: &file }, k);
         let mut reader = PesReader::new();
         let mut frame = PesFrame::new(0);
         let mut given = 0u64;

@@ -5,34 +5,9 @@ ghost use Rattle.std.specs.Io.{ReadsAtMost};
 ghost use Rattle.sub_io.specs.Device.{CountsFailure, Pulls};
 
 use super::files::{a_file, gsi, read_all};
+use crate::drip::Drip;
 use stl_file::{StlFault, StlReader};
 use sub_io::{FailAt, Failed, Source};
-
-/// A source that gives one byte in each call.
-#[derive(Drop)]
-struct Drip<'a> {
-    rest: &'a [u8],
-}
-
-impl Source for Drip<'_> {
-    ghost remaining = { λ _. None };
-
-    ghost failure_count = { λ _. 0 };
-
-    fn pull(&mut self, to: &mut [u8]) -> Result<usize, Failed> {
-        if to.is_empty() || self.rest.is_empty() {
-            return Ok(0);
-        }
-        to[0] = self.rest[0];
-        let (_, rest) = self.rest.split_at(1);
-        self.rest = rest;
-        Ok(1)
-    }
-
-    fn failures(&self) -> u64 {
-        0
-    }
-}
 
 /// A source that gives some bytes, and then one byte for ever.
 #[derive(Drop)]

@@ -1,5 +1,5 @@
-use Rattle.std.proofs.Common.{ℕ, ◌<◌, ◌≤◌, true, replicate, length, slice_index, nat_lt, refl}
-use Rattle.std.proofs.Common.{subst, sym, inl, inr, arith, rules}
+use Rattle.std.proofs.Common.{ℕ, ◌<◌, true, replicate, slice_index, nat_lt, refl}
+use Rattle.std.proofs.Common.{subst, sym, inl, inr, arith}
 use Rattle.std.proofs.lemmas.List.{get_or_past}
 use Rattle.std.proofs.lemmas.Bool.{agree_below_at, cases_lt, ltb-true}
 use Rattle.tests.proofs.packets.makes_and_reads_a_row.Goals as goal
