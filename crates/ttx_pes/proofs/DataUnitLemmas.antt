@@ -1,25 +1,24 @@
 -- A data unit that is read is one of the grammar, and the other way round. Main lemmas:
 -- units_sound, units_complete.
 use Rattle.std.proofs.Common.{◌≡◌, ℕ, zero, suc, ◌+◌, ◌-◌, ◌*◌, ◌/◌, ◌%◌, ◌<◌, ◌≤◌, Bool, true}
-use Rattle.std.proofs.Common.{false, cond, not, eqb, ltb, List, [], ◌∷◌, ◌++◌, length, get_or, take}
+use Rattle.std.proofs.Common.{false, cond, not, eqb, List, [], ◌∷◌, ◌++◌, length, take}
 use Rattle.std.proofs.Common.{drop, map, Option, Some, None, Result, Ok, Err, refl, sym, ap, subst}
 use Rattle.std.proofs.Common.{◌∙◌, append_assoc, arith, inl, inr, ◌⊎◌, length-append, length-take}
 use Rattle.std.proofs.Common.{length-drop}
-use Rattle.std.proofs.lemmas.Bool.{eqb-true, eq-eqb, ne_eqb, ltb-true, cases_eq, cases_lt}
+use Rattle.std.proofs.lemmas.Bool.{eqb-true, eq-eqb, ne_eqb, cases_eq, cases_lt}
 use Rattle.std.proofs.lemmas.List.{length-map, take_at, drop_at, take-append-drop, get_or-take}
 use Rattle.std.proofs.lemmas.List.{get_or-drop, get_or_past, append-nil, nil_from_length}
 use Rattle.std.specs.Option.{option_to_list}
-use Rattle.std.specs.Prelude.{◌&&◌}
-use Rattle.sub_io.specs.Reading.{◌>>=◌, AreBytes}
+use Rattle.sub_io.specs.Reading.{AreBytes}
 use Rattle.ttx_packet.specs.BitOrder.{mirror}
 use Rattle.ttx_packet.specs.PacketAddress.{IsPacket}
 use Rattle.ttx_pes.specs.declared.fault.PesFault.{PesFault}
 use Rattle.ttx_pes.specs.declared.fault.PesFault.TheVariants as fault
-use Rattle.ttx_pes.specs.DataUnit.{UnitValue, IsUnit, is_teletext, IsDataUnit, AreDataUnits}
+use Rattle.ttx_pes.specs.DataUnit.{UnitValue, is_teletext, IsDataUnit, AreDataUnits}
 use Rattle.ttx_pes.specs.LineOrder.{last_place, stands_after, AreInLineOrder}
 use Rattle.ttx_pes.specs.Reading.{unit_of, with_unit, teletext_at, unit_at, units_at}
 use Rattle.ttx_packet.proofs.BitOrderLemmas.{mirror-mirror}
-use Rattle.ttx_pes.proofs.ReadingSteps.{test_held, both_hold, step_gave, given_as, Ok-injective}
+use Rattle.ttx_pes.proofs.ReadingSteps.{test_held, step_gave, given_as, Ok-injective}
 use Rattle.ttx_pes.proofs.LineOrderLemmas.{last_place-push}
 
 -- ---- packets and bytes

@@ -1,13 +1,12 @@
 -- The canonical packet is a packet of its value, and what is made of a frame is it. Main lemmas:
 -- canonical_is_packet, spelled.
 use Rattle.std.proofs.Common.{List, None, Some, [], ap, append_assoc, arith, length, lit<, refl}
-use Rattle.std.proofs.Common.{subst, suc, sym, take, zero, Option, ℕ, ◌*◌, ◌++◌, ◌+◌, ◌-◌, ◌/◌, ◌∙◌}
-use Rattle.std.proofs.Common.{◌∷◌, ◌≡◌, ◌≤◌, length-append}
+use Rattle.std.proofs.Common.{subst, suc, sym, take, zero, ℕ, ◌*◌, ◌++◌, ◌+◌, ◌-◌, ◌/◌, ◌∙◌}
+use Rattle.std.proofs.Common.{◌∷◌, ◌≡◌, ◌≤◌}
 use Rattle.std.specs.Prelude.{replicate}
 use Rattle.std.proofs.lemmas.List.{append-nil, take_all}
 use Rattle.std.specs.List.{flat_map, AllByRecursion}
-use Rattle.std.specs.Option.{option_to_list}
-use Rattle.ttx_pes.specs.DataUnit.{UnitValue, IsUnit, IsPassedUnit, IsDataUnit, AreDataUnits}
+use Rattle.ttx_pes.specs.DataUnit.{UnitValue, IsUnit, IsPassedUnit, AreDataUnits}
 use Rattle.ttx_pes.specs.DataUnit.{teletext_unit, stuffing, stuffing_unit}
 use Rattle.ttx_pes.specs.PesPacket.{PesValue, IsPesPacket, IsPesValue, canonical_packet, header}
 use Rattle.ttx_pes.specs.PesPacket.{payloads_for, repeated}

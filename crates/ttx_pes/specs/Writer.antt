@@ -1,5 +1,5 @@
 -- What a writer of PES packets answers.
-use Rattle.std.specs.Prelude.{Bool, true, false, Result, Ok, Err}
+use Rattle.std.specs.Prelude.{Bool, true, false, Result, Err}
 use Rattle.ttx_pes.specs.declared.fault.PesFault.{PesFault}
 use Rattle.ttx_pes.specs.declared.fault.PesFault.TheVariants as fault
 

@@ -1,5 +1,5 @@
 -- Each way out names the first rule that is broken: PacketRuleLemmas.
-use Rattle.std.proofs.Common.{◌≡◌, false, refl, sym, ◌∙◌}
+use Rattle.std.proofs.Common.{◌≡◌, false, sym, ◌∙◌}
 use Rattle.std.proofs.lemmas.Bool.{true≢false, iff_false}
 use Rattle.ttx_packet.specs.RowPacket.{HasOddText}
 use Rattle.ttx_page.specs.declared.packet_kind.PacketKind.TheVariants.{ThisPage, EndsPage, Row}
