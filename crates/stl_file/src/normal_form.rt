@@ -2,7 +2,7 @@
 
 ghost use Rattle.std.specs.Prelude.{◌≡◌, ◌≢◌, ◌+◌, ◌<◌, length, true, if◌then◌else◌};
 ghost use Rattle.std.specs.Prelude.{IfErr, IfOk, is_ok};
-ghost use Rattle.sub_io.specs.Device.{CountsFailure, Writes};
+ghost use Rattle.sub_io.specs.Device.{CanFail, CountsFailure, Writes};
 ghost use Rattle.stl_file.specs.declared.fault.NormalFault.TheVariants.{Write};
 ghost use Rattle.stl_file.specs.Fault.{is_write};
 ghost use Rattle.stl_file.specs.NormalForm.{NormalAnswers, all_blocks, blocks_of, subtitles_of};
@@ -29,7 +29,7 @@ use sub_io::{Failed, MemSource, Sink, put_all};
 /// `Refused` with the file's first fault and its block: nothing was written. `Write` where the sink
 /// failed: a prefix of the normal form was written.
 pub fn normal<K: Sink>(file: &[u8], sink: &mut K) -> Result<u32, NormalFault>
-    requires { K.failure_count sink.old < u64.MAX }
+    requires { CanFail (K.failure_count sink.old) }
     ensures answer { NormalAnswers file.now (K.contents sink.old) (K.contents sink.new) result }
     ensures count { K.failure_count sink.new
         ≡ K.failure_count sink.old + (if is_write result then 1 else 0) }
@@ -84,7 +84,7 @@ fn count_of(subtitle: &Subtitle) -> u32
 // Reads all blocks behind the GSI block again, and writes the subtitles.
 fn put_subtitles<K: Sink>(gsi: Gsi, body: &[u8], sink: &mut K) -> Result<(), Failed>
     requires accepted { is_ok (subtitles_of (outcome_from 0 body.now)) ≡ true }
-    requires count { K.failure_count sink.old < u64.MAX }
+    requires count { CanFail (K.failure_count sink.old) }
     ensures bytes { Writes (K.contents sink.old) (K.contents sink.new)
         (joined (all_blocks (given (subtitles_of (outcome_from 0 body.now))))) result }
     ensures count { CountsFailure (K.failure_count sink.old) result (K.failure_count sink.new) }

@@ -3,6 +3,7 @@
 ghost use Rattle.std.specs.Prelude.{◌≡◌, ◌≢◌, ◌↔◌, ◌+◌, ◌-◌, ◌<◌, ◌≤◌, if◌then◌else◌, drop};
 ghost use Rattle.std.specs.Prelude.{false, true, None, Some, Ok, Err, IfErr, IfNone, IfOk, IfSome};
 ghost use Rattle.std.specs.Io.KnownBytes.{Consumes};
+ghost use Rattle.sub_io.specs.Device.{CanFail};
 ghost use Rattle.sub_io.specs.Reading.{IfTold};
 ghost use Rattle.stl_file.specs.declared.fault.StlFault.TheVariants.{Ended};
 ghost use Rattle.stl_file.specs.Fault.{is_format, is_read};
@@ -54,7 +55,7 @@ impl StlReader {
     /// In this order: `Read` where the source failed, `Truncated` (fewer than 1024 bytes),
     /// `Format`, `Rate`, `Display`, `Alphabet`. All are told of block 0.
     pub fn open<S: Source>(source: &mut S) -> Result<StlReader, StlFault>
-        requires { S.failure_count source.old < u64.MAX }
+        requires { CanFail (S.failure_count source.old) }
         // Where the source tells its bytes and does not fail, they decide the answer.
         ensures exact { IfTold (S.remaining source.old) (λ bytes.
             is_read result ≡ false → opened_at bytes ≡ result) }
@@ -123,7 +124,7 @@ impl StlReader {
     /// `Unfinished` where the file ends within a subtitle, `Read` where the source failed. After
     /// any of them each call answers `Ended` and takes nothing.
     pub fn next<S: Source>(&mut self, source: &mut S) -> Result<Option<Subtitle>, StlFault>
-        requires { S.failure_count source.old < u64.MAX }
+        requires { CanFail (S.failure_count source.old) }
         // Where the source tells its bytes and does not fail, they decide the answer, its block and
         // what is left.
         ensures exact { IfTold (S.remaining source.old) (λ bytes. is_read result ≡ false →
@@ -181,7 +182,7 @@ impl StlReader {
 // The next subtitle of a file, behind so many blocks.
 fn read_subtitle<S: Source>(block: &mut u32, source: &mut S) -> Result<Option<Subtitle>, StlFault>
     requires few { block.old ≤ most_blocks }
-    requires count { S.failure_count source.old < u64.MAX }
+    requires count { CanFail (S.failure_count source.old) }
     ensures exact { IfTold (S.remaining source.old) (λ bytes. is_read result ≡ false →
         Leads block.old bytes block.new (S.remaining source.new) result) }
     ensures subtitle { IfOk result (λ found. IfSome found (TakesSubtitle block.old block.new

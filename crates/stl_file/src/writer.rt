@@ -1,7 +1,7 @@
 //! Writing a subtitle's blocks (EBU Tech 3264, TTI block).
 
 ghost use Rattle.std.specs.Prelude.{◌≡◌, ◌+◌, ◌/◌, ◌%◌, ◌<◌, ◌≤◌, [], ◌∷◌, ◌++◌, length, IfOk};
-ghost use Rattle.sub_io.specs.Device.{CountsFailure, Writes};
+ghost use Rattle.sub_io.specs.Device.{CanFail, CountsFailure, Writes};
 ghost use Rattle.stl_file.specs.NormalForm.{block_head, block_of, blocks_of};
 ghost use Rattle.stl_file.specs.SubtitleBlocks.{joined};
 
@@ -22,7 +22,7 @@ const UNUSED: [u8; 112] = [0x8f; 112];
 ///
 /// `Failed` where the sink failed: a prefix of the blocks was written.
 pub fn write_subtitle<K: Sink>(subtitle: &Subtitle, sink: &mut K) -> Result<u8, Failed>
-    requires { K.failure_count sink.old < u64.MAX }
+    requires { CanFail (K.failure_count sink.old) }
     ensures bytes { Writes (K.contents sink.old) (K.contents sink.new)
         (joined (blocks_of subtitle.now)) result }
     ensures number { IfOk result (λ n. n ≡ length (blocks_of subtitle.now)) }

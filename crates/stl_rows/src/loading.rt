@@ -2,6 +2,7 @@
 
 ghost use Rattle.std.specs.Prelude.{◌≡◌, ◌≢◌, ◌+◌, ◌<◌, ◌≤◌, [], ◌∷◌, ◌++◌, if◌then◌else◌};
 ghost use Rattle.std.specs.Prelude.{Err, IfErr, IfOk, IfSome, Ok, OnOk, vec_capacity, vec_len};
+ghost use Rattle.sub_io.specs.Device.{CanFail};
 ghost use Rattle.sub_io.specs.Reading.{IfTold};
 ghost use Rattle.stl_file.specs.declared.fault.StlFault.TheVariants.{Ended};
 ghost use Rattle.stl_file.specs.Reader.{outcome_of};
@@ -35,7 +36,7 @@ pub fn load<S: Source>(
     source: &mut S,
     national: National,
 ) -> Result<Programme, LoadFault>
-    requires { S.failure_count source.old < u64.MAX }
+    requires { CanFail (S.failure_count source.old) }
     // Where the source tells its bytes, they decide the programme and the fault.
     ensures exact { IfTold (S.remaining source.old) (λ bytes.
         IfOk result (λ programme. loaded national (outcome_of bytes) ≡ Ok programme)) }
@@ -61,7 +62,7 @@ fn load_in<A: Allocator + Drop, S: Source>(
     source: &mut S,
     national: National,
 ) -> Result<Vec<Subtitle, A>, LoadFault>
-    requires { S.failure_count source.old < u64.MAX }
+    requires { CanFail (S.failure_count source.old) }
     ensures exact { IfTold (S.remaining source.old) (λ bytes. IfOk result (λ v.
         loaded national (outcome_of bytes)
         ≡ Ok (record { national = national; records = v.items }))) }

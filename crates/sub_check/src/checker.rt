@@ -2,6 +2,7 @@
 ghost use Rattle.std.specs.Prelude.{◌≡◌, ℕ, ◌+◌, ◌<◌, ◌≤◌, ◌↔◌, MatchResult, OnOk, IfOk, IfErr};
 ghost use Rattle.std.specs.Prelude.{IsOk, Ok, Err, Option, Some, None, Bool, false};
 ghost use Rattle.std.specs.Prelude.{◌≢◌, [], if◌then◌else◌};
+ghost use Rattle.sub_io.specs.Device.{CanFail};
 ghost use Rattle.sub_io.specs.Reading.{IfTold};
 ghost use Rattle.stl_rows.specs.Programme.{IsProgramme, last_out};
 ghost use Rattle.ttx_pes.specs.Reading.{rest_after};
@@ -54,7 +55,7 @@ pub fn next_frame<S: Source>(
     pes: u32,
     packet: &mut PesFrame,
 ) -> Result<Option<u32>, CheckFault>
-    requires failures { S.failure_count source.old < u64.MAX }
+    requires failures { CanFail (S.failure_count source.old) }
     requires reading { reader.old ≡ Reading pes }
     ensures exact { IfTold (S.remaining source.old) (λ bytes. is_source_failure result ≡ false
         → TellsFrame options.now.origin pes bytes packet.new result) }
@@ -111,7 +112,7 @@ pub fn check<S: Source>(
     source: &mut S,
     options: &Options,
 ) -> Result<Accepted, CheckFault>
-    requires { S.failure_count source.old < u64.MAX }
+    requires { CanFail (S.failure_count source.old) }
     // Where the source tells its bytes and does not fail, they are accepted exactly where they are
     // read to their end as a good transmission.
     ensures accepted { IfTold (S.remaining source.old) (λ bytes. is_source_failure result ≡ false
@@ -171,7 +172,7 @@ fn judge<S: Source>(
     source: &mut S,
     options: &Options,
 ) -> Result<Accepted, CheckFault>
-    requires { S.failure_count source.old < u64.MAX }
+    requires { CanFail (S.failure_count source.old) }
     ensures exact { (frames : Transmission) (unread : Option Unread)
         → IfTold (S.remaining source.old) (λ bytes.
         ReadsAs options.now.origin 0 bytes frames unread

@@ -1,5 +1,6 @@
 //! A pair of files: the subtitle file, and the PES file that carries it.
 ghost use Rattle.std.specs.Prelude.{◌≡◌, ◌+◌, ◌<◌, true, if◌then◌else◌};
+ghost use Rattle.sub_io.specs.Device.{CanFail};
 ghost use Rattle.sub_io.specs.Reading.{IfTold};
 ghost use Rattle.sub_check.specs.CheckedFiles.{AreChecked};
 ghost use Rattle.sub_check.specs.Checking.{is_source_failure, is_subtitle_refusal};
@@ -27,8 +28,8 @@ pub fn check_files<S: Source, P: Source>(
     national: National,
     options: &Options,
 ) -> Result<Accepted, CheckFault>
-    requires stl { S.failure_count stl.old < u64.MAX }
-    requires pes { P.failure_count pes.old < u64.MAX }
+    requires stl { CanFail (S.failure_count stl.old) }
+    requires pes { CanFail (P.failure_count pes.old) }
     // Where the sources tell their bytes, these decide the answer: what is refused, what is
     // accepted and is robust.
     ensures checked { IfTold (S.remaining stl.old) (λ file.

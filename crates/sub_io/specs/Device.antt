@@ -7,6 +7,10 @@ use Rattle.std.specs.Prelude.{◌≡◌, ℕ, ◌+◌, ◌<◌, ◌≤◌, List,
 use Rattle.std.specs.Prelude.{Result, MatchResult, is_ok, if◌then◌else◌}
 use Rattle.std.specs.Io.KnownBytes.{Appends, Consumes, IsAtEnd, Keeps}
 
+-- the count of failures can rise by one more: asked of a device before each call that may fail
+abbrev pub CanFail : ℕ → Type 0
+CanFail count = count < 0xFFFF_FFFF_FFFF_FFFF
+
 -- an `Ok` leaves the count of failures, an `Err` raises it by one
 abbrev pub CountsFailure : {X E : Type 0} → ℕ → Result X E → ℕ → Type 0
 CountsFailure old result new = new ≡ old + (if is_ok result then 0 else 1)

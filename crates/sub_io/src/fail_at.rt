@@ -4,7 +4,7 @@ ghost use Rattle.std.specs.Prelude.{◌≡◌, ◌+◌, ◌<◌, ◌≤◌, leng
 ghost use Rattle.std.specs.Io.{ReadsAtMost};
 ghost use Rattle.std.specs.Io.KnownBytes.{Keeps};
 ghost use Rattle.sub_io.specs.Countdown.{CountingDown, failures_with, fails_next, left_after};
-ghost use Rattle.sub_io.specs.Device.{CountsFailure, Pulls, Pushes};
+ghost use Rattle.sub_io.specs.Device.{CanFail, CountsFailure, Pulls, Pushes};
 
 use crate::{Failed, Flush, Sink, Source};
 use std::marker::Model;
@@ -79,7 +79,7 @@ impl<S: Source> Source for FailAt<S> {
     ///
     /// `Failed` at the call that is to fail, which does nothing, and where the device inside fails.
     fn pull(&mut self, to: &mut [u8]) -> Result<usize, Failed>
-        requires { failures_with self.old.left (S.failure_count self.old.device) < u64.MAX }
+        requires { CanFail (failures_with self.old.left (S.failure_count self.old.device)) }
 
         // The call that fails does nothing, each other is the inner device's, and all are counted.
         ensures fails { fails_next self.old.left ≡ true →
@@ -120,7 +120,7 @@ impl<K: Sink> Sink for FailAt<K> {
     /// `Failed` at the call that is to fail, which does nothing, and where the device inside fails.
     fn push(&mut self, from: &[u8]) -> Result<usize, Failed>
         requires nonempty { 0 < length from.now }
-        requires count { failures_with self.old.left (K.failure_count self.old.device) < u64.MAX }
+        requires count { CanFail (failures_with self.old.left (K.failure_count self.old.device)) }
 
         // The call that fails does nothing, each other is the inner device's, and all are counted.
         ensures fails { fails_next self.old.left ≡ true →
@@ -157,7 +157,7 @@ impl<K: Flush> Flush for FailAt<K> {
     ///
     /// `Failed` at the call that is to fail, which does nothing, and where the device inside fails.
     fn flush(&mut self) -> Result<(), Failed>
-        requires { failures_with self.old.left (K.failure_count self.old.device) < u64.MAX }
+        requires { CanFail (failures_with self.old.left (K.failure_count self.old.device)) }
 
         // The call that fails does nothing, each other is the inner device's, and all are counted.
         ensures fails { fails_next self.old.left ≡ true →

@@ -4,7 +4,7 @@ ghost use Rattle.std.specs.Prelude.{◌≡◌, ℕ, ◌+◌, ◌-◌, ◌<◌, �
 ghost use Rattle.std.specs.Prelude.{IfOk, IsErr, Some, ◌↔◌};
 ghost use Rattle.std.specs.Io.{ReadsAtMost};
 ghost use Rattle.std.specs.Io.KnownBytes.{Keeps};
-ghost use Rattle.sub_io.specs.Device.{CountsFailure, Pulls, Pushes};
+ghost use Rattle.sub_io.specs.Device.{CanFail, CountsFailure, Pulls, Pushes};
 ghost use Rattle.sub_io.specs.Memory.{Written};
 
 use crate::{Failed, Flush, Sink, Source};
@@ -114,7 +114,7 @@ impl Sink for MemSink<'_> {
     /// `Failed` where the slice is full, and only there.
     fn push(&mut self, from: &[u8]) -> Result<usize, Failed>
         requires nonempty { 0 < length from.now }
-        requires count { self.old.failure_count < u64.MAX }
+        requires count { CanFail self.old.failure_count }
         ensures full { IsErr result ↔ (length self.old.bytes ≡ self.old.room) }
         ensures all { IfOk result (λ n.
             n ≡ min (length from.now) (self.old.room - length self.old.bytes)) }

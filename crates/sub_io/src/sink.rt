@@ -2,7 +2,7 @@
 
 ghost use Rattle.std.specs.Prelude.{◌≡◌, ℕ, ◌<◌, ◌≤◌, List, length, Option, IfOk};
 ghost use Rattle.std.specs.Io.KnownBytes.{Keeps};
-ghost use Rattle.sub_io.specs.Device.{CountsFailure, Pushes, Writes};
+ghost use Rattle.sub_io.specs.Device.{CanFail, CountsFailure, Pushes, Writes};
 
 use crate::Failed;
 
@@ -22,7 +22,7 @@ pub trait Sink {
     /// `Failed` where the device failed: it took nothing, and its count is one higher.
     fn push(&mut self, from: &[u8]) -> Result<usize, Failed>
         requires nonempty { 0 < length from.now }
-        requires count { failure_count self.old < u64.MAX }
+        requires count { CanFail (failure_count self.old) }
         ensures some { IfOk result (λ n. 0 < n) }
         ensures bound { IfOk result (λ n. n ≤ length from.now) }
         ensures bytes { Pushes (contents self.old) (contents self.new) from.now result }
@@ -44,7 +44,7 @@ pub trait Flush: Sink {
     /// `Failed` where the device failed: some bytes are still held back, and its count is one
     /// higher.
     fn flush(&mut self) -> Result<(), Failed>
-        requires { Self.failure_count self.old < u64.MAX }
+        requires { CanFail (Self.failure_count self.old) }
         ensures bytes { Keeps (Self.contents self.old) (Self.contents self.new) }
         ensures count { CountsFailure (Self.failure_count self.old) result
             (Self.failure_count self.new) };
@@ -56,7 +56,7 @@ pub trait Flush: Sink {
 ///
 /// `Failed` at the first push that fails: a prefix of `from` was taken.
 pub fn put_all<K: Sink>(sink: &mut K, from: &[u8]) -> Result<(), Failed>
-    requires { K.failure_count sink.old < u64.MAX }
+    requires { CanFail (K.failure_count sink.old) }
     ensures bytes { Writes (K.contents sink.old) (K.contents sink.new) from.now result }
     ensures count { CountsFailure (K.failure_count sink.old) result (K.failure_count sink.new) }
 {

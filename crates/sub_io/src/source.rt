@@ -3,7 +3,7 @@
 ghost use Rattle.std.specs.Prelude.{◌≡◌, ℕ, ◌+◌, ◌<◌, ◌≤◌, List, length, take, Option, IfOk, OnErr};
 ghost use Rattle.std.specs.Io.{ReadsAtMost};
 ghost use Rattle.std.specs.Io.KnownBytes.{Consumes, IsAtEnd};
-ghost use Rattle.sub_io.specs.Device.{CountsFailure, Fills, Pulls, Told};
+ghost use Rattle.sub_io.specs.Device.{CanFail, CountsFailure, Fills, Pulls, Told};
 ghost use Rattle.sub_io.specs.Reading.{AreBytes, IfTold};
 
 /// A device's call failed: it gave or took nothing.
@@ -24,7 +24,7 @@ pub trait Source {
     ///
     /// `Failed` where the device failed: it gave nothing, and its count is one higher.
     fn pull(&mut self, to: &mut [u8]) -> Result<usize, Failed>
-        requires { failure_count self.old < u64.MAX }
+        requires { CanFail (failure_count self.old) }
         ensures bound { ReadsAtMost result to.new }
         ensures bytes { Pulls (remaining self.old) (remaining self.new) to.new result }
         ensures count { CountsFailure (failure_count self.old) result (failure_count self.new) };
@@ -44,7 +44,7 @@ pub trait Source {
 /// `Failed` at the first pull that fails: some bytes may have been taken, fewer than `to.len()`,
 /// and what `to` holds is not said.
 pub fn fill<S: Source>(source: &mut S, to: &mut [u8]) -> Result<usize, Failed>
-    requires { S.failure_count source.old < u64.MAX }
+    requires { CanFail (S.failure_count source.old) }
     ensures bound { IfOk result (λ n. n ≤ length to.new) }
     ensures bytes { IfOk result (λ n.
         Consumes (S.remaining source.old) (S.remaining source.new) (take n to.new)) }
@@ -65,7 +65,7 @@ pub fn fill<S: Source>(source: &mut S, to: &mut [u8]) -> Result<usize, Failed>
 
 // `fill` without the clauses that follow from the others.
 fn fill_up<S: Source>(source: &mut S, to: &mut [u8]) -> Result<usize, Failed>
-    requires { S.failure_count source.old < u64.MAX }
+    requires { CanFail (S.failure_count source.old) }
     ensures fills { IfOk result (λ n.
         Fills (S.remaining source.old) n (S.remaining source.new) to.new) }
     ensures err { OnErr result ((bytes : List ℕ) × (length bytes < length to.new)

@@ -2,7 +2,7 @@
 ghost use Rattle.std.specs.Prelude.{◌≡◌, ◌≢◌, ◌↔◌, ℕ, ◌+◌, ◌-◌, ◌<◌, ◌≤◌, [], Err, IfOk, length};
 ghost use Rattle.std.specs.Prelude.{if◌then◌else◌};
 ghost use Rattle.std.specs.List.{flat_map};
-ghost use Rattle.sub_io.specs.Device.{CountsFailure, Writes};
+ghost use Rattle.sub_io.specs.Device.{CanFail, CountsFailure, Writes};
 ghost use Rattle.sub_plan.specs.declared.fault.PlanFault.TheVariants.{NoSubtitles};
 ghost use Rattle.sub_plan.specs.FrameTime.{frames_of_day};
 ghost use Rattle.sub_plan.specs.Schedule.{due_in, is_write_failure, plan, plan_frames, sendings};
@@ -27,7 +27,7 @@ fn put_at<K: Sink>(
 ) -> Result<(), Failed>
     requires day { frame < frames_of_day }
     requires few { length packets.now ≤ 32 }
-    requires count { K.failure_count sink.old < u64.MAX }
+    requires count { CanFail (K.failure_count sink.old) }
     ensures bytes { Writes (K.contents sink.old) (K.contents sink.new)
         (packets_at options.now.origin packets.now frame) result }
     ensures count { CountsFailure (K.failure_count sink.old) result (K.failure_count sink.new) }
@@ -58,7 +58,7 @@ fn send_steps<K: Sink>(
     requires order { from ≤ end }
     requires day { end < frames_of_day }
     requires packets { length packets.now ≤ 32 }
-    requires failures { K.failure_count sink.old < u64.MAX }
+    requires failures { CanFail (K.failure_count sink.old) }
     ensures few { IfOk result (λ n. n ≤ end - from) }
     ensures number { IfOk result (λ n. n ≡ length (steps options.now.every from from end)) }
     ensures bytes { Writes (K.contents sink.old) (K.contents sink.new)
@@ -116,7 +116,7 @@ fn send_all<K: Sink>(
 ) -> Result<u32, Failed>
     requires order { first < last }
     requires day { last < frames_of_day }
-    requires failures { K.failure_count sink.old < u64.MAX }
+    requires failures { CanFail (K.failure_count sink.old) }
     ensures number { IfOk result
         (λ n. n ≡ length (sendings (due_in programme.now) options.now.every first last)) }
     ensures bytes { Writes (K.contents sink.old) (K.contents sink.new)
@@ -160,7 +160,7 @@ pub fn schedule<K: Sink>(
     serial: bool,
     sink: &mut K,
 ) -> Result<u32, PlanFault>
-    requires { K.failure_count sink.old < u64.MAX }
+    requires { CanFail (K.failure_count sink.old) }
     ensures bytes { Writes (K.contents sink.old) (K.contents sink.new)
         (plan programme.now options.now serial) result }
     ensures number { IfOk result

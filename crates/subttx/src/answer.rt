@@ -14,7 +14,7 @@ mod state;
 
 ghost use Rattle.std.specs.Prelude.{◌≡◌, ◌≢◌, ◌+◌, ◌<◌, None, Ok, false};
 ghost use Rattle.std.specs.Io.KnownBytes.{Appends};
-ghost use Rattle.sub_io.specs.Device.{AppendsPrefix};
+ghost use Rattle.sub_io.specs.Device.{AppendsPrefix, CanFail};
 ghost use Rattle.sub_io.specs.Reading.{IfTold};
 ghost use Rattle.stl_file.specs.Reader.{outcome_of};
 ghost use Rattle.stl_rows.specs.Loading.{loaded};
@@ -59,10 +59,10 @@ pub fn answer<S: Source, T: Source, F: Flush, K: Sink>(
     file: &mut F,
     out: &mut K,
 ) -> Status
-    requires first { S.failure_count first.old < u64.MAX }
-    requires second { T.failure_count second.old < u64.MAX }
-    requires file { F.failure_count file.old < u64.MAX }
-    requires out { K.failure_count out.old < u64.MAX }
+    requires first { CanFail (S.failure_count first.old) }
+    requires second { CanFail (T.failure_count second.old) }
+    requires file { CanFail (F.failure_count file.old) }
+    requires out { CanFail (K.failure_count out.old) }
 
     // `packet` prints the text of the 42 bytes, and reads no device.
     ensures packet { ForPacket request.now (λ bytes.
@@ -165,7 +165,7 @@ pub fn answer<S: Source, T: Source, F: Flush, K: Sink>(
 ///
 /// The status is `Fault`, also where `out` fails and takes a prefix of the line.
 pub fn say<K: Sink>(fault: &UsageFault, out: &mut K) -> Status
-    requires { K.failure_count out.old < u64.MAX }
+    requires { CanFail (K.failure_count out.old) }
     ensures status { result ≡ Status.Fault }
     ensures whole { K.failure_count out.new ≡ K.failure_count out.old
         → Appends (K.contents out.old) (K.contents out.new) (usage_line fault.now) }

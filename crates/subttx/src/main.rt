@@ -20,6 +20,7 @@ mod tests;
 mod writing;
 
 ghost use Rattle.std.specs.Prelude.{◌≡◌, ◌<◌, IfOk};
+ghost use Rattle.sub_io.specs.Device.{CanFail};
 
 use request::{Request, UsageFault};
 use status::Status;
@@ -51,7 +52,7 @@ fn run<R: AllocGlobal + Env + Files + Print>(rt: &R) -> Status {
 
 // Answers the words of the command line.
 fn answer_words<R: AllocGlobal + Env + Files, K: Sink>(rt: &R, out: &mut K) -> Status
-    requires { K.failure_count out.old < u64.MAX }
+    requires { CanFail (K.failure_count out.old) }
 {
     let words = match words_of(rt) {
         Ok(words) => words,
@@ -83,7 +84,7 @@ fn open_and_answer<R: AllocGlobal + Files, K: Sink>(
     request: &Request<'_>,
     out: &mut K,
 ) -> Status
-    requires { K.failure_count out.old < u64.MAX }
+    requires { CanFail (K.failure_count out.old) }
 {
     match request {
         Request::Packet { .. } => answer_input(rt, request, &mut MemSource::new(&[]), out),
@@ -144,7 +145,7 @@ fn answer_file<R: AllocGlobal + Files, K: Sink>(
     name: &str,
     out: &mut K,
 ) -> Status
-    requires { K.failure_count out.old < u64.MAX }
+    requires { CanFail (K.failure_count out.old) }
 {
     match open_input(rt, name) {
         Ok(mut first) => answer_input(rt, request, &mut first, out),
@@ -160,8 +161,8 @@ fn answer_input<R: AllocGlobal, S: Source, K: Sink>(
     first: &mut S,
     out: &mut K,
 ) -> Status
-    requires first { S.failure_count first.old < u64.MAX }
-    requires out { K.failure_count out.old < u64.MAX }
+    requires first { CanFail (S.failure_count first.old) }
+    requires out { CanFail (K.failure_count out.old) }
 {
     let mut no_second = MemSource::new(&[]);
     answer_inputs(rt, request, first, &mut no_second, out)
@@ -175,7 +176,7 @@ fn answer_pair<R: AllocGlobal + Files, K: Sink>(
     second_name: &str,
     out: &mut K,
 ) -> Status
-    requires { K.failure_count out.old < u64.MAX }
+    requires { CanFail (K.failure_count out.old) }
 {
     let mut first = match open_input(rt, first_name) {
         Ok(first) => first,
@@ -195,9 +196,9 @@ fn answer_inputs<R: AllocGlobal, S: Source, T: Source, K: Sink>(
     second: &mut T,
     out: &mut K,
 ) -> Status
-    requires first { S.failure_count first.old < u64.MAX }
-    requires second { T.failure_count second.old < u64.MAX }
-    requires out { K.failure_count out.old < u64.MAX }
+    requires first { CanFail (S.failure_count first.old) }
+    requires second { CanFail (T.failure_count second.old) }
+    requires out { CanFail (K.failure_count out.old) }
 {
     let mut room = [0u8; 0];
     let mut no_file = MemSink::new(&mut room);
@@ -212,7 +213,7 @@ fn answer_into<R: AllocGlobal + Files, K: Sink>(
     output: &str,
     out: &mut K,
 ) -> Status
-    requires { K.failure_count out.old < u64.MAX }
+    requires { CanFail (K.failure_count out.old) }
 {
     let mut first = match open_input(rt, input) {
         Ok(first) => first,

@@ -11,6 +11,7 @@ mod watched;
 mod words;
 
 ghost use Rattle.std.specs.Prelude.{◌<◌};
+ghost use Rattle.sub_io.specs.Device.{CanFail};
 
 use crate::answer::{answer, say};
 use crate::request::Request;
@@ -26,8 +27,8 @@ fn answer_of<S: Source, K: Sink>(
     first: &mut S,
     out: &mut K,
 ) -> Status
-    requires first { S.failure_count first.old < u64.MAX }
-    requires out { K.failure_count out.old < u64.MAX }
+    requires first { CanFail (S.failure_count first.old) }
+    requires out { CanFail (K.failure_count out.old) }
 {
     let mut second = MemSource::new(&[]);
     let mut file = MemSink::new(&mut []);
@@ -36,7 +37,7 @@ fn answer_of<S: Source, K: Sink>(
 
 // Answers words that read no file.
 fn answer_words<'a, K: Sink>(alloc: Global, words: &'a [&'a str], out: &mut K) -> Status
-    requires { K.failure_count out.old < u64.MAX }
+    requires { CanFail (K.failure_count out.old) }
 {
     match Request::parse(alloc, words) {
         Ok(request) => answer_of(alloc, &request, &mut MemSource::new(&[]), out),

@@ -1,7 +1,7 @@
 //! Packets that are sent as one frame, on the lines of EN 300 472.
 ghost use Rattle.std.specs.Prelude.{◌≡◌, ◌+◌, ◌^◌, ◌<◌, ◌≤◌, ◌==◌, false, length, IfErr};
 ghost use Rattle.std.specs.Prelude.{if◌then◌else◌};
-ghost use Rattle.sub_io.specs.Device.{Writes};
+ghost use Rattle.sub_io.specs.Device.{CanFail, Writes};
 ghost use Rattle.ttx_pes.specs.declared.fault.PesFault.TheVariants.{Write};
 ghost use Rattle.ttx_pes.specs.LineOrder.{line_order_place, numbered_place, numbered_unit};
 ghost use Rattle.ttx_pes.specs.PesPacket.{canonical_packet, numbered_frame};
@@ -53,7 +53,7 @@ fn frame_of(pts: u64, packets: &[Packet]) -> PesFrame
 pub fn put_frame<K: Sink>(sink: &mut K, pts: u64, packets: &[Packet]) -> Result<(), PesFault>
     requires pts { pts < 2 ^ 33 }
     requires few { length packets.now ≤ 32 }
-    requires count { K.failure_count sink.old < u64.MAX }
+    requires count { CanFail (K.failure_count sink.old) }
     ensures bytes { Writes (K.contents sink.old) (K.contents sink.new)
         (canonical_packet (numbered_frame pts packets.now)) result }
     ensures faults { IfErr result (λ fault. fault ≡ Write) }

@@ -2,6 +2,7 @@
 ghost use Rattle.std.specs.Prelude.{◌≡◌, ℕ, ◌+◌, ◌%◌, ◌<◌, ◌≤◌, ◌≢◌, ◌↔◌, true, false, []};
 ghost use Rattle.std.specs.Prelude.{if◌then◌else◌, length, Some, None, Ok, Err, IfOk, OnOk, IfErr};
 ghost use Rattle.std.specs.Prelude.{IfSome, OnSome};
+ghost use Rattle.sub_io.specs.Device.{CanFail};
 ghost use Rattle.sub_io.specs.Reading.{AreBytes, IfTold};
 ghost use Rattle.ttx_pes.specs.declared.fault.PesFault.TheVariants.{Ended, TooMany};
 ghost use Rattle.ttx_pes.specs.declared.progress.Progress.TheVariants.{Reading, AtEnd, Broken};
@@ -66,7 +67,7 @@ fn read_packet<S: Source>(
     room: &mut [u8; 1650],
     frame: &mut PesFrame,
 ) -> Result<bool, PesFault>
-    requires { S.failure_count source.old < u64.MAX }
+    requires { CanFail (S.failure_count source.old) }
     ensures exact { IfTold (S.remaining source.old) (λ bytes.
         is_read_failure result ≡ false → answer_at given bytes ≡ given_frame result frame.new) }
     ensures frame { result ≡ Ok true
@@ -123,7 +124,7 @@ impl PesReader {
     /// 2,160,000 packets, one for each frame of a day. `Read` where the source failed. After any of
     /// them each call answers `Ended` and takes nothing.
     pub fn next<S: Source>(&mut self, source: &mut S) -> Result<Option<PesFrame>, PesFault>
-        requires { S.failure_count source.old < u64.MAX }
+        requires { CanFail (S.failure_count source.old) }
         // A frame is the value of exactly the bytes that were taken.
         ensures frame { IfOk result (λ frame. IfSome frame
             (TakesPesPacket (S.remaining source.old) (S.remaining source.new))) }
@@ -178,7 +179,7 @@ impl PesReader {
         source: &mut S,
         frame: &mut PesFrame,
     ) -> Result<bool, PesFault>
-        requires { S.failure_count source.old < u64.MAX }
+        requires { CanFail (S.failure_count source.old) }
         // A frame is the value of exactly the bytes that were taken.
         ensures frame { result ≡ Ok true
             → TakesPesPacket (S.remaining source.old) (S.remaining source.new) frame.new }

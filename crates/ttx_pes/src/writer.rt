@@ -1,7 +1,7 @@
 //! Writing PES packets.
 ghost use Rattle.std.specs.Prelude.{◌≡◌, ◌+◌, ◌<◌, ◌≤◌, ◌++◌, length, Err, IfErr, is_err, true};
 ghost use Rattle.std.specs.Prelude.{false, if◌then◌else◌};
-ghost use Rattle.sub_io.specs.Device.{Writes};
+ghost use Rattle.sub_io.specs.Device.{CanFail, Writes};
 ghost use Rattle.ttx_pes.specs.declared.fault.PesFault.TheVariants.{Ended, Write};
 ghost use Rattle.ttx_pes.specs.PesPacket.{canonical_packet};
 ghost use Rattle.ttx_pes.specs.Writer.{is_write_failure};
@@ -73,7 +73,7 @@ impl PesWriter {
     /// `Write` where the sink failed: a prefix of the packet was written. `Ended` at each call
     /// after that: nothing was.
     pub fn put<K: Sink>(&mut self, sink: &mut K, frame: &PesFrame) -> Result<(), PesFault>
-        requires { K.failure_count sink.old < u64.MAX }
+        requires { CanFail (K.failure_count sink.old) }
         ensures bytes { Writes (K.contents sink.old) (K.contents sink.new)
             (canonical_packet frame.now) result }
         ensures faults { IfErr result (λ fault. fault ≡ (if self.old then Ended else Write)) }

@@ -1,5 +1,6 @@
 //! `check STL PES`: checks a PES file against a subtitle file.
 ghost use Rattle.std.specs.Prelude.{◌≡◌, ◌≢◌, ◌<◌, Ok, None};
+ghost use Rattle.sub_io.specs.Device.{CanFail};
 ghost use Rattle.sub_io.specs.Reading.{IfTold};
 ghost use Rattle.stl_file.specs.Reader.{outcome_of};
 ghost use Rattle.stl_rows.specs.Loading.{loaded};
@@ -38,9 +39,9 @@ pub fn print_verdict<S: Source, T: Source, K: Sink>(
     options: &Options,
     out: &mut K,
 ) -> Status
-    requires stl { S.failure_count stl.old < u64.MAX }
-    requires pes { T.failure_count pes.old < u64.MAX }
-    requires out { K.failure_count out.old < u64.MAX }
+    requires stl { CanFail (S.failure_count stl.old) }
+    requires pes { CanFail (T.failure_count pes.old) }
+    requires out { CanFail (K.failure_count out.old) }
 
     // One answer is printed, which the bytes of both files decide.
     ensures check { AnswersCheck national options.now

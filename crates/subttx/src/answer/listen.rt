@@ -1,6 +1,7 @@
 //! `listen PES`: runs one receiver over the PES packets of a file.
 ghost use Rattle.std.specs.Prelude.{◌≡◌, ℕ, ◌+◌, ◌*◌, ◌≤◌, ◌<◌, ◌++◌, IfErr, Option};
 ghost use Rattle.std.specs.Prelude.{false, if◌then◌else◌, slice_index, true};
+ghost use Rattle.sub_io.specs.Device.{CanFail};
 ghost use Rattle.arrayvec.specs.ArrayVec.{array_vec_len};
 ghost use Rattle.sub_io.specs.Reading.{IfTold};
 ghost use Rattle.ttx_page.specs.Page.{AreCodes};
@@ -71,8 +72,8 @@ pub fn print_listening<S: Source, K: Sink>(
     listening: &Listening,
     out: &mut K,
 ) -> Status
-    requires first { S.failure_count pes.old < u64.MAX }
-    requires out { K.failure_count out.old < u64.MAX }
+    requires first { CanFail (S.failure_count pes.old) }
+    requires out { CanFail (K.failure_count out.old) }
     // Where the source tells its bytes and does not fail, they are read as frames, and what is
     // printed is the state of a receiver that heard what it gets of them, or the refusal.
     ensures exact { AnswersListen listening.now
@@ -96,8 +97,8 @@ fn listen<R: Receiver + Drop, S: Source, K: Sink>(
     listening: &Listening,
     out: &mut K,
 ) -> Status
-    requires first { S.failure_count pes.old < u64.MAX }
-    requires out { K.failure_count out.old < u64.MAX }
+    requires first { CanFail (S.failure_count pes.old) }
+    requires out { CanFail (K.failure_count out.old) }
     ensures exact { AnswersListen listening.now
         (source_call S.remaining S.failure_count pes.old pes.new)
         (sink_call K.contents K.failure_count out.old out.new) result }
@@ -140,7 +141,7 @@ fn hear_file<R: Receiver, S: Source>(
     pes: &mut S,
     listening: &Listening,
 ) -> Result<(), ListenFault>
-    requires { S.failure_count pes.old < u64.MAX }
+    requires { CanFail (S.failure_count pes.old) }
     ensures exact { (frames : Transmission) (unread : Option Unread)
         → IfTold (S.remaining pes.old) (λ bytes.
         ReadsAs listening.now.options.origin 0 bytes frames unread
@@ -182,7 +183,7 @@ fn hear_file<R: Receiver, S: Source>(
 
 // Prints the line of a fault.
 fn print_fault<K: Sink>(fault: &ListenFault, out: &mut K) -> Status
-    requires out { K.failure_count out.old < u64.MAX }
+    requires out { CanFail (K.failure_count out.old) }
     requires own { is_subtitle_fault fault.now ≡ false }
     ensures prints { Prints (K.contents out.old) (K.contents out.new)
         (record { text = listen_fault_line fault.now; status = listen_status fault.now }) result }

@@ -2,7 +2,7 @@
 ghost use Rattle.std.specs.Prelude.{◌≡◌, ◌≢◌, ◌+◌, ◌<◌, ◌≤◌, [], IfErr, IfOk, OnErr, OnOk};
 ghost use Rattle.std.specs.Prelude.{codes, drop, false, if◌then◌else◌, take, true, vec_len};
 ghost use Rattle.std.specs.Io.KnownBytes.{Appends, Consumes, IsAtEnd, Keeps};
-ghost use Rattle.sub_io.specs.Device.{CountsFailure};
+ghost use Rattle.sub_io.specs.Device.{CanFail, CountsFailure};
 ghost use Rattle.sub_io.specs.Reading.{IfTold};
 ghost use Rattle.stl_file.specs.Fault.{is_write};
 ghost use Rattle.stl_file.specs.NormalForm.{NormalAnswers};
@@ -53,9 +53,9 @@ pub fn write_normal<S: Source, F: Flush, K: Sink>(
     file: &mut F,
     out: &mut K,
 ) -> Status
-    requires input { S.failure_count input.old < u64.MAX }
-    requires file { F.failure_count file.old < u64.MAX }
-    requires out { K.failure_count out.old < u64.MAX }
+    requires input { CanFail (S.failure_count input.old) }
+    requires file { CanFail (F.failure_count file.old) }
+    requires out { CanFail (K.failure_count out.old) }
 
     // The bytes of the input decide what is written and what is printed.
     ensures answer { IfTold (S.remaining input.old) (λ bytes. Answers
@@ -107,8 +107,8 @@ fn make_normal<S: Source, F: Flush>(
     file: &mut F,
     line: &mut Line,
 ) -> End
-    requires input { S.failure_count input.old < u64.MAX }
-    requires file { F.failure_count file.old < u64.MAX }
+    requires input { CanFail (S.failure_count input.old) }
+    requires file { CanFail (F.failure_count file.old) }
     requires line { line.old.items ≡ [] }
     ensures works { IfTold (S.remaining input.old) (λ bytes. Works
         (F.contents file.old) (F.contents file.new) line.new.items (normal_writing bytes) result) }
@@ -136,7 +136,7 @@ fn make_normal<S: Source, F: Flush>(
 
 // Writes the normal form of the bytes of a file, and makes the line.
 fn make_of_bytes<F: Flush>(bytes: &[u8], file: &mut F, line: &mut Line) -> End
-    requires file { F.failure_count file.old < u64.MAX }
+    requires file { CanFail (F.failure_count file.old) }
     requires line { line.old.items ≡ [] }
     ensures works { Works (F.contents file.old) (F.contents file.new) line.new.items
         (normal_writing bytes.now) result }
@@ -165,7 +165,7 @@ fn make_of_bytes<F: Flush>(bytes: &[u8], file: &mut F, line: &mut Line) -> End
 
 // Writes the normal form of the bytes of a file, and flushes it.
 fn put_normal<F: Flush>(bytes: &[u8], file: &mut F) -> Result<u32, NormalFault>
-    requires { F.failure_count file.old < u64.MAX }
+    requires { CanFail (F.failure_count file.old) }
     ensures answer { NormalAnswers bytes.now (F.contents file.old) (F.contents file.new) result }
     ensures count { F.failure_count file.new
         ≡ F.failure_count file.old + (if is_write result then 1 else 0) }
@@ -183,7 +183,7 @@ fn read_input<A: Allocator + Drop, S: Source>(
     alloc: A,
     input: &mut S,
 ) -> Result<Vec<u8, A>, InputFault>
-    requires { S.failure_count input.old < u64.MAX }
+    requires { CanFail (S.failure_count input.old) }
     ensures bytes { IfTold (S.remaining input.old) (λ bytes.
         IfOk result (λ v. v.items ≡ take most_read bytes)) }
     ensures read { IfErr result (TellsRead (S.remaining input.old) (S.remaining input.new)) }
@@ -249,7 +249,7 @@ fn pull_behind<A: Allocator, S: Source>(
     len: usize,
 ) -> Result<usize, Failed>
     requires within { len < vec_len bytes.old }
-    requires count { S.failure_count input.old < u64.MAX }
+    requires count { CanFail (S.failure_count input.old) }
     ensures len { vec_len bytes.new ≡ vec_len bytes.old }
     ensures bound { IfOk result (λ n. len + n ≤ vec_len bytes.new) }
     ensures front { take len bytes.new.items ≡ take len bytes.old.items }

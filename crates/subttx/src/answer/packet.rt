@@ -1,5 +1,6 @@
 //! `packet HEX`: shows one packet.
 ghost use Rattle.std.specs.Prelude.{◌≡◌, ◌+◌, ◌≤◌, ◌<◌, [], ◌++◌, length, map};
+ghost use Rattle.sub_io.specs.Device.{CanFail};
 ghost use Rattle.arrayvec.specs.ArrayVec.{array_vec_len};
 ghost use Rattle.ttx_packet.specs.PageHeader.{header};
 ghost use Rattle.subttx.specs.Lines.{address_line, control_list, control_names, header_line};
@@ -24,7 +25,7 @@ const HEX_DIGITS: [u8; 16] = *b"0123456789ABCDEF";
 ///
 /// Refuses a packet that has no address, or whose header means nothing.
 pub fn show_packet<K: Sink>(bytes: &[u8; 42], out: &mut K) -> Status
-    requires { K.failure_count out.old < u64.MAX }
+    requires { CanFail (K.failure_count out.old) }
     ensures text { Prints (K.contents out.old) (K.contents out.new)
         (packet_listing bytes.now) result }
     ensures count { CountsFault (K.failure_count out.old) result (K.failure_count out.new) }

@@ -1,6 +1,7 @@
 //! `packets PES`: lists PES packets and their Teletext units.
 ghost use Rattle.std.specs.Prelude.{◌≡◌, ◌+◌, ◌≤◌, ◌<◌, ◌++◌, None, IfSome};
 ghost use Rattle.std.specs.Prelude.{Some, if◌then◌else◌};
+ghost use Rattle.sub_io.specs.Device.{CanFail};
 ghost use Rattle.arrayvec.specs.ArrayVec.{array_vec_len};
 ghost use Rattle.subttx.specs.Lines.{pes_line, unit_line};
 ghost use Rattle.sub_io.specs.Reading.{IfTold};
@@ -25,8 +26,8 @@ const MOST_CALLS: u32 = 2_160_001;
 ///
 /// Lines before a refusal stay. One PES packet is kept at a time, and its lines are put at once.
 pub fn list_packets<S: Source, K: Sink>(first: &mut S, out: &mut K) -> Status
-    requires first { S.failure_count first.old < u64.MAX }
-    requires out { K.failure_count out.old < u64.MAX }
+    requires first { CanFail (S.failure_count first.old) }
+    requires out { CanFail (K.failure_count out.old) }
     // Where the source tells its bytes and does not fail, they decide what is printed.
     ensures prints { IfTold (S.remaining first.old) (λ bytes.
         S.failure_count first.new ≡ S.failure_count first.old
@@ -60,8 +61,8 @@ fn list_next<S: Source, K: Sink>(
     text: &mut Text,
     out: &mut K,
 ) -> Option<Status>
-    requires first { S.failure_count first.old < u64.MAX }
-    requires out { K.failure_count out.old < u64.MAX }
+    requires first { CanFail (S.failure_count first.old) }
+    requires out { CanFail (K.failure_count out.old) }
     requires reading { reader.old ≡ Reading index }
     ensures lines { IfTold (S.remaining first.old) (λ bytes.
         S.failure_count first.new ≡ S.failure_count first.old
@@ -95,7 +96,7 @@ fn make_next<S: Source>(
     frame: &mut PesFrame,
     text: &mut Text,
 ) -> Option<Status>
-    requires first { S.failure_count first.old < u64.MAX }
+    requires first { CanFail (S.failure_count first.old) }
     requires reading { reader.old ≡ Reading index }
     ensures lines { IfTold (S.remaining first.old) (λ bytes.
         S.failure_count first.new ≡ S.failure_count first.old

@@ -2,7 +2,7 @@
 ghost use Rattle.std.specs.Prelude.{◌≡◌, ◌≢◌, ◌↔◌, ◌+◌, ◌<◌, [], Err, IfOk, codes, length};
 ghost use Rattle.std.specs.Prelude.{false, if◌then◌else◌};
 ghost use Rattle.std.specs.Io.KnownBytes.{Keeps};
-ghost use Rattle.sub_io.specs.Device.{Writes};
+ghost use Rattle.sub_io.specs.Device.{CanFail, Writes};
 ghost use Rattle.sub_io.specs.Reading.{IfTold};
 ghost use Rattle.sub_plan.specs.Schedule.{is_write_failure, plan, plan_frames};
 ghost use Rattle.sub_plan.specs.declared.fault.PlanFault.TheVariants.{NoSubtitles};
@@ -36,9 +36,9 @@ pub fn write_schedule<S: Source, F: Flush, K: Sink>(
     file: &mut F,
     out: &mut K,
 ) -> Status
-    requires stl { S.failure_count stl.old < u64.MAX }
-    requires file { F.failure_count file.old < u64.MAX }
-    requires out { K.failure_count out.old < u64.MAX }
+    requires stl { CanFail (S.failure_count stl.old) }
+    requires file { CanFail (F.failure_count file.old) }
+    requires out { CanFail (K.failure_count out.old) }
 
     // The bytes of the subtitle file decide what is written and what is printed.
     ensures answer { IfTold (S.remaining stl.old) (λ bytes. Answers
@@ -86,8 +86,8 @@ fn make_schedule<S: Source, F: Flush>(
     file: &mut F,
     line: &mut Line,
 ) -> End
-    requires stl { S.failure_count stl.old < u64.MAX }
-    requires file { F.failure_count file.old < u64.MAX }
+    requires stl { CanFail (S.failure_count stl.old) }
+    requires file { CanFail (F.failure_count file.old) }
     requires line { line.old.items ≡ [] }
     ensures works { IfTold (S.remaining stl.old) (λ bytes. Works
         (F.contents file.old) (F.contents file.new) line.new.items
@@ -127,7 +127,7 @@ fn make_of_programme<F: Flush>(
     file: &mut F,
     line: &mut Line,
 ) -> End
-    requires file { F.failure_count file.old < u64.MAX }
+    requires file { CanFail (F.failure_count file.old) }
     requires line { line.old.items ≡ [] }
     ensures works { Works (F.contents file.old) (F.contents file.new) line.new.items
         (schedule_of programme.now.records programme.now options.now serial) result }
@@ -160,7 +160,7 @@ fn put_schedule<F: Flush>(
     serial: bool,
     file: &mut F,
 ) -> Result<u32, PlanFault>
-    requires { F.failure_count file.old < u64.MAX }
+    requires { CanFail (F.failure_count file.old) }
     ensures bytes { Writes (F.contents file.old) (F.contents file.new)
         (plan programme.now options.now serial) result }
     ensures number { IfOk result

@@ -1,6 +1,7 @@
 //! `show STL`: lists subtitles.
 ghost use Rattle.std.specs.Prelude.{◌≡◌, ◌+◌, ◌≤◌, ◌<◌, ◌++◌, None, IfSome};
 ghost use Rattle.std.specs.Prelude.{Option, Result, Some, if◌then◌else◌};
+ghost use Rattle.sub_io.specs.Device.{CanFail};
 ghost use Rattle.arrayvec.specs.ArrayVec.{array_vec_len};
 ghost use Rattle.sub_io.specs.Reading.{IfTold};
 ghost use Rattle.stl_file.specs.Gsi.{five_digits};
@@ -34,8 +35,8 @@ const MOST_CALLS: u32 = 100_000;
 ///
 /// Lines before a refusal stay. One subtitle is kept at a time, and its line is put at once.
 pub fn list_subtitles<S: Source, K: Sink>(first: &mut S, out: &mut K) -> Status
-    requires first { S.failure_count first.old < u64.MAX }
-    requires out { K.failure_count out.old < u64.MAX }
+    requires first { CanFail (S.failure_count first.old) }
+    requires out { CanFail (K.failure_count out.old) }
     // Where the source tells its bytes and does not fail, they decide what is printed.
     ensures prints { IfTold (S.remaining first.old) (λ bytes.
         S.failure_count first.new ≡ S.failure_count first.old
@@ -62,8 +63,8 @@ pub fn list_subtitles<S: Source, K: Sink>(first: &mut S, out: &mut K) -> Status
 
 // Lists the subtitles behind the GSI block.
 fn list_behind<S: Source, K: Sink>(mut reader: StlReader, first: &mut S, out: &mut K) -> Status
-    requires first { S.failure_count first.old < u64.MAX }
-    requires out { K.failure_count out.old < u64.MAX }
+    requires first { CanFail (S.failure_count first.old) }
+    requires out { CanFail (K.failure_count out.old) }
     requires reading { reader.progress ≡ Reading }
     requires start { reader.block ≡ 0 }
     ensures prints { IfTold (S.remaining first.old) (λ bytes.
@@ -96,8 +97,8 @@ fn list_next<S: Source, K: Sink>(
     text: &mut Text,
     out: &mut K,
 ) -> Option<Status>
-    requires first { S.failure_count first.old < u64.MAX }
-    requires out { K.failure_count out.old < u64.MAX }
+    requires first { CanFail (S.failure_count first.old) }
+    requires out { CanFail (K.failure_count out.old) }
     requires reading { reader.old.progress ≡ Reading }
     ensures lines { IfTold (S.remaining first.old) (λ bytes.
         S.failure_count first.new ≡ S.failure_count first.old
@@ -132,7 +133,7 @@ fn make_next<S: Source>(
     count: u32,
     text: &mut Text,
 ) -> Option<Status>
-    requires first { S.failure_count first.old < u64.MAX }
+    requires first { CanFail (S.failure_count first.old) }
     requires reading { reader.old.progress ≡ Reading }
     ensures lines { IfTold (S.remaining first.old) (λ bytes.
         S.failure_count first.new ≡ S.failure_count first.old

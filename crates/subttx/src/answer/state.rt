@@ -1,6 +1,7 @@
 //! What is printed of a receiver.
 ghost use Rattle.std.specs.Prelude.{◌≡◌, ℕ, ◌+◌, ◌*◌, ◌≤◌, ◌<◌, ◌++◌, ◌==◌, map, length};
 ghost use Rattle.std.specs.List.{list_all};
+ghost use Rattle.sub_io.specs.Device.{CanFail};
 ghost use Rattle.arrayvec.specs.ArrayVec.{array_vec_len};
 ghost use Rattle.ttx_page.specs.Page.{space};
 ghost use Rattle.subttx.specs.Lines.{glyph};
@@ -22,7 +23,7 @@ type Text = ArrayVec<u8, 1280>;
 
 /// Prints what a receiver has heard and shows.
 pub fn print_state<R: Receiver, K: Sink>(receiver: &R, out: &mut K) -> Status
-    requires { K.failure_count out.old < u64.MAX }
+    requires { CanFail (K.failure_count out.old) }
     ensures prints { Prints (K.contents out.old) (K.contents out.new)
         (done (state_text (R.state receiver.now))) result }
     ensures count { CountsFault (K.failure_count out.old) result (K.failure_count out.new) }

@@ -1,5 +1,6 @@
 //! `listen`: what a receiver shows of the schedule of `Hi`.
 ghost use Rattle.std.specs.Prelude.{◌<◌};
+ghost use Rattle.sub_io.specs.Device.{CanFail};
 
 use crate::answer::listen::print_listening;
 use crate::flips::{Flip, parse_flips};
@@ -56,7 +57,7 @@ fn listening(
 
 // Asserts what is printed of a source, and the status that its first word tells.
 fn assert_hears<S: Source>(rt: &impl Abort, pes: &mut S, listening: &Listening, want: &[u8])
-    requires { S.failure_count pes.old < u64.MAX }
+    requires { CanFail (S.failure_count pes.old) }
 {
     let mut room = [0; 128];
     let mut out = MemSink::new(&mut room);

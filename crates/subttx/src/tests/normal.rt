@@ -1,6 +1,7 @@
 //! `normal`: what is written and printed of subtitle files, whole, refused, and where a device
 //! fails.
 ghost use Rattle.std.specs.Prelude.{◌<◌};
+ghost use Rattle.sub_io.specs.Device.{CanFail};
 
 use super::check::devices::{Drip, Endless};
 use super::watched::Watched;
@@ -68,7 +69,7 @@ fn assert_writes<S: Source>(
     line: &[u8],
     len: usize,
 )
-    requires { S.failure_count input.old < u64.MAX }
+    requires { CanFail (S.failure_count input.old) }
 {
     let mut room = [0; 1536];
     let mut file = MemSink::new(&mut room);
@@ -172,7 +173,7 @@ fn refuses_too_many_blocks(rt: HostRuntime) {
 
 // Asserts the line where the file fails.
 fn assert_write_fails<F: Flush>(rt: &(impl Abort + Alloc<A = Global>), file: &mut F)
-    requires { F.failure_count file.old < u64.MAX }
+    requires { CanFail (F.failure_count file.old) }
 {
     let input = commented();
     let mut text = [0; 64];

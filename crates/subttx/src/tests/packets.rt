@@ -1,5 +1,6 @@
 //! `packets`: what is printed of PES files.
 ghost use Rattle.std.specs.Prelude.{◌<◌};
+ghost use Rattle.sub_io.specs.Device.{CanFail};
 
 use super::answer_of;
 use super::check::makers::schedule_of_hi;
@@ -60,7 +61,7 @@ fn assert_lists<S: Source + Drop>(
     last: &[u8],
     status: Status,
 )
-    requires { S.failure_count pes < u64.MAX }
+    requires { CanFail (S.failure_count pes) }
 {
     let mut room = [0u8; 768];
     let mut out = MemSink::new(&mut room);

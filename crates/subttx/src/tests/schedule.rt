@@ -1,6 +1,7 @@
 //! `schedule`: what is written and printed of subtitle files, whole, refused, and where a device
 //! fails.
 ghost use Rattle.std.specs.Prelude.{◌<◌};
+ghost use Rattle.sub_io.specs.Device.{CanFail};
 
 use super::watched::Watched;
 use crate::answer::schedule::write_schedule;
@@ -105,9 +106,9 @@ fn answer_of<S: Source, F: Flush, K: Sink>(
     file: &mut F,
     out: &mut K,
 ) -> Option<Status>
-    requires stl { S.failure_count stl.old < u64.MAX }
-    requires file { F.failure_count file.old < u64.MAX }
-    requires out { K.failure_count out.old < u64.MAX }
+    requires stl { CanFail (S.failure_count stl.old) }
+    requires file { CanFail (F.failure_count file.old) }
+    requires out { CanFail (K.failure_count out.old) }
 {
     let options = Options::new(PageId::parse("888").ok()?, case.every, 0).ok()?;
     let status = write_schedule(
@@ -238,8 +239,8 @@ fn answer_of_one<F: Flush, K: Sink>(
     file: &mut F,
     out: &mut K,
 ) -> Option<Status>
-    requires file { F.failure_count file.old < u64.MAX }
-    requires out { K.failure_count out.old < u64.MAX }
+    requires file { CanFail (F.failure_count file.old) }
+    requires out { CanFail (K.failure_count out.old) }
 {
     let stl = file_of_one(block());
     let case = written(250, 368, b"written 2 transmissions\n");
@@ -248,7 +249,7 @@ fn answer_of_one<F: Flush, K: Sink>(
 
 // Asserts the line where the file fails.
 fn assert_write_fails<F: Flush>(rt: &(impl Abort + Alloc<A = Global>), file: &mut F)
-    requires { F.failure_count file.old < u64.MAX }
+    requires { CanFail (F.failure_count file.old) }
 {
     let mut room = [0; 64];
     let mut out = MemSink::new(&mut room);

@@ -1,5 +1,6 @@
 //! `show`: what is printed of subtitle files, whole and refused.
 ghost use Rattle.std.specs.Prelude.{◌<◌};
+ghost use Rattle.sub_io.specs.Device.{CanFail};
 
 use super::answer_of;
 use crate::request::Request;
@@ -28,7 +29,7 @@ fn assert_shows_into<S: Source>(
     want: &[u8],
     status: Status,
 )
-    requires { S.failure_count file.old < u64.MAX }
+    requires { CanFail (S.failure_count file.old) }
 {
     let mut out = MemSink::new(room);
     let given = answer_of(rt.alloc(), &Request::Show { stl: "a.stl" }, file, &mut out);

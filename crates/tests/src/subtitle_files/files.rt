@@ -1,6 +1,7 @@
 //! Files as bytes, and what a reader says of a whole source.
 
 ghost use Rattle.std.specs.Prelude.{◌≡◌, ◌+◌, ◌<◌, ◌≤◌, length};
+ghost use Rattle.sub_io.specs.Device.{CanFail};
 
 use stl_file::{StlFault, StlReader};
 use sub_io::Source;
@@ -72,7 +73,7 @@ pub(crate) fn a_file() -> [u8; 1664] {
 
 /// How many subtitles a source gives, the fault after them, and the block then.
 pub(crate) fn read_all<S: Source>(source: &mut S) -> (u32, Option<StlFault>, u32)
-    requires { S.failure_count source.old < u64.MAX }
+    requires { CanFail (S.failure_count source.old) }
 {
     let mut reader = match StlReader::open(source) {
         Ok(reader) => reader,

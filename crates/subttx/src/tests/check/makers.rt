@@ -1,6 +1,7 @@
 //! Subtitle files, their schedules and PES files, built by the library's own calls; and what a
 //! check of them prints.
 ghost use Rattle.std.specs.Prelude.{◌<◌};
+ghost use Rattle.sub_io.specs.Device.{CanFail};
 
 use crate::answer::check::print_verdict;
 use crate::status::Status;
@@ -149,8 +150,8 @@ pub fn assert_checks<S: Source, T: Source>(
     options: &Options,
     want: &str,
 )
-    requires stl { S.failure_count stl.old < u64.MAX }
-    requires pes { T.failure_count pes.old < u64.MAX }
+    requires stl { CanFail (S.failure_count stl.old) }
+    requires pes { CanFail (T.failure_count pes.old) }
 {
     let mut room = [0; 96];
     let mut out = MemSink::new(&mut room);
