@@ -21,10 +21,12 @@ use Rattle.ttx_page.specs.Noise.{IsOddRow}
 use Rattle.ttx_page.specs.LostRows.{MayBeLost, Arrives, arrived, IsHurt, IsHitOrLost}
 use Rattle.ttx_page.specs.DroppedRows.{without_dropped, LawOfDropping, SomewhereInRow}
 use Rattle.ttx_page.specs.DroppedRows.{LawOfDroppedRows}
+use Rattle.ttx_page.specs.Recovery.{LawOfDroppingRecovery}
 use Rattle.ttx_page.proofs.SpanLists.{Any-map, AllByRecursion-map, span-map}
 use Rattle.ttx_page.proofs.NoiseSteps.{Item, kind_of_item, Fair-from_arrives}
 use Rattle.ttx_page.proofs.NoiseRuns.{HitAt}
 use Rattle.ttx_page.proofs.NoiseLaws.{sent_of, span-items, law_of_lost_rows}
+use Rattle.ttx_page.proofs.NoiseLaws.{law_of_recovery}
 
 -- ---- a run that drops rows is one without them
 
@@ -275,6 +277,23 @@ law_of_dropped_rows w sent fates old new sound near unheard shut hears =
       heard = ends.heard;
       is_open = ends.is_open;
       cells = λ now_heard row column named. elim (ends.cells now_heard row column named) [
+        | inl coded ↦ inl coded
+        | inr hit ↦
+            inr (hit.0, hit_in_row w sent fates row column near sound.odd named.2 hit.1)
+      ];
+    }
+
+-- The law of recovery, for receivers that drop rows.
+pub law_of_dropping_recovery : LawOfDroppingRecovery
+law_of_dropping_recovery w sent fates old new sound near holds hears =
+    let ends =
+    law_of_recovery w sent (map (fate_of w) fates) old new sound
+    (arrives_dropped w sent fates (recursion_from_All _ sent sound.exact) near) holds
+    (hears_arrived w fates old new hears) in
+    record {
+      heard = ends.heard;
+      is_open = ends.is_open;
+      cells = λ row column named. elim (ends.cells row column named) [
         | inl coded ↦ inl coded
         | inr hit ↦
             inr (hit.0, hit_in_row w sent fates row column near sound.odd named.2 hit.1)

@@ -1,5 +1,5 @@
--- The laws of noise and of lost rows, from runs over items: `law_of_lost_rows` first, the others
--- follow.
+-- The laws of noise and of lost rows, from runs over items: `law_of_recovery`, for any state before,
+-- first; the others follow.
 use Rattle.std.proofs.Common.{◌≡◌, ◌≢◌, ℕ, ◌<◌, inl, inr, Bool, true, false, not, ◌&&◌, List, []}
 use Rattle.std.proofs.Common.{◌∷◌, slice_index_or, map, zip, find, Option, Some, None, option_map}
 use Rattle.std.proofs.Common.{unwrap_or, All, Any, IsTrue, IsFalse, refl, sym, ap, ◌∙◌, subst}
@@ -22,6 +22,7 @@ use Rattle.ttx_page.specs.Shown.{shown, IsHit}
 use Rattle.ttx_page.specs.Noise.{ErasesPage, IsSameRow, IsSound, EndsAs, LawOfNoise, LawOfQuiet}
 use Rattle.ttx_page.specs.LostRows.{LawOfMarkedLoss, LawOfNothingLost, Arrives, arrived}
 use Rattle.ttx_page.specs.LostRows.{IsHitOrLost, LawOfLostRows, MayBeMarked, fates_of}
+use Rattle.ttx_page.specs.Recovery.{EndsAfresh, LawOfMarkedRecovery, LawOfRecovery}
 use Rattle.ttx_page.proofs.SpanLists.{Any-from_somewhere, Any-map, map-Any, find_is, find_none}
 use Rattle.ttx_page.proofs.SpanLists.{none_pass, AllByRecursion-map, list_any-map, after-map}
 use Rattle.ttx_page.proofs.SpanLists.{span-map}
@@ -199,60 +200,79 @@ module _ (w : PageIdValue) (sent : List (List ℕ)) (fates : List (Option (List 
       ∙ list_any-map sent_of (λ p. is_row row (kind w p)) (span (kind_of_item w) items)
       ∙ e)
 
-  -- A run over the items ends as the law says.
-  ends_as_sent :
+  -- What is sent is fair.
+  fair : IsSound w sent → AllFair w items
+  fair sound = fair_from w sent fates (recursion_from_All _ sent sound.exact) near
+
+  -- A run over the items from any state, where these hold a header of the page.
+  ends_afresh :
       (old new : State)
       → IsSound w sent
+      → holds_header (kind w) sent ≡ true
+      → GoesOn w old items new
+      → EndsAfresh w sent (IsHitOrLost w sent fates) new
+  ends_afresh old new sound holds goes =
+      let claim =
+      ends_by_last_header w items old new (fair sound)
+      (over_items (ErasesPage w) (recursion_from_All _ sent sound.erases))
+      (sym holds_header-items ∙ holds) goes in
+      record {
+        heard = claim.0;
+        is_open = claim.1 ∙ sym is_unended-items;
+        cells = λ row column named. elim
+            (claim.2 row column (shown w sent row column) named
+            (targets_of row column sound named.2) (nothing_of row column)) [
+              | inl coded ↦ inl coded
+              | inr hit ↦ inr (hit.0, Any-from_somewhere (HitAt w row column) _ hit.1)
+            ];
+      }
+
+  -- A run over the items from a state that has not heard the page, where these hold no header of
+  -- it.
+  ends_unheard :
+      (old new : State)
+      → IsSound w sent
+      → holds_header (kind w) sent ≡ false
       → IsFalse old.heard
       → IsFalse old.is_open
       → GoesOn w old items new
       → EndsAs w sent (IsHitOrLost w sent fates) new
-  ends_as_sent old new sound unheard shut goes =
-      elim (cases_Bool (holds_header (kind_of_item w) items)) [
-        | inl holds ↦
-            let claim =
-            ends_by_last_header w items old new fair
-            (over_items (ErasesPage w) (recursion_from_All _ sent sound.erases)) holds
-            goes in
-            let held : holds_header (kind w) sent ≡ true = holds_header-items ∙ holds in
-            record {
-              heard = claim.0 ∙ sym held;
-              is_open =
-                  claim.1
-                  ∙ sym is_unended-items
-                  ∙ ap (λ b. b && is_unended (kind w) sent) (sym held);
-              cells = λ now_heard row column named. elim
-                  (claim.2 row column (shown w sent row column) named
-                  (targets_of row column sound named.2) (nothing_of row column)) [
-                    | inl coded ↦ inl coded
-                    | inr hit ↦ inr (hit.0, Any-from_somewhere (HitAt w row column) _ hit.1)
-                  ];
-            }
-        | inr none ↦
-            let flags = flags_over w items old new fair none goes in
-            let held : holds_header (kind w) sent ≡ false = holds_header-items ∙ none in
-            record {
-              heard = flags.0 ∙ unheard ∙ sym held;
-              is_open =
-                  flags.1
-                  ∙ ap (λ b. b && not (holds_end w items)) shut
-                  ∙ ap (λ b. b && is_unended (kind w) sent) (sym held);
-              cells =
-                  λ now_heard row column named.
-                  absurd (true≢false (sym now_heard ∙ flags.0 ∙ unheard));
-            }
-      ]
-    where
-      fair : AllFair w items
-      fair = fair_from w sent fates (recursion_from_All _ sent sound.exact) near
+  ends_unheard old new sound none unheard shut goes =
+      let flags =
+      flags_over w items old new (fair sound) (sym holds_header-items ∙ none) goes in
+      record {
+        heard = flags.0 ∙ unheard ∙ sym none;
+        is_open =
+            flags.1
+            ∙ ap (λ b. b && not (holds_end w items)) shut
+            ∙ ap (λ b. b && is_unended (kind w) sent) (sym none);
+        cells =
+            λ now_heard row column named.
+            absurd (true≢false (sym now_heard ∙ flags.0 ∙ unheard));
+      }
 
 -- ---- the laws
 
--- The law of lost rows.
+-- The law of recovery.
+pub law_of_recovery : LawOfRecovery
+law_of_recovery w sent fates old new sound near holds hears =
+    ends_afresh w sent fates near old new sound holds (goes_from w sent fates old new near hears)
+
+-- The law of lost rows: that of recovery, where a header of the page was sent.
 pub law_of_lost_rows : LawOfLostRows
 law_of_lost_rows w sent fates old new sound near unheard shut hears =
-    ends_as_sent w sent fates near old new sound unheard shut
-    (goes_from w sent fates old new near hears)
+    elim (cases_Bool (holds_header (kind w) sent)) [
+      | inl holds ↦
+          let ends = law_of_recovery w sent fates old new sound near holds hears in
+          record {
+            heard = ends.heard ∙ sym holds;
+            is_open = ends.is_open ∙ ap (λ b. b && is_unended (kind w) sent) (sym holds);
+            cells = λ now_heard. ends.cells;
+          }
+      | inr none ↦
+          ends_unheard w sent fates near old new sound none unheard shut
+          (goes_from w sent fates old new near hears)
+    ]
 
 -- What is near arrives, where all is got.
 pub Arrives-from_near :
@@ -387,6 +407,13 @@ law_of_quiet w sent old new sound unheard shut hears heard row column named =
       | inl same ↦ same
       | inr hit ↦ absurd (no_hit w sent row column hit.1)
     ]
+
+-- The law of recovery by marks: that by fates.
+pub law_of_marked_recovery : LawOfMarkedRecovery
+law_of_marked_recovery w sent marks got old new sound may near holds hears =
+    law_of_recovery w sent (fates_of marks got) old new sound
+    (arrives_marked sent marks got may near) holds
+    (subst (λ ps. Hears w old ps new) (sym (arrived_marked sent marks got may near)) hears)
 
 -- The law of lost rows by marks: that by fates.
 pub law_of_marked_loss : LawOfMarkedLoss

@@ -294,7 +294,7 @@ opened w items mid new fair e at goes =
         ]
 
 -- Over a whole list that holds a header of the page, whatever the receiver was before: by
--- induction from the front, for any start. For `ends_as_sent`.
+-- induction from the front, for any start. For `ends_afresh`.
 pub ends_by_last_header :
     (w : PageIdValue) (items : List Item) (old new : State)
     → AllFair w items

@@ -5,6 +5,8 @@
 ghost use Rattle.ttx_page.specs.DroppedRows.{LawOfDroppedRows, LawOfDropping};
 ghost use Rattle.ttx_page.specs.LostRows.{LawOfLostRows, LawOfMarkedLoss, LawOfNothingLost};
 ghost use Rattle.ttx_page.specs.Noise.{LawOfNoise, LawOfQuiet};
+ghost use Rattle.ttx_page.specs.Recovery.{LawOfDroppingRecovery, LawOfMarkedRecovery};
+ghost use Rattle.ttx_page.specs.Recovery.{LawOfRecovery};
 ghost use Rattle.ttx_page.specs.Span.{LawOfSpan};
 
 /// A packet is in the span exactly where it stands after the last header of the page, before any
@@ -50,4 +52,21 @@ pub fn law_of_dropping()
 /// its row was hit, or the row was lost.
 pub fn law_of_dropped_rows()
     ensures { LawOfDroppedRows }
+{}
+
+/// The law of lost rows for any state before: whatever a receiver held, once a header of its page
+/// was sent, each cell holds what was sent, or a space where the cell's byte was hit or lost.
+pub fn law_of_recovery()
+    ensures { LawOfRecovery }
+{}
+
+/// The same, with a mark beside each packet: kept or lost.
+pub fn law_of_marked_recovery()
+    ensures { LawOfMarkedRecovery }
+{}
+
+/// The same for receivers that drop rows: a cell counts as hit where any byte of its row was hit,
+/// or the row was lost.
+pub fn law_of_dropping_recovery()
+    ensures { LawOfDroppingRecovery }
 {}

@@ -1,0 +1,63 @@
+-- The law of noise for any state before. A receiver on air has always heard something: another
+-- transmission, a burst of noise, a page whose header was lost. From the next header of its page on
+-- nothing of that is left.
+use Rattle.std.specs.Prelude.{◌≡◌, ℕ, ◌⊎◌, Bool, List, Option, IsTrue}
+use Rattle.std.specs.List.{AllZip, items_where_true}
+use Rattle.ttx_packet.specs.OneBit.{AreNear}
+use Rattle.ttx_packet.specs.PageId.{PageIdValue}
+use Rattle.ttx_page.specs.DroppedRows.{SomewhereInRow}
+use Rattle.ttx_page.specs.LostRows.{Arrives, arrived, IsHitOrLost, MayBeMarked, fates_of}
+use Rattle.ttx_page.specs.Noise.{IsSound}
+use Rattle.ttx_page.specs.Page.{space, cell, IsCell}
+use Rattle.ttx_page.specs.PacketKind.{kind}
+use Rattle.ttx_page.specs.Receiver.{State, Hears, HearsDropping}
+use Rattle.ttx_page.specs.Shown.{shown}
+use Rattle.ttx_page.specs.Span.{holds_header, is_unended}
+
+-- What has become of a receiver, whatever it was before, by packets that hold a header of its page.
+pub record EndsAfresh
+    (w : PageIdValue) (sent : List (List ℕ)) (IsExcused : ℕ → ℕ → Type 0) (new : State)
+    : Type 0 where
+  -- It has heard the page.
+  pub heard : IsTrue new.heard
+  -- The page is open exactly where no header after its last one ends the span.
+  pub is_open : new.is_open ≡ is_unended (kind w) sent
+  -- Each cell is what is shown, or an excused space.
+  pub cells :
+      (row column : ℕ)
+      → IsCell row column
+      → (cell new.page row column ≡ shown w sent row column)
+      ⊎ ((cell new.page row column ≡ space) × IsExcused row column)
+
+-- Whatever a receiver held before, heard or not, open or not, with any page: once a header of its
+-- page was sent, it holds what the law of noise says. Any packets but page headers may be lost.
+abbrev pub LawOfRecovery : Type 0
+LawOfRecovery =
+    (w : PageIdValue) (sent : List (List ℕ)) (fates : List (Option (List ℕ))) (old new : State)
+    → IsSound w sent
+    → AllZip Arrives sent fates
+    → IsTrue (holds_header (kind w) sent)
+    → Hears w old (arrived fates) new
+    → EndsAfresh w sent (IsHitOrLost w sent fates) new
+
+-- The same by marks: what was got is near the list of the packets that are kept.
+abbrev pub LawOfMarkedRecovery : Type 0
+LawOfMarkedRecovery =
+    (w : PageIdValue) (sent : List (List ℕ)) (marks : List Bool)
+    → (got : List (List ℕ)) (old new : State)
+    → IsSound w sent
+    → AllZip MayBeMarked sent marks
+    → AllZip AreNear (items_where_true marks sent) got
+    → IsTrue (holds_header (kind w) sent)
+    → Hears w old got new
+    → EndsAfresh w sent (IsHitOrLost w sent (fates_of marks got)) new
+
+-- The same for receivers that drop rows: a cell counts as hit where any byte of its row was.
+abbrev pub LawOfDroppingRecovery : Type 0
+LawOfDroppingRecovery =
+    (w : PageIdValue) (sent : List (List ℕ)) (fates : List (Option (List ℕ))) (old new : State)
+    → IsSound w sent
+    → AllZip Arrives sent fates
+    → IsTrue (holds_header (kind w) sent)
+    → HearsDropping w old (arrived fates) new
+    → EndsAfresh w sent (SomewhereInRow (IsHitOrLost w sent fates)) new
