@@ -4,7 +4,7 @@ ghost use Rattle.std.specs.Prelude.{if◌then◌else◌, length, Some, None, Ok,
 ghost use Rattle.std.specs.Prelude.{IfSome, OnSome};
 ghost use Rattle.sub_io.specs.Device.{CanFail};
 ghost use Rattle.sub_io.specs.Reading.{AreBytes, IfTold};
-ghost use Rattle.ttx_pes.specs.declared.fault.PesFault.TheVariants.{Ended, TooMany};
+ghost use Rattle.ttx_pes.specs.declared.fault.PesFault.TheVariants.{Ended, TooMany, Write};
 ghost use Rattle.ttx_pes.specs.declared.progress.Progress.TheVariants.{Reading, AtEnd, Broken};
 ghost use Rattle.ttx_pes.specs.PesPacket.{empty_value};
 ghost use Rattle.ttx_pes.specs.Reading.{answer_at, value_at, is_format_fault, is_read_failure};
@@ -76,6 +76,7 @@ fn read_packet<S: Source>(
         (bytes ≡ []) × (S.remaining source.new ≡ Some (rest_after bytes))) }
     ensures too_many { IfErr result (λ fault. fault ≡ TooMany → given ≡ MOST_PACKETS) }
     ensures never { IfErr result (λ fault. fault ≢ Ended) }
+    ensures no_write { IfErr result (λ fault. fault ≢ Write) }
     ensures below { result ≡ Ok true → given ≢ MOST_PACKETS }
     ensures count { S.failure_count source.new
         ≡ S.failure_count source.old + (if is_read_failure result then 1 else 0) }
@@ -154,6 +155,8 @@ impl PesReader {
         ensures at_end { self.old ≡ AtEnd → (result ≡ Ok None) × (source.new ≡ source.old) }
         ensures ended { (self.old ≡ Broken) ↔ (result ≡ Err Ended) }
         ensures broken { self.old ≡ Broken → source.new ≡ source.old }
+        // Nothing is written, so no sink fails: also where the source tells nothing.
+        ensures no_write { IfErr result (λ fault. fault ≢ Write) }
         ensures count { S.failure_count source.new
             ≡ S.failure_count source.old + (if is_read_failure result then 1 else 0) }
     {
@@ -211,6 +214,8 @@ impl PesReader {
         ensures at_end { self.old ≡ AtEnd → (result ≡ Ok false) × (source.new ≡ source.old) }
         ensures ended { (self.old ≡ Broken) ↔ (result ≡ Err Ended) }
         ensures broken { self.old ≡ Broken → source.new ≡ source.old }
+        // Nothing is written, so no sink fails: also where the source tells nothing.
+        ensures no_write { IfErr result (λ fault. fault ≢ Write) }
         ensures count { S.failure_count source.new
             ≡ S.failure_count source.old + (if is_read_failure result then 1 else 0) }
     {
