@@ -4,12 +4,11 @@
 --
 -- The items of a list are packets, or packets with something beside each; `kind_of` is the kind of
 -- an item's packet. So one span serves what was sent, what was got, and both side by side.
-use Rattle.std.specs.Prelude.{◌≡◌, ◌↔◌, ℕ, ◌+◌, ◌<◌, Bool, ◌&&◌, not, List, [], ◌∷◌, length}
-use Rattle.std.specs.Prelude.{if◌then◌else◌, slice_index_or, Contains, HoldsAt, IsTrue, IsFalse}
+use Rattle.std.specs.Prelude.{◌≡◌, ℕ, ◌-◌, ◌<◌, ◌≤◌, ◌⊎◌, Bool, ◌&&◌, not, List, [], ◌∷◌, length}
+use Rattle.std.specs.Prelude.{if◌then◌else◌, slice_range, All, HoldsAt, IsTrue, IsFalse}
 use Rattle.std.specs.List.{list_any, AllWithin}
-use Rattle.ttx_packet.specs.PageId.{PageIdValue}
 use Rattle.ttx_page.specs.declared.packet_kind.PacketKind.{PacketKind}
-use Rattle.ttx_page.specs.PacketKind.{kind, is_this_page, ends_page}
+use Rattle.ttx_page.specs.PacketKind.{is_this_page, ends_page}
 
 -- Some item is a header of the page.
 abbrev pub holds_header : {A : Type 0} → (A → PacketKind) → List A → Bool
@@ -43,23 +42,26 @@ is_open_after kind_of items = holds_header kind_of items && is_unended kind_of i
 
 -- ---- the span by places
 
--- Place i of a list is in the span: at a place h before it stands a header of the page, none stands
--- after h, and no header that ends the page stands from h up to i.
-abbrev pub IsInSpan : {A : Type 0} → (A → PacketKind) → List A → ℕ → Type 0
-IsInSpan kind_of items i =
-    (h : ℕ)
-    × (h < i)
-    × (i < length items)
-    × HoldsAt (λ x. IsTrue (is_this_page (kind_of x))) items h
-    × AllWithin (λ x. IsFalse (is_this_page (kind_of x))) items (h + 1) (length items)
-    × AllWithin (λ x. IsFalse (ends_page (kind_of x))) items (h + 1) (i + 1)
+-- The two places between which the span stands: from the place after the last header of the page,
+-- to the first place from there on with a header that ends the page, or to the end of the list.
+pub record IsSpan {A : Type 0} (kind_of : A → PacketKind) (items : List A) (from to : ℕ)
+    : Type 0 where
+  pub order : (0 < from) × (from ≤ to) × (to ≤ length items)
+  -- At the place before the span stands a header of the page, and none stands later.
+  pub header : HoldsAt (λ x. IsTrue (is_this_page (kind_of x))) items (from - 1)
+  pub no_later_header : AllWithin (λ x. IsFalse (is_this_page (kind_of x))) items from (length items)
+  -- At no place of the span stands a header that ends the page. One stands at the place after it,
+  -- where the list has such a place.
+  pub no_earlier_end : AllWithin (λ x. IsFalse (ends_page (kind_of x))) items from to
+  pub end : (to ≡ length items) ⊎ HoldsAt (λ x. IsTrue (ends_page (kind_of x))) items to
 
--- A packet is in the span exactly where it stands at a place of the span.
+-- The span is the part of the list between these two places, each item of it, in its order. Where
+-- the list holds no header of the page, the span is empty.
 -- So a reader may take the places for the definition, in place of the recursion.
-abbrev pub LawOfSpan : Type 0
-LawOfSpan =
-    (w : PageIdValue) (packets : List (List ℕ)) (packet : List ℕ)
-    → Contains (span (kind w) packets) packet
-    ↔ ((i : ℕ)
-    × IsInSpan (kind w) packets i
-    × (slice_index_or packets i packet ≡ packet))
+abbrev pub LawOfSpan : Type 0 → Type 0
+LawOfSpan A =
+    (kind_of : A → PacketKind) (items : List A)
+    → (All (λ x. IsFalse (is_this_page (kind_of x))) items × (span kind_of items ≡ []))
+    ⊎ ((from to : ℕ)
+    × IsSpan kind_of items from to
+    × (span kind_of items ≡ slice_range items from to))

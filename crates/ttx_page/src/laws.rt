@@ -9,10 +9,12 @@ ghost use Rattle.ttx_page.specs.Recovery.{LawOfDroppingRecovery, LawOfMarkedReco
 ghost use Rattle.ttx_page.specs.Recovery.{LawOfRecovery};
 ghost use Rattle.ttx_page.specs.Span.{LawOfSpan};
 
-/// A packet is in the span exactly where it stands after the last header of the page, before any
-/// that ends it.
-pub fn law_of_span()
-    ensures { LawOfSpan }
+/// The span is the part of a list from the place after the last header of the page to the first
+/// later header that ends the page, or to the end of the list: each item of it, in its order.
+///
+/// The items `T` are packets, or packets with something beside each.
+pub fn law_of_span<T>()
+    ensures { LawOfSpan T }
 {}
 
 /// With at most one wrong bit in each byte, a receiver that heard a header of the page holds in
