@@ -1,0 +1,153 @@
+"""The whole report: one XHTML page, with all that it needs in it."""
+import html
+import os
+
+from .manual import marked_up
+from .places import block_place, frame_place, place_of_pts
+from .program import time_of
+
+GOOD = ('<svg viewBox="0 0 62 62"><circle cx="31" cy="31" r="27" fill="none" stroke="currentColor" '
+        'stroke-width="5"/><path d="M17 32L28 43L46 20" fill="none" stroke="currentColor" '
+        'stroke-width="6"/></svg>')
+BAD = ('<svg viewBox="0 0 62 62"><path d="M20 4H42L58 20V42L42 58H20L4 42V20z" fill="none" '
+       'stroke="currentColor" stroke-width="5"/><path d="M21 21L41 41M41 21L21 41" '
+       'stroke="currentColor" stroke-width="6"/></svg>')
+MOST_PAGES = 200  # of the table of headers
+
+SAYS = ("The verdict is the line that <code>subttx check</code> printed, and nothing else on this "
+        "page accepts or refuses. The pictures are drawn from what <code>subttx</code> prints, by "
+        "a script that is not proved; they show one receiver, tuned in before the first packet.")
+ACCEPTED = ("Frames are counted from the first PES packet's to the last one's, transmissions by "
+            "the headers of the page.")
+
+KEYS = """<h2 id="key">How to read this page</h2>
+<p><b>Strips.</b> Bars are subtitles from TCI to TCO with their numbers, and lead to their pictures.
+The lines below them are frames with a header of the page; where such frames are close to each other
+they are drawn as a block. The red flag is the broken place.</p>
+<p><b>Pictures.</b> Left is the page that is due at the end of the frame, from <code>subttx
+schedule</code> of the subtitle file; right the page that a receiver holds then, which has heard the
+PES file from its first packet. The grey ground is where the programme's picture is seen: a receiver
+shows what stands in boxes alone, and what stands outside of them is faint here. Flashing letters
+are underlined with dots. Cells whose code differs from the due page's are framed in orange and
+black. Dotted cells are those of the receiver's old page which nobody sent or erased since it was
+tuned in; dashed ones came with even parity. Mosaics are drawn as &#9618;, and what is concealed is
+shown. Under each picture stand its rows as <code>subttx listen --at</code> prints them: codes as
+ASCII, and spacing attributes as dots.</p>"""
+
+
+def report_page(report, program):
+    """The page, as text."""
+    title = f"{os.path.basename(report.stl_name)} and {os.path.basename(report.pes_name)}"
+    with open(os.path.join(os.path.dirname(__file__), "style.css"), encoding="utf-8") as file:
+        style = file.read()
+    parts = ['<!DOCTYPE html>\n'
+             '<html xmlns="http://www.w3.org/1999/xhtml" lang="en"><head><meta charset="UTF-8"/>'
+             '<meta name="viewport" content="width=device-width, initial-scale=1"/>'
+             f"<title>{html.escape(report.verdict.line)} &#8211; {html.escape(title)}</title>"
+             f"<style>\n{style}</style></head><body><h1>Preview of {html.escape(title)}</h1>",
+             verdict_box(report), navigation(report), files_table(report), pages_table(report)]
+    if report.timeline:
+        parts.append('<h2 id="timeline">Timeline</h2><p>A strip is '
+                     f"{report.timeline.called}.</p>{report.timeline.overview()}")
+    if report.verdict.block is not None:
+        parts.append(block_place(program, report))
+    elif report.broken is not None or report.verdict.pes is not None:
+        parts.append(frame_place(program, report))
+    if report.timeline:
+        parts.append(f'<h2 id="subtitles">Subtitles</h2>{subtitles_words(report)}'
+                     f"{report.entries.all(report.timeline)}")
+        parts.append(KEYS)
+    parts.append("</body></html>\n")
+    return "\n".join(parts)
+
+
+def verdict_box(report):
+    """The verdict word for word, with what the manual says of its number."""
+    verdict = report.verdict
+    parts = []
+    if verdict.number is not None:
+        meaning = report.meanings.get(verdict.number)
+        if meaning:
+            parts.append(f"<dl><dt>means</dt><dd>{marked_up(meaning.means)}</dd>"
+                         f"<dt>do</dt><dd>{marked_up(meaning.do)}</dd></dl>")
+        else:
+            parts.append("<p>docs/MANUAL.md, which says what it means, is not beside tools/.</p>")
+    else:
+        parts.append(f"<p>{ACCEPTED}</p>")
+    kind, shape = ("refused", BAD) if verdict.status else ("accepted", GOOD)
+    return (f'<div class="verdict {kind}">{shape}<div><p class="line" id="verdict">'
+            f'{html.escape(verdict.line)}</p>{"".join(parts)}</div></div>'
+            f'<p class="says">{SAYS}</p>')
+
+
+def navigation(report):
+    links = [("files", "Files"), ("pages", "Headers")]
+    if report.timeline:
+        links.append(("timeline", "Timeline"))
+    if report.verdict.status == 1 and report.verdict.number != 60:
+        links.append(("place", "The broken place"))
+    if report.timeline:
+        links += [("subtitles", "Subtitles"), ("key", "How to read this page")]
+    return "<nav>" + " ".join(f'<a href="#{to}">{words}</a>' for to, words in links) + "</nav>"
+
+
+def files_table(report):
+    rows = "".join(
+        f"<tr><th>{what}</th><td>{html.escape(name)}</td><td>{size:,} bytes</td>"
+        f"<td><code>{digest}</code></td></tr>" for what, name, (digest, size) in report.files)
+    return ('<h2 id="files">Files</h2><table class="files"><tr><th></th><th>Name</th>'
+            f"<th>Size</th><th>SHA-256</th></tr>{rows}</table><p>Command line: "
+            f"<code>{html.escape(report.command_line)}</code></p>")
+
+
+def pages_table(report):
+    """The pages whose headers the PES file holds, so that a wrong page or origin is seen."""
+    held = report.held
+    parts = ['<h2 id="pages">Headers in the PES file</h2>', f"<p>{reading_words(held)}</p>"]
+    wanted = held.page
+    pages = sorted(held.pages.items(),
+                   key=lambda item: (item[0] != wanted, -item[1].count, item[0]))
+    if wanted not in held.pages:
+        parts.append(f"<p><b>No header of page {report.page}, which is checked.</b></p>")
+    rows = []
+    for (magazine, page), known in pages[:MOST_PAGES]:
+        name = f"{magazine or 8}{page:02X}"
+        words = "checked" if (magazine, page) == wanted else "closes others" if page == 0xFF else ""
+        places = "".join(f"<td>{pts}</td><td>{place_of_pts(pts, report.origin)}</td>"
+                         for pts, _ in (known.first, known.last))
+        bits = "; ".join(f"{names} ({count})" for names, count in known.bits.most_common(4))
+        rows.append(f"<tr><td><b>{name}</b> {words}</td><td>{known.count:,}</td>{places}"
+                    f"<td>{bits}</td></tr>")
+    if rows:
+        parts.append('<table class="pages"><tr><th>Page</th><th>Headers</th><th>First PTS</th>'
+                     "<th>First frame</th><th>Last PTS</th><th>Last frame</th>"
+                     "<th>Control bits (headers)</th>"
+                     f"</tr>{''.join(rows)}</table>")
+    if len(pages) > MOST_PAGES:
+        parts.append(f"<p>{len(pages) - MOST_PAGES} more pages have fewer headers.</p>")
+    return "".join(parts)
+
+
+def reading_words(held):
+    """How far the PES file was read and heard."""
+    words = f"{held.count:,} PES packet{'s' * (held.count != 1)} read."
+    if held.end.status:
+        words += (" The file can't be read on after that: "
+                  f"<code>{html.escape(held.end.line)}</code>.")
+    if held.halt:
+        words += (f" A receiver heard those before PES packet {held.halt[0]} alone: the frame of "
+                  "that one is none, or not after the one before.")
+    return words
+
+
+def subtitles_words(report):
+    """How many subtitles there are, and which have pictures."""
+    count, drawn = len(report.subtitles), len(report.entries.drawn)
+    if not count:
+        return "<p>There is no subtitle: the due page is blank at each frame.</p>"
+    words = f"{count:,} subtitle{'s' * (count != 1)}, pictures at the first frame of "
+    words += "each." if drawn == count else f"{drawn:,} of them."
+    different = len(report.entries.different)
+    same = f"At the first frame of {different:,} of them the two pages differ." if different else \
+        "At the first frame of each the page that is held is the one that is due."
+    return f"<p>{words} {same}</p>"

@@ -1,0 +1,168 @@
+"""What `subttx` is asked, and its lines as values. Nothing else is known of either file."""
+import collections
+import hashlib
+import os
+import re
+import subprocess
+
+FRAMES_OF_A_DAY = 2_160_000
+CLOCK = 2**33  # a PTS has 33 bits
+TICKS = 3600  # of a frame, at 90 kHz
+
+Subtitle = collections.namedtuple("Subtitle", "index number first end row justify text")
+Verdict = collections.namedtuple(
+    "Verdict", "line status number name block at pes frame packet row column")
+
+PLACE = re.compile(
+    r"(refused|fault|usage) (?P<number>\d+) (?P<name>\w+)"
+    r"(?: block (?P<block>\d+)(?: at (?P<at>\d+))?| pes (?P<pes>\d+)"
+    r"| frame (?P<frame>[\d:]+)(?: packet (?P<packet>\d+)"
+    r"| row (?P<row>\d+) column (?P<column>\d+))?)?$")
+
+
+class NoReport(Exception):
+    """No report can be made; its text is the line for standard error."""
+
+
+def frame_of(time):
+    """The frame of the day of HH:MM:SS:FF, `None` where that is none."""
+    if not re.fullmatch(r"\d\d:\d\d:\d\d:\d\d", time):
+        return None
+    hours, minutes, seconds, frames = map(int, time.split(":"))
+    if hours > 23 or minutes > 59 or seconds > 59 or frames > 24:
+        return None
+    return ((hours * 60 + minutes) * 60 + seconds) * 25 + frames
+
+
+def time_of(frame):
+    """HH:MM:SS:FF of a frame; 24:00:00:00 is the frame after the day's last."""
+    seconds, frames = divmod(frame, 25)
+    return f"{seconds // 3600:02}:{seconds // 60 % 60:02}:{seconds % 60:02}:{frames:02}"
+
+
+def verdict_of(line, status):
+    """The last line of a command, with its place where it names one."""
+    found = PLACE.match(line)
+    if not found:
+        return Verdict(line, status, *[None] * 9)
+    fields = found.groupdict()
+    fields["frame"] = fields["frame"] and frame_of(fields["frame"])
+    for name in ("number", "block", "at", "pes", "packet", "row", "column"):
+        fields[name] = fields[name] and int(fields[name])
+    return Verdict(line, status, **fields)
+
+
+def subtitle_of(index, line):
+    """A subtitle from its line of `show`: SN TCI TCO vp V jc J text HEX."""
+    number, first, end, _, row, _, justify, _, text = line.split(" ")
+    text = b"" if text == "-" else bytes.fromhex(text)
+    return Subtitle(index, number, frame_of(first), frame_of(end), int(row), int(justify), text)
+
+
+class Listing:
+    """The PES packets of a file as `packets` prints them, read while it runs.
+
+    Iterating gives the PTS of each PES packet and the lines of its Teletext units as they are;
+    after that `last` is the last line, a count or a refusal.
+    """
+
+    def __init__(self, command):
+        self.command, self.last = command, None
+
+    def __iter__(self):
+        with subprocess.Popen(self.command, stdin=subprocess.DEVNULL, stdout=subprocess.PIPE,
+                              stderr=subprocess.DEVNULL) as process:
+            rest = b"\n"
+            while chunk := process.stdout.read(1 << 20):
+                pieces = (rest + chunk).split(b"\npes ")
+                rest = pieces.pop()
+                for piece in pieces:
+                    if piece:
+                        yield self.split(piece)
+        # What is left is the last PES packet, if there is one, and the last line.
+        rest, _, last = rest.rstrip(b"\n").rpartition(b"\n")
+        if rest:
+            yield self.split(rest)
+        self.last = verdict_of(last.decode(), process.returncode)
+
+    @staticmethod
+    def split(piece):
+        head, _, units = piece.partition(b"\n")
+        return int(head[head.rindex(b" ") + 1:]), units
+
+
+class Program:
+    """The program at a path, with the options of the report."""
+
+    def __init__(self, path, page, every, origin, option, is_complete):
+        self.path = path
+        self.receiver = ["--page", page, "--origin", origin]
+        self.schedule_options = [*self.receiver, "--option", option]
+        self.check_options = [*self.schedule_options, "--every", every]
+        if is_complete:
+            self.check_options.append("--complete")
+
+    def command(self, *words):
+        return [self.path, *words]
+
+    def run(self, *words):
+        """Runs a command; answers its lines and its last one as a verdict."""
+        try:
+            done = subprocess.run(self.command(*words), stdin=subprocess.DEVNULL, check=False,
+                                  stdout=subprocess.PIPE, stderr=subprocess.PIPE)
+        except (OSError, ValueError) as error:
+            raise NoReport(f"{self.path} can't be run: {error}") from None
+        lines = done.stdout.decode("utf-8", "replace").splitlines()
+        if not lines or done.returncode not in (0, 1, 2):
+            told = done.stderr.decode("utf-8", "replace").strip().splitlines()[-1:]
+            why = told[0] if told else "it printed nothing"
+            raise NoReport(f"{self.path} {words[0]}: status {done.returncode}, {why}")
+        return lines, verdict_of(lines[-1], done.returncode)
+
+    def answered(self, *words):
+        """`run` for a command that has to be answered: with status 2 there is no report."""
+        lines, verdict = self.run(*words)
+        if verdict.status == 2:
+            raise NoReport(f"{words[0]} was not answered: {verdict.line}")
+        return lines, verdict
+
+    def check(self, stl, pes):
+        return self.answered("check", *self.check_options, "--", stl, pes)[1]
+
+    def show(self, stl):
+        """The lines of `show`, its subtitles, and its last line."""
+        lines, verdict = self.answered("show", "--", stl)
+        return lines, [subtitle_of(i, line) for i, line in enumerate(lines[:-1], 1)], verdict
+
+    def schedule(self, stl, pes):
+        words = [*self.schedule_options, "--every", "1500", "--", stl, pes]
+        return self.answered("schedule", *words)[1]
+
+    def packets(self, pes):
+        return Listing(self.command("packets", "--", pes))
+
+    def packet(self, digits):
+        """What `packet` says of 84 hexadecimal digits, as lines."""
+        return self.answered("packet", digits)[0]
+
+
+def digest_of(path):
+    """The SHA-256 and the size of a file."""
+    digest, size = hashlib.sha256(), 0
+    try:
+        with open(path, "rb") as file:
+            while chunk := file.read(1 << 20):
+                digest.update(chunk)
+                size += len(chunk)
+    except OSError as error:
+        raise NoReport(f"{path} can't be read: {error.strerror}") from None
+    return digest.hexdigest(), size
+
+
+def built_program(path):
+    """The file whose digest tells which program answered: what the repository's script built."""
+    top = os.path.dirname(os.path.realpath(path))
+    built = os.path.join(top, "crates", "subttx", "out", "subttx")
+    with open(path, "rb") as file:
+        is_script = file.read(2) == b"#!"
+    return built if is_script and os.path.isfile(built) else path

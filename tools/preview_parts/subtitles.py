@@ -1,0 +1,169 @@
+"""The pictures of the page that is due and of the page that a receiver holds, for each subtitle."""
+import html
+import itertools
+
+from .drawing import differences, empty_picture, is_boxed, picture
+from .letters import option_name
+from .program import time_of
+from .receiver import BLANK_PAGE, HIT, OLD, control_bits, lines_of, national_option
+from .timeline import MINUTE
+
+ROOM = 12_000_000  # bytes of pictures in a report
+NEAR, DIFFERENT = 25, 500  # subtitles by the broken place, and with other cells, that come first
+
+
+NOT_READ = "the PES file can't be read on to this frame"
+
+
+class Figures:
+    """The pictures at a frame: due, held, and with complete pages asked for the screen.
+
+    `due` and `held` are what a receiver heard of the program's own schedule, `None` where there is
+    no subtitle, and of the PES file. `header` is that of a page that nobody sent.
+    """
+
+    def __init__(self, due, held, header, page, is_complete):
+        self.due, self.held, self.header = due, held, header
+        self.page, self.is_complete = page, is_complete
+
+    def due_at(self, frame):
+        """The page that is due, and its header: blank before the first sending of the schedule."""
+        state = self.due and self.due.state_at(frame)
+        return (state.rows, state.header) if state and state.is_heard else (BLANK_PAGE, self.header)
+
+    def same_at(self, frame):
+        """Whether what is held, and what is on the screen, is what is due."""
+        rows, state = self.due_at(frame)[0], self.held.state_at(frame)
+        return (state is not None and state.is_heard and not differences(rows, state.rows)
+                and not (self.is_complete and self.screen_differs(rows, state)))
+
+    @staticmethod
+    def screen_differs(rows, state):
+        return state.screen is None or differences(rows, state.screen[0])
+
+    def at(self, frame, state, place=None):
+        """The figures at the end of a frame; `state` is what the receiver holds then."""
+        time = time_of(frame)
+        due, header = self.due_at(frame)
+        parts = [figure("due", f"Due at {time}", option_name(national_option(header)),
+                        picture(due, header, (), place), lines_of(due))]
+        held = f"A receiver at the end of {time}"
+        if state is None:
+            parts.append(figure("held", held, NOT_READ, empty_picture("not read"), []))
+        elif not state.is_heard:
+            words = f"no header of page {self.page} was heard yet"
+            parts.append(figure("held", held, words, empty_picture("nothing heard"), ["heard no"]))
+        else:
+            told = "still open for rows" if state.is_open else "not open"
+            parts.append(self.page_figure("held", held, told, due, state.rows, state.header, place))
+        if self.is_complete:
+            parts.append(self.screen_figure(time, due, state, place))
+        names = "pictures three" if self.is_complete else "pictures"
+        return f'<div class="{names}">{"".join(parts)}</div>'
+
+    def page_figure(self, kind, caption, told, due, rows, header, place):
+        different = differences(due, rows)
+        count = len(different)
+        cells = f"<b>{count} cells differ</b>" if count > 1 else \
+            "<b>1 cell differs</b>" if count else "no cell differs"
+        return figure(kind, caption, f"{cells}; {told}; {header_words(header, rows)}",
+                      picture(rows, header, different, place), lines_of(rows))
+
+    def screen_figure(self, time, due, state, place):
+        caption = f"On its screen at the end of {time}"
+        if state is None or state.screen is None:
+            words = "complete pages alone" if state else NOT_READ
+            return figure("screen", caption, words, empty_picture("nothing yet"), ["shown no"])
+        rows, header = state.screen
+        return self.page_figure("screen", caption, "complete pages alone", due, rows, header, place)
+
+
+def header_words(header, rows):
+    """The control bits and the letters of the page's last header, and marks in its cells."""
+    words = [" ".join(control_bits(header)) or "no control bit",
+             option_name(national_option(header))]
+    if not is_boxed(header):
+        words.append("no subtitle: all of the page is shown")
+    marks = set(b"".join(rows))
+    if OLD in marks:
+        words.append("dotted: never sent")
+    if HIT in marks:
+        words.append("dashed: even parity")
+    return ", ".join(words)
+
+
+def figure(kind, caption, words, drawn, lines):
+    rows = html.escape("\n".join(lines), quote=False)
+    return (f'<figure class="{kind}"><figcaption>{caption}<br/><small>{words}</small></figcaption>'
+            f"{drawn}<pre>{rows}</pre></figure>")
+
+
+class Entries:
+    """The entries of subtitles: those with pictures, as many as there is room for."""
+
+    def __init__(self, figures, held, subtitles, window, broken):
+        self.figures, self.held = figures, held
+        self.subtitles, self.drawn = subtitles, {}
+        self.different = {subtitle.index for subtitle in subtitles
+                          if not figures.same_at(subtitle.first)}
+        inside = [subtitle for subtitle in subtitles
+                  if subtitle.end > window[0] and subtitle.first <= window[1]]
+        room = ROOM
+        for subtitle in self.by_need(inside, broken):
+            if subtitle.index not in self.drawn:
+                entry = self.entry(subtitle)
+                room -= len(entry.encode())
+                if room < 0:
+                    break
+                self.drawn[subtitle.index] = entry
+
+    def by_need(self, inside, broken):
+        """First those by the broken place, then some that differ, then all in their order."""
+        if broken is not None:
+            yield from sorted(inside, key=lambda one: abs(one.first - broken))[:NEAR]
+        differing = (one for one in inside if one.index in self.different)
+        yield from itertools.islice(differing, DIFFERENT)
+        yield from inside
+
+    def entry(self, subtitle):
+        first, end = time_of(subtitle.first), time_of(subtitle.end)
+        sent = self.held.sendings_between(subtitle.first, subtitle.end)
+        words = f"sent {sent} time{'s' * (sent != 1)} while it is due"
+        return (f'<section class="entry" id="s{subtitle.index}"><h3>{subtitle.index}. Subtitle '
+                f"{subtitle.number} <code>{first}</code> to <code>{end}</code></h3><p>row "
+                f"{subtitle.row}, justification {subtitle.justify}; {words}</p>"
+                f"{self.figures.at(subtitle.first, self.held.state_at(subtitle.first))}</section>")
+
+    def all(self, timeline):
+        """The entries in order, by minute where the timeline has strips of minutes."""
+        if not timeline.has_minutes():
+            return self.listed(self.subtitles)
+        parts = []
+        groups = itertools.groupby(self.subtitles, lambda one: one.first // MINUTE)
+        members = {minute: list(group) for minute, group in groups}
+        for minute in sorted(timeline.used(MINUTE)):
+            parts.append(f'<section class="minute" id="m{minute}"><h3>'
+                         f'{time_of(minute * MINUTE)[:5]}</h3>{timeline.minute(minute)}'
+                         f"{self.listed(members.get(minute, []))}</section>")
+        return "".join(parts)
+
+    def listed(self, subtitles):
+        """Entries in order; neighbours without pictures as a count and a range."""
+        parts = []
+        for is_drawn, group in itertools.groupby(subtitles, lambda one: one.index in self.drawn):
+            group = list(group)
+            if is_drawn:
+                parts += [self.drawn[one.index] for one in group]
+            else:
+                parts.append(self.left_out(group))
+        return "".join(parts)
+
+    def left_out(self, group):
+        first, last = group[0], group[-1]
+        times = f"{time_of(first.first)} --to {time_of(last.first)}"
+        different = sum(one.index in self.different for one in group)
+        names = f"Subtitle {first.index}" if first is last else \
+            f"Subtitles {first.index} to {last.index}, {len(group)} of them"
+        return (f'<p class="left" id="s{first.index}">{names}: no pictures here; at the first '
+                f"frame of {different or 'none'} of them the two pages differ. "
+                f"<code>--from {times}</code> draws them.</p>")

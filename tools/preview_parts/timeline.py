@@ -1,0 +1,151 @@
+"""Strips of time with subtitles, sendings of the page and the broken place, as SVG."""
+import bisect
+import html
+
+from .program import time_of
+
+MINUTE = 1500  # in frames
+# How long a strip can be, what that is called, and how far its ticks are apart.
+UNITS = [(250, "ten seconds", 25), (MINUTE, "a minute", 250), (10 * MINUTE, "ten minutes", MINUTE),
+         (60 * MINUTE, "an hour", 5 * MINUTE)]
+MOST_STRIPS = 24
+LEFT, RIGHT = 92, 1192  # where the time begins and ends on a strip of 1200 units
+CLOSE = 3  # sendings that are nearer than that are drawn as one block
+NARROW = 5  # a subtitle that is narrower than that is no link of its own
+
+
+class Timeline:
+    """What is drawn on strips: subtitles in order, frames with a sending, and the broken place.
+
+    `links` are the subtitles that have pictures, by their index.
+    """
+
+    def __init__(self, subtitles, sendings, broken, flag):
+        self.subtitles, self.sendings, self.broken, self.flag = subtitles, sendings, broken, flag
+        self.ends = [subtitle.end for subtitle in subtitles]
+        self.firsts = [subtitle.first for subtitle in subtitles]
+        self.links = set()
+        self.unit, self.called, self.step = next(
+            (unit for unit in UNITS if len(self.used(unit[0])) <= MOST_STRIPS), UNITS[-1])
+
+    def used(self, unit):
+        """The numbers of the strips of that length with something on them."""
+        used = {frame // unit for frame in self.sendings}
+        for subtitle in self.subtitles:
+            used.update(range(subtitle.first // unit, (subtitle.end - 1) // unit + 1))
+        if self.broken is not None:
+            used.add(self.broken // unit)
+        return used
+
+    def has_minutes(self):
+        """Whether strips are so long that each minute needs one of its own."""
+        return self.unit > MINUTE
+
+    def overview(self):
+        """All strips that have something on them, and what is left out between them."""
+        parts, last = [], None
+        minutes = self.used(MINUTE) if self.has_minutes() else ()
+        for number in sorted(self.used(self.unit)):
+            if last is not None and number > last + 1:
+                parts.append(f'<p class="gap">nothing from {time_of((last + 1) * self.unit)} to '
+                             f"{time_of(number * self.unit)}</p>")
+            parts.append(self.strip(number * self.unit, self.unit, self.step, minutes))
+            last = number
+        return "".join(parts) or '<p class="gap">nothing</p>'
+
+    def minute(self, number):
+        """The strip of a minute of the day."""
+        return self.strip(number * MINUTE, MINUTE, 250, ())
+
+    def strip(self, begin, unit, step, minutes):
+        scale = (RIGHT - LEFT) / unit
+
+        def x(frame):
+            return round(LEFT + (min(max(frame, begin), begin + unit) - begin) * scale, 1)
+
+        is_broken = self.broken is not None and begin <= self.broken < begin + unit
+        height = 70 if is_broken else 54
+        parts = [f'<svg class="strip" viewBox="0 0 1200 {height}"><text class="time" x="0" y="18">'
+                 f'{time_of(begin)[:8]}</text><rect class="lane" x="{LEFT}" y="4" '
+                 f'width="{RIGHT - LEFT}" height="20"/>']
+        parts += self.bars(begin, unit, x)
+        parts += self.ticks(begin, unit, x)
+        parts += axis(begin, unit, step, x)
+        for minute in range(begin // MINUTE, (begin + unit) // MINUTE):
+            if minute in minutes:
+                at = x(minute * MINUTE)
+                parts.append(f'<a href="#m{minute}"><rect class="go" x="{at}" y="2" '
+                             f'width="{round(MINUTE * scale, 1)}" height="50"><title>'
+                             f'{time_of(minute * MINUTE)[:5]}</title></rect></a>')
+        if is_broken:
+            parts.append(self.mark(x(self.broken)))
+        parts.append("</svg>")
+        return "".join(parts)
+
+    def bars(self, begin, unit, x):
+        """The subtitles of a strip: bars that are links, and a path of narrow ones and others."""
+        narrow = []
+        place = bisect.bisect_right(self.ends, begin)
+        while place < len(self.subtitles) and self.firsts[place] < begin + unit:
+            subtitle = self.subtitles[place]
+            left, right = x(subtitle.first), x(subtitle.end)
+            place += 1
+            if right - left < NARROW or subtitle.index not in self.links:
+                if narrow and left - narrow[-1][1] < 0.5:
+                    narrow[-1][1] = right
+                else:
+                    narrow.append([left, max(right, left + 0.6)])
+                continue
+            yield self.bar(subtitle, left, right)
+        if narrow:
+            path = "".join(f"M{a:g} 6h{b - a:.3g}v16H{a:g}z" for a, b in narrow)
+            yield f'<path class="bar" d="{path}"/>'
+
+    @staticmethod
+    def bar(subtitle, left, right):
+        name = str(subtitle.index)
+        label = ""
+        if right - left > 8 * len(name) + 4:
+            label = f'<text class="in" x="{round((left + right) / 2, 1)}" y="18">{name}</text>'
+        times = f"{time_of(subtitle.first)} to {time_of(subtitle.end)}"
+        shape = (f'<rect class="bar" x="{left}" y="6" width="{right - left:.1f}" height="16" '
+                 f'rx="2"><title>{name}: {times}</title></rect>')
+        return f'<a href="#s{name}">{shape}{label}</a>'
+
+    def ticks(self, begin, unit, x):
+        """The sendings of a strip, those that are close to each other as one block."""
+        first = bisect.bisect_left(self.sendings, begin)
+        end = bisect.bisect_left(self.sendings, begin + unit)
+        runs = []
+        for frame in self.sendings[first:end]:
+            at = x(frame)
+            if runs and at - runs[-1][1] < CLOSE:
+                runs[-1][1] = at
+                runs[-1][2] += 1
+            else:
+                runs.append([at, at, 1])
+        lines = "".join(f"M{at:g} 28v10" for at, _, count in runs if count == 1)
+        if lines:
+            yield f'<path class="tick" d="{lines}"/>'
+        for left, right, count in runs:
+            if count > 1:
+                wide = right - left + 1
+                yield (f'<rect class="many" x="{left - 0.5:g}" y="28" width="{wide:.4g}" '
+                       f'height="10"><title>{count} sendings</title></rect>')
+
+    def mark(self, at):
+        """The flag of the broken place; its words on the side that has room."""
+        side, anchor = (at + 9, "start") if at < 800 else (at - 9, "end")
+        return (f'<path class="broken" d="M{at} 2V68M{at - 6:g} 2H{at + 6:g}L{at} 12z"/>'
+                f'<text class="flag" x="{side:g}" y="66" text-anchor="{anchor}">'
+                f"{html.escape(self.flag)}</text>")
+
+
+def axis(begin, unit, step, x):
+    """Ticks of time, with words at some of them."""
+    lines = "".join(f"M{x(frame):g} 38v4" for frame in range(begin, begin + unit + 1, step))
+    yield f'<path class="axis" d="M{LEFT} 38H{RIGHT}{lines}"/>'
+    words = {25: 50, 250: 250, MINUTE: MINUTE, 5 * MINUTE: 10 * MINUTE}[step]
+    for frame in range(begin + words, begin + unit, words):
+        short = time_of(frame)[:5] if step >= MINUTE else ":" + time_of(frame)[6:8]
+        yield f'<text class="axis" x="{x(frame):g}" y="51">{short}</text>'
