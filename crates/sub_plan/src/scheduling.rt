@@ -1,8 +1,10 @@
 //! Writing the schedule of a programme, from edge to edge.
-ghost use Rattle.std.specs.Prelude.{◌≡◌, ◌≢◌, ◌↔◌, ℕ, ◌+◌, ◌-◌, ◌<◌, ◌≤◌, [], Err, IfOk, length};
+ghost use Rattle.std.specs.Prelude.{◌≡◌, ◌≢◌, ◌↔◌, ℕ, ◌+◌, ◌-◌, ◌<◌, ◌≤◌, List, [], Err, IfOk};
+ghost use Rattle.std.specs.Prelude.{length};
 ghost use Rattle.std.specs.Prelude.{if◌then◌else◌};
 ghost use Rattle.std.specs.List.{flat_map};
 ghost use Rattle.sub_io.specs.Device.{CanFail, CountsFailure, Writes};
+ghost use Rattle.ttx_pes.specs.LineOrder.{numbered_units};
 ghost use Rattle.sub_plan.specs.declared.fault.PlanFault.TheVariants.{NoSubtitles};
 ghost use Rattle.sub_plan.specs.FrameTime.{frames_of_day};
 ghost use Rattle.sub_plan.specs.Schedule.{due_in, is_write_failure, plan, plan_frames, sendings};
@@ -16,7 +18,7 @@ use stl_rows::{Programme, law_of_edges};
 use sub_io::{Failed, Sink};
 use ttx_packet::Packet;
 use ttx_page::Page;
-use ttx_pes::put_frame;
+use ttx_pes::{RepeatedPacket, put_frame};
 
 // Writes packets as the PES packet of a frame.
 fn put_at<K: Sink>(
@@ -36,6 +38,25 @@ fn put_at<K: Sink>(
         Ok(()) => Ok(()),
         Err(_) => Err(Failed),
     }
+}
+
+// Writes a packet that is sent again, at a frame.
+fn repeat_at<K: Sink>(
+    sink: &mut K,
+    options: &Options,
+    frame: u32,
+    packet: &mut RepeatedPacket,
+) -> Result<(), Failed>
+    requires day { frame < frames_of_day }
+    requires count { CanFail (K.failure_count sink.old) }
+    ensures bytes { (packets : List (List ℕ)) → packet.old.units ≡ numbered_units 0 packets
+        → Writes (K.contents sink.old) (K.contents sink.new)
+        (packets_at options.now.origin packets frame) result }
+    ensures units { packet.new.units ≡ packet.old.units }
+    ensures count { CountsFailure (K.failure_count sink.old) result (K.failure_count sink.new) }
+{
+    packet.set_pts(options.pts_of(frame));
+    packet.put(sink)
 }
 
 // The repeat bound, as what is added to a frame.
@@ -68,10 +89,11 @@ fn send_steps<K: Sink>(
     ensures count { CountsFailure (K.failure_count sink.old) result (K.failure_count sink.new) }
 {
     let every = step_of(options);
+    let mut packet = RepeatedPacket::of_packets(packets);
     let mut frame = from;
     let mut count = 0;
     while frame < end {
-        put_at(sink, options, frame, packets)?;
+        repeat_at(sink, options, frame, &mut packet)?;
         count += 1;
         frame += every;
     }

@@ -9,7 +9,7 @@ use std::process::Abort;
 use std::test::*;
 use sub_io::{FailAt, Failed, MemSink, MemSource, Sink, Source};
 use ttx_packet::Packet;
-use ttx_pes::{PesFault, PesFrame, PesReader, PesWriter, Unit, put_frame};
+use ttx_pes::{PesFault, PesFrame, PesReader, PesWriter, RepeatedPacket, Unit, put_frame};
 
 /// A schedule's first PES packet: a header of page 888 on line 7, row 22 on line 8, a closing
 /// header on line 9 of the first field.
@@ -206,6 +206,21 @@ fn puts_25_packets_in_seven_payloads(rt: HostRuntime) -> Result<(), Fail> {
         );
         assert_eq!(rt; *unit.packet(), Packet::new(ROW), "{i}");
     }
+    Ok(())
+}
+
+#[test]
+fn a_repeated_packet_is_put_with_the_pts_that_was_set_last(rt: HostRuntime) -> Result<(), Fail> {
+    let mut packet = RepeatedPacket::of_packets(&[Packet::new(ROW); 25]);
+    packet.set_pts(1);
+    packet.set_pts(3_240_000_000);
+    let mut room = [0; 1656];
+    let mut sink = MemSink::new(&mut room);
+    packet.put(&mut sink)?;
+    let mut once_room = [0; 1656];
+    let mut once = MemSink::new(&mut once_room);
+    put_frame(&mut once, 3_240_000_000, &[Packet::new(ROW); 25])?;
+    assert_eq!(rt; sink.written(), once.written());
     Ok(())
 }
 

@@ -1,15 +1,16 @@
 -- The canonical packet is a packet of its value, and what is made of a frame is it. Main lemmas:
 -- canonical_is_packet, spelled.
-use Rattle.std.proofs.Common.{List, None, Some, [], ap, append_assoc, arith, length, lit<, refl}
+use Rattle.std.proofs.Common.{List, None, Some, [], ap, append_assoc, arith, drop, length, lit<}
+use Rattle.std.proofs.Common.{refl}
 use Rattle.std.proofs.Common.{subst, suc, sym, take, zero, ℕ, ◌*◌, ◌++◌, ◌+◌, ◌-◌, ◌/◌, ◌∙◌}
 use Rattle.std.proofs.Common.{◌∷◌, ◌≡◌, ◌≤◌}
 use Rattle.std.specs.Prelude.{replicate}
-use Rattle.std.proofs.lemmas.List.{append-nil, take_all}
-use Rattle.std.specs.List.{flat_map, AllByRecursion}
+use Rattle.std.proofs.lemmas.List.{append-nil, take_all, take-append-le}
+use Rattle.std.specs.List.{flat_map, refill, AllByRecursion}
 use Rattle.ttx_pes.specs.DataUnit.{UnitValue, IsUnit, IsPassedUnit, AreDataUnits}
 use Rattle.ttx_pes.specs.DataUnit.{teletext_unit, stuffing, stuffing_unit}
 use Rattle.ttx_pes.specs.PesPacket.{PesValue, IsPesPacket, IsPesValue, canonical_packet, header}
-use Rattle.ttx_pes.specs.PesPacket.{payloads_for, repeated}
+use Rattle.ttx_pes.specs.PesPacket.{payloads_for, pts_bytes, repeated}
 
 -- A stuffing unit is passed over.
 stuffing_is_passed : IsPassedUnit stuffing_unit
@@ -128,6 +129,47 @@ spelled v us pts out base head n i same pts-same e f le h k =
     ∙ ap (λ (t : ℕ). header (length v.units / 4 + 1) t
     ++ (flat_map teletext_unit v.units
     ++ repeated (4 * (length v.units / 4 + 1) - 1 - length v.units) stuffing_unit)) pts-same
+
+-- ---- another PTS
+
+-- The canonical packet with another PTS: bytes 9 to 13 alone are others.
+canonical_packet-pts : (us : List UnitValue) (old pts : ℕ)
+    → take 9 (canonical_packet (record { pts = old; units = us }))
+    ++ (pts_bytes pts ++ drop 5 (drop 9 (canonical_packet (record { pts = old; units = us }))))
+    ≡ canonical_packet (record { pts = pts; units = us })
+unfolding canonical_packet payloads_for header
+canonical_packet-pts us old pts = refl
+
+-- And it is as long.
+length-other_pts : (us : List UnitValue) (old pts : ℕ)
+    → length (canonical_packet (record { pts = old; units = us }))
+    ≡ length (canonical_packet (record { pts = pts; units = us }))
+unfolding canonical_packet payloads_for header
+length-other_pts us old pts = refl
+
+-- It reaches past its PTS.
+pub canonical_packet-has_pts : (v : PesValue) → 14 ≤ length (canonical_packet v)
+unfolding canonical_packet payloads_for header
+canonical_packet-has_pts v = omega arith
+
+-- Bytes 9 to 13 of a canonical packet, set to another PTS in place.
+pub canonical_packet-set_pts :
+    (us : List UnitValue) (old pts : ℕ) (bytes slice front back new rest : List ℕ)
+    → bytes ≡ canonical_packet (record { pts = old; units = us })
+    → slice ≡ bytes
+    → front ≡ take 9 slice
+    → back ≡ drop 9 slice
+    → new ≡ pts_bytes pts
+    → rest ≡ drop 5 back
+    → refill (length bytes) bytes (front ++ (new ++ rest))
+    ≡ canonical_packet (record { pts = pts; units = us })
+canonical_packet-set_pts us old pts bytes slice front back new rest e f g h k l =
+    let whole = canonical_packet (record { pts = pts; units = us }) in
+    let made : front ++ (new ++ rest) ≡ whole =
+    rw (g, k, l, h, f, e) (canonical_packet-pts us old pts) in
+    let len : length bytes ≡ length whole = ap length e ∙ length-other_pts us old pts in
+    rw made (take-append-le (length bytes) whole (drop (length whole) bytes) (omega arith)
+    ∙ take_all (length bytes) whole (omega arith))
 
 -- ---- the value of a packet
 

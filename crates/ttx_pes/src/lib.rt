@@ -23,6 +23,7 @@ mod pes_frame;
 mod pes_header;
 mod progress;
 mod reader;
+mod repeated_packet;
 mod unit;
 mod writer;
 
@@ -35,5 +36,6 @@ pub use line_numbers::put_frame;
 pub use pes_frame::PesFrame;
 pub use progress::Progress;
 pub use reader::PesReader;
+pub use repeated_packet::RepeatedPacket;
 pub use unit::Unit;
 pub use writer::PesWriter;

@@ -30,7 +30,7 @@ fn unit_of_number(i: usize, packet: &Packet) -> Unit
 }
 
 // The frame of these packets.
-fn frame_of(pts: u64, packets: &[Packet]) -> PesFrame
+pub(crate) fn frame_of(pts: u64, packets: &[Packet]) -> PesFrame
     requires pts { pts < 2 ^ 33 }
     requires few { length packets.now ≤ 32 }
     ensures { result ≡ numbered_frame pts packets.now }

@@ -106,12 +106,20 @@ impl PesFrame {
         self.units.push(unit);
     }
 
+    // Sets the PTS, and keeps the units.
+    pub(crate) fn set_pts(&mut self, pts: u64)
+        requires { pts < 2 ^ 33 }
+        ensures { self.new ≡ record self.old { pts = pts } }
+    {
+        self.pts = pts;
+    }
+
     // Makes it a frame of that PTS with no units.
     pub(crate) fn restart(&mut self, pts: u64)
         requires { pts < 2 ^ 33 }
         ensures { self.new ≡ record { pts = pts; units = [] } }
     {
-        self.pts = pts;
+        self.set_pts(pts);
         self.units.clear();
         self.last = 0;
     }

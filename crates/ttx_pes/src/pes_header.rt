@@ -80,7 +80,7 @@ fn fifteen_bits(body: &[u8], place: usize) -> u64
 }
 
 // The five bytes of a PTS.
-fn bytes_of_pts(pts: u64) -> [u8; 5]
+pub(crate) fn bytes_of_pts(pts: u64) -> [u8; 5]
     requires { pts < 2 ^ 33 }
     ensures { result ≡ pts_bytes pts }
 {

@@ -17,6 +17,7 @@ loop-frame-init g c = record {
   few = omega arith;
   fewer = λ h. omega arith;
   number = omega arith;
+  units = search rules;
   failures = refl;
   part = part-start _ _ _;
 }
@@ -34,10 +35,12 @@ loop-frame-preserved g c =
       fewer = λ h. omega arith;
       number = steps-counted c.loop-frame.count _ c.step_of-every.result c.args.from
           c.loop-frame.frame c.args.end i.least i.low i.aligned c.loop-frame-test.true i.number;
+      units = search rules;
       failures = search rules;
       part = part-one _ _ _ _ c.loop-frame.frame _ _ _
           (steps-more c.step_of-every.result c.args.from c.loop-frame.frame c.args.end i.least i.low
-          i.aligned c.loop-frame-test.true) i.part c.in_ok-put_at.ensures.bytes;
+          i.aligned c.loop-frame-test.true) i.part
+          (c.in_ok-repeat_at.ensures.bytes c.args.packets.now i.units);
     }
 
 pub returns-clause-number : goal.returns-clause-number
@@ -53,11 +56,11 @@ returns-clause-bytes g c =
     steps-end _ _ _ c.step_of-every.result _ c.args.from c.loop-frame.frame c.args.end i.is_every
     c.loop-frame-test.false i.part
 
-pub returns-in_err-put_at-clause-bytes : goal.returns-in_err-put_at-clause-bytes
-returns-in_err-put_at-clause-bytes g c =
+pub returns-in_err-repeat_at-clause-bytes : goal.returns-in_err-repeat_at-clause-bytes
+returns-in_err-repeat_at-clause-bytes g c =
     let i = c.loop-frame.invariant in
     let p = err_from_is_err_and c.from_residual.result c.from_residual.ensures.1 in
     rw (p.1)
     (steps-prefix _ _ _ _ c.step_of-every.result _ c.args.from c.loop-frame.frame c.args.end
     i.is_every i.least i.low i.aligned c.loop-frame-test.true i.part
-    c.in_err-put_at.ensures.bytes)
+    (c.in_err-repeat_at.ensures.bytes c.args.packets.now i.units))

@@ -1,5 +1,6 @@
 -- Before each frame: the frames before it that carry these packets are done.
 use Rattle.std.proofs.Common.{◌≡◌, ◌+◌, ◌-◌, ◌%◌, ◌<◌, ◌≤◌, length}
+use Rattle.ttx_pes.specs.LineOrder.{numbered_units}
 use Rattle.sub_plan.specs.Steps.{packets_at, steps}
 use Rattle.sub_plan.proofs.PartLemmas.{IsPartDone}
 use Rattle.sub_plan.proofs.scheduling.send_steps.Given as goal
@@ -16,6 +17,7 @@ invariant-loop-frame g l = record {
   number :
       l.count + length (steps l.every l.from l.frame l.end)
       ≡ length (steps l.every l.from l.from l.end);
+  units : l.packet.units ≡ numbered_units 0 l.packets;
   failures : g.K.Sink.failure_count l.sink ≡ g.K.Sink.failure_count l.initial.sink;
   part :
       IsPartDone (g.K.Sink.contents l.initial.sink) (g.K.Sink.contents l.sink)

@@ -1,0 +1,72 @@
+//! A PES packet that is sent again and again, each time with another PTS.
+ghost use Rattle.std.specs.Prelude.{◌≡◌, ◌^◌, ◌<◌, ◌≤◌, length};
+ghost use Rattle.sub_io.specs.Device.{CanFail, CountsFailure, Writes};
+ghost use Rattle.ttx_pes.specs.PesPacket.{canonical_packet, numbered_frame};
+
+use crate::line_numbers::frame_of;
+use crate::pes_frame::PesFrame;
+use crate::pes_header::bytes_of_pts;
+use crate::writer::{Bytes, packet_of};
+use std::marker::Model;
+use sub_io::{Failed, Sink, put_all};
+use ttx_packet::Packet;
+
+/// A PES packet whose bytes are made once: for each sending its PTS alone is set (EN 300 472).
+///
+/// Contracts see it as what it carries: its PTS and its units.
+#[derive(Drop)]
+pub struct RepeatedPacket {
+    frame: PesFrame,
+    // The frame's canonical packet.
+    bytes: Bytes,
+}
+
+impl Model for RepeatedPacket {
+    ghost use Rattle.std.specs.Prelude.{◌≡◌};
+    ghost use Rattle.ttx_pes.specs.PesPacket.{PesValue, canonical_packet};
+
+    ghost Value = { PesValue };
+
+    ghost view = { λ p. p.frame };
+
+    ghost invariant = { λ p. p.bytes.items ≡ canonical_packet p.frame };
+}
+
+impl RepeatedPacket {
+    /// These packets as one PES packet, on the lines of `put_frame`. Its PTS is 0.
+    ///
+    /// 32 packets at most.
+    pub fn of_packets(packets: &[Packet]) -> Self
+        requires { length packets.now ≤ 32 }
+        ensures { result ≡ numbered_frame 0 packets.now }
+    {
+        let frame = frame_of(0, packets);
+        let bytes = packet_of(&frame);
+        RepeatedPacket { frame, bytes }
+    }
+
+    /// Sets the PTS, in ticks of 90 kHz: 33 bits. The units stay.
+    pub fn set_pts(&mut self, pts: u64)
+        requires { pts < 2 ^ 33 }
+        ensures { self.new ≡ record self.old { pts = pts } }
+    {
+        self.frame.set_pts(pts);
+        let (_, rest) = self.bytes.as_mut_slice().split_at_mut(9);
+        let (time, _) = rest.split_at_mut(5);
+        time.copy_from_slice(&bytes_of_pts(pts));
+    }
+
+    /// Writes the packet: the canonical one of its PTS and its units.
+    ///
+    /// # Errors
+    ///
+    /// `Failed` where the sink failed: a prefix of the packet was written.
+    pub fn put<K: Sink>(&self, sink: &mut K) -> Result<(), Failed>
+        requires { CanFail (K.failure_count sink.old) }
+        ensures bytes { Writes (K.contents sink.old) (K.contents sink.new)
+            (canonical_packet self.now) result }
+        ensures count { CountsFailure (K.failure_count sink.old) result (K.failure_count sink.new) }
+    {
+        put_all(sink, self.bytes.as_slice())
+    }
+}
