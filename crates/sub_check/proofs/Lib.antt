@@ -2,6 +2,7 @@ pub mod TransmissionLemmas
 pub mod RobustLemmas
 pub mod AllKept
 pub mod DroppedLemmas
+pub mod RecoveryLemmas
 pub mod StepByStepLemmas
 pub mod RuleLemmas
 pub mod RuleTests

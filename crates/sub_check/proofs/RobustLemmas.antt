@@ -13,14 +13,16 @@ use Rattle.ttx_packet.specs.RowPacket.{text_byte}
 use Rattle.ttx_page.specs.declared.packet_kind.PacketKind.{PacketKind}
 use Rattle.ttx_page.specs.LostRows.{fates_of}
 use Rattle.ttx_page.specs.Noise.{ErasesPage, IsSound}
-use Rattle.ttx_page.specs.Page.{space}
+use Rattle.ttx_page.specs.Page.{space, cell, IsCell}
 use Rattle.ttx_page.specs.PacketKind.{kind, is_row}
 use Rattle.ttx_page.specs.Receiver.{Hears}
+use Rattle.ttx_page.specs.Shown.{shown}
 use Rattle.ttx_page.specs.Span.{holds_header, after_last_header, before_end, span}
 use Rattle.ttx_page.proofs.SpanLists.{after-none}
 use Rattle.ttx_page.proofs.NoiseLaws as noise
 use Rattle.stl_rows.specs.Programme.{ProgrammeValue}
 use Rattle.sub_plan.specs.Options.{OptionsValue}
+use Rattle.sub_plan.specs.Schedule.{due_in}
 use Rattle.sub_check.specs.Transmission.{Transmission, first_frame, packets_between, packets_of}
 use Rattle.sub_check.specs.Transmission.{on_air, on_air_until, EachPacket}
 use Rattle.sub_check.specs.Good.{Good, IsCleanSpan}
@@ -30,6 +32,14 @@ use Rattle.sub_check.specs.Laws.{LawOfWindow, LawOfGood, LawOfGoodAndLoss, LawOf
 use Rattle.sub_check.specs.Laws.{LawOfNothingLost}
 use Rattle.sub_check.proofs.TransmissionLemmas.{holds-append_right, holds-append_left, after-append}
 use Rattle.sub_check.proofs.TransmissionLemmas.{packets_between-split, packets_between-each}
+
+-- The code that a cell shows of a span.
+abbrev shown_of : PageIdValue → ℕ → ℕ → List (List ℕ) → ℕ
+shown_of page row column packets =
+    unwrap_or
+    (option_map (λ p. code_of (text_byte p column))
+    (find (λ p. is_row row (kind page p)) packets))
+    space
 
 -- A start at packet j of frame g of a good transmission, and a stop at the end of frame f.
 module _ (programme : ProgrammeValue) (transmission : Transmission) (options : OptionsValue)
@@ -135,18 +145,22 @@ module _ (programme : ProgrammeValue) (transmission : Transmission) (options : O
         same = clean.same;
       }
 
+  -- What is on air shows the page that is due, where it holds a header of the page.
+  pub shows_due :
+      holds_header K (on_air transmission g j f) ≡ true
+      → (row column : ℕ)
+      → IsCell row column
+      → shown options.page (on_air transmission g j f) row column
+      ≡ cell (due_in programme f) row column
+  shows_due holds row column named =
+      ap (shown_of options.page row column) (sym (span_so_far holds))
+      ∙ good.content f row column (le_trans listening.not_before listening.in_order)
+      listening.not_after named
+
 -- The law of the window.
 pub law_of_window : LawOfWindow
 law_of_window programme transmission options g j f good listening far =
     window programme transmission options g j f good listening far
-
--- The code that a cell shows of a span.
-abbrev shown_of : PageIdValue → ℕ → ℕ → List (List ℕ) → ℕ
-shown_of page row column packets =
-    unwrap_or
-    (option_map (λ p. code_of (text_byte p column))
-    (find (λ p. is_row row (kind page p)) packets))
-    space
 
 -- A good transmission is robust to lost rows.
 pub law_of_good_and_loss : LawOfGoodAndLoss
@@ -162,10 +176,8 @@ law_of_good_and_loss
           elim (ends.cells (ends.heard ∙ holds) row column named) [
             | inl shows ↦
                 inl (shows
-                ∙ ap (shown_of options.page row column)
-                (sym (span_so_far programme transmission options g j f good listening holds))
-                ∙ good.content f row column (le_trans listening.not_before listening.in_order)
-                listening.not_after named)
+                ∙ shows_due programme transmission options g j f good listening holds row column
+                named)
             | inr hit ↦ inr hit
           ];
     }

@@ -6,6 +6,7 @@ pub mod StepByStep
 pub mod Robust
 pub mod LostRows
 pub mod DroppedRows
+pub mod Recovery
 pub mod Laws
 pub mod Examples
 pub mod PacketRules

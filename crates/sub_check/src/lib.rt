@@ -22,6 +22,7 @@ mod laws;
 mod listener;
 mod packet_rules;
 mod page_count;
+mod recovery;
 
 pub use checker::{Accepted, check, law_of_readings, next_frame};
 pub use dropping::{law_of_good_and_dropping, law_of_good_dropping_and_loss};
@@ -33,3 +34,4 @@ pub use laws::{
     law_of_good_and_marked_loss, law_of_nothing_lost, law_of_pes_files, law_of_plan,
     law_of_plan_read, law_of_repeats, law_of_rules, law_of_spans_by_packet, law_of_window,
 };
+pub use recovery::{law_of_good_and_recovery, law_of_good_dropping_and_recovery};
