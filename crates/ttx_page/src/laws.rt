@@ -7,6 +7,7 @@ ghost use Rattle.ttx_page.specs.LostRows.{LawOfLostRows, LawOfMarkedLoss, LawOfN
 ghost use Rattle.ttx_page.specs.Noise.{LawOfNoise, LawOfQuiet};
 ghost use Rattle.ttx_page.specs.Recovery.{LawOfDroppingRecovery, LawOfMarkedRecovery};
 ghost use Rattle.ttx_page.specs.Recovery.{LawOfRecovery};
+ghost use Rattle.ttx_page.specs.Screen.{LawOfDroppingScreen, LawOfScreen};
 ghost use Rattle.ttx_page.specs.Span.{LawOfSpan};
 
 /// The span is the part of a list from the place after the last header of the page to the first
@@ -71,4 +72,15 @@ pub fn law_of_marked_recovery()
 /// or the row was lost.
 pub fn law_of_dropping_recovery()
     ensures { LawOfDroppingRecovery }
+{}
+
+/// Whatever a receiver held and showed before: where it has heard a header of its page, and the
+/// page is not open, the page that it holds is on its screen.
+pub fn law_of_screen()
+    ensures { LawOfScreen }
+{}
+
+/// The same for receivers that drop rows.
+pub fn law_of_dropping_screen()
+    ensures { LawOfDroppingScreen }
 {}
