@@ -3,6 +3,7 @@ pub mod RobustLemmas
 pub mod AllKept
 pub mod DroppedLemmas
 pub mod RecoveryLemmas
+pub mod OnScreenLemmas
 pub mod StepByStepLemmas
 pub mod RuleLemmas
 pub mod RuleTests

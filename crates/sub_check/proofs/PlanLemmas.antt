@@ -16,7 +16,7 @@ use Rattle.ttx_page.specs.Page.{Rows, cell, IsCell, IsPage}
 use Rattle.ttx_page.specs.Noise.{IsOddRow, IsSameRow}
 use Rattle.ttx_page.specs.declared.packet_kind.PacketKind.TheVariants.{Row}
 use Rattle.ttx_page.specs.PacketKind.{kind}
-use Rattle.ttx_page.specs.Span.{holds_header, span}
+use Rattle.ttx_page.specs.Span.{holds_header, is_unended, span}
 use Rattle.ttx_page.specs.Shown.{shown}
 use Rattle.stl_rows.specs.declared.national.National.{National}
 use Rattle.stl_rows.specs.declared.national.National.TheVariants.{English, German}
@@ -30,12 +30,14 @@ use Rattle.sub_plan.specs.Laws.{AreRowsOfOnePage, IsLastSending, IsRowOf, IsSent
 use Rattle.sub_plan.proofs.ScheduleBases.{last_sending, sending_in_gap, sends-first}
 use Rattle.sub_plan.proofs.ScheduleBases.{sends-last}
 use Rattle.sub_plan.proofs.SentPackets.{kind_row, made_row, row_of}
-use Rattle.sub_plan.proofs.SendingLemmas.{all_sent, law_of_cut_sendings, sending_holds, shown_after}
+use Rattle.sub_plan.proofs.SendingLemmas.{all_sent, ended_after, law_of_cut_sendings}
+use Rattle.sub_plan.proofs.SendingLemmas.{sending_holds, shown_after}
 use Rattle.sub_plan.proofs.ProgrammeLemmas.{none_in, plan_frames-is, span-rises, some_out}
 use Rattle.sub_check.specs.Transmission.{SentFrame, Transmission, EachPacket, IsRising, first_frame}
 use Rattle.sub_check.specs.Transmission.{last_frame, packets_between, packets_of, on_air}
 use Rattle.sub_check.specs.Good.{Good, IsCleanSpan, IsControlled, IsEnhancement}
 use Rattle.sub_check.specs.Good.{IsSubtitleHeader}
+use Rattle.sub_check.specs.OnScreen.{Complete, LawOfCompletePlan}
 use Rattle.sub_check.specs.Planned.{LawOfPlan, planned, planned_at}
 use Rattle.sub_check.proofs.TransmissionLemmas.{packets_between-split}
 use Rattle.sub_check.proofs.FrameLemmas.{frames, rises, sent_none, sent_at, sent_some, each_frame}
@@ -319,6 +321,15 @@ module _
             (omega (arith, last_is, high)) named);
       }
 
+  -- At each frame's end the page is ended.
+  complete : Complete T o
+  complete f low high holds =
+      let (before, page, same, shaped, is) =
+      so_far f (omega (arith, first_is, low)) (omega (arith, last_is, high)) in
+      subst (λ start. is_unended (kind w) (on_air T start 0 f) ≡ false) (sym first_is)
+      (ap (is_unended (kind w)) is
+      ∙ ended_after w programme.national serial page ok.page shaped before)
+
 -- By cases of the first TCI and the last TCO: with a subtitle there are both.
 plan_between : (programme : ProgrammeValue) (o : OptionsValue) (serial : Bool) (a b : Option ℕ)
     → a ≡ first_in programme.records
@@ -326,16 +337,25 @@ plan_between : (programme : ProgrammeValue) (o : OptionsValue) (serial : Bool) (
     → IsProgramme programme.national programme.records
     → (programme.records ≡ [] → ⊥)
     → IsOptions o
-    → Good programme (planned programme o serial) o
+    → Good programme (planned programme o serial) o × Complete (planned programme o serial) o
 plan_between programme o serial None b h k is some ok = absurd (some (none_in programme.records h))
 plan_between programme o serial (Some a) None h k is some ok =
     absurd (some (some_out programme.records a h k))
 plan_between programme o serial (Some a) (Some b) h k is some ok =
     let s = span-rises programme.national programme.records a b is h k in
-    good programme o serial a b h k ok (omega (arith, s.rises))
+    let order : a ≤ b = omega (arith, s.rises) in (
+      good programme o serial a b h k ok order,
+      complete programme o serial a b h k ok order,
+    )
 
 -- The schedule of a programme with a subtitle is good.
 pub law_of_plan : LawOfPlan
 law_of_plan programme o serial is some ok =
-    plan_between programme o serial (first_in programme.records)
-    (last_out programme.records) refl refl is some ok
+    (plan_between programme o serial (first_in programme.records)
+    (last_out programme.records) refl refl is some ok).0
+
+-- And one of complete pages.
+pub law_of_complete_plan : LawOfCompletePlan
+law_of_complete_plan programme o serial is some ok =
+    (plan_between programme o serial (first_in programme.records)
+    (last_out programme.records) refl refl is some ok).1

@@ -92,7 +92,7 @@ module _ (programme : ProgrammeValue) (transmission : Transmission) (options : O
       (later_holds found.0 found.1 (omega (arith, found.2)) found.3))
 
   -- All that was on air so far is some packets, and then those that are heard.
-  on_air_until-split :
+  pub on_air_until-split :
       on_air_until transmission f
       ≡ (packets_between transmission (first_frame transmission) g
       ++ take j (packets_between transmission g (f + 1)))

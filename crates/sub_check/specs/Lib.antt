@@ -18,5 +18,6 @@ pub mod Following
 pub mod PesReading
 pub mod Checking
 pub mod Planned
+pub mod OnScreen
 pub mod WrongContent
 pub mod CheckedFiles

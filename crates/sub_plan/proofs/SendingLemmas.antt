@@ -5,7 +5,7 @@ use Rattle.std.proofs.Common.{length, map, filter, take, find, flat_map, option_
 use Rattle.std.proofs.Common.{None, slice_index, All, refl}
 use Rattle.std.proofs.Common.{sym, ap, ◌∙◌, subst, arith, lit≤, eq-eqb, eqb-true, ne_eqb}
 use Rattle.std.proofs.Common.{append-nil}
-use Rattle.std.specs.List.{range_with_len, AllByRecursion}
+use Rattle.std.specs.List.{list_any, range_with_len, AllByRecursion}
 use Rattle.std.proofs.Math.Seq.{take-append-add}
 use Rattle.std.proofs.lemmas.Bool.{cases_eq, cases_lt, or_parts, or_left, or_right}
 use Rattle.std.proofs.lemmas.List.{take_all, take-append-le, length_push}
@@ -22,7 +22,7 @@ use Rattle.ttx_page.specs.declared.packet_kind.PacketKind.{PacketKind}
 use Rattle.ttx_page.specs.declared.packet_kind.PacketKind.TheVariants.{ThisPage, EndsPage, Row}
 use Rattle.ttx_page.specs.Page.{Rows, space, cell, row_at, IsCell, IsPage}
 use Rattle.ttx_page.specs.PacketKind.{kind, is_this_page, ends_page, is_row}
-use Rattle.ttx_page.specs.Span.{holds_header, after_last_header, before_end, span}
+use Rattle.ttx_page.specs.Span.{holds_header, is_unended, after_last_header, before_end, span}
 use Rattle.ttx_page.specs.Shown.{shown}
 use Rattle.ttx_page.proofs.SpanLists.{after-here, after-later}
 use Rattle.stl_rows.specs.declared.national.National.{National}
@@ -267,6 +267,24 @@ module _ (w : PageIdValue) (national : National) (serial : Bool) (page : Rows) (
       → shown w (before ++ sending w national serial page) row column ≡ cell page row column
   shown_after before row column named = ap (in_cell w row column) (span_after before)
       ∙ page_found w page ok shape row column named
+
+  -- And the closing header ends the page.
+  pub ended_after : (before : List (List ℕ))
+      → is_unended (kind w) (before ++ sending w national serial page) ≡ false
+  unfolding sending
+  ended_after before =
+      let rest : List (List ℕ) = rows ++ closer w serial ∷ [] in
+      let n : ℕ = suc (length rows) in
+      let long : length rest ≤ n = omega (arith, length_push rows (closer w serial)) in
+      let none : holds_header (kind w) rest ≡ false =
+      subst (λ ps. holds_header (kind w) ps ≡ false) (take_all n rest long)
+      (no_header (kind w) rows (closer w serial) n plain_rows closer_is_no_header) in
+      ap (λ ps. not (list_any (λ p. ends_page (kind w p)) ps))
+      (after-append (kind w) before (opener w national serial ∷ rest) sending_holds
+      ∙ after-here (kind w) (opener w national serial) rest none opens)
+      ∙ ap not
+      (list_any-append (λ p. ends_page (kind w p)) rows (closer w serial ∷ [])
+      ∙ or_right _ _ (or_left _ _ closes))
 
   -- ---- also cut short
 
