@@ -1,35 +1,20 @@
 //! `subttx` reads and checks Teletext subtitles from the command line.
 //!
-//! It stands above all other crates: words become a `Request` (`request`, over `clap`), whose
-//! answer is printed (`answer`) and ends in a `Status`.
+//! It stands above all other crates: words become a `Request` (`sub_words`), the files that it
+//! names are opened here, and its answer is printed (`sub_answer`) and ends in a `Status`.
 #![tactic(auto)]
-
-mod answer;
-mod check_lines;
-mod command;
-mod flips;
-mod lines;
-mod listening;
-mod load_lines;
-mod numbers;
-mod reception;
-mod request;
-mod status;
-#[cfg(test)]
-mod tests;
-mod writing;
 
 ghost use Rattle.std.specs.Prelude.{◌≡◌, ◌<◌, IfOk};
 ghost use Rattle.sub_io.specs.Device.{CanFail};
 
-use request::{Request, UsageFault};
-use status::Status;
 use std::io::{self, BufReader, BufWriter, Write};
 use std::os::unix::fs::MetadataExt;
 use std::process::ExitCode;
 use std::rt::{Env, Files};
 use std::{env, fs};
+use sub_answer::{Request, Status, UsageFault, answer, say};
 use sub_io::{FromRead, IntoWrite, MemSink, MemSource, Sink, Source};
+use sub_words::ParseWords;
 
 fn main(rt: HostRuntime) -> ExitCode {
     ExitCode::from(run(&rt).code())
@@ -41,7 +26,7 @@ const BUFFER: usize = 0x1_0000;
 // Runs the program over standard output, which gets what is printed through one buffer.
 fn run<R: AllocGlobal + Env + Files + Print>(rt: &R) -> Status {
     let Ok(mut buffer) = BufWriter::with_capacity(rt.alloc(), BUFFER, io::writer(rt)) else {
-        return answer::say(&UsageFault::Memory, &mut IntoWrite::new(io::writer(rt)));
+        return say(&UsageFault::Memory, &mut IntoWrite::new(io::writer(rt)));
     };
     let status = answer_words(rt, &mut IntoWrite::new(&mut buffer));
     match buffer.flush() {
@@ -56,15 +41,15 @@ fn answer_words<R: AllocGlobal + Env + Files, K: Sink>(rt: &R, out: &mut K) -> S
 {
     let words = match words_of(rt) {
         Ok(words) => words,
-        Err(fault) => return answer::say(&fault, out),
+        Err(fault) => return say(&fault, out),
     };
     let texts = words.iter().map(|word| word.as_str());
     let Ok(texts) = texts.collect::<Vec<&str>>(rt.alloc()) else {
-        return answer::say(&UsageFault::Memory, out);
+        return say(&UsageFault::Memory, out);
     };
     match Request::parse(rt.alloc(), texts.as_slice()) {
         Ok(request) => open_and_answer(rt, &request, out),
-        Err(fault) => answer::say(&fault, out),
+        Err(fault) => say(&fault, out),
     }
 }
 
@@ -149,7 +134,7 @@ fn answer_file<R: AllocGlobal + Files, K: Sink>(
 {
     match open_input(rt, name) {
         Ok(mut first) => answer_input(rt, request, &mut first, out),
-        Err(fault) => answer::say(&fault, out),
+        Err(fault) => say(&fault, out),
     }
 }
 
@@ -180,11 +165,11 @@ fn answer_pair<R: AllocGlobal + Files, K: Sink>(
 {
     let mut first = match open_input(rt, first_name) {
         Ok(first) => first,
-        Err(fault) => return answer::say(&fault, out),
+        Err(fault) => return say(&fault, out),
     };
     match open_input(rt, second_name) {
         Ok(mut second) => answer_inputs(rt, request, &mut first, &mut second, out),
-        Err(fault) => answer::say(&fault, out),
+        Err(fault) => say(&fault, out),
     }
 }
 
@@ -202,7 +187,7 @@ fn answer_inputs<R: AllocGlobal, S: Source, T: Source, K: Sink>(
 {
     let mut room = [0u8; 0];
     let mut no_file = MemSink::new(&mut room);
-    answer::answer(rt.alloc(), request, first, second, &mut no_file, out)
+    answer(rt.alloc(), request, first, second, &mut no_file, out)
 }
 
 // Answers a request with the file that it reads and the one that it writes.
@@ -217,15 +202,15 @@ fn answer_into<R: AllocGlobal + Files, K: Sink>(
 {
     let mut first = match open_input(rt, input) {
         Ok(first) => first,
-        Err(fault) => return answer::say(&fault, out),
+        Err(fault) => return say(&fault, out),
     };
     if is_one_file(rt, input, output) {
-        return answer::say(&UsageFault::Open, out);
+        return say(&UsageFault::Open, out);
     }
     let mut no_second = MemSource::new(&[]);
     match create_output(rt, output) {
         Ok(mut file) => {
-            answer::answer(
+            answer(
                 rt.alloc(),
                 request,
                 &mut first,
@@ -234,6 +219,6 @@ fn answer_into<R: AllocGlobal + Files, K: Sink>(
                 out,
             )
         }
-        Err(fault) => answer::say(&fault, out),
+        Err(fault) => say(&fault, out),
     }
 }

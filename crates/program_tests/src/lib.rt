@@ -1,0 +1,37 @@
+//! Tests of the program's answers and of the words that ask for them, over devices in memory.
+//! Nothing here is part of the product.
+//!
+//! They stand apart from the tests of the other libraries, since the tests of a crate are proved by
+//! one job.
+#![tactic(auto)]
+
+#[cfg(test)]
+mod answers;
+#[cfg(test)]
+mod check;
+#[cfg(test)]
+mod flips;
+#[cfg(test)]
+mod listen;
+#[cfg(test)]
+mod normal;
+#[cfg(test)]
+mod numbers;
+#[cfg(test)]
+mod packet;
+#[cfg(test)]
+mod packets;
+#[cfg(test)]
+mod refused_memory;
+#[cfg(test)]
+mod requests;
+#[cfg(test)]
+mod schedule;
+#[cfg(test)]
+mod show;
+#[cfg(test)]
+mod times;
+#[cfg(test)]
+mod watched;
+#[cfg(test)]
+mod words;

@@ -1,0 +1,144 @@
+//! The requests that words are read as.
+use crate::check::makers::options;
+use std::process::Abort;
+use std::test::Fail;
+use stl_rows::National;
+use sub_answer::{Flip, ReceiverKind, Request};
+use sub_plan::Options;
+use sub_words::ParseWords;
+
+// Asserts that a request is the schedule of files a and b with these options.
+fn assert_schedules(
+    rt: &impl Abort,
+    request: &Request<'_>,
+    want: &Options,
+    is_serial: bool,
+    option: National,
+) {
+    match request {
+        Request::Schedule {
+            stl,
+            pes,
+            options,
+            serial,
+            national,
+        } => {
+            assert_eq!(rt; (*stl, *pes), ("a", "b"));
+            assert_eq!(rt; *options, *want);
+            assert_eq!(rt; *serial, is_serial);
+            assert!(rt; *national == option);
+        }
+        _ => panic!(rt; "no schedule"),
+    }
+}
+
+#[test]
+fn reads_the_words_of_files(rt: HostRuntime) -> Result<(), Fail> {
+    let alloc = rt.alloc();
+    let words = ["subttx", "normal", "a", "b"];
+    let Ok(Request::Normal { input, output }) = Request::parse(alloc, &words) else {
+        return Err("normal".into());
+    };
+    assert_eq!(rt; (input, output), ("a", "b"));
+    Ok(())
+}
+
+#[test]
+fn reads_the_words_of_a_schedule(rt: HostRuntime) -> Result<(), Fail> {
+    let alloc = rt.alloc();
+    let defaults: &[&str] = &["subttx", "schedule", "a", "b"];
+    let given: &[&str] = &[
+        "subttx", "schedule", "a", "b", "--serial", "--page", "100", "--every", "25", "--origin",
+        "1", "--option", "german",
+    ];
+    // words, options, serial mode, national option
+    for (words, options, serial, national) in [
+        (defaults, options("888", 250, 0)?, false, National::English),
+        (given, options("100", 25, 1)?, true, National::German),
+    ] {
+        match Request::parse(alloc, words) {
+            Ok(request) => assert_schedules(&rt, &request, &options, serial, national),
+            Err(_) => return Err("a request".into()),
+        }
+    }
+    Ok(())
+}
+
+// Asserts that a request is to listen to file a with this page and PTS of frame 0, up to a frame,
+// with so many packets passed over, and with these flips and lost packets.
+fn assert_listens(
+    rt: &impl Abort,
+    request: &Request<'_>,
+    want: &Options,
+    (at, skip): (u32, u64),
+    flips: &[Flip],
+    lost: &[u64],
+    receiver: ReceiverKind,
+) {
+    match request {
+        Request::Listen { pes, listening } => {
+            assert_eq!(rt; *pes, "a");
+            assert_eq!(rt; listening.options.page(), want.page());
+            assert_eq!(rt; listening.options.origin(), want.origin());
+            assert_eq!(rt; (listening.at, listening.skip), (at, skip));
+            assert!(rt; listening.flips.as_slice() == flips);
+            assert!(rt; listening.lost.as_slice() == lost);
+            assert_eq!(rt; listening.receiver, receiver);
+        }
+        _ => panic!(rt; "no listening"),
+    }
+}
+
+#[test]
+fn reads_the_words_of_a_receiver(rt: HostRuntime) -> Result<(), Fail> {
+    let defaults = ["subttx", "listen", "a", "--at", "10:00:00:10"];
+    let options = options("888", 250, 0)?;
+    match Request::parse(rt.alloc(), &defaults) {
+        Ok(request) => {
+            let numbers = (900_010, 0);
+            assert_listens(
+                &rt,
+                &request,
+                &options,
+                numbers,
+                &[],
+                &[],
+                ReceiverKind::Blank,
+            );
+        }
+        Err(_) => return Err("a request".into()),
+    }
+    Ok(())
+}
+
+// The flips of `--flip 1:21:1,02:0:8`.
+const FLIPS: [Flip; 2] = [
+    Flip {
+        packet: 1,
+        byte: 21,
+        bit: 1,
+    },
+    Flip {
+        packet: 2,
+        byte: 0,
+        bit: 8,
+    },
+];
+
+#[rattlefmt::skip]
+#[test]
+fn reads_all_words_of_a_receiver(rt: HostRuntime) -> Result<(), Fail> {
+    let words = [
+        "subttx", "listen", "a", "--page", "100", "--origin", "1", "--at", "23:59:59:24",
+        "--skip", "07", "--flip", "1:21:1,02:0:8", "--lose", "3,4", "--receiver", "keep",
+    ];
+    let options = options("100", 250, 1)?;
+    match Request::parse(rt.alloc(), &words) {
+        Ok(request) => {
+            let numbers = (2_159_999, 7);
+            assert_listens(&rt, &request, &options, numbers, &FLIPS, &[3, 4], ReceiverKind::Keep);
+        }
+        Err(_) => return Err("a request".into()),
+    }
+    Ok(())
+}

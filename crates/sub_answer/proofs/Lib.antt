@@ -1,0 +1,5 @@
+pub mod WritingLemmas
+pub mod VerdictLemmas
+pub mod NormalLemmas
+pub mod ListeningRunLemmas
+pub mod FileListingLemmas

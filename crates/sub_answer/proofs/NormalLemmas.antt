@@ -1,0 +1,244 @@
+-- What `normal` writes, prints and reads; main lemmas: works-written, taken-at_end, prints-read.
+use Rattle.std.proofs.Common.{◌≡◌, ◌≢◌, ℕ, zero, suc, ◌+◌, ◌≤◌, List, [], ◌∷◌, ◌++◌, length, take}
+use Rattle.std.proofs.Common.{drop, Option, Some, None, Ok, Err, refl, sym, ap, ◌∙◌, subst}
+use Rattle.std.proofs.Common.{true, arith, length-take-le, if◌then◌else◌}
+use Rattle.std.specs.Prelude.{◌↔◌, codes}
+use Rattle.std.specs.Io.KnownBytes.{Consumes, IsAtEnd, Keeps}
+use Rattle.std.proofs.KnownBytes.{Appends-kept, Appends-nil, Consumes-kept, Consumes-trans}
+use Rattle.std.proofs.lemmas.List.{append-nil, take_all, take_at, take-take}
+use lib.Seq.{take-add}
+use Rattle.sub_io.specs.Device.{AppendsPrefix}
+use Rattle.sub_io.specs.Reading.{IfTold}
+use Rattle.sub_io.proofs.DeviceLemmas.{AppendsPrefix-whole}
+use Rattle.stl_file.specs.declared.fault.StlFault.{StlFault}
+use Rattle.stl_file.specs.declared.fault.NormalFault.{NormalFault}
+use Rattle.stl_file.specs.declared.fault.NormalFault.TheVariants as normal
+use Rattle.stl_file.specs.File.{IsFile}
+use Rattle.stl_file.specs.NormalForm.{Judged, NormalAnswers, WritesNormal, WritesPrefix}
+use Rattle.stl_file.specs.NormalForm.{normal_form, subtitles_of}
+use Rattle.stl_file.specs.Reader.{outcome_of}
+use Rattle.stl_file.specs.Reading.{Outcome}
+use Rattle.stl_file.specs.Subtitle.{SubtitleValue}
+use Rattle.stl_file.proofs.FirstBytes.{outcome_of-first}
+use Rattle.sub_answer.specs.Lines.{stl_fault_line}
+use Rattle.sub_answer.specs.NormalWriting.{HasNormalFaultLine, IsMemoryLine, PrintsReadFault}
+use Rattle.sub_answer.specs.NormalWriting.{TellsRead, most_read}
+use Rattle.sub_answer.specs.NormalWriting.{normal_of, normal_writing, read_block}
+use Rattle.sub_answer.specs.Writing.{Completes, is_read_end, written, written_line}
+use Rattle.sub_answer.specs.declared.answering.normal.InputFault.TheVariants as input
+use Rattle.sub_answer.specs.declared.status.Status.TheVariants.{Done, Refused}
+use Rattle.sub_answer.specs.declared.writing.End.{End}
+use Rattle.sub_answer.specs.declared.writing.End.TheVariants as end
+
+-- ---- what was written
+
+-- a file's subtitles are what reading it gives
+abbrev pub FileIsRead : Type 0
+FileIsRead = (s g : List ℕ)
+    → (ts : List SubtitleValue)
+    → IsFile s g ts ↔ ((g ≡ take 1024 s) × (subtitles_of (outcome_of s) ≡ Ok ts))
+
+-- the normal form was written, and its line is made
+pub works-written : FileIsRead → (s : List ℕ) (old new : Option (List ℕ)) (line : List ℕ) (n : ℕ)
+    → WritesNormal s old new n
+    → line ≡ written_line n (codes " subtitles\n")
+    → Completes old new line (normal_writing s) Done
+works-written law s old new line n w is =
+    let read = ((law s _ w.subtitles).0 w.is_file).1 in
+    rw read (record {
+      file = w.wrote;
+      text = is ∙ ap (λ (k : ℕ). written_line k (codes " subtitles\n")) w.count;
+      with_status = refl;
+    })
+
+-- a file is refused, and its line is made
+pub works-refused : (s : List ℕ) (old new : Option (List ℕ)) (line : List ℕ) (fault : StlFault)
+    (block : ℕ)
+    → subtitles_of (outcome_of s) ≡ (let r : Judged = Err (normal.Refused fault block) in r)
+    → Keeps old new
+    → line ≡ stl_fault_line fault block
+    → Completes old new line (normal_writing s) Refused
+works-refused s old new line fault block read kept is =
+    rw read (record {
+      file = Appends-kept old old new _ (Appends-nil old) kept;
+      text = is;
+      with_status = refl;
+    })
+
+-- a prefix was written
+pub works-prefix : FileIsRead → (s : List ℕ) (old new : Option (List ℕ))
+    → WritesPrefix s old new
+    → AppendsPrefix old new (normal_writing s).file
+works-prefix law s old new w =
+    let read = ((law s _ w.subtitles).0 w.is_file).1 in
+    rw read (w.wrote)
+
+-- the same of the answer that the file failed
+pub works-failed : FileIsRead → (s : List ℕ) (old new : Option (List ℕ)) (fault : NormalFault)
+    → fault ≡ normal.Write
+    → NormalAnswers s old new (Err fault)
+    → AppendsPrefix old new (normal_writing s).file
+works-failed law s old new fault is answers =
+    works-prefix law s old new
+    (subst (λ (f : NormalFault). NormalAnswers s old new (Err f)) is answers)
+
+-- a failing flush after the normal form was taken
+pub prefix-flushed : (s : List ℕ) (old mid new : Option (List ℕ)) (n : ℕ)
+    → WritesNormal s old mid n
+    → Keeps mid new
+    → WritesPrefix s old new
+prefix-flushed s old mid new n w kept = record {
+  subtitles = w.subtitles;
+  is_file = w.is_file;
+  wrote = AppendsPrefix-whole old new _ (Appends-kept old mid new _ w.wrote kept);
+}
+
+-- a flush after the normal form was taken
+pub written-flushed : (s : List ℕ) (old mid new : Option (List ℕ)) (n : ℕ)
+    → WritesNormal s old mid n
+    → Keeps mid new
+    → WritesNormal s old new n
+written-flushed s old mid new n w kept = record {
+  subtitles = w.subtitles;
+  is_file = w.is_file;
+  count = w.count;
+  wrote = Appends-kept old mid new _ w.wrote kept;
+}
+
+-- ---- reading the input
+
+-- the next piece that went behind those before it
+pub Consumes-behind : (x y z : Option (List ℕ)) (a n : ℕ) (xs ys : List ℕ)
+    → take a ys ≡ take a xs
+    → Consumes x y (take a xs)
+    → Consumes y z (take n (drop a ys))
+    → Consumes x z (take (a + n) ys)
+Consumes-behind x y z a n xs ys same p q =
+    subst (Consumes x z) (sym (take-add a n ys ∙ ap (λ l. l ++ take n (drop a ys)) same))
+    (Consumes-trans x y z _ _ p q)
+
+-- equal known bytes are equal bytes
+Some-injective : (x y : List ℕ) → ◌≡◌ {A = Option (List ℕ)} (Some x) (Some y) → x ≡ y
+Some-injective x y e = cc
+
+-- so many bytes of a list are no more
+take-few : (n : ℕ) (xs : List ℕ) → length (take n xs) ≤ n
+take-few zero xs = omega arith
+take-few (suc n) [] = omega arith
+take-few (suc n) (x ∷ xs) = omega (arith, take-few n xs)
+
+-- the bytes that were taken of a source that is at its end
+taken-to_end : (x y : Option (List ℕ)) (xs : List ℕ)
+    → Consumes x y xs
+    → IsAtEnd y
+    → length xs ≤ most_read
+    → IfTold x (λ bytes. xs ≡ take most_read bytes)
+taken-to_end None y xs p end few bytes e = absurd cc
+taken-to_end (Some b) None xs p end few bytes e = absurd p
+taken-to_end (Some b) (Some ys) xs p end few bytes e =
+    let all : bytes ≡ xs =
+    sym (Some-injective b bytes e) ∙ p ∙ ap (λ l. xs ++ l) end ∙ append-nil xs in
+    sym (ap (take most_read) all ∙ take_all most_read xs few)
+
+-- the bytes that were taken, where no more are read
+taken-to_most : (x y : Option (List ℕ)) (xs : List ℕ)
+    → Consumes x y xs
+    → length xs ≡ most_read
+    → IfTold x (λ bytes. xs ≡ take most_read bytes)
+taken-to_most None y xs p size bytes e = absurd cc
+taken-to_most (Some b) None xs p size bytes e = absurd p
+taken-to_most (Some b) (Some ys) xs p size bytes e =
+    let all : bytes ≡ xs ++ ys = sym (Some-injective b bytes e) ∙ p in
+    sym (ap (take most_read) all ∙ take_at xs ys most_read size)
+
+-- the last pull gave nothing
+pub taken-at_end : (x y z : Option (List ℕ)) (a n : ℕ) (xs ys vs : List ℕ)
+    → n ≡ 0
+    → take a ys ≡ take a xs
+    → Consumes x y (take a xs)
+    → Consumes y z (take n (drop a ys))
+    → IsAtEnd z
+    → a ≤ most_read
+    → vs ≡ take a ys
+    → IfTold x (λ bytes. vs ≡ take most_read bytes)
+taken-at_end x y z a n xs ys vs none same p q end few is =
+    let sum : a + n ≡ a = omega (arith, none) in
+    let all : Consumes x z (take a ys) =
+    subst (λ (k : ℕ). Consumes x z (take k ys)) sum
+    (Consumes-behind x y z a n xs ys same p q) in
+    let size : length (take a ys) ≤ most_read = omega (arith, take-few a ys, few) in
+    λ bytes e. is ∙ taken-to_end x z (take a ys) all end size bytes e
+
+-- no more are read
+pub taken-at_most : (x y : Option (List ℕ)) (a : ℕ) (xs vs : List ℕ)
+    → Consumes x y (take a xs)
+    → a ≤ length xs
+    → a ≡ most_read
+    → vs ≡ take a xs
+    → IfTold x (λ bytes. vs ≡ take most_read bytes)
+taken-at_most x y a xs vs p fits most is =
+    λ bytes e. is ∙ taken-to_most x y (take a xs) p (length-take-le a xs fits ∙ most) bytes e
+
+-- the block of a byte that could not be read
+pub block-at : (x y z : Option (List ℕ)) (a block : ℕ) (xs : List ℕ)
+    → Consumes x y (take a xs)
+    → Keeps y z
+    → a ≤ length xs
+    → block ≡ read_block a
+    → TellsRead x z (input.Read block)
+block-at x y z a block xs p kept fits is = (
+  take a xs,
+  Consumes-kept x y z _ p kept,
+  is ∙ ap read_block (sym (length-take-le a xs fits)),
+)
+
+-- the GSI block of the normal form is the file's
+normal_of-front : (s t : List ℕ) (j : Judged)
+    → take 1024 s ≡ take 1024 t
+    → normal_of s j ≡ normal_of t j
+normal_of-front s t (Ok ts) same =
+    ap (λ (g : List ℕ). written (normal_form g ts) (length ts) (codes " subtitles\n")) same
+normal_of-front s t (Err (normal.Refused fault block)) same = refl
+normal_of-front s t (Err normal.Write) same = refl
+
+-- the bytes that are read decide what is written and printed
+pub normal_writing-first : (s : List ℕ) → normal_writing (take most_read s) ≡ normal_writing s
+normal_writing-first s =
+    let front : take 1024 (take most_read s) ≡ take 1024 s =
+    take-take 1024 most_read s (omega arith) in
+    ap (λ (o : Outcome). normal_of (take most_read s) (subtitles_of o)) (outcome_of-first s)
+    ∙ normal_of-front (take most_read s) s (subtitles_of (outcome_of s)) front
+
+-- ---- what is printed
+
+-- a failed read is told by its block
+pub prints-read : (ending : End) (n n' : ℕ) (old new out out' : Option (List ℕ)) (line : List ℕ)
+    → n' ≡ n + (if is_read_end ending then 1 else 0)
+    → HasNormalFaultLine old new line ending
+    → AppendsPrefix out out' line
+    → n' ≢ n
+    → PrintsReadFault old new out out'
+prints-read end.Written n n' old new out out' line e h p d = absurd (d (omega (arith, e)))
+prints-read end.Refused n n' old new out out' line e h p d = absurd (d (omega (arith, e)))
+prints-read end.ReadFailed n n' old new out out' line e h p d =
+    (h.0, h.1, subst (AppendsPrefix out out') h.2 p)
+prints-read end.WriteFailed n n' old new out out' line e h p d = absurd (d (omega (arith, e)))
+prints-read end.NoMemory n n' old new out out' line e h p d = absurd (d (omega (arith, e)))
+
+-- the input failed where its count rose
+pub read-ended : (ending : End) (n n' : ℕ)
+    → n' ≡ n + (if is_read_end ending then 1 else 0)
+    → n' ≢ n
+    → is_read_end ending ≡ true
+read-ended end.Written n n' e d = absurd (d (omega (arith, e)))
+read-ended end.Refused n n' e d = absurd (d (omega (arith, e)))
+read-ended end.ReadFailed n n' e d = refl
+read-ended end.WriteFailed n n' e d = absurd (d (omega (arith, e)))
+read-ended end.NoMemory n n' e d = absurd (d (omega (arith, e)))
+
+-- want of memory is told by its line
+pub memory-line : (old new : Option (List ℕ)) (line : List ℕ) (ending : End)
+    → HasNormalFaultLine old new line ending
+    → ending ≡ end.NoMemory
+    → IsMemoryLine line
+memory-line old new line ending h is = subst (HasNormalFaultLine old new line) is h

@@ -1,0 +1,14 @@
+-- Codes written out; by codes_from_test.
+use Rattle.std.proofs.Common.{refl, replicate, ◌==◌}
+use Rattle.std.proofs.lemmas.Bool.{eqb-true}
+use Rattle.std.proofs.lemmas.List.Sums.{AllPass-from_list_all}
+use Rattle.ttx_page.proofs.PageLemmas.{codes_from_test}
+use Rattle.sub_answer.proofs.answering.listen.old_row.Goals as goal
+
+pub returns-clause-codes : goal.returns-clause-codes
+returns-clause-codes c = codes_from_test (replicate 40 0x3F) refl
+
+pub returns-clause-value : goal.returns-clause-value
+returns-clause-value c = λ column within.
+    eqb-true _ 0x3F
+    (AllPass-from_list_all (λ x. x == 0x3F) (replicate 40 0x3F) refl column 0 within)

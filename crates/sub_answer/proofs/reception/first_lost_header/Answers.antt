@@ -1,0 +1,18 @@
+-- One packet more that is not lost, or may be; by first_lost_header-more.
+use Rattle.std.proofs.Common.{◌+◌, ◌&&◌, List, ℕ, ap, not, sym, ◌∙◌}
+use Rattle.ttx_packet.specs.PacketAddress.{address}
+use Rattle.ttx_pes.specs.DataUnit.{UnitValue}
+use Rattle.sub_answer.specs.Reception.{is_lost, may_be_lost_at, reception_of}
+use Rattle.sub_answer.proofs.ListeningRunLemmas.{first_lost_header-more}
+use Rattle.sub_answer.proofs.reception.first_lost_header.Goals as goal
+
+pub loop-k-preserved : goal.loop-k-preserved
+loop-k-preserved c =
+    let r = reception_of c.args.listening.now in
+    let number = c.args.number + c.loop-k.k in
+    let packet = c.packet.ensures.value
+    ∙ ap (λ (u : UnitValue). u.packet) c.index-units-k.is in
+    first_lost_header-more r c.args.number c.loop-k.k c.args.units.now c.index-units-k.result _
+    c.loop-k.invariant c.loop-k-test.true
+    (ap (λ (p : List ℕ). is_lost r number && not (may_be_lost_at (address p))) (sym packet)
+    ∙ sym c.is_lost_header.ensures ∙ c.if-is_lost_header.false)

@@ -1,0 +1,183 @@
+-- What is said of the answer to a request, command by command.
+use Rattle.std.specs.Prelude.{⊤, ◌≡◌, ◌≢◌, ◌↔◌, ℕ, ◌+◌, Bool, true, false, List, Option, Result}
+use Rattle.std.specs.Prelude.{if◌then◌else◌}
+use Rattle.std.specs.Io.KnownBytes.{Appends}
+use Rattle.sub_io.specs.Reading.{IfTold}
+use Rattle.stl_file.specs.Reader.{outcome_of}
+use Rattle.stl_rows.specs.declared.national.National.{National}
+use Rattle.sub_plan.specs.Options.{OptionsValue}
+use Rattle.sub_check.specs.Checking.{TellsSubtitles, is_source_failure, is_subtitle_refusal}
+use Rattle.sub_check.specs.Checking.{is_subtitle_source_failure}
+use Rattle.sub_check.specs.FrameRules.{Unread}
+use Rattle.sub_check.specs.PesReading.{ReadsAs}
+use Rattle.sub_check.specs.Transmission.{Transmission}
+use Rattle.sub_check.specs.declared.checker.Accepted.{Accepted}
+use Rattle.sub_check.specs.declared.fault.CheckFault.{CheckFault}
+use Rattle.sub_answer.specs.CheckLines.{verdict}
+use Rattle.sub_answer.specs.DeviceCall.{SinkCall, SourceCall}
+use Rattle.sub_answer.specs.FileListing.{packets_listing, show_listing}
+use Rattle.sub_answer.specs.Lines.{usage_line}
+use Rattle.sub_answer.specs.Listing.{Listing, Prints}
+use Rattle.sub_answer.specs.ListeningRun.{Listens}
+use Rattle.sub_answer.specs.NormalWriting.{normal_writing}
+use Rattle.sub_answer.specs.Verdict.{IsAccepted, IsAnswer, PrintsOrFails}
+use Rattle.sub_answer.specs.Writing.{Answers, PrintsMemory, schedule_writing}
+use Rattle.sub_answer.specs.declared.listening.Listening.{Listening}
+use Rattle.sub_answer.specs.declared.request.Request.{Request}
+use Rattle.sub_answer.specs.declared.request.Request.TheVariants as ask
+use Rattle.sub_answer.specs.declared.request.UsageFault.TheVariants.{Memory}
+use Rattle.sub_answer.specs.declared.status.Status.{Status}
+use Rattle.sub_answer.specs.declared.status.Status.TheVariants.{Done, Fault}
+
+-- ---- what a request asks for
+
+-- The fact holds of the bytes of a `packet` request.
+abbrev pub ForPacket : Request → (List ℕ → Type 0) → Type 0
+ForPacket (ask.Packet bytes) P = P bytes
+ForPacket _ P = ⊤
+
+-- The fact holds, where a `packets` is asked for.
+abbrev pub ForPackets : Request → Type 0 → Type 0
+ForPackets (ask.Packets pes) P = P
+ForPackets _ P = ⊤
+
+-- The fact holds, where a `show` is asked for.
+abbrev pub ForShow : Request → Type 0 → Type 0
+ForShow (ask.Show stl) P = P
+ForShow _ P = ⊤
+
+-- The fact holds, where a `normal` is asked for.
+abbrev pub ForNormal : Request → Type 0 → Type 0
+ForNormal (ask.Normal input output) P = P
+ForNormal _ P = ⊤
+
+-- The fact holds of what a `schedule` request asks for.
+abbrev pub ForSchedule : Request → (OptionsValue → Bool → National → Type 0) → Type 0
+ForSchedule (ask.Schedule stl pes options serial national) P = P options serial national
+ForSchedule _ P = ⊤
+
+-- The fact holds of what a `check` request asks for.
+abbrev pub ForCheck : Request → (OptionsValue → National → Type 0) → Type 0
+ForCheck (ask.Check stl pes options national) P = P options national
+ForCheck _ P = ⊤
+
+-- The fact holds of what a `listen` request asks for.
+abbrev pub ForListen : Request → (Listening → Type 0) → Type 0
+ForListen (ask.Listen pes listening) P = P listening
+ForListen _ P = ⊤
+
+-- Whether the answer takes memory: a programme, or a whole file, is kept in it.
+abbrev pub takes_memory : Request → Bool
+takes_memory (ask.Normal input output) = true
+takes_memory (ask.Schedule stl pes options serial national) = true
+takes_memory (ask.Check stl pes options national) = true
+takes_memory _ = false
+
+-- ---- what each command answers
+
+-- `packets` prints what the bytes of the PES file decide.
+abbrev pub AnswersPackets : {S : Type 0} → SourceCall S → SinkCall → Status → Type 0
+AnswersPackets pes out status =
+    IfTold pes.told (λ bytes.
+    pes.new_count ≡ pes.old_count
+    → Prints out.old out.new (packets_listing bytes) status)
+
+-- `show` prints what the bytes of the subtitle file decide.
+abbrev pub AnswersShow : {S : Type 0} → SourceCall S → SinkCall → Status → Type 0
+AnswersShow stl out status =
+    IfTold stl.told (λ bytes.
+    stl.new_count ≡ stl.old_count
+    → Prints out.old out.new (show_listing bytes) status)
+
+-- `normal` writes and prints what the bytes of its input decide.
+pub record AnswersNormal
+    {S : Type 0} (input : SourceCall S) (file out : SinkCall) (status : Status)
+    : Type 0 where
+  -- The file gets the normal form of these bytes, and the line is printed, or their refusal is.
+  pub answer :
+      IfTold input.told (λ bytes.
+      Answers file.old file.new out.old out.new (normal_writing bytes) status)
+  -- The status is `Fault` only where a device failed, or want of memory is printed.
+  pub fault :
+      status ≡ Fault
+      → input.new_count ≡ input.old_count
+      → file.new_count ≡ file.old_count
+      → out.new_count ≡ out.old_count
+      → Appends out.old out.new (usage_line Memory)
+
+-- `schedule` writes and prints what the bytes of the subtitle file decide.
+pub record AnswersSchedule
+    {S : Type 0} (national : National) (options : OptionsValue) (serial : Bool)
+    (stl : SourceCall S) (file out : SinkCall) (status : Status)
+    : Type 0 where
+  -- The file gets the schedule of their programme, and the line is printed, or their refusal is.
+  pub answer :
+      IfTold stl.told (λ bytes.
+      Answers file.old file.new out.old out.new (schedule_writing national options serial bytes)
+      status)
+  -- The status is `Fault` only where a device failed, or want of memory is printed.
+  pub fault :
+      status ≡ Fault
+      → stl.new_count ≡ stl.old_count
+      → file.new_count ≡ file.old_count
+      → out.new_count ≡ out.old_count
+      → PrintsMemory national stl.told out.old out.new
+
+-- This answer of a check is printed, and it is the right one.
+pub record PrintsAnswer
+    {S T : Type 0} (national : National) (options : OptionsValue)
+    (stl : SourceCall S) (pes : SourceCall T) (out : SinkCall) (status : Status)
+    (answer : Result Accepted CheckFault)
+    : Type 0 where
+  -- Its one line is printed, or `out` failed and has a prefix of it.
+  pub printed :
+      PrintsOrFails out.old_count out.old out.new_count out.new (verdict answer) status
+  -- It tells which device failed.
+  pub stl_count :
+      stl.new_count
+      ≡ stl.old_count + (if is_subtitle_source_failure answer then 1 else 0)
+  pub pes_count : pes.new_count ≡ pes.old_count + (if is_source_failure answer then 1 else 0)
+  -- Where it refuses the subtitle file, no PES byte is read.
+  pub before : is_subtitle_refusal answer ≡ true → pes.new ≡ pes.old
+  -- Where the files tell their bytes, these decide it.
+  pub subtitles : IfTold stl.told (λ file. TellsSubtitles national (outcome_of file) answer)
+  pub exact :
+      IfTold stl.told (λ file.
+      IfTold pes.told (λ bytes.
+      IsAnswer national options file bytes answer))
+
+-- `check` prints one answer, which the bytes of both files decide.
+pub record AnswersCheck
+    {S T : Type 0} (national : National) (options : OptionsValue)
+    (stl : SourceCall S) (pes : SourceCall T) (out : SinkCall) (status : Status)
+    : Type 0 where
+  -- One answer is printed, and it is the right one.
+  pub answer :
+      (answer : Result Accepted CheckFault)
+      × PrintsAnswer national options stl pes out status answer
+  -- Failing devices and want of memory aside, the status is `Done` exactly where the PES file is
+  -- read to its end as a good transmission of the programme of the subtitle file.
+  pub done :
+      IfTold stl.told (λ file.
+      IfTold pes.told (λ bytes.
+      status ≢ Fault
+      → (status ≡ Done)
+      ↔ ((accepted : Accepted) × IsAccepted national options file bytes accepted)))
+  -- The status is `Fault` only where a device failed, or want of memory is printed.
+  pub fault :
+      status ≡ Fault
+      → stl.new_count ≡ stl.old_count
+      → pes.new_count ≡ pes.old_count
+      → out.new_count ≡ out.old_count
+      → PrintsMemory national stl.told out.old out.new
+
+-- `listen` prints what a receiver shows that heard the frames of the PES file, or the refusal.
+abbrev pub AnswersListen : {S : Type 0} → Listening → SourceCall S → SinkCall → Status → Type 0
+AnswersListen listening pes out status =
+    (frames : Transmission) (unread : Option Unread)
+    → IfTold pes.told (λ bytes.
+    ReadsAs listening.options.origin 0 bytes frames unread
+    → pes.new_count ≡ pes.old_count
+    → (listing : Listing)
+    × Listens listening frames unread listing
+    × Prints out.old out.new listing status)

@@ -1,0 +1,14 @@
+pub mod NamedDevices
+pub mod Lines
+pub mod Listing
+pub mod LoadLines
+pub mod Writing
+pub mod Answering
+pub mod DeviceCall
+pub mod CheckLines
+pub mod Verdict
+pub mod NormalWriting
+pub mod Reception
+pub mod StateText
+pub mod ListeningRun
+pub mod FileListing

@@ -1,0 +1,172 @@
+-- The lines that the program prints. Each ends with one newline.
+use Rattle.std.specs.Prelude.{ℕ, ◌+◌, ◌/◌, ◌%◌, ◌==◌, ◌&&◌, nat_le, List, [], ◌∷◌, ◌++◌}
+use Rattle.std.specs.Prelude.{codes, decimal, map, length}
+use Rattle.std.specs.Prelude.{Bool, if◌then◌else◌, slice_index}
+use Rattle.ttx_packet.specs.Parity.{is_odd, code_of}
+use Rattle.ttx_packet.specs.PageHeader.{c4, c5, c6, c7, c8, c9, c10, c11, c12, c13, c14}
+use Rattle.ttx_packet.specs.declared.Header.{Header}
+use Rattle.hex.specs.Hex.{encode_lower}
+use Rattle.ttx_pes.specs.DataUnit.{UnitValue}
+use Rattle.stl_file.specs.Gsi.{five_digits}
+use Rattle.stl_file.specs.Subtitle.{SubtitleValue}
+use Rattle.stl_file.specs.declared.fault.StlFault.{StlFault}
+use Rattle.stl_file.specs.declared.fault.StlFault.TheVariants as stl
+use Rattle.ttx_pes.specs.declared.PesFault.{PesFault}
+use Rattle.ttx_pes.specs.declared.PesFault.TheVariants as pes
+use Rattle.sub_answer.specs.declared.request.UsageFault.{UsageFault}
+use Rattle.sub_answer.specs.declared.request.UsageFault.TheVariants as fault
+
+-- The line of a fault of the words, or of the program itself (own).
+abbrev pub usage_line : UsageFault → List ℕ
+usage_line fault.Words = codes "usage 0 Words\n"
+usage_line fault.BadHex = codes "usage 2 BadHex\n"
+usage_line fault.SameFile = codes "usage 7 SameFile\n"
+usage_line fault.BadPage = codes "usage 1 BadPage\n"
+usage_line fault.Every = codes "usage 80 Every\n"
+usage_line fault.Origin = codes "usage 81 Origin\n"
+usage_line fault.BadOption = codes "usage 83 BadOption\n"
+usage_line fault.BadTime = codes "usage 6 BadTime\n"
+usage_line fault.BadSkip = codes "usage 8 BadSkip\n"
+usage_line fault.BadFlip = codes "usage 5 BadFlip\n"
+usage_line fault.BadLose = codes "usage 84 BadLose\n"
+usage_line fault.BadReceiver = codes "usage 9 BadReceiver\n"
+usage_line fault.Open = codes "fault 90 Open\n"
+usage_line fault.Memory = codes "fault 91 Memory\n"
+
+-- The character of a cell's code: the codes 20 to 7E as ASCII, any other as a full stop.
+abbrev pub glyph : ℕ → ℕ
+glyph code = if nat_le 0x20 code && nat_le code 0x7E then code else 0x2E
+
+-- The character of a text byte: that of its code, or `?` where its parity is even.
+abbrev pub text_glyph : ℕ → ℕ
+text_glyph byte = if is_odd byte then glyph (code_of byte) else 0x3F
+
+-- One upper case hexadecimal digit.
+abbrev pub hex_digit : ℕ → ℕ
+hex_digit n = slice_index (codes "0123456789ABCDEF") n
+
+-- Two upper case hexadecimal digits.
+unfoldable pub hex_two : ℕ → List ℕ
+hex_two n = hex_digit (n / 16) ∷ hex_digit (n % 16) ∷ []
+
+-- Four upper case hexadecimal digits.
+abbrev pub hex_four : ℕ → List ℕ
+hex_four n = hex_two (n / 256) ++ hex_two (n % 256)
+
+-- Magazines are shown as 1 to 8: number 0 is magazine 8.
+abbrev pub shown_magazine : ℕ → ℕ
+shown_magazine magazine = if magazine == 0 then 8 else magazine
+
+-- A packet's magazine, 1 to 8, and its packet number.
+abbrev pub address_line : ℕ → ℕ → List ℕ
+address_line magazine packet_number = codes "magazine " ++ decimal (shown_magazine magazine)
+    ++ codes " packet " ++ decimal packet_number ++ codes "\n"
+
+-- A control bit's name behind a space, where the bit is set.
+abbrev pub marked : Bool → List ℕ → List ℕ
+marked bit name = if bit then name else []
+
+-- The control bits that are set, rising, each behind a space.
+abbrev pub control_names : Header → List ℕ
+control_names h = marked (c4 h) (codes " C4") ++ marked (c5 h) (codes " C5")
+    ++ marked (c6 h) (codes " C6") ++ marked (c7 h) (codes " C7") ++ marked (c8 h) (codes " C8")
+    ++ marked (c9 h) (codes " C9") ++ marked (c10 h) (codes " C10")
+    ++ marked (c11 h) (codes " C11") ++ marked (c12 h) (codes " C12")
+    ++ marked (c13 h) (codes " C13") ++ marked (c14 h) (codes " C14")
+
+-- The same, or ` none` where no bit is set.
+abbrev pub control_list : Header → List ℕ
+control_list h =
+    if length (control_names h) == 0 then codes " none" else control_names h
+
+-- Page number and subcode in hexadecimal.
+abbrev pub page_and_subcode : Header → List ℕ
+page_and_subcode h = codes "page " ++ hex_two h.page ++ codes " subcode "
+    ++ hex_four h.subcode
+
+-- What a page header says.
+abbrev pub header_line : Header → List ℕ
+header_line h = page_and_subcode h ++ codes " control" ++ control_list h ++ codes "\n"
+
+-- Text bytes between bars.
+abbrev pub text_line : List ℕ → List ℕ
+text_line bytes = codes "text |" ++ map text_glyph bytes ++ codes "|\n"
+
+-- A PES packet: its index from 0, and its PTS.
+abbrev pub pes_line : ℕ → ℕ → List ℕ
+pes_line index pts = codes "pes " ++ decimal index ++ codes " pts " ++ decimal pts ++ codes "\n"
+
+-- A Teletext unit: its number in its PES packet from 0, data_unit_id, the field, line_offset, and
+-- the packet's 42 bytes, not mirrored.
+abbrev pub unit_line : ℕ → UnitValue → List ℕ
+unit_line number u = codes "unit " ++ decimal number ++ codes " id 0" ++ decimal u.id
+    ++ codes " field " ++ decimal u.field ++ codes " line " ++ decimal u.line ++ codes " "
+    ++ encode_lower u.packet ++ codes "\n"
+
+-- A fault of a PES file by number and name; that of a device is a fault, any other a refusal (own).
+abbrev pub pes_fault_words : PesFault → List ℕ
+pes_fault_words pes.Truncated = codes "refused 30 Truncated"
+pes_fault_words pes.Start = codes "refused 31 Start"
+pes_fault_words pes.Length = codes "refused 32 Length"
+pes_fault_words pes.Flags = codes "refused 33 Flags"
+pes_fault_words pes.NoTime = codes "refused 34 NoTime"
+pes_fault_words pes.HeaderLength = codes "refused 35 HeaderLength"
+pes_fault_words pes.Time = codes "refused 36 Time"
+pes_fault_words pes.DataId = codes "refused 37 DataId"
+pes_fault_words pes.UnitLength = codes "refused 38 UnitLength"
+pes_fault_words pes.Framing = codes "refused 39 Framing"
+pes_fault_words pes.LineOrder = codes "refused 40 LineOrder"
+pes_fault_words pes.Read = codes "fault 41 Read"
+pes_fault_words pes.Write = codes "fault 42 Write"
+pes_fault_words pes.Ended = codes "refused 43 Ended"
+pes_fault_words pes.TooMany = codes "refused 44 TooMany"
+
+-- The same with the index of the PES packet.
+abbrev pub pes_fault_line : PesFault → ℕ → List ℕ
+pes_fault_line fault index = pes_fault_words fault ++ codes " pes " ++ decimal index ++ codes "\n"
+
+-- Two decimal digits.
+unfoldable pub two_digits : ℕ → List ℕ
+two_digits n = (0x30 + n / 10) ∷ (0x30 + n % 10) ∷ []
+
+-- A frame of the day as `HH:MM:SS:FF`, at 25 frames a second (EBU Tech 3264, TCI and TCO).
+unfoldable pub time_text : ℕ → List ℕ
+time_text frame = two_digits (frame / 90000) ++ codes ":" ++ two_digits ((frame / 1500) % 60)
+    ++ codes ":" ++ two_digits ((frame / 25) % 60) ++ codes ":" ++ two_digits (frame % 25)
+
+-- The joined text of a subtitle in hexadecimal, or a hyphen where it is empty (own).
+unfoldable pub text_digits : List ℕ → List ℕ
+text_digits text = if length text == 0 then codes "-" else encode_lower text
+
+-- A subtitle: its number SN in five digits, the time codes in and out, the vertical position, the
+-- justification code and the text in the file's code.
+abbrev pub subtitle_line : SubtitleValue → List ℕ
+subtitle_line s = five_digits s.sn ++ codes " " ++ time_text s.tci ++ codes " " ++ time_text s.tco
+    ++ codes " vp " ++ decimal s.vp ++ codes " jc " ++ decimal s.jc
+    ++ codes " text " ++ text_digits s.text ++ codes "\n"
+
+-- A fault of a subtitle file by number and name; that of a device is a fault, any other a refusal
+-- (own).
+abbrev pub stl_fault_words : StlFault → List ℕ
+stl_fault_words stl.Truncated = codes "refused 10 Truncated"
+stl_fault_words stl.Format = codes "refused 11 Format"
+stl_fault_words stl.Rate = codes "refused 12 Rate"
+stl_fault_words stl.Display = codes "refused 13 Display"
+stl_fault_words stl.Alphabet = codes "refused 14 Alphabet"
+stl_fault_words stl.Extension = codes "refused 15 Extension"
+stl_fault_words stl.Cumulative = codes "refused 16 Cumulative"
+stl_fault_words stl.CommentFlag = codes "refused 17 CommentFlag"
+stl_fault_words stl.Justify = codes "refused 18 Justify"
+stl_fault_words stl.Row = codes "refused 19 Row"
+stl_fault_words stl.Time = codes "refused 20 Time"
+stl_fault_words stl.EmptyTime = codes "refused 21 EmptyTime"
+stl_fault_words stl.Sequence = codes "refused 22 Sequence"
+stl_fault_words stl.TooLong = codes "refused 23 TooLong"
+stl_fault_words stl.Unfinished = codes "refused 24 Unfinished"
+stl_fault_words stl.TooManyBlocks = codes "refused 25 TooManyBlocks"
+stl_fault_words stl.Read = codes "fault 26 Read"
+stl_fault_words stl.Ended = codes "refused 27 Ended"
+
+-- The same with the TTI block that it names.
+abbrev pub stl_fault_line : StlFault → ℕ → List ℕ
+stl_fault_line fault block = stl_fault_words fault ++ codes " block " ++ decimal block ++ codes "\n"

@@ -1,0 +1,139 @@
+-- What `listen` answers: the frames up to TIME that are heard, what ends them, and what is printed.
+use Rattle.std.specs.Prelude.{◌≡◌, ℕ, zero, suc, ◌+◌, ◌<◌, ◌≤◌, ◌⊎◌, Bool, false, List}
+use Rattle.std.specs.Prelude.{length, ◌++◌, codes, decimal, Option, Some, None, Result, Ok, Err}
+use Rattle.std.specs.Prelude.{MatchResult}
+use Rattle.ttx_packet.specs.PageId.{PageIdValue}
+use Rattle.ttx_page.specs.Page.{Rows, IsCell, cell}
+use Rattle.ttx_page.specs.Receiver.{Hears, State}
+use Rattle.sub_check.specs.Checking as checking
+use Rattle.sub_check.specs.FirstBroken.{unread_fault}
+use Rattle.sub_check.specs.FrameRules.{Unread, frame_at, joined, packets_at}
+use Rattle.sub_check.specs.Transmission.{Transmission}
+use Rattle.sub_check.specs.declared.fault.CheckFault.TheVariants as check
+use Rattle.sub_answer.specs.CheckLines.{check_fault_line, check_status}
+use Rattle.sub_answer.specs.Lines.{time_text}
+use Rattle.sub_answer.specs.Listing.{Listing, done}
+use Rattle.sub_answer.specs.Reception.{as_received, first_lost_header, reception_of}
+use Rattle.sub_answer.specs.StateText.{state_text}
+use Rattle.sub_answer.specs.declared.answering.listen.ListenFault.{ListenFault}
+use Rattle.sub_answer.specs.declared.answering.listen.ListenFault.TheVariants as fault
+use Rattle.sub_answer.specs.declared.listening.Listening.{Listening}
+use Rattle.sub_answer.specs.declared.status.Status.{Status}
+use Rattle.sub_answer.specs.declared.status.Status.TheVariants.{Refused}
+
+-- ---- faults
+
+-- The line of a page header that is lost.
+abbrev pub lost_header_line : ℕ → ℕ → List ℕ
+lost_header_line frame packet =
+    codes "refused 76 LostHeader frame " ++ time_text frame ++ codes " packet " ++ decimal packet
+    ++ codes "\n"
+
+-- The line of a fault (own).
+abbrev pub listen_fault_line : ListenFault → List ℕ
+listen_fault_line (fault.File f) = check_fault_line f
+listen_fault_line (fault.LostHeader frame packet) = lost_header_line frame packet
+
+-- Its status.
+abbrev pub listen_status : ListenFault → Status
+listen_status (fault.File f) = check_status f
+listen_status (fault.LostHeader frame packet) = Refused
+
+-- The fault is that of a source that failed.
+abbrev pub is_source_fault : ListenFault → Bool
+is_source_fault (fault.File f) = checking.is_source_fault f
+is_source_fault (fault.LostHeader frame packet) = false
+
+-- The answer is that fault.
+abbrev pub is_source_failure : {X : Type 0} → Result X ListenFault → Bool
+is_source_failure (Err f) = is_source_fault f
+is_source_failure (Ok x) = false
+
+-- The fault is one of a subtitle file, which is not read here.
+abbrev pub is_subtitle_fault : ListenFault → Bool
+is_subtitle_fault (fault.File f) = checking.is_subtitle_fault f
+is_subtitle_fault (fault.LostHeader frame packet) = false
+
+-- ---- what is heard
+
+-- The least frame that frame i of the list may have: the one after the frame before it.
+abbrev pub least_frame : Transmission → ℕ → ℕ
+least_frame frames zero = 0
+least_frame frames (suc i) = frame_at frames i + 1
+
+-- The number of the first packet of frame i of the list, counted over the whole file.
+abbrev pub first_number : Transmission → ℕ → ℕ
+first_number frames i = length (joined frames i)
+
+-- Frame i of the list is heard: it is after the one before, not after TIME, and no page header of
+-- it is lost.
+pub record IsHeard (l : Listening) (frames : Transmission) (i : ℕ) : Type 0 where
+  pub there : i < length frames
+  pub rises : least_frame frames i ≤ frame_at frames i
+  pub in_time : frame_at frames i ≤ l.at
+  pub whole :
+      first_lost_header (reception_of l) (first_number frames i) (packets_at frames i) ≡ None
+
+-- The first n frames of the list are heard.
+abbrev pub AreHeard : Listening → Transmission → ℕ → Type 0
+AreHeard l frames n = (i : ℕ) → i < n → IsHeard l frames i
+
+-- What is heard ends after n frames: the file ends, or the next frame is after TIME.
+abbrev pub EndsAfter : Listening → Transmission → Option Unread → ℕ → Type 0
+EndsAfter l frames unread n =
+    ((n ≡ length frames) × (unread ≡ None))
+    ⊎ ((n < length frames) × (least_frame frames n ≤ frame_at frames n)
+    × (l.at < frame_at frames n))
+
+-- After n frames the file is refused by this fault, as it stands: it is not read on, its next frame
+-- is not after the one before, or a page header of the next frame is lost.
+abbrev pub RefusesAfter : Listening → Transmission → Option Unread → ℕ → ListenFault → Type 0
+RefusesAfter l frames unread n (fault.File (check.Order index)) =
+    (index ≡ n) × (n < length frames) × (frame_at frames n < least_frame frames n)
+RefusesAfter l frames unread n (fault.LostHeader frame packet) =
+    (n < length frames)
+    × (frame_at frames n ≡ frame)
+    × (least_frame frames n ≤ frame)
+    × (frame ≤ l.at)
+    × (first_lost_header (reception_of l) (first_number frames n) (packets_at frames n)
+    ≡ Some packet)
+RefusesAfter l frames unread n f =
+    (u : Unread) × (n ≡ length frames) × (unread ≡ Some u)
+    × (f ≡ fault.File (unread_fault n (Some u)))
+
+-- ---- the run of a receiver
+
+-- What becomes of a receiver in a state that hears a file: it runs through what is received of the
+-- packets up to TIME, or the file is refused.
+pub record Runs
+    (l : Listening) (frames : Transmission) (unread : Option Unread) (w : PageIdValue)
+    (old new : State) (result : Result (Unit {0}) ListenFault)
+    : Type 0 where
+  pub n : ℕ
+  pub heard : AreHeard l frames n
+  pub run : Hears w old (as_received (reception_of l) 0 (joined frames n)) new
+  pub ends :
+      MatchResult result (λ _. EndsAfter l frames unread n) (RefusesAfter l frames unread n)
+
+-- The page that a receiver held before: 3F in every cell (own).
+abbrev pub IsOldPage : Rows → Type 0
+IsOldPage page = (row column : ℕ) → IsCell row column → cell page row column ≡ 0x3F
+
+-- What is printed at the end of a run.
+abbrev pub listing_of : State → Result (Unit {0}) ListenFault → Listing
+listing_of end (Ok _) = done (state_text end)
+listing_of end (Err f) = record { text = listen_fault_line f; status = listen_status f }
+
+-- What `listen` prints of a file that is read as these frames: the state of a receiver that was
+-- tuned with an old page, at the end of its run, or the refusal.
+pub record Listens
+    (l : Listening) (frames : Transmission) (unread : Option Unread) (listing : Listing)
+    : Type 0 where
+  pub old_page : Rows
+  pub is_old : IsOldPage old_page
+  pub end : State
+  pub result : Result (Unit {0}) ListenFault
+  pub runs :
+      Runs l frames unread l.options.page
+      (record { heard = false; is_open = false; page = old_page }) end result
+  pub listing_is : listing ≡ listing_of end result

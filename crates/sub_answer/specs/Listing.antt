@@ -1,0 +1,86 @@
+-- What the commands print, whole, and how they end.
+use Rattle.std.specs.Prelude.{◌≡◌, ◌≢◌, ℕ, ◌+◌, ◌≤◌, ◌==◌, Bool, true, false, nat_le, List}
+use Rattle.std.specs.Prelude.{◌++◌, codes, drop}
+use Rattle.std.specs.Prelude.{Option, Some, None, option_map, if◌then◌else◌}
+use Rattle.ttx_packet.specs.PacketAddress.{address, address_pair}
+use Rattle.ttx_packet.specs.PageHeader.{header}
+use Rattle.ttx_packet.specs.declared.Header.{Header}
+use Rattle.std.specs.Io.KnownBytes.{Appends}
+use Rattle.ttx_pes.specs.declared.PesFault.{PesFault}
+use Rattle.ttx_pes.specs.declared.PesFault.TheVariants as pes
+use Rattle.stl_file.specs.declared.fault.StlFault.{StlFault}
+use Rattle.stl_file.specs.declared.fault.StlFault.TheVariants as stl
+use Rattle.sub_io.specs.Device.{AppendsPrefix}
+use Rattle.sub_answer.specs.Lines.{address_line, header_line, text_line}
+use Rattle.sub_answer.specs.declared.status.Status.{Status}
+use Rattle.sub_answer.specs.declared.status.Status.TheVariants.{Done, Refused, Fault}
+
+-- A text and the status that goes with it where all of it was printed.
+pub record Listing : Type 0 where
+  pub text : List ℕ
+  pub status : Status
+
+-- A text that is all that was asked for.
+abbrev pub done : List ℕ → Listing
+done text = record { text = text; status = Done }
+
+-- The line of a refusal.
+abbrev pub refused : List ℕ → Listing
+refused line = record { text = line; status = Refused }
+
+-- Packet X/0 (EN 300 706, page header): its eight coded bytes, then 32 text bytes.
+abbrev pub header_listing : ℕ → List ℕ → Option Header → Listing
+header_listing magazine packet None = refused (codes "refused 4 BadHeader\n")
+header_listing magazine packet (Some h) =
+    done (address_line magazine 0 ++ header_line h ++ text_line (drop 10 packet))
+
+-- Packets X/1 to X/31 (EN 300 706): the rows 1 to 24 are 40 text bytes, the others are not text.
+abbrev pub row_listing : ℕ → ℕ → List ℕ → Listing
+row_listing magazine packet_number packet = if nat_le packet_number 24
+    then done (address_line magazine packet_number ++ text_line (drop 2 packet))
+    else done (address_line magazine packet_number)
+
+-- The same by the magazine and the packet number that a packet has.
+abbrev pub addressed_listing : Option (ℕ × ℕ) → List ℕ → Listing
+addressed_listing None packet = refused (codes "refused 3 BadAddress\n")
+addressed_listing (Some a) packet = if a.1 == 0
+    then header_listing a.0 packet (header packet)
+    else row_listing a.0 a.1 packet
+
+-- What `packet` prints of the 42 bytes of a packet.
+abbrev pub packet_listing : List ℕ → Listing
+packet_listing packet = addressed_listing (option_map address_pair (address packet)) packet
+
+-- The status as the number that the system gets.
+abbrev pub exit_code : Status → ℕ
+exit_code Done = 0
+exit_code Refused = 1
+exit_code Fault = 2
+
+-- The listing was printed whole and gives the status, or the sink failed: then it has a prefix
+-- of the text, and the status is `Fault`.
+abbrev pub Prints : Option (List ℕ) → Option (List ℕ) → Listing → Status → Type 0
+Prints old new listing Done = Appends old new listing.text × (listing.status ≡ Done)
+Prints old new listing Refused = Appends old new listing.text × (listing.status ≡ Refused)
+Prints old new listing Fault = AppendsPrefix old new listing.text
+
+-- A device's failures rise by one at most, and not where the status is another than `Fault`.
+pub record CountsFault (old : ℕ) (status : Status) (new : ℕ) : Type 0 where
+  pub kept : status ≢ Fault → new ≡ old
+  pub risen : old ≤ new
+  pub once : new ≤ old + 1
+
+-- A fault of a PES file that is read is the device's only where the source failed.
+abbrev pub pes_status : PesFault → Status
+pes_status pes.Read = Fault
+pes_status _ = Refused
+
+-- The same of a subtitle file that is read.
+abbrev pub stl_status : StlFault → Status
+stl_status stl.Read = Fault
+stl_status _ = Refused
+
+-- A listing ends in a fault.
+abbrev pub ends_in_fault : Option Status → Bool
+ends_in_fault (Some Fault) = true
+ends_in_fault _ = false

@@ -1,0 +1,78 @@
+-- What `normal` writes and prints, and how much of its input it reads.
+use Rattle.std.specs.Prelude.{◌≡◌, ⊤, ℕ, ◌+◌, ◌-◌, ◌/◌, nat_lt, List, codes, length, take}
+use Rattle.std.specs.Prelude.{Bool, true, false, Option, Result, Ok, Err, if◌then◌else◌}
+use Rattle.std.specs.Io.KnownBytes.{Consumes}
+use Rattle.sub_io.specs.Device.{AppendsPrefix}
+use Rattle.stl_file.specs.Gsi.{gsi_size}
+use Rattle.stl_file.specs.NormalForm.{Judged, normal_form, subtitles_of}
+use Rattle.stl_file.specs.Reader.{outcome_of}
+use Rattle.stl_file.specs.declared.fault.NormalFault.TheVariants as normal
+use Rattle.stl_file.specs.declared.fault.StlFault.TheVariants as stl
+use Rattle.sub_answer.specs.Lines.{stl_fault_line, usage_line}
+use Rattle.sub_answer.specs.Writing.{Writing, nothing_written, written}
+use Rattle.sub_answer.specs.declared.answering.normal.InputFault.{InputFault}
+use Rattle.sub_answer.specs.declared.answering.normal.InputFault.TheVariants as input
+use Rattle.sub_answer.specs.declared.request.UsageFault.TheVariants as usage
+use Rattle.sub_answer.specs.declared.writing.End.{End}
+use Rattle.sub_answer.specs.declared.writing.End.TheVariants as end
+
+-- ---- what is written
+
+-- The normal form of the bytes s, where these are its subtitles, or the line of its first fault.
+-- Reading bytes never fails to write.
+abbrev pub normal_of : List ℕ → Judged → Writing
+normal_of s (Ok ts) =
+    written (normal_form (take gsi_size s) ts) (length ts) (codes " subtitles\n")
+normal_of s (Err (normal.Refused fault block)) = nothing_written (stl_fault_line fault block)
+normal_of s (Err normal.Write) = nothing_written (codes "")
+
+-- What `normal` writes and prints of the bytes of a subtitle file.
+abbrev pub normal_writing : List ℕ → Writing
+normal_writing s = normal_of s (subtitles_of (outcome_of s))
+
+-- ---- reading the input
+
+-- One byte more than the longest file has.
+abbrev pub most_read : ℕ
+most_read = 12800897
+
+-- The block of the byte behind so many bytes: 0 is the GSI block.
+abbrev pub read_block : ℕ → ℕ
+read_block n = if nat_lt n 1024 then 0 else (n - 1024) / 128 + 1
+
+-- The source failed at a byte of this block, behind the bytes that were taken.
+abbrev pub TellsRead : Option (List ℕ) → Option (List ℕ) → InputFault → Type 0
+TellsRead old new (input.Read block) =
+    (bytes : List ℕ) × Consumes old new bytes × (block ≡ read_block (length bytes))
+TellsRead old new input.Memory = ⊤
+
+-- The answer is that the source failed.
+abbrev pub is_read_failure : {X : Type 0} → Result X InputFault → Bool
+is_read_failure (Err (input.Read block)) = true
+is_read_failure _ = false
+
+-- ---- what is printed of devices and memory
+
+-- The line of a failed read, behind the bytes that were taken.
+abbrev pub HasReadLine : Option (List ℕ) → Option (List ℕ) → List ℕ → Type 0
+HasReadLine old new line =
+    (bytes : List ℕ) × Consumes old new bytes
+    × (line ≡ stl_fault_line stl.Read (read_block (length bytes)))
+
+-- What is printed where a device or memory failed.
+abbrev pub HasNormalFaultLine : Option (List ℕ) → Option (List ℕ) → List ℕ → End → Type 0
+HasNormalFaultLine old new line end.ReadFailed = HasReadLine old new line
+HasNormalFaultLine old new line end.WriteFailed = line ≡ codes "fault 29 Write\n"
+HasNormalFaultLine old new line end.NoMemory = line ≡ usage_line usage.Memory
+HasNormalFaultLine old new line _ = ⊤
+
+-- The line of a failed read was printed, or a prefix of it.
+abbrev pub PrintsReadFault :
+    Option (List ℕ) → Option (List ℕ) → Option (List ℕ) → Option (List ℕ) → Type 0
+PrintsReadFault old new out out' =
+    (bytes : List ℕ) × Consumes old new bytes
+    × AppendsPrefix out out' (stl_fault_line stl.Read (read_block (length bytes)))
+
+-- The line of want of memory.
+abbrev pub IsMemoryLine : List ℕ → Type 0
+IsMemoryLine line = line ≡ usage_line usage.Memory

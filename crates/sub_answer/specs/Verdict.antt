@@ -1,0 +1,67 @@
+-- What a check of a subtitle file and a PES file answers by their bytes, and how its answer is
+-- printed.
+use Rattle.std.specs.Prelude.{◌≡◌, ℕ, ◌+◌, ◌⊎◌, false, List, Option, None, Result, Ok, MatchResult}
+use Rattle.std.specs.Io.KnownBytes.{Appends}
+use Rattle.sub_io.specs.Device.{AppendsPrefix}
+use Rattle.stl_file.specs.Reader.{outcome_of}
+use Rattle.stl_rows.specs.declared.national.National.{National}
+use Rattle.stl_rows.specs.Loading.{loaded}
+use Rattle.stl_rows.specs.Programme.{ProgrammeValue}
+use Rattle.sub_plan.specs.Options.{OptionsValue}
+use Rattle.sub_check.specs.Checking.{HasCounts, TellsSubtitles, is_source_fault}
+use Rattle.sub_check.specs.Checking.{is_subtitle_fault}
+use Rattle.sub_check.specs.FirstBroken.{NamesFirst}
+use Rattle.sub_check.specs.FrameRules.{Unread, task_of}
+use Rattle.sub_check.specs.Good.{Good}
+use Rattle.sub_check.specs.PesReading.{ReadsAs}
+use Rattle.sub_check.specs.Transmission.{Transmission}
+use Rattle.sub_check.specs.declared.checker.Accepted.{Accepted}
+use Rattle.sub_check.specs.declared.fault.CheckFault.{CheckFault}
+use Rattle.sub_answer.specs.Listing.{Listing}
+use Rattle.sub_answer.specs.declared.status.Status.{Status}
+use Rattle.sub_answer.specs.declared.status.Status.TheVariants.{Fault}
+
+-- The files are accepted: the subtitle file gives a programme, and the PES file is read to its end
+-- as a transmission that is good for it, of so many frames and headers of the page.
+pub record IsAccepted
+    (national : National) (options : OptionsValue) (file bytes : List ℕ) (a : Accepted)
+    : Type 0 where
+  pub programme : ProgrammeValue
+  pub frames : Transmission
+  pub loads : loaded national (outcome_of file) ≡ Ok programme
+  pub reads : ReadsAs options.origin 0 bytes frames None
+  pub good : Good programme frames options
+  pub counts : HasCounts options.page frames a
+
+-- The PES file is refused: the subtitle file gives a programme, and the fault names the first place
+-- of the PES file at which what is asked of it is broken.
+pub record IsRefused
+    (national : National) (options : OptionsValue) (file bytes : List ℕ) (f : CheckFault)
+    : Type 0 where
+  pub programme : ProgrammeValue
+  pub frames : Transmission
+  pub unread : Option Unread
+  pub loads : loaded national (outcome_of file) ≡ Ok programme
+  pub reads : ReadsAs options.origin 0 bytes frames unread
+  pub first : NamesFirst (task_of programme options unread) frames f
+
+-- The answer to the bytes of both files. A fault of the subtitle file is its first one, or want of
+-- memory; that the PES source failed says nothing of the files; any other fault is the PES file's.
+pub record IsAnswer
+    (national : National) (options : OptionsValue) (file bytes : List ℕ)
+    (answer : Result Accepted CheckFault)
+    : Type 0 where
+  pub subtitles : TellsSubtitles national (outcome_of file) answer
+  pub pes :
+      MatchResult answer (IsAccepted national options file bytes)
+      (λ f. is_subtitle_fault f ≡ false
+      → is_source_fault f ≡ false
+      → IsRefused national options file bytes f)
+
+-- All of the listing was printed, and its status is given; or the sink failed once, has a prefix of
+-- the text, and the status is `Fault`.
+abbrev pub PrintsOrFails
+    : ℕ → Option (List ℕ) → ℕ → Option (List ℕ) → Listing → Status → Type 0
+PrintsOrFails old_count old new_count new listing status =
+    ((new_count ≡ old_count) × Appends old new listing.text × (status ≡ listing.status))
+    ⊎ ((new_count ≡ old_count + 1) × AppendsPrefix old new listing.text × (status ≡ Fault))

@@ -1,0 +1,178 @@
+//! Does what a request asks for, and prints it.
+//!
+//! A file of `answering/` has each command's work; here a request is handed to its own, and the
+//! lines of refused words are printed.
+
+mod check;
+mod listen;
+pub mod normal;
+mod packet;
+mod packets;
+mod schedule;
+mod show;
+mod state;
+
+ghost use Rattle.std.specs.Prelude.{◌≡◌, ◌≢◌, ◌+◌, ◌<◌, None, Ok, false};
+ghost use Rattle.std.specs.Io.KnownBytes.{Appends};
+ghost use Rattle.sub_io.specs.Device.{AppendsPrefix, CanFail};
+ghost use Rattle.sub_io.specs.Reading.{IfTold};
+ghost use Rattle.stl_file.specs.Reader.{outcome_of};
+ghost use Rattle.stl_rows.specs.Loading.{loaded};
+ghost use Rattle.stl_rows.specs.Programme.{ProgrammeValue};
+ghost use Rattle.sub_check.specs.LostRows.{RobustToMarkedLoss};
+ghost use Rattle.sub_check.specs.PesReading.{ReadsAs};
+ghost use Rattle.sub_check.specs.Robust.{Robust};
+ghost use Rattle.sub_check.specs.Transmission.{Transmission};
+ghost use Rattle.sub_answer.specs.Answering.{AnswersCheck, AnswersListen, AnswersNormal};
+ghost use Rattle.sub_answer.specs.Answering.{AnswersPackets, AnswersSchedule, AnswersShow};
+ghost use Rattle.sub_answer.specs.Answering.{ForCheck, ForListen, ForNormal, ForPacket, ForPackets};
+ghost use Rattle.sub_answer.specs.Answering.{ForSchedule, ForShow, takes_memory};
+ghost use Rattle.sub_answer.specs.DeviceCall.{sink_call, source_call};
+ghost use Rattle.sub_answer.specs.Lines.{usage_line};
+ghost use Rattle.sub_answer.specs.Listing.{CountsFault, Prints, packet_listing};
+ghost use Rattle.sub_answer.specs.NamedDevices.{names_file, names_first, names_second};
+
+use crate::lines::usage_text;
+use crate::request::{Request, UsageFault};
+use crate::status::Status;
+use check::print_verdict;
+use listen::print_listening;
+use normal::write_normal;
+use packet::show_packet;
+use packets::list_packets;
+use schedule::write_schedule;
+use show::list_subtitles;
+use std::alloc::Global;
+use sub_io::{Flush, Sink, Source, put_all};
+
+/// Answers a request that `Request::parse` gave.
+///
+/// `first` is the subtitle file or the only input, `second` the PES file of a check, `file` the
+/// file to be written and `out` the standard output. Devices that the request does not name are
+/// not touched. `Fault` where a device failed, or where memory ran out; what was printed until then
+/// stays.
+pub fn answer<S: Source, T: Source, F: Flush, K: Sink>(
+    alloc: Global,
+    request: &Request<'_>,
+    first: &mut S,
+    second: &mut T,
+    file: &mut F,
+    out: &mut K,
+) -> Status
+    requires first { CanFail (S.failure_count first.old) }
+    requires second { CanFail (T.failure_count second.old) }
+    requires file { CanFail (F.failure_count file.old) }
+    requires out { CanFail (K.failure_count out.old) }
+
+    // `packet` prints the text of the 42 bytes, and reads no device.
+    ensures packet { ForPacket request.now (λ bytes.
+        Prints (K.contents out.old) (K.contents out.new) (packet_listing bytes) result) }
+
+    // `packets` and `show` print what the bytes of their file decide.
+    ensures packets { ForPackets request.now (AnswersPackets
+        (source_call S.remaining S.failure_count first.old first.new)
+        (sink_call K.contents K.failure_count out.old out.new) result) }
+    ensures show { ForShow request.now (AnswersShow
+        (source_call S.remaining S.failure_count first.old first.new)
+        (sink_call K.contents K.failure_count out.old out.new) result) }
+
+    // `normal` writes and prints what the bytes of the input decide.
+    ensures normal { ForNormal request.now (AnswersNormal
+        (source_call S.remaining S.failure_count first.old first.new)
+        (sink_call F.contents F.failure_count file.old file.new)
+        (sink_call K.contents K.failure_count out.old out.new) result) }
+
+    // `schedule` writes and prints what the bytes of the subtitle file decide.
+    ensures schedule { ForSchedule request.now (λ options serial national.
+        AnswersSchedule national options serial
+        (source_call S.remaining S.failure_count first.old first.new)
+        (sink_call F.contents F.failure_count file.old file.new)
+        (sink_call K.contents K.failure_count out.old out.new) result) }
+
+    // `check` prints one answer, which the bytes of both files decide.
+    ensures check { ForCheck request.now (λ options national. AnswersCheck national options
+        (source_call S.remaining S.failure_count first.old first.new)
+        (source_call T.remaining T.failure_count second.old second.new)
+        (sink_call K.contents K.failure_count out.old out.new) result) }
+
+    // What `check` accepts is robust, with lost rows too: every receiver shows each due page within
+    // the repeat bound, but for cells whose byte was hit.
+    ensures check_robust { ForCheck request.now (λ options national.
+        (programme : ProgrammeValue) (frames : Transmission)
+        → IfTold (S.remaining first.old) (λ file.
+        loaded national (outcome_of file) ≡ Ok programme
+        → IfTold (T.remaining second.old) (λ bytes.
+        ReadsAs options.origin 0 bytes frames None
+        → result ≡ Status.Done
+        → Robust programme frames options
+        × RobustToMarkedLoss programme frames options))) }
+
+    // A subtitle file that gives no programme is not accepted, and no PES byte is read.
+    ensures check_subtitles { ForCheck request.now (λ options national.
+        IfTold (S.remaining first.old) (λ file.
+        ((programme : ProgrammeValue) → loaded national (outcome_of file) ≢ Ok programme)
+        → (result ≢ Status.Done) × (second.new ≡ second.old))) }
+
+    // `listen` prints what a receiver shows that heard the frames of the PES file, or the refusal.
+    ensures listen { ForListen request.now (λ listening. AnswersListen listening
+        (source_call S.remaining S.failure_count first.old first.new)
+        (sink_call K.contents K.failure_count out.old out.new) result) }
+
+    // Devices that are not named stay as they are.
+    ensures first { names_first request.now ≡ false → first.new ≡ first.old }
+    ensures second { names_second request.now ≡ false → second.new ≡ second.old }
+    ensures file { names_file request.now ≡ false → file.new ≡ file.old }
+
+    // Each device fails once at most, and not where the status is another than `Fault`.
+    ensures first_count { CountsFault (S.failure_count first.old) result
+        (S.failure_count first.new) }
+    ensures second_count { CountsFault (T.failure_count second.old) result
+        (T.failure_count second.new) }
+    ensures file_count { CountsFault (F.failure_count file.old) result
+        (F.failure_count file.new) }
+    ensures out_count { CountsFault (K.failure_count out.old) result
+        (K.failure_count out.new) }
+
+    // The status of a command that takes no memory is `Fault` only where a device failed.
+    ensures fault { takes_memory request.now ≡ false
+        → result ≡ Status.Fault
+        → S.failure_count first.old + T.failure_count second.old + F.failure_count file.old
+        + K.failure_count out.old
+        < S.failure_count first.new + T.failure_count second.new + F.failure_count file.new
+        + K.failure_count out.new }
+{
+    match request {
+        Request::Packet { bytes } => show_packet(bytes, out),
+        Request::Packets { .. } => list_packets(first, out),
+        Request::Show { .. } => list_subtitles(first, out),
+        Request::Schedule {
+            options,
+            serial,
+            national,
+            ..
+        } => { write_schedule(alloc, first, *national, options, *serial, file, out) }
+        Request::Normal { .. } => write_normal(alloc, first, file, out),
+        Request::Check {
+            options,
+            national,
+            ..
+        } => { print_verdict(alloc, first, second, *national, options, out) }
+        Request::Listen { listening, .. } => print_listening(first, listening, out),
+    }
+}
+
+/// Prints the line of a fault of the words, or of a file that can't be opened.
+///
+/// The status is `Fault`, also where `out` fails and takes a prefix of the line.
+pub fn say<K: Sink>(fault: &UsageFault, out: &mut K) -> Status
+    requires { CanFail (K.failure_count out.old) }
+    ensures status { result ≡ Status.Fault }
+    ensures whole { K.failure_count out.new ≡ K.failure_count out.old
+        → Appends (K.contents out.old) (K.contents out.new) (usage_line fault.now) }
+    ensures prefix { AppendsPrefix (K.contents out.old) (K.contents out.new)
+        (usage_line fault.now) }
+    ensures count { CountsFault (K.failure_count out.old) result (K.failure_count out.new) }
+{
+    let _ = put_all(out, usage_text(fault));
+    Status::Fault
+}

@@ -1,0 +1,236 @@
+//! `listen PES`: runs one receiver over the PES packets of a file.
+ghost use Rattle.std.specs.Prelude.{◌≡◌, ℕ, ◌+◌, ◌*◌, ◌≤◌, ◌<◌, ◌++◌, IfErr, Option};
+ghost use Rattle.std.specs.Prelude.{false, if◌then◌else◌, slice_index, true};
+ghost use Rattle.sub_io.specs.Device.{CanFail};
+ghost use Rattle.arrayvec.specs.ArrayVec.{array_vec_len};
+ghost use Rattle.sub_io.specs.Reading.{IfTold};
+ghost use Rattle.ttx_page.specs.Page.{AreCodes};
+ghost use Rattle.sub_check.specs.FrameRules.{Unread};
+ghost use Rattle.sub_check.specs.PesReading.{ReadsAs};
+ghost use Rattle.sub_check.specs.Transmission.{Transmission};
+ghost use Rattle.sub_answer.specs.Answering.{AnswersListen};
+ghost use Rattle.sub_answer.specs.DeviceCall.{sink_call, source_call};
+ghost use Rattle.sub_answer.specs.Listing.{CountsFault, Prints};
+ghost use Rattle.sub_answer.specs.ListeningRun.{IsOldPage, Runs, is_source_failure};
+ghost use Rattle.sub_answer.specs.ListeningRun.{is_source_fault};
+ghost use Rattle.sub_answer.specs.ListeningRun.{is_subtitle_fault, listen_fault_line};
+ghost use Rattle.sub_answer.specs.ListeningRun.{listen_status};
+ghost use Rattle.sub_answer.specs.ListeningRun.{lost_header_line};
+ghost use Rattle.sub_answer.specs.declared.answering.listen.ListenFault.TheVariants.{File};
+
+use crate::answering::state::print_state;
+use crate::check_lines::{check_status, push_check_fault};
+use crate::lines::{push_decimal, push_text, push_time};
+use crate::listening::{Listening, ReceiverKind};
+use crate::reception::{first_lost_header, hear_units};
+use crate::status::Status;
+use arrayvec::ArrayVec;
+use stl_file::TimeCode;
+use sub_check::{CheckFault, next_frame};
+use sub_io::{Sink, Source, put_all};
+use ttx_page::{Blank, Keep, Page, Receiver};
+use ttx_pes::{PesFrame, PesReader};
+
+// Room for the line of a fault.
+type Line = ArrayVec<u8, 96>;
+
+/// The PES packets of a file at most: one for each frame of a day.
+const MOST_PACKETS: u32 = 2_160_000;
+
+/// Why a PES file is not heard.
+#[derive(Clone, Copy, Debug, PartialEq, Eq)]
+pub enum ListenFault {
+    /// It is not read on, or a frame is not after the one before: what `check` tells of it.
+    File(CheckFault),
+    /// 76: a packet that is listed as lost is a page header, or has no address.
+    LostHeader {
+        /// The frame.
+        frame: TimeCode,
+        /// The packet, counted from 0 among the Teletext units of its PES packet.
+        packet: u32,
+    },
+}
+
+impl From<CheckFault> for ListenFault {
+    ghost from_gives = { λ fault e. e ≡ File fault };
+
+    fn from(fault: CheckFault) -> ListenFault {
+        ListenFault::File(fault)
+    }
+}
+
+/// Runs a receiver over the PES packets of a file up to TIME, and prints what it has heard and
+/// shows.
+///
+/// The receiver is tuned to the page with an old page that holds 3F in every cell. It hears the
+/// packets as they are read, but for those that are passed over or lost, each with its flips. At
+/// the first PES packet after TIME nothing more is read; its own faults are still told. Nothing is
+/// printed before the last packet was heard.
+///
+/// A file is refused at the first PES packet that `check` would not read on at, and at a PES packet
+/// of which a page header, or a packet without an address, is lost.
+pub fn print_listening<S: Source, K: Sink>(
+    pes: &mut S,
+    listening: &Listening,
+    out: &mut K,
+) -> Status
+    requires first { CanFail (S.failure_count pes.old) }
+    requires out { CanFail (K.failure_count out.old) }
+    // Where the source tells its bytes and does not fail, they are read as frames, and what is
+    // printed is the state of a receiver that heard what it gets of them, or the refusal.
+    ensures exact { AnswersListen listening.now
+        (source_call S.remaining S.failure_count pes.old pes.new)
+        (sink_call K.contents K.failure_count out.old out.new) result }
+    ensures first_count { CountsFault (S.failure_count pes.old) result (S.failure_count pes.new) }
+    ensures out_count { CountsFault (K.failure_count out.old) result (K.failure_count out.new) }
+    ensures fault { result ≡ Status.Fault
+        → S.failure_count pes.old + K.failure_count out.old
+        < S.failure_count pes.new + K.failure_count out.new }
+{
+    match listening.receiver {
+        ReceiverKind::Keep => listen::<Keep, S, K>(pes, listening, out),
+        ReceiverKind::Blank => listen::<Blank, S, K>(pes, listening, out),
+    }
+}
+
+// The same with a receiver of either kind.
+fn listen<R: Receiver + Drop, S: Source, K: Sink>(
+    pes: &mut S,
+    listening: &Listening,
+    out: &mut K,
+) -> Status
+    requires first { CanFail (S.failure_count pes.old) }
+    requires out { CanFail (K.failure_count out.old) }
+    ensures exact { AnswersListen listening.now
+        (source_call S.remaining S.failure_count pes.old pes.new)
+        (sink_call K.contents K.failure_count out.old out.new) result }
+    ensures first_count { CountsFault (S.failure_count pes.old) result (S.failure_count pes.new) }
+    ensures out_count { CountsFault (K.failure_count out.old) result (K.failure_count out.new) }
+    ensures fault { result ≡ Status.Fault
+        → S.failure_count pes.old + K.failure_count out.old
+        < S.failure_count pes.new + K.failure_count out.new }
+{
+    let mut receiver = R::tune(listening.options.page(), old_page());
+    match hear_file(&mut receiver, pes, listening) {
+        Ok(()) => print_state(&receiver, out),
+        Err(fault) => print_fault(&fault, out),
+    }
+}
+
+// A page that holds 3F in every cell.
+fn old_page() -> Page
+    ensures { IsOldPage result }
+{
+    let codes = old_row();
+    let mut page = Page::blank();
+    for row in 1..25u8 {
+        page.set_row(row, &codes);
+    }
+    page
+}
+
+// A row that holds 3F in every cell.
+fn old_row() -> [u8; 40]
+    ensures codes { AreCodes result }
+    ensures value { (column : ℕ) → column < 40 → slice_index result column ≡ 0x3F }
+{
+    [0x3F; 40]
+}
+
+// Lets a receiver hear what it gets of a file up to TIME.
+fn hear_file<R: Receiver, S: Source>(
+    receiver: &mut R,
+    pes: &mut S,
+    listening: &Listening,
+) -> Result<(), ListenFault>
+    requires { CanFail (S.failure_count pes.old) }
+    ensures exact { (frames : Transmission) (unread : Option Unread)
+        → IfTold (S.remaining pes.old) (λ bytes.
+        ReadsAs listening.now.options.origin 0 bytes frames unread
+        → is_source_failure result ≡ false
+        → Runs listening.now frames unread (R.tuned_to receiver.old) (R.state receiver.old)
+        (R.state receiver.new) result) }
+    ensures own { IfErr result (λ f. is_subtitle_fault f ≡ false) }
+    ensures count { S.failure_count pes.new
+        ≡ S.failure_count pes.old + (if is_source_failure result then 1 else 0) }
+{
+    let mut reader = PesReader::new();
+    let mut packet = PesFrame::new(0);
+    let mut least = 0;
+    let mut number = 0u64;
+    for index in 0..=MOST_PACKETS {
+        let next = next_frame(&mut reader, pes, &listening.options, index, &mut packet)?;
+        let Some(frame) = next else {
+            return Ok(());
+        };
+        if frame < least {
+            let fault = CheckFault::Order { pes: index };
+            return Err(ListenFault::File(fault));
+        }
+        if frame > listening.at {
+            return Ok(());
+        }
+        let units = packet.units();
+        if let Some(packet) = first_lost_header(listening, number, units) {
+            let frame = TimeCode::of_frame(frame);
+            return Err(ListenFault::LostHeader { frame, packet });
+        }
+        hear_units(receiver, listening, number, units);
+        number += units.len() as u64;
+        least = frame + 1;
+    }
+    // Not reached: the reader refuses a packet more than a day has frames.
+    Ok(())
+}
+
+// Prints the line of a fault.
+fn print_fault<K: Sink>(fault: &ListenFault, out: &mut K) -> Status
+    requires out { CanFail (K.failure_count out.old) }
+    requires own { is_subtitle_fault fault.now ≡ false }
+    ensures prints { Prints (K.contents out.old) (K.contents out.new)
+        (record { text = listen_fault_line fault.now; status = listen_status fault.now }) result }
+    ensures count { CountsFault (K.failure_count out.old) result (K.failure_count out.new) }
+    ensures fault { result ≡ Status.Fault → is_source_fault fault.now ≡ false
+        → K.failure_count out.old < K.failure_count out.new }
+    ensures source { is_source_fault fault.now ≡ true → result ≡ Status.Fault }
+{
+    let mut line = Line::new();
+    push_fault(&mut line, fault);
+    match put_all(out, line.as_slice()) {
+        Ok(()) => listen_status(fault),
+        Err(_) => Status::Fault,
+    }
+}
+
+// The status that goes with a fault.
+fn listen_status(fault: &ListenFault) -> Status
+    ensures { result ≡ listen_status fault.now }
+{
+    match fault {
+        ListenFault::File(fault) => check_status(*fault),
+        ListenFault::LostHeader { .. } => Status::Refused,
+    }
+}
+
+// Appends the line of a fault.
+fn push_fault(line: &mut Line, fault: &ListenFault)
+    requires { array_vec_len line.old ≡ 0 }
+    ensures items { line.new.items ≡ line.old.items ++ listen_fault_line fault.now }
+{
+    match fault {
+        ListenFault::File(fault) => push_check_fault(line, *fault),
+        ListenFault::LostHeader { frame, packet } => push_lost_header(line, *frame, *packet),
+    }
+}
+
+// Appends the line of a page header that is lost.
+fn push_lost_header(line: &mut Line, frame: TimeCode, packet: u32)
+    requires { array_vec_len line.old ≡ 0 }
+    ensures { line.new.items ≡ line.old.items ++ lost_header_line frame packet }
+{
+    push_text(line, b"refused 76 LostHeader frame ");
+    push_time(line, frame);
+    push_text(line, b" packet ");
+    push_decimal(line, u64::from(packet));
+    push_text(line, b"\n");
+}

@@ -1,0 +1,223 @@
+//! `packet HEX`: shows one packet.
+ghost use Rattle.std.specs.Prelude.{◌≡◌, ◌+◌, ◌≤◌, ◌<◌, [], ◌++◌, length, map};
+ghost use Rattle.sub_io.specs.Device.{CanFail};
+ghost use Rattle.arrayvec.specs.ArrayVec.{array_vec_len};
+ghost use Rattle.ttx_packet.specs.PageHeader.{header};
+ghost use Rattle.sub_answer.specs.Lines.{address_line, control_list, control_names, header_line};
+ghost use Rattle.sub_answer.specs.Lines.{hex_four, hex_two, marked, page_and_subcode, text_glyph};
+ghost use Rattle.sub_answer.specs.Lines.{text_line};
+ghost use Rattle.sub_answer.specs.Listing.{CountsFault, Prints, packet_listing};
+ghost use Rattle.sub_answer.specs.Listing.{header_listing, row_listing};
+
+use crate::lines::{push_decimal, push_text, shown};
+use crate::status::Status;
+use arrayvec::ArrayVec;
+use bitflags::Flags;
+use sub_io::{Sink, put_all};
+use ttx_packet::{Control, Header, Packet, is_odd};
+
+// Room for all that is printed of one packet, 128 bytes at most.
+type Text = ArrayVec<u8, 256>;
+
+const HEX_DIGITS: [u8; 16] = *b"0123456789ABCDEF";
+
+/// Prints the address of a packet, its header and its text (EN 300 706, packets X/0 to X/31).
+///
+/// Refuses a packet that has no address, or whose header means nothing.
+pub fn show_packet<K: Sink>(bytes: &[u8; 42], out: &mut K) -> Status
+    requires { CanFail (K.failure_count out.old) }
+    ensures text { Prints (K.contents out.old) (K.contents out.new)
+        (packet_listing bytes.now) result }
+    ensures count { CountsFault (K.failure_count out.old) result (K.failure_count out.new) }
+    ensures fault { result ≡ Status.Fault → K.failure_count out.new ≡ K.failure_count out.old + 1 }
+{
+    let mut text = Text::new();
+    let status = push_packet(&mut text, &Packet::new(*bytes));
+    match put_all(out, text.as_slice()) {
+        Ok(()) => status,
+        Err(_) => Status::Fault,
+    }
+}
+
+// Appends what is printed of a packet, and gives the status that goes with it.
+fn push_packet(text: &mut Text, packet: &Packet) -> Status
+    requires { text.old.items ≡ [] }
+    ensures text { text.new.items ≡ (packet_listing packet.now).text }
+    ensures status { result ≡ (packet_listing packet.now).status }
+{
+    match packet.address() {
+        None => {
+            push_text(text, b"refused 3 BadAddress\n");
+            Status::Refused
+        }
+        Some((magazine, 0)) => push_page_header(text, packet, magazine),
+        Some((magazine, packet_number)) => push_row(text, packet, magazine, packet_number),
+    }
+}
+
+// Appends what is printed of packet X/0.
+fn push_page_header(text: &mut Text, packet: &Packet, magazine: u8) -> Status
+    requires { text.old.items ≡ [] }
+    ensures text { text.new.items ≡ (header_listing magazine packet.now (header packet.now)).text }
+    ensures status { result ≡ (header_listing magazine packet.now (header packet.now)).status }
+{
+    let Some(header) = packet.header() else {
+        push_text(text, b"refused 4 BadHeader\n");
+        return Status::Refused;
+    };
+    push_address(text, magazine, 0);
+    push_header(text, &header);
+    push_text_line(text, packet.bytes().split_at(10).1);
+    Status::Done
+}
+
+// Appends what is printed of packets X/1 to X/31.
+fn push_row(text: &mut Text, packet: &Packet, magazine: u8, packet_number: u8) -> Status
+    requires { text.old.items ≡ [] }
+    ensures text { text.new.items ≡ (row_listing magazine packet_number packet.now).text }
+    ensures status { result ≡ (row_listing magazine packet_number packet.now).status }
+{
+    push_address(text, magazine, packet_number);
+    if packet_number <= 24 {
+        push_text_line(text, packet.data());
+    }
+    Status::Done
+}
+
+// Appends a packet's address as a line.
+fn push_address(line: &mut Text, magazine: u8, packet_number: u8)
+    requires { array_vec_len line.old + 64 ≤ 256 }
+    ensures items { line.new.items ≡ line.old.items ++ address_line magazine packet_number }
+    ensures len { array_vec_len line.new ≤ array_vec_len line.old + 64 }
+{
+    push_text(line, b"magazine ");
+    let shown_magazine = if magazine == 0 { 8 } else { magazine };
+    push_decimal(line, u64::from(shown_magazine));
+    push_text(line, b" packet ");
+    push_decimal(line, u64::from(packet_number));
+    push_text(line, b"\n");
+}
+
+// Appends what a page header says as a line.
+fn push_header(line: &mut Text, header: &Header)
+    requires { array_vec_len line.old + 80 ≤ 256 }
+    ensures items { line.new.items ≡ line.old.items ++ header_line header.now }
+    ensures len { array_vec_len line.new ≤ array_vec_len line.old + 80 }
+{
+    push_page(line, header);
+    push_text(line, b" control");
+    push_control(line, header);
+    push_text(line, b"\n");
+}
+
+// Appends the page number and the subcode.
+fn push_page(line: &mut Text, header: &Header)
+    requires { array_vec_len line.old + 20 ≤ 256 }
+    ensures items { line.new.items ≡ line.old.items ++ page_and_subcode header.now }
+    ensures len { array_vec_len line.new ≤ array_vec_len line.old + 20 }
+{
+    push_text(line, b"page ");
+    push_hex(line, header.page);
+    push_text(line, b" subcode ");
+    push_long_hex(line, header.subcode);
+}
+
+// Appends a byte as two upper case hexadecimal digits.
+#[tactic(auto, unfolding(crate::specs::Lines::hex_two))]
+fn push_hex(line: &mut Text, byte: u8)
+    requires { array_vec_len line.old + 2 ≤ 256 }
+    ensures items { line.new.items ≡ line.old.items ++ hex_two byte }
+    ensures len { array_vec_len line.new ≡ array_vec_len line.old + 2 }
+{
+    line.push(HEX_DIGITS[(byte / 16) as usize]);
+    line.push(HEX_DIGITS[(byte % 16) as usize]);
+}
+
+// Appends a number as four upper case hexadecimal digits.
+fn push_long_hex(line: &mut Text, number: u16)
+    requires { array_vec_len line.old + 4 ≤ 256 }
+    ensures items { line.new.items ≡ line.old.items ++ hex_four number }
+    ensures len { array_vec_len line.new ≡ array_vec_len line.old + 4 }
+{
+    push_hex(line, (number / 256) as u8);
+    push_hex(line, (number % 256) as u8);
+}
+
+// Appends the control bits that are set, or ` none`.
+fn push_control(line: &mut Text, header: &Header)
+    requires { array_vec_len line.old + 40 ≤ 256 }
+    ensures items { line.new.items ≡ line.old.items ++ control_list header.now }
+    ensures len { array_vec_len line.new ≤ array_vec_len line.old + 40 }
+{
+    let names = control_names(header);
+    if names.is_empty() {
+        push_text(line, b" none");
+    } else {
+        push_text(line, names.as_slice());
+    }
+}
+
+// The control bits that are set, rising, each behind a space.
+fn control_names(header: &Header) -> ArrayVec<u8, 40>
+    ensures { result.items ≡ control_names header.now }
+{
+    let control = header.control;
+    let mut names = ArrayVec::new();
+    push_name(&mut names, control.contains(Control::C4), b" C4");
+    push_name(&mut names, control.contains(Control::C5), b" C5");
+    push_name(&mut names, control.contains(Control::C6), b" C6");
+    push_name(&mut names, control.contains(Control::C7), b" C7");
+    push_name(&mut names, control.contains(Control::C8), b" C8");
+    push_name(&mut names, control.contains(Control::C9), b" C9");
+    push_name(&mut names, control.contains(Control::C10), b" C10");
+    push_name(&mut names, control.contains(Control::C11), b" C11");
+    push_name(&mut names, control.contains(Control::C12), b" C12");
+    push_name(&mut names, control.contains(Control::C13), b" C13");
+    push_name(&mut names, control.contains(Control::C14), b" C14");
+    names
+}
+
+// Appends the name of a bit that is set.
+fn push_name(names: &mut ArrayVec<u8, 40>, is_set: bool, name: &[u8])
+    requires { array_vec_len names.old + length name.now ≤ 40 }
+    ensures items { names.new.items ≡ names.old.items ++ marked is_set name.now }
+    ensures len { array_vec_len names.new ≤ array_vec_len names.old + length name.now }
+{
+    if is_set {
+        push_text(names, name);
+    }
+}
+
+// Appends text bytes between bars as a line.
+fn push_text_line(line: &mut Text, bytes: &[u8])
+    requires short { length bytes.now ≤ 40 }
+    requires room { array_vec_len line.old + 48 ≤ 256 }
+    ensures items { line.new.items ≡ line.old.items ++ text_line bytes.now }
+    ensures len { array_vec_len line.new ≤ array_vec_len line.old + 48 }
+{
+    push_text(line, b"text |");
+    push_shown(line, bytes);
+    push_text(line, b"|\n");
+}
+
+// The character of a text byte.
+fn shown_text(byte: u8) -> u8
+    ensures { result ≡ text_glyph byte }
+{
+    if is_odd(byte) {
+        shown(byte % 128)
+    } else {
+        b'?'
+    }
+}
+
+// Appends the characters of text bytes.
+fn push_shown(line: &mut Text, bytes: &[u8])
+    requires { array_vec_len line.old + length bytes.now ≤ 256 }
+    ensures items { line.new.items ≡ line.old.items ++ map text_glyph bytes.now }
+    ensures len { array_vec_len line.new ≡ array_vec_len line.old + length bytes.now }
+{
+    for byte in bytes {
+        line.push(shown_text(*byte));
+    }
+}

@@ -1,0 +1,179 @@
+//! `schedule STL PES`: writes the schedule of a subtitle file.
+ghost use Rattle.std.specs.Prelude.{◌≡◌, ◌≢◌, ◌↔◌, ◌+◌, ◌<◌, [], Err, IfOk, codes, length};
+ghost use Rattle.std.specs.Prelude.{false, if◌then◌else◌};
+ghost use Rattle.std.specs.Io.KnownBytes.{Keeps};
+ghost use Rattle.sub_io.specs.Device.{CanFail, Writes};
+ghost use Rattle.sub_io.specs.Reading.{IfTold};
+ghost use Rattle.sub_plan.specs.Schedule.{is_write_failure, plan, plan_frames};
+ghost use Rattle.sub_plan.specs.declared.fault.PlanFault.TheVariants.{NoSubtitles};
+ghost use Rattle.sub_answer.specs.Listing.{CountsFault};
+ghost use Rattle.sub_answer.specs.Writing.{Answers, HasScheduleFaultLine, IsMemoryLine};
+ghost use Rattle.sub_answer.specs.Writing.{PrintsMemory};
+ghost use Rattle.sub_answer.specs.Writing.{Works, WritesAllOrNoMemory};
+ghost use Rattle.sub_answer.specs.Writing.{is_read_end, is_write_end, load_end, schedule_of};
+ghost use Rattle.sub_answer.specs.Writing.{schedule_writing};
+
+use crate::lines::push_text;
+use crate::load_lines::push_load_fault;
+use crate::status::Status;
+use crate::writing::{End, Line, push_written};
+use std::alloc::Global;
+use stl_file::StlFault;
+use stl_rows::{LoadFault, LoadFaultKind, National, Programme, load};
+use sub_io::{Flush, Sink, Source, put_all};
+use sub_plan::{Options, PlanFault, schedule};
+
+/// Writes the schedule of a subtitle file, one PES packet for each sending (EN 300 472), and prints
+/// how many there are.
+///
+/// The subtitle file is read to its end before anything is written. What the file holds back is
+/// flushed before the line is printed.
+pub fn write_schedule<S: Source, F: Flush, K: Sink>(
+    alloc: Global,
+    stl: &mut S,
+    national: National,
+    options: &Options,
+    serial: bool,
+    file: &mut F,
+    out: &mut K,
+) -> Status
+    requires stl { CanFail (S.failure_count stl.old) }
+    requires file { CanFail (F.failure_count file.old) }
+    requires out { CanFail (K.failure_count out.old) }
+
+    // The bytes of the subtitle file decide what is written and what is printed.
+    ensures answer { IfTold (S.remaining stl.old) (λ bytes. Answers
+        (F.contents file.old) (F.contents file.new) (K.contents out.old) (K.contents out.new)
+        (schedule_writing national options.now serial bytes)
+        result) }
+
+    // Where neither file fails, all is written, whether or not `out` takes the line; or there is no
+    // memory for it.
+    ensures whole { IfTold (S.remaining stl.old) (λ bytes.
+        S.failure_count stl.new ≡ S.failure_count stl.old
+        → F.failure_count file.new ≡ F.failure_count file.old
+        → WritesAllOrNoMemory
+        (F.contents file.old) (F.contents file.new) (K.contents out.old) (K.contents out.new)
+        (schedule_writing national options.now serial bytes)
+        IsMemoryLine) }
+
+    // Each device fails once at most, and not where the status is another than `Fault`.
+    ensures stl_count { CountsFault (S.failure_count stl.old) result (S.failure_count stl.new) }
+    ensures file_count { CountsFault (F.failure_count file.old) result (F.failure_count file.new) }
+    ensures out_count { CountsFault (K.failure_count out.old) result (K.failure_count out.new) }
+
+    // The status is `Fault` only where a device failed, or want of memory is printed.
+    ensures fault { result ≡ Status.Fault
+        → S.failure_count stl.new ≡ S.failure_count stl.old
+        → F.failure_count file.new ≡ F.failure_count file.old
+        → K.failure_count out.new ≡ K.failure_count out.old
+        → PrintsMemory national (S.remaining stl.old) (K.contents out.old) (K.contents out.new) }
+{
+    let mut line = Line::new();
+    let end = make_schedule(alloc, stl, national, options, serial, file, &mut line);
+    match put_all(out, line.as_slice()) {
+        Ok(()) => end.status(),
+        Err(_) => Status::Fault,
+    }
+}
+
+// Writes the schedule, and makes the line.
+fn make_schedule<S: Source, F: Flush>(
+    alloc: Global,
+    stl: &mut S,
+    national: National,
+    options: &Options,
+    serial: bool,
+    file: &mut F,
+    line: &mut Line,
+) -> End
+    requires stl { CanFail (S.failure_count stl.old) }
+    requires file { CanFail (F.failure_count file.old) }
+    requires line { line.old.items ≡ [] }
+    ensures works { IfTold (S.remaining stl.old) (λ bytes. Works
+        (F.contents file.old) (F.contents file.new) line.new.items
+        (schedule_writing national options.now serial bytes)
+        result) }
+    ensures line { HasScheduleFaultLine national (S.remaining stl.old) line.new.items result }
+    ensures stl_count { S.failure_count stl.new
+        ≡ S.failure_count stl.old + (if is_read_end result then 1 else 0) }
+    ensures file_count { F.failure_count file.new
+        ≡ F.failure_count file.old + (if is_write_end result then 1 else 0) }
+{
+    match load(alloc, stl, national) {
+        Ok(programme) => make_of_programme(&programme, options, serial, file, line),
+        Err(fault) => {
+            push_load_fault(line, fault);
+            load_end(fault)
+        }
+    }
+}
+
+// How a fault of loading ends the work.
+fn load_end(fault: LoadFault) -> End
+    ensures { result ≡ load_end fault.kind }
+{
+    match fault.kind {
+        LoadFaultKind::File(StlFault::Read) => End::ReadFailed,
+        LoadFaultKind::Memory => End::NoMemory,
+        _ => End::Refused,
+    }
+}
+
+// Writes the schedule of a programme, and makes the line.
+fn make_of_programme<F: Flush>(
+    programme: &Programme,
+    options: &Options,
+    serial: bool,
+    file: &mut F,
+    line: &mut Line,
+) -> End
+    requires file { CanFail (F.failure_count file.old) }
+    requires line { line.old.items ≡ [] }
+    ensures works { Works (F.contents file.old) (F.contents file.new) line.new.items
+        (schedule_of programme.now.records programme.now options.now serial) result }
+    ensures line { result ≡ End.WriteFailed → line.new.items ≡ codes "fault 42 Write\n" }
+    ensures not_read { is_read_end result ≡ false }
+    ensures not_memory { result ≢ End.NoMemory }
+    ensures file_count { F.failure_count file.new
+        ≡ F.failure_count file.old + (if is_write_end result then 1 else 0) }
+{
+    match put_schedule(programme, options, serial, file) {
+        Ok(count) => {
+            push_written(line, count, b" transmissions\n");
+            End::Written
+        }
+        Err(PlanFault::NoSubtitles) => {
+            push_text(line, b"refused 82 NoSubtitles\n");
+            End::Refused
+        }
+        Err(PlanFault::Write) => {
+            push_text(line, b"fault 42 Write\n");
+            End::WriteFailed
+        }
+    }
+}
+
+// Writes the schedule of a programme, and flushes it.
+fn put_schedule<F: Flush>(
+    programme: &Programme,
+    options: &Options,
+    serial: bool,
+    file: &mut F,
+) -> Result<u32, PlanFault>
+    requires { CanFail (F.failure_count file.old) }
+    ensures bytes { Writes (F.contents file.old) (F.contents file.new)
+        (plan programme.now options.now serial) result }
+    ensures number { IfOk result
+        (λ n. n ≡ length (plan_frames programme.now options.now.every)) }
+    ensures empty { (result ≡ Err NoSubtitles) ↔ (programme.now.records ≡ []) }
+    ensures nothing { result ≡ Err NoSubtitles → Keeps (F.contents file.old) (F.contents file.new) }
+    ensures count { F.failure_count file.new
+        ≡ F.failure_count file.old + (if is_write_failure result then 1 else 0) }
+{
+    let count = schedule(programme, options, serial, file)?;
+    match file.flush() {
+        Ok(()) => Ok(count),
+        Err(_) => Err(PlanFault::Write),
+    }
+}

@@ -1,0 +1,124 @@
+//! What is printed of a receiver.
+ghost use Rattle.std.specs.Prelude.{◌≡◌, ℕ, ◌+◌, ◌*◌, ◌≤◌, ◌<◌, ◌++◌, ◌==◌, map, length};
+ghost use Rattle.std.specs.List.{list_all};
+ghost use Rattle.sub_io.specs.Device.{CanFail};
+ghost use Rattle.arrayvec.specs.ArrayVec.{array_vec_len};
+ghost use Rattle.ttx_page.specs.Page.{space};
+ghost use Rattle.sub_answer.specs.Lines.{glyph};
+ghost use Rattle.sub_answer.specs.Listing.{CountsFault, Prints, done};
+ghost use Rattle.sub_answer.specs.StateText.{open_line, page_text, row_line, row_text, rows_text};
+ghost use Rattle.sub_answer.specs.StateText.{state_text};
+
+use crate::lines::{push_text, push_two_digits, shown};
+use crate::status::Status;
+use arrayvec::ArrayVec;
+use sub_io::{Sink, put_all};
+use ttx_page::{Page, Receiver};
+
+// Room for the lines of 24 rows, 50 bytes each.
+type Rows = ArrayVec<u8, 1200>;
+
+// Room for these and the two lines before them.
+type Text = ArrayVec<u8, 1280>;
+
+/// Prints what a receiver has heard and shows.
+pub fn print_state<R: Receiver, K: Sink>(receiver: &R, out: &mut K) -> Status
+    requires { CanFail (K.failure_count out.old) }
+    ensures prints { Prints (K.contents out.old) (K.contents out.new)
+        (done (state_text (R.state receiver.now))) result }
+    ensures count { CountsFault (K.failure_count out.old) result (K.failure_count out.new) }
+    ensures fault { result ≡ Status.Fault
+        → K.failure_count out.old < K.failure_count out.new }
+{
+    let mut text = Text::new();
+    if receiver.heard() {
+        push_text(&mut text, b"heard yes\n");
+        push_text(&mut text, open_text(receiver.open()));
+        push_page(&mut text, receiver.page());
+    } else {
+        push_text(&mut text, b"heard no\n");
+    }
+    match put_all(out, text.as_slice()) {
+        Ok(()) => Status::Done,
+        Err(_) => Status::Fault,
+    }
+}
+
+// Whether the page is open.
+fn open_text(is_open: bool) -> &'static [u8]
+    ensures value { result.now ≡ open_line is_open }
+    ensures len { length result.now ≤ 9 }
+{
+    if is_open { b"open yes\n" } else { b"open no\n" }
+}
+
+// Appends the lines of a page.
+fn push_page(text: &mut Text, page: &Page)
+    requires { array_vec_len text.old + 1200 ≤ 1280 }
+    ensures { text.new.items ≡ text.old.items ++ page_text page.now }
+{
+    let mut rows = Rows::new();
+    push_rows(&mut rows, page);
+    if rows.len() == 0 {
+        push_text(text, b"blank\n");
+    } else {
+        push_text(text, rows.as_slice());
+    }
+}
+
+// Appends the lines of the rows that hold a cell other than a space.
+fn push_rows(rows: &mut Rows, page: &Page)
+    requires { array_vec_len rows.old ≡ 0 }
+    ensures { rows.new.items ≡ rows.old.items ++ rows_text 24 page.now }
+{
+    for i in 0..24u8 {
+        push_row(rows, i + 1, page.row(i + 1));
+    }
+}
+
+// Appends the line of a row, if it holds a cell other than a space.
+fn push_row(rows: &mut Rows, row: u8, cells: &[u8; 40])
+    requires { array_vec_len rows.old + 50 ≤ 1200 }
+    ensures items { rows.new.items ≡ rows.old.items ++ row_text row cells.now }
+    ensures len { array_vec_len rows.new ≤ array_vec_len rows.old + 50 }
+{
+    if !is_blank(cells) {
+        push_row_line(rows, row, cells);
+    }
+}
+
+// Appends the line of a row.
+fn push_row_line(rows: &mut Rows, row: u8, cells: &[u8; 40])
+    requires { array_vec_len rows.old + 50 ≤ 1200 }
+    ensures items { rows.new.items ≡ rows.old.items ++ row_line row cells.now }
+    ensures len { array_vec_len rows.new ≡ array_vec_len rows.old + 50 }
+{
+    push_text(rows, b"row ");
+    push_two_digits(rows, row);
+    push_text(rows, b" |");
+    push_glyphs(rows, cells);
+    push_text(rows, b"|\n");
+}
+
+// Whether all cells are spaces.
+fn is_blank(cells: &[u8; 40]) -> bool
+    ensures { result ≡ list_all (λ c. c == space) cells.now }
+{
+    for cell in cells {
+        if *cell != 0x20 {
+            return false;
+        }
+    }
+    true
+}
+
+// Appends the characters of cells.
+fn push_glyphs(rows: &mut Rows, cells: &[u8])
+    requires { array_vec_len rows.old + length cells.now ≤ 1200 }
+    ensures items { rows.new.items ≡ rows.old.items ++ map glyph cells.now }
+    ensures len { array_vec_len rows.new ≡ array_vec_len rows.old + length cells.now }
+{
+    for cell in cells {
+        rows.push(shown(*cell));
+    }
+}

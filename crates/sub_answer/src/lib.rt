@@ -1,0 +1,27 @@
+//! What the program answers to a request: what it prints, what it writes, and its status.
+//!
+//! A `Request` is plain data, a variant for each command. `answer` does what it asks for over any
+//! devices, and `say` prints why words are no request. Stands on all libraries below; `sub_words`
+//! reads requests from words, and the program opens the files.
+//!
+//! ```text
+//! let request = Request::Show { stl: "film.stl" };
+//! answer(alloc, &request, &mut stl, &mut no_second, &mut no_file, &mut out) // Status::Done
+//! ```
+#![tactic(auto)]
+
+mod answering;
+mod check_lines;
+mod lines;
+mod listening;
+mod load_lines;
+mod reception;
+mod request;
+mod status;
+mod writing;
+
+pub use answering::normal::{InputFault, read_input};
+pub use answering::{answer, say};
+pub use listening::{Flip, Listening, ReceiverKind};
+pub use request::{Request, UsageFault};
+pub use status::Status;

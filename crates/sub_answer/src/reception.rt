@@ -1,0 +1,128 @@
+//! What a receiver gets of the packets of a file: packets passed over, lost packets, flips.
+ghost use Rattle.std.specs.Prelude.{◌≡◌, ℕ, ◌+◌, ◌-◌, ◌^◌, ◌<◌, ◌≤◌, ◌&&◌, ◌∷◌, List, length};
+ghost use Rattle.std.specs.Prelude.{not};
+ghost use Rattle.ttx_packet.specs.PacketAddress.{address};
+ghost use Rattle.ttx_page.specs.Receiver.{Hears, State};
+ghost use Rattle.sub_check.specs.PacketRules.{packets_of_units};
+ghost use Rattle.sub_answer.specs.Reception.{as_received, first_lost_header, is_heard};
+ghost use Rattle.sub_answer.specs.Reception.{is_lost, may_be_lost_at, reception_of, with_flip};
+ghost use Rattle.sub_answer.specs.Reception.{with_flips};
+
+use crate::listening::{Flip, Listening};
+use ttx_packet::Packet;
+use ttx_page::Receiver;
+use ttx_pes::Unit;
+
+/// The first of the packets of a PES packet that is lost and may not be, since it is a page header
+/// or has no address. `number` is that of the first packet.
+pub fn first_lost_header(listening: &Listening, number: u64, units: &[Unit]) -> Option<u32>
+    requires few { length units.now ≤ 35 }
+    requires number { number + 35 < u64.MAX }
+    ensures { result ≡ first_lost_header (reception_of listening.now) number
+        (packets_of_units units.now) }
+{
+    for k in 0..units.len() {
+        if is_lost_header(listening, number + k as u64, units[k].packet()) {
+            return Some(k as u32);
+        }
+    }
+    None
+}
+
+/// Lets a receiver hear what it gets of the packets of a PES packet. `number` is that of the first.
+pub fn hear_units<R: Receiver>(receiver: &mut R, listening: &Listening, number: u64, units: &[Unit])
+    requires few { length units.now ≤ 35 }
+    requires number { number + 35 < u64.MAX }
+    ensures run { Hears (R.tuned_to receiver.old) (R.state receiver.old)
+        (as_received (reception_of listening.now) number (packets_of_units units.now))
+        (R.state receiver.new) }
+    ensures tuned { R.tuned_to receiver.new ≡ R.tuned_to receiver.old }
+{
+    for k in 0..units.len() {
+        hear_packet(receiver, listening, number + k as u64, units[k].packet());
+    }
+}
+
+// Lets a receiver hear what it gets of a packet. So what it hears after it goes on from there.
+fn hear_packet<R: Receiver>(receiver: &mut R, listening: &Listening, number: u64, packet: &Packet)
+    ensures run { (packets : List (List ℕ)) (end : State)
+        → Hears (R.tuned_to receiver.old) (R.state receiver.new)
+        (as_received (reception_of listening.now) (number + 1) packets) end
+        → Hears (R.tuned_to receiver.old) (R.state receiver.old)
+        (as_received (reception_of listening.now) number (packet.now ∷ packets)) end }
+    ensures tuned { R.tuned_to receiver.new ≡ R.tuned_to receiver.old }
+{
+    if is_heard(listening, number) {
+        receiver.hear(&flipped(&listening.flips, number, packet));
+    }
+}
+
+// Whether a packet is lost that may not be.
+fn is_lost_header(listening: &Listening, number: u64, packet: &Packet) -> bool
+    ensures { result
+        ≡ (is_lost (reception_of listening.now) number
+        && not (may_be_lost_at (address packet.now))) }
+{
+    is_lost(listening, number) && !may_be_lost(packet)
+}
+
+// Whether a packet is lost.
+fn is_lost(listening: &Listening, number: u64) -> bool
+    ensures { result ≡ is_lost (reception_of listening.now) number }
+{
+    listening.skip <= number && listening.lost.contains(&number)
+}
+
+// Whether a packet is heard: it is neither passed over nor lost.
+fn is_heard(listening: &Listening, number: u64) -> bool
+    ensures { result ≡ is_heard (reception_of listening.now) number }
+{
+    listening.skip <= number && !listening.lost.contains(&number)
+}
+
+// Whether a packet may be lost: it has an address, and is no page header.
+fn may_be_lost(packet: &Packet) -> bool
+    ensures { result ≡ may_be_lost_at (address packet.now) }
+{
+    match packet.address() {
+        Some((_, packet_number)) => packet_number != 0,
+        None => false,
+    }
+}
+
+// A packet as it is received, with its flips.
+fn flipped(flips: &[Flip], number: u64, packet: &Packet) -> Packet
+    ensures { result ≡ with_flips flips.now number packet.now }
+{
+    let mut bytes = *packet.bytes();
+    for flip in flips {
+        flip_bit(flip, number, &mut bytes);
+    }
+    Packet::new(bytes)
+}
+
+// Changes the bit of a flip, where it is one of this packet.
+fn flip_bit(flip: &Flip, number: u64, bytes: &mut [u8; 42])
+    ensures { bytes.new ≡ with_flip flip.now number bytes.old }
+{
+    if flip.packet == number && flip.byte <= 41 && flip.bit >= 1 && flip.bit <= 8 {
+        bytes[flip.byte as usize] ^= bit_value(flip.bit);
+    }
+}
+
+// The value of a bit of a byte: bit 1 is the lowest.
+fn bit_value(bit: u8) -> u8
+    requires { (1 ≤ bit) × (bit ≤ 8) }
+    ensures { result ≡ 2 ^ (bit - 1) }
+{
+    match bit {
+        1 => 1,
+        2 => 2,
+        3 => 4,
+        4 => 8,
+        5 => 16,
+        6 => 32,
+        7 => 64,
+        _ => 128,
+    }
+}

@@ -1,0 +1,112 @@
+//! What the program is asked for, and why it can't be asked so.
+use crate::listening::Listening;
+use stl_rows::National;
+use sub_plan::Options;
+use thiserror::Error;
+
+/// Why the program can't do what its words ask for, in the order in which faults are told.
+///
+/// The texts are for people; what the program prints are the lines of `say`.
+#[derive(Debug, Drop, Error)]
+pub enum UsageFault {
+    /// 0: the words are not those of a command, or ask for help or a version.
+    #[error("the words are not those of a command")]
+    Words,
+    /// 2: HEX is not 84 hexadecimal digits.
+    #[error("the packet is not 84 hexadecimal digits")]
+    BadHex,
+    /// 7: the file to be written has the name of the input.
+    #[error("the input and the output have the same name")]
+    SameFile,
+    /// 1: the page is not a digit 1 to 8 and two hexadecimal digits, or is a page FF.
+    #[error("the page is not 100 to 8FE")]
+    BadPage,
+    /// 80: the repeat bound is not 1 to 1500 frames.
+    #[error("the repeat bound is not 1 to 1500 frames")]
+    Every,
+    /// 81: the PTS of frame 0 is not below 2^33.
+    #[error("the PTS of frame 0 does not have 33 bits")]
+    Origin,
+    /// 83: the national option is neither english nor german.
+    #[error("the national option is neither english nor german")]
+    BadOption,
+    /// 6: the time is not `HH:MM:SS:FF` of a day.
+    #[error("the time is not HH:MM:SS:FF of a day")]
+    BadTime,
+    /// 8: the number of packets to be skipped is no number of one to ten digits.
+    #[error("the packets to be skipped are no number")]
+    BadSkip,
+    /// 5: the flips are not 1 to 64 places `P:B:K`, or two are in one byte.
+    #[error("the flips are not 1 to 64 places")]
+    BadFlip,
+    /// 84: the lost packets are not 1 to 64 numbers, or two are equal.
+    #[error("the lost packets are not 1 to 64 numbers")]
+    BadLose,
+    /// 9: the receiver is neither blank nor keep.
+    #[error("the receiver is neither blank nor keep")]
+    BadReceiver,
+    /// 91: memory ran out.
+    #[error("memory ran out")]
+    Memory,
+    /// 90: a file can't be opened or created. `Request::parse` never answers it.
+    #[error("a file can't be opened")]
+    Open,
+}
+
+/// What to do: a variant for each command, with the values of its words.
+#[derive(Drop)]
+pub enum Request<'a> {
+    /// `packet HEX`: shows one packet.
+    Packet {
+        /// The 42 bytes of the packet, in the order of EN 300 706: bit 1 is the lowest.
+        bytes: [u8; 42],
+    },
+    /// `packets PES`: lists PES packets and their Teletext units.
+    Packets {
+        /// The name of the file of PES packets.
+        pes: &'a str,
+    },
+    /// `show STL`: lists subtitles.
+    Show {
+        /// The name of the subtitle file.
+        stl: &'a str,
+    },
+    /// `normal IN OUT`: writes the normal form of a subtitle file.
+    Normal {
+        /// The name of the subtitle file.
+        input: &'a str,
+        /// The name of the file to be written, another one.
+        output: &'a str,
+    },
+    /// `schedule STL PES`: writes a schedule of a subtitle file.
+    Schedule {
+        /// The name of the subtitle file.
+        stl: &'a str,
+        /// The name of the file of PES packets to be written, another one.
+        pes: &'a str,
+        /// The page, the repeat bound and the PTS of frame 0.
+        options: Options,
+        /// Whether the headers are those of serial mode (C11 set).
+        serial: bool,
+        /// The national option by which the text is read.
+        national: National,
+    },
+    /// `check STL PES`: checks that a file of PES packets shows a subtitle file.
+    Check {
+        /// The name of the subtitle file.
+        stl: &'a str,
+        /// The name of the file of PES packets.
+        pes: &'a str,
+        /// The page, the repeat bound and the PTS of frame 0.
+        options: Options,
+        /// The national option by which the text is read.
+        national: National,
+    },
+    /// `listen PES`: runs one receiver.
+    Listen {
+        /// The name of the file of PES packets.
+        pes: &'a str,
+        /// What the receiver hears.
+        listening: Listening,
+    },
+}

@@ -1,0 +1,91 @@
+//! The arguments of a command, read one by one.
+ghost use Rattle.std.specs.Prelude.{◌≡◌, codes};
+ghost use Rattle.clap.specs.Words.{found_of, rows_of};
+ghost use Rattle.sub_words.specs.Arguments.{is_set, national_of, options_of, options_with, page_of};
+ghost use Rattle.sub_words.specs.Arguments.{text_of};
+
+use crate::numbers::parse_number;
+use clap::ArgMatches;
+use stl_rows::National;
+use sub_answer::UsageFault;
+use sub_plan::{OptionFault, Options};
+use ttx_packet::PageId;
+
+/// The text of an argument, defaults included.
+pub fn text_at<'a>(matches: &ArgMatches<'a>, id: &str) -> &'a str
+    ensures { result.now ≡ text_of id.now (rows_of (found_of matches.now)) }
+{
+    match matches.get_str(id) {
+        Some(text) => text,
+        None => "",
+    }
+}
+
+/// Whether a flag is set. `clap` keeps the text `true` or `false` for it.
+pub fn flag_at<'a>(matches: &ArgMatches<'a>, id: &str) -> bool
+    ensures { result ≡ is_set id.now (rows_of (found_of matches.now)) }
+{
+    text_at(matches, id) == "true"
+}
+
+/// The page, the repeat bound and the PTS of frame 0.
+///
+/// # Errors
+///
+/// `BadPage`, then `Every`, then `Origin`.
+pub fn options_at<'a>(matches: &ArgMatches<'a>) -> Result<Options, UsageFault>
+    ensures { result ≡ options_of (rows_of (found_of matches.now)) }
+{
+    let page = page_at(matches)?;
+    let every = parse_number(text_at(matches, "every"));
+    let origin = parse_number(text_at(matches, "origin"));
+    options_with(page, every, origin)
+}
+
+/// The page.
+///
+/// # Errors
+///
+/// `BadPage` alone.
+pub fn page_at<'a>(matches: &ArgMatches<'a>) -> Result<PageId, UsageFault>
+    ensures { result ≡ page_of (rows_of (found_of matches.now)) }
+{
+    match PageId::parse(text_at(matches, "page")) {
+        Ok(page) => Ok(page),
+        Err(_) => Err(UsageFault::BadPage),
+    }
+}
+
+/// The options of a page and of numbers, of which each may be missing: then a number that is out of
+/// range stands for it.
+///
+/// # Errors
+///
+/// `Every`, then `Origin`.
+pub fn options_with(
+    page: PageId,
+    every: Option<u64>,
+    origin: Option<u64>,
+) -> Result<Options, UsageFault>
+    ensures { result ≡ options_with page every origin }
+{
+    match Options::new(page, every.unwrap_or(0), origin.unwrap_or(u64::MAX)) {
+        Ok(options) => Ok(options),
+        Err(OptionFault::Every) => Err(UsageFault::Every),
+        Err(OptionFault::Origin) => Err(UsageFault::Origin),
+    }
+}
+
+/// The national option.
+///
+/// # Errors
+///
+/// `BadOption` alone.
+pub fn national_at<'a>(matches: &ArgMatches<'a>) -> Result<National, UsageFault>
+    ensures { result ≡ national_of (rows_of (found_of matches.now)) }
+{
+    match National::parse(text_at(matches, "option")) {
+        Some(national) => Ok(national),
+        None => Err(UsageFault::BadOption),
+    }
+}

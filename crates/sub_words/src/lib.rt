@@ -1,0 +1,23 @@
+//! How the words of the command line are read as a request.
+//!
+//! `Request::parse` stands on `clap`, which no other crate uses: `command` says what `clap` reads,
+//! and the arguments that it gives are read one by one, each by a function of its own.
+//!
+//! ```text
+//! let request = Request::parse(alloc, &["subttx", "show", "film.stl"])?;
+//! ```
+#![tactic(auto)]
+
+mod arguments;
+mod command;
+mod flips;
+mod hearing;
+mod numbers;
+mod parsing;
+mod reading;
+mod times;
+
+pub use flips::parse_flips;
+pub use numbers::{parse_number, parse_numbers};
+pub use parsing::ParseWords;
+pub use times::{parse_receiver, parse_time};

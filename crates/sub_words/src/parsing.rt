@@ -1,0 +1,68 @@
+//! The words of the command line, read as a request.
+ghost use Rattle.std.specs.Prelude.{◌≡◌, [], IfErr, IfOk, OnOk, option_map};
+ghost use Rattle.clap.specs.Words.{found_of, rows_of, subcommand_rows_of};
+ghost use Rattle.sub_words.specs.Commands.{command_in, refusals, texts_of};
+ghost use Rattle.sub_words.specs.Requests.{AsksFor, IsFaultOf};
+
+use crate::command::subttx_command;
+use crate::reading::read_command;
+use clap::ArgMatches;
+use clap::error::ErrorKind;
+use std::alloc::Global;
+use sub_answer::{Request, UsageFault};
+
+/// What is asked for by the words of a command line.
+///
+/// The type of requests stands below this crate, so that its call for them is a trait's.
+pub trait ParseWords<'a>: Sized {
+    /// Reads the words, of which the first is the program's name.
+    ///
+    /// What it gives are the matches that `clap` has for the words, defaults included, read by
+    /// the rules of their command.
+    ///
+    /// # Errors
+    ///
+    /// `Words` where `clap` refuses the words. Then the first fault of the command's arguments:
+    /// `BadHex`, `SameFile`, `BadPage`, `Every`, `Origin`, `BadOption`, `BadTime`, `BadSkip`,
+    /// `BadFlip`, `BadLose`, `BadReceiver`. `Memory` where memory ran out before that was known.
+    fn parse(alloc: Global, words: &'a [&'a str]) -> Result<Self, UsageFault>;
+}
+
+impl<'a> ParseWords<'a> for Request<'a> {
+    fn parse(alloc: Global, words: &'a [&'a str]) -> Result<Request<'a>, UsageFault>
+        ensures request { IfOk result (AsksFor (texts_of words.now)) }
+        ensures fault { IfErr result (IsFaultOf (texts_of words.now)) }
+    {
+        let matches = matches_of(alloc, words)?;
+        match command_of(&matches) {
+            Some((name, arguments)) => read_command(alloc, name, arguments),
+            None => Err(UsageFault::Words),
+        }
+    }
+}
+
+// The matches that `clap` gives for the words.
+fn matches_of<'a>(alloc: Global, words: &'a [&'a str]) -> Result<ArgMatches<'a>, UsageFault>
+    ensures command { IfOk result (λ m. subcommand_rows_of m ≡ command_in (texts_of words.now)) }
+    ensures taken { OnOk result (refusals (texts_of words.now) ≡ []) }
+    ensures fault { IfErr result (IsFaultOf (texts_of words.now)) }
+{
+    let Ok(command) = subttx_command(alloc) else {
+        return Err(UsageFault::Memory);
+    };
+    match command.try_get_matches_from(words) {
+        Ok(matches) => Ok(matches),
+        Err(error) => match error.kind() {
+            ErrorKind::OutOfMemory => Err(UsageFault::Memory),
+            _ => Err(UsageFault::Words),
+        },
+    }
+}
+
+// The name of the command that was met, and its matches.
+fn command_of<'a, 'm>(matches: &'m ArgMatches<'a>) -> Option<(&'a str, &'m ArgMatches<'a>)>
+    ensures { option_map (λ p. (p.0.now, rows_of (found_of p.1.now))) result
+        ≡ subcommand_rows_of matches.now }
+{
+    matches.subcommand()
+}

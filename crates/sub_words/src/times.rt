@@ -1,0 +1,55 @@
+//! TIME and the receiver of `listen` as people write them.
+ghost use Rattle.std.specs.Prelude.{◌≡◌, ◌+◌, ◌<◌, ◌≤◌, IfSome, length};
+ghost use Rattle.sub_words.specs.Texts.{frame_of_text, receiver_of_text, two_digits_at};
+
+use stl_file::TimeCode;
+use sub_answer::ReceiverKind;
+
+/// The receiver that a text names: `blank` or `keep`.
+#[tactic(auto, unfolding(crate::specs::Texts::receiver_of_text))]
+pub fn parse_receiver(text: &str) -> Option<ReceiverKind>
+    ensures { result ≡ receiver_of_text text.now }
+{
+    if text == "blank" {
+        Some(ReceiverKind::Blank)
+    } else if text == "keep" {
+        Some(ReceiverKind::Keep)
+    } else {
+        None
+    }
+}
+
+/// The frame of the day that a text names: `HH:MM:SS:FF`, two digits each, at 25 frames a second.
+///
+/// `None` for any other text.
+#[tactic(auto, unfolding(crate::specs::Texts::frame_of_text))]
+pub fn parse_time(text: &str) -> Option<u32>
+    ensures value { result ≡ frame_of_text text.now }
+    ensures day { IfSome result (λ frame. frame < 2160000) }
+{
+    let text = text.as_bytes();
+    if text.len() != 11 || text[2] != b':' || text[5] != b':' || text[8] != b':' {
+        return None;
+    }
+    let hours = two_digits(text, 0)?;
+    let minutes = two_digits(text, 3)?;
+    let seconds = two_digits(text, 6)?;
+    let frames = two_digits(text, 9)?;
+    let time = TimeCode::new(hours, minutes, seconds, frames)?;
+    Some(time.frame())
+}
+
+// The number of two decimal digits that stand at a place.
+#[tactic(auto, unfolding(crate::specs::Texts::two_digits_at))]
+fn two_digits(text: &[u8], place: usize) -> Option<u8>
+    requires { place + 2 ≤ length text.now }
+    ensures { result ≡ two_digits_at text.now place }
+{
+    let tens = text[place];
+    let units = text[place + 1];
+    if tens.is_ascii_digit() && units.is_ascii_digit() {
+        Some(10 * (tens - b'0') + (units - b'0'))
+    } else {
+        None
+    }
+}

@@ -1,7 +1,0 @@
-pub mod CommandLemmas
-pub mod ListeningLemmas
-pub mod WritingLemmas
-pub mod VerdictLemmas
-pub mod NormalLemmas
-pub mod ListeningRunLemmas
-pub mod FileListingLemmas
