@@ -2,8 +2,12 @@
 use Rattle.std.proofs.Common.{◌≡◌, ℕ, [], zero, suc, ◌+◌, ◌*◌, ◌/◌, ◌%◌, ◌<◌, ◌≤◌, Bool, true}
 use Rattle.std.proofs.Common.{false, ◌==◌, List, ◌∷◌, ◌++◌, length, map, replicate, Option, Some}
 use Rattle.std.proofs.Common.{None, slice_index, refl, sym, ap, ◌∙◌, subst, arith, eq-eqb, ne_eqb}
-use Rattle.std.proofs.Common.{IsTrue}
-use Rattle.std.proofs.lemmas.List.{append-nil, get_or-map, length-map}
+use Rattle.std.proofs.Common.{IsTrue, ◌-◌, ◌^◌, bit_and, div-add-mod'}
+use Rattle.std.specs.Int.{bit_at}
+use Rattle.std.specs.Int.RustNames.{count_ones}
+use lib.Count.{ones_in}
+use Rattle.std.proofs.lemmas.Nat.Bits.{and_pow, bit_at_cat_low}
+use Rattle.std.proofs.lemmas.List.{append-nil, get_or-drop, get_or-map, get_or-replicate, length-map}
 use Rattle.std.proofs.lemmas.Option.{same_Some}
 use Rattle.ttx_packet.specs.declared.header.Header.{Header}
 use Rattle.ttx_packet.specs.Hamming84.{IsCodeWord, code_word}
@@ -11,9 +15,9 @@ use Rattle.ttx_packet.specs.Parity.{is_odd, code_of, odd_byte}
 use Rattle.ttx_packet.specs.PacketAddress.{PacketAddress, address, address_words}
 use Rattle.ttx_packet.specs.PageHeader.{bit, nibble, coded_header, header, header_numbers}
 use Rattle.ttx_packet.specs.PageHeader.{header_packet, IsHeader, c4, c5, c6, c7, c8, c9, c10, c11}
-use Rattle.ttx_packet.specs.PageHeader.{c12, c13, c14}
+use Rattle.ttx_packet.specs.PageHeader.{c12, c13, c14, placed, HasOddHeaderText}
 use Rattle.ttx_packet.specs.RowPacket.{row_packet}
-use Rattle.ttx_packet.specs.Laws.{LawOfHeaderPacket, LawOfRowPacket}
+use Rattle.ttx_packet.specs.Laws.{IsMadeHeader, LawOfHeaderPacket, LawOfRowPacket}
 use Rattle.ttx_packet.proofs.Hamming84Lemmas.{decoded-code_word, code_word_is_exact}
 use Rattle.ttx_packet.proofs.ParityLemmas.{odd_of_code, code_of_odd}
 use Rattle.ttx_packet.proofs.ControlLemmas.{bit_small, nibble_small, control_is}
@@ -137,6 +141,22 @@ unfolding header_packet
 header_exact magazine h m =
     address_exact magazine 0 (map code_word (header_numbers h) ++ replicate 32 0x20) m (omega arith)
 
+-- A space is odd.
+space_odd : is_odd 0x20 ≡ true
+unfolding is_odd count_ones ones_in
+space_odd = refl
+
+-- The text of a header packet is spaces.
+header_text : (magazine : ℕ) (h : Header) → HasOddHeaderText (header_packet magazine h)
+unfolding header_packet
+header_text magazine h place from below =
+    let ten : place ≡ 10 + (place - 10) = omega arith in
+    let at : slice_index (header_packet magazine h) place ≡ 0x20 =
+    ap (slice_index (header_packet magazine h)) ten
+    ∙ sym (get_or-drop 10 (header_packet magazine h) (place - 10) 0)
+    ∙ get_or-replicate 32 (place - 10) 0x20 0 (omega arith) in
+    subst (λ b. is_odd b ≡ true) (sym at) space_odd
+
 -- A header packet says the header that it was made from.
 pub law_of_header_packet : LawOfHeaderPacket
 law_of_header_packet magazine h m is =
@@ -148,7 +168,61 @@ law_of_header_packet magazine h m is =
           (record { magazine = magazine; packet_number = 0 }) (Some h) at refl
           (coded_is magazine h is);
       exact = (header_exact magazine h m, λ a e z. coded_exact magazine h is);
+      odd = header_text magazine h;
     }
+
+-- A bit of the control bits, where those outside C4 to C14 are left out.
+placed_bit : (n k : ℕ) → k < 11 → (bit_and (n % 0x800) (2 ^ k) == 2 ^ k) ≡ (bit_and n (2 ^ k) == 2 ^ k)
+placed_bit n k l =
+    let same : bit_at (n % 0x800) k ≡ bit_at n k =
+    sym (bit_at_cat_low (n / 0x800) 11 (n % 0x800) k l)
+    ∙ ap (λ m. bit_at m k) (div-add-mod' n 0x800) in
+    ap (λ m. m == 2 ^ k)
+    (and_pow (n % 0x800) k ∙ ap (λ b. b * 2 ^ k) same ∙ sym (and_pow n k))
+
+-- Bits that have no place in a header are in no byte of the packet.
+header_packet-placed :
+    (magazine : ℕ) (h : Header) → header_packet magazine (placed h) ≡ header_packet magazine h
+unfolding header_packet
+header_packet-placed magazine h =
+    let n = h.subcode in
+    let m = n % 0x80 + 0x100 * (n / 0x100 % 0x40) in
+    let s1 : m % 0x10 ≡ n % 0x10 = omega arith in
+    let s2 : m / 0x10 % 8 ≡ n / 0x10 % 8 = omega arith in
+    let s3 : m / 0x100 % 0x10 ≡ n / 0x100 % 0x10 = omega arith in
+    let s4 : m / 0x1000 % 4 ≡ n / 0x1000 % 4 = omega arith in
+    let at : (k : ℕ) → k < 11 → (bit_and (h.control.0 % 0x800) (2 ^ k) == 2 ^ k)
+    ≡ (bit_and h.control.0 (2 ^ k) == 2 ^ k) = placed_bit h.control.0 in
+    rw (
+      s1,
+      s2,
+      s3,
+      s4,
+      at 0 (omega arith),
+      at 1 (omega arith),
+      at 2 (omega arith),
+      at 3 (omega arith),
+      at 4 (omega arith),
+      at 5 (omega arith),
+      at 6 (omega arith),
+      at 7 (omega arith),
+      at 8 (omega arith),
+      at 9 (omega arith),
+      at 10 (omega arith),
+    ) refl
+
+-- What is read of the packet of any header.
+pub made_placed : (magazine : ℕ) (h : Header) → magazine < 8 → h.page < 0x100
+    → IsMadeHeader magazine (placed h) (header_packet magazine h)
+made_placed magazine h m page =
+    subst (IsMadeHeader magazine (placed h)) (header_packet-placed magazine h)
+    (law_of_header_packet magazine (placed h) m
+    (record {
+      page = page;
+      subcode = omega arith;
+      no_bit_8 = omega arith;
+      control = omega arith;
+    }))
 
 -- A row packet has the address of its row.
 row_address : (magazine y : ℕ) (codes : List ℕ) → magazine < 8 → y < 32

@@ -1,14 +1,14 @@
 -- What one wrong bit in each byte leaves of a packet, and what is read of a packet that was made.
 use Rattle.std.specs.Prelude.{◌≡◌, ◌≢◌, ◌↔◌, ℕ, ◌<◌, ◌≤◌, List, length, Some, None, All, IsTrue}
-use Rattle.std.specs.Prelude.{IsFalse}
-use Rattle.std.specs.Prelude.{slice_index}
+use Rattle.std.specs.Prelude.{IsFalse, slice_index}
 use Rattle.ttx_packet.specs.declared.header.Header.{Header}
 use Rattle.ttx_packet.specs.OneBit.{IsNear, AreNear}
 use Rattle.ttx_packet.specs.Hamming84.{Decodes, decoded}
 use Rattle.ttx_packet.specs.Parity.{is_odd, code_of}
 use Rattle.ttx_packet.specs.BitOrder.{mirror}
 use Rattle.ttx_packet.specs.PacketAddress.{address, HasExactAddress}
-use Rattle.ttx_packet.specs.PageHeader.{header, HasExactWords, header_packet, IsHeader}
+use Rattle.ttx_packet.specs.PageHeader.{header, HasExactWords, HasOddHeaderText, header_packet}
+use Rattle.ttx_packet.specs.PageHeader.{IsHeader}
 use Rattle.ttx_packet.specs.RowPacket.{text_byte, HasOddText, row_packet}
 
 -- A byte decodes to a number exactly where it is within one bit of the number's code word; so it
@@ -48,12 +48,14 @@ LawOfParity =
 abbrev pub LawOfMirror : Type 0
 LawOfMirror = (b : ℕ) → b < 0x100 → mirror (mirror b) ≡ b
 
--- What is read of a packet that was made from a header: that header, in code words alone.
+-- What is read of a packet that was made from a header: that header, in code words alone, and a
+-- text of odd parity.
 pub record IsMadeHeader (magazine : ℕ) (h : Header) (packet : List ℕ) : Type 0 where
   pub whole : length packet ≡ 42
   pub address : address packet ≡ Some (record { magazine = magazine; packet_number = 0 })
   pub header : header packet ≡ Some h
   pub exact : HasExactWords packet
+  pub odd : HasOddHeaderText packet
 
 -- A header packet says the header that it was made from.
 abbrev pub LawOfHeaderPacket : Type 0

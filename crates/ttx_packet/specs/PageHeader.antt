@@ -16,8 +16,9 @@
 use Rattle.std.specs.Prelude.{◌≡◌, ℕ, ◌+◌, ◌*◌, ◌/◌, ◌%◌, ◌<◌, ◌≤◌, Bool, true, false, List, []}
 use Rattle.std.specs.Prelude.{◌∷◌, ◌++◌}
 use Rattle.std.specs.Prelude.{Option, Some, None, ◌==◌, map, replicate, slice_index, bit_and}
-use Rattle.std.specs.Prelude.{if◌then◌else◌}
+use Rattle.std.specs.Prelude.{if◌then◌else◌, IsTrue}
 use Rattle.ttx_packet.specs.Hamming84.{IsCodeWord, code_word}
+use Rattle.ttx_packet.specs.Parity.{is_odd}
 use Rattle.ttx_packet.specs.PacketAddress.{◌>>=◌, PacketAddress, decoded_at, address}
 use Rattle.ttx_packet.specs.PacketAddress.{HasExactAddress, address_words}
 use Rattle.ttx_packet.specs.declared.control.Control.{Control}
@@ -110,6 +111,11 @@ HasExactWords packet =
     → a.packet_number ≡ 0
     → HasExactHeader packet)
 
+-- The 32 text bytes of a header have odd parity.
+abbrev pub HasOddHeaderText : List ℕ → Type 0
+HasOddHeaderText packet =
+    (place : ℕ) → 10 ≤ place → place < 42 → IsTrue (is_odd (slice_index packet place))
+
 -- ---- headers as they are made
 
 -- A bit as a number.
@@ -138,6 +144,15 @@ header_numbers h =
 unfoldable pub header_packet : ℕ → Header → List ℕ
 header_packet magazine h =
     address_words magazine 0 ++ map code_word (header_numbers h) ++ replicate 32 0x20
+
+-- A header without the bits that have no place in the table above: of its sub-code the bits of 3F7F
+-- stay, of its control bits C4 to C14.
+abbrev pub placed : Header → Header
+placed h = record {
+  page = h.page;
+  subcode = h.subcode % 0x80 + 0x100 * (h.subcode / 0x100 % 0x40);
+  control = record { 0 = h.control.0 % 0x800 };
+}
 
 -- What a header can say: a page number of two digits, a subcode with no bit outside 3F7F, and no
 -- control bit but C4 to C14.

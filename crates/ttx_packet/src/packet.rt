@@ -4,7 +4,8 @@ ghost use Rattle.std.specs.Prelude.{drop, map, option_map, slice_index};
 ghost use Rattle.ttx_packet.specs.BitOrder.{mirror};
 ghost use Rattle.ttx_packet.specs.PacketAddress.{HasExactAddress, IsPacket, address, address_pair};
 ghost use Rattle.ttx_packet.specs.Hamming84.{code_word};
-ghost use Rattle.ttx_packet.specs.PageHeader.{bit, header_packet, is_set, nibble};
+ghost use Rattle.ttx_packet.specs.Laws.{IsMadeHeader, IsMadeRow};
+ghost use Rattle.ttx_packet.specs.PageHeader.{bit, header_packet, is_set, nibble, placed};
 ghost use Rattle.ttx_packet.specs.RowPacket.{HasOddText, first_even_byte, row_packet};
 
 use crate::bit_order::mirrored;
@@ -38,7 +39,7 @@ impl Model for Packet {
 
 impl Packet {
     ghost use Rattle.ttx_packet.specs.PageHeader.{HasExactHeader, coded_header, header};
-    ghost use Rattle.ttx_packet.specs.PageHeader.{header_packet};
+    ghost use Rattle.ttx_packet.specs.PageHeader.{header_packet, placed};
 
     /// The packet of these 42 bytes, whatever they are.
     pub fn new(bytes: [u8; 42]) -> Packet
@@ -175,12 +176,13 @@ impl Packet {
     /// The header of a page of a magazine as a packet, with 32 spaces as its text (EN 300 706, page
     /// header).
     ///
-    /// `magazine` is 0 to 7; the subcode has no bit outside `0x3F7F`, and the control bits are C4
-    /// to C14 alone.
+    /// `magazine` is 0 to 7. A bit that has no place in a page header is left out: of the sub-code
+    /// each outside `0x3F7F`, of the control bits each but C4 to C14.
     pub fn of_header(magazine: u8, header: &Header) -> Packet
-        requires magazine { magazine < 8 }
-        requires subcode { header.now.subcode < 0x4000 }
-        ensures { result ≡ header_packet magazine header.now }
+        requires { magazine < 8 }
+        ensures value { result ≡ header_packet magazine header.now }
+        // What is read of it: the header without those bits, in code words, and odd text.
+        ensures made { IsMadeHeader magazine (placed header.now) result }
     {
         Packet::new(header_bytes(magazine, header))
     }
@@ -194,7 +196,9 @@ impl Packet {
         requires first { 1 ≤ row }
         requires last { row ≤ 24 }
         requires codes { (k : ℕ) → slice_index codes.now k < 0x80 }
-        ensures { result ≡ row_packet magazine row codes.now }
+        ensures value { result ≡ row_packet magazine row codes.now }
+        // What is read of it: the row and its codes, in code words and odd bytes.
+        ensures made { IsMadeRow magazine row codes.now result }
     {
         Packet::new(row_bytes(magazine, row, codes))
     }
@@ -224,9 +228,9 @@ fn nibble_word(control: Control, d1: Control, d2: Control, d3: Control, d4: Cont
 // The bytes of a header.
 #[tactic(auto, unfolding(crate::specs::PageHeader::header_packet))]
 fn header_bytes(magazine: u8, header: &Header) -> [u8; 42]
-    requires magazine { magazine < 8 }
-    requires subcode { header.now.subcode < 0x4000 }
-    ensures { result ≡ header_packet magazine header.now }
+    requires { magazine < 8 }
+    ensures value { result ≡ header_packet magazine header.now }
+    ensures made { IsMadeHeader magazine (placed header.now) result }
 {
     let control = header.control;
     let subcode = header.subcode;
@@ -256,9 +260,11 @@ fn header_bytes(magazine: u8, header: &Header) -> [u8; 42]
 // The bytes of a row.
 fn row_bytes(magazine: u8, row: u8, codes: &[u8; 40]) -> [u8; 42]
     requires magazine { magazine < 8 }
+    requires first { 1 ≤ row }
     requires last { row ≤ 24 }
     requires codes { (k : ℕ) → slice_index codes.now k < 0x80 }
-    ensures { result ≡ row_packet magazine row codes.now }
+    ensures value { result ≡ row_packet magazine row codes.now }
+    ensures made { IsMadeRow magazine row codes.now result }
 {
     let number = magazine + 8 * row;
     let mut bytes = [0; 42];

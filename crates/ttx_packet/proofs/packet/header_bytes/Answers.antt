@@ -1,12 +1,15 @@
-use Rattle.std.proofs.Common.{ℕ, ◌+◌, ◌*◌, ◌/◌, ◌%◌, ap, ap₂, ◌∙◌}
+use Rattle.std.proofs.Common.{ℕ, ◌+◌, ◌*◌, ◌/◌, ◌%◌, ap, ap₂, sym, subst, arith, ◌∙◌}
 use Rattle.ttx_packet.specs.Hamming84.{code_word}
-use Rattle.ttx_packet.proofs.MadePackets.{header_packet-from_words}
+use Rattle.ttx_packet.specs.Laws.{IsMadeHeader}
+use Rattle.ttx_packet.specs.PageHeader.{placed}
+use Rattle.ttx_packet.proofs.MadePackets.{header_packet-from_words, made_placed}
 use Rattle.ttx_packet.proofs.packet.header_bytes.Goals as goal
 
 pub returns : goal.returns
 returns c =
     let h = c.args.header.now in
-    header_packet-from_words c.args.magazine h _ _ _ _ _ _ _ _ _ _ c.requires.magazine
+    let value =
+    header_packet-from_words c.args.magazine h _ _ _ _ _ _ _ _ _ _ c.requires
     c.ham.ensures
     c.ham-2.ensures
     c.ham-3.ensures
@@ -19,4 +22,9 @@ returns c =
     ∙ ap₂ (λ (b d : ℕ). code_word (h.subcode / 0x1000 % 4 + 4 * b + 8 * d))
     c.bit_of-c5.ensures.value c.bit_of-c6.ensures.value)
     c.nibble_word.ensures
-    c.nibble_word-2.ensures
+    c.nibble_word-2.ensures in
+    record {
+      value = value;
+      made = subst (IsMadeHeader c.args.magazine (placed h)) (sym value)
+          (made_placed c.args.magazine h c.requires (omega arith));
+    }

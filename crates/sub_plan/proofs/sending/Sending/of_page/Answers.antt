@@ -11,7 +11,7 @@ loop-row-init c = record {
   short = search rules;
   so_far = c.of-sent.ensures
       ∙ ap (λ (p : List ℕ). p ∷ [])
-      (c.of_header.ensures ∙ ap (header_packet _) c.watched_header-header.ensures.value);
+      (c.of_header.ensures.value ∙ ap (header_packet _) c.watched_header-header.ensures.value);
 }
 
 pub loop-row-preserved : goal.loop-row-preserved
@@ -41,4 +41,4 @@ returns c =
     sending_made c.args.watched c.args.national c.args.serial c.args.page.now _ c.loop-row.row _
     c.magazine-magazine.ensures.value (search rules)
     (c.push-2.ensures ∙ ap₂ (λ (xs : List (List ℕ)) (p : List ℕ). xs ++ p ∷ []) i.so_far
-    (c.of_header-2.ensures ∙ ap (header_packet _) c.closing_header.ensures.value))
+    (c.of_header-2.ensures.value ∙ ap (header_packet _) c.closing_header.ensures.value))
