@@ -65,7 +65,7 @@ def text_of(look, column, group):
     ink, flash, boxed, double = look
     names = [f"i{ink}"] + ["f"] * flash + ["u"] * (not boxed)
     grown = ' transform="scale(1 2)"' if double else ""
-    return (f'<text class="{" ".join(names)}" x="{column * WIDTH}" y="11.6"{grown} textLength='
+    return (f'<text class="{" ".join(names)}" x="{column * WIDTH}" y="11.8"{grown} textLength='
             f'"{len(letters_) * WIDTH}" lengthAdjust="spacingAndGlyphs">'
             f"{html.escape(letters_, quote=False)}</text>")
 
@@ -91,25 +91,33 @@ def row_drawing(row, number, option, is_boxed_page):
     return "".join(parts), is_tall
 
 
-def frames_of(different):
-    """Frames around cells that differ, one for neighbours in a row."""
-    parts = []
+def frames_of(different, tall):
+    """Frames around cells that differ: one for neighbours in a row, and in rows that are alike."""
+    boxes = {}
     for row, group in itertools.groupby(sorted(different), lambda cell: cell[0]):
         columns = [column for _, column in group]
         for _, run in itertools.groupby(enumerate(columns), lambda pair: pair[1] - pair[0]):
             run = [column for _, column in run]
-            place = (f'x="{run[0] * WIDTH}" y="{(row - 1) * HEIGHT}" width="{len(run) * WIDTH}" '
-                     f'height="{HEIGHT}"')
-            parts.append(f'<rect class="d1" {place}/><rect class="d2" {place}/>')
-    return "".join(parts)
+            end = row + 1 + (row in tall)
+            first = boxes.pop((run[0], len(run), row), row)
+            boxes[run[0], len(run), end] = first
+    return "".join(frame(column, width, first, end)
+                   for (column, width, end), first in boxes.items())
 
 
-def pointer(row, column):
-    """A ring around the cell that the refusal names, and a point on each edge that leads to it."""
-    x, y = column * WIDTH + WIDTH // 2, row * HEIGHT - HEIGHT / 2
-    points = (f"M{x} 14l-7 -14h14zM{x} 346l-7 14h14zM14 {y}l-14 -7v14zM466 {y}l14 -7v14z")
-    return (f'<circle class="d1" cx="{x}" cy="{y}" r="15"/><circle class="d2" cx="{x}" cy="{y}" '
-            f'r="15"/><path class="point" d="{points}"/>')
+def frame(column, width, first, end, more=0):
+    """A frame around cells of the rows from `first` to the one before `end`."""
+    place = (f'x="{column * WIDTH - more}" y="{(first - 1) * HEIGHT - more}" '
+             f'width="{width * WIDTH + 2 * more}" height="{(end - first) * HEIGHT + 2 * more}"')
+    return f'<rect class="d1" {place}/><rect class="d2" {place}/>'
+
+
+def pointer(row, column, tall):
+    """A wider frame around the cell that the refusal names, and points to it on each edge."""
+    end = row + 1 + (row in tall)
+    x, y = column * WIDTH + WIDTH // 2, (row + end - 2) * HEIGHT / 2
+    points = f"M{x} 14l-7 -14h14zM{x} 346l-7 14h14zM14 {y:g}l-14 -7v14zM466 {y:g}l14 -7v14z"
+    return f'{frame(column, 1, row, end, 4)}<path class="point" d="{points}"/>'
 
 
 def is_boxed(header):
@@ -118,19 +126,19 @@ def is_boxed(header):
 
 
 def picture(rows, header, different=(), place=None):
-    """A page as SVG: 24 rows of 40 cells, those that differ framed, and the place ringed."""
+    """A page as SVG: 24 rows of 40 cells, those that differ framed, and the place marked."""
     parts = ['<svg class="page" viewBox="-22 -1 504 362" xml:space="preserve">'
              '<rect class="v" width="480" height="360"/>']
-    is_hidden = False
+    tall = set()
     for number, row in enumerate(rows, 1):
-        if row == b" " * 40 and is_boxed(header) or is_hidden:
-            is_hidden = False
-            continue
-        drawn, is_hidden = row_drawing(row, number, national_option(header), is_boxed(header))
-        parts.append(drawn)
-    parts.append(frames_of(different))
+        is_seen = row != b" " * 40 or not is_boxed(header)
+        if is_seen and number - 1 not in tall:
+            drawn, is_tall = row_drawing(row, number, national_option(header), is_boxed(header))
+            parts.append(drawn)
+            tall |= {number} if is_tall else set()
+    parts.append(frames_of(different, tall))
     if place:
-        parts.append(pointer(*place))
+        parts.append(pointer(*place, tall))
     parts.append("</svg>")
     return "".join(parts)
 

@@ -12,7 +12,7 @@ GOOD = ('<svg viewBox="0 0 62 62"><circle cx="31" cy="31" r="27" fill="none" str
 BAD = ('<svg viewBox="0 0 62 62"><path d="M20 4H42L58 20V42L42 58H20L4 42V20z" fill="none" '
        'stroke="currentColor" stroke-width="5"/><path d="M21 21L41 41M41 21L21 41" '
        'stroke="currentColor" stroke-width="6"/></svg>')
-MOST_PAGES = 200  # of the table of headers
+MOST_PAGES, MOST_LINKS = 200, 100  # of the table of headers, and to subtitles
 
 SAYS = ("The verdict is the line that <code>subttx check</code> printed, and nothing else on this "
         "page accepts or refuses. The pictures are drawn from what <code>subttx</code> prints, by "
@@ -21,9 +21,10 @@ ACCEPTED = ("Frames are counted from the first PES packet's to the last one's, t
             "the headers of the page.")
 
 KEYS = """<h2 id="key">How to read this page</h2>
-<p><b>Strips.</b> Bars are subtitles from TCI to TCO with their numbers, and lead to their pictures.
-The lines below them are frames with a header of the page; where such frames are close to each other
-they are drawn as a block. The red flag is the broken place.</p>
+<p><b>Strips.</b> Bars are subtitles from TCI to TCO with their numbers, and lead to their pictures;
+a higher one with a red rim is held otherwise than it is due at its first frame. The lines below
+them are frames with a header of the page; where such frames are close to each other they are drawn
+as a block. The red flag is the broken place.</p>
 <p><b>Pictures.</b> Left is the page that is due at the end of the frame, from <code>subttx
 schedule</code> of the subtitle file; right the page that a receiver holds then, which has heard the
 PES file from its first packet. The grey ground is where the programme's picture is seen: a receiver
@@ -113,7 +114,7 @@ def pages_table(report):
     for (magazine, page), known in pages[:MOST_PAGES]:
         name = f"{magazine or 8}{page:02X}"
         words = "checked" if (magazine, page) == wanted else "closes others" if page == 0xFF else ""
-        places = "".join(f"<td>{pts}</td><td>{place_of_pts(pts, report.origin)}</td>"
+        places = "".join(f'<td class="pts">{pts}</td><td>{place_of_pts(pts, report.origin)}</td>'
                          for pts, _ in (known.first, known.last))
         bits = "; ".join(f"{names} ({count})" for names, count in known.bits.most_common(4))
         rows.append(f"<tr><td><b>{name}</b> {words}</td><td>{known.count:,}</td>{places}"
@@ -135,8 +136,8 @@ def reading_words(held):
         words += (" The file can't be read on after that: "
                   f"<code>{html.escape(held.end.line)}</code>.")
     if held.halt:
-        words += (f" A receiver heard those before PES packet {held.halt[0]} alone: the frame of "
-                  "that one is none, or not after the one before.")
+        words += (f" A receiver follows the file as far as PES packet {held.halt[0]}, whose frame "
+                  "is none, or not after that of the one before.")
     return words
 
 
@@ -144,10 +145,13 @@ def subtitles_words(report):
     """How many subtitles there are, and which have pictures."""
     count, drawn = len(report.subtitles), len(report.entries.drawn)
     if not count:
-        return "<p>There is no subtitle: the due page is blank at each frame.</p>"
+        return ("<p>There is no subtitle, as <code>schedule</code> tells by 82 NoSubtitles: the "
+                "due page is blank at each frame.</p>")
     words = f"{count:,} subtitle{'s' * (count != 1)}, pictures at the first frame of "
     words += "each." if drawn == count else f"{drawn:,} of them."
-    different = len(report.entries.different)
-    same = f"At the first frame of {different:,} of them the two pages differ." if different else \
-        "At the first frame of each the page that is held is the one that is due."
-    return f"<p>{words} {same}</p>"
+    counted = report.entries.counted(report.subtitles)
+    odd = sorted(report.entries.odd & set(report.entries.drawn))
+    links = " ".join(f'<a href="#s{index}">{index}</a>' for index in odd[:MOST_LINKS])
+    more = " ..." if len(odd) > MOST_LINKS else ""
+    where = f" Not as due: {links}{more}" if links else ""
+    return f"<p>{words} What a receiver holds then: {counted}.{where}</p>"

@@ -16,9 +16,9 @@ def place_of_pts(pts, origin):
     """What a PTS is in frames of the day: its time, or why it is none."""
     ticks = (pts - origin) % CLOCK
     if ticks >= TICKS * FRAMES_OF_A_DAY:
-        return "no frame: after the day's end"
+        return "none: after the day's end"
     time = time_of(ticks // TICKS)
-    return time if ticks % TICKS == 0 else f"no frame: {time} and {ticks % TICKS} of 3600 ticks"
+    return time if ticks % TICKS == 0 else f"none: {time} is {ticks % TICKS} ticks before"
 
 
 def frame_place(program, report):
@@ -29,7 +29,7 @@ def frame_place(program, report):
     if verdict.pes is not None:
         parts.append(pes_words(verdict.pes, held, report.origin))
     if frame is None:
-        parts.append("<p>There is no frame to look at: no PES packet was read before it.</p>")
+        parts.append("<p>There is no frame to look at: no PES packet comes before it.</p>")
         return "".join(parts) + "</section>"
     if verdict.pes is not None:
         parts.append(f"<p>Pictures at the last frame before that PES packet, {time_of(frame)}.</p>")
@@ -47,9 +47,12 @@ def frame_place(program, report):
 def pes_words(number, held, origin):
     """What is known of the PES packet that is refused."""
     if held.halt and held.halt[0] == number:
-        place = place_of_pts(held.halt[1], origin)
-        return f"<p>PES packet {number} has the PTS {held.halt[1]}: {place}.</p>"
-    return f"<p>PES packet {number} can't be read, and nothing after it. {number} were read.</p>"
+        words = f"PES packet {number} has the PTS {held.halt[1]}. Its frame: " \
+            f"{place_of_pts(held.halt[1], origin)}."
+        if held.last_frame is not None:
+            words += f" That of the one before: {time_of(held.last_frame)}."
+        return f"<p>{words}</p>"
+    return f"<p>PES packet {number} can't be read, and nothing after it.</p>"
 
 
 def around(held, frame, page):
@@ -58,13 +61,18 @@ def around(held, frame, page):
     words = []
     if at:
         last = held.sendings[at - 1]
-        words.append(f"last at {time_of(last)}, {frame - last} frames before")
+        words.append(f"last at {time_of(last)}, {frames_words(frame - last)} before"
+                     if last < frame else "one in it")
     if at < len(held.sendings):
         after = held.sendings[at]
-        words.append(f"next at {time_of(after)}, {after - frame} frames after")
+        words.append(f"next at {time_of(after)}, {frames_words(after - frame)} after")
     if not words:
         return f"<p>The file has no header of page {page}.</p>"
-    return f"<p>Headers of page {page} about frame {time_of(frame)}: {'; '.join(words)}.</p>"
+    return f"<p>Headers of page {page} around frame {time_of(frame)}: {'; '.join(words)}.</p>"
+
+
+def frames_words(count):
+    return f"{count:,} frame{'s' * (count != 1)}"
 
 
 def units_table(program, known, frame, broken):
@@ -135,7 +143,8 @@ def refused_subtitle(program, stl, verdict):
     if not subtitles:
         return ""
     subtitle = subtitles[-1]
-    parts = [f"<h3>{subtitle.index}. Subtitle {subtitle.number}</h3><p>row {subtitle.row}, "
+    parts = [f"<h3>Subtitle {subtitle.index} (SN {subtitle.number}) <code>{time_of(subtitle.first)}"
+             f"</code> to <code>{time_of(subtitle.end)}</code></h3><p>row {subtitle.row}, "
              f"justification {subtitle.justify}</p>"]
     if verdict.number in ORDER_FAULTS:
         parts.append(two_times(subtitles[-2:], verdict.number))
@@ -162,7 +171,9 @@ def two_times(subtitles, number):
 
 def readable(byte):
     """A text byte for people: its ASCII character, else its code."""
-    return html.escape(chr(byte)) if 0x20 <= byte <= 0x7E else f"<i>{byte:02X}</i>"
+    if byte == 0x20:
+        return "\u2423"
+    return html.escape(chr(byte)) if 0x20 < byte <= 0x7E else f"<i>{byte:02X}</i>"
 
 
 def byte_table(text, place):
@@ -183,6 +194,7 @@ def line_table(subtitle, place):
     for number, line in enumerate(subtitle.text.split(b"\x8a")):
         words = "".join(map(readable, line)) or "empty"
         rows.append(f"<tr{NAMED if number == place else ''}><th>line {number}</th>"
-                    f"<td>row {subtitle.row + number}</td><td>{words}</td></tr>")
+                    f"<td>row {subtitle.row + number}</td><td>{len(line)} bytes</td>"
+                    f"<td>{words}</td></tr>")
     return (f"<p>The lines of its text; <b>line {place}</b>, counted from 0, is framed.</p>"
             f'<table class="textlines">{"".join(rows)}</table>')

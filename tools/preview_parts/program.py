@@ -120,14 +120,15 @@ class Program:
         return lines, verdict_of(lines[-1], done.returncode)
 
     def answered(self, *words):
-        """`run` for a command that has to be answered: with status 2 there is no report."""
+        """`run` for a command that has to be answered."""
         lines, verdict = self.run(*words)
-        if verdict.status == 2:
-            raise NoReport(f"{words[0]} was not answered: {verdict.line}")
-        return lines, verdict
+        return lines, answered(words[0], verdict)
 
     def check(self, stl, pes):
-        return self.answered("check", *self.check_options, "--", stl, pes)[1]
+        verdict = self.run("check", *self.check_options, "--", stl, pes)[1]
+        if verdict.number == 0 and "--complete" in self.check_options:
+            raise NoReport(f"check does not know --complete, or other words: {verdict.line}")
+        return answered("check", verdict)
 
     def show(self, stl):
         """The lines of `show`, its subtitles, and its last line."""
@@ -144,6 +145,13 @@ class Program:
     def packet(self, digits):
         """What `packet` says of 84 hexadecimal digits, as lines."""
         return self.answered("packet", digits)[0]
+
+
+def answered(command, verdict):
+    """The verdict of a command; with status 2 there is no report."""
+    if verdict.status == 2 or not verdict.line:
+        raise NoReport(f"{command} was not answered: {verdict.line or 'it printed nothing'}")
+    return verdict
 
 
 def digest_of(path):

@@ -1,4 +1,5 @@
 """The pictures of the page that is due and of the page that a receiver holds, for each subtitle."""
+import collections
 import html
 import itertools
 
@@ -12,7 +13,11 @@ ROOM = 12_000_000  # bytes of pictures in a report
 NEAR, DIFFERENT = 25, 500  # subtitles by the broken place, and with other cells, that come first
 
 
-NOT_READ = "the PES file can't be read on to this frame"
+# Of a frame, with the words for the count of such subtitles.
+KINDS = {"same": "as due", "different": "another page than the one that is due",
+         "nothing": "no page yet",
+         "not known": "not known, since the PES file can't be followed so far"}
+NOT_READ = "the PES file can't be followed up to this frame"
 
 
 class Figures:
@@ -31,15 +36,16 @@ class Figures:
         state = self.due and self.due.state_at(frame)
         return (state.rows, state.header) if state and state.is_heard else (BLANK_PAGE, self.header)
 
-    def same_at(self, frame):
-        """Whether what is held, and what is on the screen, is what is due."""
+    def kind_at(self, frame):
+        """What is held at a frame, or is on the screen, beside what is due: one of KINDS."""
         rows, state = self.due_at(frame)[0], self.held.state_at(frame)
-        return (state is not None and state.is_heard and not differences(rows, state.rows)
-                and not (self.is_complete and self.screen_differs(rows, state)))
-
-    @staticmethod
-    def screen_differs(rows, state):
-        return state.screen is None or differences(rows, state.screen[0])
+        if state is None:
+            return "not known"
+        if not state.is_heard or self.is_complete and state.screen is None:
+            return "nothing"
+        if differences(rows, state.rows) or self.is_complete and differences(rows, state.screen[0]):
+            return "different"
+        return "same"
 
     def at(self, frame, state, place=None):
         """The figures at the end of a frame; `state` is what the receiver holds then."""
@@ -49,7 +55,7 @@ class Figures:
                         picture(due, header, (), place), lines_of(due))]
         held = f"A receiver at the end of {time}"
         if state is None:
-            parts.append(figure("held", held, NOT_READ, empty_picture("not read"), []))
+            parts.append(figure("held", held, NOT_READ, empty_picture("not known"), []))
         elif not state.is_heard:
             words = f"no header of page {self.page} was heard yet"
             parts.append(figure("held", held, words, empty_picture("nothing heard"), ["heard no"]))
@@ -104,8 +110,8 @@ class Entries:
     def __init__(self, figures, held, subtitles, window, broken):
         self.figures, self.held = figures, held
         self.subtitles, self.drawn = subtitles, {}
-        self.different = {subtitle.index for subtitle in subtitles
-                          if not figures.same_at(subtitle.first)}
+        self.kinds = {one.index: figures.kind_at(one.first) for one in subtitles}
+        self.odd = {index for index, kind in self.kinds.items() if kind in ("different", "nothing")}
         inside = [subtitle for subtitle in subtitles
                   if subtitle.end > window[0] and subtitle.first <= window[1]]
         room = ROOM
@@ -121,7 +127,7 @@ class Entries:
         """First those by the broken place, then some that differ, then all in their order."""
         if broken is not None:
             yield from sorted(inside, key=lambda one: abs(one.first - broken))[:NEAR]
-        differing = (one for one in inside if one.index in self.different)
+        differing = (one for one in inside if one.index in self.odd)
         yield from itertools.islice(differing, DIFFERENT)
         yield from inside
 
@@ -129,8 +135,8 @@ class Entries:
         first, end = time_of(subtitle.first), time_of(subtitle.end)
         sent = self.held.sendings_between(subtitle.first, subtitle.end)
         words = f"sent {sent} time{'s' * (sent != 1)} while it is due"
-        return (f'<section class="entry" id="s{subtitle.index}"><h3>{subtitle.index}. Subtitle '
-                f"{subtitle.number} <code>{first}</code> to <code>{end}</code></h3><p>row "
+        return (f'<section class="entry" id="s{subtitle.index}"><h3>Subtitle {subtitle.index} '
+                f"(SN {subtitle.number}) <code>{first}</code> to <code>{end}</code></h3><p>row "
                 f"{subtitle.row}, justification {subtitle.justify}; {words}</p>"
                 f"{self.figures.at(subtitle.first, self.held.state_at(subtitle.first))}</section>")
 
@@ -161,9 +167,16 @@ class Entries:
     def left_out(self, group):
         first, last = group[0], group[-1]
         times = f"{time_of(first.first)} --to {time_of(last.first)}"
-        different = sum(one.index in self.different for one in group)
         names = f"Subtitle {first.index}" if first is last else \
             f"Subtitles {first.index} to {last.index}, {len(group)} of them"
-        return (f'<p class="left" id="s{first.index}">{names}: no pictures here; at the first '
-                f"frame of {different or 'none'} of them the two pages differ. "
-                f"<code>--from {times}</code> draws them.</p>")
+        return (f'<p class="left" id="s{first.index}">{names}: no pictures here. What is held at '
+                f"the first frame: {self.counted(group)}. <code>--from {times}</code> draws them."
+                "</p>")
+
+    def counted(self, group):
+        """How many subtitles of a group are of which kind."""
+        counts = collections.Counter(self.kinds[one.index] for one in group)
+        if len(counts) == 1:
+            return KINDS[next(iter(counts))]
+        return ", ".join(f"{counts[kind]:,} {words}" for kind, words in KINDS.items()
+                         if counts[kind])

@@ -11,20 +11,23 @@ UNITS = [(250, "ten seconds", 25), (MINUTE, "a minute", 250), (10 * MINUTE, "ten
 MOST_STRIPS = 24
 LEFT, RIGHT = 92, 1192  # where the time begins and ends on a strip of 1200 units
 CLOSE = 3  # sendings that are nearer than that are drawn as one block
+# The look of a subtitle that is held as it is due, and of another: its class, its top, its height.
+BARS = [("bar", 6, 16), ("odd", 3, 22)]
 NARROW = 5  # a subtitle that is narrower than that is no link of its own
 
 
 class Timeline:
     """What is drawn on strips: subtitles in order, frames with a sending, and the broken place.
 
-    `links` are the subtitles that have pictures, by their index.
+    `links` are the subtitles that have pictures, by their index, `odd` those at whose first frame
+    something else is held than is due.
     """
 
-    def __init__(self, subtitles, sendings, broken, flag):
+    def __init__(self, subtitles, sendings, broken, flag, links, odd):
         self.subtitles, self.sendings, self.broken, self.flag = subtitles, sendings, broken, flag
+        self.links, self.odd = links, odd
         self.ends = [subtitle.end for subtitle in subtitles]
         self.firsts = [subtitle.first for subtitle in subtitles]
-        self.links = set()
         self.unit, self.called, self.step = next(
             (unit for unit in UNITS if len(self.used(unit[0])) <= MOST_STRIPS), UNITS[-1])
 
@@ -84,32 +87,34 @@ class Timeline:
 
     def bars(self, begin, unit, x):
         """The subtitles of a strip: bars that are links, and a path of narrow ones and others."""
-        narrow = []
+        narrow = {False: [], True: []}
         place = bisect.bisect_right(self.ends, begin)
         while place < len(self.subtitles) and self.firsts[place] < begin + unit:
             subtitle = self.subtitles[place]
             left, right = x(subtitle.first), x(subtitle.end)
             place += 1
             if right - left < NARROW or subtitle.index not in self.links:
-                if narrow and left - narrow[-1][1] < 0.5:
-                    narrow[-1][1] = right
+                known = narrow[subtitle.index in self.odd]
+                if known and left - known[-1][1] < 0.5:
+                    known[-1][1] = right
                 else:
-                    narrow.append([left, max(right, left + 0.6)])
+                    known.append([left, max(right, left + 0.6)])
                 continue
             yield self.bar(subtitle, left, right)
-        if narrow:
-            path = "".join(f"M{a:g} 6h{b - a:.3g}v16H{a:g}z" for a, b in narrow)
-            yield f'<path class="bar" d="{path}"/>'
+        for is_odd, spans in narrow.items():
+            kind, top, height = BARS[is_odd]
+            path = "".join(f"M{a:g} {top}h{b - a:.3g}v{height}H{a:g}z" for a, b in spans)
+            yield f'<path class="{kind}" d="{path}"/>' if path else ""
 
-    @staticmethod
-    def bar(subtitle, left, right):
+    def bar(self, subtitle, left, right):
         name = str(subtitle.index)
+        kind, top, height = BARS[subtitle.index in self.odd]
         label = ""
         if right - left > 8 * len(name) + 4:
             label = f'<text class="in" x="{round((left + right) / 2, 1)}" y="18">{name}</text>'
         times = f"{time_of(subtitle.first)} to {time_of(subtitle.end)}"
-        shape = (f'<rect class="bar" x="{left}" y="6" width="{right - left:.1f}" height="16" '
-                 f'rx="2"><title>{name}: {times}</title></rect>')
+        shape = (f'<rect class="{kind}" x="{left}" y="{top}" width="{right - left:.1f}" '
+                 f'height="{height}" rx="2"><title>{name}: {times}</title></rect>')
         return f'<a href="#s{name}">{shape}{label}</a>'
 
     def ticks(self, begin, unit, x):
@@ -136,7 +141,7 @@ class Timeline:
     def mark(self, at):
         """The flag of the broken place; its words on the side that has room."""
         side, anchor = (at + 9, "start") if at < 800 else (at - 9, "end")
-        return (f'<path class="broken" d="M{at} 2V68M{at - 6:g} 2H{at + 6:g}L{at} 12z"/>'
+        return (f'<path class="broken" d="M{at} 2V26M{at} 55V68M{at - 6:g} 2H{at + 6:g}L{at} 12z"/>'
                 f'<text class="flag" x="{side:g}" y="66" text-anchor="{anchor}">'
                 f"{html.escape(self.flag)}</text>")
 
