@@ -23,6 +23,12 @@ def meanings():
     return found
 
 
+def shown(text):
+    """Any text as XML: marks escaped, and what XML can't hold replaced."""
+    return html.escape(re.sub("[^\t\n\r\x20-\ud7ff\ue000-\ufffd\U00010000-\U0010ffff]",
+                              "\ufffd", text))
+
+
 def marked_up(text):
     """A cell of the manual as HTML: code in backticks, and links as their words."""
     text = re.sub(r"\[([^]]*)\]\([^)]*\)", r"\1", text)

@@ -1,8 +1,7 @@
 """The whole report: one XHTML page, with all that it needs in it."""
-import html
 import os
 
-from .manual import marked_up
+from .manual import marked_up, shown
 from .places import block_place, frame_place, place_of_pts
 from .program import time_of
 
@@ -44,8 +43,8 @@ def report_page(report, program):
     parts = ['<!DOCTYPE html>\n'
              '<html xmlns="http://www.w3.org/1999/xhtml" lang="en"><head><meta charset="UTF-8"/>'
              '<meta name="viewport" content="width=device-width, initial-scale=1"/>'
-             f"<title>{html.escape(report.verdict.line)} &#8211; {html.escape(title)}</title>"
-             f"<style>\n{style}</style></head><body><h1>Preview of {html.escape(title)}</h1>",
+             f"<title>{shown(report.verdict.line)} &#8211; {shown(title)}</title>"
+             f"<style>\n{style}</style></head><body><h1>Preview of {shown(title)}</h1>",
              verdict_box(report), navigation(report), files_table(report), pages_table(report)]
     if report.timeline:
         parts.append('<h2 id="timeline">Timeline</h2><p>A strip is '
@@ -77,7 +76,7 @@ def verdict_box(report):
         parts.append(f"<p>{ACCEPTED}</p>")
     kind, shape = ("refused", BAD) if verdict.status else ("accepted", GOOD)
     return (f'<div class="verdict {kind}">{shape}<div><p class="line" id="verdict">'
-            f'{html.escape(verdict.line)}</p>{"".join(parts)}</div></div>'
+            f'{shown(verdict.line)}</p>{"".join(parts)}</div></div>'
             f'<p class="says">{SAYS}</p>')
 
 
@@ -94,11 +93,11 @@ def navigation(report):
 
 def files_table(report):
     rows = "".join(
-        f"<tr><th>{what}</th><td>{html.escape(name)}</td><td>{size:,} bytes</td>"
+        f"<tr><th>{what}</th><td>{shown(name)}</td><td>{size:,} bytes</td>"
         f"<td><code>{digest}</code></td></tr>" for what, name, (digest, size) in report.files)
     return ('<h2 id="files">Files</h2><table class="files"><tr><th></th><th>Name</th>'
             f"<th>Size</th><th>SHA-256</th></tr>{rows}</table><p>Command line: "
-            f"<code>{html.escape(report.command_line)}</code></p>")
+            f"<code>{shown(report.command_line)}</code></p>")
 
 
 def pages_table(report):
@@ -134,7 +133,7 @@ def reading_words(held):
     words = f"{held.count:,} PES packet{'s' * (held.count != 1)} read."
     if held.end.status:
         words += (" The file can't be read on after that: "
-                  f"<code>{html.escape(held.end.line)}</code>.")
+                  f"<code>{shown(held.end.line)}</code>.")
     if held.halt:
         words += (f" A receiver follows the file as far as PES packet {held.halt[0]}, whose frame "
                   "is none, or not after that of the one before.")

@@ -1,9 +1,9 @@
 """The broken place: its frame with the packets sent then, or its block of the subtitle file."""
 import bisect
-import html
 import os
 import tempfile
 
+from .manual import shown
 from .program import CLOCK, FRAMES_OF_A_DAY, TICKS, time_of
 from .receiver import CODE_WORDS, HIT, NUMBER, STORED
 
@@ -86,7 +86,7 @@ def units_table(program, known, frame, broken):
             else f"packet {index}"
         rows.append(f"<tr{NAMED if index == broken else ''}><td>{name}<br/>"
                     f"<small>field {words[5]} line {words[7]}</small></td><td><pre>"
-                    f"{html.escape(chr(10).join(said))}\n{marked_bytes(words[-1])}</pre></td></tr>")
+                    f"{shown(chr(10).join(said))}\n{marked_bytes(words[-1])}</pre></td></tr>")
     body = "".join(rows) or "<tr><td>no Teletext packet</td></tr>"
     return (f"<h3>PES packet {number}, of frame {time_of(frame)}</h3><p>Bytes that have a wrong "
             "bit, by Hamming 8/4 or parity, are underlined.</p>"
@@ -130,7 +130,7 @@ def block_place(program, report):
 
 
 def listed(lines):
-    return f'<pre class="lines">{html.escape(chr(10).join(lines))}</pre>'
+    return f'<pre class="lines">{shown(chr(10).join(lines))}</pre>'
 
 
 def refused_subtitle(program, stl, verdict):
@@ -173,7 +173,7 @@ def readable(byte):
     """A text byte for people: its ASCII character, else its code."""
     if byte == 0x20:
         return "\u2423"
-    return html.escape(chr(byte)) if 0x20 < byte <= 0x7E else f"<i>{byte:02X}</i>"
+    return shown(chr(byte)) if 0x20 < byte <= 0x7E else f"<i>{byte:02X}</i>"
 
 
 def byte_table(text, place):

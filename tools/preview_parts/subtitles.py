@@ -9,7 +9,7 @@ from .program import time_of
 from .receiver import BLANK_PAGE, HIT, OLD, control_bits, lines_of, national_option
 from .timeline import MINUTE
 
-ROOM = 12_000_000  # bytes of pictures in a report
+ROOM = 10_000_000  # bytes of pictures in a report
 NEAR, DIFFERENT = 25, 500  # subtitles by the broken place, and with other cells, that come first
 
 
@@ -77,9 +77,12 @@ class Figures:
 
     def screen_figure(self, time, due, state, place):
         caption = f"On its screen at the end of {time}"
-        if state is None or state.screen is None:
-            words = "complete pages alone" if state else NOT_READ
-            return figure("screen", caption, words, empty_picture("nothing yet"), ["shown no"])
+        if state is None:
+            return figure("screen", caption, NOT_READ, empty_picture("not known"), [])
+        if state.screen is None:
+            lines = ["shown no" if state.is_heard else "heard no"]
+            drawn = empty_picture("nothing yet")
+            return figure("screen", caption, "complete pages alone", drawn, lines)
         rows, header = state.screen
         return self.page_figure("screen", caption, "complete pages alone", due, rows, header, place)
 

@@ -1,0 +1,68 @@
+"""Files of PES packets at random, with wrong bits in them, for trying the receiver on."""
+import random
+
+from .receiver import CODE_WORDS
+
+PAGE = 0, 0x88  # magazine 8, page 88
+FIRST_LINE = 7
+
+
+def odd(code):
+    """A 7-bit code with odd parity."""
+    return code if bin(code).count("1") % 2 else code | 0x80
+
+
+def mirrored(data):
+    return bytes(int(f"{byte:08b}"[::-1], 2) for byte in data)
+
+
+def packet(magazine, number, numbers, codes):
+    """A packet: its address, the numbers of a header, and text bytes with odd parity."""
+    address = magazine + 8 * number
+    coded = bytes(CODE_WORDS[one] for one in (address & 15, address >> 4, *numbers))
+    return coded + bytes(map(odd, codes))
+
+
+def random_packet(chance):
+    """A header, a row or any bytes, some of them with wrong bits."""
+    magazine = chance.choice([0, 0, 0, 1, 2])
+    kind = chance.random()
+    if kind < 0.4:
+        page = chance.choice([0x88, 0x88, 0xFF, 0x12])
+        numbers = [page & 15, page >> 4, 0, 8 * chance.randrange(2), 0, chance.choice([0, 4, 8]),
+                   chance.randrange(16), chance.choice([0, 0, 1, 8, 9])]
+        made = packet(magazine, 0, numbers, b" " * 32)
+    elif kind < 0.95:
+        codes = [chance.choice([chance.randrange(128), 0x20]) for _ in range(40)]
+        made = packet(magazine, chance.choice([1, 2, 22, 23, 24, 25, 26, 29]), [], codes)
+    else:
+        made = bytes(chance.randrange(256) for _ in range(42))
+    made = bytearray(made)
+    for _ in range(chance.choice([0, 0, 0, 1, 2, 5])):
+        made[chance.randrange(42)] ^= 1 << chance.randrange(8)
+    return bytes(made)
+
+
+def pes_packet(pts, packets):
+    """A PES packet of EN 300 472 with up to 16 Teletext packets."""
+    blocks = len(packets) // 4 + 1
+    times = [0x21 | pts >> 30 << 1, pts >> 22 & 255, pts >> 15 << 1 & 255 | 1, pts >> 7 & 255,
+             pts << 1 & 255 | 1]
+    made = b"\0\0\1\xbd" + (184 * blocks - 6).to_bytes(2, "big") + b"\x84\x80\x24" + bytes(times)
+    made += b"\xff" * 31 + b"\x10"
+    for line, one in enumerate(packets, FIRST_LINE):
+        made += bytes([3, 0x2C, 0xE0 | line, 0xE4]) + mirrored(one)
+    return made + (b"\xff\x2c" + b"\xff" * 44) * (4 * blocks - 1 - len(packets))
+
+
+def transmission(seed):
+    """A file of some PES packets, and frames to look at; now and then a frame does not rise."""
+    chance = random.Random(seed)
+    frame, made, frames = chance.randrange(1000), b"", []
+    for _ in range(chance.randrange(1, 12)):
+        packets = [random_packet(chance) for _ in range(chance.randrange(9))]
+        for _ in range(chance.choice([1, 1, 1, 2])):
+            made += pes_packet(3600 * frame, packets)
+            frames.append(frame)
+            frame = max(0, frame + (chance.choice([1, 1, 2, 30]) if chance.random() < 0.97 else -1))
+    return made, sorted({*frames, *(chance.randrange(max(frames) + 40) for _ in range(4))})
