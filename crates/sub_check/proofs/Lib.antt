@@ -11,6 +11,7 @@ pub mod BrokenRules
 pub mod BrokenSpans
 pub mod NotRobust
 pub mod GoodExample
+pub mod ScreenTests
 pub mod CodesLemmas
 pub mod PushLemmas
 pub mod PacketLists

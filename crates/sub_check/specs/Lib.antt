@@ -19,5 +19,6 @@ pub mod PesReading
 pub mod Checking
 pub mod Planned
 pub mod OnScreen
+pub mod ScreenExamples
 pub mod WrongContent
 pub mod CheckedFiles

@@ -24,6 +24,7 @@ mod on_screen;
 mod packet_rules;
 mod page_count;
 mod recovery;
+mod screen_examples;
 
 pub use checker::{Accepted, check, law_of_readings, next_frame};
 pub use dropping::{law_of_good_and_dropping, law_of_good_dropping_and_loss};
@@ -39,3 +40,4 @@ pub use on_screen::{
     law_of_complete_plan, law_of_good_and_complete, law_of_good_dropping_and_complete,
 };
 pub use recovery::{law_of_good_and_recovery, law_of_good_dropping_and_recovery};
+pub use screen_examples::{example_of_no_end, examples_of_screens};

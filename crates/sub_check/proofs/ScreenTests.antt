@@ -1,0 +1,201 @@
+-- The examples of what comes onto a screen.
+use Rattle.std.proofs.Common.{◌≡◌, inl, inr, true, false, List, [], ◌∷◌, Option, Some, None, refl}
+use Rattle.std.proofs.Common.{sym, ap, ◌∙◌, subst, le_refl, true≢false, ◌&&◌, not, ℕ, ◌≤◌, arith}
+use Rattle.std.proofs.Common.{length, ◌++◌}
+use Rattle.std.specs.Int.RustNames.{count_ones}
+use Rattle.std.proofs.lemmas.Option.{none-some}
+use lib.Count.{ones_in}
+use Rattle.ttx_packet.specs.Hamming84.{decoded}
+use Rattle.ttx_packet.specs.OneBit.{is_near}
+use Rattle.ttx_packet.specs.PacketAddress.{address}
+use Rattle.ttx_packet.specs.PageHeader.{header, coded_header}
+use Rattle.ttx_packet.specs.Parity.{is_odd}
+use Rattle.ttx_page.specs.declared.packet_kind.PacketKind.TheVariants.{ThisPage, EndsPage, Row}
+use Rattle.ttx_page.specs.Page.{Rows, blank}
+use Rattle.ttx_page.specs.PacketKind.{kind, is_this_page}
+use Rattle.ttx_page.specs.Receiver.{State, Step, StepAt}
+use Rattle.ttx_page.specs.Screen.{Display, ShowsAt}
+use Rattle.ttx_page.specs.Span.{holds_header, is_unended}
+use Rattle.ttx_page.proofs.NoiseLaws.{AreNear-themselves}
+use Rattle.sub_check.specs.Examples.{page_888, header_888, row_22, closing, one_frame, each}
+use Rattle.sub_check.specs.Examples.{no_subtitles}
+use Rattle.sub_check.specs.Robust.{IsListening}
+use Rattle.sub_check.specs.Rules.{Rule}
+use Rattle.sub_check.specs.Rules.Rule.{Frames, ExactWords, OneMode, SubtitleControl}
+use Rattle.sub_check.specs.Rules.Rule.{CleanSpans, RepeatBound, DuePages}
+use Rattle.sub_check.specs.ScreenExamples.{unheard, ExampleOfEndedPage, ExampleOfPageNotEnded}
+use Rattle.sub_check.specs.ScreenExamples.{ExampleOfPageBegunAgain, ExampleOfNoEnd}
+use Rattle.sub_check.specs.Transmission.{Transmission}
+use Rattle.sub_check.proofs.BrokenRules.{says_888}
+use Rattle.sub_check.proofs.RuleLemmas.{law_of_rules}
+use Rattle.sub_check.proofs.RuleTests.{K, passes, kept}
+
+-- ---- packets
+
+-- The header of page 888 is one of the page.
+kind_888 : kind page_888 header_888 ≡ ThisPage says_888
+unfolding kind address header coded_header decoded is_near
+kind_888 = refl
+
+-- The closing header ends the page.
+kind_closing : kind page_888 closing ≡ EndsPage
+unfolding kind address header coded_header decoded is_near
+kind_closing = refl
+
+-- The row is row 22.
+kind_22 : kind page_888 row_22 ≡ Row 22
+unfolding kind address header coded_header decoded is_near
+kind_22 = refl
+
+-- A receiver whose page is open, and blank.
+abbrev on_blank : State
+on_blank = record { heard = true; is_open = true; page = blank }
+
+-- The header makes each receiver such a one.
+opens : (old : State) → Step page_888 old header_888 on_blank
+opens old = subst (λ k. StepAt k header_888 old on_blank) (sym kind_888) refl
+
+-- And nothing else.
+opened :
+    (old new : State) → Step page_888 old header_888 new → new ≡ on_blank
+opened old new step = subst (λ k. StepAt k header_888 old new) kind_888 step
+
+-- The closing header closes it.
+closed :
+    (old new : State) → Step page_888 old closing new → new.is_open ≡ false
+closed old new step =
+    ap (λ (s : State). s.is_open) (subst (λ k. StepAt k closing old new) kind_closing step)
+
+-- The row leaves it open.
+left_open :
+    (old new : State) → old ≡ on_blank → Step page_888 old row_22 new → new.is_open ≡ true
+left_open old new is step =
+    let at : StepAt (Row 22) row_22 on_blank new =
+    subst (λ s. StepAt (Row 22) row_22 s new) is
+    (subst (λ k. StepAt k row_22 old new) kind_22 step) in
+    at.1
+
+-- ---- what comes onto the screen
+
+-- The closing header brings the page onto the screen.
+pub example_of_ended_page : ExampleOfEndedPage
+example_of_ended_page old new run =
+    let open_page = opened old.held run.0.held run.1 in
+    let shut = closed run.0.held run.3.0.held run.3.1 in
+    ap (λ (d : Display). d.screen) run.3.3
+    ∙ run.3.2.ended
+    (ap (λ (s : State). s.is_open && not run.3.0.held.is_open) open_page ∙ ap not shut)
+    ∙ ap (λ (s : State). Some s.page) open_page
+
+-- A row does not.
+pub example_of_page_not_ended : ExampleOfPageNotEnded
+example_of_page_not_ended screen new run =
+    let open_page = opened (unheard screen).held run.0.held run.1 in
+    let still = left_open run.0.held run.3.0.held open_page run.3.1 in
+    ap (λ (d : Display). d.screen) run.3.3
+    ∙ run.3.2.stays
+    (ap (λ (s : State). s.is_open && not run.3.0.held.is_open) open_page ∙ ap not still)
+    (ap (λ (s : State). s.is_open && is_this_page (kind page_888 row_22)) open_page
+    ∙ ap is_this_page kind_22)
+    ∙ run.2.stays refl refl
+
+-- The page is open, and this is on the screen.
+abbrev open_with : Option Rows → Display
+open_with screen = record { held = on_blank; screen = screen }
+
+-- At the first header the screen stays as it is.
+first_header : ShowsAt page_888 (unheard None) header_888 (open_with None)
+first_header = record {
+  ended = λ e. absurd (true≢false (sym e));
+  again = λ e. absurd (true≢false (sym e));
+  stays = λ a b. refl;
+}
+
+-- At the next one a receiver may show the page.
+shows_again : ShowsAt page_888 (open_with None) header_888 (open_with (Some blank))
+shows_again = record {
+  ended = λ e. absurd (true≢false (sym e));
+  again = λ e. inl refl;
+  stays = λ a b. absurd (true≢false (sym (ap is_this_page kind_888) ∙ b));
+}
+
+-- Or not.
+waits_again : ShowsAt page_888 (open_with None) header_888 (open_with None)
+waits_again = record {
+  ended = λ e. absurd (true≢false (sym e));
+  again = λ e. inr refl;
+  stays = λ a b. refl;
+}
+
+-- So both are runs.
+pub example_of_page_begun_again : ExampleOfPageBegunAgain
+example_of_page_begun_again = record {
+  shown = open_with (Some blank);
+  shows = (
+    open_with None,
+    opens (unheard None).held,
+    first_header,
+    (open_with (Some blank), opens on_blank, shows_again, refl),
+  );
+  is_shown = refl;
+  other = open_with None;
+  waits = (
+    open_with None,
+    opens (unheard None).held,
+    first_header,
+    (open_with None, opens on_blank, waits_again, refl),
+  );
+  is_nothing = refl;
+}
+
+-- ---- a good transmission that is not shown
+
+-- A header and nothing after it.
+abbrev no_end : Transmission
+no_end = one_frame (header_888 ∷ [])
+
+-- It passes the test of each rule.
+tests : (rule : Rule) → passes rule no_end ≡ true
+unfolding kind address header coded_header decoded is_near is_odd count_ones ones_in
+tests Frames = refl
+tests ExactWords = refl
+tests OneMode = refl
+tests SubtitleControl = refl
+tests CleanSpans = refl
+tests RepeatBound = refl
+tests DuePages = refl
+
+-- It holds a header of the page, which none ends.
+holds : holds_header K (header_888 ∷ []) ≡ true
+unfolding kind address header coded_header decoded is_near
+holds = refl
+
+-- None ends it.
+no_end_of_page : is_unended K (header_888 ∷ []) ≡ true
+unfolding kind address header coded_header decoded is_near
+no_end_of_page = refl
+
+-- It is good, and a receiver shows nothing.
+pub example_of_no_end : ExampleOfNoEnd
+example_of_no_end = record {
+  good =
+      (law_of_rules no_subtitles no_end (each 1)).1
+      (λ rule. kept 1 no_end rule (λ e. refl) (tests rule));
+  not_complete = λ complete.
+      true≢false
+      (sym no_end_of_page ∙ complete 900000 (le_refl 900000) (le_refl 900000) holds);
+  not_shown = λ shown.
+      let sent : List (List ℕ) = header_888 ∷ [] in
+      let none : 0 ≤ length (sent ++ []) = omega arith in
+      let listening : IsListening no_end 900000 0 900000 = record {
+        not_before = le_refl 900000;
+        in_order = le_refl 900000;
+        not_after = le_refl 900000;
+        in_frame = none;
+      } in
+      let due =
+      shown 900000 0 900000 (true ∷ []) sent (unheard None) (open_with None) listening
+      ((λ e. absurd (true≢false e)), tt) (AreNear-themselves sent)
+      (open_with None, opens (unheard None).held, first_header, refl) holds in
+      none-some due.page due.is;
+}
