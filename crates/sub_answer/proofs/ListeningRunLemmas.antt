@@ -245,7 +245,8 @@ module _
             → TellsFrame l.options.origin n reached.rest v (Ok None)
             → Runs l frames unread w old now (Ok tt)
         ends_at_end v told =
-            let at = reads_end l.options.origin n reached.rest frames unread reached.left told in
+            let at =
+            reads_end l.options.origin n reached.rest frames unread reached.few reached.left told in
             let within = reached.within in
             record {
               n = n;
@@ -260,7 +261,8 @@ module _
             → Runs l frames unread w old now (Err (fault.File f))
         ends_unread v f (u, is, ends) =
             let at =
-            reads_fault l.options.origin n reached.rest frames unread u reached.left ends in
+            reads_fault l.options.origin n reached.rest frames unread u reached.few reached.left
+            ends in
             let within = reached.within in
             let all : n ≡ length frames = omega (arith, at.0) in
             record {
@@ -285,8 +287,8 @@ module _
           where
             next : ReadsNext l.options.origin n reached.rest frames unread v frame
             next =
-                reads_next l.options.origin n reached.rest frames unread v frame reached.left told.0
-                told.1
+                reads_next l.options.origin n reached.rest frames unread v frame reached.few
+                reached.left told.0 told.1
 
             -- its frame is not after the one before
             pub ends_order : frame < least

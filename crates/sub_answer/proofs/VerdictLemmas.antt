@@ -1,6 +1,6 @@
 -- The answer of a check by the clause of `check_files`, `answered`; where the files are accepted,
 -- `done-exactly`; where memory was refused, `memory-printed`. All serve `print_verdict`.
-use Rattle.std.proofs.Common.{◌≡◌, ◌≢◌, ◌↔◌, ℕ, ◌^◌, ◌<◌, List, Option, Some, Result, Ok, Err}
+use Rattle.std.proofs.Common.{◌≡◌, ◌≢◌, ◌↔◌, ℕ, List, Option, Some, Result, Ok, Err}
 use Rattle.std.proofs.Common.{IsOk, Bool, true, false, refl, arith, ◌+◌, if◌then◌else◌}
 use Rattle.std.specs.Io.KnownBytes.{Appends}
 use Rattle.sub_io.specs.Reading.{IfTold}
@@ -19,7 +19,7 @@ use Rattle.sub_check.specs.CheckedFiles.{AreChecked}
 use Rattle.sub_check.specs.Checking.{TellsSubtitles, is_source_failure, is_source_fault}
 use Rattle.sub_check.specs.Checking.{is_subtitle_fault, is_subtitle_refusal}
 use Rattle.sub_check.specs.Checking.{is_subtitle_source_failure, is_subtitle_source_fault}
-use Rattle.sub_check.specs.PesReading.{LawOfReadings}
+use Rattle.sub_check.specs.PesReading.{pes_file_of}
 use Rattle.sub_check.specs.declared.checker.Accepted.{Accepted}
 use Rattle.sub_check.specs.declared.fault.CheckFault.{CheckFault}
 use Rattle.sub_check.specs.declared.fault.CheckFault.TheVariants as fault
@@ -59,7 +59,7 @@ accepted_from national options file bytes a are =
       programme = given.0;
       frames = good.0;
       loads = given.1;
-      reads = good.1;
+      carries = good.1;
       good = good.2;
       counts = checked.counts good.0 good.1;
     }
@@ -68,28 +68,24 @@ accepted_from national options file bytes a are =
 pub answered :
     (national : National) (options : OptionsValue) (file bytes : List ℕ)
     (answer : Result Accepted CheckFault)
-    → options.origin < 2 ^ 33
-    → LawOfReadings
     → AreChecked national options file (Some bytes) answer
     → IsAnswer national options file bytes answer
-answered national options file bytes (Ok a) low readings are = record {
+answered national options file bytes (Ok a) are = record {
   subtitles = are.subtitles;
   pes = accepted_from national options file bytes a are;
 }
-answered national options file bytes (Err f) low readings are = record {
+answered national options file bytes (Err f) are = record {
   subtitles = are.subtitles;
   pes = λ looked fine.
       let given = has_programme national (outcome_of file) (Err f) are.refused looked in
-      let reading = readings options.origin bytes low in
+      let reading = pes_file_of options.origin bytes in
       record {
         programme = given.0;
-        frames = reading.0;
-        unread = reading.1;
+        frames = reading.frames;
+        unread = reading.unread;
         loads = given.1;
-        reads = reading.2;
-        first =
-            (are.checked given.0 given.1 bytes refl).first reading.0 reading.1 reading.2 looked
-            fine;
+        reads = refl;
+        first = (are.checked given.0 given.1 bytes refl).first looked fine;
       };
 }
 
@@ -152,7 +148,7 @@ done-exactly national options file bytes (Err f) are other = (
       looked-of_status national (outcome_of file) is.1.programme f is.1.loads are.subtitles
       other in
       let fine = fine-of_status f other in
-      let ok = (checked.accepted looked fine).1 (is.1.frames, is.1.reads, is.1.good) in
+      let ok = (checked.accepted looked fine).1 (is.1.frames, is.1.carries, is.1.good) in
       cc,
 )
 

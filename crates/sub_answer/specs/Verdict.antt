@@ -1,6 +1,6 @@
 -- What a check of a subtitle file and a PES file answers by their bytes, and how its answer is
 -- printed.
-use Rattle.std.specs.Prelude.{◌≡◌, ℕ, ◌+◌, ◌⊎◌, false, List, Option, None, Result, Ok, MatchResult}
+use Rattle.std.specs.Prelude.{◌≡◌, ℕ, ◌+◌, ◌⊎◌, false, List, Option, Result, Ok, MatchResult}
 use Rattle.std.specs.Io.KnownBytes.{Appends}
 use Rattle.sub_io.specs.Device.{AppendsPrefix}
 use Rattle.stl_file.specs.Reader.{outcome_of}
@@ -13,6 +13,7 @@ use Rattle.sub_check.specs.Checking.{is_subtitle_fault}
 use Rattle.sub_check.specs.FirstBroken.{NamesFirst}
 use Rattle.sub_check.specs.FrameRules.{Unread, task_of}
 use Rattle.sub_check.specs.Good.{Good}
+use Rattle.sub_check.specs.PesFrames.{Carries}
 use Rattle.sub_check.specs.PesReading.{ReadsAs}
 use Rattle.sub_check.specs.Transmission.{Transmission}
 use Rattle.sub_check.specs.declared.checker.Accepted.{Accepted}
@@ -21,15 +22,15 @@ use Rattle.sub_answer.specs.Listing.{Listing}
 use Rattle.sub_answer.specs.declared.status.Status.{Status}
 use Rattle.sub_answer.specs.declared.status.Status.TheVariants.{Fault}
 
--- The files are accepted: the subtitle file gives a programme, and the PES file is read to its end
--- as a transmission that is good for it, of so many frames and headers of the page.
+-- The files are accepted: the subtitle file gives a programme, and the PES file carries a
+-- transmission that is good for it, of so many frames and headers of the page.
 pub record IsAccepted
     (national : National) (options : OptionsValue) (file bytes : List ℕ) (a : Accepted)
     : Type 0 where
   pub programme : ProgrammeValue
   pub frames : Transmission
   pub loads : loaded national (outcome_of file) ≡ Ok programme
-  pub reads : ReadsAs options.origin 0 bytes frames None
+  pub carries : Carries options.origin bytes frames
   pub good : Good programme frames options
   pub counts : HasCounts options.page frames a
 

@@ -12,7 +12,7 @@ mod schedule;
 mod show;
 mod state;
 
-ghost use Rattle.std.specs.Prelude.{◌≡◌, ◌≢◌, ◌+◌, ◌<◌, None, Ok, false};
+ghost use Rattle.std.specs.Prelude.{◌≡◌, ◌≢◌, ◌+◌, ◌<◌, Ok, false};
 ghost use Rattle.std.specs.Io.KnownBytes.{Appends};
 ghost use Rattle.sub_io.specs.Device.{AppendsPrefix, CanFail};
 ghost use Rattle.sub_io.specs.Reading.{IfTold};
@@ -20,7 +20,7 @@ ghost use Rattle.stl_file.specs.Reader.{outcome_of};
 ghost use Rattle.stl_rows.specs.Loading.{loaded};
 ghost use Rattle.stl_rows.specs.Programme.{ProgrammeValue};
 ghost use Rattle.sub_check.specs.LostRows.{RobustToMarkedLoss};
-ghost use Rattle.sub_check.specs.PesReading.{ReadsAs};
+ghost use Rattle.sub_check.specs.PesFrames.{Carries};
 ghost use Rattle.sub_check.specs.Robust.{Robust};
 ghost use Rattle.sub_check.specs.Transmission.{Transmission};
 ghost use Rattle.sub_answer.specs.Answering.{AnswersCheck, AnswersListen, AnswersNormal};
@@ -102,7 +102,7 @@ pub fn answer<S: Source, T: Source, F: Flush, K: Sink>(
         → IfTold (S.remaining first.old) (λ file.
         loaded national (outcome_of file) ≡ Ok programme
         → IfTold (T.remaining second.old) (λ bytes.
-        ReadsAs options.origin 0 bytes frames None
+        Carries options.origin bytes frames
         → result ≡ Status.Done
         → Robust programme frames options
         × RobustToMarkedLoss programme frames options))) }

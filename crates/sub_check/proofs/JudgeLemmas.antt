@@ -1,22 +1,27 @@
 -- What each way out of the checker's loop shows of the whole file: `unread_refusal`,
 -- `empty_refusal`, `reaches_first`, `reaches_next`, `end_accepted`, `end_refused`.
-use Rattle.std.proofs.Common.{◌≡◌, ℕ, ◌+◌, ◌-◌, ◌<◌, ◌≤◌, List, [], ◌∷◌, length, drop}
+use Rattle.std.proofs.Common.{◌≡◌, ℕ, ◌+◌, ◌-◌, ◌<◌, ◌≤◌, List, [], ◌∷◌, ◌++◌, length, drop}
 use Rattle.std.proofs.Common.{take, get_or}
-use Rattle.std.proofs.Common.{Option, Some, None, Result, MatchResult, Ok, Err, All, sym, ap}
-use Rattle.std.proofs.Common.{◌∙◌, subst, arith}
-use Rattle.std.specs.List.{AllByRecursion}
+use Rattle.std.proofs.Common.{Option, Some, None, Result, MatchResult, Ok, Err, All, sym, ap, refl}
+use Rattle.std.proofs.Common.{◌∙◌, subst, arith, append_assoc, append-nil}
+use Rattle.std.specs.List.{AllByRecursion, AllZip, concat}
+use Rattle.std.proofs.lemmas.List.Folds.{concat-append}
 use Rattle.std.proofs.lemmas.List.{get_or-map, take_more, take_all}
 use Rattle.std.proofs.lemmas.List.Elements.{All-from_recursion}
 use Rattle.stl_rows.specs.Programme.{ProgrammeValue, last_out}
 use Rattle.ttx_pes.specs.DataUnit.{UnitValue, IsUnit}
-use Rattle.ttx_pes.specs.PesPacket.{PesValue, IsPesValue}
-use Rattle.ttx_pes.specs.Reading.{answer_at, rest_after}
+use Rattle.ttx_pes.specs.PesPacket.{PesValue, IsPesPacket, IsPesValue}
+use Rattle.ttx_pes.specs.Reader.{TakesPesPacket}
+use Rattle.ttx_pes.specs.Reading.{answer_at, most_packets, rest_after}
+use Rattle.sub_plan.specs.FrameTime.{frames_of_day, pts_of}
 use Rattle.sub_plan.specs.Options.{OptionsValue}
-use Rattle.sub_check.specs.Checking.{Accepts, AreWhole, Reaches, TellsEnd, TellsFrame}
+use Rattle.sub_check.specs.Checking.{Accepts, AreTaken, AreWhole, IsFrameOf, Reaches, TellsEnd}
+use Rattle.sub_check.specs.Checking.{TellsFrame}
 use Rattle.sub_check.specs.FirstBroken.{NamesFirst, unread_fault}
 use Rattle.sub_check.specs.Following.{Follows, FrameOk, IsSentFrame}
 use Rattle.sub_check.specs.FrameRules.{Unread, task_of, frame_at, packets_at, end_frame, joined}
 use Rattle.sub_check.specs.PacketRules.{header_count, packets_of_units}
+use Rattle.sub_check.specs.PesFrames.{IsSentAs}
 use Rattle.sub_check.specs.PesReading.{ReadsAs}
 use Rattle.sub_check.specs.Transmission.{SentFrame, Transmission}
 use Rattle.sub_check.specs.declared.checker.Accepted.{Accepted}
@@ -25,6 +30,7 @@ use Rattle.sub_check.specs.declared.fault.CheckFault.TheVariants as fault
 use Rattle.sub_check.specs.declared.frame_rules.Checker.{Checker}
 use Rattle.sub_check.proofs.OrderLemmas.{first_late, first_nothing, first_unread, holds_but_end}
 use Rattle.sub_check.proofs.PacketLists.{Each-push}
+use Rattle.sub_check.proofs.PesFileLemmas.{no_bytes}
 use Rattle.sub_check.proofs.PesReadingLemmas.{reads_next, reads_end, reads_fault}
 use Rattle.sub_check.proofs.PesReadingLemmas.{reads-below}
 
@@ -57,6 +63,65 @@ whole_more frames n v l same is before =
     (All-from_recursion (λ packet. length packet ≡ 42) (packets_of_units v.units)
     (whole_units v.units is.each))))
 
+-- ---- packets of the grammar
+
+-- Two lists that agree place by place, and one item more of each.
+zip_push :
+    {A B : Type 0} (R : A → B → Type 0) (xs : List A) (ys : List B) (x : A) (y : B)
+    → AllZip R xs ys
+    → R x y
+    → AllZip R (xs ++ x ∷ []) (ys ++ y ∷ [])
+zip_push R [] [] x y h r = (r, tt)
+zip_push R [] (b ∷ ys) x y h r = elim h [ ]
+zip_push R (a ∷ xs) [] x y h r = elim h [ ]
+zip_push R (a ∷ xs) (b ∷ ys) x y h r = (h.0, zip_push R xs ys x y h.1 r)
+
+-- One packet more is taken.
+taken_more :
+    (origin : ℕ) (bytes rest : List ℕ) (frames : Transmission) (n : ℕ) (v : PesValue) (frame : ℕ)
+    (old new : Option (List ℕ))
+    → AreTaken origin bytes (take n frames) rest
+    → old ≡ Some rest
+    → new ≡ Some (rest_after rest)
+    → TakesPesPacket old new v
+    → IsSentFrame frames n frame (packets_of_units v.units)
+    → IsFrameOf origin v.pts frame
+    → AreTaken origin bytes (take (n + 1) frames) (rest_after rest)
+taken_more origin bytes rest frames n v frame old new taken was is takes sent of =
+    let d : SentFrame = record { frame = 0; packets = [] } in
+    let s : SentFrame = get_or frames n d in
+    let number : s.frame ≡ frame =
+    sym (get_or-map (λ (x : SentFrame). x.frame) frames n d 0 sent.there) ∙ sent.frame_is in
+    let packets : s.packets ≡ packets_of_units v.units =
+    sym (get_or-map (λ (x : SentFrame). x.packets) frames n d [] sent.there) ∙ sent.packets_are in
+    let parts : rest ≡ takes.bytes ++ rest_after rest = rw (was, is) at takes.consumed in
+    record {
+      values = taken.values ++ v ∷ [];
+      packets = taken.packets ++ takes.bytes ∷ [];
+      each = zip_push IsPesPacket taken.values taken.packets v takes.bytes taken.each
+          takes.is_packet;
+      sent =
+          subst (AllZip (IsSentAs origin) (taken.values ++ v ∷ []))
+          (sym (take_more frames n d sent.there))
+          (zip_push (IsSentAs origin) taken.values (take n frames) v s taken.sent (record {
+            in_day = subst (λ (f : ℕ). f < frames_of_day) (sym number) of.in_day;
+            pts = sym of.is ∙ ap (pts_of origin) (sym number);
+            packets = packets;
+          }));
+      joined =
+          taken.joined
+          ∙ ap (λ r. concat taken.packets ++ r) parts
+          ∙ sym (append_assoc (concat taken.packets) takes.bytes (rest_after rest))
+          ∙ ap (λ r. r ++ rest_after rest)
+          (sym (concat-append taken.packets (takes.bytes ∷ [])
+          ∙ ap (λ r. concat taken.packets ++ r) (append-nil takes.bytes)));
+    }
+
+-- Nothing is taken yet.
+none_taken : (origin : ℕ) (bytes : List ℕ) → AreTaken origin bytes [] bytes
+none_taken origin bytes =
+    record { values = []; packets = []; each = tt; sent = tt; joined = refl }
+
 module _
     (programme : ProgrammeValue) (options : OptionsValue)
     (frames : Transmission) (unread : Option Unread)
@@ -65,13 +130,14 @@ module _
     -- holds.
     pub unread_refusal :
         (n : ℕ) (bytes : List ℕ) (v : PesValue) (f : CheckFault)
+        → n ≤ most_packets
         → n ≤ length frames
         → ((j : ℕ) → j < n → FrameOk (task_of programme options unread) frames j)
         → ReadsAs options.origin n bytes (drop n frames) unread
         → TellsFrame options.origin n bytes v (Err f)
         → NamesFirst (task_of programme options unread) frames f
-    unread_refusal n bytes v f within past reads (u, told, ends) =
-        let at = reads_fault options.origin n bytes frames unread u reads ends in
+    unread_refusal n bytes v f few within past reads (u, told, ends) =
+        let at = reads_fault options.origin n bytes frames unread u few reads ends in
         let all : length frames ≡ n = omega (arith, at.0) in
         subst (NamesFirst (task_of programme options unread) frames)
         (ap (λ m. unread_fault m (Some u)) all ∙ sym told)
@@ -85,7 +151,7 @@ module _
         → answer_at 0 bytes ≡ Ok None
         → NamesFirst (task_of programme options unread) frames fault.Empty
     empty_refusal bytes reads is =
-        let at = reads_end options.origin 0 bytes frames unread reads is in
+        let at = reads_end options.origin 0 bytes frames unread (omega arith) reads is in
         first_nothing (task_of programme options unread) frames at.1 (omega (arith, at.0))
 
     -- The first PES packet is the first frame of the list.
@@ -95,35 +161,42 @@ module _
         → TellsFrame options.origin 0 bytes v (Ok (Some frame))
         → IsSentFrame frames 0 frame (packets_of_units v.units)
     first_sent bytes v frame reads (is, of) =
-        (reads_next options.origin 0 bytes frames unread v frame reads is of).sent
+        (reads_next options.origin 0 bytes frames unread v frame (omega arith) reads is of).sent
 
     -- What is reached after it.
     pub reaches_first :
-        (bytes : List ℕ) (v : PesValue) (frame : ℕ) (remaining : Option (List ℕ)) (c : Checker)
+        (bytes : List ℕ) (v : PesValue) (frame : ℕ) (old remaining : Option (List ℕ)) (c : Checker)
         → ReadsAs options.origin 0 bytes frames unread
         → TellsFrame options.origin 0 bytes v (Ok (Some frame))
+        → old ≡ Some bytes
         → remaining ≡ Some (rest_after bytes)
+        → TakesPesPacket old remaining v
         → IsPesValue v
         → Follows (task_of programme options unread) frames 1 c
-        → Reaches (task_of programme options unread) options.origin frames unread remaining 1
+        → Reaches (task_of programme options unread) options.origin bytes frames unread remaining 1
         frame c
-    reaches_first bytes v frame remaining c reads (is, of) left value follows =
-        let next = reads_next options.origin 0 bytes frames unread v frame reads is of in
+    reaches_first bytes v frame old remaining c reads (is, of) told left takes value follows =
+        let next =
+        reads_next options.origin 0 bytes frames unread v frame (omega arith) reads is of in
         record {
           few = omega arith;
           within = let there = next.sent.there in omega arith;
           first_is = next.sent.frame_is;
           rest = rest_after bytes;
           rest_is = left;
+          taken =
+              taken_more options.origin bytes bytes frames 0 v frame old remaining
+              (none_taken options.origin bytes) told left takes next.sent of;
           left = next.left;
           follows = follows;
           whole = whole_more frames 0 v next.sent.there next.sent.packets_are value tt;
         }
 
     module _
-        (n first : ℕ) (before : Option (List ℕ)) (b : Checker)
+        (bytes : List ℕ) (n first : ℕ) (before : Option (List ℕ)) (b : Checker)
         (reached :
-        Reaches (task_of programme options unread) options.origin frames unread before n first b)
+        Reaches (task_of programme options unread) options.origin bytes frames unread before n
+        first b)
       where
         -- The next PES packet is the next frame of the list.
         pub next_sent :
@@ -131,20 +204,23 @@ module _
             → TellsFrame options.origin n reached.rest v (Ok (Some frame))
             → IsSentFrame frames n frame (packets_of_units v.units)
         next_sent v frame (is, of) =
-            (reads_next options.origin n reached.rest frames unread v frame reached.left is of).sent
+            (reads_next options.origin n reached.rest frames unread v frame reached.few reached.left
+            is of).sent
 
         -- What is reached after it.
         pub reaches_next :
             (v : PesValue) (frame : ℕ) (remaining : Option (List ℕ)) (c : Checker)
             → TellsFrame options.origin n reached.rest v (Ok (Some frame))
             → remaining ≡ Some (rest_after reached.rest)
+            → TakesPesPacket before remaining v
             → IsPesValue v
             → Follows (task_of programme options unread) frames (n + 1) c
-            → Reaches (task_of programme options unread) options.origin frames unread remaining
-            (n + 1) first c
-        reaches_next v frame remaining c (is, of) left value follows =
+            → Reaches (task_of programme options unread) options.origin bytes frames unread
+            remaining (n + 1) first c
+        reaches_next v frame remaining c (is, of) left takes value follows =
             let next =
-            reads_next options.origin n reached.rest frames unread v frame reached.left is of in
+            reads_next options.origin n reached.rest frames unread v frame reached.few reached.left
+            is of in
             let below = reads-below n reached.rest v is in
             let few = reached.few in
             record {
@@ -153,6 +229,9 @@ module _
               first_is = reached.first_is;
               rest = rest_after reached.rest;
               rest_is = left;
+              taken =
+                  taken_more options.origin bytes reached.rest frames n v frame before remaining
+                  reached.taken reached.rest_is left takes next.sent of;
               left = next.left;
               follows = follows;
               whole =
@@ -165,16 +244,18 @@ module _
             → TellsFrame options.origin n reached.rest v (Err f)
             → NamesFirst (task_of programme options unread) frames f
         next_refusal v f told =
-            unread_refusal n reached.rest v f reached.within reached.follows.past reached.left told
+            unread_refusal n reached.rest v f reached.few reached.within reached.follows.past
+            reached.left told
 
         -- At the end of the file: accepted.
         pub end_accepted :
             (a : Accepted)
             → answer_at n reached.rest ≡ Ok None
             → TellsEnd (last_out programme.records) first b.frame b.headers (Ok a)
-            → Accepts (task_of programme options unread) frames a
+            → Accepts (task_of programme options unread) options.origin bytes frames a
         end_accepted a is (over, count, headers) =
-            let at = reads_end options.origin n reached.rest frames unread reached.left is in
+            let at =
+            reads_end options.origin n reached.rest frames unread reached.few reached.left is in
             let within = reached.within in
             let all : n ≡ length frames = omega (arith, at.0) in
             let follows = reached.follows in
@@ -182,7 +263,14 @@ module _
             let last : b.frame ≡ end_frame frames =
             follows.frame_is ∙ ap (λ m. frame_at frames (m - 1)) all in
             let first_is = reached.first_is in
+            let few = reached.few in
             record {
+              few = omega arith;
+              taken =
+                  subst (λ fs. AreTaken options.origin bytes fs [])
+                  (take_all n frames (omega arith))
+                  (subst (AreTaken options.origin bytes (take n frames))
+                  (no_bytes n reached.rest is) reached.taken);
               holds =
                   holds_but_end (task_of programme options unread) frames at.1
                   (λ j l. follows.past j (omega arith)) (omega arith)
@@ -202,7 +290,8 @@ module _
             → TellsEnd (last_out programme.records) first b.frame b.headers (Err f)
             → NamesFirst (task_of programme options unread) frames f
         end_refused f is (not_over, told) =
-            let at = reads_end options.origin n reached.rest frames unread reached.left is in
+            let at =
+            reads_end options.origin n reached.rest frames unread reached.few reached.left is in
             let within = reached.within in
             let all : n ≡ length frames = omega (arith, at.0) in
             let follows = reached.follows in
@@ -220,7 +309,8 @@ module _
             (r : Result Accepted CheckFault)
             → answer_at n reached.rest ≡ Ok None
             → TellsEnd (last_out programme.records) first b.frame b.headers r
-            → MatchResult r (Accepts (task_of programme options unread) frames)
+            → MatchResult r
+            (Accepts (task_of programme options unread) options.origin bytes frames)
             (NamesFirst (task_of programme options unread) frames)
         end_told (Ok a) is told = end_accepted a is told
         end_told (Err f) is told = end_refused f is told

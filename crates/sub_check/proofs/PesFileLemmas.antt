@@ -1,6 +1,7 @@
--- What is read packet by packet is what the grammar says of the whole file: `law_of_pes_files`.
-use Rattle.std.proofs.Common.{◌≡◌, ℕ, ◌+◌, ◌≤◌, Bool, true, false, cond, ◌==◌, List, []}
-use Rattle.std.proofs.Common.{◌∷◌, ◌++◌, length, Some, None, Result, Ok, Err, refl, sym, ap}
+-- What is read packet by packet is what the grammar says of the whole file: `law_of_pes_files`,
+-- `carried_is_read`.
+use Rattle.std.proofs.Common.{◌≡◌, ℕ, zero, suc, ◌+◌, ◌≤◌, Bool, true, false, cond, ◌==◌, List, []}
+use Rattle.std.proofs.Common.{◌∷◌, ◌++◌, length, Option, Some, None, Result, Ok, Err, refl, sym, ap}
 use Rattle.std.proofs.Common.{◌∙◌, subst, arith, drop}
 use Rattle.std.specs.List.{AllZip, concat}
 use Rattle.std.proofs.lemmas.List.{drop_at}
@@ -12,13 +13,17 @@ use Rattle.ttx_pes.specs.declared.fault.PesFault.TheVariants as fault
 use Rattle.ttx_pes.proofs.DataUnitLemmas.{AreBytes-drop}
 use Rattle.ttx_pes.proofs.ReadingLemmas.{answer_of_packet, packet_is_read, read_is_packet}
 use Rattle.ttx_pes.proofs.ReadingLemmas.{rest_after-packet}
-use Rattle.sub_check.specs.PesFrames.{IsSentAs}
-use Rattle.sub_check.specs.PesReading.{LawOfPesFiles, ReadsAs}
+use Rattle.sub_plan.specs.FrameTime.{frames_of_day}
+use Rattle.sub_check.specs.PacketRules.{packets_of_units}
+use Rattle.sub_check.specs.PesFrames.{Carries, IsSentAs}
+use Rattle.sub_check.specs.PesReading.{LawOfPesFiles, PesFileValue, ReadsAs, file_at, file_by}
+use Rattle.sub_check.specs.PesReading.{file_with, frame_of_pts}
 use Rattle.sub_check.specs.Transmission.{Transmission}
-use Rattle.sub_check.proofs.PesReadingLemmas.{reads-below}
+use Rattle.sub_check.proofs.PesReadingLemmas.{found_below, reads-below, reads_ended, reads_more}
+use Rattle.sub_check.proofs.PesReadingLemmas.{step, step_last}
 
 -- Where nothing is read and no fault is told, no byte is left. For `sent_of`.
-no_bytes : (given : ℕ) (bytes : List ℕ) → answer_at given bytes ≡ Ok None → bytes ≡ []
+pub no_bytes : (given : ℕ) (bytes : List ℕ) → answer_at given bytes ≡ Ok None → bytes ≡ []
 unfolding answer_at
 no_bytes given [] e = refl
 no_bytes given (x ∷ b) e = absurd (go (given == most_packets) (packet_at (x ∷ b)) e)
@@ -60,46 +65,113 @@ record AreSent (origin given : ℕ) (bytes : List ℕ) (frames : Transmission) :
   pub joined : bytes ≡ concat packets
   pub sent : AllZip (IsSentAs origin) values frames
 
--- What is read are PES packets that are sent as the frames.
-sent_of :
-    (origin given : ℕ) (bytes : List ℕ) (frames : Transmission)
+-- What a packet that is read and the others are together. For `sent_of`.
+with_packet :
+    (origin given : ℕ) (bytes : List ℕ) (v : PesValue) (frame : ℕ) (frames : Transmission)
     → AreBytes bytes
-    → given ≤ most_packets
-    → ReadsAs origin given bytes frames None
-    → AreSent origin given bytes frames
-sent_of origin given bytes [] fit few ends =
-    record {
-      values = [];
-      packets = [];
-      each = tt;
-      few = omega arith;
-      joined = no_bytes given bytes ends;
-      sent = tt;
-    }
-sent_of origin given bytes (s ∷ frames) fit few (v, at, is, later) =
+    → answer_at given bytes ≡ Ok (Some v)
+    → frame_of_pts origin v.pts ≡ Some frame
+    → (AreBytes (rest_after bytes) → AreSent origin (given + 1) (rest_after bytes) frames)
+    → AreSent origin given bytes
+    (record { frame = frame; packets = packets_of_units v.units } ∷ frames)
+with_packet origin given bytes v frame frames fit at found others_of =
     let read = packet_of given bytes v at in
     let whole = read_is_packet v bytes read.0 fit read.1 in
     let left : rest_after bytes ≡ read.0 = rest_after-packet v bytes read.0 read.1 in
     let dropped : drop (length whole.0) bytes ≡ rest_after bytes =
     ap (drop (length whole.0)) whole.2 ∙ drop_at whole.0 read.0 (length whole.0) refl ∙ sym left in
-    let below = reads-below given bytes v at in
-    let others =
-    sent_of origin (given + 1) (rest_after bytes) frames
-    (subst AreBytes dropped (AreBytes-drop (length whole.0) bytes fit)) (omega arith) later in
+    let others = others_of (subst AreBytes dropped (AreBytes-drop (length whole.0) bytes fit)) in
     let most = others.few in
+    let is = found_below origin v.pts frames_of_day (Some frame) found in
     record {
       values = v ∷ others.values;
       packets = whole.0 ∷ others.packets;
       each = (whole.1, others.each);
       few = omega (arith, most);
       joined = whole.2 ∙ ap (λ rest. whole.0 ++ rest) (sym left ∙ others.joined);
-      sent = (is, others.sent);
+      sent = (record { in_day = is.0; pts = sym is.1; packets = refl }, others.sent);
     }
 
+-- What is read to the end are PES packets that are sent as the frames.
+sent_of :
+    (origin m given : ℕ) (bytes : List ℕ) (frames : Transmission)
+    → AreBytes bytes
+    → given + m ≡ most_packets
+    → file_at origin m bytes ≡ record { frames = frames; unread = None }
+    → AreSent origin given bytes frames
+sent_of origin zero given bytes frames fit all reads =
+    let is : given ≡ most_packets = omega arith in
+    go (answer_at most_packets bytes) refl (sym (step_last origin bytes) ∙ reads)
+  where
+    go :
+        (r : Result (Option PesValue) PesFault)
+        → answer_at most_packets bytes ≡ r
+        → file_by origin r (record { frames = []; unread = None })
+        ≡ record { frames = frames; unread = None }
+        → AreSent origin given bytes frames
+    go (Err f) at e = let same = ap (λ (x : PesFileValue). x.unread) e in cc
+    go (Ok None) at e =
+        subst (AreSent origin given bytes) (ap (λ (x : PesFileValue). x.frames) e) (record {
+          values = [];
+          packets = [];
+          each = tt;
+          few = omega arith;
+          joined = no_bytes most_packets bytes at;
+          sent = tt;
+        })
+    go (Ok (Some v)) at e = absurd (reads-below most_packets bytes v at refl)
+sent_of origin (suc m) given bytes frames fit all reads =
+    go (answer_at given bytes) refl (sym (step origin m given bytes all) ∙ reads)
+    (λ fits e.
+    sent_of origin m (given + 1) (rest_after bytes) (file_at origin m (rest_after bytes)).frames
+    fits (omega arith) e)
+  where
+    found :
+        (v : PesValue) (o : Option ℕ)
+        → answer_at given bytes ≡ Ok (Some v)
+        → frame_of_pts origin v.pts ≡ o
+        → file_with o (packets_of_units v.units) (file_at origin m (rest_after bytes))
+        ≡ record { frames = frames; unread = None }
+        → (AreBytes (rest_after bytes)
+        → file_at origin m (rest_after bytes)
+        ≡ record { frames = (file_at origin m (rest_after bytes)).frames; unread = None }
+        → AreSent origin (given + 1) (rest_after bytes) (file_at origin m (rest_after bytes)).frames)
+        → AreSent origin given bytes frames
+    found v None at is e others = let same = ap (λ (x : PesFileValue). x.unread) e in cc
+    found v (Some frame) at is e others =
+        let rest = file_at origin m (rest_after bytes) in
+        let ends : rest.unread ≡ None = ap (λ (x : PesFileValue). x.unread) e in
+        subst (AreSent origin given bytes) (ap (λ (x : PesFileValue). x.frames) e)
+        (with_packet origin given bytes v frame rest.frames fit at is
+        (λ fits. others fits
+        (ap (λ u. let f : PesFileValue = record { frames = rest.frames; unread = u } in f) ends)))
+
+    go :
+        (r : Result (Option PesValue) PesFault)
+        → answer_at given bytes ≡ r
+        → file_by origin r (file_at origin m (rest_after bytes))
+        ≡ record { frames = frames; unread = None }
+        → (AreBytes (rest_after bytes)
+        → file_at origin m (rest_after bytes)
+        ≡ record { frames = (file_at origin m (rest_after bytes)).frames; unread = None }
+        → AreSent origin (given + 1) (rest_after bytes) (file_at origin m (rest_after bytes)).frames)
+        → AreSent origin given bytes frames
+    go (Err f) at e others = let same = ap (λ (x : PesFileValue). x.unread) e in cc
+    go (Ok None) at e others =
+        subst (AreSent origin given bytes) (ap (λ (x : PesFileValue). x.frames) e) (record {
+          values = [];
+          packets = [];
+          each = tt;
+          few = omega arith;
+          joined = no_bytes given bytes at;
+          sent = tt;
+        })
+    go (Ok (Some v)) at e others = found v (frame_of_pts origin v.pts) at refl e others
+
 -- At the end of the bytes nothing is read.
-nothing : (origin given : ℕ) → ReadsAs origin given [] [] None
+nothing : (given : ℕ) → answer_at given [] ≡ Ok None
 unfolding answer_at
-nothing origin given = refl
+nothing given = refl
 
 -- PES packets that are sent as frames are read as these.
 reads_of :
@@ -108,35 +180,42 @@ reads_of :
     → given + length packets ≤ most_packets
     → AllZip (IsSentAs origin) values frames
     → ReadsAs origin given (concat packets) frames None
-reads_of origin given [] [] [] each few sent = nothing origin given
+reads_of origin given [] [] [] each few sent =
+    reads_ended origin given [] None (omega arith) (nothing given)
 reads_of origin given [] [] (s ∷ frames) each few sent = elim sent [ ]
 reads_of origin given [] (p ∷ packets) frames each few sent = elim each [ ]
 reads_of origin given (v ∷ values) [] frames each few sent = elim each [ ]
 reads_of origin given (v ∷ values) (p ∷ packets) [] each few sent = elim sent [ ]
 reads_of origin given (v ∷ values) (p ∷ packets) (s ∷ frames) each few sent =
     let rest = concat packets in
-    let read = packet_is_read v p rest each.0 in (
-      v,
-      answer_of_packet given (p ++ rest) v rest (λ e. omega arith) read,
-      sent.0,
-      subst (λ b. ReadsAs origin (given + 1) b frames None)
-          (sym (rest_after-packet v (p ++ rest) rest read))
-          (reads_of origin (given + 1) values packets frames each.1 (omega arith) sent.1),
-    )
+    let read = packet_is_read v p rest each.0 in
+    reads_more origin given (p ++ rest) v s frames None (omega arith)
+    (answer_of_packet given (p ++ rest) v rest (λ e. omega arith) read) sent.0
+    (subst (λ b. ReadsAs origin (given + 1) b frames None)
+    (sym (rest_after-packet v (p ++ rest) rest read))
+    (reads_of origin (given + 1) values packets frames each.1 (omega arith) sent.1))
 
--- What is read to the end is a PES file that is sent as the frames, and the other way round.
+-- A PES file that carries frames is read as these. For `check`.
+pub carried_is_read :
+    (origin : ℕ) (bytes : List ℕ) (frames : Transmission)
+    → Carries origin bytes frames
+    → ReadsAs origin 0 bytes frames None
+carried_is_read origin bytes frames is =
+    let few = is.file.few in
+    subst (λ b. ReadsAs origin 0 b frames None) (sym is.file.joined)
+    (reads_of origin 0 is.values is.file.packets frames is.file.each (omega arith) is.sent.each)
+
+-- What is read to the end is a PES file that carries the frames, and the other way round.
 pub law_of_pes_files : LawOfPesFiles
 law_of_pes_files origin bytes frames fit = (
   λ (reads, rising).
-      let s = sent_of origin 0 bytes frames fit (omega arith) reads in
-      let few = s.few in (
-        s.values,
-        record { packets = s.packets; each = s.each; few = omega arith; joined = s.joined },
-        record { each = s.sent; rising = rising },
-      ),
-  λ (values, file, sent). let few = file.few in (
-    subst (λ b. ReadsAs origin 0 b frames None) (sym file.joined)
-        (reads_of origin 0 values file.packets frames file.each (omega arith) sent.each),
-    sent.rising,
-  ),
+      let s = sent_of origin most_packets 0 bytes frames fit refl reads in
+      let few = s.few in
+      record {
+        values = s.values;
+        file =
+            record { packets = s.packets; each = s.each; few = omega arith; joined = s.joined };
+        sent = record { each = s.sent; rising = rising };
+      },
+  λ is. (carried_is_read origin bytes frames is, is.sent.rising),
 )

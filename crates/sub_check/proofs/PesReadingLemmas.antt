@@ -1,10 +1,10 @@
--- One PES packet read, in terms of the frames that a file is read as: `reads_next`, `reads_end`,
--- `reads_fault`.
-use Rattle.std.proofs.Common.{Bool, true, false, cond, ◌==◌, ◌≡◌, ◌≢◌, ℕ, suc, ◌+◌, ◌<◌, ◌≤◌}
-use Rattle.std.proofs.Common.{List, [], ◌∷◌, length, drop, get_or}
+-- One PES packet read, in terms of the value of the whole file: `reads_next`, `reads_end`,
+-- `reads_fault`; and put together, `reads_more`, `reads_ended`.
+use Rattle.std.proofs.Common.{Bool, true, false, cond, ◌==◌, ◌≡◌, ◌≢◌, ℕ, zero, suc, ◌+◌, ◌-◌, ◌<◌}
+use Rattle.std.proofs.Common.{◌≤◌, inl, inr, List, [], ◌∷◌, length, drop, get_or, MatchOption}
 use Rattle.std.proofs.Common.{Option, Some, None, Ok, Err, refl, sym, ap, ◌∙◌, subst, arith}
 use Rattle.std.proofs.lemmas.List.{get_or-map, get_or-drop, length-drop, drop-drop}
-use Rattle.std.proofs.lemmas.Bool.{eq-eqb}
+use Rattle.std.proofs.lemmas.Bool.{eq-eqb, eqb-true, eqb-false, cases_lt}
 use Rattle.ttx_pes.specs.PesPacket.{PesValue}
 use Rattle.sub_io.specs.Reading.{◌>>=◌}
 use Rattle.ttx_pes.specs.Reading.{answer_at, rest_after, most_packets, packet_at, is_read_failure}
@@ -16,11 +16,13 @@ use Rattle.sub_check.specs.Following.{IsSentFrame}
 use Rattle.sub_check.specs.FrameRules.{Unread}
 use Rattle.sub_check.specs.FrameRules.Unread.{BadPacket, NoFrame}
 use Rattle.sub_check.specs.PacketRules.{packets_of_units}
+use Rattle.sub_plan.specs.FrameTime.{frames_of_day, pts_of}
 use Rattle.sub_check.specs.PesFrames.{IsSentAs}
-use Rattle.sub_check.specs.PesReading.{EndsAs, ReadsAs}
+use Rattle.sub_check.specs.PesReading.{EndsAs, PesFileValue, ReadsAs, file_at, file_by, file_with}
+use Rattle.sub_check.specs.PesReading.{frame_below, frame_of_pts}
 use Rattle.sub_check.specs.Transmission.{SentFrame, Transmission}
 
--- A frame of the list, from what stands behind those before it.
+-- A frame of the list, from what stands after those before it.
 is_sent :
     (frames : Transmission) (n : ℕ) (s : SentFrame) (others : Transmission)
     → drop n frames ≡ s ∷ others
@@ -42,116 +44,160 @@ is_sent frames n s others e =
           ∙ ap (λ (x : SentFrame). x.packets) at;
     }
 
--- What is read of one PES packet.
-pub record ReadsNext
-    (origin n : ℕ) (bytes : List ℕ) (frames : Transmission) (unread : Option Unread)
-    (v : PesValue) (frame : ℕ)
-    : Type 0 where
-  pub sent : IsSentFrame frames n frame (packets_of_units v.units)
-  pub left : ReadsAs origin (n + 1) (rest_after bytes) (drop (n + 1) frames) unread
+-- ---- the frame of a PTS
 
--- A PES packet with a frame is the next frame of the list.
-pub reads_next :
-    (origin n : ℕ) (bytes : List ℕ) (frames : Transmission) (unread : Option Unread) (v : PesValue)
-    (frame : ℕ)
-    → ReadsAs origin n bytes (drop n frames) unread
-    → answer_at n bytes ≡ Ok (Some v)
-    → IsFrameOf origin v.pts frame
-    → ReadsNext origin n bytes frames unread v frame
-reads_next origin n bytes frames unread v frame reads is of =
-    go (drop n frames) refl reads
+-- What is told of the frames below a number: the frame that is found has the PTS, or none has.
+pub found_below :
+    (origin pts n : ℕ) (r : Option ℕ)
+    → frame_below origin pts n ≡ r
+    → MatchOption r ((f : ℕ) → f < n → pts_of origin f ≢ pts)
+    (λ f. (f < n) × (pts_of origin f ≡ pts))
+unfolding frame_below
+found_below origin pts zero (Some f) e = cc
+found_below origin pts zero None e = λ f l. absurd (omega arith)
+found_below origin pts (suc n) r e =
+    go (pts_of origin n == pts) (eqb-true (pts_of origin n) pts) (eqb-false (pts_of origin n) pts)
+    r e (found_below origin pts n r)
   where
-    nothing : (u : Option Unread) → EndsAs origin n bytes u → ⊥
-    nothing None e = let both = sym is ∙ e in cc
-    nothing (Some (BadPacket f)) e = let both = sym is ∙ e in cc
-    nothing (Some NoFrame) (w, e, other) =
-        let both = sym is ∙ e in
-        let same : v ≡ w = cc in
-        other frame of.in_day (of.is ∙ ap (λ (x : PesValue). x.pts) same)
-
     go :
-        (xs : Transmission)
-        → drop n frames ≡ xs
-        → ReadsAs origin n bytes xs unread
-        → ReadsNext origin n bytes frames unread v frame
-    go [] e r = absurd (nothing unread r)
-    go (s ∷ others) e (w, a, sent, later) =
-        let both = sym is ∙ a in
-        let same : w ≡ v = cc in
-        let at : s.frame ≡ frame =
-        of.alone s.frame sent.in_day (sym sent.pts ∙ ap (λ (x : PesValue). x.pts) same) in
-        let packets : s.packets ≡ packets_of_units v.units =
-        sent.packets ∙ ap (λ (x : PesValue). packets_of_units x.units) same in
-        let here = is_sent frames n s others e in
-        record {
-          sent = record {
-            there = here.there;
-            frame_is = here.frame_is ∙ at;
-            packets_are = here.packets_are ∙ packets;
-          };
-          left =
-              subst (λ xs. ReadsAs origin (n + 1) (rest_after bytes) xs unread)
-              (sym (sym (drop-drop 1 n frames) ∙ ap (drop 1) e)) later;
-        }
+        (b : Bool)
+        → (b ≡ true → pts_of origin n ≡ pts)
+        → (b ≡ false → pts_of origin n ≢ pts)
+        → (x : Option ℕ)
+        → cond b (Some n) (frame_below origin pts n) ≡ x
+        → (frame_below origin pts n ≡ x
+        → MatchOption x ((f : ℕ) → f < n → pts_of origin f ≢ pts)
+        (λ f. (f < n) × (pts_of origin f ≡ pts)))
+        → MatchOption x ((f : ℕ) → f < suc n → pts_of origin f ≢ pts)
+        (λ f. (f < suc n) × (pts_of origin f ≡ pts))
+    go true same other None q ih = cc
+    go true same other (Some f) q ih =
+        let is : n ≡ f = cc in (omega arith, ap (pts_of origin) (sym is) ∙ same refl)
+    go false same other (Some f) q ih = let h = ih q in let l = h.0 in (omega arith, h.1)
+    go false same other None q ih = λ f l.
+        elim (cases_lt f n) [
+          | inl before ↦ ih q f before
+          | inr here ↦ let is : n ≡ f = omega arith in
+              subst (λ (k : ℕ). pts_of origin k ≢ pts) is (other refl)
+        ]
 
--- Where the bytes are at their end, so is the list.
-pub reads_end :
-    (origin n : ℕ) (bytes : List ℕ) (frames : Transmission) (unread : Option Unread)
-    → ReadsAs origin n bytes (drop n frames) unread
-    → answer_at n bytes ≡ Ok None
-    → (length frames ≤ n) × (unread ≡ None)
-reads_end origin n bytes frames unread reads is = go (drop n frames) refl reads
+-- Two frames of the day have one PTS only where they are one.
+same_frame :
+    (origin a b : ℕ)
+    → a < frames_of_day
+    → b < frames_of_day
+    → pts_of origin a ≡ pts_of origin b
+    → a ≡ b
+same_frame origin a b l m e = omega arith
+
+-- The frame of the day that has a PTS is found.
+frame_found :
+    (origin pts frame : ℕ)
+    → frame < frames_of_day
+    → pts_of origin frame ≡ pts
+    → frame_of_pts origin pts ≡ Some frame
+frame_found origin pts frame day e =
+    go (frame_of_pts origin pts) (found_below origin pts frames_of_day (frame_of_pts origin pts) refl)
   where
-    ended : (u : Option Unread) → EndsAs origin n bytes u → u ≡ None
-    ended None e = refl
-    ended (Some (BadPacket f)) e = let both = sym is ∙ e in cc
-    ended (Some NoFrame) (w, e, other) = let both = sym is ∙ e in cc
-
     go :
-        (xs : Transmission)
-        → drop n frames ≡ xs
-        → ReadsAs origin n bytes xs unread
-        → (length frames ≤ n) × (unread ≡ None)
-    go [] e r =
-        let size : length (drop n frames) ≡ 0 = ap length e in
-        (omega (arith, length-drop n frames), ended unread r)
-    go (s ∷ others) e (w, a, sent, later) = let both = sym is ∙ a in cc
+        (r : Option ℕ)
+        → MatchOption r ((f : ℕ) → f < frames_of_day → pts_of origin f ≢ pts)
+        (λ f. (f < frames_of_day) × (pts_of origin f ≡ pts))
+        → r ≡ Some frame
+    go None none = absurd (none frame day e)
+    go (Some f) (l, is) = ap Some (same_frame origin f frame l day (is ∙ sym e))
 
--- Where no frame is read of the bytes, the list is at its end.
-pub reads_fault :
-    (origin n : ℕ) (bytes : List ℕ) (frames : Transmission) (unread : Option Unread) (u : Unread)
-    → ReadsAs origin n bytes (drop n frames) unread
-    → EndsAs origin n bytes (Some u)
-    → (length frames ≤ n) × (unread ≡ Some u)
-reads_fault origin n bytes frames unread u reads is = go (drop n frames) refl reads
+-- Where no frame of the day has a PTS, none is found.
+no_frame_found :
+    (origin pts : ℕ)
+    → ((frame : ℕ) → frame < frames_of_day → pts_of origin frame ≢ pts)
+    → frame_of_pts origin pts ≡ None
+no_frame_found origin pts none =
+    go (frame_of_pts origin pts) (found_below origin pts frames_of_day (frame_of_pts origin pts) refl)
   where
-    same : (x : Option Unread) (y : Unread) → EndsAs origin n bytes x
-        → EndsAs origin n bytes (Some y) → x ≡ Some y
-    same None (BadPacket f) e d = let both = sym e ∙ d in cc
-    same None NoFrame e (w, d, other) = let both = sym e ∙ d in cc
-    same (Some (BadPacket f)) (BadPacket h) e d = let both = sym e
-        ∙ d in let eq : f ≡ h = cc in ap (λ z. Some (BadPacket z)) eq
-    same (Some (BadPacket f)) NoFrame e (w, d, other) = let both = sym e ∙ d in cc
-    same (Some NoFrame) (BadPacket f) (w, e, other) d = let both = sym e ∙ d in cc
-    same (Some NoFrame) NoFrame e d = refl
-
-    never : (y : Unread) (s : SentFrame) (w : PesValue) → answer_at n bytes ≡ Ok (Some w)
-        → IsSentAs origin w s → EndsAs origin n bytes (Some y) → ⊥
-    never (BadPacket f) s w a sent d = let both = sym a ∙ d in cc
-    never NoFrame s w a sent (v, d, other) =
-        let both = sym a ∙ d in
-        let eq : w ≡ v = cc in
-        other s.frame sent.in_day (sym sent.pts ∙ ap (λ (x : PesValue). x.pts) eq)
-
     go :
-        (xs : Transmission)
-        → drop n frames ≡ xs
-        → ReadsAs origin n bytes xs unread
-        → (length frames ≤ n) × (unread ≡ Some u)
-    go [] e r =
-        let size : length (drop n frames) ≡ 0 = ap length e in
-        (omega (arith, length-drop n frames), same unread u r is)
-    go (s ∷ others) e (w, a, sent, later) = absurd (never u s w a sent is)
+        (r : Option ℕ)
+        → MatchOption r ((f : ℕ) → f < frames_of_day → pts_of origin f ≢ pts)
+        (λ f. (f < frames_of_day) × (pts_of origin f ≡ pts))
+        → r ≡ None
+    go None none = refl
+    go (Some f) (l, is) = absurd (none f l is)
+
+-- ---- the value of a file, one PES packet on
+
+-- A file is what its first PES packet is, and then the file of the others.
+pub step :
+    (origin m given : ℕ) (bytes : List ℕ)
+    → given + suc m ≡ most_packets
+    → file_at origin (suc m) bytes
+    ≡ file_by origin (answer_at given bytes) (file_at origin m (rest_after bytes))
+unfolding file_at
+step origin m given bytes e =
+    let is : most_packets - suc m ≡ given = omega arith in
+    ap (λ n. file_by origin (answer_at n bytes) (file_at origin m (rest_after bytes))) is
+
+-- The same after so many PES packets.
+step_after :
+    (origin given : ℕ) (bytes : List ℕ)
+    → given < most_packets
+    → file_at origin (most_packets - given) bytes
+    ≡ file_by origin (answer_at given bytes)
+    (file_at origin (most_packets - (given + 1)) (rest_after bytes))
+step_after origin given bytes l =
+    let is : most_packets - given ≡ suc (most_packets - (given + 1)) = omega arith in
+    ap (λ m. file_at origin m bytes) is
+    ∙ step origin (most_packets - (given + 1)) given bytes (omega arith)
+
+-- The same where no more may follow.
+pub step_last :
+    (origin : ℕ) (bytes : List ℕ)
+    → file_at origin zero bytes
+    ≡ file_by origin (answer_at most_packets bytes) (record { frames = []; unread = None })
+unfolding file_at
+step_last origin bytes = refl
+
+-- The same with some file for the others.
+some_step :
+    (origin given : ℕ) (bytes : List ℕ)
+    → given ≤ most_packets
+    → (rest : PesFileValue)
+    × (file_at origin (most_packets - given) bytes
+    ≡ file_by origin (answer_at given bytes) rest)
+some_step origin given bytes l =
+    elim (cases_lt given most_packets) [
+      | inl below ↦ (
+        file_at origin (most_packets - (given + 1)) (rest_after bytes),
+        step_after origin given bytes below,
+      )
+      | inr here ↦ let is : given ≡ most_packets = omega arith in
+          let none : most_packets - given ≡ zero = omega arith in (
+            record { frames = []; unread = None },
+            ap (λ m. file_at origin m bytes) none
+                ∙ step_last origin bytes
+                ∙ ap (λ n. file_by origin (answer_at n bytes)
+                (record { frames = []; unread = None })) (sym is),
+          )
+    ]
+
+-- What a file is of which no frame is read.
+ended :
+    (origin given : ℕ) (bytes : List ℕ) (u : Option Unread) (rest : PesFileValue)
+    → EndsAs origin given bytes u
+    → file_by origin (answer_at given bytes) rest ≡ record { frames = []; unread = u }
+ended origin given bytes None rest e = ap (λ r. file_by origin r rest) e
+ended origin given bytes (Some (BadPacket f)) rest e = ap (λ r. file_by origin r rest) e
+ended origin given bytes (Some NoFrame) rest (v, e, none) =
+    ap (λ r. file_by origin r rest) e
+    ∙ ap (λ o. file_with o (packets_of_units v.units) rest) (no_frame_found origin v.pts none)
+
+-- Where no frame is read of the bytes, the file is read up to that.
+pub reads_ended :
+    (origin given : ℕ) (bytes : List ℕ) (u : Option Unread)
+    → given ≤ most_packets
+    → EndsAs origin given bytes u
+    → ReadsAs origin given bytes [] u
+reads_ended origin given bytes u few ends =
+    let s = some_step origin given bytes few in s.1 ∙ ended origin given bytes u s.0 ends
 
 -- A PES packet is read only after fewer than the most.
 pub reads-below :
@@ -169,6 +215,107 @@ reads-below given (x ∷ b) v e at = go (given == most_packets) (eq-eqb given mo
         → ⊥
     go true q d = cc
     go false q d = cc
+
+-- A file that begins with a PES packet of a frame: that frame, and then the others.
+begins :
+    (origin given : ℕ) (bytes : List ℕ) (v : PesValue) (frame : ℕ)
+    → given ≤ most_packets
+    → answer_at given bytes ≡ Ok (Some v)
+    → frame < frames_of_day
+    → pts_of origin frame ≡ v.pts
+    → file_at origin (most_packets - given) bytes
+    ≡ file_with (Some frame) (packets_of_units v.units)
+    (file_at origin (most_packets - (given + 1)) (rest_after bytes))
+begins origin given bytes v frame few is day pts =
+    let below = reads-below given bytes v is in
+    let rest = file_at origin (most_packets - (given + 1)) (rest_after bytes) in
+    step_after origin given bytes (omega (arith, below))
+    ∙ ap (λ r. file_by origin r rest) is
+    ∙ ap (λ o. file_with o (packets_of_units v.units) rest) (frame_found origin v.pts frame day pts)
+
+-- A PES packet that is sent as a frame comes before the others.
+pub reads_more :
+    (origin given : ℕ) (bytes : List ℕ) (v : PesValue) (s : SentFrame) (frames : Transmission)
+    (unread : Option Unread)
+    → given ≤ most_packets
+    → answer_at given bytes ≡ Ok (Some v)
+    → IsSentAs origin v s
+    → ReadsAs origin (given + 1) (rest_after bytes) frames unread
+    → ReadsAs origin given bytes (s ∷ frames) unread
+reads_more origin given bytes v s frames unread few is sent reads =
+    begins origin given bytes v s.frame few is sent.in_day (sym sent.pts)
+    ∙ ap (λ rest. file_with (Some s.frame) (packets_of_units v.units) rest) reads
+    ∙ ap (λ ps. let f : PesFileValue = record {
+      frames = record { frame = s.frame; packets = ps } ∷ frames;
+      unread = unread;
+    } in f) (sym sent.packets)
+
+-- What is read of one PES packet.
+pub record ReadsNext
+    (origin n : ℕ) (bytes : List ℕ) (frames : Transmission) (unread : Option Unread)
+    (v : PesValue) (frame : ℕ)
+    : Type 0 where
+  pub sent : IsSentFrame frames n frame (packets_of_units v.units)
+  pub left : ReadsAs origin (n + 1) (rest_after bytes) (drop (n + 1) frames) unread
+
+-- A PES packet with a frame is the next frame of the list.
+pub reads_next :
+    (origin n : ℕ) (bytes : List ℕ) (frames : Transmission) (unread : Option Unread) (v : PesValue)
+    (frame : ℕ)
+    → n ≤ most_packets
+    → ReadsAs origin n bytes (drop n frames) unread
+    → answer_at n bytes ≡ Ok (Some v)
+    → IsFrameOf origin v.pts frame
+    → ReadsNext origin n bytes frames unread v frame
+reads_next origin n bytes frames unread v frame few reads is of =
+    let rest = file_at origin (most_packets - (n + 1)) (rest_after bytes) in
+    let s : SentFrame = record { frame = frame; packets = packets_of_units v.units } in
+    let whole = sym reads ∙ begins origin n bytes v frame few is of.in_day of.is in
+    let all : drop n frames ≡ s ∷ rest.frames = ap (λ (f : PesFileValue). f.frames) whole in
+    let same : unread ≡ rest.unread = ap (λ (f : PesFileValue). f.unread) whole in
+    let others : drop (n + 1) frames ≡ rest.frames =
+    sym (drop-drop 1 n frames) ∙ ap (drop 1) all in
+    record {
+      sent = is_sent frames n s rest.frames all;
+      left =
+          ap (λ u. let f : PesFileValue = record { frames = rest.frames; unread = u } in f)
+          (sym same)
+          ∙ ap (λ fs. let f : PesFileValue = record { frames = fs; unread = unread } in f)
+          (sym others);
+    }
+
+-- Where no frame is read of the bytes, the list is at its end.
+at_end :
+    (origin n : ℕ) (bytes : List ℕ) (frames : Transmission) (unread u : Option Unread)
+    → n ≤ most_packets
+    → ReadsAs origin n bytes (drop n frames) unread
+    → EndsAs origin n bytes u
+    → (length frames ≤ n) × (unread ≡ u)
+at_end origin n bytes frames unread u few reads ends =
+    let whole = sym reads ∙ reads_ended origin n bytes u few ends in
+    let none : drop n frames ≡ [] = ap (λ (f : PesFileValue). f.frames) whole in
+    let size : length (drop n frames) ≡ 0 = ap length none in
+    (omega (arith, length-drop n frames), ap (λ (f : PesFileValue). f.unread) whole)
+
+-- Where the bytes are at their end, so is the list.
+pub reads_end :
+    (origin n : ℕ) (bytes : List ℕ) (frames : Transmission) (unread : Option Unread)
+    → n ≤ most_packets
+    → ReadsAs origin n bytes (drop n frames) unread
+    → answer_at n bytes ≡ Ok None
+    → (length frames ≤ n) × (unread ≡ None)
+reads_end origin n bytes frames unread few reads is =
+    at_end origin n bytes frames unread None few reads is
+
+-- Where something keeps them from being read on, so is the list.
+pub reads_fault :
+    (origin n : ℕ) (bytes : List ℕ) (frames : Transmission) (unread : Option Unread) (u : Unread)
+    → n ≤ most_packets
+    → ReadsAs origin n bytes (drop n frames) unread
+    → EndsAs origin n bytes (Some u)
+    → (length frames ≤ n) × (unread ≡ Some u)
+reads_fault origin n bytes frames unread u few reads ends =
+    at_end origin n bytes frames unread (Some u) few reads ends
 
 -- Where the answer is no failure of the source, neither is the reader's. For `next_frame`.
 pub read_told :

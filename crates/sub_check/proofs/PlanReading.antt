@@ -1,7 +1,7 @@
 -- The bytes of a schedule are read to their end as its frames: `law_of_plan_read`.
 use Rattle.std.proofs.Common.{◌≡◌, ℕ, suc, ◌+◌, ◌-◌, ◌*◌, ◌<◌, ◌≤◌, Bool, true, false, cond}
-use Rattle.std.proofs.Common.{List, [], ◌∷◌, length, map, filter, Option, Some, None, All}
-use Rattle.std.proofs.Common.{refl, sym, arith, lit<, subst, ◌≢◌, IsOk, MatchResult, Result}
+use Rattle.std.proofs.Common.{List, [], ◌∷◌, length, map, filter, Option, Ok, Some, None, All}
+use Rattle.std.proofs.Common.{refl, sym, arith, lit<, subst}
 use Rattle.std.specs.List.{AllByRecursion, range_with_len}
 use Rattle.std.proofs.Math.Nat.{mod-lt}
 use Rattle.std.proofs.lemmas.List.Elements.{All-weaker, recursion_from_All}
@@ -18,28 +18,21 @@ use Rattle.stl_rows.proofs.PageShapeLemmas.{due_is_page}
 use Rattle.sub_plan.specs.FrameTime.{frames_of_day, pts_of}
 use Rattle.sub_plan.specs.Laws.{IsSentPacket}
 use Rattle.sub_plan.specs.Options.{IsOptions, OptionsValue}
-use Rattle.sub_plan.specs.Schedule.{due_in, is_sending, pes_value, plan, plan_frames, sendings_at}
+use Rattle.sub_plan.specs.Schedule.{due_in, is_sending, pes_value, plan_frames, sendings_at}
 use Rattle.sub_plan.specs.Schedule.{sendings_between, sendings_from}
 use Rattle.sub_plan.specs.Sending.{sending}
 use Rattle.sub_plan.proofs.ProgrammeLemmas.{law_of_day, span-rises}
 use Rattle.sub_plan.proofs.SendingLemmas.{all_sent}
 use Rattle.sub_plan.proofs.SendingSize.{law_of_pes_values, law_of_size}
-use Rattle.sub_check.specs.Checking.{Accepts}
-use Rattle.sub_check.specs.FirstBroken.{NamesFirst}
-use Rattle.sub_check.specs.FrameRules.{Unread, task_of}
 use Rattle.sub_check.specs.PesFrames.{IsSentAs}
-use Rattle.sub_check.specs.PesReading.{EndsAs, ReadsAs}
-use Rattle.sub_check.specs.Planned.{LawOfPlanRead, planned, planned_at}
-use Rattle.sub_check.specs.Transmission.{Transmission}
-use Rattle.sub_check.specs.declared.checker.Accepted.{Accepted}
-use Rattle.sub_check.specs.declared.fault.CheckFault.{CheckFault}
-use Rattle.sub_check.proofs.CheckLemmas.{accepted_from}
-use Rattle.sub_check.proofs.PlanLemmas.{law_of_plan}
+use Rattle.sub_check.specs.PesReading.{ReadsAs}
+use Rattle.sub_check.specs.Planned.{LawOfPlanRead, planned_at}
+use Rattle.sub_check.proofs.PesReadingLemmas.{reads_ended, reads_more}
 
 -- At the end of the bytes nothing is read.
-nothing : (origin given : ℕ) → EndsAs origin given [] None
+nothing : (given : ℕ) → answer_at given [] ≡ Ok None
 unfolding answer_at
-nothing origin given = refl
+nothing given = refl
 
 module _
     (o : OptionsValue) (ok : IsOptions o) (national : National) (serial : Bool) (due : ℕ → Rows)
@@ -72,20 +65,19 @@ module _
         → AllByRecursion (λ f. f < frames_of_day) frames
         → ReadsAs o.origin given (sendings_at due o national serial frames)
         (map (planned_at due o national serial) frames) None
-    sendings_read given [] few day = nothing o.origin given
+    sendings_read given [] few day =
+        reads_ended o.origin given [] None (omega arith) (nothing given)
     sendings_read given (f ∷ fs) few day =
         let v : PesValue = pes_value o.origin (sending o.page national serial (due f)) f in
         let back =
         written_is_read given v (sendings_at due o national serial fs) (λ e. omega arith)
-        (law_of_pes_values o national serial (due f) f ok (shape f)) in (
-          v,
-          back.0,
-          is_sent f day.0,
-          subst
-              (λ bytes. ReadsAs o.origin (given + 1) bytes
-              (map (planned_at due o national serial) fs) None)
-              (sym back.1) (sendings_read (given + 1) fs (omega arith) day.1),
-        )
+        (law_of_pes_values o national serial (due f) f ok (shape f)) in
+        reads_more o.origin given (sendings_at due o national serial (f ∷ fs)) v
+        (planned_at due o national serial f) (map (planned_at due o national serial) fs) None
+        (omega arith) back.0 (is_sent f day.0)
+        (subst
+        (λ bytes. ReadsAs o.origin (given + 1) bytes (map (planned_at due o national serial) fs)
+        None) (sym back.1) (sendings_read (given + 1) fs (omega arith) day.1))
 
 -- A filtered list is no longer than the list.
 short_filter : (test : ℕ → Bool) (xs : List ℕ) → length (filter test xs) ≤ length xs
@@ -130,22 +122,3 @@ law_of_plan_read programme options serial is ok =
     ))
     (recursion_from_All (λ f. f < frames_of_day) (plan_frames programme options.every)
     (law_of_day programme options.every is))
-
--- What the steps show of each reading of a schedule accepts it. For `check`.
-pub plan_accepted :
-    (programme : ProgrammeValue) (options : OptionsValue) (serial : Bool)
-    (result : Result Accepted CheckFault)
-    → IsOptions options
-    → IsProgramme programme.national programme.records
-    → programme.records ≢ []
-    → ((frames : Transmission) (unread : Option Unread)
-    → ReadsAs options.origin 0 (plan programme options serial) frames unread
-    → MatchResult result (Accepts (task_of programme options unread) frames)
-    (NamesFirst (task_of programme options unread) frames))
-    → IsOk result
-plan_accepted programme options serial result ok is some h =
-    (accepted_from programme options (plan programme options serial) result ok h).1 (
-      planned programme options serial,
-      law_of_plan_read programme options serial is ok,
-      law_of_plan programme options serial is some ok,
-    )

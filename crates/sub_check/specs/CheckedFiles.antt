@@ -1,20 +1,25 @@
--- What a check of a subtitle file and a PES file tells of their bytes.
-use Rattle.std.specs.Prelude.{◌≡◌, ◌≢◌, ◌↔◌, ℕ, List, [], Bool, true, false, Option, None}
-use Rattle.std.specs.Prelude.{Result, Ok, Err, IsOk, IfOk, IfErr}
+-- What the checker tells of the bytes of a subtitle file and a PES file.
+use Rattle.std.specs.Prelude.{◌≡◌, ◌≢◌, ◌↔◌, ℕ, List, [], Bool, false, true, Option, All, IsOk}
+use Rattle.std.specs.Prelude.{Result, Ok, Err, IfOk, IfErr}
 use Rattle.sub_io.specs.Reading.{IfTold}
+use Rattle.ttx_pes.specs.PesPacket.{PesValue}
+use Rattle.stl_file.specs.File.{IsFile}
 use Rattle.stl_file.specs.Reader.{outcome_of}
+use Rattle.stl_file.specs.Subtitle.{SubtitleValue}
+use Rattle.stl_rows.specs.DrawnPage.{drawn}
 use Rattle.stl_rows.specs.Loading.{loaded}
-use Rattle.stl_rows.specs.Programme.{ProgrammeValue}
+use Rattle.stl_rows.specs.Programme.{AreInOrder, ProgrammeValue}
 use Rattle.stl_rows.specs.declared.national.National.{National}
 use Rattle.sub_plan.specs.Options.{OptionsValue}
 use Rattle.sub_plan.specs.Schedule.{plan}
-use Rattle.sub_check.specs.Checking.{HasCounts, TellsSubtitles, is_source_failure}
+use Rattle.sub_check.specs.Checking.{HasCounts, TellsSubtitles, is_failure, is_source_failure}
 use Rattle.sub_check.specs.Checking.{is_subtitle_refusal}
 use Rattle.sub_check.specs.FirstBroken.{NamesFirst}
-use Rattle.sub_check.specs.FrameRules.{Unread, task_of}
+use Rattle.sub_check.specs.FrameRules.{task_of}
 use Rattle.sub_check.specs.Good.{Good}
 use Rattle.sub_check.specs.LostRows.{RobustToMarkedLoss}
-use Rattle.sub_check.specs.PesReading.{ReadsAs}
+use Rattle.sub_check.specs.PesFrames.{AreSentAs, Carries, IsPesFile}
+use Rattle.sub_check.specs.PesReading.{pes_file_of}
 use Rattle.sub_check.specs.Robust.{Robust}
 use Rattle.sub_check.specs.Transmission.{Transmission}
 use Rattle.sub_check.specs.WrongContent.{IsWrongEverywhere}
@@ -22,40 +27,101 @@ use Rattle.sub_check.specs.declared.checker.Accepted.{Accepted}
 use Rattle.sub_check.specs.declared.fault.CheckFault.{CheckFault}
 use Rattle.sub_check.specs.declared.fault.CheckFault.TheVariants as fault
 
+-- ---- both files
+
+-- The bytes of a subtitle file and of a PES file mean these subtitles and this transmission.
+pub record Mean
+    (national : National) (origin : ℕ) (stl pes : List ℕ)
+    (subtitles : List SubtitleValue) (transmission : Transmission)
+    : Type 0 where
+  -- The one is a GSI block and the TTI blocks of these subtitles (EBU Tech 3264).
+  pub gsi : List ℕ
+  pub subtitle_file : IsFile stl gsi subtitles
+  -- They are in order and disjoint, and each has a page.
+  pub in_order : AreInOrder subtitles
+  pub drawable : All (λ t. IsOk (drawn national t)) subtitles
+  -- The other is PES packets of these values, joined (EN 300 472), one for each frame of the
+  -- transmission, with the PTS and the Teletext packets of that frame.
+  pub values : List PesValue
+  pub pes_file : IsPesFile values pes
+  pub sent : AreSentAs origin values transmission
+
+-- What acceptance means for the bytes of both files.
+pub record AreAccepted
+    (national : National) (options : OptionsValue) (stl pes : List ℕ)
+    (answer : Result Accepted CheckFault)
+    : Type 0 where
+  -- They are accepted exactly where they mean some subtitles and a good transmission of these, but
+  -- for sources that failed and memory that was refused.
+  pub accepted :
+      is_failure answer ≡ false
+      → IsOk answer
+      ↔ ((subtitles : List SubtitleValue)
+      × (transmission : Transmission)
+      × Mean national options.origin stl pes subtitles transmission
+      × Good (record { national = national; records = subtitles }) transmission options)
+  -- What is accepted is robust.
+  pub robust :
+      (subtitles : List SubtitleValue) (transmission : Transmission)
+      → Mean national options.origin stl pes subtitles transmission
+      → IsOk answer
+      → Robust (record { national = national; records = subtitles }) transmission options
+  -- What is accepted is robust with lost rows too.
+  pub robust_to_loss :
+      (subtitles : List SubtitleValue) (transmission : Transmission)
+      → Mean national options.origin stl pes subtitles transmission
+      → IsOk answer
+      → RobustToMarkedLoss (record { national = national; records = subtitles }) transmission
+      options
+
+-- ---- a PES file, against a programme
+
 -- What is told of the bytes of a PES file, checked against a programme. A refusal of the subtitle
 -- file, which is then want of memory or its failing source, tells nothing of them.
 pub record IsChecked
     (programme : ProgrammeValue) (options : OptionsValue) (bytes : List ℕ)
     (answer : Result Accepted CheckFault)
     : Type 0 where
-  -- Failing devices and want of memory aside, they are accepted exactly where they are read to
-  -- their end as a good transmission of the programme.
+  -- Failing devices and want of memory aside, they are accepted exactly where they are a PES file
+  -- that carries a good transmission of the programme.
   pub accepted :
       is_subtitle_refusal answer ≡ false
       → is_source_failure answer ≡ false
       → IsOk answer
-      ↔ ((frames : Transmission)
-      × ReadsAs options.origin 0 bytes frames None
-      × Good programme frames options)
+      ↔ ((transmission : Transmission)
+      × Carries options.origin bytes transmission
+      × Good programme transmission options)
+  -- What is accepted is robust.
+  pub robust :
+      (transmission : Transmission)
+      → Carries options.origin bytes transmission
+      → IsOk answer
+      → Robust programme transmission options
+  -- What is accepted is robust with lost rows too.
+  pub robust_to_loss :
+      (transmission : Transmission)
+      → Carries options.origin bytes transmission
+      → IsOk answer
+      → RobustToMarkedLoss programme transmission options
   -- The counts of what is accepted are those of the transmission.
   pub counts :
-      (frames : Transmission)
-      → ReadsAs options.origin 0 bytes frames None
-      → IfOk answer (HasCounts options.page frames)
+      (transmission : Transmission)
+      → Carries options.origin bytes transmission
+      → IfOk answer (HasCounts options.page transmission)
   -- A refusal names the first place at which what is asked is broken.
   pub first :
-      (frames : Transmission) (unread : Option Unread)
-      → ReadsAs options.origin 0 bytes frames unread
-      → is_subtitle_refusal answer ≡ false
+      is_subtitle_refusal answer ≡ false
       → is_source_failure answer ≡ false
-      → IfErr answer (NamesFirst (task_of programme options unread) frames)
+      → IfErr answer
+      (NamesFirst (task_of programme options (pes_file_of options.origin bytes).unread)
+      (pes_file_of options.origin bytes).frames)
   -- Where the page is refused at a cell, every receiver that starts at the first packet, with no
   -- bit wrong, shows another code there than is due.
   pub content :
-      (frames : Transmission) (unread : Option Unread) (frame row column : ℕ)
-      → ReadsAs options.origin 0 bytes frames unread
+      (frame row column : ℕ)
       → answer ≡ Err (fault.Content frame row column)
-      → IsWrongEverywhere programme options frames frame row column
+      → IsWrongEverywhere programme options (pes_file_of options.origin bytes).frames frame row
+      column
   -- What `schedule` writes of the programme with the same options is accepted.
   pub schedule :
       (serial : Bool)
@@ -64,18 +130,6 @@ pub record IsChecked
       → is_subtitle_refusal answer ≡ false
       → is_source_failure answer ≡ false
       → IsOk answer
-  -- What is accepted is robust.
-  pub robust :
-      (frames : Transmission)
-      → ReadsAs options.origin 0 bytes frames None
-      → IsOk answer
-      → Robust programme frames options
-  -- What is accepted is robust with lost rows too.
-  pub robust_to_loss :
-      (frames : Transmission)
-      → ReadsAs options.origin 0 bytes frames None
-      → IsOk answer
-      → RobustToMarkedLoss programme frames options
 
 -- What is told of the bytes of a subtitle file, and of those of a PES file where its source tells
 -- them.

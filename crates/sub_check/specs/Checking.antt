@@ -1,13 +1,16 @@
 -- What the checker's steps answer, and what it has reached after the first n PES packets.
-use Rattle.std.specs.Prelude.{◌≡◌, ℕ, ◌+◌, ◌<◌, ◌≤◌, Bool, true, false, List, length, take, drop}
+use Rattle.std.specs.Prelude.{◌≡◌, ℕ, ◌+◌, ◌<◌, ◌≤◌, Bool, true, false, List, [], ◌++◌, length}
+use Rattle.std.specs.Prelude.{take, drop}
 use Rattle.std.specs.Prelude.{Option, Some, None, ⊤}
 use Rattle.std.specs.Prelude.{Result, Ok, Err, All, flat_map}
-use Rattle.std.specs.List.{AllByRecursion}
+use Rattle.std.specs.List.{AllByRecursion, AllZip, concat}
 use Rattle.ttx_packet.specs.PageId.{PageIdValue}
 use Rattle.stl_file.specs.Reading.{Outcome}
 use Rattle.stl_rows.specs.Loading.{TellsFault, is_read_kind}
+use Rattle.stl_rows.specs.declared.fault.LoadFaultKind.{LoadFaultKind}
+use Rattle.stl_rows.specs.declared.fault.LoadFaultKind.TheVariants.{Memory}
 use Rattle.stl_rows.specs.declared.national.National.{National}
-use Rattle.ttx_pes.specs.PesPacket.{PesValue}
+use Rattle.ttx_pes.specs.PesPacket.{IsPesPacket, PesValue}
 use Rattle.ttx_pes.specs.Reading.{answer_at, most_packets}
 use Rattle.ttx_pes.specs.declared.fault.PesFault.TheVariants as pes_fault
 use Rattle.sub_plan.specs.FrameTime.{frames_of_day, pts_of}
@@ -15,6 +18,7 @@ use Rattle.sub_check.specs.FirstBroken.{HoldsEverywhere, unread_fault}
 use Rattle.sub_check.specs.Following.{Follows}
 use Rattle.sub_check.specs.FrameRules.{Task, Unread, frame_at, end_frame, joined}
 use Rattle.sub_check.specs.PacketRules.{header_count}
+use Rattle.sub_check.specs.PesFrames.{IsSentAs}
 use Rattle.sub_check.specs.PesReading.{EndsAs, ReadsAs}
 use Rattle.sub_check.specs.Transmission.{SentFrame, Transmission, first_frame, last_frame}
 use Rattle.sub_check.specs.declared.checker.Accepted.{Accepted}
@@ -51,6 +55,21 @@ is_subtitle_source_fault _ = false
 abbrev pub is_subtitle_source_failure : {X : Type 0} → Result X CheckFault → Bool
 is_subtitle_source_failure (Err f) = is_subtitle_source_fault f
 is_subtitle_source_failure (Ok x) = false
+
+-- The fault of loading is that the source failed or that memory was refused.
+abbrev pub is_failure_kind : LoadFaultKind → Bool
+is_failure_kind Memory = true
+is_failure_kind kind = is_read_kind kind
+
+-- The fault is that a source failed or that memory was refused: it tells nothing of the files.
+abbrev pub is_failure_fault : CheckFault → Bool
+is_failure_fault (fault.Subtitles f) = is_failure_kind f.kind
+is_failure_fault f = is_source_fault f
+
+-- The answer is such a fault.
+abbrev pub is_failure : {X : Type 0} → Result X CheckFault → Bool
+is_failure (Err f) = is_failure_fault f
+is_failure (Ok x) = false
 
 -- The fault is told by a rule: it is none of the subtitle file, and not that the PES source failed.
 pub record IsRuleFault (f : CheckFault) : Type 0 where
@@ -91,8 +110,21 @@ abbrev pub AreWhole : Transmission → Type 0
 AreWhole frames =
     AllByRecursion (λ (s : SentFrame). All (λ packet. length packet ≡ 42) s.packets) frames
 
--- A transmission is accepted: all that is asked holds, and it has so many frames and headers.
-pub record Accepts (g : Task) (frames : Transmission) (a : Accepted) : Type 0 where
+-- The bytes are PES packets that are sent as these frames, joined, and then the rest.
+pub record AreTaken (origin : ℕ) (bytes : List ℕ) (frames : Transmission) (rest : List ℕ) : Type 0
+  where
+    pub values : List PesValue
+    pub packets : List (List ℕ)
+    pub each : AllZip IsPesPacket values packets
+    pub sent : AllZip (IsSentAs origin) values frames
+    pub joined : bytes ≡ concat packets ++ rest
+
+-- A transmission is accepted: the bytes are a PES file of it, all that is asked holds, and it has
+-- so many frames and headers.
+pub record Accepts (g : Task) (origin : ℕ) (bytes : List ℕ) (frames : Transmission) (a : Accepted)
+    : Type 0 where
+  pub few : length frames ≤ most_packets
+  pub taken : AreTaken origin bytes frames []
   pub holds : HoldsEverywhere g frames
   pub whole : AreWhole frames
   pub frames_are : a.frames + frame_at frames 0 ≡ end_frame frames + 1
@@ -108,7 +140,7 @@ pub record HasCounts (page : PageIdValue) (frames : Transmission) (a : Accepted)
 
 -- After n PES packets, n frames of the list are read and followed, and the others are left.
 pub record Reaches
-    (g : Task) (origin : ℕ) (frames : Transmission) (unread : Option Unread)
+    (g : Task) (origin : ℕ) (bytes : List ℕ) (frames : Transmission) (unread : Option Unread)
     (remaining : Option (List ℕ)) (n first : ℕ) (c : Checker)
     : Type 0 where
   pub few : n ≤ most_packets
@@ -116,6 +148,7 @@ pub record Reaches
   pub first_is : frame_at frames 0 ≡ first
   pub rest : List ℕ
   pub rest_is : remaining ≡ Some rest
+  pub taken : AreTaken origin bytes (take n frames) rest
   pub left : ReadsAs origin n rest (drop n frames) unread
   pub follows : Follows g frames n c
   pub whole : AreWhole (take n frames)

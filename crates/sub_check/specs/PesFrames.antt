@@ -27,3 +27,10 @@ pub record IsPesFile (values : List PesValue) (bytes : List ℕ) : Type 0 where
   pub each : AllZip IsPesPacket values packets
   pub few : length packets ≤ most_packets
   pub joined : bytes ≡ concat packets
+
+-- The bytes are a PES file that carries the transmission: PES packets of these values, joined, that
+-- are sent as its frames.
+pub record Carries (origin : ℕ) (bytes : List ℕ) (frames : Transmission) : Type 0 where
+  pub values : List PesValue
+  pub file : IsPesFile values bytes
+  pub sent : AreSentAs origin values frames

@@ -1,18 +1,69 @@
--- How the bytes of a PES file are read as frames, by the PTS of frame 0 (EN 300 472, PTS).
-use Rattle.std.specs.Prelude.{◌≡◌, ◌≢◌, ◌↔◌, ℕ, ◌+◌, ◌^◌, ◌<◌, List, [], ◌∷◌, Option, Some, None}
-use Rattle.std.specs.Prelude.{Ok, Err}
+-- A PES file as one value: the frames that its bytes are read as, by the PTS of frame 0 (EN 300
+-- 472, PTS), and what keeps it from being read to its end.
+use Rattle.std.specs.Prelude.{◌≡◌, ◌≢◌, ◌↔◌, ℕ, zero, suc, ◌-◌, ◌<◌, ◌==◌, if◌then◌else◌, List, []}
+use Rattle.std.specs.Prelude.{◌∷◌, Option, Some, None, Result, Ok, Err}
 use Rattle.sub_io.specs.Reading.{AreBytes}
 use Rattle.ttx_pes.specs.PesPacket.{PesValue}
-use Rattle.ttx_pes.specs.Reading.{answer_at, rest_after}
+use Rattle.ttx_pes.specs.Reading.{answer_at, most_packets, rest_after}
+use Rattle.ttx_pes.specs.declared.fault.PesFault.{PesFault}
 use Rattle.sub_plan.specs.FrameTime.{frames_of_day, pts_of}
 use Rattle.sub_check.specs.FrameRules.{Unread}
 use Rattle.sub_check.specs.FrameRules.Unread.{BadPacket, NoFrame}
-use Rattle.sub_check.specs.PesFrames.{AreSentAs, IsPesFile, IsSentAs}
+use Rattle.sub_check.specs.PacketRules.{packets_of_units}
+use Rattle.sub_check.specs.PesFrames.{Carries}
 use Rattle.sub_check.specs.Transmission.{IsRising, Transmission}
 
--- After so many PES packets these bytes follow, and no frame is read of them: they are at their
--- end, or no PES packet begins them, by this fault, or one does whose PTS is that of no frame of
--- the day.
+-- A PES file, read with an origin: its frames, one for each PES packet, up to what keeps it from
+-- being read to its end, if anything does.
+pub record PesFileValue : Type 0 where
+  pub frames : Transmission
+  pub unread : Option Unread
+
+-- Of the frames below a number, the one that has this PTS.
+unfoldable pub frame_below : ℕ → ℕ → ℕ → Option ℕ
+frame_below origin pts zero = None
+frame_below origin pts (suc n) =
+    if pts_of origin n == pts then Some n else frame_below origin pts n
+
+-- The frame of the day that has this PTS.
+abbrev pub frame_of_pts : ℕ → ℕ → Option ℕ
+frame_of_pts origin pts = frame_below origin pts frames_of_day
+
+-- A PES packet of this frame and these packets, and then a file; no frame where its PTS is that of
+-- none.
+abbrev pub file_with : Option ℕ → List (List ℕ) → PesFileValue → PesFileValue
+file_with None packets rest = record { frames = []; unread = Some NoFrame }
+file_with (Some frame) packets rest = record {
+  frames = record { frame = frame; packets = packets } ∷ rest.frames;
+  unread = rest.unread;
+}
+
+-- What a reader of PES packets answers, and then a file.
+abbrev pub file_by : ℕ → Result (Option PesValue) PesFault → PesFileValue → PesFileValue
+file_by origin (Err f) rest = record { frames = []; unread = Some (BadPacket f) }
+file_by origin (Ok None) rest = record { frames = []; unread = None }
+file_by origin (Ok (Some v)) rest =
+    file_with (frame_of_pts origin v.pts) (packets_of_units v.units) rest
+
+-- What these bytes are read as, where so many more PES packets may follow.
+unfoldable pub file_at : ℕ → ℕ → List ℕ → PesFileValue
+file_at origin zero bytes =
+    file_by origin (answer_at most_packets bytes) (record { frames = []; unread = None })
+file_at origin (suc more) bytes =
+    file_by origin (answer_at (most_packets - suc more) bytes)
+    (file_at origin more (rest_after bytes))
+
+-- What the bytes of a PES file are read as.
+abbrev pub pes_file_of : ℕ → List ℕ → PesFileValue
+pes_file_of origin bytes = file_at origin most_packets bytes
+
+-- After so many PES packets these bytes are read as these frames, up to this.
+abbrev pub ReadsAs : ℕ → ℕ → List ℕ → Transmission → Option Unread → Type 0
+ReadsAs origin given bytes frames unread =
+    file_at origin (most_packets - given) bytes ≡ record { frames = frames; unread = unread }
+
+-- After so many PES packets no frame is read of these bytes: they are at their end, or no PES
+-- packet begins them, by this fault, or one does whose PTS is that of no frame of the day.
 abbrev pub EndsAs : ℕ → ℕ → List ℕ → Option Unread → Type 0
 EndsAs origin given bytes None = answer_at given bytes ≡ Ok None
 EndsAs origin given bytes (Some (BadPacket f)) = answer_at given bytes ≡ Err f
@@ -21,30 +72,12 @@ EndsAs origin given bytes (Some NoFrame) =
     × (answer_at given bytes ≡ Ok (Some v))
     × ((frame : ℕ) → frame < frames_of_day → pts_of origin frame ≢ v.pts)
 
--- After so many PES packets these bytes follow, and are read as these frames, one for each PES
--- packet, up to what keeps them from being read to their end, if anything does.
-abbrev pub ReadsAs : ℕ → ℕ → List ℕ → Transmission → Option Unread → Type 0
-ReadsAs origin given bytes [] unread = EndsAs origin given bytes unread
-ReadsAs origin given bytes (s ∷ frames) unread =
-    (v : PesValue)
-    × (answer_at given bytes ≡ Ok (Some v))
-    × IsSentAs origin v s
-    × ReadsAs origin (given + 1) (rest_after bytes) frames unread
-
--- Each PES file is read as frames in some way, to its end or up to what keeps it from being read
--- on. So a refusal that speaks of each reading speaks of one.
-abbrev pub LawOfReadings : Type 0
-LawOfReadings =
-    (origin : ℕ) (bytes : List ℕ)
-    → origin < 2 ^ 33
-    → (frames : Transmission) × (unread : Option Unread) × ReadsAs origin 0 bytes frames unread
-
--- Bytes are read to their end as frames that rise, exactly where they are a PES file whose packets
--- are sent as these frames.
+-- Bytes are read to their end as frames that rise, exactly where they are a PES file that carries
+-- these frames.
 -- So what is read packet by packet is what the grammar says of the whole file.
 abbrev pub LawOfPesFiles : Type 0
 LawOfPesFiles =
     (origin : ℕ) (bytes : List ℕ) (frames : Transmission)
     → AreBytes bytes
-    → (ReadsAs origin 0 bytes frames None × IsRising frames)
-    ↔ ((values : List PesValue) × IsPesFile values bytes × AreSentAs origin values frames)
+    → ((pes_file_of origin bytes ≡ record { frames = frames; unread = None }) × IsRising frames)
+    ↔ Carries origin bytes frames

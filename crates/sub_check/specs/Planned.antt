@@ -8,7 +8,7 @@ use Rattle.sub_plan.specs.Schedule.{due_in, plan, plan_frames}
 use Rattle.sub_plan.specs.Sending.{sending}
 use Rattle.sub_check.specs.Transmission.{SentFrame, Transmission}
 use Rattle.sub_check.specs.Good.{Good}
-use Rattle.sub_check.specs.PesReading.{ReadsAs}
+use Rattle.sub_check.specs.PesReading.{pes_file_of}
 
 -- A frame with the sending of the page that is due there.
 abbrev pub planned_at : (ℕ → Rows) → OptionsValue → National → Bool → ℕ → SentFrame
@@ -36,5 +36,5 @@ LawOfPlanRead =
     (programme : ProgrammeValue) (options : OptionsValue) (serial : Bool)
     → IsProgramme programme.national programme.records
     → IsOptions options
-    → ReadsAs options.origin 0 (plan programme options serial) (planned programme options serial)
-    None
+    → pes_file_of options.origin (plan programme options serial)
+    ≡ record { frames = planned programme options serial; unread = None }

@@ -1,24 +1,20 @@
 //! The exact checker: a PES file against a programme, one PES packet at a time.
-ghost use Rattle.std.specs.Prelude.{◌≡◌, ℕ, ◌+◌, ◌<◌, ◌≤◌, ◌↔◌, MatchResult, OnOk, IfOk, IfErr};
-ghost use Rattle.std.specs.Prelude.{IsOk, Ok, Err, Option, Some, None, Bool, false};
-ghost use Rattle.std.specs.Prelude.{◌≢◌, [], if◌then◌else◌};
+ghost use Rattle.std.specs.Prelude.{◌≡◌, ℕ, ◌+◌, ◌<◌, ◌≤◌, MatchResult, OnOk, IfErr};
+ghost use Rattle.std.specs.Prelude.{Ok, Option, Some, false, if◌then◌else◌};
 ghost use Rattle.sub_io.specs.Device.{CanFail};
 ghost use Rattle.sub_io.specs.Reading.{IfTold};
 ghost use Rattle.stl_rows.specs.Programme.{IsProgramme, last_out};
+ghost use Rattle.ttx_pes.specs.Reader.{TakesPesPacket};
 ghost use Rattle.ttx_pes.specs.Reading.{rest_after};
 ghost use Rattle.ttx_pes.specs.declared.progress.Progress.TheVariants.{Reading};
 ghost use Rattle.sub_plan.specs.Options.{IsOptions};
-ghost use Rattle.sub_plan.specs.Schedule.{plan};
-ghost use Rattle.sub_check.specs.Checking.{Accepts, HasCounts, IsRuleFault, TellsEnd, TellsFrame};
+ghost use Rattle.sub_check.specs.CheckedFiles.{IsChecked};
+ghost use Rattle.sub_check.specs.Checking.{Accepts, IsRuleFault, TellsEnd, TellsFrame};
 ghost use Rattle.sub_check.specs.Checking.{is_source_failure, is_subtitle_refusal};
 ghost use Rattle.sub_check.specs.FirstBroken.{NamesFirst};
 ghost use Rattle.sub_check.specs.FrameRules.{Unread, task_of};
-ghost use Rattle.sub_check.specs.Good.{Good};
-ghost use Rattle.sub_check.specs.LostRows.{RobustToMarkedLoss};
-ghost use Rattle.sub_check.specs.PesReading.{LawOfReadings, ReadsAs};
-ghost use Rattle.sub_check.specs.Robust.{Robust};
+ghost use Rattle.sub_check.specs.PesReading.{ReadsAs};
 ghost use Rattle.sub_check.specs.Transmission.{Transmission};
-ghost use Rattle.sub_check.specs.WrongContent.{IsWrongEverywhere};
 
 use crate::fault::CheckFault;
 use crate::frame_rules::{Checker, is_over};
@@ -59,6 +55,9 @@ pub fn next_frame<S: Source>(
     requires reading { reader.old ≡ Reading pes }
     ensures exact { IfTold (S.remaining source.old) (λ bytes. is_source_failure result ≡ false
         → TellsFrame options.now.origin pes bytes packet.new result) }
+    // What was taken is a PES packet of the grammar.
+    ensures taken { (frame : ℕ) → result ≡ Ok (Some frame)
+        → TakesPesPacket (S.remaining source.old) (S.remaining source.new) packet.new }
     ensures left { IfTold (S.remaining source.old) (λ bytes.
         OnOk result (S.remaining source.new ≡ Some (rest_after bytes))) }
     ensures own { is_subtitle_refusal result ≡ false }
@@ -94,8 +93,8 @@ fn finish(programme: &Programme, first: u32, checker: &Checker) -> Result<Accept
     })
 }
 
-/// Checks a PES file against a programme: it is accepted exactly where it is read to its end as a
-/// good transmission, and a refusal names the first place where what is asked is broken.
+/// Checks a PES file against a programme: it is accepted exactly where it carries a good
+/// transmission of it, and a refusal names the first place where what is asked is broken.
 ///
 /// It reads one PES packet at a time and takes no memory: beside numbers it keeps one PES packet,
 /// one page, the page that is due, and a mark for each row sent since the last header of the page.
@@ -113,44 +112,10 @@ pub fn check<S: Source>(
     options: &Options,
 ) -> Result<Accepted, CheckFault>
     requires { CanFail (S.failure_count source.old) }
-    // Where the source tells its bytes and does not fail, they are accepted exactly where they are
-    // read to their end as a good transmission.
-    ensures accepted { IfTold (S.remaining source.old) (λ bytes. is_source_failure result ≡ false
-        → IsOk result
-        ↔ ((frames : Transmission)
-        × ReadsAs options.now.origin 0 bytes frames None
-        × Good programme.now frames options.now)) }
-    ensures counts { (frames : Transmission) → IfTold (S.remaining source.old) (λ bytes.
-        ReadsAs options.now.origin 0 bytes frames None
-        → IfOk result (HasCounts options.now.page frames)) }
-    // A refusal names the first place at which what is asked is broken.
-    ensures first { (frames : Transmission) (unread : Option Unread)
-        → IfTold (S.remaining source.old) (λ bytes.
-        ReadsAs options.now.origin 0 bytes frames unread
-        → is_source_failure result ≡ false
-        → IfErr result (NamesFirst (task_of programme.now options.now unread) frames)) }
-    // Where the page is refused at a cell, every receiver that starts at the first packet, with no
-    // bit wrong, shows another code there than is due.
-    ensures content { (frames : Transmission) (unread : Option Unread) (frame row column : ℕ)
-        → IfTold (S.remaining source.old) (λ bytes.
-        ReadsAs options.now.origin 0 bytes frames unread
-        → result ≡ Err (CheckFault.Content frame row column)
-        → IsWrongEverywhere programme.now options.now frames frame row column) }
-    // What `schedule` writes with the same options is accepted.
-    ensures schedule { (serial : Bool)
-        → S.remaining source.old ≡ Some (plan programme.now options.now serial)
-        → programme.now.records ≢ []
-        → is_source_failure result ≡ false
-        → IsOk result }
-    // What is accepted is robust, with lost rows too.
-    ensures robust { (frames : Transmission) → IfTold (S.remaining source.old) (λ bytes.
-        ReadsAs options.now.origin 0 bytes frames None
-        → IsOk result
-        → Robust programme.now frames options.now) }
-    ensures robust_to_loss { (frames : Transmission) → IfTold (S.remaining source.old) (λ bytes.
-        ReadsAs options.now.origin 0 bytes frames None
-        → IsOk result
-        → RobustToMarkedLoss programme.now frames options.now) }
+    // Where the source tells its bytes, these decide the answer: they are accepted exactly where
+    // they are a PES file that carries a good transmission of the programme, which is then robust.
+    ensures checked { IfTold (S.remaining source.old) (λ bytes.
+        IsChecked programme.now options.now bytes result) }
     // No answer refuses a subtitle file, and `Read` is told exactly where the source failed in this
     // call.
     ensures own { is_subtitle_refusal result ≡ false }
@@ -159,12 +124,6 @@ pub fn check<S: Source>(
 {
     judge(programme, source, options)
 }
-
-/// Each PES file is read as frames in some way, to its end or up to what keeps it from being read
-/// on.
-pub fn law_of_readings()
-    ensures { LawOfReadings }
-{}
 
 // Checks a PES file, place by place.
 fn judge<S: Source>(
@@ -177,7 +136,8 @@ fn judge<S: Source>(
         → IfTold (S.remaining source.old) (λ bytes.
         ReadsAs options.now.origin 0 bytes frames unread
         → is_source_failure result ≡ false
-        → MatchResult result (Accepts (task_of programme.now options.now unread) frames)
+        → MatchResult result
+        (Accepts (task_of programme.now options.now unread) options.now.origin bytes frames)
         (NamesFirst (task_of programme.now options.now unread) frames)) }
     ensures options { IsOptions options.now }
     ensures programme { IsProgramme programme.now.national programme.now.records }

@@ -2,14 +2,14 @@
 ghost use Rattle.std.specs.Prelude.{◌≡◌, ◌+◌, ◌<◌, true, if◌then◌else◌};
 ghost use Rattle.sub_io.specs.Device.{CanFail};
 ghost use Rattle.sub_io.specs.Reading.{IfTold};
-ghost use Rattle.sub_check.specs.CheckedFiles.{AreChecked};
+ghost use Rattle.sub_check.specs.CheckedFiles.{AreAccepted, AreChecked};
 ghost use Rattle.sub_check.specs.Checking.{is_source_failure, is_subtitle_refusal};
 ghost use Rattle.sub_check.specs.Checking.{is_subtitle_source_failure};
 
 use crate::checker::{Accepted, check};
 use crate::fault::CheckFault;
 use std::alloc::Global;
-use stl_rows::{National, load};
+use stl_rows::{National, law_of_loading, load};
 use sub_io::Source;
 use sub_plan::Options;
 
@@ -30,8 +30,13 @@ pub fn check_files<S: Source, P: Source>(
 ) -> Result<Accepted, CheckFault>
     requires stl { CanFail (S.failure_count stl.old) }
     requires pes { CanFail (P.failure_count pes.old) }
-    // Where the sources tell their bytes, these decide the answer: what is refused, what is
-    // accepted and is robust.
+    // Where both sources tell their bytes, none fails and no memory is refused, they are accepted
+    // exactly where they are a subtitle file and a PES file with a good transmission of its
+    // subtitles, and what is accepted is robust.
+    ensures accepted { IfTold (S.remaining stl.old) (λ file.
+        IfTold (P.remaining pes.old) (λ bytes.
+        AreAccepted national options.now file bytes result)) }
+    // What is refused, and at which place.
     ensures checked { IfTold (S.remaining stl.old) (λ file.
         AreChecked national options.now file (P.remaining pes.old) result) }
     // Where the subtitle file is refused, no PES byte is read.
@@ -42,6 +47,7 @@ pub fn check_files<S: Source, P: Source>(
     ensures pes_count { P.failure_count pes.new
         ≡ P.failure_count pes.old + (if is_source_failure result then 1 else 0) }
 {
+    law_of_loading();
     match load(alloc, stl, national) {
         Err(fault) => Err(CheckFault::Subtitles(fault)),
         Ok(programme) => check(&programme, pes, options),

@@ -26,7 +26,7 @@ mod page_count;
 mod recovery;
 mod screen_examples;
 
-pub use checker::{Accepted, check, law_of_readings, next_frame};
+pub use checker::{Accepted, check, next_frame};
 pub use dropping::{law_of_good_and_dropping, law_of_good_dropping_and_loss};
 pub use examples::{example_of_good, examples_of_broken_rules, examples_of_no_robustness};
 pub use fault::CheckFault;

@@ -1,12 +1,12 @@
 //! `check STL PES`: checks a PES file against a subtitle file.
-ghost use Rattle.std.specs.Prelude.{◌≡◌, ◌≢◌, ◌<◌, Ok, None};
+ghost use Rattle.std.specs.Prelude.{◌≡◌, ◌≢◌, ◌<◌, Ok};
 ghost use Rattle.sub_io.specs.Device.{CanFail};
 ghost use Rattle.sub_io.specs.Reading.{IfTold};
 ghost use Rattle.stl_file.specs.Reader.{outcome_of};
 ghost use Rattle.stl_rows.specs.Loading.{loaded};
 ghost use Rattle.stl_rows.specs.Programme.{ProgrammeValue};
 ghost use Rattle.sub_check.specs.LostRows.{RobustToMarkedLoss};
-ghost use Rattle.sub_check.specs.PesReading.{ReadsAs};
+ghost use Rattle.sub_check.specs.PesFrames.{Carries};
 ghost use Rattle.sub_check.specs.Robust.{Robust};
 ghost use Rattle.sub_check.specs.Transmission.{Transmission};
 ghost use Rattle.sub_answer.specs.Answering.{AnswersCheck};
@@ -18,7 +18,7 @@ use crate::status::Status;
 use arrayvec::ArrayVec;
 use std::alloc::Global;
 use stl_rows::National;
-use sub_check::{check_files, law_of_readings};
+use sub_check::{check_files};
 use sub_io::{Sink, Source, put_all};
 use sub_plan::Options;
 
@@ -55,7 +55,7 @@ pub fn print_verdict<S: Source, T: Source, K: Sink>(
         → IfTold (S.remaining stl.old) (λ file.
         loaded national (outcome_of file) ≡ Ok programme
         → IfTold (T.remaining pes.old) (λ bytes.
-        ReadsAs options.now.origin 0 bytes frames None
+        Carries options.now.origin bytes frames
         → result ≡ Status.Done
         → Robust programme frames options.now
         × RobustToMarkedLoss programme frames options.now)) }
@@ -70,8 +70,6 @@ pub fn print_verdict<S: Source, T: Source, K: Sink>(
     ensures pes_count { CountsFault (T.failure_count pes.old) result (T.failure_count pes.new) }
     ensures out_count { CountsFault (K.failure_count out.old) result (K.failure_count out.new) }
 {
-    law_of_readings();
-    let _origin = options.origin();
     let answer = check_files(alloc, stl, pes, national, options);
     let mut line = Line::new();
     let status = push_verdict(&mut line, answer);

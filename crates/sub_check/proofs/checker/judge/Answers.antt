@@ -19,7 +19,7 @@ returns-in_err-read-clause-exact g c = λ frames unread bytes told reads fine.
     let known = rw (p.1, p.2) at fine in
     rw (p.1, p.2)
     (unread_refusal c.args.programme.now c.args.options.now frames unread 0 bytes
-    c.next_frame.new.packet _ (omega arith) (λ j l. absurd (omega arith)) reads
+    c.next_frame.new.packet _ (omega arith) (omega arith) (λ j l. absurd (omega arith)) reads
     (c.in_err-read.ensures.exact bytes told known))
 
 pub returns-in_default-clause-exact : goal.returns-in_default-clause-exact
@@ -68,8 +68,11 @@ loop-pes-init g c =
       told = λ frames unread bytes told reads.
           let at = rw c.in-Some.is at (c.in_ok-read.ensures.exact bytes told refl) in
           reaches_first c.args.programme.now c.args.options.now frames unread bytes
-          c.next_frame.new.packet c.in-Some.first _ c.in_ok-checker.checker reads at
-          (c.in_ok-read.ensures.left bytes told) c.units.ensures.frame
+          c.next_frame.new.packet c.in-Some.first _ _ c.in_ok-checker.checker reads at told
+          (c.in_ok-read.ensures.left bytes told)
+          (c.in_ok-read.ensures.taken c.in-Some.first
+          (ap (λ x. let r : Result (Option ℕ) CheckFault = Ok x in r) c.in-Some.is))
+          c.units.ensures.frame
           (c.in_ok-checker.ensures.exact
           (task_of c.args.programme.now c.args.options.now unread) frames
           (task_is c.args.programme.now c.args.options.now unread _ c.every-every.ensures.value)
@@ -89,14 +92,14 @@ returns-in_err-more-clause-exact g c = λ frames unread bytes told reads fine.
     let known = rw (p.1, p.2) at fine in
     let i = c.loop-pes.invariant.told frames unread bytes told reads in
     rw (p.1, p.2)
-    (next_refusal c.args.programme.now c.args.options.now frames unread c.loop-pes.pes
+    (next_refusal c.args.programme.now c.args.options.now frames unread bytes c.loop-pes.pes
     c.in-Some.first _ c.loop-pes.checker i c.next_frame-in-loop-pes.new.packet _
     (c.in_err-more.ensures.exact i.rest i.rest_is known))
 
 pub returns-in_default-more-clause-exact : goal.returns-in_default-more-clause-exact
 returns-in_default-more-clause-exact g c = λ frames unread bytes told reads fine.
     let i = c.loop-pes.invariant.told frames unread bytes told reads in
-    end_told c.args.programme.now c.args.options.now frames unread c.loop-pes.pes c.in-Some.first _
+    end_told c.args.programme.now c.args.options.now frames unread bytes c.loop-pes.pes c.in-Some.first _
     c.loop-pes.checker i c.finish.result
     (rw c.in_default-more.is at (c.in_ok-more.ensures.exact i.rest i.rest_is refl))
     c.finish.ensures.end
@@ -115,7 +118,7 @@ returns-in_err-go_on-clause-exact g c = λ frames unread bytes told reads fine.
     (subst
     (λ (us : List UnitValue). IsSentFrame frames c.loop-pes.pes c.in-Some-more.frame
     (packets_of_units us)) (sym c.units-units.ensures.value)
-    (next_sent c.args.programme.now c.args.options.now frames unread c.loop-pes.pes
+    (next_sent c.args.programme.now c.args.options.now frames unread bytes c.loop-pes.pes
     c.in-Some.first _ c.loop-pes.checker i c.next_frame-in-loop-pes.new.packet
     c.in-Some-more.frame at)))
 
@@ -149,10 +152,13 @@ loop-pes-preserved g c =
       told = λ frames unread bytes told reads.
           let i = c.loop-pes.invariant.told frames unread bytes told reads in
           let at = rw c.in-Some-more.is at (c.in_ok-more.ensures.exact i.rest i.rest_is refl) in
-          reaches_next c.args.programme.now c.args.options.now frames unread c.loop-pes.pes
+          reaches_next c.args.programme.now c.args.options.now frames unread bytes c.loop-pes.pes
           c.in-Some.first _ c.loop-pes.checker i c.next_frame-in-loop-pes.new.packet
           c.in-Some-more.frame _ c.go_on.new.self at
-          (c.in_ok-more.ensures.left i.rest i.rest_is) c.units-units.ensures.frame
+          (c.in_ok-more.ensures.left i.rest i.rest_is)
+          (c.in_ok-more.ensures.taken c.in-Some-more.frame
+          (ap (λ x. let r : Result (Option ℕ) CheckFault = Ok x in r) c.in-Some-more.is))
+          c.units-units.ensures.frame
           (c.in_ok-go_on.ensures.exact
           (task_of c.args.programme.now c.args.options.now unread) frames
           (task_is c.args.programme.now c.args.options.now unread _ c.every-every.ensures.value)
@@ -160,7 +166,14 @@ loop-pes-preserved g c =
           (subst
           (λ (us : List UnitValue). IsSentFrame frames c.loop-pes.pes c.in-Some-more.frame
           (packets_of_units us)) (sym c.units-units.ensures.value)
-          (next_sent c.args.programme.now c.args.options.now frames unread c.loop-pes.pes
+          (next_sent c.args.programme.now c.args.options.now frames unread bytes c.loop-pes.pes
           c.in-Some.first _ c.loop-pes.checker i c.next_frame-in-loop-pes.new.packet
           c.in-Some-more.frame at)));
     }
+
+pub returns-clause-exact : goal.returns-clause-exact
+returns-clause-exact g c = λ frames unread bytes told reads fine.
+    let i = c.loop-pes.invariant.told frames unread bytes told reads in
+    let few = i.few in
+    let past = c.loop-pes-test.false in
+    absurd (omega (arith, few, past))

@@ -24,6 +24,6 @@ invariant-loop-pes g l = record {
       (frames : Transmission) (unread : Option Unread) (bytes : List ℕ)
       → g.S.Source.remaining l.fn.source ≡ Some bytes
       → ReadsAs l.options.origin 0 bytes frames unread
-      → Reaches (task_of l.programme l.options unread) l.options.origin frames unread
+      → Reaches (task_of l.programme l.options unread) l.options.origin bytes frames unread
       (g.S.Source.remaining l.source) l.pes l.first l.checker;
 }

@@ -1,7 +1,13 @@
--- The programme that is loaded is the file's one: `same_programme`.
-use Rattle.std.proofs.Common.{Some, refl, ap, rules, ◌∙◌}
-use Rattle.sub_check.proofs.CheckLemmas.{same_programme}
+-- The programme that is loaded is the file's one: `same_programme`; what is told of both files:
+-- `files_accepted`, `files_refused`.
+use Rattle.std.proofs.Common.{rules, refl}
+use Rattle.sub_check.proofs.CheckLemmas.{files_accepted, files_refused, same_programme}
 use Rattle.sub_check.proofs.files.check_files.Goals as goal
+
+pub returns-in-Err-clause-accepted : goal.returns-in-Err-clause-accepted
+returns-in-Err-clause-accepted g c = λ file told bytes heard.
+    files_refused c.args.national c.args.options.now file bytes c.in-Err.fault
+    c.law_of_loading.ensures (c.in-Err.ensures.fault file told)
 
 pub returns-in-Err-clause-checked : goal.returns-in-Err-clause-checked
 returns-in-Err-clause-checked g c = λ file told. record {
@@ -9,33 +15,28 @@ returns-in-Err-clause-checked g c = λ file told. record {
   refused = λ none. refl;
   checked = λ programme loads bytes heard. record {
     accepted = λ looked fine. cc;
-    counts = λ frames reads. tt;
-    first = λ frames unread reads looked fine. cc;
-    content = λ frames unread frame row column reads is. cc;
+    robust = λ transmission carries ok. cc;
+    robust_to_loss = λ transmission carries ok. cc;
+    counts = λ transmission carries. tt;
+    first = λ looked fine. cc;
+    content = λ frame row column is. cc;
     schedule = λ serial planned some looked fine. cc;
-    robust = λ frames reads ok. cc;
-    robust_to_loss = λ frames reads ok. cc;
   };
 }
+
+pub returns-in-Ok-clause-accepted : goal.returns-in-Ok-clause-accepted
+returns-in-Ok-clause-accepted g c = λ file told bytes heard.
+    files_accepted c.args.national c.args.options.now file bytes c.in-Ok.programme c.check.result
+    c.law_of_loading.ensures (c.in-Ok.ensures.exact file told) c.in-Ok.ensures.national
+    c.check.ensures.own (c.check.ensures.checked bytes heard)
 
 pub returns-in-Ok-clause-checked : goal.returns-in-Ok-clause-checked
 returns-in-Ok-clause-checked g c = λ file told.
     let given = c.in-Ok.ensures.exact file told in
-    let made = c.check.ensures in
     record {
       subtitles = search rules;
       refused = λ none. absurd (none c.in-Ok.programme given);
       checked = λ programme loads bytes heard.
-          rw (same_programme programme c.in-Ok.programme _ loads given) (record {
-            accepted = λ looked fine. made.accepted bytes heard fine;
-            counts = λ frames reads. made.counts frames bytes heard reads;
-            first = λ frames unread reads looked fine.
-                made.first frames unread bytes heard reads fine;
-            content = λ frames unread frame row column reads is.
-                made.content frames unread frame row column bytes heard reads is;
-            schedule = λ serial planned some looked fine.
-                made.schedule serial (heard ∙ ap Some planned) some fine;
-            robust = λ frames reads ok. made.robust frames bytes heard reads ok;
-            robust_to_loss = λ frames reads ok. made.robust_to_loss frames bytes heard reads ok;
-          });
+          rw (same_programme programme c.in-Ok.programme _ loads given)
+          (c.check.ensures.checked bytes heard);
     }

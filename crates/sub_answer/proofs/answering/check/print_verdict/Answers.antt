@@ -30,7 +30,6 @@ returns-in-Ok-clause-check g c =
           subtitles = λ file told. (made.checked file told).subtitles;
           exact = λ file told bytes heard.
               answered c.args.national c.args.options.now file bytes answer
-              c.origin-origin.ensures.options.origin c.law_of_readings.ensures
               (subst (λ pes. AreChecked c.args.national c.args.options.now file pes answer) heard
               (made.checked file told));
         },
@@ -70,7 +69,6 @@ returns-in-Err-clause-check g c =
           subtitles = λ file told. (made.checked file told).subtitles;
           exact = λ file told bytes heard.
               answered c.args.national c.args.options.now file bytes answer
-              c.origin-origin.ensures.options.origin c.law_of_readings.ensures
               (subst (λ pes. AreChecked c.args.national c.args.options.now file pes answer) heard
               (made.checked file told));
         },

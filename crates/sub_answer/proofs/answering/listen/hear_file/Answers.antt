@@ -113,3 +113,10 @@ loop-index-preserved g c =
           (packets_of_units c.next_frame.new.packet.units))
           (g.R.Receiver.state c.hear_units.new.receiver)) c.loop-index.invariant.tuned run));
     }
+
+pub returns-clause-exact : goal.returns-clause-exact
+returns-clause-exact g c = λ frames unread bytes told reads fine.
+    let i = c.loop-index.invariant.told frames unread bytes told reads in
+    let few = i.few in
+    let past = c.loop-index-test.false in
+    absurd (omega (arith, few, past))
