@@ -18,7 +18,7 @@ use crate::status::Status;
 use arrayvec::ArrayVec;
 use std::alloc::Global;
 use stl_rows::National;
-use sub_check::{check_files};
+use sub_check::check_files;
 use sub_io::{Sink, Source, put_all};
 use sub_plan::Options;
 
