@@ -8,7 +8,7 @@ pub mod StepByStepLemmas
 pub mod RuleLemmas
 pub mod RuleTests
 pub mod BrokenRules
-pub mod BrokenSpans
+pub mod RobustTests
 pub mod NotRobust
 pub mod GoodExample
 pub mod ScreenTests

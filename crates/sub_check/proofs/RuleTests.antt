@@ -1,482 +1,740 @@
--- The rules of a concrete transmission of page 888, by tests that compute (kept).
-use Rattle.std.proofs.Common.{◌≡◌, ℕ, ◌+◌, ◌-◌, ◌<◌, ◌≤◌, inl, inr, ◌==◌, Bool}
-use Rattle.std.proofs.Common.{true}
-use Rattle.std.proofs.Common.{false, not, ◌&&◌, ◌||◌, nat_lt, cond, List, [], ◌∷◌, length, take}
-use Rattle.std.proofs.Common.{slice_index, Option, Some, None, is_some, find, option_map}
-use Rattle.std.proofs.Common.{unwrap_or, All}
-use Rattle.std.proofs.Common.{refl, sym, ap, ◌∙◌, subst, arith, eqb-true, eq-eqb, le_refl}
+-- Each of the seven rules as a test that computes (rule_decided). By it examples are computed:
+-- by_test, good_by_test. Below each test stands what it decides.
+use Rattle.std.proofs.Common.{◌≡◌, ℕ, zero, suc, ◌+◌, ◌-◌, ◌<◌, ◌≤◌, inl, inr, ◌==◌, Bool}
+use Rattle.std.proofs.Common.{true, false, not, ◌&&◌, ◌||◌, nat_lt, nat_le, cond, List, [], ◌∷◌}
+use Rattle.std.proofs.Common.{length, take, slice_index, Option, Some, None, find, option_map}
+use Rattle.std.proofs.Common.{unwrap_or, All, ◌++◌, IfSome, eqb-true, refl, sym, ap, ◌∙◌}
+use Rattle.std.proofs.Common.{subst, arith, le_refl}
+use Rattle.std.specs.Bool.{Decides}
 use Rattle.std.specs.List.{list_all}
-use Rattle.std.proofs.lemmas.Bool.{agree_below, agree_below_at, and_parts, cases_lt, ltb-true}
-use Rattle.std.proofs.lemmas.Bool.{lt-ltb}
+use Rattle.std.specs.Str.{bytes_eq}
+use Rattle.std.proofs.Math.Seq.{take-nil}
+use Rattle.std.proofs.lemmas.Bool.{and_parts, or_cases, not-true, cases_lt, ltb-true, leb-true}
+use Rattle.std.proofs.lemmas.Bool.{le-leb}
+use Rattle.std.proofs.lemmas.Bool.Decides.{Decides-and, Decides-not, Decides-like}
+use Rattle.std.proofs.lemmas.Bool.Decides.{Decides-eqb, Decides-ltb, Decides-by_and}
+use Rattle.std.proofs.lemmas.Bool.Decides.{Decides-below_and, Decides-below_or, not_from_Decides}
 use Rattle.std.proofs.lemmas.List.{take_all}
-use Rattle.std.proofs.lemmas.List.Elements.{All-nil, All-cons}
 use Rattle.std.proofs.lemmas.List.Kept.{AllPairs-cons}
+use Rattle.std.proofs.lemmas.Option.{none-some, same_Some}
+use Rattle.std.proofs.lemmas.Slice.Eq.{bytes_eq-Decides}
 use Rattle.ttx_packet.specs.declared.header.Header.{Header}
 use Rattle.ttx_packet.specs.Hamming84.{IsCodeWord, code_word}
-use Rattle.ttx_packet.specs.OneBit.{first_below}
 use Rattle.ttx_packet.specs.PacketAddress.{PacketAddress, address}
-use Rattle.ttx_packet.specs.PageHeader.{header, HasExactWords}
-use Rattle.ttx_packet.specs.PageHeader.{c4, c5, c6, c7, c10, c11, c12, c13, c14}
+use Rattle.ttx_packet.specs.PageHeader.{header, HasExactHeader, HasExactWords, c4, c5, c6, c7, c10}
+use Rattle.ttx_packet.specs.PageHeader.{c11, c12, c13, c14}
+use Rattle.ttx_packet.specs.PageId.{PageIdValue}
 use Rattle.ttx_packet.specs.Parity.{code_of, is_odd}
-use Rattle.ttx_packet.specs.RowPacket.{text_byte}
-use Rattle.ttx_packet.proofs.OneBitLemmas.{first_below_is}
+use Rattle.ttx_packet.specs.RowPacket.{text_byte, HasOddText}
 use Rattle.ttx_page.specs.declared.packet_kind.PacketKind.{PacketKind}
 use Rattle.ttx_page.specs.declared.packet_kind.PacketKind.TheVariants.{ThisPage, EndsPage, Row}
 use Rattle.ttx_page.specs.declared.packet_kind.PacketKind.TheVariants.{Other}
 use Rattle.ttx_page.specs.Noise.{IsOddRow, IsSameRow}
-use Rattle.ttx_page.specs.Page.{space, blank, cell}
+use Rattle.ttx_page.specs.Page.{Rows, space, cell, row_at, IsCell}
 use Rattle.ttx_page.specs.PacketKind.{kind, is_row}
+use Rattle.ttx_page.specs.Shown.{shown}
 use Rattle.ttx_page.specs.Span.{holds_header, span}
-use Rattle.ttx_page.proofs.NoiseSteps.{cell-blank}
-use Rattle.stl_rows.specs.declared.national.National.TheVariants.{English}
-use Rattle.stl_rows.specs.DuePage.{due}
-use Rattle.stl_rows.specs.Programme.{ProgrammeValue}
-use Rattle.sub_check.specs.Transmission.{SentFrame, Transmission, IsRising, EachPacket, first_frame}
-use Rattle.sub_check.specs.Transmission.{last_frame, packets_of, on_air_until}
+use Rattle.stl_rows.specs.declared.national.National.{National}
+use Rattle.stl_rows.specs.Programme.{ProgrammeValue, first_in, last_out}
+use Rattle.sub_plan.specs.Options.{OptionsValue}
 use Rattle.sub_plan.specs.Schedule.{due_in}
-use Rattle.sub_check.specs.Good.{IsInOneMode, IsSubtitleHeader, IsControlled}
-use Rattle.sub_check.specs.Good.{IsEnhancement, IsCleanSpan, HasCleanSpans, ShowsDuePages}
-use Rattle.sub_check.specs.Rules.{Rule, KeepsBound, IsKept}
-use Rattle.sub_check.specs.Rules.Rule.{Frames, ExactWords, OneMode, SubtitleControl}
-use Rattle.sub_check.specs.Rules.Rule.{CleanSpans, RepeatBound, DuePages}
-use Rattle.sub_check.specs.Examples.{page_888, each, no_subtitles}
-use Rattle.sub_check.proofs.StepByStepLemmas.{clean_nil, law_of_clean_spans, law_of_spans_by_packet}
+use Rattle.sub_plan.specs.Sending.{has_c14}
+use Rattle.sub_check.specs.Transmission.{SentFrame, Transmission, IsRising, EachPacket, first_frame}
+use Rattle.sub_check.specs.Transmission.{last_frame, packets_of, packets_between, on_air_until}
+use Rattle.sub_check.specs.Good.{IsInOneMode, IsSubtitleHeader, IsControlled, IsEnhancement, Good}
+use Rattle.sub_check.specs.Good.{IsCleanSpan, HasCleanSpans, HoldsHeader, Repeats, ShowsDuePages}
+use Rattle.sub_check.specs.Rules.{Rule, IsKept, BreaksOnly}
+use Rattle.sub_check.specs.Rules.Rule.{Frames, ExactWords, OneMode, SubtitleControl, CleanSpans}
+use Rattle.sub_check.specs.Rules.Rule.{RepeatBound, DuePages}
+use Rattle.sub_check.proofs.RuleLemmas.{law_of_rules, breaks}
+use Rattle.sub_check.proofs.StepByStepLemmas.{clean_nil}
 
--- What a packet is to a receiver of page 888.
-abbrev pub K : List ℕ → PacketKind
-K = kind page_888
+-- ---- tests and what they decide
 
--- ---- each packet
+-- One fact implies another.
+implied :
+    {P Q : Type 0} (a b : Bool) → Decides a P → Decides b Q → Decides (not a || b) (P → Q)
+implied true b p q = (λ e _. q.0 e, λ h. q.1 (h (p.0 refl)))
+implied false b p q = (λ e h. absurd (let t : false ≡ true = p.1 h in cc), λ h. refl)
 
--- What holds of an element that passes a test holds of each, where all pass.
-all_tested :
-    {A : Type 0} (P : A → Type 0) (test : A → Bool)
-    → ((x : A) → test x ≡ true → P x)
+-- Two truth values are equal.
+abbrev pub agree : Bool → Bool → Bool
+agree true b = b
+agree false b = not b
+
+pub agreed : (a b : Bool) → Decides (agree a b) (a ≡ b)
+agreed true true = (λ e. refl, λ e. refl)
+agreed true false = (λ e. cc, λ e. cc)
+agreed false true = (λ e. cc, λ e. cc)
+agreed false false = (λ e. refl, λ e. refl)
+
+-- A truth value is true.
+holds : (a : Bool) → Decides a (a ≡ true)
+holds a = (λ e. e, λ e. e)
+
+-- A number is at most another.
+at_most : (a b : ℕ) → Decides (nat_le a b) (a ≤ b)
+at_most a b = (leb-true a b, le-leb a b)
+
+-- A test of each number below a bound.
+abbrev pub all_below : (ℕ → Bool) → ℕ → Bool
+all_below test zero = true
+all_below test (suc n) = test n && all_below test n
+
+-- A test of some number below a bound.
+abbrev pub any_below : (ℕ → Bool) → ℕ → Bool
+any_below test zero = false
+any_below test (suc n) = test n || any_below test n
+
+below :
+    (test : ℕ → Bool) (P : ℕ → Type 0)
+    → ((k : ℕ) → Decides (test k) (P k))
+    → (n : ℕ)
+    → Decides (all_below test n) ((k : ℕ) → k < n → P k)
+below test P each n = Decides-below_and test P (all_below test) each refl (λ _. refl) n
+
+some_below :
+    (test : ℕ → Bool) (P : ℕ → Type 0)
+    → ((k : ℕ) → Decides (test k) (P k))
+    → (n : ℕ)
+    → Decides (any_below test n) ((k : ℕ) × (k < n) × P k)
+some_below test P each n = Decides-below_or test P (any_below test) each refl (λ _. refl) n
+
+-- A test of each element.
+each_of :
+    {A : Type 0} (test : A → Bool) (P : A → Type 0)
+    → ((x : A) → Decides (test x) (P x))
     → (xs : List A)
-    → list_all test xs ≡ true
-    → All P xs
-all_tested P test sound [] e = All-nil P
-all_tested P test sound (x ∷ xs) e =
-    let parts = and_parts (test x) (list_all test xs) e in
-    All-cons P x xs (sound x parts.0) (all_tested P test sound xs parts.1)
+    → Decides (list_all test xs) (All P xs)
+each_of test P each xs = Decides-by_and test P (list_all test) each refl (λ _ _. refl) xs
 
--- All packets pass a test.
-abbrev pub passes_each : (List ℕ → Bool) → Transmission → Bool
-passes_each test frames = list_all (λ (s : SentFrame). list_all test s.packets) frames
+-- A test of the value, where there is one.
+abbrev if_some : {A : Type 0} → (A → Bool) → Option A → Bool
+if_some test None = true
+if_some test (Some x) = test x
 
--- The same for the packets of a transmission.
-each_tested :
-    (P : List ℕ → Type 0) (test : List ℕ → Bool)
-    → ((p : List ℕ) → test p ≡ true → P p)
+value_of :
+    {A : Type 0} (test : A → Bool) (P : A → Type 0)
+    → ((x : A) → Decides (test x) (P x))
+    → (o : Option A)
+    → Decides (if_some test o) ((x : A) → o ≡ Some x → P x)
+value_of test P each None = (λ e x is. absurd (none-some x is), λ h. refl)
+value_of test P each (Some y) =
+    (λ e x is. subst P (same_Some y x is) ((each y).0 e), λ h. (each y).1 (h y refl))
+
+if_value :
+    {A : Type 0} (test : A → Bool) (P : A → Type 0)
+    → ((x : A) → Decides (test x) (P x))
+    → (o : Option A)
+    → Decides (if_some test o) (IfSome o P)
+if_value test P each None = (λ e. tt, λ h. refl)
+if_value test P each (Some y) = each y
+
+-- The header of a packet that is one of the page.
+abbrev this_page : PacketKind → Option Header
+this_page (ThisPage h) = Some h
+this_page EndsPage = None
+this_page (Row y) = None
+this_page Other = None
+
+if_this_page :
+    (test : Header → Bool) (P : Header → Type 0)
+    → ((h : Header) → Decides (test h) (P h))
+    → (k : PacketKind)
+    → Decides (if_some test (this_page k)) ((h : Header) → k ≡ ThisPage h → P h)
+if_this_page test P each k =
+    Decides-like (if_some test (this_page k)) (λ f h is. f h (ap this_page is)) (back k)
+    (value_of test P each (this_page k))
+  where
+    back :
+        (k : PacketKind)
+        → ((h : Header) → k ≡ ThisPage h → P h)
+        → (h : Header)
+        → this_page k ≡ Some h
+        → P h
+    back (ThisPage g) f h is = f h (ap ThisPage (same_Some g h is))
+    back EndsPage f h is = absurd (none-some h is)
+    back (Row y) f h is = absurd (none-some h is)
+    back Other f h is = absurd (none-some h is)
+
+-- The row of a packet that is one.
+abbrev row_of_kind : PacketKind → Option ℕ
+row_of_kind (ThisPage h) = None
+row_of_kind EndsPage = None
+row_of_kind (Row y) = Some y
+row_of_kind Other = None
+
+if_row :
+    (test : ℕ → Bool) (P : ℕ → Type 0)
+    → ((y : ℕ) → Decides (test y) (P y))
+    → (k : PacketKind)
+    → Decides (if_some test (row_of_kind k)) ((y : ℕ) → k ≡ Row y → P y)
+if_row test P each k =
+    Decides-like (if_some test (row_of_kind k)) (λ f y is. f y (ap row_of_kind is)) (back k)
+    (value_of test P each (row_of_kind k))
+  where
+    back :
+        (k : PacketKind)
+        → ((y : ℕ) → k ≡ Row y → P y)
+        → (y : ℕ)
+        → row_of_kind k ≡ Some y
+        → P y
+    back (ThisPage h) f y is = absurd (none-some y is)
+    back EndsPage f y is = absurd (none-some y is)
+    back (Row x) f y is = f y (ap Row (same_Some x y is))
+    back Other f y is = absurd (none-some y is)
+
+-- ---- of a transmission
+
+-- A test of each packet.
+abbrev each_packet : (List ℕ → Bool) → Transmission → Bool
+each_packet test frames = list_all (λ (s : SentFrame). list_all test s.packets) frames
+
+packets_decided :
+    (test : List ℕ → Bool) (P : List ℕ → Type 0)
+    → ((p : List ℕ) → Decides (test p) (P p))
     → (frames : Transmission)
-    → passes_each test frames ≡ true
-    → EachPacket P frames
-each_tested P test sound frames e =
-    all_tested (λ (s : SentFrame). All P s.packets) (λ s. list_all test s.packets)
-    (λ s h. all_tested P test sound s.packets h) frames e
+    → Decides (each_packet test frames) (EachPacket P frames)
+packets_decided test P each frames =
+    each_of (λ (s : SentFrame). list_all test s.packets) (λ (s : SentFrame). All P s.packets)
+    (λ s. each_of test P each s.packets) frames
 
--- ---- frames
+-- A test of each frame from the first to the last.
+abbrev each_frame : (ℕ → Bool) → Transmission → Bool
+each_frame test frames =
+    all_below (λ k. test (first_frame frames + k)) (last_frame frames + 1 - first_frame frames)
+
+frames_decided :
+    (test : ℕ → Bool) (P : ℕ → Type 0)
+    → ((f : ℕ) → Decides (test f) (P f))
+    → (frames : Transmission)
+    → Decides (each_frame test frames)
+    ((f : ℕ) → first_frame frames ≤ f → f ≤ last_frame frames → P f)
+frames_decided test P each frames =
+    Decides-like (each_frame test frames)
+    (λ h f l m.
+    let k : ℕ = f - first_frame frames in
+    let here : first_frame frames + k ≡ f = omega arith in
+    subst P here (h k (omega arith)))
+    (λ h k l. h (first_frame frames + k) (omega arith) (omega arith))
+    (below (λ k. test (first_frame frames + k)) (λ k. P (first_frame frames + k))
+    (λ k. each (first_frame frames + k)) (last_frame frames + 1 - first_frame frames))
+
+-- ---- the rules
 
 -- The numbers of the frames rise.
-abbrev pub rises : Transmission → Bool
+abbrev rises : Transmission → Bool
 rises [] = true
 rises (s ∷ frames) =
     list_all (λ (later : SentFrame). nat_lt s.frame later.frame) frames && rises frames
 
--- Where the test passes they do.
-rises_tested : (frames : Transmission) → rises frames ≡ true → IsRising frames
-rises_tested [] e = λ i j d l m. absurd (omega arith)
-rises_tested (s ∷ frames) e =
-    let later : SentFrame → Bool = λ t. nat_lt s.frame t.frame in
-    let parts = and_parts (list_all later frames) (rises frames) e in
-    AllPairs-cons (λ (t : SentFrame) (u : SentFrame). t.frame < u.frame) s frames
-    (all_tested (λ (t : SentFrame). s.frame < t.frame) later
-    (λ t h. ltb-true s.frame t.frame h) frames parts.0)
-    (rises_tested frames parts.1)
+rising_decided : (frames : Transmission) → Decides (rises frames) (IsRising frames)
+rising_decided [] = (λ e i j d l m. absurd (omega arith), λ h. refl)
+rising_decided (s ∷ frames) =
+    let R : SentFrame → SentFrame → Type 0 = λ t u. t.frame < u.frame in
+    Decides-like (rises (s ∷ frames)) (λ h. AllPairs-cons R s frames h.0 h.1)
+    (λ h. (
+      λ k d l. h 0 (suc k) d (omega arith) (omega arith),
+      λ i j d l m. h (suc i) (suc j) d (omega arith) (omega arith),
+    ))
+    (Decides-and (list_all (λ (later : SentFrame). nat_lt s.frame later.frame) frames)
+    (rises frames)
+    (each_of (λ (later : SentFrame). nat_lt s.frame later.frame) (R s)
+    (λ t. Decides-ltb s.frame t.frame) frames) (rising_decided frames))
 
--- There is a frame.
-abbrev pub has_frame : Transmission → Bool
-has_frame [] = false
-has_frame (s ∷ frames) = true
+-- The frames are a transmission that reaches from the first TCI to the last TCO.
+abbrev are_frames : ProgrammeValue → Transmission → Bool
+are_frames programme frames =
+    nat_lt 0 (length frames)
+    && (rises frames
+    && (each_packet (λ p. length p == 42) frames
+    && (if_some (λ tci. nat_le (first_frame frames) tci) (first_in programme.records)
+    && if_some (λ tco. nat_le tco (last_frame frames)) (last_out programme.records))))
 
--- Where the test passes there is.
-has_frame_tested : (frames : Transmission) → has_frame frames ≡ true → 0 < length frames
-has_frame_tested [] e = cc
-has_frame_tested (s ∷ frames) e = omega arith
-
--- There is a frame, the frames rise, and each packet has 42 bytes.
-abbrev pub are_frames : Transmission → Bool
-are_frames frames = has_frame frames && (rises frames && passes_each (λ p. length p == 42) frames)
-
--- ---- exact words
-
--- The byte is a code word.
+-- A byte is a code word, and what follows from it for a packet.
 abbrev is_word : ℕ → Bool
-is_word b = is_some (first_below 16 (λ n. b == code_word n))
+is_word b = any_below (λ n. b == code_word n) 16
 
--- Where the test passes it is.
-word_tested : (b : ℕ) → is_word b ≡ true → IsCodeWord b
-word_tested b e = go (first_below 16 (λ n. b == code_word n)) refl e
+word_decided : (b : ℕ) → Decides (is_word b) (IsCodeWord b)
+word_decided b =
+    some_below (λ n. b == code_word n) (λ n. b ≡ code_word n) (λ n. Decides-eqb b (code_word n)) 16
+
+abbrev is_exact_header : List ℕ → Bool
+is_exact_header p = all_below (λ k. not (nat_le 2 k) || is_word (slice_index p k)) 10
+
+abbrev is_exact : List ℕ → Bool
+is_exact p =
+    all_below (λ k. is_word (slice_index p k)) 2
+    && if_some (λ (a : PacketAddress). not (a.packet_number == 0) || is_exact_header p) (address p)
+
+exact_decided : (p : List ℕ) → Decides (is_exact p) (HasExactWords p)
+exact_decided p =
+    Decides-and _ _
+    (below (λ k. is_word (slice_index p k)) (λ k. IsCodeWord (slice_index p k))
+    (λ k. word_decided (slice_index p k)) 2)
+    (value_of (λ (a : PacketAddress). not (a.packet_number == 0) || is_exact_header p)
+    (λ (a : PacketAddress). a.packet_number ≡ 0 → HasExactHeader p)
+    (λ a. implied (a.packet_number == 0) (is_exact_header p) (Decides-eqb a.packet_number 0) coded)
+    (address p))
   where
-    go :
-        (o : Option ℕ)
-        → first_below 16 (λ n. b == code_word n) ≡ o
-        → is_some o ≡ true
-        → IsCodeWord b
-    go None p h = cc
-    go (Some n) p h =
-        let r = first_below_is 16 (λ n. b == code_word n) n p in
-        (n, r.0, eqb-true b (code_word n) r.1)
+    coded : Decides (is_exact_header p) (HasExactHeader p)
+    coded =
+        Decides-like (is_exact_header p) (λ h k l m. h k m l) (λ h k m l. h k l m)
+        (below (λ k. not (nat_le 2 k) || is_word (slice_index p k))
+        (λ k. 2 ≤ k → IsCodeWord (slice_index p k))
+        (λ k. implied (nat_le 2 k) (is_word (slice_index p k)) (at_most 2 k)
+        (word_decided (slice_index p k))) 10)
 
--- The first n bytes are code words.
-abbrev are_words : ℕ → List ℕ → Bool
-are_words n p = agree_below (λ k. is_word (slice_index p k)) (λ k. true) n
+-- Two packets are in one mode.
+abbrev is_one_mode : Option Header → Option Header → Bool
+is_one_mode one other = if_some (λ h. if_some (λ k. agree (c11 h) (c11 k)) other) one
 
--- Where the test passes they are.
-words_tested :
-    (n : ℕ) (p : List ℕ)
-    → are_words n p ≡ true
-    → (k : ℕ)
-    → k < n
-    → IsCodeWord (slice_index p k)
-words_tested n p e k l =
-    word_tested (slice_index p k)
-    (agree_below_at (λ k. is_word (slice_index p k)) (λ k. true) n k e l)
+mode_decided :
+    (one other : List ℕ) → Decides (is_one_mode (header one) (header other)) (IsInOneMode one other)
+mode_decided one other =
+    Decides-like (is_one_mode (header one) (header other)) (λ f h k is too. f h is k too)
+    (λ f h is k too. f h k is too)
+    (value_of (λ h. if_some (λ k. agree (c11 h) (c11 k)) (header other))
+    (λ h. (k : Header) → header other ≡ Some k → c11 h ≡ c11 k)
+    (λ h. value_of (λ k. agree (c11 h) (c11 k)) (λ k. c11 h ≡ c11 k)
+    (λ k. agreed (c11 h) (c11 k)) (header other)) (header one))
 
--- The address has packet number 0.
-abbrev is_x0 : Option PacketAddress → Bool
-is_x0 None = false
-is_x0 (Some a) = a.packet_number == 0
-
--- The address bytes are code words, and in a packet X/0 the eight coded bytes too.
-abbrev pub is_exact : List ℕ → Bool
-is_exact p = are_words 2 p && (not (is_x0 (address p)) || are_words 10 p)
-
--- Of a disjunction with a false part the other part holds.
-or_not : (b c : Bool) → b ≡ true → (not b || c) ≡ true → c ≡ true
-or_not true c e h = h
-or_not false c e h = cc
-
--- Where the test passes they are.
-exact_tested : (p : List ℕ) → is_exact p ≡ true → HasExactWords p
-exact_tested p e =
-    let parts = and_parts (are_words 2 p) (not (is_x0 (address p)) || are_words 10 p) e in (
-      words_tested 2 p parts.0,
-      λ a is zero k m l.
-          let coded : are_words 10 p ≡ true =
-          or_not (is_x0 (address p)) (are_words 10 p)
-          (ap is_x0 is ∙ eq-eqb a.packet_number 0 zero) parts.1 in
-          words_tested 10 p coded k l,
-    )
-
--- ---- one mode
-
--- The header has C11 clear.
-abbrev pub is_parallel : Option Header → Bool
-is_parallel None = true
-is_parallel (Some h) = not (c11 h)
-
--- A packet is no header in serial mode.
-abbrev IsParallel : List ℕ → Type 0
-IsParallel p = (h : Header) → header p ≡ Some h → c11 h ≡ false
-
--- A negation that is true.
-not_true : (b : Bool) → not b ≡ true → b ≡ false
-not_true true e = cc
-not_true false e = refl
-
--- Where the test passes it is none.
-parallel_tested : (p : List ℕ) → is_parallel (header p) ≡ true → IsParallel p
-parallel_tested p e h is = not_true (c11 h) (sym (ap is_parallel is) ∙ e)
-
--- Headers in parallel mode are in one mode.
-one_mode :
-    (frames : Transmission)
-    → EachPacket IsParallel frames
-    → EachPacket (λ one. EachPacket (IsInOneMode one) frames) frames
-one_mode frames parallel = λ i d l m e n i' d' l' m' e' n' h g is too.
-    parallel i d l m e n h is ∙ sym (parallel i' d' l' m' e' n' g too)
-
--- ---- control bits
-
--- The control bits of a subtitle's header in English.
-abbrev is_subtitles : Header → Bool
-is_subtitles h =
+-- The control bits of a subtitle's header.
+abbrev is_subtitles : National → Header → Bool
+is_subtitles national h =
     c4 h
     && (not (c5 h)
-    && (c6 h && (c7 h && (not (c10 h) && (not (c12 h) && (not (c13 h) && not (c14 h)))))))
+    && (c6 h
+    && (c7 h
+    && (not (c10 h) && (not (c12 h) && (not (c13 h) && agree (c14 h) (has_c14 national)))))))
 
--- Where the test passes it is one.
-subtitles_tested : (h : Header) → is_subtitles h ≡ true → IsSubtitleHeader English h
-subtitles_tested h e =
-    let a = and_parts (c4 h) _ e in
-    let b = and_parts (not (c5 h)) _ a.1 in
-    let c = and_parts (c6 h) _ b.1 in
-    let d = and_parts (c7 h) _ c.1 in
-    let f = and_parts (not (c10 h)) _ d.1 in
-    let g = and_parts (not (c12 h)) _ f.1 in
-    let i = and_parts (not (c13 h)) _ g.1 in
-    record {
+-- A truth value is false.
+fails : (a : Bool) → Decides (not a) (a ≡ false)
+fails true = (λ e. cc, λ e. cc)
+fails false = (λ e. refl, λ e. refl)
+
+subtitles_decided :
+    (national : National) (h : Header)
+    → Decides (is_subtitles national h) (IsSubtitleHeader national h)
+subtitles_decided national h =
+    Decides-like (is_subtitles national h)
+    (λ a. record {
       erases = a.0;
-      no_newsflash = not_true (c5 h) b.0;
-      subtitle = c.0;
-      suppressed = d.0;
-      displayed = not_true (c10 h) f.0;
-      option_1 = not_true (c12 h) g.0;
-      option_2 = not_true (c13 h) i.0;
-      option_3 = not_true (c14 h) i.1;
-    }
+      no_newsflash = a.1.0;
+      subtitle = a.1.1.0;
+      suppressed = a.1.1.1.0;
+      displayed = a.1.1.1.1.0;
+      option_1 = a.1.1.1.1.1.0;
+      option_2 = a.1.1.1.1.1.1.0;
+      option_3 = a.1.1.1.1.1.1.1;
+    })
+    (λ r. (
+      r.erases,
+      (
+        r.no_newsflash,
+        (r.subtitle, (r.suppressed, (r.displayed, (r.option_1, (r.option_2, r.option_3))))),
+      ),
+    ))
+    (Decides-and _ _ (holds (c4 h))
+    (Decides-and _ _ (fails (c5 h))
+    (Decides-and _ _ (holds (c6 h))
+    (Decides-and _ _ (holds (c7 h))
+    (Decides-and _ _ (fails (c10 h))
+    (Decides-and _ _ (fails (c12 h))
+    (Decides-and _ _ (fails (c13 h)) (agreed (c14 h) (has_c14 national)))))))))
 
--- A header of the page is a subtitle's.
-abbrev pub is_controlled : PacketKind → Bool
-is_controlled (ThisPage h) = is_subtitles h
-is_controlled EndsPage = true
-is_controlled (Row y) = true
-is_controlled Other = true
-
--- Where the test passes it is.
-control_tested : (p : List ℕ) → is_controlled (K p) ≡ true → IsControlled English page_888 p
-control_tested p e h is = subtitles_tested h (sym (ap is_controlled is) ∙ e)
-
--- ---- spans of at most one packet
+-- ---- spans
 
 -- The 40 bytes of text have odd parity.
 abbrev is_odd_text : List ℕ → Bool
-is_odd_text p = agree_below (λ column. is_odd (text_byte p column)) (λ column. true) 40
+is_odd_text p = all_below (λ column. is_odd (text_byte p column)) 40
 
--- The packet number is below 25.
-abbrev is_plain : Option PacketAddress → Bool
-is_plain None = true
-is_plain (Some a) = nat_lt a.packet_number 25
+-- A packet X/25 to X/28 of the magazine.
+abbrev is_enhancement : PageIdValue → PacketAddress → Bool
+is_enhancement page a =
+    (a.magazine == page.magazine) && (nat_le 25 a.packet_number && nat_le a.packet_number 28)
 
--- No packet, or one of odd text and a packet number below 25.
-abbrev pub is_clean : List (List ℕ) → Bool
-is_clean [] = true
-is_clean (p ∷ []) = is_odd_text p && is_plain (address p)
-is_clean (p ∷ q ∷ ps) = false
+-- A clean span.
+abbrev is_clean : PageIdValue → List (List ℕ) → Bool
+is_clean page ps =
+    list_all (λ p. if_some (λ _. is_odd_text p) (row_of_kind (kind page p))) ps
+    && (list_all
+    (λ p. list_all
+    (λ q. if_some (λ y. if_some (λ z. not (y == z) || bytes_eq p q) (row_of_kind (kind page q)))
+    (row_of_kind (kind page p))) ps) ps
+    && list_all (λ p. if_some (λ a. not (is_enhancement page a)) (address p)) ps)
 
--- A span of one packet that passes is clean.
-one_is_clean : (p : List ℕ) → is_clean (p ∷ []) ≡ true → IsCleanSpan page_888 (p ∷ [])
-one_is_clean p e =
-    let parts = and_parts (is_odd_text p) (is_plain (address p)) e in
-    let odd : IsOddRow page_888 p =
-    λ row is column l.
-    agree_below_at (λ column. is_odd (text_byte p column)) (λ column. true) 40 column parts.0 l in
-    let plain : IsEnhancement page_888 p → ⊥ =
-    λ enhancement.
-    let small : enhancement.0.packet_number < 25 =
-    ltb-true enhancement.0.packet_number 25 (sym (ap is_plain enhancement.1) ∙ parts.1) in
-    omega (arith, enhancement.3) in
-    record {
-      odd = All-cons (IsOddRow page_888) p [] odd (All-nil _);
-      same =
-          All-cons (λ first. All (IsSameRow page_888 first) (p ∷ [])) p []
-          (All-cons (IsSameRow page_888 p) p [] (λ row a b. refl) (All-nil _)) (All-nil _);
-      plain = All-cons (λ q. IsEnhancement page_888 q → ⊥) p [] plain (All-nil _);
-    }
+same_decided :
+    (page : PageIdValue) (p q : List ℕ)
+    → Decides
+    (if_some (λ y. if_some (λ z. not (y == z) || bytes_eq p q) (row_of_kind (kind page q)))
+    (row_of_kind (kind page p))) (IsSameRow page p q)
+same_decided page p q =
+    Decides-like _
+    (λ f y is too. f y is y too refl)
+    (λ f y is z too same. f y is (too ∙ ap Row (sym same)))
+    (if_row (λ y. if_some (λ z. not (y == z) || bytes_eq p q) (row_of_kind (kind page q)))
+    (λ y. (z : ℕ) → kind page q ≡ Row z → y ≡ z → p ≡ q)
+    (λ y. if_row (λ z. not (y == z) || bytes_eq p q) (λ z. y ≡ z → p ≡ q)
+    (λ z. implied (y == z) (bytes_eq p q) (Decides-eqb y z) (bytes_eq-Decides p q))
+    (kind page q)) (kind page p))
 
--- Where the test passes the span is clean.
-clean_tested : (ps : List (List ℕ)) → is_clean ps ≡ true → IsCleanSpan page_888 ps
-clean_tested [] e = clean_nil page_888
-clean_tested (p ∷ []) e = one_is_clean p e
-clean_tested (p ∷ q ∷ ps) e = cc
+plain_decided :
+    (page : PageIdValue) (p : List ℕ)
+    → Decides (if_some (λ a. not (is_enhancement page a)) (address p)) (IsEnhancement page p → ⊥)
+plain_decided page p =
+    Decides-like _
+    (λ f e. f e.0 e.1 (e.2, (e.3, e.4)))
+    (λ f a is e. f (a, is, e.0, e.1.0, e.1.1))
+    (value_of (λ a. not (is_enhancement page a))
+    (λ (a : PacketAddress).
+    ((a.magazine ≡ page.magazine) × ((25 ≤ a.packet_number) × (a.packet_number ≤ 28))) → ⊥)
+    (λ a. Decides-not (is_enhancement page a)
+    (Decides-and _ _ (Decides-eqb a.magazine page.magazine)
+    (Decides-and _ _ (at_most 25 a.packet_number) (at_most a.packet_number 28))))
+    (address p))
+
+clean_decided :
+    (page : PageIdValue) (ps : List (List ℕ)) → Decides (is_clean page ps) (IsCleanSpan page ps)
+clean_decided page ps =
+    Decides-like (is_clean page ps)
+    (λ a. record { odd = a.0; same = a.1.0; plain = a.1.1 })
+    (λ r. (r.odd, (r.same, r.plain)))
+    (Decides-and _ _
+    (each_of (λ p. if_some (λ _. is_odd_text p) (row_of_kind (kind page p))) (IsOddRow page)
+    (λ p. if_row (λ _. is_odd_text p) (λ _. HasOddText p)
+    (λ _. below (λ column. is_odd (text_byte p column))
+    (λ column. is_odd (text_byte p column) ≡ true)
+    (λ column. holds (is_odd (text_byte p column))) 40) (kind page p)) ps)
+    (Decides-and _ _
+    (each_of _ (λ p. All (IsSameRow page p) ps)
+    (λ p. each_of _ (IsSameRow page p) (same_decided page p) ps) ps)
+    (each_of _ (λ p. IsEnhancement page p → ⊥) (plain_decided page) ps)))
 
 -- Cut anywhere, the span is clean.
-abbrev pub cuts_clean : List (List ℕ) → Bool
-cuts_clean ps = agree_below (λ n. is_clean (span K (take n ps))) (λ n. true) (length ps + 1)
+abbrev cuts_clean : PageIdValue → List (List ℕ) → Bool
+cuts_clean page ps = all_below (λ n. is_clean page (span (kind page) (take n ps))) (length ps + 1)
 
--- Where the test passes it is.
-cuts_tested :
-    (ps : List (List ℕ))
-    → cuts_clean ps ≡ true
-    → (n : ℕ)
-    → IsCleanSpan page_888 (span K (take n ps))
-cuts_tested ps e n =
-    elim (cases_lt (length ps) n) [
-      | inl past ↦
-          subst (λ qs. IsCleanSpan page_888 (span K qs))
-          (take_all (length ps) ps (le_refl (length ps)) ∙ sym (take_all n ps (omega arith)))
-          (at (length ps) (omega arith))
-      | inr within ↦ at n (omega arith)
-    ]
+cuts_decided :
+    (page : PageIdValue) (ps : List (List ℕ))
+    → Decides (cuts_clean page ps) ((n : ℕ) → IsCleanSpan page (span (kind page) (take n ps)))
+cuts_decided page ps =
+    Decides-like (cuts_clean page ps) at_each (λ h n l. h n)
+    (below (λ n. is_clean page (span (kind page) (take n ps))) P
+    (λ n. clean_decided page (span (kind page) (take n ps))) (length ps + 1))
   where
-    at : (k : ℕ) → k < length ps + 1 → IsCleanSpan page_888 (span K (take k ps))
-    at k l =
-        clean_tested (span K (take k ps))
-        (agree_below_at (λ n. is_clean (span K (take n ps))) (λ n. true) (length ps + 1) k e l)
+    P : ℕ → Type 0
+    P n = IsCleanSpan page (span (kind page) (take n ps))
 
--- So the rule of the spans is kept.
-spans_tested :
-    (frames : Transmission)
-    → IsRising frames
-    → cuts_clean (on_air_until frames (last_frame frames)) ≡ true
-    → HasCleanSpans page_888 frames
-spans_tested frames rising e =
-    let whole : List (List ℕ) = on_air_until frames (last_frame frames) in
-    (law_of_spans_by_packet page_888 frames rising).1
-    ((law_of_clean_spans page_888 whole).0 (cuts_tested whole e))
+    at_each : ((n : ℕ) → n < length ps + 1 → P n) → (n : ℕ) → P n
+    at_each h n =
+        elim (cases_lt (length ps) n) [
+          | inl past ↦
+              subst (λ qs. IsCleanSpan page (span (kind page) qs))
+              (take_all (length ps) ps (le_refl (length ps)) ∙ sym (take_all n ps (omega arith)))
+              (h (length ps) (omega arith))
+          | inr within ↦ h n (omega arith)
+        ]
 
--- ---- a header in each frame
-
--- A test of each frame from the first to the last.
-abbrev pub each_frame : (ℕ → Bool) → Transmission → Bool
-each_frame test frames =
-    agree_below (λ k. test (first_frame frames + k)) (λ k. true)
-    (last_frame frames + 1 - first_frame frames)
-
--- Where it passes, each frame passes.
-frame_tested :
-    (test : ℕ → Bool) (frames : Transmission) (f : ℕ)
-    → each_frame test frames ≡ true
-    → first_frame frames ≤ f
-    → f ≤ last_frame frames
-    → test f ≡ true
-frame_tested test frames f e l m =
-    let k : ℕ = f - first_frame frames in
-    let at : test (first_frame frames + k) ≡ true =
-    agree_below_at (λ k. test (first_frame frames + k)) (λ k. true)
-    (last_frame frames + 1 - first_frame frames) k e (omega arith) in
-    let same : first_frame frames + k ≡ f = omega arith in
-    subst (λ g. test g ≡ true) same at
-
--- The frame holds a header of the page.
-abbrev pub is_opened : Transmission → ℕ → Bool
-is_opened frames f = holds_header K (packets_of frames f)
-
--- Where each frame holds one, the repeat bound of one frame is kept.
-bound_tested :
-    (frames : Transmission)
-    → first_frame frames ≤ last_frame frames
-    → each_frame (is_opened frames) frames ≡ true
-    → KeepsBound frames (each 1)
-bound_tested frames order e =
-    record {
-      opens =
-          frame_tested (is_opened frames) frames (first_frame frames) e
-          (le_refl (first_frame frames)) order;
-      repeats = λ start l m. (
-        start,
-        le_refl start,
-        omega arith,
-        frame_tested (is_opened frames) frames start e l (omega arith),
-      );
-    }
-
--- ---- blank pages
-
--- The text shows spaces.
-abbrev is_blank_row : List ℕ → Bool
-is_blank_row p = agree_below (λ column. code_of (text_byte p column) == space) (λ column. true) 40
-
--- The code that packets show in a cell, if they are the span.
-abbrev pub code_in : List (List ℕ) → ℕ → ℕ → ℕ
-code_in ps row column =
-    unwrap_or
-    (option_map (λ p. code_of (text_byte p column)) (find (λ p. is_row row (K p)) ps))
-    space
-
--- Packets whose texts show spaces show a space in each cell.
-blank_rows :
-    (row column : ℕ) (ps : List (List ℕ))
-    → column < 40
-    → list_all is_blank_row ps ≡ true
-    → code_in ps row column ≡ space
-blank_rows row column [] l e = refl
-blank_rows row column (p ∷ ps) l e =
-    let parts = and_parts (is_blank_row p) (list_all is_blank_row ps) e in
-    go (is_row row (K p)) parts.0 (blank_rows row column ps l parts.1)
+-- Before the first frame nothing is on air.
+none_between :
+    (frames : Transmission) (from end : ℕ) → end ≤ from → packets_between frames from end ≡ []
+none_between [] from end l = refl
+none_between (s ∷ frames) from end l = go (nat_le from s.frame) (nat_lt s.frame end) refl refl
+    (none_between frames from end l)
   where
-    go :
-        (b : Bool)
-        → is_blank_row p ≡ true
-        → code_in ps row column ≡ space
-        → unwrap_or
-        (option_map (λ p. code_of (text_byte p column))
-        (cond b (Some p) (find (λ p. is_row row (K p)) ps)))
-        space
-        ≡ space
-    go true h ih =
-        eqb-true (code_of (text_byte p column)) space
-        (agree_below_at (λ column. code_of (text_byte p column) == space) (λ column. true) 40
-        column h l)
-    go false h ih = ih
+    go : (a b : Bool) → nat_le from s.frame ≡ a → nat_lt s.frame end ≡ b
+        → packets_between frames from end ≡ []
+        → cond (a && b) s.packets [] ++ packets_between frames from end ≡ []
+    go false b p q ih = ih
+    go true false p q ih = ih
+    go true true p q ih =
+        let low : from ≤ s.frame = leb-true from s.frame p in
+        let high : s.frame < end = ltb-true s.frame end q in
+        absurd (omega arith)
 
--- What is on air to the end of the frame shows spaces.
-abbrev pub is_blank_at : Transmission → ℕ → Bool
-is_blank_at frames f = list_all is_blank_row (span K (on_air_until frames f))
+spans_decided :
+    (page : PageIdValue) (frames : Transmission)
+    → Decides (each_frame (λ f. cuts_clean page (on_air_until frames f)) frames)
+    (HasCleanSpans page frames)
+spans_decided page frames =
+    Decides-like _ at_each (λ h f l m n. h f n m)
+    (frames_decided (λ f. cuts_clean page (on_air_until frames f))
+    (λ f. (n : ℕ) → P f n) (λ f. cuts_decided page (on_air_until frames f)) frames)
+  where
+    P : ℕ → ℕ → Type 0
+    P f n = IsCleanSpan page (span (kind page) (take n (on_air_until frames f)))
 
--- Where blank pages are due, and shown.
-pub blank_tested :
-    (programme : ProgrammeValue) (frames : Transmission)
-    → ((f : ℕ)
-    → first_frame frames ≤ f
-    → f ≤ last_frame frames
-    → due_in programme f ≡ blank)
-    → each_frame (is_blank_at frames) frames ≡ true
-    → ShowsDuePages programme page_888 frames
-blank_tested programme frames blank_due e f row column l m named =
-    blank_rows row column (span K (on_air_until frames f)) named.2
-    (frame_tested (is_blank_at frames) frames f e l m)
-    ∙ sym (cell-blank row column named)
-    ∙ ap (λ page. cell page row column) (sym (blank_due f l m))
+    at_each :
+        ((f : ℕ) → first_frame frames ≤ f → f ≤ last_frame frames → (n : ℕ) → P f n)
+        → HasCleanSpans page frames
+    at_each h f n l =
+        elim (cases_lt f (first_frame frames)) [
+          | inl before ↦
+              subst (λ ps. IsCleanSpan page (span (kind page) ps))
+              (sym (ap (take n) (none_between frames (first_frame frames) (f + 1) (omega arith))
+              ∙ take-nil n))
+              (clean_nil page)
+          | inr from ↦ h f from l n
+        ]
 
--- No subtitle, and so blank pages.
-pub none_due : (f : ℕ) → due_in no_subtitles f ≡ blank
-unfolding due
-none_due f = refl
+-- ---- the repeat bound
 
--- ---- the rules
+-- From a frame on so many frames hold a header.
+abbrev holds_within : PageIdValue → Transmission → ℕ → ℕ → Bool
+holds_within page frames every start =
+    any_below (λ k. holds_header (kind page) (packets_of frames (start + k))) every
 
--- The rule as a test, where the programme has no subtitles and each frame is to have a header.
-abbrev pub passes : Rule → Transmission → Bool
-passes Frames frames = are_frames frames
-passes ExactWords frames = passes_each is_exact frames
-passes OneMode frames = passes_each (λ p. is_parallel (header p)) frames
-passes SubtitleControl frames = passes_each (λ p. is_controlled (K p)) frames
-passes CleanSpans frames =
-    rises frames && cuts_clean (on_air_until frames (last_frame frames))
-passes RepeatBound frames =
-    not (nat_lt (last_frame frames) (first_frame frames)) && each_frame (is_opened frames) frames
-passes DuePages frames = each_frame (is_blank_at frames) frames
+abbrev repeats : PageIdValue → ℕ → Transmission → Bool
+repeats page every frames =
+    all_below
+    (λ k. not (nat_le (first_frame frames + k + every) (last_frame frames + 1))
+    || holds_within page frames every (first_frame frames + k))
+    (last_frame frames + 2 - first_frame frames)
 
--- A number that is not below another.
-not_below : (a b : ℕ) → not (nat_lt a b) ≡ true → b ≤ a
-not_below a b e = elim (cases_lt a b) [
-  | inl below ↦ let h : nat_lt a b ≡ false = not_true (nat_lt a b) e in
-      absurd (let t : nat_lt a b ≡ true = lt-ltb a b below in cc)
-  | inr above ↦ above
-]
+repeats_decided :
+    (page : PageIdValue) (every : ℕ) (frames : Transmission)
+    → Decides (repeats page every frames) (Repeats page every frames)
+repeats_decided page every frames =
+    Decides-like (repeats page every frames)
+    (λ h start l m.
+    let k : ℕ = start - first_frame frames in
+    let here : first_frame frames + k ≡ start = omega arith in
+    subst P here (h k (omega arith) (subst (λ n. n + every ≤ last_frame frames + 1) (sym here) m)))
+    (λ h k l m. h (first_frame frames + k) (omega arith) m)
+    (below _
+    (λ k. first_frame frames + k + every ≤ last_frame frames + 1 → P (first_frame frames + k))
+    (λ k. implied _ _ (at_most (first_frame frames + k + every) (last_frame frames + 1))
+    (window (first_frame frames + k))) (last_frame frames + 2 - first_frame frames))
+  where
+    P : ℕ → Type 0
+    P start = (f : ℕ) × (start ≤ f) × (f < start + every) × HoldsHeader page frames f
 
--- A rule whose test passes is kept.
-pub kept :
-    (every : ℕ) (frames : Transmission) (rule : Rule)
-    → (rule ≡ RepeatBound → every ≡ 1)
-    → passes rule frames ≡ true
-    → IsKept rule no_subtitles frames (each every)
-kept every frames Frames one e =
-    let parts = and_parts (has_frame frames) _ e in
-    let more = and_parts (rises frames) _ parts.1 in
-    record {
-      not_empty = has_frame_tested frames parts.0;
-      rising = rises_tested frames more.0;
-      whole =
-          each_tested (λ p. length p ≡ 42) (λ p. length p == 42) (λ p h. eqb-true (length p) 42 h)
-          frames more.1;
-      starts = tt;
-      lasts = tt;
-    }
-kept every frames ExactWords one e = each_tested HasExactWords is_exact exact_tested frames e
-kept every frames OneMode one e =
-    one_mode frames
-    (each_tested IsParallel (λ p. is_parallel (header p)) parallel_tested frames e)
-kept every frames SubtitleControl one e =
-    each_tested (IsControlled English page_888) (λ p. is_controlled (K p)) control_tested frames e
-kept every frames CleanSpans one e =
-    let parts = and_parts (rises frames) _ e in
-    spans_tested frames (rises_tested frames parts.0) parts.1
-kept every frames RepeatBound one e =
-    let parts = and_parts (not (nat_lt (last_frame frames) (first_frame frames))) _ e in
-    subst (λ n. KeepsBound frames (each n)) (sym (one refl))
-    (bound_tested frames (not_below (last_frame frames) (first_frame frames) parts.0) parts.1)
-kept every frames DuePages one e =
-    blank_tested no_subtitles frames (λ f l m. none_due f) e
+    window : (start : ℕ) → Decides (holds_within page frames every start) (P start)
+    window start =
+        Decides-like (holds_within page frames every start)
+        (λ r. (start + r.0, omega arith, omega (arith, r.1), r.2))
+        (λ r.
+        let here : start + (r.0 - start) ≡ r.0 = omega (arith, r.1) in
+        (r.0 - start, omega (arith, r.1, r.2), subst (HoldsHeader page frames) (sym here) r.3))
+        (some_below (λ k. holds_header (kind page) (packets_of frames (start + k)))
+        (λ k. HoldsHeader page frames (start + k))
+        (λ k. holds (holds_header (kind page) (packets_of frames (start + k)))) every)
+
+-- ---- the due page
+
+-- A packet, or none, shows the codes of a row.
+abbrev shows_row : Option (List ℕ) → List ℕ → Bool
+shows_row found codes =
+    all_below
+    (λ column.
+    unwrap_or (option_map (λ p. code_of (text_byte p column)) found) space
+    == slice_index codes column)
+    40
+
+-- The packets of a span show the page.
+abbrev shows_page : PageIdValue → List (List ℕ) → Rows → Bool
+shows_page page ps rows =
+    all_below
+    (λ k. shows_row (find (λ p. is_row (suc k) (kind page p)) ps) (row_at rows (suc k)))
+    24
+
+shows_decided :
+    (page : PageIdValue) (packets : List (List ℕ)) (rows : Rows)
+    → Decides (shows_page page (span (kind page) packets) rows)
+    ((row column : ℕ) → IsCell row column → shown page packets row column ≡ cell rows row column)
+shows_decided page packets rows =
+    Decides-like _ at_each
+    (λ h k l column m. h (suc k) column (omega arith, omega arith, m))
+    (below _ (λ k. (column : ℕ) → column < 40 → P (suc k) column)
+    (λ k. below _ (P (suc k)) (λ column. Decides-eqb _ _) 40) 24)
+  where
+    P : ℕ → ℕ → Type 0
+    P row column = shown page packets row column ≡ cell rows row column
+
+    at_each :
+        ((k : ℕ) → k < 24 → (column : ℕ) → column < 40 → P (suc k) column)
+        → (row column : ℕ)
+        → IsCell row column
+        → P row column
+    at_each h zero column named = absurd (omega (arith, named.0))
+    at_each h (suc k) column named = h k (omega (arith, named.1)) column named.2
+
+due_decided :
+    (programme : ProgrammeValue) (page : PageIdValue) (frames : Transmission)
+    → Decides
+    (each_frame
+    (λ f. shows_page page (span (kind page) (on_air_until frames f)) (due_in programme f)) frames)
+    (ShowsDuePages programme page frames)
+due_decided programme page frames =
+    Decides-like _ (λ h f row column l m. h f l m row column)
+    (λ h f l m row column. h f row column l m)
+    (frames_decided _
+    (λ f. (row column : ℕ)
+    → IsCell row column
+    → shown page (on_air_until frames f) row column ≡ cell (due_in programme f) row column)
+    (λ f. shows_decided page (on_air_until frames f) (due_in programme f)) frames)
+
+-- ---- all rules
+
+-- The rule as a test.
+abbrev pub passes : Rule → ProgrammeValue → Transmission → OptionsValue → Bool
+passes Frames programme frames o = are_frames programme frames
+passes ExactWords programme frames o = each_packet is_exact frames
+passes OneMode programme frames o =
+    each_packet
+    (λ one. each_packet (λ other. is_one_mode (header one) (header other)) frames) frames
+passes SubtitleControl programme frames o =
+    each_packet
+    (λ p. if_some (is_subtitles programme.national) (this_page (kind o.page p))) frames
+passes CleanSpans programme frames o =
+    each_frame (λ f. cuts_clean o.page (on_air_until frames f)) frames
+passes RepeatBound programme frames o =
+    holds_header (kind o.page) (packets_of frames (first_frame frames))
+    && repeats o.page o.every frames
+passes DuePages programme frames o =
+    each_frame
+    (λ f. shows_page o.page (span (kind o.page) (on_air_until frames f)) (due_in programme f))
+    frames
+
+-- It decides the rule.
+rule_decided :
+    (rule : Rule) (programme : ProgrammeValue) (frames : Transmission) (o : OptionsValue)
+    → Decides (passes rule programme frames o) (IsKept rule programme frames o)
+rule_decided Frames programme frames o =
+    Decides-like (are_frames programme frames)
+    (λ a. record {
+      not_empty = a.0;
+      rising = a.1.0;
+      whole = a.1.1.0;
+      starts = a.1.1.1.0;
+      lasts = a.1.1.1.1;
+    })
+    (λ r. (r.not_empty, (r.rising, (r.whole, (r.starts, r.lasts)))))
+    (Decides-and _ _ (Decides-ltb 0 (length frames))
+    (Decides-and _ _ (rising_decided frames)
+    (Decides-and _ _
+    (packets_decided (λ p. length p == 42) (λ p. length p ≡ 42)
+    (λ p. Decides-eqb (length p) 42) frames)
+    (Decides-and _ _
+    (if_value _ (λ tci. first_frame frames ≤ tci) (at_most (first_frame frames))
+    (first_in programme.records))
+    (if_value _ (λ tco. tco ≤ last_frame frames) (λ tco. at_most tco (last_frame frames))
+    (last_out programme.records))))))
+rule_decided ExactWords programme frames o =
+    packets_decided is_exact HasExactWords exact_decided frames
+rule_decided OneMode programme frames o =
+    packets_decided _ (λ one. EachPacket (IsInOneMode one) frames)
+    (λ one. packets_decided _ (IsInOneMode one) (mode_decided one) frames) frames
+rule_decided SubtitleControl programme frames o =
+    packets_decided _ (IsControlled programme.national o.page)
+    (λ p. if_this_page _ (IsSubtitleHeader programme.national)
+    (subtitles_decided programme.national) (kind o.page p)) frames
+rule_decided CleanSpans programme frames o = spans_decided o.page frames
+rule_decided RepeatBound programme frames o =
+    Decides-like _
+    (λ a. record { opens = a.0; repeats = a.1 })
+    (λ r. (r.opens, r.repeats))
+    (Decides-and _ _ (holds (holds_header (kind o.page) (packets_of frames (first_frame frames))))
+    (repeats_decided o.page o.every frames))
+rule_decided DuePages programme frames o = due_decided programme o.page frames
+
+-- A test of all rules.
+abbrev pub all_rules : (Rule → Bool) → Bool
+all_rules test =
+    test Frames
+    && (test ExactWords
+    && (test OneMode
+    && (test SubtitleControl && (test CleanSpans && (test RepeatBound && test DuePages)))))
+
+each_rule : (test : Rule → Bool) → all_rules test ≡ true → (rule : Rule) → test rule ≡ true
+each_rule test e =
+    let a = and_parts (test Frames) _ e in
+    let b = and_parts (test ExactWords) _ a.1 in
+    let c = and_parts (test OneMode) _ b.1 in
+    let d = and_parts (test SubtitleControl) _ c.1 in
+    let f = and_parts (test CleanSpans) _ d.1 in
+    let g = and_parts (test RepeatBound) _ f.1 in
+    pick a.0 b.0 c.0 d.0 f.0 g.0 g.1
+  where
+    pick :
+        test Frames ≡ true
+        → test ExactWords ≡ true
+        → test OneMode ≡ true
+        → test SubtitleControl ≡ true
+        → test CleanSpans ≡ true
+        → test RepeatBound ≡ true
+        → test DuePages ≡ true
+        → (rule : Rule)
+        → test rule ≡ true
+    pick a b c d f g h Frames = a
+    pick a b c d f g h ExactWords = b
+    pick a b c d f g h OneMode = c
+    pick a b c d f g h SubtitleControl = d
+    pick a b c d f g h CleanSpans = f
+    pick a b c d f g h RepeatBound = g
+    pick a b c d f g h DuePages = h
+
+-- A transmission whose tests all pass is good.
+pub good_by_test :
+    (programme : ProgrammeValue) (frames : Transmission) (o : OptionsValue)
+    → all_rules (λ rule. passes rule programme frames o) ≡ true
+    → Good programme frames o
+good_by_test programme frames o e =
+    (law_of_rules programme frames o).1
+    (λ rule. (rule_decided rule programme frames o).0
+    (each_rule (λ rule. passes rule programme frames o) e rule))
+
+-- The place of a rule among the seven, and the rule at a place.
+abbrev rank : Rule → ℕ
+rank Frames = 0
+rank ExactWords = 1
+rank OneMode = 2
+rank SubtitleControl = 3
+rank CleanSpans = 4
+rank RepeatBound = 5
+rank DuePages = 6
+
+abbrev at_rank : ℕ → Rule
+at_rank n =
+    cond (n == 0) Frames
+    (cond (n == 1) ExactWords
+    (cond (n == 2) OneMode
+    (cond (n == 3) SubtitleControl
+    (cond (n == 4) CleanSpans (cond (n == 5) RepeatBound DuePages)))))
+
+ranked : (rule : Rule) → at_rank (rank rule) ≡ rule
+ranked Frames = refl
+ranked ExactWords = refl
+ranked OneMode = refl
+ranked SubtitleControl = refl
+ranked CleanSpans = refl
+ranked RepeatBound = refl
+ranked DuePages = refl
+
+-- The test of this rule fails, and no other.
+abbrev pub fails_alone : Rule → ProgrammeValue → Transmission → OptionsValue → Bool
+fails_alone rule programme frames o =
+    not (passes rule programme frames o)
+    && all_rules (λ other. (rank other == rank rule) || passes other programme frames o)
+
+-- A transmission of which this is so breaks the rule alone.
+pub by_test :
+    (rule : Rule) (programme : ProgrammeValue) (frames : Transmission) (o : OptionsValue)
+    → fails_alone rule programme frames o ≡ true
+    → BreaksOnly rule programme frames o
+by_test rule programme frames o e =
+    let parts = and_parts (not (passes rule programme frames o)) _ e in
+    breaks rule programme frames o
+    (not_from_Decides _ (rule_decided rule programme frames o)
+    (not-true (passes rule programme frames o) parts.0))
+    (λ other d.
+    elim (or_cases (rank other == rank rule) _
+    (each_rule (λ other. (rank other == rank rule) || passes other programme frames o) parts.1
+    other)) [
+      | inl same ↦
+          absurd
+          (d (sym (ranked other) ∙ ap at_rank (eqb-true (rank other) (rank rule) same)
+          ∙ ranked rule))
+      | inr kept ↦ (rule_decided other programme frames o).0 kept
+    ])

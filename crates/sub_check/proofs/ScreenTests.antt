@@ -11,7 +11,7 @@ use Rattle.ttx_packet.specs.PacketAddress.{address}
 use Rattle.ttx_packet.specs.PageHeader.{header, coded_header}
 use Rattle.ttx_packet.specs.Parity.{is_odd}
 use Rattle.ttx_page.specs.declared.packet_kind.PacketKind.TheVariants.{ThisPage, EndsPage, Row}
-use Rattle.ttx_page.specs.Page.{Rows, blank}
+use Rattle.ttx_page.specs.Page.{Rows, blank, blank_row}
 use Rattle.ttx_page.specs.PacketKind.{kind, is_this_page}
 use Rattle.ttx_page.specs.Receiver.{State, Step, StepAt}
 use Rattle.ttx_page.specs.Screen.{Display, ShowsAt}
@@ -19,18 +19,20 @@ use Rattle.ttx_page.specs.Span.{holds_header, is_unended}
 use Rattle.ttx_page.proofs.NoiseLaws.{AreNear-themselves}
 use Rattle.sub_check.specs.Examples.{page_888, header_888, row_22, closing, one_frame, each}
 use Rattle.sub_check.specs.Examples.{no_subtitles}
+use Rattle.sub_check.specs.Good.{Good}
+use Rattle.stl_rows.specs.DuePage.{due}
+use Rattle.ttx_packet.specs.declared.header.Header.{Header}
 use Rattle.sub_check.specs.Robust.{IsListening}
-use Rattle.sub_check.specs.Rules.{Rule}
-use Rattle.sub_check.specs.Rules.Rule.{Frames, ExactWords, OneMode, SubtitleControl}
-use Rattle.sub_check.specs.Rules.Rule.{CleanSpans, RepeatBound, DuePages}
 use Rattle.sub_check.specs.ScreenExamples.{unheard, ExampleOfEndedPage, ExampleOfPageNotEnded}
 use Rattle.sub_check.specs.ScreenExamples.{ExampleOfPageBegunAgain, ExampleOfNoEnd}
 use Rattle.sub_check.specs.Transmission.{Transmission}
-use Rattle.sub_check.proofs.BrokenRules.{says_888}
-use Rattle.sub_check.proofs.RuleLemmas.{law_of_rules}
-use Rattle.sub_check.proofs.RuleTests.{K, passes, kept}
+use Rattle.sub_check.proofs.RuleTests.{good_by_test}
 
 -- ---- packets
+
+-- What the header of page 888 says.
+abbrev says_888 : Header
+says_888 = record { page = 0x88; subcode = 0; control = record { 0 = 0x0D } }
 
 -- The header of page 888 is one of the page.
 kind_888 : kind page_888 header_888 ≡ ThisPage says_888
@@ -155,32 +157,25 @@ abbrev no_end : Transmission
 no_end = one_frame (header_888 ∷ [])
 
 -- It passes the test of each rule.
-tests : (rule : Rule) → passes rule no_end ≡ true
+no_end_is_good : Good no_subtitles no_end (each 1)
 unfolding kind address header coded_header decoded is_near is_odd count_ones ones_in
-tests Frames = refl
-tests ExactWords = refl
-tests OneMode = refl
-tests SubtitleControl = refl
-tests CleanSpans = refl
-tests RepeatBound = refl
-tests DuePages = refl
+    due blank blank_row
+no_end_is_good = good_by_test _ _ _ refl
 
 -- It holds a header of the page, which none ends.
-holds : holds_header K (header_888 ∷ []) ≡ true
+holds : holds_header (kind page_888) (header_888 ∷ []) ≡ true
 unfolding kind address header coded_header decoded is_near
 holds = refl
 
 -- None ends it.
-no_end_of_page : is_unended K (header_888 ∷ []) ≡ true
+no_end_of_page : is_unended (kind page_888) (header_888 ∷ []) ≡ true
 unfolding kind address header coded_header decoded is_near
 no_end_of_page = refl
 
 -- It is good, and a receiver shows nothing.
 pub example_of_no_end : ExampleOfNoEnd
 example_of_no_end = record {
-  good =
-      (law_of_rules no_subtitles no_end (each 1)).1
-      (λ rule. kept 1 no_end rule (λ e. refl) (tests rule));
+  good = no_end_is_good;
   not_complete = λ complete.
       true≢false
       (sym no_end_of_page ∙ complete 900000 (le_refl 900000) (le_refl 900000) holds);

@@ -1,8 +1,8 @@
--- Transmissions of page 888 in full, byte by byte: a good one, for each rule one that breaks it
--- alone, and some that are shown not robust.
+-- Transmissions of page 888 in full, byte by byte: a good one, for each part of a rule one that
+-- breaks that rule alone, and for each rule that the headline needs one that is not robust.
 use Rattle.std.specs.Prelude.{ℕ, List, [], ◌∷◌, ◌++◌, replicate, take}
 use Rattle.ttx_packet.specs.PageId.{PageIdValue}
-use Rattle.stl_rows.specs.declared.national.National.TheVariants.{English}
+use Rattle.stl_rows.specs.declared.national.National.TheVariants.{English, German}
 use Rattle.stl_rows.specs.Programme.{ProgrammeValue}
 use Rattle.sub_plan.specs.Options.{OptionsValue}
 use Rattle.sub_check.specs.Transmission.{Transmission}
@@ -22,22 +22,31 @@ x0 coded = coded ++ replicate 32 0x20
 abbrev pub page_888 : PageIdValue
 page_888 = record { magazine = 0; page = 0x88 }
 
--- The header of page 888 in English and in parallel mode, with C4, C6 and C7 set:
--- address, address, page units, page tens, S1, S2 and C4, S3, S4 with C5 and C6, C7 to C10, C11 to
--- C14.
+-- A header of page 888 with these four bytes of control bits: S2 and C4, S4 with C5 and C6, C7 to
+-- C10, C11 to C14. Between them stand: address, address, page units, page tens, S1; S3.
+abbrev pub header_with : ℕ → ℕ → ℕ → ℕ → List ℕ
+header_with c4 c5_c6 c7_c10 c11_c14 =
+    x0 (0x15 ∷ 0x15 ∷ 0xD0 ∷ 0xD0 ∷ 0x15 ∷ c4 ∷ 0x15 ∷ c5_c6 ∷ c7_c10 ∷ c11_c14 ∷ [])
+
+-- The header of page 888 in English and in parallel mode: C4, C6 and C7 are set.
 abbrev pub header_888 : List ℕ
-header_888 = x0 (0x15 ∷ 0x15 ∷ 0xD0 ∷ 0xD0 ∷ 0x15 ∷ 0xD0 ∷ 0x15 ∷ 0xD0 ∷ 0x02 ∷ 0x15 ∷ [])
+header_888 = header_with 0xD0 0xD0 0x02 0x15
 
--- The same with C4, erase page, clear.
+-- A header of page 888 with C4, erase page, clear.
 abbrev pub header_without_c4 : List ℕ
-header_without_c4 = x0 (0x15 ∷ 0x15 ∷ 0xD0 ∷ 0xD0 ∷ 0x15 ∷ 0x15 ∷ 0x15 ∷ 0xD0 ∷ 0x02 ∷ 0x15 ∷ [])
+header_without_c4 = header_with 0x15 0xD0 0x02 0x15
 
--- The same header, with one wrong bit in its first address byte.
+-- The header of page 888, with one wrong bit in its first address byte.
 abbrev pub header_with_wrong_bit : List ℕ
 header_with_wrong_bit =
     x0 (0x14 ∷ 0x15 ∷ 0xD0 ∷ 0xD0 ∷ 0x15 ∷ 0xD0 ∷ 0x15 ∷ 0xD0 ∷ 0x02 ∷ 0x15 ∷ [])
 
--- With two wrong bits there: the byte decodes to nothing.
+-- The header of page 888, with one wrong bit in its page units.
+abbrev pub header_with_wrong_units : List ℕ
+header_with_wrong_units =
+    x0 (0x15 ∷ 0x15 ∷ 0xD1 ∷ 0xD0 ∷ 0x15 ∷ 0xD0 ∷ 0x15 ∷ 0xD0 ∷ 0x02 ∷ 0x15 ∷ [])
+
+-- The header of page 888, with two wrong bits in its first address byte, which decodes to nothing.
 abbrev pub header_with_two_wrong_bits : List ℕ
 header_with_two_wrong_bits =
     x0 (0x16 ∷ 0x15 ∷ 0xD0 ∷ 0xD0 ∷ 0x15 ∷ 0xD0 ∷ 0x15 ∷ 0xD0 ∷ 0x02 ∷ 0x15 ∷ [])
@@ -85,6 +94,10 @@ two_frames first second =
 abbrev pub each : ℕ → OptionsValue
 each every = record { page = page_888; every = every; origin = 0 }
 
+-- Frame 900000 with this header and the closing header.
+abbrev pub one_header : List ℕ → Transmission
+one_header sent = one_frame (sent ∷ closing ∷ [])
+
 -- A programme without a subtitle: every due page is blank.
 abbrev pub no_subtitles : ProgrammeValue
 no_subtitles = record { national = English; records = [] }
@@ -116,26 +129,45 @@ ExampleOfGood =
     (two_frames (header_888 ∷ row_22 ∷ closing ∷ []) (header_888 ∷ closing ∷ []))
     (each 1)
 
--- ---- for each rule one that breaks it alone
+-- ---- for each part of a rule one that breaks it, and no other rule
+
+-- Frame 900002 is listed before frame 900001.
+abbrev pub out_of_order : Transmission
+out_of_order =
+    record { frame = 900000; packets = header_888 ∷ closing ∷ [] }
+    ∷ record { frame = 900002; packets = header_888 ∷ row_1 0xA1 ∷ closing ∷ [] }
+    ∷ record { frame = 900001; packets = header_888 ∷ closing ∷ [] }
+    ∷ record { frame = 900003; packets = header_888 ∷ closing ∷ [] }
+    ∷ []
+
+-- Frames whose numbers do not rise.
+abbrev pub ExampleOfFallingFrames : Type 0
+ExampleOfFallingFrames = BreaksOnly Frames no_subtitles out_of_order (each 1)
 
 -- A packet of 41 bytes.
 abbrev pub ExampleOfShortPacket : Type 0
 ExampleOfShortPacket =
-    BreaksOnly Frames no_subtitles
-    (one_frame (header_888 ∷ take 41 closing ∷ []))
+    BreaksOnly Frames no_subtitles (one_frame (header_888 ∷ take 41 closing ∷ [])) (each 1)
+
+-- The first TCI is before the first frame. The subtitle has no text, so that its page is blank.
+abbrev pub ExampleOfLateStart : Type 0
+ExampleOfLateStart =
+    BreaksOnly Frames (one_subtitle [])
+    (record { frame = 900001; packets = header_888 ∷ closing ∷ [] } ∷ [])
     (each 1)
 
 -- The last TCO is after the last frame. The subtitle has no text, so that its page is blank.
 abbrev pub ExampleOfEarlyEnd : Type 0
-ExampleOfEarlyEnd =
-    BreaksOnly Frames (one_subtitle []) (one_frame (header_888 ∷ closing ∷ [])) (each 1)
+ExampleOfEarlyEnd = BreaksOnly Frames (one_subtitle []) (one_header header_888) (each 1)
 
 -- An address byte with a wrong bit.
 abbrev pub ExampleOfWrongBit : Type 0
-ExampleOfWrongBit =
-    BreaksOnly ExactWords no_subtitles
-    (one_frame (header_with_wrong_bit ∷ closing ∷ []))
-    (each 1)
+ExampleOfWrongBit = BreaksOnly ExactWords no_subtitles (one_header header_with_wrong_bit) (each 1)
+
+-- A coded byte of a header with a wrong bit.
+abbrev pub ExampleOfWrongUnits : Type 0
+ExampleOfWrongUnits =
+    BreaksOnly ExactWords no_subtitles (one_header header_with_wrong_units) (each 1)
 
 -- A packet X/0 that is no header.
 abbrev pub ExampleOfNoHeader : Type 0
@@ -149,11 +181,49 @@ abbrev pub ExampleOfTwoModes : Type 0
 ExampleOfTwoModes =
     BreaksOnly OneMode no_subtitles (one_frame (header_888 ∷ serial_closing ∷ [])) (each 1)
 
--- A header that does not erase the page.
+-- A header that does not erase the page: C4 is clear.
 abbrev pub ExampleOfNoErasure : Type 0
 ExampleOfNoErasure =
-    BreaksOnly SubtitleControl no_subtitles
-    (one_frame (header_without_c4 ∷ closing ∷ []))
+    BreaksOnly SubtitleControl no_subtitles (one_header header_without_c4) (each 1)
+
+-- A header with C5, newsflash, set.
+abbrev pub ExampleOfNewsflash : Type 0
+ExampleOfNewsflash =
+    BreaksOnly SubtitleControl no_subtitles (one_header (header_with 0xD0 0xA1 0x02 0x15)) (each 1)
+
+-- A header with C6, subtitle, clear.
+abbrev pub ExampleOfNoSubtitle : Type 0
+ExampleOfNoSubtitle =
+    BreaksOnly SubtitleControl no_subtitles (one_header (header_with 0xD0 0x15 0x02 0x15)) (each 1)
+
+-- A header with C7, suppress header, clear.
+abbrev pub ExampleOfShownHeader : Type 0
+ExampleOfShownHeader =
+    BreaksOnly SubtitleControl no_subtitles (one_header (header_with 0xD0 0xD0 0x15 0x15)) (each 1)
+
+-- A header with C10, inhibit display, set.
+abbrev pub ExampleOfInhibitedDisplay : Type 0
+ExampleOfInhibitedDisplay =
+    BreaksOnly SubtitleControl no_subtitles (one_header (header_with 0xD0 0xD0 0xC7 0x15)) (each 1)
+
+-- Headers with C12, C13 or C14 set, which name other national option sub-sets than English.
+abbrev pub ExampleOfC12 : Type 0
+ExampleOfC12 =
+    BreaksOnly SubtitleControl no_subtitles (one_header (header_with 0xD0 0xD0 0x02 0x49)) (each 1)
+
+abbrev pub ExampleOfC13 : Type 0
+ExampleOfC13 =
+    BreaksOnly SubtitleControl no_subtitles (one_header (header_with 0xD0 0xD0 0x02 0x64)) (each 1)
+
+abbrev pub ExampleOfC14 : Type 0
+ExampleOfC14 =
+    BreaksOnly SubtitleControl no_subtitles (one_header (header_with 0xD0 0xD0 0x02 0xD0)) (each 1)
+
+-- A header with C14 clear, where the programme is German.
+abbrev pub ExampleOfEnglishHeader : Type 0
+ExampleOfEnglishHeader =
+    BreaksOnly SubtitleControl (record { national = German; records = [] })
+    (one_header header_888)
     (each 1)
 
 -- A row with a space of even parity, A0.
@@ -163,12 +233,13 @@ ExampleOfEvenByte =
     (one_frame (header_888 ∷ row_1 0xA0 ∷ closing ∷ []))
     (each 1)
 
+-- Row 1 blank, and then with an exclamation mark.
+abbrev pub changed_row : Transmission
+changed_row = one_frame (header_888 ∷ row_1 0x20 ∷ row_1 0xA1 ∷ closing ∷ [])
+
 -- A second packet of row 1 that differs from the first.
 abbrev pub ExampleOfChangedRow : Type 0
-ExampleOfChangedRow =
-    BreaksOnly CleanSpans no_subtitles
-    (one_frame (header_888 ∷ row_1 0x20 ∷ row_1 0xA1 ∷ closing ∷ []))
-    (each 1)
+ExampleOfChangedRow = BreaksOnly CleanSpans no_subtitles changed_row (each 1)
 
 -- A packet X/26 while the page is open.
 abbrev pub ExampleOfEnhancement : Type 0
@@ -198,22 +269,45 @@ ExampleOfWrongContent =
     (one_frame (header_888 ∷ row_1 0xA1 ∷ closing ∷ []))
     (each 1)
 
--- ---- and that are not robust
+-- `Hi` is due, and no row is sent.
+abbrev pub ExampleOfMissingText : Type 0
+ExampleOfMissingText =
+    BreaksOnly DuePages (one_subtitle (0x48 ∷ 0x69 ∷ []))
+    (two_frames (header_888 ∷ closing ∷ []) (header_888 ∷ closing ∷ []))
+    (each 1)
+
+-- `Hi` is over at frame 900001, which has no PES packet, and stands until frame 900002.
+abbrev pub ExampleOfChangeInGap : Type 0
+ExampleOfChangeInGap =
+    BreaksOnly DuePages (one_subtitle (0x48 ∷ 0x69 ∷ []))
+    (record { frame = 900000; packets = header_888 ∷ row_22 ∷ closing ∷ [] }
+    ∷ record { frame = 900002; packets = header_888 ∷ closing ∷ [] }
+    ∷ [])
+    (each 2)
+
+-- ---- for each rule that the headline needs one that is not robust
+
+-- Frame 900002 was not looked at, since what is listed after it takes it back. Who starts at it
+-- shows an exclamation mark that is not due.
+abbrev pub ExampleOfUnseenFrame : Type 0
+ExampleOfUnseenFrame = Robust no_subtitles out_of_order (each 1) → ⊥
 
 -- Without C4 a receiver keeps its old page.
 abbrev pub ExampleOfOldPage : Type 0
-ExampleOfOldPage =
-    Robust no_subtitles (one_frame (header_without_c4 ∷ closing ∷ [])) (each 1) → ⊥
+ExampleOfOldPage = Robust no_subtitles (one_header header_without_c4) (each 1) → ⊥
 
 -- A0 may be got as A1, which has odd parity: an exclamation mark that nobody sent.
 abbrev pub ExampleOfWrongCharacter : Type 0
 ExampleOfWrongCharacter =
     Robust no_subtitles (one_frame (header_888 ∷ row_1 0xA0 ∷ closing ∷ [])) (each 1) → ⊥
 
+-- Of two packets of row 1 the first one counts as what is shown, and a receiver holds the second.
+abbrev pub ExampleOfOverwrittenRow : Type 0
+ExampleOfOverwrittenRow = Robust no_subtitles changed_row (each 1) → ⊥
+
 -- One bit more, and the address byte decodes to nothing: the header is not heard.
 abbrev pub ExampleOfUnheardHeader : Type 0
-ExampleOfUnheardHeader =
-    Robust no_subtitles (one_frame (header_with_wrong_bit ∷ closing ∷ [])) (each 1) → ⊥
+ExampleOfUnheardHeader = Robust no_subtitles (one_header header_with_wrong_bit) (each 1) → ⊥
 
 -- One wrong bit, and a packet X/0 is a header that nobody sent.
 abbrev pub ExampleOfMadeHeader : Type 0

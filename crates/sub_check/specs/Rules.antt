@@ -26,7 +26,8 @@ pub record AreFrames (programme : ProgrammeValue) (transmission : Transmission) 
   pub starts : IfSome (first_in programme.records) (λ tci. first_frame transmission ≤ tci)
   pub lasts : IfSome (last_out programme.records) (λ tco. tco ≤ last_frame transmission)
 
--- The first frame holds a header of the page, and so does one in each so many frames.
+-- The first frame holds a header of the page, and so does one frame of each stretch that is as long
+-- as the repeat bound.
 pub record KeepsBound (transmission : Transmission) (options : OptionsValue) : Type 0 where
   pub opens : HoldsHeader options.page transmission (first_frame transmission)
   pub repeats : Repeats options.page options.every transmission

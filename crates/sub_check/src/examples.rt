@@ -1,51 +1,76 @@
-//! Transmissions in full, byte by byte: a good one, some that break one rule, some that are not
-//! robust.
+//! Transmissions in full, byte by byte: a good one, for each part of a rule one that breaks that
+//! rule alone, and for each rule that the headline needs one that is not robust.
 //!
 //! They show that the definitions of `specs/` say what they are to say. The functions do nothing.
-ghost use Rattle.sub_check.specs.Examples.{ExampleOfChangedRow, ExampleOfEarlyEnd};
-ghost use Rattle.sub_check.specs.Examples.{ExampleOfEnhancement, ExampleOfEvenByte, ExampleOfGap};
-ghost use Rattle.sub_check.specs.Examples.{ExampleOfGood, ExampleOfLongWait, ExampleOfMadeHeader};
+ghost use Rattle.sub_check.specs.Examples.{ExampleOfC12, ExampleOfC13, ExampleOfC14};
+ghost use Rattle.sub_check.specs.Examples.{ExampleOfChangeInGap, ExampleOfChangedRow};
+ghost use Rattle.sub_check.specs.Examples.{ExampleOfEarlyEnd, ExampleOfEnglishHeader};
+ghost use Rattle.sub_check.specs.Examples.{ExampleOfEnhancement, ExampleOfEvenByte};
+ghost use Rattle.sub_check.specs.Examples.{ExampleOfFallingFrames, ExampleOfGap, ExampleOfGood};
+ghost use Rattle.sub_check.specs.Examples.{ExampleOfInhibitedDisplay, ExampleOfLateStart};
+ghost use Rattle.sub_check.specs.Examples.{ExampleOfLongWait, ExampleOfMadeHeader};
+ghost use Rattle.sub_check.specs.Examples.{ExampleOfMissingText, ExampleOfNewsflash};
 ghost use Rattle.sub_check.specs.Examples.{ExampleOfNoErasure, ExampleOfNoFirstHeader};
-ghost use Rattle.sub_check.specs.Examples.{ExampleOfNoHeader, ExampleOfOldPage};
-ghost use Rattle.sub_check.specs.Examples.{ExampleOfShortPacket};
-ghost use Rattle.sub_check.specs.Examples.{ExampleOfShownContent, ExampleOfTwoModes};
-ghost use Rattle.sub_check.specs.Examples.{ExampleOfUnheardHeader, ExampleOfWrongBit};
-ghost use Rattle.sub_check.specs.Examples.{ExampleOfWrongCharacter, ExampleOfWrongContent};
+ghost use Rattle.sub_check.specs.Examples.{ExampleOfNoHeader, ExampleOfNoSubtitle};
+ghost use Rattle.sub_check.specs.Examples.{ExampleOfOldPage, ExampleOfOverwrittenRow};
+ghost use Rattle.sub_check.specs.Examples.{ExampleOfShortPacket, ExampleOfShownContent};
+ghost use Rattle.sub_check.specs.Examples.{ExampleOfShownHeader, ExampleOfTwoModes};
+ghost use Rattle.sub_check.specs.Examples.{ExampleOfUnheardHeader, ExampleOfUnseenFrame};
+ghost use Rattle.sub_check.specs.Examples.{ExampleOfWrongBit, ExampleOfWrongCharacter};
+ghost use Rattle.sub_check.specs.Examples.{ExampleOfWrongContent, ExampleOfWrongUnits};
 
 /// A good transmission: one subtitle in one frame, and in the next frame the page without it.
 pub fn example_of_good()
     ensures { ExampleOfGood }
 {}
 
-/// For each rule a transmission that breaks it and keeps the six others, and so is not good.
+/// For each part of a rule a transmission that breaks that rule and keeps the six others, and so is
+/// not good.
 pub fn examples_of_broken_rules()
-    // Frames that make a transmission, and reach from the first TCI to the last TCO.
+    // Frames that rise, of packets of 42 bytes, and reach from the first TCI to the last TCO.
+    ensures falling_frames { ExampleOfFallingFrames }
     ensures short_packet { ExampleOfShortPacket }
+    ensures late_start { ExampleOfLateStart }
     ensures early_end { ExampleOfEarlyEnd }
     // Code words with no bit wrong.
     ensures wrong_bit { ExampleOfWrongBit }
+    ensures wrong_units { ExampleOfWrongUnits }
     ensures no_header { ExampleOfNoHeader }
     // One mode.
     ensures two_modes { ExampleOfTwoModes }
-    // A subtitle's control bits.
+    // A subtitle's control bits: C4, C5, C6, C7, C10, C12, C13, and C14 set and clear.
     ensures no_erasure { ExampleOfNoErasure }
-    // Clean spans.
+    ensures newsflash { ExampleOfNewsflash }
+    ensures no_subtitle { ExampleOfNoSubtitle }
+    ensures shown_header { ExampleOfShownHeader }
+    ensures inhibited_display { ExampleOfInhibitedDisplay }
+    ensures c12 { ExampleOfC12 }
+    ensures c13 { ExampleOfC13 }
+    ensures c14 { ExampleOfC14 }
+    ensures english_header { ExampleOfEnglishHeader }
+    // Clean spans: odd bytes, equal rows, no packet X/25 to X/28.
     ensures even_byte { ExampleOfEvenByte }
     ensures changed_row { ExampleOfChangedRow }
     ensures enhancement { ExampleOfEnhancement }
-    // A header within the repeat bound.
+    // A header within the repeat bound, and in the first frame.
     ensures gap { ExampleOfGap }
     ensures no_first_header { ExampleOfNoFirstHeader }
-    // The due page.
+    // The due page: a cell too many, a text that is missing, a change between two PES packets.
     ensures wrong_content { ExampleOfWrongContent }
+    ensures missing_text { ExampleOfMissingText }
+    ensures change_in_gap { ExampleOfChangeInGap }
 {}
 
 /// Transmissions that break a rule and are not robust: the rules are there for a reason.
 pub fn examples_of_no_robustness()
+    // Frames that rise: who starts at a frame that is listed before its time sees what is not due.
+    ensures unseen_frame { ExampleOfUnseenFrame }
     // C4: the old page stays.
     ensures old_page { ExampleOfOldPage }
     // Odd parity: a hit byte is shown as another character.
     ensures wrong_character { ExampleOfWrongCharacter }
+    // Equal rows: the later row is shown.
+    ensures overwritten_row { ExampleOfOverwrittenRow }
     // Code words: one more wrong bit, and a header is not heard, or one is heard that nobody sent.
     ensures unheard_header { ExampleOfUnheardHeader }
     ensures made_header { ExampleOfMadeHeader }
