@@ -59,6 +59,8 @@ impl<K: Sink> Sink for Watched<K> {
 }
 
 impl<K: Flush> Flush for Watched<K> {
+    ghost held = { λ d. K.held d.inner };
+
     fn flush(&mut self) -> Result<(), Failed> {
         self.begin();
         let result = self.inner.flush();

@@ -55,3 +55,7 @@ abbrev pub Writes : {X E : Type 0}
     → Option (List ℕ) → Option (List ℕ) → List ℕ → Result X E → Type 0
 Writes old new bytes result =
     MatchResult result (λ _. Appends old new bytes) (λ _. AppendsPrefix old new bytes)
+
+-- how many bytes a sink holds back that hands on at once what it takes
+abbrev pub holds_nothing : {D : Type 0} → D → ℕ
+holds_nothing device = 0

@@ -1,3 +1,4 @@
+pub mod Buffered
 pub mod Countdown
 pub mod Counted
 pub mod Device

@@ -1,6 +1,6 @@
 //! A device of which one call fails, for tests of what its users do then.
 
-ghost use Rattle.std.specs.Prelude.{◌≡◌, ◌+◌, ◌<◌, ◌≤◌, length, Some, IfOk, IsErr, false, true};
+ghost use Rattle.std.specs.Prelude.{◌≡◌, ◌+◌, ◌<◌, ◌≤◌, length, Some, IfOk, IsErr, OnOk, false, true};
 ghost use Rattle.std.specs.Io.{ReadsAtMost};
 ghost use Rattle.std.specs.Io.KnownBytes.{Keeps};
 ghost use Rattle.sub_io.specs.Countdown.{CountingDown, failures_with, fails_next, left_after};
@@ -151,6 +151,8 @@ impl<K: Sink> Sink for FailAt<K> {
 }
 
 impl<K: Flush> Flush for FailAt<K> {
+    ghost held = { λ d. K.held d.device };
+
     /// Flushes the device inside.
     ///
     /// # Errors
@@ -167,6 +169,7 @@ impl<K: Flush> Flush for FailAt<K> {
         ensures left { self.new.left ≡ left_after self.old.left }
 
         ensures bytes { Keeps (K.contents self.old.device) (K.contents self.new.device) }
+        ensures held { OnOk result (K.held self.new.device ≡ 0) }
         ensures count { CountsFailure
             (failures_with self.old.left (K.failure_count self.old.device))
             result

@@ -13,17 +13,23 @@
 //! ```
 //!
 //! - `Source` and `Sink` are the traits, `fill` and `put_all` what the readers and writers call;
-//!   `Flush` is a sink that may hold bytes back, as a buffered file.
+//!   `Flush` is a sink that may hold bytes back.
 //! - `MemSource` and `MemSink` are devices over memory, `FromRead` and `IntoWrite` over std.
+//! - `BufferedSource` and `BufferedSink` stand before another device, so that it is called less
+//!   often.
 //! - `FailAt` makes one chosen call of another device fail.
 #![tactic(auto)]
 
+mod buffered_sink;
+mod buffered_source;
 mod fail_at;
 mod memory;
 mod sink;
 mod source;
 mod std_io;
 
+pub use buffered_sink::BufferedSink;
+pub use buffered_source::BufferedSource;
 pub use fail_at::FailAt;
 pub use memory::{MemSink, MemSource};
 pub use sink::{Flush, Sink, put_all};

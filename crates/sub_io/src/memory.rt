@@ -1,10 +1,10 @@
 //! Devices over memory: a source that gives the bytes of a slice, and a sink that fills one.
 
 ghost use Rattle.std.specs.Prelude.{◌≡◌, ℕ, ◌+◌, ◌-◌, ◌<◌, ◌≤◌, min, List, [], length, take, Ok};
-ghost use Rattle.std.specs.Prelude.{IfOk, IsErr, Some, ◌↔◌};
+ghost use Rattle.std.specs.Prelude.{IfOk, IsErr, OnOk, Some, ◌↔◌};
 ghost use Rattle.std.specs.Io.{ReadsAtMost};
 ghost use Rattle.std.specs.Io.KnownBytes.{Keeps};
-ghost use Rattle.sub_io.specs.Device.{CanFail, CountsFailure, Pulls, Pushes};
+ghost use Rattle.sub_io.specs.Device.{CanFail, CountsFailure, Pulls, Pushes, holds_nothing};
 ghost use Rattle.sub_io.specs.Memory.{Written};
 
 use crate::{Failed, Flush, Sink, Source};
@@ -141,11 +141,14 @@ impl Sink for MemSink<'_> {
 }
 
 impl Flush for MemSink<'_> {
+    ghost held = { holds_nothing };
+
     /// Does nothing, since no byte is held back. It never fails.
     fn flush(&mut self) -> Result<(), Failed>
         ensures ok { result ≡ Ok tt }
         ensures same { self.new ≡ self.old }
         ensures bytes { Keeps (Some self.old.bytes) (Some self.new.bytes) }
+        ensures held { OnOk result (holds_nothing self.new ≡ 0) }
         ensures count { CountsFailure self.old.failure_count result self.new.failure_count }
     {
         Ok(())

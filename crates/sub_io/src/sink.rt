@@ -1,7 +1,8 @@
 //! Devices that take bytes.
 
-ghost use Rattle.std.specs.Prelude.{◌≡◌, ℕ, ◌<◌, ◌≤◌, List, length, Option, IfOk};
-ghost use Rattle.std.specs.Io.KnownBytes.{Keeps};
+ghost use Rattle.std.specs.Prelude.{◌≡◌, ℕ, ◌<◌, ◌≤◌, List, length, Option, IfErr, IfOk};
+ghost use Rattle.std.specs.Prelude.{OnOk, take};
+ghost use Rattle.std.specs.Io.KnownBytes.{Appends, Keeps};
 ghost use Rattle.sub_io.specs.Device.{CanFail, CountsFailure, Pushes, Writes};
 
 use crate::Failed;
@@ -33,19 +34,23 @@ pub trait Sink {
         ensures { result ≡ failure_count self.now };
 }
 
-/// A sink that may hold back bytes that it has taken, as a buffered file does.
+/// A sink that may hold back bytes that it has taken, as a `BufferedSink` does.
 ///
 /// A failing write of such bytes comes late: at a later push, or only at `flush`.
 pub trait Flush: Sink {
+    // How many of the bytes that it has taken it holds back, and has not handed on.
+    ghost held: { Self → ℕ };
+
     /// Hands on all bytes that are held back. What the sink has taken stays as it was.
     ///
     /// # Errors
     ///
-    /// `Failed` where the device failed: some bytes are still held back, and its count is one
+    /// `Failed` where the device failed: some bytes may still be held back, and its count is one
     /// higher.
     fn flush(&mut self) -> Result<(), Failed>
         requires { CanFail (Self.failure_count self.old) }
         ensures bytes { Keeps (Self.contents self.old) (Self.contents self.new) }
+        ensures held { OnOk result (held self.new ≡ 0) }
         ensures count { CountsFailure (Self.failure_count self.old) result
             (Self.failure_count self.new) };
 }
@@ -60,9 +65,25 @@ pub fn put_all<K: Sink>(sink: &mut K, from: &[u8]) -> Result<(), Failed>
     ensures bytes { Writes (K.contents sink.old) (K.contents sink.new) from.now result }
     ensures count { CountsFailure (K.failure_count sink.old) result (K.failure_count sink.new) }
 {
+    match push_all(sink, from) {
+        Ok(()) => Ok(()),
+        Err(_) => Err(Failed),
+    }
+}
+
+// Pushes all of `from`. The error is how many bytes were taken before the first push that failed.
+pub(crate) fn push_all<K: Sink>(sink: &mut K, from: &[u8]) -> Result<(), usize>
+    requires { CanFail (K.failure_count sink.old) }
+    ensures ok { OnOk result (Appends (K.contents sink.old) (K.contents sink.new) from.now) }
+    ensures err { IfErr result (λ n. (n ≤ length from.now)
+        × Appends (K.contents sink.old) (K.contents sink.new) (take n from.now)) }
+    ensures count { CountsFailure (K.failure_count sink.old) result (K.failure_count sink.new) }
+{
     let mut at = 0;
     while at < from.len() {
-        let n = sink.push(&from[at..])?;
+        let Ok(n) = sink.push(&from[at..]) else {
+            return Err(at);
+        };
         at += n;
     }
     Ok(())

@@ -2,6 +2,7 @@
 
 ghost use Rattle.std.specs.Prelude.{◌≡◌, ℕ, ◌+◌};
 ghost use Rattle.sub_io.specs.Counted.{Counted};
+ghost use Rattle.sub_io.specs.Device.{holds_nothing};
 
 use crate::{Failed, Flush, Sink, Source};
 use std::io::{Read, Write};
@@ -112,6 +113,10 @@ impl<W: Write> Sink for IntoWrite<W> {
 }
 
 impl<W: Write> Flush for IntoWrite<W> {
+    // What it takes it hands to the writer at once. What the writer then holds back is not seen: a
+    // file of the operating system holds nothing, a buffer of std's would.
+    ghost held = { holds_nothing };
+
     /// Flushes the writer.
     ///
     /// # Errors

@@ -1,7 +1,7 @@
--- After each turn of `put_all` the sink holds the bytes up to the place, and no push has failed.
+-- After each turn of `push_all` the sink holds the bytes up to the place, and no push has failed.
 use Rattle.std.proofs.Common.{length, ◌-◌, ◌≡◌, ◌≤◌, take}
 use Rattle.std.specs.Io.KnownBytes.{Appends}
-use Rattle.sub_io.proofs.sink.put_all.Given as goal
+use Rattle.sub_io.proofs.sink.push_all.Given as goal
 
 abbrev pub invariant-loop-at : goal.invariant-loop-at
 invariant-loop-at g l = record {
