@@ -29,6 +29,7 @@ use Rattle.sub_check.specs.PacketRules.{header_count}
 use Rattle.sub_check.specs.PesFrames.{Carries, IsSentAs}
 use Rattle.sub_check.specs.PesReading.{ReadsAs, pes_file_of}
 use Rattle.sub_check.specs.Planned.{planned}
+use Rattle.sub_check.specs.Recovery.{Recovers}
 use Rattle.sub_check.specs.Robust.{Robust}
 use Rattle.sub_check.specs.Transmission.{SentFrame, Transmission}
 use Rattle.sub_check.specs.declared.checker.Accepted.{Accepted}
@@ -41,6 +42,7 @@ use Rattle.sub_check.proofs.PlacesOfGood.{GoodFrames-from_good}
 use Rattle.sub_check.proofs.PlaceLemmas.{Good-from_holds, refuted}
 use Rattle.sub_check.proofs.PlanLemmas.{law_of_plan}
 use Rattle.sub_check.proofs.PlanReading.{law_of_plan_read}
+use Rattle.sub_check.proofs.RecoveryLemmas.{law_of_good_and_recovery}
 use Rattle.sub_check.proofs.RobustLemmas.{law_of_good, law_of_good_and_marked_loss}
 
 -- What the steps show of a file that is read as frames, up to this.
@@ -227,6 +229,9 @@ checked_from programme options bytes result is p decides = record {
   robust_to_loss = λ transmission carries ok.
       law_of_good_and_marked_loss programme transmission options
       (good_carried programme options bytes transmission result is decides carries ok);
+  recovers = λ transmission carries ok.
+      law_of_good_and_recovery programme transmission options
+      (good_carried programme options bytes transmission result is decides carries ok);
   counts = λ transmission carries.
       counts_from programme options bytes transmission result decides carries;
   first = λ looked fine. first_from programme options bytes result (decides fine);
@@ -333,6 +338,12 @@ files_accepted national options stl pes programme answer loading given own looke
           (loads national options.origin stl pes subtitles transmission loading mean))
           (checked.robust_to_loss transmission
           (carries_of national options.origin stl pes subtitles transmission mean) ok);
+      recovers = λ subtitles transmission mean ok.
+          subst (λ (p : ProgrammeValue). Recovers p transmission options)
+          (same_programme programme _ (loaded national (outcome_of stl)) given
+          (loads national options.origin stl pes subtitles transmission loading mean))
+          (checked.recovers transmission
+          (carries_of national options.origin stl pes subtitles transmission mean) ok);
     }
 
 -- A fault of loading that is no failure is the file's own.
@@ -362,4 +373,5 @@ files_refused national options stl pes f loading told = record {
   );
   robust = λ subtitles transmission mean ok. cc;
   robust_to_loss = λ subtitles transmission mean ok. cc;
+  recovers = λ subtitles transmission mean ok. cc;
 }

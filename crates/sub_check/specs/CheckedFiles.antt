@@ -20,6 +20,7 @@ use Rattle.sub_check.specs.Good.{Good}
 use Rattle.sub_check.specs.LostRows.{RobustToMarkedLoss}
 use Rattle.sub_check.specs.PesFrames.{AreSentAs, Carries, IsPesFile}
 use Rattle.sub_check.specs.PesReading.{pes_file_of}
+use Rattle.sub_check.specs.Recovery.{Recovers}
 use Rattle.sub_check.specs.Robust.{Robust}
 use Rattle.sub_check.specs.Transmission.{Transmission}
 use Rattle.sub_check.specs.WrongContent.{IsWrongEverywhere}
@@ -73,6 +74,12 @@ pub record AreAccepted
       → IsOk answer
       → RobustToMarkedLoss (record { national = national; records = subtitles }) transmission
       options
+  -- By what is accepted receivers recover from whatever they held before.
+  pub recovers :
+      (subtitles : List SubtitleValue) (transmission : Transmission)
+      → Mean national options.origin stl pes subtitles transmission
+      → IsOk answer
+      → Recovers (record { national = national; records = subtitles }) transmission options
 
 -- ---- a PES file, against a programme
 
@@ -103,6 +110,12 @@ pub record IsChecked
       → Carries options.origin bytes transmission
       → IsOk answer
       → RobustToMarkedLoss programme transmission options
+  -- By what is accepted receivers recover from whatever they held before.
+  pub recovers :
+      (transmission : Transmission)
+      → Carries options.origin bytes transmission
+      → IsOk answer
+      → Recovers programme transmission options
   -- The counts of what is accepted are those of the transmission.
   pub counts :
       (transmission : Transmission)

@@ -17,6 +17,7 @@ returns-in-Err-clause-checked g c = λ file told. record {
     accepted = λ looked fine. cc;
     robust = λ transmission carries ok. cc;
     robust_to_loss = λ transmission carries ok. cc;
+    recovers = λ transmission carries ok. cc;
     counts = λ transmission carries. tt;
     first = λ looked fine. cc;
     content = λ frame row column is. cc;
