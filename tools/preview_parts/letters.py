@@ -19,4 +19,4 @@ def letters(option):
 
 
 def option_name(option):
-    return NAMES.get(option, f"national option {option}, whose 13 letters are not drawn")
+    return NAMES.get(option, f"national option {option}, its letters as {UNKNOWN}")

@@ -1,13 +1,10 @@
-"""The model receiver, and what it held at the frames asked for.
+"""The model receiver: one step of it, and what it reads of the lines of `packets`.
 
 A cell is its 7-bit code. With bit 8 set it is one that says more than its code: 3F of the old page,
 which nobody sent since the receiver was tuned in, or a space whose byte had even parity.
 """
-import array
-import bisect
 import collections
-
-from .program import CLOCK, FRAMES_OF_A_DAY, TICKS
+import functools
 
 OLD, HIT = 0xBF, 0xA0
 
@@ -35,31 +32,54 @@ State = collections.namedtuple("State", "is_heard is_open header rows screen")
 TUNED = State(False, False, None, OLD_PAGE, None)
 
 
+# A packet that a receiver may act on: `content` is the eight numbers of a header, a row as stored.
+Packet = collections.namedtuple("Packet", "magazine number content")
+
+
 def hear(state, packet, page):
     """One step of a receiver that stores a space at a byte of even parity (EN 300 706)."""
-    low, high = NUMBER[packet[0]], NUMBER[packet[1]]
-    if low is None or high is None:
-        return state
-    magazine, number = low & 7, low + 16 * high >> 3
+    magazine, number, content = packet
     if number == 0:
-        header = header_of(packet)
-        if header is None:
-            return state
-        if (magazine, header[0] + 16 * header[1]) == page:
-            rows = BLANK_PAGE if header[3] & 8 else state.rows  # C4
-            return state._replace(is_heard=True, is_open=True, header=header, rows=rows)
-        if state.is_open and (magazine == page[0] or header[7] & 1):  # C11
+        if (magazine, content[0] + 16 * content[1]) == page:
+            rows = BLANK_PAGE if content[3] & 8 else state.rows  # C4
+            return state._replace(is_heard=True, is_open=True, header=content, rows=rows)
+        if state.is_open and (magazine == page[0] or content[7] & 1):  # C11
             return state._replace(is_open=False, screen=(state.rows, state.header))
-    elif number <= 24 and state.is_open and magazine == page[0]:
-        row = packet[2:].translate(STORED)
-        return state._replace(rows=state.rows[:number - 1] + (row,) + state.rows[number:])
+    elif state.is_open and magazine == page[0]:
+        rows = state.rows[:number - 1] + (content,) + state.rows[number:]
+        return state._replace(rows=rows)
     return state
 
 
-def header_of(packet):
-    """The eight numbers of a packet X/0, `None` where one of its bytes means nothing."""
-    numbers = [NUMBER[byte] for byte in packet[2:10]]
+@functools.lru_cache(maxsize=1 << 16)
+def address_of(digits):
+    """The magazine and the packet number of an address, `None` where a byte of it means nothing."""
+    low, high = (NUMBER[byte] for byte in bytes.fromhex(digits.decode()))
+    return None if low is None or high is None else (low & 7, low + 16 * high >> 3)
+
+
+@functools.lru_cache(maxsize=1 << 12)
+def header_of(digits):
+    """The eight numbers of a header's coded bytes, `None` where one of these means nothing."""
+    numbers = [NUMBER[byte] for byte in bytes.fromhex(digits.decode())]
     return None if None in numbers else bytes(numbers)
+
+
+def packets_of(units, magazine):
+    """Of the lines of a PES packet's units the headers, and the rows of a magazine."""
+    found = []
+    for line in units.splitlines():
+        address = address_of(line[-84:-80])
+        if address is None:
+            continue
+        if address[1] == 0:
+            header = header_of(line[-80:-64])
+            if header:
+                found.append(Packet(*address, header))
+        elif address[0] == magazine and address[1] <= 24:
+            row = bytes.fromhex(line[-80:].decode()).translate(STORED)
+            found.append(Packet(*address, row))
+    return found
 
 
 def control_bits(header):
@@ -77,111 +97,3 @@ def lines_of(rows):
     return [f"row {number:02} |{row.translate(PRINTED).decode()}|"
             for number, row in enumerate(rows, 1) if row != BLANK_PAGE[0]
             and row.replace(b"\xa0", b" ") != BLANK_PAGE[0]] or ["blank"]
-
-
-def packets_of(units):
-    """The Teletext packets of the lines of a PES packet's units."""
-    return [bytes.fromhex(line[-84:].decode()) for line in units.splitlines()]
-
-
-class PageCount:
-    """The headers of one page in a file. A place is a PTS and its frame, which may be none."""
-
-    def __init__(self, first):
-        self.count, self.first, self.last, self.bits = 0, first, first, collections.Counter()
-
-
-class Heard:
-    """A listing, heard to its end, and the states at the ends of the frames asked for.
-
-    The receiver hears PES packets while each is of a frame after the one before, as `listen` does;
-    `halt` is the first that is not: its number and its PTS. What can't be seen for that reason, or
-    since the file can't be read on, has no state.
-    """
-
-    def __init__(self, listing, asked, page, origin):
-        self.page, self.origin = page, origin
-        self.asked, self.next_asked = sorted(set(asked)), 0
-        self.states, self.units_at = {}, {}
-        self.pages, self.sendings = {}, array.array("I")
-        self.halt, self.last_frame, self.count, self.last_heard = None, None, 0, None
-        self.state, self.units, self.is_settled = TUNED, None, False
-        self.packets, self.run, self.has_header = [], 0, False
-        for pts, units in listing:
-            self.take(pts, units)
-        self.close_run()
-        self.end = listing.last
-        if self.is_whole():
-            self.answer_before(FRAMES_OF_A_DAY + 1)
-
-    def take(self, pts, units):
-        ticks = (pts - self.origin) % CLOCK
-        frame = ticks // TICKS if ticks % TICKS == 0 and ticks < TICKS * FRAMES_OF_A_DAY else None
-        if units != self.units:
-            self.open_run(units, (pts, frame))
-        self.run += 1
-        self.last = pts, frame
-        if self.halt is None:
-            if frame is None or (self.last_frame is not None and frame <= self.last_frame):
-                self.halt = self.count, pts, frame
-            else:
-                self.hear_frame(frame)
-        self.count += 1
-
-    def hear_frame(self, frame):
-        if self.next_asked < len(self.asked) and self.asked[self.next_asked] < frame:
-            self.answer_before(frame)
-        self.last_frame, self.last_heard = frame, (self.count, self.units)
-        if self.has_header:
-            self.sendings.append(frame)
-        if not self.is_settled:
-            before = self.state
-            for packet in self.packets:
-                self.state = hear(self.state, packet, self.page)
-            # The same packets again change nothing where they changed nothing now.
-            self.is_settled = self.state == before
-        if self.next_asked < len(self.asked) and self.asked[self.next_asked] == frame:
-            self.units_at[frame] = self.last_heard
-            self.answer_before(frame + 1)
-
-    def answer_before(self, frame):
-        """Gives the frames before `frame` that are still asked the state as it is."""
-        while self.next_asked < len(self.asked) and self.asked[self.next_asked] < frame:
-            self.states[self.asked[self.next_asked]] = self.state
-            self.next_asked += 1
-
-    def open_run(self, units, place):
-        """Begins a run of PES packets with the same units."""
-        self.close_run()
-        self.units, self.run, self.begin, self.is_settled = units, 0, place, False
-        self.packets = packets_of(units)
-        self.headers = []
-        for packet in self.packets:
-            low, high = NUMBER[packet[0]], NUMBER[packet[1]]
-            if low is not None and high is not None and low + 16 * high < 8:
-                header = header_of(packet)
-                if header:
-                    self.headers.append(((low, header[0] + 16 * header[1]), header))
-        self.has_header = any(page == self.page for page, _ in self.headers)
-
-    def close_run(self):
-        """Counts the headers of the run that ends."""
-        if self.run:
-            for page, header in self.headers:
-                known = self.pages.setdefault(page, PageCount(self.begin))
-                known.count += self.run
-                known.last = self.last
-                known.bits[" ".join(control_bits(header)) or "none"] += self.run
-        self.run = 0
-
-    def state_at(self, frame):
-        """The state at the end of an asked frame; `None` where the file can't be read on."""
-        return self.state if frame == self.last_frame else self.states.get(frame)
-
-    def sendings_between(self, first, end):
-        """How many frames from `first` to the one before `end` have a header of the page."""
-        return bisect.bisect_left(self.sendings, end) - bisect.bisect_left(self.sendings, first)
-
-    def is_whole(self):
-        """Whether the file was read, and heard, to its end."""
-        return self.halt is None and self.end.status == 0

@@ -1,0 +1,105 @@
+"""A listing of PES packets heard to its end: pages, sendings, and what a receiver held at frames."""
+import array
+import bisect
+import collections
+
+from .program import CLOCK, FRAMES_OF_A_DAY, TICKS
+from .receiver import TUNED, control_bits, hear, packets_of
+
+
+class PageCount:
+    """The headers of one page in a file. A place is a PTS and its frame, which may be none."""
+
+    def __init__(self, first):
+        self.count, self.first, self.last, self.bits = 0, first, first, collections.Counter()
+
+
+class Heard:
+    """A listing, heard to its end, and the states at the ends of the frames asked for.
+
+    The receiver hears PES packets while each is of a frame after the one before, as `listen` does;
+    `halt` is the first that is not: its number and its PTS. What can't be seen for that reason, or
+    since the file can't be read on, has no state.
+    """
+
+    def __init__(self, listing, asked, page, origin):
+        self.page, self.origin = page, origin
+        self.asked, self.next_asked = sorted(set(asked)), 0
+        self.states, self.units_at = {}, {}
+        self.pages, self.sendings = {}, array.array("I")
+        self.halt, self.last_frame, self.count, self.last_heard = None, None, 0, None
+        self.state, self.units, self.is_settled = TUNED, None, False
+        self.packets, self.run, self.has_header = [], 0, False
+        for pts, units in listing:
+            self.take(pts, units)
+        self.close_run()
+        self.end = listing.last
+        if self.is_whole():
+            self.answer_before(FRAMES_OF_A_DAY + 1)
+
+    def take(self, pts, units):
+        ticks = (pts - self.origin) % CLOCK
+        frame = ticks // TICKS if ticks % TICKS == 0 and ticks < TICKS * FRAMES_OF_A_DAY else None
+        if units != self.units:
+            self.open_run(units, (pts, frame))
+        self.run += 1
+        self.last = pts, frame
+        if self.halt is None:
+            if frame is None or (self.last_frame is not None and frame <= self.last_frame):
+                self.halt = self.count, pts, frame
+            else:
+                self.hear_frame(frame)
+        self.count += 1
+
+    def hear_frame(self, frame):
+        if self.next_asked < len(self.asked) and self.asked[self.next_asked] < frame:
+            self.answer_before(frame)
+        self.last_frame, self.last_heard = frame, (self.count, self.units)
+        if self.has_header:
+            self.sendings.append(frame)
+        if not self.is_settled:
+            before = self.state
+            for packet in self.packets:
+                self.state = hear(self.state, packet, self.page)
+            # The same packets again change nothing where they changed nothing now.
+            self.is_settled = self.state == before
+        if self.next_asked < len(self.asked) and self.asked[self.next_asked] == frame:
+            self.units_at[frame] = self.last_heard
+            self.answer_before(frame + 1)
+
+    def answer_before(self, frame):
+        """Gives the frames before `frame` that are still asked the state as it is."""
+        while self.next_asked < len(self.asked) and self.asked[self.next_asked] < frame:
+            self.states[self.asked[self.next_asked]] = self.state
+            self.next_asked += 1
+
+    def open_run(self, units, place):
+        """Begins a run of PES packets with the same units."""
+        self.close_run()
+        self.units, self.run, self.begin, self.is_settled = units, 0, place, False
+        self.packets = packets_of(units, self.page[0])
+        self.headers = [((one.magazine, one.content[0] + 16 * one.content[1]), one.content)
+                        for one in self.packets if one.number == 0]
+        self.has_header = any(page == self.page for page, _ in self.headers)
+
+    def close_run(self):
+        """Counts the headers of the run that ends."""
+        if self.run:
+            for page, header in self.headers:
+                known = self.pages.setdefault(page, PageCount(self.begin))
+                known.count += self.run
+                known.last = self.last
+                known.bits[" ".join(control_bits(header)) or "none"] += self.run
+        self.run = 0
+
+    def state_at(self, frame):
+        """The state at the end of an asked frame; `None` where the file can't be read on."""
+        return self.state if frame == self.last_frame else self.states.get(frame)
+
+    def sendings_between(self, first, end):
+        """How many frames from `first` to the one before `end` have a header of the page."""
+        return bisect.bisect_left(self.sendings, end) - bisect.bisect_left(self.sendings, first)
+
+    def is_whole(self):
+        """Whether the file was read, and heard, to its end."""
+        return self.halt is None and self.end.status == 0
