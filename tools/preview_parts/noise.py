@@ -57,6 +57,8 @@ def pes_packet(pts, packets):
 
 def transmission(seed):
     """A file of some PES packets, and frames to look at; now and then a frame does not rise."""
+    if seed == 0:
+        return row_before_header()
     chance = random.Random(seed)
     frame, made, frames = chance.randrange(1000), b"", []
     for _ in range(chance.randrange(1, 12)):
@@ -66,3 +68,10 @@ def transmission(seed):
             frames.append(frame)
             frame = max(0, frame + (chance.choice([1, 1, 2, 30]) if chance.random() < 0.97 else -1))
     return made, sorted({*frames, *(chance.randrange(max(frames) + 40) for _ in range(4))})
+
+
+def row_before_header():
+    """A row and then a header without C4, sent twice: the row is taken the second time alone."""
+    packets = [packet(0, 22, [], b"Row".ljust(40)),
+               packet(0, 0, [8, 8, 0, 0, 0, 8, 1, 0], b" " * 32)]
+    return pes_packet(0, packets) + pes_packet(3600, packets), [0, 1]
