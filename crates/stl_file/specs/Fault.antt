@@ -1,9 +1,36 @@
--- Which refusals are faults of the bytes, and which come of the device or of the reader's state.
-use Rattle.std.specs.Prelude.{Bool, true, false, Result, Err}
+-- The number and the name by which a fault is told; which refusals are faults of the bytes, and which
+-- come of the device or of the reader's state.
+use Rattle.std.specs.Prelude.{ℕ, Bool, true, false, List, Result, Err, codes}
 use Rattle.stl_file.specs.declared.fault.StlFault.{StlFault}
 use Rattle.stl_file.specs.declared.fault.StlFault.TheVariants as fault
 use Rattle.stl_file.specs.declared.fault.NormalFault.{NormalFault}
-use Rattle.stl_file.specs.declared.fault.NormalFault.TheVariants.{Write}
+use Rattle.stl_file.specs.declared.fault.NormalFault.TheVariants.{Refused, Write}
+
+-- The number and the name of a fault (own).
+abbrev pub number_and_name : StlFault → ℕ × List ℕ
+number_and_name fault.Truncated = (10, codes "Truncated")
+number_and_name fault.Format = (11, codes "Format")
+number_and_name fault.Rate = (12, codes "Rate")
+number_and_name fault.Display = (13, codes "Display")
+number_and_name fault.Alphabet = (14, codes "Alphabet")
+number_and_name fault.Extension = (15, codes "Extension")
+number_and_name fault.Cumulative = (16, codes "Cumulative")
+number_and_name fault.CommentFlag = (17, codes "CommentFlag")
+number_and_name fault.Justify = (18, codes "Justify")
+number_and_name fault.Row = (19, codes "Row")
+number_and_name fault.Time = (20, codes "Time")
+number_and_name fault.EmptyTime = (21, codes "EmptyTime")
+number_and_name fault.Sequence = (22, codes "Sequence")
+number_and_name fault.TooLong = (23, codes "TooLong")
+number_and_name fault.Unfinished = (24, codes "Unfinished")
+number_and_name fault.TooManyBlocks = (25, codes "TooManyBlocks")
+number_and_name fault.Read = (26, codes "Read")
+number_and_name fault.Ended = (27, codes "Ended")
+
+-- The same of a normal form that is not written.
+abbrev pub normal_number_and_name : NormalFault → ℕ × List ℕ
+normal_number_and_name (Refused fault block) = number_and_name fault
+normal_number_and_name Write = (29, codes "Write")
 
 -- the bytes of the file are at fault, and neither the device nor a fault before
 abbrev pub is_format : StlFault → Bool

@@ -1,6 +1,6 @@
 //! Why a subtitle file is refused, or its normal form not written.
 
-ghost use Rattle.std.specs.Prelude.{◌≡◌};
+ghost use Rattle.std.specs.Prelude.{◌≡◌, ◌≤◌, length};
 ghost use Rattle.stl_file.specs.declared.fault.NormalFault.TheVariants.{Write};
 ghost use Rattle.stl_file.specs.declared.fault.StlFault.TheVariants.{Read};
 
@@ -47,6 +47,53 @@ pub enum StlFault {
     Ended,
 }
 
+impl StlFault {
+    ghost use Rattle.stl_file.specs.Fault.{number_and_name};
+
+    /// The number by which the fault is told (own).
+    pub fn number(self) -> u8
+        ensures { result ≡ (number_and_name self).0 }
+    {
+        self.number_and_name().0
+    }
+
+    /// The name by which the fault is told (own): at most 16 letters.
+    pub fn name(self) -> &'static str
+        ensures value { result.now ≡ (number_and_name self).1 }
+        ensures len { length result.now ≤ 16 }
+    {
+        self.number_and_name().1
+    }
+
+    // Both.
+    fn number_and_name(self) -> (u8, &'static str)
+        ensures number { result.0 ≡ (number_and_name self).0 }
+        ensures name { result.1.now ≡ (number_and_name self).1 }
+        ensures len { length result.1.now ≤ 16 }
+    {
+        match self {
+            StlFault::Truncated => (10, "Truncated"),
+            StlFault::Format => (11, "Format"),
+            StlFault::Rate => (12, "Rate"),
+            StlFault::Display => (13, "Display"),
+            StlFault::Alphabet => (14, "Alphabet"),
+            StlFault::Extension => (15, "Extension"),
+            StlFault::Cumulative => (16, "Cumulative"),
+            StlFault::CommentFlag => (17, "CommentFlag"),
+            StlFault::Justify => (18, "Justify"),
+            StlFault::Row => (19, "Row"),
+            StlFault::Time => (20, "Time"),
+            StlFault::EmptyTime => (21, "EmptyTime"),
+            StlFault::Sequence => (22, "Sequence"),
+            StlFault::TooLong => (23, "TooLong"),
+            StlFault::Unfinished => (24, "Unfinished"),
+            StlFault::TooManyBlocks => (25, "TooManyBlocks"),
+            StlFault::Read => (26, "Read"),
+            StlFault::Ended => (27, "Ended"),
+        }
+    }
+}
+
 impl From<Failed> for StlFault {
     ghost from_gives = { λ _ e. e ≡ Read };
 
@@ -67,6 +114,37 @@ pub enum NormalFault {
     },
     /// 29: the sink failed, and a prefix was written.
     Write,
+}
+
+impl NormalFault {
+    ghost use Rattle.stl_file.specs.Fault.{normal_number_and_name};
+
+    /// The number by which the fault is told (own).
+    pub fn number(self) -> u8
+        ensures { result ≡ (normal_number_and_name self).0 }
+    {
+        self.number_and_name().0
+    }
+
+    /// The name by which the fault is told (own): at most 16 letters.
+    pub fn name(self) -> &'static str
+        ensures value { result.now ≡ (normal_number_and_name self).1 }
+        ensures len { length result.now ≤ 16 }
+    {
+        self.number_and_name().1
+    }
+
+    // Both.
+    fn number_and_name(self) -> (u8, &'static str)
+        ensures number { result.0 ≡ (normal_number_and_name self).0 }
+        ensures name { result.1.now ≡ (normal_number_and_name self).1 }
+        ensures len { length result.1.now ≤ 16 }
+    {
+        match self {
+            NormalFault::Refused { fault, .. } => (fault.number(), fault.name()),
+            NormalFault::Write => (29, "Write"),
+        }
+    }
 }
 
 impl From<Failed> for NormalFault {

@@ -5,3 +5,4 @@ pub mod LineByLine
 pub mod Programme
 pub mod DuePage
 pub mod Loading
+pub mod Fault

@@ -1,5 +1,7 @@
 //! Why a subtitle draws no page, and why a file is no programme.
 
+ghost use Rattle.std.specs.Prelude.{◌≡◌, ◌≤◌, length};
+
 use stl_file::StlFault;
 
 /// What is wrong with the text of a subtitle, in the order in which it is told.
@@ -17,6 +19,41 @@ pub enum RowFaultKind {
     DoubleRow,
     /// 55: a line that isn't empty, directly under a line with double height.
     Hidden,
+}
+
+impl RowFaultKind {
+    ghost use Rattle.stl_rows.specs.Fault.{row_number_and_name};
+
+    /// The number by which the fault is told (own).
+    pub fn number(self) -> u8
+        ensures { result ≡ (row_number_and_name self).0 }
+    {
+        self.number_and_name().0
+    }
+
+    /// The name by which the fault is told (own): at most 16 letters.
+    pub fn name(self) -> &'static str
+        ensures value { result.now ≡ (row_number_and_name self).1 }
+        ensures len { length result.now ≤ 16 }
+    {
+        self.number_and_name().1
+    }
+
+    // Both.
+    fn number_and_name(self) -> (u8, &'static str)
+        ensures number { result.0 ≡ (row_number_and_name self).0 }
+        ensures name { result.1.now ≡ (row_number_and_name self).1 }
+        ensures len { length result.1.now ≤ 16 }
+    {
+        match self {
+            RowFaultKind::Character => (50, "Character"),
+            RowFaultKind::Control => (51, "Control"),
+            RowFaultKind::RowTooLong => (52, "RowTooLong"),
+            RowFaultKind::PastBottom => (53, "PastBottom"),
+            RowFaultKind::DoubleRow => (54, "DoubleRow"),
+            RowFaultKind::Hidden => (55, "Hidden"),
+        }
+    }
 }
 
 /// Why a subtitle draws no page.
@@ -42,6 +79,40 @@ pub enum LoadFaultKind {
     Row(RowFault),
     /// 58: the memory for the subtitle was refused.
     Memory,
+}
+
+impl LoadFaultKind {
+    ghost use Rattle.stl_rows.specs.Fault.{number_and_name};
+
+    /// The number by which the fault is told (own).
+    pub fn number(self) -> u8
+        ensures { result ≡ (number_and_name self).0 }
+    {
+        self.number_and_name().0
+    }
+
+    /// The name by which the fault is told (own): at most 16 letters.
+    pub fn name(self) -> &'static str
+        ensures value { result.now ≡ (number_and_name self).1 }
+        ensures len { length result.now ≤ 16 }
+    {
+        self.number_and_name().1
+    }
+
+    // Both.
+    fn number_and_name(self) -> (u8, &'static str)
+        ensures number { result.0 ≡ (number_and_name self).0 }
+        ensures name { result.1.now ≡ (number_and_name self).1 }
+        ensures len { length result.1.now ≤ 16 }
+    {
+        match self {
+            LoadFaultKind::File(fault) => (fault.number(), fault.name()),
+            LoadFaultKind::OutOfOrder => (56, "OutOfOrder"),
+            LoadFaultKind::Overlap => (57, "Overlap"),
+            LoadFaultKind::Row(fault) => (fault.kind.number(), fault.kind.name()),
+            LoadFaultKind::Memory => (58, "Memory"),
+        }
+    }
 }
 
 /// Why a file was not loaded.

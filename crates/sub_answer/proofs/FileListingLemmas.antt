@@ -16,11 +16,13 @@ use Rattle.stl_file.specs.Reader.{Answers, EndsKept, ReaderValue, TakesSubtitle,
 use Rattle.stl_file.specs.Reader.{outcome_left, outcome_of, outcome_with}
 use Rattle.stl_file.specs.Subtitle.{SubtitleValue}
 use Rattle.stl_file.specs.declared.fault.StlFault.{StlFault}
-use Rattle.sub_answer.specs.Lines.{stl_fault_line, unit_line}
-use Rattle.sub_answer.specs.Listing.{Listing, Prints, refused, stl_status}
+use Rattle.sub_answer.specs.Faults.{stl_kind, stl_told}
+use Rattle.sub_answer.specs.Lines.{unit_line}
+use Rattle.sub_answer.specs.Listing.{Listing, Prints}
+use Rattle.sub_answer.specs.Told.{line_of, status_of}
 use Rattle.sub_answer.specs.FileListing.{Lines, PrintsLines, followed, lines_then, packets_from}
 use Rattle.sub_answer.specs.FileListing.{packets_listing, pes_lines, show_listing, subtitle_lines}
-use Rattle.sub_answer.specs.FileListing.{subtitles_from, unit_lines}
+use Rattle.sub_answer.specs.FileListing.{no_listing, subtitles_from, unit_lines}
 use Rattle.sub_answer.specs.declared.status.Status.{Status}
 use Rattle.sub_answer.specs.declared.status.Status.TheVariants.{Done, Refused, Fault}
 
@@ -104,7 +106,7 @@ listed-whole old now next whole left more lines Fault i e p =
 -- Nothing is left but a refusal without a line. For the end of a loop.
 pub listed-refused : (old now : Option (List ℕ)) (whole left : Listing)
     → IsListed old now whole left
-    → left ≡ refused []
+    → left ≡ no_listing
     → Prints old now whole Refused
 listed-refused old now whole left i e =
     let is = i.whole_is ∙ ap (lines_then i.text None) e in (
@@ -300,7 +302,7 @@ show_listing-opened bytes r e = rw e refl
 -- The same, where it is refused.
 show_listing-refused : (bytes : List ℕ) (f : StlFault)
     → opened_at bytes ≡ Err f
-    → show_listing bytes ≡ followed (subtitle_lines 0 0 (Err f)) (refused [])
+    → show_listing bytes ≡ followed (subtitle_lines 0 0 (Err f)) no_listing
 unfolding outcome_of
 show_listing-refused bytes f e = rw e refl
 
@@ -308,12 +310,12 @@ show_listing-refused bytes f e = rw e refl
 pub prints-refused : (old new : Option (List ℕ)) (bytes text : List ℕ) (f : StlFault)
     (status : Status)
     → opened_at bytes ≡ Err f
-    → text ≡ stl_fault_line f 0
-    → status ≡ stl_status f
+    → text ≡ line_of (stl_told f 0)
+    → status ≡ status_of (stl_kind f)
     → Appends old new text
     → Prints old new (show_listing bytes) status
 prints-refused old new bytes text f status e is status_is p =
-    listed-whole old old new (show_listing bytes) (show_listing bytes) (refused [])
+    listed-whole old old new (show_listing bytes) (show_listing bytes) no_listing
     (subtitle_lines 0 0 (Err f)) status (listed-none old (show_listing bytes))
     (show_listing-refused bytes f e)
     (prints_lines-whole old new (subtitle_lines 0 0 (Err f)) text (Some status) is
@@ -322,10 +324,10 @@ prints-refused old new bytes text f status e is status_is p =
 -- The sink failed at that line. For `list_subtitles`.
 pub prints-cut : (old new : Option (List ℕ)) (bytes text : List ℕ) (f : StlFault)
     → opened_at bytes ≡ Err f
-    → text ≡ stl_fault_line f 0
+    → text ≡ line_of (stl_told f 0)
     → AppendsPrefix old new text
     → Prints old new (show_listing bytes) Fault
 prints-cut old new bytes text f e is p =
-    listed-whole old old new (show_listing bytes) (show_listing bytes) (refused [])
+    listed-whole old old new (show_listing bytes) (show_listing bytes) no_listing
     (subtitle_lines 0 0 (Err f)) Fault (listed-none old (show_listing bytes))
     (show_listing-refused bytes f e) (subst (AppendsPrefix old new) is p)

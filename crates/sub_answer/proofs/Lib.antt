@@ -1,3 +1,4 @@
+pub mod PrintingLemmas
 pub mod WritingLemmas
 pub mod VerdictLemmas
 pub mod NormalLemmas

@@ -27,7 +27,8 @@ use Rattle.sub_check.proofs.PesReadingLemmas.{reads_next}
 use Rattle.sub_check.proofs.ShownLemmas.{joined_more}
 use Rattle.sub_answer.specs.ListeningRun.{AreHeard, IsHeard, RefusesAfter, Runs, is_subtitle_fault}
 use Rattle.sub_answer.specs.ListeningRun.{IsOldPage, Listens, is_source_fault, least_frame}
-use Rattle.sub_answer.specs.ListeningRun.{listen_status, listing_of}
+use Rattle.sub_answer.specs.ListeningRun.{listen_told, listing_of}
+use Rattle.sub_answer.specs.Told.{status_of}
 use Rattle.ttx_page.specs.Page.{Rows}
 use Rattle.sub_answer.specs.Reception.{Reception, as_received, first_lost_header, is_heard, is_lost}
 use Rattle.sub_answer.specs.Reception.{with_flips}
@@ -40,18 +41,20 @@ use Rattle.sub_answer.specs.declared.status.Status.TheVariants.{Fault}
 -- ---- faults
 
 -- A fault of neither file's source nor of a subtitle file is a refusal. For `print_fault`.
-pub listen_status-not_fault : (f : ListenFault)
+pub listen_told-not_fault : (f : ListenFault)
     → is_source_fault f ≡ false
     → is_subtitle_fault f ≡ false
-    → listen_status f ≢ Fault
-listen_status-not_fault (fault.File (check.Subtitles f)) fine own is = cc
-listen_status-not_fault (fault.File (check.Pes index pes.Read)) fine own is = cc
-listen_status-not_fault f fine own is = cc
+    → status_of (listen_told f).kind ≢ Fault
+listen_told-not_fault (fault.File (check.Subtitles f)) fine own is = cc
+listen_told-not_fault (fault.File (check.Pes index pes.Read)) fine own is = cc
+listen_told-not_fault f fine own is = cc
 
 -- The fault of a source that failed has the status `Fault`. For `print_fault`.
-pub listen_status-source : (f : ListenFault) → is_source_fault f ≡ true → listen_status f ≡ Fault
-listen_status-source (fault.File (check.Pes index pes.Read)) failed = refl
-listen_status-source f failed = cc
+pub listen_told-source : (f : ListenFault)
+    → is_source_fault f ≡ true
+    → status_of (listen_told f).kind ≡ Fault
+listen_told-source (fault.File (check.Pes index pes.Read)) failed = refl
+listen_told-source f failed = cc
 
 -- ---- lists of packets
 

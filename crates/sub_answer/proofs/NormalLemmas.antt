@@ -20,7 +20,8 @@ use Rattle.stl_file.specs.Reader.{outcome_of}
 use Rattle.stl_file.specs.Reading.{Outcome}
 use Rattle.stl_file.specs.Subtitle.{SubtitleValue}
 use Rattle.stl_file.proofs.FirstBytes.{outcome_of-first}
-use Rattle.sub_answer.specs.Lines.{stl_fault_line}
+use Rattle.sub_answer.specs.Faults.{stl_told}
+use Rattle.sub_answer.specs.Told.{line_of}
 use Rattle.sub_answer.specs.NormalWriting.{HasNormalFaultLine, IsMemoryLine, PrintsReadFault}
 use Rattle.sub_answer.specs.NormalWriting.{TellsRead, most_read}
 use Rattle.sub_answer.specs.NormalWriting.{normal_of, normal_writing, read_block}
@@ -56,7 +57,7 @@ pub works-refused : (s : List ℕ) (old new : Option (List ℕ)) (line : List �
     (block : ℕ)
     → subtitles_of (outcome_of s) ≡ (let r : Judged = Err (normal.Refused fault block) in r)
     → Keeps old new
-    → line ≡ stl_fault_line fault block
+    → line ≡ line_of (stl_told fault block)
     → Completes old new line (normal_writing s) Refused
 works-refused s old new line fault block read kept is =
     rw read (record {

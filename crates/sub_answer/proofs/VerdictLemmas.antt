@@ -23,11 +23,14 @@ use Rattle.sub_check.specs.PesReading.{pes_file_of}
 use Rattle.sub_check.specs.declared.checker.Accepted.{Accepted}
 use Rattle.sub_check.specs.declared.fault.CheckFault.{CheckFault}
 use Rattle.sub_check.specs.declared.fault.CheckFault.TheVariants as fault
-use Rattle.sub_answer.specs.CheckLines.{check_fault_line, check_status, verdict}
-use Rattle.sub_answer.specs.LoadLines.{load_kind_line, load_status}
+use Rattle.sub_answer.specs.CheckLines.{verdict}
+use Rattle.sub_answer.specs.Faults.{check_kind, check_told, load_kind, load_told}
+use Rattle.sub_answer.specs.Told.{line_of, status_of}
 use Rattle.sub_answer.specs.Verdict.{IsAccepted, IsAnswer}
 use Rattle.sub_answer.specs.Writing.{PrintsMemory}
 use Rattle.sub_answer.specs.declared.status.Status.TheVariants.{Done, Fault}
+use Rattle.sub_answer.specs.declared.told.Kind.{Kind}
+use Rattle.sub_answer.specs.declared.told.Kind.TheVariants as kind
 
 -- A file whose PES file was looked at gives a programme. For `answered`.
 has_programme :
@@ -89,32 +92,27 @@ answered national options file bytes (Err f) are = record {
       };
 }
 
--- No fault of a subtitle file ends as what is done does. For `check_status-not_done`.
-load_status-not_done : (kind : LoadFaultKind) → load_status kind ≢ Done
-load_status-not_done (load.File stl.Read) e = cc
-load_status-not_done kind e = cc
-
--- No fault ends as what is done does. For `done-exactly`.
-check_status-not_done : (f : CheckFault) → check_status f ≢ Done
-check_status-not_done (fault.Subtitles f) e = load_status-not_done f.kind e
-check_status-not_done (fault.Pes pes pes_fault.Read) e = cc
-check_status-not_done f e = cc
+-- Nothing that is told of a fault ends as what is done does. For `done-exactly`.
+status_of-not_done : (k : Kind) → status_of k ≢ Done
+status_of-not_done kind.Refused e = cc
+status_of-not_done kind.Fault e = cc
+status_of-not_done kind.Usage e = cc
 
 -- A file that gives a programme is refused for want of memory or a failing source alone. For
 -- `done-exactly`.
-load_status-of_programme :
+load_kind-of_programme :
     (national : National) (outcome : Outcome) (programme : ProgrammeValue) (block : ℕ)
     (kind : LoadFaultKind)
     → loaded national outcome ≡ Ok programme
     → TellsFault national outcome block kind
-    → load_status kind ≡ Fault
-load_status-of_programme national outcome programme block (load.File stl.Read) is told = refl
-load_status-of_programme national outcome programme block load.Memory is told = refl
-load_status-of_programme national outcome programme block kind is told = cc
+    → status_of (load_kind kind) ≡ Fault
+load_kind-of_programme national outcome programme block (load.File stl.Read) is told = refl
+load_kind-of_programme national outcome programme block load.Memory is told = refl
+load_kind-of_programme national outcome programme block kind is told = cc
 
 -- A fault of the PES file with a status other than `Fault` is none of the source. For
 -- `done-exactly`.
-fine-of_status : (f : CheckFault) → check_status f ≢ Fault → is_source_fault f ≡ false
+fine-of_status : (f : CheckFault) → status_of (check_kind f) ≢ Fault → is_source_fault f ≡ false
 fine-of_status (fault.Pes pes pes_fault.Read) other = absurd (other refl)
 fine-of_status f other = refl
 
@@ -124,10 +122,10 @@ looked-of_status :
     (national : National) (outcome : Outcome) (programme : ProgrammeValue) (f : CheckFault)
     → loaded national outcome ≡ Ok programme
     → TellsSubtitles national outcome (Err f)
-    → check_status f ≢ Fault
+    → status_of (check_kind f) ≢ Fault
     → is_subtitle_fault f ≡ false
 looked-of_status national outcome programme (fault.Subtitles f) is told other =
-    absurd (other (load_status-of_programme national outcome programme f.block f.kind is told))
+    absurd (other (load_kind-of_programme national outcome programme f.block f.kind is told))
 looked-of_status national outcome programme f is told other = refl
 
 -- The status is that of what is done exactly where the files are accepted.
@@ -141,7 +139,7 @@ pub done-exactly :
 done-exactly national options file bytes (Ok a) are other =
     (λ done. (a, accepted_from national options file bytes a are), λ is. refl)
 done-exactly national options file bytes (Err f) are other = (
-  λ done. absurd (check_status-not_done f done),
+  λ done. absurd (status_of-not_done (check_kind f) done),
   λ is.
       let checked = are.checked is.1.programme is.1.loads bytes refl in
       let looked =
@@ -156,7 +154,7 @@ done-exactly national options file bytes (Err f) are other = (
 pub ok-of_done :
     (answer : Result Accepted CheckFault) → (verdict answer).status ≡ Done → IsOk answer
 ok-of_done (Ok a) done = refl
-ok-of_done (Err f) done = absurd (check_status-not_done f done)
+ok-of_done (Err f) done = absurd (status_of-not_done (check_kind f) done)
 
 -- What was counted where the count stays. For `memory-printed`.
 not-counted :
@@ -171,10 +169,10 @@ not-counted false old new counted same = refl
 -- `fault-printed`.
 kind-printed :
     (national : National) (told old new : Option (List ℕ)) (block : ℕ) (kind : LoadFaultKind)
-    → load_status kind ≡ Fault
+    → status_of (load_kind kind) ≡ Fault
     → is_read_kind kind ≡ false
     → IfTold told (λ file. TellsFault national (outcome_of file) block kind)
-    → Appends old new (load_kind_line kind block)
+    → Appends old new (line_of (load_told kind block))
     → PrintsMemory national told old new
 kind-printed national told old new block load.Memory is read tells line = (block, line, tells)
 kind-printed national told old new block (load.File stl.Read) is read tells line = cc
@@ -183,11 +181,11 @@ kind-printed national told old new block kind is read tells line = cc
 -- The same of any fault. For `memory-printed`.
 fault-printed :
     (national : National) (told old new : Option (List ℕ)) (f : CheckFault)
-    → check_status f ≡ Fault
+    → status_of (check_kind f) ≡ Fault
     → is_subtitle_source_fault f ≡ false
     → is_source_fault f ≡ false
     → IfTold told (λ file. TellsSubtitles national (outcome_of file) (Err f))
-    → Appends old new (check_fault_line f)
+    → Appends old new (line_of (check_told f))
     → PrintsMemory national told old new
 fault-printed national told old new (fault.Subtitles f) is read fine tells line =
     kind-printed national told old new f.block f.kind is read tells line

@@ -16,18 +16,21 @@ use Rattle.sub_check.specs.declared.fault.CheckFault.{CheckFault}
 use Rattle.sub_answer.specs.CheckLines.{verdict}
 use Rattle.sub_answer.specs.DeviceCall.{SinkCall, SourceCall}
 use Rattle.sub_answer.specs.FileListing.{packets_listing, show_listing}
-use Rattle.sub_answer.specs.Lines.{usage_line}
-use Rattle.sub_answer.specs.Listing.{Listing, Prints}
+use Rattle.sub_answer.specs.Faults.{usage_told}
+use Rattle.sub_answer.specs.Told.{line_of}
+use Rattle.sub_answer.specs.Listing.{Listing, Prints, PrintsOrFails}
 use Rattle.sub_answer.specs.ListeningRun.{Listens}
-use Rattle.sub_answer.specs.NormalWriting.{normal_writing}
-use Rattle.sub_answer.specs.Verdict.{IsAccepted, IsAnswer, PrintsOrFails}
-use Rattle.sub_answer.specs.Writing.{Answers, PrintsMemory, schedule_writing}
+use Rattle.sub_answer.specs.NormalWriting.{HasNormalFaultLine, normal_writing}
+use Rattle.sub_answer.specs.Verdict.{IsAccepted, IsAnswer}
+use Rattle.sub_answer.specs.Writing.{Answers, HasScheduleFaultLine, PrintsMemory, Works, Writing}
+use Rattle.sub_answer.specs.Writing.{end_status, is_read_end, is_write_end, schedule_writing}
 use Rattle.sub_answer.specs.declared.listening.Listening.{Listening}
 use Rattle.sub_answer.specs.declared.request.Request.{Request}
 use Rattle.sub_answer.specs.declared.request.Request.TheVariants as ask
 use Rattle.sub_answer.specs.declared.request.UsageFault.TheVariants.{Memory}
 use Rattle.sub_answer.specs.declared.status.Status.{Status}
 use Rattle.sub_answer.specs.declared.status.Status.TheVariants.{Done, Fault}
+use Rattle.sub_answer.specs.declared.writing.End.{End}
 
 -- ---- what a request asks for
 
@@ -89,10 +92,33 @@ AnswersShow stl out status =
     stl.new_count ≡ stl.old_count
     → Prints out.old out.new (show_listing bytes) status)
 
+-- The work of a command that writes a file ended so, and its line was printed whole and gives the
+-- status; or `out` failed once, has a prefix of the line, and the status is `Fault`.
+pub record EndsWork
+    {S : Type 0} (input : SourceCall S) (file out : SinkCall) (status : Status)
+    (writing : List ℕ → Writing) (HasFaultLine : List ℕ → End → Type 0)
+    : Type 0 where
+  pub ending : End
+  pub line : List ℕ
+  -- Where the input tells its bytes, these decide what is written, and the line.
+  pub works :
+      IfTold input.told (λ bytes. Works file.old file.new line (writing bytes) ending)
+  -- A failed device and want of memory have this line.
+  pub fault_line : HasFaultLine line ending
+  -- The devices fail where the work ended by them, and nowhere else.
+  pub input_count : input.new_count ≡ input.old_count + (if is_read_end ending then 1 else 0)
+  pub file_count : file.new_count ≡ file.old_count + (if is_write_end ending then 1 else 0)
+  pub printed :
+      PrintsOrFails out.old_count out.old out.new_count out.new
+      (record { text = line; status = end_status ending }) status
+
 -- `normal` writes and prints what the bytes of its input decide.
 pub record AnswersNormal
     {S : Type 0} (input : SourceCall S) (file out : SinkCall) (status : Status)
     : Type 0 where
+  -- How it ended, in every case.
+  pub work :
+      EndsWork input file out status normal_writing (HasNormalFaultLine input.told input.left)
   -- The file gets the normal form of these bytes, and the line is printed, or their refusal is.
   pub answer :
       IfTold input.told (λ bytes.
@@ -103,13 +129,17 @@ pub record AnswersNormal
       → input.new_count ≡ input.old_count
       → file.new_count ≡ file.old_count
       → out.new_count ≡ out.old_count
-      → Appends out.old out.new (usage_line Memory)
+      → Appends out.old out.new (line_of (usage_told Memory))
 
 -- `schedule` writes and prints what the bytes of the subtitle file decide.
 pub record AnswersSchedule
     {S : Type 0} (national : National) (options : OptionsValue) (serial : Bool)
     (stl : SourceCall S) (file out : SinkCall) (status : Status)
     : Type 0 where
+  -- How it ended, in every case.
+  pub work :
+      EndsWork stl file out status (schedule_writing national options serial)
+      (HasScheduleFaultLine national stl.told)
   -- The file gets the schedule of their programme, and the line is printed, or their refusal is.
   pub answer :
       IfTold stl.told (λ bytes.

@@ -1,12 +1,13 @@
 -- What the clauses of a command speak of: its devices, each before and after the call.
 use Rattle.std.specs.Prelude.{ℕ, List, Option}
 
--- A source in a call: as it was and as it is, the bytes that it had left before, where it tells
--- them, and how often it had failed before and after.
+-- A source in a call: as it was and as it is, the bytes that it had left before and has left after,
+-- where it tells them, and how often it had failed before and after.
 pub record SourceCall (S : Type 0) : Type 0 where
   pub old : S
   pub new : S
   pub told : Option (List ℕ)
+  pub left : Option (List ℕ)
   pub old_count : ℕ
   pub new_count : ℕ
 
@@ -24,6 +25,7 @@ source_call remaining failure_count old new = record {
   old = old;
   new = new;
   told = remaining old;
+  left = remaining new;
   old_count = failure_count old;
   new_count = failure_count new;
 }

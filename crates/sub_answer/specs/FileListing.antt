@@ -12,9 +12,10 @@ use Rattle.stl_file.specs.Reading.{Outcome, ends, fails, gives}
 use Rattle.stl_file.specs.Subtitle.{SubtitleValue}
 use Rattle.stl_file.specs.declared.fault.StlFault.{StlFault}
 use Rattle.sub_io.specs.Device.{AppendsPrefix}
-use Rattle.sub_answer.specs.Lines.{pes_fault_line, pes_line, stl_fault_line, subtitle_line}
-use Rattle.sub_answer.specs.Lines.{unit_line}
-use Rattle.sub_answer.specs.Listing.{Listing, pes_status, refused, stl_status}
+use Rattle.sub_answer.specs.Faults.{pes_told, stl_told}
+use Rattle.sub_answer.specs.Lines.{pes_line, subtitle_line, unit_line}
+use Rattle.sub_answer.specs.Listing.{Listing}
+use Rattle.sub_answer.specs.Told.{ToldValue, line_of, status_of}
 use Rattle.sub_answer.specs.declared.status.Status.{Status}
 use Rattle.sub_answer.specs.declared.status.Status.TheVariants.{Done, Refused, Fault}
 
@@ -41,6 +42,14 @@ PrintsLines old new lines (Some Refused) =
     Appends old new lines.text × (lines.end ≡ Some Refused)
 PrintsLines old new lines (Some Fault) = AppendsPrefix old new lines.text
 
+-- Nothing is printed, and the listing ends with a refusal.
+abbrev pub no_listing : Listing
+no_listing = record { text = []; status = Refused }
+
+-- The line of a fault, which ends the listing.
+abbrev pub told_lines : ToldValue → Lines
+told_lines t = record { text = line_of t; end = Some (status_of t.kind) }
+
 -- ---- PES packets
 
 -- The lines of Teletext units, of which the first has this number.
@@ -56,11 +65,11 @@ frame_lines index v = pes_line index v.pts ++ unit_lines 0 v.units
 abbrev pub pes_lines : ℕ → Result (Option PesValue) PesFault → Lines
 pes_lines index (Ok (Some v)) = record { text = frame_lines index v; end = None }
 pes_lines index (Ok None) = record { text = decimal index ++ codes " pes\n"; end = Some Done }
-pes_lines index (Err f) = record { text = pes_fault_line f index; end = Some (pes_status f) }
+pes_lines index (Err f) = told_lines (pes_told f index)
 
 -- What is printed of the bytes after so many PES packets, in so many calls of a reader at most.
 unfoldable pub packets_from : ℕ → ℕ → List ℕ → Listing
-packets_from zero index bytes = refused []
+packets_from zero index bytes = no_listing
 packets_from (suc calls) index bytes =
     followed (pes_lines index (answer_at index bytes))
     (packets_from calls (index + 1) (rest_after bytes))
@@ -77,15 +86,14 @@ abbrev pub subtitle_lines : ℕ → ℕ → Result (Option SubtitleValue) StlFau
 subtitle_lines count block (Ok (Some s)) = record { text = subtitle_line s; end = None }
 subtitle_lines count block (Ok None) =
     record { text = decimal count ++ codes " subtitles\n"; end = Some Done }
-subtitle_lines count block (Err f) =
-    record { text = stl_fault_line f block; end = Some (stl_status f) }
+subtitle_lines count block (Err f) = told_lines (stl_told f block)
 
 -- What is printed of what a file still gives after so many subtitles.
 abbrev pub subtitles_from : ℕ → Outcome → Listing
 subtitles_from count (gives s block more) =
     followed (subtitle_lines count block (Ok (Some s))) (subtitles_from (count + 1) more)
-subtitles_from count ends = followed (subtitle_lines count 0 (Ok None)) (refused [])
-subtitles_from count (fails f block) = followed (subtitle_lines count block (Err f)) (refused [])
+subtitles_from count ends = followed (subtitle_lines count 0 (Ok None)) no_listing
+subtitles_from count (fails f block) = followed (subtitle_lines count block (Err f)) no_listing
 
 -- What `show` prints of the bytes of a file.
 abbrev pub show_listing : List ℕ → Listing

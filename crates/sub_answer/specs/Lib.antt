@@ -1,7 +1,8 @@
 pub mod NamedDevices
 pub mod Lines
+pub mod Told
+pub mod Faults
 pub mod Listing
-pub mod LoadLines
 pub mod Writing
 pub mod Answering
 pub mod DeviceCall
@@ -12,3 +13,4 @@ pub mod Reception
 pub mod StateText
 pub mod ListeningRun
 pub mod FileListing
+pub mod Files

@@ -9,29 +9,6 @@ use Rattle.hex.specs.Hex.{encode_lower}
 use Rattle.ttx_pes.specs.DataUnit.{UnitValue}
 use Rattle.stl_file.specs.Gsi.{five_digits}
 use Rattle.stl_file.specs.Subtitle.{SubtitleValue}
-use Rattle.stl_file.specs.declared.fault.StlFault.{StlFault}
-use Rattle.stl_file.specs.declared.fault.StlFault.TheVariants as stl
-use Rattle.ttx_pes.specs.declared.PesFault.{PesFault}
-use Rattle.ttx_pes.specs.declared.PesFault.TheVariants as pes
-use Rattle.sub_answer.specs.declared.request.UsageFault.{UsageFault}
-use Rattle.sub_answer.specs.declared.request.UsageFault.TheVariants as fault
-
--- The line of a fault of the words, or of the program itself (own).
-abbrev pub usage_line : UsageFault → List ℕ
-usage_line fault.Words = codes "usage 0 Words\n"
-usage_line fault.BadHex = codes "usage 2 BadHex\n"
-usage_line fault.SameFile = codes "usage 7 SameFile\n"
-usage_line fault.BadPage = codes "usage 1 BadPage\n"
-usage_line fault.Every = codes "usage 80 Every\n"
-usage_line fault.Origin = codes "usage 81 Origin\n"
-usage_line fault.BadOption = codes "usage 83 BadOption\n"
-usage_line fault.BadTime = codes "usage 6 BadTime\n"
-usage_line fault.BadSkip = codes "usage 8 BadSkip\n"
-usage_line fault.BadFlip = codes "usage 5 BadFlip\n"
-usage_line fault.BadLose = codes "usage 84 BadLose\n"
-usage_line fault.BadReceiver = codes "usage 9 BadReceiver\n"
-usage_line fault.Open = codes "fault 90 Open\n"
-usage_line fault.Memory = codes "fault 91 Memory\n"
 
 -- The character of a cell's code: the codes 20 to 7E as ASCII, any other as a full stop.
 abbrev pub glyph : ℕ → ℕ
@@ -103,28 +80,6 @@ unit_line number u = codes "unit " ++ decimal number ++ codes " id 0" ++ decimal
     ++ codes " field " ++ decimal u.field ++ codes " line " ++ decimal u.line ++ codes " "
     ++ encode_lower u.packet ++ codes "\n"
 
--- A fault of a PES file by number and name; that of a device is a fault, any other a refusal (own).
-abbrev pub pes_fault_words : PesFault → List ℕ
-pes_fault_words pes.Truncated = codes "refused 30 Truncated"
-pes_fault_words pes.Start = codes "refused 31 Start"
-pes_fault_words pes.Length = codes "refused 32 Length"
-pes_fault_words pes.Flags = codes "refused 33 Flags"
-pes_fault_words pes.NoTime = codes "refused 34 NoTime"
-pes_fault_words pes.HeaderLength = codes "refused 35 HeaderLength"
-pes_fault_words pes.Time = codes "refused 36 Time"
-pes_fault_words pes.DataId = codes "refused 37 DataId"
-pes_fault_words pes.UnitLength = codes "refused 38 UnitLength"
-pes_fault_words pes.Framing = codes "refused 39 Framing"
-pes_fault_words pes.LineOrder = codes "refused 40 LineOrder"
-pes_fault_words pes.Read = codes "fault 41 Read"
-pes_fault_words pes.Write = codes "fault 42 Write"
-pes_fault_words pes.Ended = codes "refused 43 Ended"
-pes_fault_words pes.TooMany = codes "refused 44 TooMany"
-
--- The same with the index of the PES packet.
-abbrev pub pes_fault_line : PesFault → ℕ → List ℕ
-pes_fault_line fault index = pes_fault_words fault ++ codes " pes " ++ decimal index ++ codes "\n"
-
 -- Two decimal digits.
 unfoldable pub two_digits : ℕ → List ℕ
 two_digits n = (0x30 + n / 10) ∷ (0x30 + n % 10) ∷ []
@@ -144,29 +99,3 @@ abbrev pub subtitle_line : SubtitleValue → List ℕ
 subtitle_line s = five_digits s.sn ++ codes " " ++ time_text s.tci ++ codes " " ++ time_text s.tco
     ++ codes " vp " ++ decimal s.vp ++ codes " jc " ++ decimal s.jc
     ++ codes " text " ++ text_digits s.text ++ codes "\n"
-
--- A fault of a subtitle file by number and name; that of a device is a fault, any other a refusal
--- (own).
-abbrev pub stl_fault_words : StlFault → List ℕ
-stl_fault_words stl.Truncated = codes "refused 10 Truncated"
-stl_fault_words stl.Format = codes "refused 11 Format"
-stl_fault_words stl.Rate = codes "refused 12 Rate"
-stl_fault_words stl.Display = codes "refused 13 Display"
-stl_fault_words stl.Alphabet = codes "refused 14 Alphabet"
-stl_fault_words stl.Extension = codes "refused 15 Extension"
-stl_fault_words stl.Cumulative = codes "refused 16 Cumulative"
-stl_fault_words stl.CommentFlag = codes "refused 17 CommentFlag"
-stl_fault_words stl.Justify = codes "refused 18 Justify"
-stl_fault_words stl.Row = codes "refused 19 Row"
-stl_fault_words stl.Time = codes "refused 20 Time"
-stl_fault_words stl.EmptyTime = codes "refused 21 EmptyTime"
-stl_fault_words stl.Sequence = codes "refused 22 Sequence"
-stl_fault_words stl.TooLong = codes "refused 23 TooLong"
-stl_fault_words stl.Unfinished = codes "refused 24 Unfinished"
-stl_fault_words stl.TooManyBlocks = codes "refused 25 TooManyBlocks"
-stl_fault_words stl.Read = codes "fault 26 Read"
-stl_fault_words stl.Ended = codes "refused 27 Ended"
-
--- The same with the TTI block that it names.
-abbrev pub stl_fault_line : StlFault → ℕ → List ℕ
-stl_fault_line fault block = stl_fault_words fault ++ codes " block " ++ decimal block ++ codes "\n"

@@ -1,6 +1,6 @@
 -- What `listen` answers: the frames up to TIME that are heard, what ends them, and what is printed.
-use Rattle.std.specs.Prelude.{◌≡◌, ℕ, zero, suc, ◌+◌, ◌<◌, ◌≤◌, ◌⊎◌, Bool, false, List}
-use Rattle.std.specs.Prelude.{length, ◌++◌, codes, decimal, Option, Some, None, Result, Ok, Err}
+use Rattle.std.specs.Prelude.{◌≡◌, ℕ, zero, suc, ◌+◌, ◌<◌, ◌≤◌, ◌⊎◌, Bool, false}
+use Rattle.std.specs.Prelude.{length, codes, Option, Some, None, Result, Ok, Err}
 use Rattle.std.specs.Prelude.{MatchResult}
 use Rattle.ttx_packet.specs.PageId.{PageIdValue}
 use Rattle.ttx_page.specs.Page.{Rows, IsCell, cell}
@@ -10,34 +10,24 @@ use Rattle.sub_check.specs.FirstBroken.{unread_fault}
 use Rattle.sub_check.specs.FrameRules.{Unread, frame_at, joined, packets_at}
 use Rattle.sub_check.specs.Transmission.{Transmission}
 use Rattle.sub_check.specs.declared.fault.CheckFault.TheVariants as check
-use Rattle.sub_answer.specs.CheckLines.{check_fault_line, check_status}
-use Rattle.sub_answer.specs.Lines.{time_text}
-use Rattle.sub_answer.specs.Listing.{Listing, done}
+use Rattle.sub_answer.specs.Faults.{check_told}
+use Rattle.sub_answer.specs.Listing.{Listing, done, told_listing}
 use Rattle.sub_answer.specs.Reception.{as_received, first_lost_header, reception_of}
 use Rattle.sub_answer.specs.StateText.{state_text}
+use Rattle.sub_answer.specs.Told.{ToldValue, told_as}
 use Rattle.sub_answer.specs.declared.answering.listen.ListenFault.{ListenFault}
 use Rattle.sub_answer.specs.declared.answering.listen.ListenFault.TheVariants as fault
 use Rattle.sub_answer.specs.declared.listening.Listening.{Listening}
-use Rattle.sub_answer.specs.declared.status.Status.{Status}
-use Rattle.sub_answer.specs.declared.status.Status.TheVariants.{Refused}
+use Rattle.sub_answer.specs.declared.told.Kind.TheVariants.{Refused}
+use Rattle.sub_answer.specs.declared.told.Place.TheVariants.{Packet}
 
 -- ---- faults
 
--- The line of a page header that is lost.
-abbrev pub lost_header_line : ℕ → ℕ → List ℕ
-lost_header_line frame packet =
-    codes "refused 76 LostHeader frame " ++ time_text frame ++ codes " packet " ++ decimal packet
-    ++ codes "\n"
-
--- The line of a fault (own).
-abbrev pub listen_fault_line : ListenFault → List ℕ
-listen_fault_line (fault.File f) = check_fault_line f
-listen_fault_line (fault.LostHeader frame packet) = lost_header_line frame packet
-
--- Its status.
-abbrev pub listen_status : ListenFault → Status
-listen_status (fault.File f) = check_status f
-listen_status (fault.LostHeader frame packet) = Refused
+-- What is told of a fault (own).
+abbrev pub listen_told : ListenFault → ToldValue
+listen_told (fault.File f) = check_told f
+listen_told (fault.LostHeader frame packet) =
+    told_as Refused (76, codes "LostHeader") (Packet frame packet)
 
 -- The fault is that of a source that failed.
 abbrev pub is_source_fault : ListenFault → Bool
@@ -122,7 +112,7 @@ IsOldPage page = (row column : ℕ) → IsCell row column → cell page row colu
 -- What is printed at the end of a run.
 abbrev pub listing_of : State → Result (Unit {0}) ListenFault → Listing
 listing_of end (Ok _) = done (state_text end)
-listing_of end (Err f) = record { text = listen_fault_line f; status = listen_status f }
+listing_of end (Err f) = told_listing (listen_told f)
 
 -- What `listen` prints of a file that is read as these frames: the state of a receiver that was
 -- tuned with an old page, at the end of its run, or the refusal.

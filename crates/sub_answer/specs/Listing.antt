@@ -1,19 +1,18 @@
 -- What the commands print, whole, and how they end.
-use Rattle.std.specs.Prelude.{◌≡◌, ◌≢◌, ℕ, ◌+◌, ◌≤◌, ◌==◌, Bool, true, false, nat_le, List}
+use Rattle.std.specs.Prelude.{◌≡◌, ◌≢◌, ◌⊎◌, ℕ, ◌+◌, ◌≤◌, ◌==◌, Bool, true, false, nat_le, List}
 use Rattle.std.specs.Prelude.{◌++◌, codes, drop}
 use Rattle.std.specs.Prelude.{Option, Some, None, option_map, if◌then◌else◌}
 use Rattle.ttx_packet.specs.PacketAddress.{address, address_pair}
 use Rattle.ttx_packet.specs.PageHeader.{header}
 use Rattle.ttx_packet.specs.declared.Header.{Header}
 use Rattle.std.specs.Io.KnownBytes.{Appends}
-use Rattle.ttx_pes.specs.declared.PesFault.{PesFault}
-use Rattle.ttx_pes.specs.declared.PesFault.TheVariants as pes
-use Rattle.stl_file.specs.declared.fault.StlFault.{StlFault}
-use Rattle.stl_file.specs.declared.fault.StlFault.TheVariants as stl
 use Rattle.sub_io.specs.Device.{AppendsPrefix}
 use Rattle.sub_answer.specs.Lines.{address_line, header_line, text_line}
+use Rattle.sub_answer.specs.Told.{ToldValue, line_of, status_of, told_as}
 use Rattle.sub_answer.specs.declared.status.Status.{Status}
 use Rattle.sub_answer.specs.declared.status.Status.TheVariants.{Done, Refused, Fault}
+use Rattle.sub_answer.specs.declared.told.Kind.TheVariants as kind
+use Rattle.sub_answer.specs.declared.told.Place.TheVariants.{Nowhere}
 
 -- A text and the status that goes with it where all of it was printed.
 pub record Listing : Type 0 where
@@ -24,13 +23,20 @@ pub record Listing : Type 0 where
 abbrev pub done : List ℕ → Listing
 done text = record { text = text; status = Done }
 
--- The line of a refusal.
-abbrev pub refused : List ℕ → Listing
-refused line = record { text = line; status = Refused }
+-- The line of what is told of a fault.
+abbrev pub told_listing : ToldValue → Listing
+told_listing t = record { text = line_of t; status = status_of t.kind }
+
+-- A packet without an address, and a packet X/0 whose coded bytes mean nothing.
+abbrev pub bad_address : ToldValue
+bad_address = told_as kind.Refused (3, codes "BadAddress") Nowhere
+
+abbrev pub bad_header : ToldValue
+bad_header = told_as kind.Refused (4, codes "BadHeader") Nowhere
 
 -- Packet X/0 (EN 300 706, page header): its eight coded bytes, then 32 text bytes.
 abbrev pub header_listing : ℕ → List ℕ → Option Header → Listing
-header_listing magazine packet None = refused (codes "refused 4 BadHeader\n")
+header_listing magazine packet None = told_listing bad_header
 header_listing magazine packet (Some h) =
     done (address_line magazine 0 ++ header_line h ++ text_line (drop 10 packet))
 
@@ -42,7 +48,7 @@ row_listing magazine packet_number packet = if nat_le packet_number 24
 
 -- The same by the magazine and the packet number that a packet has.
 abbrev pub addressed_listing : Option (ℕ × ℕ) → List ℕ → Listing
-addressed_listing None packet = refused (codes "refused 3 BadAddress\n")
+addressed_listing None packet = told_listing bad_address
 addressed_listing (Some a) packet = if a.1 == 0
     then header_listing a.0 packet (header packet)
     else row_listing a.0 a.1 packet
@@ -64,21 +70,19 @@ Prints old new listing Done = Appends old new listing.text × (listing.status �
 Prints old new listing Refused = Appends old new listing.text × (listing.status ≡ Refused)
 Prints old new listing Fault = AppendsPrefix old new listing.text
 
+-- All of the listing was printed, and its status is given; or the sink failed once, has a prefix of
+-- the text, and the status is `Fault`.
+abbrev pub PrintsOrFails
+    : ℕ → Option (List ℕ) → ℕ → Option (List ℕ) → Listing → Status → Type 0
+PrintsOrFails old_count old new_count new listing status =
+    ((new_count ≡ old_count) × Appends old new listing.text × (status ≡ listing.status))
+    ⊎ ((new_count ≡ old_count + 1) × AppendsPrefix old new listing.text × (status ≡ Fault))
+
 -- A device's failures rise by one at most, and not where the status is another than `Fault`.
 pub record CountsFault (old : ℕ) (status : Status) (new : ℕ) : Type 0 where
   pub kept : status ≢ Fault → new ≡ old
   pub risen : old ≤ new
   pub once : new ≤ old + 1
-
--- A fault of a PES file that is read is the device's only where the source failed.
-abbrev pub pes_status : PesFault → Status
-pes_status pes.Read = Fault
-pes_status _ = Refused
-
--- The same of a subtitle file that is read.
-abbrev pub stl_status : StlFault → Status
-stl_status stl.Read = Fault
-stl_status _ = Refused
 
 -- A listing ends in a fault.
 abbrev pub ends_in_fault : Option Status → Bool

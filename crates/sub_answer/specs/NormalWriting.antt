@@ -8,7 +8,8 @@ use Rattle.stl_file.specs.NormalForm.{Judged, normal_form, subtitles_of}
 use Rattle.stl_file.specs.Reader.{outcome_of}
 use Rattle.stl_file.specs.declared.fault.NormalFault.TheVariants as normal
 use Rattle.stl_file.specs.declared.fault.StlFault.TheVariants as stl
-use Rattle.sub_answer.specs.Lines.{stl_fault_line, usage_line}
+use Rattle.sub_answer.specs.Faults.{normal_told, stl_told, usage_told}
+use Rattle.sub_answer.specs.Told.{line_of}
 use Rattle.sub_answer.specs.Writing.{Writing, nothing_written, written}
 use Rattle.sub_answer.specs.declared.answering.normal.InputFault.{InputFault}
 use Rattle.sub_answer.specs.declared.answering.normal.InputFault.TheVariants as input
@@ -23,7 +24,7 @@ use Rattle.sub_answer.specs.declared.writing.End.TheVariants as end
 abbrev pub normal_of : List ℕ → Judged → Writing
 normal_of s (Ok ts) =
     written (normal_form (take gsi_size s) ts) (length ts) (codes " subtitles\n")
-normal_of s (Err (normal.Refused fault block)) = nothing_written (stl_fault_line fault block)
+normal_of s (Err (normal.Refused fault block)) = nothing_written (line_of (stl_told fault block))
 normal_of s (Err normal.Write) = nothing_written (codes "")
 
 -- What `normal` writes and prints of the bytes of a subtitle file.
@@ -57,13 +58,13 @@ is_read_failure _ = false
 abbrev pub HasReadLine : Option (List ℕ) → Option (List ℕ) → List ℕ → Type 0
 HasReadLine old new line =
     (bytes : List ℕ) × Consumes old new bytes
-    × (line ≡ stl_fault_line stl.Read (read_block (length bytes)))
+    × (line ≡ line_of (stl_told stl.Read (read_block (length bytes))))
 
 -- What is printed where a device or memory failed.
 abbrev pub HasNormalFaultLine : Option (List ℕ) → Option (List ℕ) → List ℕ → End → Type 0
 HasNormalFaultLine old new line end.ReadFailed = HasReadLine old new line
-HasNormalFaultLine old new line end.WriteFailed = line ≡ codes "fault 29 Write\n"
-HasNormalFaultLine old new line end.NoMemory = line ≡ usage_line usage.Memory
+HasNormalFaultLine old new line end.WriteFailed = line ≡ line_of (normal_told normal.Write)
+HasNormalFaultLine old new line end.NoMemory = line ≡ line_of (usage_told usage.Memory)
 HasNormalFaultLine old new line _ = ⊤
 
 -- The line of a failed read was printed, or a prefix of it.
@@ -71,8 +72,8 @@ abbrev pub PrintsReadFault :
     Option (List ℕ) → Option (List ℕ) → Option (List ℕ) → Option (List ℕ) → Type 0
 PrintsReadFault old new out out' =
     (bytes : List ℕ) × Consumes old new bytes
-    × AppendsPrefix out out' (stl_fault_line stl.Read (read_block (length bytes)))
+    × AppendsPrefix out out' (line_of (stl_told stl.Read (read_block (length bytes))))
 
 -- The line of want of memory.
 abbrev pub IsMemoryLine : List ℕ → Type 0
-IsMemoryLine line = line ≡ usage_line usage.Memory
+IsMemoryLine line = line ≡ line_of (usage_told usage.Memory)

@@ -1,8 +1,5 @@
--- What a check of a subtitle file and a PES file answers by their bytes, and how its answer is
--- printed.
-use Rattle.std.specs.Prelude.{◌≡◌, ℕ, ◌+◌, ◌⊎◌, false, List, Option, Result, Ok, MatchResult}
-use Rattle.std.specs.Io.KnownBytes.{Appends}
-use Rattle.sub_io.specs.Device.{AppendsPrefix}
+-- What a check of a subtitle file and a PES file answers by their bytes.
+use Rattle.std.specs.Prelude.{◌≡◌, ℕ, false, List, Option, Result, Ok, MatchResult}
 use Rattle.stl_file.specs.Reader.{outcome_of}
 use Rattle.stl_rows.specs.declared.national.National.{National}
 use Rattle.stl_rows.specs.Loading.{loaded}
@@ -18,9 +15,6 @@ use Rattle.sub_check.specs.PesReading.{ReadsAs}
 use Rattle.sub_check.specs.Transmission.{Transmission}
 use Rattle.sub_check.specs.declared.checker.Accepted.{Accepted}
 use Rattle.sub_check.specs.declared.fault.CheckFault.{CheckFault}
-use Rattle.sub_answer.specs.Listing.{Listing}
-use Rattle.sub_answer.specs.declared.status.Status.{Status}
-use Rattle.sub_answer.specs.declared.status.Status.TheVariants.{Fault}
 
 -- The files are accepted: the subtitle file gives a programme, and the PES file carries a
 -- transmission that is good for it, of so many frames and headers of the page.
@@ -58,11 +52,3 @@ pub record IsAnswer
       (λ f. is_subtitle_fault f ≡ false
       → is_source_fault f ≡ false
       → IsRefused national options file bytes f)
-
--- All of the listing was printed, and its status is given; or the sink failed once, has a prefix of
--- the text, and the status is `Fault`.
-abbrev pub PrintsOrFails
-    : ℕ → Option (List ℕ) → ℕ → Option (List ℕ) → Listing → Status → Type 0
-PrintsOrFails old_count old new_count new listing status =
-    ((new_count ≡ old_count) × Appends old new listing.text × (status ≡ listing.status))
-    ⊎ ((new_count ≡ old_count + 1) × AppendsPrefix old new listing.text × (status ≡ Fault))

@@ -15,8 +15,10 @@ use Rattle.stl_rows.specs.declared.fault.LoadFaultKind.TheVariants.{File, Memory
 use Rattle.stl_rows.specs.declared.national.National.{National}
 use Rattle.sub_plan.specs.Options.{OptionsValue}
 use Rattle.sub_plan.specs.Schedule.{plan, plan_frames}
-use Rattle.sub_answer.specs.Listing.{Listing, Prints, done, refused}
-use Rattle.sub_answer.specs.LoadLines.{load_fault_line, load_kind_line}
+use Rattle.sub_plan.specs.declared.fault.PlanFault.TheVariants as plan_fault
+use Rattle.sub_answer.specs.Faults.{load_told, plan_told}
+use Rattle.sub_answer.specs.Listing.{Listing, Prints, done}
+use Rattle.sub_answer.specs.Told.{line_of}
 use Rattle.sub_answer.specs.declared.status.Status.{Status}
 use Rattle.sub_answer.specs.declared.status.Status.TheVariants.{Done, Refused, Fault}
 use Rattle.sub_answer.specs.declared.writing.End.{End}
@@ -37,7 +39,7 @@ written file count things = record { file = file; listing = done (written_line c
 
 -- Nothing is written where the input is refused.
 abbrev pub nothing_written : List ℕ → Writing
-nothing_written line = record { file = []; listing = refused line }
+nothing_written line = record { file = []; listing = record { text = line; status = Refused } }
 
 -- ---- what an answer says
 
@@ -95,7 +97,7 @@ Works old new line w end.NoMemory = Keeps old new
 
 -- The schedule of a programme with these subtitles, and its line; a programme without any has none.
 abbrev pub schedule_of : List SubtitleValue → ProgrammeValue → OptionsValue → Bool → Writing
-schedule_of [] programme o serial = nothing_written (codes "refused 82 NoSubtitles\n")
+schedule_of [] programme o serial = nothing_written (line_of (plan_told plan_fault.NoSubtitles))
 schedule_of (t ∷ ts) programme o serial =
     written (plan programme o serial) (length (plan_frames programme o.every))
     (codes " transmissions\n")
@@ -103,7 +105,8 @@ schedule_of (t ∷ ts) programme o serial =
 -- The schedule of a file that was loaded, or the line of the fault of loading.
 abbrev pub schedule_writing_of :
     OptionsValue → Bool → Result ProgrammeValue LoadFault → Writing
-schedule_writing_of o serial (Err fault) = nothing_written (load_fault_line fault)
+schedule_writing_of o serial (Err fault) =
+    nothing_written (line_of (load_told fault.kind fault.block))
 schedule_writing_of o serial (Ok programme) = schedule_of programme.records programme o serial
 
 -- What `schedule` writes and prints of the bytes of a subtitle file.
@@ -120,20 +123,21 @@ load_end _ = end.Refused
 -- What is printed where a device or memory failed: a read and memory with a TTI block.
 abbrev pub HasScheduleFaultLine : National → Option (List ℕ) → List ℕ → End → Type 0
 HasScheduleFaultLine national told line end.ReadFailed =
-    (block : ℕ) × (line ≡ load_kind_line (File Read) block)
-HasScheduleFaultLine national told line end.WriteFailed = line ≡ codes "fault 42 Write\n"
+    (block : ℕ) × (line ≡ line_of (load_told (File Read) block))
+HasScheduleFaultLine national told line end.WriteFailed =
+    line ≡ line_of (plan_told plan_fault.Write)
 HasScheduleFaultLine national told line end.NoMemory =
-    (block : ℕ) × (line ≡ load_kind_line Memory block)
+    (block : ℕ) × (line ≡ line_of (load_told Memory block))
     × IfTold told (λ bytes. EndsRecord national [] block (outcome_of bytes))
 HasScheduleFaultLine national told line _ = Unit {0}
 
 -- The line of want of memory at a TTI block.
 abbrev pub IsMemoryLine : List ℕ → Type 0
-IsMemoryLine line = (block : ℕ) × (line ≡ load_kind_line Memory block)
+IsMemoryLine line = (block : ℕ) × (line ≡ line_of (load_told Memory block))
 
 -- Want of memory is printed, with the last block of a subtitle that the file gives.
 abbrev pub PrintsMemory :
     National → Option (List ℕ) → Option (List ℕ) → Option (List ℕ) → Type 0
 PrintsMemory national told old new =
-    (block : ℕ) × Appends old new (load_kind_line Memory block)
+    (block : ℕ) × Appends old new (line_of (load_told Memory block))
     × IfTold told (λ bytes. EndsRecord national [] block (outcome_of bytes))

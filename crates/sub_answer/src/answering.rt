@@ -28,13 +28,17 @@ ghost use Rattle.sub_answer.specs.Answering.{AnswersPackets, AnswersSchedule, An
 ghost use Rattle.sub_answer.specs.Answering.{ForCheck, ForListen, ForNormal, ForPacket, ForPackets};
 ghost use Rattle.sub_answer.specs.Answering.{ForSchedule, ForShow, takes_memory};
 ghost use Rattle.sub_answer.specs.DeviceCall.{sink_call, source_call};
-ghost use Rattle.sub_answer.specs.Lines.{usage_line};
+ghost use Rattle.sub_answer.specs.Faults.{usage_told};
 ghost use Rattle.sub_answer.specs.Listing.{CountsFault, Prints, packet_listing};
+ghost use Rattle.sub_answer.specs.Told.{line_of};
 ghost use Rattle.sub_answer.specs.NamedDevices.{names_file, names_first, names_second};
 
-use crate::lines::usage_text;
+use crate::faults::told_of_usage;
+use crate::lines::push_told;
+use crate::printing::print;
 use crate::request::{Request, UsageFault};
 use crate::status::Status;
+use crate::writing::Line;
 use check::print_verdict;
 use listen::print_listening;
 use normal::write_normal;
@@ -43,7 +47,7 @@ use packets::list_packets;
 use schedule::write_schedule;
 use show::list_subtitles;
 use std::alloc::Global;
-use sub_io::{Flush, Sink, Source, put_all};
+use sub_io::{Flush, Sink, Source};
 
 /// Answers a request that `Request::parse` gave.
 ///
@@ -168,11 +172,12 @@ pub fn say<K: Sink>(fault: &UsageFault, out: &mut K) -> Status
     requires { CanFail (K.failure_count out.old) }
     ensures status { result ≡ Status.Fault }
     ensures whole { K.failure_count out.new ≡ K.failure_count out.old
-        → Appends (K.contents out.old) (K.contents out.new) (usage_line fault.now) }
+        → Appends (K.contents out.old) (K.contents out.new) (line_of (usage_told fault.now)) }
     ensures prefix { AppendsPrefix (K.contents out.old) (K.contents out.new)
-        (usage_line fault.now) }
+        (line_of (usage_told fault.now)) }
     ensures count { CountsFault (K.failure_count out.old) result (K.failure_count out.new) }
 {
-    let _ = put_all(out, usage_text(fault));
-    Status::Fault
+    let mut line = Line::new();
+    push_told(&mut line, &told_of_usage(fault));
+    print(line.as_slice(), Status::Fault, out)
 }

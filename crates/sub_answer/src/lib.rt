@@ -12,16 +12,20 @@
 
 mod answering;
 mod check_lines;
+mod faults;
+mod files;
 mod lines;
 mod listening;
-mod load_lines;
+mod printing;
 mod reception;
 mod request;
 mod status;
+mod told;
 mod writing;
 
 pub use answering::normal::{InputFault, read_input};
 pub use answering::{answer, say};
+pub use files::{Files, Input, Output};
 pub use listening::{Flip, Listening, ReceiverKind};
 pub use request::{Request, UsageFault};
 pub use status::Status;

@@ -5,38 +5,16 @@
 ghost use Rattle.std.specs.Prelude.{◌≡◌, ◌+◌, ◌≤◌, ◌<◌, ◌++◌, length, decimal};
 ghost use Rattle.arrayvec.specs.ArrayVec.{array_vec_len};
 ghost use Rattle.hex.specs.Hex.{encode_lower};
-ghost use Rattle.sub_answer.specs.Lines.{glyph, pes_fault_line, pes_fault_words, usage_line};
-ghost use Rattle.sub_answer.specs.Lines.{stl_fault_line, stl_fault_words, text_digits, time_text};
-ghost use Rattle.sub_answer.specs.Lines.{two_digits};
-ghost use Rattle.sub_answer.specs.Listing.{pes_status, stl_status};
+ghost use Rattle.sub_answer.specs.Lines.{glyph, text_digits, time_text, two_digits};
+ghost use Rattle.sub_answer.specs.Told.{frame_text, kind_text, line_of, place_text};
+ghost use Rattle.sub_answer.specs.Told.{value_of};
 
-use crate::request::UsageFault;
-use crate::status::Status;
+use crate::told::{Kind, Place, Told};
 use arrayvec::ArrayVec;
-use stl_file::{StlFault, TimeCode};
-use ttx_pes::PesFault;
+use stl_file::TimeCode;
 
-/// The line of a fault of the words or of the program itself.
-pub fn usage_text(fault: &UsageFault) -> &'static [u8]
-    ensures { result.now ≡ usage_line fault.now }
-{
-    match fault {
-        UsageFault::Words => b"usage 0 Words\n",
-        UsageFault::BadHex => b"usage 2 BadHex\n",
-        UsageFault::SameFile => b"usage 7 SameFile\n",
-        UsageFault::BadPage => b"usage 1 BadPage\n",
-        UsageFault::Every => b"usage 80 Every\n",
-        UsageFault::Origin => b"usage 81 Origin\n",
-        UsageFault::BadOption => b"usage 83 BadOption\n",
-        UsageFault::BadTime => b"usage 6 BadTime\n",
-        UsageFault::BadSkip => b"usage 8 BadSkip\n",
-        UsageFault::BadFlip => b"usage 5 BadFlip\n",
-        UsageFault::BadLose => b"usage 84 BadLose\n",
-        UsageFault::BadReceiver => b"usage 9 BadReceiver\n",
-        UsageFault::Open => b"fault 90 Open\n",
-        UsageFault::Memory => b"fault 91 Memory\n",
-    }
-}
+/// Frames of a day at 25 a second.
+const FRAMES_OF_DAY: u32 = 2_160_000;
 
 /// Appends a text for which there is room.
 pub fn push_text<const N: usize>(line: &mut ArrayVec<u8, N>, text: &[u8])
@@ -66,101 +44,6 @@ pub fn push_lower_hex<const N: usize>(line: &mut ArrayVec<u8, N>, bytes: &[u8; 4
     let mut digits = [0; 84];
     let _ = hex::encode_to_slice(&bytes[..], &mut digits);
     push_text(line, &digits);
-}
-
-/// What is printed of a fault of a PES file, without its place.
-fn pes_fault_text(fault: PesFault) -> &'static [u8]
-    ensures value { result.now ≡ pes_fault_words fault }
-    ensures len { length result.now ≤ 32 }
-{
-    match fault {
-        PesFault::Truncated => b"refused 30 Truncated",
-        PesFault::Start => b"refused 31 Start",
-        PesFault::Length => b"refused 32 Length",
-        PesFault::Flags => b"refused 33 Flags",
-        PesFault::NoTime => b"refused 34 NoTime",
-        PesFault::HeaderLength => b"refused 35 HeaderLength",
-        PesFault::Time => b"refused 36 Time",
-        PesFault::DataId => b"refused 37 DataId",
-        PesFault::UnitLength => b"refused 38 UnitLength",
-        PesFault::Framing => b"refused 39 Framing",
-        PesFault::LineOrder => b"refused 40 LineOrder",
-        PesFault::Read => b"fault 41 Read",
-        PesFault::Write => b"fault 42 Write",
-        PesFault::Ended => b"refused 43 Ended",
-        PesFault::TooMany => b"refused 44 TooMany",
-    }
-}
-
-/// The status that goes with a fault of a PES file that is read.
-pub fn pes_status(fault: PesFault) -> Status
-    ensures { result ≡ pes_status fault }
-{
-    match fault {
-        PesFault::Read => Status::Fault,
-        _ => Status::Refused,
-    }
-}
-
-/// Appends the line of a fault of a PES file, with the index of its PES packet.
-pub fn push_pes_fault<const N: usize>(line: &mut ArrayVec<u8, N>, fault: PesFault, index: u32)
-    requires { array_vec_len line.old + 64 ≤ N }
-    ensures items { line.new.items ≡ line.old.items ++ pes_fault_line fault index }
-    ensures len { array_vec_len line.new ≤ array_vec_len line.old + 64 }
-{
-    push_text(line, pes_fault_text(fault));
-    push_text(line, b" pes ");
-    push_decimal(line, u64::from(index));
-    push_text(line, b"\n");
-}
-
-// What is printed of a fault of a subtitle file, without its block.
-fn stl_fault_text(fault: StlFault) -> &'static [u8]
-    ensures value { result.now ≡ stl_fault_words fault }
-    ensures len { length result.now ≤ 32 }
-{
-    match fault {
-        StlFault::Truncated => b"refused 10 Truncated",
-        StlFault::Format => b"refused 11 Format",
-        StlFault::Rate => b"refused 12 Rate",
-        StlFault::Display => b"refused 13 Display",
-        StlFault::Alphabet => b"refused 14 Alphabet",
-        StlFault::Extension => b"refused 15 Extension",
-        StlFault::Cumulative => b"refused 16 Cumulative",
-        StlFault::CommentFlag => b"refused 17 CommentFlag",
-        StlFault::Justify => b"refused 18 Justify",
-        StlFault::Row => b"refused 19 Row",
-        StlFault::Time => b"refused 20 Time",
-        StlFault::EmptyTime => b"refused 21 EmptyTime",
-        StlFault::Sequence => b"refused 22 Sequence",
-        StlFault::TooLong => b"refused 23 TooLong",
-        StlFault::Unfinished => b"refused 24 Unfinished",
-        StlFault::TooManyBlocks => b"refused 25 TooManyBlocks",
-        StlFault::Read => b"fault 26 Read",
-        StlFault::Ended => b"refused 27 Ended",
-    }
-}
-
-/// The status that goes with a fault of a subtitle file that is read.
-pub fn stl_status(fault: StlFault) -> Status
-    ensures { result ≡ stl_status fault }
-{
-    match fault {
-        StlFault::Read => Status::Fault,
-        _ => Status::Refused,
-    }
-}
-
-/// Appends the line of a fault of a subtitle file, with the TTI block that it names.
-pub fn push_stl_fault<const N: usize>(line: &mut ArrayVec<u8, N>, fault: StlFault, block: u32)
-    requires { array_vec_len line.old + 64 ≤ N }
-    ensures items { line.new.items ≡ line.old.items ++ stl_fault_line fault block }
-    ensures len { array_vec_len line.new ≤ array_vec_len line.old + 64 }
-{
-    push_text(line, stl_fault_text(fault));
-    push_text(line, b" block ");
-    push_decimal(line, u64::from(block));
-    push_text(line, b"\n");
 }
 
 /// Appends two decimal digits.
@@ -216,4 +99,79 @@ pub fn shown(code: u8) -> u8
     } else {
         b'.'
     }
+}
+
+/// Appends the line of what is told of a fault.
+pub fn push_told<const N: usize>(line: &mut ArrayVec<u8, N>, told: &Told)
+    requires few { length told.now.name.now ≤ 16 }
+    requires room { array_vec_len line.old + 128 ≤ N }
+    ensures items { line.new.items ≡ line.old.items ++ line_of (value_of told.now) }
+    ensures len { array_vec_len line.new ≤ array_vec_len line.old + 128 }
+{
+    push_text(line, text_of_kind(told.kind));
+    push_decimal(line, u64::from(told.number));
+    push_text(line, b" ");
+    push_text(line, told.name.as_bytes());
+    push_place(line, told.place);
+    push_text(line, b"\n");
+}
+
+// What the line begins with.
+fn text_of_kind(kind: Kind) -> &'static [u8]
+    ensures value { result.now ≡ kind_text kind }
+    ensures len { length result.now ≤ 8 }
+{
+    match kind {
+        Kind::Refused => b"refused ",
+        Kind::Fault => b"fault ",
+        Kind::Usage => b"usage ",
+    }
+}
+
+// Appends the place of a fault.
+fn push_place<const N: usize>(line: &mut ArrayVec<u8, N>, place: Place)
+    requires { array_vec_len line.old + 80 ≤ N }
+    ensures items { line.new.items ≡ line.old.items ++ place_text place }
+    ensures len { array_vec_len line.new ≤ array_vec_len line.old + 80 }
+{
+    match place {
+        Place::Nowhere => (),
+        Place::Pes { pes } => push_number(line, b" pes ", pes),
+        Place::Block { block } => push_number(line, b" block ", block),
+        Place::Text { block, at } => {
+            push_number(line, b" block ", block);
+            push_number(line, b" at ", u32::from(at));
+        }
+        Place::Frame { frame } => push_frame(line, frame),
+        Place::Packet { frame, packet } => {
+            push_frame(line, frame);
+            push_number(line, b" packet ", packet);
+        }
+        Place::Cell { frame, row, column } => {
+            push_frame(line, frame);
+            push_number(line, b" row ", u32::from(row));
+            push_number(line, b" column ", u32::from(column));
+        }
+    }
+}
+
+// Appends a number after the word for it.
+fn push_number<const N: usize>(line: &mut ArrayVec<u8, N>, word: &[u8], number: u32)
+    requires few { length word.now ≤ 8 }
+    requires room { array_vec_len line.old + 28 ≤ N }
+    ensures items { line.new.items ≡ line.old.items ++ word.now ++ decimal number }
+    ensures len { array_vec_len line.new ≤ array_vec_len line.old + 28 }
+{
+    push_text(line, word);
+    push_decimal(line, u64::from(number));
+}
+
+// Appends a frame of the day.
+fn push_frame<const N: usize>(line: &mut ArrayVec<u8, N>, frame: u32)
+    requires { array_vec_len line.old + 18 ≤ N }
+    ensures items { line.new.items ≡ line.old.items ++ frame_text frame }
+    ensures len { array_vec_len line.new ≡ array_vec_len line.old + 18 }
+{
+    push_text(line, b" frame ");
+    push_time(line, TimeCode::of_frame(frame % FRAMES_OF_DAY));
 }

@@ -1,4 +1,6 @@
 //! What the program is asked for, and why it can't be asked so.
+ghost use Rattle.std.specs.Prelude.{◌≡◌, ◌≤◌, length};
+
 use crate::listening::Listening;
 use stl_rows::National;
 use sub_plan::Options;
@@ -51,6 +53,49 @@ pub enum UsageFault {
     /// 90: a file can't be opened or created. `Request::parse` never answers it.
     #[error("a file can't be opened")]
     Open,
+}
+
+impl UsageFault {
+    ghost use Rattle.sub_answer.specs.Faults.{usage_number_and_name};
+
+    /// The number by which the fault is told (own).
+    pub fn number(&self) -> u8
+        ensures { result ≡ (usage_number_and_name self.now).0 }
+    {
+        self.number_and_name().0
+    }
+
+    /// The name by which the fault is told (own): at most 16 letters.
+    pub fn name(&self) -> &'static str
+        ensures value { result.now ≡ (usage_number_and_name self.now).1 }
+        ensures len { length result.now ≤ 16 }
+    {
+        self.number_and_name().1
+    }
+
+    // Both.
+    fn number_and_name(&self) -> (u8, &'static str)
+        ensures number { result.0 ≡ (usage_number_and_name self.now).0 }
+        ensures name { result.1.now ≡ (usage_number_and_name self.now).1 }
+        ensures len { length result.1.now ≤ 16 }
+    {
+        match self {
+            UsageFault::Words => (0, "Words"),
+            UsageFault::BadHex => (2, "BadHex"),
+            UsageFault::SameFile => (7, "SameFile"),
+            UsageFault::BadPage => (1, "BadPage"),
+            UsageFault::Every => (80, "Every"),
+            UsageFault::Origin => (81, "Origin"),
+            UsageFault::BadOption => (83, "BadOption"),
+            UsageFault::BadTime => (6, "BadTime"),
+            UsageFault::BadSkip => (8, "BadSkip"),
+            UsageFault::BadFlip => (5, "BadFlip"),
+            UsageFault::BadLose => (84, "BadLose"),
+            UsageFault::BadReceiver => (9, "BadReceiver"),
+            UsageFault::Open => (90, "Open"),
+            UsageFault::Memory => (91, "Memory"),
+        }
+    }
 }
 
 /// What to do: a variant for each command, with the values of its words.

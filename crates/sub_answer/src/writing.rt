@@ -8,7 +8,7 @@ use crate::status::Status;
 use arrayvec::ArrayVec;
 
 /// Room for the line of an end, and more than enough.
-pub type Line = ArrayVec<u8, 96>;
+pub type Line = ArrayVec<u8, 128>;
 
 /// How the work of a command ended, before its line is printed.
 #[derive(Clone, Copy, Debug, PartialEq, Eq)]

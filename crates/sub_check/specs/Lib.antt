@@ -22,3 +22,4 @@ pub mod OnScreen
 pub mod ScreenExamples
 pub mod WrongContent
 pub mod CheckedFiles
+pub mod Fault

@@ -1,4 +1,6 @@
 //! Why a pair of files is refused, and where.
+ghost use Rattle.std.specs.Prelude.{◌≡◌, ◌≤◌, length};
+
 use stl_rows::LoadFault;
 use ttx_pes::PesFault;
 
@@ -108,4 +110,50 @@ pub enum CheckFault {
         /// The last frame.
         frame: u32,
     },
+}
+
+impl CheckFault {
+    ghost use Rattle.sub_check.specs.Fault.{number_and_name};
+
+    /// The number by which the fault is told (own).
+    pub fn number(self) -> u8
+        ensures { result ≡ (number_and_name self).0 }
+    {
+        self.number_and_name().0
+    }
+
+    /// The name by which the fault is told (own): at most 16 letters.
+    pub fn name(self) -> &'static str
+        ensures value { result.now ≡ (number_and_name self).1 }
+        ensures len { length result.now ≤ 16 }
+    {
+        self.number_and_name().1
+    }
+
+    // Both.
+    fn number_and_name(self) -> (u8, &'static str)
+        ensures number { result.0 ≡ (number_and_name self).0 }
+        ensures name { result.1.now ≡ (number_and_name self).1 }
+        ensures len { length result.1.now ≤ 16 }
+    {
+        match self {
+            CheckFault::Subtitles(fault) => (fault.kind.number(), fault.kind.name()),
+            CheckFault::Pes { fault, .. } => (fault.number(), fault.name()),
+            CheckFault::Empty => (60, "Empty"),
+            CheckFault::OffFrame { .. } => (61, "OffFrame"),
+            CheckFault::Order { .. } => (62, "Order"),
+            CheckFault::Early { .. } => (63, "Early"),
+            CheckFault::Address { .. } => (64, "Address"),
+            CheckFault::HeaderCode { .. } => (65, "HeaderCode"),
+            CheckFault::Mode { .. } => (66, "Mode"),
+            CheckFault::Control { .. } => (67, "Control"),
+            CheckFault::Parity { .. } => (68, "Parity"),
+            CheckFault::RowChanged { .. } => (69, "RowChanged"),
+            CheckFault::Enhancement { .. } => (70, "Enhancement"),
+            CheckFault::NoFirstHeader { .. } => (71, "NoFirstHeader"),
+            CheckFault::Content { .. } => (72, "Content"),
+            CheckFault::Gap { .. } => (73, "Gap"),
+            CheckFault::Late { .. } => (74, "Late"),
+        }
+    }
 }

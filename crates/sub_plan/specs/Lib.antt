@@ -5,3 +5,4 @@ pub mod Schedule
 pub mod Steps
 pub mod Laws
 pub mod Examples
+pub mod Fault

@@ -5,3 +5,4 @@ pub mod Reading
 pub mod Reader
 pub mod Writer
 pub mod Laws
+pub mod Fault

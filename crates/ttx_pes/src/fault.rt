@@ -1,5 +1,5 @@
 //! Why a PES packet is not read or not written.
-ghost use Rattle.std.specs.Prelude.{◌≡◌};
+ghost use Rattle.std.specs.Prelude.{◌≡◌, ◌≤◌, length};
 ghost use Rattle.ttx_pes.specs.declared.fault.PesFault.TheVariants.{Read};
 
 use sub_io::Failed;
@@ -38,6 +38,50 @@ pub enum PesFault {
     Ended,
     /// A byte follows 2,160,000 packets, one for each frame of a day (own).
     TooMany,
+}
+
+impl PesFault {
+    ghost use Rattle.ttx_pes.specs.Fault.{number_and_name};
+
+    /// The number by which the fault is told (own).
+    pub fn number(self) -> u8
+        ensures { result ≡ (number_and_name self).0 }
+    {
+        self.number_and_name().0
+    }
+
+    /// The name by which the fault is told (own): at most 16 letters.
+    pub fn name(self) -> &'static str
+        ensures value { result.now ≡ (number_and_name self).1 }
+        ensures len { length result.now ≤ 16 }
+    {
+        self.number_and_name().1
+    }
+
+    // Both.
+    fn number_and_name(self) -> (u8, &'static str)
+        ensures number { result.0 ≡ (number_and_name self).0 }
+        ensures name { result.1.now ≡ (number_and_name self).1 }
+        ensures len { length result.1.now ≤ 16 }
+    {
+        match self {
+            PesFault::Truncated => (30, "Truncated"),
+            PesFault::Start => (31, "Start"),
+            PesFault::Length => (32, "Length"),
+            PesFault::Flags => (33, "Flags"),
+            PesFault::NoTime => (34, "NoTime"),
+            PesFault::HeaderLength => (35, "HeaderLength"),
+            PesFault::Time => (36, "Time"),
+            PesFault::DataId => (37, "DataId"),
+            PesFault::UnitLength => (38, "UnitLength"),
+            PesFault::Framing => (39, "Framing"),
+            PesFault::LineOrder => (40, "LineOrder"),
+            PesFault::Read => (41, "Read"),
+            PesFault::Write => (42, "Write"),
+            PesFault::Ended => (43, "Ended"),
+            PesFault::TooMany => (44, "TooMany"),
+        }
+    }
 }
 
 impl From<Failed> for PesFault {

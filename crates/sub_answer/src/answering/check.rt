@@ -23,7 +23,7 @@ use sub_io::{Sink, Source, put_all};
 use sub_plan::Options;
 
 // Room for the one line of a check.
-type Line = ArrayVec<u8, 96>;
+type Line = ArrayVec<u8, 128>;
 
 /// Checks a PES file against a subtitle file, and prints the one line of the verdict.
 ///

@@ -1,5 +1,5 @@
 //! `listen PES`: runs one receiver over the PES packets of a file.
-ghost use Rattle.std.specs.Prelude.{◌≡◌, ℕ, ◌+◌, ◌*◌, ◌≤◌, ◌<◌, ◌++◌, IfErr, Option};
+ghost use Rattle.std.specs.Prelude.{◌≡◌, ℕ, ◌+◌, ◌*◌, ◌≤◌, ◌<◌, ◌++◌, IfErr, Option, length};
 ghost use Rattle.std.specs.Prelude.{false, if◌then◌else◌, slice_index, true};
 ghost use Rattle.sub_io.specs.Device.{CanFail};
 ghost use Rattle.arrayvec.specs.ArrayVec.{array_vec_len};
@@ -10,29 +10,28 @@ ghost use Rattle.sub_check.specs.PesReading.{ReadsAs};
 ghost use Rattle.sub_check.specs.Transmission.{Transmission};
 ghost use Rattle.sub_answer.specs.Answering.{AnswersListen};
 ghost use Rattle.sub_answer.specs.DeviceCall.{sink_call, source_call};
-ghost use Rattle.sub_answer.specs.Listing.{CountsFault, Prints};
+ghost use Rattle.sub_answer.specs.Listing.{CountsFault, Prints, told_listing};
 ghost use Rattle.sub_answer.specs.ListeningRun.{IsOldPage, Runs, is_source_failure};
 ghost use Rattle.sub_answer.specs.ListeningRun.{is_source_fault};
-ghost use Rattle.sub_answer.specs.ListeningRun.{is_subtitle_fault, listen_fault_line};
-ghost use Rattle.sub_answer.specs.ListeningRun.{listen_status};
-ghost use Rattle.sub_answer.specs.ListeningRun.{lost_header_line};
+ghost use Rattle.sub_answer.specs.ListeningRun.{is_subtitle_fault, listen_told};
+ghost use Rattle.sub_answer.specs.Told.{value_of};
 ghost use Rattle.sub_answer.specs.declared.answering.listen.ListenFault.TheVariants.{File};
 
 use crate::answering::state::print_state;
-use crate::check_lines::{check_status, push_check_fault};
-use crate::lines::{push_decimal, push_text, push_time};
+use crate::faults::told_of_check;
+use crate::lines::push_told;
 use crate::listening::{Listening, ReceiverKind};
 use crate::reception::{first_lost_header, hear_units};
 use crate::status::Status;
+use crate::told::{Kind, Place, Told};
 use arrayvec::ArrayVec;
-use stl_file::TimeCode;
 use sub_check::{CheckFault, next_frame};
 use sub_io::{Sink, Source, put_all};
 use ttx_page::{Blank, Keep, Page, Receiver};
 use ttx_pes::{PesFrame, PesReader};
 
 // Room for the line of a fault.
-type Line = ArrayVec<u8, 96>;
+type Line = ArrayVec<u8, 128>;
 
 /// The PES packets of a file at most: one for each frame of a day.
 const MOST_PACKETS: u32 = 2_160_000;
@@ -44,8 +43,8 @@ pub enum ListenFault {
     File(CheckFault),
     /// 76: a packet that is listed as lost is a page header, or has no address.
     LostHeader {
-        /// The frame.
-        frame: TimeCode,
+        /// The frame of the day.
+        frame: u32,
         /// The packet, counted from 0 among the Teletext units of its PES packet.
         packet: u32,
     },
@@ -172,7 +171,6 @@ fn hear_file<R: Receiver, S: Source>(
         }
         let units = packet.units();
         if let Some(packet) = first_lost_header(listening, number, units) {
-            let frame = TimeCode::of_frame(frame);
             return Err(ListenFault::LostHeader { frame, packet });
         }
         hear_units(receiver, listening, number, units);
@@ -188,49 +186,37 @@ fn print_fault<K: Sink>(fault: &ListenFault, out: &mut K) -> Status
     requires out { CanFail (K.failure_count out.old) }
     requires own { is_subtitle_fault fault.now ≡ false }
     ensures prints { Prints (K.contents out.old) (K.contents out.new)
-        (record { text = listen_fault_line fault.now; status = listen_status fault.now }) result }
+        (told_listing (listen_told fault.now)) result }
     ensures count { CountsFault (K.failure_count out.old) result (K.failure_count out.new) }
     ensures fault { result ≡ Status.Fault → is_source_fault fault.now ≡ false
         → K.failure_count out.old < K.failure_count out.new }
     ensures source { is_source_fault fault.now ≡ true → result ≡ Status.Fault }
 {
+    let told = told_of_listen(fault);
     let mut line = Line::new();
-    push_fault(&mut line, fault);
+    push_told(&mut line, &told);
     match put_all(out, line.as_slice()) {
-        Ok(()) => listen_status(fault),
+        Ok(()) => told.kind.status(),
         Err(_) => Status::Fault,
     }
 }
 
-// The status that goes with a fault.
-fn listen_status(fault: &ListenFault) -> Status
-    ensures { result ≡ listen_status fault.now }
+// What is told of a fault.
+fn told_of_listen(fault: &ListenFault) -> Told
+    ensures value { value_of result ≡ listen_told fault.now }
+    ensures kind { result.kind ≡ (listen_told fault.now).kind }
+    ensures few { length result.name.now ≤ 16 }
 {
     match fault {
-        ListenFault::File(fault) => check_status(*fault),
-        ListenFault::LostHeader { .. } => Status::Refused,
+        ListenFault::File(fault) => told_of_check(*fault),
+        ListenFault::LostHeader { frame, packet } => Told {
+            kind: Kind::Refused,
+            number: 76,
+            name: "LostHeader",
+            place: Place::Packet {
+                frame: *frame,
+                packet: *packet,
+            },
+        },
     }
-}
-
-// Appends the line of a fault.
-fn push_fault(line: &mut Line, fault: &ListenFault)
-    requires { array_vec_len line.old ≡ 0 }
-    ensures items { line.new.items ≡ line.old.items ++ listen_fault_line fault.now }
-{
-    match fault {
-        ListenFault::File(fault) => push_check_fault(line, *fault),
-        ListenFault::LostHeader { frame, packet } => push_lost_header(line, *frame, *packet),
-    }
-}
-
-// Appends the line of a page header that is lost.
-fn push_lost_header(line: &mut Line, frame: TimeCode, packet: u32)
-    requires { array_vec_len line.old ≡ 0 }
-    ensures { line.new.items ≡ line.old.items ++ lost_header_line frame packet }
-{
-    push_text(line, b"refused 76 LostHeader frame ");
-    push_time(line, frame);
-    push_text(line, b" packet ");
-    push_decimal(line, u64::from(packet));
-    push_text(line, b"\n");
 }

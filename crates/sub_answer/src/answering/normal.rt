@@ -1,12 +1,16 @@
 //! `normal IN OUT`: writes the normal form of a subtitle file.
 ghost use Rattle.std.specs.Prelude.{◌≡◌, ◌≢◌, ◌+◌, ◌<◌, ◌≤◌, [], IfErr, IfOk, OnErr, OnOk};
-ghost use Rattle.std.specs.Prelude.{codes, drop, false, if◌then◌else◌, take, true, vec_len};
+ghost use Rattle.std.specs.Prelude.{drop, false, if◌then◌else◌, take, true, vec_len};
 ghost use Rattle.std.specs.Io.KnownBytes.{Appends, Consumes, IsAtEnd, Keeps};
 ghost use Rattle.sub_io.specs.Device.{CanFail, CountsFailure};
 ghost use Rattle.sub_io.specs.Reading.{IfTold};
 ghost use Rattle.stl_file.specs.Fault.{is_write};
 ghost use Rattle.stl_file.specs.NormalForm.{NormalAnswers};
-ghost use Rattle.sub_answer.specs.Lines.{usage_line};
+ghost use Rattle.stl_file.specs.declared.fault.NormalFault.TheVariants.{Write};
+ghost use Rattle.sub_answer.specs.Faults.{normal_told, usage_told};
+ghost use Rattle.sub_answer.specs.Told.{line_of};
+ghost use Rattle.sub_answer.specs.Answering.{EndsWork};
+ghost use Rattle.sub_answer.specs.DeviceCall.{sink_call, source_call};
 ghost use Rattle.sub_answer.specs.Listing.{CountsFault};
 ghost use Rattle.sub_answer.specs.NormalWriting.{HasNormalFaultLine, IsMemoryLine, PrintsReadFault};
 ghost use Rattle.sub_answer.specs.NormalWriting.{TellsRead};
@@ -16,13 +20,15 @@ ghost use Rattle.sub_answer.specs.Writing.{Answers, Works, WritesAllOrNoMemory, 
 ghost use Rattle.sub_answer.specs.Writing.{is_write_end};
 ghost use Rattle.sub_answer.specs.declared.request.UsageFault.TheVariants.{Memory};
 
-use crate::lines::{push_stl_fault, push_text, usage_text};
+use crate::faults::{told_of_normal, told_of_stl, told_of_usage};
+use crate::lines::push_told;
+use crate::printing::print;
 use crate::request::UsageFault;
 use crate::status::Status;
 use crate::writing::{End, Line, push_written};
 use std::alloc::{AllocError, Allocator, Global};
 use stl_file::{NormalFault, StlFault, file_is_what_is_read, normal};
-use sub_io::{Failed, Flush, Sink, Source, put_all};
+use sub_io::{Failed, Flush, Sink, Source};
 
 /// One byte more than the longest subtitle file has: a GSI block and 99,999 TTI blocks. No byte
 /// behind it can change the answer.
@@ -57,6 +63,14 @@ pub fn write_normal<S: Source, F: Flush, K: Sink>(
     requires file { CanFail (F.failure_count file.old) }
     requires out { CanFail (K.failure_count out.old) }
 
+    // How the work ended, and what was printed of it, in every case.
+    ensures work { EndsWork
+        (source_call S.remaining S.failure_count input.old input.new)
+        (sink_call F.contents F.failure_count file.old file.new)
+        (sink_call K.contents K.failure_count out.old out.new) result
+        normal_writing
+        (HasNormalFaultLine (S.remaining input.old) (S.remaining input.new)) }
+
     // The bytes of the input decide what is written and what is printed.
     ensures answer { IfTold (S.remaining input.old) (λ bytes. Answers
         (F.contents file.old) (F.contents file.new) (K.contents out.old) (K.contents out.new)
@@ -84,7 +98,7 @@ pub fn write_normal<S: Source, F: Flush, K: Sink>(
         → S.failure_count input.new ≡ S.failure_count input.old
         → F.failure_count file.new ≡ F.failure_count file.old
         → K.failure_count out.new ≡ K.failure_count out.old
-        → Appends (K.contents out.old) (K.contents out.new) (usage_line Memory) }
+        → Appends (K.contents out.old) (K.contents out.new) (line_of (usage_told Memory)) }
 
     // A failed read is told by the block of the byte that was asked for, and nothing is written.
     ensures read { S.failure_count input.new ≢ S.failure_count input.old
@@ -94,10 +108,7 @@ pub fn write_normal<S: Source, F: Flush, K: Sink>(
 {
     let mut line = Line::new();
     let end = make_normal(alloc, input, file, &mut line);
-    match put_all(out, line.as_slice()) {
-        Ok(()) => end.status(),
-        Err(_) => Status::Fault,
-    }
+    print(line.as_slice(), end.status(), out)
 }
 
 // Writes the normal form, and makes the line.
@@ -124,11 +135,11 @@ fn make_normal<S: Source, F: Flush>(
     match read_input(alloc, input) {
         Ok(bytes) => make_of_bytes(bytes.as_slice(), file, line),
         Err(InputFault::Read { block }) => {
-            push_stl_fault(line, StlFault::Read, block);
+            push_told(line, &told_of_stl(StlFault::Read, block));
             End::ReadFailed
         }
         Err(InputFault::Memory) => {
-            push_text(line, usage_text(&UsageFault::Memory));
+            push_told(line, &told_of_usage(&UsageFault::Memory));
             End::NoMemory
         }
     }
@@ -140,7 +151,7 @@ fn make_of_bytes<F: Flush>(bytes: &[u8], file: &mut F, line: &mut Line) -> End
     requires line { line.old.items ≡ [] }
     ensures works { Works (F.contents file.old) (F.contents file.new) line.new.items
         (normal_writing bytes.now) result }
-    ensures line { result ≡ End.WriteFailed → line.new.items ≡ codes "fault 29 Write\n" }
+    ensures line { result ≡ End.WriteFailed → line.new.items ≡ line_of (normal_told Write) }
     ensures not_read { is_read_end result ≡ false }
     ensures not_memory { result ≢ End.NoMemory }
     ensures file_count { F.failure_count file.new
@@ -153,11 +164,11 @@ fn make_of_bytes<F: Flush>(bytes: &[u8], file: &mut F, line: &mut Line) -> End
             End::Written
         }
         Err(NormalFault::Refused { fault, block }) => {
-            push_stl_fault(line, fault, block);
+            push_told(line, &told_of_stl(fault, block));
             End::Refused
         }
         Err(NormalFault::Write) => {
-            push_text(line, b"fault 29 Write\n");
+            push_told(line, &told_of_normal(NormalFault::Write));
             End::WriteFailed
         }
     }

@@ -8,9 +8,13 @@ ghost use Rattle.sub_answer.specs.Lines.{hex_four, hex_two, marked, page_and_sub
 ghost use Rattle.sub_answer.specs.Lines.{text_line};
 ghost use Rattle.sub_answer.specs.Listing.{CountsFault, Prints, packet_listing};
 ghost use Rattle.sub_answer.specs.Listing.{header_listing, row_listing};
+ghost use Rattle.sub_answer.specs.Told.{told_as, value_of};
+ghost use Rattle.sub_answer.specs.declared.told.Kind.TheVariants as kind;
+ghost use Rattle.sub_answer.specs.declared.told.Place.TheVariants.{Nowhere};
 
-use crate::lines::{push_decimal, push_text, shown};
+use crate::lines::{push_decimal, push_text, push_told, shown};
 use crate::status::Status;
+use crate::told::{Kind, Place, Told};
 use arrayvec::ArrayVec;
 use bitflags::Flags;
 use sub_io::{Sink, put_all};
@@ -47,11 +51,24 @@ fn push_packet(text: &mut Text, packet: &Packet) -> Status
 {
     match packet.address() {
         None => {
-            push_text(text, b"refused 3 BadAddress\n");
+            push_told(text, &refused(3, "BadAddress"));
             Status::Refused
         }
         Some((magazine, 0)) => push_page_header(text, packet, magazine),
         Some((magazine, packet_number)) => push_row(text, packet, magazine, packet_number),
+    }
+}
+
+// A refusal without a place.
+fn refused(number: u8, name: &'static str) -> Told
+    ensures value { value_of result ≡ told_as kind.Refused (number, name.now) Nowhere }
+    ensures name { result.name.now ≡ name.now }
+{
+    Told {
+        kind: Kind::Refused,
+        number,
+        name,
+        place: Place::Nowhere,
     }
 }
 
@@ -62,7 +79,7 @@ fn push_page_header(text: &mut Text, packet: &Packet, magazine: u8) -> Status
     ensures status { result ≡ (header_listing magazine packet.now (header packet.now)).status }
 {
     let Some(header) = packet.header() else {
-        push_text(text, b"refused 4 BadHeader\n");
+        push_told(text, &refused(4, "BadHeader"));
         return Status::Refused;
     };
     push_address(text, magazine, 0);

@@ -11,7 +11,8 @@ ghost use Rattle.sub_answer.specs.FileListing.{PrintsLines, frame_lines, packets
 ghost use Rattle.sub_answer.specs.FileListing.{pes_lines};
 ghost use Rattle.sub_answer.specs.Listing.{CountsFault, Prints, ends_in_fault};
 
-use crate::lines::{pes_status, push_decimal, push_lower_hex, push_pes_fault, push_text};
+use crate::faults::told_of_pes;
+use crate::lines::{push_decimal, push_lower_hex, push_text, push_told};
 use crate::status::Status;
 use arrayvec::ArrayVec;
 use sub_io::{Sink, Source, put_all};
@@ -121,8 +122,9 @@ fn make_next<S: Source>(
             Some(Status::Done)
         }
         Err(fault) => {
-            push_pes_fault(text, fault, index);
-            Some(pes_status(fault))
+            let told = told_of_pes(fault, index);
+            push_told(text, &told);
+            Some(told.kind.status())
         }
     }
 }

@@ -1,26 +1,31 @@
 //! `schedule STL PES`: writes the schedule of a subtitle file.
-ghost use Rattle.std.specs.Prelude.{◌≡◌, ◌≢◌, ◌↔◌, ◌+◌, ◌<◌, [], Err, IfOk, codes, length};
+ghost use Rattle.std.specs.Prelude.{◌≡◌, ◌≢◌, ◌↔◌, ◌+◌, ◌<◌, [], Err, IfOk, length};
 ghost use Rattle.std.specs.Prelude.{false, if◌then◌else◌};
 ghost use Rattle.std.specs.Io.KnownBytes.{Keeps};
 ghost use Rattle.sub_io.specs.Device.{CanFail, Writes};
 ghost use Rattle.sub_io.specs.Reading.{IfTold};
 ghost use Rattle.sub_plan.specs.Schedule.{is_write_failure, plan, plan_frames};
-ghost use Rattle.sub_plan.specs.declared.fault.PlanFault.TheVariants.{NoSubtitles};
+ghost use Rattle.sub_plan.specs.declared.fault.PlanFault.TheVariants.{NoSubtitles, Write};
+ghost use Rattle.sub_answer.specs.Answering.{EndsWork};
+ghost use Rattle.sub_answer.specs.DeviceCall.{sink_call, source_call};
+ghost use Rattle.sub_answer.specs.Faults.{plan_told};
 ghost use Rattle.sub_answer.specs.Listing.{CountsFault};
+ghost use Rattle.sub_answer.specs.Told.{line_of};
 ghost use Rattle.sub_answer.specs.Writing.{Answers, HasScheduleFaultLine, IsMemoryLine};
 ghost use Rattle.sub_answer.specs.Writing.{PrintsMemory};
 ghost use Rattle.sub_answer.specs.Writing.{Works, WritesAllOrNoMemory};
 ghost use Rattle.sub_answer.specs.Writing.{is_read_end, is_write_end, load_end, schedule_of};
 ghost use Rattle.sub_answer.specs.Writing.{schedule_writing};
 
-use crate::lines::push_text;
-use crate::load_lines::push_load_fault;
+use crate::faults::{told_of_load, told_of_plan};
+use crate::lines::push_told;
+use crate::printing::print;
 use crate::status::Status;
 use crate::writing::{End, Line, push_written};
 use std::alloc::Global;
 use stl_file::StlFault;
 use stl_rows::{LoadFault, LoadFaultKind, National, Programme, load};
-use sub_io::{Flush, Sink, Source, put_all};
+use sub_io::{Flush, Sink, Source};
 use sub_plan::{Options, PlanFault, schedule};
 
 /// Writes the schedule of a subtitle file, one PES packet for each sending (EN 300 472), and prints
@@ -40,6 +45,14 @@ pub fn write_schedule<S: Source, F: Flush, K: Sink>(
     requires stl { CanFail (S.failure_count stl.old) }
     requires file { CanFail (F.failure_count file.old) }
     requires out { CanFail (K.failure_count out.old) }
+
+    // How the work ended, and what was printed of it, in every case.
+    ensures work { EndsWork
+        (source_call S.remaining S.failure_count stl.old stl.new)
+        (sink_call F.contents F.failure_count file.old file.new)
+        (sink_call K.contents K.failure_count out.old out.new) result
+        (schedule_writing national options.now serial)
+        (HasScheduleFaultLine national (S.remaining stl.old)) }
 
     // The bytes of the subtitle file decide what is written and what is printed.
     ensures answer { IfTold (S.remaining stl.old) (λ bytes. Answers
@@ -71,10 +84,7 @@ pub fn write_schedule<S: Source, F: Flush, K: Sink>(
 {
     let mut line = Line::new();
     let end = make_schedule(alloc, stl, national, options, serial, file, &mut line);
-    match put_all(out, line.as_slice()) {
-        Ok(()) => end.status(),
-        Err(_) => Status::Fault,
-    }
+    print(line.as_slice(), end.status(), out)
 }
 
 // Writes the schedule, and makes the line.
@@ -103,7 +113,7 @@ fn make_schedule<S: Source, F: Flush>(
     match load(alloc, stl, national) {
         Ok(programme) => make_of_programme(&programme, options, serial, file, line),
         Err(fault) => {
-            push_load_fault(line, fault);
+            push_told(line, &told_of_load(fault));
             load_end(fault)
         }
     }
@@ -132,7 +142,7 @@ fn make_of_programme<F: Flush>(
     requires line { line.old.items ≡ [] }
     ensures works { Works (F.contents file.old) (F.contents file.new) line.new.items
         (schedule_of programme.now.records programme.now options.now serial) result }
-    ensures line { result ≡ End.WriteFailed → line.new.items ≡ codes "fault 42 Write\n" }
+    ensures line { result ≡ End.WriteFailed → line.new.items ≡ line_of (plan_told Write) }
     ensures not_read { is_read_end result ≡ false }
     ensures not_memory { result ≢ End.NoMemory }
     ensures file_count { F.failure_count file.new
@@ -144,11 +154,11 @@ fn make_of_programme<F: Flush>(
             End::Written
         }
         Err(PlanFault::NoSubtitles) => {
-            push_text(line, b"refused 82 NoSubtitles\n");
+            push_told(line, &told_of_plan(PlanFault::NoSubtitles));
             End::Refused
         }
         Err(PlanFault::Write) => {
-            push_text(line, b"fault 42 Write\n");
+            push_told(line, &told_of_plan(PlanFault::Write));
             End::WriteFailed
         }
     }

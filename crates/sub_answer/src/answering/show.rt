@@ -15,9 +15,8 @@ ghost use Rattle.sub_answer.specs.FileListing.{subtitles_from};
 ghost use Rattle.sub_answer.specs.Lines.{subtitle_line};
 ghost use Rattle.sub_answer.specs.Listing.{CountsFault, Prints, ends_in_fault};
 
-use crate::lines::{
-    push_decimal, push_stl_fault, push_text, push_text_digits, push_time, stl_status,
-};
+use crate::faults::told_of_stl;
+use crate::lines::{push_decimal, push_text, push_text_digits, push_time, push_told};
 use crate::status::Status;
 use arrayvec::ArrayVec;
 use stl_file::{StlReader, Subtitle};
@@ -51,10 +50,11 @@ pub fn list_subtitles<S: Source, K: Sink>(first: &mut S, out: &mut K) -> Status
     match StlReader::open(first) {
         Ok(reader) => list_behind(reader, first, out),
         Err(fault) => {
+            let told = told_of_stl(fault, 0);
             let mut text = Text::new();
-            push_stl_fault(&mut text, fault, 0);
+            push_told(&mut text, &told);
             match put_all(out, text.as_slice()) {
-                Ok(()) => stl_status(fault),
+                Ok(()) => told.kind.status(),
                 Err(_) => Status::Fault,
             }
         }
@@ -159,8 +159,9 @@ fn make_next<S: Source>(
             Some(Status::Done)
         }
         Err(fault) => {
-            push_stl_fault(text, fault, reader.block());
-            Some(stl_status(fault))
+            let told = told_of_stl(fault, reader.block());
+            push_told(text, &told);
+            Some(told.kind.status())
         }
     }
 }

@@ -3,12 +3,14 @@ use Rattle.sub_answer.proofs.answering.answer.Goals as goal
 
 pub returns-in-Normal-clause-normal : goal.returns-in-Normal-clause-normal
 returns-in-Normal-clause-normal g c = rw c.in-Normal.is (record {
+  work = c.write_normal.ensures.work;
   answer = c.write_normal.ensures.answer;
   fault = c.write_normal.ensures.fault;
 })
 
 pub returns-in-Schedule-clause-schedule : goal.returns-in-Schedule-clause-schedule
 returns-in-Schedule-clause-schedule g c = rw c.in-Schedule.is (record {
+  work = c.write_schedule.ensures.work;
   answer = c.write_schedule.ensures.answer;
   fault = c.write_schedule.ensures.fault;
 })

@@ -1,5 +1,5 @@
 -- Each way out of the loop tells what the file is; by ListeningRunLemmas.
-use Rattle.std.proofs.Common.{◌+◌, ◌≤◌, ◌∙◌, List, Option, Result, ℕ, Err, Ok, ap, arith, length}
+use Rattle.std.proofs.Common.{◌+◌, ◌≤◌, ◌∙◌, List, Option, Result, ℕ, Ok, ap, arith, length}
 use Rattle.std.proofs.Common.{refl, subst, sym}
 use Rattle.std.proofs.lemmas.Result.{err_from_is_err_and}
 use Rattle.ttx_packet.specs.PageId.{PageIdValue}
@@ -7,9 +7,7 @@ use Rattle.ttx_page.specs.Receiver.{Hears}
 use Rattle.ttx_pes.specs.DataUnit.{UnitValue}
 use Rattle.sub_check.specs.PacketRules.{packets_of_units}
 use Rattle.sub_check.specs.declared.fault.CheckFault.{CheckFault}
-use Rattle.sub_answer.specs.ListeningRun.{Runs}
 use Rattle.sub_answer.specs.Reception.{as_received, first_lost_header, reception_of}
-use Rattle.sub_answer.specs.declared.answering.listen.ListenFault.TheVariants as fault
 use Rattle.sub_answer.proofs.ListeningRunLemmas.{Reaches, ends_at_end, ends_late, ends_lost}
 use Rattle.sub_answer.proofs.ListeningRunLemmas.{ends_order}
 use Rattle.sub_answer.proofs.ListeningRunLemmas.{ends_unread, reaches_next}
@@ -56,17 +54,14 @@ returns-in-Some-first_lost_header-clause-exact g c = λ frames unread bytes told
     let in_time = c.if-frame-listening.false in
     let packet = c.in-Some-first_lost_header.packet in
     let l = c.args.listening.now in
-    subst (λ (f : ℕ). Runs l frames unread (g.R.Receiver.tuned_to c.args.receiver.now)
-    (g.R.Receiver.state c.args.receiver.now) (g.R.Receiver.state c.loop-index.receiver)
-    (Err (fault.LostHeader f packet))) (sym c.of_frame-frame.ensures)
-    (ends_lost l frames unread _ _ c.loop-index.index _ _ _ _ i
+    ends_lost l frames unread _ _ c.loop-index.index _ _ _ _ i
     c.next_frame.new.packet c.in-Some.frame
     (rw c.in-Some.is at (c.in_ok-next.ensures.exact i.rest i.rest_is refl)) packet
     (omega (arith, rises)) (omega (arith, in_time))
     (ap (λ (us : List UnitValue). first_lost_header (reception_of l) c.loop-index.number
     (packets_of_units us)) (sym c.units-units.ensures.value)
     ∙ sym c.first_lost_header.ensures
-    ∙ c.in-Some-first_lost_header.is))
+    ∙ c.in-Some-first_lost_header.is)
 
 pub loop-index-preserved : goal.loop-index-preserved
 loop-index-preserved g c =

@@ -1,6 +1,6 @@
 -- The line of a fault of loading: fault_line-loading.
 use Rattle.std.proofs.Common.{List, ℕ, ◌++◌, ap, ◌∙◌}
-use Rattle.sub_answer.specs.LoadLines.{load_fault_line}
+use Rattle.sub_answer.specs.Told.{line_of, value_of}
 use Rattle.sub_answer.proofs.WritingLemmas.{fault_line-loading}
 use Rattle.sub_answer.proofs.answering.schedule.make_schedule.Goals as goal
 
@@ -8,6 +8,7 @@ pub returns-in-Err-clause-line : goal.returns-in-Err-clause-line
 returns-in-Err-clause-line g c =
     fault_line-loading c.args.national _ _ c.in-Err.fault.block c.in-Err.fault.kind _
     c.load_end.ensures
-    (c.push_load_fault.ensures.items
-    ∙ ap (λ (xs : List ℕ). xs ++ load_fault_line c.in-Err.fault) c.requires.line)
+    (c.push_told.ensures.items
+    ∙ ap (λ (xs : List ℕ). xs ++ line_of (value_of c.told_of_load.result)) c.requires.line
+    ∙ ap line_of c.told_of_load.ensures.value)
     c.in-Err.ensures.fault

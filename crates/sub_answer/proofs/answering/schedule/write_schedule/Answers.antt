@@ -1,31 +1,94 @@
--- Where no device but the output fails, all is written, or memory was refused: all-of_work.
-use Rattle.std.proofs.Common.{subst}
-use Rattle.sub_io.specs.Device.{AppendsPrefix}
-use Rattle.sub_io.proofs.DeviceLemmas.{AppendsPrefix-whole}
-use Rattle.sub_answer.specs.Writing.{IsMemoryLine}
-use Rattle.sub_answer.proofs.WritingLemmas.{all-of_work, memory-line}
+-- What was written and printed, by how the work ended.
+use Rattle.std.proofs.Common.{sym}
+use Rattle.sub_answer.specs.Writing.{IsMemoryLine, end_status, is_read_end}
+use Rattle.sub_answer.specs.Writing.{is_write_end}
+use Rattle.sub_answer.proofs.PrintingLemmas.{printed-prefix}
+use Rattle.sub_answer.proofs.WritingLemmas.{all-of_work, answers-of_work, counted, fault-of_read}
+use Rattle.sub_answer.proofs.WritingLemmas.{fault-of_write, line-of_memory, memory-line}
+use Rattle.sub_answer.proofs.WritingLemmas.{memory-printed}
 use Rattle.sub_answer.proofs.answering.schedule.write_schedule.Goals as goal
 
-pub returns-in-Ok-clause-whole : goal.returns-in-Ok-clause-whole
-returns-in-Ok-clause-whole g c = λ bytes e same kept.
+pub returns-clause-work : goal.returns-clause-work
+returns-clause-work g c = record {
+  ending = c.make_schedule-end.result;
+  line = c.make_schedule-end.new.line.items;
+  works = c.make_schedule-end.ensures.works;
+  fault_line = c.make_schedule-end.ensures.line;
+  input_count = c.make_schedule-end.ensures.stl_count;
+  file_count = c.make_schedule-end.ensures.file_count;
+  printed =
+      c.print.ensures.printed
+      (record {
+        text = c.make_schedule-end.new.line.items;
+        status = end_status c.make_schedule-end.result;
+      })
+      (sym c.as_slice.ensures.value) (sym c.status.ensures);
+}
+
+pub returns-clause-answer : goal.returns-clause-answer
+returns-clause-answer g c = λ bytes e.
+    answers-of_work c.make_schedule-end.result _ _ _ _ _ _ c.make_schedule-end.new.line.items _ _
+    (c.make_schedule-end.ensures.works bytes e)
+    (c.print.ensures.printed
+    (record {
+      text = c.make_schedule-end.new.line.items;
+      status = end_status c.make_schedule-end.result;
+    })
+    (sym c.as_slice.ensures.value) (sym c.status.ensures))
+
+pub returns-clause-whole : goal.returns-clause-whole
+returns-clause-whole g c = λ bytes e same kept.
     all-of_work c.make_schedule-end.result _ _ _ _ _ _ _ _ c.make_schedule-end.new.line.items _
     IsMemoryLine
     c.make_schedule-end.ensures.stl_count c.make_schedule-end.ensures.file_count
     (c.make_schedule-end.ensures.works bytes e)
     (memory-line _ _ _ c.make_schedule-end.result c.make_schedule-end.ensures.line)
-    (subst (AppendsPrefix (g.K.Sink.contents c.args.out.now)
-    (g.K.Sink.contents c.put_all.new.sink)) c.as_slice.ensures.value
-    (AppendsPrefix-whole _ _ _ c.in-Ok.ensures.bytes))
+    (printed-prefix _ _ _ _
+    (record {
+      text = c.make_schedule-end.new.line.items;
+      status = end_status c.make_schedule-end.result;
+    }) _
+    (c.print.ensures.printed
+    (record {
+      text = c.make_schedule-end.new.line.items;
+      status = end_status c.make_schedule-end.result;
+    })
+    (sym c.as_slice.ensures.value) (sym c.status.ensures)))
     same kept
 
-pub returns-in-Err-clause-whole : goal.returns-in-Err-clause-whole
-returns-in-Err-clause-whole g c = λ bytes e same kept.
-    all-of_work c.make_schedule-end.result _ _ _ _ _ _ _ _ c.make_schedule-end.new.line.items _
-    IsMemoryLine
+pub returns-clause-stl_count : goal.returns-clause-stl_count
+returns-clause-stl_count g c =
+    counted (is_read_end c.make_schedule-end.result) _ _ _ c.make_schedule-end.ensures.stl_count
+    (fault-of_read c.make_schedule-end.result _ _ _ _ c.make_schedule-end.new.line.items _
+    (c.print.ensures.printed
+    (record {
+      text = c.make_schedule-end.new.line.items;
+      status = end_status c.make_schedule-end.result;
+    })
+    (sym c.as_slice.ensures.value) (sym c.status.ensures)))
+
+pub returns-clause-file_count : goal.returns-clause-file_count
+returns-clause-file_count g c =
+    counted (is_write_end c.make_schedule-end.result) _ _ _ c.make_schedule-end.ensures.file_count
+    (fault-of_write c.make_schedule-end.result _ _ _ _ c.make_schedule-end.new.line.items _
+    (c.print.ensures.printed
+    (record {
+      text = c.make_schedule-end.new.line.items;
+      status = end_status c.make_schedule-end.result;
+    })
+    (sym c.as_slice.ensures.value) (sym c.status.ensures)))
+
+pub returns-clause-fault : goal.returns-clause-fault
+returns-clause-fault g c = λ is same kept out_same.
+    let told =
+    line-of_memory c.make_schedule-end.result _ _ _ _ _ _ _ _ c.make_schedule-end.new.line.items _
     c.make_schedule-end.ensures.stl_count c.make_schedule-end.ensures.file_count
-    (c.make_schedule-end.ensures.works bytes e)
-    (memory-line _ _ _ c.make_schedule-end.result c.make_schedule-end.ensures.line)
-    (subst (AppendsPrefix (g.K.Sink.contents c.args.out.now)
-    (g.K.Sink.contents c.put_all.new.sink)) c.as_slice.ensures.value
-    c.in-Err.ensures.bytes)
-    same kept
+    (c.print.ensures.printed
+    (record {
+      text = c.make_schedule-end.new.line.items;
+      status = end_status c.make_schedule-end.result;
+    })
+    (sym c.as_slice.ensures.value) (sym c.status.ensures))
+    is same kept out_same in
+    memory-printed _ _ _ _ c.make_schedule-end.new.line.items c.make_schedule-end.result
+    c.make_schedule-end.ensures.line told.0 told.1

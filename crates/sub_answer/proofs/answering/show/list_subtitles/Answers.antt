@@ -1,7 +1,8 @@
 -- The GSI block is read, show_listing-opened, or refused: prints-refused, prints-cut.
-use Rattle.std.proofs.Common.{◌≡◌, arith, drop, refl, rules, subst, sym}
+use Rattle.std.proofs.Common.{◌≡◌, ◌∙◌, ap, arith, drop, refl, rules, subst, sym}
 use Rattle.stl_file.specs.Gsi.{gsi_size}
-use Rattle.sub_answer.specs.Lines.{stl_fault_line}
+use Rattle.sub_answer.specs.Faults.{stl_told}
+use Rattle.sub_answer.specs.Told.{line_of, status_of}
 use Rattle.sub_answer.specs.Listing.{Listing, Prints}
 use Rattle.sub_answer.proofs.FileListingLemmas.{is-false, prints-cut, prints-refused}
 use Rattle.sub_answer.proofs.FileListingLemmas.{show_listing-opened}
@@ -19,14 +20,15 @@ returns-in-Ok-clause-prints g c = λ bytes told same.
 
 pub returns-in-Ok-put_all-clause-prints : goal.returns-in-Ok-put_all-clause-prints
 returns-in-Ok-put_all-clause-prints g c = λ bytes told same.
-    let text : c.as_slice.result.now ≡ stl_fault_line c.in-Err.fault 0 = search rules in
-    prints-refused _ _ bytes c.as_slice.result.now c.in-Err.fault c.stl_status.result
+    let text : c.as_slice.result.now ≡ line_of (stl_told c.in-Err.fault 0) = search rules in
+    prints-refused _ _ bytes c.as_slice.result.now c.in-Err.fault c.status.result
     (c.in-Err.ensures.exact bytes told (is-false _ _ _ c.in-Err.ensures.count same)) text
-    c.stl_status.ensures c.in-Ok-put_all.ensures.bytes
+    (c.status.ensures ∙ ap status_of c.told_of_stl-told.ensures.kind)
+    c.in-Ok-put_all.ensures.bytes
 
 pub returns-in-Err-put_all-clause-prints : goal.returns-in-Err-put_all-clause-prints
 returns-in-Err-put_all-clause-prints g c = λ bytes told same.
-    let text : c.as_slice.result.now ≡ stl_fault_line c.in-Err.fault 0 = search rules in
+    let text : c.as_slice.result.now ≡ line_of (stl_told c.in-Err.fault 0) = search rules in
     prints-cut _ _ bytes c.as_slice.result.now c.in-Err.fault
     (c.in-Err.ensures.exact bytes told (is-false _ _ _ c.in-Err.ensures.count same)) text
     c.in-Err-put_all.ensures.bytes

@@ -1,0 +1,132 @@
+-- What is told of each fault: a failed device and want of memory are faults, wrong words are wrong
+-- usage, and all else is refused (own).
+use Rattle.std.specs.Prelude.{ℕ, List, codes}
+use Rattle.stl_file.specs.Fault as stl_number
+use Rattle.stl_file.specs.declared.fault.NormalFault.{NormalFault}
+use Rattle.stl_file.specs.declared.fault.NormalFault.TheVariants as normal
+use Rattle.stl_file.specs.declared.fault.StlFault.{StlFault}
+use Rattle.stl_file.specs.declared.fault.StlFault.TheVariants as stl
+use Rattle.stl_rows.specs.Fault as load_number
+use Rattle.stl_rows.specs.declared.fault.LoadFaultKind.{LoadFaultKind}
+use Rattle.stl_rows.specs.declared.fault.LoadFaultKind.TheVariants as load
+use Rattle.sub_answer.specs.Told.{ToldValue, told_as}
+use Rattle.sub_answer.specs.declared.request.UsageFault.{UsageFault}
+use Rattle.sub_answer.specs.declared.request.UsageFault.TheVariants as usage
+use Rattle.sub_answer.specs.declared.told.Kind.{Kind}
+use Rattle.sub_answer.specs.declared.told.Kind.TheVariants as kind
+use Rattle.sub_answer.specs.declared.told.Place.{Place}
+use Rattle.sub_answer.specs.declared.told.Place.TheVariants as place
+use Rattle.sub_check.specs.Fault as check_number
+use Rattle.sub_check.specs.declared.fault.CheckFault.{CheckFault}
+use Rattle.sub_check.specs.declared.fault.CheckFault.TheVariants as check
+use Rattle.sub_plan.specs.Fault as plan_number
+use Rattle.sub_plan.specs.declared.fault.PlanFault.{PlanFault}
+use Rattle.sub_plan.specs.declared.fault.PlanFault.TheVariants as plan
+use Rattle.ttx_pes.specs.Fault as pes_number
+use Rattle.ttx_pes.specs.declared.fault.PesFault.{PesFault}
+use Rattle.ttx_pes.specs.declared.fault.PesFault.TheVariants as pes
+
+-- ---- a PES file that is read
+
+-- The failure of its device alone is no refusal.
+abbrev pub pes_kind : PesFault → Kind
+pes_kind pes.Read = kind.Fault
+pes_kind _ = kind.Refused
+
+-- A fault of a PES packet, counted from 0.
+abbrev pub pes_told : PesFault → ℕ → ToldValue
+pes_told f index = told_as (pes_kind f) (pes_number.number_and_name f) (place.Pes index)
+
+-- ---- a subtitle file that is read
+
+abbrev pub stl_kind : StlFault → Kind
+stl_kind stl.Read = kind.Fault
+stl_kind _ = kind.Refused
+
+-- A fault at a TTI block.
+abbrev pub stl_told : StlFault → ℕ → ToldValue
+stl_told f block = told_as (stl_kind f) (stl_number.number_and_name f) (place.Block block)
+
+-- A fault of a normal form that is not written: the subtitle file's, or that of the file.
+abbrev pub normal_told : NormalFault → ToldValue
+normal_told (normal.Refused f block) = stl_told f block
+normal_told normal.Write =
+    told_as kind.Fault (stl_number.normal_number_and_name normal.Write) place.Nowhere
+
+-- ---- a programme
+
+abbrev pub load_kind : LoadFaultKind → Kind
+load_kind (load.File f) = stl_kind f
+load_kind load.Memory = kind.Fault
+load_kind _ = kind.Refused
+
+-- A fault of the text names its place in it too.
+abbrev pub load_place : LoadFaultKind → ℕ → Place
+load_place (load.Row f) block = place.Text block f.at
+load_place _ block = place.Block block
+
+-- A fault at a TTI block.
+abbrev pub load_told : LoadFaultKind → ℕ → ToldValue
+load_told f block = told_as (load_kind f) (load_number.number_and_name f) (load_place f block)
+
+-- A fault of its schedule: that there is none, or that of the file.
+abbrev pub plan_told : PlanFault → ToldValue
+plan_told plan.NoSubtitles =
+    told_as kind.Refused (plan_number.number_and_name plan.NoSubtitles) place.Nowhere
+plan_told plan.Write = told_as kind.Fault (plan_number.number_and_name plan.Write) place.Nowhere
+
+-- ---- a pair of files
+
+abbrev pub check_kind : CheckFault → Kind
+check_kind (check.Subtitles f) = load_kind f.kind
+check_kind (check.Pes index f) = pes_kind f
+check_kind _ = kind.Refused
+
+abbrev pub check_place : CheckFault → Place
+check_place (check.Subtitles f) = load_place f.kind f.block
+check_place (check.Pes index f) = place.Pes index
+check_place check.Empty = place.Nowhere
+check_place (check.OffFrame index) = place.Pes index
+check_place (check.Order index) = place.Pes index
+check_place (check.Early frame) = place.Frame frame
+check_place (check.Address frame packet) = place.Packet frame packet
+check_place (check.HeaderCode frame packet) = place.Packet frame packet
+check_place (check.Mode frame packet) = place.Packet frame packet
+check_place (check.Control frame packet) = place.Packet frame packet
+check_place (check.Parity frame packet) = place.Packet frame packet
+check_place (check.RowChanged frame packet) = place.Packet frame packet
+check_place (check.Enhancement frame packet) = place.Packet frame packet
+check_place (check.NoFirstHeader frame) = place.Frame frame
+check_place (check.Content frame row column) = place.Cell frame row column
+check_place (check.Gap frame) = place.Frame frame
+check_place (check.Late frame) = place.Frame frame
+
+abbrev pub check_told : CheckFault → ToldValue
+check_told f = told_as (check_kind f) (check_number.number_and_name f) (check_place f)
+
+-- ---- words
+
+-- The number and the name of a fault of the words, or of the program itself.
+abbrev pub usage_number_and_name : UsageFault → ℕ × List ℕ
+usage_number_and_name usage.Words = (0, codes "Words")
+usage_number_and_name usage.BadHex = (2, codes "BadHex")
+usage_number_and_name usage.SameFile = (7, codes "SameFile")
+usage_number_and_name usage.BadPage = (1, codes "BadPage")
+usage_number_and_name usage.Every = (80, codes "Every")
+usage_number_and_name usage.Origin = (81, codes "Origin")
+usage_number_and_name usage.BadOption = (83, codes "BadOption")
+usage_number_and_name usage.BadTime = (6, codes "BadTime")
+usage_number_and_name usage.BadSkip = (8, codes "BadSkip")
+usage_number_and_name usage.BadFlip = (5, codes "BadFlip")
+usage_number_and_name usage.BadLose = (84, codes "BadLose")
+usage_number_and_name usage.BadReceiver = (9, codes "BadReceiver")
+usage_number_and_name usage.Open = (90, codes "Open")
+usage_number_and_name usage.Memory = (91, codes "Memory")
+
+abbrev pub usage_kind : UsageFault → Kind
+usage_kind usage.Open = kind.Fault
+usage_kind usage.Memory = kind.Fault
+usage_kind _ = kind.Usage
+
+abbrev pub usage_told : UsageFault → ToldValue
+usage_told f = told_as (usage_kind f) (usage_number_and_name f) place.Nowhere

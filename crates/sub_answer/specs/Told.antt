@@ -1,0 +1,59 @@
+-- What is told of a fault, in one line that ends with a newline (own): whether the input is
+-- refused, a device or memory failed, or the words are no request; number and name; the place. The
+-- status follows from it.
+use Rattle.std.specs.Prelude.{ℕ, ◌%◌, List, [], ◌++◌, codes, decimal}
+use Rattle.stl_file.specs.TimeCode.{day}
+use Rattle.sub_answer.specs.Lines.{time_text}
+use Rattle.sub_answer.specs.declared.status.Status.{Status}
+use Rattle.sub_answer.specs.declared.status.Status.TheVariants as status
+use Rattle.sub_answer.specs.declared.told.Kind.{Kind}
+use Rattle.sub_answer.specs.declared.told.Kind.TheVariants as kind
+use Rattle.sub_answer.specs.declared.told.Place.{Place}
+use Rattle.sub_answer.specs.declared.told.Place.TheVariants as place
+use Rattle.sub_answer.specs.declared.told.Told.{Told}
+
+pub record ToldValue : Type 0 where
+  pub kind : Kind
+  pub number : ℕ
+  pub name : List ℕ
+  pub place : Place
+
+-- The same of what the program tells.
+abbrev pub value_of : Told → ToldValue
+value_of t = record { kind = t.kind; number = t.number; name = t.name.now; place = t.place }
+
+-- A fault of this number and name.
+abbrev pub told_as : Kind → ℕ × List ℕ → Place → ToldValue
+told_as k n p = record { kind = k; number = n.0; name = n.1; place = p }
+
+-- What the line begins with.
+abbrev pub kind_text : Kind → List ℕ
+kind_text kind.Refused = codes "refused "
+kind_text kind.Fault = codes "fault "
+kind_text kind.Usage = codes "usage "
+
+-- A frame of the day. Past a day the clock begins anew; no fault of a file names such a frame.
+abbrev pub frame_text : ℕ → List ℕ
+frame_text frame = codes " frame " ++ time_text (frame % day)
+
+-- The place.
+abbrev pub place_text : Place → List ℕ
+place_text place.Nowhere = []
+place_text (place.Pes pes) = codes " pes " ++ decimal pes
+place_text (place.Block block) = codes " block " ++ decimal block
+place_text (place.Text block at) = codes " block " ++ decimal block ++ codes " at " ++ decimal at
+place_text (place.Frame frame) = frame_text frame
+place_text (place.Packet frame packet) = frame_text frame ++ codes " packet " ++ decimal packet
+place_text (place.Cell frame row column) =
+    frame_text frame ++ codes " row " ++ decimal row ++ codes " column " ++ decimal column
+
+-- The line.
+abbrev pub line_of : ToldValue → List ℕ
+line_of t = kind_text t.kind ++ decimal t.number ++ codes " " ++ t.name ++ place_text t.place
+    ++ codes "\n"
+
+-- The status that goes with it.
+abbrev pub status_of : Kind → Status
+status_of kind.Refused = status.Refused
+status_of kind.Fault = status.Fault
+status_of kind.Usage = status.Fault

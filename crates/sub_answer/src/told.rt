@@ -1,0 +1,87 @@
+//! What is told of a fault: one line, from which the status follows.
+ghost use Rattle.std.specs.Prelude.{◌≡◌};
+
+use crate::status::Status;
+
+/// What a line about a fault begins with.
+#[derive(Clone, Copy, Debug, PartialEq, Eq)]
+pub enum Kind {
+    /// The input is refused.
+    Refused,
+    /// A device failed, memory ran out, or a file can't be opened.
+    Fault,
+    /// The words are no request.
+    Usage,
+}
+
+/// Where an input is refused.
+#[derive(Clone, Copy, Debug, PartialEq, Eq)]
+pub enum Place {
+    /// No place is told.
+    Nowhere,
+    /// A PES packet, counted from 0.
+    Pes {
+        /// The PES packet.
+        pes: u32,
+    },
+    /// A TTI block, counted from 1; 0 is the GSI block.
+    Block {
+        /// The block.
+        block: u32,
+    },
+    /// A place in the text of a subtitle: a byte or a line, both counted from 0.
+    Text {
+        /// The subtitle's last TTI block.
+        block: u32,
+        /// The byte or the line.
+        at: u16,
+    },
+    /// A frame of the day.
+    Frame {
+        /// The frame.
+        frame: u32,
+    },
+    /// A packet, counted from 0 among the Teletext units of its PES packet.
+    Packet {
+        /// The frame of the PES packet.
+        frame: u32,
+        /// The packet.
+        packet: u32,
+    },
+    /// A cell of the page at the end of a frame.
+    Cell {
+        /// The frame.
+        frame: u32,
+        /// The row, 1 to 24.
+        row: u8,
+        /// The column, 0 to 39.
+        column: u8,
+    },
+}
+
+/// What is told of a fault.
+#[derive(Clone, Copy, Debug)]
+pub struct Told {
+    /// What the line begins with.
+    pub kind: Kind,
+    /// The number of the fault.
+    pub number: u8,
+    /// The name of the fault.
+    pub name: &'static str,
+    /// Where it is.
+    pub place: Place,
+}
+
+impl Kind {
+    ghost use Rattle.sub_answer.specs.Told.{status_of};
+
+    /// The status that goes with a line.
+    pub fn status(self) -> Status
+        ensures { result ≡ status_of self }
+    {
+        match self {
+            Kind::Refused => Status::Refused,
+            Kind::Fault | Kind::Usage => Status::Fault,
+        }
+    }
+}

@@ -1,0 +1,25 @@
+-- The number and the name by which a fault of a pair of files is told (own).
+use Rattle.std.specs.Prelude.{ℕ, List, codes}
+use Rattle.stl_rows.specs.Fault as load
+use Rattle.sub_check.specs.declared.fault.CheckFault.{CheckFault}
+use Rattle.sub_check.specs.declared.fault.CheckFault.TheVariants as fault
+use Rattle.ttx_pes.specs.Fault as pes
+
+abbrev pub number_and_name : CheckFault → ℕ × List ℕ
+number_and_name (fault.Subtitles f) = load.number_and_name f.kind
+number_and_name (fault.Pes index f) = pes.number_and_name f
+number_and_name fault.Empty = (60, codes "Empty")
+number_and_name (fault.OffFrame pes) = (61, codes "OffFrame")
+number_and_name (fault.Order pes) = (62, codes "Order")
+number_and_name (fault.Early frame) = (63, codes "Early")
+number_and_name (fault.Address frame packet) = (64, codes "Address")
+number_and_name (fault.HeaderCode frame packet) = (65, codes "HeaderCode")
+number_and_name (fault.Mode frame packet) = (66, codes "Mode")
+number_and_name (fault.Control frame packet) = (67, codes "Control")
+number_and_name (fault.Parity frame packet) = (68, codes "Parity")
+number_and_name (fault.RowChanged frame packet) = (69, codes "RowChanged")
+number_and_name (fault.Enhancement frame packet) = (70, codes "Enhancement")
+number_and_name (fault.NoFirstHeader frame) = (71, codes "NoFirstHeader")
+number_and_name (fault.Content frame row column) = (72, codes "Content")
+number_and_name (fault.Gap frame) = (73, codes "Gap")
+number_and_name (fault.Late frame) = (74, codes "Late")
