@@ -6,20 +6,24 @@ import re
 
 TOP = os.path.dirname(os.path.dirname(os.path.dirname(os.path.realpath(__file__))))
 MANUAL = os.path.join(TOP, "docs", "MANUAL.md")
+CHAPTER = "## Refusals"
 
 Meaning = collections.namedtuple("Meaning", "name means do")
 
 
 def meanings():
     """By number; empty where the manual does not stand beside tools/."""
-    found = {}
+    found, last, is_there = {}, "", False
     if not os.path.isfile(MANUAL):
         return found
     with open(MANUAL, encoding="utf-8") as file:
         for line in file:
             cells = [cell.strip() for cell in line.strip().strip("|").split("|")]
-            if line.startswith("|") and len(cells) >= 4 and cells[0].isdecimal():
-                found[int(cells[0])] = Meaning(cells[1], cells[-2], cells[-1])
+            is_there = is_there or line.startswith(CHAPTER)
+            if is_there and len(cells) >= 4 and cells[0].isdecimal():
+                last = cells[-1].replace("the same", last) if cells[-1].startswith("the same") \
+                    else cells[-1]
+                found[int(cells[0])] = Meaning(cells[1], cells[-2], last)
     return found
 
 
