@@ -108,15 +108,14 @@ class Program:
     def run(self, *words):
         """Runs a command; answers its lines and its last one as a verdict."""
         try:
+            # The program says nothing on standard error; the script that builds it does.
             done = subprocess.run(self.command(*words), stdin=subprocess.DEVNULL, check=False,
-                                  stdout=subprocess.PIPE, stderr=subprocess.PIPE)
+                                  stdout=subprocess.PIPE)
         except (OSError, ValueError) as error:
             raise NoReport(f"{self.path} can't be run: {error}") from None
         lines = done.stdout.decode("utf-8", "replace").splitlines()
         if not lines or done.returncode not in (0, 1, 2):
-            told = done.stderr.decode("utf-8", "replace").strip().splitlines()[-1:]
-            why = told[0] if told else "it printed nothing"
-            raise NoReport(f"{self.path} {words[0]}: status {done.returncode}, {why}")
+            raise NoReport(f"{self.path} {words[0]}: status {done.returncode}, no answer")
         return lines, verdict_of(lines[-1], done.returncode)
 
     def answered(self, *words):

@@ -10,7 +10,8 @@ UNITS = [(250, "ten seconds", 25), (MINUTE, "a minute", 250), (10 * MINUTE, "ten
          (60 * MINUTE, "an hour", 5 * MINUTE)]
 MOST_STRIPS = 24
 LEFT, RIGHT = 92, 1192  # where the time begins and ends on a strip of 1200 units
-CLOSE = 3  # sendings that are nearer than that are drawn as one block
+# Sendings that are nearer than that are drawn as one block: on up to 300 strips of minutes, on more.
+CLOSE, CLOSE_ON_MANY, MANY_STRIPS = 3, 8, 300
 # The look of a subtitle that is held as it is due, and of another: its class, its top, its height.
 BARS = [("bar", 6, 16), ("odd", 3, 22)]
 NARROW = 5  # a subtitle that is narrower than that is no link of its own
@@ -30,6 +31,7 @@ class Timeline:
         self.firsts = [subtitle.first for subtitle in subtitles]
         self.unit, self.called, self.step = next(
             (unit for unit in UNITS if len(self.used(unit[0])) <= MOST_STRIPS), UNITS[-1])
+        self.close = CLOSE if len(self.used(MINUTE)) <= MANY_STRIPS else CLOSE_ON_MANY
 
     def used(self, unit):
         """The numbers of the strips of that length with something on them."""
@@ -124,19 +126,17 @@ class Timeline:
         runs = []
         for frame in self.sendings[first:end]:
             at = x(frame)
-            if runs and at - runs[-1][1] < CLOSE:
+            if runs and at - runs[-1][1] < self.close:
                 runs[-1][1] = at
-                runs[-1][2] += 1
             else:
-                runs.append([at, at, 1])
-        lines = "".join(f"M{at:g} 28v10" for at, _, count in runs if count == 1)
+                runs.append([at, at])
+        lines = "".join(f"M{left:g} 28v10" for left, right in runs if left == right)
         if lines:
             yield f'<path class="tick" d="{lines}"/>'
-        for left, right, count in runs:
-            if count > 1:
-                wide = right - left + 1
-                yield (f'<rect class="many" x="{left - 0.5:g}" y="28" width="{wide:.4g}" '
-                       f'height="10"><title>{count} sendings</title></rect>')
+        blocks = "".join(f"M{left:g} 28h{right - left:.3g}v10H{left:g}z"
+                         for left, right in runs if left < right)
+        if blocks:
+            yield f'<path class="many" d="{blocks}"/>'
 
     def mark(self, at):
         """The flag of the broken place; its words on the side that has room."""
