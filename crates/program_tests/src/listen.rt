@@ -3,7 +3,7 @@ ghost use Rattle.std.specs.Prelude.{◌<◌};
 ghost use Rattle.sub_io.specs.Device.{CanFail};
 
 use crate::answers::answer_of;
-use crate::check::makers::{options, schedule_of_hi};
+use crate::check::makers::{TEN, first_packets, options, push_pes, schedule_of_hi};
 use std::alloc::Global;
 use std::process::Abort;
 use std::test::Fail;
@@ -189,6 +189,31 @@ fn shows_a_space_where_a_byte_was_hit(rt: HostRuntime) -> Result<(), Fail> {
                 }
             }
         }
+    }
+    Ok(())
+}
+
+// A row comes twice, and a bit of its second packet is received wrong: the cell is as it was, or a
+// space.
+#[test]
+fn keeps_or_blanks_a_cell_as_it_was_asked(rt: HostRuntime) -> Result<(), Fail> {
+    let alloc = rt.alloc();
+    let sent = first_packets(alloc, schedule_of_hi(alloc, 250)?.as_slice())?;
+    let header = sent.get(0).ok_or("a header")?;
+    let row = sent.get(1).ok_or("a row")?;
+    let mut pes = Vec::new(alloc);
+    push_pes(&mut pes, TEN, &[*header, *row, *row])?;
+    let flip = Flip {
+        packet: 2,
+        byte: 21,
+        bit: 1,
+    };
+    let opened = "heard yes\nopen yes\nrow 22 |                ...Hi..                 |\n";
+    let hit = "heard yes\nopen yes\nrow 22 |                ... i..                 |\n";
+    for (receiver, want) in [(ReceiverKind::Keep, opened), (ReceiverKind::Blank, hit)] {
+        let request = with_flip(alloc, flip, receiver)?;
+        let mut source = MemSource::new(pes.as_slice());
+        assert_hears(&rt, &mut source, &request, want.as_bytes());
     }
     Ok(())
 }

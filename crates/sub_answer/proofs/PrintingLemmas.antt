@@ -1,5 +1,5 @@
 -- What is known of a listing that was printed, or of which a sink that failed has a prefix.
-use Rattle.std.proofs.Common.{◌≡◌, ◌∙◌, ℕ, List, Option, arith, inl, inr}
+use Rattle.std.proofs.Common.{◌≡◌, ◌≢◌, ◌∙◌, ℕ, ◌+◌, List, Option, arith, inl, inr, sym}
 use Rattle.std.specs.Io.KnownBytes.{Appends}
 use Rattle.sub_io.specs.Device.{AppendsPrefix}
 use Rattle.sub_io.proofs.DeviceLemmas.{AppendsPrefix-whole}
@@ -30,3 +30,12 @@ pub printed-fault : (n n' : ℕ) (old new : Option (List ℕ)) (listing : Listin
     → status ≡ Fault
 printed-fault n n' old new listing status (inl p) is = p.2 ∙ is
 printed-fault n n' old new listing status (inr p) is = p.2
+
+-- The sink failed where the status is `Fault` and the listing's own is not.
+pub printed-failed : (n n' : ℕ) (old new : Option (List ℕ)) (listing : Listing) (status : Status)
+    → PrintsOrFails n old n' new listing status
+    → status ≡ Fault
+    → listing.status ≢ Fault
+    → n' ≡ n + 1
+printed-failed n n' old new listing status (inl p) is other = absurd (other (sym p.2 ∙ is))
+printed-failed n n' old new listing status (inr p) is other = p.0

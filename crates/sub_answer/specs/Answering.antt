@@ -210,4 +210,4 @@ AnswersListen listening pes out status =
     → pes.new_count ≡ pes.old_count
     → (listing : Listing)
     × Listens listening frames unread listing
-    × Prints out.old out.new listing status)
+    × PrintsOrFails out.old_count out.old out.new_count out.new listing status)

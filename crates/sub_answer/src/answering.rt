@@ -29,7 +29,7 @@ ghost use Rattle.sub_answer.specs.Answering.{ForCheck, ForListen, ForNormal, For
 ghost use Rattle.sub_answer.specs.Answering.{ForSchedule, ForShow, takes_memory};
 ghost use Rattle.sub_answer.specs.DeviceCall.{sink_call, source_call};
 ghost use Rattle.sub_answer.specs.Faults.{usage_told};
-ghost use Rattle.sub_answer.specs.Listing.{CountsFault, Prints, packet_listing};
+ghost use Rattle.sub_answer.specs.Listing.{CountsFault, PrintsOrFails, packet_listing};
 ghost use Rattle.sub_answer.specs.Told.{line_of};
 ghost use Rattle.sub_answer.specs.NamedDevices.{names_file, names_first, names_second};
 
@@ -70,7 +70,8 @@ pub fn answer<S: Source, T: Source, F: Flush, K: Sink>(
 
     // `packet` prints the text of the 42 bytes, and reads no device.
     ensures packet { ForPacket request.now (λ bytes.
-        Prints (K.contents out.old) (K.contents out.new) (packet_listing bytes) result) }
+        PrintsOrFails (K.failure_count out.old) (K.contents out.old)
+        (K.failure_count out.new) (K.contents out.new) (packet_listing bytes) result) }
 
     // `packets` and `show` print what the bytes of their file decide.
     ensures packets { ForPackets request.now (AnswersPackets

@@ -1,25 +1,57 @@
 //! The files that a request names: what is read, and what is written.
-ghost use Rattle.std.specs.Prelude.{◌≡◌};
+//!
+//! The two have types of their own, which are made here alone: so a file that is to be read can't
+//! be taken for the one that is written.
+ghost use Rattle.std.specs.Prelude.{◌≡◌, ℕ, List};
 
 use crate::request::Request;
+use std::marker::Model;
 
-/// The name of a file that is read.
-#[derive(Clone, Copy, Debug, PartialEq, Eq)]
+/// The name of a file that is read. Contracts see it as the name.
+#[derive(Drop)]
 pub struct Input<'a> {
-    /// The name.
-    pub name: &'a str,
+    name: &'a str,
 }
 
-/// The name of a file that is written.
-#[derive(Clone, Copy, Debug, PartialEq, Eq)]
+impl<'a> Model for Input<'a> {
+    ghost Value = { List ℕ };
+
+    ghost view = { λ f. f.name.now };
+}
+
+impl<'a> Input<'a> {
+    /// The name.
+    pub fn name(&self) -> &'a str
+        ensures { result.now ≡ self.now }
+    {
+        self.name
+    }
+}
+
+/// The name of a file that is written. Contracts see it as the name.
+#[derive(Drop)]
 pub struct Output<'a> {
-    /// The name.
-    pub name: &'a str,
+    name: &'a str,
 }
 
-/// The files of a request, in the order of its words.
-#[derive(Clone, Copy, Debug, PartialEq, Eq)]
-pub enum Files<'a> {
+impl<'a> Model for Output<'a> {
+    ghost Value = { List ℕ };
+
+    ghost view = { λ f. f.name.now };
+}
+
+impl<'a> Output<'a> {
+    /// The name.
+    pub fn name(&self) -> &'a str
+        ensures { result.now ≡ self.now }
+    {
+        self.name
+    }
+}
+
+/// The names of the files of a request, in the order of its words.
+#[derive(Drop)]
+pub enum FileNames<'a> {
     /// None.
     None,
     /// One is read.
@@ -34,23 +66,23 @@ impl<'a> Request<'a> {
     ghost use Rattle.sub_answer.specs.Files.{files_of};
 
     /// The files that the request names.
-    pub fn files(&self) -> Files<'a>
+    pub fn files(&self) -> FileNames<'a>
         ensures { result ≡ files_of self.now }
     {
         match self {
-            Request::Packet { .. } => Files::None,
-            Request::Packets { pes } => Files::Read(Input { name: pes }),
-            Request::Show { stl } => Files::Read(Input { name: stl }),
+            Request::Packet { .. } => FileNames::None,
+            Request::Packets { pes } => FileNames::Read(Input { name: pes }),
+            Request::Show { stl } => FileNames::Read(Input { name: stl }),
             Request::Normal { input, output } => {
-                Files::Write(Input { name: input }, Output { name: output })
+                FileNames::Write(Input { name: input }, Output { name: output })
             }
             Request::Schedule { stl, pes, .. } => {
-                Files::Write(Input { name: stl }, Output { name: pes })
+                FileNames::Write(Input { name: stl }, Output { name: pes })
             }
             Request::Check { stl, pes, .. } => {
-                Files::ReadBoth(Input { name: stl }, Input { name: pes })
+                FileNames::ReadBoth(Input { name: stl }, Input { name: pes })
             }
-            Request::Listen { pes, .. } => Files::Read(Input { name: pes }),
+            Request::Listen { pes, .. } => FileNames::Read(Input { name: pes }),
         }
     }
 }

@@ -25,7 +25,7 @@ mod writing;
 
 pub use answering::normal::{InputFault, read_input};
 pub use answering::{answer, say};
-pub use files::{Files, Input, Output};
+pub use files::{FileNames, Input, Output};
 pub use listening::{Flip, Listening, ReceiverKind};
 pub use request::{Request, UsageFault};
 pub use status::Status;

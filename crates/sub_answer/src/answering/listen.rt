@@ -10,7 +10,7 @@ ghost use Rattle.sub_check.specs.PesReading.{ReadsAs};
 ghost use Rattle.sub_check.specs.Transmission.{Transmission};
 ghost use Rattle.sub_answer.specs.Answering.{AnswersListen};
 ghost use Rattle.sub_answer.specs.DeviceCall.{sink_call, source_call};
-ghost use Rattle.sub_answer.specs.Listing.{CountsFault, Prints, told_listing};
+ghost use Rattle.sub_answer.specs.Listing.{CountsFault, PrintsOrFails, told_listing};
 ghost use Rattle.sub_answer.specs.ListeningRun.{IsOldPage, Runs, is_source_failure};
 ghost use Rattle.sub_answer.specs.ListeningRun.{is_source_fault};
 ghost use Rattle.sub_answer.specs.ListeningRun.{is_subtitle_fault, listen_told};
@@ -21,12 +21,13 @@ use crate::answering::state::print_state;
 use crate::faults::told_of_check;
 use crate::lines::push_told;
 use crate::listening::{Listening, ReceiverKind};
+use crate::printing::print;
 use crate::reception::{first_lost_header, hear_units};
 use crate::status::Status;
 use crate::told::{Kind, Place, Told};
 use arrayvec::ArrayVec;
 use sub_check::{CheckFault, next_frame};
-use sub_io::{Sink, Source, put_all};
+use sub_io::{Sink, Source};
 use ttx_page::{Blank, Keep, Page, Receiver};
 use ttx_pes::{PesFrame, PesReader};
 
@@ -185,7 +186,8 @@ fn hear_file<R: Receiver, S: Source>(
 fn print_fault<K: Sink>(fault: &ListenFault, out: &mut K) -> Status
     requires out { CanFail (K.failure_count out.old) }
     requires own { is_subtitle_fault fault.now ≡ false }
-    ensures prints { Prints (K.contents out.old) (K.contents out.new)
+    ensures printed { PrintsOrFails (K.failure_count out.old) (K.contents out.old)
+        (K.failure_count out.new) (K.contents out.new)
         (told_listing (listen_told fault.now)) result }
     ensures count { CountsFault (K.failure_count out.old) result (K.failure_count out.new) }
     ensures fault { result ≡ Status.Fault → is_source_fault fault.now ≡ false
@@ -195,10 +197,7 @@ fn print_fault<K: Sink>(fault: &ListenFault, out: &mut K) -> Status
     let told = told_of_listen(fault);
     let mut line = Line::new();
     push_told(&mut line, &told);
-    match put_all(out, line.as_slice()) {
-        Ok(()) => told.kind.status(),
-        Err(_) => Status::Fault,
-    }
+    print(line.as_slice(), told.kind.status(), out)
 }
 
 // What is told of a fault.

@@ -1,23 +1,24 @@
 //! `packet HEX`: shows one packet.
-ghost use Rattle.std.specs.Prelude.{◌≡◌, ◌+◌, ◌≤◌, ◌<◌, [], ◌++◌, length, map};
+ghost use Rattle.std.specs.Prelude.{◌≡◌, ◌≢◌, ◌+◌, ◌≤◌, ◌<◌, [], ◌++◌, length, map};
 ghost use Rattle.sub_io.specs.Device.{CanFail};
 ghost use Rattle.arrayvec.specs.ArrayVec.{array_vec_len};
 ghost use Rattle.ttx_packet.specs.PageHeader.{header};
 ghost use Rattle.sub_answer.specs.Lines.{address_line, control_list, control_names, header_line};
 ghost use Rattle.sub_answer.specs.Lines.{hex_four, hex_two, marked, page_and_subcode, text_glyph};
 ghost use Rattle.sub_answer.specs.Lines.{text_line};
-ghost use Rattle.sub_answer.specs.Listing.{CountsFault, Prints, packet_listing};
+ghost use Rattle.sub_answer.specs.Listing.{CountsFault, PrintsOrFails, packet_listing};
 ghost use Rattle.sub_answer.specs.Listing.{header_listing, row_listing};
 ghost use Rattle.sub_answer.specs.Told.{told_as, value_of};
 ghost use Rattle.sub_answer.specs.declared.told.Kind.TheVariants as kind;
 ghost use Rattle.sub_answer.specs.declared.told.Place.TheVariants.{Nowhere};
 
 use crate::lines::{push_decimal, push_text, push_told, shown};
+use crate::printing::print;
 use crate::status::Status;
 use crate::told::{Kind, Place, Told};
 use arrayvec::ArrayVec;
 use bitflags::Flags;
-use sub_io::{Sink, put_all};
+use sub_io::Sink;
 use ttx_packet::{Control, Header, Packet, is_odd};
 
 // Room for all that is printed of one packet, 128 bytes at most.
@@ -30,17 +31,14 @@ const HEX_DIGITS: [u8; 16] = *b"0123456789ABCDEF";
 /// Refuses a packet that has no address, or whose header means nothing.
 pub fn show_packet<K: Sink>(bytes: &[u8; 42], out: &mut K) -> Status
     requires { CanFail (K.failure_count out.old) }
-    ensures text { Prints (K.contents out.old) (K.contents out.new)
-        (packet_listing bytes.now) result }
+    ensures printed { PrintsOrFails (K.failure_count out.old) (K.contents out.old)
+        (K.failure_count out.new) (K.contents out.new) (packet_listing bytes.now) result }
     ensures count { CountsFault (K.failure_count out.old) result (K.failure_count out.new) }
     ensures fault { result ≡ Status.Fault → K.failure_count out.new ≡ K.failure_count out.old + 1 }
 {
     let mut text = Text::new();
     let status = push_packet(&mut text, &Packet::new(*bytes));
-    match put_all(out, text.as_slice()) {
-        Ok(()) => status,
-        Err(_) => Status::Fault,
-    }
+    print(text.as_slice(), status, out)
 }
 
 // Appends what is printed of a packet, and gives the status that goes with it.
@@ -48,6 +46,7 @@ fn push_packet(text: &mut Text, packet: &Packet) -> Status
     requires { text.old.items ≡ [] }
     ensures text { text.new.items ≡ (packet_listing packet.now).text }
     ensures status { result ≡ (packet_listing packet.now).status }
+    ensures fine { result ≢ Status.Fault }
 {
     match packet.address() {
         None => {
@@ -77,6 +76,7 @@ fn push_page_header(text: &mut Text, packet: &Packet, magazine: u8) -> Status
     requires { text.old.items ≡ [] }
     ensures text { text.new.items ≡ (header_listing magazine packet.now (header packet.now)).text }
     ensures status { result ≡ (header_listing magazine packet.now (header packet.now)).status }
+    ensures fine { result ≢ Status.Fault }
 {
     let Some(header) = packet.header() else {
         push_told(text, &refused(4, "BadHeader"));
@@ -93,6 +93,7 @@ fn push_row(text: &mut Text, packet: &Packet, magazine: u8, packet_number: u8) -
     requires { text.old.items ≡ [] }
     ensures text { text.new.items ≡ (row_listing magazine packet_number packet.now).text }
     ensures status { result ≡ (row_listing magazine packet_number packet.now).status }
+    ensures fine { result ≢ Status.Fault }
 {
     push_address(text, magazine, packet_number);
     if packet_number <= 24 {

@@ -5,14 +5,15 @@ ghost use Rattle.sub_io.specs.Device.{CanFail};
 ghost use Rattle.arrayvec.specs.ArrayVec.{array_vec_len};
 ghost use Rattle.ttx_page.specs.Page.{space};
 ghost use Rattle.sub_answer.specs.Lines.{glyph};
-ghost use Rattle.sub_answer.specs.Listing.{CountsFault, Prints, done};
+ghost use Rattle.sub_answer.specs.Listing.{CountsFault, PrintsOrFails, done};
 ghost use Rattle.sub_answer.specs.StateText.{open_line, page_text, row_line, row_text, rows_text};
 ghost use Rattle.sub_answer.specs.StateText.{state_text};
 
 use crate::lines::{push_text, push_two_digits, shown};
+use crate::printing::print;
 use crate::status::Status;
 use arrayvec::ArrayVec;
-use sub_io::{Sink, put_all};
+use sub_io::Sink;
 use ttx_page::{Page, Receiver};
 
 // Room for the lines of 24 rows, 50 bytes each.
@@ -24,23 +25,29 @@ type Text = ArrayVec<u8, 1280>;
 /// Prints what a receiver has heard and shows.
 pub fn print_state<R: Receiver, K: Sink>(receiver: &R, out: &mut K) -> Status
     requires { CanFail (K.failure_count out.old) }
-    ensures prints { Prints (K.contents out.old) (K.contents out.new)
+    ensures printed { PrintsOrFails (K.failure_count out.old) (K.contents out.old)
+        (K.failure_count out.new) (K.contents out.new)
         (done (state_text (R.state receiver.now))) result }
     ensures count { CountsFault (K.failure_count out.old) result (K.failure_count out.new) }
     ensures fault { result ≡ Status.Fault
         → K.failure_count out.old < K.failure_count out.new }
 {
     let mut text = Text::new();
+    push_state(&mut text, receiver);
+    print(text.as_slice(), Status::Done, out)
+}
+
+// Appends what a receiver has heard and shows.
+fn push_state<R: Receiver>(text: &mut Text, receiver: &R)
+    requires { array_vec_len text.old ≡ 0 }
+    ensures { text.new.items ≡ text.old.items ++ state_text (R.state receiver.now) }
+{
     if receiver.heard() {
-        push_text(&mut text, b"heard yes\n");
-        push_text(&mut text, open_text(receiver.open()));
-        push_page(&mut text, receiver.page());
+        push_text(text, b"heard yes\n");
+        push_text(text, open_text(receiver.open()));
+        push_page(text, receiver.page());
     } else {
-        push_text(&mut text, b"heard no\n");
-    }
-    match put_all(out, text.as_slice()) {
-        Ok(()) => Status::Done,
-        Err(_) => Status::Fault,
+        push_text(text, b"heard no\n");
     }
 }
 

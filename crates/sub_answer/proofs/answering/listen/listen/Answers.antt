@@ -10,7 +10,7 @@ returns-in-Ok-clause-exact g c = λ frames unread bytes told reads same. (
   listens_from c.args.listening.now frames unread _ _ _ (Ok tt) c.old_page.result
       (c.tune-receiver.ensures.tuned ∙ c.page.ensures.value) c.tune-receiver.ensures.state
       c.old_page.ensures (c.in-Ok.ensures.exact frames unread bytes told reads refl),
-  c.print_state.ensures.prints,
+  c.print_state.ensures.printed,
 )
 
 pub returns-clause-exact : goal.returns-clause-exact
@@ -21,5 +21,5 @@ returns-clause-exact g c = λ frames unread bytes told reads same. (
       c.old_page.ensures
       (c.in-Err.ensures.exact frames unread bytes told reads
       (did_not_rise (is_source_fault c.in-Err.fault) _ _ c.in-Err.ensures.count same)),
-  c.print_fault.ensures.prints,
+  c.print_fault.ensures.printed,
 )

@@ -1,15 +1,32 @@
--- The status of a fault: `listen_told-not_fault`, `listen_told-source`.
-use Rattle.std.proofs.Common.{ap, sym, ◌∙◌}
-use Rattle.sub_answer.specs.Told.{status_of}
+-- The line is that of the fault; its status: `listen_told-not_fault`, `listen_told-source`.
+use Rattle.std.proofs.Common.{◌≡◌, ◌∙◌, ap, arith, rules, sym}
+use Rattle.sub_answer.specs.Listing.{told_listing}
+use Rattle.sub_answer.specs.ListeningRun.{listen_told}
+use Rattle.sub_answer.specs.Told.{line_of, status_of}
 use Rattle.sub_answer.proofs.ListeningRunLemmas.{listen_told-not_fault, listen_told-source}
+use Rattle.sub_answer.proofs.PrintingLemmas.{printed-failed, printed-fault}
 use Rattle.sub_answer.proofs.answering.listen.print_fault.Goals as goal
 
-pub returns-in-Ok-clause-fault : goal.returns-in-Ok-clause-fault
-returns-in-Ok-clause-fault g c = λ is fine.
-    absurd (listen_told-not_fault c.args.fault.now fine c.requires.own
-    (sym (c.status.ensures ∙ ap status_of c.told_of_listen-told.ensures.kind) ∙ is))
+pub returns-clause-printed : goal.returns-clause-printed
+returns-clause-printed g c =
+    let text : line_of (listen_told c.args.fault.now) ≡ c.as_slice.result.now = search rules in
+    c.print.ensures.printed (told_listing (listen_told c.args.fault.now)) text
+    (sym (c.status.ensures ∙ ap status_of c.told_of_listen-told.ensures.kind))
 
-pub returns-in-Ok-clause-source : goal.returns-in-Ok-clause-source
-returns-in-Ok-clause-source g c = λ failed.
-    c.status.ensures ∙ ap status_of c.told_of_listen-told.ensures.kind
-    ∙ listen_told-source c.args.fault.now failed
+pub returns-clause-fault : goal.returns-clause-fault
+returns-clause-fault g c = λ is fine.
+    let text : line_of (listen_told c.args.fault.now) ≡ c.as_slice.result.now = search rules in
+    let risen =
+    printed-failed _ _ _ _ (told_listing (listen_told c.args.fault.now)) _
+    (c.print.ensures.printed (told_listing (listen_told c.args.fault.now)) text
+    (sym (c.status.ensures ∙ ap status_of c.told_of_listen-told.ensures.kind)))
+    is (listen_told-not_fault c.args.fault.now fine c.requires.own) in
+    omega (arith, risen)
+
+pub returns-clause-source : goal.returns-clause-source
+returns-clause-source g c = λ failed.
+    let text : line_of (listen_told c.args.fault.now) ≡ c.as_slice.result.now = search rules in
+    printed-fault _ _ _ _ (told_listing (listen_told c.args.fault.now)) _
+    (c.print.ensures.printed (told_listing (listen_told c.args.fault.now)) text
+    (sym (c.status.ensures ∙ ap status_of c.told_of_listen-told.ensures.kind)))
+    (listen_told-source c.args.fault.now failed)
