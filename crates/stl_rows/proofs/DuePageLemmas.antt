@@ -1,13 +1,19 @@
 -- What is due, and the next edge, by the first subtitle whose TCO is after a frame: due-at and
 -- next_edge-tci.
-use Rattle.std.proofs.Common.{◌≡◌, ◌≢◌, ℕ, zero, suc, ◌-◌, ◌<◌, ◌≤◌, Bool, true, false, List, []}
-use Rattle.std.proofs.Common.{◌∷◌, Some, None, length, get_or, refl, sym, ap, subst, ◌∙◌, arith}
+use Rattle.std.proofs.Common.{◌≡◌, ◌≢◌, ℕ, suc, ◌-◌, ◌<◌, ◌≤◌, Bool, true, false, List, []}
+use Rattle.std.proofs.Common.{◌∷◌, Some, length, get_or, refl, sym, ap, subst, ◌∙◌, arith}
 use Rattle.std.proofs.Common.{◌⊎◌, inl, inr}
+use Rattle.std.proofs.Common.{slice_get}
 use Rattle.std.proofs.lemmas.Bool.{cases_lt}
 use Rattle.std.proofs.lemmas.Bool.Decides.{nat_tests}
+use Rattle.std.proofs.lemmas.List.{get_or_default}
+use Rattle.std.proofs.lemmas.List.Folds.{find_at, list_any_none}
+use Rattle.std.proofs.lemmas.List.Sums.{position_or_len_is}
+use Rattle.std.proofs.lemmas.Option.{slice_get-get_or}
 use Rattle.std.specs.List.{find}
 use Rattle.std.specs.List.Sorted.{IsNonDecreasingBy}
 use Rattle.ttx_page.specs.Page.{blank}
+use Rattle.ttx_page.proofs.SpanLists.{find_none}
 use Rattle.stl_file.specs.Subtitle.{SubtitleValue}
 use Rattle.stl_rows.specs.declared.national.National.{National}
 use Rattle.stl_rows.specs.DuePage.{IsEdge, IsNextEdge, LawOfBlankPages, LawOfDueSubtitles}
@@ -16,26 +22,16 @@ use Rattle.stl_rows.specs.Programme.{IsProgramme}
 
 -- ---- the first that passes a test
 
--- nothing is found where none passes the test
-find_none : {X : Type 0} (p : X → Bool) (xs : List X)
-    → ((k : ℕ) (d : X) → k < length xs → p (get_or xs k d) ≡ false)
-    → find p xs ≡ None
-find_none p [] h = refl
-find_none p (x ∷ xs) h =
-    let e : p x ≡ false = h 0 x (omega arith) in
-    rw e (find_none p xs (λ k d b. h (suc k) d (omega arith)))
-
 -- the first that passes is found
-find_at : {X : Type 0} (p : X → Bool) (xs : List X) (i : ℕ) (d : X)
+first_found : {X : Type 0} (p : X → Bool) (xs : List X) (i : ℕ) (d : X)
     → i < length xs
     → ((k : ℕ) → k < i → p (get_or xs k d) ≡ false)
     → p (get_or xs i d) ≡ true
     → find p xs ≡ Some (get_or xs i d)
-find_at p [] i d b before here = absurd (omega arith)
-find_at p (x ∷ xs) zero d b before here = rw here refl
-find_at p (x ∷ xs) (suc i) d b before here =
-    let e : p x ≡ false = before 0 (omega arith) in
-    rw e (find_at p xs i d (omega arith) (λ k l. before (suc k) (omega arith)) here)
+first_found p xs i d within before here =
+    find_at p xs
+    ∙ ap (slice_get xs) (position_or_len_is p xs i d (omega arith) before (λ _. here))
+    ∙ slice_get-get_or xs i d within
 
 -- two tests that agree find the same. For edges_alone
 find_same : {X : Type 0} (p q : X → Bool) (xs : List X)
@@ -82,23 +78,15 @@ pub due-past : (n : National) (ts : List SubtitleValue) (f at : ℕ)
     → blank ≡ due n ts f
 unfolding due
 due-past n ts f at first h =
-    ap (drawn_or_blank n) (sym (find_none (is_due f) ts
-    (λ k d b. is_due-after f (get_or ts k d) (first.before k d (omega arith)))))
-
--- an element of a list, whatever is answered past its end
-same_default : (ts : List SubtitleValue) (i : ℕ) (d e : SubtitleValue)
-    → i < length ts
-    → get_or ts i d ≡ get_or ts i e
-same_default [] i d e h = absurd (omega arith)
-same_default (t ∷ ts) zero d e h = refl
-same_default (t ∷ ts) (suc i) d e h = same_default ts i d e (omega arith)
+    ap (drawn_or_blank n) (sym (find_none (is_due f) ts (list_any_none (is_due f) ts
+    (λ k d b. is_due-after f (get_or ts k d) (first.before k d (omega arith))))))
 
 -- t is the subtitle at an index
 at_default : (ts : List SubtitleValue) (i : ℕ) (t d : SubtitleValue)
     → i < length ts
     → t ≡ get_or ts i t
     → get_or ts i d ≡ t
-at_default ts i t d h e = same_default ts i d t h ∙ sym e
+at_default ts i t d h e = get_or_default ts i d t h ∙ sym e
 
 -- a later subtitle starts where t ends, or after
 later_tci : (n : National) (ts : List SubtitleValue) (at k : ℕ) (t x : SubtitleValue)
@@ -140,7 +128,7 @@ not_due-between n ts f at k t d ok first inside e gap b =
             | inl later ↦
                 is_due-before f (get_or ts k d)
                 (let x : SubtitleValue = get_or ts k d in
-                let g : x ≡ get_or ts k x = same_default ts k d x b in
+                let g : x ≡ get_or ts k x = get_or_default ts k d x b in
                 omega (
                   arith,
                   later_tci n ts at k t x ok later b e g,
@@ -164,8 +152,8 @@ pub due-between : (n : National) (ts : List SubtitleValue) (f at : ℕ) (t : Sub
     → blank ≡ due n ts f
 unfolding due
 due-between n ts f at t ok first inside e gap =
-    ap (drawn_or_blank n) (sym (find_none (is_due f) ts
-    (λ k d b. not_due-between n ts f at k t d ok first inside e gap b)))
+    ap (drawn_or_blank n) (sym (find_none (is_due f) ts (list_any_none (is_due f) ts
+    (λ k d b. not_due-between n ts f at k t d ok first inside e gap b))))
 
 -- the first subtitle after a frame, where it has begun, is shown: for `page_at`
 pub due-at : (n : National) (ts : List SubtitleValue) (f at : ℕ) (t : SubtitleValue)
@@ -179,7 +167,7 @@ due-at n ts f at t first inside e h =
     let here : is_due f (get_or ts at t) ≡ true =
     rw (← e) (is_due-within f t h (tco_after ts f at t first inside e)) in
     ap (λ (y : SubtitleValue). drawn_or_blank n (Some y)) e
-    ∙ ap (drawn_or_blank n) (sym (find_at (is_due f) ts at t inside
+    ∙ ap (drawn_or_blank n) (sym (first_found (is_due f) ts at t inside
     (λ k low. is_due-after f (get_or ts k t) (first.before k t low)) here))
 
 -- ---- edges
@@ -191,22 +179,6 @@ edge_within : (n : National) (ts : List SubtitleValue) (k : ℕ) (x : SubtitleVa
     → get_or ts k x ≡ x
     → x.tci < x.tco
 edge_within n ts k x ok b e = subst (λ (y : SubtitleValue). y.tci < y.tco) e (ok.each k x b).times
-
--- past the last subtitle there is no edge: for `edge_after`
-pub no_edge-past : (n : National) (ts : List SubtitleValue) (f at : ℕ)
-    → IsProgramme n ts
-    → IsFirstAfter ts f at
-    → length ts ≤ at
-    → (e : ℕ)
-    → IsEdge ts e
-    → e ≤ f
-no_edge-past n ts f at ok first h e edge =
-    let x : SubtitleValue = edge.1 in
-    let low : x.tco ≤ f =
-    subst (λ (y : SubtitleValue). y.tco ≤ f) edge.3
-    (first.before edge.0 x (omega (arith, edge.2))) in
-    let order : x.tci < x.tco = edge_within n ts edge.0 x ok edge.2 edge.3 in
-    elim edge.4 [ inl p ↦ omega (arith, p, low, order) | inr p ↦ omega (arith, p, low) ]
 
 -- an edge after the frame is the TCI of t, or not before its TCO
 later_edge : (n : National) (ts : List SubtitleValue) (f at : ℕ) (t : SubtitleValue)
@@ -304,7 +276,7 @@ edges_alone n ts f first none =
     (find_same (is_due f) (is_due (f - 1)) ts
     (λ k d b.
     let x : SubtitleValue = get_or ts k d in
-    let g : x ≡ get_or ts k x = same_default ts k d x b in
+    let g : x ≡ get_or ts k x = get_or_default ts k d x b in
     is_due-same f x first
     (λ p. none (k, x, b, sym g, inl p))
     (λ p. none (k, x, b, sym g, inr p))))
@@ -323,7 +295,7 @@ due_is_shown n ts f t order member low high =
     subst (λ (y : SubtitleValue). (get_or ts k t).tco ≤ y.tci) is
     (order k at t below member.1) in
     is_due-after f (get_or ts k t) (omega (arith, ended, low)) in
-    ap (drawn_or_blank n) (find_at (is_due f) ts at t member.1 before here)
+    ap (drawn_or_blank n) (first_found (is_due f) ts at t member.1 before here)
     ∙ ap (λ (y : SubtitleValue). drawn_or_blank n (Some y)) is
 
 -- where none is due the page is blank: for `law_of_blank_pages`
@@ -331,12 +303,12 @@ pub none_is_blank : LawOfBlankPages
 unfolding due
 none_is_blank n ts f none =
     ap (drawn_or_blank n)
-    (find_none (is_due f) ts
+    (find_none (is_due f) ts (list_any_none (is_due f) ts
     (λ k d b. elim (none k d b) [
       | inl later ↦ is_due-before f (get_or ts k d) later
       | inr ended ↦
           is_due-after f (get_or ts k d) ended
-    ]))
+    ])))
 
 -- ---- for the binary search
 

@@ -1,8 +1,8 @@
 -- Lines put on a page one after another: one step for each goal of the loop of `draw_lines`, as
 -- put_lines-line_end.
-use Rattle.std.proofs.Common.{◌≡◌, ℕ, ◌+◌, ◌-◌, ◌<◌, ◌≤◌, Bool, true, false, ltb, List, [], ◌∷◌}
-use Rattle.std.proofs.Common.{◌++◌, Some, None, Result, Err, length, set, drop, refl, sym, ap, ◌∙◌}
-use Rattle.std.proofs.Common.{arith, append_assoc, append-nil, length-append}
+use Rattle.std.proofs.Common.{◌≡◌, ℕ, ◌+◌, ◌<◌, ◌≤◌, Bool, true, false, ltb, List, [], ◌∷◌}
+use Rattle.std.proofs.Common.{◌++◌, Some, None, Result, Err, length, drop, refl, sym, ap, ◌∙◌}
+use Rattle.std.proofs.Common.{arith, append-nil, length-append}
 use Rattle.std.proofs.lemmas.Bool.Decides.{nat_tests}
 use Rattle.std.specs.List.{onto_first}
 use Rattle.std.proofs.lemmas.List.{drop_all}
@@ -13,19 +13,12 @@ use Rattle.stl_rows.specs.declared.fault.RowFaultKind.TheVariants.{RowTooLong}
 use Rattle.stl_rows.specs.declared.text_code.TextCode.{TextCode}
 use Rattle.stl_rows.specs.declared.text_code.TextCode.TheVariants.{Cell, NoCell, NewLine, Refused}
 use Rattle.stl_rows.specs.DrawnPage.{line_fault_kinds}
-use Rattle.stl_rows.specs.Line.{is_double, prepared, row_of}
-use Rattle.stl_rows.specs.LineByLine.{onto, put_line, put_lines, refused_or}
+use Rattle.stl_rows.specs.Line.{is_double, prepared}
+use Rattle.stl_rows.specs.LineByLine.{onto, put_lines, refused_or}
 use Rattle.stl_rows.specs.TextCode.{fault_of, first_of, lines_of, text_codes, with_code}
 use Rattle.stl_rows.specs.declared.national.National.{National}
 
 -- ---- cells before the first line
-
--- a cell before the first line goes behind the cells before it
-pub onto_first_cell : (cells : List ℕ) (code : ℕ) (lines : List (List ℕ))
-    → onto cells (onto_first code lines) ≡ onto (cells ++ code ∷ []) lines
-onto_first_cell cells code [] = refl
-onto_first_cell cells code (line ∷ lines) =
-    ap (λ (l : List ℕ). l ∷ lines) (sym (append_assoc cells (code ∷ []) line))
 
 -- a new line ends the cells before it
 pub onto_line_end : (cells : List ℕ) (lines : List (List ℕ))
@@ -50,13 +43,6 @@ onto_none (s ∷ codes) = onto_none_code s.1 (lines_of codes) (onto_none codes)
 
 -- ---- one step
 
--- a line with no fault leads on
-refused_or-none : (kinds : List RowFaultKind) (number : ℕ) (next : Result Rows RowFault)
-    → first_of kinds ≡ None
-    → refused_or kinds number next ≡ next
-refused_or-none [] number next h = refl
-refused_or-none (k ∷ ks) number next h = cc
-
 -- a fault of a line is the answer
 refused_or-some : (kinds : List RowFaultKind) (k : RowFaultKind) (number : ℕ)
     (next : Result Rows RowFault)
@@ -66,15 +52,6 @@ refused_or-some [] k number next h = cc
 refused_or-some (x ∷ ks) k number next h =
     let same : x ≡ k = cc in ap (λ (y : RowFaultKind). let e : Result Rows RowFault = Err
     (fault_of number y) in e) same
-
--- a line with no fault is put, and the next lines follow
-pub put_lines-none : (jc vp number : ℕ) (under : Bool) (page : Rows) (cells : List ℕ)
-    (rest : List (List ℕ))
-    → first_of (line_fault_kinds (vp + number) under (prepared cells)) ≡ None
-    → put_lines jc vp number under page (cells ∷ rest)
-    ≡ put_lines jc vp (number + 1) (is_double (prepared cells))
-    (put_line jc (vp + number) (prepared cells) page) rest
-put_lines-none jc vp number under page cells rest h = refused_or-none _ _ _ h
 
 -- a fault of a line ends the page
 pub put_lines-some : (jc vp number : ℕ) (under : Bool) (page : Rows) (cells : List ℕ)
@@ -118,20 +95,6 @@ put_lines-full jc vp number under page cells code (line ∷ lines) h =
       length-append cells
           (code ∷ line),
     )))
-
--- a line with cells is put on its row
-pub put_line-some : (jc row : ℕ) (line : List ℕ) (page : Rows)
-    → 0 < length line
-    → put_line jc row line page ≡ set page (row - 1) (row_of jc line)
-put_line-some jc row [] page h = absurd (omega arith)
-put_line-some jc row (c ∷ cells) page h = refl
-
--- an empty line changes no row: for `end_line`
-pub put_line-none : (jc row : ℕ) (line : List ℕ) (page : Rows)
-    → length line ≡ 0
-    → put_line jc row line page ≡ page
-put_line-none jc row [] page h = refl
-put_line-none jc row (c ∷ cells) page h = absurd (omega arith)
 
 -- an empty line has no fault: for `line_fault`
 pub no_fault_empty : (row : ℕ) (under : Bool) (line : List ℕ)

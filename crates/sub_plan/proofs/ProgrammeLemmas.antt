@@ -21,11 +21,6 @@ pub none_in : (ts : List SubtitleValue) → None ≡ first_in ts → ts ≡ []
 none_in [] h = refl
 none_in (t ∷ ts) h = cc
 
--- With a first TCI there is a subtitle.
-pub some_in : (ts : List SubtitleValue) (a : ℕ) → Some a ≡ first_in ts → ts ≡ [] → ⊥
-some_in [] a h e = cc
-some_in (t ∷ ts) a h e = cc
-
 -- The last of some subtitles.
 last_is : (t : SubtitleValue) (ts : List SubtitleValue)
     → last_out (t ∷ ts) ≡ Some ((get_or (t ∷ ts) (length (t ∷ ts) - 1) t).tco)

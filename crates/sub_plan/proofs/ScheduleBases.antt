@@ -1,4 +1,5 @@
 -- Bases of a schedule and the sendings that they make: find_base, last_sending, sending_in_gap.
+use Rattle.std.proofs.Math.Bool.{or-true}
 use Rattle.std.proofs.Common.{◌≡◌, ◌≢◌, ℕ, zero, suc, ◌+◌, ◌-◌, ◌%◌, ◌<◌, ◌≤◌, Bool, true, false}
 use Rattle.std.proofs.Common.{not, ◌||◌, eqb, List, ◌∷◌, ◌++◌, refl, sym, ap, subst, ◌∙◌, arith}
 use Rattle.std.proofs.Common.{◌⊎◌, inl, inr, Decides}
@@ -31,11 +32,6 @@ no_base due first k after same =
     (same_page-Decides (due k) (due (k - 1))).1 same in
     rw (a, b) refl
 
--- What is or-ed with true.
-or_true : (b : Bool) → (b || true) ≡ true
-or_true true = refl
-or_true false = refl
-
 -- A frame with another page than the frame before it is a base.
 pub is_base-from_change : (due : ℕ → Rows) (first k : ℕ) → due k ≢ due (k - 1)
     → is_base due first k ≡ true
@@ -45,7 +41,7 @@ is_base-from_change due first k change = go (is_same_page (due k) (due (k - 1)))
     go : (b : Bool) → is_same_page (due k) (due (k - 1)) ≡ b
         → (eqb k first || not (is_same_page (due k) (due (k - 1)))) ≡ true
     go true e = absurd (change ((same_page-Decides (due k) (due (k - 1))).0 e))
-    go false e = rw e (or_true (eqb k first))
+    go false e = rw e (or-true (eqb k first))
 
 -- At a base the last base is the base itself.
 pub base-at : (due : ℕ → Rows) (first b : ℕ) → is_base due first b ≡ true → base due first b ≡ b
@@ -180,7 +176,7 @@ unfolding is_sending
 sends due every first last f b high found whole =
     let e : base due first f ≡ b = base-found due first f b found in
     let t : eqb ((f - b) % every) 0 ≡ true = (Decides-eqb ((f - b) % every) 0).1 whole in
-    rw (e, t) (or_true (eqb f last))
+    rw (e, t) (or-true (eqb f last))
 
 -- At each base something is sent.
 pub sends-base : (due : ℕ → Rows) (every first last f : ℕ) → 1 ≤ every → is_base due first f ≡ true
@@ -190,7 +186,7 @@ sends-base due every first last f some is =
     let e : base due first f ≡ f = base-at due first f is in
     let t : eqb ((f - f) % every) 0 ≡ true =
     (Decides-eqb ((f - f) % every) 0).1 (aligned-start f every some) in
-    rw (e, t) (or_true (eqb f last))
+    rw (e, t) (or-true (eqb f last))
 
 -- So it is at the first frame.
 pub sends-first : (due : ℕ → Rows) (every first last : ℕ) → 1 ≤ every

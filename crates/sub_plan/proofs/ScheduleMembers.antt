@@ -1,4 +1,5 @@
 -- The frames with a sending, without the way in which they are found: law_of_sendings, law_of_gaps.
+use Rattle.std.proofs.Math.Bool.{or-true}
 use Rattle.std.proofs.Common.{◌≡◌, ◌≢◌, ℕ, zero, suc, ◌+◌, ◌-◌, ◌%◌, ◌<◌, ◌≤◌, Bool, true, false}
 use Rattle.std.proofs.Common.{not, ◌||◌, cond, eqb, List, ◌∷◌, length, get_or, refl, sym, ap, subst}
 use Rattle.std.proofs.Common.{◌∙◌, arith, inl, inr, filter}
@@ -14,10 +15,6 @@ use Rattle.sub_plan.proofs.ScheduleBases.{base_stays, IsFound, find_base, base-f
 use Rattle.sub_plan.proofs.ScheduleBases.{sending_in_gap}
 
 -- ---- members of a filtered range
-
--- A number of a range that passes the test.
-Members : (ℕ → Bool) → ℕ → ℕ → ℕ → Type 0
-Members p a n x = (a ≤ x) × (x < a + n) × (p x ≡ true)
 
 -- One step of members: the first of the range is kept or not.
 member_at : (p : ℕ → Bool) (a n x : ℕ) (xs : List ℕ) (b : Bool) → p a ≡ b
@@ -133,12 +130,8 @@ is-sending due every first last f (inr s) =
     (λ k a c. no_base_at k a c) in
     let t : eqb ((f - s.0) % every) 0 ≡ true = (Decides-eqb ((f - s.0) % every) 0).1 s.2 in
     let z : eqb ((f - base due first f) % every) 0 ≡ true = rw b t in
-    rw z (or_true (eqb f last))
+    rw z (or-true (eqb f last))
   where
-    or_true : (b : Bool) → (b || true) ≡ true
-    or_true true = refl
-    or_true false = refl
-
     no_base_at : (k : ℕ) → s.0 < k → k ≤ f → is_base due first k ≡ false
     no_base_at k a c = decide (is_base due first k) refl
       where

@@ -1,5 +1,6 @@
 -- How long a sending is, as a value and row by row: law_of_size, law_of_pes_values, sending_made.
-use Rattle.std.proofs.Common.{◌≡◌, ℕ, suc, ◌+◌, ◌-◌, ◌*◌, ◌^◌, ◌<◌, ◌≤◌}
+use Rattle.std.proofs.lemmas.List.Sums.{count_by-le-length, length-filter}
+use Rattle.std.proofs.Common.{◌≡◌, ℕ, ◌+◌, ◌-◌, ◌*◌, ◌^◌, ◌<◌, ◌≤◌}
 use Rattle.std.proofs.Common.{Bool, true, false, cond, List, [], ◌∷◌, ◌++◌}
 use Rattle.std.proofs.Common.{length, map, filter}
 use Rattle.std.proofs.Common.{All, refl}
@@ -32,13 +33,7 @@ use Rattle.sub_plan.proofs.SendingLemmas.{all_sent}
 
 -- A filtered list is no longer than the list.
 short_filter : (test : ℕ → Bool) (xs : List ℕ) → length (filter test xs) ≤ length xs
-short_filter test [] = omega arith
-short_filter test (x ∷ xs) = go (test x) (short_filter test xs)
-  where
-    go : (b : Bool) → length (filter test xs) ≤ length xs
-        → length (cond b (x ∷ filter test xs) (filter test xs)) ≤ suc (length xs)
-    go true h = omega arith
-    go false h = omega arith
+short_filter test xs = omega (arith, length-filter test xs, count_by-le-length test xs)
 
 -- Of n rows at most n are sent.
 short_rows : (magazine : ℕ) (page : Rows) (a n : ℕ) → length (rows_from magazine page a n) ≤ n

@@ -53,7 +53,7 @@ store_block f xs out ys a w k m e front block long within =
     ∙ sym (map-append f (take a xs) (chunk a w xs))
     ∙ ap (map f) (sym (take-add a w xs) ∙ ap (λ n. take n xs) (sym e))
 
--- The same with one byte.
+-- Where the first a bytes are f of those of xs, f of the next byte makes them one more.
 pub store_byte : (f : ℕ → ℕ) (xs out : List ℕ) (a m y : ℕ)
     → m ≡ a + 1
     → take a out ≡ map f (take a xs)

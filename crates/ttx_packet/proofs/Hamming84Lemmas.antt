@@ -28,7 +28,7 @@ code_words_decode : agree_below (λ n. is_number (decoded (code_word n)) n) (λ 
 unfolding decoded is_near
 code_words_decode = refl
 
--- So does each code word with one bit changed: 16 times 8 cases, computed.
+-- Each code word with one bit changed decodes to its number: 16 times 8 cases, computed.
 changed_code_words_decode : agree_below
     (λ n. agree_below (λ bit. is_number (decoded (bit_xor (code_word n) (2 ^ bit))) n)
     (λ bit. true) 8) (λ n. true) 16 ≡ true

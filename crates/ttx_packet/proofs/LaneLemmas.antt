@@ -1,5 +1,7 @@
 -- The kernels on lanes, byte by byte: mirror_lanes, even_lanes, odd_lanes; and the first byte of
 -- even parity that a mask tells: first_of_block.
+use Rattle.std.proofs.lemmas.List.{map-id}
+use Rattle.std.proofs.lemmas.Bool.{not-false, not-true}
 use Rattle.std.proofs.Common.{◌≡◌, ℕ, zero, suc, ◌+◌, ◌*◌, ◌/◌, ◌%◌, ◌^◌, ◌-◌, ◌<◌, ◌≤◌, Bool, true}
 use Rattle.std.proofs.Common.{false, not, cond}
 use Rattle.std.proofs.Common.{List, [], ◌∷◌, map, length, get_or, replicate, refl, sym, ap, ◌∙◌}
@@ -92,16 +94,11 @@ mirror_lanes v a b c fits ea eb ec =
 
 -- ---- parity
 
--- Each element is itself.
-map_same : (v : List ℕ) → v ≡ map (λ x. x) v
-map_same [] = refl
-map_same (x ∷ xs) = ap (λ l. x ∷ l) (map_same xs)
-
 -- One step of the folding, as the lanes compute it.
 pub folded_lanes : (v : List ℕ) (n k : ℕ) → length v ≡ n
     → zip2 bit_xor v (zip2 down v (replicate n k)) ≡ map (folded k) v
 folded_lanes v n k long =
-    zip2_of_maps bit_xor (λ x. x) (λ x. down x k) v (map_same v) (zip2_splat down v n k long)
+    zip2_of_maps bit_xor (λ x. x) (λ x. down x k) v (sym (map-id v)) (zip2_splat down v n k long)
 
 -- The three steps of a byte.
 abbrev pub folds : ℕ → ℕ
@@ -117,15 +114,6 @@ folds_lanes v a b c ea eb ec =
     ec
     ∙ ap (map (folded 1)) (eb ∙ ap (map (folded 2)) ea ∙ map-map (folded 2) (folded 4) v)
     ∙ map-map (folded 1) (λ x. folded 2 (folded 4 x)) v
-
--- What is not even is odd, and the other way round.
-odd_from_not_even : (odd : Bool) → not odd ≡ false → odd ≡ true
-odd_from_not_even true e = refl
-odd_from_not_even false e = absurd cc
-
-even_from_not_odd : (odd : Bool) → not odd ≡ true → odd ≡ false
-even_from_not_odd true e = absurd cc
-even_from_not_odd false e = refl
 
 -- The lowest bit after them.
 abbrev last_bit : ℕ → ℕ
@@ -181,7 +169,7 @@ pub odd_block_of_empty_mask : (xs : List ℕ) (i : ℕ)
     → k < i + 16
     → is_odd (get_or xs k 0) ≡ true
 odd_block_of_empty_mask xs i room none k from below =
-    odd_from_not_even _ (none_from_empty_mask is_even xs i 16 0 room none k from below)
+    not-false _ (none_from_empty_mask is_even xs i 16 0 room none k from below)
 
 -- The lowest bit of the mask of a block: its byte is even, and those of the block before it odd.
 -- For `Packet::first_even`.
@@ -213,9 +201,9 @@ first_of_block xs i m room e some =
     let within : count_trailing_zeros 64 m < 16 = omega arith in
     record {
       within = omega arith;
-      even = even_from_not_odd _
+      even = not-true _
           (run_in_chunk_stops is_even xs i 16 (count_trailing_zeros 64 m) 0 room counted within);
-      before = λ k from l. odd_from_not_even _
+      before = λ k from l. not-false _
           (run_in_chunk_fails is_even xs i 16 (count_trailing_zeros 64 m) 0 room counted k from l);
     }
 
@@ -252,5 +240,5 @@ odd_lanes v a b c long codes ea eb ec =
     ∙ zip2_splat up (map turned v) 16 7 (length-map v turned ∙ long)
     ∙ map-map (λ x. up x 7) turned v
     in
-    zip2_of_maps bit_or (λ x. x) (λ x. up (turned x) 7) v (map_same v) tops
+    zip2_of_maps bit_or (λ x. x) (λ x. up (turned x) 7) v (sym (map-id v)) tops
     ∙ same_lanes odd_code odd_byte v 0x80 odd_code_is codes

@@ -1,9 +1,9 @@
--- Nearness as a test: what `is_near` computes is `IsNear` (near_from_test, is_near_from).
+-- Nearness as a test: what passes `is_near` is near (near_from_test).
 use Rattle.std.proofs.Common.{◌≡◌, ℕ, zero, suc, ◌^◌, ◌<◌, inl, inr, Bool, true, false, ◌==◌}
 use Rattle.std.proofs.Common.{cond, Option, Some, None}
-use Rattle.std.proofs.Common.{is_some, bit_xor, refl, sym, subst, arith, eq-eqb, eqb-true}
+use Rattle.std.proofs.Common.{is_some, bit_xor, refl, subst, arith, eqb-true}
 use Rattle.std.specs.Option.{option_or}
-use Rattle.std.proofs.lemmas.Bool.{or_left, or_right, or_cases, cases_eq, cases_Bool}
+use Rattle.std.proofs.lemmas.Bool.{or_cases, cases_eq}
 use Rattle.std.proofs.lemmas.Option.{none-some}
 use Rattle.ttx_packet.specs.OneBit.{IsNear, first_below, is_near}
 
@@ -32,43 +32,12 @@ first_below_is (suc n) test x e =
         (below, subst (λ y. test y ≡ true) same q)
     found None false ih q h = absurd (none-some x h)
 
--- Something is found where something passes.
-pub first_below_some : (n : ℕ) (test : ℕ → Bool) (x : ℕ) → x < n → test x ≡ true
-    → is_some (first_below n test) ≡ true
-first_below_some zero test x l e = absurd (omega arith)
-first_below_some (suc n) test x l e =
-    found (first_below n test) (test n) (λ h. first_below_some n test x h e) refl
-  where
-    found : (o : Option ℕ) (b : Bool) → (x < n → is_some o ≡ true) → test n ≡ b
-        → is_some (option_or o (cond b (Some n) None)) ≡ true
-    found (Some y) b ih q = refl
-    found None true ih q = refl
-    found None false ih q =
-        elim (cases_eq x n) [
-          | inl same ↦ let h : test n ≡ true = subst (λ y. test y ≡ true) same e in cc
-          | inr other ↦ let h : x < n = omega (arith, other) in ih h
-        ]
-
 -- Nothing is found where nothing passes.
 pub first_below-none : (n : ℕ) (test : ℕ → Bool) → ((k : ℕ) → k < n → test k ≡ false)
     → first_below n test ≡ None
 first_below-none zero test none = refl
 first_below-none (suc n) test none =
     rw (first_below-none n test (λ k l. none k (omega arith)), none n (omega arith)) refl
-
--- Where nothing is found, nothing passes.
-pub none_below : (n : ℕ) (test : ℕ → Bool) → first_below n test ≡ None → (k : ℕ) → k < n
-    → test k ≡ false
-none_below n test e k l =
-    elim (cases_Bool (test k)) [
-      | inl passes ↦ let some = first_below_some n test k l passes in
-          absurd (is_none_not_some (first_below n test) e some)
-      | inr fails ↦ fails
-    ]
-  where
-    is_none_not_some : (o : Option ℕ) → o ≡ None → is_some o ≡ true → ⊥
-    is_none_not_some None e h = cc
-    is_none_not_some (Some x) e h = absurd (none-some x (sym e))
 
 -- What passes, with none below it that passes, is found.
 pub first_below-at : (n : ℕ) (test : ℕ → Bool) (x : ℕ)
@@ -85,15 +54,6 @@ first_below-at (suc n) test x l e before =
     ]
 
 -- ---- nearness as a test
-
--- A near byte passes the test.
-pub is_near_from : (c g : ℕ) → IsNear c g → is_near c g ≡ true
-unfolding is_near
-is_near_from c g (inl same) = or_left _ _ (eq-eqb g c same)
-is_near_from c g (inr changed) =
-    or_right (g == c) _
-    (first_below_some 8 (λ bit. g == bit_xor c (2 ^ bit)) changed.0 changed.1
-    (eq-eqb g _ changed.2))
 
 -- A byte that passes the test is near.
 pub near_from_test : (c g : ℕ) → is_near c g ≡ true → IsNear c g

@@ -39,7 +39,7 @@ flip_lowest q (suc zero) l =
     rw split (rw same (omega arith))
 flip_lowest q (suc (suc r)) l = absurd (omega arith)
 
--- So does one in a higher bit, where it is so of the bits above the lowest.
+-- A change in a higher bit makes an odd sum, where it does so of the bits above the lowest.
 flip_higher : (q r m : ℕ) → r < 2 → (count_ones (bit_xor q m) + count_ones q) % 2 ≡ 1
     → (count_ones (bit_xor (q * 2 ^ 1 + r) (m * 2 ^ 1 + 0)) + count_ones (q * 2 ^ 1 + r)) % 2 ≡ 1
 flip_higher q r m l h =
@@ -49,7 +49,7 @@ flip_higher q r m l h =
     let ones_new = ones_cat 1 (bit_xor q m) r l in
     rw split (rw same (omega arith))
 
--- So does a change in any bit.
+-- A change in any bit makes the two counts of ones an odd sum.
 pub flip : (k b : ℕ) → (count_ones (bit_xor b (2 ^ k)) + count_ones b) % 2 ≡ 1
 flip zero b =
     subst (λ n. (count_ones (bit_xor n 1) + count_ones n) % 2 ≡ 1) (div-add-mod' b 2)

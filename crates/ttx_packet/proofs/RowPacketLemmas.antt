@@ -12,7 +12,7 @@ pub record IsFirstEven (packet : List ℕ) (found : Option ℕ) : Type 0 where
   pub value : found ≡ first_even_byte packet
   pub odd : IsNone found ↔ HasOddText packet
 
--- A byte of even parity behind odd ones is the first.
+-- A byte of even parity after odd ones is the first.
 first_even_is : (packet : List ℕ) (column : ℕ)
     → column < 40
     → is_odd (text_byte packet column) ≡ false
@@ -54,7 +54,7 @@ text_is packet text e k =
     ∙ ap is_odd (get_or-drop 2 packet k 0)
     ∙ ap (λ n. is_odd (slice_index packet n)) two
 
--- A data byte of even parity behind odd ones is the first. For `Packet::first_even`.
+-- A data byte of even parity after odd ones is the first. For `Packet::first_even`.
 pub first_even_of_data-at : (packet text : List ℕ) (column : ℕ)
     → text ≡ drop 2 packet
     → column < 40

@@ -1,4 +1,4 @@
--- What the steps of the kernels on lanes do to one byte: words of their contracts.
+-- What the steps of the kernels on lanes do to one byte. No public clause cites this.
 use Rattle.std.specs.Prelude.{ℕ, ◌*◌, ◌/◌, ◌%◌, ◌^◌, Bool, not, List, map, bit_and, bit_or, bit_xor}
 use lib.Lanes.{mask_l}
 use Rattle.ttx_packet.specs.Parity.{is_odd}

@@ -1,13 +1,9 @@
 -- Odd parity (EN 300 706, 8.1): seven code bits, and bit 8 that makes the count of ones odd.
-use Rattle.std.specs.Prelude.{ℕ, ◌+◌, ◌%◌, Bool, ◌==◌, if◌then◌else◌, count_ones, IsTrue}
+use Rattle.std.specs.Prelude.{ℕ, ◌+◌, ◌%◌, Bool, ◌==◌, if◌then◌else◌, count_ones}
 
 -- Whether the count of ones in a byte is odd.
 unfoldable pub is_odd : ℕ → Bool
 is_odd b = count_ones b % 2 == 1
-
--- The count of ones in a byte is odd.
-abbrev pub IsOdd : ℕ → Type 0
-IsOdd b = IsTrue (is_odd b)
 
 -- The seven code bits of a text byte.
 abbrev pub code_of : ℕ → ℕ

@@ -56,7 +56,7 @@ impl Packet {
         &self.bytes
     }
 
-    /// The 40 data bytes, behind the address: of a row, the byte of each column.
+    /// The 40 data bytes, which follow the address: of a row, the byte of each column.
     pub fn data(&self) -> &[u8; 40]
         ensures { result.now ≡ drop 2 self.now }
     {

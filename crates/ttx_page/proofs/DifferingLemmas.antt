@@ -166,17 +166,6 @@ columns_zero (suc n) xs ys e k l = elim (cases_eq n k) [
   | inr other ↦ columns_zero n xs ys (omega arith) k (omega arith)
 ]
 
--- Where the codes are equal the count is 0.
-columns_same :
-    (n : ℕ) (xs ys : List ℕ)
-    → ((k : ℕ) → k < n → get_or xs k 0 ≡ get_or ys k 0)
-    → columns_differing n xs ys ≡ 0
-unfolding columns_differing
-columns_same zero xs ys h = refl
-columns_same (suc n) xs ys h =
-    let ih = columns_same n xs ys (λ k l. h k (omega arith)) in
-    let here = one_same (get_or xs n 0) (get_or ys n 0) (h n (omega arith)) in omega arith
-
 -- Where the count is 0 the cells are equal.
 rows_zero :
     (n : ℕ) (xs ys : List (List ℕ))
@@ -194,18 +183,6 @@ rows_zero (suc n) xs ys e i k h l = elim (cases_eq n i) [
   | inr other ↦ rows_zero n xs ys (omega arith) i k (omega arith) l
 ]
 
--- Where the cells are equal the count is 0.
-rows_same :
-    (n : ℕ) (xs ys : List (List ℕ))
-    → ((i k : ℕ) → i < n → k < 40 → get_or (get_or xs i []) k 0 ≡ get_or (get_or ys i []) k 0)
-    → rows_differing n xs ys ≡ 0
-unfolding rows_differing
-rows_same zero xs ys h = refl
-rows_same (suc n) xs ys h =
-    let ih = rows_same n xs ys (λ i k a b. h i k (omega arith) b) in
-    let here = columns_same 40 (get_or xs n []) (get_or ys n []) (λ k l. h n k (omega arith) l) in
-    omega arith
-
 -- Where no cell differs, each cell of the one page is that of the other.
 pub cells_same :
     (xs ys : List (List ℕ))
@@ -214,18 +191,6 @@ pub cells_same :
     → IsCell row column
     → cell xs row column ≡ cell ys row column
 cells_same xs ys e row column is = rows_zero 24 xs ys e (row - 1) column (omega (arith, is)) is.2
-
--- The other way round.
-pub none_differs :
-    (xs ys : List (List ℕ))
-    → ((row column : ℕ) → IsCell row column → cell xs row column ≡ cell ys row column)
-    → differing xs ys ≡ 0
-none_differs xs ys h =
-    rows_same 24 xs ys
-    (λ i k a b.
-    let s : i + 1 - 1 ≡ i = omega arith in
-    subst (λ j. get_or (get_or xs j []) k 0 ≡ get_or (get_or ys j []) k 0) s
-    (h (i + 1) k (omega arith, omega arith, b)))
 
 -- What the loop of `differing_cells` cites.
 pub ruleset rows = (rows_none, rows_more)

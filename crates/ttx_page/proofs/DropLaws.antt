@@ -49,7 +49,7 @@ left_out w (p ∷ ps) old new run = go (is_dropped w p) run.1 (left_out w ps run
     go true same on = subst (λ s. Hears w s rest new) same on
     go false step on = (run.0, step, on)
 
--- The other way round.
+-- A run without the rows that are dropped is a run that drops rows.
 put_back :
     (w : PageIdValue) (packets : List (List ℕ)) (old new : State)
     → Hears w old (without_dropped w packets) new
@@ -108,7 +108,7 @@ arrived-map_fate_of w (Some got ∷ os) = go (is_dropped w got) (arrived-map_fat
     go true e = e
     go false e = ap (λ ps. got ∷ ps) e
 
--- So a run that drops rows is one over what arrives by these fates.
+-- A run that drops rows is one over what arrives by these fates.
 pub hears_arrived :
     (w : PageIdValue) (fates : List (Option (List ℕ))) (old new : State)
     → HearsDropping w old (arrived fates) new

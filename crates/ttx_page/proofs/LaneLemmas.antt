@@ -1,10 +1,11 @@
 -- Rows compared in blocks: mask_compared, blocks_same, first_of_blocks; and how many cells of a
 -- block differ: ones_compared, columns_in_chunk.
+use Rattle.std.proofs.lemmas.List.{map-id}
 use Rattle.std.proofs.Common.{◌≡◌, ◌≢◌, ℕ, ◌+◌, ◌<◌, ◌≤◌, ◌^◌, ◌%◌, Bool, true, false, not}
-use Rattle.std.proofs.Common.{List, [], ◌∷◌, map, length, get_or, refl, sym, ap, ap₂, ◌∙◌, arith}
+use Rattle.std.proofs.Common.{List, map, length, get_or, refl, sym, ap, ap₂, ◌∙◌, arith}
 use Rattle.std.proofs.Common.{subst, cond, nat_eq, ◌-◌, w8, w16, eqb-true, eq-eqb, take_all, inl}
 use Rattle.std.proofs.Common.{inr}
-use Rattle.std.proofs.Common.{get_or-set_same, get_or-set_other, set, zero, suc, take}
+use Rattle.std.proofs.Common.{zero, suc, take}
 use Rattle.std.proofs.lemmas.Bool.{cases_eq, ne_eqb}
 use Rattle.std.proofs.lemmas.List.Sums.{count_by_more_no, count_by_more_yes}
 use Rattle.std.proofs.lemmas.Nat.Bits.{bit_at-trailing_zeros}
@@ -18,7 +19,6 @@ use lib.Count.{count_trailing_zeros}
 use lib.Lanes.{zip2, mask_l, top, chunk}
 use Rattle.ttx_page.specs.Lanes.{differ, differing_mask}
 use Rattle.ttx_page.specs.Differing.{columns_differing}
-use Rattle.ttx_page.specs.Page.{AreCodes}
 use Rattle.ttx_page.proofs.DifferingLemmas.{columns_none, columns_more, columns_same_more}
 use Rattle.ttx_page.proofs.DifferingLemmas.{columns_other_more, one}
 
@@ -33,11 +33,6 @@ mask_compared a b n p q l =
     let size : length (zip2 differ a b) ≤ 64 =
     omega (arith, length-zip2 differ a b (p ∙ sym q)) in
     ap (λ m. mask_l m % 2 ^ 64) (tops_compared w8 differ a b) ∙ mask_l-mod _ 64 size
-
--- A list of tests, each as it is.
-map_same : (v : List Bool) → v ≡ map (λ x. x) v
-map_same [] = refl
-map_same (x ∷ xs) = ap (λ l. x ∷ l) (map_same xs)
 
 -- The first k tests are true as often as the first k cells differ.
 tests_counted : (a b : List ℕ) (k : ℕ)
@@ -78,7 +73,7 @@ pub ones_compared : (a b : List ℕ) (n : ℕ)
 ones_compared a b n p q l =
     let ms = zip2 differ a b in
     let size : length ms ≡ n = length-zip2 differ a b (p ∙ sym q) ∙ p in
-    ap count_ones (mask_compared a b n p q l ∙ ap mask_l (map_same ms))
+    ap count_ones (mask_compared a b n p q l ∙ ap mask_l (sym (map-id ms)))
     ∙ ones-mask_l (λ x. x) ms
     ∙ ap (count_by (λ x. x)) (sym (take_all n ms (omega (arith, size))))
     ∙ tests_counted a b n (omega (arith, p)) (p ∙ sym q)
@@ -150,7 +145,7 @@ blocks_same xs ys a p q e k l =
     (length-chunk a 16 xs p ∙ sym (length-chunk a 16 ys q))
     ∙ length-chunk a 16 xs p in
     let empty : mask_l (map (λ x. x) (chunk 0 16 ms)) ≡ 0 =
-    ap mask_l (sym (map_same (chunk 0 16 ms)) ∙ chunk_whole ms size) ∙ e in
+    ap mask_l (map-id (chunk 0 16 ms) ∙ chunk_whole ms size) ∙ e in
     same_from_not_differ _ _
     (sym (tested xs ys a k p q l)
     ∙ none_from_empty_mask (λ x. x) ms 0 16 false (omega (arith, size)) empty k (omega arith) l)
@@ -174,7 +169,7 @@ first_of_blocks xs ys a m p q e some =
     length-zip2 differ (chunk a 16 xs) (chunk a 16 ys)
     (length-chunk a 16 xs p ∙ sym (length-chunk a 16 ys q))
     ∙ length-chunk a 16 xs p in
-    let plain : m ≡ mask_l (map (λ x. x) ms) = e ∙ ap mask_l (map_same ms) in
+    let plain : m ≡ mask_l (map (λ x. x) ms) = e ∙ ap mask_l (sym (map-id ms)) in
     let positive : 0 < mask_l (map (λ x. x) ms) =
     subst (λ (x : ℕ). 0 < x) plain (omega arith) in
     let whole : prefix_len (λ x. not x) ms ≡ prefix_len (λ x. not x) (chunk 0 16 ms) =
@@ -186,7 +181,7 @@ first_of_blocks xs ys a m p q e some =
     trailing_mask_l (λ x. x) 16 ms (omega (arith, size)) positive in
     let below : mask_l ms < 2 ^ length ms = mask_l-lt ms in
     let small : mask_l ms < 2 ^ 16 = rw size at below in
-    let same : mask_l ms ≡ mask_l (map (λ x. x) ms) = ap mask_l (map_same ms) in
+    let same : mask_l ms ≡ mask_l (map (λ x. x) ms) = ap mask_l (sym (map-id ms)) in
     let least : mask_l (map (λ x. x) ms) < 2 ^ 16 = subst (λ (x : ℕ). x < 2 ^ 16) same small in
     let lowest : count_trailing_zeros 16 (mask_l (map (λ x. x) ms)) < 16 =
     (bit_at-trailing_zeros w16 (mask_l (map (λ x. x) ms)) positive least).0 in
@@ -205,19 +200,3 @@ first_of_blocks xs ys a m p q e some =
           ∙ run_in_chunk_fails (λ x. x) ms 0 16 (count_trailing_zeros 64 m) false room
           (counted ∙ whole) k (omega arith) (omega (arith, l)));
     }
-
--- Codes with another code in one cell are codes. For tests.
-pub codes_set : (codes : List ℕ) (i code : ℕ)
-    → i < length codes
-    → AreCodes codes
-    → code < 128
-    → AreCodes (set codes i code)
-codes_set codes i code within are small k =
-    elim (cases_eq k i) [
-      | inl same ↦ subst (λ (n : ℕ). n < 128)
-          (sym (ap (λ j. get_or (set codes i code) j 0) same
-          ∙ get_or-set_same codes i code 0 within))
-          small
-      | inr other ↦ subst (λ (n : ℕ). n < 128)
-          (sym (get_or-set_other codes i k code 0 other)) (are k)
-    ]

@@ -1,5 +1,6 @@
 -- Whole runs of a receiver over items, packets that are sent each with what is got of it:
 -- `ends_by_last_header`.
+use Rattle.std.proofs.Math.Bool.{and-true}
 use Rattle.std.proofs.Common.{◌≡◌, ℕ, ◌⊎◌, inl, inr, Bool, true, false, not, ◌&&◌, ◌||◌, List, []}
 use Rattle.std.proofs.Common.{◌∷◌, IsTrue, refl, sym, ap, ◌∙◌, subst, true≢false}
 use Rattle.std.specs.List.{list_any, AllByRecursion}
@@ -16,7 +17,7 @@ use Rattle.ttx_page.specs.Span.{holds_header, after_last_header, before_end, spa
 use Rattle.ttx_page.specs.Noise.{ErasesPage}
 use Rattle.ttx_page.specs.LostRows.{IsHurt}
 use Rattle.ttx_page.proofs.SpanLists.{Somewhere, after-later, after-here}
-use Rattle.ttx_page.proofs.NoiseSteps.{Item, and-true, opens_blank, cell-blank, kind_of_item, Fair}
+use Rattle.ttx_page.proofs.NoiseSteps.{Item, opens_blank, cell-blank, kind_of_item, Fair}
 use Rattle.ttx_page.proofs.NoiseSteps.{Goes, flags_of, page_of, cell_of}
 
 -- A receiver goes on through items.

@@ -1,5 +1,6 @@
 -- One step of a receiver at a packet that is sent, and got with wrong bits or lost: `cell_of` says
 -- what becomes of one cell, `opens_blank` what a header of the page does.
+use Rattle.std.proofs.Math.Bool.{and-true}
 use Rattle.std.proofs.Common.{◌≡◌, ◌≢◌, ℕ, ◌+◌, ◌-◌, ◌<◌, ◌⊎◌, inl, inr, Bool, true, false, not}
 use Rattle.std.proofs.Common.{◌&&◌, ◌==◌, nat_le, cond, List, [], slice_index, replicate, Option}
 use Rattle.std.proofs.Common.{Some, None, MatchBool, IsTrue, IsFalse, refl, sym, ap, ◌∙◌, subst}
@@ -102,11 +103,6 @@ Fair-from_arrives w sent (Some got) exact near = (
 abbrev pub Goes : PageIdValue → Option (List ℕ) → State → State → Type 0
 Goes w (Some got) old mid = Step w old got mid
 Goes w None old mid = mid ≡ old
-
--- True on the right changes nothing.
-pub and-true : (b : Bool) → (b && true) ≡ b
-and-true true = refl
-and-true false = refl
 
 -- The two flags after a packet of a kind, a header of the page left out. For `flags_of`.
 flags_at :

@@ -2,8 +2,11 @@
 use Rattle.std.proofs.Common.{◌≡◌, zero, suc, ◌<◌, ◌⊎◌, inl, inr, Bool, true, false, ◌||◌, cond}
 use Rattle.std.proofs.Common.{List, [], ◌∷◌, length, Some, None, map, find, Any, Contains, refl}
 use Rattle.std.proofs.Common.{sym, ap, ◌∙◌, subst, arith}
-use Rattle.std.specs.List.{list_any, AllByRecursion}
-use Rattle.std.proofs.lemmas.Option.{none-some, same_Some}
+use Rattle.std.proofs.Common.{get_or, slice_get}
+use Rattle.std.specs.List.{list_any, position_or_len, AllByRecursion}
+use Rattle.std.proofs.lemmas.Option.{get_or_from_slice_get, slice_get_within}
+use Rattle.std.proofs.lemmas.List.Folds.{find_at}
+use Rattle.std.proofs.lemmas.List.Sums.{passes_at_first}
 use Rattle.std.proofs.lemmas.Bool.{cond-true, cond-false, or_parts}
 use Rattle.ttx_page.specs.declared.packet_kind.PacketKind.{PacketKind}
 use Rattle.ttx_page.specs.PacketKind.{is_this_page, ends_page}
@@ -23,7 +26,7 @@ Any-from_somewhere P (x ∷ xs) (inr there) =
     let below : suc r.0 < suc (length xs) = omega (arith, r.2) in
     (suc r.0, r.1, below, r.3, r.4)
 
--- Some element of a mapped list, from the list.
+-- What holds of some element of a mapped list holds, through the map, of some element of the list.
 pub Any-map :
     {A B : Type 0} (P : B → Type 0) (f : A → B) (xs : List A)
     → Any P (map f xs)
@@ -36,7 +39,7 @@ Any-map P f (x ∷ xs) (suc k, y, l, e, p) =
     let more : suc r.0 < suc (length xs) = omega (arith, r.2) in
     (suc r.0, r.1, more, r.3, r.4)
 
--- The other way round.
+-- What holds, through the map, of some element of a list holds of some element mapped.
 pub map-Any :
     {A B : Type 0} (P : B → Type 0) (f : A → B) (xs : List A)
     → Any (λ x. P (f x)) xs
@@ -57,22 +60,13 @@ pub find_is :
     {X : Type 0} (test : X → Bool) (xs : List X) (z : X)
     → find test xs ≡ Some z
     → (test z ≡ true) × Contains xs z
-find_is test [] z e = absurd (none-some z e)
-find_is test (x ∷ xs) z e = go (test x) refl e (find_is test xs z)
-  where
-    go :
-        (b : Bool)
-        → test x ≡ b
-        → cond b (Some x) (find test xs) ≡ Some z
-        → (find test xs ≡ Some z → (test z ≡ true) × Contains xs z)
-        → (test z ≡ true) × Contains (x ∷ xs) z
-    go true p h ih =
-        let same : x ≡ z = same_Some x z h in
-        (subst (λ y. test y ≡ true) same p, (0, omega arith, same))
-    go false p h ih =
-        let r = ih h in
-        let below : suc r.1.0 < suc (length xs) = omega (arith, r.1.1) in
-        (r.0, (suc r.1.0, below, r.1.2))
+find_is test xs z e =
+    let at : slice_get xs (position_or_len test xs) ≡ Some z = sym (find_at test xs) ∙ e in
+    let within = slice_get_within xs (position_or_len test xs) z at in
+    let is : get_or xs (position_or_len test xs) z ≡ z = get_or_from_slice_get xs _ z z at in (
+      subst (λ y. test y ≡ true) is (passes_at_first test xs z within),
+      (position_or_len test xs, within, is),
+    )
 
 -- Where no element passes, `find` gives nothing.
 pub find_none :

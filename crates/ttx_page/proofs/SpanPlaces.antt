@@ -3,8 +3,8 @@ use Rattle.std.proofs.Common.{◌≡◌, ℕ, zero, suc, ◌+◌, ◌-◌, ◌<�
 use Rattle.std.proofs.Common.{false, not, cond, List, [], ◌∷◌, length, drop, take, get_or}
 use Rattle.std.proofs.Common.{slice_range, HoldsAt, IsTrue, IsFalse, refl, sym, ap, ◌∙◌, subst}
 use Rattle.std.proofs.Common.{arith, true≢false}
-use Rattle.std.specs.List.{list_any, AllWithin, AllByRecursion, position_or_len}
-use Rattle.std.proofs.lemmas.Bool.{cases_Bool, cases_eq, or_parts, or_cases}
+use Rattle.std.specs.List.{AllWithin, AllByRecursion, position_or_len}
+use Rattle.std.proofs.lemmas.Bool.{cases_Bool, cases_eq, or_cases}
 use Rattle.std.proofs.lemmas.List.{get_or-drop, length-drop}
 use Rattle.std.proofs.lemmas.List.Elements.{All-from_recursion}
 use Rattle.std.proofs.lemmas.List.Sums.{fails_before_first, passes_at_first, prefix_len-le-length}
@@ -12,18 +12,18 @@ use Rattle.ttx_page.specs.declared.packet_kind.PacketKind.{PacketKind}
 use Rattle.ttx_page.specs.PacketKind.{is_this_page, ends_page}
 use Rattle.ttx_page.specs.Span.{holds_header, after_last_header, before_end, span, IsSpan}
 use Rattle.ttx_page.specs.Span.{LawOfSpan}
-use Rattle.ttx_page.proofs.SpanLists.{after-later, after-here, after-none}
-
--- Where no element passes a test, each fails it.
-none_passes :
-    {X : Type 0} (test : X → Bool) (xs : List X)
-    → list_any test xs ≡ false
-    → AllByRecursion (λ x. test x ≡ false) xs
-none_passes test [] e = tt
-none_passes test (x ∷ xs) e =
-    let parts = or_parts (test x) (list_any test xs) e in (parts.0, none_passes test xs parts.1)
+use Rattle.ttx_page.proofs.SpanLists.{after-later, after-here, after-none, find_none, none_pass}
 
 module _ {A : Type 0} (kind_of : A → PacketKind) where
+  -- Where the list holds no header of the page, no item is one.
+  none_header :
+      (xs : List A)
+      → holds_header kind_of xs ≡ false
+      → AllByRecursion (λ x. is_this_page (kind_of x) ≡ false) xs
+  none_header xs e =
+      none_pass (λ x. is_this_page (kind_of x)) xs
+      (find_none (λ x. is_this_page (kind_of x)) xs e)
+
   -- What stands before the end of the page, by its place.
   before-is :
       (xs : List A)
@@ -81,7 +81,7 @@ module _ {A : Type 0} (kind_of : A → PacketKind) where
       nothing : holds_header kind_of xs ≡ false → AllWithin P (x ∷ xs) 1 (length (x ∷ xs))
       nothing none zero d l m = absurd (omega arith)
       nothing none (suc k) d l m =
-          All-from_recursion P xs (none_passes (λ y. is_this_page (kind_of y)) xs none) k d
+          All-from_recursion P xs (none_header xs none) k d
           (omega arith)
 
   -- The span after the last header, by its places.
@@ -144,7 +144,7 @@ law_of_span A kind_of items =
           inr (span-after kind_of items last.0 last.1)
       | inr none ↦
           inl (
-            All-from_recursion _ items (none_passes (λ x. is_this_page (kind_of x)) items none),
+            All-from_recursion _ items (none_header kind_of items none),
             ap (before_end kind_of) (after-none kind_of items none),
           )
     ]

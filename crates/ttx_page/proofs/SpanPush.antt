@@ -1,9 +1,8 @@
 -- Lists that grow at their end: what one more packet makes of the span, `span-push`.
+use Rattle.std.proofs.Math.Bool.{or-false}
 use Rattle.std.proofs.Common.{◌≡◌, Bool, true, false, not, ◌&&◌, ◌||◌, cond, List, [], ◌∷◌, ◌++◌}
 use Rattle.std.proofs.Common.{refl, sym, ap, ◌∙◌}
-use Rattle.std.proofs.Common.{Some, None, find}
 use Rattle.std.specs.List.{list_any}
-use Rattle.std.specs.Option.{option_or}
 use Rattle.std.proofs.lemmas.Bool.{cond-true, cond-false}
 use Rattle.std.proofs.lemmas.List.{append-nil}
 use Rattle.std.proofs.lemmas.List.Folds.{list_any-append}
@@ -35,26 +34,6 @@ before_pieces true a b y ps x now h = refl
 before_pieces false true b y ps x now h = ap (λ l. y ∷ l) h
 before_pieces false false true y ps x now h = ap (λ l. y ∷ l) h
 before_pieces false false false y ps x now h = ap (λ l. y ∷ l) h
-
--- False on the right changes nothing.
-or-false : (b : Bool) → (b || false) ≡ b
-or-false true = refl
-or-false false = refl
-
--- What `find` gives, one element on.
-pub find-push :
-    {A : Type 0} (test : A → Bool) (xs : List A) (x : A)
-    → find test (xs ++ x ∷ []) ≡ option_or (find test xs) (cond (test x) (Some x) None)
-find-push test [] x = refl
-find-push test (y ∷ ys) x = go (test y) (find-push test ys x)
-  where
-    go :
-        (b : Bool)
-        → find test (ys ++ x ∷ []) ≡ option_or (find test ys) (cond (test x) (Some x) None)
-        → cond b (Some y) (find test (ys ++ x ∷ []))
-        ≡ option_or (cond b (Some y) (find test ys)) (cond (test x) (Some x) None)
-    go true h = refl
-    go false h = h
 
 module _ {A : Type 0} (kind_of : A → PacketKind) where
   -- Whether there is a header of the page, one item on.

@@ -1,4 +1,4 @@
--- What the kernel on lanes gives: words of its contract.
+-- What the kernel on lanes gives. No public clause cites this.
 use Rattle.std.specs.Prelude.{ℕ, ◌==◌, Bool, not, List}
 use lib.Lanes.{mask_l, zip2}
 

@@ -67,7 +67,7 @@ fates_of (false ∷ marks) got = None ∷ fates_of marks got
 fates_of (true ∷ marks) [] = None ∷ fates_of marks []
 fates_of (true ∷ marks) (first ∷ got) = Some first ∷ fates_of marks got
 
--- The same law, where what was got is near the list of the packets that are kept.
+-- The law of lost rows, where what was got is near the list of the packets that are kept.
 abbrev pub LawOfMarkedLoss : Type 0
 LawOfMarkedLoss =
     (w : PageIdValue) (sent : List (List ℕ)) (marks : List Bool)

@@ -1,4 +1,5 @@
--- What the receivers of this crate hold, and their choice at a byte of even parity (own).
+-- What the receivers of this crate hold, and their choice at a byte of even parity (own). No clause
+-- of a public function cites this; a receiver's value is `state_of` its memory.
 use Rattle.std.specs.Prelude.{ℕ, if◌then◌else◌}
 use Rattle.ttx_packet.specs.Parity.{code_of, is_odd}
 use Rattle.ttx_page.specs.declared.memory.EvenByte.{EvenByte}

@@ -35,7 +35,7 @@ pub fn law_of_lost_rows()
     ensures { LawOfLostRows }
 {}
 
-/// The same, with a mark beside each packet: kept or lost.
+/// The law of lost rows with a mark beside each packet: kept or lost.
 pub fn law_of_marked_loss()
     ensures { LawOfMarkedLoss }
 {}
@@ -63,13 +63,13 @@ pub fn law_of_recovery()
     ensures { LawOfRecovery }
 {}
 
-/// The same, with a mark beside each packet: kept or lost.
+/// The law of recovery with a mark beside each packet: kept or lost.
 pub fn law_of_marked_recovery()
     ensures { LawOfMarkedRecovery }
 {}
 
-/// The same for receivers that drop rows: a cell counts as hit where any byte of its row was hit,
-/// or the row was lost.
+/// The law of recovery for receivers that drop rows: a cell counts as hit where any byte of its row
+/// was hit, or the row was lost.
 pub fn law_of_dropping_recovery()
     ensures { LawOfDroppingRecovery }
 {}
@@ -80,7 +80,7 @@ pub fn law_of_screen()
     ensures { LawOfScreen }
 {}
 
-/// The same for receivers that drop rows.
+/// The law of the screen for receivers that drop rows.
 pub fn law_of_dropping_screen()
     ensures { LawOfDroppingScreen }
 {}
