@@ -4,4 +4,7 @@ pub mod DataUnitLemmas
 pub mod PesHeaderLemmas
 pub mod PesPacketLemmas
 pub mod ReadingLemmas
+pub mod TakingLemmas
+pub mod KeptFrameLemmas
 pub mod ReaderLemmas
+pub mod SameBytesLemmas

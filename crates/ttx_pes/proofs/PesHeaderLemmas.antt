@@ -226,7 +226,7 @@ body_bytes b t len le pts-same =
     ∙ ap (λ (x : List ℕ). get_or b 0 0 ∷ get_or b 1 0 ∷ 36 ∷ (x ++ behind)) (sym pts-same)
 
 -- A value of its parts.
-abbrev value_with : ℕ → List UnitValue → PesValue
+abbrev pub value_with : ℕ → List UnitValue → PesValue
 value_with t us = record { pts = t; units = us }
 
 -- A PTS that is read has 33 bits.

@@ -6,3 +6,5 @@ pub mod Reader
 pub mod Writer
 pub mod Laws
 pub mod Fault
+pub mod Taking
+pub mod Comparing

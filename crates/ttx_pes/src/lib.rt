@@ -1,7 +1,8 @@
 //! EBU Teletext in PES packets (EN 300 472), both ways.
 //!
 //! A reader gives the PTS and the Teletext units of each PES packet, and takes exactly the packet's
-//! bytes; a writer puts a frame's canonical packet. Stands on `sub_io` for the devices and on
+//! bytes; one that compares tells also whether the data field is that of the packet before. A writer
+//! puts a frame's canonical packet. Stands on `sub_io` for the devices and on
 //! `ttx_packet` for the packets; schedules are written and checked over it.
 //!
 //! ```text
@@ -15,18 +16,23 @@
 //! ```
 #![tactic(auto)]
 
+mod comparing_reader;
 mod data_unit;
 mod fault;
+mod kept_frame;
 mod laws;
 mod line_numbers;
+mod packet_bytes;
 mod pes_frame;
 mod pes_header;
 mod progress;
 mod reader;
 mod repeated_packet;
+mod same_bytes;
 mod unit;
 mod writer;
 
+pub use comparing_reader::{Compared, ComparingReader};
 pub use fault::PesFault;
 pub use laws::{
     law_of_canonical_packet, law_of_grammar, law_of_numbered_frame, law_of_one_value,

@@ -1,5 +1,6 @@
 //! What one PES packet carries.
 ghost use Rattle.std.specs.Prelude.{◌≡◌, ◌+◌, ◌^◌, ◌<◌, ◌≤◌, ◌↔◌, true, [], ◌∷◌, ◌++◌, length};
+ghost use Rattle.std.specs.Prelude.{take};
 ghost use Rattle.std.specs.Prelude.{IsOk, OnOk, IfErr, OnErr};
 
 use crate::unit::Unit;
@@ -11,13 +12,16 @@ use std::marker::Model;
 #[derive(Drop)]
 pub struct PesFrame {
     pts: u64,
+    // The first `count` are the frame's. Those after them are left from frames before: to set them
+    // to the default would cost a write of each.
     units: ArrayVec<Unit, 35>,
+    count: usize,
     // The place that the next unit has to be behind.
     last: u8,
 }
 
 impl Model for PesFrame {
-    ghost use Rattle.std.specs.Prelude.{◌≡◌, ◌<◌, ◌^◌};
+    ghost use Rattle.std.specs.Prelude.{◌≡◌, ◌<◌, ◌≤◌, ◌^◌, length, take};
     ghost use Rattle.std.specs.List.{AllByRecursion};
     ghost use Rattle.ttx_pes.specs.DataUnit.{IsUnit};
     ghost use Rattle.ttx_pes.specs.LineOrder.{last_place, AreInLineOrder};
@@ -25,14 +29,15 @@ impl Model for PesFrame {
 
     ghost Value = { PesValue };
 
-    ghost view = { λ f. record { pts = f.pts; units = f.units.items } };
+    ghost view = { λ f. record { pts = f.pts; units = take f.count f.units.items } };
 
     ghost invariant = { λ f.
         (f.pts < 2 ^ 33)
-        × (f.last ≡ last_place 0 f.units.items)
+        × (f.count ≤ length f.units.items)
+        × (f.last ≡ last_place 0 (take f.count f.units.items))
         × (f.last < 64)
-        × AreInLineOrder 0 f.units.items
-        × AllByRecursion IsUnit f.units.items };
+        × AreInLineOrder 0 (take f.count f.units.items)
+        × AllByRecursion IsUnit (take f.count f.units.items) };
 }
 
 impl PesFrame {
@@ -47,6 +52,7 @@ impl PesFrame {
         PesFrame {
             pts,
             units: ArrayVec::new(),
+            count: 0,
             last: 0,
         }
     }
@@ -65,7 +71,7 @@ impl PesFrame {
         // What each frame holds.
         ensures frame { IsPesValue self.now }
     {
-        self.units.as_slice()
+        &self.units.as_slice()[..self.count]
     }
 
     /// Adds a unit at the end.
@@ -83,14 +89,15 @@ impl PesFrame {
         ensures err { OnErr result (self.new ≡ self.old) }
         ensures back { IfErr result (λ given. given ≡ unit) }
     {
-        if self.units.is_full() {
+        if self.count >= 35 {
             return Err(unit);
         }
         let Some(place) = unit.place_after(self.last) else {
             return Err(unit);
         };
         self.last = place;
-        self.units.push(unit);
+        put_at(&mut self.units, self.count, unit);
+        self.count += 1;
         Ok(())
     }
 
@@ -103,7 +110,8 @@ impl PesFrame {
     {
         let place = unit.place_after(self.last).unwrap();
         self.last = place;
-        self.units.push(unit);
+        put_at(&mut self.units, self.count, unit);
+        self.count += 1;
     }
 
     // Sets the PTS, and keeps the units.
@@ -120,7 +128,21 @@ impl PesFrame {
         ensures { self.new ≡ record { pts = pts; units = [] } }
     {
         self.set_pts(pts);
-        self.units.clear();
+        self.count = 0;
         self.last = 0;
+    }
+}
+
+// Puts a unit at a place, over one that is left from a frame before or at the end.
+fn put_at(units: &mut ArrayVec<Unit, 35>, place: usize, unit: Unit)
+    requires place { place ≤ length units.old.items }
+    requires room { place < 35 }
+    ensures items { take (place + 1) units.new.items ≡ take place units.old.items ++ unit ∷ [] }
+    ensures len { place < length units.new.items }
+{
+    if place < units.len() {
+        units.as_mut_slice()[place] = unit;
+    } else {
+        units.push(unit);
     }
 }

@@ -13,22 +13,19 @@ ghost use Rattle.ttx_pes.specs.Reader.{progress_after, given_frame, TakesPesPack
 
 use crate::data_unit::take_units;
 use crate::fault::PesFault;
+use crate::packet_bytes::{MOST_PACKETS, Room, body_of, take_packet};
 use crate::pes_frame::PesFrame;
-use crate::pes_header::{pts_of, size_of};
+use crate::pes_header::pts_of;
 use crate::progress::Progress;
 use std::marker::Model;
-use sub_io::{Source, fill};
-
-/// The packets of a file at most: one for each frame of a day at 25 a second.
-const MOST_PACKETS: u32 = 2_160_000;
+use sub_io::Source;
 
 /// Reads PES packets with Teletext units. It keeps how far it has come, and room for the bytes of
 /// one packet.
 #[derive(Drop)]
 pub struct PesReader {
     progress: Progress,
-    // A packet's bytes from byte 6 on.
-    room: [u8; 1650],
+    room: Room,
 }
 
 impl Model for PesReader {
@@ -64,7 +61,7 @@ fn read_value(body: &[u8], frame: &mut PesFrame) -> Result<(), PesFault>
 fn read_packet<S: Source>(
     given: u32,
     source: &mut S,
-    room: &mut [u8; 1650],
+    room: &mut Room,
     frame: &mut PesFrame,
 ) -> Result<bool, PesFault>
     requires { CanFail (S.failure_count source.old) }
@@ -81,23 +78,10 @@ fn read_packet<S: Source>(
     ensures count { S.failure_count source.new
         ≡ S.failure_count source.old + (if is_read_failure result then 1 else 0) }
 {
-    let mut head = [0; 6];
-    let got = fill(source, &mut head)?;
-    if got == 0 {
+    let Some(size) = take_packet(given, source, room)? else {
         return Ok(false);
-    }
-    if given == MOST_PACKETS {
-        return Err(PesFault::TooMany);
-    }
-    if got < 6 {
-        return Err(PesFault::Truncated);
-    }
-    let size = size_of(&head)?;
-    let body = &mut room[..size - 6];
-    if fill(source, body)? < size - 6 {
-        return Err(PesFault::Truncated);
-    }
-    read_value(body, frame)?;
+    };
+    read_value(body_of(room, size), frame)?;
     Ok(true)
 }
 
@@ -108,7 +92,7 @@ impl PesReader {
     {
         PesReader {
             progress: Progress::Reading(0),
-            room: [0; 1650],
+            room: [0; 1656],
         }
     }
 

@@ -1,6 +1,8 @@
 -- What is left, and what a fault says in the words of the grammar: by ReaderLemmas.
-use Rattle.std.proofs.Common.{◌≡◌, Err}
-use Rattle.ttx_pes.proofs.ReaderLemmas.{byte_is_left, excluded, packet_left}
+use Rattle.std.proofs.Common.{◌≡◌, ◌∙◌, Bool, ap, refl, Err}
+use Rattle.ttx_pes.specs.declared.fault.PesFault.TheVariants.{TooMany}
+use Rattle.ttx_pes.proofs.ReaderLemmas.{byte_is_left, excluded, format_not_read}
+use Rattle.ttx_pes.proofs.ReaderLemmas.{packet_left}
 use Rattle.ttx_pes.proofs.reader.PesReader.next_into.Goals as goal
 
 pub returns-in-Ok-true-clause-left : goal.returns-in-Ok-true-clause-left
@@ -16,13 +18,14 @@ returns-in-Ok-false-clause-none g c = λ given is bytes told _.
     (c.read_packet.ensures.end (cc) bytes told).0
 
 pub returns-in-Err-clause-excluded : goal.returns-in-Err-clause-excluded
-returns-in-Err-clause-excluded g c = λ given is bytes told.
+returns-in-Err-clause-excluded g c = λ given is bytes told k.
     let same : given ≡ c.in-Reading.given = cc in
-    excluded given bytes (Err c.in-Err.fault) c.read_packet.new.frame
-    (λ k. rw same (c.in-Err.ensures.exact bytes told k))
+    excluded given bytes c.in-Err.fault k
+    (rw same (c.in-Err.ensures.exact bytes told (format_not_read Bool c.in-Err.fault k)))
 
 pub returns-in-Err-clause-byte_left : goal.returns-in-Err-clause-byte_left
 returns-in-Err-clause-byte_left g c = λ given is bytes told e.
     let same : given ≡ c.in-Reading.given = cc in
-    byte_is_left given bytes c.in-Err.fault c.read_packet.new.frame
-    (λ k. rw same (c.in-Err.ensures.exact bytes told k)) e
+    let many : c.in-Err.fault ≡ TooMany = cc in
+    byte_is_left given bytes
+    (rw same (c.in-Err.ensures.exact bytes told (rw many refl)) ∙ ap (λ f. Err f) many)

@@ -1,0 +1,76 @@
+-- Slices compared in blocks: same_block for one, same_more for the next, same_whole at the end.
+use Rattle.std.proofs.Common.{◌≡◌, ◌↔◌, ℕ, ◌+◌, ◌*◌, ◌≤◌, ◌^◌, ◌%◌, ◌-◌, Bool, true, false}
+use Rattle.std.proofs.Common.{List, [], ◌∷◌, ◌++◌, map, length, take, drop, cond, nat_eq, refl, sym}
+use Rattle.std.proofs.Common.{ap, ap₂, ◌∙◌, arith, not, w8, eqb-true, eq-eqb, inl, inr}
+use Rattle.std.proofs.Common.{take-append-drop}
+use Rattle.std.proofs.lemmas.Bool.{cases_eq, ne_eqb}
+use Rattle.std.proofs.lemmas.List.{take-take}
+use Rattle.std.proofs.lemmas.Simd.{length-zip2, mask_l-mod, tops_compared}
+use lib.Lanes.{zip2, mask_l, top, chunk}
+use lib.Seq.{take-add}
+
+-- Whether two bytes differ.
+abbrev pub differ : ℕ → ℕ → Bool
+differ x y = not (nat_eq x y)
+
+-- No byte differs from itself.
+none_differ : (a : List ℕ) → mask_l (zip2 differ a a) ≡ 0
+none_differ [] = refl
+none_differ (x ∷ a) =
+    let same : nat_eq x x ≡ true = eq-eqb x x refl in
+    let rest = none_differ a in
+    rw (same, rest) refl
+
+-- Where no byte differs, the lists are the same.
+same_from_none : (a b : List ℕ) → length a ≡ length b → mask_l (zip2 differ a b) ≡ 0 → a ≡ b
+same_from_none [] [] l e = refl
+same_from_none [] (y ∷ b) l e = absurd (omega arith)
+same_from_none (x ∷ a) [] l e = absurd (omega arith)
+same_from_none (x ∷ a) (y ∷ b) l e = elim (cases_eq x y) [
+  | inl same ↦
+      let t : nat_eq x y ≡ true = eq-eqb x y same in
+      let rest : mask_l (zip2 differ a b) ≡ 0 = let f = rw t at e in omega arith in
+      ap₂ (λ (z : ℕ) (zs : List ℕ). z ∷ zs) same (same_from_none a b (omega arith) rest)
+  | inr other ↦
+      let t : nat_eq x y ≡ false = ne_eqb x y other in
+      let f = rw t at e in
+      absurd (omega arith)
+]
+
+-- A mask without a bit says that two blocks are the same. For `is_same_block`.
+pub same_block : (a b : List ℕ)
+    → length a ≡ 64
+    → length b ≡ 64
+    → (nat_eq
+    (mask_l (map (top 7) (zip2 (λ x y. cond (differ x y) (2 ^ 8 - 1) 0) a b)) % 2 ^ 64) 0 ≡ true)
+    ↔ (a ≡ b)
+same_block a b la lb =
+    let size : length (zip2 differ a b) ≤ 64 =
+    omega (arith, length-zip2 differ a b (la ∙ sym lb)) in
+    let plain : mask_l (map (top 7) (zip2 (λ x y. cond (differ x y) (2 ^ 8 - 1) 0) a b)) % 2 ^ 64
+    ≡ mask_l (zip2 differ a b) =
+    ap (λ m. mask_l m % 2 ^ 64) (tops_compared w8 differ a b) ∙ mask_l-mod _ 64 size in (
+      λ e. same_from_none a b (la ∙ sym lb) (sym plain ∙ eqb-true _ _ e),
+      λ e. eq-eqb _ _ (plain ∙ ap (λ l. mask_l (zip2 differ a l)) (sym e) ∙ none_differ a),
+    )
+
+-- A block more. For `is_same`.
+pub same_more : (a b : List ℕ) (i : ℕ)
+    → take (64 * i) a ≡ take (64 * i) b
+    → chunk (64 * i) 64 a ≡ chunk (64 * i) 64 b
+    → take (64 * (i + 1)) a ≡ take (64 * (i + 1)) b
+same_more a b i front block =
+    let next : 64 * (i + 1) ≡ 64 * i + 64 = omega arith in
+    rw next (take-add (64 * i) 64 a ∙ ap₂ (λ (x y : List ℕ). x ++ y) front block
+    ∙ sym (take-add (64 * i) 64 b))
+
+-- Blocks up to a place, and all from a place that is not after it. For `is_same`.
+pub same_whole : (a b : List ℕ) (m n : ℕ)
+    → m ≤ n
+    → take n a ≡ take n b
+    → drop m a ≡ drop m b
+    → a ≡ b
+same_whole a b m n le front back =
+    let first : take m a ≡ take m b =
+    sym (take-take m n a le) ∙ ap (take m) front ∙ take-take m n b le in
+    sym (take-append-drop m a) ∙ ap₂ (λ (x y : List ℕ). x ++ y) first back ∙ take-append-drop m b

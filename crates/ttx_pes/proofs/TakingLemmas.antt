@@ -1,0 +1,267 @@
+-- What the bytes that were taken of a packet decide: first_short, bad_size, second_short, whole for
+-- a source that tells its bytes, is_packet for each.
+use Rattle.std.proofs.Common.{◌≡◌, ℕ, ◌+◌, ◌<◌, ◌≤◌, List, [], ◌++◌, length, take, drop, Option}
+use Rattle.std.proofs.Common.{Some, None, Result, Ok, Err, refl, sym, ap, subst, ◌∙◌, append_assoc}
+use Rattle.std.proofs.Common.{arith, length-append, length-take, length-drop, zero, suc, ◌∷◌}
+use Rattle.std.proofs.lemmas.List.{take-append-drop, append-nil, take-take, drop-drop}
+use Rattle.std.proofs.lemmas.List.{length-take-le}
+use Rattle.std.specs.Io.KnownBytes.{Consumes, IsAtEnd}
+use lib.Seq.{take-append-le}
+use Rattle.sub_io.specs.Reading.{◌>>=◌, AreBytes}
+use Rattle.ttx_pes.specs.declared.fault.PesFault.{PesFault}
+use Rattle.ttx_pes.specs.declared.fault.PesFault.TheVariants as fault
+use Rattle.ttx_pes.specs.PesPacket.{PesValue, IsPesPacket}
+use Rattle.ttx_pes.specs.Reading.{size_at, value_at, packet_at, answer_at, rest_after}
+use Rattle.ttx_pes.specs.Reader.{TakesPesPacket}
+use Rattle.ttx_pes.specs.Comparing.{TakesDataField}
+use Rattle.ttx_pes.specs.Taking.{TakesSized}
+use Rattle.ttx_pes.proofs.ReadingLemmas.{answer_full, answer_packet, packet_short, packet_size}
+use Rattle.ttx_pes.proofs.ReadingLemmas.{packet_cut, packet_parts, read_is_packet}
+
+-- Equal told bytes.
+Some-injective : (x y : List ℕ) → ◌≡◌ {A = Option (List ℕ)} (Some x) (Some y) → x ≡ y
+Some-injective x y e = cc
+
+-- What is left of the bytes of a source that tells them, after some were taken.
+pub record Left (bytes : List ℕ) (new : Option (List ℕ)) (taken : List ℕ) : Type 0 where
+  pub rest : List ℕ
+  pub parts : bytes ≡ taken ++ rest
+  pub new_is : new ≡ Some rest
+  pub ended : IsAtEnd new → rest ≡ []
+
+-- It follows from what was consumed.
+pub Left-from_consumed : (old new : Option (List ℕ)) (bytes taken : List ℕ)
+    → Consumes old new taken
+    → old ≡ Some bytes
+    → Left bytes new taken
+Left-from_consumed None new bytes taken h e = absurd cc
+Left-from_consumed (Some xs) None bytes taken h e = absurd h
+Left-from_consumed (Some xs) (Some ys) bytes taken h e =
+    record {
+      rest = ys;
+      parts = sym (Some-injective xs bytes e) ∙ h;
+      new_is = refl;
+      ended = λ end. end;
+    }
+
+-- How many bytes there are.
+length_parts : (bytes : List ℕ) (new : Option (List ℕ)) (taken : List ℕ)
+    → (t : Left bytes new taken)
+    → length bytes ≡ length taken + length t.rest
+length_parts bytes new taken t = ap length t.parts ∙ length-append taken t.rest
+
+-- The end of the source, where no byte was taken.
+pub none_taken : (bytes : List ℕ) (n : ℕ) (new : Option (List ℕ)) (room : List ℕ)
+    → Left bytes new (take n room)
+    → n ≡ 0
+    → IsAtEnd new
+    → bytes ≡ []
+none_taken bytes n new room t z end =
+    let empty : take n room ≡ [] = ap (λ k. take k room) z in
+    t.parts ∙ rw (empty, t.ended end) refl
+
+-- What is left there.
+pub none_left : (bytes : List ℕ) (n : ℕ) (new : Option (List ℕ)) (room : List ℕ)
+    → Left bytes new (take n room)
+    → n ≡ 0
+    → IsAtEnd new
+    → new ≡ Some (rest_after bytes)
+unfolding rest_after packet_at
+none_left bytes n new room t z end =
+    let none = none_taken bytes n new room t z end in
+    rw none (t.new_is ∙ ap (λ (x : List ℕ). Some x) (t.ended end))
+
+-- A byte after the most packets.
+pub too_many : (given : ℕ) (bytes : List ℕ) (new : Option (List ℕ)) (taken : List ℕ)
+    → Left bytes new taken
+    → 0 < length taken
+    → given ≡ 2160000
+    → answer_at given bytes ≡ Err fault.TooMany
+too_many given bytes new taken t some full =
+    let len = length_parts bytes new taken t in
+    rw full (answer_full bytes (omega arith))
+
+-- Fewer than six bytes.
+pub first_short : (given : ℕ) (bytes : List ℕ) (new : Option (List ℕ)) (taken : List ℕ)
+    → Left bytes new taken
+    → IsAtEnd new
+    → 0 < length taken
+    → length taken < 6
+    → (given ≡ 2160000 → ⊥)
+    → answer_at given bytes ≡ Err fault.Truncated
+first_short given bytes new taken t end some lt ne =
+    let none : length t.rest ≡ 0 = ap length (t.ended end) in
+    let len = length_parts bytes new taken t in
+    answer_packet given bytes (Err fault.Truncated) (omega arith) ne
+    (packet_short bytes (omega arith))
+
+-- The first six bytes are those that were taken.
+six_bytes : (bytes : List ℕ) (new : Option (List ℕ)) (taken : List ℕ)
+    → Left bytes new taken
+    → 6 ≤ length taken
+    → take 6 bytes ≡ take 6 taken
+six_bytes bytes new taken t le = ap (take 6) t.parts ∙ take-append-le 6 taken t.rest le
+
+-- The first four bytes or the length are wrong.
+pub bad_size : (given : ℕ) (bytes : List ℕ) (new : Option (List ℕ)) (taken : List ℕ) (x : PesFault)
+    → Left bytes new taken
+    → 6 ≤ length taken
+    → (given ≡ 2160000 → ⊥)
+    → size_at (take 6 taken) ≡ Err x
+    → answer_at given bytes ≡ Err x
+bad_size given bytes new taken x t le ne bad =
+    let len = length_parts bytes new taken t in
+    answer_packet given bytes (Err x) (omega arith) ne
+    (packet_size bytes x (omega arith) (ap size_at (six_bytes bytes new taken t le) ∙ bad))
+
+-- The bytes end within the packet.
+pub second_short : (given : ℕ) (bytes : List ℕ) (size : ℕ) (new : Option (List ℕ)) (taken : List ℕ)
+    → Left bytes new taken
+    → IsAtEnd new
+    → 6 ≤ length taken
+    → length taken < size
+    → (given ≡ 2160000 → ⊥)
+    → size_at (take 6 taken) ≡ Ok size
+    → answer_at given bytes ≡ Err fault.Truncated
+second_short given bytes size new taken t end le lt ne good =
+    let none : length t.rest ≡ 0 = ap length (t.ended end) in
+    let len = length_parts bytes new taken t in
+    answer_packet given bytes (Err fault.Truncated) (omega arith) ne
+    (packet_cut bytes size (omega arith) (ap size_at (six_bytes bytes new taken t le) ∙ good)
+    (omega arith))
+
+-- A value and the bytes after it.
+abbrev with_rest : List ℕ → PesValue → Result (PesValue × List ℕ) PesFault
+with_rest rest v = Ok (v, rest)
+
+-- The answer of a value that was read.
+abbrev value_in : PesValue × List ℕ → Result (Option PesValue) PesFault
+value_in p = Ok (Some p.0)
+
+-- The answer, by what was read of the body.
+answered : (r q : Result PesValue PesFault) (rest : List ℕ)
+    → q ≡ r
+    → ((q >>= with_rest rest) >>= value_in) ≡ (r >>= λ v. Ok (Some v))
+answered (Ok v) q rest e = rw e refl
+answered (Err f) q rest e = rw e refl
+
+-- What is read of the bytes of a packet, whatever follows them.
+packet_of_bytes : (taken rest : List ℕ)
+    → 6 ≤ length taken
+    → size_at (take 6 taken) ≡ Ok (length taken)
+    → packet_at (taken ++ rest) ≡ (value_at (drop 6 taken) >>= λ v. Ok (v, rest))
+packet_of_bytes taken rest le sized =
+    let head = take 6 taken in
+    let body = drop 6 taken in
+    let parts : taken ++ rest ≡ head ++ (body ++ rest) =
+    ap (λ (x : List ℕ). x ++ rest) (sym (take-append-drop 6 taken))
+    ∙ append_assoc head body rest in
+    ap packet_at parts
+    ∙ packet_parts head body rest (length taken) (length-take 6 taken ∙ omega arith) sized le
+    (length-drop 6 taken)
+
+-- The whole packet is there: its value, or its first fault.
+pub whole : (given : ℕ) (bytes : List ℕ) (old new : Option (List ℕ)) (taken : List ℕ)
+    (r : Result PesValue PesFault)
+    → TakesSized old new taken
+    → old ≡ Some bytes
+    → 6 ≤ length taken
+    → (given ≡ 2160000 → ⊥)
+    → value_at (drop 6 taken) ≡ r
+    → answer_at given bytes ≡ (r >>= λ v. Ok (Some v))
+whole given bytes old new taken r h is le ne e =
+    let t = Left-from_consumed old new bytes taken h.consumed is in
+    let len = length_parts bytes new taken t in
+    answer_packet given bytes (value_at (drop 6 taken) >>= λ v. Ok (v, t.rest)) (omega arith) ne
+    (ap packet_at t.parts ∙ packet_of_bytes taken t.rest le h.sized)
+    ∙ answered r (value_at (drop 6 taken)) t.rest e
+
+-- Bytes behind bytes.
+joined_fit : (a b : List ℕ) → AreBytes a → AreBytes b → AreBytes (a ++ b)
+joined_fit [] b p q i = q i
+joined_fit (x ∷ a) b p q zero = p 0
+joined_fit (x ∷ a) b p q (suc i) = joined_fit a b (λ k. p (suc k)) q i
+
+-- A value was read: the bytes that were taken are a packet of it, also where they are not told.
+pub is_packet : (old new : Option (List ℕ)) (taken : List ℕ) (v : PesValue)
+    → TakesSized old new taken
+    → 6 ≤ length taken
+    → value_at (drop 6 taken) ≡ Ok v
+    → AreBytes (drop 6 taken)
+    → IsPesPacket v taken
+is_packet old new taken v h le e fit =
+    let reads : packet_at taken ≡ Ok (v, []) =
+    ap packet_at (sym (append-nil taken)) ∙ packet_of_bytes taken [] le h.sized ∙ rw e refl in
+    let all : AreBytes taken =
+    subst (λ (x : List ℕ). AreBytes x) (take-append-drop 6 taken)
+    (joined_fit (take 6 taken) (drop 6 taken) h.fit fit) in
+    let s = read_is_packet v taken [] all reads in
+    subst (λ (x : List ℕ). IsPesPacket v x) (sym (s.2 ∙ append-nil s.0)) s.1
+
+-- The first six bytes stay where more were taken after them. For `take_packet`.
+pub head_kept : (got n : ℕ) (old new : List ℕ)
+    → 6 ≤ got
+    → got ≤ n
+    → take got new ≡ take got old
+    → take 6 (take n new) ≡ take 6 old
+head_kept got n old new le more kept =
+    take-take 6 n new (omega arith)
+    ∙ sym (take-take 6 got new le)
+    ∙ ap (take 6) kept
+    ∙ take-take 6 got old le
+
+-- The answer, by what was read of the body in the room. For each reader.
+pub answer_taken : (given : ℕ) (bytes : List ℕ) (old new : Option (List ℕ)) (size : ℕ)
+    (room body : List ℕ) (r : Result PesValue PesFault)
+    → TakesSized old new (take size room)
+    → old ≡ Some bytes
+    → 6 ≤ size
+    → size ≤ length room
+    → (given ≡ 2160000 → ⊥)
+    → body ≡ drop 6 (take size room)
+    → value_at body ≡ r
+    → answer_at given bytes ≡ (r >>= λ v. Ok (Some v))
+answer_taken given bytes old new size room body r h is le fits ne same e =
+    let len = length-take-le size room fits in
+    whole given bytes old new (take size room) r h is (omega arith) ne (ap value_at (sym same) ∙ e)
+
+-- The packet, by the value that was read of the body in the room. For each reader.
+pub packet_taken : (old new : Option (List ℕ)) (size : ℕ) (room body : List ℕ) (v : PesValue)
+    → TakesSized old new (take size room)
+    → 6 ≤ size
+    → size ≤ length room
+    → body ≡ drop 6 (take size room)
+    → value_at body ≡ Ok v
+    → AreBytes body
+    → TakesPesPacket old new v
+packet_taken old new size room body v h le fits same e fit =
+    let len = length-take-le size room fits in
+    record {
+      bytes = take size room;
+      is_packet = is_packet old new (take size room) v h (omega arith) (ap value_at (sym same) ∙ e)
+          (subst (λ (x : List ℕ). AreBytes x) same fit);
+      consumed = h.consumed;
+    }
+
+-- The same with its data field. For `read_compared`.
+pub field_taken : (old new : Option (List ℕ)) (size : ℕ) (room body : List ℕ) (v : PesValue)
+    (field : List ℕ)
+    → TakesSized old new (take size room)
+    → 6 ≤ size
+    → size ≤ length room
+    → body ≡ drop 6 (take size room)
+    → value_at body ≡ Ok v
+    → AreBytes body
+    → field ≡ drop 39 body
+    → TakesDataField old new v field
+field_taken old new size room body v field h le fits same e fit is =
+    let len = length-take-le size room fits in
+    record {
+      packet = record {
+        bytes = take size room;
+        is_packet = is_packet old new (take size room) v h (omega arith)
+            (ap value_at (sym same) ∙ e) (subst (λ (x : List ℕ). AreBytes x) same fit);
+        consumed = h.consumed;
+      };
+      field_is = is ∙ ap (drop 39) same ∙ drop-drop 39 6 (take size room);
+    }

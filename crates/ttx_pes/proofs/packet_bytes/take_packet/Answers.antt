@@ -1,0 +1,93 @@
+-- What the bytes of the source decide at each return: by TakingLemmas.
+use Rattle.std.proofs.Common.{◌≡◌, ℕ, ◌∙◌, List, length, take, Ok, sym, ap, subst, arith, rules}
+use Rattle.std.proofs.lemmas.List.{take-take, length-take-le}
+use Rattle.std.proofs.lemmas.Result.{err_from_is_err_and}
+use Rattle.std.proofs.KnownBytes.{Consumes-nil}
+use Rattle.std.specs.Io.KnownBytes.{Consumes}
+use Rattle.sub_io.specs.Reading.{AreBytes}
+use Rattle.ttx_pes.specs.Reading.{size_at}
+use Rattle.ttx_pes.proofs.TakingLemmas.{Left-from_consumed, none_taken, none_left, too_many}
+use Rattle.ttx_pes.proofs.TakingLemmas.{first_short, bad_size, second_short, head_kept}
+use Rattle.ttx_pes.proofs.packet_bytes.take_packet.Goals as goal
+
+pub returns-then-got-eq0-clause-end : goal.returns-then-got-eq0-clause-end
+returns-then-got-eq0-clause-end g c = λ _ bytes is.
+    let t = Left-from_consumed _ _ bytes (take c.in_ok-got.got c.fill_on.new.room)
+    (c.in_ok-got.ensures.bytes _ (Consumes-nil _)) is in
+    let end = c.in_ok-got.ensures.end (omega arith) in (
+      none_taken bytes c.in_ok-got.got _ c.fill_on.new.room t c.if-got-eq0.true end,
+      none_left bytes c.in_ok-got.got _ c.fill_on.new.room t c.if-got-eq0.true end,
+    )
+
+pub returns-then-given-eq-MOST_PACKETS-2-clause-refused :
+    goal.returns-then-given-eq-MOST_PACKETS-2-clause-refused
+returns-then-given-eq-MOST_PACKETS-2-clause-refused g c = λ bytes is _.
+    let t = Left-from_consumed _ _ bytes (take c.in_ok-got.got c.fill_on.new.room)
+    (c.in_ok-got.ensures.bytes _ (Consumes-nil _)) is in
+    let len = length-take-le c.in_ok-got.got c.fill_on.new.room c.in_ok-got.ensures.room in
+    too_many c.args.given bytes _ (take c.in_ok-got.got c.fill_on.new.room) t
+    (omega arith) c.if-given-eq-MOST_PACKETS-2.true
+
+pub returns-then-got-lt-HEAD-clause-refused : goal.returns-then-got-lt-HEAD-clause-refused
+returns-then-got-lt-HEAD-clause-refused g c = λ bytes is _.
+    let t = Left-from_consumed _ _ bytes (take c.in_ok-got.got c.fill_on.new.room)
+    (c.in_ok-got.ensures.bytes _ (Consumes-nil _)) is in
+    let len = length-take-le c.in_ok-got.got c.fill_on.new.room c.in_ok-got.ensures.room in
+    first_short c.args.given bytes _ (take c.in_ok-got.got c.fill_on.new.room) t
+    (c.in_ok-got.ensures.end (omega arith)) (omega arith) (omega arith)
+    c.if-given-eq-MOST_PACKETS-2.false
+
+pub returns-in_err-size-clause-refused : goal.returns-in_err-size-clause-refused
+returns-in_err-size-clause-refused g c =
+    let p = err_from_is_err_and c.from_residual-in_err-size.result
+    c.from_residual-in_err-size.ensures.1 in
+    let same : c.unwrap.result.now ≡ take 6 c.fill_on.new.room = search rules in
+    let head : take 6 (take c.in_ok-got.got c.fill_on.new.room) ≡ take 6 c.fill_on.new.room =
+    take-take 6 c.in_ok-got.got c.fill_on.new.room (omega arith) in
+    let bad = ap size_at (head ∙ sym same) ∙ c.in_err-size.ensures.exact in
+    let len = length-take-le c.in_ok-got.got c.fill_on.new.room c.in_ok-got.ensures.room in
+    rw (p.1, p.2) (λ bytes is _. bad_size c.args.given bytes _
+    (take c.in_ok-got.got c.fill_on.new.room) c.in_err-size.field-0.0
+    (Left-from_consumed _ _ bytes (take c.in_ok-got.got c.fill_on.new.room)
+    (c.in_ok-got.ensures.bytes _ (Consumes-nil _)) is)
+    (omega arith) c.if-given-eq-MOST_PACKETS-2.false bad)
+
+pub returns-then-branch-size-clause-refused : goal.returns-then-branch-size-clause-refused
+returns-then-branch-size-clause-refused g c = λ bytes is _.
+    let n = c.in_ok-fill_on.field-0 in
+    let room = c.fill_on-2.new.room in
+    let t = Left-from_consumed _ _ bytes (take n room)
+    (c.in_ok-fill_on.ensures.bytes _ (c.in_ok-got.ensures.bytes _ (Consumes-nil _))) is in
+    let len = length-take-le n room c.in_ok-fill_on.ensures.room in
+    let same : c.unwrap.result.now ≡ take 6 c.fill_on.new.room = search rules in
+    let head : take 6 (take n room) ≡ take 6 c.fill_on.new.room =
+    head_kept c.in_ok-got.got n c.fill_on.new.room room (omega arith) c.in_ok-fill_on.ensures.from
+    c.in_ok-fill_on.ensures.kept in
+    second_short c.args.given bytes c.in_ok-size.size _ (take n room) t
+    (c.in_ok-fill_on.ensures.end (omega arith))
+    (omega (arith, c.in_ok-fill_on.ensures.from)) (omega arith)
+    c.if-given-eq-MOST_PACKETS-2.false
+    (ap size_at (head ∙ sym same) ∙ c.in_ok-size.ensures.exact)
+
+pub returns-clause-taken : goal.returns-clause-taken
+returns-clause-taken g c =
+    let old = g.S.Source.remaining c.args.source.now in
+    let n = c.in_ok-fill_on.field-0 in
+    let size = c.in_ok-size.size in
+    let room = c.fill_on-2.new.room in
+    let all : n ≡ size = omega (arith, c.in_ok-fill_on.ensures.bound) in
+    let len : length (take size room) ≡ size =
+    length-take-le size room (omega (arith, c.in_ok-fill_on.ensures.room)) in
+    let same : c.unwrap.result.now ≡ take 6 c.fill_on.new.room = search rules in
+    let head : take 6 (take size room) ≡ take 6 c.fill_on.new.room =
+    head_kept c.in_ok-got.got size c.fill_on.new.room room (omega arith)
+    (omega (arith, c.in_ok-fill_on.ensures.from))
+    c.in_ok-fill_on.ensures.kept in
+    record {
+      consumed = subst (λ (k : ℕ). Consumes old (g.S.Source.remaining c.fill_on-2.new.source)
+          (take k room)) all
+          (c.in_ok-fill_on.ensures.bytes old (c.in_ok-got.ensures.bytes old (Consumes-nil old)));
+      sized = ap size_at (head ∙ sym same) ∙ c.in_ok-size.ensures.exact
+          ∙ ap (λ (k : ℕ). Ok k) (sym len);
+      fit = subst (λ (x : List ℕ). AreBytes x) (same ∙ sym head) c.size_of.ensures.bytes;
+    }

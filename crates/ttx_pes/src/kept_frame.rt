@@ -1,0 +1,100 @@
+//! A frame with the data field that it was read from, so that one that is sent again is compared
+//! and not read again.
+ghost use Rattle.std.specs.Prelude.{◌≡◌, ◌+◌, ◌%◌, ◌≤◌, ◌↔◌, true, Ok, Err, OnOk, IfOk, IfErr, length};
+ghost use Rattle.std.specs.Prelude.{drop, []};
+ghost use Rattle.sub_io.specs.Reading.{AreBytes};
+ghost use Rattle.ttx_pes.specs.PesPacket.{empty_value};
+ghost use Rattle.ttx_pes.specs.Reading.{value_at, is_format_fault};
+
+use crate::data_unit::take_units;
+use crate::fault::PesFault;
+use crate::pes_frame::PesFrame;
+use crate::pes_header::pts_of;
+use crate::same_bytes::is_same;
+use std::marker::Model;
+
+/// A frame, and the data field that it was read from: bytes 45 to the end of its packet.
+#[derive(Drop)]
+pub(crate) struct KeptFrame {
+    frame: PesFrame,
+    // The first `count` bytes are kept.
+    field: [u8; 1611],
+    count: usize,
+}
+
+impl Model for KeptFrame {
+    ghost use Rattle.std.specs.Prelude.{◌≤◌, take};
+    ghost use Rattle.ttx_pes.specs.Taking.{HasUnits, KeptValue};
+
+    ghost Value = { KeptValue };
+
+    ghost view = { λ k. record { frame = k.frame; data_field = take k.count k.field } };
+
+    ghost invariant = { λ k. (k.count ≤ 1611) × HasUnits (take k.count k.field) k.frame.units };
+}
+
+impl KeptFrame {
+    // The empty frame, and no data field.
+    pub(crate) fn new() -> Self
+        ensures { result ≡ record { frame = empty_value; data_field = [] } }
+    {
+        KeptFrame {
+            frame: PesFrame::new(0),
+            field: [0; 1611],
+            count: 0,
+        }
+    }
+
+    // The frame.
+    pub(crate) fn frame(&self) -> &PesFrame
+        ensures { result.now ≡ self.now.frame }
+    {
+        &self.frame
+    }
+
+    // Makes it as `new` does.
+    pub(crate) fn clear(&mut self)
+        ensures { self.new ≡ record { frame = empty_value; data_field = [] } }
+    {
+        self.frame.restart(0);
+        self.count = 0;
+    }
+
+    // Whether a data field is the one that is kept.
+    fn is_kept(&self, field: &[u8]) -> bool
+        requires { 139 ≤ length field.now }
+        ensures { (result ≡ true) ↔ (field.now ≡ self.now.data_field) }
+    {
+        let kept = &self.field[..self.count];
+        kept.len() == field.len() && is_same(field, kept)
+    }
+
+    // Makes it the value of a packet's bytes from byte 6 on, with their data field, and answers
+    // whether that is the one kept before.
+    pub(crate) fn take(&mut self, body: &[u8]) -> Result<bool, PesFault>
+        requires short { length body.now ≤ 1650 }
+        requires whole { (length body.now + 6) % 184 ≡ 0 }
+        ensures value { OnOk result (value_at body.now ≡ Ok self.new.frame) }
+        ensures field { OnOk result (self.new.data_field ≡ drop 39 body.now) }
+        ensures same { IfOk result (λ same.
+            (same ≡ true) ↔ (drop 39 body.now ≡ self.old.data_field)) }
+        ensures units { result ≡ Ok true → self.new.frame.units ≡ self.old.frame.units }
+        ensures err { IfErr result (λ fault. value_at body.now ≡ Err fault) }
+        ensures kind { IfErr result (λ fault. is_format_fault fault ≡ true) }
+        ensures bytes { AreBytes body.now }
+    {
+        let pts = pts_of(body)?;
+        let (_, field) = body.split_at(39);
+        if self.is_kept(field) {
+            self.frame.set_pts(pts);
+            return Ok(true);
+        }
+        self.count = 0;
+        self.frame.restart(pts);
+        let (_, blocks) = field.split_at(1);
+        take_units(&mut self.frame, blocks.len() / 46, blocks)?;
+        self.field[..field.len()].copy_from_slice(field);
+        self.count = field.len();
+        Ok(false)
+    }
+}

@@ -1,0 +1,109 @@
+//! The bytes of the next PES packet, taken from a source.
+ghost use Rattle.std.specs.Prelude.{◌≡◌, ◌+◌, ◌%◌, ◌<◌, ◌≤◌, ◌≢◌, true, false, [], length, take, drop, Some};
+ghost use Rattle.std.specs.Prelude.{None, Ok, Err, IfOk, IfErr, IfSome, if◌then◌else◌, IsSome, is_ok};
+ghost use Rattle.std.specs.Io.KnownBytes.{IsAtEnd};
+ghost use Rattle.sub_io.specs.Device.{CanFail, CountsFailure};
+ghost use Rattle.sub_io.specs.Reading.{AreBytes, IfTold};
+ghost use Rattle.ttx_pes.specs.declared.fault.PesFault.TheVariants.{Ended, Read, TooMany, Write};
+ghost use Rattle.ttx_pes.specs.Reading.{answer_at, is_read_failure, rest_after};
+ghost use Rattle.ttx_pes.specs.Taking.{TakesOn, TakesSized};
+
+use crate::fault::PesFault;
+use crate::pes_header::size_of;
+use sub_io::{Failed, Source};
+
+/// The packets of a file at most: one for each frame of a day at 25 a second.
+pub(crate) const MOST_PACKETS: u32 = 2_160_000;
+
+/// Room for the bytes of one packet: nine payloads of 184 bytes at most.
+pub(crate) type Room = [u8; 1656];
+
+// The bytes that each packet has at least, one payload, and those that tell how many it has.
+const LEAST: usize = 184;
+
+const HEAD: usize = 6;
+
+// Pulls into the room, of which the first bytes are held already, until it holds the least number
+// of bytes or the source is at its end, and answers how many it holds. It asks for the most that
+// the room may hold.
+fn fill_on<S: Source>(
+    source: &mut S,
+    room: &mut [u8],
+    held: usize,
+    least: usize,
+    most: usize,
+) -> Result<usize, Failed>
+    requires count { CanFail (S.failure_count source.old) }
+    requires held { held ≤ least }
+    requires least { least ≤ most }
+    requires most { most ≤ length room.old }
+    ensures from { IfOk result (λ n. held ≤ n) }
+    ensures bound { IfOk result (λ n. n ≤ most) }
+    ensures room { IfOk result (λ n. n ≤ length room.new) }
+    ensures kept { take held room.new ≡ take held room.old }
+    ensures bytes { IfOk result (λ n. TakesOn (S.remaining source.old) (take held room.old)
+        (S.remaining source.new) (take n room.new)) }
+    ensures end { IfOk result (λ n. n < least → IsAtEnd (S.remaining source.new)) }
+    ensures count { CountsFailure (S.failure_count source.old) result (S.failure_count source.new) }
+{
+    let mut at = held;
+    while at < least {
+        let n = source.pull(&mut room[at..most])?;
+        if n == 0 {
+            break;
+        }
+        at += n;
+    }
+    Ok(at)
+}
+
+// Takes the next packet's bytes into the room and answers how many they are, `None` at the end of
+// the source. No pull comes before the faults that the bytes held already show.
+pub(crate) fn take_packet<S: Source>(
+    given: u32,
+    source: &mut S,
+    room: &mut Room,
+) -> Result<Option<usize>, PesFault>
+    requires { CanFail (S.failure_count source.old) }
+    ensures refused { IfErr result (λ fault. IfTold (S.remaining source.old) (λ bytes.
+        fault ≢ Read → answer_at given bytes ≡ Err fault)) }
+    ensures end { result ≡ Ok None → IfTold (S.remaining source.old) (λ bytes.
+        (bytes ≡ []) × (S.remaining source.new ≡ Some (rest_after bytes))) }
+    ensures taken { IfOk result (λ taken. IfSome taken (λ size.
+        TakesSized (S.remaining source.old) (S.remaining source.new) (take size room.new))) }
+    ensures range { IfOk result (λ taken. IfSome taken (λ size.
+        (184 ≤ size) × (size ≤ 1656) × (size % 184 ≡ 0))) }
+    ensures below { IfOk result (λ taken. IsSome taken → given ≢ MOST_PACKETS) }
+    ensures too_many { IfErr result (λ fault. fault ≡ TooMany → given ≡ MOST_PACKETS) }
+    ensures no_ended { IfErr result (λ fault. fault ≢ Ended) }
+    ensures no_write { IfErr result (λ fault. fault ≢ Write) }
+    ensures count { S.failure_count source.new
+        ≡ S.failure_count source.old + (if is_read_failure result then 1 else 0) }
+{
+    let most = if given == MOST_PACKETS { HEAD } else { LEAST };
+    let got = fill_on(source, room, 0, HEAD, most)?;
+    if got == 0 {
+        return Ok(None);
+    }
+    if given == MOST_PACKETS {
+        return Err(PesFault::TooMany);
+    }
+    if got < HEAD {
+        return Err(PesFault::Truncated);
+    }
+    let size = size_of(room.first_chunk().unwrap())?;
+    if fill_on(source, room, got, size, size)? < size {
+        return Err(PesFault::Truncated);
+    }
+    Ok(Some(size))
+}
+
+// The bytes from byte 6 on of the packet of that many bytes.
+pub(crate) fn body_of(room: &Room, size: usize) -> &[u8]
+    requires { (6 ≤ size) × (size ≤ 1656) }
+    ensures { result.now ≡ drop 6 (take size room.now) }
+{
+    let (packet, _) = room.split_at(size);
+    let (_, body) = packet.split_at(6);
+    body
+}
