@@ -1,4 +1,4 @@
-"""A listing of PES packets heard to its end: pages, sendings, and what a receiver held at frames."""
+"""A listing of PES packets heard to its end: pages, sendings, and what a receiver held when."""
 import array
 import bisect
 import collections

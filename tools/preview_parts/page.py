@@ -37,7 +37,7 @@ ASCII, and spacing attributes as dots.</p>"""
 
 def report_page(report, program):
     """The page, as text."""
-    title = f"{os.path.basename(report.stl_name)} and {os.path.basename(report.pes_name)}"
+    title = f"{os.path.basename(report.stl)} and {os.path.basename(report.pes)}"
     with open(os.path.join(os.path.dirname(__file__), "style.css"), encoding="utf-8") as file:
         style = file.read()
     parts = ['<!DOCTYPE html>\n'

@@ -35,7 +35,7 @@ def frame_place(program, report):
         parts.append(f"<p>Pictures at the last frame before that PES packet, {time_of(frame)}.</p>")
     parts.append(around(held, frame, report.page))
     ring = (verdict.row, verdict.column) if verdict.row is not None else None
-    parts.append(report.figures.at(frame, held.state_at(frame), ring))
+    parts.append(report.figures.at(frame, ring))
     known = held.last_heard if frame == held.last_frame else held.units_at.get(frame)
     if known:
         parts.append(units_table(program, known, frame, verdict.packet))
@@ -98,7 +98,7 @@ def marked_bytes(digits):
     data = bytes.fromhex(digits)
     low, high = NUMBER[data[0]], NUMBER[data[1]]
     number = None if low is None or high is None else low + 16 * high >> 3
-    coded = 2 if number else 10
+    coded = 10 if number == 0 else 2
     is_text = number is not None and number <= 24
     wrong = [byte not in CODE_WORDS if at < coded else is_text and STORED[byte] == HIT
              for at, byte in enumerate(data)]
@@ -117,15 +117,15 @@ def block_place(program, report):
     if verdict.number in ROW_FAULTS:
         parts.append(refused_subtitle(program, report.stl, verdict))
     lines = report.show_lines
-    shown = lines[:FIRST_LINES] + lines[FIRST_LINES:][-LAST_LINES:]
+    last = lines[FIRST_LINES:][-LAST_LINES:]
+    left = len(lines[FIRST_LINES:]) - len(last)
     parts.append("<h3>What <code>show</code> prints</h3>")
-    left = len(lines) - len(shown)
-    parts.append(listed(shown[:FIRST_LINES]))
+    parts.append(listed(lines[:FIRST_LINES]))
     if left:
         parts.append(f"<p>Lines {FIRST_LINES + 1} to {FIRST_LINES + left}, {left} of them, are "
                      "left out here.</p>")
-    if len(shown) > FIRST_LINES:
-        parts.append(listed(shown[FIRST_LINES:]))
+    if last:
+        parts.append(listed(last))
     return "".join(parts) + "</section>"
 
 

@@ -13,6 +13,7 @@ Subtitle = collections.namedtuple("Subtitle", "index number first end row justif
 Verdict = collections.namedtuple(
     "Verdict", "line status number name block at pes frame packet row column")
 
+ACCEPTED = re.compile(r"accepted \d+ frames \d+ transmissions$")
 PLACE = re.compile(
     r"(refused|fault|usage) (?P<number>\d+) (?P<name>\w+)"
     r"(?: block (?P<block>\d+)(?: at (?P<at>\d+))?| pes (?P<pes>\d+)"
@@ -124,10 +125,15 @@ class Program:
         return lines, answered(words[0], verdict)
 
     def check(self, stl, pes):
+        """The verdict: accepted or refused, and nothing that only looks like it."""
         verdict = self.run("check", *self.check_options, "--", stl, pes)[1]
         if verdict.number == 0 and "--complete" in self.check_options:
             raise NoReport(f"check does not know --complete, or other words: {verdict.line}")
-        return answered("check", verdict)
+        is_verdict = ACCEPTED.match(verdict.line) if verdict.status == 0 else \
+            verdict.line.startswith("refused ") and verdict.number is not None
+        if not is_verdict:
+            raise NoReport(f"check was not answered: {verdict.line}")
+        return verdict
 
     def show(self, stl):
         """The lines of `show`, its subtitles, and its last line."""

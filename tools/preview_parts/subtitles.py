@@ -11,9 +11,7 @@ from .timeline import MINUTE
 
 ROOM = 10_000_000  # bytes of pictures in a report
 NEAR, DIFFERENT = 25, 500  # subtitles by the broken place, and with other cells, that come first
-
-
-# Of a frame, with the words for the count of such subtitles.
+# What is held beside what is due, with the words for the count of such subtitles.
 KINDS = {"same": "as due", "different": "another page than the one that is due",
          "nothing": "no page yet",
          "not known": "not known, since the PES file can't be followed so far"}
@@ -47,9 +45,9 @@ class Figures:
             return "different"
         return "same"
 
-    def at(self, frame, state, place=None):
-        """The figures at the end of a frame; `state` is what the receiver holds then."""
-        time = time_of(frame)
+    def at(self, frame, place=None):
+        """The figures at the end of a frame, with the cell that is refused marked."""
+        time, state = time_of(frame), self.held.state_at(frame)
         due, header = self.due_at(frame)
         parts = [figure("due", f"Due at {time}", option_name(national_option(header)),
                         picture(due, header, (), place), lines_of(due))]
@@ -141,7 +139,7 @@ class Entries:
         return (f'<section class="entry" id="s{subtitle.index}"><h3>Subtitle {subtitle.index} '
                 f"(SN {subtitle.number}) <code>{first}</code> to <code>{end}</code></h3><p>row "
                 f"{subtitle.row}, justification {subtitle.justify}; {words}</p>"
-                f"{self.figures.at(subtitle.first, self.held.state_at(subtitle.first))}</section>")
+                f"{self.figures.at(subtitle.first)}</section>")
 
     def all(self, timeline):
         """The entries in order, by minute where the timeline has strips of minutes."""

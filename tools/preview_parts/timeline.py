@@ -10,7 +10,7 @@ UNITS = [(250, "ten seconds", 25), (MINUTE, "a minute", 250), (10 * MINUTE, "ten
          (60 * MINUTE, "an hour", 5 * MINUTE)]
 MOST_STRIPS = 24
 LEFT, RIGHT = 92, 1192  # where the time begins and ends on a strip of 1200 units
-# Sendings that are nearer than that are drawn as one block: on up to 300 strips of minutes, on more.
+# Sendings nearer than that are drawn as one block: on up to 300 strips of minutes, and on more.
 CLOSE, CLOSE_ON_MANY, MANY_STRIPS = 3, 8, 300
 # The look of a subtitle that is held as it is due, and of another: its class, its top, its height.
 BARS = [("bar", 6, 16), ("odd", 3, 22)]
