@@ -16,12 +16,13 @@ use Rattle.stl_rows.specs.declared.fault.LoadFaultKind.{LoadFaultKind}
 use Rattle.stl_rows.specs.declared.fault.LoadFaultKind.TheVariants.{File, Memory}
 use Rattle.stl_rows.specs.declared.national.National.{National}
 use Rattle.ttx_pes.specs.PesPacket.{IsPesPacket}
+use Rattle.ttx_pes.specs.declared.fault.PesFault.TheVariants as Pes
 use Rattle.sub_plan.specs.Options.{OptionsValue, IsOptions}
 use Rattle.sub_plan.specs.Schedule.{plan}
 use Rattle.sub_check.specs.CheckedFiles.{AreAccepted, IsChecked, Mean}
 use Rattle.sub_check.specs.Checking.{Accepts, HasCounts, is_failure, is_failure_kind}
 use Rattle.sub_check.specs.Checking.{is_source_failure, is_source_fault, is_subtitle_refusal}
-use Rattle.sub_check.specs.FirstBroken.{NamesFirst}
+use Rattle.sub_check.specs.FirstBroken.{IsReadUpTo, NamesFirst}
 use Rattle.sub_check.specs.FrameRules.{Unread, task_of}
 use Rattle.sub_check.specs.Good.{Good}
 use Rattle.sub_check.specs.LostRows.{RobustToMarkedLoss}
@@ -220,8 +221,12 @@ pub checked_from :
     → IsOptions options
     → IsProgramme programme.national programme.records
     → (is_source_failure result ≡ false → Decides programme options bytes result)
+    → ((frames : Transmission) (unread : Option Unread) (pes : ℕ)
+    → ReadsAs options.origin 0 bytes frames unread
+    → result ≡ Err (fault.Pes pes Pes.Read)
+    → IsReadUpTo (task_of programme options unread) frames pes)
     → IsChecked programme options bytes result
-checked_from programme options bytes result is p decides = record {
+checked_from programme options bytes result is p decides failed = record {
   accepted = λ looked fine. accepted_from programme options bytes result is (decides fine);
   robust = λ transmission carries ok.
       law_of_good programme transmission options
@@ -235,6 +240,9 @@ checked_from programme options bytes result is p decides = record {
   counts = λ transmission carries.
       counts_from programme options bytes transmission result decides carries;
   first = λ looked fine. first_from programme options bytes result (decides fine);
+  failed = λ pes e.
+      failed (pes_file_of options.origin bytes).frames (pes_file_of options.origin bytes).unread pes
+      refl e;
   content = λ frame row column e.
       wrong_everywhere programme options (pes_file_of options.origin bytes).unread
       (pes_file_of options.origin bytes).frames frame row column

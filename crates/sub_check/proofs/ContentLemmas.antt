@@ -24,7 +24,7 @@ use Rattle.sub_check.specs.FirstBroken.{IsBefore, fault_at}
 use Rattle.sub_check.specs.FrameRules.{HasHeader, Shows, Task, Unread, frame_at, joined, packets_at}
 use Rattle.sub_check.specs.FrameRules.{task_of}
 use Rattle.sub_check.specs.FrameRules.Unread.{BadPacket, NoFrame}
-use Rattle.sub_check.specs.PacketRules.{IsClean, number_of}
+use Rattle.sub_check.specs.PacketRules.{IsClean, rank}
 use Rattle.sub_check.specs.Transmission.{IsRising, SentFrame, Transmission, first_frame, last_frame}
 use Rattle.sub_check.specs.Transmission.{on_air_until, packets_between}
 use Rattle.sub_check.specs.WrongContent.{IsWrongEverywhere}
@@ -224,22 +224,22 @@ module _ (programme : ProgrammeValue) (options : OptionsValue) (unread : Option 
       let same : frame_at frames (i + 1 - 1) ≡ frame_at frames i =
       ap (frame_at frames) (omega arith) in
       wrong_from (i + 1) (frame_at frames i) row column (omega arith) (omega (arith, there.0))
-      (λ j a b. first.earlier (AtOrder j) (before_here j 0 (62 ∷ []) (omega arith) (omega arith))
+      (λ j a b. first.earlier (AtOrder j) (before_here j 0 (0 ∷ []) (omega arith) (omega arith))
       (a, omega (arith, there.0)))
       (omega arith) (λ more. inl same)
       (λ j k l m r. first.earlier (AtPacket j k r)
-      (before_here j 2 (k ∷ number_of r ∷ []) (omega arith) (omega arith))
+      (before_here j 2 (k ∷ rank r ∷ []) (omega arith) (omega arith))
       (omega (arith, there.0), m))
       (first.earlier AtFirst first_before (omega (arith, there.0))) there.1 first.broken
     where
       before_here : (j q : ℕ) (rest : List ℕ) → j ≤ i → q < 3
-          → IsBefore (0 ∷ j ∷ q ∷ rest) (0 ∷ i ∷ 3 ∷ 72 ∷ row ∷ column ∷ [])
+          → IsBefore (0 ∷ j ∷ q ∷ rest) (0 ∷ i ∷ 3 ∷ 1 ∷ row ∷ column ∷ [])
       before_here j q rest l m = elim (cases_eq j i) [
         | inl e ↦ inr (refl, inr (e, inl m))
         | inr less ↦ inr (refl, inl (omega arith))
       ]
 
-      first_before : IsBefore (0 ∷ 0 ∷ 3 ∷ 71 ∷ []) (0 ∷ i ∷ 3 ∷ 72 ∷ row ∷ column ∷ [])
+      first_before : IsBefore (0 ∷ 0 ∷ 3 ∷ 0 ∷ []) (0 ∷ i ∷ 3 ∷ 1 ∷ row ∷ column ∷ [])
       first_before = elim (cases_eq 0 i) [
         | inl e ↦ inr (refl, inr (e, inr (refl, inl (omega arith))))
         | inr less ↦ inr (refl, inl (omega arith))

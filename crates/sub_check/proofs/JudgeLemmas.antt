@@ -5,6 +5,7 @@ use Rattle.std.proofs.Common.{take, get_or}
 use Rattle.std.proofs.Common.{Option, Some, None, Result, MatchResult, Ok, Err, All, sym, ap, refl}
 use Rattle.std.proofs.Common.{◌∙◌, subst, arith, append_assoc, append-nil}
 use Rattle.std.specs.List.{AllByRecursion, AllZip, concat}
+use Rattle.std.specs.Prelude.{IfErr, true}
 use Rattle.std.proofs.lemmas.List.Folds.{concat-append}
 use Rattle.std.proofs.lemmas.List.{get_or-map, take_more, take_all}
 use Rattle.std.proofs.lemmas.List.Elements.{All-from_recursion}
@@ -12,12 +13,13 @@ use Rattle.stl_rows.specs.Programme.{ProgrammeValue, last_out}
 use Rattle.ttx_pes.specs.DataUnit.{UnitValue, IsUnit}
 use Rattle.ttx_pes.specs.PesPacket.{PesValue, IsPesPacket, IsPesValue}
 use Rattle.ttx_pes.specs.Reader.{TakesPesPacket}
+use Rattle.ttx_pes.specs.declared.fault.PesFault.TheVariants.{Read}
 use Rattle.ttx_pes.specs.Reading.{answer_at, most_packets, rest_after}
 use Rattle.sub_plan.specs.FrameTime.{frames_of_day, pts_of}
 use Rattle.sub_plan.specs.Options.{OptionsValue}
 use Rattle.sub_check.specs.Checking.{Accepts, AreTaken, AreWhole, IsFrameOf, Reaches, TellsEnd}
-use Rattle.sub_check.specs.Checking.{TellsFrame}
-use Rattle.sub_check.specs.FirstBroken.{NamesFirst, unread_fault}
+use Rattle.sub_check.specs.Checking.{IsRuleFault, TellsFrame, is_source_fault}
+use Rattle.sub_check.specs.FirstBroken.{IsReadUpTo, NamesFirst, unread_fault}
 use Rattle.sub_check.specs.Following.{Follows, FrameOk, IsSentFrame}
 use Rattle.sub_check.specs.FrameRules.{Unread, task_of, frame_at, packets_at, end_frame, joined}
 use Rattle.sub_check.specs.PacketRules.{header_count, packets_of_units}
@@ -28,7 +30,8 @@ use Rattle.sub_check.specs.declared.checker.Accepted.{Accepted}
 use Rattle.sub_check.specs.declared.fault.CheckFault.{CheckFault}
 use Rattle.sub_check.specs.declared.fault.CheckFault.TheVariants as fault
 use Rattle.sub_check.specs.declared.frame_rules.Checker.{Checker}
-use Rattle.sub_check.proofs.OrderLemmas.{first_late, first_nothing, first_unread, holds_but_end}
+use Rattle.sub_check.proofs.OrderLemmas.{first_late, first_nothing, first_unread, holds_before}
+use Rattle.sub_check.proofs.OrderLemmas.{holds_but_end}
 use Rattle.sub_check.proofs.PacketLists.{Each-push}
 use Rattle.sub_check.proofs.PesFileLemmas.{no_bytes}
 use Rattle.sub_check.proofs.PesReadingLemmas.{reads_next, reads_end, reads_fault}
@@ -122,6 +125,19 @@ none_taken : (origin : ℕ) (bytes : List ℕ) → AreTaken origin bytes [] byte
 none_taken origin bytes =
     record { values = []; packets = []; each = tt; sent = tt; joined = refl }
 
+-- The answer is that the source failed at a PES packet.
+abbrev pub IsFailureAt : Result Accepted CheckFault → ℕ → Type 0
+IsFailureAt r pes = r ≡ Err (fault.Pes pes Read)
+
+-- A rule's fault is not that. For `judge`.
+pub no_failure_at : (r : Result Accepted CheckFault) (pes : ℕ) → IfErr r IsRuleFault
+    → IsFailureAt r pes → ⊥
+no_failure_at (Ok a) pes own e = cc
+no_failure_at (Err f) pes own e =
+    let is : f ≡ fault.Pes pes Read = cc in
+    let fine = own.no_source in
+    let failed = ap is_source_fault is in cc
+
 module _
     (programme : ProgrammeValue) (options : OptionsValue)
     (frames : Transmission) (unread : Option Unread)
@@ -143,6 +159,24 @@ module _
         (ap (λ m. unread_fault m (Some u)) all ∙ sym told)
         (first_unread (task_of programme options unread) frames
         (λ j l. past j (omega (arith, at.0))) u at.1)
+
+    -- That the source failed is told at the PES packet that could not be read.
+    pub source_failed :
+        (n pes : ℕ) (f : CheckFault)
+        → n ≤ length frames
+        → ((j : ℕ) → j < n → FrameOk (task_of programme options unread) frames j)
+        → (is_source_fault f ≡ true → f ≡ fault.Pes n Read)
+        → IsFailureAt (Err f) pes
+        → IsReadUpTo (task_of programme options unread) frames pes
+    source_failed n pes f within past place e =
+        let is : f ≡ fault.Pes pes Read = cc in
+        let named : fault.Pes pes Read ≡ fault.Pes n Read =
+        sym is ∙ place (ap is_source_fault is) in
+        let same : n ≡ pes = cc in
+        subst (IsReadUpTo (task_of programme options unread) frames) same (record {
+          within = within;
+          holds = holds_before (task_of programme options unread) frames n past;
+        })
 
     -- A file with no PES packet.
     pub empty_refusal :

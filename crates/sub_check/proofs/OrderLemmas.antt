@@ -1,11 +1,12 @@
 -- The order of the places: from what holds of each part of the check to what holds before a key.
-use Rattle.std.proofs.Common.{◌≡◌, ℕ, ◌+◌, ◌-◌, ◌<◌, inl, inr, List, [], ◌∷◌, ◌++◌, length, take}
+use Rattle.std.proofs.Common.{◌⊎◌, ◌≡◌, ℕ, ◌+◌, ◌-◌, ◌<◌, inl, inr, List, [], ◌∷◌, ◌++◌, length}
+use Rattle.std.proofs.Common.{take}
 use Rattle.std.proofs.Common.{get_or, refl, sym, ap, ◌∙◌, subst, arith, Some, None}
 use Rattle.std.proofs.lemmas.Option.{none-some}
 use Rattle.ttx_page.specs.Page.{IsCell}
 use Rattle.sub_check.specs.Transmission.{Transmission}
 use Rattle.sub_check.specs.declared.packet_rules.PacketRule.{PacketRule}
-use Rattle.sub_check.specs.PacketRules.{KeepsRule, BreaksFirstAt, number_of}
+use Rattle.sub_check.specs.PacketRules.{KeepsRule, BreaksFirstAt, rank}
 use Rattle.sub_check.specs.FrameRules.{Task, Unread, frame_at, packets_at, joined, end_frame}
 use Rattle.sub_check.specs.FrameRules.{HasHeader, Shows, IsCovered}
 use Rattle.sub_check.specs.FirstBroken.{IsBefore, IsInGap, Holds, HoldsBefore}
@@ -46,17 +47,17 @@ one_more (inr (e, inr m)) = absurd m.1
 
 -- What holds of the place's own part, up to the tail of the key.
 record Here (g : Task) (frames : Transmission) (n q : ℕ) (tail : List ℕ) : Type 0 where
-  pub order : 0 ≡ q → IsBefore (62 ∷ []) tail → Keeps g frames (AtOrder n)
-  pub start : 0 ≡ q → 0 ≡ n → IsBefore (63 ∷ []) tail → Keeps g frames AtStart
-  pub gap_cell : 1 ≡ q → (f row column : ℕ) → IsBefore (f ∷ 72 ∷ row ∷ column ∷ []) tail
+  pub order : 0 ≡ q → IsBefore (0 ∷ []) tail → Keeps g frames (AtOrder n)
+  pub start : 0 ≡ q → 0 ≡ n → IsBefore (1 ∷ []) tail → Keeps g frames AtStart
+  pub gap_cell : 1 ≡ q → (f row column : ℕ) → IsBefore (f ∷ 1 ∷ row ∷ column ∷ []) tail
       → Keeps g frames (AtGapCell n f row column)
-  pub gap : 1 ≡ q → (f : ℕ) → IsBefore (f ∷ 73 ∷ []) tail → Keeps g frames (AtGap n f)
-  pub packet : 2 ≡ q → (k : ℕ) (rule : PacketRule) → IsBefore (k ∷ number_of rule ∷ []) tail
+  pub gap : 1 ≡ q → (f : ℕ) → IsBefore (f ∷ 2 ∷ []) tail → Keeps g frames (AtGap n f)
+  pub packet : 2 ≡ q → (k : ℕ) (rule : PacketRule) → IsBefore (k ∷ rank rule ∷ []) tail
       → Keeps g frames (AtPacket n k rule)
-  pub first : 3 ≡ q → 0 ≡ n → IsBefore (71 ∷ []) tail → Keeps g frames AtFirst
-  pub cell : 3 ≡ q → (row column : ℕ) → IsBefore (72 ∷ row ∷ column ∷ []) tail
+  pub first : 3 ≡ q → 0 ≡ n → IsBefore (0 ∷ []) tail → Keeps g frames AtFirst
+  pub cell : 3 ≡ q → (row column : ℕ) → IsBefore (1 ∷ row ∷ column ∷ []) tail
       → Keeps g frames (AtCell n row column)
-  pub frame : 3 ≡ q → IsBefore (73 ∷ []) tail → Keeps g frames (AtFrame n)
+  pub frame : 3 ≡ q → IsBefore (2 ∷ []) tail → Keeps g frames (AtFrame n)
 
 -- There is no gap before the first frame of the list.
 pub gap_of_none : (g : Task) (frames : Transmission) → GapOk g frames 0
@@ -72,18 +73,18 @@ module _ (g : Task) (frames : Transmission) (n : ℕ) (past : (j : ℕ) → j < 
     upto : (q : ℕ) (tail : List ℕ) → (0 < q → OrderOk g frames n) → (1 < q → GapOk g frames n)
         → (2 < q → PacketsOk g frames n) → (3 < q → EndOk g frames n) → Here g frames n q tail
         → HoldsBefore g frames (0 ∷ n ∷ q ∷ tail)
-    upto q tail order gap packets end local (AtOrder i) b = elim (split i n 0 q (62 ∷ []) tail b) [
+    upto q tail order gap packets end local (AtOrder i) b = elim (split i n 0 q (0 ∷ []) tail b) [
       | earlier l ↦ (past i l).order.order
       | sooner e l ↦ subst (λ j. Keeps g frames (AtOrder j)) (sym e) (order l).order
       | here e f r ↦ subst (λ j. Keeps g frames (AtOrder j)) (sym e) (local.order f r)
     ]
-    upto q tail order gap packets end local AtStart b = elim (split 0 n 0 q (63 ∷ []) tail b) [
+    upto q tail order gap packets end local AtStart b = elim (split 0 n 0 q (1 ∷ []) tail b) [
       | earlier l ↦ (past 0 l).order.start refl
       | sooner e l ↦ (order l).start (sym e)
       | here e f r ↦ local.start f e r
     ]
     upto q tail order gap packets end local (AtGapCell i f row column) b =
-        elim (split i n 1 q (f ∷ 72 ∷ row ∷ column ∷ []) tail b) [
+        elim (split i n 1 q (f ∷ 1 ∷ row ∷ column ∷ []) tail b) [
           | earlier l ↦ (past i l).gap.cells f row column
           | sooner e l ↦ subst (λ j. Keeps g frames (AtGapCell j f row column)) (sym e)
               ((gap l).cells f row column)
@@ -91,33 +92,33 @@ module _ (g : Task) (frames : Transmission) (n : ℕ) (past : (j : ℕ) → j < 
               (local.gap_cell h f row column r)
         ]
     upto q tail order gap packets end local (AtGap i f) b =
-        elim (split i n 1 q (f ∷ 73 ∷ []) tail b) [
+        elim (split i n 1 q (f ∷ 2 ∷ []) tail b) [
           | earlier l ↦ (past i l).gap.covered f
           | sooner e l ↦ subst (λ j. Keeps g frames (AtGap j f)) (sym e) ((gap l).covered f)
           | here e h r ↦ subst (λ j. Keeps g frames (AtGap j f)) (sym e) (local.gap h f r)
         ]
     upto q tail order gap packets end local (AtPacket i k rule) b =
-        elim (split i n 2 q (k ∷ number_of rule ∷ []) tail b) [
+        elim (split i n 2 q (k ∷ rank rule ∷ []) tail b) [
           | earlier l ↦ (past i l).packets.each k rule
           | sooner e l ↦ subst (λ j. Keeps g frames (AtPacket j k rule)) (sym e)
               ((packets l).each k rule)
           | here e h r ↦ subst (λ j. Keeps g frames (AtPacket j k rule)) (sym e)
               (local.packet h k rule r)
         ]
-    upto q tail order gap packets end local AtFirst b = elim (split 0 n 3 q (71 ∷ []) tail b) [
+    upto q tail order gap packets end local AtFirst b = elim (split 0 n 3 q (0 ∷ []) tail b) [
       | earlier l ↦ (past 0 l).end.first refl
       | sooner e l ↦ (end l).first (sym e)
       | here e f r ↦ local.first f e r
     ]
     upto q tail order gap packets end local (AtCell i row column) b =
-        elim (split i n 3 q (72 ∷ row ∷ column ∷ []) tail b) [
+        elim (split i n 3 q (1 ∷ row ∷ column ∷ []) tail b) [
           | earlier l ↦ (past i l).end.cells row column
           | sooner e l ↦ subst (λ j. Keeps g frames (AtCell j row column)) (sym e)
               ((end l).cells row column)
           | here e h r ↦ subst (λ j. Keeps g frames (AtCell j row column)) (sym e)
               (local.cell h row column r)
         ]
-    upto q tail order gap packets end local (AtFrame i) b = elim (split i n 3 q (73 ∷ []) tail b) [
+    upto q tail order gap packets end local (AtFrame i) b = elim (split i n 3 q (2 ∷ []) tail b) [
       | earlier l ↦ (past i l).end.covered
       | sooner e l ↦ subst (λ j. Keeps g frames (AtFrame j)) (sym e) (end l).covered
       | here e h r ↦ subst (λ j. Keeps g frames (AtFrame j)) (sym e) (local.frame h r)
@@ -141,10 +142,10 @@ module _ (g : Task) (frames : Transmission) (n : ℕ) (past : (j : ℕ) → j < 
         there = (some, there);
         broken = broken;
         earlier =
-            upto 0 (62 ∷ []) (λ l. absurd (omega arith)) (λ l. absurd (omega arith))
+            upto 0 (0 ∷ []) (λ l. absurd (omega arith)) (λ l. absurd (omega arith))
             (λ l. absurd (omega arith)) (λ l. absurd (omega arith)) (record {
-              order = λ e b. absurd (let l = one_before 62 62 [] b in omega arith);
-              start = λ e f b. absurd (let l = one_before 63 62 [] b in omega arith);
+              order = λ e b. absurd (let l = one_before 0 0 [] b in omega arith);
+              start = λ e f b. absurd (let l = one_before 1 0 [] b in omega arith);
               gap_cell = λ e. absurd (omega arith);
               gap = λ e. absurd (omega arith);
               packet = λ e. absurd (omega arith);
@@ -176,7 +177,7 @@ module _ (g : Task) (frames : Transmission) (n : ℕ) (past : (j : ℕ) → j < 
         there = (in_gap, is_cell);
         broken = broken;
         earlier =
-            upto 1 (f ∷ 72 ∷ row ∷ column ∷ []) (λ l. order) (λ l. absurd (omega arith))
+            upto 1 (f ∷ 1 ∷ row ∷ column ∷ []) (λ l. order) (λ l. absurd (omega arith))
             (λ l. absurd (omega arith)) (λ l. absurd (omega arith)) (record {
               order = λ e. absurd (omega arith);
               start = λ e. absurd (omega arith);
@@ -190,7 +191,7 @@ module _ (g : Task) (frames : Transmission) (n : ℕ) (past : (j : ℕ) → j < 
       },
     )
       where
-        cell_of : (d r c : ℕ) → IsBefore (d ∷ 72 ∷ r ∷ c ∷ []) (f ∷ 72 ∷ row ∷ column ∷ [])
+        cell_of : (d r c : ℕ) → IsBefore (d ∷ 1 ∷ r ∷ c ∷ []) (f ∷ 1 ∷ row ∷ column ∷ [])
             → Keeps g frames (AtGapCell n d r c)
         cell_of d r c (inl l) = cells d r c l
         cell_of d r c (inr (e, inl l)) = absurd (omega arith)
@@ -201,7 +202,7 @@ module _ (g : Task) (frames : Transmission) (n : ℕ) (past : (j : ℕ) → j < 
             (subst (λ x. Shows g frames n f x c) (sym i) (columns c l))
         cell_of d r c (inr (e, inr (h, inr (i, inr m)))) = absurd m.1
 
-        gap_of : (d : ℕ) → IsBefore (d ∷ 73 ∷ []) (f ∷ 72 ∷ row ∷ column ∷ [])
+        gap_of : (d : ℕ) → IsBefore (d ∷ 2 ∷ []) (f ∷ 1 ∷ row ∷ column ∷ [])
             → Keeps g frames (AtGap n d)
         gap_of d (inl l) = gaps d l
         gap_of d (inr (e, inl l)) = absurd (omega arith)
@@ -221,7 +222,7 @@ module _ (g : Task) (frames : Transmission) (n : ℕ) (past : (j : ℕ) → j < 
         there = in_gap;
         broken = broken;
         earlier =
-            upto 1 (f ∷ 73 ∷ []) (λ l. order) (λ l. absurd (omega arith))
+            upto 1 (f ∷ 2 ∷ []) (λ l. order) (λ l. absurd (omega arith))
             (λ l. absurd (omega arith))
             (λ l. absurd (omega arith)) (record {
               order = λ e. absurd (omega arith);
@@ -236,13 +237,13 @@ module _ (g : Task) (frames : Transmission) (n : ℕ) (past : (j : ℕ) → j < 
       },
     )
       where
-        cell_of : (d r c : ℕ) → IsBefore (d ∷ 72 ∷ r ∷ c ∷ []) (f ∷ 73 ∷ [])
+        cell_of : (d r c : ℕ) → IsBefore (d ∷ 1 ∷ r ∷ c ∷ []) (f ∷ 2 ∷ [])
             → Keeps g frames (AtGapCell n d r c)
         cell_of d r c (inl l) = cells d r c l
         cell_of d r c (inr (e, b)) =
             λ there. subst (λ x. Shows g frames n x r c) (sym e) (shows r c there.1)
 
-        gap_of : (d : ℕ) → IsBefore (d ∷ 73 ∷ []) (f ∷ 73 ∷ []) → Keeps g frames (AtGap n d)
+        gap_of : (d : ℕ) → IsBefore (d ∷ 2 ∷ []) (f ∷ 2 ∷ []) → Keeps g frames (AtGap n d)
         gap_of d (inl l) = gaps d l
         gap_of d (inr (e, inl l)) = absurd (omega arith)
         gap_of d (inr (e, inr m)) = absurd m.1
@@ -258,7 +259,7 @@ module _ (g : Task) (frames : Transmission) (n : ℕ) (past : (j : ℕ) → j < 
         there = (there, is.exists);
         broken = is.first.broken;
         earlier =
-            upto 2 (k ∷ number_of rule ∷ []) (λ l. order) (λ l. gap) (λ l. absurd (omega arith))
+            upto 2 (k ∷ rank rule ∷ []) (λ l. order) (λ l. gap) (λ l. absurd (omega arith))
             (λ l. absurd (omega arith)) (record {
               order = λ e. absurd (omega arith);
               start = λ e. absurd (omega arith);
@@ -273,14 +274,14 @@ module _ (g : Task) (frames : Transmission) (n : ℕ) (past : (j : ℕ) → j < 
     )
       where
         packet_of : (j : ℕ) (f : PacketRule)
-            → IsBefore (j ∷ number_of f ∷ []) (k ∷ number_of rule ∷ [])
+            → IsBefore (j ∷ rank f ∷ []) (k ∷ rank rule ∷ [])
             → Keeps g frames (AtPacket n j f)
         packet_of j f (inl l) = λ there. is.clean j l f
         packet_of j f (inr (e, b)) =
             λ there. subst
             (λ x. KeepsRule f g.watched (joined frames n ++ take x (packets_at frames n))
             (get_or (packets_at frames n) x [])) (sym e)
-            (is.first.earlier f (one_before (number_of f) (number_of rule) [] b))
+            (is.first.earlier f (one_before (rank f) (rank rule) [] b))
 
     -- Content, at the end of a frame of the list.
     pub first_cell : (row column : ℕ) → n < length frames → OrderOk g frames n → GapOk g frames n
@@ -296,7 +297,7 @@ module _ (g : Task) (frames : Transmission) (n : ℕ) (past : (j : ℕ) → j < 
         there = (there, is_cell);
         broken = broken;
         earlier =
-            upto 3 (72 ∷ row ∷ column ∷ []) (λ l. order) (λ l. gap) (λ l. packets)
+            upto 3 (1 ∷ row ∷ column ∷ []) (λ l. order) (λ l. gap) (λ l. packets)
             (λ l. absurd (omega arith)) (record {
               order = λ e. absurd (omega arith);
               start = λ e. absurd (omega arith);
@@ -310,7 +311,7 @@ module _ (g : Task) (frames : Transmission) (n : ℕ) (past : (j : ℕ) → j < 
       },
     )
       where
-        cell_of : (r c : ℕ) → IsBefore (72 ∷ r ∷ c ∷ []) (72 ∷ row ∷ column ∷ [])
+        cell_of : (r c : ℕ) → IsBefore (1 ∷ r ∷ c ∷ []) (1 ∷ row ∷ column ∷ [])
             → Keeps g frames (AtCell n r c)
         cell_of r c (inl l) = absurd (omega arith)
         cell_of r c (inr (e, inl l)) = λ t. rows r c t.1 l
@@ -318,7 +319,7 @@ module _ (g : Task) (frames : Transmission) (n : ℕ) (past : (j : ℕ) → j < 
             λ t. subst (λ x. Shows g frames (n + 1) (frame_at frames n) x c) (sym i) (columns c l)
         cell_of r c (inr (e, inr (i, inr m))) = absurd m.1
 
-        frame_of : IsBefore (73 ∷ []) (72 ∷ row ∷ column ∷ []) → Keeps g frames (AtFrame n)
+        frame_of : IsBefore (2 ∷ []) (1 ∷ row ∷ column ∷ []) → Keeps g frames (AtFrame n)
         frame_of (inl l) = absurd (omega arith)
         frame_of (inr m) = absurd (omega arith)
 
@@ -335,7 +336,7 @@ module _ (g : Task) (frames : Transmission) (n : ℕ) (past : (j : ℕ) → j < 
         there = there;
         broken = broken;
         earlier =
-            upto 3 (73 ∷ []) (λ l. order) (λ l. gap) (λ l. packets) (λ l. absurd (omega arith))
+            upto 3 (2 ∷ []) (λ l. order) (λ l. gap) (λ l. packets) (λ l. absurd (omega arith))
             (record {
               order = λ e. absurd (omega arith);
               start = λ e. absurd (omega arith);
@@ -344,7 +345,7 @@ module _ (g : Task) (frames : Transmission) (n : ℕ) (past : (j : ℕ) → j < 
               packet = λ e. absurd (omega arith);
               first = λ e f b t. head (sym f);
               cell = λ e r c b t. shows r c t.1;
-              frame = λ e b. absurd (let l = one_before 73 73 [] b in omega arith);
+              frame = λ e b. absurd (let l = one_before 2 2 [] b in omega arith);
             });
       },
     )
@@ -359,11 +360,11 @@ first_early g frames some broken = (
     there = some;
     broken = broken;
     earlier =
-        upto g frames 0 (λ j l. absurd (omega arith)) 0 (63 ∷ []) (λ l. absurd (omega arith))
+        upto g frames 0 (λ j l. absurd (omega arith)) 0 (1 ∷ []) (λ l. absurd (omega arith))
         (λ l. absurd (omega arith)) (λ l. absurd (omega arith)) (λ l. absurd (omega arith))
         (record {
           order = λ e b t. absurd (omega (arith, t.0));
-          start = λ e f b. absurd (let l = one_before 63 63 [] b in omega arith);
+          start = λ e f b. absurd (let l = one_before 1 1 [] b in omega arith);
           gap_cell = λ e. absurd (omega arith);
           gap = λ e. absurd (omega arith);
           packet = λ e. absurd (omega arith);
@@ -385,22 +386,22 @@ first_header_missing g frames some order packets broken = (
     there = some;
     broken = broken;
     earlier =
-        upto g frames 0 (λ j l. absurd (omega arith)) 3 (71 ∷ []) (λ l. order)
+        upto g frames 0 (λ j l. absurd (omega arith)) 3 (0 ∷ []) (λ l. order)
         (λ l. gap_of_none g frames) (λ l. packets) (λ l. absurd (omega arith)) (record {
           order = λ e. absurd (omega arith);
           start = λ e. absurd (omega arith);
           gap_cell = λ e. absurd (omega arith);
           gap = λ e. absurd (omega arith);
           packet = λ e. absurd (omega arith);
-          first = λ e f b. absurd (let l = one_before 71 71 [] b in omega arith);
+          first = λ e f b. absurd (let l = one_before 0 0 [] b in omega arith);
           cell = λ e r c b. absurd (later r c b);
-          frame = λ e b. absurd (let l = one_before 73 71 [] b in omega arith);
+          frame = λ e b. absurd (let l = one_before 2 0 [] b in omega arith);
         });
   },
 )
   where
-    later : (r c : ℕ) → IsBefore (72 ∷ r ∷ c ∷ []) (71 ∷ []) → ⊥
-    later r c b = let l = one_before 72 71 (r ∷ c ∷ []) b in omega arith
+    later : (r c : ℕ) → IsBefore (1 ∷ r ∷ c ∷ []) (0 ∷ []) → ⊥
+    later r c b = let l = one_before 1 0 (r ∷ c ∷ []) b in omega arith
 
 -- Empty.
 pub first_nothing : (g : Task) (frames : Transmission) → g.unread ≡ None → length frames ≡ 0
@@ -408,7 +409,7 @@ pub first_nothing : (g : Task) (frames : Transmission) → g.unread ≡ None →
 first_nothing g frames ended none =
     (AtNothing, refl, record { there = tt; broken = λ l. omega arith; earlier = nowhere })
   where
-    nowhere : HoldsBefore g frames (1 ∷ 60 ∷ [])
+    nowhere : HoldsBefore g frames (1 ∷ 1 ∷ [])
     nowhere (AtOrder i) b t = absurd (omega (arith, t.1))
     nowhere AtStart b t = absurd (omega (arith, t))
     nowhere (AtGapCell i f r c) b t = absurd (omega (arith, t.0.1))
@@ -424,6 +425,36 @@ first_nothing g frames ended none =
     nowhere AtEnd b t = absurd (omega (arith, t))
 
 -- What is not read: the faults of a PES packet, and OffFrame.
+-- A place before all that is asked of a frame is that of an earlier one. For `holds_before`.
+frame_before : (i n : ℕ) → (0 < 0) ⊎ ((◌≡◌ {A = ℕ} 0 0) × ((i < n) ⊎ ((i ≡ n) × ⊥))) → i < n
+frame_before i n (inl l) = absurd (omega arith)
+frame_before i n (inr (e, inl l)) = l
+frame_before i n (inr (e, inr (same, none))) = absurd none
+
+-- What comes after the frames is before none of them. For `holds_before`.
+not_before : {P : Type 0} → (1 < 0) ⊎ ((◌≡◌ {A = ℕ} 1 0) × P) → ⊥
+not_before (inl l) = omega arith
+not_before (inr (e, more)) = omega arith
+
+-- Where all that is asked of the frames so far holds, so does what is asked at each place before
+-- the next one. For `judge`.
+pub holds_before : (g : Task) (frames : Transmission) (n : ℕ)
+    → ((j : ℕ) → j < n → FrameOk g frames j)
+    → HoldsBefore g frames (0 ∷ n ∷ [])
+holds_before g frames n past (AtOrder i) b t = (past i (frame_before i n b)).order.order t
+holds_before g frames n past AtStart b t = (past 0 (frame_before 0 n b)).order.start refl t
+holds_before g frames n past (AtGapCell i f r c) b t =
+    (past i (frame_before i n b)).gap.cells f r c t
+holds_before g frames n past (AtGap i f) b t = (past i (frame_before i n b)).gap.covered f t
+holds_before g frames n past (AtPacket i k f) b t =
+    (past i (frame_before i n b)).packets.each k f t
+holds_before g frames n past AtFirst b t = (past 0 (frame_before 0 n b)).end.first refl t
+holds_before g frames n past (AtCell i r c) b t = (past i (frame_before i n b)).end.cells r c t
+holds_before g frames n past (AtFrame i) b t = (past i (frame_before i n b)).end.covered t
+holds_before g frames n past AtUnread b t = absurd (not_before b)
+holds_before g frames n past AtNothing b t = absurd (not_before b)
+holds_before g frames n past AtEnd b t = absurd (not_before b)
+
 pub first_unread : (g : Task) (frames : Transmission)
     → ((j : ℕ) → j < length frames → FrameOk g frames j) → (u : Unread) → g.unread ≡ Some u
     → NamesFirst g frames (unread_fault (length frames) (Some u))
@@ -434,7 +465,7 @@ first_unread g frames past u is = (
       { there = tt; broken = λ none. none-some u (sym none ∙ is); earlier = earlier_of },
 )
   where
-    earlier_of : HoldsBefore g frames (1 ∷ 30 ∷ [])
+    earlier_of : HoldsBefore g frames (1 ∷ 0 ∷ [])
     earlier_of (AtOrder i) b t = (past i t.1).order.order t
     earlier_of AtStart b t = (past 0 t).order.start refl t
     earlier_of (AtGapCell i f r c) b t = (past i t.0.1).gap.cells f r c t
@@ -470,7 +501,7 @@ pub first_late : (g : Task) (frames : Transmission) → g.unread ≡ None
 first_late g frames ended past some broken =
     (AtEnd, refl, record { there = some; broken = broken; earlier = earlier_of })
   where
-    earlier_of : HoldsBefore g frames (1 ∷ 74 ∷ [])
+    earlier_of : HoldsBefore g frames (1 ∷ 2 ∷ [])
     earlier_of (AtOrder i) b t = (past i t.1).order.order t
     earlier_of AtStart b t = (past 0 t).order.start refl t
     earlier_of (AtGapCell i f r c) b t = (past i t.0.1).gap.cells f r c t

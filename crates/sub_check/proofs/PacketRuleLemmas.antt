@@ -9,7 +9,7 @@ use Rattle.ttx_packet.specs.PacketAddress.{HasExactAddress, IsPacket, address, P
 use Rattle.ttx_packet.specs.RowPacket.{HasOddText}
 use Rattle.ttx_packet.specs.PageHeader.{coded_header, header, c11}
 use Rattle.sub_check.specs.PacketRules.{codes_of, first_header, KeepsRule, IsClean, BreaksFirst}
-use Rattle.sub_check.specs.PacketRules.{number_of}
+use Rattle.sub_check.specs.PacketRules.{rank}
 use Rattle.ttx_packet.specs.declared.header.Header.{Header}
 use Rattle.sub_check.proofs.CodesLemmas.{same_packet}
 use Rattle.sub_check.specs.declared.packet_rules.Watched.{Watched}
@@ -167,7 +167,7 @@ module _ (w : Watched) (before : List (List ℕ)) (p : List ℕ) where
       → (KeepsRule rule.Mode w before p → ⊥) → BreaksFirst w before p rule.Mode
   first_mode a h broken = record { broken = broken; earlier = earlier }
     where
-      earlier : (g : PacketRule) → number_of g < 66 → KeepsRule g w before p
+      earlier : (g : PacketRule) → rank g < 2 → KeepsRule g w before p
       earlier rule.Address l = a
       earlier rule.HeaderCode l = h
       earlier rule.Mode l = absurd (omega arith)
@@ -182,7 +182,7 @@ module _ (w : Watched) (before : List (List ℕ)) (p : List ℕ) where
       → BreaksFirst w before p rule.Control
   first_control a h m broken = record { broken = broken; earlier = earlier }
     where
-      earlier : (g : PacketRule) → number_of g < 67 → KeepsRule g w before p
+      earlier : (g : PacketRule) → rank g < 3 → KeepsRule g w before p
       earlier rule.Address l = a
       earlier rule.HeaderCode l = h
       earlier rule.Mode l = m
@@ -194,7 +194,7 @@ module _ (w : Watched) (before : List (List ℕ)) (p : List ℕ) where
   -- The later flaws, where the first four are free: given all but the broken one, which is then
   -- the first.
   pub first_of_clean : (f : PacketRule) → (KeepsRule f w before p → ⊥)
-      → ((g : PacketRule) → number_of g < number_of f → KeepsRule g w before p)
+      → ((g : PacketRule) → rank g < rank f → KeepsRule g w before p)
       → BreaksFirst w before p f
   first_of_clean f broken earlier = record { broken = broken; earlier = earlier }
 
@@ -204,7 +204,7 @@ module _ (w : Watched) (before : List (List ℕ)) (p : List ℕ) where
       → (KeepsRule rule.Parity w before p → ⊥) → BreaksFirst w before p rule.Parity
   first_row a h m c broken = record { broken = broken; earlier = earlier }
     where
-      earlier : (g : PacketRule) → number_of g < 68 → KeepsRule g w before p
+      earlier : (g : PacketRule) → rank g < 4 → KeepsRule g w before p
       earlier rule.Address l = a
       earlier rule.HeaderCode l = h
       earlier rule.Mode l = m
@@ -220,7 +220,7 @@ module _ (w : Watched) (before : List (List ℕ)) (p : List ℕ) where
       → BreaksFirst w before p rule.RowChanged
   first_changed a h m c o broken = record { broken = broken; earlier = earlier }
     where
-      earlier : (g : PacketRule) → number_of g < 69 → KeepsRule g w before p
+      earlier : (g : PacketRule) → rank g < 5 → KeepsRule g w before p
       earlier rule.Address l = a
       earlier rule.HeaderCode l = h
       earlier rule.Mode l = m
@@ -236,7 +236,7 @@ module _ (w : Watched) (before : List (List ℕ)) (p : List ℕ) where
       → (KeepsRule rule.Enhancement w before p → ⊥) → BreaksFirst w before p rule.Enhancement
   first_enhancement a h m c o r broken = record { broken = broken; earlier = earlier }
     where
-      earlier : (g : PacketRule) → number_of g < 70 → KeepsRule g w before p
+      earlier : (g : PacketRule) → rank g < 6 → KeepsRule g w before p
       earlier rule.Address l = a
       earlier rule.HeaderCode l = h
       earlier rule.Mode l = m

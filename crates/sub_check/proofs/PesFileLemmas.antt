@@ -135,7 +135,8 @@ sent_of origin (suc m) given bytes frames fit all reads =
         → (AreBytes (rest_after bytes)
         → file_at origin m (rest_after bytes)
         ≡ record { frames = (file_at origin m (rest_after bytes)).frames; unread = None }
-        → AreSent origin (given + 1) (rest_after bytes) (file_at origin m (rest_after bytes)).frames)
+        → AreSent origin (given + 1) (rest_after bytes)
+        (file_at origin m (rest_after bytes)).frames)
         → AreSent origin given bytes frames
     found v None at is e others = let same = ap (λ (x : PesFileValue). x.unread) e in cc
     found v (Some frame) at is e others =
@@ -154,7 +155,8 @@ sent_of origin (suc m) given bytes frames fit all reads =
         → (AreBytes (rest_after bytes)
         → file_at origin m (rest_after bytes)
         ≡ record { frames = (file_at origin m (rest_after bytes)).frames; unread = None }
-        → AreSent origin (given + 1) (rest_after bytes) (file_at origin m (rest_after bytes)).frames)
+        → AreSent origin (given + 1) (rest_after bytes)
+        (file_at origin m (rest_after bytes)).frames)
         → AreSent origin given bytes frames
     go (Err f) at e others = let same = ap (λ (x : PesFileValue). x.unread) e in cc
     go (Ok None) at e others =

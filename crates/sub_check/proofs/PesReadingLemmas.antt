@@ -97,7 +97,8 @@ frame_found :
     → pts_of origin frame ≡ pts
     → frame_of_pts origin pts ≡ Some frame
 frame_found origin pts frame day e =
-    go (frame_of_pts origin pts) (found_below origin pts frames_of_day (frame_of_pts origin pts) refl)
+    go (frame_of_pts origin pts)
+    (found_below origin pts frames_of_day (frame_of_pts origin pts) refl)
   where
     go :
         (r : Option ℕ)
@@ -113,7 +114,8 @@ no_frame_found :
     → ((frame : ℕ) → frame < frames_of_day → pts_of origin frame ≢ pts)
     → frame_of_pts origin pts ≡ None
 no_frame_found origin pts none =
-    go (frame_of_pts origin pts) (found_below origin pts frames_of_day (frame_of_pts origin pts) refl)
+    go (frame_of_pts origin pts)
+    (found_below origin pts frames_of_day (frame_of_pts origin pts) refl)
   where
     go :
         (r : Option ℕ)
@@ -316,6 +318,14 @@ pub reads_fault :
     → (length frames ≤ n) × (unread ≡ Some u)
 reads_fault origin n bytes frames unread u few reads ends =
     at_end origin n bytes frames unread (Some u) few reads ends
+
+-- The fault of a source that failed is that one. For `next_frame`.
+pub read_place :
+    (pes : ℕ) (f : PesFault)
+    → is_source_fault (check_fault.Pes pes f) ≡ true
+    → check_fault.Pes pes f ≡ check_fault.Pes pes fault.Read
+read_place pes fault.Read e = refl
+read_place pes f e = cc
 
 -- Where the answer is no failure of the source, neither is the reader's. For `next_frame`.
 pub read_told :

@@ -17,7 +17,7 @@ use Rattle.sub_check.proofs.CodesLemmas.{code_at}
 use Rattle.sub_check.specs.declared.packet_rules.Watched.{Watched}
 use Rattle.ttx_page.specs.declared.packet_kind.PacketKind.TheVariants.{Row}
 use Rattle.ttx_page.specs.PacketKind.{kind, is_row}
-use Rattle.ttx_page.specs.Page.{cell, space, IsCell, DiffersFirst, Rows}
+use Rattle.ttx_page.specs.Page.{Rows, cell, space, IsCell, DiffersFirst, Rows}
 use Rattle.ttx_page.specs.Span.{span}
 use Rattle.ttx_page.specs.Shown.{shown}
 use Rattle.sub_check.specs.Transmission.{SentFrame, Transmission}
@@ -73,30 +73,31 @@ module _ (g : Task) (p : ProgrammeValue) (every : ℕ) (task : IsTaskOf g p ever
     (watched_is : s.watched ≡ g.watched) where
   -- The page that is kept is what the packets show.
   kept_shown : (row column : ℕ) → IsCell row column
-      → cell s.page row column ≡ shown g.watched.page (joined frames n) row column
+      → cell s.comparison.page row column ≡ shown g.watched.page (joined frames n) row column
   kept_shown row column is =
-      shown_is s.watched (span (kind s.watched.page) (joined frames n)) s.sent s.page
+      shown_is s.watched (span (kind s.watched.page) (joined frames n)) s.sent s.comparison.page
       knows.rows_are row column is
       ∙ ap (λ w. shown w.page (joined frames n) row column) watched_is
 
   -- The page that is kept equals the due page at a cell exactly where the transmission shows what
   -- is due.
   pub shows_from : (row column : ℕ) → IsCell row column
-      → cell s.page row column ≡ cell (due_in p f) row column → Shows g frames n f row column
+      → cell s.comparison.page row column ≡ cell (due_in p f) row column
+      → Shows g frames n f row column
   shows_from row column is e = sym (kept_shown row column is) ∙ e
       ∙ ap (λ d. cell d row column) (sym (task.due_is f))
 
   -- And where they differ, so does what is shown from what is due.
   pub shows_not : (row column : ℕ) → IsCell row column
-      → (cell s.page row column ≡ cell (due_in p f) row column → ⊥)
+      → (cell s.comparison.page row column ≡ cell (due_in p f) row column → ⊥)
       → Shows g frames n f row column → ⊥
   shows_not row column is other shows =
       other (kept_shown row column is ∙ shows ∙ ap (λ d. cell d row column) (task.due_is f))
 
--- Counting afresh changes nothing else.
-pub Knows-counted : (heard : List (List ℕ)) (s : Listener) (n m : ℕ) → Knows heard s
-    → Knows heard (record s { wrong = n; blank_wrong = m })
-Knows-counted heard s n m k =
+-- What is known of the packets stays where another page is due.
+pub Knows-drawn : (heard : List (List ℕ)) (s : Listener) (due : Rows) → Knows heard s
+    → Knows heard (record s { comparison = record s.comparison { due = due } })
+Knows-drawn heard s due k =
     record { serial_is = k.serial_is; open_is = k.open_is; rows_are = k.rows_are }
 
 -- ---- headers

@@ -99,14 +99,8 @@ past_more g frames n past here j l =
     elim (cases_eq j n)
     [ inl e ↦ subst (FrameOk g frames) (sym e) here | inr other ↦ past j (omega arith) ]
 
--- The task of a programme and options is that of the programme.
-pub IsTaskOf-task_of :
-    (p : ProgrammeValue) (options : OptionsValue) (unread : Option Unread)
-    → IsTaskOf (task_of p options unread) p options.every
-IsTaskOf-task_of p options unread =
-    record { due_is = λ f. refl; every_is = refl; first_is = refl; last_is = refl }
-
--- The same, where the bound and the page were read of the options. For `judge`.
+-- The task of a programme and options, where the bound was read of the options, is that of the
+-- programme. For `judge`.
 pub task_is :
     (p : ProgrammeValue) (options : OptionsValue) (unread : Option Unread) (every : ℕ)
     → every ≡ options.every

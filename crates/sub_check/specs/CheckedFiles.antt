@@ -3,6 +3,7 @@ use Rattle.std.specs.Prelude.{◌≡◌, ◌≢◌, ◌↔◌, ℕ, List, [], Bo
 use Rattle.std.specs.Prelude.{Result, Ok, Err, IfOk, IfErr}
 use Rattle.sub_io.specs.Reading.{IfTold}
 use Rattle.ttx_pes.specs.PesPacket.{PesValue}
+use Rattle.ttx_pes.specs.declared.fault.PesFault.TheVariants.{Read}
 use Rattle.stl_file.specs.File.{IsFile}
 use Rattle.stl_file.specs.Reader.{outcome_of}
 use Rattle.stl_file.specs.Subtitle.{SubtitleValue}
@@ -14,7 +15,7 @@ use Rattle.sub_plan.specs.Options.{OptionsValue}
 use Rattle.sub_plan.specs.Schedule.{plan}
 use Rattle.sub_check.specs.Checking.{HasCounts, TellsSubtitles, is_failure, is_source_failure}
 use Rattle.sub_check.specs.Checking.{is_subtitle_refusal}
-use Rattle.sub_check.specs.FirstBroken.{NamesFirst}
+use Rattle.sub_check.specs.FirstBroken.{IsReadUpTo, NamesFirst}
 use Rattle.sub_check.specs.FrameRules.{task_of}
 use Rattle.sub_check.specs.Good.{Good}
 use Rattle.sub_check.specs.LostRows.{RobustToMarkedLoss}
@@ -128,6 +129,13 @@ pub record IsChecked
       → IfErr answer
       (NamesFirst (task_of programme options (pes_file_of options.origin bytes).unread)
       (pes_file_of options.origin bytes).frames)
+  -- That the source failed is told at the PES packet that could not be read: those before it were
+  -- read, and nothing that is asked of their frames is broken.
+  pub failed :
+      (pes : ℕ)
+      → answer ≡ Err (fault.Pes pes Read)
+      → IsReadUpTo (task_of programme options (pes_file_of options.origin bytes).unread)
+      (pes_file_of options.origin bytes).frames pes
   -- Where the page is refused at a cell, every receiver that starts at the first packet, with no
   -- bit wrong, shows another code there than is due.
   pub content :

@@ -7,7 +7,7 @@ use Rattle.ttx_page.specs.Page.{IsCell}
 use Rattle.sub_check.specs.FrameRules.{Task, Unread, frame_at, packets_at, joined, end_frame}
 use Rattle.sub_check.specs.FrameRules.{HasHeader, Shows, IsCovered}
 use Rattle.sub_check.specs.FrameRules.Unread.{BadPacket, NoFrame}
-use Rattle.sub_check.specs.PacketRules.{KeepsRule, number_of}
+use Rattle.sub_check.specs.PacketRules.{KeepsRule, rank}
 use Rattle.sub_check.specs.Transmission.{Transmission}
 use Rattle.sub_check.specs.declared.fault.CheckFault.{CheckFault}
 use Rattle.sub_check.specs.declared.fault.CheckFault.TheVariants as fault
@@ -44,19 +44,19 @@ pub data Place : Type 0 where
 
 -- The numbers by which places are compared, the first of them first: the frame of the list, the
 -- part of what is asked of it, and within the part what is asked in order. What follows the list
--- comes last.
+-- comes last. They are ranks, and have nothing to do with the numbers of refusals.
 abbrev pub key : Place → List ℕ
-key (AtOrder i) = 0 ∷ i ∷ 0 ∷ 62 ∷ []
-key AtStart = 0 ∷ 0 ∷ 0 ∷ 63 ∷ []
-key (AtGapCell i f row column) = 0 ∷ i ∷ 1 ∷ f ∷ 72 ∷ row ∷ column ∷ []
-key (AtGap i f) = 0 ∷ i ∷ 1 ∷ f ∷ 73 ∷ []
-key (AtPacket i k rule) = 0 ∷ i ∷ 2 ∷ k ∷ number_of rule ∷ []
-key AtFirst = 0 ∷ 0 ∷ 3 ∷ 71 ∷ []
-key (AtCell i row column) = 0 ∷ i ∷ 3 ∷ 72 ∷ row ∷ column ∷ []
-key (AtFrame i) = 0 ∷ i ∷ 3 ∷ 73 ∷ []
-key AtUnread = 1 ∷ 30 ∷ []
-key AtNothing = 1 ∷ 60 ∷ []
-key AtEnd = 1 ∷ 74 ∷ []
+key (AtOrder i) = 0 ∷ i ∷ 0 ∷ 0 ∷ []
+key AtStart = 0 ∷ 0 ∷ 0 ∷ 1 ∷ []
+key (AtGapCell i f row column) = 0 ∷ i ∷ 1 ∷ f ∷ 1 ∷ row ∷ column ∷ []
+key (AtGap i f) = 0 ∷ i ∷ 1 ∷ f ∷ 2 ∷ []
+key (AtPacket i k rule) = 0 ∷ i ∷ 2 ∷ k ∷ rank rule ∷ []
+key AtFirst = 0 ∷ 0 ∷ 3 ∷ 0 ∷ []
+key (AtCell i row column) = 0 ∷ i ∷ 3 ∷ 1 ∷ row ∷ column ∷ []
+key (AtFrame i) = 0 ∷ i ∷ 3 ∷ 2 ∷ []
+key AtUnread = 1 ∷ 0 ∷ []
+key AtNothing = 1 ∷ 1 ∷ []
+key AtEnd = 1 ∷ 2 ∷ []
 
 -- One list of numbers comes before another, as words do in a dictionary.
 abbrev pub IsBefore : List ℕ → List ℕ → Type 0
@@ -114,6 +114,11 @@ Holds g frames AtEnd = (last : ℕ) → g.last_out ≡ Some last → last ≤ en
 abbrev pub HoldsBefore : Task → Transmission → List ℕ → Type 0
 HoldsBefore g frames limit =
     (y : Place) → IsBefore (key y) limit → IsThere frames y → Holds g frames y
+
+-- The first n frames of the list were read, and all that is asked of them holds.
+pub record IsReadUpTo (g : Task) (frames : Transmission) (n : ℕ) : Type 0 where
+  pub within : n ≤ length frames
+  pub holds : HoldsBefore g frames (0 ∷ n ∷ [])
 
 -- What is asked is broken at the place, and at none before it.
 pub record IsFirst (g : Task) (frames : Transmission) (x : Place) : Type 0 where

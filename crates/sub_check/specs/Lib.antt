@@ -11,7 +11,7 @@ pub mod Laws
 pub mod Examples
 pub mod PacketRules
 pub mod Listening
-pub mod PageCount
+pub mod Comparison
 pub mod FrameRules
 pub mod FirstBroken
 pub mod Following

@@ -36,4 +36,4 @@ pub record HoldsRows (w : Watched) (packets : List (List ℕ)) (sent : List Bool
 pub record Knows (heard : List (List ℕ)) (s : Listener) : Type 0 where
   pub serial_is : s.serial ≡ option_map (λ (h : Header). c11 h) (first_header heard)
   pub open_is : s.is_open ≡ is_open_after (kind s.watched.page) heard
-  pub rows_are : HoldsRows s.watched (span (kind s.watched.page) heard) s.sent s.page
+  pub rows_are : HoldsRows s.watched (span (kind s.watched.page) heard) s.sent s.comparison.page

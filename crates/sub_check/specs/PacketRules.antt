@@ -72,28 +72,28 @@ KeepsRule rule.Enhancement w before p =
 abbrev pub IsClean : Watched → List (List ℕ) → List ℕ → Type 0
 IsClean w before p = (f : PacketRule) → KeepsRule f w before p
 
--- The number of the refusal that tells the rule.
-abbrev pub number_of : PacketRule → ℕ
-number_of rule.Address = 64
-number_of rule.HeaderCode = 65
-number_of rule.Mode = 66
-number_of rule.Control = 67
-number_of rule.Parity = 68
-number_of rule.RowChanged = 69
-number_of rule.Enhancement = 70
+-- The place of a rule in the order in which rules are told of one packet.
+abbrev pub rank : PacketRule → ℕ
+rank rule.Address = 0
+rank rule.HeaderCode = 1
+rank rule.Mode = 2
+rank rule.Control = 3
+rank rule.Parity = 4
+rank rule.RowChanged = 5
+rank rule.Enhancement = 6
 
--- It breaks this rule, and none of a lower number.
+-- It breaks this rule, and none of a lower rank.
 pub record BreaksFirst (w : Watched) (before : List (List ℕ)) (p : List ℕ) (f : PacketRule)
     : Type 0 where
   pub broken : KeepsRule f w before p → ⊥
-  pub earlier : (g : PacketRule) → number_of g < number_of f → KeepsRule g w before p
+  pub earlier : (g : PacketRule) → rank g < rank f → KeepsRule g w before p
 
 -- The first n packets of a frame keep all rules, sent after these.
 abbrev pub AreClean : Watched → List (List ℕ) → List (List ℕ) → ℕ → Type 0
 AreClean w before packets n =
     (k : ℕ) → k < n → IsClean w (before ++ take k packets) (slice_index_or packets k [])
 
--- Packet k of a frame breaks the rule, none of a lower number, and the packets before it keep all.
+-- Packet k of a frame breaks the rule, none of a lower rank, and the packets before it keep all.
 pub record BreaksFirstAt
     (w : Watched) (before packets : List (List ℕ)) (k : ℕ) (f : PacketRule)
     : Type 0 where

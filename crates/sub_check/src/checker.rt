@@ -1,6 +1,6 @@
 //! The exact checker: a PES file against a programme, one PES packet at a time.
 ghost use Rattle.std.specs.Prelude.{◌≡◌, ℕ, ◌+◌, ◌<◌, ◌≤◌, MatchResult, OnOk, IfErr};
-ghost use Rattle.std.specs.Prelude.{Ok, Option, Some, false, if◌then◌else◌};
+ghost use Rattle.std.specs.Prelude.{Err, Ok, Option, Some, true, false, if◌then◌else◌};
 ghost use Rattle.sub_io.specs.Device.{CanFail};
 ghost use Rattle.sub_io.specs.Reading.{IfTold};
 ghost use Rattle.stl_rows.specs.Programme.{IsProgramme, last_out};
@@ -10,8 +10,8 @@ ghost use Rattle.ttx_pes.specs.declared.progress.Progress.TheVariants.{Reading};
 ghost use Rattle.sub_plan.specs.Options.{IsOptions};
 ghost use Rattle.sub_check.specs.CheckedFiles.{IsChecked};
 ghost use Rattle.sub_check.specs.Checking.{Accepts, IsRuleFault, TellsEnd, TellsFrame};
-ghost use Rattle.sub_check.specs.Checking.{is_source_failure, is_subtitle_refusal};
-ghost use Rattle.sub_check.specs.FirstBroken.{NamesFirst};
+ghost use Rattle.sub_check.specs.Checking.{is_source_failure, is_source_fault, is_subtitle_refusal};
+ghost use Rattle.sub_check.specs.FirstBroken.{IsReadUpTo, NamesFirst};
 ghost use Rattle.sub_check.specs.FrameRules.{Unread, task_of};
 ghost use Rattle.sub_check.specs.PesReading.{ReadsAs};
 ghost use Rattle.sub_check.specs.Transmission.{Transmission};
@@ -61,6 +61,9 @@ pub fn next_frame<S: Source>(
     ensures left { IfTold (S.remaining source.old) (λ bytes.
         OnOk result (S.remaining source.new ≡ Some (rest_after bytes))) }
     ensures own { is_subtitle_refusal result ≡ false }
+    // That the source failed is told at this PES packet.
+    ensures place { IfErr result (λ f. is_source_fault f ≡ true
+        → f ≡ CheckFault.Pes pes PesFault.Read) }
     ensures progress { (frame : ℕ) → result ≡ Ok (Some frame) → reader.new ≡ Reading (pes + 1) }
     ensures day { (frame : ℕ) → result ≡ Ok (Some frame) → frame < 2160000 }
     ensures count { S.failure_count source.new
@@ -139,6 +142,11 @@ fn judge<S: Source>(
         → MatchResult result
         (Accepts (task_of programme.now options.now unread) options.now.origin bytes frames)
         (NamesFirst (task_of programme.now options.now unread) frames)) }
+    ensures failed { (frames : Transmission) (unread : Option Unread) (pes : ℕ)
+        → IfTold (S.remaining source.old) (λ bytes.
+        ReadsAs options.now.origin 0 bytes frames unread
+        → result ≡ Err (CheckFault.Pes pes PesFault.Read)
+        → IsReadUpTo (task_of programme.now options.now unread) frames pes) }
     ensures options { IsOptions options.now }
     ensures programme { IsProgramme programme.now.national programme.now.records }
     ensures own { is_subtitle_refusal result ≡ false }

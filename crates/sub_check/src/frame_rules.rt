@@ -15,15 +15,12 @@ use crate::fault::CheckFault;
 use crate::listener::Listener;
 use crate::packet_rules::{PacketRule, Watched};
 use stl_rows::Programme;
-use ttx_page::Page;
 use ttx_pes::Unit;
 
 /// How far the check has come.
 #[derive(Drop)]
 pub(crate) struct Checker {
     pub listener: Listener,
-    /// The page that is due.
-    pub due: Page,
     /// The next frame at which another page may be due.
     pub edge: Option<u32>,
     /// The frame of the last PES packet.
@@ -36,31 +33,24 @@ pub(crate) struct Checker {
 
 impl Checker {
     ghost use Rattle.sub_check.specs.Listening.{Knows};
-    ghost use Rattle.sub_check.specs.PageCount.{IsCounted};
     ghost use Rattle.sub_check.specs.Following.{Follows, GapOk, IsSentFrame, IsTaskOf, OrderOk};
 
     // Goes on to a frame: where a subtitle begins or ends, the due page is drawn anew.
     fn advance(&mut self, programme: &Programme, f: u32)
         requires some { 0 < f }
-        requires due { self.old.due ≡ due_in programme.now (f - 1) }
+        requires due { self.old.listener.comparison.due ≡ due_in programme.now (f - 1) }
         requires edge { TellsNextEdge programme.now.records (f - 1) self.old.edge }
-        requires count { IsCounted self.old.listener self.old.due }
-        ensures due { self.new.due ≡ due_in programme.now f }
         ensures edge { TellsNextEdge programme.now.records f self.new.edge }
-        ensures count { IsCounted self.new.listener self.new.due }
         ensures frame { self.new.frame ≡ self.old.frame }
         ensures header_at { self.new.header_at ≡ self.old.header_at }
         ensures headers { self.new.headers ≡ self.old.headers }
         ensures listener { self.new.listener ≡ record self.old.listener {
-          wrong = self.new.listener.wrong;
-          blank_wrong = self.new.listener.blank_wrong;
+          comparison = record self.old.listener.comparison { due = due_in programme.now f };
         } }
     {
         if is_at(self.edge, f) {
-            self.due = programme.due_page(f);
+            self.listener.draw(programme.due_page(f));
             self.edge = programme.next_edge(f);
-            self.listener.wrong = self.listener.page.differing_cells(&self.due);
-            self.listener.blank_wrong = Page::blank().differing_cells(&self.due);
         }
     }
 
@@ -68,16 +58,15 @@ impl Checker {
     fn cross_gap(&mut self, programme: &Programme, to: u32, every: u32) -> Result<(), CheckFault>
         requires header { self.old.header_at ≤ self.old.frame }
         requires later { self.old.frame < to }
-        requires due { self.old.due ≡ due_in programme.now self.old.frame }
+        requires due { self.old.listener.comparison.due ≡ due_in programme.now self.old.frame }
         requires edge { TellsNextEdge programme.now.records self.old.frame self.old.edge }
-        requires count { IsCounted self.old.listener self.old.due }
         ensures frame { self.new.frame ≡ self.old.frame }
         ensures header_at { self.new.header_at ≡ self.old.header_at }
         ensures headers { self.new.headers ≡ self.old.headers }
         ensures own { IfErr result IsRuleFault }
-        ensures due { OnOk result (self.new.due ≡ due_in programme.now (to - 1)) }
+        ensures due { OnOk result
+            (self.new.listener.comparison.due ≡ due_in programme.now (to - 1)) }
         ensures edge { OnOk result (TellsNextEdge programme.now.records (to - 1) self.new.edge) }
-        ensures count { OnOk result (IsCounted self.new.listener self.new.due) }
         ensures exact { (g : Task) (frames : Transmission) (n : ℕ)
             → IsTaskOf g programme.now every → Follows g frames n self.old
             → n < length frames → frame_at frames n ≡ to → OrderOk g frames n
@@ -86,7 +75,7 @@ impl Checker {
     {
         for f in self.frame + 1..to {
             self.advance(programme, f);
-            if let Some((row, column)) = self.listener.first_wrong(&self.due) {
+            if let Some((row, column)) = self.listener.first_wrong() {
                 return Err(CheckFault::Content {
                     frame: f,
                     row,
@@ -112,17 +101,16 @@ impl Checker {
         requires header { self.old.header_at ≤ self.old.frame }
         requires later { self.old.frame < frame }
         requires headers { self.old.headers ≤ 35 * self.old.frame + 35 }
-        requires due { self.old.due ≡ due_in programme.now (frame - 1) }
+        requires due { self.old.listener.comparison.due ≡ due_in programme.now (frame - 1) }
         requires edge { TellsNextEdge programme.now.records (frame - 1) self.old.edge }
-        requires count { IsCounted self.old.listener self.old.due }
         ensures own { IfErr result IsRuleFault }
         ensures header { OnOk result (self.new.header_at ≤ self.new.frame) }
         ensures frame { OnOk result (self.new.frame ≡ frame) }
         ensures headers { OnOk result (self.new.headers ≤ 35 * self.new.frame + 35) }
-        ensures due { OnOk result (self.new.due ≡ due_in programme.now self.new.frame) }
+        ensures due { OnOk result
+            (self.new.listener.comparison.due ≡ due_in programme.now self.new.frame) }
         ensures edge { OnOk result
             (TellsNextEdge programme.now.records self.new.frame self.new.edge) }
-        ensures count { OnOk result (IsCounted self.new.listener self.new.due) }
         ensures exact { (g : Task) (frames : Transmission) (n : ℕ)
             → IsTaskOf g programme.now every → Follows g frames n self.old
             → IsSentFrame frames n frame (packets_of_units units.now)
@@ -130,7 +118,7 @@ impl Checker {
             → MatchResult result (λ _. Follows g frames (n + 1) self.new) (NamesFirst g frames) }
     {
         self.advance(programme, frame);
-        let headers = match self.listener.hear_all(units, &self.due) {
+        let headers = match self.listener.hear_all(units) {
             Err(fault) => return Err(fault_of(fault.rule, frame, fault.packet)),
             Ok(headers) => headers,
         };
@@ -138,7 +126,7 @@ impl Checker {
         self.headers = self.headers + u64::from(headers);
         self.header_at = later_header(found, frame, self.header_at);
         self.frame = frame;
-        if let Some((row, column)) = self.listener.first_wrong(&self.due) {
+        if let Some((row, column)) = self.listener.first_wrong() {
             return Err(CheckFault::Content { frame, row, column });
         }
         if frame - self.header_at >= every {
@@ -159,17 +147,16 @@ impl Checker {
         requires few { length units.now ≤ 35 }
         requires header { self.old.header_at ≤ self.old.frame }
         requires headers { self.old.headers ≤ 35 * self.old.frame + 35 }
-        requires due { self.old.due ≡ due_in programme.now self.old.frame }
+        requires due { self.old.listener.comparison.due ≡ due_in programme.now self.old.frame }
         requires edge { TellsNextEdge programme.now.records self.old.frame self.old.edge }
-        requires count { IsCounted self.old.listener self.old.due }
         ensures own { IfErr result IsRuleFault }
         ensures header { OnOk result (self.new.header_at ≤ self.new.frame) }
         ensures later { OnOk result (self.old.frame ≤ self.new.frame) }
         ensures headers { OnOk result (self.new.headers ≤ 35 * self.new.frame + 35) }
-        ensures due { OnOk result (self.new.due ≡ due_in programme.now self.new.frame) }
+        ensures due { OnOk result
+            (self.new.listener.comparison.due ≡ due_in programme.now self.new.frame) }
         ensures edge { OnOk result
             (TellsNextEdge programme.now.records self.new.frame self.new.edge) }
-        ensures count { OnOk result (IsCounted self.new.listener self.new.due) }
         ensures exact { (g : Task) (frames : Transmission)
             → IsTaskOf g programme.now every → Follows g frames pes self.old
             → IsSentFrame frames pes frame (packets_of_units units.now)
@@ -196,10 +183,10 @@ impl Checker {
         ensures header { IfOk result (λ checker. checker.header_at ≤ checker.frame) }
         ensures frame { IfOk result (λ checker. checker.frame ≡ frame) }
         ensures headers { IfOk result (λ checker. checker.headers ≤ 35 * checker.frame + 35) }
-        ensures due { IfOk result (λ checker. checker.due ≡ due_in programme.now checker.frame) }
+        ensures due { IfOk result (λ checker.
+            checker.listener.comparison.due ≡ due_in programme.now checker.frame) }
         ensures edge { IfOk result (λ checker.
             TellsNextEdge programme.now.records checker.frame checker.edge) }
-        ensures count { IfOk result (λ checker. IsCounted checker.listener checker.due) }
         ensures exact { (g : Task) (frames : Transmission)
             → IsTaskOf g programme.now every → g.watched ≡ watched
             → IsSentFrame frames 0 frame (packets_of_units units.now)
@@ -208,11 +195,8 @@ impl Checker {
         if !is_in_time(programme.first_in(), frame) {
             return Err(CheckFault::Early { frame });
         }
-        let due = programme.due_page(frame);
-        let mut listener = Listener::new(watched);
-        listener.wrong = listener.page.differing_cells(&due);
-        listener.blank_wrong = Page::blank().differing_cells(&due);
-        let headers = match listener.hear_all(units, &due) {
+        let mut listener = Listener::new(watched, programme.due_page(frame));
+        let headers = match listener.hear_all(units) {
             Err(fault) => return Err(fault_of(fault.rule, frame, fault.packet)),
             Ok(headers) => headers,
         };
@@ -220,12 +204,11 @@ impl Checker {
         if !found {
             return Err(CheckFault::NoFirstHeader { frame });
         }
-        if let Some((row, column)) = listener.first_wrong(&due) {
+        if let Some((row, column)) = listener.first_wrong() {
             return Err(CheckFault::Content { frame, row, column });
         }
         Ok(Checker {
             listener,
-            due,
             edge: programme.next_edge(frame),
             frame,
             header_at: frame,

@@ -13,6 +13,7 @@
 #![tactic(auto)]
 
 mod checker;
+mod comparison;
 mod dropping;
 mod examples;
 mod fault;
@@ -22,7 +23,6 @@ mod laws;
 mod listener;
 mod on_screen;
 mod packet_rules;
-mod page_count;
 mod recovery;
 mod screen_examples;
 
@@ -39,5 +39,6 @@ pub use laws::{
 pub use on_screen::{
     law_of_complete_plan, law_of_good_and_complete, law_of_good_dropping_and_complete,
 };
+pub use packet_rules::{PacketRule, Watched};
 pub use recovery::{law_of_good_and_recovery, law_of_good_dropping_and_recovery};
 pub use screen_examples::{example_of_no_end, examples_of_screens};

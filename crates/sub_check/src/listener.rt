@@ -6,13 +6,12 @@ ghost use Rattle.ttx_packet.specs.PageHeader.{header};
 ghost use Rattle.ttx_page.specs.Page.{AreCodes, DiffersFirst, IsCell, IsPage, blank, cell};
 ghost use Rattle.ttx_page.specs.PacketKind.{is_this_page, kind};
 ghost use Rattle.sub_check.specs.PacketRules.{header_count, packets_of_units};
-ghost use Rattle.ttx_page.specs.Differing.{differing};
 
+use crate::comparison::Comparison;
 use crate::packet_rules::{
     PacketRule, Watched, first_serial, has_exact_codes, has_mode, has_odd_text, is_enhancement,
     is_subtitle_header, text_codes,
 };
-use crate::page_count::{codes_wrong, holds_row, row_wrong};
 use ttx_packet::{Header, Packet};
 use ttx_page::{PacketKind, Page};
 use ttx_pes::Unit;
@@ -34,21 +33,17 @@ pub(crate) struct Listener {
     pub is_open: bool,
     /// The rows that were sent since the last header of the page.
     pub sent: [bool; 24],
-    pub page: Page,
-    /// How many cells of the page differ from the due page.
-    pub wrong: u16,
-    /// How many cells of the blank page do: what `wrong` is behind a header of the page.
-    pub blank_wrong: u16,
+    pub comparison: Comparison,
 }
 
 impl Listener {
     ghost use Rattle.sub_check.specs.PacketRules.{AreClean, IsClean, BreaksFirstAt, BreaksFirst};
     ghost use Rattle.sub_check.specs.Listening.{Knows};
-    ghost use Rattle.sub_check.specs.PageCount.{IsCounted};
 
-    /// Nothing was heard.
-    pub fn new(watched: Watched) -> Self
+    /// Nothing was heard, and this page is due.
+    pub fn new(watched: Watched, due: Page) -> Self
         ensures watched { result.watched ≡ watched }
+        ensures due { result.comparison.due ≡ due }
         ensures knows { Knows [] result }
     {
         Listener {
@@ -56,10 +51,17 @@ impl Listener {
             serial: None,
             is_open: false,
             sent: [false; 24],
-            page: Page::blank(),
-            wrong: 0,
-            blank_wrong: 0,
+            comparison: Comparison::new(due),
         }
+    }
+
+    /// Another page is due.
+    pub fn draw(&mut self, due: Page)
+        ensures { self.new ≡ record self.old {
+          comparison = record self.old.comparison { due = due };
+        } }
+    {
+        self.comparison.draw(due);
     }
 
     /// The first rule that a packet of this kind, with this page header, breaks which comes now.
@@ -103,7 +105,7 @@ impl Listener {
                     return Some(PacketRule::Parity);
                 }
                 let at = row as usize - 1;
-                if self.sent[at] && !holds_row(&self.page, row, packet) {
+                if self.sent[at] && !self.comparison.holds_row(row, packet) {
                     return Some(PacketRule::RowChanged);
                 }
                 None
@@ -120,20 +122,13 @@ impl Listener {
 
     /// Hears a packet of this kind that breaks no rule, and says whether it is a header of the
     /// page.
-    pub fn hear(
-        &mut self,
-        packet: &Packet,
-        found: PacketKind,
-        page_header: Option<Header>,
-        due: &Page,
-    ) -> bool
+    pub fn hear(&mut self, packet: &Packet, found: PacketKind, page_header: Option<Header>) -> bool
         requires kind { found ≡ kind self.old.watched.page packet.now }
         requires page_header { page_header ≡ header packet.now }
         requires row { (row : ℕ) → found ≡ PacketKind.Row row → (1 ≤ row) × (row ≤ 24) }
-        requires counted { IsCounted self.old due.now }
         ensures header { result ≡ is_this_page (kind self.old.watched.page packet.now) }
         ensures watched { self.new.watched ≡ self.old.watched }
-        ensures counted { IsCounted self.new due.now }
+        ensures due { self.new.comparison.due ≡ self.old.comparison.due }
         ensures knows { (heard : List (List ℕ)) → Knows heard self.old
             → IsClean self.old.watched heard packet.now
             → Knows (heard ++ packet.now ∷ []) self.new }
@@ -150,7 +145,7 @@ impl Listener {
             }
             PacketKind::Row(row) => {
                 if self.is_open {
-                    self.store(row, &text_codes(packet), due);
+                    self.store(row, &text_codes(packet));
                 }
                 false
             }
@@ -160,11 +155,10 @@ impl Listener {
 
     /// Hears the packets of these units as long as they break no rule, and says how many headers of
     /// the page were among them.
-    pub fn hear_all(&mut self, units: &[Unit], due: &Page) -> Result<u32, BrokenRule>
+    pub fn hear_all(&mut self, units: &[Unit]) -> Result<u32, BrokenRule>
         requires few { length units.now ≤ 35 }
-        requires counted { IsCounted self.old due.now }
         ensures watched { self.new.watched ≡ self.old.watched }
-        ensures counted { IsCounted self.new due.now }
+        ensures due { self.new.comparison.due ≡ self.old.comparison.due }
         ensures headers { IfOk result (λ headers.
             headers ≡ header_count self.old.watched.page (packets_of_units units.now)) }
         ensures few { IfOk result (λ headers. headers ≤ 35) }
@@ -182,24 +176,20 @@ impl Listener {
                 let packet = k as u32;
                 return Err(BrokenRule { packet, rule });
             }
-            headers = counted(headers, self.hear(packet, found, page_header, due));
+            headers = counted(headers, self.hear(packet, found, page_header));
         }
         Ok(headers)
     }
 
-    /// The first cell that differs from the due page, found by the count.
-    pub fn first_wrong(&self, due: &Page) -> Option<(u8, u8)>
-        requires { self.now.wrong ≡ differing self.now.page due.now }
+    /// The first cell that differs from the due page.
+    pub fn first_wrong(&self) -> Option<(u8, u8)>
         ensures { MatchOption result
             ((row column : ℕ) → IsCell row column
-            → cell self.now.page row column ≡ cell due.now row column)
-            (λ place. DiffersFirst self.now.page due.now place.0 place.1) }
+            → cell self.now.comparison.page row column ≡ cell self.now.comparison.due row column)
+            (λ place. DiffersFirst self.now.comparison.page self.now.comparison.due place.0
+            place.1) }
     {
-        if self.wrong == 0 {
-            None
-        } else {
-            self.page.first_difference(due)
-        }
+        self.comparison.first_wrong()
     }
 
     // A header of the page: it is blank, and no row was sent.
@@ -207,34 +197,28 @@ impl Listener {
         ensures { self.new ≡ record self.old {
           is_open = true;
           sent = replicate 24 false;
-          page = blank;
-          wrong = self.old.blank_wrong;
+          comparison = record self.old.comparison { page = blank };
         } }
     {
         self.is_open = true;
         self.sent = [false; 24];
-        self.page = Page::blank();
-        self.wrong = self.blank_wrong;
+        self.comparison.clear();
     }
 
     // A row is sent.
-    fn store(&mut self, row: u8, codes: &[u8; 40], due: &Page)
+    fn store(&mut self, row: u8, codes: &[u8; 40])
         requires row { (1 ≤ row) × (row ≤ 24) }
         requires codes { AreCodes codes.now }
-        requires wrong { self.old.wrong ≡ differing self.old.page due.now }
         ensures kept { self.new ≡ record self.old {
           sent = slice_set self.old.sent (row - 1) true;
-          page = slice_set self.old.page (row - 1) codes.now;
-          wrong = self.new.wrong;
+          comparison = record self.old.comparison {
+            page = slice_set self.old.comparison.page (row - 1) codes.now;
+          };
         } }
-        ensures wrong { self.new.wrong ≡ differing self.new.page due.now }
-        ensures page { IsPage self.old.page }
+        ensures page { IsPage self.old.comparison.page }
     {
-        let before = row_wrong(&self.page, due, row);
-        let after = codes_wrong(codes, due, row);
         self.sent[row as usize - 1] = true;
-        self.page.set_row(row, codes);
-        self.wrong = self.wrong - before + after;
+        self.comparison.set_row(row, codes);
     }
 }
 

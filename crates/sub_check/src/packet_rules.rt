@@ -16,8 +16,10 @@ use stl_rows::National;
 use ttx_packet::{Control, Header, Packet, PageId};
 
 /// What is asked of a packet, in the order in which it is looked at.
+///
+/// The refusals of `check` from `Address` to `Enhancement` are of these; its contract names them.
 #[derive(Clone, Copy, Debug, PartialEq, Eq)]
-pub(crate) enum PacketRule {
+pub enum PacketRule {
     /// Both address bytes are code words.
     Address,
     /// The eight coded bytes of a packet X/0 are code words.
@@ -35,9 +37,13 @@ pub(crate) enum PacketRule {
 }
 
 /// The page that is watched, and the national option that its headers have.
+///
+/// `check` makes it of the options and the programme; its contract names it.
 #[derive(Clone, Copy)]
-pub(crate) struct Watched {
+pub struct Watched {
+    /// The page.
     pub page: PageId,
+    /// Its national option.
     pub national: National,
 }
 

@@ -8,7 +8,7 @@ use Rattle.sub_check.specs.FrameRules.{task_of}
 use Rattle.sub_check.specs.PacketRules.{packets_of_units}
 use Rattle.sub_check.specs.declared.fault.CheckFault.{CheckFault}
 use Rattle.sub_check.proofs.JudgeLemmas.{empty_refusal, end_told, first_sent, next_refusal}
-use Rattle.sub_check.proofs.JudgeLemmas.{next_sent}
+use Rattle.sub_check.proofs.JudgeLemmas.{next_sent, no_failure_at, source_failed}
 use Rattle.sub_check.proofs.JudgeLemmas.{reaches_first, reaches_next, unread_refusal}
 use Rattle.sub_check.proofs.TakingLemmas.{task_is, watched_is}
 use Rattle.sub_check.proofs.checker.judge.Goals as goal
@@ -60,7 +60,6 @@ loop-pes-init g c =
       headers = c.in_ok-checker.ensures.headers;
       due = c.in_ok-checker.ensures.due;
       edge = c.in_ok-checker.ensures.edge;
-      count = c.in_ok-checker.ensures.count;
       reading =
           c.in_ok-read.ensures.progress c.in-Some.first
           (ap (λ x. let r : Result (Option ℕ) CheckFault = Ok x in r) c.in-Some.is);
@@ -99,7 +98,8 @@ returns-in_err-more-clause-exact g c = λ frames unread bytes told reads fine.
 pub returns-in_default-more-clause-exact : goal.returns-in_default-more-clause-exact
 returns-in_default-more-clause-exact g c = λ frames unread bytes told reads fine.
     let i = c.loop-pes.invariant.told frames unread bytes told reads in
-    end_told c.args.programme.now c.args.options.now frames unread bytes c.loop-pes.pes c.in-Some.first _
+    end_told c.args.programme.now c.args.options.now frames unread bytes c.loop-pes.pes
+    c.in-Some.first _
     c.loop-pes.checker i c.finish.result
     (rw c.in_default-more.is at (c.in_ok-more.ensures.exact i.rest i.rest_is refl))
     c.finish.ensures.end
@@ -144,7 +144,6 @@ loop-pes-preserved g c =
       headers = c.in_ok-go_on.ensures.headers;
       due = c.in_ok-go_on.ensures.due;
       edge = c.in_ok-go_on.ensures.edge;
-      count = c.in_ok-go_on.ensures.count;
       reading =
           c.in_ok-more.ensures.progress c.in-Some-more.frame
           (ap (λ x. let r : Result (Option ℕ) CheckFault = Ok x in r) c.in-Some-more.is);
@@ -177,3 +176,35 @@ returns-clause-exact g c = λ frames unread bytes told reads fine.
     let few = i.few in
     let past = c.loop-pes-test.false in
     absurd (omega (arith, few, past))
+
+pub returns-in_err-read-clause-failed : goal.returns-in_err-read-clause-failed
+returns-in_err-read-clause-failed g c = λ frames unread pes bytes told reads is.
+    let p = err_from_is_err_and c.from_residual.result c.from_residual.ensures.1 in
+    source_failed c.args.programme.now c.args.options.now frames unread 0 pes _ (omega arith)
+    (λ j l. absurd (omega arith)) c.in_err-read.ensures.place (rw (p.1, p.2) at is)
+
+pub returns-in_err-checker-clause-failed : goal.returns-in_err-checker-clause-failed
+returns-in_err-checker-clause-failed g c = λ frames unread pes bytes told reads is.
+    let p =
+    err_from_is_err_and c.from_residual-in_err-checker.result
+    c.from_residual-in_err-checker.ensures.1 in
+    absurd (no_failure_at _ pes c.in_err-checker.ensures.own (rw (p.1, p.2) at is))
+
+pub returns-in_err-more-clause-failed : goal.returns-in_err-more-clause-failed
+returns-in_err-more-clause-failed g c = λ frames unread pes bytes told reads is.
+    let p =
+    err_from_is_err_and c.from_residual-in_err-more.result c.from_residual-in_err-more.ensures.1 in
+    let i = c.loop-pes.invariant.told frames unread bytes told reads in
+    source_failed c.args.programme.now c.args.options.now frames unread c.loop-pes.pes pes _
+    i.within i.follows.past c.in_err-more.ensures.place (rw (p.1, p.2) at is)
+
+pub returns-in_default-more-clause-failed : goal.returns-in_default-more-clause-failed
+returns-in_default-more-clause-failed g c = λ frames unread pes bytes told reads is.
+    absurd (no_failure_at c.finish.result pes c.finish.ensures.own is)
+
+pub returns-in_err-go_on-clause-failed : goal.returns-in_err-go_on-clause-failed
+returns-in_err-go_on-clause-failed g c = λ frames unread pes bytes told reads is.
+    let p =
+    err_from_is_err_and c.from_residual-in_err-go_on.result
+    c.from_residual-in_err-go_on.ensures.1 in
+    absurd (no_failure_at _ pes c.in_err-go_on.ensures.own (rw (p.1, p.2) at is))

@@ -7,7 +7,6 @@ use Rattle.sub_check.specs.FrameRules.{Unread, task_of}
 use Rattle.sub_plan.specs.Schedule.{due_in}
 use Rattle.sub_check.specs.PesReading.{ReadsAs}
 use Rattle.sub_check.specs.Transmission.{Transmission}
-use Rattle.sub_check.specs.PageCount.{IsCounted}
 use Rattle.sub_check.proofs.checker.judge.Given as goal
 
 abbrev pub invariant-loop-pes : goal.invariant-loop-pes
@@ -15,9 +14,8 @@ invariant-loop-pes g l = record {
   later : l.first ≤ l.checker.frame;
   header : l.checker.header_at ≤ l.checker.frame;
   headers : l.checker.headers ≤ 35 * l.checker.frame + 35;
-  due : l.checker.due ≡ due_in l.programme l.checker.frame;
+  due : l.checker.listener.comparison.due ≡ due_in l.programme l.checker.frame;
   edge : TellsNextEdge l.programme.records l.checker.frame l.checker.edge;
-  count : IsCounted l.checker.listener l.checker.due;
   reading : l.reader ≡ Reading l.pes;
   failures : g.S.Source.failure_count l.source ≡ g.S.Source.failure_count l.fn.source;
   told :

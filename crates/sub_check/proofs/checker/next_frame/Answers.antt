@@ -3,7 +3,7 @@ use Rattle.std.proofs.Common.{◌≡◌, ◌<◌, ℕ, Ok, refl, sym, ap, subst,
 use Rattle.std.proofs.lemmas.Option.{none-some, same_Some}
 use Rattle.ttx_pes.specs.Reader.{given_frame}
 use Rattle.sub_check.specs.FrameRules.Unread.{BadPacket, NoFrame}
-use Rattle.sub_check.proofs.PesReadingLemmas.{read_told}
+use Rattle.sub_check.proofs.PesReadingLemmas.{read_place, read_told}
 use Rattle.sub_check.proofs.checker.next_frame.Goals as goal
 
 pub returns-in-Err-clause-exact : goal.returns-in-Err-clause-exact
@@ -13,6 +13,9 @@ returns-in-Err-clause-exact g c = λ bytes told fine. (
   c.in-Err.ensures.exact c.args.pes c.requires.reading bytes told
       (read_told c.args.pes c.in-Err.fault fine),
 )
+
+pub returns-in-Err-clause-place : goal.returns-in-Err-clause-place
+returns-in-Err-clause-place g c = read_place c.args.pes c.in-Err.fault
 
 pub returns-in-Some-clause-exact : goal.returns-in-Some-clause-exact
 returns-in-Some-clause-exact g c = λ bytes told fine.

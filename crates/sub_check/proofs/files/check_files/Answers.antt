@@ -20,6 +20,7 @@ returns-in-Err-clause-checked g c = λ file told. record {
     recovers = λ transmission carries ok. cc;
     counts = λ transmission carries. tt;
     first = λ looked fine. cc;
+    failed = λ pes is. cc;
     content = λ frame row column is. cc;
     schedule = λ serial planned some looked fine. cc;
   };

@@ -6,7 +6,7 @@ use Rattle.sub_check.specs.FirstBroken.{NamesFirst}
 use Rattle.sub_check.specs.Following.{OrderOk, HeaderIs}
 use Rattle.sub_check.proofs.OrderLemmas.{first_early, first_packet, first_header_missing}
 use Rattle.sub_check.proofs.OrderLemmas.{first_cell, gap_of_none}
-use Rattle.sub_check.proofs.ShownLemmas.{shows_from, shows_not, covered_from, Knows-counted}
+use Rattle.sub_check.proofs.ShownLemmas.{shows_from, shows_not, covered_from}
 use Rattle.sub_check.proofs.ShownLemmas.{HeaderIs-some}
 use Rattle.sub_check.proofs.TakingLemmas.{Taken-from, fault_moved, past_more}
 use Rattle.sub_check.specs.declared.fault.CheckFault.TheVariants as fault
@@ -35,7 +35,7 @@ returns-in-Err-clause-exact c g frames task watched is =
     let same = is.packets_are in
     let first =
     c.in-Err.ensures.knows []
-    (Knows-counted [] c.new-listener.result _ _ c.new-listener.ensures.knows) in
+    c.new-listener.ensures.knows in
     let order : OrderOk g frames 0 =
     record {
       order = λ t. absurd (omega (arith, t.0));
@@ -56,7 +56,7 @@ returns-then-not-found-clause-exact c g frames task watched is =
     let same = is.packets_are in
     let both =
     c.in-Ok.ensures.knows []
-    (Knows-counted [] c.new-listener.result _ _ c.new-listener.ensures.knows) in
+    c.new-listener.ensures.knows in
     let order : OrderOk g frames 0 =
     record {
       order = λ t. absurd (omega (arith, t.0));
@@ -80,7 +80,7 @@ returns-in-Some-clause-exact c g frames task watched is =
     let same = is.packets_are in
     let both =
     c.in-Ok.ensures.knows []
-    (Knows-counted [] c.new-listener.result _ _ c.new-listener.ensures.knows) in
+    c.new-listener.ensures.knows in
     let order : OrderOk g frames 0 =
     record {
       order = λ t. absurd (omega (arith, t.0));
@@ -96,7 +96,9 @@ returns-in-Some-clause-exact c g frames task watched is =
     let head : HasHeader g frames 0 = taken.header ∙ c.if-not-found.false in
     let f : ℕ = frame_at frames 0 in
     let s = c.hear_all.new.self in
-    let d = rw (c.due_page-due.ensures.value, ← is.frame_is) at c.in-Some.ensures in
+    let due =
+    c.in-Ok.ensures.due ∙ c.new-listener.ensures.due ∙ c.due_page.ensures.value in
+    let d = rw (due, ← is.frame_is) at c.in-Some.ensures in
     subst (λ x. NamesFirst g frames (fault.Content x c.in-Some.row c.in-Some.column)) is.frame_is
     (first_cell g frames 0 (λ j l. absurd (omega arith)) c.in-Some.row c.in-Some.column is.there
     order (gap_of_none g frames) taken.packets (λ z. head) d.is_cell
@@ -115,7 +117,7 @@ returns-clause-exact c g frames task watched is =
     let same = is.packets_are in
     let both =
     c.in-Ok.ensures.knows []
-    (Knows-counted [] c.new-listener.result _ _ c.new-listener.ensures.knows) in
+    c.new-listener.ensures.knows in
     let order : OrderOk g frames 0 =
     record {
       order = λ t. absurd (omega (arith, t.0));
@@ -131,7 +133,9 @@ returns-clause-exact c g frames task watched is =
     let head : HasHeader g frames 0 = taken.header ∙ c.if-not-found.false in
     let f : ℕ = frame_at frames 0 in
     let s = c.hear_all.new.self in
-    let d = rw (c.due_page-due.ensures.value, ← is.frame_is) at c.in_default.ensures in
+    let due =
+    c.in-Ok.ensures.due ∙ c.new-listener.ensures.due ∙ c.due_page.ensures.value in
+    let d = rw (due, ← is.frame_is) at c.in_default.ensures in
     let rising : (j : ℕ) → j < 1
     → frame_at frames j ≤ f = λ j l. let z : frame_at frames j ≡ f =
     ap (frame_at frames) (omega arith) in omega arith in

@@ -10,7 +10,7 @@ use Rattle.sub_check.specs.declared.listener.Listener.{Listener}
 use Rattle.sub_check.specs.Following.{HeaderIs}
 use Rattle.sub_check.proofs.OrderLemmas.{first_gap_cell, first_gap}
 use Rattle.sub_check.proofs.ShownLemmas.{shows_from, shows_not, covered_from, covered_not}
-use Rattle.sub_check.proofs.ShownLemmas.{Knows-counted}
+use Rattle.sub_check.proofs.ShownLemmas.{Knows-drawn}
 use Rattle.sub_check.proofs.ShownLemmas.{cells_above}
 use Rattle.sub_check.proofs.frame_rules.Checker.cross_gap.Goals as goal
 
@@ -23,7 +23,6 @@ loop-f-init c = record {
   due = c.requires.due ∙ ap (due_in c.args.programme.now) (omega arith);
   edge = subst (λ x. TellsNextEdge c.args.programme.now.records x c.args.self.now.edge)
       (omega arith) c.requires.edge;
-  count = c.requires.count;
   fine = λ g frames n task follows there to_is.
       let frame = follows.frame_is in (
         follows.knows,
@@ -42,11 +41,12 @@ returns-in-Some-clause-exact c g frames n task follows there to_is order =
     let watched = kept ∙ c.loop-f.invariant.watched_same ∙ follows.watched_is in
     let knows =
     subst (Knows (joined frames n)) (sym c.advance.ensures.listener)
-    (Knows-counted (joined frames n) c.loop-f.self.listener _ _ fine.0) in
+    (Knows-drawn (joined frames n) c.loop-f.self.listener _ fine.0) in
     let some = follows.some in
     let frame = follows.frame_is in
     let in_gap : IsInGap frames n f = (some, there, omega arith, omega arith) in
-    let d = rw c.advance.ensures.due at c.in-Some.ensures in
+    let due = ap (λ (x : Listener). x.comparison.due) c.advance.ensures.listener in
+    let d = rw due at c.in-Some.ensures in
     first_gap_cell g frames n follows.past f c.in-Some.row c.in-Some.column order fine.1 fine.2
     in_gap d.is_cell
     (shows_not g p c.args.every task frames n f s knows watched _ _ d.is_cell d.differ)
@@ -65,11 +65,12 @@ returns-then-f-self-clause-exact c g frames n task follows there to_is order =
     let watched = kept ∙ c.loop-f.invariant.watched_same ∙ follows.watched_is in
     let knows =
     subst (Knows (joined frames n)) (sym c.advance.ensures.listener)
-    (Knows-counted (joined frames n) c.loop-f.self.listener _ _ fine.0) in
+    (Knows-drawn (joined frames n) c.loop-f.self.listener _ fine.0) in
     let some = follows.some in
     let frame = follows.frame_is in
     let in_gap : IsInGap frames n f = (some, there, omega arith, omega arith) in
-    let d = rw c.advance.ensures.due at c.in_default.ensures in
+    let due = ap (λ (x : Listener). x.comparison.due) c.advance.ensures.listener in
+    let d = rw due at c.in_default.ensures in
     let h : HeaderIs g frames n c.advance.new.self.header_at =
     subst (λ x. HeaderIs g frames n x)
     (sym (c.advance.ensures.header_at ∙ c.loop-f.invariant.header_same)) follows.header in
@@ -84,22 +85,22 @@ loop-f-preserved c =
     let f : ℕ = c.loop-f.f in
     let s = c.advance.new.self.listener in
     let kept = ap (λ (x : Listener). x.watched) c.advance.ensures.listener in
-    let d = rw c.advance.ensures.due at c.in_default.ensures in
+    let due = ap (λ (x : Listener). x.comparison.due) c.advance.ensures.listener in
+    let d = rw due at c.in_default.ensures in
     record {
       frame_same = c.advance.ensures.frame ∙ c.loop-f.invariant.frame_same;
       header_same = c.advance.ensures.header_at ∙ c.loop-f.invariant.header_same;
       headers_same = c.advance.ensures.headers ∙ c.loop-f.invariant.headers_same;
       watched_same = kept ∙ c.loop-f.invariant.watched_same;
-      due = c.advance.ensures.due ∙ ap (due_in p) (omega arith);
+      due = due ∙ ap (due_in p) (omega arith);
       edge = subst (λ x. TellsNextEdge p.records x c.advance.new.self.edge) (omega arith)
           c.advance.ensures.edge;
-      count = c.advance.ensures.count;
       fine = λ g frames n task follows there to_is.
           let fine = c.loop-f.invariant.fine g frames n task follows there to_is in
           let watched = kept ∙ c.loop-f.invariant.watched_same ∙ follows.watched_is in
           let knows =
           subst (Knows (joined frames n)) (sym c.advance.ensures.listener)
-          (Knows-counted (joined frames n) c.loop-f.self.listener _ _ fine.0) in
+          (Knows-drawn (joined frames n) c.loop-f.self.listener _ fine.0) in
           let h : HeaderIs g frames n c.advance.new.self.header_at =
           subst (λ x. HeaderIs g frames n x)
           (sym (c.advance.ensures.header_at ∙ c.loop-f.invariant.header_same))

@@ -3,7 +3,6 @@ use Rattle.std.proofs.Common.{◌≡◌, ℕ, ◌<◌, length, ◌-◌}
 use Rattle.stl_rows.specs.DuePage.{TellsNextEdge}
 use Rattle.sub_check.specs.Transmission.{Transmission}
 use Rattle.sub_check.specs.Listening.{Knows}
-use Rattle.sub_check.specs.PageCount.{IsCounted}
 use Rattle.sub_check.specs.FrameRules.{Task, frame_at, joined}
 use Rattle.sub_plan.specs.Schedule.{due_in}
 use Rattle.sub_check.specs.FirstBroken.Place.{AtGapCell, AtGap}
@@ -16,9 +15,8 @@ invariant-loop-f l = record {
   header_same : l.self.header_at ≡ l.initial.self.header_at;
   headers_same : l.self.headers ≡ l.initial.self.headers;
   watched_same : l.self.listener.watched ≡ l.initial.self.listener.watched;
-  due : l.self.due ≡ due_in l.programme (l.f - 1);
+  due : l.self.listener.comparison.due ≡ due_in l.programme (l.f - 1);
   edge : TellsNextEdge l.programme.records (l.f - 1) l.self.edge;
-  count : IsCounted l.self.listener l.self.due;
   fine : (g : Task) (frames : Transmission) (n : ℕ) → IsTaskOf g l.programme l.every
       → Follows g frames n l.initial.self → n < length frames → frame_at frames n ≡ l.to
       → Knows (joined frames n) l.self.listener

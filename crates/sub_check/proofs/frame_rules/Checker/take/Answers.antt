@@ -7,7 +7,7 @@ use Rattle.sub_check.specs.Listening.{Knows}
 use Rattle.sub_check.specs.Following.{HeaderIs}
 use Rattle.sub_check.proofs.OrderLemmas.{first_packet, first_cell, first_frame}
 use Rattle.sub_check.proofs.ShownLemmas.{shows_from, shows_not, covered_from, covered_not}
-use Rattle.sub_check.proofs.ShownLemmas.{Knows-counted}
+use Rattle.sub_check.proofs.ShownLemmas.{Knows-drawn}
 use Rattle.sub_check.proofs.TakingLemmas.{Taken-from, HeaderIs-more, rising_more, fault_moved}
 use Rattle.sub_check.proofs.TakingLemmas.{past_more}
 use Rattle.sub_check.specs.declared.fault.CheckFault.TheVariants as fault
@@ -27,7 +27,7 @@ returns-in-Err-clause-exact c g frames n task follows is order gap =
     let first =
     c.in-Err.ensures.knows (joined frames n)
     (subst (Knows (joined frames n)) (sym c.advance.ensures.listener)
-    (Knows-counted (joined frames n) c.args.self.now.listener _ _ follows.knows)) in
+    (Knows-drawn (joined frames n) c.args.self.now.listener _ follows.knows)) in
     subst (NamesFirst g frames) (sym c.fault_of.ensures.value)
     (subst (λ x. NamesFirst g frames (packet_fault c.in-Err.fault.rule x c.in-Err.fault.packet))
     is.frame_is
@@ -43,7 +43,7 @@ returns-in-Some-clause-exact c g frames n task follows is order gap =
     let both =
     c.in-Ok.ensures.knows (joined frames n)
     (subst (Knows (joined frames n)) (sym c.advance.ensures.listener)
-    (Knows-counted (joined frames n) c.args.self.now.listener _ _ follows.knows)) in
+    (Knows-drawn (joined frames n) c.args.self.now.listener _ follows.knows)) in
     let taken =
     Taken-from g frames n c.any_header-found.result c.in-Ok.headers c.hear_all.new.self _ _
     is.there same
@@ -53,7 +53,8 @@ returns-in-Some-clause-exact c g frames n task follows is order gap =
     let f : ℕ = frame_at frames n in
     let s = c.hear_all.new.self in
     let some = follows.some in
-    let d = rw (c.advance.ensures.due, ← is.frame_is) at c.in-Some.ensures in
+    let due = ap (λ (x : Listener). x.comparison.due) c.advance.ensures.listener in
+    let d = rw (c.in-Ok.ensures.due, due, ← is.frame_is) at c.in-Some.ensures in
     subst (λ x. NamesFirst g frames (fault.Content x c.in-Some.row c.in-Some.column)) is.frame_is
     (first_cell g frames n follows.past c.in-Some.row c.in-Some.column is.there order gap
     taken.packets (λ z. absurd (omega arith)) d.is_cell
@@ -72,7 +73,7 @@ returns-then-frame-self-clause-exact c g frames n task follows is order gap =
     let both =
     c.in-Ok.ensures.knows (joined frames n)
     (subst (Knows (joined frames n)) (sym c.advance.ensures.listener)
-    (Knows-counted (joined frames n) c.args.self.now.listener _ _ follows.knows)) in
+    (Knows-drawn (joined frames n) c.args.self.now.listener _ follows.knows)) in
     let taken =
     Taken-from g frames n c.any_header-found.result c.in-Ok.headers c.hear_all.new.self _ _
     is.there same
@@ -83,7 +84,8 @@ returns-then-frame-self-clause-exact c g frames n task follows is order gap =
     let s = c.hear_all.new.self in
     let some = follows.some in
     let frame = is.frame_is in
-    let d = rw (c.advance.ensures.due, ← is.frame_is) at c.in_default.ensures in
+    let due = ap (λ (x : Listener). x.comparison.due) c.advance.ensures.listener in
+    let d = rw (c.in-Ok.ensures.due, due, ← is.frame_is) at c.in_default.ensures in
     let rising =
     rising_more frames n c.args.self.now.frame c.args.frame follows.rising (omega arith)
     is.frame_is in
@@ -110,7 +112,7 @@ returns-clause-exact c g frames n task follows is order gap =
     let both =
     c.in-Ok.ensures.knows (joined frames n)
     (subst (Knows (joined frames n)) (sym c.advance.ensures.listener)
-    (Knows-counted (joined frames n) c.args.self.now.listener _ _ follows.knows)) in
+    (Knows-drawn (joined frames n) c.args.self.now.listener _ follows.knows)) in
     let taken =
     Taken-from g frames n c.any_header-found.result c.in-Ok.headers c.hear_all.new.self _ _
     is.there same
@@ -121,7 +123,8 @@ returns-clause-exact c g frames n task follows is order gap =
     let s = c.hear_all.new.self in
     let some = follows.some in
     let frame = is.frame_is in
-    let d = rw (c.advance.ensures.due, ← is.frame_is) at c.in_default.ensures in
+    let due = ap (λ (x : Listener). x.comparison.due) c.advance.ensures.listener in
+    let d = rw (c.in-Ok.ensures.due, due, ← is.frame_is) at c.in_default.ensures in
     let rising =
     rising_more frames n c.args.self.now.frame c.args.frame follows.rising (omega arith)
     is.frame_is in

@@ -39,7 +39,7 @@ returns-in-EndsPage-clause-knows c heard known clean =
           ∙ serial_more c.args.self.now.serial _ heard p c.requires.page_header known.serial_is;
       open_is = open_ends w heard p k;
       rows_are =
-          subst (λ rows. HoldsRows w rows c.args.self.now.sent c.args.self.now.page)
+          subst (λ rows. HoldsRows w rows c.args.self.now.sent c.args.self.now.comparison.page)
           (sym (span_ends w heard p k)) known.rows_are;
     }
 
@@ -53,7 +53,8 @@ returns-then-self-clause-knows c heard known clean =
     let odd = clean rule.Parity opened in
     let n : ℕ = c.in-Row.row in
     let rows =
-    HoldsRows-row w (span (kind w.page) heard) c.args.self.now.sent c.args.self.now.page p
+    HoldsRows-row w (span (kind w.page) heard) c.args.self.now.sent
+    c.args.self.now.comparison.page p
     known.rows_are n range.0 range.1 (omega arith) c.store.ensures.page.rows k
     (record {
       whole = λ row e. c.text_codes.ensures.whole;
@@ -67,10 +68,11 @@ returns-then-self-clause-knows c heard known clean =
       open_is = open_stays w heard p _ (ap is_this_page k) (ap ends_page k) known.open_is;
       rows_are =
           subst (λ packets. HoldsRows w packets (set c.args.self.now.sent (n - 1) true)
-          (set c.args.self.now.page (n - 1) c.text_codes.result))
+          (set c.args.self.now.comparison.page (n - 1) c.text_codes.result))
           (sym (span_open w heard p (ap is_this_page k) (ap ends_page k) opened))
           (subst (λ codes. HoldsRows w (span (kind w.page) heard ++ p ∷ [])
-          (set c.args.self.now.sent (n - 1) true) (set c.args.self.now.page (n - 1) codes))
+          (set c.args.self.now.sent (n - 1) true)
+          (set c.args.self.now.comparison.page (n - 1) codes))
           (sym c.text_codes.ensures.value) rows);
     })
 
@@ -85,7 +87,7 @@ returns-else-self-clause-knows c heard known clean =
           ∙ serial_more c.args.self.now.serial _ heard p c.requires.page_header known.serial_is;
       open_is = open_stays w heard p _ (ap is_this_page k) (ap ends_page k) known.open_is;
       rows_are =
-          subst (λ rows. HoldsRows w rows c.args.self.now.sent c.args.self.now.page)
+          subst (λ rows. HoldsRows w rows c.args.self.now.sent c.args.self.now.comparison.page)
           (sym (span_shut w heard p (ap is_this_page k) shut)) known.rows_are;
     }
 
@@ -99,5 +101,6 @@ returns-in-Other-clause-knows c heard known clean =
           ∙ serial_more c.args.self.now.serial _ heard p c.requires.page_header known.serial_is;
       open_is = open_stays w heard p _ (ap is_this_page k) (ap ends_page k) known.open_is;
       rows_are =
-          HoldsRows-passes w heard p c.args.self.now.sent c.args.self.now.page k known.rows_are;
+          HoldsRows-passes w heard p c.args.self.now.sent c.args.self.now.comparison.page k
+          known.rows_are;
     }

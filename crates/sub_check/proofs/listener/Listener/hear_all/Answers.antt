@@ -25,7 +25,7 @@ loop-k-preserved c =
     let header = c.hear.ensures.header in
     record {
       same = c.hear.ensures.watched ∙ i.same;
-      count = c.hear.ensures.counted;
+      due = c.hear.ensures.due ∙ i.due;
       few = search rules;
       header =
           one

@@ -2,13 +2,12 @@
 use Rattle.std.proofs.Common.{◌≡◌, ◌≤◌, ℕ, List, ◌++◌, take}
 use Rattle.sub_check.specs.PacketRules.{AreClean, header_count, packets_of_units}
 use Rattle.sub_check.specs.Listening.{Knows}
-use Rattle.sub_check.specs.PageCount.{IsCounted}
 use Rattle.sub_check.proofs.listener.Listener.hear_all.Given as goal
 
 abbrev pub invariant-loop-k : goal.invariant-loop-k
 invariant-loop-k l = record {
   same : l.self.watched ≡ l.initial.self.watched;
-  count : IsCounted l.self l.due;
+  due : l.self.comparison.due ≡ l.initial.self.comparison.due;
   few : l.headers ≤ l.k;
   header :
       l.headers ≡ header_count l.initial.self.watched.page (take l.k (packets_of_units l.units));

@@ -1,5 +1,6 @@
 -- With nothing heard nothing is kept.
 use Rattle.std.proofs.Common.{[], false, replicate, refl, sym, subst}
+use Rattle.sub_check.specs.Comparison.{ComparisonValue}
 use Rattle.sub_check.specs.Listening.{HoldsRows}
 use Rattle.sub_check.proofs.ListeningLemmas.{HoldsRows-none}
 use Rattle.sub_check.proofs.listener.Listener.new.Goals as goal
@@ -9,6 +10,6 @@ returns-clause-knows c = record {
   serial_is = refl;
   open_is = refl;
   rows_are =
-      subst (λ page. HoldsRows c.args.watched [] (replicate 24 false) page) (sym c.blank.ensures)
-      (HoldsRows-none c.args.watched);
+      subst (λ (x : ComparisonValue). HoldsRows c.args.watched [] (replicate 24 false) x.page)
+      (sym c.new.ensures) (HoldsRows-none c.args.watched);
 }
