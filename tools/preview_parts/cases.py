@@ -73,7 +73,9 @@ REFUSED = [
     case(74, "Late", pes="hello.pes -c 184"),
     case(77, "Incomplete", pes="hello.pes 138=FF", options="--complete"),
 ]
-EMPTY_PAGE = Case("82", "accepted", "hello.stl -c 1024", "hello.pes 92=FF", [])
+# Without a subtitle the due page is blank, which `schedule` tells by 82.
+WITHOUT = [Case("82", "accepted", "hello.stl -c 1024", "hello.pes 92=FF", []),
+           Case("82-72", "refused 72 Content", "hello.stl -c 1024", "hello.pes", [])]
 
 
 def poked(words):
