@@ -14,7 +14,7 @@ use Rattle.stl_rows.specs.DuePage.{due}
 use Rattle.stl_rows.specs.Line.{is_boxed, is_double, prepared, row_of}
 use Rattle.stl_rows.specs.TextCode.{cell_of, cell_of_pair}
 use Rattle.sub_check.specs.Examples as example
-use Rattle.sub_check.proofs.RuleTests.{by_test}
+use Rattle.sub_check.proofs.ExampleLemmas.{by_test}
 
 -- ---- frames
 

@@ -6,14 +6,14 @@ use Rattle.ttx_page.proofs.NoiseLaws as noise
 use Rattle.ttx_page.proofs.DropLaws as drops
 use Rattle.sub_check.specs.Transmission.{on_air}
 use Rattle.sub_check.specs.DroppedRows.{LawOfGoodAndDropping, LawOfGoodDroppingAndLoss}
-use Rattle.sub_check.proofs.RobustLemmas.{sound, law_of_good_and_loss}
+use Rattle.sub_check.proofs.RobustLemmas.{sound, suffices, law_of_good_and_loss}
 
 -- Where packets are lost too: robust to loss, with the dropped rows lost.
 pub law_of_good_dropping_and_loss : LawOfGoodDroppingAndLoss
 law_of_good_dropping_and_loss
     programme transmission options good g j f fates old new listening near unheard shut hears =
     let sent : List (List ℕ) = on_air transmission g j f in
-    let clean = sound programme transmission options g j f good listening in
+    let clean = sound programme transmission options g j f (suffices good) listening in
     let served =
     law_of_good_and_loss programme transmission options good g j f
     (map (drops.fate_of options.page) fates) old new listening

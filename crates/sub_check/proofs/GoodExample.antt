@@ -14,7 +14,7 @@ use Rattle.stl_rows.specs.DuePage.{due}
 use Rattle.stl_rows.specs.Line.{is_boxed, is_double, prepared, row_of}
 use Rattle.stl_rows.specs.TextCode.{cell_of, cell_of_pair}
 use Rattle.sub_check.specs.Examples.{ExampleOfGood}
-use Rattle.sub_check.proofs.RuleTests.{good_by_test}
+use Rattle.sub_check.proofs.ExampleLemmas.{good_by_test}
 
 pub example_of_good : ExampleOfGood
 unfolding kind address header coded_header decoded is_near is_odd count_ones ones_in due blank

@@ -6,7 +6,9 @@ pub mod RecoveryLemmas
 pub mod OnScreenLemmas
 pub mod StepByStepLemmas
 pub mod RuleLemmas
+pub mod TestLemmas
 pub mod RuleTests
+pub mod ExampleLemmas
 pub mod BrokenRules
 pub mod RobustTests
 pub mod NotRobust

@@ -17,7 +17,7 @@ use Rattle.sub_check.specs.Robust.{IsListening}
 use Rattle.sub_check.specs.OnScreen.{Complete, LawOfGoodAndComplete, LawOfGoodDroppingAndComplete}
 use Rattle.sub_check.proofs.RecoveryLemmas.{law_of_good_and_recovery}
 use Rattle.sub_check.proofs.RecoveryLemmas.{law_of_good_dropping_and_recovery}
-use Rattle.sub_check.proofs.RobustLemmas.{on_air_until-split, sound}
+use Rattle.sub_check.proofs.RobustLemmas.{on_air_until-split, sound, suffices}
 use Rattle.sub_check.proofs.TransmissionLemmas.{after-append, holds-append_right}
 
 -- A start at packet j of frame g of a good transmission of complete pages, and a stop at the end of
@@ -33,7 +33,7 @@ module _ (programme : ProgrammeValue) (transmission : Transmission) (options : O
       let K = kind options.page in
       let sent : List (List ℕ) = on_air transmission g j f in
       let split =
-      on_air_until-split programme transmission options g j f good listening in
+      on_air_until-split programme transmission options g j f (suffices good) listening in
       ap (λ ps. not (list_any (λ p. ends_page (K p)) ps))
       (sym (after-append K _ sent holds))
       ∙ ap (is_unended K) (sym split)
@@ -52,7 +52,7 @@ module _ (programme : ProgrammeValue) (transmission : Transmission) (options : O
       (noise.arrived_marked sent marks got may near)
       (screens.header_arrives options.page sent (fates_of marks got)
       (recursion_from_All _ sent
-      (sound programme transmission options g j f good listening).exact)
+      (sound programme transmission options g j f (suffices good) listening).exact)
       (noise.arrives_marked sent marks got may near) holds)
 
 -- A good transmission of complete pages is shown.

@@ -14,7 +14,7 @@ use Rattle.sub_check.specs.Good.{Good}
 use Rattle.sub_check.specs.Robust.{IsListening}
 use Rattle.sub_check.specs.Recovery.{IsRestored, LawOfGoodAndRecovery}
 use Rattle.sub_check.specs.Recovery.{LawOfGoodDroppingAndRecovery}
-use Rattle.sub_check.proofs.RobustLemmas.{shows_due, sound, window}
+use Rattle.sub_check.proofs.RobustLemmas.{shows_due, sound, suffices, window}
 
 -- Who ends afresh wherever a header is sent is restored.
 restored :
@@ -27,13 +27,14 @@ restored :
     → IsRestored programme options g f (on_air transmission g j f) IsExcused new
 restored programme transmission options g j f IsExcused new good listening ends =
     record {
-      in_time = window programme transmission options g j f good listening;
+      in_time = window programme transmission options g j f (suffices good) listening;
       heard = λ holds. (ends holds).heard;
       is_open = λ holds. (ends holds).is_open;
       cells = λ holds row column named. elim ((ends holds).cells row column named) [
         | inl shows ↦
             inl (shows
-            ∙ shows_due programme transmission options g j f good listening holds row column named)
+            ∙ shows_due programme transmission options g j f (suffices good) listening holds row
+            column named)
         | inr hit ↦ inr hit
       ];
     }
@@ -45,7 +46,7 @@ law_of_good_and_recovery
     restored programme transmission options g j f _ new good listening
     (λ holds.
     noise.law_of_marked_recovery options.page (on_air transmission g j f) marks got old new
-    (sound programme transmission options g j f good listening) may near holds hears)
+    (sound programme transmission options g j f (suffices good) listening) may near holds hears)
 
 -- And so do receivers that drop rows.
 pub law_of_good_dropping_and_recovery : LawOfGoodDroppingAndRecovery
@@ -55,7 +56,7 @@ law_of_good_dropping_and_recovery
     restored programme transmission options g j f _ new good listening
     (λ holds.
     drops.law_of_dropping_recovery options.page sent (fates_of marks got) old new
-    (sound programme transmission options g j f good listening)
+    (sound programme transmission options g j f (suffices good) listening)
     (noise.arrives_marked sent marks got may near) holds
     (subst (λ ps. HearsDropping options.page old ps new)
     (sym (noise.arrived_marked sent marks got may near)) hears))

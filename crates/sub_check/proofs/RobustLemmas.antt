@@ -1,7 +1,7 @@
 -- The headline's laws, from the law of noise with lost rows: `law_of_good_and_loss`.
 use Rattle.std.proofs.Common.{◌≡◌, ℕ, ◌+◌, ◌≤◌, inl, inr, true, List, ◌++◌, length, drop, take, map}
 use Rattle.std.proofs.Common.{Some, sym, ap, ◌∙◌, subst, arith, option_map, unwrap_or, find}
-use Rattle.std.proofs.Common.{le_refl}
+use Rattle.std.proofs.Common.{All, [], le_refl}
 use Rattle.std.proofs.Common.{le_trans, append_assoc, take-append-drop}
 use Rattle.std.proofs.lemmas.Bool.{cases_Bool}
 use Rattle.std.proofs.lemmas.List.{drop-append-le, take_all}
@@ -12,7 +12,7 @@ use Rattle.ttx_packet.specs.Parity.{code_of}
 use Rattle.ttx_packet.specs.RowPacket.{text_byte}
 use Rattle.ttx_page.specs.declared.packet_kind.PacketKind.{PacketKind}
 use Rattle.ttx_page.specs.LostRows.{fates_of}
-use Rattle.ttx_page.specs.Noise.{ErasesPage, IsSound}
+use Rattle.ttx_page.specs.Noise.{ErasesPage, IsOddRow, IsSameRow, IsSound}
 use Rattle.ttx_page.specs.Page.{space, cell, IsCell}
 use Rattle.ttx_page.specs.PacketKind.{kind, is_row}
 use Rattle.ttx_page.specs.Receiver.{Hears}
@@ -23,11 +23,12 @@ use Rattle.ttx_page.proofs.NoiseLaws as noise
 use Rattle.stl_rows.specs.Programme.{ProgrammeValue}
 use Rattle.sub_plan.specs.Options.{OptionsValue}
 use Rattle.sub_plan.specs.Schedule.{due_in}
-use Rattle.sub_check.specs.Transmission.{Transmission, first_frame, packets_between, packets_of}
-use Rattle.sub_check.specs.Transmission.{on_air, on_air_until, EachPacket}
+use Rattle.sub_check.specs.Transmission.{Transmission, first_frame, last_frame, packets_between}
+use Rattle.sub_check.specs.Transmission.{packets_of, on_air, on_air_until}
 use Rattle.sub_check.specs.Good.{Good, IsCleanSpan}
 use Rattle.sub_check.specs.Robust.{IsListening, Robust}
-use Rattle.sub_check.specs.LostRows.{RobustWithNothingLost}
+use Rattle.sub_check.specs.LostRows.{RobustToLoss, RobustWithNothingLost}
+use Rattle.sub_check.specs.Sufficient.{IsSufficient, LawOfSufficientParts}
 use Rattle.sub_check.specs.Laws.{LawOfWindow, LawOfGood, LawOfGoodAndLoss, LawOfGoodAndMarkedLoss}
 use Rattle.sub_check.specs.Laws.{LawOfNothingLost}
 use Rattle.sub_check.proofs.TransmissionLemmas.{holds-append_right, holds-append_left, after-append}
@@ -41,9 +42,31 @@ shown_of page row column packets =
     (find (λ p. is_row row (kind page p)) packets))
     space
 
--- A start at packet j of frame g of a good transmission, and a stop at the end of frame f.
+-- A good transmission has the parts of the rules that suffice.
+pub suffices :
+    {programme : ProgrammeValue} {transmission : Transmission} {options : OptionsValue}
+    → Good programme transmission options
+    → IsSufficient programme transmission options
+suffices {programme} {transmission} {options} good =
+    let whole : ℕ → List (List ℕ) = λ f. on_air_until transmission f in
+    let clean : (f : ℕ) → f ≤ last_frame transmission
+    → IsCleanSpan options.page (span (kind options.page) (whole f)) = λ f l.
+    subst (λ ps. IsCleanSpan options.page (span (kind options.page) ps))
+    (take_all (length (whole f)) (whole f) (le_refl (length (whole f))))
+    (good.spans f (length (whole f)) l) in
+    record {
+      rising = good.rising;
+      exact = good.exact;
+      erases = λ k d l m e n h is. (good.control k d l m e n h is).erases;
+      odd = λ f l. (clean f l).odd;
+      same = λ f l. (clean f l).same;
+      repeats = good.repeats;
+      content = good.content;
+    }
+
+-- A start at packet j of frame g of a sufficient transmission, and a stop at the end of frame f.
 module _ (programme : ProgrammeValue) (transmission : Transmission) (options : OptionsValue)
-    (g j f : ℕ) (good : Good programme transmission options)
+    (g j f : ℕ) (enough : IsSufficient programme transmission options)
     (listening : IsListening transmission g j f) where
   -- What a packet is to a receiver of the page.
   abbrev K : List ℕ → PacketKind
@@ -57,7 +80,7 @@ module _ (programme : ProgrammeValue) (transmission : Transmission) (options : O
   on_air-cut : on_air transmission g j f ≡ drop j (packets_of transmission g) ++ later
   on_air-cut =
       ap (drop j)
-      (packets_between-split transmission g (g + 1) (f + 1) good.rising (omega arith)
+      (packets_between-split transmission g (g + 1) (f + 1) enough.rising (omega arith)
       (omega (arith, listening.in_order)))
       ∙ drop-append-le j (packets_of transmission g) later listening.in_frame
 
@@ -71,11 +94,11 @@ module _ (programme : ProgrammeValue) (transmission : Transmission) (options : O
   later_holds n above below holds =
       let here : packets_between transmission n (f + 1)
       ≡ packets_of transmission n ++ packets_between transmission (n + 1) (f + 1) =
-      packets_between-split transmission n (n + 1) (f + 1) good.rising (omega arith)
+      packets_between-split transmission n (n + 1) (f + 1) enough.rising (omega arith)
       (omega arith) in
       let split : later ≡ packets_between transmission (g + 1) n
       ++ packets_between transmission n (f + 1) =
-      packets_between-split transmission (g + 1) n (f + 1) good.rising above (omega arith) in
+      packets_between-split transmission (g + 1) n (f + 1) enough.rising above (omega arith) in
       subst (λ ps. holds_header K ps ≡ true) (sym split)
       (holds-append_right K (packets_between transmission (g + 1) n) _
       (subst (λ ps. holds_header K ps ≡ true) (sym here)
@@ -85,7 +108,7 @@ module _ (programme : ProgrammeValue) (transmission : Transmission) (options : O
   pub window : g + options.every ≤ f → holds_header K (on_air transmission g j f) ≡ true
   window far =
       let found =
-      good.repeats (g + 1) (omega (arith, listening.not_before))
+      enough.repeats (g + 1) (omega (arith, listening.not_before))
       (omega (arith, listening.not_after)) in
       subst (λ ps. holds_header K ps ≡ true) (sym on_air-cut)
       (holds-append_right K (drop j (packets_of transmission g)) _
@@ -98,7 +121,7 @@ module _ (programme : ProgrammeValue) (transmission : Transmission) (options : O
       ++ take j (packets_between transmission g (f + 1)))
       ++ on_air transmission g j f
   on_air_until-split =
-      packets_between-split transmission (first_frame transmission) g (f + 1) good.rising
+      packets_between-split transmission (first_frame transmission) g (f + 1) enough.rising
       listening.not_before (omega (arith, listening.in_order))
       ∙ ap (λ ps. packets_between transmission (first_frame transmission) g ++ ps)
       (sym (take-append-drop j (packets_between transmission g (f + 1))))
@@ -113,37 +136,35 @@ module _ (programme : ProgrammeValue) (transmission : Transmission) (options : O
       (ap (after_last_header K) on_air_until-split
       ∙ after-append K _ (on_air transmission g j f) holds)
 
-  -- So it is clean.
-  clean : IsCleanSpan options.page (span K (on_air transmission g j f))
-  clean =
+  -- What is so of the span of all that was on air so far is so of the span of what is heard.
+  of_span :
+      (P : List (List ℕ) → Type 0)
+      → P []
+      → P (span K (on_air_until transmission f))
+      → P (span K (on_air transmission g j f))
+  of_span P none so_far =
       elim (cases_Bool (holds_header K (on_air transmission g j f))) [
-        | inl holds ↦
-            let whole : List (List ℕ) = on_air_until transmission f in
-            subst (IsCleanSpan options.page)
-            (ap (span K) (take_all (length whole) whole (le_refl (length whole)))
-            ∙ span_so_far holds)
-            (good.spans f (length whole) listening.not_after)
-        | inr none ↦
-            subst (IsCleanSpan options.page)
-            (sym (ap (before_end K) (after-none K (on_air transmission g j f) none)))
-            (record { odd = All-nil _; same = All-nil _; plain = All-nil _ })
+        | inl holds ↦ subst P (span_so_far holds) so_far
+        | inr no_header ↦
+            subst P (sym (ap (before_end K) (after-none K (on_air transmission g j f) no_header)))
+            none
       ]
 
-  -- And what is on air is as the law of noise wants it.
+  -- What is on air is as the law of noise wants it.
   pub sound : IsSound options.page (on_air transmission g j f)
-  sound =
-      let erasing : EachPacket (ErasesPage options.page) transmission =
-      λ k d l m e n h is. (good.control k d l m e n h is).erases in
-      record {
-        exact =
-            All-drop HasExactWords j _
-            (packets_between-each HasExactWords transmission g (f + 1) good.exact);
-        erases =
-            All-drop (ErasesPage options.page) j _
-            (packets_between-each (ErasesPage options.page) transmission g (f + 1) erasing);
-        odd = clean.odd;
-        same = clean.same;
-      }
+  sound = record {
+    exact =
+        All-drop HasExactWords j _
+        (packets_between-each HasExactWords transmission g (f + 1) enough.exact);
+    erases =
+        All-drop (ErasesPage options.page) j _
+        (packets_between-each (ErasesPage options.page) transmission g (f + 1) enough.erases);
+    odd =
+        of_span (All (IsOddRow options.page)) (All-nil _) (enough.odd f listening.not_after);
+    same =
+        of_span (λ ps. All (λ first. All (IsSameRow options.page first) ps) ps) (All-nil _)
+        (enough.same f listening.not_after);
+  }
 
   -- What is on air shows the page that is due, where it holds a header of the page.
   pub shows_due :
@@ -154,33 +175,41 @@ module _ (programme : ProgrammeValue) (transmission : Transmission) (options : O
       ≡ cell (due_in programme f) row column
   shows_due holds row column named =
       ap (shown_of options.page row column) (sym (span_so_far holds))
-      ∙ good.content f row column (le_trans listening.not_before listening.in_order)
+      ∙ enough.content f row column (le_trans listening.not_before listening.in_order)
       listening.not_after named
 
 -- The law of the window.
 pub law_of_window : LawOfWindow
 law_of_window programme transmission options g j f good listening far =
-    window programme transmission options g j f good listening far
+    window programme transmission options g j f (suffices good) listening far
 
--- A good transmission is robust to lost rows.
-pub law_of_good_and_loss : LawOfGoodAndLoss
-law_of_good_and_loss
-    programme transmission options good g j f fates old new listening near unheard shut hears =
+-- A sufficient transmission is robust to lost rows.
+sufficient_and_loss :
+    (programme : ProgrammeValue) (transmission : Transmission) (options : OptionsValue)
+    → IsSufficient programme transmission options
+    → RobustToLoss programme transmission options
+sufficient_and_loss
+    programme transmission options enough g j f fates old new listening near unheard shut hears =
     let ends =
     noise.law_of_lost_rows options.page (on_air transmission g j f) fates old new
-    (sound programme transmission options g j f good listening) near unheard shut hears in
+    (sound programme transmission options g j f enough listening) near unheard shut hears in
     record {
-      in_time = law_of_window programme transmission options g j f good listening;
+      in_time = window programme transmission options g j f enough listening;
       heard = (λ h. sym ends.heard ∙ h, λ h. ends.heard ∙ h);
       cells = λ holds row column named.
           elim (ends.cells (ends.heard ∙ holds) row column named) [
             | inl shows ↦
                 inl (shows
-                ∙ shows_due programme transmission options g j f good listening holds row column
+                ∙ shows_due programme transmission options g j f enough listening holds row column
                 named)
             | inr hit ↦ inr hit
           ];
     }
+
+-- A good transmission is robust to lost rows.
+pub law_of_good_and_loss : LawOfGoodAndLoss
+law_of_good_and_loss programme transmission options good =
+    sufficient_and_loss programme transmission options (suffices good)
 
 -- A good transmission is robust to lost rows, by marks: the fates that they give.
 pub law_of_good_and_marked_loss : LawOfGoodAndMarkedLoss
@@ -233,8 +262,18 @@ law_of_nothing_lost programme transmission options = (robust, lossless)
           ];
         }
 
--- A good transmission is robust: robust to lost rows, with nothing lost.
+-- The parts that suffice: with nothing lost, robust to lost rows is robust.
+pub law_of_sufficient_parts : LawOfSufficientParts
+law_of_sufficient_parts programme transmission options = record {
+  of_good = suffices;
+  robust = λ enough.
+      (law_of_nothing_lost programme transmission options).0
+      (λ g j f got.
+      sufficient_and_loss programme transmission options enough g j f (map Some got));
+  to_loss = sufficient_and_loss programme transmission options;
+}
+
+-- A good transmission is robust.
 pub law_of_good : LawOfGood
 law_of_good programme transmission options good =
-    (law_of_nothing_lost programme transmission options).0
-    (λ g j f got. law_of_good_and_loss programme transmission options good g j f (map Some got))
+    (law_of_sufficient_parts programme transmission options).robust (suffices good)

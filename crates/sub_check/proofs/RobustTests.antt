@@ -24,7 +24,7 @@ use Rattle.sub_plan.specs.Options.{OptionsValue}
 use Rattle.sub_plan.specs.Schedule.{due_in}
 use Rattle.sub_check.specs.Transmission.{Transmission, first_frame, last_frame, packets_of, on_air}
 use Rattle.sub_check.specs.Robust.{IsListening, Robust}
-use Rattle.sub_check.proofs.RuleTests.{agree, agreed}
+use Rattle.sub_check.proofs.TestLemmas.{agree, agreed}
 
 -- ---- near packets
 

@@ -1,22 +1,18 @@
--- Each of the seven rules as a test that computes (rule_decided). By it examples are computed:
--- by_test, good_by_test. Below each test stands what it decides.
-use Rattle.std.proofs.Common.{◌≡◌, ℕ, zero, suc, ◌+◌, ◌-◌, ◌<◌, ◌≤◌, inl, inr, ◌==◌, Bool}
-use Rattle.std.proofs.Common.{true, false, not, ◌&&◌, ◌||◌, nat_lt, nat_le, cond, List, [], ◌∷◌}
-use Rattle.std.proofs.Common.{length, take, slice_index, Option, Some, None, find, option_map}
-use Rattle.std.proofs.Common.{unwrap_or, All, ◌++◌, IfSome, eqb-true, refl, sym, ap, ◌∙◌}
-use Rattle.std.proofs.Common.{subst, arith, le_refl}
+-- Each of the seven rules as a test that computes: rule_decided. Below each test stands what it
+-- decides.
+use Rattle.std.proofs.Common.{◌≡◌, ℕ, zero, suc, ◌+◌, ◌-◌, ◌<◌, ◌≤◌, inl, inr, ◌==◌, Bool, true}
+use Rattle.std.proofs.Common.{false, not, ◌&&◌, ◌||◌, nat_lt, nat_le, cond, List, [], ◌∷◌, length}
+use Rattle.std.proofs.Common.{take, slice_index, Option, Some, find, option_map, unwrap_or, All}
+use Rattle.std.proofs.Common.{◌++◌, refl, sym, ap, ◌∙◌, subst, arith, le_refl}
 use Rattle.std.specs.Bool.{Decides}
 use Rattle.std.specs.List.{list_all}
 use Rattle.std.specs.Str.{bytes_eq}
 use Rattle.std.proofs.Math.Seq.{take-nil}
-use Rattle.std.proofs.lemmas.Bool.{and_parts, or_cases, not-true, cases_lt, ltb-true, leb-true}
-use Rattle.std.proofs.lemmas.Bool.{le-leb}
-use Rattle.std.proofs.lemmas.Bool.Decides.{Decides-and, Decides-not, Decides-like}
-use Rattle.std.proofs.lemmas.Bool.Decides.{Decides-eqb, Decides-ltb, Decides-by_and}
-use Rattle.std.proofs.lemmas.Bool.Decides.{Decides-below_and, Decides-below_or, not_from_Decides}
+use Rattle.std.proofs.lemmas.Bool.{cases_lt, ltb-true, leb-true}
+use Rattle.std.proofs.lemmas.Bool.Decides.{Decides-and, Decides-not, Decides-like, Decides-eqb}
+use Rattle.std.proofs.lemmas.Bool.Decides.{Decides-ltb}
 use Rattle.std.proofs.lemmas.List.{take_all}
 use Rattle.std.proofs.lemmas.List.Kept.{AllPairs-cons}
-use Rattle.std.proofs.lemmas.Option.{none-some, same_Some}
 use Rattle.std.proofs.lemmas.Slice.Eq.{bytes_eq-Decides}
 use Rattle.ttx_packet.specs.declared.header.Header.{Header}
 use Rattle.ttx_packet.specs.Hamming84.{IsCodeWord, code_word}
@@ -26,9 +22,7 @@ use Rattle.ttx_packet.specs.PageHeader.{c11, c12, c13, c14}
 use Rattle.ttx_packet.specs.PageId.{PageIdValue}
 use Rattle.ttx_packet.specs.Parity.{code_of, is_odd}
 use Rattle.ttx_packet.specs.RowPacket.{text_byte, HasOddText}
-use Rattle.ttx_page.specs.declared.packet_kind.PacketKind.{PacketKind}
-use Rattle.ttx_page.specs.declared.packet_kind.PacketKind.TheVariants.{ThisPage, EndsPage, Row}
-use Rattle.ttx_page.specs.declared.packet_kind.PacketKind.TheVariants.{Other}
+use Rattle.ttx_page.specs.declared.packet_kind.PacketKind.TheVariants.{Row}
 use Rattle.ttx_page.specs.Noise.{IsOddRow, IsSameRow}
 use Rattle.ttx_page.specs.Page.{Rows, space, cell, row_at, IsCell}
 use Rattle.ttx_page.specs.PacketKind.{kind, is_row}
@@ -41,184 +35,16 @@ use Rattle.sub_plan.specs.Schedule.{due_in}
 use Rattle.sub_plan.specs.Sending.{has_c14}
 use Rattle.sub_check.specs.Transmission.{SentFrame, Transmission, IsRising, EachPacket, first_frame}
 use Rattle.sub_check.specs.Transmission.{last_frame, packets_of, packets_between, on_air_until}
-use Rattle.sub_check.specs.Good.{IsInOneMode, IsSubtitleHeader, IsControlled, IsEnhancement, Good}
+use Rattle.sub_check.specs.Good.{IsInOneMode, IsSubtitleHeader, IsControlled, IsEnhancement}
 use Rattle.sub_check.specs.Good.{IsCleanSpan, HasCleanSpans, HoldsHeader, Repeats, ShowsDuePages}
-use Rattle.sub_check.specs.Rules.{Rule, IsKept, BreaksOnly}
+use Rattle.sub_check.specs.Rules.{Rule, IsKept}
 use Rattle.sub_check.specs.Rules.Rule.{Frames, ExactWords, OneMode, SubtitleControl, CleanSpans}
 use Rattle.sub_check.specs.Rules.Rule.{RepeatBound, DuePages}
-use Rattle.sub_check.proofs.RuleLemmas.{law_of_rules, breaks}
 use Rattle.sub_check.proofs.StepByStepLemmas.{clean_nil}
-
--- ---- tests and what they decide
-
--- One fact implies another.
-implied :
-    {P Q : Type 0} (a b : Bool) → Decides a P → Decides b Q → Decides (not a || b) (P → Q)
-implied true b p q = (λ e _. q.0 e, λ h. q.1 (h (p.0 refl)))
-implied false b p q = (λ e h. absurd (let t : false ≡ true = p.1 h in cc), λ h. refl)
-
--- Two truth values are equal.
-abbrev pub agree : Bool → Bool → Bool
-agree true b = b
-agree false b = not b
-
-pub agreed : (a b : Bool) → Decides (agree a b) (a ≡ b)
-agreed true true = (λ e. refl, λ e. refl)
-agreed true false = (λ e. cc, λ e. cc)
-agreed false true = (λ e. cc, λ e. cc)
-agreed false false = (λ e. refl, λ e. refl)
-
--- A truth value is true.
-holds : (a : Bool) → Decides a (a ≡ true)
-holds a = (λ e. e, λ e. e)
-
--- A number is at most another.
-at_most : (a b : ℕ) → Decides (nat_le a b) (a ≤ b)
-at_most a b = (leb-true a b, le-leb a b)
-
--- A test of each number below a bound.
-abbrev pub all_below : (ℕ → Bool) → ℕ → Bool
-all_below test zero = true
-all_below test (suc n) = test n && all_below test n
-
--- A test of some number below a bound.
-abbrev pub any_below : (ℕ → Bool) → ℕ → Bool
-any_below test zero = false
-any_below test (suc n) = test n || any_below test n
-
-below :
-    (test : ℕ → Bool) (P : ℕ → Type 0)
-    → ((k : ℕ) → Decides (test k) (P k))
-    → (n : ℕ)
-    → Decides (all_below test n) ((k : ℕ) → k < n → P k)
-below test P each n = Decides-below_and test P (all_below test) each refl (λ _. refl) n
-
-some_below :
-    (test : ℕ → Bool) (P : ℕ → Type 0)
-    → ((k : ℕ) → Decides (test k) (P k))
-    → (n : ℕ)
-    → Decides (any_below test n) ((k : ℕ) × (k < n) × P k)
-some_below test P each n = Decides-below_or test P (any_below test) each refl (λ _. refl) n
-
--- A test of each element.
-each_of :
-    {A : Type 0} (test : A → Bool) (P : A → Type 0)
-    → ((x : A) → Decides (test x) (P x))
-    → (xs : List A)
-    → Decides (list_all test xs) (All P xs)
-each_of test P each xs = Decides-by_and test P (list_all test) each refl (λ _ _. refl) xs
-
--- A test of the value, where there is one.
-abbrev if_some : {A : Type 0} → (A → Bool) → Option A → Bool
-if_some test None = true
-if_some test (Some x) = test x
-
-value_of :
-    {A : Type 0} (test : A → Bool) (P : A → Type 0)
-    → ((x : A) → Decides (test x) (P x))
-    → (o : Option A)
-    → Decides (if_some test o) ((x : A) → o ≡ Some x → P x)
-value_of test P each None = (λ e x is. absurd (none-some x is), λ h. refl)
-value_of test P each (Some y) =
-    (λ e x is. subst P (same_Some y x is) ((each y).0 e), λ h. (each y).1 (h y refl))
-
-if_value :
-    {A : Type 0} (test : A → Bool) (P : A → Type 0)
-    → ((x : A) → Decides (test x) (P x))
-    → (o : Option A)
-    → Decides (if_some test o) (IfSome o P)
-if_value test P each None = (λ e. tt, λ h. refl)
-if_value test P each (Some y) = each y
-
--- The header of a packet that is one of the page.
-abbrev this_page : PacketKind → Option Header
-this_page (ThisPage h) = Some h
-this_page EndsPage = None
-this_page (Row y) = None
-this_page Other = None
-
-if_this_page :
-    (test : Header → Bool) (P : Header → Type 0)
-    → ((h : Header) → Decides (test h) (P h))
-    → (k : PacketKind)
-    → Decides (if_some test (this_page k)) ((h : Header) → k ≡ ThisPage h → P h)
-if_this_page test P each k =
-    Decides-like (if_some test (this_page k)) (λ f h is. f h (ap this_page is)) (back k)
-    (value_of test P each (this_page k))
-  where
-    back :
-        (k : PacketKind)
-        → ((h : Header) → k ≡ ThisPage h → P h)
-        → (h : Header)
-        → this_page k ≡ Some h
-        → P h
-    back (ThisPage g) f h is = f h (ap ThisPage (same_Some g h is))
-    back EndsPage f h is = absurd (none-some h is)
-    back (Row y) f h is = absurd (none-some h is)
-    back Other f h is = absurd (none-some h is)
-
--- The row of a packet that is one.
-abbrev row_of_kind : PacketKind → Option ℕ
-row_of_kind (ThisPage h) = None
-row_of_kind EndsPage = None
-row_of_kind (Row y) = Some y
-row_of_kind Other = None
-
-if_row :
-    (test : ℕ → Bool) (P : ℕ → Type 0)
-    → ((y : ℕ) → Decides (test y) (P y))
-    → (k : PacketKind)
-    → Decides (if_some test (row_of_kind k)) ((y : ℕ) → k ≡ Row y → P y)
-if_row test P each k =
-    Decides-like (if_some test (row_of_kind k)) (λ f y is. f y (ap row_of_kind is)) (back k)
-    (value_of test P each (row_of_kind k))
-  where
-    back :
-        (k : PacketKind)
-        → ((y : ℕ) → k ≡ Row y → P y)
-        → (y : ℕ)
-        → row_of_kind k ≡ Some y
-        → P y
-    back (ThisPage h) f y is = absurd (none-some y is)
-    back EndsPage f y is = absurd (none-some y is)
-    back (Row x) f y is = f y (ap Row (same_Some x y is))
-    back Other f y is = absurd (none-some y is)
-
--- ---- of a transmission
-
--- A test of each packet.
-abbrev each_packet : (List ℕ → Bool) → Transmission → Bool
-each_packet test frames = list_all (λ (s : SentFrame). list_all test s.packets) frames
-
-packets_decided :
-    (test : List ℕ → Bool) (P : List ℕ → Type 0)
-    → ((p : List ℕ) → Decides (test p) (P p))
-    → (frames : Transmission)
-    → Decides (each_packet test frames) (EachPacket P frames)
-packets_decided test P each frames =
-    each_of (λ (s : SentFrame). list_all test s.packets) (λ (s : SentFrame). All P s.packets)
-    (λ s. each_of test P each s.packets) frames
-
--- A test of each frame from the first to the last.
-abbrev each_frame : (ℕ → Bool) → Transmission → Bool
-each_frame test frames =
-    all_below (λ k. test (first_frame frames + k)) (last_frame frames + 1 - first_frame frames)
-
-frames_decided :
-    (test : ℕ → Bool) (P : ℕ → Type 0)
-    → ((f : ℕ) → Decides (test f) (P f))
-    → (frames : Transmission)
-    → Decides (each_frame test frames)
-    ((f : ℕ) → first_frame frames ≤ f → f ≤ last_frame frames → P f)
-frames_decided test P each frames =
-    Decides-like (each_frame test frames)
-    (λ h f l m.
-    let k : ℕ = f - first_frame frames in
-    let here : first_frame frames + k ≡ f = omega arith in
-    subst P here (h k (omega arith)))
-    (λ h k l. h (first_frame frames + k) (omega arith) (omega arith))
-    (below (λ k. test (first_frame frames + k)) (λ k. P (first_frame frames + k))
-    (λ k. each (first_frame frames + k)) (last_frame frames + 1 - first_frame frames))
+use Rattle.sub_check.proofs.TestLemmas.{implied, agree, agreed, holds, fails, at_most, all_below}
+use Rattle.sub_check.proofs.TestLemmas.{any_below, below, some_below, each_of, if_some, value_of}
+use Rattle.sub_check.proofs.TestLemmas.{if_value, this_page, if_this_page, row_of_kind, if_row}
+use Rattle.sub_check.proofs.TestLemmas.{each_packet, packets_decided, each_frame, frames_decided}
 
 -- ---- the rules
 
@@ -307,11 +133,6 @@ is_subtitles national h =
     && (c6 h
     && (c7 h
     && (not (c10 h) && (not (c12 h) && (not (c13 h) && agree (c14 h) (has_c14 national)))))))
-
--- A truth value is false.
-fails : (a : Bool) → Decides (not a) (a ≡ false)
-fails true = (λ e. cc, λ e. cc)
-fails false = (λ e. refl, λ e. refl)
 
 subtitles_decided :
     (national : National) (h : Header)
@@ -598,7 +419,7 @@ passes DuePages programme frames o =
     frames
 
 -- It decides the rule.
-rule_decided :
+pub rule_decided :
     (rule : Rule) (programme : ProgrammeValue) (frames : Transmission) (o : OptionsValue)
     → Decides (passes rule programme frames o) (IsKept rule programme frames o)
 rule_decided Frames programme frames o =
@@ -638,103 +459,3 @@ rule_decided RepeatBound programme frames o =
     (Decides-and _ _ (holds (holds_header (kind o.page) (packets_of frames (first_frame frames))))
     (repeats_decided o.page o.every frames))
 rule_decided DuePages programme frames o = due_decided programme o.page frames
-
--- A test of all rules.
-abbrev pub all_rules : (Rule → Bool) → Bool
-all_rules test =
-    test Frames
-    && (test ExactWords
-    && (test OneMode
-    && (test SubtitleControl && (test CleanSpans && (test RepeatBound && test DuePages)))))
-
-each_rule : (test : Rule → Bool) → all_rules test ≡ true → (rule : Rule) → test rule ≡ true
-each_rule test e =
-    let a = and_parts (test Frames) _ e in
-    let b = and_parts (test ExactWords) _ a.1 in
-    let c = and_parts (test OneMode) _ b.1 in
-    let d = and_parts (test SubtitleControl) _ c.1 in
-    let f = and_parts (test CleanSpans) _ d.1 in
-    let g = and_parts (test RepeatBound) _ f.1 in
-    pick a.0 b.0 c.0 d.0 f.0 g.0 g.1
-  where
-    pick :
-        test Frames ≡ true
-        → test ExactWords ≡ true
-        → test OneMode ≡ true
-        → test SubtitleControl ≡ true
-        → test CleanSpans ≡ true
-        → test RepeatBound ≡ true
-        → test DuePages ≡ true
-        → (rule : Rule)
-        → test rule ≡ true
-    pick a b c d f g h Frames = a
-    pick a b c d f g h ExactWords = b
-    pick a b c d f g h OneMode = c
-    pick a b c d f g h SubtitleControl = d
-    pick a b c d f g h CleanSpans = f
-    pick a b c d f g h RepeatBound = g
-    pick a b c d f g h DuePages = h
-
--- A transmission whose tests all pass is good.
-pub good_by_test :
-    (programme : ProgrammeValue) (frames : Transmission) (o : OptionsValue)
-    → all_rules (λ rule. passes rule programme frames o) ≡ true
-    → Good programme frames o
-good_by_test programme frames o e =
-    (law_of_rules programme frames o).1
-    (λ rule. (rule_decided rule programme frames o).0
-    (each_rule (λ rule. passes rule programme frames o) e rule))
-
--- The place of a rule among the seven, and the rule at a place.
-abbrev rank : Rule → ℕ
-rank Frames = 0
-rank ExactWords = 1
-rank OneMode = 2
-rank SubtitleControl = 3
-rank CleanSpans = 4
-rank RepeatBound = 5
-rank DuePages = 6
-
-abbrev at_rank : ℕ → Rule
-at_rank n =
-    cond (n == 0) Frames
-    (cond (n == 1) ExactWords
-    (cond (n == 2) OneMode
-    (cond (n == 3) SubtitleControl
-    (cond (n == 4) CleanSpans (cond (n == 5) RepeatBound DuePages)))))
-
-ranked : (rule : Rule) → at_rank (rank rule) ≡ rule
-ranked Frames = refl
-ranked ExactWords = refl
-ranked OneMode = refl
-ranked SubtitleControl = refl
-ranked CleanSpans = refl
-ranked RepeatBound = refl
-ranked DuePages = refl
-
--- The test of this rule fails, and no other.
-abbrev pub fails_alone : Rule → ProgrammeValue → Transmission → OptionsValue → Bool
-fails_alone rule programme frames o =
-    not (passes rule programme frames o)
-    && all_rules (λ other. (rank other == rank rule) || passes other programme frames o)
-
--- A transmission of which this is so breaks the rule alone.
-pub by_test :
-    (rule : Rule) (programme : ProgrammeValue) (frames : Transmission) (o : OptionsValue)
-    → fails_alone rule programme frames o ≡ true
-    → BreaksOnly rule programme frames o
-by_test rule programme frames o e =
-    let parts = and_parts (not (passes rule programme frames o)) _ e in
-    breaks rule programme frames o
-    (not_from_Decides _ (rule_decided rule programme frames o)
-    (not-true (passes rule programme frames o) parts.0))
-    (λ other d.
-    elim (or_cases (rank other == rank rule) _
-    (each_rule (λ other. (rank other == rank rule) || passes other programme frames o) parts.1
-    other)) [
-      | inl same ↦
-          absurd
-          (d (sym (ranked other) ∙ ap at_rank (eqb-true (rank other) (rank rule) same)
-          ∙ ranked rule))
-      | inr kept ↦ (rule_decided other programme frames o).0 kept
-    ])

@@ -26,7 +26,7 @@ use Rattle.sub_check.specs.Robust.{IsListening}
 use Rattle.sub_check.specs.ScreenExamples.{unheard, ExampleOfEndedPage, ExampleOfPageNotEnded}
 use Rattle.sub_check.specs.ScreenExamples.{ExampleOfPageBegunAgain, ExampleOfNoEnd}
 use Rattle.sub_check.specs.Transmission.{Transmission}
-use Rattle.sub_check.proofs.RuleTests.{good_by_test}
+use Rattle.sub_check.proofs.ExampleLemmas.{good_by_test}
 
 -- ---- packets
 

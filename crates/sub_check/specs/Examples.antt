@@ -206,15 +206,17 @@ abbrev pub ExampleOfInhibitedDisplay : Type 0
 ExampleOfInhibitedDisplay =
     BreaksOnly SubtitleControl no_subtitles (one_header (header_with 0xD0 0xD0 0xC7 0x15)) (each 1)
 
--- Headers with C12, C13 or C14 set, which name other national option sub-sets than English.
+-- A header with C12 set, which names another national option sub-set than English.
 abbrev pub ExampleOfC12 : Type 0
 ExampleOfC12 =
     BreaksOnly SubtitleControl no_subtitles (one_header (header_with 0xD0 0xD0 0x02 0x49)) (each 1)
 
+-- A header with C13 set.
 abbrev pub ExampleOfC13 : Type 0
 ExampleOfC13 =
     BreaksOnly SubtitleControl no_subtitles (one_header (header_with 0xD0 0xD0 0x02 0x64)) (each 1)
 
+-- A header with C14 set, which names the German one.
 abbrev pub ExampleOfC14 : Type 0
 ExampleOfC14 =
     BreaksOnly SubtitleControl no_subtitles (one_header (header_with 0xD0 0xD0 0x02 0xD0)) (each 1)

@@ -4,6 +4,7 @@ pub mod Good
 pub mod Rules
 pub mod StepByStep
 pub mod Robust
+pub mod Sufficient
 pub mod LostRows
 pub mod DroppedRows
 pub mod Recovery

@@ -7,6 +7,7 @@ ghost use Rattle.sub_check.specs.PesReading.{LawOfPesFiles};
 ghost use Rattle.sub_check.specs.Planned.{LawOfPlan, LawOfPlanRead};
 ghost use Rattle.sub_check.specs.Rules.{LawOfRules};
 ghost use Rattle.sub_check.specs.StepByStep.{LawOfCleanSpans, LawOfRepeats, LawOfSpansByPacket};
+ghost use Rattle.sub_check.specs.Sufficient.{LawOfSufficientParts};
 
 /// A start at any packet of a good transmission meets a header of the page within the repeat bound.
 pub fn law_of_window()
@@ -17,6 +18,13 @@ pub fn law_of_window()
 /// wrong bit in each byte, each cell holds the due page's code or, where its byte was hit, a space.
 pub fn law_of_good()
     ensures { LawOfGood }
+{}
+
+/// Of the seven rules these parts suffice for it: frames rise; code words have no bit wrong; headers
+/// erase the page; rows are odd, and stay as they are; a header comes within the repeat bound; what
+/// is due is shown.
+pub fn law_of_sufficient_parts()
+    ensures { LawOfSufficientParts }
 {}
 
 /// A good transmission is robust where packets are lost too, any but page headers: a cell of a lost

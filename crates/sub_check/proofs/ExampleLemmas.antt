@@ -1,0 +1,114 @@
+-- Examples by the tests of all rules: good_by_test, and by_test for one that breaks a rule alone.
+use Rattle.std.proofs.Common.{◌≡◌, ℕ, inl, inr, ◌==◌, Bool, true, not, ◌&&◌, ◌||◌, cond, eqb-true}
+use Rattle.std.proofs.Common.{refl, sym, ap, ◌∙◌}
+use Rattle.std.proofs.lemmas.Bool.{and_parts, or_cases, not-true}
+use Rattle.std.proofs.lemmas.Bool.Decides.{not_from_Decides}
+use Rattle.stl_rows.specs.Programme.{ProgrammeValue}
+use Rattle.sub_plan.specs.Options.{OptionsValue}
+use Rattle.sub_check.specs.Transmission.{Transmission}
+use Rattle.sub_check.specs.Good.{Good}
+use Rattle.sub_check.specs.Rules.{Rule, BreaksOnly}
+use Rattle.sub_check.specs.Rules.Rule.{Frames, ExactWords, OneMode, SubtitleControl, CleanSpans}
+use Rattle.sub_check.specs.Rules.Rule.{RepeatBound, DuePages}
+use Rattle.sub_check.proofs.RuleLemmas.{law_of_rules, breaks}
+use Rattle.sub_check.proofs.RuleTests.{passes, rule_decided}
+
+-- A test of all rules.
+abbrev pub all_rules : (Rule → Bool) → Bool
+all_rules test =
+    test Frames
+    && (test ExactWords
+    && (test OneMode
+    && (test SubtitleControl && (test CleanSpans && (test RepeatBound && test DuePages)))))
+
+each_rule : (test : Rule → Bool) → all_rules test ≡ true → (rule : Rule) → test rule ≡ true
+each_rule test e =
+    let a = and_parts (test Frames) _ e in
+    let b = and_parts (test ExactWords) _ a.1 in
+    let c = and_parts (test OneMode) _ b.1 in
+    let d = and_parts (test SubtitleControl) _ c.1 in
+    let f = and_parts (test CleanSpans) _ d.1 in
+    let g = and_parts (test RepeatBound) _ f.1 in
+    pick a.0 b.0 c.0 d.0 f.0 g.0 g.1
+  where
+    pick :
+        test Frames ≡ true
+        → test ExactWords ≡ true
+        → test OneMode ≡ true
+        → test SubtitleControl ≡ true
+        → test CleanSpans ≡ true
+        → test RepeatBound ≡ true
+        → test DuePages ≡ true
+        → (rule : Rule)
+        → test rule ≡ true
+    pick a b c d f g h Frames = a
+    pick a b c d f g h ExactWords = b
+    pick a b c d f g h OneMode = c
+    pick a b c d f g h SubtitleControl = d
+    pick a b c d f g h CleanSpans = f
+    pick a b c d f g h RepeatBound = g
+    pick a b c d f g h DuePages = h
+
+-- A transmission whose tests all pass is good.
+pub good_by_test :
+    (programme : ProgrammeValue) (frames : Transmission) (o : OptionsValue)
+    → all_rules (λ rule. passes rule programme frames o) ≡ true
+    → Good programme frames o
+good_by_test programme frames o e =
+    (law_of_rules programme frames o).1
+    (λ rule. (rule_decided rule programme frames o).0
+    (each_rule (λ rule. passes rule programme frames o) e rule))
+
+-- The place of a rule among the seven, and the rule at a place.
+abbrev rank : Rule → ℕ
+rank Frames = 0
+rank ExactWords = 1
+rank OneMode = 2
+rank SubtitleControl = 3
+rank CleanSpans = 4
+rank RepeatBound = 5
+rank DuePages = 6
+
+abbrev at_rank : ℕ → Rule
+at_rank n =
+    cond (n == 0) Frames
+    (cond (n == 1) ExactWords
+    (cond (n == 2) OneMode
+    (cond (n == 3) SubtitleControl
+    (cond (n == 4) CleanSpans (cond (n == 5) RepeatBound DuePages)))))
+
+ranked : (rule : Rule) → at_rank (rank rule) ≡ rule
+ranked Frames = refl
+ranked ExactWords = refl
+ranked OneMode = refl
+ranked SubtitleControl = refl
+ranked CleanSpans = refl
+ranked RepeatBound = refl
+ranked DuePages = refl
+
+-- The test of this rule fails, and no other.
+abbrev pub fails_alone : Rule → ProgrammeValue → Transmission → OptionsValue → Bool
+fails_alone rule programme frames o =
+    not (passes rule programme frames o)
+    && all_rules (λ other. (rank other == rank rule) || passes other programme frames o)
+
+-- A transmission of which this is so breaks the rule alone.
+pub by_test :
+    (rule : Rule) (programme : ProgrammeValue) (frames : Transmission) (o : OptionsValue)
+    → fails_alone rule programme frames o ≡ true
+    → BreaksOnly rule programme frames o
+by_test rule programme frames o e =
+    let parts = and_parts (not (passes rule programme frames o)) _ e in
+    breaks rule programme frames o
+    (not_from_Decides _ (rule_decided rule programme frames o)
+    (not-true (passes rule programme frames o) parts.0))
+    (λ other d.
+    elim (or_cases (rank other == rank rule) _
+    (each_rule (λ other. (rank other == rank rule) || passes other programme frames o) parts.1
+    other)) [
+      | inl same ↦
+          absurd
+          (d (sym (ranked other) ∙ ap at_rank (eqb-true (rank other) (rank rule) same)
+          ∙ ranked rule))
+      | inr kept ↦ (rule_decided other programme frames o).0 kept
+    ])

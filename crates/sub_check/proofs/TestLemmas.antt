@@ -1,0 +1,193 @@
+-- Tests that compute, and what they decide: truth values, numbers, lists, packets and frames. Below
+-- each test stands what it decides.
+use Rattle.std.proofs.Common.{◌≡◌, ℕ, zero, suc, ◌+◌, ◌-◌, ◌<◌, ◌≤◌, Bool, true, false, not, ◌&&◌}
+use Rattle.std.proofs.Common.{◌||◌, nat_le, List, Option, Some, None, All, IfSome, refl, ap, subst}
+use Rattle.std.proofs.Common.{arith}
+use Rattle.std.specs.Bool.{Decides}
+use Rattle.std.specs.List.{list_all}
+use Rattle.std.proofs.lemmas.Bool.{leb-true, le-leb}
+use Rattle.std.proofs.lemmas.Bool.Decides.{Decides-like, Decides-by_and, Decides-below_and}
+use Rattle.std.proofs.lemmas.Bool.Decides.{Decides-below_or}
+use Rattle.std.proofs.lemmas.Option.{none-some, same_Some}
+use Rattle.ttx_packet.specs.declared.header.Header.{Header}
+use Rattle.ttx_page.specs.declared.packet_kind.PacketKind.{PacketKind}
+use Rattle.ttx_page.specs.declared.packet_kind.PacketKind.TheVariants.{ThisPage, EndsPage, Row}
+use Rattle.ttx_page.specs.declared.packet_kind.PacketKind.TheVariants.{Other}
+use Rattle.sub_check.specs.Transmission.{SentFrame, Transmission, EachPacket, first_frame}
+use Rattle.sub_check.specs.Transmission.{last_frame}
+
+-- ---- tests and what they decide
+
+-- One fact implies another.
+pub implied :
+    {P Q : Type 0} (a b : Bool) → Decides a P → Decides b Q → Decides (not a || b) (P → Q)
+implied true b p q = (λ e _. q.0 e, λ h. q.1 (h (p.0 refl)))
+implied false b p q = (λ e h. absurd (let t : false ≡ true = p.1 h in cc), λ h. refl)
+
+-- Two truth values are equal.
+abbrev pub agree : Bool → Bool → Bool
+agree true b = b
+agree false b = not b
+
+pub agreed : (a b : Bool) → Decides (agree a b) (a ≡ b)
+agreed true true = (λ e. refl, λ e. refl)
+agreed true false = (λ e. cc, λ e. cc)
+agreed false true = (λ e. cc, λ e. cc)
+agreed false false = (λ e. refl, λ e. refl)
+
+-- A truth value is true.
+pub holds : (a : Bool) → Decides a (a ≡ true)
+holds a = (λ e. e, λ e. e)
+
+-- A truth value is false.
+pub fails : (a : Bool) → Decides (not a) (a ≡ false)
+fails true = (λ e. cc, λ e. cc)
+fails false = (λ e. refl, λ e. refl)
+
+-- A number is at most another.
+pub at_most : (a b : ℕ) → Decides (nat_le a b) (a ≤ b)
+at_most a b = (leb-true a b, le-leb a b)
+
+-- A test of each number below a bound.
+abbrev pub all_below : (ℕ → Bool) → ℕ → Bool
+all_below test zero = true
+all_below test (suc n) = test n && all_below test n
+
+-- A test of some number below a bound.
+abbrev pub any_below : (ℕ → Bool) → ℕ → Bool
+any_below test zero = false
+any_below test (suc n) = test n || any_below test n
+
+pub below :
+    (test : ℕ → Bool) (P : ℕ → Type 0)
+    → ((k : ℕ) → Decides (test k) (P k))
+    → (n : ℕ)
+    → Decides (all_below test n) ((k : ℕ) → k < n → P k)
+below test P each n = Decides-below_and test P (all_below test) each refl (λ _. refl) n
+
+pub some_below :
+    (test : ℕ → Bool) (P : ℕ → Type 0)
+    → ((k : ℕ) → Decides (test k) (P k))
+    → (n : ℕ)
+    → Decides (any_below test n) ((k : ℕ) × (k < n) × P k)
+some_below test P each n = Decides-below_or test P (any_below test) each refl (λ _. refl) n
+
+-- A test of each element.
+pub each_of :
+    {A : Type 0} (test : A → Bool) (P : A → Type 0)
+    → ((x : A) → Decides (test x) (P x))
+    → (xs : List A)
+    → Decides (list_all test xs) (All P xs)
+each_of test P each xs = Decides-by_and test P (list_all test) each refl (λ _ _. refl) xs
+
+-- A test of the value, where there is one.
+abbrev pub if_some : {A : Type 0} → (A → Bool) → Option A → Bool
+if_some test None = true
+if_some test (Some x) = test x
+
+pub value_of :
+    {A : Type 0} (test : A → Bool) (P : A → Type 0)
+    → ((x : A) → Decides (test x) (P x))
+    → (o : Option A)
+    → Decides (if_some test o) ((x : A) → o ≡ Some x → P x)
+value_of test P each None = (λ e x is. absurd (none-some x is), λ h. refl)
+value_of test P each (Some y) =
+    (λ e x is. subst P (same_Some y x is) ((each y).0 e), λ h. (each y).1 (h y refl))
+
+pub if_value :
+    {A : Type 0} (test : A → Bool) (P : A → Type 0)
+    → ((x : A) → Decides (test x) (P x))
+    → (o : Option A)
+    → Decides (if_some test o) (IfSome o P)
+if_value test P each None = (λ e. tt, λ h. refl)
+if_value test P each (Some y) = each y
+
+-- The header of a packet that is one of the page.
+abbrev pub this_page : PacketKind → Option Header
+this_page (ThisPage h) = Some h
+this_page EndsPage = None
+this_page (Row y) = None
+this_page Other = None
+
+pub if_this_page :
+    (test : Header → Bool) (P : Header → Type 0)
+    → ((h : Header) → Decides (test h) (P h))
+    → (k : PacketKind)
+    → Decides (if_some test (this_page k)) ((h : Header) → k ≡ ThisPage h → P h)
+if_this_page test P each k =
+    Decides-like (if_some test (this_page k)) (λ f h is. f h (ap this_page is)) (back k)
+    (value_of test P each (this_page k))
+  where
+    back :
+        (k : PacketKind)
+        → ((h : Header) → k ≡ ThisPage h → P h)
+        → (h : Header)
+        → this_page k ≡ Some h
+        → P h
+    back (ThisPage g) f h is = f h (ap ThisPage (same_Some g h is))
+    back EndsPage f h is = absurd (none-some h is)
+    back (Row y) f h is = absurd (none-some h is)
+    back Other f h is = absurd (none-some h is)
+
+-- The row of a packet that is one.
+abbrev pub row_of_kind : PacketKind → Option ℕ
+row_of_kind (ThisPage h) = None
+row_of_kind EndsPage = None
+row_of_kind (Row y) = Some y
+row_of_kind Other = None
+
+pub if_row :
+    (test : ℕ → Bool) (P : ℕ → Type 0)
+    → ((y : ℕ) → Decides (test y) (P y))
+    → (k : PacketKind)
+    → Decides (if_some test (row_of_kind k)) ((y : ℕ) → k ≡ Row y → P y)
+if_row test P each k =
+    Decides-like (if_some test (row_of_kind k)) (λ f y is. f y (ap row_of_kind is)) (back k)
+    (value_of test P each (row_of_kind k))
+  where
+    back :
+        (k : PacketKind)
+        → ((y : ℕ) → k ≡ Row y → P y)
+        → (y : ℕ)
+        → row_of_kind k ≡ Some y
+        → P y
+    back (ThisPage h) f y is = absurd (none-some y is)
+    back EndsPage f y is = absurd (none-some y is)
+    back (Row x) f y is = f y (ap Row (same_Some x y is))
+    back Other f y is = absurd (none-some y is)
+
+-- ---- of a transmission
+
+-- A test of each packet.
+abbrev pub each_packet : (List ℕ → Bool) → Transmission → Bool
+each_packet test frames = list_all (λ (s : SentFrame). list_all test s.packets) frames
+
+pub packets_decided :
+    (test : List ℕ → Bool) (P : List ℕ → Type 0)
+    → ((p : List ℕ) → Decides (test p) (P p))
+    → (frames : Transmission)
+    → Decides (each_packet test frames) (EachPacket P frames)
+packets_decided test P each frames =
+    each_of (λ (s : SentFrame). list_all test s.packets) (λ (s : SentFrame). All P s.packets)
+    (λ s. each_of test P each s.packets) frames
+
+-- A test of each frame from the first to the last.
+abbrev pub each_frame : (ℕ → Bool) → Transmission → Bool
+each_frame test frames =
+    all_below (λ k. test (first_frame frames + k)) (last_frame frames + 1 - first_frame frames)
+
+pub frames_decided :
+    (test : ℕ → Bool) (P : ℕ → Type 0)
+    → ((f : ℕ) → Decides (test f) (P f))
+    → (frames : Transmission)
+    → Decides (each_frame test frames)
+    ((f : ℕ) → first_frame frames ≤ f → f ≤ last_frame frames → P f)
+frames_decided test P each frames =
+    Decides-like (each_frame test frames)
+    (λ h f l m.
+    let k : ℕ = f - first_frame frames in
+    let here : first_frame frames + k ≡ f = omega arith in
+    subst P here (h k (omega arith)))
+    (λ h k l. h (first_frame frames + k) (omega arith) (omega arith))
+    (below (λ k. test (first_frame frames + k)) (λ k. P (first_frame frames + k))
+    (λ k. each (first_frame frames + k)) (last_frame frames + 1 - first_frame frames))
