@@ -14,7 +14,9 @@ LEFT, RIGHT = 92, 1192  # where the time begins and ends on a strip of 1200 unit
 CLOSE, CLOSE_ON_MANY, MANY_STRIPS = 3, 8, 300
 # The look of a subtitle that is held as it is due, and of another: its class, its top, its height.
 BARS = [("bar", 6, 16), ("odd", 3, 22)]
-NARROW = 5  # a subtitle that is narrower than that is no link of its own
+# A subtitle that is narrower than that is no bar of its own; of more than so many subtitles, one
+# without pictures is none either.
+NARROW, FEW = 5, 5000
 
 
 class Timeline:
@@ -95,7 +97,8 @@ class Timeline:
             subtitle = self.subtitles[place]
             left, right = x(subtitle.first), x(subtitle.end)
             place += 1
-            if right - left < NARROW or subtitle.index not in self.links:
+            is_alone = subtitle.index in self.links or len(self.subtitles) <= FEW
+            if right - left < NARROW or not is_alone:
                 known = narrow[subtitle.index in self.odd]
                 if known and left - known[-1][1] < 0.5:
                     known[-1][1] = right
@@ -117,7 +120,9 @@ class Timeline:
         times = f"{time_of(subtitle.first)} to {time_of(subtitle.end)}"
         shape = (f'<rect class="{kind}" x="{left}" y="{top}" width="{right - left:.1f}" '
                  f'height="{height}" rx="2"><title>{name}: {times}</title></rect>')
-        return f'<a href="#s{name}">{shape}{label}</a>'
+        if subtitle.index in self.links:
+            return f'<a href="#s{name}">{shape}{label}</a>'
+        return shape + label
 
     def ticks(self, begin, unit, x):
         """The sendings of a strip, those that are close to each other as one block."""
