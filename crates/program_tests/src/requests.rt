@@ -3,7 +3,7 @@ use crate::check::makers::options;
 use std::process::Abort;
 use std::test::Fail;
 use stl_rows::National;
-use sub_answer::{Flip, ReceiverKind, Request};
+use sub_answer::{FileNames, Flip, ReceiverKind, Request};
 use sub_plan::Options;
 use sub_words::ParseWords;
 
@@ -141,4 +141,22 @@ fn reads_all_words_of_a_receiver(rt: HostRuntime) -> Result<(), Fail> {
         Err(_) => return Err("a request".into()),
     }
     Ok(())
+}
+
+#[test]
+fn names_what_is_read_and_what_is_written(rt: HostRuntime) {
+    let request = Request::Normal {
+        input: "a",
+        output: "b",
+    };
+    match request.files() {
+        FileNames::Write(input, output) => {
+            assert_eq!(rt; (input.name(), output.name()), ("a", "b"))
+        }
+        _ => panic!(rt; "no file is written"),
+    }
+    match (Request::Show { stl: "a" }).files() {
+        FileNames::Read(input) => assert_eq!(rt; input.name(), "a"),
+        _ => panic!(rt; "no file is read"),
+    }
 }
