@@ -1,4 +1,3 @@
-pub mod NamedDevices
 pub mod Lines
 pub mod Told
 pub mod Faults

@@ -31,14 +31,13 @@ ghost use Rattle.sub_answer.specs.DeviceCall.{sink_call, source_call};
 ghost use Rattle.sub_answer.specs.Faults.{usage_told};
 ghost use Rattle.sub_answer.specs.Listing.{CountsFault, PrintsOrFails, packet_listing};
 ghost use Rattle.sub_answer.specs.Told.{line_of};
-ghost use Rattle.sub_answer.specs.NamedDevices.{names_file, names_first, names_second};
+ghost use Rattle.sub_answer.specs.Files.{files_of, has_first, has_output, has_second};
 
 use crate::faults::told_of_usage;
-use crate::lines::push_told;
+use crate::lines::{Line, push_told};
 use crate::printing::print;
 use crate::request::{Request, UsageFault};
 use crate::status::Status;
-use crate::writing::Line;
 use check::print_verdict;
 use listen::print_listening;
 use normal::write_normal;
@@ -124,9 +123,9 @@ pub fn answer<S: Source, T: Source, F: Flush, K: Sink>(
         (sink_call K.contents K.failure_count out.old out.new) result) }
 
     // Devices that are not named stay as they are.
-    ensures first { names_first request.now ≡ false → first.new ≡ first.old }
-    ensures second { names_second request.now ≡ false → second.new ≡ second.old }
-    ensures file { names_file request.now ≡ false → file.new ≡ file.old }
+    ensures first { has_first (files_of request.now) ≡ false → first.new ≡ first.old }
+    ensures second { has_second (files_of request.now) ≡ false → second.new ≡ second.old }
+    ensures file { has_output (files_of request.now) ≡ false → file.new ≡ file.old }
 
     // Each device fails once at most, and not where the status is another than `Fault`.
     ensures first_count { CountsFault (S.failure_count first.old) result

@@ -13,6 +13,9 @@ use crate::told::{Kind, Place, Told};
 use arrayvec::ArrayVec;
 use stl_file::TimeCode;
 
+/// Room for one line: the longest, `refused 72 Content` with its cell, has 117 bytes at most.
+pub type Line = ArrayVec<u8, 128>;
+
 /// Frames of a day at 25 a second.
 const FRAMES_OF_DAY: u32 = 2_160_000;
 

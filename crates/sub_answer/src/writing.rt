@@ -3,12 +3,8 @@ ghost use Rattle.std.specs.Prelude.{◌≡◌, ◌+◌, ◌≤◌, ◌++◌, len
 ghost use Rattle.arrayvec.specs.ArrayVec.{array_vec_len};
 ghost use Rattle.sub_answer.specs.Writing.{end_status, written_line};
 
-use crate::lines::{push_decimal, push_text};
+use crate::lines::{Line, push_decimal, push_text};
 use crate::status::Status;
-use arrayvec::ArrayVec;
-
-/// Room for the line of an end, and more than enough.
-pub type Line = ArrayVec<u8, 128>;
 
 /// How the work of a command ended, before its line is printed.
 #[derive(Clone, Copy, Debug, PartialEq, Eq)]

@@ -14,16 +14,13 @@ ghost use Rattle.sub_answer.specs.DeviceCall.{sink_call, source_call};
 ghost use Rattle.sub_answer.specs.Listing.{CountsFault};
 
 use crate::check_lines::push_verdict;
+use crate::lines::Line;
 use crate::status::Status;
-use arrayvec::ArrayVec;
 use std::alloc::Global;
 use stl_rows::National;
 use sub_check::check_files;
 use sub_io::{Sink, Source, put_all};
 use sub_plan::Options;
-
-// Room for the one line of a check.
-type Line = ArrayVec<u8, 128>;
 
 /// Checks a PES file against a subtitle file, and prints the one line of the verdict.
 ///

@@ -19,20 +19,16 @@ ghost use Rattle.sub_answer.specs.declared.answering.listen.ListenFault.TheVaria
 
 use crate::answering::state::print_state;
 use crate::faults::told_of_check;
-use crate::lines::push_told;
+use crate::lines::{Line, push_told};
 use crate::listening::{Listening, ReceiverKind};
 use crate::printing::print;
 use crate::reception::{first_lost_header, hear_units};
 use crate::status::Status;
 use crate::told::{Kind, Place, Told};
-use arrayvec::ArrayVec;
 use sub_check::{CheckFault, next_frame};
 use sub_io::{Sink, Source};
 use ttx_page::{Blank, Keep, Page, Receiver};
 use ttx_pes::{PesFrame, PesReader};
-
-// Room for the line of a fault.
-type Line = ArrayVec<u8, 128>;
 
 /// The PES packets of a file at most: one for each frame of a day.
 const MOST_PACKETS: u32 = 2_160_000;

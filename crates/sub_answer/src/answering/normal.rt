@@ -21,11 +21,11 @@ ghost use Rattle.sub_answer.specs.Writing.{is_write_end};
 ghost use Rattle.sub_answer.specs.declared.request.UsageFault.TheVariants.{Memory};
 
 use crate::faults::{told_of_normal, told_of_stl, told_of_usage};
-use crate::lines::push_told;
+use crate::lines::{Line, push_told};
 use crate::printing::print;
 use crate::request::UsageFault;
 use crate::status::Status;
-use crate::writing::{End, Line, push_written};
+use crate::writing::{End, push_written};
 use std::alloc::{AllocError, Allocator, Global};
 use stl_file::{NormalFault, StlFault, file_is_what_is_read, normal};
 use sub_io::{Failed, Flush, Sink, Source};

@@ -18,10 +18,10 @@ ghost use Rattle.sub_answer.specs.Writing.{is_read_end, is_write_end, load_end, 
 ghost use Rattle.sub_answer.specs.Writing.{schedule_writing};
 
 use crate::faults::{told_of_load, told_of_plan};
-use crate::lines::push_told;
+use crate::lines::{Line, push_told};
 use crate::printing::print;
 use crate::status::Status;
-use crate::writing::{End, Line, push_written};
+use crate::writing::{End, push_written};
 use std::alloc::Global;
 use stl_file::StlFault;
 use stl_rows::{LoadFault, LoadFaultKind, National, Programme, load};
