@@ -1,3 +1,4 @@
+pub mod NamedDevices
 pub mod Lines
 pub mod Told
 pub mod Faults

@@ -31,7 +31,7 @@ ghost use Rattle.sub_answer.specs.DeviceCall.{sink_call, source_call};
 ghost use Rattle.sub_answer.specs.Faults.{usage_told};
 ghost use Rattle.sub_answer.specs.Listing.{CountsFault, PrintsOrFails, packet_listing};
 ghost use Rattle.sub_answer.specs.Told.{line_of};
-ghost use Rattle.sub_answer.specs.Files.{files_of, has_first, has_output, has_second};
+ghost use Rattle.sub_answer.specs.NamedDevices.{names_file, names_first, names_second};
 
 use crate::faults::told_of_usage;
 use crate::lines::{Line, push_told};
@@ -123,9 +123,9 @@ pub fn answer<S: Source, T: Source, F: Flush, K: Sink>(
         (sink_call K.contents K.failure_count out.old out.new) result) }
 
     // Devices that are not named stay as they are.
-    ensures first { has_first (files_of request.now) ≡ false → first.new ≡ first.old }
-    ensures second { has_second (files_of request.now) ≡ false → second.new ≡ second.old }
-    ensures file { has_output (files_of request.now) ≡ false → file.new ≡ file.old }
+    ensures first { names_first request.now ≡ false → first.new ≡ first.old }
+    ensures second { names_second request.now ≡ false → second.new ≡ second.old }
+    ensures file { names_file request.now ≡ false → file.new ≡ file.old }
 
     // Each device fails once at most, and not where the status is another than `Fault`.
     ensures first_count { CountsFault (S.failure_count first.old) result
