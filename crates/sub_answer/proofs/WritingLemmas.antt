@@ -21,10 +21,15 @@ use Rattle.sub_answer.specs.Writing.{Answers, WritesAllOrNoMemory, end_status, i
 use Rattle.sub_answer.specs.Writing.{is_write_end, load_end}
 use Rattle.sub_answer.specs.Listing.{CountsFault, PrintsOrFails}
 use Rattle.sub_answer.specs.declared.status.Status.{Status}
-use Rattle.sub_answer.specs.declared.status.Status.TheVariants.{Fault}
+use Rattle.sub_answer.specs.declared.status.Status.TheVariants.{Done, Fault}
 use Rattle.sub_answer.proofs.PrintingLemmas.{printed-fault}
 use Rattle.sub_answer.specs.declared.writing.End.{End}
 use Rattle.sub_answer.specs.declared.writing.End.TheVariants as end
+
+-- Only what was written ends with `Done`.
+pub written-of_done : (ending : End) → end_status ending ≡ Done → ending ≡ end.Written
+written-of_done end.Written done = refl
+written-of_done ending done = absurd cc
 
 -- A fault of loading: a refusal has no such line.
 fault_line-kind : (national : National) (told : Option (List ℕ)) (line : List ℕ) (block : ℕ)

@@ -12,7 +12,7 @@ mod schedule;
 mod show;
 mod state;
 
-ghost use Rattle.std.specs.Prelude.{◌≡◌, ◌≢◌, ◌+◌, ◌<◌, Ok, false};
+ghost use Rattle.std.specs.Prelude.{◌≡◌, ◌≢◌, ◌+◌, ◌<◌, Ok, false, true};
 ghost use Rattle.std.specs.Io.KnownBytes.{Appends};
 ghost use Rattle.sub_io.specs.Device.{AppendsPrefix, CanFail};
 ghost use Rattle.sub_io.specs.Reading.{IfTold};
@@ -136,6 +136,11 @@ pub fn answer<S: Source, T: Source, F: Flush, K: Sink>(
         (F.failure_count file.new) }
     ensures out_count { CountsFault (K.failure_count out.old) result
         (K.failure_count out.new) }
+
+    // Where the status is `Done`, a file that is named holds no byte back.
+    ensures held { names_file request.now ≡ true
+        → result ≡ Status.Done
+        → F.held file.new ≡ 0 }
 
     // The status of a command that takes no memory is `Fault` only where a device failed.
     ensures fault { takes_memory request.now ≡ false

@@ -1,19 +1,23 @@
 //! `subttx` reads and checks Teletext subtitles from the command line.
 //!
 //! It stands above all other crates: words become a `Request` (`sub_words`), the files that it
-//! names are opened here, and its answer is printed (`sub_answer`) and ends in a `Status`.
+//! names are opened here, each behind a buffer, and its answer is printed (`sub_answer`) and ends
+//! in a `Status`.
 #![tactic(auto)]
 
-ghost use Rattle.std.specs.Prelude.{◌≡◌, ◌<◌, IfOk};
+ghost use Rattle.std.specs.Prelude.{◌≡◌, ◌+◌, ◌<◌, [], IfErr, IfOk, length, vec_len};
+ghost use Rattle.sub_io.specs.Buffered.{failures_and_refused};
 ghost use Rattle.sub_io.specs.Device.{CanFail};
 
-use std::io::{self, BufReader, BufWriter, Write};
+use std::alloc::Global;
 use std::os::unix::fs::MetadataExt;
 use std::process::ExitCode;
 use std::rt::{Env, Files};
-use std::{env, fs};
+use std::{env, fs, io};
 use sub_answer::{Request, Status, UsageFault, answer, say};
-use sub_io::{FromRead, IntoWrite, MemSink, MemSource, Sink, Source};
+use sub_io::{
+    BufferedSink, BufferedSource, Flush, FromRead, IntoWrite, MemSink, MemSource, Sink, Source,
+};
 use sub_words::ParseWords;
 
 fn main(rt: HostRuntime) -> ExitCode {
@@ -25,32 +29,45 @@ const BUFFER: usize = 0x1_0000;
 
 // Runs the program over standard output, which gets what is printed through one buffer.
 fn run<R: AllocGlobal + Env + Files + Print>(rt: &R) -> Status {
-    let Ok(mut buffer) = BufWriter::with_capacity(rt.alloc(), BUFFER, io::writer(rt)) else {
-        return say(&UsageFault::Memory, &mut IntoWrite::new(io::writer(rt)));
+    let mut standard_output = IntoWrite::new(io::writer(rt));
+    let Ok(mut room) = room(rt.alloc()) else {
+        return say(&UsageFault::Memory, &mut standard_output);
     };
-    let status = answer_words(rt, &mut IntoWrite::new(&mut buffer));
-    match buffer.flush() {
-        Ok(()) => status,
-        Err(_) => Status::Fault,
+    let mut out = BufferedSink::new(standard_output, room.as_mut_slice());
+    match answer_words(rt, &mut out) {
+        Ok(status) => status,
+        Err(fault) => {
+            let status = say(&fault, &mut out);
+            hand_on(status, &mut out)
+        }
+    }
+}
+
+// The room of a buffer.
+fn room(alloc: Global) -> Result<Vec<u8>, UsageFault>
+    ensures { IfOk result (λ room. 0 < vec_len room) }
+{
+    match vec![in alloc; 0; BUFFER] {
+        Ok(room) => Ok(room),
+        Err(_) => Err(UsageFault::Memory),
     }
 }
 
 // Answers the words of the command line.
-fn answer_words<R: AllocGlobal + Env + Files, K: Sink>(rt: &R, out: &mut K) -> Status
-    requires { CanFail (K.failure_count out.old) }
+fn answer_words<R: AllocGlobal + Env + Files, K: Sink>(
+    rt: &R,
+    out: &mut BufferedSink<'_, K>,
+) -> Result<Status, UsageFault>
+    requires { failures_and_refused (K.failure_count out.old.device) out.old.refused ≡ 0 }
+    ensures { IfErr result (λ _. out.new ≡ out.old) }
 {
-    let words = match words_of(rt) {
-        Ok(words) => words,
-        Err(fault) => return say(&fault, out),
-    };
+    let words = words_of(rt)?;
     let texts = words.iter().map(|word| word.as_str());
-    let Ok(texts) = texts.collect::<Vec<&str>>(rt.alloc()) else {
-        return say(&UsageFault::Memory, out);
-    };
-    match Request::parse(rt.alloc(), texts.as_slice()) {
-        Ok(request) => open_and_answer(rt, &request, out),
-        Err(fault) => say(&fault, out),
-    }
+    let texts = texts
+        .collect::<Vec<&str>>(rt.alloc())
+        .map_err(|_| UsageFault::Memory)?;
+    let request = Request::parse(rt.alloc(), texts.as_slice())?;
+    open_and_answer(rt, &request, out)
 }
 
 // The words of the command line. A word that is no text is no word of a command.
@@ -63,16 +80,19 @@ fn words_of<R: AllocGlobal + Env>(rt: &R) -> Result<Vec<String>, UsageFault> {
 }
 
 // Opens the files that the request names, in the order of the words, and creates the one that it
-// writes. At the first that fails it opens no more.
+// writes. At the first that fails it opens no more, and nothing is printed.
 fn open_and_answer<R: AllocGlobal + Files, K: Sink>(
     rt: &R,
     request: &Request<'_>,
-    out: &mut K,
-) -> Status
-    requires { CanFail (K.failure_count out.old) }
+    out: &mut BufferedSink<'_, K>,
+) -> Result<Status, UsageFault>
+    requires { failures_and_refused (K.failure_count out.old.device) out.old.refused ≡ 0 }
+    ensures { IfErr result (λ _. out.new ≡ out.old) }
 {
     match request {
-        Request::Packet { .. } => answer_input(rt, request, &mut MemSource::new(&[]), out),
+        Request::Packet { .. } => {
+            Ok(answer_input(rt.alloc(), request, &mut MemSource::new(&[]), out))
+        }
         Request::Packets { pes } => answer_file(rt, request, pes, out),
         Request::Show { stl } => answer_file(rt, request, stl, out),
         Request::Normal { input, output } => answer_into(rt, request, input, output, out),
@@ -82,44 +102,47 @@ fn open_and_answer<R: AllocGlobal + Files, K: Sink>(
     }
 }
 
-// Opens a file to be read, through a buffer.
-fn open_input<R: AllocGlobal + Files>(
+// Opens a file to be read, behind a buffer of this room.
+fn open_input<'a, R: Files>(
     rt: &R,
     name: &str,
-) -> Result<FromRead<BufReader<R::File>>, UsageFault>
-    ensures { IfOk result (λ source. source.failure_count ≡ 0) }
+    room: &'a mut [u8],
+) -> Result<BufferedSource<'a, FromRead<R::File>>, UsageFault>
+    requires { 0 < length room.old }
+    ensures { IfOk result (λ source. source.device.failure_count ≡ 0) }
 {
-    let Ok(file) = fs::open(rt, name) else {
-        return Err(UsageFault::Open);
-    };
-    match BufReader::with_capacity(rt.alloc(), BUFFER, file) {
-        Ok(reader) => Ok(FromRead::new(reader)),
-        Err(_) => Err(UsageFault::Memory),
+    match fs::open(rt, name) {
+        Ok(file) => Ok(BufferedSource::new(FromRead::new(file), room)),
+        Err(_) => Err(UsageFault::Open),
     }
 }
 
-// Whether two names are those of one file, by a link or by another way to it: to create the one
-// would empty the other. A file that is not there is no other's.
-fn is_one_file<R: Files>(rt: &R, first: &str, second: &str) -> bool {
-    match (fs::metadata(rt, first), fs::metadata(rt, second)) {
-        (Ok(one), Ok(other)) => one.dev() == other.dev() && one.ino() == other.ino(),
-        _ => false,
+// Whether creating the output can't empty the input: it is not there, or is another file, not the
+// input by a link or by another way to it.
+fn is_apart<R: Files>(rt: &R, input: &str, output: &str) -> bool {
+    match fs::metadata(rt, output) {
+        Err(error) => error.kind() == io::ErrorKind::NotFound,
+        Ok(there) => match fs::metadata(rt, input) {
+            Ok(read) => read.dev() != there.dev() || read.ino() != there.ino(),
+            Err(_) => false,
+        },
     }
 }
 
-// Creates a file to be written, through a buffer that the answer flushes.
-fn create_output<R: AllocGlobal + Files>(
+// Creates a file to be written, behind a buffer of this room.
+fn create_output<'a, R: Files>(
     rt: &R,
     name: &str,
-) -> Result<IntoWrite<BufWriter<R::File>>, UsageFault>
-    ensures { IfOk result (λ sink. sink.failure_count ≡ 0) }
+    room: &'a mut [u8],
+) -> Result<BufferedSink<'a, IntoWrite<R::File>>, UsageFault>
+    requires { 0 < length room.old }
+    ensures held { IfOk result (λ sink. sink.held ≡ []) }
+    ensures count { IfOk result (λ sink.
+        (sink.device.failure_count ≡ 0) × (sink.refused ≡ 0)) }
 {
-    let Ok(file) = fs::create(rt, name) else {
-        return Err(UsageFault::Open);
-    };
-    match BufWriter::with_capacity(rt.alloc(), BUFFER, file) {
-        Ok(writer) => Ok(IntoWrite::new(writer)),
-        Err(_) => Err(UsageFault::Memory),
+    match fs::create(rt, name) {
+        Ok(file) => Ok(BufferedSink::new(IntoWrite::new(file), room)),
+        Err(_) => Err(UsageFault::Open),
     }
 }
 
@@ -128,29 +151,14 @@ fn answer_file<R: AllocGlobal + Files, K: Sink>(
     rt: &R,
     request: &Request<'_>,
     name: &str,
-    out: &mut K,
-) -> Status
-    requires { CanFail (K.failure_count out.old) }
+    out: &mut BufferedSink<'_, K>,
+) -> Result<Status, UsageFault>
+    requires { failures_and_refused (K.failure_count out.old.device) out.old.refused ≡ 0 }
+    ensures { IfErr result (λ _. out.new ≡ out.old) }
 {
-    match open_input(rt, name) {
-        Ok(mut first) => answer_input(rt, request, &mut first, out),
-        Err(fault) => say(&fault, out),
-    }
-}
-
-// Answers a request with one input at most. For a device that it does not name, an empty one is
-// handed in.
-fn answer_input<R: AllocGlobal, S: Source, K: Sink>(
-    rt: &R,
-    request: &Request<'_>,
-    first: &mut S,
-    out: &mut K,
-) -> Status
-    requires first { CanFail (S.failure_count first.old) }
-    requires out { CanFail (K.failure_count out.old) }
-{
-    let mut no_second = MemSource::new(&[]);
-    answer_inputs(rt, request, first, &mut no_second, out)
+    let mut room = room(rt.alloc())?;
+    let mut first = open_input(rt, name, room.as_mut_slice())?;
+    Ok(answer_input(rt.alloc(), request, &mut first, out))
 }
 
 // Answers a request with the two files that it reads.
@@ -159,35 +167,16 @@ fn answer_pair<R: AllocGlobal + Files, K: Sink>(
     request: &Request<'_>,
     first_name: &str,
     second_name: &str,
-    out: &mut K,
-) -> Status
-    requires { CanFail (K.failure_count out.old) }
+    out: &mut BufferedSink<'_, K>,
+) -> Result<Status, UsageFault>
+    requires { failures_and_refused (K.failure_count out.old.device) out.old.refused ≡ 0 }
+    ensures { IfErr result (λ _. out.new ≡ out.old) }
 {
-    let mut first = match open_input(rt, first_name) {
-        Ok(first) => first,
-        Err(fault) => return say(&fault, out),
-    };
-    match open_input(rt, second_name) {
-        Ok(mut second) => answer_inputs(rt, request, &mut first, &mut second, out),
-        Err(fault) => say(&fault, out),
-    }
-}
-
-// Answers a request that writes no file.
-fn answer_inputs<R: AllocGlobal, S: Source, T: Source, K: Sink>(
-    rt: &R,
-    request: &Request<'_>,
-    first: &mut S,
-    second: &mut T,
-    out: &mut K,
-) -> Status
-    requires first { CanFail (S.failure_count first.old) }
-    requires second { CanFail (T.failure_count second.old) }
-    requires out { CanFail (K.failure_count out.old) }
-{
-    let mut room = [0u8; 0];
-    let mut no_file = MemSink::new(&mut room);
-    answer(rt.alloc(), request, first, second, &mut no_file, out)
+    let mut first_room = room(rt.alloc())?;
+    let mut first = open_input(rt, first_name, first_room.as_mut_slice())?;
+    let mut second_room = room(rt.alloc())?;
+    let mut second = open_input(rt, second_name, second_room.as_mut_slice())?;
+    Ok(answer_inputs(rt.alloc(), request, &mut first, &mut second, out))
 }
 
 // Answers a request with the file that it reads and the one that it writes.
@@ -196,29 +185,97 @@ fn answer_into<R: AllocGlobal + Files, K: Sink>(
     request: &Request<'_>,
     input: &str,
     output: &str,
-    out: &mut K,
-) -> Status
-    requires { CanFail (K.failure_count out.old) }
+    out: &mut BufferedSink<'_, K>,
+) -> Result<Status, UsageFault>
+    requires { failures_and_refused (K.failure_count out.old.device) out.old.refused ≡ 0 }
+    ensures { IfErr result (λ _. out.new ≡ out.old) }
 {
-    let mut first = match open_input(rt, input) {
-        Ok(first) => first,
-        Err(fault) => return say(&fault, out),
-    };
-    if is_one_file(rt, input, output) {
-        return say(&UsageFault::Open, out);
+    let mut first_room = room(rt.alloc())?;
+    let mut first = open_input(rt, input, first_room.as_mut_slice())?;
+    if !is_apart(rt, input, output) {
+        return Err(UsageFault::Open);
     }
+    let mut file_room = room(rt.alloc())?;
+    let mut file = create_output(rt, output, file_room.as_mut_slice())?;
     let mut no_second = MemSource::new(&[]);
-    match create_output(rt, output) {
-        Ok(mut file) => {
-            answer(
-                rt.alloc(),
-                request,
-                &mut first,
-                &mut no_second,
-                &mut file,
-                out,
-            )
-        }
-        Err(fault) => say(&fault, out),
+    Ok(answer_through(
+        rt.alloc(),
+        request,
+        &mut first,
+        &mut no_second,
+        &mut file,
+        out,
+    ))
+}
+
+// Answers a request with one input at most. For a device that it does not name, an empty one is
+// handed in.
+fn answer_input<S: Source, K: Sink>(
+    alloc: Global,
+    request: &Request<'_>,
+    first: &mut S,
+    out: &mut BufferedSink<'_, K>,
+) -> Status
+    requires first { CanFail (S.failure_count first.old) }
+    requires out { failures_and_refused (K.failure_count out.old.device) out.old.refused ≡ 0 }
+{
+    let mut no_second = MemSource::new(&[]);
+    answer_inputs(alloc, request, first, &mut no_second, out)
+}
+
+// Answers a request that writes no file.
+fn answer_inputs<S: Source, T: Source, K: Sink>(
+    alloc: Global,
+    request: &Request<'_>,
+    first: &mut S,
+    second: &mut T,
+    out: &mut BufferedSink<'_, K>,
+) -> Status
+    requires first { CanFail (S.failure_count first.old) }
+    requires second { CanFail (T.failure_count second.old) }
+    requires out { failures_and_refused (K.failure_count out.old.device) out.old.refused ≡ 0 }
+{
+    let (mut nowhere, mut room) = ([0; 0], [0; 1]);
+    let mut no_file = BufferedSink::new(MemSink::new(&mut nowhere), &mut room);
+    answer_through(alloc, request, first, second, &mut no_file, out)
+}
+
+// Answers a request over these devices, and hands on what is held back of the lines.
+//
+// Where the status is 0, neither sink holds a byte back, and no call of either has failed: each
+// device below has taken all bytes, by calls that did not fail.
+fn answer_through<S: Source, T: Source, F: Sink, K: Sink>(
+    alloc: Global,
+    request: &Request<'_>,
+    first: &mut S,
+    second: &mut T,
+    file: &mut BufferedSink<'_, F>,
+    out: &mut BufferedSink<'_, K>,
+) -> Status
+    requires first { CanFail (S.failure_count first.old) }
+    requires second { CanFail (T.failure_count second.old) }
+    requires file { (failures_and_refused (F.failure_count file.old.device) file.old.refused ≡ 0)
+        × (file.old.held ≡ []) }
+    requires out { failures_and_refused (K.failure_count out.old.device) out.old.refused ≡ 0 }
+    ensures file { result ≡ Status.Done → (file.new.held ≡ [])
+        × (failures_and_refused (F.failure_count file.new.device) file.new.refused ≡ 0) }
+    ensures out { result ≡ Status.Done → (out.new.held ≡ [])
+        × (failures_and_refused (K.failure_count out.new.device) out.new.refused ≡ 0) }
+{
+    let status = answer(alloc, request, first, second, file, out);
+    hand_on(status, out)
+}
+
+// Hands on what is held back of the lines, for a run that ends with this status.
+fn hand_on<K: Sink>(status: Status, out: &mut BufferedSink<'_, K>) -> Status
+    requires { CanFail (failures_and_refused
+        (K.failure_count out.old.device) out.old.refused) }
+    ensures { result ≡ Status.Done → (status ≡ Status.Done) × (out.new.held ≡ [])
+        × (failures_and_refused (K.failure_count out.new.device) out.new.refused
+        ≡ failures_and_refused (K.failure_count out.old.device) out.old.refused) }
+{
+    match out.flush() {
+        Ok(()) => status,
+        Err(_) => Status::Fault,
     }
 }

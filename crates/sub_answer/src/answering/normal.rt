@@ -93,6 +93,9 @@ pub fn write_normal<S: Source, F: Flush, K: Sink>(
     ensures file_count { CountsFault (F.failure_count file.old) result (F.failure_count file.new) }
     ensures out_count { CountsFault (K.failure_count out.old) result (K.failure_count out.new) }
 
+    // Where the status is `Done`, the file holds no byte back.
+    ensures held { result ≡ Status.Done → F.held file.new ≡ 0 }
+
     // The status is `Fault` only where a device failed, or want of memory is printed.
     ensures fault { result ≡ Status.Fault
         → S.failure_count input.new ≡ S.failure_count input.old
@@ -131,6 +134,7 @@ fn make_normal<S: Source, F: Flush>(
         ≡ S.failure_count input.old + (if is_read_end result then 1 else 0) }
     ensures file_count { F.failure_count file.new
         ≡ F.failure_count file.old + (if is_write_end result then 1 else 0) }
+    ensures held { result ≡ End.Written → F.held file.new ≡ 0 }
 {
     match read_input(alloc, input) {
         Ok(bytes) => make_of_bytes(bytes.as_slice(), file, line),
@@ -156,6 +160,7 @@ fn make_of_bytes<F: Flush>(bytes: &[u8], file: &mut F, line: &mut Line) -> End
     ensures not_memory { result ≢ End.NoMemory }
     ensures file_count { F.failure_count file.new
         ≡ F.failure_count file.old + (if is_write_end result then 1 else 0) }
+    ensures held { result ≡ End.Written → F.held file.new ≡ 0 }
 {
     file_is_what_is_read();
     match put_normal(bytes, file) {
@@ -180,6 +185,7 @@ fn put_normal<F: Flush>(bytes: &[u8], file: &mut F) -> Result<u32, NormalFault>
     ensures answer { NormalAnswers bytes.now (F.contents file.old) (F.contents file.new) result }
     ensures count { F.failure_count file.new
         ≡ F.failure_count file.old + (if is_write result then 1 else 0) }
+    ensures held { OnOk result (F.held file.new ≡ 0) }
 {
     let count = normal(bytes, file)?;
     match file.flush() {

@@ -1,5 +1,5 @@
 //! `schedule STL PES`: writes the schedule of a subtitle file.
-ghost use Rattle.std.specs.Prelude.{◌≡◌, ◌≢◌, ◌↔◌, ◌+◌, ◌<◌, [], Err, IfOk, length};
+ghost use Rattle.std.specs.Prelude.{◌≡◌, ◌≢◌, ◌↔◌, ◌+◌, ◌<◌, [], Err, IfOk, OnOk, length};
 ghost use Rattle.std.specs.Prelude.{false, if◌then◌else◌};
 ghost use Rattle.std.specs.Io.KnownBytes.{Keeps};
 ghost use Rattle.sub_io.specs.Device.{CanFail, Writes};
@@ -75,6 +75,9 @@ pub fn write_schedule<S: Source, F: Flush, K: Sink>(
     ensures file_count { CountsFault (F.failure_count file.old) result (F.failure_count file.new) }
     ensures out_count { CountsFault (K.failure_count out.old) result (K.failure_count out.new) }
 
+    // Where the status is `Done`, the file holds no byte back.
+    ensures held { result ≡ Status.Done → F.held file.new ≡ 0 }
+
     // The status is `Fault` only where a device failed, or want of memory is printed.
     ensures fault { result ≡ Status.Fault
         → S.failure_count stl.new ≡ S.failure_count stl.old
@@ -109,6 +112,7 @@ fn make_schedule<S: Source, F: Flush>(
         ≡ S.failure_count stl.old + (if is_read_end result then 1 else 0) }
     ensures file_count { F.failure_count file.new
         ≡ F.failure_count file.old + (if is_write_end result then 1 else 0) }
+    ensures held { result ≡ End.Written → F.held file.new ≡ 0 }
 {
     match load(alloc, stl, national) {
         Ok(programme) => make_of_programme(&programme, options, serial, file, line),
@@ -147,6 +151,7 @@ fn make_of_programme<F: Flush>(
     ensures not_memory { result ≢ End.NoMemory }
     ensures file_count { F.failure_count file.new
         ≡ F.failure_count file.old + (if is_write_end result then 1 else 0) }
+    ensures held { result ≡ End.Written → F.held file.new ≡ 0 }
 {
     match put_schedule(programme, options, serial, file) {
         Ok(count) => {
@@ -180,6 +185,7 @@ fn put_schedule<F: Flush>(
     ensures nothing { result ≡ Err NoSubtitles → Keeps (F.contents file.old) (F.contents file.new) }
     ensures count { F.failure_count file.new
         ≡ F.failure_count file.old + (if is_write_failure result then 1 else 0) }
+    ensures held { OnOk result (F.held file.new ≡ 0) }
 {
     let count = schedule(programme, options, serial, file)?;
     match file.flush() {

@@ -1,5 +1,5 @@
 -- What was written and printed, by how the work ended.
-use Rattle.std.proofs.Common.{subst, sym}
+use Rattle.std.proofs.Common.{subst, sym, ◌∙◌}
 use Rattle.std.specs.Io.KnownBytes.{Appends}
 use Rattle.sub_answer.specs.NormalWriting.{IsMemoryLine}
 use Rattle.sub_answer.specs.Writing.{end_status, is_read_end, is_write_end}
@@ -7,6 +7,7 @@ use Rattle.sub_answer.proofs.NormalLemmas.{memory-line, prints-read, read-ended}
 use Rattle.sub_answer.proofs.PrintingLemmas.{printed-prefix}
 use Rattle.sub_answer.proofs.WritingLemmas.{all-of_work, answers-of_work, counted, fault-of_read}
 use Rattle.sub_answer.proofs.WritingLemmas.{fault-of_write, line-of_memory}
+use Rattle.sub_answer.proofs.WritingLemmas.{written-of_done}
 use Rattle.sub_answer.proofs.answering.normal.write_normal.Goals as goal
 
 pub returns-clause-work : goal.returns-clause-work
@@ -113,3 +114,8 @@ returns-clause-read g c = λ d. (
   c.make_normal-end.ensures.nothing
       (read-ended c.make_normal-end.result _ _ c.make_normal-end.ensures.input_count d),
 )
+
+pub returns-clause-held : goal.returns-clause-held
+returns-clause-held g c = λ done.
+    c.make_normal-end.ensures.held
+    (written-of_done c.make_normal-end.result (sym c.status.ensures ∙ c.print.ensures.done done))

@@ -1,11 +1,12 @@
 -- What was written and printed, by how the work ended.
-use Rattle.std.proofs.Common.{sym}
+use Rattle.std.proofs.Common.{sym, ◌∙◌}
 use Rattle.sub_answer.specs.Writing.{IsMemoryLine, end_status, is_read_end}
 use Rattle.sub_answer.specs.Writing.{is_write_end}
 use Rattle.sub_answer.proofs.PrintingLemmas.{printed-prefix}
 use Rattle.sub_answer.proofs.WritingLemmas.{all-of_work, answers-of_work, counted, fault-of_read}
 use Rattle.sub_answer.proofs.WritingLemmas.{fault-of_write, line-of_memory, memory-line}
 use Rattle.sub_answer.proofs.WritingLemmas.{memory-printed}
+use Rattle.sub_answer.proofs.WritingLemmas.{written-of_done}
 use Rattle.sub_answer.proofs.answering.schedule.write_schedule.Goals as goal
 
 pub returns-clause-work : goal.returns-clause-work
@@ -92,3 +93,8 @@ returns-clause-fault g c = λ is same kept out_same.
     is same kept out_same in
     memory-printed _ _ _ _ c.make_schedule-end.new.line.items c.make_schedule-end.result
     c.make_schedule-end.ensures.line told.0 told.1
+
+pub returns-clause-held : goal.returns-clause-held
+returns-clause-held g c = λ done.
+    c.make_schedule-end.ensures.held
+    (written-of_done c.make_schedule-end.result (sym c.status.ensures ∙ c.print.ensures.done done))
