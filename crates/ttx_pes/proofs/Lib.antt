@@ -1,4 +1,5 @@
 pub mod LineOrderLemmas
+pub mod LinePairLemmas
 pub mod ReadingSteps
 pub mod DataUnitLemmas
 pub mod PesHeaderLemmas

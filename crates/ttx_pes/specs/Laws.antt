@@ -1,10 +1,10 @@
 -- Laws of the format, over plain lists of bytes.
-use Rattle.std.specs.Prelude.{◌≡◌, ◌≢◌, ℕ, ◌^◌, ◌<◌, ◌≤◌, List, ◌++◌, length, map, Some, Ok}
-use Rattle.std.specs.List.{AllByRecursion}
+use Rattle.std.specs.Prelude.{◌≡◌, ◌≢◌, ◌↔◌, ℕ, ◌^◌, ◌<◌, ◌≤◌, List, ◌++◌, length, map, Some, Ok}
+use Rattle.std.specs.List.{AllByRecursion, AllPairs}
 use Rattle.sub_io.specs.Reading.{AreBytes}
 use Rattle.ttx_packet.specs.PacketAddress.{IsPacket}
 use Rattle.ttx_pes.specs.DataUnit.{UnitValue}
-use Rattle.ttx_pes.specs.LineOrder.{numbered_units}
+use Rattle.ttx_pes.specs.LineOrder.{numbered_units, AreInLineOrder, RisesTo}
 use Rattle.ttx_pes.specs.PesPacket.{PesValue, IsPesPacket, IsPesValue, canonical_packet}
 use Rattle.ttx_pes.specs.PesPacket.{numbered_frame}
 use Rattle.ttx_pes.specs.Reading.{packet_at, answer_at, rest_after, most_packets}
@@ -52,6 +52,12 @@ LawOfReadingBack =
     → IsPesValue v
     → (answer_at given (canonical_packet v ++ rest) ≡ Ok (Some v))
     × (rest_after (canonical_packet v ++ rest) ≡ rest)
+
+-- Units are in line order exactly where of each two that name a line the later one's place is
+-- after the earlier one's.
+-- So the order is a fact of pairs, and nothing of a place that is carried along has to be known.
+abbrev pub LawOfLineOrder : Type 0
+LawOfLineOrder = (units : List UnitValue) → AreInLineOrder 0 units ↔ AllPairs RisesTo units
 
 -- Packets that are sent as one frame make a value that a frame can hold, and are its units'
 -- packets.

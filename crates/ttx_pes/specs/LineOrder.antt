@@ -4,7 +4,8 @@
 -- The units that name a line rise strictly: those of the first field before those of the second, in
 -- each field by line_offset. In EN 300 472 line_offset 0 means that the line is not defined, so a
 -- unit with it may stand anywhere.
-use Rattle.std.specs.Prelude.{◌≡◌, true, ℕ, ◌+◌, ◌-◌, ◌*◌, Bool, ◌==◌, ◌||◌, nat_lt, if◌then◌else◌}
+use Rattle.std.specs.Prelude.{◌≡◌, ◌≢◌, ◌<◌}
+use Rattle.std.specs.Prelude.{true, ℕ, ◌+◌, ◌-◌, ◌*◌, Bool, ◌==◌, ◌||◌, nat_lt, if◌then◌else◌}
 use Rattle.std.specs.Prelude.{List, [], ◌∷◌}
 use Rattle.ttx_pes.specs.DataUnit.{UnitValue, subtitle_id}
 
@@ -29,6 +30,10 @@ AreInLineOrder before [] = Unit {0}
 AreInLineOrder before (u ∷ units) =
     (stands_after before u ≡ true)
     × AreInLineOrder (if u.line == 0 then before else line_order_place u) units
+
+-- Where both units name a line, the place of the second is after that of the first.
+abbrev pub RisesTo : UnitValue → UnitValue → Type 0
+RisesTo u v = u.line ≢ 0 → v.line ≢ 0 → line_order_place u < line_order_place v
 
 -- The unit of the packet that is sent as number i of a frame: lines 7 to 22 of the first field,
 -- then 7 to 22 of the second, those that EN 300 472 names; data_unit_id 03.

@@ -4,7 +4,8 @@ ghost use Rattle.ttx_pes.specs.declared.fault.PesFault.TheVariants.{Read};
 
 use sub_io::Failed;
 
-/// Why a PES packet is not read or not written, in the order in which a reader looks (EN 300 472).
+/// Why a PES packet is not read or not written (EN 300 472), in the order of the faults' numbers.
+/// `PesReader::next` says in which order a reader looks.
 #[derive(Clone, Copy, Debug, PartialEq, Eq)]
 pub enum PesFault {
     /// The bytes end within a packet.

@@ -1,6 +1,6 @@
 //! Laws of the format, each as a call whose contract is the law.
 ghost use Rattle.ttx_pes.specs.Laws.{LawOfCanonicalPacket, LawOfGrammar, LawOfNumberedFrame};
-ghost use Rattle.ttx_pes.specs.Laws.{LawOfOneValue, LawOfPacketValue, LawOfReading};
+ghost use Rattle.ttx_pes.specs.Laws.{LawOfLineOrder, LawOfOneValue, LawOfPacketValue, LawOfReading};
 ghost use Rattle.ttx_pes.specs.Laws.{LawOfReadingBack};
 
 /// A PES packet has one value, and none is a proper prefix of another: a file falls into packets in
@@ -34,6 +34,12 @@ pub fn law_of_grammar()
 /// What was written of a frame is read as that frame, and what follows it is left.
 pub fn law_of_reading_back()
     ensures { LawOfReadingBack }
+{}
+
+/// Units are in line order exactly where of each two that name a line the later one's place is
+/// after the earlier one's.
+pub fn law_of_line_order()
+    ensures { LawOfLineOrder }
 {}
 
 /// Packets that are sent as one frame make a value that a `PesFrame` can hold, and are its units'

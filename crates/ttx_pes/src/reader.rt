@@ -103,11 +103,11 @@ impl PesReader {
     ///
     /// # Errors
     ///
-    /// The first fault by place: `Start`, `Length`, `Truncated` (the bytes end within the packet),
-    /// `Flags` to `DataId`, then in each data unit `UnitLength`, `Framing`, `LineOrder`.
-    /// `Truncated` for fewer than six bytes, before all others. `TooMany` for a byte after
-    /// 2,160,000 packets, one for each frame of a day. `Read` where the source failed. After any of
-    /// them each call answers `Ended` and takes nothing.
+    /// The first in this order: `TooMany` for a byte after 2,160,000 packets, one for each frame of
+    /// a day; `Truncated` for fewer than six bytes; `Start`, `Length`; `Truncated` where the bytes
+    /// end within the packet; `Flags` to `DataId`; then in each data unit `UnitLength`, `Framing`,
+    /// `LineOrder`. `Read` where the source failed before the bytes that show a fault were there.
+    /// After any of them each call answers `Ended` and takes nothing.
     pub fn next<S: Source>(&mut self, source: &mut S) -> Result<Option<PesFrame>, PesFault>
         requires { CanFail (S.failure_count source.old) }
         // A frame is the value of exactly the bytes that were taken.

@@ -1,5 +1,6 @@
 //! A Teletext unit: a packet with the line that it is sent on.
 ghost use Rattle.std.specs.Prelude.{◌≡◌, ◌<◌, ◌≤◌, ◌==◌, if◌then◌else◌, is_some, IfSome};
+ghost use Rattle.std.specs.Prelude.{replicate};
 
 use std::marker::Model;
 use ttx_packet::Packet;
@@ -29,7 +30,9 @@ impl Model for Unit {
 impl Default for Unit {
     /// What stands in the unused places of a frame: data_unit_id 02, line 0 of the first field, and
     /// zero bytes.
-    fn default() -> Self {
+    fn default() -> Self
+        ensures { result ≡ record { id = 2; field = 1; line = 0; packet = replicate 42 0 } }
+    {
         Unit::new(2, 1, 0, Packet::new([0; 42]))
     }
 }

@@ -1,0 +1,6 @@
+-- The law line_order.
+use Rattle.ttx_pes.proofs.LinePairLemmas.{line_order}
+use Rattle.ttx_pes.proofs.laws.law_of_line_order.Goals as goal
+
+pub returns : goal.returns
+returns c = line_order
