@@ -132,7 +132,7 @@ page_with-from jc row k page (line ∷ ls) first size blanks low high =
     ]
 
 -- each row of the blank page is blank
-blank_at : (k : ℕ) → k < 24 → get_or blank k [] ≡ blank_row
+pub blank_at : (k : ℕ) → k < 24 → get_or blank k [] ≡ blank_row
 unfolding blank
 blank_at k h = get_or-replicate 24 k blank_row [] h
 

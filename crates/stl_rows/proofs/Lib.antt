@@ -4,6 +4,7 @@ pub mod LineByLineLemmas
 pub mod DrawnPageLemmas
 pub mod DuePageLemmas
 pub mod PageShapeLemmas
+pub mod LastRowLemmas
 pub mod ProgrammeLemmas
 pub mod LoadingLemmas
 pub mod LoadingLaw

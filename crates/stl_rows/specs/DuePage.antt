@@ -3,7 +3,7 @@ use Rattle.std.specs.Prelude.{◌≡◌, ℕ, ◌-◌, ◌<◌, ◌≤◌, ◌�
 use Rattle.std.specs.Prelude.{nat_lt, nat_le, All, Any, Contains}
 use Rattle.std.specs.List.{find}
 use Rattle.std.specs.Result.{result_unwrap_or}
-use Rattle.ttx_page.specs.Page.{Rows, blank, IsPage}
+use Rattle.ttx_page.specs.Page.{Rows, blank, blank_row, row_at, IsPage}
 use Rattle.stl_file.specs.Subtitle.{SubtitleValue}
 use Rattle.stl_rows.specs.declared.national.National.{National}
 use Rattle.stl_rows.specs.DrawnPage.{drawn}
@@ -64,6 +64,13 @@ LawOfEdges =
     → 1 ≤ frame
     → (IsEdge records frame → ⊥)
     → due national records frame ≡ due national records (frame - 1)
+
+-- Row 24 of each due page is blank: no subtitle may use it (own).
+-- So a sending of a due page has a row fewer than a page has.
+abbrev pub LawOfLastRow : Type 0
+LawOfLastRow =
+    (national : National) (records : List SubtitleValue) (frame : ℕ)
+    → row_at (due national records frame) 24 ≡ blank_row
 
 -- Each due page is a page: 24 rows of 40 codes below 128. So it can be sent with odd parity.
 abbrev pub LawOfDuePages : Type 0

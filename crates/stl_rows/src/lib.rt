@@ -27,4 +27,5 @@ pub use loading::{law_of_loading, load};
 pub use national::National;
 pub use programme::{
     Programme, law_of_blank_pages, law_of_due_pages, law_of_due_subtitles, law_of_edges,
+    law_of_last_row,
 };

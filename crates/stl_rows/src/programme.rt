@@ -4,6 +4,7 @@ ghost use Rattle.std.specs.Prelude.{◌≡◌, ℕ, ◌<◌, ◌≤◌, ◌↔�
 ghost use Rattle.std.specs.Prelude.{slice_index_or};
 ghost use Rattle.stl_file.specs.Subtitle.{SubtitleValue};
 ghost use Rattle.stl_rows.specs.DuePage.{due, LawOfBlankPages, LawOfDuePages, LawOfDueSubtitles};
+ghost use Rattle.stl_rows.specs.DuePage.{LawOfLastRow};
 ghost use Rattle.stl_rows.specs.DuePage.{LawOfEdges, TellsNextEdge};
 ghost use Rattle.stl_rows.specs.Programme.{IsProgramme, first_in, last_out};
 
@@ -177,6 +178,11 @@ pub fn law_of_blank_pages()
 /// The due page changes only at a TCI or a TCO.
 pub fn law_of_edges()
     ensures { LawOfEdges }
+{}
+
+/// Row 24 of each due page is blank.
+pub fn law_of_last_row()
+    ensures { LawOfLastRow }
 {}
 
 /// Each due page is a page: 24 rows of 40 codes below 128.

@@ -16,7 +16,7 @@ use Rattle.ttx_packet.specs.PacketAddress.{IsPacket}
 use Rattle.ttx_packet.specs.PageHeader.{header_packet}
 use Rattle.ttx_packet.specs.PageId.{PageIdValue}
 use Rattle.ttx_packet.specs.RowPacket.{row_packet}
-use Rattle.ttx_page.specs.Page.{Rows, row_at}
+use Rattle.ttx_page.specs.Page.{Rows, blank_row, row_at}
 use Rattle.ttx_page.specs.Shown.{shown}
 use Rattle.stl_rows.specs.declared.national.National.{National}
 use Rattle.ttx_pes.proofs.LineOrderLemmas.{numbered_is_value}
@@ -24,7 +24,9 @@ use Rattle.sub_plan.specs.FrameTime.{pts_of}
 use Rattle.sub_plan.specs.Sending.{is_sent_row, watched_header, closing_header, rows_from}
 use Rattle.sub_plan.specs.Sending.{sent_rows, sending}
 use Rattle.sub_plan.specs.Laws.{IsSentPacket}
-use Rattle.sub_plan.specs.Laws.{LawOfPesValues, LawOfSize}
+use Rattle.sub_plan.specs.Laws.{LawOfDueSize, LawOfPesValues, LawOfSize}
+use Rattle.sub_plan.specs.Schedule.{due_in}
+use Rattle.stl_rows.proofs.LastRowLemmas.{last_row_blank}
 use Rattle.sub_plan.proofs.ScheduleBases.{range_split}
 use Rattle.sub_plan.proofs.SentPackets.{opener, closer}
 use Rattle.sub_plan.proofs.SendingLemmas.{all_sent}
@@ -55,6 +57,45 @@ unfolding sending
 law_of_size w national serial page =
     let e = length_push (sent_rows w.magazine page) (closer w serial) in
     let f = short_page w.magazine page in
+    omega (arith, e, f)
+
+-- A blank row is not sent. For `law_of_due_size`.
+blank_unsent : is_sent_row blank_row ≡ false
+unfolding blank_row
+blank_unsent = refl
+
+-- Of a page with a blank last row the rows but that one are sent.
+rows_but_last :
+    (magazine : ℕ) (page : Rows)
+    → row_at page 24 ≡ blank_row
+    → length (sent_rows magazine page) ≤ 23
+unfolding sent_rows
+rows_but_last magazine page e =
+    let test : ℕ → Bool = λ row. is_sent_row (row_at page row) in
+    let last : filter test (24 ∷ []) ≡ [] =
+    ap (λ b. cond b (24 ∷ []) []) (ap is_sent_row e ∙ blank_unsent) in
+    let rows : filter test (range_with_len 1 24) ≡ filter test (range_with_len 1 23) =
+    ap (filter test) (range_split 1 23 1)
+    ∙ filter-append test (range_with_len 1 23) (24 ∷ [])
+    ∙ ap (λ xs. filter test (range_with_len 1 23) ++ xs) last
+    ∙ append-nil (filter test (range_with_len 1 23)) in
+    let size =
+    length-map (filter test (range_with_len 1 24))
+    (λ row. row_packet magazine row (row_at page row)) in
+    let short = short_filter test (range_with_len 1 23) in
+    let long = length-range_with_len 1 23 in
+    let same = ap length rows in
+    omega (arith, size, short, long, same)
+
+-- A sending of a page that is due: its header, at most 23 rows, the closing header.
+pub law_of_due_size : LawOfDueSize
+unfolding sending
+law_of_due_size w serial programme frame =
+    let page = due_in programme frame in
+    let e = length_push (sent_rows w.magazine page) (closer w serial) in
+    let f =
+    rows_but_last w.magazine page
+    (last_row_blank programme.national programme.records frame) in
     omega (arith, e, f)
 
 -- ---- as a PES packet

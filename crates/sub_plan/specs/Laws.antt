@@ -18,7 +18,7 @@ use Rattle.stl_rows.specs.declared.national.National.{National}
 use Rattle.stl_rows.specs.Programme.{IsProgramme, ProgrammeValue}
 use Rattle.sub_plan.specs.FrameTime.{frames_of_day}
 use Rattle.sub_plan.specs.Options.{IsOptions, IsWatchable, OptionsValue}
-use Rattle.sub_plan.specs.Schedule.{base, is_sending, sendings, pes_value, plan_frames}
+use Rattle.sub_plan.specs.Schedule.{base, due_in, is_sending, sendings, pes_value, plan_frames}
 use Rattle.sub_plan.specs.Sending.{sending, watched_header}
 
 -- ---- one sending
@@ -53,6 +53,12 @@ LawOfSentPackets =
     → IsWatchable w
     → IsPage page
     → All (IsSentPacket w national serial) (sending w national serial page)
+
+-- A sending of a page that is due has at most 25 packets, since row 24 of it is blank.
+abbrev pub LawOfDueSize : Type 0
+LawOfDueSize =
+    (w : PageIdValue) (serial : Bool) (programme : ProgrammeValue) (frame : ℕ)
+    → length (sending w programme.national serial (due_in programme frame)) ≤ 25
 
 -- A sending has at most 26 packets. So its packets have lines in one PES packet.
 abbrev pub LawOfSize : Type 0

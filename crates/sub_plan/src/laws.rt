@@ -1,5 +1,6 @@
 //! Laws of sendings and schedules, for callers and readers. None does anything.
 ghost use Rattle.sub_plan.specs.Examples.{ExampleOfClosingHeaders, ExampleOfWatchedHeaders};
+ghost use Rattle.sub_plan.specs.Laws.{LawOfDueSize};
 ghost use Rattle.sub_plan.specs.Laws.{LawOfCutSendings, LawOfDay, LawOfEqualPages, LawOfGaps};
 ghost use Rattle.sub_plan.specs.Laws.{LawOfLastSending, LawOfPesValues, LawOfSending};
 ghost use Rattle.sub_plan.specs.Laws.{LawOfSendings, LawOfSentPackets, LawOfSize};
@@ -12,6 +13,11 @@ pub fn law_of_sending()
 /// What each packet of a sending is: whole, exact, in the mode, and of the page's header alone.
 pub fn law_of_sent_packets()
     ensures { LawOfSentPackets }
+{}
+
+/// A sending of a page that is due has at most 25 packets.
+pub fn law_of_due_size()
+    ensures { LawOfDueSize }
 {}
 
 /// A sending has at most 26 packets.

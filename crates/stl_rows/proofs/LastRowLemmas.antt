@@ -1,0 +1,125 @@
+-- Row 24 of each due page is blank: `last_row_blank`.
+use Rattle.std.proofs.Common.{◌≡◌, ℕ, zero, suc, ◌+◌, ◌-◌, ◌<◌, Bool, true, false, ◌&&◌, ◌==◌}
+use Rattle.std.proofs.Common.{nat_lt, cond, List, [], ◌∷◌, ◌++◌, length, map, get_or, Option, Some}
+use Rattle.std.proofs.Common.{None, refl, sym, ap, ◌∙◌, arith}
+use Rattle.std.specs.List.{find}
+use Rattle.std.specs.Result.{result_unwrap_or}
+use Rattle.std.proofs.lemmas.Bool.{lt-ltb, true≢false}
+use Rattle.std.proofs.lemmas.List.FromFn.{get_or-map-range_with_len}
+use Rattle.ttx_page.specs.Page.{Rows, blank, blank_row, row_at}
+use Rattle.stl_file.specs.Subtitle.{SubtitleValue}
+use Rattle.stl_rows.specs.declared.fault.RowFault.{RowFault}
+use Rattle.stl_rows.specs.declared.fault.RowFaultKind.{RowFaultKind}
+use Rattle.stl_rows.specs.declared.fault.RowFaultKind.TheVariants.{DoubleRow, Hidden, PastBottom}
+use Rattle.stl_rows.specs.declared.fault.RowFaultKind.TheVariants.{RowTooLong}
+use Rattle.stl_rows.specs.declared.national.National.{National}
+use Rattle.stl_rows.specs.DrawnPage.{drawn, faults, last_row, line_fault_kinds, line_faults}
+use Rattle.stl_rows.specs.DrawnPage.{line_on, lines, page_of, unless, when}
+use Rattle.stl_rows.specs.DuePage.{drawn_or_blank, due, is_due}
+use Rattle.stl_rows.specs.Line.{columns, has_cells, is_double, row_of}
+use Rattle.stl_rows.specs.TextCode.{fault_of, refusals, text_codes}
+use Rattle.stl_rows.proofs.DrawnPageLemmas.{blank_at, row_of-none}
+
+-- Two lists that join to none are none.
+left_empty : {A : Type 0} (xs ys : List A) → xs ++ ys ≡ [] → xs ≡ []
+left_empty [] ys e = refl
+left_empty (x ∷ xs) ys e = cc
+
+right_empty : {A : Type 0} (xs ys : List A) → xs ++ ys ≡ [] → ys ≡ []
+right_empty [] ys e = e
+right_empty (x ∷ xs) ys e = cc
+
+-- The second of four lists that join to none is none.
+second_empty : {A : Type 0} (a b c d : List A) → a ++ b ++ c ++ d ≡ [] → b ≡ []
+second_empty a b c d e =
+    right_empty a b (left_empty (a ++ b) c (left_empty (a ++ b ++ c) d e))
+
+-- Where nothing is made of a list it is none.
+map_empty : {A B : Type 0} (f : A → B) (xs : List A) → map f xs ≡ [] → xs ≡ []
+map_empty f [] e = refl
+map_empty f (x ∷ xs) e = cc
+
+-- A test that gives no fault failed.
+not_when : (b : Bool) (kind : RowFaultKind) → when b kind ≡ [] → b ≡ false
+not_when true kind e = cc
+not_when false kind e = refl
+
+-- A line under the last row, without a fault, is empty.
+no_cells :
+    (row : ℕ) (under : Bool) (line : List ℕ)
+    → last_row < row
+    → line_fault_kinds row under line ≡ []
+    → line ≡ []
+unfolding line_fault_kinds
+no_cells row under [] l e = refl
+no_cells row under (c ∷ cells) l e =
+    let past : nat_lt last_row row ≡ false =
+    not_when (nat_lt last_row row) PastBottom
+    (second_empty (when (nat_lt columns (length (c ∷ cells))) RowTooLong)
+    (when (nat_lt last_row row) PastBottom)
+    (when (is_double (c ∷ cells) && (row == last_row)) DoubleRow) (when under Hidden) e) in
+    absurd (true≢false (sym (lt-ltb last_row row l) ∙ past))
+
+-- The same of a line at a place.
+free_at :
+    (row number : ℕ) (under : Bool) (ls : List (List ℕ)) (k : ℕ)
+    → line_faults number row under ls ≡ []
+    → last_row < row + k
+    → get_or ls k [] ≡ []
+free_at row number under [] k e l = refl
+free_at row number under (line ∷ ls) zero e l =
+    no_cells row under line (omega arith)
+    (map_empty (fault_of number) (line_fault_kinds row under line) (left_empty _ _ e))
+free_at row number under (line ∷ ls) (suc k) e l =
+    free_at (row + 1) (number + 1) (is_double line) ls k
+    (right_empty (map (fault_of number) (line_fault_kinds row under line)) _ e) (omega arith)
+
+-- No line of a subtitle without a fault goes to row 24.
+line_free :
+    (vp : ℕ) (ls : List (List ℕ))
+    → line_faults 0 vp false ls ≡ []
+    → line_on vp ls 24 ≡ []
+line_free vp ls e = go (nat_lt 24 vp)
+  where
+    go : (b : Bool) → cond b [] (get_or ls (24 - vp) []) ≡ []
+    go true = refl
+    go false = free_at vp 0 false ls (24 - vp) e (omega arith)
+
+-- Row 24 of the page of such lines is blank.
+row_free :
+    (jc vp : ℕ) (ls : List (List ℕ))
+    → line_faults 0 vp false ls ≡ []
+    → row_at (page_of jc vp ls) 24 ≡ blank_row
+unfolding page_of
+row_free jc vp ls e =
+    get_or-map-range_with_len (λ row. row_of jc (line_on vp ls row)) 1 24 23 24 [] (omega arith)
+    refl
+    ∙ ap (row_of jc) (line_free vp ls e)
+    ∙ sym (row_of-none jc)
+
+-- Row 24 of a drawn page is blank, as it is of the blank page.
+drawn_free :
+    (national : National) (t : SubtitleValue)
+    → row_at (result_unwrap_or (drawn national t) blank) 24 ≡ blank_row
+unfolding drawn
+drawn_free national t = go (faults national t) refl
+  where
+    go :
+        (fs : List RowFault)
+        → faults national t ≡ fs
+        → row_at (result_unwrap_or (unless fs (page_of t.jc t.vp (lines national t))) blank) 24
+        ≡ blank_row
+    go [] e = row_free t.jc t.vp (lines national t)
+        (right_empty (refusals (text_codes national 0 t.text)) _ e)
+    go (f ∷ fs) e = blank_at 23 (omega arith)
+
+-- Row 24 of each due page is blank.
+pub last_row_blank :
+    (national : National) (records : List SubtitleValue) (frame : ℕ)
+    → row_at (due national records frame) 24 ≡ blank_row
+unfolding due
+last_row_blank national records frame = go (find (is_due frame) records)
+  where
+    go : (o : Option SubtitleValue) → row_at (drawn_or_blank national o) 24 ≡ blank_row
+    go None = blank_at 23 (omega arith)
+    go (Some t) = drawn_free national t
