@@ -3,6 +3,7 @@ pub mod Written
 pub mod Kept
 pub mod Steps
 pub mod Outcomes
+pub mod Places
 pub mod BlockLists
 pub mod Taken
 pub mod Opening

@@ -22,13 +22,14 @@ use Rattle.stl_file.specs.Subtitle.{SubtitleValue}
 use Rattle.stl_file.specs.SubtitleBlocks.{IsBlock, IsRest, joined}
 use Rattle.stl_file.specs.Reading.{step_at, fails, gives, outcome_after, outcome_at}
 use Rattle.stl_file.specs.Reader.{outcome_from, block_after, Leads}
-use Rattle.stl_file.specs.Reader.{TakesSubtitle, TakesPassed, Refuses, FailsReading}
+use Rattle.stl_file.specs.Reader.{TakesSubtitle, TakesPassed, Refuses, FailsReading, NamesFrom}
 use Rattle.stl_file.specs.NormalForm.{subtitles_of}
 use Rattle.stl_file.proofs.Outcomes.{outcome_nil, outcome_end, outcome_full, outcome_short}
 use Rattle.stl_file.proofs.Outcomes.{outcome_block, outcome_complete}
 use Rattle.stl_file.proofs.Kept.{Represents, step_sound}
 use Rattle.stl_file.proofs.BlockLists.{blocks_push, filter_push, joined_push, ends_push}
 use Rattle.stl_file.proofs.BlockLists.{length-joined}
+use Rattle.stl_file.proofs.Places.{names_from}
 
 -- ---- what was read so far
 
@@ -457,10 +458,11 @@ module _ (from : ℕ) (old mid new : Option (List ℕ)) (n block : ℕ) (begun :
 pub fails_reading : (from block : ℕ) (old mid new : Option (List ℕ)) (begun : Option Begun)
     (bytes : List ℕ)
     → HasRead from old mid block begun
+    → block ≤ most_blocks
     → length bytes < 128
     → Consumes mid new bytes
     → FailsReading from (block + 1) old new
-fails_reading from block old mid new begun bytes h lt c =
+fails_reading from block old mid new begun bytes h few lt c =
     let l = length-append (joined h.blocks) bytes in
     let j = length-joined h.blocks h.each in
     let k = h.counted in
@@ -468,4 +470,9 @@ fails_reading from block old mid new begun bytes h lt c =
       bytes = joined h.blocks ++ bytes;
       consumed = Consumes-trans old mid new (joined h.blocks) bytes h.consumed c;
       block = omega arith;
+      none = λ more.
+          subst (NamesFrom (block + 1))
+          (sym (ap (outcome_from from) (append_assoc (joined h.blocks) bytes more)
+          ∙ h.goes (bytes ++ more)))
+          (names_from (most_blocks - block) block begun (bytes ++ more) (omega arith));
     }

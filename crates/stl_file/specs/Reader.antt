@@ -1,5 +1,5 @@
 -- A reader of a subtitle file, and what each of its calls takes and leaves.
-use Rattle.std.specs.Prelude.{◌≡◌, ℕ, ◌+◌, ◌-◌, ◌/◌, ◌≤◌, true, nat_lt, if◌then◌else◌}
+use Rattle.std.specs.Prelude.{◌≡◌, ⊤, ℕ, ◌+◌, ◌-◌, ◌/◌, ◌≤◌, true, nat_lt, if◌then◌else◌}
 use Rattle.std.specs.Prelude.{List, [], ◌∷◌, ◌++◌, length, take, drop, filter}
 use Rattle.std.specs.Prelude.{Option, Some, None, Result, Ok, Err}
 use Rattle.std.specs.Io.KnownBytes.{Consumes, IsAtEnd}
@@ -130,12 +130,26 @@ pub record Refuses (from to : ℕ) (old new : Option (List ℕ)) (f : StlFault) 
       → joined bs ≡ bytes ++ more
       → ⊥
 
+-- What bytes give names this block or one after it, in each subtitle and in the fault at the end. The
+-- end of the file inside a subtitle names the last whole block, so one less.
+abbrev pub NamesFrom : ℕ → Outcome → Type 0
+NamesFrom block ends = ⊤
+NamesFrom block (fails fault.Unfinished at) = block ≤ at + 1
+NamesFrom block (fails f at) = block ≤ at
+NamesFrom block (gives s at outcome) = (block ≤ at) × NamesFrom block outcome
+
+-- the block of the byte behind so many bytes of a file: 0 is the GSI block
+abbrev pub block_of_byte : ℕ → ℕ
+block_of_byte n = if nat_lt n gsi_size then 0 else (n - gsi_size) / 128 + 1
+
 -- The source failed: the block is that of the byte that was asked for, the first one behind those
--- that were taken.
+-- that were taken. These hold no fault, and end no subtitle: whatever comes behind them, what they
+-- give together is told of that block or a later one.
 pub record FailsReading (from to : ℕ) (old new : Option (List ℕ)) : Type 0 where
   pub bytes : List ℕ
   pub consumed : Consumes old new bytes
   pub block : to ≡ from + length bytes / 128 + 1
+  pub none : (more : List ℕ) → NamesFrom to (outcome_from from (bytes ++ more))
 
 -- how far a reader has come after an answer
 abbrev pub progress_after : Progress → Result (Option SubtitleValue) StlFault → Progress

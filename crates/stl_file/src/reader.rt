@@ -1,6 +1,7 @@
 //! Reading a subtitle file from a source, one subtitle after the other (EBU Tech 3264).
 
-ghost use Rattle.std.specs.Prelude.{◌≡◌, ◌≢◌, ◌↔◌, ◌+◌, ◌-◌, ◌<◌, ◌≤◌, if◌then◌else◌, drop};
+ghost use Rattle.std.specs.Prelude.{◌≡◌, ◌≢◌, ◌↔◌, ◌+◌, ◌-◌, ◌<◌, ◌≤◌, if◌then◌else◌, drop, ℕ};
+ghost use Rattle.std.specs.Prelude.{List, length};
 ghost use Rattle.std.specs.Prelude.{false, true, None, Some, Ok, Err, IfErr, IfNone, IfOk, IfSome};
 ghost use Rattle.std.specs.Io.KnownBytes.{Consumes};
 ghost use Rattle.sub_io.specs.Device.{CanFail};
@@ -69,6 +70,9 @@ impl StlReader {
         // No file begins with the bytes that were refused.
         ensures refused { IfErr result (λ fault. is_format fault ≡ true →
             RefusesOpening (S.remaining source.old) (S.remaining source.new) fault) }
+        // A source that failed failed within the GSI block.
+        ensures failed { is_read result ≡ true → (bytes : List ℕ) × (length bytes < 1024)
+            × Consumes (S.remaining source.old) (S.remaining source.new) bytes }
         ensures never { IfErr result (λ fault. fault ≢ Ended) }
         ensures count { S.failure_count source.new
             ≡ S.failure_count source.old + (if is_read result then 1 else 0) }

@@ -1,5 +1,6 @@
 pub mod TextCodeLemmas
 pub mod LineLemmas
+pub mod FailedReadLemmas
 pub mod LineByLineLemmas
 pub mod DrawnPageLemmas
 pub mod DuePageLemmas

@@ -1,9 +1,11 @@
 -- What loading a subtitle file gives: the programme of its subtitles, or the first fault.
 use Rattle.std.specs.Prelude.{◌≡◌, ℕ, ◌⊎◌, Bool, true, false, List, [], ◌∷◌, ◌++◌, Some, Result, Ok}
-use Rattle.std.specs.Prelude.{Err, ⊤, ◌↔◌, All, IsOk}
-use Rattle.stl_file.specs.declared.fault.StlFault.TheVariants.{Read}
+use Rattle.std.specs.Prelude.{Err, ⊤, ◌↔◌, ◌≤◌, All, IsOk, Option, length}
+use Rattle.std.specs.Io.KnownBytes.{Consumes}
+use Rattle.sub_io.specs.Reading.{IfTold}
+use Rattle.stl_file.specs.declared.fault.StlFault.TheVariants.{Read, Unfinished}
 use Rattle.stl_file.specs.File.{IsFile}
-use Rattle.stl_file.specs.Reader.{outcome_of}
+use Rattle.stl_file.specs.Reader.{block_of_byte, outcome_of}
 use Rattle.stl_file.specs.Subtitle.{SubtitleValue}
 use Rattle.stl_file.specs.Reading.{Outcome, ends, fails, gives}
 use Rattle.stl_rows.specs.declared.national.National.{National}
@@ -61,6 +63,22 @@ is_read_kind _ = false
 abbrev pub is_read_fault : {X : Type 0} → Result X LoadFault → Bool
 is_read_fault (Ok x) = false
 is_read_fault (Err fault) = is_read_kind fault.kind
+
+-- No fault comes before this block; but the end of the file inside a subtitle, which names the last
+-- whole block, is found only where the block behind it is asked for.
+abbrev pub NoneBefore : National → Outcome → ℕ → Type 0
+NoneBefore national outcome block =
+    (fault : LoadFault)
+    → loaded national outcome ≡ Err fault
+    → (fault.kind ≡ File Unfinished) ⊎ (block ≤ fault.block)
+
+-- The source failed: the block is that of the byte that was asked for, the first one behind those
+-- that were taken. A fault that these hold would have been told instead.
+pub record FailsLoading (national : National) (old new : Option (List ℕ)) (block : ℕ) : Type 0 where
+  pub bytes : List ℕ
+  pub consumed : Consumes old new bytes
+  pub block_is : block ≡ block_of_byte (length bytes)
+  pub none : IfTold old (λ all. NoneBefore national (outcome_of all) block)
 
 -- The answer to a subtitle that is put behind these: the first fault of the told order; want of
 -- memory only where there is none.

@@ -1,15 +1,15 @@
 //! Loading a subtitle file as a programme.
 
 ghost use Rattle.std.specs.Prelude.{◌≡◌, ◌≢◌, ◌+◌, ◌<◌, ◌≤◌, [], ◌∷◌, ◌++◌, if◌then◌else◌};
-ghost use Rattle.std.specs.Prelude.{Err, IfErr, IfOk, IfSome, Ok, OnOk, vec_capacity, vec_len};
+ghost use Rattle.std.specs.Prelude.{Err, IfErr, IfOk, IfSome, Ok, OnOk, true, vec_capacity, vec_len};
 ghost use Rattle.sub_io.specs.Device.{CanFail};
 ghost use Rattle.sub_io.specs.Reading.{IfTold};
 ghost use Rattle.stl_file.specs.declared.fault.StlFault.TheVariants.{Ended};
 ghost use Rattle.stl_file.specs.Reader.{outcome_of};
 ghost use Rattle.stl_file.specs.Subtitle.{IsSubtitle};
 ghost use Rattle.stl_rows.specs.declared.fault.LoadFaultKind.TheVariants.{File, Memory};
-ghost use Rattle.stl_rows.specs.Loading.{is_read_fault, loaded, LawOfLoading};
-ghost use Rattle.stl_rows.specs.Loading.{TellsFault, TellsFollow};
+ghost use Rattle.stl_rows.specs.Loading.{is_read_fault, is_read_kind, loaded};
+ghost use Rattle.stl_rows.specs.Loading.{FailsLoading, LawOfLoading, TellsFault, TellsFollow};
 ghost use Rattle.stl_rows.specs.Programme.{IsProgramme, follow_faults};
 ghost use Rattle.stl_rows.specs.TextCode.{first_of};
 
@@ -30,7 +30,7 @@ use sub_io::Source;
 /// The first fault by block. At block 0 the faults of the GSI block; at each TTI block the file's
 /// own, `File`; at a subtitle's last block `OutOfOrder`, `Overlap`, the fault of `draw` as `Row`,
 /// and then `Memory` where the memory for it was refused. `File` with `Read` where the source
-/// failed.
+/// failed, at the block of the byte that was asked for: a fault that was found before is told instead.
 pub fn load<S: Source>(
     alloc: Global,
     source: &mut S,
@@ -47,6 +47,9 @@ pub fn load<S: Source>(
     ensures programme { IfOk result (λ programme.
         IsProgramme programme.national programme.records) }
     ensures national { IfOk result (λ programme. programme.national ≡ national) }
+    // A failed read names the block of the byte that was asked for, and no fault comes before it.
+    ensures read { IfErr result (λ f. is_read_kind f.kind ≡ true → FailsLoading national
+        (S.remaining source.old) (S.remaining source.new) f.block) }
     ensures count { S.failure_count source.new
         ≡ S.failure_count source.old + (if is_read_fault result then 1 else 0) }
 {
@@ -70,6 +73,8 @@ fn load_in<A: Allocator + Drop, S: Source>(
         TellsFault national (outcome_of bytes) f.block f.kind)) }
     ensures never { IfErr result (λ f. f.kind ≢ File Ended) }
     ensures programme { IfOk result (λ v. IsProgramme national v.items) }
+    ensures read { IfErr result (λ f. is_read_kind f.kind ≡ true → FailsLoading national
+        (S.remaining source.old) (S.remaining source.new) f.block) }
     ensures count { S.failure_count source.new
         ≡ S.failure_count source.old + (if is_read_fault result then 1 else 0) }
 {

@@ -2,10 +2,13 @@
 -- tells-refused.
 use Rattle.std.proofs.Common.{refl, rules, ap}
 use Rattle.std.specs.Prelude.{Ok, Option, Result}
+use Rattle.stl_file.specs.Reader.{ReaderValue}
 use Rattle.stl_file.specs.Subtitle.{SubtitleValue}
 use Rattle.stl_file.specs.declared.fault.StlFault.{StlFault}
 use Rattle.stl_file.specs.Gsi.{gsi_size}
 use Rattle.std.proofs.Common.{drop}
+use Rattle.stl_rows.proofs.FailedReadLemmas.{fails-next, fails-opening, has_taken-next}
+use Rattle.stl_rows.proofs.FailedReadLemmas.{has_taken-opened, is_read-kind}
 use Rattle.stl_rows.proofs.LoadingLemmas.{goes_on-opened, goes_on-put, still_reading, tells-opening}
 use Rattle.stl_rows.proofs.LoadingLemmas.{tells-next, tells-none, tells-refused}
 use Rattle.stl_rows.proofs.ProgrammeLemmas.{IsProgramme-none}
@@ -15,11 +18,17 @@ pub returns-in-Err-clause-fault : goal.returns-in-Err-clause-fault
 returns-in-Err-clause-fault g c =
     λ bytes e. tells-opening c.args.national bytes c.in-Err.fault (c.in-Err.ensures.exact bytes e)
 
+pub returns-in-Err-clause-read : goal.returns-in-Err-clause-read
+returns-in-Err-clause-read g c = λ is.
+    fails-opening c.args.national _ _ (c.in-Err.ensures.failed (is_read-kind ReaderValue c.in-Err.fault is))
+
 pub subtitles-init : goal.subtitles-init
 subtitles-init g c = record {
   programme = IsProgramme-none c.args.national _ c.new-subtitles.ensures.items;
   reading = search rules;
   count = search rules;
+  taken = has_taken-opened _ _ c.in-Ok.reader.gsi c.in-Ok.reader.block (search rules)
+      (search rules) (search rules);
   told =
       λ bytes e. (
         drop gsi_size bytes,
@@ -36,6 +45,14 @@ returns-in-Err-next-clause-fault g c = λ bytes e.
     tells-next c.args.national bytes i.0 c.subtitles.subtitles.items c.subtitles.reader
     c.next.new.self _ c.in-Err-next.fault c.block-block.result
     i.2 c.block-block.ensures.value (λ ok. c.in-Err-next.ensures.exact i.0 i.1 ok)
+
+pub returns-in-Err-next-clause-read : goal.returns-in-Err-next-clause-read
+returns-in-Err-next-clause-read g c = λ is.
+    let i = c.subtitles.invariant in
+    fails-next c.args.national _ _ _ c.subtitles.subtitles.items c.subtitles.reader
+    c.next.new.self.block c.block-block.result i.taken i.reading i.told
+    (c.in-Err-next.ensures.failed i.reading (is_read-kind (Option SubtitleValue) c.in-Err-next.fault is))
+    c.block-block.ensures.value
 
 pub returns-in-Ok-None-clause-exact : goal.returns-in-Ok-None-clause-exact
 returns-in-Ok-None-clause-exact g c = λ bytes e.
@@ -62,6 +79,10 @@ subtitles-preserved g c = record {
       (ap (λ x. let r : Result (Option SubtitleValue) StlFault = Ok x in r)
       c.in-Ok-Some.field-0-is) c.subtitles.invariant.reading;
   count = search rules;
+  taken = has_taken-next _ _ _ _ _ _ c.in-Ok-Some.subtitle
+      (ap (λ x. let r : Result (Option SubtitleValue) StlFault = Ok x in r)
+      c.in-Ok-Some.field-0-is) (c.in-Ok-Some.ensures.subtitle c.subtitles.invariant.reading)
+      c.subtitles.invariant.taken;
   told = λ bytes e.
       let i = c.subtitles.invariant.told bytes e in
       let a = c.in-Ok-Some.ensures.exact i.0 i.1 refl in (
