@@ -14,7 +14,7 @@ use std::os::unix::fs::MetadataExt;
 use std::process::ExitCode;
 use std::rt::{Env, Files};
 use std::{env, fs, io};
-use sub_answer::{Request, Status, UsageFault, answer, say};
+use sub_answer::{FileNames, Input, Output, Request, Status, UsageFault, answer, say};
 use sub_io::{
     BufferedSink, BufferedSource, Flush, FromRead, IntoWrite, MemSink, MemSource, Sink, Source,
 };
@@ -89,29 +89,24 @@ fn open_and_answer<R: AllocGlobal + Files, K: Sink>(
     requires { failures_and_refused (K.failure_count out.old.device) out.old.refused ≡ 0 }
     ensures { IfErr result (λ _. out.new ≡ out.old) }
 {
-    match request {
-        Request::Packet { .. } => {
-            Ok(answer_input(rt.alloc(), request, &mut MemSource::new(&[]), out))
-        }
-        Request::Packets { pes } => answer_file(rt, request, pes, out),
-        Request::Show { stl } => answer_file(rt, request, stl, out),
-        Request::Normal { input, output } => answer_into(rt, request, input, output, out),
-        Request::Schedule { stl, pes, .. } => answer_into(rt, request, stl, pes, out),
-        Request::Check { stl, pes, .. } => answer_pair(rt, request, stl, pes, out),
-        Request::Listen { pes, .. } => answer_file(rt, request, pes, out),
+    match request.files() {
+        FileNames::None => Ok(answer_input(rt.alloc(), request, &mut MemSource::new(&[]), out)),
+        FileNames::Read(input) => answer_file(rt, request, &input, out),
+        FileNames::ReadBoth(first, second) => answer_pair(rt, request, &first, &second, out),
+        FileNames::Write(input, output) => answer_into(rt, request, &input, &output, out),
     }
 }
 
 // Opens a file to be read, behind a buffer of this room.
 fn open_input<'a, R: Files>(
     rt: &R,
-    name: &str,
+    input: &Input<'_>,
     room: &'a mut [u8],
 ) -> Result<BufferedSource<'a, FromRead<R::File>>, UsageFault>
     requires { 0 < length room.old }
     ensures { IfOk result (λ source. source.device.failure_count ≡ 0) }
 {
-    match fs::open(rt, name) {
+    match fs::open(rt, input.name()) {
         Ok(file) => Ok(BufferedSource::new(FromRead::new(file), room)),
         Err(_) => Err(UsageFault::Open),
     }
@@ -119,10 +114,10 @@ fn open_input<'a, R: Files>(
 
 // Whether creating the output can't empty the input: it is not there, or is another file, not the
 // input by a link or by another way to it.
-fn is_apart<R: Files>(rt: &R, input: &str, output: &str) -> bool {
-    match fs::metadata(rt, output) {
+fn is_apart<R: Files>(rt: &R, input: &Input<'_>, output: &Output<'_>) -> bool {
+    match fs::metadata(rt, output.name()) {
         Err(error) => error.kind() == io::ErrorKind::NotFound,
-        Ok(there) => match fs::metadata(rt, input) {
+        Ok(there) => match fs::metadata(rt, input.name()) {
             Ok(read) => read.dev() != there.dev() || read.ino() != there.ino(),
             Err(_) => false,
         },
@@ -132,7 +127,7 @@ fn is_apart<R: Files>(rt: &R, input: &str, output: &str) -> bool {
 // Creates a file to be written, behind a buffer of this room.
 fn create_output<'a, R: Files>(
     rt: &R,
-    name: &str,
+    output: &Output<'_>,
     room: &'a mut [u8],
 ) -> Result<BufferedSink<'a, IntoWrite<R::File>>, UsageFault>
     requires { 0 < length room.old }
@@ -140,7 +135,7 @@ fn create_output<'a, R: Files>(
     ensures count { IfOk result (λ sink.
         (sink.device.failure_count ≡ 0) × (sink.refused ≡ 0)) }
 {
-    match fs::create(rt, name) {
+    match fs::create(rt, output.name()) {
         Ok(file) => Ok(BufferedSink::new(IntoWrite::new(file), room)),
         Err(_) => Err(UsageFault::Open),
     }
@@ -150,14 +145,14 @@ fn create_output<'a, R: Files>(
 fn answer_file<R: AllocGlobal + Files, K: Sink>(
     rt: &R,
     request: &Request<'_>,
-    name: &str,
+    input: &Input<'_>,
     out: &mut BufferedSink<'_, K>,
 ) -> Result<Status, UsageFault>
     requires { failures_and_refused (K.failure_count out.old.device) out.old.refused ≡ 0 }
     ensures { IfErr result (λ _. out.new ≡ out.old) }
 {
     let mut room = room(rt.alloc())?;
-    let mut first = open_input(rt, name, room.as_mut_slice())?;
+    let mut first = open_input(rt, input, room.as_mut_slice())?;
     Ok(answer_input(rt.alloc(), request, &mut first, out))
 }
 
@@ -165,17 +160,17 @@ fn answer_file<R: AllocGlobal + Files, K: Sink>(
 fn answer_pair<R: AllocGlobal + Files, K: Sink>(
     rt: &R,
     request: &Request<'_>,
-    first_name: &str,
-    second_name: &str,
+    first_input: &Input<'_>,
+    second_input: &Input<'_>,
     out: &mut BufferedSink<'_, K>,
 ) -> Result<Status, UsageFault>
     requires { failures_and_refused (K.failure_count out.old.device) out.old.refused ≡ 0 }
     ensures { IfErr result (λ _. out.new ≡ out.old) }
 {
     let mut first_room = room(rt.alloc())?;
-    let mut first = open_input(rt, first_name, first_room.as_mut_slice())?;
+    let mut first = open_input(rt, first_input, first_room.as_mut_slice())?;
     let mut second_room = room(rt.alloc())?;
-    let mut second = open_input(rt, second_name, second_room.as_mut_slice())?;
+    let mut second = open_input(rt, second_input, second_room.as_mut_slice())?;
     Ok(answer_inputs(rt.alloc(), request, &mut first, &mut second, out))
 }
 
@@ -183,8 +178,8 @@ fn answer_pair<R: AllocGlobal + Files, K: Sink>(
 fn answer_into<R: AllocGlobal + Files, K: Sink>(
     rt: &R,
     request: &Request<'_>,
-    input: &str,
-    output: &str,
+    input: &Input<'_>,
+    output: &Output<'_>,
     out: &mut BufferedSink<'_, K>,
 ) -> Result<Status, UsageFault>
     requires { failures_and_refused (K.failure_count out.old.device) out.old.refused ≡ 0 }
