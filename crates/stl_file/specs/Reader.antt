@@ -87,8 +87,7 @@ pub record Leads (from : ℕ) (bytes : List ℕ) (block : ℕ) (now : Option (Li
 
 -- ---- what a call takes
 
--- The bytes taken are the blocks of one subtitle, with the passed blocks before and inside them:
--- the last block is the subtitle's.
+-- The last of these blocks is no passed block, neither user data nor a comment; so there is one.
 abbrev pub EndsKept : List (List ℕ) → Type 0
 EndsKept [] = ⊥
 EndsKept (b ∷ []) = is_kept b ≡ true
