@@ -64,6 +64,7 @@ accepted_from national options file bytes a are =
       loads = given.1;
       carries = good.1;
       good = good.2;
+      complete = good.3;
       counts = checked.counts good.0 good.1;
     }
 
@@ -146,7 +147,13 @@ done-exactly national options file bytes (Err f) are other = (
       looked-of_status national (outcome_of file) is.1.programme f is.1.loads are.subtitles
       other in
       let fine = fine-of_status f other in
-      let ok = (checked.accepted looked fine).1 (is.1.frames, is.1.carries, is.1.good) in
+      let ok =
+      (checked.accepted looked fine).1 (
+        is.1.frames,
+        is.1.carries,
+        is.1.good,
+        is.1.complete,
+      ) in
       cc,
 )
 

@@ -99,6 +99,7 @@ check_place (check.Enhancement frame packet) = place.Packet frame packet
 check_place (check.NoFirstHeader frame) = place.Frame frame
 check_place (check.Content frame row column) = place.Cell frame row column
 check_place (check.Gap frame) = place.Frame frame
+check_place (check.Incomplete frame) = place.Frame frame
 check_place (check.Late frame) = place.Frame frame
 
 abbrev pub check_told : CheckFault → ToldValue

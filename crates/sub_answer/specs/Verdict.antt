@@ -1,5 +1,5 @@
 -- What a check of a subtitle file and a PES file answers by their bytes.
-use Rattle.std.specs.Prelude.{◌≡◌, ℕ, false, List, Option, Result, Ok, MatchResult}
+use Rattle.std.specs.Prelude.{◌≡◌, ℕ, false, List, Option, Result, Ok, MatchResult, IsTrue}
 use Rattle.stl_file.specs.Reader.{outcome_of}
 use Rattle.stl_rows.specs.declared.national.National.{National}
 use Rattle.stl_rows.specs.Loading.{loaded}
@@ -10,6 +10,7 @@ use Rattle.sub_check.specs.Checking.{is_subtitle_fault}
 use Rattle.sub_check.specs.FirstBroken.{NamesFirst}
 use Rattle.sub_check.specs.FrameRules.{Unread, task_of}
 use Rattle.sub_check.specs.Good.{Good}
+use Rattle.sub_check.specs.OnScreen.{Complete}
 use Rattle.sub_check.specs.PesFrames.{Carries}
 use Rattle.sub_check.specs.PesReading.{ReadsAs}
 use Rattle.sub_check.specs.Transmission.{Transmission}
@@ -17,7 +18,8 @@ use Rattle.sub_check.specs.declared.checker.Accepted.{Accepted}
 use Rattle.sub_check.specs.declared.fault.CheckFault.{CheckFault}
 
 -- The files are accepted: the subtitle file gives a programme, and the PES file carries a
--- transmission that is good for it, of so many frames and headers of the page.
+-- transmission that is good for it, of complete pages where these are asked for, and of so many
+-- frames and headers of the page.
 pub record IsAccepted
     (national : National) (options : OptionsValue) (file bytes : List ℕ) (a : Accepted)
     : Type 0 where
@@ -26,6 +28,7 @@ pub record IsAccepted
   pub loads : loaded national (outcome_of file) ≡ Ok programme
   pub carries : Carries options.origin bytes frames
   pub good : Good programme frames options
+  pub complete : IsTrue options.asks_complete → Complete frames options
   pub counts : HasCounts options.page frames a
 
 -- The PES file is refused: the subtitle file gives a programme, and the fault names the first place

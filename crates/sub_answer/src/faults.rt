@@ -167,6 +167,7 @@ fn place_of_check(fault: CheckFault) -> Place
         CheckFault::Early { frame }
         | CheckFault::NoFirstHeader { frame }
         | CheckFault::Gap { frame }
+        | CheckFault::Incomplete { frame }
         | CheckFault::Late { frame } => Place::Frame { frame },
         CheckFault::Address { frame, packet }
         | CheckFault::HeaderCode { frame, packet }

@@ -1,7 +1,7 @@
 -- What the steps show of the whole file decides the answer of `check`, `checked_from`; and what is
 -- told of both files that of `check_files`, `files_accepted`, `files_refused`.
 use Rattle.std.proofs.Common.{◌≡◌, ◌≢◌, ◌↔◌, ℕ, suc, List, [], ◌∷◌, Bool, Option, None, Result, Ok}
-use Rattle.std.proofs.Common.{Err, All, IsOk, IfOk, false, MatchResult, refl, sym, ap, ◌∙◌, subst}
+use Rattle.std.proofs.Common.{Err, All, IsOk, IfOk, IsTrue, false, MatchResult, refl, sym, ap, ◌∙◌, subst}
 use Rattle.std.proofs.Common.{arith, length, append-nil}
 use Rattle.std.proofs.lemmas.List.Elements.{All-from_recursion}
 use Rattle.std.specs.List.{AllZip, concat}
@@ -27,6 +27,7 @@ use Rattle.sub_check.specs.FrameRules.{Unread, task_of}
 use Rattle.sub_check.specs.Good.{Good}
 use Rattle.sub_check.specs.LostRows.{RobustToMarkedLoss}
 use Rattle.sub_check.specs.PacketRules.{header_count}
+use Rattle.sub_check.specs.OnScreen.{Complete, Shown}
 use Rattle.sub_check.specs.PesFrames.{Carries, IsSentAs}
 use Rattle.sub_check.specs.PesReading.{ReadsAs, pes_file_of}
 use Rattle.sub_check.specs.Planned.{planned}
@@ -36,12 +37,14 @@ use Rattle.sub_check.specs.Transmission.{SentFrame, Transmission}
 use Rattle.sub_check.specs.declared.checker.Accepted.{Accepted}
 use Rattle.sub_check.specs.declared.fault.CheckFault.{CheckFault}
 use Rattle.sub_check.specs.declared.fault.CheckFault.TheVariants as fault
+use Rattle.sub_check.proofs.CompleteLemmas.{complete_from}
 use Rattle.sub_check.proofs.ContentLemmas.{wrong_everywhere}
 use Rattle.sub_check.proofs.GoodLemmas.{Good-from_frames, first-same, last-same, whole-is}
 use Rattle.sub_check.proofs.PesFileLemmas.{carried_is_read}
 use Rattle.sub_check.proofs.PlacesOfGood.{GoodFrames-from_good}
 use Rattle.sub_check.proofs.PlaceLemmas.{Good-from_holds, refuted}
-use Rattle.sub_check.proofs.PlanLemmas.{law_of_plan}
+use Rattle.sub_check.proofs.OnScreenLemmas.{law_of_good_and_complete}
+use Rattle.sub_check.proofs.PlanLemmas.{law_of_complete_plan, law_of_plan}
 use Rattle.sub_check.proofs.PlanReading.{law_of_plan_read}
 use Rattle.sub_check.proofs.RecoveryLemmas.{law_of_good_and_recovery}
 use Rattle.sub_check.proofs.RobustLemmas.{law_of_good, law_of_good_and_marked_loss}
@@ -73,6 +76,18 @@ good_from programme options bytes unread frames a is accepts =
     (Good-from_holds (task_of programme options unread) frames is.least accepts.holds)
     (All-from_recursion (λ (s : SentFrame). All (λ packet. length packet ≡ 42) s.packets) frames
     accepts.whole)
+
+-- And of complete pages, where these are asked for.
+complete_of :
+    (programme : ProgrammeValue) (options : OptionsValue) (bytes : List ℕ) (unread : Option Unread)
+    (frames : Transmission) (a : Accepted)
+    → IsOptions options
+    → Accepts (task_of programme options unread) options.origin bytes frames a
+    → IsTrue options.asks_complete
+    → Complete frames options
+complete_of programme options bytes unread frames a is accepts asks =
+    let places = Good-from_holds (task_of programme options unread) frames is.least accepts.holds in
+    complete_from options frames places.rising places.some (λ i l. places.ended i l asks)
 
 -- Two lists that agree place by place are of one length.
 zip_length :
@@ -116,7 +131,8 @@ accepted_from :
     → IsOk result
     ↔ ((transmission : Transmission)
     × Carries options.origin bytes transmission
-    × Good programme transmission options)
+    × Good programme transmission options
+    × (IsTrue options.asks_complete → Complete transmission options))
 accepted_from programme options bytes (Ok a) is decides =
     let file = pes_file_of options.origin bytes in
     let accepts = decides file.frames file.unread refl in
@@ -125,6 +141,7 @@ accepted_from programme options bytes (Ok a) is decides =
         file.frames,
         carried_from programme options bytes file.unread file.frames a accepts good,
         good,
+        complete_of programme options bytes file.unread file.frames a is accepts,
       ),
       λ g. refl,
     )
@@ -133,7 +150,7 @@ accepted_from programme options bytes (Err f) is decides = (
   λ g.
       absurd (refuted (task_of programme options None) g.0 f
       (decides g.0 None (carried_is_read options.origin bytes g.0 g.1))
-      (GoodFrames-from_good programme options g.0 g.2)),
+      (GoodFrames-from_good programme options g.0 g.2 g.3)),
 )
 
 -- What is accepted is good, whatever transmission the bytes carry.
@@ -149,6 +166,21 @@ good_carried programme options bytes transmission (Ok a) is decides carries ok =
     good_from programme options bytes None transmission a is
     (decides refl transmission None (carried_is_read options.origin bytes transmission carries))
 good_carried programme options bytes transmission (Err f) is decides carries ok = cc
+
+-- And of complete pages, where these are asked for.
+complete_carried :
+    (programme : ProgrammeValue) (options : OptionsValue) (bytes : List ℕ)
+    (transmission : Transmission) (result : Result Accepted CheckFault)
+    → IsOptions options
+    → (is_source_failure result ≡ false → Decides programme options bytes result)
+    → Carries options.origin bytes transmission
+    → IsOk result
+    → IsTrue options.asks_complete
+    → Complete transmission options
+complete_carried programme options bytes transmission (Ok a) is decides carries ok =
+    complete_of programme options bytes None transmission a is
+    (decides refl transmission None (carried_is_read options.origin bytes transmission carries))
+complete_carried programme options bytes transmission (Err f) is decides carries ok = cc
 
 -- The counts of what is accepted.
 counts_from :
@@ -212,7 +244,8 @@ plan_accepted programme options serial (Err f) is p some decides =
     absurd (refuted (task_of programme options None) frames f
     (decides frames None (law_of_plan_read programme options serial p is))
     (GoodFrames-from_good programme options frames
-    (law_of_plan programme options serial p some is)))
+    (law_of_plan programme options serial p some is)
+    (λ asks. law_of_complete_plan programme options serial p some is)))
 
 -- What is told of a PES file, from what the steps show. For `check`.
 pub checked_from :
@@ -237,6 +270,10 @@ checked_from programme options bytes result is p decides failed = record {
   recovers = λ transmission carries ok.
       law_of_good_and_recovery programme transmission options
       (good_carried programme options bytes transmission result is decides carries ok);
+  shown = λ transmission carries ok asks.
+      law_of_good_and_complete programme transmission options
+      (good_carried programme options bytes transmission result is decides carries ok)
+      (complete_carried programme options bytes transmission result is decides carries ok asks);
   counts = λ transmission carries.
       counts_from programme options bytes transmission result decides carries;
   first = λ looked fine. first_from programme options bytes result (decides fine);
@@ -323,6 +360,7 @@ files_accepted national options stl pes programme answer loading given own looke
                     sent = good.1.sent;
                   },
                   subst (λ (p : ProgrammeValue). Good p good.0 options) of good.2,
+                  good.3,
                 ),
             λ g.
                 exactly.1 (
@@ -332,6 +370,7 @@ files_accepted national options stl pes programme answer loading given own looke
                       (same_programme _ programme (loaded national (outcome_of stl))
                       (loads national options.origin stl pes g.0 g.1 loading g.2) given)
                       g.3,
+                  g.4,
                 ),
           );
       robust = λ subtitles transmission mean ok.
@@ -352,6 +391,12 @@ files_accepted national options stl pes programme answer loading given own looke
           (loads national options.origin stl pes subtitles transmission loading mean))
           (checked.recovers transmission
           (carries_of national options.origin stl pes subtitles transmission mean) ok);
+      shown = λ subtitles transmission mean ok asks.
+          subst (λ (p : ProgrammeValue). Shown p transmission options)
+          (same_programme programme _ (loaded national (outcome_of stl)) given
+          (loads national options.origin stl pes subtitles transmission loading mean))
+          (checked.shown transmission
+          (carries_of national options.origin stl pes subtitles transmission mean) ok asks);
     }
 
 -- A fault of loading that is no failure is the file's own.
@@ -382,4 +427,5 @@ files_refused national options stl pes f loading told = record {
   robust = λ subtitles transmission mean ok. cc;
   robust_to_loss = λ subtitles transmission mean ok. cc;
   recovers = λ subtitles transmission mean ok. cc;
+  shown = λ subtitles transmission mean ok asks. cc;
 }

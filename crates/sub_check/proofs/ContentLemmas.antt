@@ -19,7 +19,8 @@ use Rattle.stl_rows.specs.Programme.{ProgrammeValue}
 use Rattle.sub_plan.specs.Options.{OptionsValue}
 use Rattle.sub_check.specs.FirstBroken.{IsFirst, NamesFirst, Place, unread_fault}
 use Rattle.sub_check.specs.FirstBroken.Place.{AtOrder, AtStart, AtGapCell, AtGap, AtPacket, AtFirst}
-use Rattle.sub_check.specs.FirstBroken.Place.{AtCell, AtFrame, AtUnread, AtNothing, AtEnd}
+use Rattle.sub_check.specs.FirstBroken.Place.{AtCell, AtFrame, AtOpen, AtUnread, AtNothing}
+use Rattle.sub_check.specs.FirstBroken.Place.{AtEnd}
 use Rattle.sub_check.specs.FirstBroken.{IsBefore, fault_at}
 use Rattle.sub_check.specs.FrameRules.{HasHeader, Shows, Task, Unread, frame_at, joined, packets_at}
 use Rattle.sub_check.specs.FrameRules.{task_of}
@@ -297,6 +298,7 @@ module _ (programme : ProgrammeValue) (options : OptionsValue) (unread : Option 
           let d : c ≡ column = cc in
           rw (← a, ← b, ← d) (wrong_cell i r c first)
       go (AtFrame i) e first = cc
+      go (AtOpen i) e first = cc
       go AtUnread e first = absurd (never_unread (length frames) f row column unread e)
       go AtNothing e first = cc
       go AtEnd e first = cc

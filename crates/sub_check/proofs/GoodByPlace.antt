@@ -15,6 +15,7 @@ use Rattle.ttx_page.specs.Page.{cell, IsCell}
 use Rattle.sub_check.specs.Transmission.{SentFrame, Transmission}
 use Rattle.sub_check.specs.Good.{IsSubtitleHeader, IsEnhancement}
 use Rattle.sub_check.specs.FrameRules.{Task, frame_at, packets_at, joined, end_frame, HasHeader}
+use Rattle.sub_check.specs.FrameRules.{IsEnded}
 
 -- The packets of frames g to f, joined, without the first j of those in frame g.
 abbrev pub air : Transmission → ℕ → ℕ → ℕ → List (List ℕ)
@@ -35,7 +36,8 @@ pub record IsFair (w : Watched) (packets : List (List ℕ)) : Type 0 where
       packets
   pub plain : AllByRecursion (λ p. IsEnhancement w.page p → ⊥) packets
 
--- The seven rules, by places of the list of frames.
+-- The seven rules, and that pages are complete where this is asked, by places of the list of
+-- frames.
 pub record GoodFrames (g : Task) (frames : Transmission) : Type 0 where
   -- 1: frames rise, there is one, and they hold all subtitles
   pub rising : (i : ℕ) → 0 < i → i < length frames → frame_at frames (i - 1) < frame_at frames i
@@ -69,3 +71,5 @@ pub record GoodFrames (g : Task) (frames : Transmission) : Type 0 where
   pub shows : (f row column : ℕ) → frame_at frames 0 ≤ f → f ≤ end_frame frames → IsCell row column
       → shown g.watched.page (air frames (frame_at frames 0) 0 f) row column ≡ cell (g.due f) row
       column
+  -- and where complete pages are asked for, the page is open at the end of no frame of the list
+  pub ended : (i : ℕ) → i < length frames → IsEnded g frames (i + 1)

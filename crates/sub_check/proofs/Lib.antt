@@ -26,6 +26,7 @@ pub mod GoodByPlace
 pub mod PrefixLemmas
 pub mod PlaceLemmas
 pub mod GoodLemmas
+pub mod CompleteLemmas
 pub mod PlacesOfGood
 pub mod PesReadingLemmas
 pub mod JudgeLemmas

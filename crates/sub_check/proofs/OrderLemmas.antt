@@ -8,12 +8,13 @@ use Rattle.sub_check.specs.Transmission.{Transmission}
 use Rattle.sub_check.specs.declared.packet_rules.PacketRule.{PacketRule}
 use Rattle.sub_check.specs.PacketRules.{KeepsRule, BreaksFirstAt, rank}
 use Rattle.sub_check.specs.FrameRules.{Task, Unread, frame_at, packets_at, joined, end_frame}
-use Rattle.sub_check.specs.FrameRules.{HasHeader, Shows, IsCovered}
+use Rattle.sub_check.specs.FrameRules.{HasHeader, Shows, IsCovered, IsEnded}
 use Rattle.sub_check.specs.FirstBroken.{IsBefore, IsInGap, Holds, HoldsBefore}
 use Rattle.sub_check.specs.FirstBroken.{HoldsEverywhere, NamesFirst, packet_fault, unread_fault}
 use Rattle.sub_check.specs.Following.{Keeps, OrderOk, GapOk, PacketsOk, EndOk, FrameOk}
 use Rattle.sub_check.specs.FirstBroken.Place.{AtOrder, AtStart, AtGapCell, AtGap, AtPacket, AtFirst}
-use Rattle.sub_check.specs.FirstBroken.Place.{AtCell, AtFrame, AtUnread, AtNothing, AtEnd}
+use Rattle.sub_check.specs.FirstBroken.Place.{AtCell, AtFrame, AtOpen, AtUnread, AtNothing}
+use Rattle.sub_check.specs.FirstBroken.Place.{AtEnd}
 use Rattle.sub_check.specs.declared.fault.CheckFault.TheVariants as fault
 
 -- ---- one key before another
@@ -58,6 +59,7 @@ record Here (g : Task) (frames : Transmission) (n q : ℕ) (tail : List ℕ) : T
   pub cell : 3 ≡ q → (row column : ℕ) → IsBefore (1 ∷ row ∷ column ∷ []) tail
       → Keeps g frames (AtCell n row column)
   pub frame : 3 ≡ q → IsBefore (2 ∷ []) tail → Keeps g frames (AtFrame n)
+  pub ended : 3 ≡ q → IsBefore (3 ∷ []) tail → Keeps g frames (AtOpen n)
 
 -- There is no gap before the first frame of the list.
 pub gap_of_none : (g : Task) (frames : Transmission) → GapOk g frames 0
@@ -123,6 +125,11 @@ module _ (g : Task) (frames : Transmission) (n : ℕ) (past : (j : ℕ) → j < 
       | sooner e l ↦ subst (λ j. Keeps g frames (AtFrame j)) (sym e) (end l).covered
       | here e h r ↦ subst (λ j. Keeps g frames (AtFrame j)) (sym e) (local.frame h r)
     ]
+    upto q tail order gap packets end local (AtOpen i) b = elim (split i n 3 q (3 ∷ []) tail b) [
+      | earlier l ↦ (past i l).end.ended
+      | sooner e l ↦ subst (λ j. Keeps g frames (AtOpen j)) (sym e) (end l).ended
+      | here e h r ↦ subst (λ j. Keeps g frames (AtOpen j)) (sym e) (local.ended h r)
+    ]
     upto q tail order gap packets end local AtUnread (inl l) = absurd (omega arith)
     upto q tail order gap packets end local AtUnread (inr r) = absurd (omega arith)
     upto q tail order gap packets end local AtNothing (inl l) = absurd (omega arith)
@@ -152,6 +159,7 @@ module _ (g : Task) (frames : Transmission) (n : ℕ) (past : (j : ℕ) → j < 
               first = λ e. absurd (omega arith);
               cell = λ e. absurd (omega arith);
               frame = λ e. absurd (omega arith);
+              ended = λ e. absurd (omega arith);
             });
       },
     )
@@ -187,6 +195,7 @@ module _ (g : Task) (frames : Transmission) (n : ℕ) (past : (j : ℕ) → j < 
               first = λ e. absurd (omega arith);
               cell = λ e. absurd (omega arith);
               frame = λ e. absurd (omega arith);
+              ended = λ e. absurd (omega arith);
             });
       },
     )
@@ -233,6 +242,7 @@ module _ (g : Task) (frames : Transmission) (n : ℕ) (past : (j : ℕ) → j < 
               first = λ e. absurd (omega arith);
               cell = λ e. absurd (omega arith);
               frame = λ e. absurd (omega arith);
+              ended = λ e. absurd (omega arith);
             });
       },
     )
@@ -269,6 +279,7 @@ module _ (g : Task) (frames : Transmission) (n : ℕ) (past : (j : ℕ) → j < 
               first = λ e. absurd (omega arith);
               cell = λ e. absurd (omega arith);
               frame = λ e. absurd (omega arith);
+              ended = λ e. absurd (omega arith);
             });
       },
     )
@@ -307,6 +318,7 @@ module _ (g : Task) (frames : Transmission) (n : ℕ) (past : (j : ℕ) → j < 
               first = λ e f b t. head (sym f);
               cell = λ e. cell_of;
               frame = λ e. frame_of;
+              ended = λ e. open_of;
             });
       },
     )
@@ -322,6 +334,10 @@ module _ (g : Task) (frames : Transmission) (n : ℕ) (past : (j : ℕ) → j < 
         frame_of : IsBefore (2 ∷ []) (1 ∷ row ∷ column ∷ []) → Keeps g frames (AtFrame n)
         frame_of (inl l) = absurd (omega arith)
         frame_of (inr m) = absurd (omega arith)
+
+        open_of : IsBefore (3 ∷ []) (1 ∷ row ∷ column ∷ []) → Keeps g frames (AtOpen n)
+        open_of (inl l) = absurd (omega arith)
+        open_of (inr m) = absurd (omega arith)
 
     -- Gap, at the end of a frame of the list.
     pub first_frame : n < length frames → OrderOk g frames n → GapOk g frames n
@@ -346,6 +362,36 @@ module _ (g : Task) (frames : Transmission) (n : ℕ) (past : (j : ℕ) → j < 
               first = λ e f b t. head (sym f);
               cell = λ e r c b t. shows r c t.1;
               frame = λ e b. absurd (let l = one_before 2 2 [] b in omega arith);
+              ended = λ e b. absurd (let l = one_before 3 2 [] b in omega arith);
+            });
+      },
+    )
+
+    -- Incomplete, at the end of a frame of the list.
+    pub first_open : n < length frames → OrderOk g frames n → GapOk g frames n
+        → PacketsOk g frames n → (n ≡ 0 → HasHeader g frames 0)
+        → ((r c : ℕ) → IsCell r c → Shows g frames (n + 1) (frame_at frames n) r c)
+        → IsCovered g frames (n + 1) (frame_at frames n)
+        → (IsEnded g frames (n + 1) → ⊥)
+        → NamesFirst g frames (fault.Incomplete (frame_at frames n))
+    first_open there order gap packets head shows covered broken = (
+      AtOpen n,
+      refl,
+      record {
+        there = there;
+        broken = broken;
+        earlier =
+            upto 3 (3 ∷ []) (λ l. order) (λ l. gap) (λ l. packets) (λ l. absurd (omega arith))
+            (record {
+              order = λ e. absurd (omega arith);
+              start = λ e. absurd (omega arith);
+              gap_cell = λ e. absurd (omega arith);
+              gap = λ e. absurd (omega arith);
+              packet = λ e. absurd (omega arith);
+              first = λ e f b t. head (sym f);
+              cell = λ e r c b t. shows r c t.1;
+              frame = λ e b t. covered;
+              ended = λ e b. absurd (let l = one_before 3 3 [] b in omega arith);
             });
       },
     )
@@ -371,6 +417,7 @@ first_early g frames some broken = (
           first = λ e. absurd (omega arith);
           cell = λ e. absurd (omega arith);
           frame = λ e. absurd (omega arith);
+          ended = λ e. absurd (omega arith);
         });
   },
 )
@@ -396,6 +443,7 @@ first_header_missing g frames some order packets broken = (
           first = λ e f b. absurd (let l = one_before 0 0 [] b in omega arith);
           cell = λ e r c b. absurd (later r c b);
           frame = λ e b. absurd (let l = one_before 2 0 [] b in omega arith);
+          ended = λ e b. absurd (let l = one_before 3 0 [] b in omega arith);
         });
   },
 )
@@ -418,6 +466,7 @@ first_nothing g frames ended none =
     nowhere AtFirst b t = absurd (omega (arith, t))
     nowhere (AtCell i r c) b t = absurd (omega (arith, t.0))
     nowhere (AtFrame i) b t = absurd (omega (arith, t))
+    nowhere (AtOpen i) b t = absurd (omega (arith, t))
     nowhere AtUnread b t = ended
     nowhere AtNothing (inl l) t = absurd (omega (arith, l))
     nowhere AtNothing (inr (e, inl l)) t = absurd (omega (arith, l))
@@ -451,6 +500,7 @@ holds_before g frames n past (AtPacket i k f) b t =
 holds_before g frames n past AtFirst b t = (past 0 (frame_before 0 n b)).end.first refl t
 holds_before g frames n past (AtCell i r c) b t = (past i (frame_before i n b)).end.cells r c t
 holds_before g frames n past (AtFrame i) b t = (past i (frame_before i n b)).end.covered t
+holds_before g frames n past (AtOpen i) b t = (past i (frame_before i n b)).end.ended t
 holds_before g frames n past AtUnread b t = absurd (not_before b)
 holds_before g frames n past AtNothing b t = absurd (not_before b)
 holds_before g frames n past AtEnd b t = absurd (not_before b)
@@ -474,6 +524,7 @@ first_unread g frames past u is = (
     earlier_of AtFirst b t = (past 0 t).end.first refl t
     earlier_of (AtCell i r c) b t = (past i t.0).end.cells r c t
     earlier_of (AtFrame i) b t = (past i t).end.covered t
+    earlier_of (AtOpen i) b t = (past i t).end.ended t
     earlier_of AtUnread b t = absurd (let l = one_more b in omega arith)
     earlier_of AtNothing b t = absurd (let l = one_more b in omega arith)
     earlier_of AtEnd b t = absurd (let l = one_more b in omega arith)
@@ -490,6 +541,7 @@ holds_but_end g frames ended past some end (AtPacket i k f) t = (past i t.0).pac
 holds_but_end g frames ended past some end AtFirst t = (past 0 t).end.first refl t
 holds_but_end g frames ended past some end (AtCell i r c) t = (past i t.0).end.cells r c t
 holds_but_end g frames ended past some end (AtFrame i) t = (past i t).end.covered t
+holds_but_end g frames ended past some end (AtOpen i) t = (past i t).end.ended t
 holds_but_end g frames ended past some end AtUnread t = ended
 holds_but_end g frames ended past some end AtNothing t = some
 holds_but_end g frames ended past some end AtEnd t = end t
@@ -510,6 +562,7 @@ first_late g frames ended past some broken =
     earlier_of AtFirst b t = (past 0 t).end.first refl t
     earlier_of (AtCell i r c) b t = (past i t.0).end.cells r c t
     earlier_of (AtFrame i) b t = (past i t).end.covered t
+    earlier_of (AtOpen i) b t = (past i t).end.ended t
     earlier_of AtUnread b t = ended
     earlier_of AtNothing b t = some
     earlier_of AtEnd (inl l) t = absurd (omega arith)

@@ -27,7 +27,8 @@ use Rattle.sub_check.specs.FrameRules.{Shows, IsCovered}
 use Rattle.sub_check.specs.declared.fault.CheckFault.{CheckFault}
 use Rattle.sub_check.specs.FirstBroken.{HoldsEverywhere, NamesFirst}
 use Rattle.sub_check.specs.FirstBroken.Place.{AtOrder, AtStart, AtGapCell, AtGap, AtPacket, AtFirst}
-use Rattle.sub_check.specs.FirstBroken.Place.{AtCell, AtFrame, AtUnread, AtNothing, AtEnd}
+use Rattle.sub_check.specs.FirstBroken.Place.{AtCell, AtFrame, AtOpen, AtUnread, AtNothing}
+use Rattle.sub_check.specs.FirstBroken.Place.{AtEnd}
 use Rattle.sub_check.proofs.GoodByPlace.{GoodFrames, IsFair, air, whole}
 use Rattle.sub_check.proofs.PacketLists.{Each-push, Each-map, Each-join}
 use Rattle.sub_check.proofs.ListeningLemmas.{span_shut, span_ends, span_open}
@@ -254,6 +255,7 @@ module _ (g : Task) (t : Transmission) (some_frames : 0 < g.every) (h : HoldsEve
     starts = h AtFirst some;
     repeats = repeats_at;
     shows = shows_at;
+    ended = λ i l. h (AtOpen i) l;
   }
 
 -- ---- the law, the other way
@@ -378,6 +380,7 @@ module _ (g : Task) (t : Transmission) (h : GoodFrames g t) where
   Holds-from_good (AtFrame i) l =
       covered_at (i + 1) (frame_at t i) (last_at_least i l)
       (λ j a b. rises_strictly t h.rising i j (omega arith) b)
+  Holds-from_good (AtOpen i) l = h.ended i l
   Holds-from_good AtUnread there = h.complete
   Holds-from_good AtNothing there = h.some
   Holds-from_good AtEnd there = h.ends

@@ -1,4 +1,5 @@
 -- A good transmission is good by places, the other way round: `GoodFrames-from_good`.
+use Rattle.std.proofs.Common.{IsTrue}
 use Rattle.std.proofs.Common.{◌≡◌, ℕ, suc, ◌+◌, ◌-◌, ◌<◌, ◌≤◌, inl, inr, Bool, true, false, cond}
 use Rattle.std.proofs.Common.{◌&&◌, ◌||◌, nat_le, nat_lt, List, [], ◌∷◌, ◌++◌, Option, Some, None}
 use Rattle.std.proofs.Common.{length, take, All, refl, sym, ap, ◌∙◌, subst, arith, IfSome, ◌⊎◌}
@@ -21,6 +22,8 @@ use Rattle.sub_check.specs.Transmission.{last_frame, packets_of}
 use Rattle.stl_rows.specs.Programme.{ProgrammeValue, first_in, last_out}
 use Rattle.sub_plan.specs.Options.{OptionsValue}
 use Rattle.sub_check.specs.Good.{IsSubtitleHeader, IsEnhancement, Good, IsCleanSpan}
+use Rattle.sub_check.specs.OnScreen.{Complete}
+use Rattle.sub_check.proofs.CompleteLemmas.{ended_at}
 use Rattle.sub_check.proofs.GoodByPlace.{GoodFrames, IsFair, air, whole}
 use Rattle.sub_check.proofs.PacketLists.{Each-map}
 use Rattle.sub_check.proofs.ShownLemmas.{joined_more}
@@ -180,9 +183,12 @@ module _ (programme : ProgrammeValue) (options : OptionsValue) (t : Transmission
       let s = sent_any (watched_of programme options) t r.0 r.3 in
       (s.0, s.1, omega (arith, s.2, r.1), omega (arith, s.2, r.2), s.3)
 
-  -- A good transmission is good by places.
-  pub GoodFrames-from_good : GoodFrames (task_of programme options None) t
-  GoodFrames-from_good = record {
+  -- A good transmission is good by places, and so is one of complete pages where these are asked
+  -- for.
+  pub GoodFrames-from_good :
+      (IsTrue options.asks_complete → Complete t options)
+      → GoodFrames (task_of programme options None) t
+  GoodFrames-from_good complete = record {
     complete = refl;
     rising = rising_back;
     some = some_back;
@@ -217,4 +223,5 @@ module _ (programme : ProgrammeValue) (options : OptionsValue) (t : Transmission
     shows = λ f row column low high is. let first = first-same t in let last = last-same t in
         ap (λ xs. shown options.page xs row column) (sym (air-both t f))
         ∙ h.content f row column (omega arith) (omega arith) is;
+    ended = λ i l asks. ended_at options t rising_back (complete asks) i l;
   }

@@ -1,10 +1,10 @@
 -- What the page shows, and how long ago a header was.
 use Rattle.std.proofs.Common.{Option, Some, None, ◌≡◌, ℕ, ◌+◌, ◌-◌, ◌<◌, ◌≤◌, inl, inr, Bool, true}
 use Rattle.std.proofs.Common.{false, List, [], ◌∷◌, ◌++◌, find, option_map, unwrap_or, length}
-use Rattle.std.proofs.Common.{get_or, take, refl, sym, ap, ◌∙◌, subst, arith}
+use Rattle.std.proofs.Common.{get_or, take, refl, sym, ap, ◌∙◌, subst, arith, ◌&&◌, true≢false}
 use Rattle.std.specs.List.{list_any, flat_map}
 use Rattle.std.proofs.lemmas.List.{get_or-replicate, flat_map_more, take_more, get_or-map}
-use Rattle.std.proofs.lemmas.Bool.{cases_eq}
+use Rattle.std.proofs.lemmas.Bool.{cases_eq, and_parts}
 use Rattle.ttx_packet.specs.Parity.{code_of}
 use Rattle.ttx_packet.specs.PacketAddress.{IsPacket}
 use Rattle.stl_file.specs.Subtitle.{SubtitleValue}
@@ -17,15 +17,15 @@ use Rattle.sub_check.proofs.CodesLemmas.{code_at}
 use Rattle.sub_check.specs.declared.packet_rules.Watched.{Watched}
 use Rattle.ttx_page.specs.declared.packet_kind.PacketKind.TheVariants.{Row}
 use Rattle.ttx_page.specs.PacketKind.{kind, is_row}
-use Rattle.ttx_page.specs.Page.{Rows, cell, space, IsCell, DiffersFirst, Rows}
-use Rattle.ttx_page.specs.Span.{span}
+use Rattle.ttx_page.specs.Page.{cell, space, IsCell, DiffersFirst, Rows}
+use Rattle.ttx_page.specs.Span.{span, is_open_after}
 use Rattle.ttx_page.specs.Shown.{shown}
 use Rattle.sub_check.specs.Transmission.{SentFrame, Transmission}
 use Rattle.sub_check.specs.declared.listener.Listener.{Listener}
 use Rattle.stl_rows.specs.Programme.{ProgrammeValue}
 use Rattle.sub_check.specs.Listening.{Knows, HoldsRows, IsSoundRow}
 use Rattle.sub_check.specs.FrameRules.{Task, frame_at, packets_at, joined, HasHeader, Shows}
-use Rattle.sub_check.specs.FrameRules.{IsCovered}
+use Rattle.sub_check.specs.FrameRules.{IsCovered, IsEnded}
 use Rattle.sub_plan.specs.Schedule.{due_in}
 use Rattle.sub_check.specs.Following.{IsTaskOf, HeaderIs}
 use Rattle.sub_check.proofs.PacketLists.{Each-find, Each-join, find_none, row_kind}
@@ -99,6 +99,31 @@ pub Knows-drawn : (heard : List (List ℕ)) (s : Listener) (due : Rows) → Know
     → Knows heard (record s { comparison = record s.comparison { due = due } })
 Knows-drawn heard s due k =
     record { serial_is = k.serial_is; open_is = k.open_is; rows_are = k.rows_are }
+
+-- ---- complete pages
+
+module _ (g : Task) (frames : Transmission) (n : ℕ) (s : Listener)
+    (knows : Knows (joined frames n) s) (watched_is : s.watched ≡ g.watched) where
+  -- The page that is kept is open where the packets leave it open.
+  left_open :
+      (s.watched.complete && s.is_open)
+      ≡ (g.watched.complete && is_open_after (kind g.watched.page) (joined frames n))
+  left_open =
+      ap (λ b. s.watched.complete && b) knows.open_is
+      ∙ ap (λ (w : Watched). w.complete && is_open_after (kind w.page) (joined frames n)) watched_is
+
+  -- Where it is not open, the page is ended.
+  pub ended_from : (s.watched.complete && s.is_open) ≡ false → IsEnded g frames n
+  ended_from e asks =
+      ap (λ b. b && is_open_after (kind g.watched.page) (joined frames n)) (sym asks)
+      ∙ sym left_open
+      ∙ e
+
+  -- And where it is open it is not.
+  pub ended_not : (s.watched.complete && s.is_open) ≡ true → IsEnded g frames n → ⊥
+  ended_not e ended =
+      let parts = and_parts g.watched.complete _ (sym left_open ∙ e) in
+      true≢false (sym parts.1 ∙ ended parts.0)
 
 -- ---- headers
 

@@ -111,9 +111,13 @@ task_is p options unread every e =
 -- What is watched, from what was read. For `judge`.
 pub watched_is :
     (p : ProgrammeValue) (options : OptionsValue) (page : PageIdValue) (national : National)
+    → (complete : Bool)
     → page ≡ options.page
     → national ≡ p.national
-    → watched_of p options ≡ record { page = page; national = national }
-watched_is p options page national e f =
-    let made : PageIdValue → National → Watched = λ x y. record { page = x; national = y } in
-    ap₂ made (sym e) (sym f)
+    → complete ≡ options.asks_complete
+    → watched_of p options ≡ record { page = page; national = national; complete = complete }
+watched_is p options page national complete e f h =
+    let made : PageIdValue → National → Bool → Watched =
+    λ x y z. record { page = x; national = y; complete = z } in
+    ap₂ (λ x y. made x y options.asks_complete) (sym e) (sym f)
+    ∙ ap (made page national) (sym h)

@@ -1,6 +1,6 @@
 -- What the checker tells of the bytes of a subtitle file and a PES file.
 use Rattle.std.specs.Prelude.{◌≡◌, ◌≢◌, ◌↔◌, ℕ, List, [], Bool, false, true, Option, All, IsOk}
-use Rattle.std.specs.Prelude.{Result, Ok, Err, IfOk, IfErr}
+use Rattle.std.specs.Prelude.{Result, Ok, Err, IfOk, IfErr, IsTrue}
 use Rattle.sub_io.specs.Reading.{IfTold}
 use Rattle.ttx_pes.specs.PesPacket.{PesValue}
 use Rattle.ttx_pes.specs.declared.fault.PesFault.TheVariants.{Read}
@@ -19,6 +19,7 @@ use Rattle.sub_check.specs.FirstBroken.{IsReadUpTo, NamesFirst}
 use Rattle.sub_check.specs.FrameRules.{task_of}
 use Rattle.sub_check.specs.Good.{Good}
 use Rattle.sub_check.specs.LostRows.{RobustToMarkedLoss}
+use Rattle.sub_check.specs.OnScreen.{Complete, Shown}
 use Rattle.sub_check.specs.PesFrames.{AreSentAs, Carries, IsPesFile}
 use Rattle.sub_check.specs.PesReading.{pes_file_of}
 use Rattle.sub_check.specs.Recovery.{Recovers}
@@ -53,15 +54,17 @@ pub record AreAccepted
     (national : National) (options : OptionsValue) (stl pes : List ℕ)
     (answer : Result Accepted CheckFault)
     : Type 0 where
-  -- They are accepted exactly where they mean some subtitles and a good transmission of these, but
-  -- for sources that failed and memory that was refused.
+  -- They are accepted exactly where they mean some subtitles and a good transmission of these, of
+  -- complete pages where the options ask for them, but for sources that failed and memory that was
+  -- refused.
   pub accepted :
       is_failure answer ≡ false
       → IsOk answer
       ↔ ((subtitles : List SubtitleValue)
       × (transmission : Transmission)
       × Mean national options.origin stl pes subtitles transmission
-      × Good (record { national = national; records = subtitles }) transmission options)
+      × Good (record { national = national; records = subtitles }) transmission options
+      × (IsTrue options.asks_complete → Complete transmission options))
   -- What is accepted is robust.
   pub robust :
       (subtitles : List SubtitleValue) (transmission : Transmission)
@@ -81,6 +84,14 @@ pub record AreAccepted
       → Mean national options.origin stl pes subtitles transmission
       → IsOk answer
       → Recovers (record { national = national; records = subtitles }) transmission options
+  -- Where complete pages are asked for, what is accepted is shown by every receiver that waits for
+  -- a page's end.
+  pub shown :
+      (subtitles : List SubtitleValue) (transmission : Transmission)
+      → Mean national options.origin stl pes subtitles transmission
+      → IsOk answer
+      → IsTrue options.asks_complete
+      → Shown (record { national = national; records = subtitles }) transmission options
 
 -- ---- a PES file, against a programme
 
@@ -91,14 +102,16 @@ pub record IsChecked
     (answer : Result Accepted CheckFault)
     : Type 0 where
   -- Failing devices and want of memory aside, they are accepted exactly where they are a PES file
-  -- that carries a good transmission of the programme.
+  -- that carries a good transmission of the programme, of complete pages where the options ask for
+  -- them.
   pub accepted :
       is_subtitle_refusal answer ≡ false
       → is_source_failure answer ≡ false
       → IsOk answer
       ↔ ((transmission : Transmission)
       × Carries options.origin bytes transmission
-      × Good programme transmission options)
+      × Good programme transmission options
+      × (IsTrue options.asks_complete → Complete transmission options))
   -- What is accepted is robust.
   pub robust :
       (transmission : Transmission)
@@ -117,6 +130,14 @@ pub record IsChecked
       → Carries options.origin bytes transmission
       → IsOk answer
       → Recovers programme transmission options
+  -- Where complete pages are asked for, what is accepted is shown by every receiver that waits for
+  -- a page's end.
+  pub shown :
+      (transmission : Transmission)
+      → Carries options.origin bytes transmission
+      → IsOk answer
+      → IsTrue options.asks_complete
+      → Shown programme transmission options
   -- The counts of what is accepted are those of the transmission.
   pub counts :
       (transmission : Transmission)

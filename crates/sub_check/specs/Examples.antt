@@ -1,6 +1,6 @@
 -- Transmissions of page 888 in full, byte by byte: a good one, for each part of a rule one that
 -- breaks that rule alone, and for each rule that the headline needs one that is not robust.
-use Rattle.std.specs.Prelude.{ℕ, List, [], ◌∷◌, ◌++◌, replicate, take}
+use Rattle.std.specs.Prelude.{ℕ, false, List, [], ◌∷◌, ◌++◌, replicate, take}
 use Rattle.ttx_packet.specs.PageId.{PageIdValue}
 use Rattle.stl_rows.specs.declared.national.National.TheVariants.{English, German}
 use Rattle.stl_rows.specs.Programme.{ProgrammeValue}
@@ -92,7 +92,7 @@ two_frames first second =
 
 -- Page 888, a repeat bound, and PTS 0 at frame 0.
 abbrev pub each : ℕ → OptionsValue
-each every = record { page = page_888; every = every; origin = 0 }
+each every = record { page = page_888; every = every; origin = 0; asks_complete = false }
 
 -- Frame 900000 with this header and the closing header.
 abbrev pub one_header : List ℕ → Transmission

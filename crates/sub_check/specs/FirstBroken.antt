@@ -5,7 +5,7 @@ use Rattle.std.specs.Prelude.{None, length, take}
 use Rattle.std.specs.Prelude.{slice_index_or}
 use Rattle.ttx_page.specs.Page.{IsCell}
 use Rattle.sub_check.specs.FrameRules.{Task, Unread, frame_at, packets_at, joined, end_frame}
-use Rattle.sub_check.specs.FrameRules.{HasHeader, Shows, IsCovered}
+use Rattle.sub_check.specs.FrameRules.{HasHeader, Shows, IsCovered, IsEnded}
 use Rattle.sub_check.specs.FrameRules.Unread.{BadPacket, NoFrame}
 use Rattle.sub_check.specs.PacketRules.{KeepsRule, rank}
 use Rattle.sub_check.specs.Transmission.{Transmission}
@@ -35,6 +35,8 @@ pub data Place : Type 0 where
   AtCell : ℕ → ℕ → ℕ → Place
   -- The end of frame i of the list (73, Gap).
   AtFrame : ℕ → Place
+  -- The end of frame i of the list (77, Incomplete).
+  AtOpen : ℕ → Place
   -- What follows the last frame of the list (30 to 40, 44, and 61, OffFrame).
   AtUnread : Place
   -- The end of a list with no frame (60, Empty).
@@ -54,6 +56,7 @@ key (AtPacket i k rule) = 0 ∷ i ∷ 2 ∷ k ∷ rank rule ∷ []
 key AtFirst = 0 ∷ 0 ∷ 3 ∷ 0 ∷ []
 key (AtCell i row column) = 0 ∷ i ∷ 3 ∷ 1 ∷ row ∷ column ∷ []
 key (AtFrame i) = 0 ∷ i ∷ 3 ∷ 2 ∷ []
+key (AtOpen i) = 0 ∷ i ∷ 3 ∷ 3 ∷ []
 key AtUnread = 1 ∷ 0 ∷ []
 key AtNothing = 1 ∷ 1 ∷ []
 key AtEnd = 1 ∷ 2 ∷ []
@@ -79,6 +82,7 @@ IsThere frames (AtPacket i k rule) = (i < length frames) × (k < length (packets
 IsThere frames AtFirst = 0 < length frames
 IsThere frames (AtCell i row column) = (i < length frames) × IsCell row column
 IsThere frames (AtFrame i) = i < length frames
+IsThere frames (AtOpen i) = i < length frames
 IsThere frames AtUnread = Unit {0}
 IsThere frames AtNothing = Unit {0}
 IsThere frames AtEnd = 0 < length frames
@@ -103,6 +107,8 @@ Holds g frames AtFirst = HasHeader g frames 0
 Holds g frames (AtCell i row column) = Shows g frames (i + 1) (frame_at frames i) row column
 -- A header of the page is not too long ago.
 Holds g frames (AtFrame i) = IsCovered g frames (i + 1) (frame_at frames i)
+-- The page is not open, where complete pages are asked for.
+Holds g frames (AtOpen i) = IsEnded g frames (i + 1)
 -- Nothing follows but the end of the PES file.
 Holds g frames AtUnread = g.unread ≡ None
 -- There is a frame.
@@ -156,6 +162,7 @@ fault_at g frames (AtPacket i k rule) = packet_fault rule (frame_at frames i) k
 fault_at g frames AtFirst = fault.NoFirstHeader (frame_at frames 0)
 fault_at g frames (AtCell i row column) = fault.Content (frame_at frames i) row column
 fault_at g frames (AtFrame i) = fault.Gap (frame_at frames i)
+fault_at g frames (AtOpen i) = fault.Incomplete (frame_at frames i)
 fault_at g frames AtUnread = unread_fault (length frames) g.unread
 fault_at g frames AtNothing = fault.Empty
 fault_at g frames AtEnd = fault.Late (end_frame frames)

@@ -10,7 +10,7 @@ use Rattle.sub_plan.specs.Schedule.{due_in}
 use Rattle.sub_check.specs.PacketRules.{header_count}
 use Rattle.sub_check.specs.FirstBroken.{Place, IsThere, Holds}
 use Rattle.sub_check.specs.FirstBroken.Place.{AtOrder, AtStart, AtGapCell, AtGap, AtPacket, AtFirst}
-use Rattle.sub_check.specs.FirstBroken.Place.{AtCell, AtFrame}
+use Rattle.sub_check.specs.FirstBroken.Place.{AtCell, AtFrame, AtOpen}
 
 -- Where the transmission has the place, what is asked there holds.
 abbrev pub Keeps : Task → Transmission → Place → Type 0
@@ -35,6 +35,7 @@ pub record EndOk (g : Task) (frames : Transmission) (i : ℕ) : Type 0 where
   pub first : i ≡ 0 → Keeps g frames AtFirst
   pub cells : (row column : ℕ) → Keeps g frames (AtCell i row column)
   pub covered : Keeps g frames (AtFrame i)
+  pub ended : Keeps g frames (AtOpen i)
 
 -- All that is asked of frame i of the list.
 pub record FrameOk (g : Task) (frames : Transmission) (i : ℕ) : Type 0 where

@@ -1,12 +1,12 @@
 -- What is asked at the end of each frame, in terms of the first frames of a transmission and of a
 -- task: what the transmission is checked against.
 use Rattle.std.specs.Prelude.{◌≡◌, ℕ, ◌+◌, ◌-◌, ◌<◌, ◌⊎◌, true, List, [], Option, map, take}
-use Rattle.std.specs.Prelude.{length}
+use Rattle.std.specs.Prelude.{length, IsTrue, IsFalse}
 use Rattle.std.specs.Prelude.{slice_index, slice_index_or, flat_map}
 use Rattle.ttx_page.specs.Page.{Rows, cell}
 use Rattle.ttx_page.specs.PacketKind.{kind}
 use Rattle.ttx_page.specs.Shown.{shown}
-use Rattle.ttx_page.specs.Span.{holds_header}
+use Rattle.ttx_page.specs.Span.{holds_header, is_open_after}
 use Rattle.ttx_pes.specs.declared.fault.PesFault.{PesFault}
 use Rattle.stl_rows.specs.Programme.{ProgrammeValue, first_in, last_out}
 use Rattle.sub_plan.specs.Options.{OptionsValue}
@@ -31,9 +31,14 @@ pub record Task : Type 0 where
   pub last_out : Option ℕ
   pub unread : Option Unread
 
--- The page and the national option that a programme is watched with.
+-- The page and the national option that a programme is watched with, and whether complete pages
+-- are asked for.
 abbrev pub watched_of : ProgrammeValue → OptionsValue → Watched
-watched_of programme options = record { page = options.page; national = programme.national }
+watched_of programme options = record {
+  page = options.page;
+  national = programme.national;
+  complete = options.asks_complete;
+}
 
 -- The task of a programme and options.
 abbrev pub task_of : ProgrammeValue → OptionsValue → Option Unread → Task
@@ -77,3 +82,9 @@ abbrev pub IsCovered : Task → Transmission → ℕ → ℕ → Type 0
 IsCovered g frames n f =
     (f + 1 < frame_at frames 0 + g.every)
     ⊎ ((j : ℕ) × (j < n) × (f < frame_at frames j + g.every) × HasHeader g frames j)
+
+-- Where complete pages are asked for, the page is not open after n frames of the list.
+abbrev pub IsEnded : Task → Transmission → ℕ → Type 0
+IsEnded g frames n =
+    IsTrue g.watched.complete
+    → IsFalse (is_open_after (kind g.watched.page) (joined frames n))

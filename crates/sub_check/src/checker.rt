@@ -97,7 +97,8 @@ fn finish(programme: &Programme, first: u32, checker: &Checker) -> Result<Accept
 }
 
 /// Checks a PES file against a programme: it is accepted exactly where it carries a good
-/// transmission of it, and a refusal names the first place where what is asked is broken.
+/// transmission of it, of complete pages if the options ask for them, and a refusal names the first
+/// place where what is asked is broken.
 ///
 /// It reads one PES packet at a time and takes no memory: beside numbers it keeps one PES packet,
 /// one page, the page that is due, and a mark for each row sent since the last header of the page.
@@ -107,8 +108,9 @@ fn finish(programme: &Programme, first: u32, checker: &Checker) -> Result<Accept
 ///
 /// For each PES packet in turn: its own fault as `Pes`, `OffFrame`, `Order`; `Early` for the first;
 /// at each frame before it `Content`, then `Gap`; its packets in order, `Address` to `Enhancement`;
-/// `NoFirstHeader` for the first; `Content`, `Gap`. At the end `Empty` or `Late`. `Pes` with `Read`
-/// where the source failed in this call, and only there.
+/// `NoFirstHeader` for the first; `Content`, `Gap`, and where complete pages are asked for
+/// `Incomplete`. At the end `Empty` or `Late`. `Pes` with `Read` where the source failed in this
+/// call, and only there.
 pub fn check<S: Source>(
     programme: &Programme,
     source: &mut S,
@@ -157,6 +159,7 @@ fn judge<S: Source>(
     let watched = Watched {
         page: options.page(),
         national: programme.national(),
+        complete: options.asks_complete(),
     };
     let mut reader = PesReader::new();
     let mut packet = PesFrame::new(0);

@@ -105,6 +105,12 @@ pub enum CheckFault {
         /// The last of these frames.
         frame: u32,
     },
+    /// Complete pages are asked for, and the page is open at the end of a frame: no header after
+    /// its last one has ended it.
+    Incomplete {
+        /// The frame.
+        frame: u32,
+    },
     /// The last TCO is after the last frame.
     Late {
         /// The last frame.
@@ -153,6 +159,7 @@ impl CheckFault {
             CheckFault::NoFirstHeader { .. } => (71, "NoFirstHeader"),
             CheckFault::Content { .. } => (72, "Content"),
             CheckFault::Gap { .. } => (73, "Gap"),
+            CheckFault::Incomplete { .. } => (77, "Incomplete"),
             CheckFault::Late { .. } => (74, "Late"),
         }
     }

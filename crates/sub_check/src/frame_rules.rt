@@ -132,6 +132,9 @@ impl Checker {
         if frame - self.header_at >= every {
             return Err(CheckFault::Gap { frame });
         }
+        if self.listener.is_incomplete() {
+            return Err(CheckFault::Incomplete { frame });
+        }
         Ok(())
     }
 
@@ -206,6 +209,9 @@ impl Checker {
         }
         if let Some((row, column)) = listener.first_wrong() {
             return Err(CheckFault::Content { frame, row, column });
+        }
+        if listener.is_incomplete() {
+            return Err(CheckFault::Incomplete { frame });
         }
         Ok(Checker {
             listener,

@@ -1,7 +1,7 @@
 //! What is kept of the packets that were heard, and the rule that the next packet breaks.
 ghost use Rattle.std.specs.Prelude.{◌≡◌, ℕ, ◌+◌, ◌-◌, ◌<◌, ◌≤◌, ◌++◌, List, [], ◌∷◌, MatchOption};
 ghost use Rattle.std.specs.Prelude.{MatchResult, IfOk, length, true, false, replicate, slice_set};
-ghost use Rattle.std.specs.Prelude.{if◌then◌else◌};
+ghost use Rattle.std.specs.Prelude.{if◌then◌else◌, ◌&&◌};
 ghost use Rattle.ttx_packet.specs.PageHeader.{header};
 ghost use Rattle.ttx_page.specs.Page.{AreCodes, DiffersFirst, IsCell, IsPage, blank, cell};
 ghost use Rattle.ttx_page.specs.PacketKind.{is_this_page, kind};
@@ -62,6 +62,13 @@ impl Listener {
         } }
     {
         self.comparison.draw(due);
+    }
+
+    /// Whether complete pages are asked for, and the page is open.
+    pub fn is_incomplete(&self) -> bool
+        ensures { result ≡ (self.now.watched.complete && self.now.is_open) }
+    {
+        self.watched.complete && self.is_open
     }
 
     /// The first rule that a packet of this kind, with this page header, breaks which comes now.

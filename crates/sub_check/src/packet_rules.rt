@@ -36,7 +36,8 @@ pub enum PacketRule {
     Enhancement,
 }
 
-/// The page that is watched, and the national option that its headers have.
+/// The page that is watched, the national option that its headers have, and whether complete pages
+/// are asked for.
 ///
 /// `check` makes it of the options and the programme; its contract names it.
 #[derive(Clone, Copy)]
@@ -45,6 +46,8 @@ pub struct Watched {
     pub page: PageId,
     /// Its national option.
     pub national: National,
+    /// Whether complete pages are asked for.
+    pub complete: bool,
 }
 
 // Whether a packet is X/0.

@@ -1,13 +1,14 @@
 -- The options of a schedule.
-use Rattle.std.specs.Prelude.{ℕ, ◌<◌, ◌≤◌, ◌^◌}
+use Rattle.std.specs.Prelude.{ℕ, ◌<◌, ◌≤◌, ◌^◌, Bool}
 use Rattle.ttx_packet.specs.PageId.{PageIdValue}
 
--- What options are to their callers: the page that is sent, the repeat bound in frames, and the PTS
--- of frame 0.
+-- What options are to their callers: the page that is sent, the repeat bound in frames, the PTS of
+-- frame 0, and whether complete pages are asked for, each ended by a header after its own.
 pub record OptionsValue : Type 0 where
   pub page : PageIdValue
   pub every : ℕ
   pub origin : ℕ
+  pub asks_complete : Bool
 
 -- A magazine 0 to 7, and a page number other than FF. So the closing header, page FF, is never one
 -- of the page.

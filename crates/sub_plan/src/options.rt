@@ -1,5 +1,5 @@
 //! The options of a schedule: the page, the repeat bound, and the PTS of frame 0.
-ghost use Rattle.std.specs.Prelude.{◌≡◌, ℕ, ◌^◌, ◌<◌, ◌≤◌, ◌↔◌, ◌⊎◌, Some, Err, IfOk};
+ghost use Rattle.std.specs.Prelude.{◌≡◌, ℕ, ◌^◌, ◌<◌, ◌≤◌, ◌↔◌, ◌⊎◌, Some, Err, IfOk, false, true};
 ghost use Rattle.sub_plan.specs.FrameTime.{frames_of_day, pts_of};
 ghost use Rattle.sub_plan.specs.declared.fault.OptionFault.TheVariants.{Every, Origin};
 
@@ -19,14 +19,16 @@ const FRAMES_OF_DAY: u64 = 2_160_000;
 /// The greatest repeat bound, in frames: a minute (own).
 const MOST_EVERY: u64 = 1500;
 
-/// The page on which subtitles are sent, how often they are repeated, and the PTS of frame 0.
+/// The page on which subtitles are sent, how often they are repeated, the PTS of frame 0, and
+/// whether complete pages are asked for.
 ///
-/// Contracts see the three as an `OptionsValue`.
+/// Contracts see the four as an `OptionsValue`.
 #[derive(Clone, Copy, Debug, PartialEq, Eq)]
 pub struct Options {
     page: PageId,
     every: u64,
     origin: u64,
+    asks_complete: bool,
 }
 
 impl Model for Options {
@@ -34,18 +36,33 @@ impl Model for Options {
 
     ghost Value = { OptionsValue };
 
-    ghost view = { λ o. record { page = o.page; every = o.every; origin = o.origin } };
+    ghost view = { λ o. record {
+      page = o.page;
+      every = o.every;
+      origin = o.origin;
+      asks_complete = o.asks_complete;
+    } };
 
-    ghost invariant = { λ o. IsOptions
-        (record { page = o.page; every = o.every; origin = o.origin }) };
+    ghost invariant = { λ o. IsOptions (record {
+      page = o.page;
+      every = o.every;
+      origin = o.origin;
+      asks_complete = o.asks_complete;
+    }) };
 
-    ghost inverse = { λ v. record { page = v.page; every = v.every; origin = v.origin } };
+    ghost inverse = { λ v. record {
+      page = v.page;
+      every = v.every;
+      origin = v.origin;
+      asks_complete = v.asks_complete;
+    } };
 }
 
 impl Options {
     ghost use Rattle.sub_plan.specs.Options.{IsOptions};
 
-    /// The options of a page, a repeat bound and the PTS of frame 0.
+    /// The options of a page, a repeat bound and the PTS of frame 0. They don't ask for complete
+    /// pages.
     ///
     /// `every` is in frames, 1 to 1500: in that many frames the page's header is sent at least once
     /// (own). `origin` is in ticks of 90 kHz, below 2^33 (EN 300 472, PTS).
@@ -55,7 +72,12 @@ impl Options {
     /// `Every` for another repeat bound, then `Origin` for another origin.
     pub fn new(page: PageId, every: u64, origin: u64) -> Result<Options, OptionFault>
         ensures value { IfOk result
-            (λ o. o ≡ record { page = page; every = every; origin = origin }) }
+            (λ o. o ≡ record {
+              page = page;
+              every = every;
+              origin = origin;
+              asks_complete = false;
+            }) }
         ensures options { IfOk result IsOptions }
         ensures every { (result ≡ Err Every) ↔ ((every < 1) ⊎ (1500 < every)) }
         ensures origin { (result ≡ Err Origin)
@@ -73,7 +95,26 @@ impl Options {
             page,
             every,
             origin,
+            asks_complete: false,
         })
+    }
+
+    /// The same options, which also ask for complete pages: at the end of each frame a header after
+    /// the last one of the page has ended it. Decoders show a page only then (own).
+    pub fn asking_complete(self) -> Options
+        ensures { result ≡ record self { asks_complete = true } }
+    {
+        Options {
+            asks_complete: true,
+            ..self
+        }
+    }
+
+    /// Whether complete pages are asked for.
+    pub fn asks_complete(&self) -> bool
+        ensures value { result ≡ self.now.asks_complete }
+    {
+        self.asks_complete
     }
 
     /// The page that is sent.

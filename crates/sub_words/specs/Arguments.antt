@@ -1,6 +1,6 @@
 -- How the arguments of a command are read (own).
 use Rattle.std.specs.Prelude.{ℕ, ◌^◌, ◌-◌, Bool, ◌&&◌, List, [], Option, Some, None, Result, Ok}
-use Rattle.std.specs.Prelude.{codes, nat_le, ok_or, unwrap_or, if◌then◌else◌}
+use Rattle.std.specs.Prelude.{codes, false, nat_le, ok_or, unwrap_or, if◌then◌else◌}
 use Rattle.std.specs.Str.{bytes_eq}
 use Rattle.clap.specs.Words.{Row, Text, first_of}
 use Rattle.sub_io.specs.Reading.{◌>>=◌}
@@ -34,7 +34,7 @@ abbrev pub options_with : PageIdValue → Option ℕ → Option ℕ → Result O
 options_with page every origin = do
   every ← ok_or (within 1 1500 every) fault.Every
   origin ← ok_or (within 0 (2 ^ 33 - 1) origin) fault.Origin
-  Ok (record { page = page; every = every; origin = origin })
+  Ok (record { page = page; every = every; origin = origin; asks_complete = false })
 
 -- The page of `--page P`.
 abbrev pub page_of : List Row → Result PageIdValue UsageFault

@@ -36,8 +36,8 @@ returns-in_err-checker-clause-exact g c = λ frames unread bytes told reads fine
     rw (p.1, p.2)
     (c.in_err-checker.ensures.exact (task_of c.args.programme.now c.args.options.now unread) frames
     (task_is c.args.programme.now c.args.options.now unread _ c.every-every.ensures.value)
-    (watched_is c.args.programme.now c.args.options.now _ _ c.page.ensures.value
-    c.national.ensures.value)
+    (watched_is c.args.programme.now c.args.options.now _ _ _ c.page.ensures.value
+    c.national.ensures.value c.asks_complete.ensures.value)
     (subst (λ (us : List UnitValue). IsSentFrame frames 0 c.in-Some.first (packets_of_units us))
     (sym c.units.ensures.value)
     (first_sent c.args.programme.now c.args.options.now frames unread bytes
@@ -75,8 +75,8 @@ loop-pes-init g c =
           (c.in_ok-checker.ensures.exact
           (task_of c.args.programme.now c.args.options.now unread) frames
           (task_is c.args.programme.now c.args.options.now unread _ c.every-every.ensures.value)
-          (watched_is c.args.programme.now c.args.options.now _ _ c.page.ensures.value
-          c.national.ensures.value)
+          (watched_is c.args.programme.now c.args.options.now _ _ _ c.page.ensures.value
+          c.national.ensures.value c.asks_complete.ensures.value)
           (subst (λ (us : List UnitValue). IsSentFrame frames 0 c.in-Some.first
           (packets_of_units us))
           (sym c.units.ensures.value)

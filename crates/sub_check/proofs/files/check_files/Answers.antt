@@ -18,6 +18,7 @@ returns-in-Err-clause-checked g c = λ file told. record {
     robust = λ transmission carries ok. cc;
     robust_to_loss = λ transmission carries ok. cc;
     recovers = λ transmission carries ok. cc;
+    shown = λ transmission carries ok asks. cc;
     counts = λ transmission carries. tt;
     first = λ looked fine. cc;
     failed = λ pes is. cc;

@@ -5,9 +5,9 @@ use Rattle.sub_check.specs.FrameRules.{frame_at, HasHeader}
 use Rattle.sub_check.specs.FirstBroken.{NamesFirst}
 use Rattle.sub_check.specs.Following.{OrderOk, HeaderIs}
 use Rattle.sub_check.proofs.OrderLemmas.{first_early, first_packet, first_header_missing}
-use Rattle.sub_check.proofs.OrderLemmas.{first_cell, gap_of_none}
+use Rattle.sub_check.proofs.OrderLemmas.{first_cell, first_open, gap_of_none}
 use Rattle.sub_check.proofs.ShownLemmas.{shows_from, shows_not, covered_from}
-use Rattle.sub_check.proofs.ShownLemmas.{HeaderIs-some}
+use Rattle.sub_check.proofs.ShownLemmas.{HeaderIs-some, ended_from, ended_not}
 use Rattle.sub_check.proofs.TakingLemmas.{Taken-from, fault_moved, past_more}
 use Rattle.sub_check.specs.declared.fault.CheckFault.TheVariants as fault
 use Rattle.sub_check.proofs.ShownLemmas.{cells_above}
@@ -110,6 +110,45 @@ returns-in-Some-clause-exact c g frames task watched is =
     c.in-Some.row k (d.is_cell.0, d.is_cell.1, omega (arith, d.is_cell.2))
     (d.cells_before k l)))
 
+pub returns-then-is_incomplete-clause-exact : goal.returns-then-is_incomplete-clause-exact
+returns-then-is_incomplete-clause-exact c g frames task watched is =
+    let p = c.args.programme.now in
+    let e = is.frame_is in
+    let same = is.packets_are in
+    let both =
+    c.in-Ok.ensures.knows []
+    c.new-listener.ensures.knows in
+    let order : OrderOk g frames 0 =
+    record {
+      order = λ t. absurd (omega (arith, t.0));
+      start = λ z t first f. let l =
+          c.is_in_time.ensures.0 c.if-not-is_in_time.false first
+          (c.first_in.ensures.value ∙ sym task.first_is ∙ f) in omega arith;
+    } in
+    let taken =
+    Taken-from g frames 0 c.any_header-found.result c.in-Ok.headers c.hear_all.new.self _ _
+    is.there same (c.new-listener.ensures.watched ∙ sym watched) c.in-Ok.ensures.watched
+    c.any_header-found.ensures c.in-Ok.ensures.headers _
+    (length-map c.args.units.now (λ (u : UnitValue). u.packet)) both.0 both.1 in
+    let head : HasHeader g frames 0 = taken.header ∙ c.if-not-found.false in
+    let f : ℕ = frame_at frames 0 in
+    let s = c.hear_all.new.self in
+    let due =
+    c.in-Ok.ensures.due ∙ c.new-listener.ensures.due ∙ c.due_page.ensures.value in
+    let d = rw (due, ← is.frame_is) at c.in_default.ensures in
+    let rising : (j : ℕ) → j < 1
+    → frame_at frames j ≤ f = λ j l. let z : frame_at frames j ≡ f =
+    ap (frame_at frames) (omega arith) in omega arith in
+    let h : HeaderIs g frames 1 f = HeaderIs-some g frames 0 head rising in
+    subst (λ x. NamesFirst g frames (fault.Incomplete x)) is.frame_is
+    (first_open g frames 0 (λ j l. absurd (omega arith)) is.there order (gap_of_none g frames)
+    taken.packets (λ z. head)
+    (λ r k at. shows_from g p c.args.every task frames 1 f s taken.knows taken.watched_is r k at
+    (d r k at))
+    (covered_from g frames 1 f f c.args.every h task.every_is (omega arith) (omega arith))
+    (ended_not g frames 1 s taken.knows taken.watched_is
+    (sym c.is_incomplete.ensures ∙ c.if-is_incomplete.true)))
+
 pub returns-clause-exact : goal.returns-clause-exact
 returns-clause-exact c g frames task watched is =
     let p = c.args.programme.now in
@@ -166,6 +205,8 @@ returns-clause-exact c g frames task watched is =
           covered =
               λ t. covered_from g frames 1 f f c.args.every h task.every_is (omega arith)
               (omega arith);
+          ended = λ t. ended_from g frames 1 s taken.knows taken.watched_is
+              (sym c.is_incomplete.ensures ∙ c.if-is_incomplete.false);
         };
       });
     }

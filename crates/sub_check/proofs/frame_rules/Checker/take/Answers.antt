@@ -5,9 +5,9 @@ use Rattle.sub_check.specs.FrameRules.{frame_at, joined}
 use Rattle.sub_check.specs.FirstBroken.{NamesFirst}
 use Rattle.sub_check.specs.Listening.{Knows}
 use Rattle.sub_check.specs.Following.{HeaderIs}
-use Rattle.sub_check.proofs.OrderLemmas.{first_packet, first_cell, first_frame}
+use Rattle.sub_check.proofs.OrderLemmas.{first_packet, first_cell, first_frame, first_open}
 use Rattle.sub_check.proofs.ShownLemmas.{shows_from, shows_not, covered_from, covered_not}
-use Rattle.sub_check.proofs.ShownLemmas.{Knows-drawn}
+use Rattle.sub_check.proofs.ShownLemmas.{Knows-drawn, ended_from, ended_not}
 use Rattle.sub_check.proofs.TakingLemmas.{Taken-from, HeaderIs-more, rising_more, fault_moved}
 use Rattle.sub_check.proofs.TakingLemmas.{past_more}
 use Rattle.sub_check.specs.declared.fault.CheckFault.TheVariants as fault
@@ -105,6 +105,47 @@ returns-then-frame-self-clause-exact c g frames n task follows is order gap =
     (covered_not g frames (n + 1) c.later_header-self.result f c.args.every h' task.every_is at_le
     (omega arith)))
 
+pub returns-then-is_incomplete-clause-exact : goal.returns-then-is_incomplete-clause-exact
+returns-then-is_incomplete-clause-exact c g frames n task follows is order gap =
+    let p = c.args.programme.now in
+    let same = is.packets_are in
+    let both =
+    c.in-Ok.ensures.knows (joined frames n)
+    (subst (Knows (joined frames n)) (sym c.advance.ensures.listener)
+    (Knows-drawn (joined frames n) c.args.self.now.listener _ follows.knows)) in
+    let taken =
+    Taken-from g frames n c.any_header-found.result c.in-Ok.headers c.hear_all.new.self _ _
+    is.there same
+    (ap (λ (x : Listener). x.watched) c.advance.ensures.listener ∙ follows.watched_is)
+    c.in-Ok.ensures.watched c.any_header-found.ensures c.in-Ok.ensures.headers _
+    (length-map c.args.units.now (λ (u : UnitValue). u.packet)) both.0 both.1 in
+    let f : ℕ = frame_at frames n in
+    let s = c.hear_all.new.self in
+    let some = follows.some in
+    let frame = is.frame_is in
+    let due = ap (λ (x : Listener). x.comparison.due) c.advance.ensures.listener in
+    let d = rw (c.in-Ok.ensures.due, due, ← is.frame_is) at c.in_default.ensures in
+    let rising =
+    rising_more frames n c.args.self.now.frame c.args.frame follows.rising (omega arith)
+    is.frame_is in
+    let before : HeaderIs g frames n c.advance.new.self.header_at =
+    subst (λ x. HeaderIs g frames n x) (sym c.advance.ensures.header_at) follows.header in
+    let h = HeaderIs-more g frames n c.advance.new.self.header_at c.args.frame
+    c.any_header-found.result before is.frame_is taken.header rising in
+    let h' : HeaderIs g frames (n + 1) c.later_header-self.result =
+    subst (λ x. HeaderIs g frames (n + 1) x) (sym c.later_header-self.ensures) h in
+    let at_le : c.later_header-self.result ≤ f = let r = rising h'.found.0 h'.found.1 in
+    let e = h'.found.2 in omega arith in
+    subst (λ x. NamesFirst g frames (fault.Incomplete x)) is.frame_is
+    (first_open g frames n follows.past is.there order gap taken.packets
+    (λ z. absurd (omega arith))
+    (λ r k at. shows_from g p c.args.every task frames (n + 1) f s taken.knows taken.watched_is r k
+    at (d r k at))
+    (covered_from g frames (n + 1) c.later_header-self.result f c.args.every h' task.every_is at_le
+    (omega arith))
+    (ended_not g frames (n + 1) s taken.knows taken.watched_is
+    (sym c.is_incomplete.ensures ∙ c.if-is_incomplete.true)))
+
 pub returns-clause-exact : goal.returns-clause-exact
 returns-clause-exact c g frames n task follows is order gap =
     let p = c.args.programme.now in
@@ -160,6 +201,8 @@ returns-clause-exact c g frames n task follows is order gap =
           covered =
               λ t. covered_from g frames (n + 1) c.later_header-self.result f c.args.every h'
               task.every_is at_le (omega arith);
+          ended = λ t. ended_from g frames (n + 1) s taken.knows taken.watched_is
+              (sym c.is_incomplete.ensures ∙ c.if-is_incomplete.false);
         };
       });
     }

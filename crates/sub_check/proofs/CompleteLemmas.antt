@@ -1,0 +1,83 @@
+-- Complete pages, by frames of the day and by frames of the list: `complete_from`, `ended_at`.
+use Rattle.std.proofs.Common.{◌≡◌, ℕ, ◌+◌, ◌-◌, ◌<◌, inl, inr, Bool, true, false, ◌&&◌, List}
+use Rattle.std.proofs.Common.{length}
+use Rattle.std.proofs.Common.{sym, ap, ◌∙◌, arith}
+use Rattle.std.proofs.lemmas.Bool.{cases_Bool}
+use Rattle.ttx_page.specs.PacketKind.{kind}
+use Rattle.ttx_page.specs.Span.{holds_header, is_open_after, is_unended}
+use Rattle.sub_plan.specs.Options.{OptionsValue}
+use Rattle.sub_check.specs.FrameRules.{frame_at, joined}
+use Rattle.sub_check.specs.OnScreen.{Complete}
+use Rattle.sub_check.specs.Transmission.{Transmission, on_air_until}
+use Rattle.sub_check.proofs.GoodLemmas.{air-both, first-same, last-same}
+use Rattle.sub_check.proofs.PrefixLemmas.{air_is, locate, rises_strictly, rises_to}
+
+module _ (options : OptionsValue) (t : Transmission)
+    (rising : (i : ℕ) → 0 < i → i < length t → frame_at t (i - 1) < frame_at t i) where
+  -- The page is open after these packets.
+  abbrev is_open : List (List ℕ) → Bool
+  is_open packets = is_open_after (kind options.page) packets
+
+  -- At the end of frame i of the list all its packets so far are on air.
+  on_air_at : (i : ℕ) → i < length t → on_air_until t (frame_at t i) ≡ joined t (i + 1)
+  on_air_at i l =
+      let low = rises_to t rising 0 i (omega arith) l in
+      let back : frame_at t (i + 1 - 1) ≡ frame_at t i = ap (frame_at t) (omega arith) in
+      air-both t (frame_at t i)
+      ∙ air_is t rising (i + 1) (frame_at t i) (omega arith) (omega arith) (omega arith)
+      (λ m. rises_strictly t rising i (i + 1) (omega arith) m)
+
+  -- A page that is not open, and of which a header was sent, is ended.
+  ended_of :
+      (packets : List (List ℕ))
+      → is_open packets ≡ false
+      → holds_header (kind options.page) packets ≡ true
+      → is_unended (kind options.page) packets ≡ false
+  ended_of packets shut holds =
+      ap (λ b. b && is_unended (kind options.page) packets) (sym holds) ∙ shut
+
+  -- Where the page is open at the end of no frame of the list, pages are complete.
+  pub complete_from :
+      0 < length t
+      → ((i : ℕ) → i < length t → is_open (joined t (i + 1)) ≡ false)
+      → Complete t options
+  complete_from some ended f low high holds =
+      let first = first-same t in
+      let last = last-same t in
+      elim (locate t rising (length t - 1) f (omega (arith, some)) (omega arith) (omega arith)) [
+        | inl (i, l, e) ↦
+            let on : on_air_until t f ≡ joined t (i + 1) =
+            ap (on_air_until t) (sym e) ∙ on_air_at i l in
+            ap (is_unended (kind options.page)) on
+            ∙ ended_of (joined t (i + 1)) (ended i l)
+            (ap (holds_header (kind options.page)) (sym on) ∙ holds)
+        | inr (i, gap) ↦
+            let on : on_air_until t f ≡ joined t i =
+            air-both t f
+            ∙ air_is t rising i f gap.0 (omega (arith, gap.1)) (omega (arith, gap.2))
+            (λ m. gap.3) in
+            let same : i - 1 + 1 ≡ i = omega (arith, gap.0) in
+            let shut : is_open (joined t i) ≡ false =
+            ap (λ n. is_open (joined t n)) (sym same) ∙ ended (i - 1) (omega (arith, gap.1)) in
+            ap (is_unended (kind options.page)) on
+            ∙ ended_of (joined t i) shut
+            (ap (holds_header (kind options.page)) (sym on) ∙ holds)
+      ]
+
+  -- And the other way round.
+  pub ended_at :
+      Complete t options → (i : ℕ) → i < length t → is_open (joined t (i + 1)) ≡ false
+  ended_at complete i l =
+      elim (cases_Bool (holds_header (kind options.page) (joined t (i + 1)))) [
+        | inl holds ↦
+            let on = on_air_at i l in
+            let first = first-same t in
+            let last = last-same t in
+            let low = rises_to t rising 0 i (omega arith) l in
+            let high = rises_to t rising i (length t - 1) (omega arith) (omega arith) in
+            ap (λ b. b && is_unended (kind options.page) (joined t (i + 1))) holds
+            ∙ ap (is_unended (kind options.page)) (sym on)
+            ∙ complete (frame_at t i) (omega arith) (omega arith)
+            (ap (holds_header (kind options.page)) on ∙ holds)
+        | inr none ↦ ap (λ b. b && is_unended (kind options.page) (joined t (i + 1))) none
+      ]
