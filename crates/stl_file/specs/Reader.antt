@@ -129,8 +129,8 @@ pub record Refuses (from to : ℕ) (old new : Option (List ℕ)) (f : StlFault) 
       → joined bs ≡ bytes ++ more
       → ⊥
 
--- What bytes give names this block or one after it, in each subtitle and in the fault at the end. The
--- end of the file inside a subtitle names the last whole block, so one less.
+-- What bytes give names this block or one after it, in each subtitle and in the fault at the end.
+-- The end of the file inside a subtitle names the last whole block, so one less.
 abbrev pub NamesFrom : ℕ → Outcome → Type 0
 NamesFrom block ends = ⊤
 NamesFrom block (fails fault.Unfinished at) = block ≤ at + 1

@@ -13,7 +13,8 @@ use Rattle.stl_file.specs.Fault.{is_read}
 use Rattle.stl_file.specs.Subtitle.{SubtitleValue}
 use Rattle.stl_file.specs.SubtitleBlocks.{joined}
 use Rattle.stl_file.specs.Reading.{Outcome, ends, fails, gives}
-use Rattle.stl_file.specs.Reader.{FailsReading, NamesFrom, ReaderValue, TakesSubtitle, block_of_byte}
+use Rattle.stl_file.specs.Reader.{FailsReading, NamesFrom, ReaderValue, TakesSubtitle}
+use Rattle.stl_file.specs.Reader.{block_of_byte}
 use Rattle.stl_file.specs.Reader.{outcome_from, outcome_in, outcome_left, outcome_of}
 use Rattle.stl_file.proofs.BlockLists.{length-joined}
 use Rattle.stl_rows.specs.declared.national.National.{National}
@@ -172,7 +173,8 @@ pub fails-next : (national : National) (start old new : Option (List ℕ))
 fails-next national start old new records reader at block taken reading goes failed place =
     record {
       bytes = taken.bytes ++ failed.bytes;
-      consumed = Consumes-trans start old new taken.bytes failed.bytes taken.consumed failed.consumed;
+      consumed =
+          Consumes-trans start old new taken.bytes failed.bytes taken.consumed failed.consumed;
       block_is = place ∙ block-is taken.bytes failed.bytes reader.block at taken.long failed.block;
       none = λ all told fault e.
           let here = goes all told in

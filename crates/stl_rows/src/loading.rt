@@ -1,7 +1,8 @@
 //! Loading a subtitle file as a programme.
 
 ghost use Rattle.std.specs.Prelude.{◌≡◌, ◌≢◌, ◌+◌, ◌<◌, ◌≤◌, [], ◌∷◌, ◌++◌, if◌then◌else◌};
-ghost use Rattle.std.specs.Prelude.{Err, IfErr, IfOk, IfSome, Ok, OnOk, true, vec_capacity, vec_len};
+ghost use Rattle.std.specs.Prelude.{Err, IfErr, IfOk, IfSome, Ok, OnOk, true, vec_capacity};
+ghost use Rattle.std.specs.Prelude.{vec_len};
 ghost use Rattle.sub_io.specs.Device.{CanFail};
 ghost use Rattle.sub_io.specs.Reading.{IfTold};
 ghost use Rattle.stl_file.specs.declared.fault.StlFault.TheVariants.{Ended};
@@ -30,7 +31,8 @@ use sub_io::Source;
 /// The first fault by block. At block 0 the faults of the GSI block; at each TTI block the file's
 /// own, `File`; at a subtitle's last block `OutOfOrder`, `Overlap`, the fault of `draw` as `Row`,
 /// and then `Memory` where the memory for it was refused. `File` with `Read` where the source
-/// failed, at the block of the byte that was asked for: a fault that was found before is told instead.
+/// failed, at the block of the byte that was asked for: a fault that was found before is told
+/// instead.
 pub fn load<S: Source>(
     alloc: Global,
     source: &mut S,

@@ -1,6 +1,7 @@
 -- Bytes that a buffer holds before those of the device inside; main lemmas: held-split,
 -- held-moved.
-use Rattle.std.proofs.Common.{◌≡◌, ℕ, ◌+◌, ◌-◌, ◌≤◌, List, [], ◌++◌, length, take, drop, slice_range}
+use Rattle.std.proofs.Common.{◌≡◌, ℕ, ◌+◌, ◌-◌, ◌≤◌, List, [], ◌++◌, length, take, drop}
+use Rattle.std.proofs.Common.{slice_range}
 use Rattle.std.proofs.Common.{Option, Result, sym, ap, ◌∙◌, arith, drop-drop, length-drop}
 use Rattle.std.proofs.KnownBytes.{append_known-moved, prepend_known-nil}
 use Rattle.std.proofs.lemmas.List.Edits.{take-paste}

@@ -1,6 +1,7 @@
 //! A device of which one call fails, for tests of what its users do then.
 
-ghost use Rattle.std.specs.Prelude.{◌≡◌, ◌+◌, ◌<◌, ◌≤◌, length, Some, IfOk, IsErr, OnOk, false, true};
+ghost use Rattle.std.specs.Prelude.{◌≡◌, ◌+◌, ◌<◌, ◌≤◌, length, Some, IfOk, IsErr, OnOk};
+ghost use Rattle.std.specs.Prelude.{false, true};
 ghost use Rattle.std.specs.Io.{ReadsAtMost};
 ghost use Rattle.std.specs.Io.KnownBytes.{Keeps};
 ghost use Rattle.sub_io.specs.Countdown.{CountingDown, failures_with, fails_next, left_after};

@@ -13,7 +13,8 @@ pub returns-in_err-got-clause-failed : goal.returns-in_err-got-clause-failed
 returns-in_err-got-clause-failed g c = λ _.
     let e = c.in_err-got.ensures.err in
     fails_reading c.args.block.now c.loop-got.block _ _ _ c.loop-got.begun e.0
-    c.loop-got.invariant.read c.loop-got.invariant.few (let l = e.1 in let s = c.fill.auto.to in omega arith) e.2
+    c.loop-got.invariant.read c.loop-got.invariant.few
+    (let l = e.1 in let s = c.fill.auto.to in omega arith) e.2
 
 pub returns-in-None-clause-exact : goal.returns-in-None-clause-exact
 returns-in-None-clause-exact g c = λ bytes told _.

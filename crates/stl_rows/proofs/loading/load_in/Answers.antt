@@ -20,7 +20,8 @@ returns-in-Err-clause-fault g c =
 
 pub returns-in-Err-clause-read : goal.returns-in-Err-clause-read
 returns-in-Err-clause-read g c = λ is.
-    fails-opening c.args.national _ _ (c.in-Err.ensures.failed (is_read-kind ReaderValue c.in-Err.fault is))
+    fails-opening c.args.national _ _
+    (c.in-Err.ensures.failed (is_read-kind ReaderValue c.in-Err.fault is))
 
 pub subtitles-init : goal.subtitles-init
 subtitles-init g c = record {
@@ -51,7 +52,8 @@ returns-in-Err-next-clause-read g c = λ is.
     let i = c.subtitles.invariant in
     fails-next c.args.national _ _ _ c.subtitles.subtitles.items c.subtitles.reader
     c.next.new.self.block c.block-block.result i.taken i.reading i.told
-    (c.in-Err-next.ensures.failed i.reading (is_read-kind (Option SubtitleValue) c.in-Err-next.fault is))
+    (c.in-Err-next.ensures.failed i.reading
+    (is_read-kind (Option SubtitleValue) c.in-Err-next.fault is))
     c.block-block.ensures.value
 
 pub returns-in-Ok-None-clause-exact : goal.returns-in-Ok-None-clause-exact

@@ -12,7 +12,8 @@ invariant-subtitles g l = record {
   programme : IsProgramme l.national l.subtitles.items;
   reading : l.reader.progress ≡ Reading;
   count : g.S.Source.failure_count l.source ≡ g.S.Source.failure_count l.fn.source;
-  taken : HasTaken (g.S.Source.remaining l.fn.source) (g.S.Source.remaining l.source) l.reader.block;
+  taken : HasTaken (g.S.Source.remaining l.fn.source) (g.S.Source.remaining l.source)
+      l.reader.block;
   told : (bytes : List ℕ) → g.S.Source.remaining l.fn.source ≡ Some bytes
       → (rest : List ℕ) × (g.S.Source.remaining l.source ≡ Some rest)
       × GoesOn l.national (outcome_of bytes) (outcome_left l.reader rest) l.subtitles.items;
