@@ -1,6 +1,7 @@
 pub mod Fault
 pub mod File
 pub mod Gsi
+pub mod GsiFields
 pub mod NormalCounts
 pub mod NormalForm
 pub mod Reader

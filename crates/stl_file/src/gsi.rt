@@ -1,8 +1,11 @@
 //! GSI blocks (EBU Tech 3264), kept as the bytes that were read.
 
-ghost use Rattle.std.specs.Prelude.{◌≡◌, ◌+◌, ◌<◌, ◌≤◌, IfErr, IfOk, length, slice_index, true};
+ghost use Rattle.std.specs.Prelude.{◌≡◌, ◌+◌, ◌<◌, ◌≤◌, IfErr, IfOk, length, true};
 ghost use Rattle.stl_file.specs.Fault.{is_format};
-ghost use Rattle.stl_file.specs.Gsi.{IsGsi, field, five_digits, gsi_at, with_counts};
+ghost use Rattle.stl_file.specs.Gsi.{IsGsi, cct, dfc, dsc, field, five_digits, gsi_at, with_counts};
+ghost use Rattle.stl_file.specs.GsiFields.{cd, co, cpn, dsn, ecd, en, lc, mnc, mnr, oet, opt};
+ghost use Rattle.stl_file.specs.GsiFields.{publisher, rd, rn, slr, spare, tcd, tcf, tcp, tcs};
+ghost use Rattle.stl_file.specs.GsiFields.{tet, tn, tnb, tnd, tng, tns, tpt, uda};
 
 use crate::fault::StlFault;
 use std::marker::Model;
@@ -126,217 +129,217 @@ impl Gsi {
 
     /// CPN, the code page number.
     pub fn cpn(&self) -> &[u8]
-        ensures { result.now ≡ field 0 3 self.now }
+        ensures { result.now ≡ cpn self.now }
     {
         self.field_at(0, 3)
     }
 
     /// DFC, the disk format code: `STL25.01` in a file that is taken.
     pub fn dfc(&self) -> &[u8]
-        ensures { result.now ≡ field 3 8 self.now }
+        ensures { result.now ≡ dfc self.now }
     {
         self.field_at(3, 8)
     }
 
     /// DSC, the display standard code: `1` or `2` in a file that is taken.
     pub fn dsc(&self) -> u8
-        ensures { result ≡ slice_index self.now 11 }
+        ensures { result ≡ dsc self.now }
     {
         self.bytes[11]
     }
 
     /// CCT, the character code table: `00` in a file that is taken.
     pub fn cct(&self) -> &[u8]
-        ensures { result.now ≡ field 12 2 self.now }
+        ensures { result.now ≡ cct self.now }
     {
         self.field_at(12, 2)
     }
 
     /// LC, the language code.
     pub fn lc(&self) -> &[u8]
-        ensures { result.now ≡ field 14 2 self.now }
+        ensures { result.now ≡ lc self.now }
     {
         self.field_at(14, 2)
     }
 
     /// OPT, the original programme title.
     pub fn opt(&self) -> &[u8]
-        ensures { result.now ≡ field 16 32 self.now }
+        ensures { result.now ≡ opt self.now }
     {
         self.field_at(16, 32)
     }
 
     /// OET, the original episode title.
     pub fn oet(&self) -> &[u8]
-        ensures { result.now ≡ field 48 32 self.now }
+        ensures { result.now ≡ oet self.now }
     {
         self.field_at(48, 32)
     }
 
     /// TPT, the translated programme title.
     pub fn tpt(&self) -> &[u8]
-        ensures { result.now ≡ field 80 32 self.now }
+        ensures { result.now ≡ tpt self.now }
     {
         self.field_at(80, 32)
     }
 
     /// TET, the translated episode title.
     pub fn tet(&self) -> &[u8]
-        ensures { result.now ≡ field 112 32 self.now }
+        ensures { result.now ≡ tet self.now }
     {
         self.field_at(112, 32)
     }
 
     /// TN, the translator's name.
     pub fn tn(&self) -> &[u8]
-        ensures { result.now ≡ field 144 32 self.now }
+        ensures { result.now ≡ tn self.now }
     {
         self.field_at(144, 32)
     }
 
     /// TCD, the translator's contact details.
     pub fn tcd(&self) -> &[u8]
-        ensures { result.now ≡ field 176 32 self.now }
+        ensures { result.now ≡ tcd self.now }
     {
         self.field_at(176, 32)
     }
 
     /// SLR, the subtitle list reference code.
     pub fn slr(&self) -> &[u8]
-        ensures { result.now ≡ field 208 16 self.now }
+        ensures { result.now ≡ slr self.now }
     {
         self.field_at(208, 16)
     }
 
     /// CD, the creation date, as YYMMDD.
     pub fn cd(&self) -> &[u8]
-        ensures { result.now ≡ field 224 6 self.now }
+        ensures { result.now ≡ cd self.now }
     {
         self.field_at(224, 6)
     }
 
     /// RD, the revision date, as YYMMDD.
     pub fn rd(&self) -> &[u8]
-        ensures { result.now ≡ field 230 6 self.now }
+        ensures { result.now ≡ rd self.now }
     {
         self.field_at(230, 6)
     }
 
     /// RN, the revision number.
     pub fn rn(&self) -> &[u8]
-        ensures { result.now ≡ field 236 2 self.now }
+        ensures { result.now ≡ rn self.now }
     {
         self.field_at(236, 2)
     }
 
     /// TNB, the number of TTI blocks, not compared with the file.
     pub fn tnb(&self) -> &[u8]
-        ensures { result.now ≡ field 238 5 self.now }
+        ensures { result.now ≡ tnb self.now }
     {
         self.field_at(238, 5)
     }
 
     /// TNS, the number of subtitles, not compared with the file.
     pub fn tns(&self) -> &[u8]
-        ensures { result.now ≡ field 243 5 self.now }
+        ensures { result.now ≡ tns self.now }
     {
         self.field_at(243, 5)
     }
 
     /// TNG, the number of subtitle groups.
     pub fn tng(&self) -> &[u8]
-        ensures { result.now ≡ field 248 3 self.now }
+        ensures { result.now ≡ tng self.now }
     {
         self.field_at(248, 3)
     }
 
     /// MNC, the most characters in a row.
     pub fn mnc(&self) -> &[u8]
-        ensures { result.now ≡ field 251 2 self.now }
+        ensures { result.now ≡ mnc self.now }
     {
         self.field_at(251, 2)
     }
 
     /// MNR, the most rows of a display.
     pub fn mnr(&self) -> &[u8]
-        ensures { result.now ≡ field 253 2 self.now }
+        ensures { result.now ≡ mnr self.now }
     {
         self.field_at(253, 2)
     }
 
     /// TCS, the time code status.
     pub fn tcs(&self) -> u8
-        ensures { result ≡ slice_index self.now 255 }
+        ensures { result ≡ tcs self.now }
     {
         self.bytes[255]
     }
 
     /// TCP, the time code of the programme's start.
     pub fn tcp(&self) -> &[u8]
-        ensures { result.now ≡ field 256 8 self.now }
+        ensures { result.now ≡ tcp self.now }
     {
         self.field_at(256, 8)
     }
 
     /// TCF, the time code of the first in-cue.
     pub fn tcf(&self) -> &[u8]
-        ensures { result.now ≡ field 264 8 self.now }
+        ensures { result.now ≡ tcf self.now }
     {
         self.field_at(264, 8)
     }
 
     /// TND, the number of disks.
     pub fn tnd(&self) -> u8
-        ensures { result ≡ slice_index self.now 272 }
+        ensures { result ≡ tnd self.now }
     {
         self.bytes[272]
     }
 
     /// DSN, the disk sequence number.
     pub fn dsn(&self) -> u8
-        ensures { result ≡ slice_index self.now 273 }
+        ensures { result ≡ dsn self.now }
     {
         self.bytes[273]
     }
 
     /// CO, the country of origin.
     pub fn co(&self) -> &[u8]
-        ensures { result.now ≡ field 274 3 self.now }
+        ensures { result.now ≡ co self.now }
     {
         self.field_at(274, 3)
     }
 
     /// PUB, the publisher.
     pub fn publisher(&self) -> &[u8]
-        ensures { result.now ≡ field 277 32 self.now }
+        ensures { result.now ≡ publisher self.now }
     {
         self.field_at(277, 32)
     }
 
     /// EN, the editor's name.
     pub fn en(&self) -> &[u8]
-        ensures { result.now ≡ field 309 32 self.now }
+        ensures { result.now ≡ en self.now }
     {
         self.field_at(309, 32)
     }
 
     /// ECD, the editor's contact details.
     pub fn ecd(&self) -> &[u8]
-        ensures { result.now ≡ field 341 32 self.now }
+        ensures { result.now ≡ ecd self.now }
     {
         self.field_at(341, 32)
     }
 
     /// The spare bytes.
     pub fn spare(&self) -> &[u8]
-        ensures { result.now ≡ field 373 75 self.now }
+        ensures { result.now ≡ spare self.now }
     {
         self.field_at(373, 75)
     }
 
     /// UDA, the user-defined area.
     pub fn uda(&self) -> &[u8]
-        ensures { result.now ≡ field 448 576 self.now }
+        ensures { result.now ≡ uda self.now }
     {
         self.field_at(448, 576)
     }
