@@ -2,34 +2,10 @@
 ghost use Rattle.std.specs.Prelude.{◌<◌};
 
 use crate::receivers::old_page;
+use fixtures::{CLOSING, HEADER, ROW};
 use ttx_packet::{Packet, PageId};
 use ttx_page::{DropRow, Page};
 
-// The three packets of the first PES packet of a schedule of `Hi`, and the page that they show.
-
-// Page 888, C4 C6 C7.
-#[rattlefmt::skip]
-const HEADER: [u8; 42] = [
-    0x15, 0x15, 0xD0, 0xD0, 0x15, 0xD0, 0x15, 0xD0, 0x02, 0x15,
-    0x20, 0x20, 0x20, 0x20, 0x20, 0x20, 0x20, 0x20, 0x20, 0x20, 0x20, 0x20, 0x20, 0x20, 0x20, 0x20,
-    0x20, 0x20, 0x20, 0x20, 0x20, 0x20, 0x20, 0x20, 0x20, 0x20, 0x20, 0x20, 0x20, 0x20, 0x20, 0x20,
-];
-// Row 22 of magazine 8.
-#[rattlefmt::skip]
-const ROW_22: [u8; 42] = [
-    0x15, 0x9B,
-    0x20, 0x20, 0x20, 0x20, 0x20, 0x20, 0x20, 0x20, 0x20, 0x20, 0x20, 0x20, 0x20, 0x20, 0x20, 0x20,
-    0x0D, 0x0B, 0x0B, 0xC8, 0xE9, 0x8A, 0x8A,
-    0x20, 0x20, 0x20, 0x20, 0x20, 0x20, 0x20, 0x20, 0x20, 0x20, 0x20, 0x20, 0x20, 0x20, 0x20, 0x20,
-    0x20,
-];
-// The closing header, page 8FF.
-#[rattlefmt::skip]
-const CLOSING: [u8; 42] = [
-    0x15, 0x15, 0xEA, 0xEA, 0xEA, 0x2F, 0xEA, 0x5E, 0x15, 0x15,
-    0x20, 0x20, 0x20, 0x20, 0x20, 0x20, 0x20, 0x20, 0x20, 0x20, 0x20, 0x20, 0x20, 0x20, 0x20, 0x20,
-    0x20, 0x20, 0x20, 0x20, 0x20, 0x20, 0x20, 0x20, 0x20, 0x20, 0x20, 0x20, 0x20, 0x20, 0x20, 0x20,
-];
 // The codes of row 22.
 #[rattlefmt::skip]
 const CODES: [u8; 40] = [
@@ -39,19 +15,19 @@ const CODES: [u8; 40] = [
     0x20,
 ];
 
-// The page that the packets show.
+// The page that the packets of a schedule show.
 fn shown_page() -> Page {
     let mut page = Page::blank();
     page.set_row(22, &CODES);
     page
 }
 
-// The three packets, of which one byte has these bits wrong.
+// The packets of its first sending, of which one byte has these bits wrong.
 fn sending(number: usize, place: usize, bits: u8) -> [Packet; 3]
     requires number { number < 3 }
     requires place { place < 42 }
 {
-    let mut bytes = [HEADER, ROW_22, CLOSING];
+    let mut bytes = [HEADER, ROW, CLOSING];
     bytes[number][place] ^= bits;
     [
         Packet::new(bytes[0]),
@@ -92,15 +68,15 @@ fn keeps_what_the_row_held(rt: HostRuntime) {
     let mut receiver = DropRow::tune(page_id, old_page());
     assert_eq!(rt; receiver.watched(), page_id);
     assert!(rt; !receiver.heard() && !receiver.open());
-    receiver.hear(&Packet::new(ROW_22));
+    receiver.hear(&Packet::new(ROW));
     assert_eq!(rt; *receiver.page(), old_page());
     receiver.hear(&Packet::new(HEADER));
-    receiver.hear(&Packet::new(ROW_22));
+    receiver.hear(&Packet::new(ROW));
     assert!(rt; receiver.heard() && receiver.open());
     let before = *receiver.page();
     assert_eq!(rt; before.cell(22, 19), 0x48);
     // The same row, but for byte 20, another code of odd parity, and byte 21, which is even.
-    let mut bytes = ROW_22;
+    let mut bytes = ROW;
     bytes[20] = 0xE9;
     bytes[21] = 0x41;
     receiver.hear(&Packet::new(bytes));

@@ -10,8 +10,6 @@ mod checks;
 #[cfg(test)]
 mod devices;
 #[cfg(test)]
-mod drip;
-#[cfg(test)]
 mod dropped_rows;
 #[cfg(test)]
 mod libzvbi;
@@ -21,8 +19,6 @@ mod options;
 mod packets;
 #[cfg(test)]
 mod pages;
-#[cfg(test)]
-mod pairs;
 #[cfg(test)]
 mod pes_packets;
 #[cfg(test)]

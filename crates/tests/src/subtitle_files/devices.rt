@@ -1,42 +1,9 @@
 //! Sources that give a byte at a time, fail, or never end.
 
-ghost use Rattle.std.specs.Prelude.{◌≡◌, ◌+◌, ◌<◌, ◌≤◌, None, length};
-ghost use Rattle.std.specs.Io.{ReadsAtMost};
-ghost use Rattle.sub_io.specs.Device.{CountsFailure, Pulls};
-
-use super::files::{a_file, gsi, read_all};
-use crate::drip::Drip;
+use super::files::{a_file, read_all};
+use fixtures::{Drip, Endless, gsi};
 use stl_file::{StlFault, StlReader};
-use sub_io::{FailAt, Failed, Source};
-
-/// A source that gives some bytes, and then one byte for ever.
-#[derive(Drop)]
-struct Endless<'a> {
-    front: &'a [u8],
-    byte: u8,
-}
-
-impl Source for Endless<'_> {
-    ghost remaining = { λ _. None };
-
-    ghost failure_count = { λ _. 0 };
-
-    fn pull(&mut self, to: &mut [u8]) -> Result<usize, Failed> {
-        if self.front.is_empty() {
-            to.fill(self.byte);
-            return Ok(to.len());
-        }
-        let n = self.front.len().min(to.len());
-        let (given, front) = self.front.split_at(n);
-        to[..n].copy_from_slice(given);
-        self.front = front;
-        Ok(n)
-    }
-
-    fn failures(&self) -> u64 {
-        0
-    }
-}
+use sub_io::{FailAt, Source};
 
 #[test]
 fn reads_a_byte_a_pull(rt: HostRuntime) {
@@ -85,15 +52,15 @@ fn answers_ended_after_a_failure(rt: HostRuntime) {
 #[test]
 fn ends_on_sources_that_do_not(rt: HostRuntime) {
     let zeroes = read_all(&mut Endless {
-        front: &[],
-        byte: 0,
+        rest: &[],
+        again: &[0; 128],
     });
     assert_eq!(rt; zeroes, (0, Some(StlFault::Format), 0));
     // A block of ones is a comment.
     let front = gsi();
     let comments = read_all(&mut Endless {
-        front: &front,
-        byte: 1,
+        rest: &front,
+        again: &[1; 128],
     });
     assert_eq!(rt; comments, (0, Some(StlFault::TooManyBlocks), 100_000));
 }

@@ -1,6 +1,7 @@
 //! Each field at its place.
 
-use super::files::{ALONE, a_file, block};
+use super::files::{ALONE, a_file};
+use fixtures::block;
 use stl_file::{Gsi, StlReader, Subtitle, TimeCode, Tti};
 use sub_io::MemSource;
 
@@ -173,5 +174,5 @@ fn gives_the_fields_of_the_first_block_and_the_text_of_all(rt: HostRuntime) {
     assert_eq!(rt; reader.block(), 5);
     assert!(rt; reader.next(&mut source).expect(&rt, "it is read").is_none());
     assert!(rt; reader.next(&mut source).expect(&rt, "it is read").is_none());
-    assert!(rt; Tti::read(&block(&ALONE, 0)).sn() == second.sn());
+    assert!(rt; Tti::read(&block(&ALONE, b"Hi")).sn() == second.sn());
 }

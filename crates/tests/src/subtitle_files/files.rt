@@ -3,6 +3,7 @@
 ghost use Rattle.std.specs.Prelude.{◌≡◌, ◌+◌, ◌<◌, ◌≤◌, length};
 ghost use Rattle.sub_io.specs.Device.{CanFail};
 
+use fixtures::{block, gsi};
 use stl_file::{StlFault, StlReader};
 use sub_io::Source;
 
@@ -38,36 +39,17 @@ pub(crate) fn set(file: &mut [u8], at: usize, byte: u8)
     }
 }
 
-/// A GSI block that is taken; its other bytes are spaces.
-pub(crate) fn gsi() -> [u8; 1024] {
-    let mut bytes = [b' '; 1024];
-    put(&mut bytes, 3, b"STL25.01".as_slice());
-    bytes[11] = b'1';
-    bytes[12] = b'0';
-    bytes[13] = b'0';
-    put(&mut bytes, 238, b"9999988888".as_slice());
-    bytes
-}
-
-/// A block with these fields, whose text field holds one byte everywhere.
-pub(crate) fn block(head: &[u8; 16], text: u8) -> [u8; 128] {
-    let mut bytes = [text; 128];
-    bytes[..16].copy_from_slice(head);
-    bytes
-}
-
 /// A comment, a subtitle of two blocks with user data between them, and a subtitle of one block
 /// with two bytes of text: 2 subtitles in 5 blocks.
 pub(crate) fn a_file() -> [u8; 1664] {
     let mut file = [0; 1664];
-    put(&mut file, 0, gsi().as_slice());
-    put(&mut file, 1024, block(&COMMENT, b'c').as_slice());
-    put(&mut file, 1152, block(&FIRST, b'A').as_slice());
-    put(&mut file, 1280, block(&USER_DATA, b'u').as_slice());
-    put(&mut file, 1408, block(&LAST, b'B').as_slice());
-    put(&mut file, 1536, block(&ALONE, 0x8f).as_slice());
-    file[1552] = b'H';
-    file[1553] = b'i';
+    put(&mut file, 0, &gsi());
+    put(&mut file, 238, b"9999988888".as_slice());
+    put(&mut file, 1024, &block(&COMMENT, b"in passing"));
+    put(&mut file, 1152, &block(&FIRST, &[b'A'; 112]));
+    put(&mut file, 1280, &block(&USER_DATA, b"anything"));
+    put(&mut file, 1408, &block(&LAST, &[b'B'; 112]));
+    put(&mut file, 1536, &block(&ALONE, b"Hi"));
     file
 }
 

@@ -1,6 +1,7 @@
 //! Every refusal at its block.
 
-use super::files::{FIRST, LAST, a_file, block, put, read_all, set};
+use super::files::{FIRST, LAST, a_file, put, read_all, set};
+use fixtures::{block, gsi};
 use stl_file::StlFault;
 use sub_io::MemSource;
 
@@ -161,10 +162,10 @@ fn reads_each_cut_of_a_file(rt: HostRuntime) {
 #[test]
 fn takes_nine_blocks_and_no_tenth(rt: HostRuntime) {
     let mut file = [0; 2304];
-    put(&mut file, 0, super::files::gsi().as_slice());
+    put(&mut file, 0, &gsi());
     for i in 0..10 {
         let head = if i == 8 { &LAST } else { &FIRST };
-        put(&mut file, 1024 + 128 * i, block(head, b'A').as_slice());
+        put(&mut file, 1024 + 128 * i, &block(head, &[b'A'; 112]));
     }
     let (nine, _) = file.split_at(1024 + 9 * 128);
     assert_eq!(rt; read_all(&mut MemSource::new(nine)), (1, None, 9));
