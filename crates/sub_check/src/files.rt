@@ -1,7 +1,9 @@
 //! A pair of files: the subtitle file, and the PES file that carries it.
-ghost use Rattle.std.specs.Prelude.{◌≡◌, ◌+◌, ◌<◌, true, if◌then◌else◌};
+ghost use Rattle.std.specs.Prelude.{◌≡◌, ◌+◌, ◌<◌, true, if◌then◌else◌, Err};
 ghost use Rattle.sub_io.specs.Device.{CanFail};
 ghost use Rattle.sub_io.specs.Reading.{IfTold};
+ghost use Rattle.stl_rows.specs.Loading.{FailsLoading, is_read_kind};
+ghost use Rattle.stl_rows.specs.declared.fault.LoadFault.{LoadFault};
 ghost use Rattle.sub_check.specs.CheckedFiles.{AreAccepted, AreChecked};
 ghost use Rattle.sub_check.specs.Checking.{is_source_failure, is_subtitle_refusal};
 ghost use Rattle.sub_check.specs.Checking.{is_subtitle_source_failure};
@@ -39,6 +41,12 @@ pub fn check_files<S: Source, P: Source>(
     // What is refused, and at which place.
     ensures checked { IfTold (S.remaining stl.old) (λ file.
         AreChecked national options.now file (P.remaining pes.old) result) }
+    // A failed read of the subtitle file names the block of the byte that was asked for, and no
+    // fault comes before it.
+    ensures stl_read { (fault : LoadFault)
+        → result ≡ Err (CheckFault.Subtitles fault)
+        → is_read_kind fault.kind ≡ true
+        → FailsLoading national (S.remaining stl.old) (S.remaining stl.new) fault.block }
     // Where the subtitle file is refused, no PES byte is read.
     ensures before { is_subtitle_refusal result ≡ true → pes.new ≡ pes.old }
     // Each source failed in this call exactly where its `Read` is told.

@@ -1,6 +1,11 @@
 -- The programme that is loaded is the file's one: `same_programme`; what is told of both files:
 -- `files_accepted`, `files_refused`.
-use Rattle.std.proofs.Common.{rules, refl}
+use Rattle.std.proofs.Common.{◌≡◌, Result, ap, refl, rules, subst, sym, true}
+use Rattle.stl_rows.specs.Loading.{FailsLoading, is_read_kind}
+use Rattle.stl_rows.specs.declared.fault.LoadFault.{LoadFault}
+use Rattle.sub_check.specs.Checking.{is_subtitle_refusal}
+use Rattle.sub_check.specs.declared.checker.Accepted.{Accepted}
+use Rattle.sub_check.specs.declared.fault.CheckFault.{CheckFault}
 use Rattle.sub_check.proofs.CheckLemmas.{files_accepted, files_refused, same_programme}
 use Rattle.sub_check.proofs.files.check_files.Goals as goal
 
@@ -43,3 +48,16 @@ returns-in-Ok-clause-checked g c = λ file told.
           rw (same_programme programme c.in-Ok.programme _ loads given)
           (c.check.ensures.checked bytes heard);
     }
+
+pub returns-in-Err-clause-stl_read : goal.returns-in-Err-clause-stl_read
+returns-in-Err-clause-stl_read g c = λ fault is read.
+    let same : c.in-Err.fault ≡ fault = cc in
+    subst
+    (λ (f : LoadFault). FailsLoading c.args.national (g.S.Source.remaining c.args.stl.now)
+    (g.S.Source.remaining c.load.new.source) f.block) same
+    (c.in-Err.ensures.read (subst (λ (f : LoadFault). is_read_kind f.kind ≡ true) (sym same) read))
+
+pub returns-in-Ok-clause-stl_read : goal.returns-in-Ok-clause-stl_read
+returns-in-Ok-clause-stl_read g c = λ fault is read.
+    let own = c.check.ensures.own in
+    let refused = ap (λ (r : Result Accepted CheckFault). is_subtitle_refusal r) is in cc
