@@ -12,6 +12,8 @@ mod devices;
 #[cfg(test)]
 mod dropped_rows;
 #[cfg(test)]
+mod failed_reads;
+#[cfg(test)]
 mod libzvbi;
 #[cfg(test)]
 mod options;
