@@ -191,16 +191,21 @@ fn answer_into<R: AllocGlobal + Files, K: Sink>(
         return Err(UsageFault::Open);
     }
     let mut file_room = room(rt.alloc())?;
-    let mut file = create_output(rt, output, file_room.as_mut_slice())?;
-    let mut no_second = MemSource::new(&[]);
-    Ok(answer_through(
-        rt.alloc(),
-        request,
-        &mut first,
-        &mut no_second,
-        &mut file,
-        out,
-    ))
+    // The file is closed before the lines are handed on: with standard output closed, its number
+    // may be the file's.
+    let status = {
+        let mut file = create_output(rt, output, file_room.as_mut_slice())?;
+        let mut no_second = MemSource::new(&[]);
+        answer_through(
+            rt.alloc(),
+            request,
+            &mut first,
+            &mut no_second,
+            &mut file,
+            out,
+        )
+    };
+    Ok(hand_on(status, out))
 }
 
 // Answers a request with one input at most. For a device that it does not name, an empty one is
@@ -232,13 +237,14 @@ fn answer_inputs<S: Source, T: Source, K: Sink>(
 {
     let (mut nowhere, mut room) = ([0; 0], [0; 1]);
     let mut no_file = BufferedSink::new(MemSink::new(&mut nowhere), &mut room);
-    answer_through(alloc, request, first, second, &mut no_file, out)
+    let status = answer_through(alloc, request, first, second, &mut no_file, out);
+    hand_on(status, out)
 }
 
-// Answers a request over these devices, and hands on what is held back of the lines.
+// Answers a request over these devices; lines may be held back still, for `hand_on`.
 //
-// Where the status is 0, neither sink holds a byte back, and no call of either has failed: each
-// device below has taken all bytes, by calls that did not fail.
+// Where the status is 0, the file holds no byte back, and no call of either sink has failed: the
+// device below the file has taken all bytes, by calls that did not fail.
 fn answer_through<S: Source, T: Source, F: Sink, K: Sink>(
     alloc: Global,
     request: &Request<'_>,
@@ -254,11 +260,12 @@ fn answer_through<S: Source, T: Source, F: Sink, K: Sink>(
     requires out { failures_and_refused (K.failure_count out.old.device) out.old.refused ≡ 0 }
     ensures file { result ≡ Status.Done → (file.new.held ≡ [])
         × (failures_and_refused (F.failure_count file.new.device) file.new.refused ≡ 0) }
-    ensures out { result ≡ Status.Done → (out.new.held ≡ [])
-        × (failures_and_refused (K.failure_count out.new.device) out.new.refused ≡ 0) }
+    ensures out { result ≡ Status.Done
+        → failures_and_refused (K.failure_count out.new.device) out.new.refused ≡ 0 }
+    ensures can_fail { CanFail (failures_and_refused
+        (K.failure_count out.new.device) out.new.refused) }
 {
-    let status = answer(alloc, request, first, second, file, out);
-    hand_on(status, out)
+    answer(alloc, request, first, second, file, out)
 }
 
 // Hands on what is held back of the lines, for a run that ends with this status.
