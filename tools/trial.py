@@ -55,7 +55,9 @@ class Trial:
         self.program, self.folder = program, folder
         self.commands, self.inputs, self.over = {}, {}, []
         self.has_strace = self.can([*STRACE, "-o", os.devnull, "true"])
-        self.has_another_user = self.can(["test", "-x", program], user=ANOTHER_USER)
+        # Root may read every file; other users not what they took the right from.
+        self.as_user = {} if os.geteuid() else {"user": ANOTHER_USER}
+        self.has_user = self.can(["test", "-x", program], **self.as_user)
 
     @staticmethod
     def can(command, **more):
