@@ -8,6 +8,10 @@ mod buffers;
 #[cfg(test)]
 mod checks;
 #[cfg(test)]
+mod compared_packets;
+#[cfg(test)]
+mod complete_pages;
+#[cfg(test)]
 mod devices;
 #[cfg(test)]
 mod dropped_rows;
