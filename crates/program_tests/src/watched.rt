@@ -14,6 +14,7 @@ pub struct Watched<D> {
 }
 
 impl<D> Watched<D> {
+    /// A device that has not failed yet.
     pub fn new(inner: D) -> Self
         ensures { result.inner ≡ inner }
     {
@@ -24,10 +25,12 @@ impl<D> Watched<D> {
         }
     }
 
+    /// The device inside.
     pub fn inner(&self) -> &D {
         &self.inner
     }
 
+    /// How many calls came after the first that failed.
     pub fn late_calls(&self) -> u64 {
         self.late_calls
     }

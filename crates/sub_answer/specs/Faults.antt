@@ -39,6 +39,7 @@ pes_told f index = told_as (pes_kind f) (pes_number.number_and_name f) (place.Pe
 
 -- ---- a subtitle file that is read
 
+-- The failure of its device alone is no refusal.
 abbrev pub stl_kind : StlFault → Kind
 stl_kind stl.Read = kind.Fault
 stl_kind _ = kind.Refused
@@ -55,6 +56,7 @@ normal_told normal.Write =
 
 -- ---- a programme
 
+-- Want of memory is no refusal either.
 abbrev pub load_kind : LoadFaultKind → Kind
 load_kind (load.File f) = stl_kind f
 load_kind load.Memory = kind.Fault
@@ -77,11 +79,13 @@ plan_told plan.Write = told_as kind.Fault (plan_number.number_and_name plan.Writ
 
 -- ---- a pair of files
 
+-- What the fault of the one file is, or of the other; all other faults are refusals.
 abbrev pub check_kind : CheckFault → Kind
 check_kind (check.Subtitles f) = load_kind f.kind
 check_kind (check.Pes index f) = pes_kind f
 check_kind _ = kind.Refused
 
+-- Where the fault is: as in the file that it is of, or at a frame, a packet or a cell.
 abbrev pub check_place : CheckFault → Place
 check_place (check.Subtitles f) = load_place f.kind f.block
 check_place (check.Pes index f) = place.Pes index
@@ -102,6 +106,7 @@ check_place (check.Gap frame) = place.Frame frame
 check_place (check.Incomplete frame) = place.Frame frame
 check_place (check.Late frame) = place.Frame frame
 
+-- A fault of a pair of files.
 abbrev pub check_told : CheckFault → ToldValue
 check_told f = told_as (check_kind f) (check_number.number_and_name f) (check_place f)
 
@@ -124,10 +129,12 @@ usage_number_and_name usage.BadReceiver = (9, codes "BadReceiver")
 usage_number_and_name usage.Open = (90, codes "Open")
 usage_number_and_name usage.Memory = (91, codes "Memory")
 
+-- A file that can't be opened and want of memory are faults; the others are wrong usage.
 abbrev pub usage_kind : UsageFault → Kind
 usage_kind usage.Open = kind.Fault
 usage_kind usage.Memory = kind.Fault
 usage_kind _ = kind.Usage
 
+-- A fault of the words, or of the program itself: it has no place.
 abbrev pub usage_told : UsageFault → ToldValue
 usage_told f = told_as (usage_kind f) (usage_number_and_name f) place.Nowhere

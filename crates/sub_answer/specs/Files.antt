@@ -4,6 +4,7 @@ use Rattle.sub_answer.specs.declared.files.FileNames.TheVariants as files
 use Rattle.sub_answer.specs.declared.request.Request.{Request}
 use Rattle.sub_answer.specs.declared.request.Request.TheVariants as ask
 
+-- What a request reads, in the order of its words, and what it writes.
 abbrev pub files_of : Request → FileNames
 files_of (ask.Packet bytes) = files.None
 files_of (ask.Packets pes) = files.Read pes.now

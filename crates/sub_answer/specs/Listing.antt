@@ -27,10 +27,11 @@ done text = record { text = text; status = Done }
 abbrev pub told_listing : ToldValue → Listing
 told_listing t = record { text = line_of t; status = status_of t.kind }
 
--- A packet without an address, and a packet X/0 whose coded bytes mean nothing.
+-- One of the two address bytes of a packet means nothing.
 abbrev pub bad_address : ToldValue
 bad_address = told_as kind.Refused (3, codes "BadAddress") Nowhere
 
+-- One of the eight coded bytes of a page header means nothing.
 abbrev pub bad_header : ToldValue
 bad_header = told_as kind.Refused (4, codes "BadHeader") Nowhere
 

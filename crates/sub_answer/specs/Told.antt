@@ -12,6 +12,7 @@ use Rattle.sub_answer.specs.declared.told.Place.{Place}
 use Rattle.sub_answer.specs.declared.told.Place.TheVariants as place
 use Rattle.sub_answer.specs.declared.told.Told.{Told}
 
+-- What is told of a fault: its kind, its number and its name, and its place.
 pub record ToldValue : Type 0 where
   pub kind : Kind
   pub number : ℕ

@@ -5,6 +5,7 @@ use Rattle.sub_check.specs.declared.fault.CheckFault.{CheckFault}
 use Rattle.sub_check.specs.declared.fault.CheckFault.TheVariants as fault
 use Rattle.ttx_pes.specs.Fault as pes
 
+-- The number and the name that a fault is told by.
 abbrev pub number_and_name : CheckFault → ℕ × List ℕ
 number_and_name (fault.Subtitles f) = load.number_and_name f.kind
 number_and_name (fault.Pes index f) = pes.number_and_name f

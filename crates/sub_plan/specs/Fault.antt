@@ -3,6 +3,7 @@ use Rattle.std.specs.Prelude.{ℕ, List, codes}
 use Rattle.sub_plan.specs.declared.fault.PlanFault.{PlanFault}
 use Rattle.sub_plan.specs.declared.fault.PlanFault.TheVariants as fault
 
+-- The number and the name that a fault is told by.
 abbrev pub number_and_name : PlanFault → ℕ × List ℕ
 number_and_name fault.NoSubtitles = (82, codes "NoSubtitles")
 number_and_name fault.Write = (42, codes "Write")

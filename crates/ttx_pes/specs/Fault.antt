@@ -3,6 +3,7 @@ use Rattle.std.specs.Prelude.{ℕ, List, codes}
 use Rattle.ttx_pes.specs.declared.fault.PesFault.{PesFault}
 use Rattle.ttx_pes.specs.declared.fault.PesFault.TheVariants as fault
 
+-- The number and the name that a fault is told by.
 abbrev pub number_and_name : PesFault → ℕ × List ℕ
 number_and_name fault.Truncated = (30, codes "Truncated")
 number_and_name fault.Start = (31, codes "Start")
