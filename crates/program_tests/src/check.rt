@@ -1,4 +1,5 @@
 //! `check`: verdicts on subtitle files and PES files.
+mod again;
 mod cut;
 pub mod devices;
 mod failing;

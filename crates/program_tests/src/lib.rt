@@ -10,6 +10,10 @@ mod answers;
 #[cfg(test)]
 mod check;
 #[cfg(test)]
+mod complete;
+#[cfg(test)]
+mod failed_reads;
+#[cfg(test)]
 mod flips;
 #[cfg(test)]
 mod listen;

@@ -100,7 +100,7 @@ const LATER_LOST_0: &str = "refused 76 LostHeader frame 10:00:01:00 packet 0\n";
 
 // What is printed of the schedule of `Hi` every 25 frames.
 #[rattlefmt::skip]
-const HEARINGS: [(&str, &str, &str, &str, &str); 20] = [
+const HEARINGS: [(&str, &str, &str, &str, &str); 21] = [
     // time, packets passed over, flips, lost packets, text
     ("10:00:00:10", "0", "", "", HI),
     ("10:00:00:10", "0", "1:21:1", "", HIT),
@@ -111,6 +111,7 @@ const HEARINGS: [(&str, &str, &str, &str, &str); 20] = [
     ("09:59:59:24", "0", "", "", NOTHING),
     ("10:00:00:10", "0", "", "1", BLANK),
     ("10:00:01:00", "0", "", "1", HI),
+    ("10:00:01:00", "0", "1:21:1", "", HI), // what was hit comes again
     ("10:00:00:10", "1", "", "0", NOTHING),
     ("10:00:00:10", "0", "1:21:1", "1", BLANK),
     // packets are counted over the whole file, those passed over too

@@ -136,7 +136,7 @@ fn refuses_files_at_the_first_fault(rt: HostRuntime) {
         (1293, 24, b"refused 19 Row block 3\n"),
         (1288, 25, b"refused 20 Time block 3\n"), // TCI
         (1291, 0, b"refused 21 EmptyTime block 3\n"), // TCO is TCI
-        (1287, 3, b"refused 21 EmptyTime block 3\n"), // TCI behind TCO
+        (1287, 3, b"refused 21 EmptyTime block 3\n"), // TCI after TCO
     ];
     for (place, value, line) in changes {
         let mut input = commented();
@@ -150,7 +150,7 @@ fn refuses_files_at_the_first_fault(rt: HostRuntime) {
 #[test]
 fn answers_files_of_each_length(rt: HostRuntime) {
     let mut input = commented();
-    // the first length and the one behind the last, the line, how many bytes are written
+    // the first length and the one after the last, the line, how many bytes are written
     for (begin, end, line, written) in [
         (0, 1024, &b"refused 10 Truncated block 0\n"[..], 0),
         (1024, 1025, b"written 0 subtitles\n", 1024),

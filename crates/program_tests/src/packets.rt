@@ -38,7 +38,7 @@ const HI_LINES: &[u8] = b"pes 0 pts 3240000000\n\
     unit 2 id 03 field 1 line 9 1515eaeaea2fea5e1515\
     2020202020202020202020202020202020202020202020202020202020202020\n";
 
-// What `packets` prints of it and of the closing PES packet behind it.
+// What `packets` prints of it and of the closing PES packet after it.
 const SCHEDULE_LINES: &[u8] = b"pes 0 pts 3240000000\n\
     unit 0 id 03 field 1 line 7 1515d0d015d015d00215\
     2020202020202020202020202020202020202020202020202020202020202020\n\
@@ -92,7 +92,7 @@ fn lists_pes_packets(rt: HostRuntime) {
 #[test]
 fn lists_the_whole_packets_of_a_cut_file(rt: HostRuntime) -> Result<(), Fail> {
     let pes = schedule_of_hi(rt.alloc(), 250)?;
-    // the first length and the one behind the last, the lines before the last, the last, the status
+    // the first length and the one after the last, the lines before the last, the last, the status
     for (begin, end, first, last, status) in [
         (0, 1, &b""[..], &b"0 pes\n"[..], Status::Done),
         (

@@ -1,8 +1,9 @@
-//! An input that is read whole, where memory is refused.
+//! An input that is read whole and lists of words, where memory is refused.
 use linked_list_allocator::LocalHeap;
 use std::test::Fail;
 use sub_answer::{InputFault, read_input};
 use sub_io::MemSource;
+use sub_words::{parse_flips, parse_numbers};
 
 #[test]
 fn tells_each_growth_that_is_refused(rt: HostRuntime) -> Result<(), Fail> {
@@ -25,5 +26,26 @@ fn tells_each_growth_that_is_refused(rt: HostRuntime) -> Result<(), Fail> {
             Err(fault) => assert!(rt; !enough && fault == InputFault::Memory, "{size}"),
         }
     }
+    Ok(())
+}
+
+#[test]
+fn tells_each_growth_of_lists_that_is_refused(rt: HostRuntime) -> Result<(), Fail> {
+    let flips = "0:0:1,1:0:1,2:0:1,3:0:1,4:0:1,5:0:1,6:0:1,7:0:1,8:0:1";
+    let lost = "0,1,2,3,4,5,6,7,8,9,10,11,12,13,14,15,16";
+    let mut refused = 0usize;
+    for size in 0..64usize {
+        let heap = LocalHeap::new(rt.alloc(), size * 32)?;
+        match parse_flips(&heap, flips) {
+            Ok(list) => assert!(rt; list.is_some(), "{size}"),
+            Err(_) => refused = refused.saturating_add(1),
+        }
+        let heap = LocalHeap::new(rt.alloc(), size * 32)?;
+        match parse_numbers(&heap, lost) {
+            Ok(list) => assert!(rt; list.is_some(), "{size}"),
+            Err(_) => refused = refused.saturating_add(1),
+        }
+    }
+    assert!(rt; refused > 2 && refused < 126);
     Ok(())
 }

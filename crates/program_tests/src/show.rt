@@ -8,7 +8,7 @@ use std::process::Abort;
 use sub_answer::{Request, Status};
 use sub_io::{FailAt, MemSink, MemSource, Sink, Source};
 
-// A GSI block, and one TTI block behind it: group 0, subtitle 1, its last block, from 10:00:00:00
+// A GSI block, and one TTI block after it: group 0, subtitle 1, its last block, from 10:00:00:00
 // to 10:00:02:00, in row 22, centred; double height, start box twice, Hi, end box twice.
 fn one_subtitle() -> [u8; 1152] {
     let mut file = [0x20; 1152];
@@ -20,7 +20,7 @@ fn one_subtitle() -> [u8; 1152] {
     file
 }
 
-// Asserts what `show` prints of a source, where `out` has room for so many bytes.
+// Asserts what `show` prints of a source, where `out` writes into this room.
 fn assert_shows_into<S: Source>(
     rt: &(impl Abort + Alloc<A = Global>),
     room: &mut [u8],
@@ -85,7 +85,7 @@ fn shows_subtitles_as_far_as_the_first_refusal(rt: HostRuntime) {
 fn shows_a_file_of_each_length(rt: HostRuntime) {
     let good = one_subtitle();
     let line = b"00001 10:00:00:00 10:00:02:00 vp 22 jc 2 text 0d0b0b48690a0a\n1 subtitles\n";
-    // the first length and the one behind the last, text
+    // the first length and the one after the last, text
     for (begin, end, want, status) in [
         (
             0,

@@ -5,7 +5,7 @@ ghost use Rattle.sub_io.specs.Device.{CountsFailure, Pushes};
 
 use sub_io::{Failed, Flush, Sink};
 
-// Passes all calls on, and counts those behind a failure.
+// Passes all calls on, and counts those after a failure.
 #[derive(Drop)]
 pub struct Watched<D> {
     inner: D,

@@ -6,7 +6,7 @@ use Rattle.std.proofs.Common.{inl, inr, ◌⊎◌}
 use Rattle.std.specs.Prelude.{◌&&◌, ◌||◌}
 use Rattle.std.specs.List.{flat_map, AllByRecursion}
 use Rattle.std.proofs.lemmas.Bool.{eqb-true, eq-eqb, ne_eqb, ltb-true, ltb-false, leb-true, le-leb}
-use Rattle.std.proofs.lemmas.Bool.{lt-ltb, eqb-false, cases_lt}
+use Rattle.std.proofs.lemmas.Bool.{lt-ltb, eqb-false, cases_lt, and_parts}
 use Rattle.std.proofs.lemmas.List.{append-nil}
 use Rattle.stl_file.specs.declared.fault.StlFault.{StlFault}
 use Rattle.stl_file.specs.declared.fault.StlFault.TheVariants as fault
@@ -19,22 +19,9 @@ use Rattle.stl_file.specs.Tti.{sgn, sn, ebn, cs, vp, jc, cf, text_of, is_passed,
 use Rattle.stl_file.specs.Subtitle.{SubtitleValue}
 use Rattle.stl_file.specs.SubtitleBlocks.{IsTimeAt, BelongsTo, AreLinked, Begins, AreBlocksOf}
 use Rattle.stl_file.specs.Reading.{closed, time_at, first_at, kept_at, step_at}
+use Rattle.sub_io.proofs.ReadingLemmas.{test_held, test_failed, step_gave, Ok-injective}
 
 -- ---- tests
-
--- a test that had to hold for a value
-guard_ok : {A : Type 0} (b : Bool) (d : StlFault) (r : Result A StlFault) (y : A)
-    → cond (not b) (Err d) r ≡ Ok y
-    → (b ≡ true) × (r ≡ Ok y)
-guard_ok true d r y e = (refl, e)
-guard_ok false d r y e = absurd cc
-
--- a test that must not hold for a value
-pub guard_not : {A : Type 0} (b : Bool) (d : StlFault) (r : Result A StlFault) (y : A)
-    → cond b (Err d) r ≡ Ok y
-    → (b ≡ false) × (r ≡ Ok y)
-guard_not true d r y e = absurd cc
-guard_not false d r y e = (refl, e)
 
 -- a test that let a value through
 through : {A : Type 0} (b : Bool) (d : StlFault) (x y : A)
@@ -42,26 +29,6 @@ through : {A : Type 0} (b : Bool) (d : StlFault) (x y : A)
     → (b ≡ true) × (x ≡ y)
 through true d x y e = (refl, cc)
 through false d x y e = absurd cc
-
--- both parts of a test that holds
-and_ok : (a b : Bool) → (a && b) ≡ true → (a ≡ true) × (b ≡ true)
-and_ok true b e = (refl, e)
-and_ok false b e = absurd cc
-
--- a step that gave a value had one before it
-bind_ok : {A B : Type 0} (r : Result A StlFault) (f : A → Result B StlFault) (y : B)
-    → (r >>= f) ≡ Ok y
-    → (x : A) × (r ≡ Ok x) × (f x ≡ Ok y)
-bind_ok (Ok x) f y e = (x, refl, e)
-bind_ok (Err d) f y e = absurd cc
-
--- a value without a fault
-abbrev done : {A : Type 0} → A → Result A StlFault
-done x = Ok x
-
--- equal answers have equal values
-ok_is : {A : Type 0} (x y : A) → done x ≡ done y → x ≡ y
-ok_is x y e = cc
 
 -- ---- a first block
 
@@ -79,9 +46,9 @@ time_sound b place frame e =
 -- the frame of a time code is one of the day
 in_day : (h m s f : ℕ) → is_time_code h m s f ≡ true → frame_of h m s f < 2160000
 in_day h m s f e =
-    let c = and_ok (ltb h 24 && ltb m 60 && ltb s 60) (ltb f 25) e in
-    let d = and_ok (ltb h 24 && ltb m 60) (ltb s 60) c.0 in
-    let k = and_ok (ltb h 24) (ltb m 60) d.0 in
+    let c = and_parts (ltb h 24 && ltb m 60 && ltb s 60) (ltb f 25) e in
+    let d = and_parts (ltb h 24 && ltb m 60) (ltb s 60) c.0 in
+    let k = and_parts (ltb h 24) (ltb m 60) d.0 in
     let hl : h < 24 = ltb-true h 24 k.0 in
     let ml : m < 60 = ltb-true m 60 k.1 in
     let sl : s < 60 = ltb-true s 60 d.1 in
@@ -141,13 +108,13 @@ first_sound b s e =
     let r2 : Result SubtitleValue StlFault =
     cond (not (leb 1 (vp b) && leb (vp b) 23)) (Err fault.Row) r3 in
     let r1 : Result SubtitleValue StlFault = cond (ltb 3 (jc b)) (Err fault.Justify) r2 in
-    let g0 = guard_ok (eqb (cs b) 0) fault.Cumulative r1 s e in
-    let g1 = guard_not (ltb 3 (jc b)) fault.Justify r2 s g0.1 in
-    let g2 = guard_ok (leb 1 (vp b) && leb (vp b) 23) fault.Row r3 s g1.1 in
-    let p = bind_ok (time_at b 5) (λ tci. time_at b 9 >>= λ tco. last tci tco) s g2.1 in
-    let q = bind_ok (time_at b 9) (λ tco. last p.0 tco) s p.2 in
+    let g0 = test_held (eqb (cs b) 0) fault.Cumulative r1 s e in
+    let g1 = test_failed (ltb 3 (jc b)) fault.Justify r2 s g0.1 in
+    let g2 = test_held (leb 1 (vp b) && leb (vp b) 23) fault.Row r3 s g1.1 in
+    let p = step_gave (time_at b 5) (λ tci. time_at b 9 >>= λ tco. last tci tco) s g2.1 in
+    let q = step_gave (time_at b 9) (λ tco. last p.0 tco) s p.2 in
     let t = through (ltb p.0 q.0) fault.EmptyTime (made b p.0 q.0) s q.2 in
-    let v = and_ok (leb 1 (vp b)) (leb (vp b) 23) g2.0 in
+    let v = and_parts (leb 1 (vp b)) (leb (vp b) 23) g2.0 in
     subst (λ (x : SubtitleValue). Begins x b × (x.text ≡ text_of b)) t.1 (
       heads_made b p.0 q.0 (eqb-true _ _ g0.0) (ltb-false _ _ g1.0) (leb-true _ _ v.0)
           (leb-true _ _ v.1) (time_sound b 5 p.0 p.1) (time_sound b 9 q.0 q.1) (ltb-true _ _ t.0),
@@ -312,24 +279,24 @@ kept_sound : (begun : Option Begun) (kept : List (List ℕ)) (b : List ℕ) (r :
     → Reaches (kept ++ b ∷ []) r
 unfolding kept_at
 kept_sound None kept b r size none e h k =
-    let p = bind_ok (first_at b) (λ s. Ok (closed (ebn b) s 1)) r k in
+    let p = step_gave (first_at b) (λ s. Ok (closed (ebn b) s 1)) r k in
     let f = first_sound b p.0 p.1 in
     let reached = first_reaches b p.0 size none e f.0 f.1 in
-    subst (λ (x : Step). Reaches (kept ++ b ∷ []) x) (ok_is _ r p.2)
+    subst (λ (x : Step). Reaches (kept ++ b ∷ []) x) (Ok-injective _ r p.2)
     (subst (λ (x : List (List ℕ)). Reaches (x ++ b ∷ []) (closed (ebn b) p.0 1)) (sym h)
     reached)
 kept_sound (Some o) kept b r size none e h k =
     let to : Step = closed (ebn b) (record o.subtitle { text = o.subtitle.text ++ text_of b })
     (o.blocks + 1) in
     let rest : Result Step StlFault = cond (eqb o.blocks 9) (Err fault.TooLong) (Ok to) in
-    let g = guard_ok (eqb (sgn b) o.subtitle.sgn && eqb (sn b) o.subtitle.sn) fault.Sequence rest r
+    let g = test_held (eqb (sgn b) o.subtitle.sgn && eqb (sn b) o.subtitle.sn) fault.Sequence rest r
     k in
-    let m = guard_not (eqb o.blocks 9) fault.TooLong (Ok to) r g.1 in
-    let both = and_ok (eqb (sgn b) o.subtitle.sgn) (eqb (sn b) o.subtitle.sn) g.0 in
+    let m = test_failed (eqb o.blocks 9) fault.TooLong (Ok to) r g.1 in
+    let both = and_parts (eqb (sgn b) o.subtitle.sgn) (eqb (sn b) o.subtitle.sn) g.0 in
     let not-nine : o.blocks ≡ 9 → ⊥ = eqb-false _ _ m.0 in
     let le = h.2 in
     let room : o.blocks < 9 = omega arith in
-    subst (λ (x : Step). Reaches (kept ++ b ∷ []) x) (ok_is to r m.1)
+    subst (λ (x : Step). Reaches (kept ++ b ∷ []) x) (Ok-injective to r m.1)
     (next_reaches o kept b size none e h.0 h.1 room (eqb-true _ _ both.0) (eqb-true _ _ both.1))
 
 -- what one block does to the blocks that are kept
@@ -413,17 +380,17 @@ step_sound begun kept b r size h e =
     cond (leb 240 (ebn b) && not (eqb (ebn b) 255)) (Err fault.Extension) r2 in
     elim (chose (eqb (ebn b) 254) (Ok (More begun)) r1 (Ok r) e) [
       | inl user ↦ passed_steps kept b begun r (passed_by_ebn b (eqb-true _ _ user.0)) h
-          (ok_is (More begun) r user.1)
+          (Ok-injective (More begun) r user.1)
       | inr more ↦
-          let g1 = guard_not (leb 240 (ebn b) && not (eqb (ebn b) 255)) fault.Extension r2 r
+          let g1 = test_failed (leb 240 (ebn b) && not (eqb (ebn b) 255)) fault.Extension r2 r
           more.1 in
-          let g2 = guard_not (ltb 1 (cf b)) fault.CommentFlag r3 r g1.1 in
+          let g2 = test_failed (ltb 1 (cf b)) fault.CommentFlag r3 r g1.1 in
           let few : cf b ≤ 1 = ltb-false _ _ g2.0 in
           let which = ebn_cases b g1.0 in
           elim (chose (eqb (cf b) 1) (Ok (More begun)) (kept_at begun b) (Ok r) g2.1) [
             | inl comment ↦ passed_steps kept b begun r
                 (passed_by_comment b which (eqb-true _ _ comment.0)) h
-                (ok_is (More begun) r comment.1)
+                (Ok-injective (More begun) r comment.1)
             | inr own ↦
                 let other : cf b ≡ 1 → ⊥ = eqb-false _ _ own.0 in
                 let none : cf b ≡ 0 = omega arith in

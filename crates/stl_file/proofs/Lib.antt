@@ -1,4 +1,5 @@
 pub mod Text
+pub mod Times
 pub mod Written
 pub mod Kept
 pub mod Steps

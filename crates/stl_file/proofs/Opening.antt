@@ -16,14 +16,7 @@ use Rattle.stl_file.specs.SubtitleBlocks.{joined}
 use Rattle.stl_file.specs.Reader.{ReaderValue, opened, opened_at, RefusesOpening}
 use Rattle.stl_file.specs.File.{IsFile}
 use Rattle.std.specs.Io.KnownBytes.{Consumes}
-use Rattle.stl_file.proofs.Kept.{guard_not}
-
--- a test that had to hold for a value
-guard_ok_not : {A : Type 0} (b : Bool) (d : StlFault) (r : Result A StlFault) (y : A)
-    → cond (not b) (Err d) r ≡ Ok y
-    → (b ≡ true) × (r ≡ Ok y)
-guard_ok_not true d r y e = (refl, e)
-guard_ok_not false d r y e = absurd cc
+use Rattle.sub_io.proofs.ReadingLemmas.{test_held, test_failed, Ok-injective}
 
 -- one of two tests holds
 either : (a b : Bool) → (not a && not b) ≡ false → (a ≡ true) ⊎ (b ≡ true)
@@ -41,10 +34,6 @@ either_not false false e f = absurd cc
 same_bytes : (xs ys : List ℕ) → bytes_eq xs ys ≡ true → xs ≡ ys
 same_bytes xs ys e = (bytes_eq-Decides xs ys).0 e
 
--- equal answers have equal GSI blocks
-given_gsi : (x y : List ℕ) → ◌≡◌ {A = Result (List ℕ) StlFault} (Ok x) (Ok y) → x ≡ y
-given_gsi x y e = cc
-
 -- a GSI block without a fault is taken, as it is
 pub gsi_sound : (g h : List ℕ) → length g ≡ 1024 → gsi_at g ≡ Ok h → (h ≡ g) × IsGsi g
 unfolding gsi_at
@@ -54,13 +43,13 @@ gsi_sound g h size e =
     let r2 : Result (List ℕ) StlFault =
     cond (not (eqb (dsc g) level_1) && not (eqb (dsc g) level_2)) (Err fault.Display) r3 in
     let r1 : Result (List ℕ) StlFault = cond (bytes_eq (dfc g) stl_30) (Err fault.Rate) r2 in
-    let g0 = guard_not (not (bytes_eq (dfc g) stl_25) && not (bytes_eq (dfc g) stl_30)) fault.Format
-    r1 h e in
-    let g1 = guard_not (bytes_eq (dfc g) stl_30) fault.Rate r2 h g0.1 in
-    let g2 = guard_not (not (eqb (dsc g) level_1) && not (eqb (dsc g) level_2)) fault.Display r3 h
+    let g0 = test_failed (not (bytes_eq (dfc g) stl_25) && not (bytes_eq (dfc g) stl_30))
+    fault.Format r1 h e in
+    let g1 = test_failed (bytes_eq (dfc g) stl_30) fault.Rate r2 h g0.1 in
+    let g2 = test_failed (not (eqb (dsc g) level_1) && not (eqb (dsc g) level_2)) fault.Display r3 h
     g1.1 in
-    let g3 = guard_ok_not (bytes_eq (cct g) latin) fault.Alphabet (Ok g) h g2.1 in (
-      sym (given_gsi g h g3.1),
+    let g3 = test_held (bytes_eq (cct g) latin) fault.Alphabet (Ok g) h g2.1 in (
+      sym (Ok-injective g h g3.1),
       record {
         size = size;
         format = same_bytes _ _ (either_not _ _ g0.0 g1.0);

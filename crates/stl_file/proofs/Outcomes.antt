@@ -7,7 +7,7 @@ use Rattle.std.proofs.Common.{ap, subst, ◌∙◌}
 use Rattle.std.proofs.Common.{append_assoc, arith, length-append, inl, inr, ◌⊎◌}
 use Rattle.std.specs.Prelude.{filter}
 use Rattle.std.specs.List.{flat_map, AllByRecursion}
-use Rattle.std.proofs.lemmas.Bool.{eq-eqb, ne_eqb, le-ltb, lt-ltb}
+use Rattle.std.proofs.lemmas.Bool.{eq-eqb, ne_eqb, le-ltb, lt-ltb, cases_Bool}
 use Rattle.std.proofs.lemmas.List.{take_at, drop_at, append-nil}
 use Rattle.stl_file.specs.declared.fault.StlFault.{StlFault}
 use Rattle.stl_file.specs.declared.fault.StlFault.TheVariants as fault
@@ -21,7 +21,7 @@ use Rattle.stl_file.specs.Reading.{closed, kept_at, step_at, Outcome, ends, fail
 use Rattle.stl_file.specs.Reading.{outcome_after, outcome_at}
 use Rattle.stl_file.specs.NormalForm.{Judged, subtitles_of}
 use Rattle.stl_file.proofs.Steps.{first_complete, step_kept, step_passed, chain_head, cons_is}
-use Rattle.stl_file.proofs.Steps.{filter_passed, filter_kept, bool_cases}
+use Rattle.stl_file.proofs.Steps.{filter_passed, filter_kept}
 
 -- ---- the function by cases
 
@@ -350,7 +350,7 @@ outcome_complete [] (Some o) room out h le g = absurd (open_ends o g.tail g.gs g
 outcome_complete (b ∷ bs) begun zero out h le g = absurd (omega arith)
 outcome_complete (b ∷ bs) begun (suc room) out h le g =
     let rest = joined bs in
-    elim (bool_cases (is_passed b)) [
+    elim (cases_Bool (is_passed b)) [
       | inl passed ↦
           ap subtitles_of (outcome_block room begun b rest (Ok (More begun)) h.0
           (step_passed begun b passed))

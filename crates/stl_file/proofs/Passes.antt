@@ -7,6 +7,7 @@ use Rattle.std.specs.Prelude.{filter, IfSome}
 use Rattle.std.specs.Io.KnownBytes.{Appends}
 use Rattle.std.proofs.KnownBytes.{Appends-trans}
 use Rattle.std.proofs.lemmas.List.{append-nil}
+use Rattle.std.proofs.lemmas.Option.{same_Some}
 use Rattle.sub_io.specs.Device.{AppendsPrefix}
 use Rattle.sub_io.proofs.DeviceLemmas.{AppendsPrefix-first, AppendsPrefix-second}
 use Rattle.stl_file.specs.declared.fault.StlFault.{StlFault}
@@ -78,11 +79,6 @@ prepend_cons ts s (Ok ss) =
     ap (λ (x : List SubtitleValue). fine x) (sym (append_assoc ts (s ∷ []) ss))
 prepend_cons ts s (Err f) = refl
 
--- no subtitle so far
-prepend_nil : (j : Judged) → prepend [] j ≡ j
-prepend_nil (Ok ss) = refl
-prepend_nil (Err f) = refl
-
 -- all subtitles, without a fault
 abbrev judged : List SubtitleValue → Judged
 judged x = Ok x
@@ -103,17 +99,6 @@ pub record Passes (body : List ℕ) (r : ReaderValue) (rest : List ℕ)
   pub few : r.block ≤ most_blocks
   pub blocks : length (all_blocks done) ≤ r.block
   pub subtitles : length done ≤ r.block
-
--- the pass at its start
-pub pass_start : (body g : List ℕ)
-    → Passes body (record { gsi = g; block = 0; progress = Reading }) body []
-pass_start body g = record {
-  all = sym (prepend_nil (subtitles_of (outcome_from 0 body)));
-  reading = refl;
-  few = omega arith;
-  blocks = omega arith;
-  subtitles = omega arith;
-}
 
 -- the count of failures of a source that never fails says that this call did not
 pub no_failure : (b : Bool) → 0 ≡ 0 + cond b 1 0 → b ≡ false
@@ -164,16 +149,12 @@ took from to old new s t =
     let n = blocks_count s (full_pieces s.text) 0 s.text in
     record { less = omega arith; some = omega arith }
 
--- the bytes that are left, where they are known
-some_is : (x y : List ℕ) → ◌≡◌ {A = Option (List ℕ)} (Some x) (Some y) → x ≡ y
-some_is x y e = cc
-
 -- what was left, by the answer and what is left now
 left_is : (p r : ReaderValue) (rest next : List ℕ) (a : Answer)
     → Answers p rest r (Some next) a
     → outcome_left p rest ≡ outcome_with r next a
 left_is p r rest next a h =
-    h.outcome ∙ ap (λ (x : List ℕ). outcome_with r x a) (sym (some_is next h.rest h.rest_is))
+    h.outcome ∙ ap (λ (x : List ℕ). outcome_with r x a) (sym (same_Some next h.rest h.rest_is))
 
 module _ (body rest next : List ℕ) (p r : ReaderValue) (done : List SubtitleValue)
     (h : Passes body p rest done) where

@@ -4,8 +4,8 @@ use Rattle.std.proofs.Common.{ltb, List, [], ◌∷◌, Option}
 use Rattle.std.proofs.Common.{Result, Ok, refl, sym, ap, arith, inl}
 use Rattle.std.proofs.Common.{inr, ◌⊎◌}
 use Rattle.std.specs.Prelude.{◌&&◌, ◌||◌, filter}
-use Rattle.std.proofs.lemmas.Bool.{eqb-true, ne_eqb, ltb-true, le-leb, lt-leb, lt-ltb}
-use Rattle.std.proofs.lemmas.Bool.{le-ltb}
+use Rattle.std.proofs.lemmas.Bool.{eqb-true, ne_eqb, ltb-true, le-leb, lt-leb, lt-ltb, and_parts}
+use Rattle.std.proofs.lemmas.Bool.{le-ltb, or_cases}
 use Rattle.stl_file.specs.declared.fault.StlFault.{StlFault}
 use Rattle.stl_file.specs.declared.step.Begun.{Begun}
 use Rattle.stl_file.specs.declared.step.Step.TheVariants.{More}
@@ -13,6 +13,7 @@ use Rattle.stl_file.specs.Tti.{sgn, sn, ebn, vp, jc, cf, text_of, is_passed, is_
 use Rattle.stl_file.specs.Subtitle.{SubtitleValue}
 use Rattle.stl_file.specs.SubtitleBlocks.{IsTimeAt, BelongsTo, AreLinked, Begins}
 use Rattle.stl_file.specs.Reading.{time_at, first_at, kept_at, step_at}
+use Rattle.sub_io.proofs.ReadingLemmas.{given_as}
 
 -- ---- one block
 
@@ -32,10 +33,6 @@ value_is : (s : SubtitleValue) (a b c d : ℕ) (t : List ℕ)
     (record s { text = t })
 value_is s a b c d t e f g h = rw (e, f, g, h) refl
 
--- a subtitle without a fault
-abbrev found : SubtitleValue → Result SubtitleValue StlFault
-found s = Ok s
-
 -- a block that begins a subtitle is read as its first
 pub first_complete : (b : List ℕ) (s : SubtitleValue)
     → Begins s b
@@ -50,8 +47,8 @@ first_complete b s h =
     le-leb _ _ (let j = h.vp_range.1 in let k = h.vp_is in omega arith) in
     let lt : ltb s.tci s.tco ≡ true = lt-ltb _ _ h.times in
     rw (h.cumulative, low, v1, v2, time_complete b 5 s.tci h.tci, time_complete b 9 s.tco h.tco, lt)
-    (ap found (value_is s (sgn b) (sn b) (vp b) (jc b) (text_of b) h.sgn_is h.sn_is h.vp_is
-    h.jc_is))
+    (ap (given_as StlFault)
+    (value_is s (sgn b) (sn b) (vp b) (jc b) (text_of b) h.sgn_is h.sn_is h.vp_is h.jc_is))
 
 -- the EBN of a subtitle is not reserved
 not_extension : (n : ℕ) → (n < 240) ⊎ (n ≡ 255) → (leb 240 n && not (eqb n 255)) ≡ false
@@ -71,16 +68,6 @@ pub step_kept : (begun : Option Begun) (b : List ℕ)
 unfolding step_at
 step_kept begun b e c = rw (not_user (ebn b) e, not_extension (ebn b) e, c) refl
 
--- one of two tests that hold together
-or_cases : (a b : Bool) → (a || b) ≡ true → (a ≡ true) ⊎ (b ≡ true)
-or_cases true b e = inl refl
-or_cases false b e = inr e
-
--- both parts of a test that holds
-and_ok : (a b : Bool) → (a && b) ≡ true → (a ≡ true) × (b ≡ true)
-and_ok true b e = (refl, e)
-and_ok false b e = absurd cc
-
 -- a comment or user data is passed over
 pub step_passed : (begun : Option Begun) (b : List ℕ)
     → is_passed b ≡ true
@@ -90,7 +77,7 @@ step_passed begun b p =
     elim (or_cases (eqb (ebn b) 254) ((ltb (ebn b) 240 || eqb (ebn b) 255) && eqb (cf b) 1) p) [
       | inl user ↦ rw user refl
       | inr comment ↦
-          let both = and_ok (ltb (ebn b) 240 || eqb (ebn b) 255) (eqb (cf b) 1) comment in
+          let both = and_parts (ltb (ebn b) 240 || eqb (ebn b) 255) (eqb (cf b) 1) comment in
           let one : cf b ≡ 1 = eqb-true _ _ both.1 in
           let which : (ebn b < 240) ⊎ (ebn b ≡ 255) =
           elim (or_cases (ltb (ebn b) 240) (eqb (ebn b) 255) both.0)
@@ -128,8 +115,3 @@ pub filter_kept : (b : List ℕ) (bs : List (List ℕ))
     → is_passed b ≡ false
     → filter is_kept (b ∷ bs) ≡ b ∷ filter is_kept bs
 filter_kept b bs p = rw p refl
-
--- a test holds or does not
-pub bool_cases : (b : Bool) → (b ≡ true) ⊎ (b ≡ false)
-bool_cases true = inl refl
-bool_cases false = inr refl

@@ -9,6 +9,7 @@ use Rattle.std.specs.List.{AllByRecursion}
 use Rattle.std.specs.Io.KnownBytes.{Consumes}
 use Rattle.std.proofs.KnownBytes.{Consumes-trans}
 use Rattle.std.proofs.lemmas.List.{append-nil, take_all, nil_from_length}
+use Rattle.std.proofs.lemmas.Option.{same_Some}
 use Rattle.sub_io.specs.Device.{Fills}
 use Rattle.sub_io.proofs.DeviceLemmas.{Told-from_fills}
 use Rattle.stl_file.specs.declared.fault.StlFault.{StlFault}
@@ -46,29 +47,6 @@ pub record HasRead (from : ℕ) (old now : Option (List ℕ)) (block : ℕ) (beg
       (tail : List ℕ)
       → outcome_from from (joined blocks ++ tail) ≡ outcome_at (most_blocks - block) begun tail
 
--- nothing was read yet
-pub has_read_none : (from : ℕ) (old : Option (List ℕ)) → HasRead from old old from None
-has_read_none from None =
-    record {
-      blocks = [];
-      each = tt;
-      consumed = tt;
-      kept = refl;
-      counted = omega arith;
-      goes =
-          λ tail. refl;
-    }
-has_read_none from (Some xs) =
-    record {
-      blocks = [];
-      each = tt;
-      consumed = refl;
-      kept = refl;
-      counted = omega arith;
-      goes =
-          λ tail. refl;
-    }
-
 -- no file goes on with a first fault
 no_rest : (from : ℕ) (bytes more : List ℕ) (bs : List (List ℕ)) (ts : List SubtitleValue)
     (f : StlFault) (block : ℕ)
@@ -83,10 +61,6 @@ no_rest from bytes more bs ts f block r e bad =
     let no = sym (ap subtitles_of bad)
     ∙ ap (λ (x : List ℕ). subtitles_of (outcome_from from x)) (sym e) ∙ good in
     cc
-
--- equal known bytes are equal bytes
-some_is : (x y : List ℕ) → ◌≡◌ {A = Option (List ℕ)} (Some x) (Some y) → x ≡ y
-some_is x y e = cc
 
 -- what a source that tells its bytes has given: the blocks, the bytes of one turn, and what is left
 pub record Given (bytes blocks front : List ℕ) (n : ℕ) (new : Option (List ℕ)) : Type 0 where
@@ -109,7 +83,7 @@ given_by (Some xs) (Some ys) new n blocks buffer bytes size c f e =
     record {
       rest = t.rest;
       rest_is = t.new_is;
-      parts = sym (some_is xs bytes e) ∙ c ∙ ap (λ (x : List ℕ). blocks ++ x) t.parts;
+      parts = sym (same_Some xs bytes e) ∙ c ∙ ap (λ (x : List ℕ). blocks ++ x) t.parts;
       ended = λ lt. t.ended (omega arith);
     }
 

@@ -1,6 +1,6 @@
--- The number and the name by which a fault is told; which refusals are faults of the bytes, and which
--- come of the device or of the reader's state.
-use Rattle.std.specs.Prelude.{ℕ, Bool, true, false, List, Result, Err, codes}
+-- The number and the name by which a fault is told; which refusals are faults of the bytes, and
+-- which come of the device or of the reader's state.
+use Rattle.std.specs.Prelude.{ℕ, Bool, true, false, List, codes}
 use Rattle.stl_file.specs.declared.fault.StlFault.{StlFault}
 use Rattle.stl_file.specs.declared.fault.StlFault.TheVariants as fault
 use Rattle.stl_file.specs.declared.fault.NormalFault.{NormalFault}
@@ -27,7 +27,7 @@ number_and_name fault.TooManyBlocks = (25, codes "TooManyBlocks")
 number_and_name fault.Read = (26, codes "Read")
 number_and_name fault.Ended = (27, codes "Ended")
 
--- The same of a normal form that is not written.
+-- The number and the name of the fault of a normal form that is not written.
 abbrev pub normal_number_and_name : NormalFault → ℕ × List ℕ
 normal_number_and_name (Refused fault block) = number_and_name fault
 normal_number_and_name Write = (29, codes "Write")
@@ -38,14 +38,14 @@ is_format fault.Read = false
 is_format fault.Ended = false
 is_format _ = true
 
--- the answer is that the source failed
-abbrev pub is_read : {X : Type 0} → Result X StlFault → Bool
-is_read (Err fault.Read) = true
+-- the source failed
+abbrev pub is_read : StlFault → Bool
+is_read fault.Read = true
 is_read _ = false
 
--- the answer is that the sink failed
-abbrev pub is_write : {X : Type 0} → Result X NormalFault → Bool
-is_write (Err Write) = true
+-- the sink failed
+abbrev pub is_write : NormalFault → Bool
+is_write Write = true
 is_write _ = false
 
 -- a block's own bytes or its place among the blocks of its subtitle are at fault, and not that it

@@ -30,7 +30,7 @@ use Rattle.stl_file.specs.declared.fault.StlFault.TheVariants as fault
 abbrev pub gsi_size : ℕ
 gsi_size = 1024
 
--- so many bytes from a place
+-- `len` bytes from a place
 abbrev pub field : ℕ → ℕ → List ℕ → List ℕ
 field at len g = take len (drop at g)
 

@@ -33,7 +33,7 @@ text_field piece = piece ++ replicate (112 - length piece) unused_space
 unfoldable pub block_of : SubtitleValue → ℕ → List ℕ → List ℕ
 block_of s ebn piece = block_head s ebn ++ text_field piece
 
--- so many blocks with full text fields, numbered on from an EBN, and a last one
+-- `full` blocks with full text fields, numbered on from an EBN, and a last one
 unfoldable pub blocks_from : SubtitleValue → ℕ → ℕ → List ℕ → List (List ℕ)
 blocks_from s zero ebn text = block_of s last_block text ∷ []
 blocks_from s (suc full) ebn text =

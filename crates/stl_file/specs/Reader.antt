@@ -30,7 +30,7 @@ HasPlace _ block = block ≤ most_blocks
 
 -- ---- what is left to be given
 
--- what these bytes give behind so many TTI blocks, where the next one begins a subtitle
+-- what these bytes give after `block` TTI blocks, where the next one begins a subtitle
 abbrev pub outcome_from : ℕ → List ℕ → Outcome
 outcome_from block b = outcome_at (most_blocks - block) None b
 
@@ -40,7 +40,7 @@ outcome_in Reading block b = outcome_from block b
 outcome_in AtEnd block b = ends
 outcome_in Broken block b = fails fault.Ended block
 
--- the same of a reader
+-- what is left to be given by a reader
 abbrev pub outcome_left : ReaderValue → List ℕ → Outcome
 outcome_left r b = outcome_in r.progress r.block b
 
@@ -61,7 +61,7 @@ pub record Answers (old : ReaderValue) (bytes : List ℕ) (new : ReaderValue) (n
 -- ---- the same within one call, by the last block that was read
 
 -- the block that a fault names: one block too many and the block of a byte that could not be read
--- come behind the last block
+-- come after the last block
 abbrev pub block_after : ℕ → StlFault → ℕ
 block_after block fault.TooManyBlocks = block + 1
 block_after block fault.Read = block + 1
@@ -72,7 +72,7 @@ abbrev pub block_by : ℕ → Result (Option SubtitleValue) StlFault → ℕ
 block_by block (Err f) = block_after block f
 block_by block (Ok found) = block
 
--- what an answer says of all that was left, where these bytes are left behind so many blocks
+-- what an answer says of all that was left, where `rest` is left after `block` blocks
 abbrev pub outcome_by : ℕ → List ℕ → Result (Option SubtitleValue) StlFault → Outcome
 outcome_by block rest (Err f) = fails f (block_after block f)
 outcome_by block rest (Ok None) = ends
@@ -113,7 +113,7 @@ pub record TakesPassed (from to : ℕ) (old new : Option (List ℕ)) : Type 0 wh
   pub consumed : Consumes old new (joined blocks)
   pub ended : IsAtEnd new
 
--- No file goes on with the bytes that were taken, behind so many TTI blocks that end where a
+-- No file goes on with the bytes that were taken, after `from` TTI blocks that end where a
 -- subtitle may begin; for the faults of a file that was cut, none goes on with them and ends there.
 -- The block is the last one that has a byte among those that were taken.
 pub record Refuses (from to : ℕ) (old new : Option (List ℕ)) (f : StlFault) : Type 0 where
@@ -137,12 +137,12 @@ NamesFrom block (fails fault.Unfinished at) = block ≤ at + 1
 NamesFrom block (fails f at) = block ≤ at
 NamesFrom block (gives s at outcome) = (block ≤ at) × NamesFrom block outcome
 
--- the block of the byte behind so many bytes of a file: 0 is the GSI block
+-- the block of the byte that stands after n bytes of a file: 0 is the GSI block
 abbrev pub block_of_byte : ℕ → ℕ
 block_of_byte n = if nat_lt n gsi_size then 0 else (n - gsi_size) / 128 + 1
 
--- The source failed: the block is that of the byte that was asked for, the first one behind those
--- that were taken. These hold no fault, and end no subtitle: whatever comes behind them, what they
+-- The source failed: the block is that of the byte that was asked for, the first one after those
+-- that were taken. These hold no fault, and end no subtitle: whatever comes after them, what they
 -- give together is told of that block or a later one.
 pub record FailsReading (from to : ℕ) (old new : Option (List ℕ)) : Type 0 where
   pub bytes : List ℕ
@@ -158,7 +158,7 @@ progress_after p (Ok (Some s)) = p
 
 -- ---- opening a file
 
--- a reader behind the GSI block
+-- a reader after the GSI block
 abbrev pub opened : Result (List ℕ) StlFault → Result ReaderValue StlFault
 opened (Err f) = Err f
 opened (Ok g) = Ok (record { gsi = g; block = 0; progress = Reading })

@@ -85,13 +85,13 @@ pub data Outcome : Type 0 where
   fails : StlFault → ℕ → Outcome
   gives : SubtitleValue → ℕ → Outcome → Outcome
 
--- what comes of a block behind which so many may still follow
+-- what comes of a block after which `room` blocks may still follow
 abbrev pub outcome_after : ℕ → (Option Begun → Outcome) → Result Step StlFault → Outcome
 outcome_after room next (Err f) = fails f (most_blocks - room)
 outcome_after room next (Ok (Give s)) = gives s (most_blocks - room) (next None)
 outcome_after room next (Ok (More begun)) = next begun
 
--- What bytes behind the GSI block give, where so many blocks may still follow and a subtitle was
+-- What bytes after the GSI block give, where `room` blocks may still follow and a subtitle was
 -- begun or not. The end inside a subtitle names the last whole block, every other fault the block
 -- that was begun; one byte after 99,999 blocks is a block too many.
 unfoldable pub outcome_at : ℕ → Option Begun → List ℕ → Outcome
@@ -111,7 +111,7 @@ BegunFits None = Unit {0}
 BegunFits (Some begun) =
     (length begun.subtitle.text ≤ 112 * begun.blocks) × (begun.blocks ≤ most_of_subtitle)
 
--- the same behind a block
+-- what was begun, if the step leaves something begun, keeps that after a block too
 abbrev pub StepFits : Step → Type 0
 StepFits (Give s) = Unit {0}
 StepFits (More begun) = BegunFits begun

@@ -75,7 +75,7 @@ AreBlocksOfEach [] (g ∷ gs) = ⊥
 AreBlocksOfEach (s ∷ ss) [] = ⊥
 AreBlocksOfEach (s ∷ ss) (g ∷ gs) = AreBlocksOf s g × AreBlocksOfEach ss gs
 
--- The blocks of a file from a place on where a subtitle may begin, at most so many: where the
+-- The blocks of a file from a place on where a subtitle may begin, `most` at most: where the
 -- passed blocks are taken out, the blocks of these subtitles are left, one subtitle after the
 -- other.
 pub record IsRest (most : ℕ) (bs : List (List ℕ)) (ts : List SubtitleValue) : Type 0 where

@@ -28,7 +28,7 @@ most_blocks = 99999
 abbrev pub most_of_subtitle : ℕ
 most_of_subtitle = 9
 
--- the first EBN that is reserved: a subtitle goes on behind each EBN below
+-- the first EBN that is reserved: a subtitle goes on after each EBN below
 abbrev pub first_reserved : ℕ
 first_reserved = 0xF0
 

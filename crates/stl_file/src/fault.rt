@@ -39,7 +39,7 @@ pub enum StlFault {
     TooLong,
     /// 24: the file ends within a subtitle, whose last block has EBN FF.
     Unfinished,
-    /// 25: there is a byte behind 99,999 TTI blocks.
+    /// 25: there is a byte after 99,999 TTI blocks.
     TooManyBlocks,
     /// 26: the source failed.
     Read,
@@ -65,7 +65,7 @@ impl StlFault {
         self.number_and_name().1
     }
 
-    // Both.
+    // The number and the name.
     fn number_and_name(self) -> (u8, &'static str)
         ensures number { result.0 ≡ (number_and_name self).0 }
         ensures name { result.1.now ≡ (number_and_name self).1 }
@@ -134,7 +134,7 @@ impl NormalFault {
         self.number_and_name().1
     }
 
-    // Both.
+    // The number and the name.
     fn number_and_name(self) -> (u8, &'static str)
         ensures number { result.0 ≡ (normal_number_and_name self).0 }
         ensures name { result.1.now ≡ (normal_number_and_name self).1 }

@@ -9,14 +9,14 @@ ghost use Rattle.stl_file.specs.Subtitle.{SubtitleValue};
 /// Bytes are a file with these subtitles exactly where reading gives these subtitles and no fault.
 ///
 /// So what a reader gives is what a file is, and nothing of how it reads has to be known.
-pub fn file_is_what_is_read()
+pub fn law_of_files()
     ensures { (s g : List ℕ)
         → (ts : List SubtitleValue)
         → IsFile s g ts ↔ ((g ≡ take 1024 s) × (subtitles_of (outcome_of s) ≡ Ok ts)) }
 {}
 
 /// A file has one GSI block and one list of subtitles.
-pub fn file_has_one_reading()
+pub fn law_of_one_reading()
     ensures { (s g h : List ℕ)
         → (ts us : List SubtitleValue)
         → IsFile s g ts
@@ -26,7 +26,7 @@ pub fn file_has_one_reading()
 
 /// The normal form of a file is a file with the same subtitles, whose GSI block is the same but for
 /// TNB and TNS.
-pub fn normal_form_is_a_file()
+pub fn law_of_normal_form()
     ensures { (s g : List ℕ)
         → (ts : List SubtitleValue)
         → IsFile s g ts
@@ -34,7 +34,7 @@ pub fn normal_form_is_a_file()
 {}
 
 /// The normal form of a normal form is itself.
-pub fn normal_form_is_its_own()
+pub fn law_of_normal_form_again()
     ensures { (s g h : List ℕ)
         → (ts us : List SubtitleValue)
         → IsFile s g ts

@@ -2,7 +2,7 @@
 
 ghost use Rattle.std.specs.Prelude.{◌≡◌, ◌≢◌, ◌+◌, ◌<◌, length, true, if◌then◌else◌};
 ghost use Rattle.std.specs.Prelude.{IfErr, IfOk, is_ok};
-ghost use Rattle.sub_io.specs.Device.{CanFail, CountsFailure, Writes};
+ghost use Rattle.sub_io.specs.Device.{CanFail, CountsFailure, CountsIf, Writes, failed};
 ghost use Rattle.stl_file.specs.declared.fault.NormalFault.TheVariants.{Write};
 ghost use Rattle.stl_file.specs.Fault.{is_write};
 ghost use Rattle.stl_file.specs.NormalForm.{NormalAnswers, all_blocks, blocks_of, subtitles_of};
@@ -31,8 +31,7 @@ use sub_io::{Failed, MemSource, Sink, put_all};
 pub fn normal<K: Sink>(file: &[u8], sink: &mut K) -> Result<u32, NormalFault>
     requires { CanFail (K.failure_count sink.old) }
     ensures answer { NormalAnswers file.now (K.contents sink.old) (K.contents sink.new) result }
-    ensures count { K.failure_count sink.new
-        ≡ K.failure_count sink.old + (if is_write result then 1 else 0) }
+    ensures count { CountsIf K.failure_count sink.old (failed is_write result) sink.new }
 {
     let mut source = MemSource::new(file);
     let reader = match StlReader::open(&mut source) {
@@ -48,7 +47,7 @@ pub fn normal<K: Sink>(file: &[u8], sink: &mut K) -> Result<u32, NormalFault>
     Ok(counts.tns)
 }
 
-// Reads all blocks behind the GSI block, and counts what the normal form will have.
+// Reads all blocks after the GSI block, and counts what the normal form will have.
 fn judge(gsi: Gsi, body: &[u8]) -> Result<Counts, NormalFault>
     ensures exact { counted (subtitles_of (outcome_from 0 body.now)) ≡ result }
     ensures kind { IfErr result (λ fault. fault ≢ Write) }
@@ -81,7 +80,7 @@ fn count_of(subtitle: &Subtitle) -> u32
     (subtitle.text().len().saturating_sub(1) / 112) as u32 + 1
 }
 
-// Reads all blocks behind the GSI block again, and writes the subtitles.
+// Reads all blocks after the GSI block again, and writes the subtitles.
 fn put_subtitles<K: Sink>(gsi: Gsi, body: &[u8], sink: &mut K) -> Result<(), Failed>
     requires accepted { is_ok (subtitles_of (outcome_from 0 body.now)) ≡ true }
     requires count { CanFail (K.failure_count sink.old) }

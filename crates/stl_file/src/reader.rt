@@ -4,7 +4,7 @@ ghost use Rattle.std.specs.Prelude.{◌≡◌, ◌≢◌, ◌↔◌, ◌+◌, �
 ghost use Rattle.std.specs.Prelude.{List, length};
 ghost use Rattle.std.specs.Prelude.{false, true, None, Some, Ok, Err, IfErr, IfNone, IfOk, IfSome};
 ghost use Rattle.std.specs.Io.KnownBytes.{Consumes};
-ghost use Rattle.sub_io.specs.Device.{CanFail};
+ghost use Rattle.sub_io.specs.Device.{CanFail, CountsIf, failed};
 ghost use Rattle.sub_io.specs.Reading.{IfTold};
 ghost use Rattle.stl_file.specs.declared.fault.StlFault.TheVariants.{Ended};
 ghost use Rattle.stl_file.specs.Fault.{is_format, is_read};
@@ -49,7 +49,7 @@ impl Model for StlReader {
 impl StlReader {
     ghost use Rattle.stl_file.specs.declared.progress.Progress.TheVariants.{AtEnd, Broken, Reading};
 
-    /// Reads a file's GSI block and takes nothing behind it.
+    /// Reads a file's GSI block and takes nothing after it.
     ///
     /// # Errors
     ///
@@ -59,7 +59,7 @@ impl StlReader {
         requires { CanFail (S.failure_count source.old) }
         // Where the source tells its bytes and does not fail, they decide the answer.
         ensures exact { IfTold (S.remaining source.old) (λ bytes.
-            is_read result ≡ false → opened_at bytes ≡ result) }
+            failed is_read result ≡ false → opened_at bytes ≡ result) }
         // The GSI block alone is taken.
         ensures taken { IfOk result (λ reader. IsGsi reader.gsi
             × Consumes (S.remaining source.old) (S.remaining source.new) reader.gsi) }
@@ -71,11 +71,10 @@ impl StlReader {
         ensures refused { IfErr result (λ fault. is_format fault ≡ true →
             RefusesOpening (S.remaining source.old) (S.remaining source.new) fault) }
         // A source that failed failed within the GSI block.
-        ensures failed { is_read result ≡ true → (bytes : List ℕ) × (length bytes < 1024)
+        ensures failed { failed is_read result ≡ true → (bytes : List ℕ) × (length bytes < 1024)
             × Consumes (S.remaining source.old) (S.remaining source.new) bytes }
         ensures never { IfErr result (λ fault. fault ≢ Ended) }
-        ensures count { S.failure_count source.new
-            ≡ S.failure_count source.old + (if is_read result then 1 else 0) }
+        ensures count { CountsIf S.failure_count source.old (failed is_read result) source.new }
     {
         let mut bytes = [0; 1024];
         let got = fill(source, &mut bytes)?;
@@ -86,7 +85,7 @@ impl StlReader {
         Ok(StlReader::behind(gsi))
     }
 
-    // A reader behind this GSI block.
+    // A reader after this GSI block.
     pub(crate) fn behind(gsi: Gsi) -> StlReader
         ensures { result ≡ record { gsi = gsi; block = 0; progress = Reading } }
     {
@@ -122,7 +121,7 @@ impl StlReader {
     ///
     /// # Errors
     ///
-    /// The first fault by block: `TooManyBlocks` (a byte behind 99,999 blocks), `Truncated` (fewer
+    /// The first fault by block: `TooManyBlocks` (a byte after 99,999 blocks), `Truncated` (fewer
     /// than 128 bytes), `Extension`, `CommentFlag`; of a block that is not passed over, within a
     /// subtitle `Sequence`, `TooLong`, else `Cumulative`, `Justify`, `Row`, `Time`, `EmptyTime`.
     /// `Unfinished` where the file ends within a subtitle, `Read` where the source failed. After
@@ -131,7 +130,7 @@ impl StlReader {
         requires { CanFail (S.failure_count source.old) }
         // Where the source tells its bytes and does not fail, they decide the answer, its block and
         // what is left.
-        ensures exact { IfTold (S.remaining source.old) (λ bytes. is_read result ≡ false →
+        ensures exact { IfTold (S.remaining source.old) (λ bytes. failed is_read result ≡ false →
             Answers self.old bytes self.new (S.remaining source.new) result) }
 
         // A subtitle is that of the blocks that were taken, with the passed blocks before and
@@ -148,21 +147,20 @@ impl StlReader {
             is_format fault ≡ true → Refuses self.old.block self.new.block
             (S.remaining source.old) (S.remaining source.new) fault) }
         // A source that failed failed at this block.
-        ensures failed { self.old.progress ≡ Reading → is_read result ≡ true →
+        ensures failed { self.old.progress ≡ Reading → failed is_read result ≡ true →
             FailsReading self.old.block self.new.block
             (S.remaining source.old) (S.remaining source.new) }
 
         ensures progress { self.new.progress ≡ progress_after self.old.progress result }
         ensures place { HasPlace self.new.progress self.new.block }
         ensures gsi { self.new.gsi ≡ self.old.gsi }
-        // Behind the end and behind a fault nothing is taken, and the reader stays as it is.
+        // After the end and after a fault nothing is taken, and the reader stays as it is.
         ensures at_end { self.old.progress ≡ AtEnd →
             (result ≡ Ok None) × (self.new ≡ self.old) × (source.new ≡ source.old) }
         ensures ended { (self.old.progress ≡ Broken) ↔ (result ≡ Err Ended) }
         ensures stays { self.old.progress ≡ Broken →
             (self.new ≡ self.old) × (source.new ≡ source.old) }
-        ensures count { S.failure_count source.new
-            ≡ S.failure_count source.old + (if is_read result then 1 else 0) }
+        ensures count { CountsIf S.failure_count source.old (failed is_read result) source.new }
     {
         let mut block = match self.progress {
             Progress::Reading => self.block,
@@ -183,11 +181,11 @@ impl StlReader {
     }
 }
 
-// The next subtitle of a file, behind so many blocks.
+// The next subtitle of a file of which `block` blocks were read.
 fn read_subtitle<S: Source>(block: &mut u32, source: &mut S) -> Result<Option<Subtitle>, StlFault>
     requires few { block.old ≤ most_blocks }
     requires count { CanFail (S.failure_count source.old) }
-    ensures exact { IfTold (S.remaining source.old) (λ bytes. is_read result ≡ false →
+    ensures exact { IfTold (S.remaining source.old) (λ bytes. failed is_read result ≡ false →
         Leads block.old bytes block.new (S.remaining source.new) result) }
     ensures subtitle { IfOk result (λ found. IfSome found (TakesSubtitle block.old block.new
         (S.remaining source.old) (S.remaining source.new))) }
@@ -196,12 +194,11 @@ fn read_subtitle<S: Source>(block: &mut u32, source: &mut S) -> Result<Option<Su
     ensures refused { IfErr result (λ fault. is_format fault ≡ true →
         Refuses block.old (block_after block.new fault)
         (S.remaining source.old) (S.remaining source.new) fault) }
-    ensures failed { is_read result ≡ true →
+    ensures failed { failed is_read result ≡ true →
         FailsReading block.old (block.new + 1) (S.remaining source.old) (S.remaining source.new) }
     ensures never { IfErr result (λ fault. fault ≢ Ended) }
     ensures few { block.new ≤ most_blocks }
-    ensures count { S.failure_count source.new
-        ≡ S.failure_count source.old + (if is_read result then 1 else 0) }
+    ensures count { CountsIf S.failure_count source.old (failed is_read result) source.new }
 {
     let mut begun: Option<Begun> = None;
     loop {
@@ -227,7 +224,7 @@ fn read_subtitle<S: Source>(block: &mut u32, source: &mut S) -> Result<Option<Su
     }
 }
 
-// The block that a fault names, behind so many blocks.
+// The block that a fault names where `block` blocks were read.
 fn block_of(block: u32, fault: &StlFault) -> u32
     requires { block ≤ most_blocks }
     ensures { block_after block fault.now ≡ result }

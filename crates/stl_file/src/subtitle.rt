@@ -5,7 +5,7 @@ ghost use Rattle.std.specs.Option.{SomeIff};
 ghost use Rattle.stl_file.specs.Fault.{is_format, is_of_block};
 ghost use Rattle.stl_file.specs.Reading.{first_at, time_at};
 ghost use Rattle.stl_file.specs.Subtitle.{IsSubtitle, SubtitleValue, has_no_unused};
-ghost use Rattle.stl_file.specs.Tti.{before_unused, sgn, sn, text_of};
+ghost use Rattle.stl_file.specs.Tti.{before_unused, sgn, sn, tci_place, tco_place, text_of};
 
 use crate::fault::StlFault;
 use crate::time_code::TimeCode;
@@ -120,7 +120,7 @@ impl Subtitle {
         self.tci
     }
 
-    /// TCO, the time code of the first frame behind it at which the subtitle is no longer due.
+    /// TCO, the time code of the first frame after it at which the subtitle is no longer due.
     pub fn tco(&self) -> TimeCode
         ensures value { result ≡ self.now.tco }
         ensures is { IsSubtitle self.now }
@@ -171,8 +171,8 @@ impl Subtitle {
         if vp < 1 || vp > 23 {
             return Err(StlFault::Row);
         }
-        let tci = time_of(block, 5)?;
-        let tco = time_of(block, 9)?;
+        let tci = time_in(block)?;
+        let tco = time_out(block)?;
         if tci.frame() >= tco.frame() {
             return Err(StlFault::EmptyTime);
         }
@@ -206,21 +206,33 @@ impl Subtitle {
     }
 }
 
-// The time code at a place of a block.
-#[tactic(auto, unfolding(crate::specs::Reading::time_at))]
-fn time_of(block: &Tti, place: usize) -> Result<TimeCode, StlFault>
-    requires { place + 4 ≤ 128 }
-    ensures exact { time_at block.now place ≡ result }
+// TCI as a time code.
+fn time_in(block: &Tti) -> Result<TimeCode, StlFault>
+    ensures exact { time_at block.now tci_place ≡ result }
     ensures kind { IfErr result (λ fault. is_format fault ≡ true) }
     ensures own { IfErr result (λ fault. is_of_block fault ≡ true) }
 {
-    let bytes = block.write();
-    let time = TimeCode::new(
-        bytes[place],
-        bytes[place + 1],
-        bytes[place + 2],
-        bytes[place + 3],
-    );
+    time_of(block.tci())
+}
+
+// TCO as a time code.
+fn time_out(block: &Tti) -> Result<TimeCode, StlFault>
+    ensures exact { time_at block.now tco_place ≡ result }
+    ensures kind { IfErr result (λ fault. is_format fault ≡ true) }
+    ensures own { IfErr result (λ fault. is_of_block fault ≡ true) }
+{
+    time_of(block.tco())
+}
+
+// The time code of the four bytes of TCI or TCO.
+#[tactic(auto, unfolding(crate::specs::Reading::time_at))]
+fn time_of(bytes: [u8; 4]) -> Result<TimeCode, StlFault>
+    ensures exact { time_at bytes 0 ≡ result }
+    ensures kind { IfErr result (λ fault. is_format fault ≡ true) }
+    ensures own { IfErr result (λ fault. is_of_block fault ≡ true) }
+{
+    let [hours, minutes, seconds, frames] = bytes;
+    let time = TimeCode::new(hours, minutes, seconds, frames);
     time.ok_or(StlFault::Time)
 }
 

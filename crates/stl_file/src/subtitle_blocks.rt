@@ -67,7 +67,7 @@ fn take_kept(begun: Option<Begun>, block: &Tti) -> Result<Step, StlFault>
     Ok(close(block.ebn(), subtitle, blocks + 1))
 }
 
-// A subtitle is whole behind EBN FF, and goes on behind any other.
+// A subtitle is whole after EBN FF, and goes on after any other.
 fn close(ebn: u8, subtitle: Subtitle, blocks: u8) -> Step
     ensures { closed ebn subtitle blocks ≡ result }
 {

@@ -1,9 +1,9 @@
--- Lines put on a page one after another give the drawn page, and their faults in order the first
--- fault.
-use Rattle.std.proofs.Common.{◌≡◌, ◌≢◌, ℕ, suc, ◌+◌, ◌-◌, ◌<◌, ◌≤◌, Bool, true, false, ltb, List}
-use Rattle.std.proofs.Common.{[], ◌∷◌, ◌++◌, Some, None, Result, Err, length, get_or, map}
-use Rattle.std.proofs.Common.{replicate, refl, sym, ap, subst, ◌∙◌, arith, inl, inr}
-use Rattle.std.proofs.Common.{get_or-set_same, get_or-set_other}
+-- Lines put on the blank page one after another give the drawn page (drawn-page), where no fault
+-- comes first (drawn-first).
+use Rattle.std.proofs.Common.{◌≡◌, ◌≢◌, ℕ, suc, ◌+◌, ◌-◌, ◌<◌, ◌≤◌, true, false, ltb, List}
+use Rattle.std.proofs.Common.{[], ◌∷◌, ◌++◌, Option, Some, None, Result, Ok, Err, length, get_or}
+use Rattle.std.proofs.Common.{replicate, refl, sym, ap, ◌∙◌, arith, inl, inr}
+use Rattle.std.proofs.Common.{get_or-set_same, get_or-set_other, rules}
 use Rattle.std.proofs.lemmas.Bool.{cases_lt}
 use Rattle.std.proofs.lemmas.Bool.Decides.{nat_tests}
 use Rattle.std.proofs.lemmas.List.{ext_get_or, get_or-replicate, length-replicate, length-set}
@@ -11,44 +11,15 @@ use Rattle.std.proofs.lemmas.List.FromFn.{fill_by_all, get_or-map-range_with_len
 use Rattle.std.proofs.lemmas.List.FromFn.{length-map-range_with_len}
 use Rattle.ttx_page.specs.Page.{Rows, blank, blank_row, space}
 use Rattle.stl_rows.specs.declared.fault.RowFault.{RowFault}
-use Rattle.stl_rows.specs.declared.fault.RowFaultKind.{RowFaultKind}
-use Rattle.stl_rows.specs.DrawnPage.{drawn, line_faults, line_on, page_of, unless}
-use Rattle.stl_rows.specs.Line.{code_in_column, is_double, prepared, row_of, start_column}
-use Rattle.stl_rows.specs.LineByLine.{put_line, put_lines, refused_or}
-use Rattle.stl_rows.specs.TextCode.{fault_of, first_of, lines_of, refusals, text_codes}
+use Rattle.stl_rows.specs.DrawnPage.{drawn, faults, line_faults, line_on, lines, page_of, unless}
+use Rattle.std.specs.Prelude.{IsOk, MatchOption}
+use Rattle.stl_rows.specs.Line.{code_in_column, row_of, start_column}
+use Rattle.stl_rows.specs.LineByLine.{prepared_lines, put_line, put_lines}
+use Rattle.stl_rows.specs.TextCode.{first_of, refusals, text_codes}
 use Rattle.stl_file.specs.Subtitle.{SubtitleValue}
 use Rattle.stl_rows.specs.declared.national.National.{National}
 use Rattle.stl_rows.proofs.LineLemmas.{spaces_at}
-
--- the page with prepared lines from a row on
-abbrev pub page_with : ℕ → ℕ → Rows → List (List ℕ) → Rows
-page_with jc row page [] = page
-page_with jc row page (line ∷ lines) = page_with jc (row + 1) (put_line jc row line page) lines
-
--- the faults of a line come before those of the lines after it
-refused_or-unless : (kinds : List RowFaultKind) (number : ℕ) (next : Result Rows RowFault)
-    (faults : List RowFault) (page : Rows)
-    → next ≡ unless faults page
-    → refused_or kinds number next ≡ unless (map (fault_of number) kinds ++ faults) page
-refused_or-unless [] number next faults page h = h
-refused_or-unless (k ∷ ks) number next faults page h = refl
-
--- lines put one after another: the page with them, or the first of their faults
-put_lines-page_with : (jc vp number : ℕ) (under : Bool) (page : Rows) (ls : List (List ℕ))
-    → put_lines jc vp number under page ls
-    ≡ unless (line_faults number (vp + number) under (map prepared ls))
-    (page_with jc (vp + number) page (map prepared ls))
-put_lines-page_with jc vp number under page [] = refl
-put_lines-page_with jc vp number under page (cells ∷ ls) =
-    let next : Rows = put_line jc (vp + number) (prepared cells) page in
-    let double : Bool = is_double (prepared cells) in
-    let e : vp + (number + 1) ≡ vp + number + 1 = omega arith in
-    let P : ℕ → Type 0 =
-    λ row. put_lines jc vp (number + 1) double next ls ≡ unless
-    (line_faults (number + 1) row double (map prepared ls))
-    (page_with jc row next (map prepared ls)) in
-    refused_or-unless _ number _ _ _ (subst P e
-    (put_lines-page_with jc vp (number + 1) double next ls))
+use Rattle.stl_rows.proofs.LineByLineLemmas.{prepared_lines-whole}
 
 -- ---- the rows of the page
 
@@ -88,29 +59,29 @@ put_line-other jc row q (c ∷ cells) page h =
     get_or-set_other page (row - 1) q (row_of jc (c ∷ cells)) [] h
 
 -- lines change no number of rows
-length-page_with : (jc row : ℕ) (page : Rows) (ls : List (List ℕ))
-    → length (page_with jc row page ls) ≡ length page
-length-page_with jc row page [] = refl
-length-page_with jc row page (line ∷ ls) =
-    length-page_with jc (row + 1) (put_line jc row line page) ls ∙ length-put_line jc row line page
+length-put_lines : (jc row : ℕ) (page : Rows) (ls : List (List ℕ))
+    → length (put_lines jc row page ls) ≡ length page
+length-put_lines jc row page [] = refl
+length-put_lines jc row page (line ∷ ls) =
+    length-put_lines jc (row + 1) (put_line jc row line page) ls ∙ length-put_line jc row line page
 
 -- a row above the first line stays; k is its index
-page_with-above : (jc row k : ℕ) (page : Rows) (ls : List (List ℕ))
+put_lines-above : (jc row k : ℕ) (page : Rows) (ls : List (List ℕ))
     → k + 1 < row
-    → get_or (page_with jc row page ls) k [] ≡ get_or page k []
-page_with-above jc row k page [] h = refl
-page_with-above jc row k page (line ∷ ls) h =
-    page_with-above jc (row + 1) k (put_line jc row line page) ls (omega arith)
+    → get_or (put_lines jc row page ls) k [] ≡ get_or page k []
+put_lines-above jc row k page [] h = refl
+put_lines-above jc row k page (line ∷ ls) h =
+    put_lines-above jc (row + 1) k (put_line jc row line page) ls (omega arith)
     ∙ put_line-other jc row k line page (omega arith)
 
 -- a row from there on holds its line
-page_with-from : (jc row k : ℕ) (page : Rows) (ls : List (List ℕ))
+put_lines-from : (jc row k : ℕ) (page : Rows) (ls : List (List ℕ))
     → 1 ≤ row → length page ≡ 24 → ((q : ℕ) → row ≤ q + 1 → q < 24 → get_or page q [] ≡ blank_row)
     → row ≤ k + 1
     → k < 24
-    → get_or (page_with jc row page ls) k [] ≡ row_of jc (get_or ls (k + 1 - row) [])
-page_with-from jc row k page [] first size blanks low high = blanks k low high ∙ row_of-none jc
-page_with-from jc row k page (line ∷ ls) first size blanks low high =
+    → get_or (put_lines jc row page ls) k [] ≡ row_of jc (get_or ls (k + 1 - row) [])
+put_lines-from jc row k page [] first size blanks low high = blanks k low high ∙ row_of-none jc
+put_lines-from jc row k page (line ∷ ls) first size blanks low high =
     elim (cases_lt (k + 1) (row + 1)) [
       | inl here ↦
           let e : k ≡ row - 1 = omega arith in
@@ -119,12 +90,12 @@ page_with-from jc row k page (line ∷ ls) first size blanks low high =
           let own : get_or (put_line jc row line page) k [] ≡ row_of jc line =
           rw e (put_line-at jc row line page (omega arith)
           (blanks (row - 1) (omega arith) (omega arith))) in
-          page_with-above jc (row + 1) k (put_line jc row line page) ls here ∙ own ∙ last
+          put_lines-above jc (row + 1) k (put_line jc row line page) ls here ∙ own ∙ last
       | inr below ↦
           let z : k + 1 - row ≡ suc (k + 1 - (row + 1)) = omega arith in
           let last : row_of jc (get_or ls (k + 1 - (row + 1)) []) ≡ row_of jc
           (get_or (line ∷ ls) (k + 1 - row) []) = rw z refl in
-          page_with-from jc (row + 1) k (put_line jc row line page) ls (omega arith)
+          put_lines-from jc (row + 1) k (put_line jc row line page) ls (omega arith)
           (length-put_line jc row line page ∙ size)
           (λ q a b. put_line-other jc row q line page (omega arith) ∙ blanks q (omega arith) b)
           below high
@@ -145,80 +116,107 @@ length_blank = length-replicate 24 blank_row
 page_row : (jc vp k : ℕ) (ls : List (List ℕ))
     → 1 ≤ vp
     → k < 24
-    → get_or (page_with jc vp blank ls) k [] ≡ row_of jc (line_on vp ls (k + 1))
+    → get_or (put_lines jc vp blank ls) k [] ≡ row_of jc (line_on vp ls (k + 1))
 page_row jc vp k ls first h =
     elim (cases_lt (k + 1) vp) [
       | inl above ↦
           let e : ltb (k + 1) vp ≡ true = grind (arith, nat_tests) in
           let last : row_of jc [] ≡ row_of jc (line_on vp ls (k + 1)) = rw e refl in
-          page_with-above jc vp k blank ls above ∙ blank_at k h ∙ row_of-none jc ∙ last
+          put_lines-above jc vp k blank ls above ∙ blank_at k h ∙ row_of-none jc ∙ last
       | inr from ↦
           let e : ltb (k + 1) vp ≡ false = grind (arith, nat_tests) in
           let last : row_of jc (get_or ls (k + 1 - vp) []) ≡ row_of jc (line_on vp ls (k + 1)) =
           rw e refl in
-          page_with-from jc vp k blank ls first length_blank (λ q a b. blank_at q b) from h ∙ last
+          put_lines-from jc vp k blank ls first length_blank (λ q a b. blank_at q b) from h ∙ last
     ]
 
 -- the page with all lines put one after another is the page that shows them
-page_with-page : (jc vp : ℕ) (ls : List (List ℕ))
+pub put_lines-page : (jc vp : ℕ) (ls : List (List ℕ))
     → 1 ≤ vp
-    → page_with jc vp blank ls ≡ page_of jc vp ls
+    → put_lines jc vp blank ls ≡ page_of jc vp ls
 unfolding page_of
-page_with-page jc vp ls first =
+put_lines-page jc vp ls first =
     let f : ℕ → List ℕ = λ row. row_of jc (line_on vp ls row) in
-    ext_get_or [] (page_with jc vp blank ls) _
-    (length-page_with jc vp blank ls ∙ length_blank ∙ sym (length-map-range_with_len f 1 24))
-    (λ k h. let inside : k < 24 = omega (arith, length-page_with jc vp blank ls, length_blank) in
+    ext_get_or [] (put_lines jc vp blank ls) _
+    (length-put_lines jc vp blank ls ∙ length_blank ∙ sym (length-map-range_with_len f 1 24))
+    (λ k h. let inside : k < 24 = omega (arith, length-put_lines jc vp blank ls, length_blank) in
     page_row jc vp k ls first inside
     ∙ sym (get_or-map-range_with_len f 1 24 k (k + 1) [] inside (omega arith)))
 
--- the put_lines over all lines gives the page, or the first fault of the lines
-pub put_lines-drawn : (jc vp : ℕ) (ls : List (List ℕ)) → 1 ≤ vp
-    → put_lines jc vp 0 false blank ls
-    ≡ unless (line_faults 0 vp false (map prepared ls)) (page_of jc vp (map prepared ls))
-put_lines-drawn jc vp ls first =
-    let e : vp + 0 ≡ vp = omega arith in
-    let P : ℕ → Type 0 =
-    λ row. put_lines jc vp 0 false blank ls ≡ unless (line_faults 0 row false (map prepared ls))
-    (page_with jc row blank (map prepared ls)) in
-    subst P e (put_lines-page_with jc vp 0 false blank ls)
-    ∙ ap (unless (line_faults 0 vp false (map prepared ls)))
-    (page_with-page jc vp (map prepared ls) first)
+-- ---- faults
 
--- with no wrong code the lines decide, else the first wrong code
-unless-none : (fs gs : List RowFault) (page : Rows)
-    → None ≡ first_of fs
-    → unless gs page ≡ unless (fs ++ gs) page
-unless-none [] gs page h = refl
-unless-none (f ∷ fs) gs page h = cc
+-- the lines of a subtitle's text
+lines_are : (n : National) (t : SubtitleValue)
+    → prepared_lines [] (text_codes n 0 t.text) ≡ lines n t
+lines_are n t = prepared_lines-whole (text_codes n 0 t.text)
 
--- the first refused text code is told before any line. For drawn-refusal
-unless-some : (f : RowFault) (fs gs : List RowFault) (page : Rows)
-    → Some f ≡ first_of fs
-    → Err f ≡ unless (fs ++ gs) page
-unless-some f [] gs page h = cc
-unless-some f (x ∷ fs) gs page h = cc
+-- a subtitle that draws a page has no fault
+no_faults : (n : National) (t : SubtitleValue) → IsOk (drawn n t) → faults n t ≡ []
+unfolding drawn
+no_faults n t ok = go (faults n t) ok
+  where
+    go : (fs : List RowFault) → IsOk (unless fs (page_of t.jc t.vp (lines n t))) → fs ≡ []
+    go [] h = refl
+    go (f ∷ fs) h = search rules
 
--- a text code is refused: for `draw`
-pub drawn-refusal : (n : National) (t : SubtitleValue) (text : List ℕ) (f : RowFault)
+-- nor have its lines. For `drawn_page`
+pub no_line_faults : (n : National) (t : SubtitleValue) (text : List ℕ) (vp : ℕ)
     → text ≡ t.text
-    → Some f ≡ first_of (refusals (text_codes n 0 text))
-    → Err f ≡ drawn n t
-unfolding drawn
-drawn-refusal n t text f e h = unless-some f (refusals (text_codes n 0 t.text)) _ _ (rw (← e) h)
+    → vp ≡ t.vp
+    → IsOk (drawn n t)
+    → line_faults 0 vp false (prepared_lines [] (text_codes n 0 text)) ≡ []
+no_line_faults n t text vp e f ok =
+    ap (λ x. line_faults 0 vp false (prepared_lines [] (text_codes n 0 x))) e
+    ∙ ap (λ x. line_faults 0 x false (prepared_lines [] (text_codes n 0 t.text))) f
+    ∙ ap (line_faults 0 t.vp false) (lines_are n t)
+    ∙ right_part (refusals (text_codes n 0 t.text)) _ (no_faults n t ok)
+  where
+    right_part : (xs ys : List RowFault) → xs ++ ys ≡ [] → ys ≡ []
+    right_part [] ys e = e
+    right_part (x ∷ xs) ys e = cc
 
--- no text code is refused, and the lines decide: for `draw`
-pub drawn-lines : (n : National) (t : SubtitleValue) (text : List ℕ) (jc vp : ℕ)
-    (r : Result Rows RowFault)
-    → text ≡ t.text → jc ≡ t.jc → vp ≡ t.vp → 1 ≤ t.vp
-    → None ≡ first_of (refusals (text_codes n 0 text))
-    → r ≡ put_lines jc vp 0 false blank (lines_of (text_codes n 0 text))
-    → r ≡ drawn n t
+-- its lines put on the blank page are its page. For `drawn_page`
+pub drawn-page : (n : National) (t : SubtitleValue) (text : List ℕ) (jc vp : ℕ) (old page : Rows)
+    → text ≡ t.text
+    → jc ≡ t.jc
+    → vp ≡ t.vp
+    → old ≡ blank
+    → IsOk (drawn n t)
+    → 1 ≤ t.vp
+    → page ≡ put_lines jc vp old (prepared_lines [] (text_codes n 0 text))
+    → drawn n t ≡ Ok page
 unfolding drawn
-drawn-lines n t text jc vp r e f g first none is =
-    let same : put_lines jc vp 0 false blank (lines_of (text_codes n 0 text)) ≡ put_lines t.jc t.vp
-    0 false blank (lines_of (text_codes n 0 t.text)) = rw (e, f, g) refl in
-    is
-    ∙ same
-    ∙ put_lines-drawn t.jc t.vp (lines_of (text_codes n 0 t.text)) first
-    ∙ unless-none (refusals (text_codes n 0 t.text)) _ _ (rw (← e) none)
+drawn-page n t text jc vp old page e f g b ok first is =
+    let put : page ≡ put_lines t.jc t.vp blank (prepared_lines [] (text_codes n 0 t.text)) =
+    is ∙ (λ i. put_lines (f i) (g i) (b i) (prepared_lines [] (text_codes n 0 (e i)))) in
+    ap (λ fs. unless fs (page_of t.jc t.vp (lines n t))) (no_faults n t ok)
+    ∙ ap (λ (p : Rows). let r : Result Rows RowFault = Ok p in r)
+    (sym (put ∙ ap (put_lines t.jc t.vp blank) (lines_are n t)
+    ∙ put_lines-page t.jc t.vp (lines n t) first))
+
+-- the first of all faults is told. For `first_fault`
+pub drawn-first : (n : National) (t : SubtitleValue) (text : List ℕ) (vp : ℕ) (o : Option RowFault)
+    → text ≡ t.text
+    → vp ≡ t.vp
+    → o ≡ first_of (refusals (text_codes n 0 text)
+    ++ line_faults 0 vp false (prepared_lines [] (text_codes n 0 text)))
+    → MatchOption o (IsOk (drawn n t)) (λ f. drawn n t ≡ Err f)
+unfolding drawn
+drawn-first n t text vp o e f is =
+    go (faults n t) o
+    (is
+    ∙ (λ i. first_of (refusals (text_codes n 0 (e i))
+    ++ line_faults 0 (f i) false (prepared_lines [] (text_codes n 0 (e i)))))
+    ∙ ap (λ ls. first_of (refusals (text_codes n 0 t.text) ++ line_faults 0 t.vp false ls))
+    (lines_are n t))
+  where
+    go : (fs : List RowFault) (o : Option RowFault)
+        → o ≡ first_of fs
+        → MatchOption o (IsOk (unless fs (page_of t.jc t.vp (lines n t))))
+        (λ f. unless fs (page_of t.jc t.vp (lines n t)) ≡ Err f)
+    go [] None h = search rules
+    go [] (Some f) h = cc
+    go (x ∷ fs) None h = cc
+    go (x ∷ fs) (Some f) h =
+        let same : x ≡ f = cc in
+        ap (λ (y : RowFault). let r : Result Rows RowFault = Err y in r) same

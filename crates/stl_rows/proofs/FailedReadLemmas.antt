@@ -1,5 +1,5 @@
 -- Where the source fails, and that no fault comes before; main lemmas: fails-opening, fails-next.
-use Rattle.std.proofs.Common.{◌≡◌, ℕ, ◌+◌, ◌*◌, ◌/◌, ◌<◌, ◌≤◌, true, List, [], ◌∷◌, ◌++◌, length}
+use Rattle.std.proofs.Common.{◌≡◌, ℕ, ◌+◌, ◌*◌, ◌/◌, ◌<◌, ◌≤◌, List, [], ◌∷◌, ◌++◌, length}
 use Rattle.std.proofs.Common.{Option, Some, None, Result, Ok, Err, refl, sym, ap, subst, ◌∙◌}
 use Rattle.std.proofs.Common.{arith, length-append, inl, inr, ◌⊎◌}
 use Rattle.std.specs.Prelude.{IfOk, IfSome}
@@ -7,9 +7,8 @@ use Rattle.std.specs.Io.KnownBytes.{Consumes}
 use Rattle.std.proofs.KnownBytes.{Consumes-trans}
 use Rattle.std.proofs.lemmas.Bool.{le-ltb, lt-ltb}
 use Rattle.stl_file.specs.declared.fault.StlFault.{StlFault}
-use Rattle.stl_file.specs.declared.fault.StlFault.TheVariants.{Read, Unfinished}
+use Rattle.stl_file.specs.declared.fault.StlFault.TheVariants.{Unfinished}
 use Rattle.stl_file.specs.declared.progress.Progress.TheVariants.{Reading}
-use Rattle.stl_file.specs.Fault.{is_read}
 use Rattle.stl_file.specs.Subtitle.{SubtitleValue}
 use Rattle.stl_file.specs.SubtitleBlocks.{joined}
 use Rattle.stl_file.specs.Reading.{Outcome, ends, fails, gives}
@@ -22,16 +21,8 @@ use Rattle.stl_rows.specs.declared.fault.LoadFault.{LoadFault}
 use Rattle.stl_rows.specs.declared.fault.LoadFaultKind.{LoadFaultKind}
 use Rattle.stl_rows.specs.declared.fault.LoadFaultKind.TheVariants.{File}
 use Rattle.stl_rows.specs.Programme.{ProgrammeValue, follow_faults}
-use Rattle.stl_rows.specs.Loading.{FailsLoading, is_read_kind, load_fault, loaded_behind}
-use Rattle.stl_rows.specs.Loading.{unless_told}
+use Rattle.stl_rows.specs.Loading.{FailsLoading, load_fault, loaded_behind, unless_told}
 use Rattle.stl_rows.proofs.LoadingLemmas.{GoesOn}
-
--- a fault that says so is the reader's answer
-pub is_read-kind : (X : Type 0) (fault : StlFault)
-    → is_read_kind (File fault) ≡ true
-    → is_read (let e : Result X StlFault = Err fault in e) ≡ true
-is_read-kind X Read h = refl
-is_read-kind X fault h = h
 
 -- the GSI block and so many TTI blocks were taken
 pub record HasTaken (old now : Option (List ℕ)) (block : ℕ) : Type 0 where

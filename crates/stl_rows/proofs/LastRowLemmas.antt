@@ -1,64 +1,21 @@
 -- Row 24 of each due page is blank: `last_row_blank`.
-use Rattle.std.proofs.Common.{◌≡◌, ℕ, zero, suc, ◌+◌, ◌-◌, ◌<◌, Bool, true, false, ◌&&◌, ◌==◌}
-use Rattle.std.proofs.Common.{nat_lt, cond, List, [], ◌∷◌, ◌++◌, length, map, get_or, Option, Some}
+use Rattle.std.proofs.Common.{◌≡◌, ℕ, zero, suc, ◌+◌, ◌-◌, ◌<◌, Bool, true, false}
+use Rattle.std.proofs.Common.{nat_lt, cond, List, [], ◌∷◌, map, get_or, Option, Some}
 use Rattle.std.proofs.Common.{None, refl, sym, ap, ◌∙◌, arith}
 use Rattle.std.specs.List.{find}
 use Rattle.std.specs.Result.{result_unwrap_or}
-use Rattle.std.proofs.lemmas.Bool.{lt-ltb, true≢false}
 use Rattle.std.proofs.lemmas.List.FromFn.{get_or-map-range_with_len}
-use Rattle.ttx_page.specs.Page.{Rows, blank, blank_row, row_at}
+use Rattle.ttx_page.specs.Page.{blank, blank_row, row_at}
 use Rattle.stl_file.specs.Subtitle.{SubtitleValue}
 use Rattle.stl_rows.specs.declared.fault.RowFault.{RowFault}
-use Rattle.stl_rows.specs.declared.fault.RowFaultKind.{RowFaultKind}
-use Rattle.stl_rows.specs.declared.fault.RowFaultKind.TheVariants.{DoubleRow, Hidden, PastBottom}
-use Rattle.stl_rows.specs.declared.fault.RowFaultKind.TheVariants.{RowTooLong}
 use Rattle.stl_rows.specs.declared.national.National.{National}
 use Rattle.stl_rows.specs.DrawnPage.{drawn, faults, last_row, line_fault_kinds, line_faults}
-use Rattle.stl_rows.specs.DrawnPage.{line_on, lines, page_of, unless, when}
+use Rattle.stl_rows.specs.DrawnPage.{line_on, lines, page_of, unless}
 use Rattle.stl_rows.specs.DuePage.{drawn_or_blank, due, is_due}
-use Rattle.stl_rows.specs.Line.{columns, has_cells, is_double, row_of}
+use Rattle.stl_rows.specs.Line.{is_double, row_of}
 use Rattle.stl_rows.specs.TextCode.{fault_of, refusals, text_codes}
 use Rattle.stl_rows.proofs.DrawnPageLemmas.{blank_at, row_of-none}
-
--- Two lists that join to none are none.
-left_empty : {A : Type 0} (xs ys : List A) → xs ++ ys ≡ [] → xs ≡ []
-left_empty [] ys e = refl
-left_empty (x ∷ xs) ys e = cc
-
-right_empty : {A : Type 0} (xs ys : List A) → xs ++ ys ≡ [] → ys ≡ []
-right_empty [] ys e = e
-right_empty (x ∷ xs) ys e = cc
-
--- The second of four lists that join to none is none.
-second_empty : {A : Type 0} (a b c d : List A) → a ++ b ++ c ++ d ≡ [] → b ≡ []
-second_empty a b c d e =
-    right_empty a b (left_empty (a ++ b) c (left_empty (a ++ b ++ c) d e))
-
--- Where nothing is made of a list it is none.
-map_empty : {A B : Type 0} (f : A → B) (xs : List A) → map f xs ≡ [] → xs ≡ []
-map_empty f [] e = refl
-map_empty f (x ∷ xs) e = cc
-
--- A test that gives no fault failed.
-not_when : (b : Bool) (kind : RowFaultKind) → when b kind ≡ [] → b ≡ false
-not_when true kind e = cc
-not_when false kind e = refl
-
--- A line under the last row, without a fault, is empty.
-no_cells :
-    (row : ℕ) (under : Bool) (line : List ℕ)
-    → last_row < row
-    → line_fault_kinds row under line ≡ []
-    → line ≡ []
-unfolding line_fault_kinds
-no_cells row under [] l e = refl
-no_cells row under (c ∷ cells) l e =
-    let past : nat_lt last_row row ≡ false =
-    not_when (nat_lt last_row row) PastBottom
-    (second_empty (when (nat_lt columns (length (c ∷ cells))) RowTooLong)
-    (when (nat_lt last_row row) PastBottom)
-    (when (is_double (c ∷ cells) && (row == last_row)) DoubleRow) (when under Hidden) e) in
-    absurd (true≢false (sym (lt-ltb last_row row l) ∙ past))
+use Rattle.stl_rows.proofs.FaultlessLemmas.{left_empty, right_empty, map_empty, no_cells}
 
 -- The same of a line at a place.
 free_at :

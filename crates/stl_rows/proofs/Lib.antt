@@ -1,7 +1,10 @@
 pub mod TextCodeLemmas
+pub mod CodeTableLemmas
 pub mod LineLemmas
 pub mod FailedReadLemmas
 pub mod LineByLineLemmas
+pub mod FaultlessLemmas
+pub mod TextFaultLemmas
 pub mod DrawnPageLemmas
 pub mod DuePageLemmas
 pub mod PageShapeLemmas

@@ -82,8 +82,7 @@ tells-put national outcome rest records t block kind on h =
 -- the file itself is at fault
 pub tells-file : (national : National) (outcome : Outcome) (records : List SubtitleValue)
     (fault : StlFault) (block : ℕ)
-    → (is_read (let e : Result (Option SubtitleValue) StlFault = Err fault in e) ≡ false → GoesOn
-    national outcome (fails fault block) records)
+    → (is_read fault ≡ false → GoesOn national outcome (fails fault block) records)
     → TellsFault national outcome block (File fault)
 tells-file national outcome records Read block on = tt
 tells-file national outcome records fault block on = sym (on refl).same
@@ -123,8 +122,7 @@ goes_on-opened national bytes reader records h none =
 
 -- the file could not be opened
 pub tells-opening : (national : National) (bytes : List ℕ) (fault : StlFault)
-    → (is_read (let e : Result ReaderValue StlFault = Err fault in e) ≡ false → opened_at bytes ≡
-    Err fault)
+    → (is_read fault ≡ false → opened_at bytes ≡ Err fault)
     → TellsFault national (outcome_of bytes) 0 (File fault)
 unfolding outcome_of
 tells-opening national bytes Read h = tt
@@ -147,8 +145,7 @@ pub tells-next : (national : National) (bytes rest : List ℕ) (records : List S
     (old new : ReaderValue) (now : Option (List ℕ)) (fault : StlFault) (block : ℕ)
     → GoesOn national (outcome_of bytes) (outcome_left old rest) records
     → block ≡ new.block
-    → (is_read (let e : Result (Option SubtitleValue) StlFault = Err fault in e) ≡ false → Answers
-    old rest new now (Err fault))
+    → (is_read fault ≡ false → Answers old rest new now (Err fault))
     → TellsFault national (outcome_of bytes) block (File fault)
 tells-next national bytes rest records old new now fault block on place answers =
     subst (λ (b : ℕ). TellsFault national (outcome_of bytes) b (File fault)) (sym place)

@@ -1,6 +1,8 @@
--- The number and the name by which a fault of a text or of a programme is told (own).
-use Rattle.std.specs.Prelude.{ℕ, List, codes}
+-- The number and the name by which a fault of a text or of a programme is told (own), and which
+-- faults are that the source failed.
+use Rattle.std.specs.Prelude.{ℕ, Bool, false, List, codes}
 use Rattle.stl_file.specs.Fault as stl
+use Rattle.stl_rows.specs.declared.fault.LoadFault.{LoadFault}
 use Rattle.stl_rows.specs.declared.fault.LoadFaultKind.{LoadFaultKind}
 use Rattle.stl_rows.specs.declared.fault.LoadFaultKind.TheVariants as load
 use Rattle.stl_rows.specs.declared.fault.RowFaultKind.{RowFaultKind}
@@ -22,3 +24,12 @@ number_and_name load.OutOfOrder = (56, codes "OutOfOrder")
 number_and_name load.Overlap = (57, codes "Overlap")
 number_and_name (load.Row fault) = row_number_and_name fault.kind
 number_and_name load.Memory = (58, codes "Memory")
+
+-- The source failed.
+abbrev pub is_read_kind : LoadFaultKind → Bool
+is_read_kind (load.File fault) = stl.is_read fault
+is_read_kind _ = false
+
+-- The source failed, of a fault with its block.
+abbrev pub is_read : LoadFault → Bool
+is_read fault = is_read_kind fault.kind

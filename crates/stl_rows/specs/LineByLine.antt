@@ -1,32 +1,58 @@
--- Lines put on a page one after another, as the code of `draw` does it. No public clause cites
--- this.
-use Rattle.std.specs.Prelude.{ℕ, ◌+◌, ◌-◌, Bool, List, [], ◌∷◌, ◌++◌, Result, Ok, Err, slice_set}
+-- Lines put on a page one after another, as the code draws them, and what of a line its faults
+-- depend on. No public clause cites this.
+use Rattle.std.specs.Prelude.{◌≡◌, ℕ, ◌+◌, ◌-◌, Bool, ◌&&◌, List, [], ◌∷◌, ◌++◌, Option, Some, None}
+use Rattle.std.specs.Prelude.{◌==◌, nat_lt, if◌then◌else◌, length, map, slice_set}
 use Rattle.ttx_page.specs.Page.{Rows}
 use Rattle.stl_rows.specs.declared.fault.RowFault.{RowFault}
 use Rattle.stl_rows.specs.declared.fault.RowFaultKind.{RowFaultKind}
-use Rattle.stl_rows.specs.TextCode.{fault_of}
-use Rattle.stl_rows.specs.Line.{is_double, prepared, row_of}
-use Rattle.stl_rows.specs.DrawnPage.{line_fault_kinds}
+use Rattle.stl_rows.specs.declared.fault.RowFaultKind.TheVariants.{RowTooLong, PastBottom}
+use Rattle.stl_rows.specs.declared.fault.RowFaultKind.TheVariants.{DoubleRow, Hidden}
+use Rattle.stl_rows.specs.declared.text_code.TextCode.{TextCode}
+use Rattle.stl_rows.specs.TextCode.{first_of, lines_of}
+use Rattle.stl_rows.specs.Line.{columns, is_boxed, is_double, prepared, row_of}
+use Rattle.stl_rows.specs.DrawnPage.{last_row, when}
+
+-- ---- lines
+
+-- Lines with some cells before the first.
+abbrev pub onto : List ℕ → List (List ℕ) → List (List ℕ)
+onto cells [] = cells ∷ []
+onto cells (line ∷ lines) = (cells ++ line) ∷ lines
+
+-- The prepared lines of text codes, with some cells before the first.
+abbrev pub prepared_lines : List ℕ → List (ℕ × TextCode) → List (List ℕ)
+prepared_lines cells codes = map prepared (onto cells (lines_of codes))
+
+-- ---- drawing
 
 -- A page with a prepared line on a row; an empty line leaves it.
 abbrev pub put_line : ℕ → ℕ → List ℕ → Rows → Rows
 put_line jc row [] page = page
 put_line jc row (c ∷ cells) page = slice_set page (row - 1) (row_of jc (c ∷ cells))
 
--- The first of these faults of a line, or else what comes next.
-abbrev pub refused_or : List RowFaultKind → ℕ → Result Rows RowFault → Result Rows RowFault
-refused_or [] number next = next
-refused_or (kind ∷ kinds) number next = Err (fault_of number kind)
+-- A page with these prepared lines, the first of which goes to a row.
+abbrev pub put_lines : ℕ → ℕ → Rows → List (List ℕ) → Rows
+put_lines jc row page [] = page
+put_lines jc row page (line ∷ lines) = put_lines jc (row + 1) (put_line jc row line page) lines
 
--- A page with these lines of cells from a number on, or the first fault.
-abbrev pub put_lines : ℕ → ℕ → ℕ → Bool → Rows → List (List ℕ) → Result Rows RowFault
-put_lines jc vp number is_under_double page [] = Ok page
-put_lines jc vp number is_under_double page (cells ∷ lines) =
-    refused_or (line_fault_kinds (vp + number) is_under_double (prepared cells)) number
-    (put_lines jc vp (number + 1) (is_double (prepared cells))
-    (put_line jc (vp + number) (prepared cells) page) lines)
+-- ---- faults
 
--- Lines with some cells before the first.
-abbrev pub onto : List ℕ → List (List ℕ) → List (List ℕ)
-onto cells [] = cells ∷ []
-onto cells (line ∷ lines) = (cells ++ line) ∷ lines
+-- What of the cells of a line its faults depend on.
+pub record HasShape (cells : List ℕ) (len : ℕ) (boxed double : Bool) : Type 0 where
+  pub count : length cells ≡ len
+  pub box : is_boxed cells ≡ boxed
+  pub height : is_double cells ≡ double
+
+-- What is wrong with a line of so many cells, in order: the line gets two codes on each side where
+-- it has no start box of its own.
+unfoldable pub shape_fault_kinds : ℕ → Bool → ℕ → Bool → Bool → List RowFaultKind
+shape_fault_kinds row is_under_double len boxed double =
+    when (nat_lt columns (if boxed then len else len + 4)) RowTooLong
+    ++ when (nat_lt 0 len && nat_lt last_row row) PastBottom
+    ++ when (double && (row == last_row)) DoubleRow
+    ++ when (nat_lt 0 len && is_under_double) Hidden
+
+-- A fault that was found before, or else the first of these.
+abbrev pub told_first : Option RowFault → List RowFault → Option RowFault
+told_first None faults = first_of faults
+told_first (Some fault) faults = Some fault

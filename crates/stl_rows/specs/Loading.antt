@@ -1,5 +1,5 @@
 -- What loading a subtitle file gives: the programme of its subtitles, or the first fault.
-use Rattle.std.specs.Prelude.{◌≡◌, ℕ, ◌⊎◌, Bool, true, false, List, [], ◌∷◌, ◌++◌, Some, Result, Ok}
+use Rattle.std.specs.Prelude.{◌≡◌, ℕ, ◌⊎◌, List, [], ◌∷◌, ◌++◌, Some, Result, Ok}
 use Rattle.std.specs.Prelude.{Err, ⊤, ◌↔◌, ◌≤◌, All, IsOk, Option, length}
 use Rattle.std.specs.Io.KnownBytes.{Consumes}
 use Rattle.sub_io.specs.Reading.{IfTold}
@@ -26,7 +26,7 @@ abbrev pub unless_told : List LoadFaultKind → ℕ → Result ProgrammeValue Lo
 unless_told [] block next = next
 unless_told (kind ∷ kinds) block next = Err (load_fault block kind)
 
--- What comes of a file, behind the subtitles that it gave before: the file's faults by block, and
+-- What comes of a file, after the subtitles that it gave before: the file's faults by block, and
 -- at a subtitle's last block its own, in order.
 abbrev pub loaded_behind : National → List SubtitleValue → Outcome → Result ProgrammeValue LoadFault
 loaded_behind national records ends = Ok (record { national = national; records = records })
@@ -54,25 +54,15 @@ TellsFault national outcome block (File Read) = ⊤
 TellsFault national outcome block Memory = EndsRecord national [] block outcome
 TellsFault national outcome block kind = loaded national outcome ≡ Err (load_fault block kind)
 
--- The fault is that the source failed.
-abbrev pub is_read_kind : LoadFaultKind → Bool
-is_read_kind (File Read) = true
-is_read_kind _ = false
-
--- The answer is that the source failed.
-abbrev pub is_read_fault : {X : Type 0} → Result X LoadFault → Bool
-is_read_fault (Ok x) = false
-is_read_fault (Err fault) = is_read_kind fault.kind
-
 -- No fault comes before this block; but the end of the file inside a subtitle, which names the last
--- whole block, is found only where the block behind it is asked for.
+-- whole block, is found only where the block after it is asked for.
 abbrev pub NoneBefore : National → Outcome → ℕ → Type 0
 NoneBefore national outcome block =
     (fault : LoadFault)
     → loaded national outcome ≡ Err fault
     → (fault.kind ≡ File Unfinished) ⊎ (block ≤ fault.block)
 
--- The source failed: the block is that of the byte that was asked for, the first one behind those
+-- The source failed: the block is that of the byte that was asked for, the first one after those
 -- that were taken. A fault that these hold would have been told instead.
 pub record FailsLoading (national : National) (old new : Option (List ℕ)) (block : ℕ) : Type 0 where
   pub bytes : List ℕ
@@ -80,7 +70,7 @@ pub record FailsLoading (national : National) (old new : Option (List ℕ)) (blo
   pub block_is : block ≡ block_of_byte (length bytes)
   pub none : IfTold old (λ all. NoneBefore national (outcome_of all) block)
 
--- The answer to a subtitle that is put behind these: the first fault of the told order; want of
+-- The answer to a subtitle that is put after these: the first fault of the told order; want of
 -- memory only where there is none.
 abbrev pub TellsFollow : List LoadFaultKind → Result (Unit {0}) LoadFaultKind → Type 0
 TellsFollow faults (Ok u) = faults ≡ []

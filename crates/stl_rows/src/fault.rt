@@ -39,7 +39,7 @@ impl RowFaultKind {
         self.number_and_name().1
     }
 
-    // Both.
+    // The number and the name.
     fn number_and_name(self) -> (u8, &'static str)
         ensures number { result.0 ≡ (row_number_and_name self).0 }
         ensures name { result.1.now ≡ (row_number_and_name self).1 }
@@ -99,7 +99,7 @@ impl LoadFaultKind {
         self.number_and_name().1
     }
 
-    // Both.
+    // The number and the name.
     fn number_and_name(self) -> (u8, &'static str)
         ensures number { result.0 ≡ (number_and_name self).0 }
         ensures name { result.1.now ≡ (number_and_name self).1 }

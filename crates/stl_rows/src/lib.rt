@@ -20,6 +20,7 @@ mod loading;
 mod national;
 mod programme;
 mod text_code;
+mod text_faults;
 
 pub use drawing::draw;
 pub use fault::{LoadFault, LoadFaultKind, RowFault, RowFaultKind};

@@ -1,12 +1,12 @@
 //! Lines of cells: preparing one, and the row that shows it.
 
-ghost use Rattle.std.specs.Prelude.{◌≡◌, ℕ, ◌+◌, ◌<◌, ◌≤◌, ◌++◌, length, MatchOption};
+ghost use Rattle.std.specs.Prelude.{◌≡◌, ◌+◌, ◌≤◌, ◌++◌, length};
 ghost use Rattle.ttx_page.specs.Page.{AreCodes};
-ghost use Rattle.stl_rows.specs.Line.{is_boxed, is_double, prepared, row_of, start_column};
+ghost use Rattle.stl_rows.specs.Line.{is_boxed, prepared, row_of, start_column};
 
 use arrayvec::ArrayVec;
 
-// Puts cells behind those of a line.
+// Puts cells after those of a line.
 fn append(line: &mut ArrayVec<u8, 40>, cells: &[u8])
     requires { length line.old.items + length cells.now ≤ 40 }
     ensures { line.new.items ≡ line.old.items ++ cells.now }
@@ -25,35 +25,22 @@ fn has_start_box(line: &[u8]) -> bool
 }
 
 /// Prepares a line of cells: in a box, which it gets where it isn't empty and has none.
-///
-/// `None` where the prepared line is longer than a row.
 #[tactic(auto, unfolding(crate::specs::Line::prepared))]
-pub(crate) fn prepare(cells: &[u8]) -> Option<ArrayVec<u8, 40>>
-    requires room { length cells.now ≤ 40 }
+pub(crate) fn prepare(cells: &[u8]) -> ArrayVec<u8, 40>
+    requires few { length (prepared cells.now) ≤ 40 }
     requires codes { AreCodes cells.now }
-    ensures { MatchOption result (40 < length (prepared cells.now))
-        (λ line. (line.items ≡ prepared cells.now) × AreCodes line.items) }
+    ensures items { result.items ≡ prepared cells.now }
+    ensures codes { AreCodes result.items }
 {
     let mut line = ArrayVec::<u8, 40>::new();
     if cells.is_empty() || has_start_box(cells) {
         append(&mut line, cells);
-        return Some(line);
-    }
-    if cells.len() > 36 {
-        return None;
+        return line;
     }
     append(&mut line, &[0x0B, 0x0B]);
     append(&mut line, cells);
     append(&mut line, &[0x0A, 0x0A]);
-    Some(line)
-}
-
-/// Whether the line has double height.
-#[tactic(auto, unfolding(crate::specs::Line::is_double))]
-pub(crate) fn has_double_height(line: &[u8]) -> bool
-    ensures { result ≡ is_double line.now }
-{
-    line.iter().any(|c| *c == 0x0D)
+    line
 }
 
 // The column at which a line starts.

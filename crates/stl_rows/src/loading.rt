@@ -3,23 +3,24 @@
 ghost use Rattle.std.specs.Prelude.{◌≡◌, ◌≢◌, ◌+◌, ◌<◌, ◌≤◌, [], ◌∷◌, ◌++◌, if◌then◌else◌};
 ghost use Rattle.std.specs.Prelude.{Err, IfErr, IfOk, IfSome, Ok, OnOk, true, vec_capacity};
 ghost use Rattle.std.specs.Prelude.{vec_len};
-ghost use Rattle.sub_io.specs.Device.{CanFail};
+ghost use Rattle.sub_io.specs.Device.{CanFail, CountsIf, failed};
 ghost use Rattle.sub_io.specs.Reading.{IfTold};
 ghost use Rattle.stl_file.specs.declared.fault.StlFault.TheVariants.{Ended};
 ghost use Rattle.stl_file.specs.Reader.{outcome_of};
 ghost use Rattle.stl_file.specs.Subtitle.{IsSubtitle};
+ghost use Rattle.stl_rows.specs.Fault.{is_read};
 ghost use Rattle.stl_rows.specs.declared.fault.LoadFaultKind.TheVariants.{File, Memory};
-ghost use Rattle.stl_rows.specs.Loading.{is_read_fault, is_read_kind, loaded};
 ghost use Rattle.stl_rows.specs.Loading.{FailsLoading, LawOfLoading, TellsFault, TellsFollow};
+ghost use Rattle.stl_rows.specs.Loading.{loaded};
 ghost use Rattle.stl_rows.specs.Programme.{IsProgramme, follow_faults};
 ghost use Rattle.stl_rows.specs.TextCode.{first_of};
 
-use crate::drawing::draw;
 use crate::fault::{LoadFault, LoadFaultKind};
 use crate::national::National;
 use crate::programme::Programme;
+use crate::text_faults::first_fault;
 use std::alloc::{Allocator, Global};
-use stl_file::{StlReader, Subtitle, file_is_what_is_read};
+use stl_file::{StlReader, Subtitle, law_of_files};
 use sub_io::Source;
 
 /// Loads the subtitles of an STL file, to be drawn by the table of a national option.
@@ -50,10 +51,9 @@ pub fn load<S: Source>(
         IsProgramme programme.national programme.records) }
     ensures national { IfOk result (λ programme. programme.national ≡ national) }
     // A failed read names the block of the byte that was asked for, and no fault comes before it.
-    ensures read { IfErr result (λ f. is_read_kind f.kind ≡ true → FailsLoading national
+    ensures read { IfErr result (λ f. is_read f ≡ true → FailsLoading national
         (S.remaining source.old) (S.remaining source.new) f.block) }
-    ensures count { S.failure_count source.new
-        ≡ S.failure_count source.old + (if is_read_fault result then 1 else 0) }
+    ensures count { CountsIf S.failure_count source.old (failed is_read result) source.new }
 {
     match load_in(alloc, source, national) {
         Ok(subtitles) => Ok(Programme::of(national, subtitles)),
@@ -75,10 +75,9 @@ fn load_in<A: Allocator + Drop, S: Source>(
         TellsFault national (outcome_of bytes) f.block f.kind)) }
     ensures never { IfErr result (λ f. f.kind ≢ File Ended) }
     ensures programme { IfOk result (λ v. IsProgramme national v.items) }
-    ensures read { IfErr result (λ f. is_read_kind f.kind ≡ true → FailsLoading national
+    ensures read { IfErr result (λ f. is_read f ≡ true → FailsLoading national
         (S.remaining source.old) (S.remaining source.new) f.block) }
-    ensures count { S.failure_count source.new
-        ≡ S.failure_count source.old + (if is_read_fault result then 1 else 0) }
+    ensures count { CountsIf S.failure_count source.old (failed is_read result) source.new }
 {
     let mut reader = match StlReader::open(source) {
         Ok(reader) => reader,
@@ -108,7 +107,7 @@ fn load_in<A: Allocator + Drop, S: Source>(
     }
 }
 
-// Puts a subtitle behind these, where it may follow them.
+// Puts a subtitle after these, where it may follow them.
 fn put<A: Allocator + Drop>(
     national: National,
     subtitles: &mut Vec<Subtitle, A>,
@@ -150,9 +149,9 @@ fn follow_fault(
             return Some(LoadFaultKind::Overlap);
         }
     }
-    match draw(subtitle, national) {
-        Ok(_) => None,
-        Err(fault) => Some(LoadFaultKind::Row(fault)),
+    match first_fault(subtitle, national) {
+        None => None,
+        Some(fault) => Some(LoadFaultKind::Row(fault)),
     }
 }
 
@@ -161,7 +160,7 @@ fn follow_fault(
 pub fn law_of_loading()
     ensures { LawOfLoading }
 {
-    file_is_what_is_read();
+    law_of_files();
 }
 
 #[cfg(test)]

@@ -8,7 +8,7 @@ ghost use Rattle.stl_rows.specs.DuePage.{LawOfLastRow};
 ghost use Rattle.stl_rows.specs.DuePage.{LawOfEdges, TellsNextEdge};
 ghost use Rattle.stl_rows.specs.Programme.{IsProgramme, first_in, last_out};
 
-use crate::drawing::draw;
+use crate::drawing::drawn_page;
 use crate::national::National;
 use std::marker::Model;
 use stl_file::Subtitle;
@@ -59,10 +59,7 @@ fn page_at(national: National, subtitles: &[Subtitle], frame: u32) -> Page
     if frame < tci {
         return Page::blank();
     }
-    match draw(subtitle, national) {
-        Ok(page) => page,
-        Err(_) => Page::blank(),
-    }
+    drawn_page(subtitle, national)
 }
 
 // The least edge after a frame.

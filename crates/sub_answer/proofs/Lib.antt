@@ -3,4 +3,7 @@ pub mod WritingLemmas
 pub mod VerdictLemmas
 pub mod NormalLemmas
 pub mod ListeningRunLemmas
-pub mod FileListingLemmas
+pub mod ListingLemmas
+pub mod HexDigitLemmas
+pub mod SentAgainLemmas
+pub mod UntouchedLemmas

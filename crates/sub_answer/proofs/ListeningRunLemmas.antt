@@ -2,13 +2,17 @@
 use Rattle.std.proofs.Common.{◌≡◌, ◌≢◌, ◌∙◌, ap, refl, sym, subst, arith, ℕ, suc, ◌+◌, ◌<◌, ◌≤◌}
 use Rattle.std.proofs.Common.{inl, inr, Bool, true, false, ◌&&◌, not, List, [], ◌∷◌, ◌++◌}
 use Rattle.std.proofs.Common.{length, drop, get_or, Option, Some, None, option_map, Result, Ok, Err}
-use Rattle.std.proofs.Common.{if◌then◌else◌}
+use Rattle.std.proofs.Common.{cond, if◌then◌else◌}
+use Rattle.std.specs.List.{filter, list_any}
+use Rattle.std.specs.Prelude.{◌==◌, nat_le}
 use Rattle.std.proofs.lemmas.List.{at_drop_more}
+use Rattle.std.proofs.lemmas.List.Elements.{filter-append}
 use Rattle.std.proofs.lemmas.List.{length-append, length-map}
-use Rattle.std.proofs.lemmas.Bool.{cases_lt}
+use Rattle.std.proofs.lemmas.Bool.{and_right, cases_lt}
 use Rattle.ttx_packet.specs.PageId.{PageIdValue}
 use Rattle.ttx_packet.specs.PacketAddress.{address}
-use Rattle.ttx_page.specs.Receiver.{Hears, State, Step}
+use Rattle.ttx_page.specs.Receiver.{Step}
+use Rattle.ttx_page.specs.Screen.{Display, Shows, ShowsAt}
 use Rattle.ttx_pes.specs.DataUnit.{UnitValue}
 use Rattle.ttx_pes.specs.PesPacket.{PesValue}
 use Rattle.ttx_pes.specs.Reading.{most_packets, rest_after}
@@ -26,13 +30,13 @@ use Rattle.sub_check.proofs.PesReadingLemmas.{ReadsNext, reads-below, reads_end,
 use Rattle.sub_check.proofs.PesReadingLemmas.{reads_next}
 use Rattle.sub_check.proofs.ShownLemmas.{joined_more}
 use Rattle.sub_answer.specs.ListeningRun.{AreHeard, IsHeard, RefusesAfter, Runs, is_subtitle_fault}
-use Rattle.sub_answer.specs.ListeningRun.{IsOldPage, Listens, is_source_fault, least_frame}
-use Rattle.sub_answer.specs.ListeningRun.{listen_told, listing_of}
+use Rattle.sub_answer.specs.ListeningRun.{IsOldPage, Listens, least_frame, listen_told, listing_of}
+use Rattle.sub_answer.specs.ListeningRun.{is_read, tuned_with}
 use Rattle.sub_answer.specs.Told.{status_of}
 use Rattle.ttx_page.specs.Page.{Rows}
-use Rattle.sub_answer.specs.Reception.{Reception, as_received, first_lost_header, is_heard, is_lost}
+use Rattle.sub_answer.specs.Reception.{Reception, as_heard, as_received, first_lost_header}
+use Rattle.sub_answer.specs.Reception.{is_heard, is_lost, is_taken, may_be_lost_at, reception_of}
 use Rattle.sub_answer.specs.Reception.{with_flips}
-use Rattle.sub_answer.specs.Reception.{may_be_lost_at, reception_of}
 use Rattle.sub_answer.specs.declared.answering.listen.ListenFault.{ListenFault}
 use Rattle.sub_answer.specs.declared.answering.listen.ListenFault.TheVariants as fault
 use Rattle.sub_answer.specs.declared.listening.Listening.{Listening}
@@ -42,7 +46,7 @@ use Rattle.sub_answer.specs.declared.status.Status.TheVariants.{Fault}
 
 -- A fault of neither file's source nor of a subtitle file is a refusal. For `print_fault`.
 pub listen_told-not_fault : (f : ListenFault)
-    → is_source_fault f ≡ false
+    → is_read f ≡ false
     → is_subtitle_fault f ≡ false
     → status_of (listen_told f).kind ≢ Fault
 listen_told-not_fault (fault.File (check.Subtitles f)) fine own is = cc
@@ -51,7 +55,7 @@ listen_told-not_fault f fine own is = cc
 
 -- The fault of a source that failed has the status `Fault`. For `print_fault`.
 pub listen_told-source : (f : ListenFault)
-    → is_source_fault f ≡ true
+    → is_read f ≡ true
     → status_of (listen_told f).kind ≡ Fault
 listen_told-source (fault.File (check.Pes index pes.Read)) failed = refl
 listen_told-source f failed = cc
@@ -87,6 +91,20 @@ first_lost_header-more r number k units d all e within kept =
     ∙ lost_further k _ (first_lost_header r (number + k + 1) rest) kept
     ∙ ap (λ n. option_map (λ place. place + (k + 1)) (first_lost_header r n rest)) (omega arith)
 
+-- Where no packet is listed as lost, none is lost that may not be. For `first_lost_header`.
+pub first_lost_header-none : (r : Reception) (number : ℕ) (packets : List (List ℕ))
+    → r.lost ≡ []
+    → first_lost_header r number packets ≡ None
+first_lost_header-none r number [] e = refl
+first_lost_header-none r number (packet ∷ packets) e =
+    let unlisted : is_lost r number ≡ false =
+    and_right (nat_le r.skip number) _ (ap (list_any (λ n. n == number)) e) in
+    ap
+    (λ t. if t && not (may_be_lost_at (address packet)) then Some 0
+    else option_map (λ place. place + 1) (first_lost_header r (number + 1) packets))
+    unlisted
+    ∙ ap (option_map (λ place. place + 1)) (first_lost_header-none r (number + 1) packets e)
+
 -- what is received of two lists of packets, one after the other
 pub as_received-append : (r : Reception) (number : ℕ) (first more : List (List ℕ))
     → as_received r number (first ++ more)
@@ -105,71 +123,106 @@ as_received-append r number (p ∷ ps) more =
       | false ↦ further
     ]
 
+-- what is heard of two lists of packets, one after the other
+as_heard-append : (l : Listening) (number : ℕ) (first more : List (List ℕ))
+    → as_heard l number (first ++ more)
+    ≡ as_heard l number first ++ as_heard l (number + length first) more
+as_heard-append l number first more =
+    let taken = is_taken l.receiver l.options.page in
+    let r = reception_of l in
+    ap (filter taken) (as_received-append r number first more)
+    ∙ filter-append taken (as_received r number first)
+    (as_received r (number + length first) more)
+
 -- two runs, one after the other
-pub Hears-append : (w : PageIdValue) (first more : List (List ℕ)) (old mid new : State)
-    → Hears w old first mid
-    → Hears w mid more new
-    → Hears w old (first ++ more) new
-Hears-append w [] more old mid new run next = subst (λ (s : State). Hears w s more new) run next
-Hears-append w (p ∷ ps) more old mid new run next =
-    (run.0, run.1, Hears-append w ps more run.0 mid new run.2 next)
+pub Shows-append : (w : PageIdValue) (first more : List (List ℕ)) (old mid new : Display)
+    → Shows w old first mid
+    → Shows w mid more new
+    → Shows w old (first ++ more) new
+Shows-append w [] more old mid new run next = subst (λ (d : Display). Shows w d more new) run next
+Shows-append w (p ∷ ps) more old mid new run next =
+    (run.0, run.1, run.2, Shows-append w ps more run.0 mid new run.3 next)
 
--- a packet that is heard, and the run after it. For `hear_packet`.
-pub hears_packet : (w : PageIdValue) (r : Reception) (number : ℕ) (packet got : List ℕ)
-    → (packets : List (List ℕ)) (old new end : State)
-    → is_heard r number ≡ true
-    → got ≡ with_flips r.flips number packet
-    → Step w old got new
-    → Hears w new (as_received r (number + 1) packets) end
-    → Hears w old (as_received r number (packet ∷ packets)) end
-hears_packet w r number packet got packets old new end heard same step run =
-    let rest = as_received r (number + 1) packets in
-    subst (λ (b : Bool).
-    Hears w old (if b then with_flips r.flips number packet ∷ rest else rest) end)
+-- a packet that is received and taken, and the run after it. For `hear_packet`.
+pub shows_packet : (w : PageIdValue) (l : Listening) (number : ℕ) (packet got : List ℕ)
+    → (packets : List (List ℕ)) (old new end : Display)
+    → is_heard (reception_of l) number ≡ true
+    → got ≡ with_flips l.flips.items number packet
+    → is_taken l.receiver l.options.page got ≡ true
+    → Step w old.held got new.held
+    → ShowsAt w old got new
+    → Shows w new (as_heard l (number + 1) packets) end
+    → Shows w old (as_heard l number (packet ∷ packets)) end
+shows_packet w l number packet got packets old new end heard same takes step shows run =
+    let taken = is_taken l.receiver l.options.page in
+    let rest = as_received (reception_of l) (number + 1) packets in
+    subst (λ (b : Bool). Shows w old (filter taken
+    (if b then with_flips l.flips.items number packet ∷ rest else rest)) end)
     (sym heard)
-    (new, subst (λ (p : List ℕ). Step w old p new) same step, run)
+    (subst (λ (p : List ℕ). Shows w old (filter taken (p ∷ rest)) end) same
+    (subst (λ (b : Bool). Shows w old (cond b (got ∷ filter taken rest) (filter taken rest)) end)
+    (sym takes) (new, step, shows, run)))
 
--- a packet that is not heard, and the run after it
-pub passes_packet : (w : PageIdValue) (r : Reception) (number : ℕ) (packet : List ℕ)
-    → (packets : List (List ℕ)) (old end : State)
-    → is_heard r number ≡ false
-    → Hears w old (as_received r (number + 1) packets) end
-    → Hears w old (as_received r number (packet ∷ packets)) end
-passes_packet w r number packet packets old end passed run =
-    let rest = as_received r (number + 1) packets in
-    subst (λ (b : Bool).
-    Hears w old (if b then with_flips r.flips number packet ∷ rest else rest) end)
+-- a packet that is received and dropped, and the run after it
+pub drops_packet : (w : PageIdValue) (l : Listening) (number : ℕ) (packet got : List ℕ)
+    → (packets : List (List ℕ)) (old end : Display)
+    → is_heard (reception_of l) number ≡ true
+    → got ≡ with_flips l.flips.items number packet
+    → is_taken l.receiver l.options.page got ≡ false
+    → Shows w old (as_heard l (number + 1) packets) end
+    → Shows w old (as_heard l number (packet ∷ packets)) end
+drops_packet w l number packet got packets old end heard same drops run =
+    let taken = is_taken l.receiver l.options.page in
+    let rest = as_received (reception_of l) (number + 1) packets in
+    subst (λ (b : Bool). Shows w old (filter taken
+    (if b then with_flips l.flips.items number packet ∷ rest else rest)) end)
+    (sym heard)
+    (subst (λ (p : List ℕ). Shows w old (filter taken (p ∷ rest)) end) same
+    (subst (λ (b : Bool). Shows w old (cond b (got ∷ filter taken rest) (filter taken rest)) end)
+    (sym drops) run))
+
+-- a packet that is not received, and the run after it
+pub passes_packet : (w : PageIdValue) (l : Listening) (number : ℕ) (packet : List ℕ)
+    → (packets : List (List ℕ)) (old end : Display)
+    → is_heard (reception_of l) number ≡ false
+    → Shows w old (as_heard l (number + 1) packets) end
+    → Shows w old (as_heard l number (packet ∷ packets)) end
+passes_packet w l number packet packets old end passed run =
+    let taken = is_taken l.receiver l.options.page in
+    let rest = as_received (reception_of l) (number + 1) packets in
+    subst (λ (b : Bool). Shows w old (filter taken
+    (if b then with_flips l.flips.items number packet ∷ rest else rest)) end)
     (sym passed) run
 
--- a run through what is received of the units that are left. For `hear_units`.
-pub hears_further : (v w : PageIdValue) (r : Reception) (number k : ℕ) (units : List UnitValue)
-    → (d : UnitValue) (packet : List ℕ) (now next end : State)
+-- a run through what is heard of the units that are left. For `hear_units`.
+pub shows_further : (v w : PageIdValue) (l : Listening) (number k : ℕ) (units : List UnitValue)
+    → (d : UnitValue) (packet : List ℕ) (now next end : Display)
     → k < length units
     → v ≡ w
     → packet ≡ (get_or units k d).packet
-    → ((packets : List (List ℕ)) (last : State)
-    → Hears v next (as_received r (number + k + 1) packets) last
-    → Hears v now (as_received r (number + k) (packet ∷ packets)) last)
-    → Hears w next (as_received r (number + (k + 1)) (packets_of_units (drop (k + 1) units))) end
-    → Hears w now (as_received r (number + k) (packets_of_units (drop k units))) end
-hears_further v w r number k units d packet now next end within tuned same step run =
+    → ((packets : List (List ℕ)) (last : Display)
+    → Shows v next (as_heard l (number + k + 1) packets) last
+    → Shows v now (as_heard l (number + k) (packet ∷ packets)) last)
+    → Shows w next (as_heard l (number + (k + 1)) (packets_of_units (drop (k + 1) units))) end
+    → Shows w now (as_heard l (number + k) (packets_of_units (drop k units))) end
+shows_further v w l number k units d packet now next end within tuned same step run =
     let rest = packets_of_units (drop (k + 1) units) in
-    let stepped : Hears w next (as_received r (number + k + 1) rest) end
-    → Hears w now (as_received r (number + k) ((get_or units k d).packet ∷ rest)) end =
-    subst (λ (p : List ℕ). Hears w next (as_received r (number + k + 1) rest) end
-    → Hears w now (as_received r (number + k) (p ∷ rest)) end) same
-    (subst (λ (u : PageIdValue). Hears u next (as_received r (number + k + 1) rest) end
-    → Hears u now (as_received r (number + k) (packet ∷ rest)) end) tuned (step rest end)) in
-    subst (λ (packets : List (List ℕ)). Hears w now packets end)
-    (sym (at_drop_more (λ us. as_received r (number + k) (packets_of_units us)) units k d within))
-    (stepped (subst (λ (n : ℕ). Hears w next (as_received r n rest) end) (omega arith) run))
+    let stepped : Shows w next (as_heard l (number + k + 1) rest) end
+    → Shows w now (as_heard l (number + k) ((get_or units k d).packet ∷ rest)) end =
+    subst (λ (p : List ℕ). Shows w next (as_heard l (number + k + 1) rest) end
+    → Shows w now (as_heard l (number + k) (p ∷ rest)) end) same
+    (subst (λ (u : PageIdValue). Shows u next (as_heard l (number + k + 1) rest) end
+    → Shows u now (as_heard l (number + k) (packet ∷ rest)) end) tuned (step rest end)) in
+    subst (λ (packets : List (List ℕ)). Shows w now packets end)
+    (sym (at_drop_more (λ us. as_heard l (number + k) (packets_of_units us)) units k d within))
+    (stepped (subst (λ (n : ℕ). Shows w next (as_heard l n rest) end) (omega arith) run))
 
 -- ---- what is reached after n frames
 
 -- The run up to n frames, and what is left of the file.
 pub record Reaches
     (l : Listening) (frames : Transmission) (unread : Option Unread) (w : PageIdValue)
-    (old : State) (remaining : Option (List ℕ)) (n number least : ℕ) (now : State)
+    (old : Display) (remaining : Option (List ℕ)) (n number least : ℕ) (now : Display)
     : Type 0 where
   pub few : n ≤ most_packets
   pub within : n ≤ length frames
@@ -177,7 +230,7 @@ pub record Reaches
   pub rest_is : remaining ≡ Some rest
   pub left : ReadsAs l.options.origin n rest (drop n frames) unread
   pub heard : AreHeard l frames n
-  pub run : Hears w old (as_received (reception_of l) 0 (joined frames n)) now
+  pub run : Shows w old (as_heard l 0 (joined frames n)) now
   pub number_is : number ≡ length (joined frames n)
   pub least_is : least ≡ least_frame frames n
 
@@ -202,25 +255,29 @@ did_not_rise false old new counted same = refl
 
 -- what is printed of a run of a receiver that was tuned. For `listen`.
 pub listens_from : (l : Listening) (frames : Transmission) (unread : Option Unread)
-    → (w : PageIdValue) (old end : State) (result : Result (Unit {0}) ListenFault) (page : Rows)
+    → (w : PageIdValue) (old end : Display) (result : Result (Unit {0}) ListenFault) (page : Rows)
+    → (asks_complete : Bool)
+    → asks_complete ≡ l.options.asks_complete
     → w ≡ l.options.page
-    → old ≡ record { heard = false; is_open = false; page = page }
+    → old ≡ tuned_with page
     → IsOldPage page
     → Runs l frames unread w old end result
-    → Listens l frames unread (listing_of end result)
-listens_from l frames unread w old end result page tuned start is_old runs = record {
-  old_page = page;
-  is_old = is_old;
-  end = end;
-  result = result;
-  runs =
-      subst (λ (s : State). Runs l frames unread l.options.page s end result) start
-      (subst (λ (u : PageIdValue). Runs l frames unread u old end result) tuned runs);
-  listing_is = refl;
-}
+    → Listens l frames unread (listing_of asks_complete end result)
+listens_from l frames unread w old end result page asks_complete asks tuned start is_old runs =
+    record {
+      old_page = page;
+      is_old = is_old;
+      end = end;
+      result = result;
+      runs =
+          subst (λ (d : Display). Runs l frames unread l.options.page d end result) start
+          (subst (λ (u : PageIdValue). Runs l frames unread u old end result) tuned runs);
+      listing_is = ap (λ b. listing_of b end result) asks;
+    }
 
 module _
-    (l : Listening) (frames : Transmission) (unread : Option Unread) (w : PageIdValue) (old : State)
+    (l : Listening) (frames : Transmission) (unread : Option Unread) (w : PageIdValue)
+    (old : Display)
   where
     -- at the start of the file
     pub reaches_start : (bytes : List ℕ) (remaining : Option (List ℕ))
@@ -240,7 +297,7 @@ module _
     }
 
     module _
-        (n number least : ℕ) (remaining : Option (List ℕ)) (now : State)
+        (n number least : ℕ) (remaining : Option (List ℕ)) (now : Display)
         (reached : Reaches l frames unread w old remaining n number least now)
       where
         -- the file ends
@@ -346,12 +403,12 @@ module _
                 }
 
             -- it is heard
-            pub reaches_next : (left : Option (List ℕ)) (after : State)
+            pub reaches_next : (left : Option (List ℕ)) (after : Display)
                 → least ≤ frame
                 → frame ≤ l.at
                 → first_lost_header (reception_of l) number (packets_of_units v.units) ≡ None
                 → left ≡ Some (rest_after reached.rest)
-                → Hears w now (as_received (reception_of l) number (packets_of_units v.units)) after
+                → Shows w now (as_heard l number (packets_of_units v.units)) after
                 → Reaches l frames unread w old left (n + 1) (number + length v.units) (frame + 1)
                 after
             reaches_next left after rises in_time whole left_is run =
@@ -390,12 +447,12 @@ module _
                         | inr h ↦ subst (IsHeard l frames) (omega arith) here
                       ];
                   run =
-                      subst (λ (ps : List (List ℕ)). Hears w old ps after)
-                      (sym (as_received-append r 0 (joined frames n) (packets_of_units v.units))
-                      ∙ ap (as_received r 0) (sym more))
-                      (Hears-append w _ _ old now after reached.run
+                      subst (λ (ps : List (List ℕ)). Shows w old ps after)
+                      (sym (as_heard-append l 0 (joined frames n) (packets_of_units v.units))
+                      ∙ ap (as_heard l 0) (sym more))
+                      (Shows-append w _ _ old now after reached.run
                       (subst
-                      (λ (m : ℕ). Hears w now (as_received r m (packets_of_units v.units)) after)
+                      (λ (m : ℕ). Shows w now (as_heard l m (packets_of_units v.units)) after)
                       (number_is ∙ zero_more (length (joined frames n))) run));
                   number_is = omega (arith, size, units, number_is);
                   least_is =

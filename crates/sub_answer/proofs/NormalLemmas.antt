@@ -1,16 +1,16 @@
--- What `normal` writes, prints and reads; main lemmas: works-written, taken-at_end, prints-read.
-use Rattle.std.proofs.Common.{◌≡◌, ◌≢◌, ℕ, zero, suc, ◌+◌, ◌≤◌, List, [], ◌∷◌, ◌++◌, length, take}
+-- What `normal` writes, prints and reads; main lemmas: works-written, taken-at_end.
+use Rattle.std.proofs.Common.{◌≡◌, ℕ, zero, suc, ◌+◌, ◌≤◌, List, [], ◌∷◌, ◌++◌, length, take}
 use Rattle.std.proofs.Common.{drop, Option, Some, None, Ok, Err, refl, sym, ap, ◌∙◌, subst}
-use Rattle.std.proofs.Common.{true, arith, length-take-le, if◌then◌else◌}
+use Rattle.std.proofs.Common.{arith, length-take-le}
 use Rattle.std.specs.Prelude.{◌↔◌, codes}
 use Rattle.std.specs.Io.KnownBytes.{Consumes, IsAtEnd, Keeps}
-use Rattle.std.proofs.KnownBytes.{Appends-kept, Appends-nil, Consumes-kept, Consumes-trans}
+use Rattle.std.proofs.KnownBytes.{Appends-kept, Consumes-kept, Consumes-trans}
 use Rattle.std.proofs.lemmas.List.{append-nil, take_all, take_at, take-take}
+use Rattle.std.proofs.lemmas.Option.{same_Some}
 use lib.Seq.{take-add}
 use Rattle.sub_io.specs.Device.{AppendsPrefix}
 use Rattle.sub_io.specs.Reading.{IfTold}
 use Rattle.sub_io.proofs.DeviceLemmas.{AppendsPrefix-whole}
-use Rattle.stl_file.specs.declared.fault.StlFault.{StlFault}
 use Rattle.stl_file.specs.declared.fault.NormalFault.{NormalFault}
 use Rattle.stl_file.specs.declared.fault.NormalFault.TheVariants as normal
 use Rattle.stl_file.specs.File.{IsFile}
@@ -20,16 +20,11 @@ use Rattle.stl_file.specs.Reader.{outcome_of}
 use Rattle.stl_file.specs.Reading.{Outcome}
 use Rattle.stl_file.specs.Subtitle.{SubtitleValue}
 use Rattle.stl_file.proofs.FirstBytes.{outcome_of-first}
-use Rattle.sub_answer.specs.Faults.{stl_told}
-use Rattle.sub_answer.specs.Told.{line_of}
-use Rattle.sub_answer.specs.NormalWriting.{HasNormalFaultLine, IsMemoryLine, PrintsReadFault}
 use Rattle.sub_answer.specs.NormalWriting.{TellsRead, most_read}
 use Rattle.sub_answer.specs.NormalWriting.{normal_of, normal_writing, read_block}
-use Rattle.sub_answer.specs.Writing.{Completes, is_read_end, written, written_line}
+use Rattle.sub_answer.specs.Writing.{Completes, written, written_line}
 use Rattle.sub_answer.specs.declared.answering.normal.InputFault.TheVariants as input
 use Rattle.sub_answer.specs.declared.status.Status.TheVariants.{Done, Refused}
-use Rattle.sub_answer.specs.declared.writing.End.{End}
-use Rattle.sub_answer.specs.declared.writing.End.TheVariants as end
 
 -- ---- what was written
 
@@ -49,20 +44,6 @@ works-written law s old new line n w is =
     rw read (record {
       file = w.wrote;
       text = is ∙ ap (λ (k : ℕ). written_line k (codes " subtitles\n")) w.count;
-      with_status = refl;
-    })
-
--- a file is refused, and its line is made
-pub works-refused : (s : List ℕ) (old new : Option (List ℕ)) (line : List ℕ) (fault : StlFault)
-    (block : ℕ)
-    → subtitles_of (outcome_of s) ≡ (let r : Judged = Err (normal.Refused fault block) in r)
-    → Keeps old new
-    → line ≡ line_of (stl_told fault block)
-    → Completes old new line (normal_writing s) Refused
-works-refused s old new line fault block read kept is =
-    rw read (record {
-      file = Appends-kept old old new _ (Appends-nil old) kept;
-      text = is;
       with_status = refl;
     })
 
@@ -118,10 +99,6 @@ Consumes-behind x y z a n xs ys same p q =
     subst (Consumes x z) (sym (take-add a n ys ∙ ap (λ l. l ++ take n (drop a ys)) same))
     (Consumes-trans x y z _ _ p q)
 
--- equal known bytes are equal bytes
-Some-injective : (x y : List ℕ) → ◌≡◌ {A = Option (List ℕ)} (Some x) (Some y) → x ≡ y
-Some-injective x y e = cc
-
 -- so many bytes of a list are no more
 take-few : (n : ℕ) (xs : List ℕ) → length (take n xs) ≤ n
 take-few zero xs = omega arith
@@ -138,7 +115,7 @@ taken-to_end None y xs p end few bytes e = absurd cc
 taken-to_end (Some b) None xs p end few bytes e = absurd p
 taken-to_end (Some b) (Some ys) xs p end few bytes e =
     let all : bytes ≡ xs =
-    sym (Some-injective b bytes e) ∙ p ∙ ap (λ l. xs ++ l) end ∙ append-nil xs in
+    sym (same_Some b bytes e) ∙ p ∙ ap (λ l. xs ++ l) end ∙ append-nil xs in
     sym (ap (take most_read) all ∙ take_all most_read xs few)
 
 -- the bytes that were taken, where no more are read
@@ -149,7 +126,7 @@ taken-to_most : (x y : Option (List ℕ)) (xs : List ℕ)
 taken-to_most None y xs p size bytes e = absurd cc
 taken-to_most (Some b) None xs p size bytes e = absurd p
 taken-to_most (Some b) (Some ys) xs p size bytes e =
-    let all : bytes ≡ xs ++ ys = sym (Some-injective b bytes e) ∙ p in
+    let all : bytes ≡ xs ++ ys = sym (same_Some b bytes e) ∙ p in
     sym (ap (take most_read) all ∙ take_at xs ys most_read size)
 
 -- the last pull gave nothing
@@ -209,37 +186,3 @@ normal_writing-first s =
     take-take 1024 most_read s (omega arith) in
     ap (λ (o : Outcome). normal_of (take most_read s) (subtitles_of o)) (outcome_of-first s)
     ∙ normal_of-front (take most_read s) s (subtitles_of (outcome_of s)) front
-
--- ---- what is printed
-
--- a failed read is told by its block
-pub prints-read : (ending : End) (n n' : ℕ) (old new out out' : Option (List ℕ)) (line : List ℕ)
-    → n' ≡ n + (if is_read_end ending then 1 else 0)
-    → HasNormalFaultLine old new line ending
-    → AppendsPrefix out out' line
-    → n' ≢ n
-    → PrintsReadFault old new out out'
-prints-read end.Written n n' old new out out' line e h p d = absurd (d (omega (arith, e)))
-prints-read end.Refused n n' old new out out' line e h p d = absurd (d (omega (arith, e)))
-prints-read end.ReadFailed n n' old new out out' line e h p d =
-    (h.0, h.1, subst (AppendsPrefix out out') h.2 p)
-prints-read end.WriteFailed n n' old new out out' line e h p d = absurd (d (omega (arith, e)))
-prints-read end.NoMemory n n' old new out out' line e h p d = absurd (d (omega (arith, e)))
-
--- the input failed where its count rose
-pub read-ended : (ending : End) (n n' : ℕ)
-    → n' ≡ n + (if is_read_end ending then 1 else 0)
-    → n' ≢ n
-    → is_read_end ending ≡ true
-read-ended end.Written n n' e d = absurd (d (omega (arith, e)))
-read-ended end.Refused n n' e d = absurd (d (omega (arith, e)))
-read-ended end.ReadFailed n n' e d = refl
-read-ended end.WriteFailed n n' e d = absurd (d (omega (arith, e)))
-read-ended end.NoMemory n n' e d = absurd (d (omega (arith, e)))
-
--- want of memory is told by its line
-pub memory-line : (old new : Option (List ℕ)) (line : List ℕ) (ending : End)
-    → HasNormalFaultLine old new line ending
-    → ending ≡ end.NoMemory
-    → IsMemoryLine line
-memory-line old new line ending h is = subst (HasNormalFaultLine old new line) is h

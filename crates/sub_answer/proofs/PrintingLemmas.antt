@@ -1,5 +1,6 @@
 -- What is known of a listing that was printed, or of which a sink that failed has a prefix.
-use Rattle.std.proofs.Common.{◌≡◌, ◌≢◌, ◌∙◌, ℕ, ◌+◌, List, Option, arith, inl, inr, sym}
+use Rattle.std.proofs.Common.{◌≡◌, ◌≢◌, ◌∙◌, ℕ, ◌+◌, ◌<◌, List, Option, arith, inl, inr, sym}
+use Rattle.std.proofs.Common.{Bool, true, false, if◌then◌else◌}
 use Rattle.std.specs.Io.KnownBytes.{Appends}
 use Rattle.sub_io.specs.Device.{AppendsPrefix}
 use Rattle.sub_io.proofs.DeviceLemmas.{AppendsPrefix-whole}
@@ -23,6 +24,14 @@ printed-whole n n' old new listing status (inl p) same = (p.1, p.2)
 printed-whole n n' old new listing status (inr p) same =
     let risen = p.0 in absurd (omega (arith, risen, same))
 
+-- A status other than `Fault` is the listing's own.
+pub printed-status : (n n' : ℕ) (old new : Option (List ℕ)) (listing : Listing) (status : Status)
+    → PrintsOrFails n old n' new listing status
+    → status ≢ Fault
+    → status ≡ listing.status
+printed-status n n' old new listing status (inl p) other = p.2
+printed-status n n' old new listing status (inr p) other = absurd (other p.2)
+
 -- A listing of a fault ends with it, whatever became of it.
 pub printed-fault : (n n' : ℕ) (old new : Option (List ℕ)) (listing : Listing) (status : Status)
     → PrintsOrFails n old n' new listing status
@@ -39,3 +48,20 @@ pub printed-failed : (n n' : ℕ) (old new : Option (List ℕ)) (listing : Listi
     → n' ≡ n + 1
 printed-failed n n' old new listing status (inl p) is other = absurd (other (sym p.2 ∙ is))
 printed-failed n n' old new listing status (inr p) is other = p.0
+
+-- A device failed where the status is `Fault`: the source, where the listing's own is.
+pub risen-of_fault : (failed : Bool) (m m' n n' : ℕ) (old new : Option (List ℕ))
+    (listing : Listing) (status : Status)
+    → m' ≡ m + (if failed then 1 else 0)
+    → PrintsOrFails n old n' new listing status
+    → (listing.status ≡ Fault → failed ≡ true)
+    → status ≡ Fault
+    → m + n < m' + n'
+risen-of_fault true m m' n n' old new listing status e (inl p) own is =
+    let kept = p.0 in omega (arith, e, kept)
+risen-of_fault false m m' n n' old new listing status e (inl p) own is =
+    let failed = own (sym p.2 ∙ is) in absurd cc
+risen-of_fault true m m' n n' old new listing status e (inr p) own is =
+    let risen = p.0 in omega (arith, e, risen)
+risen-of_fault false m m' n n' old new listing status e (inr p) own is =
+    let risen = p.0 in omega (arith, e, risen)

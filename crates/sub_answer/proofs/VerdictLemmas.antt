@@ -3,22 +3,23 @@
 use Rattle.std.proofs.Common.{◌≡◌, ◌≢◌, ◌↔◌, ℕ, List, Option, Some, Result, Ok, Err}
 use Rattle.std.proofs.Common.{IsOk, Bool, true, false, refl, arith, ◌+◌, if◌then◌else◌}
 use Rattle.std.specs.Io.KnownBytes.{Appends}
+use Rattle.sub_io.specs.Device.{failed}
 use Rattle.sub_io.specs.Reading.{IfTold}
 use Rattle.ttx_pes.specs.declared.PesFault.TheVariants as pes_fault
 use Rattle.stl_file.specs.declared.fault.StlFault.TheVariants as stl
 use Rattle.stl_file.specs.Reader.{outcome_of}
 use Rattle.stl_file.specs.Reading.{Outcome}
+use Rattle.stl_rows.specs.Fault.{is_read_kind}
 use Rattle.stl_rows.specs.declared.fault.LoadFault.{LoadFault}
 use Rattle.stl_rows.specs.declared.fault.LoadFaultKind.{LoadFaultKind}
 use Rattle.stl_rows.specs.declared.fault.LoadFaultKind.TheVariants as load
 use Rattle.stl_rows.specs.declared.national.National.{National}
-use Rattle.stl_rows.specs.Loading.{TellsFault, is_read_kind, loaded}
+use Rattle.stl_rows.specs.Loading.{TellsFault, loaded}
 use Rattle.stl_rows.specs.Programme.{ProgrammeValue}
 use Rattle.sub_plan.specs.Options.{OptionsValue}
 use Rattle.sub_check.specs.CheckedFiles.{AreChecked}
-use Rattle.sub_check.specs.Checking.{TellsSubtitles, is_source_failure, is_source_fault}
-use Rattle.sub_check.specs.Checking.{is_subtitle_fault, is_subtitle_refusal}
-use Rattle.sub_check.specs.Checking.{is_subtitle_source_failure, is_subtitle_source_fault}
+use Rattle.sub_check.specs.Checking.{TellsSubtitles}
+use Rattle.sub_check.specs.Fault.{is_pes_read, is_stl_read, is_subtitle_fault}
 use Rattle.sub_check.specs.PesReading.{pes_file_of}
 use Rattle.sub_check.specs.declared.checker.Accepted.{Accepted}
 use Rattle.sub_check.specs.declared.fault.CheckFault.{CheckFault}
@@ -36,8 +37,8 @@ use Rattle.sub_answer.specs.declared.told.Kind.TheVariants as kind
 has_programme :
     (national : National) (outcome : Outcome) (answer : Result Accepted CheckFault)
     → (((programme : ProgrammeValue) → loaded national outcome ≢ Ok programme)
-    → is_subtitle_refusal answer ≡ true)
-    → is_subtitle_refusal answer ≡ false
+    → failed is_subtitle_fault answer ≡ true)
+    → failed is_subtitle_fault answer ≡ false
     → (programme : ProgrammeValue) × (loaded national outcome ≡ Ok programme)
 has_programme national outcome answer refused looked = go (loaded national outcome) refl
   where
@@ -113,7 +114,7 @@ load_kind-of_programme national outcome programme block kind is told = cc
 
 -- A fault of the PES file with a status other than `Fault` is none of the source. For
 -- `done-exactly`.
-fine-of_status : (f : CheckFault) → status_of (check_kind f) ≢ Fault → is_source_fault f ≡ false
+fine-of_status : (f : CheckFault) → status_of (check_kind f) ≢ Fault → is_pes_read f ≡ false
 fine-of_status (fault.Pes pes pes_fault.Read) other = absurd (other refl)
 fine-of_status f other = refl
 
@@ -163,6 +164,37 @@ pub ok-of_done :
 ok-of_done (Ok a) done = refl
 ok-of_done (Err f) done = absurd (status_of-not_done (check_kind f) done)
 
+-- The same where the subtitle file is refused. For the clause `subtitles`.
+pub refused-not_ok :
+    (answer : Result Accepted CheckFault)
+    → failed is_subtitle_fault answer ≡ true
+    → (verdict answer).status ≢ Done
+refused-not_ok (Ok a) refused done = cc
+refused-not_ok (Err f) refused done = status_of-not_done (check_kind f) done
+
+-- A source that failed gives a fault. For `stl_read-status`.
+load_read-status : (kind : LoadFaultKind) → is_read_kind kind ≡ true → status_of (load_kind kind) ≡ Fault
+load_read-status (load.File stl.Read) is = refl
+load_read-status kind is = cc
+
+-- The same of the source of the subtitle file. For the clause `stl_count`.
+pub stl_read-status :
+    (answer : Result Accepted CheckFault)
+    → failed is_stl_read answer ≡ true
+    → (verdict answer).status ≡ Fault
+stl_read-status (Ok a) is = cc
+stl_read-status (Err (fault.Subtitles f)) is = load_read-status f.kind is
+stl_read-status (Err f) is = cc
+
+-- The same of the source of the PES file. For the clause `pes_count`.
+pub pes_read-status :
+    (answer : Result Accepted CheckFault)
+    → failed is_pes_read answer ≡ true
+    → (verdict answer).status ≡ Fault
+pes_read-status (Ok a) is = cc
+pes_read-status (Err (fault.Pes pes pes_fault.Read)) is = refl
+pes_read-status (Err f) is = cc
+
 -- What was counted where the count stays. For `memory-printed`.
 not-counted :
     (b : Bool) (old new : ℕ)
@@ -189,8 +221,8 @@ kind-printed national told old new block kind is read tells line = cc
 fault-printed :
     (national : National) (told old new : Option (List ℕ)) (f : CheckFault)
     → status_of (check_kind f) ≡ Fault
-    → is_subtitle_source_fault f ≡ false
-    → is_source_fault f ≡ false
+    → is_stl_read f ≡ false
+    → is_pes_read f ≡ false
     → IfTold told (λ file. TellsSubtitles national (outcome_of file) (Err f))
     → Appends old new (line_of (check_told f))
     → PrintsMemory national told old new
@@ -204,9 +236,9 @@ pub memory-printed :
     (national : National) (told old new : Option (List ℕ)) (answer : Result Accepted CheckFault)
     (stl_old stl_new pes_old pes_new : ℕ)
     → (verdict answer).status ≡ Fault
-    → stl_new ≡ stl_old + (if is_subtitle_source_failure answer then 1 else 0)
+    → stl_new ≡ stl_old + (if failed is_stl_read answer then 1 else 0)
     → stl_new ≡ stl_old
-    → pes_new ≡ pes_old + (if is_source_failure answer then 1 else 0)
+    → pes_new ≡ pes_old + (if failed is_pes_read answer then 1 else 0)
     → pes_new ≡ pes_old
     → IfTold told (λ file. TellsSubtitles national (outcome_of file) answer)
     → Appends old new (verdict answer).text
@@ -214,6 +246,6 @@ pub memory-printed :
 memory-printed national told old new (Ok a) so sn po pn is sc ss pc ps tells line = cc
 memory-printed national told old new (Err f) so sn po pn is sc ss pc ps tells line =
     fault-printed national told old new f is
-    (not-counted (is_subtitle_source_fault f) so sn sc ss)
-    (not-counted (is_source_fault f) po pn pc ps)
+    (not-counted (is_stl_read f) so sn sc ss)
+    (not-counted (is_pes_read f) po pn pc ps)
     tells line

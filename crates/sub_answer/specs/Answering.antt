@@ -1,13 +1,12 @@
 -- What is said of the answer to a request, command by command.
-use Rattle.std.specs.Prelude.{⊤, ◌≡◌, ◌≢◌, ◌↔◌, ℕ, ◌+◌, Bool, true, false, List, Option, Result}
-use Rattle.std.specs.Prelude.{if◌then◌else◌}
-use Rattle.std.specs.Io.KnownBytes.{Appends}
+use Rattle.std.specs.Prelude.{⊤, ◌≡◌, ◌≢◌, ◌↔◌, ℕ, Bool, true, false, List, Option, Result}
+use Rattle.sub_io.specs.Device.{RisesIf, failed}
 use Rattle.sub_io.specs.Reading.{IfTold}
 use Rattle.stl_file.specs.Reader.{outcome_of}
 use Rattle.stl_rows.specs.declared.national.National.{National}
 use Rattle.sub_plan.specs.Options.{OptionsValue}
-use Rattle.sub_check.specs.Checking.{TellsSubtitles, is_source_failure, is_subtitle_refusal}
-use Rattle.sub_check.specs.Checking.{is_subtitle_source_failure}
+use Rattle.sub_check.specs.Checking.{TellsSubtitles}
+use Rattle.sub_check.specs.Fault.{is_pes_read, is_stl_read, is_subtitle_fault}
 use Rattle.sub_check.specs.FrameRules.{Unread}
 use Rattle.sub_check.specs.PesReading.{ReadsAs}
 use Rattle.sub_check.specs.Transmission.{Transmission}
@@ -15,19 +14,14 @@ use Rattle.sub_check.specs.declared.checker.Accepted.{Accepted}
 use Rattle.sub_check.specs.declared.fault.CheckFault.{CheckFault}
 use Rattle.sub_answer.specs.CheckLines.{verdict}
 use Rattle.sub_answer.specs.DeviceCall.{SinkCall, SourceCall}
-use Rattle.sub_answer.specs.FileListing.{packets_listing, show_listing}
-use Rattle.sub_answer.specs.Faults.{usage_told}
-use Rattle.sub_answer.specs.Told.{line_of}
-use Rattle.sub_answer.specs.Listing.{Listing, Prints, PrintsOrFails}
+use Rattle.sub_answer.specs.Listing.{Listing, PrintsOrFails}
 use Rattle.sub_answer.specs.ListeningRun.{Listens}
-use Rattle.sub_answer.specs.NormalWriting.{HasNormalFaultLine, normal_writing}
 use Rattle.sub_answer.specs.Verdict.{IsAccepted, IsAnswer}
-use Rattle.sub_answer.specs.Writing.{Answers, HasScheduleFaultLine, PrintsMemory, Works, Writing}
-use Rattle.sub_answer.specs.Writing.{end_status, is_read_end, is_write_end, schedule_writing}
+use Rattle.sub_answer.specs.Writing.{PrintsMemory, Works, Writing, end_status, is_read_end}
+use Rattle.sub_answer.specs.Writing.{is_write_end}
 use Rattle.sub_answer.specs.declared.listening.Listening.{Listening}
 use Rattle.sub_answer.specs.declared.request.Request.{Request}
 use Rattle.sub_answer.specs.declared.request.Request.TheVariants as ask
-use Rattle.sub_answer.specs.declared.request.UsageFault.TheVariants.{Memory}
 use Rattle.sub_answer.specs.declared.status.Status.{Status}
 use Rattle.sub_answer.specs.declared.status.Status.TheVariants.{Done, Fault}
 use Rattle.sub_answer.specs.declared.writing.End.{End}
@@ -78,25 +72,12 @@ takes_memory _ = false
 
 -- ---- what each command answers
 
--- `packets` prints what the bytes of the PES file decide.
-abbrev pub AnswersPackets : {S : Type 0} → SourceCall S → SinkCall → Status → Type 0
-AnswersPackets pes out status =
-    IfTold pes.told (λ bytes.
-    pes.new_count ≡ pes.old_count
-    → Prints out.old out.new (packets_listing bytes) status)
-
--- `show` prints what the bytes of the subtitle file decide.
-abbrev pub AnswersShow : {S : Type 0} → SourceCall S → SinkCall → Status → Type 0
-AnswersShow stl out status =
-    IfTold stl.told (λ bytes.
-    stl.new_count ≡ stl.old_count
-    → Prints out.old out.new (show_listing bytes) status)
-
 -- The work of a command that writes a file ended so, and its line was printed whole and gives the
 -- status; or `out` failed once, has a prefix of the line, and the status is `Fault`.
 pub record EndsWork
     {S : Type 0} (input : SourceCall S) (file out : SinkCall) (status : Status)
-    (writing : List ℕ → Writing) (HasFaultLine : List ℕ → End → Type 0)
+    (writing : List ℕ → Writing)
+    (HasFaultLine : Option (List ℕ) → Option (List ℕ) → List ℕ → End → Type 0)
     : Type 0 where
   pub ending : End
   pub line : List ℕ
@@ -104,54 +85,13 @@ pub record EndsWork
   pub works :
       IfTold input.told (λ bytes. Works file.old file.new line (writing bytes) ending)
   -- A failed device and want of memory have this line.
-  pub fault_line : HasFaultLine line ending
+  pub fault_line : HasFaultLine input.told input.left line ending
   -- The devices fail where the work ended by them, and nowhere else.
-  pub input_count : input.new_count ≡ input.old_count + (if is_read_end ending then 1 else 0)
-  pub file_count : file.new_count ≡ file.old_count + (if is_write_end ending then 1 else 0)
+  pub input_count : RisesIf input.old_count (is_read_end ending) input.new_count
+  pub file_count : RisesIf file.old_count (is_write_end ending) file.new_count
   pub printed :
       PrintsOrFails out.old_count out.old out.new_count out.new
       (record { text = line; status = end_status ending }) status
-
--- `normal` writes and prints what the bytes of its input decide.
-pub record AnswersNormal
-    {S : Type 0} (input : SourceCall S) (file out : SinkCall) (status : Status)
-    : Type 0 where
-  -- How it ended, in every case.
-  pub work :
-      EndsWork input file out status normal_writing (HasNormalFaultLine input.told input.left)
-  -- The file gets the normal form of these bytes, and the line is printed, or their refusal is.
-  pub answer :
-      IfTold input.told (λ bytes.
-      Answers file.old file.new out.old out.new (normal_writing bytes) status)
-  -- The status is `Fault` only where a device failed, or want of memory is printed.
-  pub fault :
-      status ≡ Fault
-      → input.new_count ≡ input.old_count
-      → file.new_count ≡ file.old_count
-      → out.new_count ≡ out.old_count
-      → Appends out.old out.new (line_of (usage_told Memory))
-
--- `schedule` writes and prints what the bytes of the subtitle file decide.
-pub record AnswersSchedule
-    {S : Type 0} (national : National) (options : OptionsValue) (serial : Bool)
-    (stl : SourceCall S) (file out : SinkCall) (status : Status)
-    : Type 0 where
-  -- How it ended, in every case.
-  pub work :
-      EndsWork stl file out status (schedule_writing national options serial)
-      (HasScheduleFaultLine national stl.told)
-  -- The file gets the schedule of their programme, and the line is printed, or their refusal is.
-  pub answer :
-      IfTold stl.told (λ bytes.
-      Answers file.old file.new out.old out.new (schedule_writing national options serial bytes)
-      status)
-  -- The status is `Fault` only where a device failed, or want of memory is printed.
-  pub fault :
-      status ≡ Fault
-      → stl.new_count ≡ stl.old_count
-      → file.new_count ≡ file.old_count
-      → out.new_count ≡ out.old_count
-      → PrintsMemory national stl.told out.old out.new
 
 -- This answer of a check is printed, and it is the right one.
 pub record PrintsAnswer
@@ -163,12 +103,10 @@ pub record PrintsAnswer
   pub printed :
       PrintsOrFails out.old_count out.old out.new_count out.new (verdict answer) status
   -- It tells which device failed.
-  pub stl_count :
-      stl.new_count
-      ≡ stl.old_count + (if is_subtitle_source_failure answer then 1 else 0)
-  pub pes_count : pes.new_count ≡ pes.old_count + (if is_source_failure answer then 1 else 0)
+  pub stl_count : RisesIf stl.old_count (failed is_stl_read answer) stl.new_count
+  pub pes_count : RisesIf pes.old_count (failed is_pes_read answer) pes.new_count
   -- Where it refuses the subtitle file, no PES byte is read.
-  pub before : is_subtitle_refusal answer ≡ true → pes.new ≡ pes.old
+  pub before : failed is_subtitle_fault answer ≡ true → pes.new ≡ pes.old
   -- Where the files tell their bytes, these decide it.
   pub subtitles : IfTold stl.told (λ file. TellsSubtitles national (outcome_of file) answer)
   pub exact :

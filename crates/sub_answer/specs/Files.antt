@@ -1,4 +1,5 @@
 -- The files that a request names, in the order of its words: what is read, and what is written.
+use Rattle.std.specs.Prelude.{Bool, true, false}
 use Rattle.sub_answer.specs.declared.files.FileNames.{FileNames}
 use Rattle.sub_answer.specs.declared.files.FileNames.TheVariants as files
 use Rattle.sub_answer.specs.declared.request.Request.{Request}
@@ -13,3 +14,18 @@ files_of (ask.Normal stl normal) = files.Write stl.now normal.now
 files_of (ask.Schedule stl pes options serial national) = files.Write stl.now pes.now
 files_of (ask.Check stl pes options national) = files.ReadBoth stl.now pes.now
 files_of (ask.Listen pes listening) = files.Read pes.now
+
+-- Whether a first input is read.
+abbrev pub reads_one : FileNames → Bool
+reads_one files.None = false
+reads_one _ = true
+
+-- Whether a second input is read.
+abbrev pub reads_two : FileNames → Bool
+reads_two (files.ReadBoth first second) = true
+reads_two _ = false
+
+-- Whether a file is written.
+abbrev pub writes_one : FileNames → Bool
+writes_one (files.Write input output) = true
+writes_one _ = false

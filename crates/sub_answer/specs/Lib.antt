@@ -1,4 +1,3 @@
-pub mod NamedDevices
 pub mod Lines
 pub mod Told
 pub mod Faults
@@ -10,7 +9,9 @@ pub mod CheckLines
 pub mod Verdict
 pub mod NormalWriting
 pub mod Reception
+pub mod Untouched
 pub mod StateText
 pub mod ListeningRun
-pub mod FileListing
+pub mod PacketsListing
+pub mod ShowListing
 pub mod Files

@@ -39,11 +39,11 @@ abbrev pub address_line : ℕ → ℕ → List ℕ
 address_line magazine packet_number = codes "magazine " ++ decimal (shown_magazine magazine)
     ++ codes " packet " ++ decimal packet_number ++ codes "\n"
 
--- A control bit's name behind a space, where the bit is set.
+-- A control bit's name after a space, where the bit is set.
 abbrev pub marked : Bool → List ℕ → List ℕ
 marked bit name = if bit then name else []
 
--- The control bits that are set, rising, each behind a space.
+-- The control bits that are set, rising, each after a space.
 abbrev pub control_names : Header → List ℕ
 control_names h = marked (c4 h) (codes " C4") ++ marked (c5 h) (codes " C5")
     ++ marked (c6 h) (codes " C6") ++ marked (c7 h) (codes " C7") ++ marked (c8 h) (codes " C8")

@@ -4,16 +4,16 @@ use Rattle.std.specs.Prelude.{length, codes, Option, Some, None, Result, Ok, Err
 use Rattle.std.specs.Prelude.{MatchResult}
 use Rattle.ttx_packet.specs.PageId.{PageIdValue}
 use Rattle.ttx_page.specs.Page.{Rows, IsCell, cell}
-use Rattle.ttx_page.specs.Receiver.{Hears, State}
-use Rattle.sub_check.specs.Checking as checking
+use Rattle.ttx_page.specs.Screen.{Display, Shows}
+use Rattle.sub_check.specs.Fault as check_number
 use Rattle.sub_check.specs.FirstBroken.{unread_fault}
 use Rattle.sub_check.specs.FrameRules.{Unread, frame_at, joined, packets_at}
 use Rattle.sub_check.specs.Transmission.{Transmission}
 use Rattle.sub_check.specs.declared.fault.CheckFault.TheVariants as check
 use Rattle.sub_answer.specs.Faults.{check_told}
 use Rattle.sub_answer.specs.Listing.{Listing, done, told_listing}
-use Rattle.sub_answer.specs.Reception.{as_received, first_lost_header, reception_of}
-use Rattle.sub_answer.specs.StateText.{state_text}
+use Rattle.sub_answer.specs.Reception.{as_heard, first_lost_header, reception_of}
+use Rattle.sub_answer.specs.StateText.{display_text}
 use Rattle.sub_answer.specs.Told.{ToldValue, told_as}
 use Rattle.sub_answer.specs.declared.answering.listen.ListenFault.{ListenFault}
 use Rattle.sub_answer.specs.declared.answering.listen.ListenFault.TheVariants as fault
@@ -29,19 +29,14 @@ listen_told (fault.File f) = check_told f
 listen_told (fault.LostHeader frame packet) =
     told_as Refused (76, codes "LostHeader") (Packet frame packet)
 
--- The fault is that of a source that failed.
-abbrev pub is_source_fault : ListenFault → Bool
-is_source_fault (fault.File f) = checking.is_source_fault f
-is_source_fault (fault.LostHeader frame packet) = false
-
--- The answer is that fault.
-abbrev pub is_source_failure : {X : Type 0} → Result X ListenFault → Bool
-is_source_failure (Err f) = is_source_fault f
-is_source_failure (Ok x) = false
+-- The source failed.
+abbrev pub is_read : ListenFault → Bool
+is_read (fault.File f) = check_number.is_pes_read f
+is_read (fault.LostHeader frame packet) = false
 
 -- The fault is one of a subtitle file, which is not read here.
 abbrev pub is_subtitle_fault : ListenFault → Bool
-is_subtitle_fault (fault.File f) = checking.is_subtitle_fault f
+is_subtitle_fault (fault.File f) = check_number.is_subtitle_fault f
 is_subtitle_fault (fault.LostHeader frame packet) = false
 
 -- ---- what is heard
@@ -93,15 +88,15 @@ RefusesAfter l frames unread n f =
 
 -- ---- the run of a receiver
 
--- What becomes of a receiver in a state that hears a file: it runs through what is received of the
+-- What becomes of a receiver with a screen that hears a file: it runs through what it hears of the
 -- packets up to TIME, or the file is refused.
 pub record Runs
     (l : Listening) (frames : Transmission) (unread : Option Unread) (w : PageIdValue)
-    (old new : State) (result : Result (Unit {0}) ListenFault)
+    (old new : Display) (result : Result (Unit {0}) ListenFault)
     : Type 0 where
   pub n : ℕ
   pub heard : AreHeard l frames n
-  pub run : Hears w old (as_received (reception_of l) 0 (joined frames n)) new
+  pub run : Shows w old (as_heard l 0 (joined frames n)) new
   pub ends :
       MatchResult result (λ _. EndsAfter l frames unread n) (RefusesAfter l frames unread n)
 
@@ -109,21 +104,26 @@ pub record Runs
 abbrev pub IsOldPage : Rows → Type 0
 IsOldPage page = (row column : ℕ) → IsCell row column → cell page row column ≡ 0x3F
 
--- What is printed at the end of a run.
-abbrev pub listing_of : State → Result (Unit {0}) ListenFault → Listing
-listing_of end (Ok _) = done (state_text end)
-listing_of end (Err f) = told_listing (listen_told f)
+-- A receiver that was tuned with a page that it held before, and nothing on its screen.
+abbrev pub tuned_with : Rows → Display
+tuned_with page = record {
+  held = record { heard = false; is_open = false; page = page };
+  screen = None;
+}
 
--- What `listen` prints of a file that is read as these frames: the state of a receiver that was
--- tuned with an old page, at the end of its run, or the refusal.
+-- What is printed at the end of a run.
+abbrev pub listing_of : Bool → Display → Result (Unit {0}) ListenFault → Listing
+listing_of asks_complete end (Ok _) = done (display_text asks_complete end)
+listing_of asks_complete end (Err f) = told_listing (listen_told f)
+
+-- What `listen` prints of a file that is read as these frames: what a receiver that was tuned with
+-- an old page holds at the end of its run, or what is on its screen; or the refusal.
 pub record Listens
     (l : Listening) (frames : Transmission) (unread : Option Unread) (listing : Listing)
     : Type 0 where
   pub old_page : Rows
   pub is_old : IsOldPage old_page
-  pub end : State
+  pub end : Display
   pub result : Result (Unit {0}) ListenFault
-  pub runs :
-      Runs l frames unread l.options.page
-      (record { heard = false; is_open = false; page = old_page }) end result
-  pub listing_is : listing ≡ listing_of end result
+  pub runs : Runs l frames unread l.options.page (tuned_with old_page) end result
+  pub listing_is : listing ≡ listing_of l.options.asks_complete end result

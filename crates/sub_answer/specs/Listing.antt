@@ -6,7 +6,9 @@ use Rattle.ttx_packet.specs.PacketAddress.{address, address_pair}
 use Rattle.ttx_packet.specs.PageHeader.{header}
 use Rattle.ttx_packet.specs.declared.Header.{Header}
 use Rattle.std.specs.Io.KnownBytes.{Appends}
-use Rattle.sub_io.specs.Device.{AppendsPrefix}
+use Rattle.sub_io.specs.Device.{AppendsPrefix, RisesIf}
+use Rattle.sub_io.specs.Reading.{IfTold}
+use Rattle.sub_answer.specs.DeviceCall.{SinkCall, SourceCall}
 use Rattle.sub_answer.specs.Lines.{address_line, header_line, text_line}
 use Rattle.sub_answer.specs.Told.{ToldValue, line_of, status_of, told_as}
 use Rattle.sub_answer.specs.declared.status.Status.{Status}
@@ -26,6 +28,12 @@ done text = record { text = text; status = Done }
 -- The line of what is told of a fault.
 abbrev pub told_listing : ToldValue → Listing
 told_listing t = record { text = line_of t; status = status_of t.kind }
+
+-- Lines, and what follows them.
+abbrev pub followed : List ℕ → Listing → Listing
+followed text more = record { text = text ++ more.text; status = more.status }
+
+-- ---- one packet
 
 -- One of the two address bytes of a packet means nothing.
 abbrev pub bad_address : ToldValue
@@ -58,26 +66,13 @@ addressed_listing (Some a) packet = if a.1 == 0
 abbrev pub packet_listing : List ℕ → Listing
 packet_listing packet = addressed_listing (option_map address_pair (address packet)) packet
 
+-- ---- statuses
+
 -- The status as the number that the system gets.
 abbrev pub exit_code : Status → ℕ
 exit_code Done = 0
 exit_code Refused = 1
 exit_code Fault = 2
-
--- The listing was printed whole and gives the status, or the sink failed: then it has a prefix
--- of the text, and the status is `Fault`.
-abbrev pub Prints : Option (List ℕ) → Option (List ℕ) → Listing → Status → Type 0
-Prints old new listing Done = Appends old new listing.text × (listing.status ≡ Done)
-Prints old new listing Refused = Appends old new listing.text × (listing.status ≡ Refused)
-Prints old new listing Fault = AppendsPrefix old new listing.text
-
--- All of the listing was printed, and its status is given; or the sink failed once, has a prefix of
--- the text, and the status is `Fault`.
-abbrev pub PrintsOrFails
-    : ℕ → Option (List ℕ) → ℕ → Option (List ℕ) → Listing → Status → Type 0
-PrintsOrFails old_count old new_count new listing status =
-    ((new_count ≡ old_count) × Appends old new listing.text × (status ≡ listing.status))
-    ⊎ ((new_count ≡ old_count + 1) × AppendsPrefix old new listing.text × (status ≡ Fault))
 
 -- A device's failures rise by one at most, and not where the status is another than `Fault`.
 pub record CountsFault (old : ℕ) (status : Status) (new : ℕ) : Type 0 where
@@ -89,3 +84,51 @@ pub record CountsFault (old : ℕ) (status : Status) (new : ℕ) : Type 0 where
 abbrev pub ends_in_fault : Option Status → Bool
 ends_in_fault (Some Fault) = true
 ends_in_fault _ = false
+
+-- ---- what was printed
+
+-- All of the listing was printed, and its status is given; or the sink failed once, has a prefix of
+-- the text, and the status is `Fault`.
+abbrev pub PrintsOrFails
+    : ℕ → Option (List ℕ) → ℕ → Option (List ℕ) → Listing → Status → Type 0
+PrintsOrFails old_count old new_count new listing status =
+    ((new_count ≡ old_count) × Appends old new listing.text × (status ≡ listing.status))
+    ⊎ ((new_count ≡ old_count + 1) × AppendsPrefix old new listing.text × (status ≡ Fault))
+
+-- The outcome of reading a source is listed: where the source tells its bytes and did not fail,
+-- these decide the outcome, and where it failed, the outcome tells it. The source is known by the
+-- bytes that it told before and tells after.
+pub record Lists
+    {Outcome : Type 0} (listing_of : Outcome → Listing) (given : List ℕ → Outcome)
+    (TellsRead : Outcome → Type 0)
+    (told left : Option (List ℕ)) (failed : Bool) (listing : Listing)
+    : Type 0 where
+  pub outcome : Outcome
+  pub listing_is : listing ≡ listing_of outcome
+  pub exact : IfTold told (λ bytes. failed ≡ false → outcome ≡ given bytes)
+  pub failure : failed ≡ true → TellsRead outcome
+
+-- A source was read and listed, whether it failed or not, and the listing was printed, or a sink
+-- that failed has a prefix of it.
+pub record PrintsListing
+    {S : Type 0} (IsListed : Option (List ℕ) → Option (List ℕ) → Bool → Listing → Type 0)
+    (source : SourceCall S) (out : SinkCall) (status : Status)
+    : Type 0 where
+  pub failed : Bool
+  pub listing : Listing
+  pub is_listed : IsListed source.told source.left failed listing
+  pub source_count : RisesIf source.old_count failed source.new_count
+  pub printed : PrintsOrFails out.old_count out.old out.new_count out.new listing status
+
+-- One piece of a listing was read and its lines made: whatever is listed from here on is listed
+-- behind them, and something is; or they end the listing.
+abbrev pub Gives
+    : (Option (List ℕ) → Option (List ℕ) → Bool → Listing → Type 0)
+    → (Option (List ℕ) → Option (List ℕ) → Bool → Listing → Type 0)
+    → Option (List ℕ) → Option (List ℕ) → List ℕ → Option Status → Type 0
+Gives Before After told left text None =
+    ((end : Option (List ℕ)) (failed : Bool) (more : Listing)
+    → After left end failed more → Before told end failed (followed text more))
+    × ((more : Listing) × After left left false more)
+Gives Before After told left text (Some status) =
+    Before told left (ends_in_fault (Some status)) (record { text = text; status = status })

@@ -1,8 +1,7 @@
 -- What `normal` writes and prints, and how much of its input it reads.
 use Rattle.std.specs.Prelude.{◌≡◌, ⊤, ℕ, ◌+◌, ◌-◌, ◌/◌, nat_lt, List, codes, length, take}
-use Rattle.std.specs.Prelude.{Bool, true, false, Option, Result, Ok, Err, if◌then◌else◌}
+use Rattle.std.specs.Prelude.{Bool, true, false, Option, Ok, Err, if◌then◌else◌}
 use Rattle.std.specs.Io.KnownBytes.{Consumes}
-use Rattle.sub_io.specs.Device.{AppendsPrefix}
 use Rattle.stl_file.specs.Gsi.{gsi_size}
 use Rattle.stl_file.specs.NormalForm.{Judged, normal_form, subtitles_of}
 use Rattle.stl_file.specs.Reader.{outcome_of}
@@ -37,24 +36,24 @@ normal_writing s = normal_of s (subtitles_of (outcome_of s))
 abbrev pub most_read : ℕ
 most_read = 12800897
 
--- The block of the byte behind so many bytes: 0 is the GSI block.
+-- The block of the byte that stands after n bytes: 0 is the GSI block.
 abbrev pub read_block : ℕ → ℕ
 read_block n = if nat_lt n 1024 then 0 else (n - 1024) / 128 + 1
 
--- The source failed at a byte of this block, behind the bytes that were taken.
+-- The source failed at a byte of this block, after the bytes that were taken.
 abbrev pub TellsRead : Option (List ℕ) → Option (List ℕ) → InputFault → Type 0
 TellsRead old new (input.Read block) =
     (bytes : List ℕ) × Consumes old new bytes × (block ≡ read_block (length bytes))
 TellsRead old new input.Memory = ⊤
 
--- The answer is that the source failed.
-abbrev pub is_read_failure : {X : Type 0} → Result X InputFault → Bool
-is_read_failure (Err (input.Read block)) = true
-is_read_failure _ = false
+-- The source failed.
+abbrev pub is_read : InputFault → Bool
+is_read (input.Read block) = true
+is_read input.Memory = false
 
 -- ---- what is printed of devices and memory
 
--- The line of a failed read, behind the bytes that were taken.
+-- The line of a failed read, after the bytes that were taken.
 abbrev pub HasReadLine : Option (List ℕ) → Option (List ℕ) → List ℕ → Type 0
 HasReadLine old new line =
     (bytes : List ℕ) × Consumes old new bytes
@@ -66,14 +65,3 @@ HasNormalFaultLine old new line end.ReadFailed = HasReadLine old new line
 HasNormalFaultLine old new line end.WriteFailed = line ≡ line_of (normal_told normal.Write)
 HasNormalFaultLine old new line end.NoMemory = line ≡ line_of (usage_told usage.Memory)
 HasNormalFaultLine old new line _ = ⊤
-
--- The line of a failed read was printed, or a prefix of it.
-abbrev pub PrintsReadFault :
-    Option (List ℕ) → Option (List ℕ) → Option (List ℕ) → Option (List ℕ) → Type 0
-PrintsReadFault old new out out' =
-    (bytes : List ℕ) × Consumes old new bytes
-    × AppendsPrefix out out' (line_of (stl_told stl.Read (read_block (length bytes))))
-
--- The line of want of memory.
-abbrev pub IsMemoryLine : List ℕ → Type 0
-IsMemoryLine line = line ≡ line_of (usage_told usage.Memory)

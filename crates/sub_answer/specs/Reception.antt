@@ -1,12 +1,16 @@
 -- What a receiver gets of the packets of a file: some are passed over, some are lost, and bits are
--- flipped (own). Packets are numbered from 0 over the whole file.
-use Rattle.std.specs.Prelude.{ℕ, ◌+◌, ◌-◌, ◌^◌, Bool, false, not, ◌&&◌, List, [], ◌∷◌}
+-- flipped (own); and what it hears of that. Packets are numbered from 0 over the whole file.
+use Rattle.std.specs.Prelude.{ℕ, ◌+◌, ◌-◌, ◌^◌, Bool, true, false, not, ◌&&◌, List, [], ◌∷◌}
 use Rattle.std.specs.Prelude.{Option, Some, None, option_map, bit_xor, slice_index, slice_set}
 use Rattle.std.specs.Prelude.{if◌then◌else◌, ◌==◌, nat_le}
-use Rattle.std.specs.List.{list_any}
+use Rattle.std.specs.List.{filter, list_any}
 use Rattle.ttx_packet.specs.PacketAddress.{PacketAddress, address}
+use Rattle.ttx_packet.specs.PageId.{PageIdValue}
+use Rattle.ttx_page.specs.Receiver.{is_dropped}
 use Rattle.sub_answer.specs.declared.listening.Flip.{Flip}
 use Rattle.sub_answer.specs.declared.listening.Listening.{Listening}
+use Rattle.sub_answer.specs.declared.listening.ReceiverKind.{ReceiverKind}
+use Rattle.sub_answer.specs.declared.listening.ReceiverKind.TheVariants.{DropRow}
 
 -- What a request says of the packets: how many are passed over, which are lost, which bits are
 -- flipped.
@@ -51,6 +55,18 @@ as_received r number (packet ∷ packets) =
     if is_heard r number
     then with_flips r.flips number packet ∷ as_received r (number + 1) packets
     else as_received r (number + 1) packets
+
+-- Whether a receiver of page w takes a packet that it gets: one that drops rows passes over a row
+-- of its page with a byte of even parity.
+abbrev pub is_taken : ReceiverKind → PageIdValue → List ℕ → Bool
+is_taken DropRow w packet = not (is_dropped w packet)
+is_taken _ w packet = true
+
+-- What the receiver hears of packets of which the first has a number: what is received of them,
+-- without the rows that it drops.
+abbrev pub as_heard : Listening → ℕ → List (List ℕ) → List (List ℕ)
+as_heard l number packets =
+    filter (is_taken l.receiver l.options.page) (as_received (reception_of l) number packets)
 
 -- A packet may be lost: it has an address, and is no packet X/0 (EN 300 706).
 abbrev pub may_be_lost_at : Option PacketAddress → Bool

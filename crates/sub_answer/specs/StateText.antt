@@ -1,10 +1,10 @@
 -- What is printed of a receiver: whether it has heard its page, whether the page is open, and the
--- rows that hold a cell other than a space.
+-- rows that hold a cell other than a space, of the page that it holds or of the one on its screen.
 use Rattle.std.specs.Prelude.{ℕ, zero, suc, ◌==◌, Bool, true, false, List, [], ◌++◌, codes, length}
-use Rattle.std.specs.Prelude.{map, if◌then◌else◌}
+use Rattle.std.specs.Prelude.{map, Option, Some, None, if◌then◌else◌}
 use Rattle.std.specs.List.{list_all}
 use Rattle.ttx_page.specs.Page.{Rows, row_at, space}
-use Rattle.ttx_page.specs.Receiver.{State}
+use Rattle.ttx_page.specs.Screen.{Display}
 use Rattle.sub_answer.specs.Lines.{glyph, two_digits}
 
 -- A row: its number in two digits, and its 40 cells between bars.
@@ -30,8 +30,18 @@ abbrev pub open_line : Bool → List ℕ
 open_line true = codes "open yes\n"
 open_line false = codes "open no\n"
 
--- What is printed of a receiver in a state.
-abbrev pub state_text : State → List ℕ
-state_text s = if s.heard
-    then codes "heard yes\n" ++ open_line s.is_open ++ page_text s.page
+-- The lines of a screen: those of the page on it, or that nothing is on it yet.
+abbrev pub screen_text : Option Rows → List ℕ
+screen_text None = codes "shown no\n"
+screen_text (Some page) = page_text page
+
+-- The lines of the page that a receiver holds; where complete pages are asked for, of its screen.
+abbrev pub seen_text : Bool → Display → List ℕ
+seen_text asks_complete d =
+    if asks_complete then screen_text d.screen else page_text d.held.page
+
+-- What is printed of a receiver with a screen.
+abbrev pub display_text : Bool → Display → List ℕ
+display_text asks_complete d = if d.held.heard
+    then codes "heard yes\n" ++ open_line d.held.is_open ++ seen_text asks_complete d
     else codes "heard no\n"

@@ -5,8 +5,8 @@ use Rattle.stl_rows.specs.declared.national.National.{National}
 use Rattle.stl_rows.specs.Loading.{loaded}
 use Rattle.stl_rows.specs.Programme.{ProgrammeValue}
 use Rattle.sub_plan.specs.Options.{OptionsValue}
-use Rattle.sub_check.specs.Checking.{HasCounts, TellsSubtitles, is_source_fault}
-use Rattle.sub_check.specs.Checking.{is_subtitle_fault}
+use Rattle.sub_check.specs.Checking.{HasCounts, TellsSubtitles}
+use Rattle.sub_check.specs.Fault.{is_pes_read, is_subtitle_fault}
 use Rattle.sub_check.specs.FirstBroken.{NamesFirst}
 use Rattle.sub_check.specs.FrameRules.{Unread, task_of}
 use Rattle.sub_check.specs.Good.{Good}
@@ -18,8 +18,8 @@ use Rattle.sub_check.specs.declared.checker.Accepted.{Accepted}
 use Rattle.sub_check.specs.declared.fault.CheckFault.{CheckFault}
 
 -- The files are accepted: the subtitle file gives a programme, and the PES file carries a
--- transmission that is good for it, of complete pages where these are asked for, and of so many
--- frames and headers of the page.
+-- transmission that is good for it, of complete pages where these are asked for; the answer counts
+-- its frames and the headers of the page.
 pub record IsAccepted
     (national : National) (options : OptionsValue) (file bytes : List ℕ) (a : Accepted)
     : Type 0 where
@@ -53,5 +53,5 @@ pub record IsAnswer
   pub pes :
       MatchResult answer (IsAccepted national options file bytes)
       (λ f. is_subtitle_fault f ≡ false
-      → is_source_fault f ≡ false
+      → is_pes_read f ≡ false
       → IsRefused national options file bytes f)

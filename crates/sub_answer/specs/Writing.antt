@@ -1,5 +1,5 @@
 -- What the commands that write a file do: the bytes of the file, and the line that is printed.
-use Rattle.std.specs.Prelude.{◌≡◌, ◌⊎◌, ℕ, List, [], ◌∷◌, ◌++◌, codes, decimal, length}
+use Rattle.std.specs.Prelude.{◌≡◌, ⊤, ℕ, List, [], ◌∷◌, ◌++◌, codes, decimal, length}
 use Rattle.std.specs.Prelude.{Bool, true, false, Option, Result, Ok, Err}
 use Rattle.std.specs.Io.KnownBytes.{Appends, Keeps}
 use Rattle.sub_io.specs.Device.{AppendsPrefix}
@@ -17,7 +17,7 @@ use Rattle.sub_plan.specs.Options.{OptionsValue}
 use Rattle.sub_plan.specs.Schedule.{plan, plan_frames}
 use Rattle.sub_plan.specs.declared.fault.PlanFault.TheVariants as plan_fault
 use Rattle.sub_answer.specs.Faults.{load_told, plan_told}
-use Rattle.sub_answer.specs.Listing.{Listing, Prints, done}
+use Rattle.sub_answer.specs.Listing.{Listing, done}
 use Rattle.sub_answer.specs.Told.{line_of}
 use Rattle.sub_answer.specs.declared.status.Status.{Status}
 use Rattle.sub_answer.specs.declared.status.Status.TheVariants.{Done, Refused, Fault}
@@ -40,25 +40,6 @@ written file count things = record { file = file; listing = done (written_line c
 -- Nothing is written where the input is refused.
 abbrev pub nothing_written : List ℕ → Writing
 nothing_written line = record { file = []; listing = record { text = line; status = Refused } }
-
--- ---- what an answer says
-
--- The file has all its bytes and the line was printed whole, with its status; or the status is
--- `Fault`, and the file has a prefix of its bytes.
-abbrev pub Answers : Option (List ℕ) → Option (List ℕ) → Option (List ℕ) → Option (List ℕ)
-    → Writing → Status → Type 0
-Answers file file' out out' w Done = Appends file file' w.file × Prints out out' w.listing Done
-Answers file file' out out' w Refused =
-    Appends file file' w.file × Prints out out' w.listing Refused
-Answers file file' out out' w Fault = AppendsPrefix file file' w.file
-
--- All bytes of the file were written, and what was printed is a prefix of its line; or memory was
--- refused: no byte was written, and what was printed is a prefix of that line.
-abbrev pub WritesAllOrNoMemory : Option (List ℕ) → Option (List ℕ) → Option (List ℕ)
-    → Option (List ℕ) → Writing → (List ℕ → Type 0) → Type 0
-WritesAllOrNoMemory file file' out out' w IsMemoryLine =
-    (Appends file file' w.file × AppendsPrefix out out' w.listing.text)
-    ⊎ ((line : List ℕ) × Keeps file file' × IsMemoryLine line × AppendsPrefix out out' line)
 
 -- ---- the work, before its line is printed
 
@@ -121,19 +102,16 @@ load_end Memory = end.NoMemory
 load_end _ = end.Refused
 
 -- What is printed where a device or memory failed: a read and memory with a TTI block.
-abbrev pub HasScheduleFaultLine : National → Option (List ℕ) → List ℕ → End → Type 0
-HasScheduleFaultLine national told line end.ReadFailed =
+abbrev pub HasScheduleFaultLine
+    : National → Option (List ℕ) → Option (List ℕ) → List ℕ → End → Type 0
+HasScheduleFaultLine national told left line end.ReadFailed =
     (block : ℕ) × (line ≡ line_of (load_told (File Read) block))
-HasScheduleFaultLine national told line end.WriteFailed =
+HasScheduleFaultLine national told left line end.WriteFailed =
     line ≡ line_of (plan_told plan_fault.Write)
-HasScheduleFaultLine national told line end.NoMemory =
+HasScheduleFaultLine national told left line end.NoMemory =
     (block : ℕ) × (line ≡ line_of (load_told Memory block))
     × IfTold told (λ bytes. EndsRecord national [] block (outcome_of bytes))
-HasScheduleFaultLine national told line _ = Unit {0}
-
--- The line of want of memory at a TTI block.
-abbrev pub IsMemoryLine : List ℕ → Type 0
-IsMemoryLine line = (block : ℕ) × (line ≡ line_of (load_told Memory block))
+HasScheduleFaultLine national told left line _ = ⊤
 
 -- Want of memory is printed, with the last block of a subtitle that the file gives.
 abbrev pub PrintsMemory :

@@ -12,7 +12,7 @@ mod schedule;
 mod show;
 mod state;
 
-ghost use Rattle.std.specs.Prelude.{◌≡◌, ◌≢◌, ◌+◌, ◌<◌, Ok, false, true};
+ghost use Rattle.std.specs.Prelude.{◌≡◌, ◌≢◌, ◌+◌, ◌<◌, IsTrue, Ok, false, true};
 ghost use Rattle.std.specs.Io.KnownBytes.{Appends};
 ghost use Rattle.sub_io.specs.Device.{AppendsPrefix, CanFail};
 ghost use Rattle.sub_io.specs.Reading.{IfTold};
@@ -20,30 +20,38 @@ ghost use Rattle.stl_file.specs.Reader.{outcome_of};
 ghost use Rattle.stl_rows.specs.Loading.{loaded};
 ghost use Rattle.stl_rows.specs.Programme.{ProgrammeValue};
 ghost use Rattle.sub_check.specs.LostRows.{RobustToMarkedLoss};
+ghost use Rattle.sub_check.specs.OnScreen.{Shown};
 ghost use Rattle.sub_check.specs.PesFrames.{Carries};
+ghost use Rattle.sub_check.specs.Recovery.{Recovers};
 ghost use Rattle.sub_check.specs.Robust.{Robust};
 ghost use Rattle.sub_check.specs.Transmission.{Transmission};
-ghost use Rattle.sub_answer.specs.Answering.{AnswersCheck, AnswersListen, AnswersNormal};
-ghost use Rattle.sub_answer.specs.Answering.{AnswersPackets, AnswersSchedule, AnswersShow};
+ghost use Rattle.sub_answer.specs.Answering.{AnswersCheck, AnswersListen, EndsWork};
 ghost use Rattle.sub_answer.specs.Answering.{ForCheck, ForListen, ForNormal, ForPacket, ForPackets};
 ghost use Rattle.sub_answer.specs.Answering.{ForSchedule, ForShow, takes_memory};
 ghost use Rattle.sub_answer.specs.DeviceCall.{sink_call, source_call};
 ghost use Rattle.sub_answer.specs.Faults.{usage_told};
-ghost use Rattle.sub_answer.specs.Listing.{CountsFault, PrintsOrFails, packet_listing};
+ghost use Rattle.sub_answer.specs.Files.{files_of, reads_one, reads_two, writes_one};
+ghost use Rattle.sub_answer.specs.Listing.{CountsFault, PrintsListing, PrintsOrFails};
+ghost use Rattle.sub_answer.specs.Listing.{packet_listing};
+ghost use Rattle.sub_answer.specs.NormalWriting.{HasNormalFaultLine, normal_writing};
+ghost use Rattle.sub_answer.specs.PacketsListing.{ListsPackets};
+ghost use Rattle.sub_answer.specs.ShowListing.{ListsSubtitles};
 ghost use Rattle.sub_answer.specs.Told.{line_of};
-ghost use Rattle.sub_answer.specs.NamedDevices.{names_file, names_first, names_second};
+ghost use Rattle.sub_answer.specs.Writing.{HasScheduleFaultLine, schedule_writing};
 
 use crate::faults::told_of_usage;
 use crate::lines::{Line, push_told};
+use crate::listing::list;
 use crate::printing::print;
 use crate::request::{Request, UsageFault};
 use crate::status::Status;
+use crate::writing::write;
 use check::print_verdict;
 use listen::print_listening;
-use normal::write_normal;
+use normal::NormalWork;
 use packet::show_packet;
-use packets::list_packets;
-use schedule::write_schedule;
+use packets::PacketLister;
+use schedule::ScheduleWork;
 use show::list_subtitles;
 use std::alloc::Global;
 use sub_io::{Flush, Sink, Source};
@@ -73,25 +81,26 @@ pub fn answer<S: Source, T: Source, F: Flush, K: Sink>(
         (K.failure_count out.new) (K.contents out.new) (packet_listing bytes) result) }
 
     // `packets` and `show` print what the bytes of their file decide.
-    ensures packets { ForPackets request.now (AnswersPackets
+    ensures packets { ForPackets request.now (PrintsListing ListsPackets
         (source_call S.remaining S.failure_count first.old first.new)
         (sink_call K.contents K.failure_count out.old out.new) result) }
-    ensures show { ForShow request.now (AnswersShow
+    ensures show { ForShow request.now (PrintsListing ListsSubtitles
         (source_call S.remaining S.failure_count first.old first.new)
         (sink_call K.contents K.failure_count out.old out.new) result) }
 
     // `normal` writes and prints what the bytes of the input decide.
-    ensures normal { ForNormal request.now (AnswersNormal
+    ensures normal { ForNormal request.now (EndsWork
         (source_call S.remaining S.failure_count first.old first.new)
         (sink_call F.contents F.failure_count file.old file.new)
-        (sink_call K.contents K.failure_count out.old out.new) result) }
+        (sink_call K.contents K.failure_count out.old out.new) result
+        normal_writing HasNormalFaultLine) }
 
     // `schedule` writes and prints what the bytes of the subtitle file decide.
-    ensures schedule { ForSchedule request.now (λ options serial national.
-        AnswersSchedule national options serial
+    ensures schedule { ForSchedule request.now (λ options serial national. EndsWork
         (source_call S.remaining S.failure_count first.old first.new)
         (sink_call F.contents F.failure_count file.old file.new)
-        (sink_call K.contents K.failure_count out.old out.new) result) }
+        (sink_call K.contents K.failure_count out.old out.new) result
+        (schedule_writing national options serial) (HasScheduleFaultLine national)) }
 
     // `check` prints one answer, which the bytes of both files decide.
     ensures check { ForCheck request.now (λ options national. AnswersCheck national options
@@ -100,7 +109,8 @@ pub fn answer<S: Source, T: Source, F: Flush, K: Sink>(
         (sink_call K.contents K.failure_count out.old out.new) result) }
 
     // What `check` accepts is robust, with lost rows too: every receiver shows each due page within
-    // the repeat bound, but for cells whose byte was hit.
+    // the repeat bound, but for cells whose byte was hit. By it receivers recover from whatever
+    // they held before, and where complete pages are asked for, it is on their screens.
     ensures check_robust { ForCheck request.now (λ options national.
         (programme : ProgrammeValue) (frames : Transmission)
         → IfTold (S.remaining first.old) (λ file.
@@ -109,7 +119,9 @@ pub fn answer<S: Source, T: Source, F: Flush, K: Sink>(
         Carries options.origin bytes frames
         → result ≡ Status.Done
         → Robust programme frames options
-        × RobustToMarkedLoss programme frames options))) }
+        × RobustToMarkedLoss programme frames options
+        × Recovers programme frames options
+        × (IsTrue options.asks_complete → Shown programme frames options)))) }
 
     // A subtitle file that gives no programme is not accepted, and no PES byte is read.
     ensures check_subtitles { ForCheck request.now (λ options national.
@@ -123,9 +135,9 @@ pub fn answer<S: Source, T: Source, F: Flush, K: Sink>(
         (sink_call K.contents K.failure_count out.old out.new) result) }
 
     // Devices that are not named stay as they are.
-    ensures first { names_first request.now ≡ false → first.new ≡ first.old }
-    ensures second { names_second request.now ≡ false → second.new ≡ second.old }
-    ensures file { names_file request.now ≡ false → file.new ≡ file.old }
+    ensures first { reads_one (files_of request.now) ≡ false → first.new ≡ first.old }
+    ensures second { reads_two (files_of request.now) ≡ false → second.new ≡ second.old }
+    ensures file { writes_one (files_of request.now) ≡ false → file.new ≡ file.old }
 
     // Each device fails once at most, and not where the status is another than `Fault`.
     ensures first_count { CountsFault (S.failure_count first.old) result
@@ -138,7 +150,7 @@ pub fn answer<S: Source, T: Source, F: Flush, K: Sink>(
         (K.failure_count out.new) }
 
     // Where the status is `Done`, a file that is named holds no byte back.
-    ensures held { names_file request.now ≡ true
+    ensures held { writes_one (files_of request.now) ≡ true
         → result ≡ Status.Done
         → F.held file.new ≡ 0 }
 
@@ -152,15 +164,22 @@ pub fn answer<S: Source, T: Source, F: Flush, K: Sink>(
 {
     match request {
         Request::Packet { bytes } => show_packet(bytes, out),
-        Request::Packets { .. } => list_packets(first, out),
+        Request::Packets { .. } => list(&mut PacketLister::new(), first, out),
         Request::Show { .. } => list_subtitles(first, out),
         Request::Schedule {
             options,
             serial,
             national,
             ..
-        } => { write_schedule(alloc, first, *national, options, *serial, file, out) }
-        Request::Normal { .. } => write_normal(alloc, first, file, out),
+        } => {
+            let work = ScheduleWork {
+                options,
+                serial: *serial,
+                national: *national,
+            };
+            write(alloc, &work, first, file, out)
+        }
+        Request::Normal { .. } => write(alloc, &NormalWork, first, file, out),
         Request::Check {
             options,
             national,

@@ -20,12 +20,8 @@ pub fn told_of_pes(fault: PesFault, pes: u32) -> Told
     ensures kind { result.kind ≡ pes_kind fault }
     ensures few { length result.name.now ≤ 16 }
 {
-    Told {
-        kind: kind_of_pes(fault),
-        number: fault.number(),
-        name: fault.name(),
-        place: Place::Pes { pes },
-    }
+    let place = Place::Pes { pes };
+    Told::new(kind_of_pes(fault), fault.number(), fault.name(), place)
 }
 
 // The failure of the device is no refusal.
@@ -44,12 +40,8 @@ pub fn told_of_stl(fault: StlFault, block: u32) -> Told
     ensures kind { result.kind ≡ stl_kind fault }
     ensures few { length result.name.now ≤ 16 }
 {
-    Told {
-        kind: kind_of_stl(fault),
-        number: fault.number(),
-        name: fault.name(),
-        place: Place::Block { block },
-    }
+    let place = Place::Block { block };
+    Told::new(kind_of_stl(fault), fault.number(), fault.name(), place)
 }
 
 // The failure of the device is no refusal.
@@ -69,12 +61,9 @@ pub fn told_of_normal(fault: NormalFault) -> Told
 {
     match fault {
         NormalFault::Refused { fault, block } => told_of_stl(fault, block),
-        NormalFault::Write => Told {
-            kind: Kind::Fault,
-            number: fault.number(),
-            name: fault.name(),
-            place: Place::Nowhere,
-        },
+        NormalFault::Write => {
+            Told::new(Kind::Fault, fault.number(), fault.name(), Place::Nowhere)
+        }
     }
 }
 
@@ -83,12 +72,13 @@ pub fn told_of_load(fault: LoadFault) -> Told
     ensures value { value_of result ≡ load_told fault.kind fault.block }
     ensures few { length result.name.now ≤ 16 }
 {
-    Told {
-        kind: kind_of_load(fault.kind),
-        number: fault.kind.number(),
-        name: fault.kind.name(),
-        place: place_of_load(fault),
-    }
+    let kind = kind_of_load(fault.kind);
+    Told::new(
+        kind,
+        fault.kind.number(),
+        fault.kind.name(),
+        place_of_load(fault),
+    )
 }
 
 // A failed device and want of memory are no refusals.
@@ -122,12 +112,7 @@ pub fn told_of_plan(fault: PlanFault) -> Told
         PlanFault::NoSubtitles => Kind::Refused,
         PlanFault::Write => Kind::Fault,
     };
-    Told {
-        kind,
-        number: fault.number(),
-        name: fault.name(),
-        place: Place::Nowhere,
-    }
+    Told::new(kind, fault.number(), fault.name(), Place::Nowhere)
 }
 
 /// A fault of a pair of files.
@@ -136,12 +121,8 @@ pub fn told_of_check(fault: CheckFault) -> Told
     ensures kind { result.kind ≡ check_kind fault }
     ensures few { length result.name.now ≤ 16 }
 {
-    Told {
-        kind: kind_of_check(fault),
-        number: fault.number(),
-        name: fault.name(),
-        place: place_of_check(fault),
-    }
+    let kind = kind_of_check(fault);
+    Told::new(kind, fault.number(), fault.name(), place_of_check(fault))
 }
 
 // A failed device and want of memory are no refusals.
@@ -189,10 +170,5 @@ pub fn told_of_usage(fault: &UsageFault) -> Told
         UsageFault::Open | UsageFault::Memory => Kind::Fault,
         _ => Kind::Usage,
     };
-    Told {
-        kind,
-        number: fault.number(),
-        name: fault.name(),
-        place: Place::Nowhere,
-    }
+    Told::new(kind, fault.number(), fault.name(), Place::Nowhere)
 }

@@ -11,14 +11,16 @@
 #![tactic(auto)]
 
 mod answering;
-mod check_lines;
 mod faults;
 mod files;
+mod hex_digits;
 mod lines;
 mod listening;
+mod listing;
 mod printing;
 mod reception;
 mod request;
+mod sendings;
 mod status;
 mod told;
 mod writing;

@@ -1,7 +1,8 @@
 //! Makers of the lines that the program prints.
 //!
 //! A text is made in memory first and put into a device at once. Each maker appends to an
-//! `ArrayVec` that has room, which its `requires` asks for in the number of bytes that it may add.
+//! `ArrayVec` that has room: the constants below say how much, and that it is enough is proved
+//! here.
 ghost use Rattle.std.specs.Prelude.{◌≡◌, ◌+◌, ◌≤◌, ◌<◌, ◌++◌, length, decimal};
 ghost use Rattle.arrayvec.specs.ArrayVec.{array_vec_len};
 ghost use Rattle.hex.specs.Hex.{encode_lower};
@@ -9,12 +10,25 @@ ghost use Rattle.sub_answer.specs.Lines.{glyph, text_digits, time_text, two_digi
 ghost use Rattle.sub_answer.specs.Told.{frame_text, kind_text, line_of, place_text};
 ghost use Rattle.sub_answer.specs.Told.{value_of};
 
+use crate::hex_digits::digits_of_block;
 use crate::told::{Kind, Place, Told};
 use arrayvec::ArrayVec;
 use stl_file::TimeCode;
 
+/// Room for a number in decimal.
+pub const NUMBER_ROOM: usize = 20;
+
+/// Room for the digits of a subtitle's text.
+pub const TEXT_DIGITS_ROOM: usize = 2016;
+
+/// Room for the place of a fault.
+const PLACE_ROOM: usize = 80;
+
 /// Room for one line: the longest, `refused 72 Content` with its cell, has 117 bytes at most.
-pub type Line = ArrayVec<u8, 128>;
+pub const LINE_ROOM: usize = 128;
+
+/// One line.
+pub type Line = ArrayVec<u8, LINE_ROOM>;
 
 /// Frames of a day at 25 a second.
 const FRAMES_OF_DAY: u32 = 2_160_000;
@@ -30,9 +44,9 @@ pub fn push_text<const N: usize>(line: &mut ArrayVec<u8, N>, text: &[u8])
 
 /// Appends a number in decimal.
 pub fn push_decimal<const N: usize>(line: &mut ArrayVec<u8, N>, number: u64)
-    requires { array_vec_len line.old + 20 ≤ N }
+    requires { array_vec_len line.old + NUMBER_ROOM ≤ N }
     ensures items { line.new.items ≡ line.old.items ++ decimal number }
-    ensures len { array_vec_len line.new ≤ array_vec_len line.old + 20 }
+    ensures len { array_vec_len line.new ≤ array_vec_len line.old + NUMBER_ROOM }
 {
     let mut digits = itoa::Buffer::new();
     push_text(line, digits.format(number).as_bytes());
@@ -44,9 +58,11 @@ pub fn push_lower_hex<const N: usize>(line: &mut ArrayVec<u8, N>, bytes: &[u8; 4
     ensures items { line.new.items ≡ line.old.items ++ encode_lower bytes.now }
     ensures len { array_vec_len line.new ≡ array_vec_len line.old + 84 }
 {
-    let mut digits = [0; 84];
-    let _ = hex::encode_to_slice(&bytes[..], &mut digits);
-    push_text(line, &digits);
+    let (blocks, _) = bytes.as_chunks::<16>();
+    push_text(line, &digits_of_block(&blocks[0]));
+    push_text(line, &digits_of_block(&blocks[1]));
+    // The last ten bytes stand at the end of a block that begins six bytes before them.
+    push_text(line, &digits_of_block(bytes.last_chunk().unwrap())[12..]);
 }
 
 /// Appends two decimal digits.
@@ -80,14 +96,14 @@ pub fn push_time<const N: usize>(line: &mut ArrayVec<u8, N>, time: TimeCode)
 #[tactic(auto, unfolding(crate::specs::Lines::text_digits))]
 pub fn push_text_digits<const N: usize>(line: &mut ArrayVec<u8, N>, text: &[u8])
     requires few { length text.now ≤ 1008 }
-    requires room { array_vec_len line.old + 2016 ≤ N }
+    requires room { array_vec_len line.old + TEXT_DIGITS_ROOM ≤ N }
     ensures items { line.new.items ≡ line.old.items ++ text_digits text.now }
-    ensures len { array_vec_len line.new ≤ array_vec_len line.old + 2016 }
+    ensures len { array_vec_len line.new ≤ array_vec_len line.old + TEXT_DIGITS_ROOM }
 {
     if text.len() == 0 {
         return push_text(line, b"-");
     }
-    let mut room = [0; 2016];
+    let mut room = [0; TEXT_DIGITS_ROOM];
     let (digits, _) = room.split_at_mut(2 * text.len());
     let _ = hex::encode_to_slice(text, digits);
     push_text(line, digits);
@@ -107,9 +123,9 @@ pub fn shown(code: u8) -> u8
 /// Appends the line of what is told of a fault.
 pub fn push_told<const N: usize>(line: &mut ArrayVec<u8, N>, told: &Told)
     requires few { length told.now.name.now ≤ 16 }
-    requires room { array_vec_len line.old + 128 ≤ N }
+    requires room { array_vec_len line.old + LINE_ROOM ≤ N }
     ensures items { line.new.items ≡ line.old.items ++ line_of (value_of told.now) }
-    ensures len { array_vec_len line.new ≤ array_vec_len line.old + 128 }
+    ensures len { array_vec_len line.new ≤ array_vec_len line.old + LINE_ROOM }
 {
     push_text(line, text_of_kind(told.kind));
     push_decimal(line, u64::from(told.number));
@@ -133,9 +149,9 @@ fn text_of_kind(kind: Kind) -> &'static [u8]
 
 // Appends the place of a fault.
 fn push_place<const N: usize>(line: &mut ArrayVec<u8, N>, place: Place)
-    requires { array_vec_len line.old + 80 ≤ N }
+    requires { array_vec_len line.old + PLACE_ROOM ≤ N }
     ensures items { line.new.items ≡ line.old.items ++ place_text place }
-    ensures len { array_vec_len line.new ≤ array_vec_len line.old + 80 }
+    ensures len { array_vec_len line.new ≤ array_vec_len line.old + PLACE_ROOM }
 {
     match place {
         Place::Nowhere => (),
@@ -161,9 +177,9 @@ fn push_place<const N: usize>(line: &mut ArrayVec<u8, N>, place: Place)
 // Appends a number after the word for it.
 fn push_number<const N: usize>(line: &mut ArrayVec<u8, N>, word: &[u8], number: u32)
     requires few { length word.now ≤ 8 }
-    requires room { array_vec_len line.old + 28 ≤ N }
+    requires room { array_vec_len line.old + 8 + NUMBER_ROOM ≤ N }
     ensures items { line.new.items ≡ line.old.items ++ word.now ++ decimal number }
-    ensures len { array_vec_len line.new ≤ array_vec_len line.old + 28 }
+    ensures len { array_vec_len line.new ≤ array_vec_len line.old + 8 + NUMBER_ROOM }
 {
     push_text(line, word);
     push_decimal(line, u64::from(number));

@@ -12,20 +12,22 @@ pub struct Flip {
     pub bit: u8,
 }
 
-/// What a receiver does with a cell whose byte has even parity.
+/// What a receiver does where a byte of a row has even parity.
 #[derive(Clone, Copy, Debug, PartialEq, Eq)]
 pub enum ReceiverKind {
-    /// It leaves the cell as it was.
+    /// It leaves the byte's cell as it was.
     Keep,
-    /// It stores a space.
+    /// It stores a space in the byte's cell.
     Blank,
+    /// It drops the packet of the whole row.
+    DropRow,
 }
 
 /// One run of a receiver over the PES packets of a file.
 #[derive(Drop)]
 pub struct Listening {
-    /// The page that the receiver is tuned to, and the PTS of frame 0. The repeat bound is not
-    /// looked at.
+    /// The page that the receiver is tuned to, the PTS of frame 0, and whether complete pages are
+    /// asked for. The repeat bound is not looked at.
     pub options: Options,
     /// TIME, as a frame of the day: the last frame that is heard.
     pub at: u32,

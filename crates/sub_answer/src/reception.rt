@@ -1,16 +1,17 @@
-//! What a receiver gets of the packets of a file: packets passed over, lost packets, flips.
+//! What a receiver gets of the packets of a file, and hears: packets passed over, lost packets,
+//! flips, dropped rows.
 ghost use Rattle.std.specs.Prelude.{◌≡◌, ℕ, ◌+◌, ◌-◌, ◌^◌, ◌<◌, ◌≤◌, ◌&&◌, ◌∷◌, List, length};
 ghost use Rattle.std.specs.Prelude.{not};
 ghost use Rattle.ttx_packet.specs.PacketAddress.{address};
-ghost use Rattle.ttx_page.specs.Receiver.{Hears, State};
+ghost use Rattle.ttx_page.specs.Screen.{Display, Shows, display};
 ghost use Rattle.sub_check.specs.PacketRules.{packets_of_units};
-ghost use Rattle.sub_answer.specs.Reception.{as_received, first_lost_header, is_heard};
-ghost use Rattle.sub_answer.specs.Reception.{is_lost, may_be_lost_at, reception_of, with_flip};
-ghost use Rattle.sub_answer.specs.Reception.{with_flips};
+ghost use Rattle.sub_answer.specs.Reception.{as_heard, first_lost_header, is_heard};
+ghost use Rattle.sub_answer.specs.Reception.{is_lost, is_taken, may_be_lost_at, reception_of};
+ghost use Rattle.sub_answer.specs.Reception.{with_flip, with_flips};
 
-use crate::listening::{Flip, Listening};
+use crate::listening::{Flip, Listening, ReceiverKind};
 use ttx_packet::Packet;
-use ttx_page::Receiver;
+use ttx_page::{Page, Receiver, is_dropped, show};
 use ttx_pes::Unit;
 
 /// The first of the packets of a PES packet that is lost and may not be, since it is a page header
@@ -21,6 +22,9 @@ pub fn first_lost_header(listening: &Listening, number: u64, units: &[Unit]) -> 
     ensures { result ≡ first_lost_header (reception_of listening.now) number
         (packets_of_units units.now) }
 {
+    if listening.lost.as_slice().is_empty() {
+        return None;
+    }
     for k in 0..units.len() {
         if is_lost_header(listening, number + k as u64, units[k].packet()) {
             return Some(k as u32);
@@ -29,31 +33,60 @@ pub fn first_lost_header(listening: &Listening, number: u64, units: &[Unit]) -> 
     None
 }
 
-/// Lets a receiver hear what it gets of the packets of a PES packet. `number` is that of the first.
-pub fn hear_units<R: Receiver>(receiver: &mut R, listening: &Listening, number: u64, units: &[Unit])
+/// Lets a receiver with a screen hear what it hears of the packets of a PES packet. `number` is
+/// that of the first.
+pub fn hear_units<R: Receiver>(
+    receiver: &mut R,
+    screen: &mut Option<Page>,
+    listening: &Listening,
+    number: u64,
+    units: &[Unit],
+)
     requires few { length units.now ≤ 35 }
     requires number { number + 35 < u64.MAX }
-    ensures run { Hears (R.tuned_to receiver.old) (R.state receiver.old)
-        (as_received (reception_of listening.now) number (packets_of_units units.now))
-        (R.state receiver.new) }
+    ensures run { Shows (R.tuned_to receiver.old) (display (R.state receiver.old) screen.old)
+        (as_heard listening.now number (packets_of_units units.now))
+        (display (R.state receiver.new) screen.new) }
     ensures tuned { R.tuned_to receiver.new ≡ R.tuned_to receiver.old }
 {
     for k in 0..units.len() {
-        hear_packet(receiver, listening, number + k as u64, units[k].packet());
+        let packet = units[k].packet();
+        hear_packet(receiver, screen, listening, number + k as u64, packet);
     }
 }
 
-// Lets a receiver hear what it gets of a packet. So what it hears after it goes on from there.
-fn hear_packet<R: Receiver>(receiver: &mut R, listening: &Listening, number: u64, packet: &Packet)
-    ensures run { (packets : List (List ℕ)) (end : State)
-        → Hears (R.tuned_to receiver.old) (R.state receiver.new)
-        (as_received (reception_of listening.now) (number + 1) packets) end
-        → Hears (R.tuned_to receiver.old) (R.state receiver.old)
-        (as_received (reception_of listening.now) number (packet.now ∷ packets)) end }
+// Lets a receiver with a screen hear what it hears of a packet. So what comes after it goes on from
+// there.
+fn hear_packet<R: Receiver>(
+    receiver: &mut R,
+    screen: &mut Option<Page>,
+    listening: &Listening,
+    number: u64,
+    packet: &Packet,
+)
+    ensures run { (packets : List (List ℕ)) (end : Display)
+        → Shows (R.tuned_to receiver.old) (display (R.state receiver.new) screen.new)
+        (as_heard listening.now (number + 1) packets) end
+        → Shows (R.tuned_to receiver.old) (display (R.state receiver.old) screen.old)
+        (as_heard listening.now number (packet.now ∷ packets)) end }
     ensures tuned { R.tuned_to receiver.new ≡ R.tuned_to receiver.old }
 {
     if is_heard(listening, number) {
-        receiver.hear(&flipped(&listening.flips, number, packet));
+        let got = flipped(&listening.flips, number, packet);
+        if is_taken(listening, &got) {
+            show(receiver, screen, &got);
+        }
+    }
+}
+
+// Whether the receiver takes a packet that it gets: one that drops rows passes over a row with a
+// byte of even parity.
+fn is_taken(listening: &Listening, packet: &Packet) -> bool
+    ensures { result ≡ is_taken listening.now.receiver listening.now.options.page packet.now }
+{
+    match listening.receiver {
+        ReceiverKind::DropRow => !is_dropped(listening.options.page(), packet),
+        ReceiverKind::Keep | ReceiverKind::Blank => true,
     }
 }
 

@@ -44,8 +44,8 @@ pub enum UsageFault {
     /// 84: the lost packets are not 1 to 64 numbers, or two are equal.
     #[error("the lost packets are not 1 to 64 numbers")]
     BadLose,
-    /// 9: the receiver is neither blank nor keep.
-    #[error("the receiver is neither blank nor keep")]
+    /// 9: the receiver is none of blank, keep and drop.
+    #[error("the receiver is none of blank, keep and drop")]
     BadReceiver,
     /// 91: memory ran out.
     #[error("memory ran out")]
@@ -73,7 +73,7 @@ impl UsageFault {
         self.number_and_name().1
     }
 
-    // Both.
+    // The number and the name.
     fn number_and_name(&self) -> (u8, &'static str)
         ensures number { result.0 ≡ (usage_number_and_name self.now).0 }
         ensures name { result.1.now ≡ (usage_number_and_name self.now).1 }
@@ -142,7 +142,8 @@ pub enum Request<'a> {
         stl: &'a str,
         /// The name of the file of PES packets.
         pes: &'a str,
-        /// The page, the repeat bound and the PTS of frame 0.
+        /// The page, the repeat bound, the PTS of frame 0, and whether complete pages are asked
+        /// for.
         options: Options,
         /// The national option by which the text is read.
         national: National,

@@ -72,6 +72,24 @@ pub struct Told {
     pub place: Place,
 }
 
+impl Told {
+    ghost use Rattle.sub_answer.specs.Told.{told_as, value_of};
+
+    /// What is told of a fault.
+    pub fn new(kind: Kind, number: u8, name: &'static str, place: Place) -> Told
+        ensures value { value_of result ≡ told_as kind (number, name.now) place }
+        ensures kind { result.kind ≡ kind }
+        ensures name { result.name.now ≡ name.now }
+    {
+        Told {
+            kind,
+            number,
+            name,
+            place,
+        }
+    }
+}
+
 impl Kind {
     ghost use Rattle.sub_answer.specs.Told.{status_of};
 

@@ -1,11 +1,13 @@
 -- What the steps show of the whole file decides the answer of `check`, `checked_from`; and what is
 -- told of both files that of `check_files`, `files_accepted`, `files_refused`.
 use Rattle.std.proofs.Common.{◌≡◌, ◌≢◌, ◌↔◌, ℕ, suc, List, [], ◌∷◌, Bool, Option, None, Result, Ok}
-use Rattle.std.proofs.Common.{Err, All, IsOk, IfOk, IsTrue, false, MatchResult, refl, sym, ap, ◌∙◌, subst}
+use Rattle.std.proofs.Common.{Err, All, IsOk, IfOk, IsTrue, false, MatchResult, refl, sym, ap, ◌∙◌}
+use Rattle.std.proofs.Common.{subst}
 use Rattle.std.proofs.Common.{arith, length, append-nil}
 use Rattle.std.proofs.lemmas.List.Elements.{All-from_recursion}
 use Rattle.std.specs.List.{AllZip, concat}
 use Rattle.std.specs.Prelude.{IfErr}
+use Rattle.sub_io.specs.Device.{failed}
 use Rattle.stl_file.specs.Reader.{outcome_of}
 use Rattle.stl_file.specs.Subtitle.{SubtitleValue}
 use Rattle.stl_file.specs.declared.fault.StlFault.TheVariants.{Read}
@@ -20,8 +22,7 @@ use Rattle.ttx_pes.specs.declared.fault.PesFault.TheVariants as Pes
 use Rattle.sub_plan.specs.Options.{OptionsValue, IsOptions}
 use Rattle.sub_plan.specs.Schedule.{plan}
 use Rattle.sub_check.specs.CheckedFiles.{AreAccepted, IsChecked, Mean}
-use Rattle.sub_check.specs.Checking.{Accepts, HasCounts, is_failure, is_failure_kind}
-use Rattle.sub_check.specs.Checking.{is_source_failure, is_source_fault, is_subtitle_refusal}
+use Rattle.sub_check.specs.Checking.{Accepts, HasCounts}
 use Rattle.sub_check.specs.FirstBroken.{IsReadUpTo, NamesFirst}
 use Rattle.sub_check.specs.FrameRules.{Unread, task_of}
 use Rattle.sub_check.specs.Good.{Good}
@@ -48,6 +49,7 @@ use Rattle.sub_check.proofs.PlanLemmas.{law_of_complete_plan, law_of_plan}
 use Rattle.sub_check.proofs.PlanReading.{law_of_plan_read}
 use Rattle.sub_check.proofs.RecoveryLemmas.{law_of_good_and_recovery}
 use Rattle.sub_check.proofs.RobustLemmas.{law_of_good, law_of_good_and_marked_loss}
+use Rattle.sub_check.specs.Fault.{is_failure, is_failure_kind, is_pes_read, is_subtitle_fault}
 
 -- What the steps show of a file that is read as frames, up to this.
 abbrev Decides : ProgrammeValue → OptionsValue → List ℕ → Result Accepted CheckFault → Type 0
@@ -60,7 +62,7 @@ Decides programme options bytes result =
 
 -- An accepted file is no failure of the source.
 no_failure :
-    (result : Result Accepted CheckFault) → IsOk result → is_source_failure result ≡ false
+    (result : Result Accepted CheckFault) → IsOk result → failed is_pes_read result ≡ false
 no_failure (Ok a) ok = refl
 no_failure (Err f) ok = cc
 
@@ -158,7 +160,7 @@ good_carried :
     (programme : ProgrammeValue) (options : OptionsValue) (bytes : List ℕ)
     (transmission : Transmission) (result : Result Accepted CheckFault)
     → IsOptions options
-    → (is_source_failure result ≡ false → Decides programme options bytes result)
+    → (failed is_pes_read result ≡ false → Decides programme options bytes result)
     → Carries options.origin bytes transmission
     → IsOk result
     → Good programme transmission options
@@ -172,7 +174,7 @@ complete_carried :
     (programme : ProgrammeValue) (options : OptionsValue) (bytes : List ℕ)
     (transmission : Transmission) (result : Result Accepted CheckFault)
     → IsOptions options
-    → (is_source_failure result ≡ false → Decides programme options bytes result)
+    → (failed is_pes_read result ≡ false → Decides programme options bytes result)
     → Carries options.origin bytes transmission
     → IsOk result
     → IsTrue options.asks_complete
@@ -186,7 +188,7 @@ complete_carried programme options bytes transmission (Err f) is decides carries
 counts_from :
     (programme : ProgrammeValue) (options : OptionsValue) (bytes : List ℕ)
     (transmission : Transmission) (result : Result Accepted CheckFault)
-    → (is_source_failure result ≡ false → Decides programme options bytes result)
+    → (failed is_pes_read result ≡ false → Decides programme options bytes result)
     → Carries options.origin bytes transmission
     → IfOk result (HasCounts options.page transmission)
 counts_from programme options bytes frames (Ok a) decides carries =
@@ -219,7 +221,7 @@ content_from :
     (programme : ProgrammeValue) (options : OptionsValue) (bytes : List ℕ) (frame row column : ℕ)
     (result : Result Accepted CheckFault)
     → result ≡ Err (fault.Content frame row column)
-    → (is_source_failure result ≡ false → Decides programme options bytes result)
+    → (failed is_pes_read result ≡ false → Decides programme options bytes result)
     → NamesFirst (task_of programme options (pes_file_of options.origin bytes).unread)
     (pes_file_of options.origin bytes).frames (fault.Content frame row column)
 content_from programme options bytes frame row column (Ok a) e decides = cc
@@ -227,7 +229,7 @@ content_from programme options bytes frame row column (Err f) e decides =
     let same : f ≡ fault.Content frame row column = cc in
     let file = pes_file_of options.origin bytes in
     subst (NamesFirst (task_of programme options file.unread) file.frames) same
-    (decides (ap is_source_fault same) file.frames file.unread refl)
+    (decides (ap is_pes_read same) file.frames file.unread refl)
 
 -- A schedule is accepted.
 plan_accepted :
@@ -253,7 +255,7 @@ pub checked_from :
     (result : Result Accepted CheckFault)
     → IsOptions options
     → IsProgramme programme.national programme.records
-    → (is_source_failure result ≡ false → Decides programme options bytes result)
+    → (failed is_pes_read result ≡ false → Decides programme options bytes result)
     → ((frames : Transmission) (unread : Option Unread) (pes : ℕ)
     → ReadsAs options.origin 0 bytes frames unread
     → result ≡ Err (fault.Pes pes Pes.Read)
@@ -277,7 +279,7 @@ checked_from programme options bytes result is p decides failed = record {
   counts = λ transmission carries.
       counts_from programme options bytes transmission result decides carries;
   first = λ looked fine. first_from programme options bytes result (decides fine);
-  failed = λ pes e.
+  read = λ pes e.
       failed (pes_file_of options.origin bytes).frames (pes_file_of options.origin bytes).unread pes
       refl e;
   content = λ frame row column e.
@@ -320,9 +322,9 @@ carries_of national origin stl pes subtitles transmission mean =
 -- An answer that is no failure, of a subtitle file that was loaded, is none of a source.
 looked_at :
     (answer : Result Accepted CheckFault)
-    → is_subtitle_refusal answer ≡ false
-    → is_failure answer ≡ false
-    → is_source_failure answer ≡ false
+    → failed is_subtitle_fault answer ≡ false
+    → failed is_failure answer ≡ false
+    → failed is_pes_read answer ≡ false
 looked_at (Ok a) looked fine = refl
 looked_at (Err (fault.Subtitles f)) looked fine = cc
 looked_at (Err f) looked fine = fine
@@ -334,7 +336,7 @@ pub files_accepted :
     → LawOfLoading
     → loaded national (outcome_of stl) ≡ Ok programme
     → programme.national ≡ national
-    → is_subtitle_refusal answer ≡ false
+    → failed is_subtitle_fault answer ≡ false
     → IsChecked programme options pes answer
     → AreAccepted national options stl pes answer
 files_accepted national options stl pes programme answer loading given own looked checked =

@@ -37,7 +37,7 @@ use Rattle.sub_check.proofs.GoodLemmas.{clean_span, first-same, last-same, numbe
 use Rattle.sub_check.proofs.PacketLists.{Each-push}
 use Rattle.sub_check.proofs.PlaceLemmas.{IsFair-none, fair_step}
 use Rattle.sub_check.proofs.PrefixLemmas.{at_start, before, packet_at, rises_strictly, rises_to}
-use Rattle.sub_check.proofs.TransmissionLemmas.{holds-append_left}
+use Rattle.ttx_page.proofs.SpanLists.{holds-append_left}
 
 -- ---- packets that keep the rules
 

@@ -12,13 +12,13 @@ use Rattle.std.proofs.lemmas.List.Elements.{All-from_recursion}
 use Rattle.stl_rows.specs.Programme.{ProgrammeValue, last_out}
 use Rattle.ttx_pes.specs.DataUnit.{UnitValue, IsUnit}
 use Rattle.ttx_pes.specs.PesPacket.{PesValue, IsPesPacket, IsPesValue}
-use Rattle.ttx_pes.specs.Reader.{TakesPesPacket}
+use Rattle.ttx_pes.specs.Reader.{FailsAtPacket, FailsWithin, TakesPackets, TakesPesPacket}
 use Rattle.ttx_pes.specs.declared.fault.PesFault.TheVariants.{Read}
 use Rattle.ttx_pes.specs.Reading.{answer_at, most_packets, rest_after}
 use Rattle.sub_plan.specs.FrameTime.{frames_of_day, pts_of}
 use Rattle.sub_plan.specs.Options.{OptionsValue}
 use Rattle.sub_check.specs.Checking.{Accepts, AreTaken, AreWhole, IsFrameOf, Reaches, TellsEnd}
-use Rattle.sub_check.specs.Checking.{IsRuleFault, TellsFrame, is_source_fault}
+use Rattle.sub_check.specs.Checking.{IsRuleFault, TellsFrame}
 use Rattle.sub_check.specs.FirstBroken.{IsReadUpTo, NamesFirst, unread_fault}
 use Rattle.sub_check.specs.Following.{Follows, FrameOk, IsSentFrame}
 use Rattle.sub_check.specs.FrameRules.{Unread, task_of, frame_at, packets_at, end_frame, joined}
@@ -36,6 +36,7 @@ use Rattle.sub_check.proofs.PacketLists.{Each-push}
 use Rattle.sub_check.proofs.PesFileLemmas.{no_bytes}
 use Rattle.sub_check.proofs.PesReadingLemmas.{reads_next, reads_end, reads_fault}
 use Rattle.sub_check.proofs.PesReadingLemmas.{reads-below}
+use Rattle.sub_check.specs.Fault.{is_pes_read}
 
 -- ---- packets of 42 bytes
 
@@ -136,7 +137,22 @@ no_failure_at (Ok a) pes own e = cc
 no_failure_at (Err f) pes own e =
     let is : f ≡ fault.Pes pes Read = cc in
     let fine = own.no_source in
-    let failed = ap is_source_fault is in cc
+    let failed = ap is_pes_read is in cc
+
+-- That the source failed is told at the PES packet within which it failed. For `judge`.
+pub failed_at : (n pes : ℕ) (f : CheckFault) (old mid new : Option (List ℕ))
+    → TakesPackets n old mid
+    → (is_pes_read f ≡ true → f ≡ fault.Pes n Read)
+    → (is_pes_read f ≡ true → FailsWithin mid new)
+    → IsFailureAt (Err f) pes
+    → FailsAtPacket pes old new
+failed_at n pes f old mid new taken place within e =
+    let is : f ≡ fault.Pes pes Read = cc in
+    let read = ap is_pes_read is in
+    let named : fault.Pes pes Read ≡ fault.Pes n Read = sym is ∙ place read in
+    let same : n ≡ pes = cc in
+    subst (λ (m : ℕ). FailsAtPacket m old new) same
+    (record { behind = mid; before = taken; within = within read })
 
 module _
     (programme : ProgrammeValue) (options : OptionsValue)
@@ -165,13 +181,13 @@ module _
         (n pes : ℕ) (f : CheckFault)
         → n ≤ length frames
         → ((j : ℕ) → j < n → FrameOk (task_of programme options unread) frames j)
-        → (is_source_fault f ≡ true → f ≡ fault.Pes n Read)
+        → (is_pes_read f ≡ true → f ≡ fault.Pes n Read)
         → IsFailureAt (Err f) pes
         → IsReadUpTo (task_of programme options unread) frames pes
     source_failed n pes f within past place e =
         let is : f ≡ fault.Pes pes Read = cc in
         let named : fault.Pes pes Read ≡ fault.Pes n Read =
-        sym is ∙ place (ap is_source_fault is) in
+        sym is ∙ place (ap is_pes_read is) in
         let same : n ≡ pes = cc in
         subst (IsReadUpTo (task_of programme options unread) frames) same (record {
           within = within;

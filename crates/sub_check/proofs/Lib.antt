@@ -18,6 +18,7 @@ pub mod CodesLemmas
 pub mod PushLemmas
 pub mod PacketLists
 pub mod PacketRuleLemmas
+pub mod SentAgainLemmas
 pub mod ListeningLemmas
 pub mod ShownLemmas
 pub mod OrderLemmas

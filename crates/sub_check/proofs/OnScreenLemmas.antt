@@ -18,7 +18,7 @@ use Rattle.sub_check.specs.OnScreen.{Complete, LawOfGoodAndComplete, LawOfGoodDr
 use Rattle.sub_check.proofs.RecoveryLemmas.{law_of_good_and_recovery}
 use Rattle.sub_check.proofs.RecoveryLemmas.{law_of_good_dropping_and_recovery}
 use Rattle.sub_check.proofs.RobustLemmas.{on_air_until-split, sound, suffices}
-use Rattle.sub_check.proofs.TransmissionLemmas.{after-append, holds-append_right}
+use Rattle.ttx_page.proofs.SpanLists.{holds-append_right, after-append}
 
 -- A start at packet j of frame g of a good transmission of complete pages, and a stop at the end of
 -- frame f, with a header of the page between.

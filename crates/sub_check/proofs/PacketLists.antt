@@ -69,13 +69,6 @@ module _ {X : Type 0} where
   find_none f (y ∷ ys) e = let p = or_parts (f y) (list_any f ys) e in
       cond-false (f y) (Some y) (find f ys) p.0 ∙ find_none f ys p.1
 
--- A packet that passes the test for a row is that row.
-pub row_kind : (row : ℕ) (k : PacketKind) → is_row row k ≡ true → k ≡ Row row
-row_kind row (ThisPage h) e = cc
-row_kind row EndsPage e = cc
-row_kind row (Row y) e = ap Row (eqb-true y row e)
-row_kind row Other e = cc
-
 -- One that fails it is not.
 pub no_row : (row : ℕ) (k : PacketKind) → is_row row k ≡ false → k ≡ Row row → ⊥
 no_row row k e s = both_ways (is_row row k) e (ap (is_row row) s ∙ eq-eqb row row refl)

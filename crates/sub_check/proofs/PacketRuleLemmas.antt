@@ -21,9 +21,10 @@ use Rattle.ttx_page.specs.Span.{is_open_after}
 use Rattle.sub_check.specs.declared.packet_rules.PacketRule.{PacketRule}
 use Rattle.sub_check.specs.Good.{IsEnhancement}
 use Rattle.sub_check.specs.Listening.{HoldsRows, IsSoundRow}
-use Rattle.sub_check.proofs.PacketLists.{Each-map, Each-join, Each-none, Each-pick, row_kind}
+use Rattle.sub_check.proofs.PacketLists.{Each-map, Each-join, Each-none, Each-pick}
 use Rattle.sub_check.proofs.PacketLists.{no_row}
 use Rattle.sub_check.specs.declared.packet_rules.PacketRule.TheVariants as rule
+use Rattle.ttx_page.proofs.NoiseSteps.{row_from_test}
 
 -- A row has an address of the magazine with its number.
 pub address-row : (w : Watched) (p : List ℕ) (row : ℕ) → kind w.page p ≡ Row row
@@ -157,7 +158,7 @@ module _ (w : Watched) (packets : List (List ℕ)) (sent : List Bool) (page : Li
       (λ q. (kind w.page q ≡ Row row → codes_of q ≡ get_or page (row - 1) []) ×
       (kind w.page q ≡ Row row → q ≡ p)) (λ q a b. (a, b)) packets
       (h.same row low high) same) in
-      let k = row_kind row (kind w.page q.0) q.1 in
+      let k = row_from_test row (kind w.page q.0) q.1 in
       other (sym (q.2.0 k) ∙ ap codes_of (q.2.1 k))
 
 -- Which rule is the first.

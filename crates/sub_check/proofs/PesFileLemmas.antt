@@ -21,6 +21,7 @@ use Rattle.sub_check.specs.PesReading.{file_with, frame_of_pts}
 use Rattle.sub_check.specs.Transmission.{Transmission}
 use Rattle.sub_check.proofs.PesReadingLemmas.{found_below, reads-below, reads_ended, reads_more}
 use Rattle.sub_check.proofs.PesReadingLemmas.{step, step_last}
+use Rattle.ttx_pes.proofs.ReaderLemmas.{nothing}
 
 -- Where nothing is read and no fault is told, no byte is left. For `sent_of`.
 pub no_bytes : (given : ℕ) (bytes : List ℕ) → answer_at given bytes ≡ Ok None → bytes ≡ []
@@ -170,11 +171,6 @@ sent_of origin (suc m) given bytes frames fit all reads =
         })
     go (Ok (Some v)) at e others = found v (frame_of_pts origin v.pts) at refl e others
 
--- At the end of the bytes nothing is read.
-nothing : (given : ℕ) → answer_at given [] ≡ Ok None
-unfolding answer_at
-nothing given = refl
-
 -- PES packets that are sent as frames are read as these.
 reads_of :
     (origin given : ℕ) (values : List PesValue) (packets : List (List ℕ)) (frames : Transmission)
@@ -183,7 +179,7 @@ reads_of :
     → AllZip (IsSentAs origin) values frames
     → ReadsAs origin given (concat packets) frames None
 reads_of origin given [] [] [] each few sent =
-    reads_ended origin given [] None (omega arith) (nothing given)
+    reads_ended origin given [] None (omega arith) (nothing given [] refl)
 reads_of origin given [] [] (s ∷ frames) each few sent = elim sent [ ]
 reads_of origin given [] (p ∷ packets) frames each few sent = elim each [ ]
 reads_of origin given (v ∷ values) [] frames each few sent = elim each [ ]

@@ -7,16 +7,17 @@ use Rattle.std.proofs.lemmas.List.{get_or-map, get_or-drop, length-drop, drop-dr
 use Rattle.std.proofs.lemmas.Bool.{eq-eqb, eqb-true, eqb-false, cases_lt}
 use Rattle.ttx_pes.specs.PesPacket.{PesValue}
 use Rattle.sub_io.specs.Reading.{◌>>=◌}
-use Rattle.ttx_pes.specs.Reading.{answer_at, rest_after, most_packets, packet_at, is_read_failure}
+use Rattle.ttx_pes.specs.Reading.{answer_at, rest_after, most_packets, packet_at}
 use Rattle.ttx_pes.specs.declared.fault.PesFault.TheVariants as fault
 use Rattle.ttx_pes.specs.declared.fault.PesFault.{PesFault}
-use Rattle.sub_check.specs.Checking.{IsFrameOf, is_source_fault}
+use Rattle.sub_check.specs.Checking.{IsFrameOf}
 use Rattle.sub_check.specs.declared.fault.CheckFault.TheVariants as check_fault
 use Rattle.sub_check.specs.Following.{IsSentFrame}
 use Rattle.sub_check.specs.FrameRules.{Unread}
 use Rattle.sub_check.specs.FrameRules.Unread.{BadPacket, NoFrame}
 use Rattle.sub_check.specs.PacketRules.{packets_of_units}
 use Rattle.sub_plan.specs.FrameTime.{frames_of_day, pts_of}
+use Rattle.sub_check.specs.Fault.{is_pes_read, is_pes_write}
 use Rattle.sub_check.specs.PesFrames.{IsSentAs}
 use Rattle.sub_check.specs.PesReading.{EndsAs, PesFileValue, ReadsAs, file_at, file_by, file_with}
 use Rattle.sub_check.specs.PesReading.{frame_below, frame_of_pts}
@@ -319,31 +320,16 @@ pub reads_fault :
 reads_fault origin n bytes frames unread u few reads ends =
     at_end origin n bytes frames unread (Some u) few reads ends
 
--- The fault of a source that failed is that one. For `next_frame`.
+-- The fault of a source that failed is that one. For `next_sending`.
 pub read_place :
     (pes : ℕ) (f : PesFault)
-    → is_source_fault (check_fault.Pes pes f) ≡ true
+    → is_pes_read (check_fault.Pes pes f) ≡ true
     → check_fault.Pes pes f ≡ check_fault.Pes pes fault.Read
 read_place pes fault.Read e = refl
 read_place pes f e = cc
 
--- Where the answer is no failure of the source, neither is the reader's. For `next_frame`.
-pub read_told :
-    (pes : ℕ) (f : PesFault)
-    → is_source_fault (check_fault.Pes pes f) ≡ false
-    → is_read_failure {X = Bool} (Err f) ≡ false
-read_told pes fault.Truncated e = refl
-read_told pes fault.Start e = refl
-read_told pes fault.Length e = refl
-read_told pes fault.Flags e = refl
-read_told pes fault.NoTime e = refl
-read_told pes fault.HeaderLength e = refl
-read_told pes fault.Time e = refl
-read_told pes fault.DataId e = refl
-read_told pes fault.UnitLength e = refl
-read_told pes fault.Framing e = refl
-read_told pes fault.LineOrder e = refl
-read_told pes fault.Read e = cc
-read_told pes fault.Write e = refl
-read_told pes fault.Ended e = refl
-read_told pes fault.TooMany e = refl
+-- A reader never fails to write. For `next_frame`.
+pub not_written : (pes : ℕ) (f : PesFault) → f ≢ fault.Write
+    → is_pes_write (check_fault.Pes pes f) ≡ false
+not_written pes fault.Write other = absurd (other refl)
+not_written pes f other = refl

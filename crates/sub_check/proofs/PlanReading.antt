@@ -23,16 +23,12 @@ use Rattle.sub_plan.specs.Schedule.{sendings_between, sendings_from}
 use Rattle.sub_plan.specs.Sending.{sending}
 use Rattle.sub_plan.proofs.ProgrammeLemmas.{law_of_day, span-rises}
 use Rattle.sub_plan.proofs.SendingLemmas.{all_sent}
-use Rattle.sub_plan.proofs.SendingSize.{law_of_pes_values, law_of_size}
+use Rattle.sub_plan.proofs.SendingSize.{law_of_pes_values, law_of_size, short_filter}
 use Rattle.sub_check.specs.PesFrames.{IsSentAs}
 use Rattle.sub_check.specs.PesReading.{ReadsAs}
 use Rattle.sub_check.specs.Planned.{LawOfPlanRead, planned_at}
 use Rattle.sub_check.proofs.PesReadingLemmas.{reads_ended, reads_more}
-
--- At the end of the bytes nothing is read.
-nothing : (given : ℕ) → answer_at given [] ≡ Ok None
-unfolding answer_at
-nothing given = refl
+use Rattle.ttx_pes.proofs.ReaderLemmas.{nothing}
 
 module _
     (o : OptionsValue) (ok : IsOptions o) (national : National) (serial : Bool) (due : ℕ → Rows)
@@ -66,7 +62,7 @@ module _
         → ReadsAs o.origin given (sendings_at due o national serial frames)
         (map (planned_at due o national serial) frames) None
     sendings_read given [] few day =
-        reads_ended o.origin given [] None (omega arith) (nothing given)
+        reads_ended o.origin given [] None (omega arith) (nothing given [] refl)
     sendings_read given (f ∷ fs) few day =
         let v : PesValue = pes_value o.origin (sending o.page national serial (due f)) f in
         let back =
@@ -78,18 +74,6 @@ module _
         (subst
         (λ bytes. ReadsAs o.origin (given + 1) bytes (map (planned_at due o national serial) fs)
         None) (sym back.1) (sendings_read (given + 1) fs (omega arith) day.1))
-
--- A filtered list is no longer than the list.
-short_filter : (test : ℕ → Bool) (xs : List ℕ) → length (filter test xs) ≤ length xs
-short_filter test [] = omega arith
-short_filter test (x ∷ xs) = go (test x) (short_filter test xs)
-  where
-    go :
-        (b : Bool)
-        → length (filter test xs) ≤ length xs
-        → length (cond b (x ∷ filter test xs) (filter test xs)) ≤ suc (length xs)
-    go true h = omega arith
-    go false h = omega arith
 
 -- A schedule has no more frames than a day, by cases of the first TCI and the last TCO.
 few_between :

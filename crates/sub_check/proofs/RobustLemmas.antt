@@ -18,7 +18,7 @@ use Rattle.ttx_page.specs.PacketKind.{kind, is_row}
 use Rattle.ttx_page.specs.Receiver.{Hears}
 use Rattle.ttx_page.specs.Shown.{shown}
 use Rattle.ttx_page.specs.Span.{holds_header, after_last_header, before_end, span}
-use Rattle.ttx_page.proofs.SpanLists.{after-none}
+use Rattle.ttx_page.proofs.SpanLists.{after-none, holds-append_right, holds-append_left}
 use Rattle.ttx_page.proofs.NoiseLaws as noise
 use Rattle.stl_rows.specs.Programme.{ProgrammeValue}
 use Rattle.sub_plan.specs.Options.{OptionsValue}
@@ -31,8 +31,8 @@ use Rattle.sub_check.specs.LostRows.{RobustToLoss, RobustWithNothingLost}
 use Rattle.sub_check.specs.Sufficient.{IsSufficient, LawOfSufficientParts}
 use Rattle.sub_check.specs.Laws.{LawOfWindow, LawOfGood, LawOfGoodAndLoss, LawOfGoodAndMarkedLoss}
 use Rattle.sub_check.specs.Laws.{LawOfNothingLost}
-use Rattle.sub_check.proofs.TransmissionLemmas.{holds-append_right, holds-append_left, after-append}
 use Rattle.sub_check.proofs.TransmissionLemmas.{packets_between-split, packets_between-each}
+use Rattle.ttx_page.proofs.SpanLists.{after-append}
 
 -- The code that a cell shows of a span.
 abbrev shown_of : PageIdValue → ℕ → ℕ → List (List ℕ) → ℕ

@@ -45,6 +45,7 @@ use Rattle.sub_check.proofs.TestLemmas.{implied, agree, agreed, holds, fails, at
 use Rattle.sub_check.proofs.TestLemmas.{any_below, below, some_below, each_of, if_some, value_of}
 use Rattle.sub_check.proofs.TestLemmas.{if_value, this_page, if_this_page, row_of_kind, if_row}
 use Rattle.sub_check.proofs.TestLemmas.{each_packet, packets_decided, each_frame, frames_decided}
+use Rattle.sub_check.proofs.TransmissionLemmas.{packets_between-void}
 
 -- ---- the rules
 
@@ -257,23 +258,6 @@ cuts_decided page ps =
           | inr within ↦ h n (omega arith)
         ]
 
--- Before the first frame nothing is on air.
-none_between :
-    (frames : Transmission) (from end : ℕ) → end ≤ from → packets_between frames from end ≡ []
-none_between [] from end l = refl
-none_between (s ∷ frames) from end l = go (nat_le from s.frame) (nat_lt s.frame end) refl refl
-    (none_between frames from end l)
-  where
-    go : (a b : Bool) → nat_le from s.frame ≡ a → nat_lt s.frame end ≡ b
-        → packets_between frames from end ≡ []
-        → cond (a && b) s.packets [] ++ packets_between frames from end ≡ []
-    go false b p q ih = ih
-    go true false p q ih = ih
-    go true true p q ih =
-        let low : from ≤ s.frame = leb-true from s.frame p in
-        let high : s.frame < end = ltb-true s.frame end q in
-        absurd (omega arith)
-
 spans_decided :
     (page : PageIdValue) (frames : Transmission)
     → Decides (each_frame (λ f. cuts_clean page (on_air_until frames f)) frames)
@@ -293,7 +277,8 @@ spans_decided page frames =
         elim (cases_lt f (first_frame frames)) [
           | inl before ↦
               subst (λ ps. IsCleanSpan page (span (kind page) ps))
-              (sym (ap (take n) (none_between frames (first_frame frames) (f + 1) (omega arith))
+              (sym
+              (ap (take n) (packets_between-void frames (first_frame frames) (f + 1) (omega arith))
               ∙ take-nil n))
               (clean_nil page)
           | inr from ↦ h f from l n

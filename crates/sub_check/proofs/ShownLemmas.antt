@@ -23,12 +23,13 @@ use Rattle.ttx_page.specs.Shown.{shown}
 use Rattle.sub_check.specs.Transmission.{SentFrame, Transmission}
 use Rattle.sub_check.specs.declared.listener.Listener.{Listener}
 use Rattle.stl_rows.specs.Programme.{ProgrammeValue}
-use Rattle.sub_check.specs.Listening.{Knows, HoldsRows, IsSoundRow}
+use Rattle.sub_check.specs.Listening.{Knows, KnowsLast, HoldsRows, IsSoundRow}
 use Rattle.sub_check.specs.FrameRules.{Task, frame_at, packets_at, joined, HasHeader, Shows}
 use Rattle.sub_check.specs.FrameRules.{IsCovered, IsEnded}
 use Rattle.sub_plan.specs.Schedule.{due_in}
 use Rattle.sub_check.specs.Following.{IsTaskOf, HeaderIs}
-use Rattle.sub_check.proofs.PacketLists.{Each-find, Each-join, find_none, row_kind}
+use Rattle.sub_check.proofs.PacketLists.{Each-find, Each-join, find_none}
+use Rattle.ttx_page.proofs.NoiseSteps.{row_from_test}
 
 -- A cell of the page that is kept is what the packets show.
 pub shown_is : (w : Watched) (packets : List (List ℕ)) (sent : List Bool) (page : List (List ℕ))
@@ -58,7 +59,7 @@ shown_is w packets sent page h row column is =
         (λ p. (kind w.page p ≡ Row row → IsPacket p) ×
         (kind w.page p ≡ Row row → codes_of p ≡ get_or page (row - 1) []))
         (λ p s c. (s.whole row, c)) packets h.sound (h.same row low high)) in
-        let k = row_kind row (kind w.page q.0) q.2 in
+        let k = row_from_test row (kind w.page q.0) q.2 in
         let size = (q.3.0 k).size in
         ap (λ r. get_or r column 0) (sym (q.3.1 k)) ∙ code_at q.0 column size is.2
         ∙ sym (ap (λ o. unwrap_or (option_map (λ p. code_of (text_byte p column)) o) space) q.1)
@@ -95,10 +96,20 @@ module _ (g : Task) (p : ProgrammeValue) (every : ℕ) (task : IsTaskOf g p ever
       other (kept_shown row column is ∙ shows ∙ ap (λ d. cell d row column) (task.due_is f))
 
 -- What is known of the packets stays where another page is due.
-pub Knows-drawn : (heard : List (List ℕ)) (s : Listener) (due : Rows) → Knows heard s
-    → Knows heard (record s { comparison = record s.comparison { due = due } })
-Knows-drawn heard s due k =
-    record { serial_is = k.serial_is; open_is = k.open_is; rows_are = k.rows_are }
+pub KnowsLast-drawn :
+    (heard last : List (List ℕ)) (s : Listener) (due : Rows)
+    → KnowsLast heard last s
+    → KnowsLast heard last (record s { comparison = record s.comparison { due = due } })
+KnowsLast-drawn heard last s due k =
+    let known = k.knows in
+    record {
+      knows = record {
+        serial_is = known.serial_is;
+        open_is = known.open_is;
+        rows_are = known.rows_are;
+      };
+      last_is = k.last_is;
+    }
 
 -- ---- complete pages
 

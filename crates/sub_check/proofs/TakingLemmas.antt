@@ -1,5 +1,6 @@
 -- What is kept, one frame of the list on.
-use Rattle.std.proofs.Common.{◌≡◌, ℕ, ◌+◌, ◌<◌, ◌≤◌, Option, nat_lt, inl, inr, Bool, true, false}
+use Rattle.std.proofs.Common.{◌≡◌, ℕ, ◌+◌, ◌-◌, ◌<◌, ◌≤◌, Option, nat_lt, inl, inr, Bool, true}
+use Rattle.std.proofs.Common.{false}
 use Rattle.std.proofs.Common.{cond, List, [], ◌++◌, length, take, get_or, refl, sym, ap, ap₂}
 use Rattle.std.proofs.Common.{◌∙◌, subst, arith}
 use Rattle.std.proofs.lemmas.Bool.{cases_eq, true≢false}
@@ -10,7 +11,7 @@ use Rattle.sub_check.specs.Transmission.{Transmission}
 use Rattle.sub_check.specs.declared.listener.Listener.{Listener}
 use Rattle.sub_check.specs.declared.packet_rules.PacketRule.{PacketRule}
 use Rattle.sub_check.specs.PacketRules.{KeepsRule, AreClean, BreaksFirstAt, header_count}
-use Rattle.sub_check.specs.Listening.{Knows}
+use Rattle.sub_check.specs.Listening.{Knows, KnowsLast}
 use Rattle.stl_rows.specs.Programme.{ProgrammeValue}
 use Rattle.ttx_packet.specs.PageId.{PageIdValue}
 use Rattle.stl_rows.specs.declared.national.National.{National}
@@ -25,6 +26,7 @@ use Rattle.sub_check.proofs.ShownLemmas.{HeaderIs-none, HeaderIs-some, joined_mo
 pub record Taken (g : Task) (frames : Transmission) (n : ℕ) (found : Bool) (headers : ℕ)
     (s : Listener) : Type 0 where
   pub packets : PacketsOk g frames n
+  pub last : KnowsLast (joined frames (n + 1)) (packets_at frames (n + 1 - 1)) s
   pub knows : Knows (joined frames (n + 1)) s
   pub watched_is : s.watched ≡ g.watched
   pub header : holds_header (kind g.watched.page) (packets_at frames n) ≡ found
@@ -35,9 +37,14 @@ pub Taken-from : (g : Task) (frames : Transmission) (n : ℕ) (found : Bool) (he
     (s : Listener) (w : Watched) (ps : List (List ℕ))
     → n < length frames → packets_at frames n ≡ ps → w ≡ g.watched → s.watched ≡ w
     → found ≡ nat_lt 0 headers → headers ≡ header_count w.page ps
-    → (m : ℕ) → length ps ≡ m → AreClean w (joined frames n) ps m → Knows (joined frames n ++ ps) s
+    → (m : ℕ) → length ps ≡ m → AreClean w (joined frames n) ps m
+    → KnowsLast (joined frames n ++ ps) ps s
     → Taken g frames n found headers s
-Taken-from g frames n found headers s w ps there same watched kept is count m long clean knows =
+Taken-from g frames n found headers s w ps there same watched kept is count m long clean last =
+    let all : joined frames n ++ ps ≡ joined frames (n + 1) =
+    ap (λ xs. joined frames n ++ xs) (sym same) ∙ sym (joined_more frames n there) in
+    let here : ps ≡ packets_at frames (n + 1 - 1) =
+    sym same ∙ ap (packets_at frames) (omega arith) in
     record {
       packets = record {
         each = λ k rule t. subst
@@ -47,8 +54,9 @@ Taken-from g frames n found headers s w ps there same watched kept is count m lo
             → KeepsRule f w (joined frames n ++ take k xs) (get_or xs k [])) (sym same)
             (subst (AreClean w (joined frames n) ps) (sym long) clean) k t.1 rule);
       };
-      knows = subst (λ xs. Knows xs s)
-          (ap (λ xs. joined frames n ++ xs) (sym same) ∙ sym (joined_more frames n there)) knows;
+      last = subst (λ xs. KnowsLast xs (packets_at frames (n + 1 - 1)) s) all
+          (subst (λ xs. KnowsLast (joined frames n ++ ps) xs s) here last);
+      knows = subst (λ xs. Knows xs s) all last.knows;
       watched_is = kept ∙ watched;
       header =
           ap (holds_header (kind g.watched.page)) same

@@ -17,35 +17,6 @@ use Rattle.ttx_page.proofs.SpanLists.{after-later}
 use Rattle.sub_check.specs.Transmission.{SentFrame, Transmission, IsRising, packets_between}
 use Rattle.sub_check.specs.Transmission.{EachPacket}
 
--- ---- headers in joined lists
-
--- A header of the page in the second of two lists is one in both, joined.
-pub holds-append_right :
-    {A : Type 0} (kind_of : A → PacketKind) (xs ys : List A)
-    → holds_header kind_of ys ≡ true
-    → holds_header kind_of (xs ++ ys) ≡ true
-holds-append_right kind_of xs ys e =
-    list_any-append (λ x. is_this_page (kind_of x)) xs ys
-    ∙ or_right (holds_header kind_of xs) _ e
-
--- And one in the first.
-pub holds-append_left :
-    {A : Type 0} (kind_of : A → PacketKind) (xs ys : List A)
-    → holds_header kind_of xs ≡ true
-    → holds_header kind_of (xs ++ ys) ≡ true
-holds-append_left kind_of xs ys e =
-    list_any-append (λ x. is_this_page (kind_of x)) xs ys ∙ or_left _ (holds_header kind_of ys) e
-
--- What stands before a list with a header of the page does not matter.
-pub after-append :
-    {A : Type 0} (kind_of : A → PacketKind) (xs ys : List A)
-    → holds_header kind_of ys ≡ true
-    → after_last_header kind_of (xs ++ ys) ≡ after_last_header kind_of ys
-after-append kind_of [] ys e = refl
-after-append kind_of (x ∷ xs) ys e =
-    after-later kind_of x (xs ++ ys) (holds-append_right kind_of xs ys e)
-    ∙ after-append kind_of xs ys e
-
 -- ---- the frames from one number up to another
 
 -- What one frame gives.

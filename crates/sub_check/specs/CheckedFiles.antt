@@ -1,6 +1,7 @@
 -- What the checker tells of the bytes of a subtitle file and a PES file.
 use Rattle.std.specs.Prelude.{◌≡◌, ◌≢◌, ◌↔◌, ℕ, List, [], Bool, false, true, Option, All, IsOk}
 use Rattle.std.specs.Prelude.{Result, Ok, Err, IfOk, IfErr, IsTrue}
+use Rattle.sub_io.specs.Device.{failed}
 use Rattle.sub_io.specs.Reading.{IfTold}
 use Rattle.ttx_pes.specs.PesPacket.{PesValue}
 use Rattle.ttx_pes.specs.declared.fault.PesFault.TheVariants.{Read}
@@ -13,8 +14,8 @@ use Rattle.stl_rows.specs.Programme.{AreInOrder, ProgrammeValue}
 use Rattle.stl_rows.specs.declared.national.National.{National}
 use Rattle.sub_plan.specs.Options.{OptionsValue}
 use Rattle.sub_plan.specs.Schedule.{plan}
-use Rattle.sub_check.specs.Checking.{HasCounts, TellsSubtitles, is_failure, is_source_failure}
-use Rattle.sub_check.specs.Checking.{is_subtitle_refusal}
+use Rattle.sub_check.specs.Checking.{HasCounts, TellsSubtitles}
+use Rattle.sub_check.specs.Fault.{is_failure, is_pes_read, is_subtitle_fault}
 use Rattle.sub_check.specs.FirstBroken.{IsReadUpTo, NamesFirst}
 use Rattle.sub_check.specs.FrameRules.{task_of}
 use Rattle.sub_check.specs.Good.{Good}
@@ -58,7 +59,7 @@ pub record AreAccepted
   -- complete pages where the options ask for them, but for sources that failed and memory that was
   -- refused.
   pub accepted :
-      is_failure answer ≡ false
+      failed is_failure answer ≡ false
       → IsOk answer
       ↔ ((subtitles : List SubtitleValue)
       × (transmission : Transmission)
@@ -105,8 +106,8 @@ pub record IsChecked
   -- that carries a good transmission of the programme, of complete pages where the options ask for
   -- them.
   pub accepted :
-      is_subtitle_refusal answer ≡ false
-      → is_source_failure answer ≡ false
+      failed is_subtitle_fault answer ≡ false
+      → failed is_pes_read answer ≡ false
       → IsOk answer
       ↔ ((transmission : Transmission)
       × Carries options.origin bytes transmission
@@ -145,14 +146,14 @@ pub record IsChecked
       → IfOk answer (HasCounts options.page transmission)
   -- A refusal names the first place at which what is asked is broken.
   pub first :
-      is_subtitle_refusal answer ≡ false
-      → is_source_failure answer ≡ false
+      failed is_subtitle_fault answer ≡ false
+      → failed is_pes_read answer ≡ false
       → IfErr answer
       (NamesFirst (task_of programme options (pes_file_of options.origin bytes).unread)
       (pes_file_of options.origin bytes).frames)
   -- That the source failed is told at the PES packet that could not be read: those before it were
   -- read, and nothing that is asked of their frames is broken.
-  pub failed :
+  pub read :
       (pes : ℕ)
       → answer ≡ Err (fault.Pes pes Read)
       → IsReadUpTo (task_of programme options (pes_file_of options.origin bytes).unread)
@@ -169,8 +170,8 @@ pub record IsChecked
       (serial : Bool)
       → bytes ≡ plan programme options serial
       → programme.records ≢ []
-      → is_subtitle_refusal answer ≡ false
-      → is_source_failure answer ≡ false
+      → failed is_subtitle_fault answer ≡ false
+      → failed is_pes_read answer ≡ false
       → IsOk answer
 
 -- What is told of the bytes of a subtitle file, and of those of a PES file where its source tells
@@ -185,7 +186,7 @@ pub record AreChecked
   -- A subtitle file that gives no programme is refused.
   pub refused :
       ((programme : ProgrammeValue) → loaded national (outcome_of file) ≢ Ok programme)
-      → is_subtitle_refusal answer ≡ true
+      → failed is_subtitle_fault answer ≡ true
   -- The PES file is checked against the programme that the subtitle file gives.
   pub checked :
       (programme : ProgrammeValue)

@@ -1,19 +1,17 @@
 -- What the checker's steps answer, and what it has reached after the first n PES packets.
-use Rattle.std.specs.Prelude.{◌≡◌, ℕ, ◌+◌, ◌<◌, ◌≤◌, Bool, true, false, List, [], ◌++◌, length}
+use Rattle.std.specs.Prelude.{◌≡◌, ℕ, ◌+◌, ◌<◌, ◌≤◌, false, List, [], ◌++◌, length}
 use Rattle.std.specs.Prelude.{take, drop}
 use Rattle.std.specs.Prelude.{Option, Some, None, ⊤}
 use Rattle.std.specs.Prelude.{Result, Ok, Err, All, flat_map}
 use Rattle.std.specs.List.{AllByRecursion, AllZip, concat}
 use Rattle.ttx_packet.specs.PageId.{PageIdValue}
 use Rattle.stl_file.specs.Reading.{Outcome}
-use Rattle.stl_rows.specs.Loading.{TellsFault, is_read_kind}
-use Rattle.stl_rows.specs.declared.fault.LoadFaultKind.{LoadFaultKind}
-use Rattle.stl_rows.specs.declared.fault.LoadFaultKind.TheVariants.{Memory}
+use Rattle.stl_rows.specs.Loading.{TellsFault}
 use Rattle.stl_rows.specs.declared.national.National.{National}
 use Rattle.ttx_pes.specs.PesPacket.{IsPesPacket, PesValue}
 use Rattle.ttx_pes.specs.Reading.{answer_at, most_packets}
-use Rattle.ttx_pes.specs.declared.fault.PesFault.TheVariants as pes_fault
 use Rattle.sub_plan.specs.FrameTime.{frames_of_day, pts_of}
+use Rattle.sub_check.specs.Fault.{is_pes_read, is_pes_write, is_subtitle_fault}
 use Rattle.sub_check.specs.FirstBroken.{HoldsEverywhere, unread_fault}
 use Rattle.sub_check.specs.Following.{Follows}
 use Rattle.sub_check.specs.FrameRules.{Task, Unread, frame_at, end_frame, joined}
@@ -25,55 +23,12 @@ use Rattle.sub_check.specs.declared.checker.Accepted.{Accepted}
 use Rattle.sub_check.specs.declared.fault.CheckFault.{CheckFault}
 use Rattle.sub_check.specs.declared.fault.CheckFault.TheVariants as fault
 use Rattle.sub_check.specs.declared.frame_rules.Checker.{Checker}
-
--- The fault is that of a PES source that failed (41, Read).
-abbrev pub is_source_fault : CheckFault → Bool
-is_source_fault (fault.Pes pes pes_fault.Read) = true
-is_source_fault _ = false
-
--- The answer is that fault.
-abbrev pub is_source_failure : {X : Type 0} → Result X CheckFault → Bool
-is_source_failure (Err f) = is_source_fault f
-is_source_failure (Ok x) = false
-
--- The fault is one of the subtitle file.
-abbrev pub is_subtitle_fault : CheckFault → Bool
-is_subtitle_fault (fault.Subtitles f) = true
-is_subtitle_fault _ = false
-
--- The answer refuses the subtitle file.
-abbrev pub is_subtitle_refusal : {X : Type 0} → Result X CheckFault → Bool
-is_subtitle_refusal (Err f) = is_subtitle_fault f
-is_subtitle_refusal (Ok x) = false
-
--- The fault is that of a subtitle source that failed (26, Read).
-abbrev pub is_subtitle_source_fault : CheckFault → Bool
-is_subtitle_source_fault (fault.Subtitles f) = is_read_kind f.kind
-is_subtitle_source_fault _ = false
-
--- The answer is that fault.
-abbrev pub is_subtitle_source_failure : {X : Type 0} → Result X CheckFault → Bool
-is_subtitle_source_failure (Err f) = is_subtitle_source_fault f
-is_subtitle_source_failure (Ok x) = false
-
--- The fault of loading is that the source failed or that memory was refused.
-abbrev pub is_failure_kind : LoadFaultKind → Bool
-is_failure_kind Memory = true
-is_failure_kind kind = is_read_kind kind
-
--- The fault is that a source failed or that memory was refused: it tells nothing of the files.
-abbrev pub is_failure_fault : CheckFault → Bool
-is_failure_fault (fault.Subtitles f) = is_failure_kind f.kind
-is_failure_fault f = is_source_fault f
-
--- The answer is such a fault.
-abbrev pub is_failure : {X : Type 0} → Result X CheckFault → Bool
-is_failure (Err f) = is_failure_fault f
-is_failure (Ok x) = false
+use Rattle.sub_check.specs.declared.sending.Sending.{Sending}
 
 -- The fault is told by a rule: it is none of the subtitle file, and not that the PES source failed.
 pub record IsRuleFault (f : CheckFault) : Type 0 where
-  pub no_source : is_source_fault f ≡ false
+  pub no_source : is_pes_read f ≡ false
+  pub no_write : is_pes_write f ≡ false
   pub no_subtitle : is_subtitle_fault f ≡ false
 
 -- What is told of the subtitle file by an answer that refuses it.
@@ -88,13 +43,19 @@ pub record IsFrameOf (origin pts frame : ℕ) : Type 0 where
   pub is : pts_of origin frame ≡ pts
   pub alone : (other : ℕ) → other < frames_of_day → pts_of origin other ≡ pts → other ≡ frame
 
--- What is read of the bytes after so many PES packets, where the packet read is this value.
+-- What is read of the bytes after `pes` PES packets, where the packet read is the value v.
 abbrev pub TellsFrame : ℕ → ℕ → List ℕ → PesValue → Result (Option ℕ) CheckFault → Type 0
 TellsFrame origin pes bytes v (Ok None) = answer_at pes bytes ≡ Ok None
 TellsFrame origin pes bytes v (Ok (Some frame)) =
     (answer_at pes bytes ≡ Ok (Some v)) × IsFrameOf origin v.pts frame
 TellsFrame origin pes bytes v (Err f) =
     (u : Unread) × (f ≡ unread_fault pes (Some u)) × EndsAs origin pes bytes (Some u)
+
+-- The frame of a sending that was read.
+abbrev pub as_frame : Result (Option Sending) CheckFault → Result (Option ℕ) CheckFault
+as_frame (Ok None) = Ok None
+as_frame (Ok (Some sending)) = Ok (Some sending.frame)
+as_frame (Err f) = Err f
 
 -- What is told at the end, by the last TCO, the first frame, the last frame and the headers.
 abbrev pub TellsEnd : Option ℕ → ℕ → ℕ → ℕ → Result Accepted CheckFault → Type 0
@@ -119,8 +80,8 @@ pub record AreTaken (origin : ℕ) (bytes : List ℕ) (frames : Transmission) (r
     pub sent : AllZip (IsSentAs origin) values frames
     pub joined : bytes ≡ concat packets ++ rest
 
--- A transmission is accepted: the bytes are a PES file of it, all that is asked holds, and it has
--- so many frames and headers.
+-- A transmission is accepted: the bytes are a PES file of it, all that is asked holds, and the
+-- answer counts its frames and headers.
 pub record Accepts (g : Task) (origin : ℕ) (bytes : List ℕ) (frames : Transmission) (a : Accepted)
     : Type 0 where
   pub few : length frames ≤ most_packets

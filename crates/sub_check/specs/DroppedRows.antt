@@ -28,8 +28,8 @@ RobustForDropping programme transmission options =
     → IsServed programme options g f (on_air transmission g j f)
     (SomewhereInRow (IsHit options.page (on_air transmission g j f) got)) new
 
--- The same where packets are lost too, any but page headers: a space is excused also where a packet
--- of its row was lost.
+-- Robust for receivers that drop rows where packets are lost too, any but page headers: a space is
+-- excused also where a packet of its row was lost.
 abbrev pub RobustForDroppingAndLoss : ProgrammeValue → Transmission → OptionsValue → Type 0
 RobustForDroppingAndLoss programme transmission options =
     (g j f : ℕ) (fates : List (Option (List ℕ))) (old new : State)
@@ -50,7 +50,7 @@ LawOfGoodAndDropping =
     → Good programme transmission options
     → RobustForDropping programme transmission options
 
--- And where packets are lost too.
+-- A good transmission is robust for receivers that drop rows where packets are lost too.
 abbrev pub LawOfGoodDroppingAndLoss : Type 0
 LawOfGoodDroppingAndLoss =
     (programme : ProgrammeValue) (transmission : Transmission) (options : OptionsValue)

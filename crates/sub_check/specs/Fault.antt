@@ -1,6 +1,9 @@
--- The number and the name by which a fault of a pair of files is told (own).
-use Rattle.std.specs.Prelude.{ℕ, List, codes}
+-- The number and the name by which a fault of a pair of files is told (own), and which faults are
+-- those of a device, of memory or of the one file.
+use Rattle.std.specs.Prelude.{ℕ, Bool, true, false, List, codes}
 use Rattle.stl_rows.specs.Fault as load
+use Rattle.stl_rows.specs.declared.fault.LoadFaultKind.{LoadFaultKind}
+use Rattle.stl_rows.specs.declared.fault.LoadFaultKind.TheVariants.{Memory}
 use Rattle.sub_check.specs.declared.fault.CheckFault.{CheckFault}
 use Rattle.sub_check.specs.declared.fault.CheckFault.TheVariants as fault
 use Rattle.ttx_pes.specs.Fault as pes
@@ -25,3 +28,33 @@ number_and_name (fault.Content frame row column) = (72, codes "Content")
 number_and_name (fault.Gap frame) = (73, codes "Gap")
 number_and_name (fault.Incomplete frame) = (77, codes "Incomplete")
 number_and_name (fault.Late frame) = (74, codes "Late")
+
+-- The source of the PES file failed.
+abbrev pub is_pes_read : CheckFault → Bool
+is_pes_read (fault.Pes index f) = pes.is_read f
+is_pes_read _ = false
+
+-- A sink of PES packets failed: no check tells that.
+abbrev pub is_pes_write : CheckFault → Bool
+is_pes_write (fault.Pes index f) = pes.is_write f
+is_pes_write _ = false
+
+-- The source of the subtitle file failed.
+abbrev pub is_stl_read : CheckFault → Bool
+is_stl_read (fault.Subtitles f) = load.is_read f
+is_stl_read _ = false
+
+-- The fault is one of the subtitle file.
+abbrev pub is_subtitle_fault : CheckFault → Bool
+is_subtitle_fault (fault.Subtitles f) = true
+is_subtitle_fault _ = false
+
+-- The subtitle file was not loaded since its source failed or memory was refused.
+abbrev pub is_failure_kind : LoadFaultKind → Bool
+is_failure_kind Memory = true
+is_failure_kind kind = load.is_read_kind kind
+
+-- A source failed or memory was refused: that tells nothing of the files.
+abbrev pub is_failure : CheckFault → Bool
+is_failure (fault.Subtitles f) = is_failure_kind f.kind
+is_failure f = is_pes_read f

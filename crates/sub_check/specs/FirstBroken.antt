@@ -146,7 +146,7 @@ packet_fault rule.Parity frame packet = fault.Parity frame packet
 packet_fault rule.RowChanged frame packet = fault.RowChanged frame packet
 packet_fault rule.Enhancement frame packet = fault.Enhancement frame packet
 
--- The refusal of what follows so many frames.
+-- The refusal of what follows the frames that are read, as PES packet `pes`.
 abbrev pub unread_fault : ℕ → Option Unread → CheckFault
 unread_fault pes (Some (BadPacket f)) = fault.Pes pes f
 unread_fault pes (Some NoFrame) = fault.OffFrame pes

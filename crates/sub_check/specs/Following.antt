@@ -4,7 +4,7 @@ use Rattle.sub_check.specs.Transmission.{Transmission}
 use Rattle.stl_rows.specs.Programme.{ProgrammeValue, first_in, last_out}
 use Rattle.sub_check.specs.declared.frame_rules.Checker.{Checker}
 use Rattle.sub_check.specs.declared.packet_rules.PacketRule.{PacketRule}
-use Rattle.sub_check.specs.Listening.{Knows}
+use Rattle.sub_check.specs.Listening.{KnowsLast}
 use Rattle.sub_check.specs.FrameRules.{Task, frame_at, packets_at, joined, HasHeader}
 use Rattle.sub_plan.specs.Schedule.{due_in}
 use Rattle.sub_check.specs.PacketRules.{header_count}
@@ -68,7 +68,7 @@ pub record HeaderIs (g : Task) (frames : Transmission) (n : ℕ) (frame : ℕ) :
 pub record Follows (g : Task) (frames : Transmission) (n : ℕ) (c : Checker) : Type 0 where
   pub some : 0 < n
   pub watched_is : c.listener.watched ≡ g.watched
-  pub knows : Knows (joined frames n) c.listener
+  pub knows : KnowsLast (joined frames n) (packets_at frames (n - 1)) c.listener
   pub frame_is : c.frame ≡ frame_at frames (n - 1)
   pub rising : (j : ℕ) → j < n → frame_at frames j ≤ c.frame
   pub header : HeaderIs g frames n c.header_at

@@ -73,8 +73,8 @@ HasCleanSpans page transmission =
 abbrev pub HoldsHeader : PageIdValue → Transmission → ℕ → Type 0
 HoldsHeader page transmission f = IsTrue (holds_header (kind page) (packets_of transmission f))
 
--- In each so many frames of the day that follow one another, from the first frame of the
--- transmission to the last, one holds a header of the page.
+-- Of `every` frames of the day that follow one another, from the first frame of the transmission to
+-- the last, one at least holds a header of the page.
 abbrev pub Repeats : PageIdValue → ℕ → Transmission → Type 0
 Repeats page every transmission =
     (start : ℕ)
@@ -114,7 +114,8 @@ pub record Good
   -- 5. While the page is open each row has odd parity and stays as it is, and no packet X/25 to
   -- X/28 of its magazine comes.
   pub spans : HasCleanSpans options.page transmission
-  -- 6. The first frame holds a header of the page, and so does one in each so many frames.
+  -- 6. The first frame holds a header of the page, and so does one of each `every` that follow one
+  -- another.
   pub opens : HoldsHeader options.page transmission (first_frame transmission)
   pub repeats : Repeats options.page options.every transmission
   -- 7. At each frame's end the page that is due is shown.

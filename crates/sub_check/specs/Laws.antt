@@ -50,7 +50,7 @@ LawOfNothingLost =
     → RobustWithNothingLost programme transmission options
     ↔ Robust programme transmission options
 
--- And by marks.
+-- With nothing lost, robust to lost rows is robust, by marks.
 abbrev pub LawOfAllKept : Type 0
 LawOfAllKept =
     (programme : ProgrammeValue) (transmission : Transmission) (options : OptionsValue)

@@ -11,6 +11,7 @@ pub mod Recovery
 pub mod Laws
 pub mod Examples
 pub mod PacketRules
+pub mod SentAgain
 pub mod Listening
 pub mod Comparison
 pub mod FrameRules

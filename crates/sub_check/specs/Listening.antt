@@ -1,10 +1,11 @@
 -- What the checker keeps of the packets that it heard, tied to the packets.
 use Rattle.std.specs.Prelude.{◌≡◌, ℕ, ◌-◌, ◌≤◌, Bool, false, List, [], option_map, slice_index_or}
-use Rattle.std.specs.Prelude.{replicate}
+use Rattle.std.specs.Prelude.{replicate, ◌++◌, Some, length}
 use Rattle.std.specs.List.{AllByRecursion, list_any}
 use Rattle.ttx_packet.specs.PacketAddress.{HasExactAddress, IsPacket}
 use Rattle.ttx_packet.specs.RowPacket.{HasOddText}
-use Rattle.sub_check.specs.PacketRules.{codes_of, first_header}
+use Rattle.sub_check.specs.PacketRules.{AreClean, codes_of, first_header, header_count}
+use Rattle.sub_check.specs.SentAgain.{BeginsWithHeader}
 use Rattle.ttx_packet.specs.declared.header.Header.{Header}
 use Rattle.sub_check.specs.declared.packet_rules.Watched.{Watched}
 use Rattle.ttx_page.specs.declared.packet_kind.PacketKind.TheVariants.{Row}
@@ -37,3 +38,17 @@ pub record Knows (heard : List (List ℕ)) (s : Listener) : Type 0 where
   pub serial_is : s.serial ≡ option_map (λ (h : Header). c11 h) (first_header heard)
   pub open_is : s.is_open ≡ is_open_after (kind s.watched.page) heard
   pub rows_are : HoldsRows s.watched (span (kind s.watched.page) heard) s.sent s.comparison.page
+
+-- The packets heard last begin with a header of the page, hold `headers` of them, and keep the
+-- rules.
+pub record WereJudged (w : Watched) (heard last : List (List ℕ)) (headers : ℕ) : Type 0 where
+  pub before : List (List ℕ)
+  pub heard_is : heard ≡ before ++ last
+  pub begins : BeginsWithHeader w.page last
+  pub clean : AreClean w before last (length last)
+  pub count : header_count w.page last ≡ headers
+
+-- What is kept of all packets heard, and of those heard last.
+pub record KnowsLast (heard last : List (List ℕ)) (s : Listener) : Type 0 where
+  pub knows : Knows heard s
+  pub last_is : (headers : ℕ) → s.last ≡ Some headers → WereJudged s.watched heard last headers

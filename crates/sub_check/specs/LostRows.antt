@@ -64,7 +64,7 @@ RobustWithNothingLost programme transmission options =
     (g j f : ℕ) (got : List (List ℕ))
     → IsRobustAt programme transmission options g j f (map Some got)
 
--- And by marks, all of which say that the packet is kept.
+-- Robust to lost rows where no packet is lost, by marks, all of which say that the packet is kept.
 abbrev pub RobustWithAllKept : ProgrammeValue → Transmission → OptionsValue → Type 0
 RobustWithAllKept programme transmission options =
     (g j f : ℕ) (marks : List Bool)

@@ -56,8 +56,8 @@ Shown programme transmission options =
     → HasDuePage programme f
     (IsHitOrLost options.page (on_air transmission g j f) (fates_of marks got)) new.screen
 
--- The same of receivers that drop rows: a space is excused where any byte of its row was hit, or
--- the row lost.
+-- Shown by receivers that drop rows: a space is excused where any byte of its row was hit, or the
+-- row lost.
 abbrev pub ShownForDropping : ProgrammeValue → Transmission → OptionsValue → Type 0
 ShownForDropping programme transmission options =
     (g j f : ℕ) (marks : List Bool) (got : List (List ℕ)) (old new : Display)
@@ -79,7 +79,7 @@ LawOfGoodAndComplete =
     → Complete transmission options
     → Shown programme transmission options
 
--- And so it is by receivers that drop rows.
+-- A good transmission of complete pages is shown by receivers that drop rows too.
 abbrev pub LawOfGoodDroppingAndComplete : Type 0
 LawOfGoodDroppingAndComplete =
     (programme : ProgrammeValue) (transmission : Transmission) (options : OptionsValue)

@@ -45,7 +45,7 @@ file_by origin (Ok None) rest = record { frames = []; unread = None }
 file_by origin (Ok (Some v)) rest =
     file_with (frame_of_pts origin v.pts) (packets_of_units v.units) rest
 
--- What these bytes are read as, where so many more PES packets may follow.
+-- What these bytes are read as, where as many more PES packets may follow as the first number says.
 unfoldable pub file_at : ℕ → ℕ → List ℕ → PesFileValue
 file_at origin zero bytes =
     file_by origin (answer_at most_packets bytes) (record { frames = []; unread = None })
@@ -57,12 +57,12 @@ file_at origin (suc more) bytes =
 abbrev pub pes_file_of : ℕ → List ℕ → PesFileValue
 pes_file_of origin bytes = file_at origin most_packets bytes
 
--- After so many PES packets these bytes are read as these frames, up to this.
+-- After `given` PES packets the bytes are read as these frames, up to what is unread.
 abbrev pub ReadsAs : ℕ → ℕ → List ℕ → Transmission → Option Unread → Type 0
 ReadsAs origin given bytes frames unread =
     file_at origin (most_packets - given) bytes ≡ record { frames = frames; unread = unread }
 
--- After so many PES packets no frame is read of these bytes: they are at their end, or no PES
+-- After `given` PES packets no frame is read of the bytes: they are at their end, or no PES
 -- packet begins them, by this fault, or one does whose PTS is that of no frame of the day.
 abbrev pub EndsAs : ℕ → ℕ → List ℕ → Option Unread → Type 0
 EndsAs origin given bytes None = answer_at given bytes ≡ Ok None

@@ -22,7 +22,7 @@ pub record IsRestored
     (programme : ProgrammeValue) (options : OptionsValue) (g f : ℕ)
     (sent : List (List ℕ)) (IsExcused : ℕ → ℕ → Type 0) (new : State)
     : Type 0 where
-  -- After so many frames, by the end of frame g + every, a header of its page was sent.
+  -- By the end of frame g + every a header of its page was sent.
   pub in_time : g + options.every ≤ f → IsTrue (holds_header (kind options.page) sent)
   -- Once one was sent, it has heard its page.
   pub heard : IsTrue (holds_header (kind options.page) sent) → IsTrue new.heard
@@ -53,8 +53,8 @@ Recovers programme transmission options =
     → IsRestored programme options g f (on_air transmission g j f)
     (IsHitOrLost options.page (on_air transmission g j f) (fates_of marks got)) new
 
--- The same of receivers that drop rows: a space is excused where any byte of its row was hit, or
--- the row lost.
+-- A transmission from which receivers that drop rows recover: a space is excused where any byte of
+-- its row was hit, or the row lost.
 abbrev pub RecoversForDropping : ProgrammeValue → Transmission → OptionsValue → Type 0
 RecoversForDropping programme transmission options =
     (g j f : ℕ) (marks : List Bool) (got : List (List ℕ)) (old new : State)
@@ -73,7 +73,7 @@ LawOfGoodAndRecovery =
     → Good programme transmission options
     → Recovers programme transmission options
 
--- And so do receivers that drop rows.
+-- Receivers that drop rows recover from anything by a good transmission.
 abbrev pub LawOfGoodDroppingAndRecovery : Type 0
 LawOfGoodDroppingAndRecovery =
     (programme : ProgrammeValue) (transmission : Transmission) (options : OptionsValue)

@@ -26,7 +26,7 @@ pub record IsServed
     (programme : ProgrammeValue) (options : OptionsValue) (g f : ℕ)
     (sent : List (List ℕ)) (IsExcused : ℕ → ℕ → Type 0) (new : State)
     : Type 0 where
-  -- After so many frames, by the end of frame g + every, a header of its page was sent.
+  -- By the end of frame g + every a header of its page was sent.
   pub in_time : g + options.every ≤ f → IsTrue (holds_header (kind options.page) sent)
   -- It has heard its page exactly where a header of it was sent.
   pub heard : IsTrue new.heard ↔ IsTrue (holds_header (kind options.page) sent)

@@ -48,7 +48,7 @@ LawOfSpansByPacket =
 
 -- ---- repeats
 
--- At the end of each frame the last header of the page is less than so many frames old.
+-- At the end of each frame the last header of the page is less than `every` frames old.
 abbrev pub IsNeverLate : PageIdValue → ℕ → Transmission → Type 0
 IsNeverLate page every transmission =
     (f : ℕ)
@@ -56,8 +56,8 @@ IsNeverLate page every transmission =
     → f ≤ last_frame transmission
     → (n : ℕ) × (n ≤ f) × (f < n + every) × HoldsHeader page transmission n
 
--- Where the first frame holds a header, one is found in each so many frames exactly where the last
--- one is never so many frames old.
+-- Where the first frame holds a header, one is found in each `every` frames that follow one another
+-- exactly where the last one is never `every` frames old.
 -- So a checker keeps the frame of the last header alone.
 abbrev pub LawOfRepeats : Type 0
 LawOfRepeats =

@@ -1,16 +1,14 @@
 //! The exact checker: a PES file against a programme, one PES packet at a time.
-ghost use Rattle.std.specs.Prelude.{◌≡◌, ℕ, ◌+◌, ◌<◌, ◌≤◌, MatchResult, OnOk, IfErr};
-ghost use Rattle.std.specs.Prelude.{Err, Ok, Option, Some, true, false, if◌then◌else◌};
-ghost use Rattle.sub_io.specs.Device.{CanFail};
+ghost use Rattle.std.specs.Prelude.{◌≡◌, ℕ, ◌≤◌, MatchResult, IfErr};
+ghost use Rattle.std.specs.Prelude.{Err, Option, false};
+ghost use Rattle.sub_io.specs.Device.{CanFail, CountsIf, failed};
 ghost use Rattle.sub_io.specs.Reading.{IfTold};
 ghost use Rattle.stl_rows.specs.Programme.{IsProgramme, last_out};
-ghost use Rattle.ttx_pes.specs.Reader.{TakesPesPacket};
-ghost use Rattle.ttx_pes.specs.Reading.{rest_after};
-ghost use Rattle.ttx_pes.specs.declared.progress.Progress.TheVariants.{Reading};
+ghost use Rattle.ttx_pes.specs.Reader.{FailsAtPacket};
 ghost use Rattle.sub_plan.specs.Options.{IsOptions};
 ghost use Rattle.sub_check.specs.CheckedFiles.{IsChecked};
-ghost use Rattle.sub_check.specs.Checking.{Accepts, IsRuleFault, TellsEnd, TellsFrame};
-ghost use Rattle.sub_check.specs.Checking.{is_source_failure, is_source_fault, is_subtitle_refusal};
+ghost use Rattle.sub_check.specs.Checking.{Accepts, IsRuleFault, TellsEnd};
+ghost use Rattle.sub_check.specs.Fault.{is_pes_read, is_pes_write, is_subtitle_fault};
 ghost use Rattle.sub_check.specs.FirstBroken.{IsReadUpTo, NamesFirst};
 ghost use Rattle.sub_check.specs.FrameRules.{Unread, task_of};
 ghost use Rattle.sub_check.specs.PesReading.{ReadsAs};
@@ -19,10 +17,11 @@ ghost use Rattle.sub_check.specs.Transmission.{Transmission};
 use crate::fault::CheckFault;
 use crate::frame_rules::{Checker, is_over};
 use crate::packet_rules::Watched;
+use crate::sending::{next_sending, units_of};
 use stl_rows::Programme;
 use sub_io::Source;
 use sub_plan::Options;
-use ttx_pes::{PesFault, PesFrame, PesReader};
+use ttx_pes::{ComparingReader, PesFault};
 
 /// The PES packets of a file at most: one for each frame of a day.
 const MOST_PACKETS: u32 = 2_160_000;
@@ -34,49 +33,6 @@ pub struct Accepted {
     pub frames: u64,
     /// How many headers of the page there are.
     pub transmissions: u64,
-}
-
-/// Reads the next PES packet, the one of this number from 0, and gives the frame of the day that
-/// its PTS is that of (EN 300 472, PTS): `None` at the end of the source.
-///
-/// `packet` holds what was read.
-///
-/// # Errors
-///
-/// `Pes` with the fault of the packet, `OffFrame` where its PTS is that of no frame of the day.
-pub fn next_frame<S: Source>(
-    reader: &mut PesReader,
-    source: &mut S,
-    options: &Options,
-    pes: u32,
-    packet: &mut PesFrame,
-) -> Result<Option<u32>, CheckFault>
-    requires failures { CanFail (S.failure_count source.old) }
-    requires reading { reader.old ≡ Reading pes }
-    ensures exact { IfTold (S.remaining source.old) (λ bytes. is_source_failure result ≡ false
-        → TellsFrame options.now.origin pes bytes packet.new result) }
-    // What was taken is a PES packet of the grammar.
-    ensures taken { (frame : ℕ) → result ≡ Ok (Some frame)
-        → TakesPesPacket (S.remaining source.old) (S.remaining source.new) packet.new }
-    ensures left { IfTold (S.remaining source.old) (λ bytes.
-        OnOk result (S.remaining source.new ≡ Some (rest_after bytes))) }
-    ensures own { is_subtitle_refusal result ≡ false }
-    // That the source failed is told at this PES packet.
-    ensures place { IfErr result (λ f. is_source_fault f ≡ true
-        → f ≡ CheckFault.Pes pes PesFault.Read) }
-    ensures progress { (frame : ℕ) → result ≡ Ok (Some frame) → reader.new ≡ Reading (pes + 1) }
-    ensures day { (frame : ℕ) → result ≡ Ok (Some frame) → frame < 2160000 }
-    ensures count { S.failure_count source.new
-        ≡ S.failure_count source.old + (if is_source_failure result then 1 else 0) }
-{
-    match reader.next_into(source, packet) {
-        Err(fault) => Err(CheckFault::Pes { pes, fault }),
-        Ok(false) => Ok(None),
-        Ok(true) => match options.frame_of(packet.pts()) {
-            Some(frame) => Ok(Some(frame)),
-            None => Err(CheckFault::OffFrame { pes }),
-        },
-    }
 }
 
 // What is left to ask at the end of the file.
@@ -102,7 +58,9 @@ fn finish(programme: &Programme, first: u32, checker: &Checker) -> Result<Accept
 ///
 /// It reads one PES packet at a time and takes no memory: beside numbers it keeps one PES packet,
 /// one page, the page that is due, and a mark for each row sent since the last header of the page.
-/// The due page is drawn anew only where a subtitle begins or ends.
+/// The due page is drawn anew only where a subtitle begins or ends. Packets that begin with a
+/// header of the page and are those of the PES packet before, byte for byte, are not looked at
+/// again.
 ///
 /// # Errors
 ///
@@ -121,11 +79,15 @@ pub fn check<S: Source>(
     // they are a PES file that carries a good transmission of the programme, which is then robust.
     ensures checked { IfTold (S.remaining source.old) (λ bytes.
         IsChecked programme.now options.now bytes result) }
-    // No answer refuses a subtitle file, and `Read` is told exactly where the source failed in this
-    // call.
-    ensures own { is_subtitle_refusal result ≡ false }
-    ensures count { S.failure_count source.new
-        ≡ S.failure_count source.old + (if is_source_failure result then 1 else 0) }
+    // That the source failed is told at the PES packet within which it failed: those before it were
+    // taken.
+    ensures read { (pes : ℕ) → result ≡ Err (CheckFault.Pes pes PesFault.Read)
+        → FailsAtPacket pes (S.remaining source.old) (S.remaining source.new) }
+    // No answer refuses a subtitle file, nothing is written, and `Read` is told exactly where the
+    // source failed in this call.
+    ensures own { failed is_subtitle_fault result ≡ false }
+    ensures no_write { failed is_pes_write result ≡ false }
+    ensures count { CountsIf S.failure_count source.old (failed is_pes_read result) source.new }
 {
     judge(programme, source, options)
 }
@@ -140,7 +102,7 @@ fn judge<S: Source>(
     ensures exact { (frames : Transmission) (unread : Option Unread)
         → IfTold (S.remaining source.old) (λ bytes.
         ReadsAs options.now.origin 0 bytes frames unread
-        → is_source_failure result ≡ false
+        → failed is_pes_read result ≡ false
         → MatchResult result
         (Accepts (task_of programme.now options.now unread) options.now.origin bytes frames)
         (NamesFirst (task_of programme.now options.now unread) frames)) }
@@ -149,11 +111,13 @@ fn judge<S: Source>(
         ReadsAs options.now.origin 0 bytes frames unread
         → result ≡ Err (CheckFault.Pes pes PesFault.Read)
         → IsReadUpTo (task_of programme.now options.now unread) frames pes) }
+    ensures read { (pes : ℕ) → result ≡ Err (CheckFault.Pes pes PesFault.Read)
+        → FailsAtPacket pes (S.remaining source.old) (S.remaining source.new) }
+    ensures no_write { failed is_pes_write result ≡ false }
     ensures options { IsOptions options.now }
     ensures programme { IsProgramme programme.now.national programme.now.records }
-    ensures own { is_subtitle_refusal result ≡ false }
-    ensures count { S.failure_count source.new
-        ≡ S.failure_count source.old + (if is_source_failure result then 1 else 0) }
+    ensures own { failed is_subtitle_fault result ≡ false }
+    ensures count { CountsIf S.failure_count source.old (failed is_pes_read result) source.new }
 {
     let every = options.every() as u32;
     let watched = Watched {
@@ -161,20 +125,20 @@ fn judge<S: Source>(
         national: programme.national(),
         complete: options.asks_complete(),
     };
-    let mut reader = PesReader::new();
-    let mut packet = PesFrame::new(0);
-    let read = next_frame(&mut reader, source, options, 0, &mut packet)?;
-    let Some(first) = read else {
+    let mut reader = ComparingReader::new();
+    let read = next_sending(&mut reader, source, options, 0)?;
+    let Some(sending) = read else {
         return Err(CheckFault::Empty);
     };
-    let mut checker = Checker::begin(programme, watched, first, packet.units(), every)?;
+    let first = sending.frame;
+    let mut checker = Checker::begin(programme, watched, first, units_of(&reader), every)?;
     for pes in 1..=MOST_PACKETS {
-        let more = next_frame(&mut reader, source, options, pes, &mut packet)?;
-        let Some(frame) = more else {
+        let more = next_sending(&mut reader, source, options, pes)?;
+        let Some(sending) = more else {
             return finish(programme, first, &checker);
         };
-        let units = packet.units();
-        checker.go_on(programme, pes, frame, units, every)?;
+        let units = units_of(&reader);
+        checker.go_on(programme, pes, sending, units, every)?;
     }
     let fault = PesFault::TooMany;
     Err(CheckFault::Pes {

@@ -11,7 +11,8 @@ pub fn law_of_good_and_dropping()
     ensures { LawOfGoodAndDropping }
 {}
 
-/// The same where packets are lost too, any but page headers: a cell of a lost row counts as hit.
+/// A good transmission is robust for receivers that drop rows where packets are lost too, any but
+/// page headers: a cell of a lost row counts as hit.
 pub fn law_of_good_dropping_and_loss()
     ensures { LawOfGoodDroppingAndLoss }
 {}

@@ -1,12 +1,13 @@
 //! A pair of files: the subtitle file, and the PES file that carries it.
-ghost use Rattle.std.specs.Prelude.{◌≡◌, ◌+◌, ◌<◌, true, if◌then◌else◌, Err};
-ghost use Rattle.sub_io.specs.Device.{CanFail};
+ghost use Rattle.std.specs.Prelude.{◌≡◌, ℕ, ◌<◌, Err, false, true};
+ghost use Rattle.sub_io.specs.Device.{CanFail, CountsIf, failed};
 ghost use Rattle.sub_io.specs.Reading.{IfTold};
-ghost use Rattle.stl_rows.specs.Loading.{FailsLoading, is_read_kind};
+ghost use Rattle.ttx_pes.specs.Reader.{FailsAtPacket};
+ghost use Rattle.stl_rows.specs.Fault.{is_read};
+ghost use Rattle.stl_rows.specs.Loading.{FailsLoading};
 ghost use Rattle.stl_rows.specs.declared.fault.LoadFault.{LoadFault};
 ghost use Rattle.sub_check.specs.CheckedFiles.{AreAccepted, AreChecked};
-ghost use Rattle.sub_check.specs.Checking.{is_source_failure, is_subtitle_refusal};
-ghost use Rattle.sub_check.specs.Checking.{is_subtitle_source_failure};
+ghost use Rattle.sub_check.specs.Fault.{is_pes_read, is_pes_write, is_stl_read, is_subtitle_fault};
 
 use crate::checker::{Accepted, check};
 use crate::fault::CheckFault;
@@ -14,6 +15,7 @@ use std::alloc::Global;
 use stl_rows::{National, law_of_loading, load};
 use sub_io::Source;
 use sub_plan::Options;
+use ttx_pes::PesFault;
 
 /// Checks a subtitle file and a PES file: loads the one, and checks the other against it.
 ///
@@ -45,15 +47,18 @@ pub fn check_files<S: Source, P: Source>(
     // fault comes before it.
     ensures stl_read { (fault : LoadFault)
         → result ≡ Err (CheckFault.Subtitles fault)
-        → is_read_kind fault.kind ≡ true
+        → is_read fault ≡ true
         → FailsLoading national (S.remaining stl.old) (S.remaining stl.new) fault.block }
-    // Where the subtitle file is refused, no PES byte is read.
-    ensures before { is_subtitle_refusal result ≡ true → pes.new ≡ pes.old }
+    // A failed read of the PES file names the PES packet within which it came.
+    ensures pes_read { (index : ℕ)
+        → result ≡ Err (CheckFault.Pes index PesFault.Read)
+        → FailsAtPacket index (P.remaining pes.old) (P.remaining pes.new) }
+    // Where the subtitle file is refused, no PES byte is read, and nothing is ever written.
+    ensures before { failed is_subtitle_fault result ≡ true → pes.new ≡ pes.old }
+    ensures no_write { failed is_pes_write result ≡ false }
     // Each source failed in this call exactly where its `Read` is told.
-    ensures stl_count { S.failure_count stl.new
-        ≡ S.failure_count stl.old + (if is_subtitle_source_failure result then 1 else 0) }
-    ensures pes_count { P.failure_count pes.new
-        ≡ P.failure_count pes.old + (if is_source_failure result then 1 else 0) }
+    ensures stl_count { CountsIf S.failure_count stl.old (failed is_stl_read result) stl.new }
+    ensures pes_count { CountsIf P.failure_count pes.old (failed is_pes_read result) pes.new }
 {
     law_of_loading();
     match load(alloc, stl, national) {

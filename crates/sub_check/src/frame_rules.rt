@@ -2,11 +2,11 @@
 //! frame's end.
 ghost use Rattle.std.specs.Prelude.{◌≡◌, ℕ, ◌+◌, ◌-◌, ◌<◌, ◌≤◌, ◌↔◌, length, if◌then◌else◌};
 ghost use Rattle.std.specs.Prelude.{◌*◌, MatchResult, OnOk, IfOk, IfErr, IsTrue};
-ghost use Rattle.std.specs.Prelude.{Some, nat_lt};
+ghost use Rattle.std.specs.Prelude.{Some, nat_lt, true};
 ghost use Rattle.stl_rows.specs.DuePage.{TellsNextEdge};
 ghost use Rattle.sub_check.specs.Checking.{IsRuleFault};
 ghost use Rattle.sub_check.specs.FirstBroken.{NamesFirst, packet_fault};
-ghost use Rattle.sub_check.specs.FrameRules.{Task, frame_at};
+ghost use Rattle.sub_check.specs.FrameRules.{Task, frame_at, packets_at};
 ghost use Rattle.sub_plan.specs.Schedule.{due_in};
 ghost use Rattle.sub_check.specs.PacketRules.{packets_of_units};
 ghost use Rattle.sub_check.specs.Transmission.{Transmission};
@@ -14,6 +14,7 @@ ghost use Rattle.sub_check.specs.Transmission.{Transmission};
 use crate::fault::CheckFault;
 use crate::listener::Listener;
 use crate::packet_rules::{PacketRule, Watched};
+use crate::sending::Sending;
 use stl_rows::Programme;
 use ttx_pes::Unit;
 
@@ -49,9 +50,24 @@ impl Checker {
         } }
     {
         if is_at(self.edge, f) {
-            self.listener.draw(programme.due_page(f));
-            self.edge = programme.next_edge(f);
+            self.cross_edge(programme, f);
         }
+    }
+
+    // The due page and the next edge, at a frame where a subtitle begins or ends. Apart from
+    // `advance`, which else would make room for a page at each frame.
+    #[inline(never)]
+    fn cross_edge(&mut self, programme: &Programme, f: u32)
+        ensures edge { TellsNextEdge programme.now.records f self.new.edge }
+        ensures frame { self.new.frame ≡ self.old.frame }
+        ensures header_at { self.new.header_at ≡ self.old.header_at }
+        ensures headers { self.new.headers ≡ self.old.headers }
+        ensures listener { self.new.listener ≡ record self.old.listener {
+          comparison = record self.old.listener.comparison { due = due_in programme.now f };
+        } }
+    {
+        self.listener.draw(programme.due_page(f));
+        self.edge = programme.next_edge(f);
     }
 
     // The frames of the day between the last PES packet and the next.
@@ -93,32 +109,34 @@ impl Checker {
     fn take(
         &mut self,
         programme: &Programme,
-        frame: u32,
+        sending: Sending,
         units: &[Unit],
         every: u32,
     ) -> Result<(), CheckFault>
         requires few { length units.now ≤ 35 }
         requires header { self.old.header_at ≤ self.old.frame }
-        requires later { self.old.frame < frame }
-        requires headers { self.old.headers ≤ 35 * self.old.frame + 35 }
-        requires due { self.old.listener.comparison.due ≡ due_in programme.now (frame - 1) }
-        requires edge { TellsNextEdge programme.now.records (frame - 1) self.old.edge }
+        requires later { self.old.frame < sending.frame }
+        requires headers { self.old.headers ≤ 255 * self.old.frame + 255 }
+        requires due { self.old.listener.comparison.due ≡ due_in programme.now (sending.frame - 1) }
+        requires edge { TellsNextEdge programme.now.records (sending.frame - 1) self.old.edge }
         ensures own { IfErr result IsRuleFault }
         ensures header { OnOk result (self.new.header_at ≤ self.new.frame) }
-        ensures frame { OnOk result (self.new.frame ≡ frame) }
-        ensures headers { OnOk result (self.new.headers ≤ 35 * self.new.frame + 35) }
+        ensures frame { OnOk result (self.new.frame ≡ sending.frame) }
+        ensures headers { OnOk result (self.new.headers ≤ 255 * self.new.frame + 255) }
         ensures due { OnOk result
             (self.new.listener.comparison.due ≡ due_in programme.now self.new.frame) }
         ensures edge { OnOk result
             (TellsNextEdge programme.now.records self.new.frame self.new.edge) }
         ensures exact { (g : Task) (frames : Transmission) (n : ℕ)
             → IsTaskOf g programme.now every → Follows g frames n self.old
-            → IsSentFrame frames n frame (packets_of_units units.now)
+            → IsSentFrame frames n sending.frame (packets_of_units units.now)
+            → (sending.again ≡ true → packets_at frames (n - 1) ≡ packets_of_units units.now)
             → OrderOk g frames n → GapOk g frames n
             → MatchResult result (λ _. Follows g frames (n + 1) self.new) (NamesFirst g frames) }
     {
+        let frame = sending.frame;
         self.advance(programme, frame);
-        let headers = match self.listener.hear_all(units) {
+        let headers = match self.listener.hear_sending(units, sending.again) {
             Err(fault) => return Err(fault_of(fault.rule, frame, fault.packet)),
             Ok(headers) => headers,
         };
@@ -138,38 +156,39 @@ impl Checker {
         Ok(())
     }
 
-    /// A PES packet after the first: its frame and its units.
+    /// A PES packet after the first: what is sent, and its units.
     pub fn go_on(
         &mut self,
         programme: &Programme,
         pes: u32,
-        frame: u32,
+        sending: Sending,
         units: &[Unit],
         every: u32,
     ) -> Result<(), CheckFault>
         requires few { length units.now ≤ 35 }
         requires header { self.old.header_at ≤ self.old.frame }
-        requires headers { self.old.headers ≤ 35 * self.old.frame + 35 }
+        requires headers { self.old.headers ≤ 255 * self.old.frame + 255 }
         requires due { self.old.listener.comparison.due ≡ due_in programme.now self.old.frame }
         requires edge { TellsNextEdge programme.now.records self.old.frame self.old.edge }
         ensures own { IfErr result IsRuleFault }
         ensures header { OnOk result (self.new.header_at ≤ self.new.frame) }
         ensures later { OnOk result (self.old.frame ≤ self.new.frame) }
-        ensures headers { OnOk result (self.new.headers ≤ 35 * self.new.frame + 35) }
+        ensures headers { OnOk result (self.new.headers ≤ 255 * self.new.frame + 255) }
         ensures due { OnOk result
             (self.new.listener.comparison.due ≡ due_in programme.now self.new.frame) }
         ensures edge { OnOk result
             (TellsNextEdge programme.now.records self.new.frame self.new.edge) }
         ensures exact { (g : Task) (frames : Transmission)
             → IsTaskOf g programme.now every → Follows g frames pes self.old
-            → IsSentFrame frames pes frame (packets_of_units units.now)
+            → IsSentFrame frames pes sending.frame (packets_of_units units.now)
+            → (sending.again ≡ true → packets_at frames (pes - 1) ≡ packets_of_units units.now)
             → MatchResult result (λ _. Follows g frames (pes + 1) self.new) (NamesFirst g frames) }
     {
-        if frame <= self.frame {
+        if sending.frame <= self.frame {
             return Err(CheckFault::Order { pes });
         }
-        self.cross_gap(programme, frame, every)?;
-        self.take(programme, frame, units, every)
+        self.cross_gap(programme, sending.frame, every)?;
+        self.take(programme, sending, units, every)
     }
 
     /// The first PES packet: its frame and its units.
@@ -185,7 +204,7 @@ impl Checker {
         ensures own { IfErr result IsRuleFault }
         ensures header { IfOk result (λ checker. checker.header_at ≤ checker.frame) }
         ensures frame { IfOk result (λ checker. checker.frame ≡ frame) }
-        ensures headers { IfOk result (λ checker. checker.headers ≤ 35 * checker.frame + 35) }
+        ensures headers { IfOk result (λ checker. checker.headers ≤ 255 * checker.frame + 255) }
         ensures due { IfOk result (λ checker.
             checker.listener.comparison.due ≡ due_in programme.now checker.frame) }
         ensures edge { IfOk result (λ checker.
@@ -199,7 +218,7 @@ impl Checker {
             return Err(CheckFault::Early { frame });
         }
         let mut listener = Listener::new(watched, programme.due_page(frame));
-        let headers = match listener.hear_all(units) {
+        let headers = match listener.hear_sending(units, false) {
             Err(fault) => return Err(fault_of(fault.rule, frame, fault.packet)),
             Ok(headers) => headers,
         };
@@ -234,7 +253,7 @@ fn is_at(edge: Option<u32>, frame: u32) -> bool
 }
 
 // Whether there was a header.
-fn any_header(headers: u32) -> bool
+fn any_header(headers: u8) -> bool
     ensures { result ≡ nat_lt 0 headers }
 {
     headers > 0

@@ -6,6 +6,7 @@ ghost use Rattle.sub_check.specs.Laws.{LawOfAllKept, LawOfNothingLost, LawOfWind
 ghost use Rattle.sub_check.specs.PesReading.{LawOfPesFiles};
 ghost use Rattle.sub_check.specs.Planned.{LawOfPlan, LawOfPlanRead};
 ghost use Rattle.sub_check.specs.Rules.{LawOfRules};
+ghost use Rattle.sub_check.specs.SentAgain.{LawOfSentAgain};
 ghost use Rattle.sub_check.specs.StepByStep.{LawOfCleanSpans, LawOfRepeats, LawOfSpansByPacket};
 ghost use Rattle.sub_check.specs.Sufficient.{LawOfSufficientParts};
 
@@ -20,9 +21,9 @@ pub fn law_of_good()
     ensures { LawOfGood }
 {}
 
-/// Of the seven rules these parts suffice for it: frames rise; code words have no bit wrong; headers
-/// erase the page; rows are odd, and stay as they are; a header comes within the repeat bound; what
-/// is due is shown.
+/// Of the seven rules these parts suffice for it: frames rise; code words have no bit wrong;
+/// headers erase the page; rows are odd, and stay as they are; a header comes within the repeat
+/// bound; what is due is shown.
 pub fn law_of_sufficient_parts()
     ensures { LawOfSufficientParts }
 {}
@@ -33,7 +34,7 @@ pub fn law_of_good_and_loss()
     ensures { LawOfGoodAndLoss }
 {}
 
-/// The same, with a mark beside each packet: kept or lost.
+/// A good transmission is robust where packets are lost, with a mark beside each: kept or lost.
 pub fn law_of_good_and_marked_loss()
     ensures { LawOfGoodAndMarkedLoss }
 {}
@@ -43,7 +44,7 @@ pub fn law_of_nothing_lost()
     ensures { LawOfNothingLost }
 {}
 
-/// The same by marks: with all packets kept, robust to lost rows is robust.
+/// With all packets marked as kept, robust to lost rows is robust.
 pub fn law_of_all_kept()
     ensures { LawOfAllKept }
 {}
@@ -64,9 +65,16 @@ pub fn law_of_spans_by_packet()
     ensures { LawOfSpansByPacket }
 {}
 
-/// A header comes in each so many frames exactly where the last one is never so many frames old.
+/// A header comes in each R frames, the repeat bound, exactly where the last one is never R frames
+/// old.
 pub fn law_of_repeats()
     ensures { LawOfRepeats }
+{}
+
+/// Packets that begin with a header of the page and keep the rules keep them again when they are
+/// sent again.
+pub fn law_of_sent_again()
+    ensures { LawOfSentAgain }
 {}
 
 /// The schedule of a programme that has a subtitle is a good transmission of it, in both modes and

@@ -25,8 +25,9 @@ mod on_screen;
 mod packet_rules;
 mod recovery;
 mod screen_examples;
+mod sending;
 
-pub use checker::{Accepted, check, next_frame};
+pub use checker::{Accepted, check};
 pub use dropping::{law_of_good_and_dropping, law_of_good_dropping_and_loss};
 pub use examples::{example_of_good, examples_of_broken_rules, examples_of_no_robustness};
 pub use fault::CheckFault;
@@ -34,7 +35,7 @@ pub use files::check_files;
 pub use laws::{
     law_of_all_kept, law_of_clean_spans, law_of_good, law_of_good_and_loss,
     law_of_good_and_marked_loss, law_of_nothing_lost, law_of_pes_files, law_of_plan,
-    law_of_plan_read, law_of_repeats, law_of_rules, law_of_spans_by_packet,
+    law_of_plan_read, law_of_repeats, law_of_rules, law_of_sent_again, law_of_spans_by_packet,
     law_of_sufficient_parts, law_of_window,
 };
 pub use on_screen::{
@@ -43,3 +44,4 @@ pub use on_screen::{
 pub use packet_rules::{PacketRule, Watched};
 pub use recovery::{law_of_good_and_recovery, law_of_good_dropping_and_recovery};
 pub use screen_examples::{example_of_no_end, examples_of_screens};
+pub use sending::{Sending, next_sending};

@@ -1,7 +1,7 @@
 //! What is kept of the packets that were heard, and the rule that the next packet breaks.
 ghost use Rattle.std.specs.Prelude.{◌≡◌, ℕ, ◌+◌, ◌-◌, ◌<◌, ◌≤◌, ◌++◌, List, [], ◌∷◌, MatchOption};
-ghost use Rattle.std.specs.Prelude.{MatchResult, IfOk, length, true, false, replicate, slice_set};
-ghost use Rattle.std.specs.Prelude.{if◌then◌else◌, ◌&&◌};
+ghost use Rattle.std.specs.Prelude.{MatchResult, length, true, false, replicate, slice_set};
+ghost use Rattle.std.specs.Prelude.{if◌then◌else◌, ◌&&◌, ◌==◌, Some, None};
 ghost use Rattle.ttx_packet.specs.PageHeader.{header};
 ghost use Rattle.ttx_page.specs.Page.{AreCodes, DiffersFirst, IsCell, IsPage, blank, cell};
 ghost use Rattle.ttx_page.specs.PacketKind.{is_this_page, kind};
@@ -34,17 +34,19 @@ pub(crate) struct Listener {
     /// The rows that were sent since the last header of the page.
     pub sent: [bool; 24],
     pub comparison: Comparison,
+    /// How many headers of the page the packets heard last hold, where the first of these is one.
+    pub last: Option<u8>,
 }
 
 impl Listener {
     ghost use Rattle.sub_check.specs.PacketRules.{AreClean, IsClean, BreaksFirstAt, BreaksFirst};
-    ghost use Rattle.sub_check.specs.Listening.{Knows};
+    ghost use Rattle.sub_check.specs.Listening.{Knows, KnowsLast};
 
     /// Nothing was heard, and this page is due.
     pub fn new(watched: Watched, due: Page) -> Self
         ensures watched { result.watched ≡ watched }
         ensures due { result.comparison.due ≡ due }
-        ensures knows { Knows [] result }
+        ensures knows { KnowsLast [] [] result }
     {
         Listener {
             watched,
@@ -52,6 +54,7 @@ impl Listener {
             is_open: false,
             sent: [false; 24],
             comparison: Comparison::new(due),
+            last: None,
         }
     }
 
@@ -160,22 +163,47 @@ impl Listener {
         }
     }
 
-    /// Hears the packets of these units as long as they break no rule, and says how many headers of
-    /// the page were among them.
-    pub fn hear_all(&mut self, units: &[Unit]) -> Result<u32, BrokenRule>
+    /// Hears the packets of a frame, and says how many headers of the page are among them. `again`
+    /// says that they are those heard last.
+    ///
+    /// Packets that begin with a header of the page and keep the rules keep them again, and leave
+    /// what is kept as it is: no packet is looked at.
+    pub fn hear_sending(&mut self, units: &[Unit], again: bool) -> Result<u8, BrokenRule>
         requires few { length units.now ≤ 35 }
         ensures watched { self.new.watched ≡ self.old.watched }
         ensures due { self.new.comparison.due ≡ self.old.comparison.due }
-        ensures headers { IfOk result (λ headers.
-            headers ≡ header_count self.old.watched.page (packets_of_units units.now)) }
-        ensures few { IfOk result (λ headers. headers ≤ 35) }
+        ensures knows { (heard last : List (List ℕ)) → KnowsLast heard last self.old
+            → (again ≡ true → last ≡ packets_of_units units.now) → MatchResult result
+            (λ headers. AreClean self.old.watched heard (packets_of_units units.now)
+            (length units.now)
+            × KnowsLast (heard ++ packets_of_units units.now) (packets_of_units units.now) self.new
+            × (headers ≡ header_count self.old.watched.page (packets_of_units units.now)))
+            (λ fault. BreaksFirstAt self.old.watched heard (packets_of_units units.now)
+            fault.packet fault.rule) }
+    {
+        if again {
+            if let Some(headers) = self.last {
+                return Ok(headers);
+            }
+        }
+        self.hear_all(units)
+    }
+
+    // Hears the packets of a frame as long as they break no rule.
+    fn hear_all(&mut self, units: &[Unit]) -> Result<u8, BrokenRule>
+        requires few { length units.now ≤ 35 }
+        ensures watched { self.new.watched ≡ self.old.watched }
+        ensures due { self.new.comparison.due ≡ self.old.comparison.due }
         ensures knows { (heard : List (List ℕ)) → Knows heard self.old → MatchResult result
-            (λ _. AreClean self.old.watched heard (packets_of_units units.now) (length units.now)
-            × Knows (heard ++ packets_of_units units.now) self.new)
+            (λ headers. AreClean self.old.watched heard (packets_of_units units.now)
+            (length units.now)
+            × KnowsLast (heard ++ packets_of_units units.now) (packets_of_units units.now) self.new
+            × (headers ≡ header_count self.old.watched.page (packets_of_units units.now)))
             (λ fault. BreaksFirstAt self.old.watched heard (packets_of_units units.now)
             fault.packet fault.rule) }
     {
         let mut headers = 0;
+        let mut begins = false;
         for k in 0..units.len() {
             let packet = units[k].packet();
             let (found, page_header) = PacketKind::with_header(self.watched.page, packet);
@@ -183,8 +211,11 @@ impl Listener {
                 let packet = k as u32;
                 return Err(BrokenRule { packet, rule });
             }
-            headers = counted(headers, self.hear(packet, found, page_header));
+            let is_header = self.hear(packet, found, page_header);
+            begins = begins_with(begins, k, is_header);
+            headers = counted(headers, is_header);
         }
+        self.last = last_headers(begins, headers);
         Ok(headers)
     }
 
@@ -230,9 +261,23 @@ impl Listener {
 }
 
 // One header more, or none.
-fn counted(headers: u32, is_header: bool) -> u32
+fn counted(headers: u8, is_header: bool) -> u8
     requires { headers < 35 }
     ensures { result ≡ headers + (if is_header then 1 else 0) }
 {
     if is_header { headers + 1 } else { headers }
+}
+
+// Whether the first packet is a header, at packet `k` on.
+fn begins_with(begins: bool, k: usize, is_header: bool) -> bool
+    ensures { result ≡ (if k == 0 then is_header else begins) }
+{
+    if k == 0 { is_header } else { begins }
+}
+
+// How many headers there are, where the first packet is one.
+fn last_headers(begins: bool, headers: u8) -> Option<u8>
+    ensures { result ≡ (if begins then Some headers else None) }
+{
+    if begins { Some(headers) } else { None }
 }

@@ -6,12 +6,14 @@ ghost use Rattle.sub_check.specs.OnScreen.{LawOfCompletePlan, LawOfGoodAndComple
 ghost use Rattle.sub_check.specs.OnScreen.{LawOfGoodDroppingAndComplete};
 
 /// Whatever a receiver held and showed before, at every frame's end from the next header of its
-/// page on the page that is due is on its screen, but for spaces where a byte was hit or a row lost.
+/// page on the page that is due is on its screen, but for spaces where a byte was hit or a row
+/// lost.
 pub fn law_of_good_and_complete()
     ensures { LawOfGoodAndComplete }
 {}
 
-/// The same for receivers that drop rows: where a byte of the cell's row was hit.
+/// The page that is due is on the screen of receivers that drop rows too: a space stands where a
+/// byte of the cell's row was hit.
 pub fn law_of_good_dropping_and_complete()
     ensures { LawOfGoodDroppingAndComplete }
 {}

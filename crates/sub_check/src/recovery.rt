@@ -9,7 +9,7 @@ pub fn law_of_good_and_recovery()
     ensures { LawOfGoodAndRecovery }
 {}
 
-/// The same for receivers that drop rows: where a byte of the cell's row was hit.
+/// Receivers that drop rows recover too: a space stands where a byte of the cell's row was hit.
 pub fn law_of_good_dropping_and_recovery()
     ensures { LawOfGoodDroppingAndRecovery }
 {}

@@ -9,6 +9,7 @@ use Rattle.std.proofs.KnownBytes.{Appends-trans, Consumes-trans}
 use borrow.Rule.Slice.PartMut.{put_mid, post_of}
 use Rattle.std.proofs.lemmas.List.{take_rest}
 use Rattle.std.proofs.Math.Seq.{take-append-add, take-length}
+use Rattle.std.proofs.lemmas.Option.{same_Some}
 use lib.Seq.{take-add, take-append-le}
 use Rattle.sub_io.specs.Device.{AppendsPrefix, Fills, Told, Writes}
 use Rattle.sub_io.specs.Reading.{IfTold}
@@ -50,10 +51,6 @@ Appends-more x y z a m n xs e p q =
     subst (Appends x z) (ap (λ l. take a xs ++ take n l) whole ∙ sym (take-add a n xs))
     (Appends-trans x y z _ _ p q)
 
--- equal known bytes are equal bytes
-Some-injective : (x y : List ℕ) → ◌≡◌ {A = Option (List ℕ)} (Some x) (Some y) → x ≡ y
-Some-injective x y e = cc
-
 -- what a filled buffer says of a source that tells its bytes
 pub Told-from_fills : (old new : Option (List ℕ)) (n : ℕ) (buffer : List ℕ)
     → Fills old n new buffer
@@ -63,7 +60,7 @@ Told-from_fills (Some xs) None n buffer f bytes e = absurd f.bytes
 Told-from_fills (Some xs) (Some ys) n buffer f bytes e =
     record {
       rest = ys;
-      parts = sym (Some-injective xs bytes e) ∙ f.bytes;
+      parts = sym (same_Some xs bytes e) ∙ f.bytes;
       new_is = refl;
       ended = f.end;
     }

@@ -1,5 +1,5 @@
 -- Devices behind a buffer: the device inside, and the bytes that the buffer holds.
-use Rattle.std.specs.Prelude.{ℕ, ◌+◌, min, List, Bool}
+use Rattle.std.specs.Prelude.{◌≡◌, ℕ, ◌+◌, min, List, [], Bool}
 
 -- a source: the bytes that were read from the source inside and are still to be given, and how many
 -- the buffer has room for
@@ -21,3 +21,11 @@ pub record HeldBack (D : Type 0) : Type 0 where
 -- as 64 bits count
 abbrev pub failures_and_refused : ℕ → ℕ → ℕ
 failures_and_refused failures refused = min (failures + refused) 0xFFFF_FFFF_FFFF_FFFF
+
+-- no byte is held back, and no call has failed since: the sink inside has taken all bytes, by calls
+-- that did not fail
+pub record HandsOn {D : Type 0} (failure_count : D → ℕ) (old new : HeldBack D) : Type 0 where
+  pub none : new.held ≡ []
+  pub count :
+      failures_and_refused (failure_count new.device) new.refused
+      ≡ failures_and_refused (failure_count old.device) old.refused

@@ -4,7 +4,7 @@
 -- those that it has taken; `None` is a device that tells nothing, as a file. `Consumes`, `Appends`,
 -- `Keeps` and `IsAtEnd` are std's words: each holds of any call of a device that tells nothing.
 use Rattle.std.specs.Prelude.{◌≡◌, ℕ, ◌+◌, ◌<◌, ◌≤◌, List, [], ◌++◌, length, take, Option, Some}
-use Rattle.std.specs.Prelude.{Result, MatchResult, is_ok, if◌then◌else◌}
+use Rattle.std.specs.Prelude.{Bool, false, Result, Ok, Err, MatchResult, is_ok, if◌then◌else◌}
 use Rattle.std.specs.Io.KnownBytes.{Appends, Consumes, IsAtEnd, Keeps}
 
 -- the count of failures can rise by one more: asked of a device before each call that may fail
@@ -14,6 +14,21 @@ CanFail count = count < 0xFFFF_FFFF_FFFF_FFFF
 -- an `Ok` leaves the count of failures, an `Err` raises it by one
 abbrev pub CountsFailure : {X E : Type 0} → ℕ → Result X E → ℕ → Type 0
 CountsFailure old result new = new ≡ old + (if is_ok result then 0 else 1)
+
+-- the call answers a fault that is one of these: each fault type says which of its faults are those
+-- of a device
+abbrev pub failed : {X E : Type 0} → (E → Bool) → Result X E → Bool
+failed is_one (Err fault) = is_one fault
+failed is_one (Ok _) = false
+
+-- a count rises by one where that is so, and else stays
+abbrev pub RisesIf : ℕ → Bool → ℕ → Type 0
+RisesIf old is_so new = new ≡ old + (if is_so then 1 else 0)
+
+-- the count of a device's failures rises by one where it has failed, and else stays
+abbrev pub CountsIf : {D : Type 0} → (D → ℕ) → D → Bool → D → Type 0
+CountsIf failure_count old has_failed new =
+    RisesIf (failure_count old) has_failed (failure_count new)
 
 -- one pull: an `Ok` of n took the n bytes that now stand in front of the buffer, and an `Ok` of 0
 -- for a buffer with room says that the source is at its end; an `Err` took nothing

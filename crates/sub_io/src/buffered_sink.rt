@@ -7,7 +7,7 @@ ghost use Rattle.sub_io.specs.Buffered.{HeldBack, failures_and_refused};
 ghost use Rattle.sub_io.specs.Device.{CanFail, CountsFailure, Pushes};
 
 use crate::sink::push_all;
-use crate::{Failed, Flush, Sink};
+use crate::{Close, Failed, Flush, Sink};
 use std::marker::Model;
 
 /// A sink that holds back what it takes until its room is full, and then hands it to the sink
@@ -240,5 +240,20 @@ impl<K: Sink> Flush for BufferedSink<'_, K> {
                 Err(Failed)
             }
         }
+    }
+}
+
+impl<K: Close> Close for BufferedSink<'_, K> {
+    /// Closes the sink inside. Bytes that are held back are not handed on.
+    fn close(&mut self)
+        ensures held { self.new.held ≡ self.old.held }
+        ensures room { self.new.room ≡ self.old.room }
+        ensures failed { self.new.failed ≡ self.old.failed }
+        ensures refused { self.new.refused ≡ self.old.refused }
+        ensures device { K.failure_count self.new.device ≡ K.failure_count self.old.device }
+        ensures count { failures_and_refused (K.failure_count self.new.device) self.new.refused
+            ≡ failures_and_refused (K.failure_count self.old.device) self.old.refused }
+    {
+        self.inner.close();
     }
 }

@@ -57,7 +57,7 @@ impl<D> FailAt<D> {
         }
     }
 
-    // So many failures of the device inside, and the one of the countdown.
+    // The failures of the device inside, and the one of the countdown.
     fn with_own(&self, inner: u64) -> u64
         ensures { result ≡ failures_with self.now.left inner }
     {

@@ -13,8 +13,9 @@
 //! ```
 //!
 //! - `Source` and `Sink` are the traits, `fill` and `put_all` what the readers and writers call;
-//!   `Flush` is a sink that may hold bytes back.
-//! - `MemSource` and `MemSink` are devices over memory, `FromRead` and `IntoWrite` over std.
+//!   `Flush` is a sink that may hold bytes back, `Close` one that can be closed.
+//! - `MemSource` and `MemSink` are devices over memory, `FromRead`, `IntoWrite` and `IntoFile` over
+//!   std.
 //! - `BufferedSource` and `BufferedSink` stand before another device, so that it is called less
 //!   often.
 //! - `FailAt` makes one chosen call of another device fail.
@@ -23,6 +24,7 @@
 mod buffered_sink;
 mod buffered_source;
 mod fail_at;
+mod into_file;
 mod memory;
 mod sink;
 mod source;
@@ -31,7 +33,8 @@ mod std_io;
 pub use buffered_sink::BufferedSink;
 pub use buffered_source::BufferedSource;
 pub use fail_at::FailAt;
+pub use into_file::IntoFile;
 pub use memory::{MemSink, MemSource};
-pub use sink::{Flush, Sink, put_all};
+pub use sink::{Close, Flush, Sink, put_all};
 pub use source::{Failed, Source, fill};
 pub use std_io::{FromRead, IntoWrite};

@@ -7,7 +7,7 @@ ghost use Rattle.std.specs.Io.KnownBytes.{Keeps};
 ghost use Rattle.sub_io.specs.Device.{CanFail, CountsFailure, Pulls, Pushes, holds_nothing};
 ghost use Rattle.sub_io.specs.Memory.{Written};
 
-use crate::{Failed, Flush, Sink, Source};
+use crate::{Close, Failed, Flush, Sink, Source};
 use std::marker::Model;
 
 /// A source that gives the bytes of a slice. It never fails.
@@ -153,4 +153,11 @@ impl Flush for MemSink<'_> {
     {
         Ok(())
     }
+}
+
+impl Close for MemSink<'_> {
+    /// Does nothing: memory is not closed.
+    fn close(&mut self)
+        ensures { self.new ≡ self.old }
+    {}
 }

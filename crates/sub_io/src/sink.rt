@@ -55,6 +55,13 @@ pub trait Flush: Sink {
             (Self.failure_count self.new) };
 }
 
+/// A sink that can be closed before its value ends, as a file.
+pub trait Close: Sink {
+    /// Closes it: what is below it is handed nothing more. What closing reports is not looked at.
+    fn close(&mut self)
+        ensures { Self.failure_count self.new ≡ Self.failure_count self.old };
+}
+
 /// Pushes all of `from`, in as many calls as the sink needs.
 ///
 /// # Errors

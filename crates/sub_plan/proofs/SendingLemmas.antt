@@ -7,8 +7,10 @@ use Rattle.std.proofs.Common.{sym, ap, ◌∙◌, subst, arith, lit≤, eq-eqb, 
 use Rattle.std.proofs.Common.{append-nil}
 use Rattle.std.specs.List.{list_any, range_with_len, AllByRecursion}
 use Rattle.std.proofs.Math.Seq.{take-append-add}
-use Rattle.std.proofs.lemmas.Bool.{cases_eq, cases_lt, or_parts, or_left, or_right}
-use Rattle.std.proofs.lemmas.List.{take_all, take-append-le, length_push}
+use Rattle.std.proofs.Common.{◌↔◌, replicate, true≢false}
+use Rattle.std.proofs.lemmas.Bool.{cases_Bool, cases_eq, cases_lt, or_parts, or_left, or_right}
+use Rattle.std.proofs.lemmas.List.{take_all, take-append-le, length_push, ext_get_or}
+use Rattle.std.proofs.lemmas.List.{get_or-replicate, length-replicate}
 use Rattle.std.proofs.lemmas.List.Folds.{list_any-append}
 use Rattle.std.proofs.lemmas.List.Elements.{All-nil, All-cons, All-push}
 use Rattle.std.proofs.lemmas.List.Elements.{All-map, All-filter, All-take, All-weaker}
@@ -24,7 +26,7 @@ use Rattle.ttx_page.specs.Page.{Rows, space, cell, row_at, IsCell, IsPage}
 use Rattle.ttx_page.specs.PacketKind.{kind, is_this_page, ends_page, is_row}
 use Rattle.ttx_page.specs.Span.{holds_header, is_unended, after_last_header, before_end, span}
 use Rattle.ttx_page.specs.Shown.{shown}
-use Rattle.ttx_page.proofs.SpanLists.{after-here, after-later}
+use Rattle.ttx_page.proofs.SpanLists.{after-here, after-later, after-append}
 use Rattle.stl_rows.specs.declared.national.National.{National}
 use Rattle.stl_rows.specs.declared.national.National.TheVariants.{English, German}
 use Rattle.sub_plan.specs.Options.{IsWatchable}
@@ -35,23 +37,6 @@ use Rattle.sub_plan.specs.Laws.{LawOfSending, LawOfSentPackets}
 use Rattle.sub_plan.proofs.SentPackets.{opener, closer, made_opener, made_closer, packet_of_header}
 use Rattle.sub_plan.proofs.SentPackets.{packet_of_codes, row_of, row_length, row_codes, made_row}
 use Rattle.sub_plan.proofs.SentPackets.{kind_opener, kind_closer, kind_row}
-
--- ---- headers in joined lists
-
--- A header of the page in the second of two lists.
-holds-append_right : {A : Type 0} (kind_of : A → PacketKind) (xs ys : List A)
-    → holds_header kind_of ys ≡ true → holds_header kind_of (xs ++ ys) ≡ true
-holds-append_right kind_of xs ys e = list_any-append (λ x. is_this_page (kind_of x)) xs ys
-    ∙ or_right (holds_header kind_of xs) _ e
-
--- What stands before a list with a header of the page does not matter.
-pub after-append : {A : Type 0} (kind_of : A → PacketKind) (xs ys : List A)
-    → holds_header kind_of ys ≡ true
-    → after_last_header kind_of (xs ++ ys) ≡ after_last_header kind_of ys
-after-append kind_of [] ys e = refl
-after-append kind_of (x ∷ xs) ys e =
-    after-later kind_of x (xs ++ ys) (holds-append_right kind_of xs ys e)
-    ∙ after-append kind_of xs ys e
 
 -- ---- the rows of a page
 
@@ -98,6 +83,22 @@ empty_cell (c ∷ cs) zero e l = let parts = or_parts (not (c == space)) (is_sen
     double false h = cc
 empty_cell (c ∷ cs) (suc column) e l = let parts = or_parts (not (c == space)) (is_sent_row cs) e in
     empty_cell cs column parts.1 (omega arith)
+
+-- A row is sent where it is not blank. For `is_sent_row`.
+pub sent_by_blank : (b : Bool) (codes : List ℕ)
+    → length codes ≡ 40
+    → (b ≡ true) ↔ (codes ≡ replicate 40 space)
+    → not b ≡ is_sent_row codes
+sent_by_blank true codes long h = sym (ap is_sent_row (h.0 refl))
+sent_by_blank false codes long h =
+    elim (cases_Bool (is_sent_row codes)) [
+      | inl sent ↦ sym sent
+      | inr none ↦
+          absurd (true≢false (sym (h.1 (ext_get_or 0 codes (replicate 40 space)
+          (long ∙ sym (length-replicate 40 space))
+          (λ i l. empty_cell codes i none l
+          ∙ sym (get_or-replicate 40 i space 0 (omega (arith, long))))))))
+    ]
 
 module _ (w : PageIdValue) (page : Rows) (ok : IsWatchable w) (shape : IsPage page) where
   -- Which row a row packet is.

@@ -34,7 +34,7 @@ use Rattle.sub_plan.proofs.SendingLemmas.{all_sent}
 -- ---- how long it is
 
 -- A filtered list is no longer than the list.
-short_filter : (test : ℕ → Bool) (xs : List ℕ) → length (filter test xs) ≤ length xs
+pub short_filter : (test : ℕ → Bool) (xs : List ℕ) → length (filter test xs) ≤ length xs
 short_filter test xs = omega (arith, length-filter test xs, count_by-le-length test xs)
 
 -- Of n rows at most n are sent.

@@ -2,8 +2,8 @@
 --
 -- The definitions go by the page that is due at each frame, `due`, and by the first and the last
 -- frame: they know nothing of subtitles.
-use Rattle.std.specs.Prelude.{ℕ, suc, zero, ◌+◌, ◌-◌, ◌%◌, Bool, true, false, not, ◌||◌, List, []}
-use Rattle.std.specs.Prelude.{◌==◌, nat_eq, filter, if◌then◌else◌, Option, Some, None, Result, Err}
+use Rattle.std.specs.Prelude.{ℕ, suc, zero, ◌+◌, ◌-◌, ◌%◌, Bool, not, ◌||◌, List, []}
+use Rattle.std.specs.Prelude.{◌==◌, nat_eq, filter, if◌then◌else◌, Option, Some, None}
 use Rattle.std.specs.List.{flat_map, range_with_len}
 use Rattle.std.specs.Cmp.Lexicographic.{pointwise}
 use Rattle.ttx_page.specs.Page.{Rows}
@@ -11,8 +11,6 @@ use Rattle.ttx_pes.specs.PesPacket.{PesValue, canonical_packet, numbered_frame}
 use Rattle.stl_rows.specs.declared.national.National.{National}
 use Rattle.stl_rows.specs.DuePage.{due}
 use Rattle.stl_rows.specs.Programme.{ProgrammeValue, first_in, last_out}
-use Rattle.sub_plan.specs.declared.fault.PlanFault.{PlanFault}
-use Rattle.sub_plan.specs.declared.fault.PlanFault.TheVariants.{Write}
 use Rattle.sub_plan.specs.FrameTime.{pts_of}
 use Rattle.sub_plan.specs.Options.{OptionsValue}
 use Rattle.sub_plan.specs.Sending.{sending}
@@ -32,7 +30,7 @@ unfoldable pub base : (ℕ → Rows) → ℕ → ℕ → ℕ
 base due first zero = 0
 base due first (suc f) = if is_base due first (suc f) then suc f else base due first f
 
--- A sending stands at the last frame, at each base, and each so many frames after it, up to the
+-- A sending stands at the last frame, at each base, and each `every` frames after it, up to the
 -- next.
 unfoldable pub is_sending : (ℕ → Rows) → ℕ → ℕ → ℕ → ℕ → Bool
 is_sending due every first last f = (f == last) || ((f - base due first f) % every == 0)
@@ -84,10 +82,3 @@ plan_frames programme every =
 abbrev pub plan : ProgrammeValue → OptionsValue → Bool → List ℕ
 plan programme o serial =
     sendings_at (due_in programme) o programme.national serial (plan_frames programme o.every)
-
--- ---- its writer
-
--- The answer is that the sink failed.
-abbrev pub is_write_failure : {X : Type 0} → Result X PlanFault → Bool
-is_write_failure (Err Write) = true
-is_write_failure _ = false

@@ -5,7 +5,7 @@ use Rattle.std.specs.List.{range_with_len}
 use Rattle.ttx_pes.specs.PesPacket.{canonical_packet}
 use Rattle.sub_plan.specs.Schedule.{pes_value}
 
--- Of the frames from one up to before another, those each so many frames after a base.
+-- The frames from one up to before another that are a multiple of `every` after a base.
 unfoldable pub steps : ℕ → ℕ → ℕ → ℕ → List ℕ
 steps every base from end = filter (λ f. (f - base) % every == 0) (range_with_len from (end - from))
 

@@ -43,7 +43,7 @@ impl PlanFault {
         self.number_and_name().1
     }
 
-    // Both.
+    // The number and the name.
     fn number_and_name(self) -> (u8, &'static str)
         ensures number { result.0 ≡ (number_and_name self).0 }
         ensures name { result.1.now ≡ (number_and_name self).1 }

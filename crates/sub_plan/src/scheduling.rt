@@ -3,12 +3,12 @@ ghost use Rattle.std.specs.Prelude.{◌≡◌, ◌≢◌, ◌↔◌, ℕ, ◌+�
 ghost use Rattle.std.specs.Prelude.{length};
 ghost use Rattle.std.specs.Prelude.{if◌then◌else◌};
 ghost use Rattle.std.specs.List.{flat_map};
-ghost use Rattle.sub_io.specs.Device.{CanFail, CountsFailure, Writes};
+ghost use Rattle.sub_io.specs.Device.{CanFail, CountsFailure, CountsIf, Writes, failed};
 ghost use Rattle.ttx_pes.specs.LineOrder.{numbered_units};
+ghost use Rattle.sub_plan.specs.Fault.{is_write};
 ghost use Rattle.sub_plan.specs.declared.fault.PlanFault.TheVariants.{NoSubtitles};
 ghost use Rattle.sub_plan.specs.FrameTime.{frames_of_day};
-ghost use Rattle.sub_plan.specs.Schedule.{due_in, is_write_failure, plan, plan_frames, sendings};
-ghost use Rattle.sub_plan.specs.Schedule.{sendings_at};
+ghost use Rattle.sub_plan.specs.Schedule.{due_in, plan, plan_frames, sendings, sendings_at};
 ghost use Rattle.sub_plan.specs.Steps.{packets_at, steps};
 
 use crate::fault::PlanFault;
@@ -189,8 +189,7 @@ pub fn schedule<K: Sink>(
         (λ n. n ≡ length (plan_frames programme.now options.now.every)) }
     ensures empty { (result ≡ Err NoSubtitles) ↔ (programme.now.records ≡ []) }
     ensures nothing { result ≡ Err NoSubtitles → sink.new ≡ sink.old }
-    ensures count { K.failure_count sink.new
-        ≡ K.failure_count sink.old + (if is_write_failure result then 1 else 0) }
+    ensures count { CountsIf K.failure_count sink.old (failed is_write result) sink.new }
 {
     let Some(first) = programme.first_in() else {
         return Err(PlanFault::NoSubtitles);

@@ -1,5 +1,6 @@
 //! The packets of one sending of a page.
-ghost use Rattle.std.specs.Prelude.{◌≡◌, ◌≤◌, ◌<◌, [], ◌∷◌, ◌++◌, length};
+ghost use Rattle.std.specs.Prelude.{◌≡◌, ◌≤◌, ◌<◌, ◌↔◌, [], ◌∷◌, ◌++◌, IsTrue, length, replicate};
+ghost use Rattle.ttx_page.specs.Page.{space};
 ghost use Rattle.sub_plan.specs.Sending.{closing_header, is_sent_row, sending, watched_header};
 
 use bitflags::Flags;
@@ -76,11 +77,18 @@ impl Sending {
     }
 }
 
+// Whether a row is blank.
+fn is_blank(codes: &[u8; 40]) -> bool
+    ensures { IsTrue result ↔ (codes.now ≡ replicate 40 space) }
+{
+    *codes == [0x20; 40]
+}
+
 // Whether the row holds a cell other than a space.
 fn is_sent_row(codes: &[u8; 40]) -> bool
     ensures { result ≡ is_sent_row codes.now }
 {
-    codes.iter().any(|code| *code != 0x20)
+    !is_blank(codes)
 }
 
 // The header of the page.

@@ -5,6 +5,7 @@ use Rattle.std.proofs.Common.{Option, Some, None, Ok, Err, is_some, refl, sym, a
 use Rattle.std.proofs.Common.{inl, inr}
 use Rattle.std.specs.Prelude.{Box, option_and_then, option_map, find}
 use Rattle.std.specs.Box.{box_value}
+use Rattle.std.proofs.lemmas.Option.{same_Some}
 use Rattle.clap.specs.Words.{App, FailsBy, HasKind, HasMatchesOf, IsAmong, Kinds, Row, Shape, Text}
 use Rattle.clap.specs.Words.{fault_of, found_of, is_simple, is_simple_and_free, kind_of, rows_of}
 use Rattle.clap.specs.Words.{subcommand_of, subcommand_rows, subcommand_rows_of, takes}
@@ -83,10 +84,6 @@ command_in-taken words taken none =
     let missing : is_some (subcommand_of subttx_app words) ≡ false = ap is_some none in
     cc
 
--- equal values are there
-some_parts : {X : Type 0} (x y : X) → Some x ≡ Some y → x ≡ y
-some_parts x y e = cc
-
 -- what the first of several shapes that answers gives is named like one of them
 name-found : (stop : Text × List Text) (subs : List Shape) (p : Text × List Row)
     → option_map (λ s. rows_at s stop.1) (find (λ s. answers_to stop.0 (label_of s)) subs) ≡ Some p
@@ -98,7 +95,7 @@ name-found stop (s ∷ subs) p e =
     (cond answers (Some s) (find (λ s'. answers_to stop.0 (label_of s')) subs)) ≡ Some p
     → IsOneOf (map (λ s'. s'.name) (s ∷ subs)) p.0) [
       | true ↦ λ same.
-          inl (sym (ap (λ (q : Text × List Row). q.0) (some_parts (rows_at s stop.1) p same)))
+          inl (sym (ap (λ (q : Text × List Row). q.0) (same_Some (rows_at s stop.1) p same)))
       | false ↦ λ other. inr (name-found stop subs p other)
     ] e
 
@@ -181,5 +178,5 @@ subcommand_rows-met name_of rows_in (Some x) None name rows = cc
 subcommand_rows-met name_of rows_in None (Some sub) name rows = cc
 subcommand_rows-met name_of rows_in (Some x) (Some sub) name rows =
     ap₂ (λ n r. Some (n, r))
-    (some_parts (name_of x) (out-SubCommand (box_value sub)).name.now name)
-    (some_parts (rows_in x) (rows_of (found_of (out-SubCommand (box_value sub)).matches)) rows)
+    (same_Some (name_of x) (out-SubCommand (box_value sub)).name.now name)
+    (same_Some (rows_in x) (rows_of (found_of (out-SubCommand (box_value sub)).matches)) rows)

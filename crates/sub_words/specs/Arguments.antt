@@ -1,6 +1,6 @@
 -- How the arguments of a command are read (own).
 use Rattle.std.specs.Prelude.{ℕ, ◌^◌, ◌-◌, Bool, ◌&&◌, List, [], Option, Some, None, Result, Ok}
-use Rattle.std.specs.Prelude.{codes, false, nat_le, ok_or, unwrap_or, if◌then◌else◌}
+use Rattle.std.specs.Prelude.{codes, false, nat_le, ok_or, true, unwrap_or, if◌then◌else◌}
 use Rattle.std.specs.Str.{bytes_eq}
 use Rattle.clap.specs.Words.{Row, Text, first_of}
 use Rattle.sub_io.specs.Reading.{◌>>=◌}
@@ -47,6 +47,17 @@ options_of rows = do
   options_with page (number_of_text (text_of (codes "every") rows))
       (number_of_text (text_of (codes "origin") rows))
 
+-- `[--complete]`: the options also ask for complete pages where the flag is set.
+abbrev pub asking_of : List Row → OptionsValue → OptionsValue
+asking_of rows options =
+    if is_set (codes "complete") rows then record options { asks_complete = true } else options
+
+-- `[--page P] [--every N] [--origin T] [--complete]`
+abbrev pub checking_of : List Row → Result OptionsValue UsageFault
+checking_of rows = do
+  options ← options_of rows
+  Ok (asking_of rows options)
+
 -- The national option of a name.
 abbrev pub national_of_text : Text → Option National
 national_of_text text =
@@ -59,11 +70,12 @@ national_of rows = ok_or (national_of_text (text_of (codes "option") rows)) faul
 
 -- ---- the arguments of `listen`
 
--- `[--page P] [--origin T]`: options whose repeat bound is not looked at.
+-- `[--page P] [--origin T] [--complete]`: options whose repeat bound is not looked at.
 abbrev pub tuning_of : List Row → Result OptionsValue UsageFault
 tuning_of rows = do
   page ← page_of rows
-  options_with page (Some 1) (number_of_text (text_of (codes "origin") rows))
+  options ← options_with page (Some 1) (number_of_text (text_of (codes "origin") rows))
+  Ok (asking_of rows options)
 
 -- `--at TIME`
 abbrev pub time_of : List Row → Result ℕ UsageFault

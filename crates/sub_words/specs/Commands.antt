@@ -5,6 +5,8 @@ use Rattle.clap.specs.Kinds.{Kinds}
 use Rattle.clap.specs.Words.{App, Row, Rule, Text, fault_of, new_app, new_rule, subcommand_of}
 use Rattle.clap.specs.Words.{takes, with_rule, with_subcommand}
 use Rattle.clap.specs.declared.builder.action.ArgAction.TheVariants.{SetTrue}
+use Rattle.sub_words.specs.declared.command.Argument.{Argument}
+use Rattle.sub_words.specs.declared.command.Argument.TheVariants as argument
 
 -- An argument that has to be there.
 abbrev pub required_rule : Text → Rule
@@ -26,73 +28,61 @@ required_option_rule id = record (new_rule id) { long = Some id; required = true
 abbrev pub flag_rule : Text → Rule
 flag_rule id = record (new_rule id) { long = Some id; action = Some SetTrue }
 
+-- The rule of an argument.
+abbrev pub rule_of : Argument → Rule
+rule_of (argument.Required id) = required_rule id.now
+rule_of (argument.RequiredOption id) = required_option_rule id.now
+rule_of (argument.Option id value) = option_rule id.now value.now
+rule_of (argument.BareOption id) = bare_option_rule id.now
+rule_of (argument.Flag id) = flag_rule id.now
+
+-- A command with these rules behind those that it has.
+abbrev pub with_rules : App → List Rule → App
+with_rules app [] = app
+with_rules app (rule ∷ rules) = with_rules (with_rule app rule) rules
+
 -- `packet HEX`
 abbrev pub packet_app : App
-packet_app = with_rule (new_app (codes "packet")) (required_rule (codes "hex"))
+packet_app = with_rules (new_app (codes "packet")) (required_rule (codes "hex") ∷ [])
 
 -- `packets PES`
 abbrev pub packets_app : App
-packets_app = with_rule (new_app (codes "packets")) (required_rule (codes "pes"))
+packets_app = with_rules (new_app (codes "packets")) (required_rule (codes "pes") ∷ [])
 
 -- `show STL`
 abbrev pub show_app : App
-show_app = with_rule (new_app (codes "show")) (required_rule (codes "stl"))
+show_app = with_rules (new_app (codes "show")) (required_rule (codes "stl") ∷ [])
 
 -- `normal IN OUT`
 abbrev pub normal_app : App
-normal_app = with_rule (with_rule (new_app (codes "normal")) (required_rule (codes "in")))
-    (required_rule (codes "out"))
+normal_app = with_rules (new_app (codes "normal"))
+    (required_rule (codes "in") ∷ required_rule (codes "out") ∷ [])
 
--- `STL PES`: a subtitle file and the file of PES packets that goes with it.
-abbrev pub with_pair : App → App
-with_pair app =
-    with_rule (with_rule app (required_rule (codes "stl"))) (required_rule (codes "pes"))
-
--- `[--page P] [--origin T]`: the page, and the PTS of frame 0.
-abbrev pub with_page_and_origin : App → App
-with_page_and_origin app =
-    with_rule (with_rule app (option_rule (codes "page") (codes "888")))
-    (option_rule (codes "origin") (codes "0"))
-
--- `[--every N]`: the repeat bound in frames.
-abbrev pub with_every : App → App
-with_every app = with_rule app (option_rule (codes "every") (codes "250"))
-
--- `[--option O]`: the national option.
-abbrev pub with_national : App → App
-with_national app = with_rule app (option_rule (codes "option") (codes "english"))
-
--- `STL PES [--page P] [--every N] [--origin T] [--option O]`
-abbrev pub with_schedule : App → App
-with_schedule app = with_national (with_every (with_page_and_origin (with_pair app)))
-
--- `schedule STL PES [--page P] [--every N] [--origin T] [--serial] [--option O]`
+-- `schedule STL PES [--page P] [--origin T] [--every N] [--option O] [--serial]`
 abbrev pub schedule_app : App
-schedule_app = with_rule (with_schedule (new_app (codes "schedule"))) (flag_rule (codes "serial"))
+schedule_app = with_rules (new_app (codes "schedule"))
+    (required_rule (codes "stl") ∷ required_rule (codes "pes")
+    ∷ option_rule (codes "page") (codes "888") ∷ option_rule (codes "origin") (codes "0")
+    ∷ option_rule (codes "every") (codes "250") ∷ option_rule (codes "option") (codes "english")
+    ∷ flag_rule (codes "serial") ∷ [])
 
--- `check STL PES [--page P] [--every N] [--origin T] [--option O]`
+-- `check STL PES [--page P] [--origin T] [--every N] [--option O] [--complete]`
 abbrev pub check_app : App
-check_app = with_schedule (new_app (codes "check"))
+check_app = with_rules (new_app (codes "check"))
+    (required_rule (codes "stl") ∷ required_rule (codes "pes")
+    ∷ option_rule (codes "page") (codes "888") ∷ option_rule (codes "origin") (codes "0")
+    ∷ option_rule (codes "every") (codes "250") ∷ option_rule (codes "option") (codes "english")
+    ∷ flag_rule (codes "complete") ∷ [])
 
--- `--at TIME [--skip N]`: the last frame that is heard, and how many packets are passed over.
-abbrev pub with_window : App → App
-with_window app =
-    with_rule (with_rule app (required_option_rule (codes "at")))
-    (option_rule (codes "skip") (codes "0"))
-
--- `[--flip F] [--lose L]`: the bits that are received wrong, and the packets that are lost.
-abbrev pub with_noise : App → App
-with_noise app =
-    with_rule (with_rule app (bare_option_rule (codes "flip"))) (bare_option_rule (codes "lose"))
-
--- `[--receiver R]`
-abbrev pub with_receiver : App → App
-with_receiver app = with_rule app (option_rule (codes "receiver") (codes "blank"))
-
--- `listen PES [--page P] [--origin T] --at TIME [--skip N] [--flip F] [--lose L] [--receiver R]`
+-- `listen PES [--page P] [--origin T] --at TIME [--skip N] [--flip F] [--lose L] [--receiver R]
+-- [--complete]`
 abbrev pub listen_app : App
-listen_app = with_receiver (with_noise (with_window (with_page_and_origin
-    (with_rule (new_app (codes "listen")) (required_rule (codes "pes"))))))
+listen_app = with_rules (new_app (codes "listen"))
+    (required_rule (codes "pes") ∷ option_rule (codes "page") (codes "888")
+    ∷ option_rule (codes "origin") (codes "0") ∷ required_option_rule (codes "at")
+    ∷ option_rule (codes "skip") (codes "0") ∷ bare_option_rule (codes "flip")
+    ∷ bare_option_rule (codes "lose") ∷ option_rule (codes "receiver") (codes "blank")
+    ∷ flag_rule (codes "complete") ∷ [])
 
 -- The program before its commands: it offers neither help nor a version, and wants a command.
 abbrev pub bare_app : App

@@ -1,14 +1,14 @@
 -- How the words of the command line are read.
 use Rattle.std.specs.Prelude.{◌≡◌, ◌≢◌, ◌⊎◌, ⊤, Bool, true, false, List, [], ◌∷◌, Option}
-use Rattle.std.specs.Prelude.{Some, None, Ok, codes, is_ok, if◌then◌else◌}
+use Rattle.std.specs.Prelude.{Some, None, Ok, Result, codes, is_ok, if◌then◌else◌}
 use Rattle.std.specs.Result.{result_err}
 use Rattle.std.specs.Str.{bytes_eq}
 use Rattle.clap.specs.Words.{Text, Row}
 use Rattle.hex.specs.Hex.{decode_sized}
 use Rattle.stl_rows.specs.declared.national.National.{National}
 use Rattle.sub_plan.specs.Options.{OptionsValue}
-use Rattle.sub_words.specs.Arguments.{flips_of, is_set, lost_of, national_of, options_of}
-use Rattle.sub_words.specs.Arguments.{receiver_of, skip_of, text_of, time_of, tuning_of}
+use Rattle.sub_words.specs.Arguments.{checking_of, flips_of, is_set, lost_of, national_of}
+use Rattle.sub_words.specs.Arguments.{options_of, receiver_of, skip_of, text_of, time_of, tuning_of}
 use Rattle.sub_words.specs.Commands.{are_sound, command_in, refusals}
 use Rattle.sub_answer.specs.declared.listening.Listening.{Listening}
 use Rattle.sub_answer.specs.declared.request.Request.{Request}
@@ -50,7 +50,7 @@ schedule_faults rows =
 
 -- Of `check`: the same without equal names.
 abbrev pub check_faults : List Row → List (Option UsageFault)
-check_faults rows = result_err (options_of rows) ∷ result_err (national_of rows) ∷ []
+check_faults rows = result_err (checking_of rows) ∷ result_err (national_of rows) ∷ []
 
 -- Of `listen`: page and origin, then TIME, the skip, the flips, the losses, the receiver.
 abbrev pub listen_faults : List Row → List (Option UsageFault)
@@ -90,12 +90,15 @@ command_of (ask.Schedule stl pes options serial national) = codes "schedule"
 command_of (ask.Check stl pes options national) = codes "check"
 command_of (ask.Listen pes listening) = codes "listen"
 
--- The files, the options and the national option of a schedule that is written or checked.
+-- The files, the options and the national option of a schedule that is written or checked; asked is
+-- what the words say of the options.
 pub record HoldsPair
-    (rows : List Row) (stl pes : Text) (options : OptionsValue) (national : National) : Type 0 where
+    (rows : List Row) (asked : Result OptionsValue UsageFault)
+    (stl pes : Text) (options : OptionsValue) (national : National)
+    : Type 0 where
   pub stl_is : stl ≡ text_of (codes "stl") rows
   pub pes_is : pes ≡ text_of (codes "pes") rows
-  pub options_are : options_of rows ≡ Ok options
+  pub options_are : asked ≡ Ok options
   pub national_is : national_of rows ≡ Ok national
 
 -- The values of `listen`.
@@ -115,9 +118,10 @@ Holds rows (ask.Show stl) = stl.now ≡ text_of (codes "stl") rows
 Holds rows (ask.Normal input output) =
     (input.now ≡ text_of (codes "in") rows) × (output.now ≡ text_of (codes "out") rows)
 Holds rows (ask.Schedule stl pes options serial national) =
-    HoldsPair rows stl.now pes.now options national × (serial ≡ is_set (codes "serial") rows)
+    HoldsPair rows (options_of rows) stl.now pes.now options national
+    × (serial ≡ is_set (codes "serial") rows)
 Holds rows (ask.Check stl pes options national) =
-    HoldsPair rows stl.now pes.now options national
+    HoldsPair rows (checking_of rows) stl.now pes.now options national
 Holds rows (ask.Listen pes listening) =
     (pes.now ≡ text_of (codes "pes") rows) × HoldsListening rows listening
 

@@ -10,7 +10,7 @@ use Rattle.ttx_packet.specs.PacketAddress.{◌>>=◌}
 use Rattle.stl_file.specs.TimeCode.{frame_of, is_time_code}
 use Rattle.sub_answer.specs.declared.listening.Flip.{Flip}
 use Rattle.sub_answer.specs.declared.listening.ReceiverKind.{ReceiverKind}
-use Rattle.sub_answer.specs.declared.listening.ReceiverKind.TheVariants.{Keep, Blank}
+use Rattle.sub_answer.specs.declared.listening.ReceiverKind.TheVariants.{Keep, Blank, DropRow}
 
 -- ---- numbers
 
@@ -137,4 +137,5 @@ unfoldable pub receiver_of_text : List ℕ → Option ReceiverKind
 receiver_of_text text =
     if bytes_eq text (codes "blank") then Some Blank
     else if bytes_eq text (codes "keep") then Some Keep
+    else if bytes_eq text (codes "drop") then Some DropRow
     else None

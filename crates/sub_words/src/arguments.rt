@@ -1,8 +1,8 @@
 //! The arguments of a command, read one by one.
 ghost use Rattle.std.specs.Prelude.{◌≡◌, codes};
 ghost use Rattle.clap.specs.Words.{found_of, rows_of};
-ghost use Rattle.sub_words.specs.Arguments.{is_set, national_of, options_of, options_with, page_of};
-ghost use Rattle.sub_words.specs.Arguments.{text_of};
+ghost use Rattle.sub_words.specs.Arguments.{asking_of, checking_of, is_set, national_of};
+ghost use Rattle.sub_words.specs.Arguments.{options_of, options_with, page_of, text_of};
 
 use crate::numbers::parse_number;
 use clap::ArgMatches;
@@ -40,6 +40,29 @@ pub fn options_at<'a>(matches: &ArgMatches<'a>) -> Result<Options, UsageFault>
     let every = parse_number(text_at(matches, "every"));
     let origin = parse_number(text_at(matches, "origin"));
     options_with(page, every, origin)
+}
+
+/// The page, the repeat bound and the PTS of frame 0, and whether complete pages are asked for.
+///
+/// # Errors
+///
+/// `BadPage`, then `Every`, then `Origin`.
+pub fn checking_at<'a>(matches: &ArgMatches<'a>) -> Result<Options, UsageFault>
+    ensures { result ≡ checking_of (rows_of (found_of matches.now)) }
+{
+    let options = options_at(matches)?;
+    Ok(asking_at(matches, options))
+}
+
+/// The options, which also ask for complete pages where the flag for it is set.
+pub fn asking_at<'a>(matches: &ArgMatches<'a>, options: Options) -> Options
+    ensures { result ≡ asking_of (rows_of (found_of matches.now)) options }
+{
+    if flag_at(matches, "complete") {
+        options.asking_complete()
+    } else {
+        options
+    }
 }
 
 /// The page.

@@ -1,90 +1,70 @@
 //! The command line, as `clap` reads it: one level of subcommands, of which one is required.
 //!
-//! Each command is a function here and an `App` of specs/Commands, and a line of
-//! `subttx_command`. Help and versions are not offered: `clap` refuses the words for them.
-ghost use Rattle.std.specs.Prelude.{◌≡◌, IfOk, false};
-ghost use Rattle.clap.specs.Words.{app_of, with_rule, with_subcommand};
+//! Each command is a table of its arguments here and in specs/Commands. Help and versions are not
+//! offered: `clap` refuses the words for them.
+ghost use Rattle.std.specs.Prelude.{◌≡◌, IfOk, false, map};
+ghost use Rattle.clap.specs.Words.{app_of, new_app, with_rule, with_subcommand};
 ghost use Rattle.clap.specs.declared.builder.command.Command.TheViews.{out-Command};
-ghost use Rattle.sub_words.specs.Commands.{bare_app, bare_option_rule, check_app, flag_rule};
-ghost use Rattle.sub_words.specs.Commands.{listen_app, normal_app, option_rule, packet_app};
-ghost use Rattle.sub_words.specs.Commands.{packets_app, required_option_rule, required_rule};
-ghost use Rattle.sub_words.specs.Commands.{schedule_app, show_app, subttx_app, with_every};
-ghost use Rattle.sub_words.specs.Commands.{with_listings, with_makers, with_national, with_noise};
-ghost use Rattle.sub_words.specs.Commands.{with_page_and_origin, with_pair, with_receiver};
-ghost use Rattle.sub_words.specs.Commands.{with_schedule, with_window};
+ghost use Rattle.sub_words.specs.Commands.{bare_app, check_app, listen_app, normal_app, packet_app};
+ghost use Rattle.sub_words.specs.Commands.{packets_app, rule_of, schedule_app, show_app};
+ghost use Rattle.sub_words.specs.Commands.{subttx_app};
+ghost use Rattle.sub_words.specs.Commands.{with_listings, with_makers, with_rules};
 
 use clap::{Arg, ArgAction, Command};
 use std::alloc::{AllocError, Global};
 
-// Adds an argument that has to be there.
-fn with_required<'a>(
-    command: Command<'a>,
-    alloc: Global,
-    id: &'a str,
-) -> Result<Command<'a>, AllocError>
-    ensures app { IfOk result (λ c.
-        app_of c ≡ with_rule (app_of command.entry) (required_rule id.entry.now)) }
-    ensures local { (out-Command command.entry).has_globals ≡ false
-        → IfOk result (λ c. (out-Command c).has_globals ≡ false) }
-{
-    command.arg(Arg::new(alloc, id).required(true))
+/// An argument of a command, by its name.
+#[derive(Clone, Copy)]
+pub enum Argument<'a> {
+    /// It has to be there.
+    Required(&'a str),
+    /// An option that has to be there.
+    RequiredOption(&'a str),
+    /// An option, and the text that it has where it is left out.
+    Option(&'a str, &'a str),
+    /// An option that may be left out and then has no text.
+    BareOption(&'a str),
+    /// A flag.
+    Flag(&'a str),
 }
 
-// Adds an option with the text that it has where it is left out.
-fn with_option<'a>(
+// Adds an argument.
+fn with_argument<'a>(
     command: Command<'a>,
     alloc: Global,
-    id: &'a str,
-    value: &'a str,
+    argument: Argument<'a>,
 ) -> Result<Command<'a>, AllocError>
     ensures app { IfOk result (λ c.
-        app_of c ≡ with_rule (app_of command.entry) (option_rule id.entry.now value.entry.now)) }
+        app_of c ≡ with_rule (app_of command.entry) (rule_of argument.entry)) }
     ensures local { (out-Command command.entry).has_globals ≡ false
         → IfOk result (λ c. (out-Command c).has_globals ≡ false) }
 {
-    command.arg(Arg::new(alloc, id).long(id).default_value(value))
+    match argument {
+        Argument::Required(id) => command.arg(Arg::new(alloc, id).required(true)),
+        Argument::RequiredOption(id) => command.arg(Arg::new(alloc, id).long(id).required(true)),
+        Argument::Option(id, value) => {
+            command.arg(Arg::new(alloc, id).long(id).default_value(value))
+        }
+        Argument::BareOption(id) => command.arg(Arg::new(alloc, id).long(id)),
+        Argument::Flag(id) => command.arg(Arg::new(alloc, id).long(id).action(ArgAction::SetTrue)),
+    }
 }
 
-// Adds an option that may be left out and then has no text.
-fn with_bare_option<'a>(
-    command: Command<'a>,
+// A command by the table of its arguments.
+fn command_with<'a>(
     alloc: Global,
-    id: &'a str,
+    name: &'a str,
+    arguments: &[Argument<'a>],
 ) -> Result<Command<'a>, AllocError>
     ensures app { IfOk result (λ c.
-        app_of c ≡ with_rule (app_of command.entry) (bare_option_rule id.entry.now)) }
-    ensures local { (out-Command command.entry).has_globals ≡ false
-        → IfOk result (λ c. (out-Command c).has_globals ≡ false) }
+        app_of c ≡ with_rules (new_app name.entry.now) (map rule_of arguments.now)) }
+    ensures local { IfOk result (λ c. (out-Command c).has_globals ≡ false) }
 {
-    command.arg(Arg::new(alloc, id).long(id))
-}
-
-// Adds an option that has to be there.
-fn with_required_option<'a>(
-    command: Command<'a>,
-    alloc: Global,
-    id: &'a str,
-) -> Result<Command<'a>, AllocError>
-    ensures app { IfOk result (λ c.
-        app_of c ≡ with_rule (app_of command.entry) (required_option_rule id.entry.now)) }
-    ensures local { (out-Command command.entry).has_globals ≡ false
-        → IfOk result (λ c. (out-Command c).has_globals ≡ false) }
-{
-    command.arg(Arg::new(alloc, id).long(id).required(true))
-}
-
-// Adds a flag.
-fn with_flag<'a>(
-    command: Command<'a>,
-    alloc: Global,
-    id: &'a str,
-) -> Result<Command<'a>, AllocError>
-    ensures app { IfOk result (λ c.
-        app_of c ≡ with_rule (app_of command.entry) (flag_rule id.entry.now)) }
-    ensures local { (out-Command command.entry).has_globals ≡ false
-        → IfOk result (λ c. (out-Command c).has_globals ≡ false) }
-{
-    command.arg(Arg::new(alloc, id).long(id).action(ArgAction::SetTrue))
+    let mut command = Command::new(alloc, name);
+    for argument in arguments {
+        command = with_argument(command, alloc, *argument)?;
+    }
+    Ok(command)
 }
 
 // `packet HEX`
@@ -92,7 +72,7 @@ fn packet_command<'a>(alloc: Global) -> Result<Command<'a>, AllocError>
     ensures app { IfOk result (λ c. app_of c ≡ packet_app) }
     ensures local { IfOk result (λ c. (out-Command c).has_globals ≡ false) }
 {
-    with_required(Command::new(alloc, "packet"), alloc, "hex")
+    command_with(alloc, "packet", &[Argument::Required("hex")])
 }
 
 // `packets PES`
@@ -100,7 +80,7 @@ fn packets_command<'a>(alloc: Global) -> Result<Command<'a>, AllocError>
     ensures app { IfOk result (λ c. app_of c ≡ packets_app) }
     ensures local { IfOk result (λ c. (out-Command c).has_globals ≡ false) }
 {
-    with_required(Command::new(alloc, "packets"), alloc, "pes")
+    command_with(alloc, "packets", &[Argument::Required("pes")])
 }
 
 // `show STL`
@@ -108,7 +88,7 @@ fn show_command<'a>(alloc: Global) -> Result<Command<'a>, AllocError>
     ensures app { IfOk result (λ c. app_of c ≡ show_app) }
     ensures local { IfOk result (λ c. (out-Command c).has_globals ≡ false) }
 {
-    with_required(Command::new(alloc, "show"), alloc, "stl")
+    command_with(alloc, "show", &[Argument::Required("stl")])
 }
 
 // `normal IN OUT`
@@ -116,116 +96,74 @@ fn normal_command<'a>(alloc: Global) -> Result<Command<'a>, AllocError>
     ensures app { IfOk result (λ c. app_of c ≡ normal_app) }
     ensures local { IfOk result (λ c. (out-Command c).has_globals ≡ false) }
 {
-    let command = with_required(Command::new(alloc, "normal"), alloc, "in")?;
-    with_required(command, alloc, "out")
+    command_with(
+        alloc,
+        "normal",
+        &[Argument::Required("in"), Argument::Required("out")],
+    )
 }
 
-// `STL PES`
-fn with_pair<'a>(command: Command<'a>, alloc: Global) -> Result<Command<'a>, AllocError>
-    ensures app { IfOk result (λ c. app_of c ≡ with_pair (app_of command.entry)) }
-    ensures local { (out-Command command.entry).has_globals ≡ false
-        → IfOk result (λ c. (out-Command c).has_globals ≡ false) }
-{
-    let command = with_required(command, alloc, "stl")?;
-    with_required(command, alloc, "pes")
-}
-
-// `[--page P] [--origin T]`
-fn with_page_and_origin<'a>(command: Command<'a>, alloc: Global) -> Result<Command<'a>, AllocError>
-    ensures app { IfOk result (λ c. app_of c ≡ with_page_and_origin (app_of command.entry)) }
-    ensures local { (out-Command command.entry).has_globals ≡ false
-        → IfOk result (λ c. (out-Command c).has_globals ≡ false) }
-{
-    let command = with_option(command, alloc, "page", "888")?;
-    with_option(command, alloc, "origin", "0")
-}
-
-// `[--every N]`
-fn with_every<'a>(command: Command<'a>, alloc: Global) -> Result<Command<'a>, AllocError>
-    ensures app { IfOk result (λ c. app_of c ≡ with_every (app_of command.entry)) }
-    ensures local { (out-Command command.entry).has_globals ≡ false
-        → IfOk result (λ c. (out-Command c).has_globals ≡ false) }
-{
-    with_option(command, alloc, "every", "250")
-}
-
-// `[--option O]`
-fn with_national<'a>(command: Command<'a>, alloc: Global) -> Result<Command<'a>, AllocError>
-    ensures app { IfOk result (λ c. app_of c ≡ with_national (app_of command.entry)) }
-    ensures local { (out-Command command.entry).has_globals ≡ false
-        → IfOk result (λ c. (out-Command c).has_globals ≡ false) }
-{
-    with_option(command, alloc, "option", "english")
-}
-
-// `STL PES [--page P] [--every N] [--origin T] [--option O]`
-fn with_schedule<'a>(command: Command<'a>, alloc: Global) -> Result<Command<'a>, AllocError>
-    ensures app { IfOk result (λ c. app_of c ≡ with_schedule (app_of command.entry)) }
-    ensures local { (out-Command command.entry).has_globals ≡ false
-        → IfOk result (λ c. (out-Command c).has_globals ≡ false) }
-{
-    let command = with_pair(command, alloc)?;
-    let command = with_page_and_origin(command, alloc)?;
-    let command = with_every(command, alloc)?;
-    with_national(command, alloc)
-}
-
-// `schedule STL PES [--page P] [--every N] [--origin T] [--serial] [--option O]`
+// `schedule STL PES [--page P] [--origin T] [--every N] [--option O] [--serial]`
 fn schedule_command<'a>(alloc: Global) -> Result<Command<'a>, AllocError>
     ensures app { IfOk result (λ c. app_of c ≡ schedule_app) }
     ensures local { IfOk result (λ c. (out-Command c).has_globals ≡ false) }
 {
-    let command = with_schedule(Command::new(alloc, "schedule"), alloc)?;
-    with_flag(command, alloc, "serial")
+    command_with(
+        alloc,
+        "schedule",
+        &[
+            Argument::Required("stl"),
+            Argument::Required("pes"),
+            Argument::Option("page", "888"),
+            Argument::Option("origin", "0"),
+            Argument::Option("every", "250"),
+            Argument::Option("option", "english"),
+            Argument::Flag("serial"),
+        ],
+    )
 }
 
-// `check STL PES [--page P] [--every N] [--origin T] [--option O]`
+// `check STL PES [--page P] [--origin T] [--every N] [--option O] [--complete]`
 fn check_command<'a>(alloc: Global) -> Result<Command<'a>, AllocError>
     ensures app { IfOk result (λ c. app_of c ≡ check_app) }
     ensures local { IfOk result (λ c. (out-Command c).has_globals ≡ false) }
 {
-    with_schedule(Command::new(alloc, "check"), alloc)
+    command_with(
+        alloc,
+        "check",
+        &[
+            Argument::Required("stl"),
+            Argument::Required("pes"),
+            Argument::Option("page", "888"),
+            Argument::Option("origin", "0"),
+            Argument::Option("every", "250"),
+            Argument::Option("option", "english"),
+            Argument::Flag("complete"),
+        ],
+    )
 }
 
-// `--at TIME [--skip N]`
-fn with_window<'a>(command: Command<'a>, alloc: Global) -> Result<Command<'a>, AllocError>
-    ensures app { IfOk result (λ c. app_of c ≡ with_window (app_of command.entry)) }
-    ensures local { (out-Command command.entry).has_globals ≡ false
-        → IfOk result (λ c. (out-Command c).has_globals ≡ false) }
-{
-    let command = with_required_option(command, alloc, "at")?;
-    with_option(command, alloc, "skip", "0")
-}
-
-// `[--flip F] [--lose L]`
-fn with_noise<'a>(command: Command<'a>, alloc: Global) -> Result<Command<'a>, AllocError>
-    ensures app { IfOk result (λ c. app_of c ≡ with_noise (app_of command.entry)) }
-    ensures local { (out-Command command.entry).has_globals ≡ false
-        → IfOk result (λ c. (out-Command c).has_globals ≡ false) }
-{
-    let command = with_bare_option(command, alloc, "flip")?;
-    with_bare_option(command, alloc, "lose")
-}
-
-// `[--receiver R]`
-fn with_receiver<'a>(command: Command<'a>, alloc: Global) -> Result<Command<'a>, AllocError>
-    ensures app { IfOk result (λ c. app_of c ≡ with_receiver (app_of command.entry)) }
-    ensures local { (out-Command command.entry).has_globals ≡ false
-        → IfOk result (λ c. (out-Command c).has_globals ≡ false) }
-{
-    with_option(command, alloc, "receiver", "blank")
-}
-
-// `listen PES [--page P] [--origin T] --at TIME [--skip N] [--flip F] [--lose L] [--receiver R]`
+// `listen PES [--page P] [--origin T] --at TIME [--skip N] [--flip F] [--lose L] [--receiver R]
+// [--complete]`
 fn listen_command<'a>(alloc: Global) -> Result<Command<'a>, AllocError>
     ensures app { IfOk result (λ c. app_of c ≡ listen_app) }
     ensures local { IfOk result (λ c. (out-Command c).has_globals ≡ false) }
 {
-    let command = with_required(Command::new(alloc, "listen"), alloc, "pes")?;
-    let command = with_page_and_origin(command, alloc)?;
-    let command = with_window(command, alloc)?;
-    let command = with_noise(command, alloc)?;
-    with_receiver(command, alloc)
+    command_with(
+        alloc,
+        "listen",
+        &[
+            Argument::Required("pes"),
+            Argument::Option("page", "888"),
+            Argument::Option("origin", "0"),
+            Argument::RequiredOption("at"),
+            Argument::Option("skip", "0"),
+            Argument::BareOption("flip"),
+            Argument::BareOption("lose"),
+            Argument::Option("receiver", "blank"),
+            Argument::Flag("complete"),
+        ],
+    )
 }
 
 // The program before its commands.

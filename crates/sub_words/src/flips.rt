@@ -1,13 +1,12 @@
 //! Flips of bits as people write them.
-ghost use Rattle.std.specs.Prelude.{◌≡◌, ◌<◌, ◌≤◌, ◌==◌, ◌&&◌, IfOk, IfSome, map, not, option_map};
-ghost use Rattle.std.specs.Prelude.{[], ◌∷◌, slice_get};
-ghost use Rattle.std.specs.List.{list_any, slice_split};
-ghost use Rattle.sub_words.specs.Texts.{are_apart, colon, flip_of_text, flips_of_text};
-ghost use Rattle.sub_words.specs.Texts.{flip_of_fields, flip_of_numbers, is_same_byte};
-ghost use Rattle.sub_words.specs.Texts.{said_by_all};
+ghost use Rattle.std.specs.Prelude.{◌≡◌, ◌==◌, [], ◌∷◌, IfOk, option_map, slice_get};
+ghost use Rattle.std.specs.List.{slice_split};
+ghost use Rattle.sub_words.specs.Texts.{colon, flip_of_fields, flip_of_numbers, flip_of_text};
+ghost use Rattle.sub_words.specs.Texts.{flips_of_text, is_same_byte};
 
-use crate::numbers::{MOST_ITEMS, items_of, parse_number};
-use std::alloc::{AllocError, Global};
+use crate::lists::{Item, parse_list};
+use crate::numbers::parse_number;
+use std::alloc::{AllocError, Allocator};
 use sub_answer::Flip;
 
 /// The flips of a list: 1 to 64 of them joined by commas, each as `P:B:K`, and no two in one byte.
@@ -19,35 +18,27 @@ use sub_answer::Flip;
 ///
 /// Want of memory.
 #[tactic(auto, unfolding(crate::specs::Texts::flips_of_text))]
-pub fn parse_flips(alloc: Global, text: &str) -> Result<Option<Vec<Flip>>, AllocError>
+pub fn parse_flips<A: Allocator + Copy + Drop>(
+    alloc: A,
+    text: &str,
+) -> Result<Option<Vec<Flip, A>>, AllocError>
     ensures { IfOk result (λ list. option_map (λ v. v.items) list ≡ flips_of_text text.now) }
 {
-    let items = items_of(alloc, text)?;
-    if items.len() > MOST_ITEMS {
-        return Ok(None);
-    }
-    let Some(flips) = flips_of(alloc, items.as_slice())? else {
-        return Ok(None);
-    };
-    if has_byte_twice(flips.as_slice()) {
-        return Ok(None);
-    }
-    Ok(Some(flips))
+    parse_list(alloc, text)
 }
 
-// The flips that texts are. `None` where one of them is none.
-fn flips_of(alloc: Global, items: &[&str]) -> Result<Option<Vec<Flip>>, AllocError>
-    ensures { IfOk result (λ list. option_map (λ v. v.items) list
-        ≡ said_by_all flip_of_text (map (λ x. x.now) items.now)) }
-{
-    let mut flips = Vec::new(alloc);
-    for i in 0..items.len() {
-        let Some(flip) = parse_flip(items[i]) else {
-            return Ok(None);
-        };
-        flips.push(flip)?;
+impl Item for Flip {
+    ghost said = { flip_of_text };
+
+    ghost same = { is_same_byte };
+
+    fn read(text: &str) -> Option<Flip> {
+        parse_flip(text)
     }
-    Ok(Some(flips))
+
+    fn is_same(&self, other: &Flip) -> bool {
+        self.packet == other.packet && self.byte == other.byte
+    }
 }
 
 // The flip that a text is.
@@ -94,28 +85,4 @@ fn field_of(text: &str, number: usize) -> Option<&str>
         ≡ slice_get (slice_split (λ c. c == colon) text.now) number }
 {
     text.split(':').nth(number)
-}
-
-// Whether two flips are in one byte of one packet.
-fn has_byte_twice(flips: &[Flip]) -> bool
-    ensures { result ≡ not (are_apart is_same_byte flips.now) }
-{
-    for i in 0..flips.len() {
-        if flips_byte_of(&flips[i + 1..], &flips[i]) {
-            return true;
-        }
-    }
-    false
-}
-
-// Whether one of the flips is in the same byte as another.
-fn flips_byte_of(flips: &[Flip], other: &Flip) -> bool
-    ensures { result ≡ list_any (λ f. is_same_byte f other.now) flips.now }
-{
-    for flip in flips {
-        if flip.packet == other.packet && flip.byte == other.byte {
-            return true;
-        }
-    }
-    false
 }

@@ -6,7 +6,7 @@ ghost use Rattle.sub_words.specs.Arguments.{tuning_of};
 ghost use Rattle.sub_words.specs.Requests.{HoldsListening, IsFaultOrMemory, first_fault};
 ghost use Rattle.sub_words.specs.Requests.{listen_faults};
 
-use crate::arguments::{options_with, page_at, text_at};
+use crate::arguments::{asking_at, options_with, page_at, text_at};
 use crate::flips::parse_flips;
 use crate::numbers::{parse_number, parse_numbers};
 use crate::times::{parse_receiver, parse_time};
@@ -44,12 +44,14 @@ pub fn listening_at<'a>(alloc: Global, matches: &ArgMatches<'a>) -> Result<Liste
     })
 }
 
-// The page and the PTS of frame 0. A repeat bound, which is not looked at, stands beside them.
+// The page and the PTS of frame 0, and whether complete pages are asked for. A repeat bound, which
+// is not looked at, stands beside them.
 fn tuning_at<'a>(matches: &ArgMatches<'a>) -> Result<Options, UsageFault>
     ensures { result ≡ tuning_of (rows_of (found_of matches.now)) }
 {
     let page = page_at(matches)?;
-    options_with(page, Some(1), parse_number(text_at(matches, "origin")))
+    let options = options_with(page, Some(1), parse_number(text_at(matches, "origin")))?;
+    Ok(asking_at(matches, options))
 }
 
 // TIME as a frame of the day.

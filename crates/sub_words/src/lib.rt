@@ -12,6 +12,7 @@ mod arguments;
 mod command;
 mod flips;
 mod hearing;
+mod lists;
 mod numbers;
 mod parsing;
 mod reading;

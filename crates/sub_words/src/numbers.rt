@@ -1,13 +1,9 @@
 //! Numbers and lists of numbers as people write them.
-ghost use Rattle.std.specs.Prelude.{◌≡◌, ◌<◌, ◌^◌, ◌==◌, IfOk, IfSome, map, not, option_map};
-ghost use Rattle.std.specs.List.{slice_split};
-ghost use Rattle.sub_words.specs.Texts.{are_apart, comma, number_of_text, numbers_of_text};
-ghost use Rattle.sub_words.specs.Texts.{said_by_all};
+ghost use Rattle.std.specs.Prelude.{◌≡◌, ◌<◌, ◌^◌, ◌==◌, IfOk, IfSome, option_map};
+ghost use Rattle.sub_words.specs.Texts.{number_of_text, numbers_of_text};
 
-use std::alloc::{AllocError, Global};
-
-/// The most items of a list.
-pub const MOST_ITEMS: usize = 64;
+use crate::lists::{Item, parse_list};
+use std::alloc::{AllocError, Allocator};
 
 /// The number that a text is: one to ten decimal digits, of which the first ones may be zeros.
 ///
@@ -31,61 +27,31 @@ pub fn parse_number(text: &str) -> Option<u64>
     Some(number)
 }
 
-/// The numbers of a list: 1 to 64 of them joined by commas, none twice.
-///
-/// `None` for any other text.
+/// The numbers of a list: 1 to 64 of them joined by commas, none twice. `None` for any other text.
 ///
 /// # Errors
 ///
 /// Want of memory.
 #[tactic(auto, unfolding(crate::specs::Texts::numbers_of_text))]
-pub fn parse_numbers(alloc: Global, text: &str) -> Result<Option<Vec<u64>>, AllocError>
+pub fn parse_numbers<A: Allocator + Copy + Drop>(
+    alloc: A,
+    text: &str,
+) -> Result<Option<Vec<u64, A>>, AllocError>
     ensures { IfOk result (λ list. option_map (λ v. v.items) list ≡ numbers_of_text text.now) }
 {
-    let items = items_of(alloc, text)?;
-    if items.len() > MOST_ITEMS {
-        return Ok(None);
-    }
-    let Some(numbers) = numbers_of(alloc, items.as_slice())? else {
-        return Ok(None);
-    };
-    if has_twice(numbers.as_slice()) {
-        return Ok(None);
-    }
-    Ok(Some(numbers))
+    parse_list(alloc, text)
 }
 
-/// The texts between the commas of a text.
-pub fn items_of(alloc: Global, text: &str) -> Result<Vec<&str>, AllocError>
-    ensures { IfOk result (λ items.
-        map (λ x. x.now) items.items ≡ slice_split (λ c. c == comma) text.now) }
-{
-    text.split(',').collect(alloc)
-}
+impl Item for u64 {
+    ghost said = { number_of_text };
 
-// The numbers that texts are. `None` where one of them is none.
-fn numbers_of(alloc: Global, items: &[&str]) -> Result<Option<Vec<u64>>, AllocError>
-    ensures { IfOk result (λ list. option_map (λ v. v.items) list
-        ≡ said_by_all number_of_text (map (λ x. x.now) items.now)) }
-{
-    let mut numbers = Vec::new(alloc);
-    for i in 0..items.len() {
-        let Some(number) = parse_number(items[i]) else {
-            return Ok(None);
-        };
-        numbers.push(number)?;
-    }
-    Ok(Some(numbers))
-}
+    ghost same = { λ a b. a == b };
 
-// Whether a number stands in the list twice.
-fn has_twice(numbers: &[u64]) -> bool
-    ensures { result ≡ not (are_apart (λ a b. a == b) numbers.now) }
-{
-    for i in 0..numbers.len() {
-        if numbers[i + 1..].contains(&numbers[i]) {
-            return true;
-        }
+    fn read(text: &str) -> Option<u64> {
+        parse_number(text)
     }
-    false
+
+    fn is_same(&self, other: &u64) -> bool {
+        *self == *other
+    }
 }

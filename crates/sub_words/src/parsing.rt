@@ -34,7 +34,7 @@ impl<'a> ParseWords<'a> for Request<'a> {
         ensures fault { IfErr result (IsFaultOf (texts_of words.now)) }
     {
         let matches = matches_of(alloc, words)?;
-        match command_of(&matches) {
+        match command_met(&matches) {
             Some((name, arguments)) => read_command(alloc, name, arguments),
             None => Err(UsageFault::Words),
         }
@@ -60,7 +60,7 @@ fn matches_of<'a>(alloc: Global, words: &'a [&'a str]) -> Result<ArgMatches<'a>,
 }
 
 // The name of the command that was met, and its matches.
-fn command_of<'a, 'm>(matches: &'m ArgMatches<'a>) -> Option<(&'a str, &'m ArgMatches<'a>)>
+fn command_met<'a, 'm>(matches: &'m ArgMatches<'a>) -> Option<(&'a str, &'m ArgMatches<'a>)>
     ensures { option_map (λ p. (p.0.now, rows_of (found_of p.1.now))) result
         ≡ subcommand_rows_of matches.now }
 {

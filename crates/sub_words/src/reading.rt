@@ -4,7 +4,7 @@ ghost use Rattle.clap.specs.Words.{found_of, rows_of};
 ghost use Rattle.sub_words.specs.Commands.{command_names};
 ghost use Rattle.sub_words.specs.Requests.{IsFaultBy, IsFaultOrMemory, IsOneOf, IsRequestBy};
 
-use crate::arguments::{flag_at, national_at, options_at, text_at};
+use crate::arguments::{checking_at, flag_at, national_at, options_at, text_at};
 use crate::hearing::listening_at;
 use clap::ArgMatches;
 use std::alloc::Global;
@@ -110,12 +110,12 @@ fn read_schedule<'a>(matches: &ArgMatches<'a>) -> Result<Request<'a>, UsageFault
     })
 }
 
-// `check STL PES [--page P] [--every N] [--origin T] [--option O]`
+// `check STL PES [--page P] [--every N] [--origin T] [--option O] [--complete]`
 fn read_check<'a>(matches: &ArgMatches<'a>) -> Result<Request<'a>, UsageFault>
     ensures request { IfOk result (IsRequestBy (codes "check") (rows_of (found_of matches.now))) }
     ensures fault { IfErr result (IsFaultBy (codes "check") (rows_of (found_of matches.now))) }
 {
-    let options = options_at(matches)?;
+    let options = checking_at(matches)?;
     let national = national_at(matches)?;
     Ok(Request::Check {
         stl: text_at(matches, "stl"),
@@ -125,7 +125,8 @@ fn read_check<'a>(matches: &ArgMatches<'a>) -> Result<Request<'a>, UsageFault>
     })
 }
 
-// `listen PES [--page P] [--origin T] --at TIME [--skip N] [--flip F] [--lose L] [--receiver R]`
+// `listen PES [--page P] [--origin T] --at TIME [--skip N] [--flip F] [--lose L] [--receiver R]
+// [--complete]`
 fn read_listen<'a>(alloc: Global, matches: &ArgMatches<'a>) -> Result<Request<'a>, UsageFault>
     ensures request { IfOk result (IsRequestBy (codes "listen") (rows_of (found_of matches.now))) }
     ensures fault { IfErr result

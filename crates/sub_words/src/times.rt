@@ -5,7 +5,7 @@ ghost use Rattle.sub_words.specs.Texts.{frame_of_text, receiver_of_text, two_dig
 use stl_file::TimeCode;
 use sub_answer::ReceiverKind;
 
-/// The receiver that a text names: `blank` or `keep`.
+/// The receiver that a text names: `blank`, `keep` or `drop`.
 #[tactic(auto, unfolding(crate::specs::Texts::receiver_of_text))]
 pub fn parse_receiver(text: &str) -> Option<ReceiverKind>
     ensures { result ≡ receiver_of_text text.now }
@@ -14,6 +14,8 @@ pub fn parse_receiver(text: &str) -> Option<ReceiverKind>
         Some(ReceiverKind::Blank)
     } else if text == "keep" {
         Some(ReceiverKind::Keep)
+    } else if text == "drop" {
+        Some(ReceiverKind::DropRow)
     } else {
         None
     }
@@ -31,17 +33,17 @@ pub fn parse_time(text: &str) -> Option<u32>
     if text.len() != 11 || text[2] != b':' || text[5] != b':' || text[8] != b':' {
         return None;
     }
-    let hours = two_digits(text, 0)?;
-    let minutes = two_digits(text, 3)?;
-    let seconds = two_digits(text, 6)?;
-    let frames = two_digits(text, 9)?;
+    let hours = two_digits_at(text, 0)?;
+    let minutes = two_digits_at(text, 3)?;
+    let seconds = two_digits_at(text, 6)?;
+    let frames = two_digits_at(text, 9)?;
     let time = TimeCode::new(hours, minutes, seconds, frames)?;
     Some(time.frame())
 }
 
 // The number of two decimal digits that stand at a place.
 #[tactic(auto, unfolding(crate::specs::Texts::two_digits_at))]
-fn two_digits(text: &[u8], place: usize) -> Option<u8>
+fn two_digits_at(text: &[u8], place: usize) -> Option<u8>
     requires { place + 2 ≤ length text.now }
     ensures { result ≡ two_digits_at text.now place }
 {

@@ -6,7 +6,7 @@
 #![tactic(auto)]
 
 ghost use Rattle.std.specs.Prelude.{◌≡◌, ◌+◌, ◌<◌, [], IfErr, IfOk, length, vec_len};
-ghost use Rattle.sub_io.specs.Buffered.{failures_and_refused};
+ghost use Rattle.sub_io.specs.Buffered.{HandsOn, failures_and_refused};
 ghost use Rattle.sub_io.specs.Device.{CanFail};
 
 use std::alloc::Global;
@@ -16,7 +16,8 @@ use std::rt::{Env, Files};
 use std::{env, fs, io};
 use sub_answer::{FileNames, Input, Output, Request, Status, UsageFault, answer, say};
 use sub_io::{
-    BufferedSink, BufferedSource, Flush, FromRead, IntoWrite, MemSink, MemSource, Sink, Source,
+    BufferedSink, BufferedSource, Close, Flush, FromRead, IntoFile, IntoWrite, MemSink, MemSource,
+    Sink, Source,
 };
 use sub_words::ParseWords;
 
@@ -129,14 +130,14 @@ fn create_output<'a, R: Files>(
     rt: &R,
     output: &Output<'_>,
     room: &'a mut [u8],
-) -> Result<BufferedSink<'a, IntoWrite<R::File>>, UsageFault>
+) -> Result<BufferedSink<'a, IntoFile<R::File>>, UsageFault>
     requires { 0 < length room.old }
     ensures held { IfOk result (λ sink. sink.held ≡ []) }
     ensures count { IfOk result (λ sink.
         (sink.device.failure_count ≡ 0) × (sink.refused ≡ 0)) }
 {
     match fs::create(rt, output.name()) {
-        Ok(file) => Ok(BufferedSink::new(IntoWrite::new(file), room)),
+        Ok(file) => Ok(BufferedSink::new(IntoFile::new(file), room)),
         Err(_) => Err(UsageFault::Open),
     }
 }
@@ -191,21 +192,16 @@ fn answer_into<R: AllocGlobal + Files, K: Sink>(
         return Err(UsageFault::Open);
     }
     let mut file_room = room(rt.alloc())?;
-    // The file is closed before the lines are handed on: with standard output closed, its number
-    // may be the file's.
-    let status = {
-        let mut file = create_output(rt, output, file_room.as_mut_slice())?;
-        let mut no_second = MemSource::new(&[]);
-        answer_through(
-            rt.alloc(),
-            request,
-            &mut first,
-            &mut no_second,
-            &mut file,
-            out,
-        )
-    };
-    Ok(hand_on(status, out))
+    let mut file = create_output(rt, output, file_room.as_mut_slice())?;
+    let mut no_second = MemSource::new(&[]);
+    Ok(answer_and_hand_on(
+        rt.alloc(),
+        request,
+        &mut first,
+        &mut no_second,
+        &mut file,
+        out,
+    ))
 }
 
 // Answers a request with one input at most. For a device that it does not name, an empty one is
@@ -237,15 +233,15 @@ fn answer_inputs<S: Source, T: Source, K: Sink>(
 {
     let (mut nowhere, mut room) = ([0; 0], [0; 1]);
     let mut no_file = BufferedSink::new(MemSink::new(&mut nowhere), &mut room);
-    let status = answer_through(alloc, request, first, second, &mut no_file, out);
-    hand_on(status, out)
+    answer_and_hand_on(alloc, request, first, second, &mut no_file, out)
 }
 
-// Answers a request over these devices; lines may be held back still, for `hand_on`.
+// Answers a request over these devices, closes the file, and then hands on the lines.
 //
-// Where the status is 0, the file holds no byte back, and no call of either sink has failed: the
-// device below the file has taken all bytes, by calls that did not fail.
-fn answer_through<S: Source, T: Source, F: Sink, K: Sink>(
+// Where the status is 0, neither the file nor the lines are held back, and no call of either sink
+// has failed: the devices below them have taken all bytes, by calls that did not fail. The file is
+// closed before: with standard output closed, its number may be the file's.
+fn answer_and_hand_on<S: Source, T: Source, F: Close, K: Sink>(
     alloc: Global,
     request: &Request<'_>,
     first: &mut S,
@@ -258,23 +254,20 @@ fn answer_through<S: Source, T: Source, F: Sink, K: Sink>(
     requires file { (failures_and_refused (F.failure_count file.old.device) file.old.refused ≡ 0)
         × (file.old.held ≡ []) }
     requires out { failures_and_refused (K.failure_count out.old.device) out.old.refused ≡ 0 }
-    ensures file { result ≡ Status.Done → (file.new.held ≡ [])
-        × (failures_and_refused (F.failure_count file.new.device) file.new.refused ≡ 0) }
-    ensures out { result ≡ Status.Done
-        → failures_and_refused (K.failure_count out.new.device) out.new.refused ≡ 0 }
-    ensures can_fail { CanFail (failures_and_refused
-        (K.failure_count out.new.device) out.new.refused) }
+    ensures { result ≡ Status.Done → HandsOn F.failure_count file.old file.new
+        × HandsOn K.failure_count out.old out.new }
 {
-    answer(alloc, request, first, second, file, out)
+    let status = answer(alloc, request, first, second, file, out);
+    file.close();
+    hand_on(status, out)
 }
 
 // Hands on what is held back of the lines, for a run that ends with this status.
 fn hand_on<K: Sink>(status: Status, out: &mut BufferedSink<'_, K>) -> Status
     requires { CanFail (failures_and_refused
         (K.failure_count out.old.device) out.old.refused) }
-    ensures { result ≡ Status.Done → (status ≡ Status.Done) × (out.new.held ≡ [])
-        × (failures_and_refused (K.failure_count out.new.device) out.new.refused
-        ≡ failures_and_refused (K.failure_count out.old.device) out.old.refused) }
+    ensures { result ≡ Status.Done
+        → (status ≡ Status.Done) × HandsOn K.failure_count out.old out.new }
 {
     match out.flush() {
         Ok(()) => status,

@@ -22,7 +22,7 @@ fn block(from: u8, to: u8) -> [u8; 128] {
     block
 }
 
-// A GSI block, and room behind it for three TTI blocks.
+// A GSI block, and room after it for three TTI blocks.
 fn gsi_and_room() -> [u8; 1408] {
     let mut file = [0x20; 1408];
     file[3..11].copy_from_slice(b"STL25.01");

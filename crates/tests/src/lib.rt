@@ -8,6 +8,8 @@ mod buffers;
 #[cfg(test)]
 mod checks;
 #[cfg(test)]
+mod closing;
+#[cfg(test)]
 mod compared_packets;
 #[cfg(test)]
 mod complete_pages;

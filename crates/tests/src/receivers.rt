@@ -1,6 +1,6 @@
 //! What the two receivers make of short lists of packets, by the standard's rules.
 use ttx_packet::{Packet, PageId};
-use ttx_page::{Blank, Keep, PacketKind, Page, Receiver, hear_all};
+use ttx_page::{Blank, Keep, PacketKind, Page, Receiver, hear_all, show_all};
 
 // The first ten bytes of packets; the other 32 are spaces.
 
@@ -82,6 +82,29 @@ fn receives_by_the_standard(rt: HostRuntime) {
         assert_eq!(rt; keep, (heard, open, first, kept), "Keep: {name}");
         let blank = after::<Blank>(page_id, &packets);
         assert_eq!(rt; blank, (heard, open, first, blanked), "Blank: {name}");
+    }
+}
+
+#[test]
+fn shows_a_page_when_another_page_ends_it(rt: HostRuntime) {
+    let page_id = PageId::parse("888").expect(&rt, "page 888");
+    // packets, cell 0 of row 22 on a screen with nothing on it before
+    for (starts, want) in [
+        ([HEADER, ROW_22, NO_ADDRESS], None),
+        ([HEADER, ROW_22, CLOSING], Some(0x41)),
+        ([HEADER, ROW_22, SERIAL_188], Some(0x41)),
+        ([HEADER, ROW_22, HEADER], None), // its own header: the screen waits
+        ([HEADER, CLOSING, HEADER], Some(0x20)), // and stays
+    ] {
+        let packets = [packet(starts[0]), packet(starts[1]), packet(starts[2])];
+        let mut receiver = Keep::tune(page_id, old_page());
+        let mut screen = None;
+        show_all(&mut receiver, &mut screen, &packets);
+        let cell = match screen {
+            Some(page) => Some(page.cell(22, 0)),
+            None => None,
+        };
+        assert_eq!(rt; cell, want);
     }
 }
 

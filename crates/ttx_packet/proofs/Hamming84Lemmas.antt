@@ -1,11 +1,10 @@
 -- Hamming 8/4: the definition by nearness, the function, and what one wrong bit leaves
 -- (decoded-near).
-use Rattle.std.proofs.Common.{◌≡◌, ℕ, ◌^◌, ◌<◌, inl, inr, Bool, true, false, not, cond, ◌==◌}
-use Rattle.std.proofs.Common.{◌||◌, Option, Some, None, bit_xor}
-use Rattle.std.proofs.Common.{◌∙◌, ◌%◌, refl, sym, ap, subst, get_or, nat_eq, nat_lt, eqb-true}
-use Rattle.std.proofs.lemmas.Bool.{agree_below, agree_below_at, or_cases, ltb-true}
-use Rattle.std.proofs.lemmas.Bool.{lt-ltb, not-true, true≢false}
-use Rattle.std.proofs.lemmas.Option.{none-some, same_Some}
+use Rattle.std.proofs.Common.{◌≡◌, ℕ, ◌^◌, ◌<◌, inl, inr, Bool, true, false, not, cond, ◌==◌, ◌||◌}
+use Rattle.std.proofs.Common.{Option, Some, None, bit_xor, ◌∙◌, ◌%◌, refl, sym, ap, subst, get_or}
+use Rattle.std.proofs.Common.{nat_eq, nat_lt, eqb-true}
+use Rattle.std.proofs.lemmas.Bool.{agree_below, agree_below_at, or_cases, ltb-true, lt-ltb}
+use Rattle.std.proofs.lemmas.Bool.{not-true, true≢false}
 use Rattle.ttx_packet.specs.OneBit.{IsNear, is_near}
 use Rattle.ttx_packet.specs.Hamming84.{IsCodeWord, Decodes, code_word, decoded}
 use Rattle.ttx_packet.specs.declared.hamming.TheConstants.{DECODED}
@@ -120,15 +119,3 @@ entry_from_word b word =
     (subst (λ b. nat_lt (get_or DECODED b 0) 16 ≡ true) (sym word.2)
     (agree_below_at (λ n. nat_lt (get_or DECODED (code_word n) 0) 16) (λ n. true) 16 word.0 refl
     word.1))
-
--- A byte that decodes to nothing is no code word.
-pub none-code_word : (b : ℕ) → decoded b ≡ None → IsCodeWord b → ⊥
-none-code_word b none word =
-    let some = decoded_from b word.0 (word.1, inl word.2) in
-    absurd (none-some word.0 (sym none ∙ some))
-
--- A code word is the code word of the number that it decodes to.
-pub code_word-decoded : (b n : ℕ) → decoded b ≡ Some n → IsCodeWord b → code_word n ≡ b
-code_word-decoded b n is word =
-    let same : word.0 ≡ n = same_Some _ _ (sym (decoded_from b word.0 (word.1, inl word.2)) ∙ is) in
-    ap code_word (sym same) ∙ sym word.2

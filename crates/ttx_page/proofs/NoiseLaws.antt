@@ -1,5 +1,5 @@
--- The laws of noise and of lost rows, from runs over items: `law_of_recovery`, for any state before,
--- first; the others follow.
+-- The laws of noise and of lost rows, from runs over items: `law_of_recovery`, for any state
+-- before, first; the others follow.
 use Rattle.std.proofs.Common.{◌≡◌, ◌≢◌, ℕ, ◌<◌, inl, inr, Bool, true, false, not, ◌&&◌, List, []}
 use Rattle.std.proofs.Common.{◌∷◌, slice_index_or, map, zip, find, Option, Some, None, option_map}
 use Rattle.std.proofs.Common.{unwrap_or, All, Any, IsTrue, IsFalse, refl, sym, ap, ◌∙◌, subst}

@@ -1,7 +1,7 @@
--- The laws of receivers with a screen: `law_of_screen`.
+-- The laws of receivers with a screen, `law_of_screen`, and their steps.
 use Rattle.std.proofs.Common.{◌≡◌, ℕ, inl, inr, Bool, true, false, ◌&&◌, not, List, [], ◌∷◌, Option}
 use Rattle.std.proofs.Common.{Some, None, MatchBool, IsFalse, refl, sym, ap, ◌∙◌, subst}
-use Rattle.std.proofs.Common.{true≢false}
+use Rattle.std.proofs.Common.{true≢false, ◌++◌}
 use Rattle.std.specs.List.{AllByRecursion, AllZip}
 use Rattle.std.proofs.lemmas.Bool.{cases_Bool, or_cases, or_left, or_right, and_parts}
 use Rattle.ttx_packet.specs.PageHeader.{HasExactWords}
@@ -141,6 +141,24 @@ law_of_screen w packets old new run holds shut =
 pub law_of_dropping_screen : LawOfDroppingScreen
 law_of_dropping_screen w packets old new run holds shut =
     settled_by_header StepDropping leaves_dropping w packets old new run holds shut
+
+-- ---- one packet more
+
+-- A run goes on by one packet. For `show_all`.
+pub Shows-push :
+    (w : PageIdValue) (packets : List (List ℕ)) (packet : List ℕ) (old mid new : Display)
+    → Shows w old packets mid
+    → Step w mid.held packet new.held
+    → ShowsAt w mid packet new
+    → Shows w old (packets ++ packet ∷ []) new
+Shows-push w [] packet old mid new run step shows = (
+  new,
+  subst (λ (d : Display). Step w d.held packet new.held) run step,
+  subst (λ (d : Display). ShowsAt w d packet new) run shows,
+  refl,
+)
+Shows-push w (p ∷ ps) packet old mid new run step shows =
+    (run.0, run.1, run.2, Shows-push w ps packet run.0 mid new run.3 step shows)
 
 -- ---- for a checker's laws
 

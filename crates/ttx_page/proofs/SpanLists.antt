@@ -1,13 +1,13 @@
 -- Lists, searches, and the span of a mapped list: `span-map`.
 use Rattle.std.proofs.Common.{◌≡◌, zero, suc, ◌<◌, ◌⊎◌, inl, inr, Bool, true, false, ◌||◌, cond}
 use Rattle.std.proofs.Common.{List, [], ◌∷◌, length, Some, None, map, find, Any, Contains, refl}
-use Rattle.std.proofs.Common.{sym, ap, ◌∙◌, subst, arith}
+use Rattle.std.proofs.Common.{sym, ap, ◌∙◌, subst, arith, ◌++◌}
 use Rattle.std.proofs.Common.{get_or, slice_get}
 use Rattle.std.specs.List.{list_any, position_or_len, AllByRecursion}
 use Rattle.std.proofs.lemmas.Option.{get_or_from_slice_get, slice_get_within}
-use Rattle.std.proofs.lemmas.List.Folds.{find_at}
+use Rattle.std.proofs.lemmas.List.Folds.{find_at, list_any-append}
 use Rattle.std.proofs.lemmas.List.Sums.{passes_at_first}
-use Rattle.std.proofs.lemmas.Bool.{cond-true, cond-false, or_parts}
+use Rattle.std.proofs.lemmas.Bool.{cond-true, cond-false, or_parts, or_left, or_right}
 use Rattle.ttx_page.specs.declared.packet_kind.PacketKind.{PacketKind}
 use Rattle.ttx_page.specs.PacketKind.{is_this_page, ends_page}
 use Rattle.ttx_page.specs.Span.{holds_header, after_last_header, before_end, span}
@@ -178,3 +178,32 @@ after-none kind_of [] e = refl
 after-none kind_of (x ∷ xs) e =
     let parts = or_parts (is_this_page (kind_of x)) (holds_header kind_of xs) e in
     cond-false _ _ _ parts.1 ∙ cond-false (is_this_page (kind_of x)) xs [] parts.0
+
+-- ---- headers in joined lists
+
+-- A header of the page in the second of two lists is one in both, joined.
+pub holds-append_right :
+    {A : Type 0} (kind_of : A → PacketKind) (xs ys : List A)
+    → holds_header kind_of ys ≡ true
+    → holds_header kind_of (xs ++ ys) ≡ true
+holds-append_right kind_of xs ys e =
+    list_any-append (λ x. is_this_page (kind_of x)) xs ys
+    ∙ or_right (holds_header kind_of xs) _ e
+
+-- And one in the first.
+pub holds-append_left :
+    {A : Type 0} (kind_of : A → PacketKind) (xs ys : List A)
+    → holds_header kind_of xs ≡ true
+    → holds_header kind_of (xs ++ ys) ≡ true
+holds-append_left kind_of xs ys e =
+    list_any-append (λ x. is_this_page (kind_of x)) xs ys ∙ or_left _ (holds_header kind_of ys) e
+
+-- What stands before a list with a header of the page does not matter.
+pub after-append :
+    {A : Type 0} (kind_of : A → PacketKind) (xs ys : List A)
+    → holds_header kind_of ys ≡ true
+    → after_last_header kind_of (xs ++ ys) ≡ after_last_header kind_of ys
+after-append kind_of [] ys e = refl
+after-append kind_of (x ∷ xs) ys e =
+    after-later kind_of x (xs ++ ys) (holds-append_right kind_of xs ys e)
+    ∙ after-append kind_of xs ys e

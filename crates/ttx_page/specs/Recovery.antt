@@ -40,7 +40,7 @@ LawOfRecovery =
     → Hears w old (arrived fates) new
     → EndsAfresh w sent (IsHitOrLost w sent fates) new
 
--- The same by marks: what was got is near the list of the packets that are kept.
+-- Recovery by marks: what was got is near the list of the packets that are kept.
 abbrev pub LawOfMarkedRecovery : Type 0
 LawOfMarkedRecovery =
     (w : PageIdValue) (sent : List (List ℕ)) (marks : List Bool)
@@ -52,7 +52,7 @@ LawOfMarkedRecovery =
     → Hears w old got new
     → EndsAfresh w sent (IsHitOrLost w sent (fates_of marks got)) new
 
--- The same for receivers that drop rows: a cell counts as hit where any byte of its row was.
+-- Recovery of receivers that drop rows: a cell counts as hit where any byte of its row was.
 abbrev pub LawOfDroppingRecovery : Type 0
 LawOfDroppingRecovery =
     (w : PageIdValue) (sent : List (List ℕ)) (fates : List (Option (List ℕ))) (old new : State)

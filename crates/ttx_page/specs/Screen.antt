@@ -13,6 +13,10 @@ pub record Display : Type 0 where
   pub held : State
   pub screen : Option Rows
 
+-- What is held, and what is on the screen.
+abbrev pub display : State → Option Rows → Display
+display held screen = record { held = held; screen = screen }
+
 -- The page was open, and is not any more.
 abbrev pub is_ended : State → State → Bool
 is_ended old new = old.is_open && not new.is_open
@@ -69,7 +73,7 @@ LawOfScreen =
     → IsFalse new.held.is_open
     → new.screen ≡ Some new.held.page
 
--- The same of receivers that drop rows.
+-- What a receiver that drops rows has on its screen, where its page has ended.
 abbrev pub LawOfDroppingScreen : Type 0
 LawOfDroppingScreen =
     (w : PageIdValue) (packets : List (List ℕ)) (old new : Display)

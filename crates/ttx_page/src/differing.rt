@@ -9,6 +9,7 @@ use self::lanes::{differing_of_8, differing_of_16};
 /// How many of the 40 columns of two rows differ.
 ///
 /// Where one row of a page is stored anew, the page's count changes by what this changes.
+#[inline(always)]
 pub fn differing_columns(a: &[u8; 40], b: &[u8; 40]) -> u16
     ensures value { result ≡ row_differing a.now b.now }
     ensures range { result ≤ 40 }

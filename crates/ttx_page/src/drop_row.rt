@@ -91,11 +91,12 @@ impl DropRow {
     }
 }
 
-// Whether a packet is a row of the page with a byte of even parity.
-fn is_dropped(watched: PageId, packet: &Packet) -> bool
-    ensures { result ≡ is_dropped watched packet.now }
+/// Whether a packet is a row of the page's magazine with a byte of even parity: one that `DropRow`
+/// passes over.
+pub fn is_dropped(page_id: PageId, packet: &Packet) -> bool
+    ensures { result ≡ is_dropped page_id packet.now }
 {
-    match PacketKind::of(watched, packet) {
+    match PacketKind::of(page_id, packet) {
         PacketKind::Row(_) => packet.first_even().is_some(),
         _ => false,
     }

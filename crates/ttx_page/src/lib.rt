@@ -19,10 +19,11 @@ mod memory;
 mod packet_kind;
 mod page;
 mod receiver;
+mod screen;
 
 pub use blank::Blank;
 pub use differing::differing_columns;
-pub use drop_row::DropRow;
+pub use drop_row::{DropRow, is_dropped};
 pub use keep::Keep;
 pub use laws::{
     law_of_dropped_rows, law_of_dropping, law_of_dropping_recovery, law_of_dropping_screen,
@@ -32,3 +33,4 @@ pub use laws::{
 pub use packet_kind::PacketKind;
 pub use page::Page;
 pub use receiver::{Receiver, hear_all};
+pub use screen::{show, show_all};

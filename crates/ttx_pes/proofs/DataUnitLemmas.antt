@@ -18,8 +18,8 @@ use Rattle.ttx_pes.specs.DataUnit.{UnitValue, is_teletext, IsDataUnit, AreDataUn
 use Rattle.ttx_pes.specs.LineOrder.{last_place, stands_after, AreInLineOrder}
 use Rattle.ttx_pes.specs.Reading.{unit_of, with_unit, teletext_at, unit_at, units_at}
 use Rattle.ttx_packet.proofs.BitOrderLemmas.{mirror-mirror}
-use Rattle.ttx_pes.proofs.ReadingSteps.{test_held, step_gave, given_as, Ok-injective}
 use Rattle.ttx_pes.proofs.LineOrderLemmas.{last_place-push}
+use Rattle.sub_io.proofs.ReadingLemmas.{test_held, step_gave, Ok-injective, given_as}
 
 -- ---- packets and bytes
 
@@ -60,7 +60,7 @@ if_not_cases true x y z e = inr (refl, e)
 if_not_cases false x y z e = inl (refl, e)
 
 -- The two numbers of data units with Teletext.
-is_teletext_id : (id : ℕ) → is_teletext id ≡ true → (2 ≤ id) × (id ≤ 3)
+pub is_teletext_id : (id : ℕ) → is_teletext id ≡ true → (2 ≤ id) × (id ≤ 3)
 is_teletext_id id e = elim (cases_eq id 2) [
   | inl two ↦ (omega arith, omega arith)
   | inr other ↦
@@ -186,7 +186,7 @@ unit_complete (Some u) b h =
     unit_is u _ _ _ field-is line-is
     (mirrored_twice u.packet (packet_bytes u.packet h.is_unit.packet)) in
     rw (h.bytes, id-is) (
-      ap (λ (x : UnitValue). given_as (held_unit x)) same,
+      ap (λ (x : UnitValue). given_as PesFault (held_unit x)) same,
       ap (λ (n : ℕ). suc (suc (suc (suc n)))) (length-map u.packet mirror
           ∙ h.is_unit.packet.size),
     )
@@ -281,7 +281,7 @@ units_complete (suc n) front more b (u, others, first, rest, held, after, us-is,
     let t = with_unit_takes front others u rises in
     let i = units_complete n (front ++ option_to_list u) others rest after t.1 in (
       rw (front-is, back-is, c.0, t.0, i.0, us-is)
-          (ap given_as (append_assoc front (option_to_list u) others)),
+          (ap (given_as PesFault) (append_assoc front (option_to_list u) others)),
       rw b-is (omega (arith, length-append first rest, c.1, i.1)),
     )
 

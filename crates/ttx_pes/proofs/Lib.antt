@@ -1,11 +1,16 @@
 pub mod LineOrderLemmas
 pub mod LinePairLemmas
-pub mod ReadingSteps
 pub mod DataUnitLemmas
 pub mod PesHeaderLemmas
 pub mod PesPacketLemmas
 pub mod ReadingLemmas
+pub mod UnitPlaceLemmas
+pub mod SampleLemmas
+pub mod PacketRefusalLemmas
+pub mod UnitRefusalLemmas
+pub mod RefusalLemmas
 pub mod TakingLemmas
 pub mod KeptFrameLemmas
 pub mod ReaderLemmas
 pub mod SameBytesLemmas
+pub mod TakenPackets

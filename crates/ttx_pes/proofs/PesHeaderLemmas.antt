@@ -4,7 +4,7 @@ use Rattle.std.proofs.Common.{◌≡◌, ℕ, ◌+◌, ◌-◌, ◌*◌, ◌/◌
 use Rattle.std.proofs.Common.{leb, List, [], ◌∷◌, ◌++◌, length, get_or, take, drop, Result, Ok, Err}
 use Rattle.std.proofs.Common.{refl, sym, ap, subst, ◌∙◌, append_assoc, arith, true, length-append}
 use Rattle.std.proofs.Common.{length-take, length-drop}
-use Rattle.std.proofs.lemmas.Bool.{eqb-true, eq-eqb, leb-true, le-leb}
+use Rattle.std.proofs.lemmas.Bool.{eqb-true, eq-eqb, leb-true, le-leb, and_parts}
 use Rattle.std.proofs.lemmas.List.{drop_at, take-append-drop, drop_more, drop-drop, get_or_at}
 use Rattle.std.specs.Int.{bytes_high_first}
 use Rattle.std.specs.Prelude.{◌&&◌}
@@ -15,8 +15,8 @@ use Rattle.ttx_pes.specs.DataUnit.{UnitValue, AreDataUnits}
 use Rattle.ttx_pes.specs.LineOrder.{AreInLineOrder}
 use Rattle.ttx_pes.specs.PesPacket.{PesValue, pts_bytes}
 use Rattle.ttx_pes.specs.Reading.{pts_bits, pts_at, units_at, value_at, size_at}
-use Rattle.ttx_pes.proofs.ReadingSteps.{test_held, both_hold, step_gave, given_as, Ok-injective}
 use Rattle.ttx_pes.proofs.DataUnitLemmas.{AreBytes-drop, units_sound, units_complete}
+use Rattle.sub_io.proofs.ReadingLemmas.{test_held, step_gave, Ok-injective, given_as}
 
 -- ---- the PTS
 
@@ -90,11 +90,11 @@ head_sound b size len fit e =
     size e in
     let g2 = test_held (eqb (total % 184) 0 && leb total 1656) fault.Length (Ok total) size g.1 in
     let same = Ok-injective total size g2.1 in
-    let t3 = both_hold (eqb (get_or b 0 0) 0 && eqb (get_or b 1 0) 0 && eqb (get_or b 2 0) 1)
+    let t3 = and_parts (eqb (get_or b 0 0) 0 && eqb (get_or b 1 0) 0 && eqb (get_or b 2 0) 1)
     (eqb (get_or b 3 0) 189) g.0 in
-    let t2 = both_hold (eqb (get_or b 0 0) 0 && eqb (get_or b 1 0) 0) (eqb (get_or b 2 0) 1) t3.0 in
-    let t1 = both_hold (eqb (get_or b 0 0) 0) (eqb (get_or b 1 0) 0) t2.0 in
-    let s = both_hold (eqb (total % 184) 0) (leb total 1656) g2.0 in
+    let t2 = and_parts (eqb (get_or b 0 0) 0 && eqb (get_or b 1 0) 0) (eqb (get_or b 2 0) 1) t3.0 in
+    let t1 = and_parts (eqb (get_or b 0 0) 0) (eqb (get_or b 1 0) 0) t2.0 in
+    let s = and_parts (eqb (total % 184) 0) (leb total 1656) g2.0 in
     let whole : total % 184 ≡ 0 = eqb-true _ _ s.0 in
     let low : total ≤ 1656 = leb-true _ _ s.1 in
     let z0 : get_or b 0 0 ≡ 0 = eqb-true _ _ t1.0 in
@@ -167,7 +167,7 @@ pub record Header (b : List ℕ) (t : ℕ) : Type 0 where
   pub value : pts_bits b ≡ t
 
 -- The tests that a PTS went through.
-header_sound : (b : List ℕ) (t : ℕ) → pts_at b ≡ Ok t → Header b t
+pub header_sound : (b : List ℕ) (t : ℕ) → pts_at b ≡ Ok t → Header b t
 unfolding pts_at
 header_sound b t e =
     let marks =
@@ -183,12 +183,12 @@ header_sound b t e =
     let g2 = test_held (eqb (get_or b 2 0) 36) fault.HeaderLength r3 t g1.1 in
     let g3 = test_held marks fault.Time r4 t g2.1 in
     let g4 = test_held (eqb (get_or b 39 0 / 16) 1) fault.DataId r5 t g3.1 in
-    let m3 = both_hold
+    let m3 = and_parts
     (eqb (get_or b 3 0 / 16) 2 && eqb (get_or b 3 0 % 2) 1 && eqb (get_or b 5 0 % 2) 1)
     (eqb (get_or b 7 0 % 2) 1) g3.0 in
-    let m2 = both_hold (eqb (get_or b 3 0 / 16) 2 && eqb (get_or b 3 0 % 2) 1)
+    let m2 = and_parts (eqb (get_or b 3 0 / 16) 2 && eqb (get_or b 3 0 % 2) 1)
     (eqb (get_or b 5 0 % 2) 1) m3.0 in
-    let m1 = both_hold (eqb (get_or b 3 0 / 16) 2) (eqb (get_or b 3 0 % 2) 1) m2.0 in
+    let m1 = and_parts (eqb (get_or b 3 0 / 16) 2) (eqb (get_or b 3 0 % 2) 1) m2.0 in
     record {
       flagged = eqb-true _ _ g0.0;
       pts_alone = eqb-true _ _ g1.0;
@@ -230,7 +230,7 @@ abbrev pub value_with : ℕ → List UnitValue → PesValue
 value_with t us = record { pts = t; units = us }
 
 -- A PTS that is read has 33 bits.
-pts_limit : (a b c d e t : ℕ)
+pub pts_limit : (a b c d e t : ℕ)
     → a < 256
     → b < 256
     → c < 256
@@ -294,7 +294,7 @@ body_sound n b v lo len fit e =
     (body_from n p.0 b q.0 lo len fit (header_sound b p.0 p.1) q.1)
 
 -- A body by its parts.
-body_list : ℕ → ℕ → ℕ → List ℕ → ℕ → List ℕ → List ℕ
+unfoldable pub body_list : ℕ → ℕ → ℕ → List ℕ → ℕ → List ℕ → List ℕ
 body_list flags more t stuffing identifier units =
     (flags ∷ more ∷ 36 ∷ []) ++ (pts_bytes t ++ (stuffing ++ (identifier ∷ units)))
 
@@ -315,10 +315,10 @@ header_complete flags more t identifier stuffing units ef em lt len ei =
     let m5 = marker_is_1 ((t / 2 ^ 15) % 128) in
     let m7 = marker_is_1 (t % 128) in
     let back = pts_bits-pts_bytes t lt in
-    rw (ef, em, pre, m3, m5, m7, behind, ei) (ap given_as back)
+    rw (ef, em, pre, m3, m5, m7, behind, ei) (ap (given_as PesFault) back)
 
 -- A PTS and units make a value.
-frame_made : (b : List ℕ) (t n : ℕ) (us : List UnitValue)
+pub frame_made : (b : List ℕ) (t n : ℕ) (us : List UnitValue)
     → pts_at b ≡ Ok t
     → length (drop 40 b) / 46 ≡ n
     → units_at n [] (drop 40 b) ≡ Ok us
@@ -327,7 +327,7 @@ unfolding value_at
 frame_made b t n us e count eu = rw (e, count, eu) refl
 
 -- What is left behind the header.
-drop-body_list : (flags more t identifier : ℕ) (stuffing units : List ℕ)
+pub drop-body_list : (flags more t identifier : ℕ) (stuffing units : List ℕ)
     → length stuffing ≡ 31
     → drop 40 (body_list flags more t stuffing identifier units) ≡ units
 unfolding body_list
@@ -337,7 +337,7 @@ drop-body_list flags more t identifier stuffing units len =
     ∙ omega (arith, len))
 
 -- The length of a body.
-length-body_list : (flags more t identifier : ℕ) (stuffing units : List ℕ)
+pub length-body_list : (flags more t identifier : ℕ) (stuffing units : List ℕ)
     → length stuffing ≡ 31
     → length (body_list flags more t stuffing identifier units) ≡ 40 + length units
 unfolding body_list

@@ -18,14 +18,14 @@ stuffing_is_passed =
     record { id = 255; rest = replicate 44 255; bytes = refl; other = refl; size = refl }
 
 -- Stuffing units are data units without Teletext.
-stuffing_units : (n : ℕ) → AreDataUnits n [] (repeated n stuffing_unit)
+pub stuffing_units : (n : ℕ) → AreDataUnits n [] (repeated n stuffing_unit)
 stuffing_units zero = (refl, refl)
 stuffing_units (suc n) =
     let rest = repeated n stuffing_unit in
     (None, [], stuffing_unit, rest, stuffing_is_passed, stuffing_units n, refl, refl)
 
 -- Units and stuffing units that are written are data units of the grammar.
-written_units : (us : List UnitValue) (n : ℕ)
+pub written_units : (us : List UnitValue) (n : ℕ)
     → AllByRecursion IsUnit us
     → AreDataUnits (length us + n) us (flat_map teletext_unit us ++ repeated n stuffing_unit)
 written_units [] n h = let none : n ≡ 0 + n = omega arith in
@@ -86,11 +86,6 @@ repeated_push (suc n) b =
 pub repeated_more : (n : ℕ) (b : List ℕ) → repeated n b ++ b ≡ repeated (n + 1) b
 repeated_more n b = let one : suc n ≡ n + 1 = omega arith in
     repeated_push n b ∙ ap (λ (k : ℕ). repeated k b) one
-
--- The header has 46 bytes.
-pub length-header : (size pts : ℕ) → length (header size pts) ≡ 46
-unfolding header
-length-header size pts = refl
 
 -- The loop over stuffing units, one on.
 pub stuffed_more : (out base new : List ℕ) (n : ℕ)

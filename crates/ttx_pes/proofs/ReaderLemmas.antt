@@ -1,30 +1,29 @@
 -- What a reader that was given a packet or a fault knows of the bytes of its source. Main lemmas:
 -- packet_left, excluded.
-use Rattle.std.proofs.Common.{◌≡◌, ℕ, ◌<◌, Bool, true, false, cond, eqb, List, [], ◌∷◌, ◌++◌, length}
-use Rattle.std.proofs.Common.{Option, Some, None, Result, Ok, Err, refl, sym, ap, subst, ◌∙◌, arith}
+use Rattle.std.proofs.Common.{◌≡◌, ℕ, ◌<◌, Bool, true, false, cond, eqb, List, [], ◌∷◌, ◌++◌}
+use Rattle.std.proofs.Common.{length, Option, Some, None, Result, Ok, Err, refl, sym, ap, subst}
+use Rattle.std.proofs.Common.{◌∙◌, arith}
+use Rattle.std.proofs.lemmas.Option.{same_Some}
+use Rattle.sub_io.specs.Device.{failed}
 use Rattle.sub_io.specs.Reading.{◌>>=◌}
 use Rattle.ttx_pes.specs.declared.fault.PesFault.{PesFault}
 use Rattle.ttx_pes.specs.declared.fault.PesFault.TheVariants as fault
 use Rattle.ttx_pes.specs.declared.progress.Progress.{Progress}
 use Rattle.ttx_pes.specs.declared.progress.Progress.TheVariants.{Reading}
 use Rattle.ttx_pes.specs.PesPacket.{PesValue}
-use Rattle.ttx_pes.specs.Reading.{packet_at, answer_at, rest_after, is_read_failure}
-use Rattle.ttx_pes.specs.Reading.{is_format_fault}
+use Rattle.ttx_pes.specs.Reading.{packet_at, answer_at, rest_after, is_format_fault}
 use Rattle.ttx_pes.specs.Reader.{TakesPesPacket, BeginsNone}
 use Rattle.ttx_pes.proofs.ReadingLemmas.{packet_is_read, none_begins, rest_after-packet}
+use Rattle.ttx_pes.specs.Fault.{is_read}
 
 -- The answer of a value that was read.
-abbrev value_in : PesValue × List ℕ → Result (Option PesValue) PesFault
+abbrev pub value_in : PesValue × List ℕ → Result (Option PesValue) PesFault
 value_in p = Ok (Some p.0)
 
 -- Where no byte is left, the answer is the end.
 pub nothing : (given : ℕ) (bytes : List ℕ) → bytes ≡ [] → answer_at given bytes ≡ Ok None
 unfolding answer_at
 nothing given bytes e = rw e refl
-
--- Equal told bytes.
-Some-injective : (x y : List ℕ) → ◌≡◌ {A = Option (List ℕ)} (Some x) (Some y) → x ≡ y
-Some-injective x y e = cc
 
 -- What is left behind a packet that was taken.
 pub packet_left : (old new : Option (List ℕ)) (v : PesValue) (bytes : List ℕ)
@@ -34,7 +33,7 @@ pub packet_left : (old new : Option (List ℕ)) (v : PesValue) (bytes : List ℕ
 packet_left None new v bytes h e = absurd cc
 packet_left (Some xs) None v bytes h e = absurd h.consumed
 packet_left (Some xs) (Some ys) v bytes h e =
-    let parts : bytes ≡ h.bytes ++ ys = sym (Some-injective xs bytes e) ∙ h.consumed in
+    let parts : bytes ≡ h.bytes ++ ys = sym (same_Some xs bytes e) ∙ h.consumed in
     let read = packet_is_read v h.bytes ys h.is_packet in
     ap (λ (x : List ℕ). Some x) (sym (rest_after-packet v bytes ys (ap packet_at parts ∙ read)))
 
@@ -43,7 +42,7 @@ packet_left (Some xs) (Some ys) v bytes h e =
 -- A fault of the format is not that of the source.
 pub format_not_read : (X : Type 0) (f : PesFault)
     → is_format_fault f ≡ true
-    → is_read_failure {X = X} (Err f) ≡ false
+    → failed {X = X} is_read (Err f) ≡ false
 format_not_read X fault.Read e = absurd cc
 format_not_read X _ e = refl
 

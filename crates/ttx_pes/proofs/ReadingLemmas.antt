@@ -13,11 +13,11 @@ use Rattle.ttx_pes.specs.declared.fault.PesFault.{PesFault}
 use Rattle.ttx_pes.specs.declared.fault.PesFault.TheVariants as fault
 use Rattle.ttx_pes.specs.PesPacket.{PesValue, IsPesPacket, IsPesValue, pts_bytes, canonical_packet}
 use Rattle.ttx_pes.specs.Reading.{size_at, value_at, packet_at, answer_at, rest_after}
-use Rattle.ttx_pes.proofs.ReadingSteps.{step_gave}
 use Rattle.ttx_pes.proofs.DataUnitLemmas.{AreBytes-take, AreBytes-drop}
 use Rattle.ttx_pes.proofs.PesHeaderLemmas.{IsBody, head_sound, head_complete, body_sound}
 use Rattle.ttx_pes.proofs.PesHeaderLemmas.{body_complete}
 use Rattle.ttx_pes.proofs.PesPacketLemmas.{canonical_is_packet}
+use Rattle.sub_io.proofs.ReadingLemmas.{step_gave, Ok-injective}
 
 -- ---- what is answered
 
@@ -179,10 +179,6 @@ long_enough false x y e = (refl, cc)
 abbrev ValueAndRest : Type 0
 ValueAndRest = PesValue × List ℕ
 
--- Equal answers, equal values.
-read_injective : (x y : ValueAndRest) → ◌≡◌ {A = Result ValueAndRest PesFault} (Ok x) (Ok y) → x ≡ y
-read_injective x y e = cc
-
 -- A whole list in its first bytes and the rest.
 split_at_size : (b : List ℕ) (size : ℕ)
     → 6 ≤ size
@@ -239,7 +235,7 @@ read_is_packet v b rest fit e =
     (λ body. value_at body >>= λ v. Ok (v, drop q.0 b)) (v, rest) q.2 in
     let d = long_enough (ltb (length b) q.0) (take (q.0 - 6) (drop 6 b)) r.0 r.1 in
     let s = step_gave (value_at r.0) (λ v. Ok (v, drop q.0 b)) (v, rest) r.2 in
-    let same = read_injective (s.0, drop q.0 b) (v, rest) s.2 in
+    let same = Ok-injective (s.0, drop q.0 b) (v, rest) s.2 in
     let long : 6 ≤ length b = ltb-false _ _ a.0 in
     let enough : q.0 ≤ length b = ltb-false _ _ d.0 in
     let made =
@@ -256,7 +252,7 @@ pub one_value : (a b x y : List ℕ) (v w : PesValue)
     → (a ≡ b) × (v ≡ w)
 one_value a b x y v w p q e =
     let same =
-    read_injective (v, x) (w, y) (sym (packet_is_read v a x p) ∙ ap packet_at e
+    Ok-injective (v, x) (w, y) (sym (packet_is_read v a x p) ∙ ap packet_at e
     ∙ packet_is_read w b y q) in
     let rests : x ≡ y = ap (λ (r : ValueAndRest). r.1) same in (
       append_cancel_right a b y (subst (λ (z : List ℕ). a ++ z ≡ b ++ y) rests e),

@@ -2,25 +2,25 @@
 -- a source that tells its bytes, is_packet for each.
 use Rattle.std.proofs.Common.{◌≡◌, ℕ, ◌+◌, ◌<◌, ◌≤◌, List, [], ◌++◌, length, take, drop, Option}
 use Rattle.std.proofs.Common.{Some, None, Result, Ok, Err, refl, sym, ap, subst, ◌∙◌, append_assoc}
-use Rattle.std.proofs.Common.{arith, length-append, length-take, length-drop, zero, suc, ◌∷◌}
+use Rattle.std.proofs.Common.{arith, inl, inr, length-append, length-take, length-drop, zero, suc}
+use Rattle.std.proofs.Common.{◌∷◌}
 use Rattle.std.proofs.lemmas.List.{take-append-drop, append-nil, take-take, drop-drop}
 use Rattle.std.proofs.lemmas.List.{length-take-le}
+use Rattle.std.proofs.KnownBytes.{Consumes-nil}
 use Rattle.std.specs.Io.KnownBytes.{Consumes, IsAtEnd}
+use Rattle.std.proofs.lemmas.Option.{same_Some}
 use lib.Seq.{take-append-le}
 use Rattle.sub_io.specs.Reading.{◌>>=◌, AreBytes}
 use Rattle.ttx_pes.specs.declared.fault.PesFault.{PesFault}
 use Rattle.ttx_pes.specs.declared.fault.PesFault.TheVariants as fault
 use Rattle.ttx_pes.specs.PesPacket.{PesValue, IsPesPacket}
 use Rattle.ttx_pes.specs.Reading.{size_at, value_at, packet_at, answer_at, rest_after}
-use Rattle.ttx_pes.specs.Reader.{TakesPesPacket}
+use Rattle.ttx_pes.specs.Reader.{FailsWithin, TakesPesPacket}
 use Rattle.ttx_pes.specs.Comparing.{TakesDataField}
-use Rattle.ttx_pes.specs.Taking.{TakesSized}
+use Rattle.ttx_pes.specs.Taking.{StopsBelow, TakesSized}
 use Rattle.ttx_pes.proofs.ReadingLemmas.{answer_full, answer_packet, packet_short, packet_size}
 use Rattle.ttx_pes.proofs.ReadingLemmas.{packet_cut, packet_parts, read_is_packet}
-
--- Equal told bytes.
-Some-injective : (x y : List ℕ) → ◌≡◌ {A = Option (List ℕ)} (Some x) (Some y) → x ≡ y
-Some-injective x y e = cc
+use Rattle.ttx_pes.proofs.ReaderLemmas.{value_in}
 
 -- What is left of the bytes of a source that tells them, after some were taken.
 pub record Left (bytes : List ℕ) (new : Option (List ℕ)) (taken : List ℕ) : Type 0 where
@@ -39,7 +39,7 @@ Left-from_consumed (Some xs) None bytes taken h e = absurd h
 Left-from_consumed (Some xs) (Some ys) bytes taken h e =
     record {
       rest = ys;
-      parts = sym (Some-injective xs bytes e) ∙ h;
+      parts = sym (same_Some xs bytes e) ∙ h;
       new_is = refl;
       ended = λ end. end;
     }
@@ -133,10 +133,6 @@ second_short given bytes size new taken t end le lt ne good =
 -- A value and the bytes after it.
 abbrev with_rest : List ℕ → PesValue → Result (PesValue × List ℕ) PesFault
 with_rest rest v = Ok (v, rest)
-
--- The answer of a value that was read.
-abbrev value_in : PesValue × List ℕ → Result (Option PesValue) PesFault
-value_in p = Ok (Some p.0)
 
 -- The answer, by what was read of the body.
 answered : (r q : Result PesValue PesFault) (rest : List ℕ)
@@ -264,4 +260,36 @@ field_taken old new size room body v field h le fits same e fit is =
         consumed = h.consumed;
       };
       field_is = is ∙ ap (drop 39) same ∙ drop-drop 39 6 (take size room);
+    }
+
+-- ---- the source failed
+
+-- Before the size of the packet was known. For `take_packet`.
+pub failed_first : (old new : Option (List ℕ)) (room : List ℕ)
+    → StopsBelow old (take 0 room) new 6
+    → FailsWithin old new
+failed_first old new room s = record {
+  bytes = s.taken;
+  consumed = s.takes old (Consumes-nil old);
+  begun = inl s.few;
+}
+
+-- Behind the first bytes, which tell the size. For `take_packet`.
+pub failed_second : (old mid new : Option (List ℕ)) (got size : ℕ) (room : List ℕ)
+    → Consumes old mid (take got room)
+    → 6 ≤ got
+    → got ≤ length room
+    → size_at (take 6 room) ≡ Ok size
+    → StopsBelow mid (take got room) new size
+    → FailsWithin old new
+failed_second old mid new got size room taken le fits sized s =
+    let held = length-take-le got room fits in
+    let head : take 6 s.taken ≡ take 6 room =
+    sym (take-take 6 (length (take got room)) s.taken (omega arith))
+    ∙ ap (take 6) s.from
+    ∙ take-take 6 got room le in
+    record {
+      bytes = s.taken;
+      consumed = s.takes old taken;
+      begun = inr (size, ap size_at head ∙ sized, s.few);
     }

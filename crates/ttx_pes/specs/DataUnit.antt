@@ -22,11 +22,11 @@ teletext_id = 0x02
 abbrev pub subtitle_id : ℕ
 subtitle_id = 0x03
 
--- data_unit_id of stuffing, and each byte behind the length of a stuffing unit that is written.
+-- data_unit_id of stuffing, and each byte after the length of a stuffing unit that is written.
 abbrev pub stuffing : ℕ
 stuffing = 0xFF
 
--- The bytes of a data unit behind its length.
+-- The bytes of a data unit after its length.
 abbrev pub data_unit_length : ℕ
 data_unit_length = 0x2C
 

@@ -1,5 +1,6 @@
--- The number and the name by which a fault of a PES packet is told (own).
-use Rattle.std.specs.Prelude.{ℕ, List, codes}
+-- The number and the name by which a fault of a PES packet is told (own), and which faults are
+-- those of a device.
+use Rattle.std.specs.Prelude.{ℕ, Bool, true, false, List, codes}
 use Rattle.ttx_pes.specs.declared.fault.PesFault.{PesFault}
 use Rattle.ttx_pes.specs.declared.fault.PesFault.TheVariants as fault
 
@@ -20,3 +21,13 @@ number_and_name fault.Read = (41, codes "Read")
 number_and_name fault.Write = (42, codes "Write")
 number_and_name fault.Ended = (43, codes "Ended")
 number_and_name fault.TooMany = (44, codes "TooMany")
+
+-- The source failed.
+abbrev pub is_read : PesFault → Bool
+is_read fault.Read = true
+is_read _ = false
+
+-- The sink failed.
+abbrev pub is_write : PesFault → Bool
+is_write fault.Write = true
+is_write _ = false

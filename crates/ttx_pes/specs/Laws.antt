@@ -1,5 +1,6 @@
 -- Laws of the format, over plain lists of bytes.
-use Rattle.std.specs.Prelude.{◌≡◌, ◌≢◌, ◌↔◌, ℕ, ◌^◌, ◌<◌, ◌≤◌, List, ◌++◌, length, map, Some, Ok}
+use Rattle.std.specs.Prelude.{◌≡◌, ◌≢◌, ◌↔◌, ℕ, ◌^◌, ◌<◌, ◌≤◌, List, ◌++◌, length, map, Some}
+use Rattle.std.specs.Prelude.{Ok, Err}
 use Rattle.std.specs.List.{AllByRecursion, AllPairs}
 use Rattle.sub_io.specs.Reading.{AreBytes}
 use Rattle.ttx_packet.specs.PacketAddress.{IsPacket}
@@ -8,6 +9,8 @@ use Rattle.ttx_pes.specs.LineOrder.{numbered_units, AreInLineOrder, RisesTo}
 use Rattle.ttx_pes.specs.PesPacket.{PesValue, IsPesPacket, IsPesValue, canonical_packet}
 use Rattle.ttx_pes.specs.PesPacket.{numbered_frame}
 use Rattle.ttx_pes.specs.Reading.{packet_at, answer_at, rest_after, most_packets}
+use Rattle.ttx_pes.specs.Refusal.{Question, told_fault, FailFirst}
+use Rattle.ttx_pes.specs.declared.fault.PesFault.{PesFault}
 
 -- A packet has one value, and no packet is a proper prefix of another.
 -- So a file falls into PES packets in one way.
@@ -42,6 +45,19 @@ LawOfGrammar =
     → AreBytes bytes
     → packet_at bytes ≡ Ok (v, rest)
     → (b : List ℕ) × IsPesPacket v b × (bytes ≡ b ++ rest)
+
+-- Where no packet is read, the fault is that of the first question in which the bytes fail: some
+-- packet of the grammar agrees with them in all that is asked before, none in what is asked there.
+-- And where they fail in a question no packet is read.
+-- So the numbers of refusals can be told from the grammar and the order of the questions alone.
+abbrev pub LawOfRefusal : Type 0
+LawOfRefusal =
+    (bytes : List ℕ)
+    → AreBytes bytes
+    → ((f : PesFault)
+    → packet_at bytes ≡ Err f
+    → (q : Question) × (told_fault q ≡ f) × FailFirst q bytes)
+    × ((q : Question) → FailFirst q bytes → (f : PesFault) × (packet_at bytes ≡ Err f))
 
 -- What was written of a frame is read as that frame, whatever follows, and what follows is left.
 -- So a schedule that was written is the schedule that is read.

@@ -2,8 +2,8 @@ pub mod DataUnit
 pub mod LineOrder
 pub mod PesPacket
 pub mod Reading
+pub mod Refusal
 pub mod Reader
-pub mod Writer
 pub mod Laws
 pub mod Fault
 pub mod Taking

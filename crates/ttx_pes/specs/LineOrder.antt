@@ -13,18 +13,18 @@ use Rattle.ttx_pes.specs.DataUnit.{UnitValue, subtitle_id}
 abbrev pub line_order_place : UnitValue → ℕ
 line_order_place u = 32 * (u.field - 1) + u.line
 
--- The place that the next unit has to be behind: that of the last unit that names a line, or where
--- none does the place before them all.
+-- The place that the next unit's has to come after: that of the last unit that names a line, or
+-- where none does the place before them all.
 abbrev pub last_place : ℕ → List UnitValue → ℕ
 last_place before [] = before
 last_place before (u ∷ units) =
     last_place (if u.line == 0 then before else line_order_place u) units
 
--- Whether a unit may stand behind that place.
+-- Whether a unit may stand after that place.
 abbrev pub stands_after : ℕ → UnitValue → Bool
 stands_after before u = (u.line == 0) || nat_lt before (line_order_place u)
 
--- Each unit may stand behind those before it.
+-- Each unit may stand after those before it.
 abbrev pub AreInLineOrder : ℕ → List UnitValue → Type 0
 AreInLineOrder before [] = Unit {0}
 AreInLineOrder before (u ∷ units) =

@@ -28,7 +28,7 @@ packet_length n = 184 * n - 6
 abbrev pub header_data_length : ℕ
 header_data_length = 0x24
 
--- The PTS in five bytes. Its 33 bits are sent in three groups, each with a marker bit 1 behind it:
+-- The PTS in five bytes. Its 33 bits are sent in three groups, each with a marker bit 1 after it:
 --
 --   0      0010 (4 bits), bits 32 to 30, 1
 --   1      bits 29 to 22
@@ -79,7 +79,7 @@ pub record IsPesPacket (v : PesValue) (b : List ℕ) : Type 0 where
 
 -- ---- the one packet that is written
 
--- The least number of payloads that has room for so many Teletext units: 3 in the first, 4 in each
+-- The least number of payloads that has room for `units` Teletext units: 3 in the first, 4 in each
 -- further one.
 unfoldable pub payloads_for : ℕ → ℕ
 payloads_for units = units / 4 + 1

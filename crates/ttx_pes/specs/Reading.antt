@@ -29,19 +29,19 @@ teletext_at b =
     else if not (slice_index b 3 == framing_code) then Err fault.Framing
     else Ok (Some (unit_of b))
 
--- The units so far, and that unit behind them, if there is one.
+-- The units so far, and that unit after them, if there is one.
 abbrev pub with_unit : List UnitValue → Option UnitValue → Result (List UnitValue) PesFault
 with_unit units None = Ok units
 with_unit units (Some u) =
     if stands_after (last_place 0 units) u then Ok (units ++ u ∷ []) else Err fault.LineOrder
 
--- A data unit behind the units so far.
+-- A data unit after the units so far.
 unfoldable pub unit_at : List UnitValue → List ℕ → Result (List UnitValue) PesFault
 unit_at units b = do
   u ← teletext_at b
   with_unit units u
 
--- n data units behind the units so far.
+-- n data units after the units so far.
 unfoldable pub units_at : ℕ → List UnitValue → List ℕ → Result (List UnitValue) PesFault
 units_at zero units b = Ok units
 units_at (suc n) units b = do
@@ -118,7 +118,7 @@ packet_at b = do
 abbrev pub most_packets : ℕ
 most_packets = 2160000
 
--- What a reader answers that has given so many packets and has these bytes to come, where its
+-- What a reader answers that has given `given` packets and has these bytes to come, where its
 -- source does not fail.
 unfoldable pub answer_at : ℕ → List ℕ → Result (Option PesValue) PesFault
 answer_at given [] = Ok None
@@ -126,7 +126,7 @@ answer_at given (x ∷ b) =
     if given == most_packets then Err fault.TooMany
     else (packet_at (x ∷ b) >>= λ p. Ok (Some p.0))
 
--- The bytes that are left behind the packet that begins the bytes; all where none does.
+-- The bytes that are left after the packet that begins the bytes; all where none does.
 abbrev pub left_behind : List ℕ → Result (PesValue × List ℕ) PesFault → List ℕ
 left_behind b (Ok p) = p.1
 left_behind b (Err _) = b
@@ -134,11 +134,6 @@ left_behind b (Err _) = b
 -- The bytes after the packet that begins these bytes.
 unfoldable pub rest_after : List ℕ → List ℕ
 rest_after b = left_behind b (packet_at b)
-
--- Whether the answer is the fault of a source that failed.
-abbrev pub is_read_failure : {X : Type 0} → Result X PesFault → Bool
-is_read_failure (Err fault.Read) = true
-is_read_failure _ = false
 
 -- Whether a fault is one of the format: `Truncated` to `LineOrder`.
 abbrev pub is_format_fault : PesFault → Bool

@@ -11,6 +11,14 @@ abbrev pub TakesOn : Option (List ℕ) → List ℕ → Option (List ℕ) → Li
 TakesOn old held new taken =
     (before : Option (List ℕ)) → Consumes before old held → Consumes before new taken
 
+-- The source failed while fewer bytes than that were taken; they begin with those held.
+pub record StopsBelow (old : Option (List ℕ)) (held : List ℕ) (new : Option (List ℕ)) (least : ℕ)
+    : Type 0 where
+  pub taken : List ℕ
+  pub few : length taken < least
+  pub from : take (length held) taken ≡ held
+  pub takes : TakesOn old held new taken
+
 -- The bytes were taken, and are as many as their first six tell.
 pub record TakesSized (old new : Option (List ℕ)) (bytes : List ℕ) : Type 0 where
   pub consumed : Consumes old new bytes

@@ -1,15 +1,17 @@
 //! Reading PES packets that are mostly the one before, sent again.
-ghost use Rattle.std.specs.Prelude.{◌≡◌, ℕ, ◌+◌, ◌<◌, ◌≢◌, ◌↔◌, true, false, [], if◌then◌else◌, length};
+ghost use Rattle.std.specs.Prelude.{◌≡◌, ℕ, ◌+◌, ◌<◌, ◌≢◌, ◌↔◌, true, false, [], if◌then◌else◌};
+ghost use Rattle.std.specs.Prelude.{length};
 ghost use Rattle.std.specs.Prelude.{Some, Ok, Err, OnOk, IfErr};
-ghost use Rattle.sub_io.specs.Device.{CanFail};
+ghost use Rattle.sub_io.specs.Device.{CanFail, CountsIf, failed};
 ghost use Rattle.sub_io.specs.Reading.{IfTold};
 ghost use Rattle.ttx_pes.specs.Comparing.{as_given, TakesDataField};
+ghost use Rattle.ttx_pes.specs.Fault.{is_read};
 ghost use Rattle.ttx_pes.specs.declared.comparing_reader.Compared.TheVariants.{End, Same, Other};
 ghost use Rattle.ttx_pes.specs.declared.fault.PesFault.TheVariants.{Ended, TooMany, Write};
 ghost use Rattle.ttx_pes.specs.declared.progress.Progress.TheVariants.{Reading, AtEnd, Broken};
 ghost use Rattle.ttx_pes.specs.PesPacket.{empty_value};
-ghost use Rattle.ttx_pes.specs.Reading.{answer_at, is_format_fault, is_read_failure, rest_after};
-ghost use Rattle.ttx_pes.specs.Reader.{progress_after, given_frame, BeginsNone};
+ghost use Rattle.ttx_pes.specs.Reading.{answer_at, is_format_fault, rest_after};
+ghost use Rattle.ttx_pes.specs.Reader.{BeginsNone, FailsWithin, given_frame, progress_after};
 
 use crate::fault::PesFault;
 use crate::kept_frame::KeptFrame;
@@ -67,7 +69,7 @@ fn read_compared<S: Source>(
     kept: &mut KeptFrame,
 ) -> Result<Compared, PesFault>
     requires { CanFail (S.failure_count source.old) }
-    ensures exact { IfTold (S.remaining source.old) (λ bytes. is_read_failure result ≡ false
+    ensures exact { IfTold (S.remaining source.old) (λ bytes. failed is_read result ≡ false
         → answer_at given bytes ≡ given_frame (as_given result) kept.new.frame) }
     ensures taken { as_given result ≡ Ok true → TakesDataField
         (S.remaining source.old) (S.remaining source.new) kept.new.frame kept.new.data_field }
@@ -76,12 +78,13 @@ fn read_compared<S: Source>(
     ensures other { result ≡ Ok Other → kept.new.data_field ≢ kept.old.data_field }
     ensures end { result ≡ Ok End → IfTold (S.remaining source.old) (λ bytes.
         (bytes ≡ []) × (S.remaining source.new ≡ Some (rest_after bytes))) }
+    ensures failed { failed is_read result ≡ true
+        → FailsWithin (S.remaining source.old) (S.remaining source.new) }
     ensures below { as_given result ≡ Ok true → given ≢ MOST_PACKETS }
     ensures too_many { IfErr result (λ fault. fault ≡ TooMany → given ≡ MOST_PACKETS) }
     ensures no_ended { IfErr result (λ fault. fault ≢ Ended) }
     ensures no_write { IfErr result (λ fault. fault ≢ Write) }
-    ensures count { S.failure_count source.new
-        ≡ S.failure_count source.old + (if is_read_failure result then 1 else 0) }
+    ensures count { CountsIf S.failure_count source.old (failed is_read result) source.new }
 {
     let Some(size) = take_packet(given, source, room)? else {
         return Ok(Compared::End);
@@ -141,13 +144,13 @@ impl ComparingReader {
         // left.
         ensures exact { (given : ℕ) → self.old.progress ≡ Reading given
             → IfTold (S.remaining source.old) (λ bytes.
-            is_read_failure result ≡ false
+            failed is_read result ≡ false
             → answer_at given bytes ≡ given_frame (as_given result) self.new.frame) }
         ensures left { (given : ℕ) → self.old.progress ≡ Reading given
             → IfTold (S.remaining source.old) (λ bytes.
             OnOk result (S.remaining source.new ≡ Some (rest_after bytes))) }
 
-        // The same in the words of the grammar.
+        // What the bytes decide, in the words of the grammar.
         ensures none { (given : ℕ) → self.old.progress ≡ Reading given
             → IfTold (S.remaining source.old) (λ bytes. result ≡ Ok End → bytes ≡ []) }
         ensures excluded { (given : ℕ) → self.old.progress ≡ Reading given
@@ -157,6 +160,9 @@ impl ComparingReader {
             fault ≡ TooMany → self.old.progress ≡ Reading MOST_PACKETS) }
         ensures byte_left { (given : ℕ) → self.old.progress ≡ Reading given
             → IfTold (S.remaining source.old) (λ bytes. result ≡ Err TooMany → 0 < length bytes) }
+        // A source that failed failed within this packet, whose bytes so far hold no fault.
+        ensures failed { failed is_read result ≡ true
+            → FailsWithin (S.remaining source.old) (S.remaining source.new) }
 
         // How the reader goes on.
         ensures progress { self.new.progress
@@ -167,8 +173,7 @@ impl ComparingReader {
         ensures broken { self.old.progress ≡ Broken → source.new ≡ source.old }
         // Nothing is written, so no sink fails: also where the source tells nothing.
         ensures no_write { IfErr result (λ fault. fault ≢ Write) }
-        ensures count { S.failure_count source.new
-            ≡ S.failure_count source.old + (if is_read_failure result then 1 else 0) }
+        ensures count { CountsIf S.failure_count source.old (failed is_read result) source.new }
     {
         let given = match self.progress {
             Progress::Reading(given) => given,

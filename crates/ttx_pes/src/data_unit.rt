@@ -1,9 +1,10 @@
 //! Data units, read and written (EN 300 472, data unit syntax).
 ghost use Rattle.std.specs.Prelude.{◌≡◌, ◌+◌, ◌*◌, ◌≤◌, ◌++◌, false, true, length, Ok, Err, OnOk};
 ghost use Rattle.std.specs.Prelude.{IfErr};
+ghost use Rattle.sub_io.specs.Device.{failed};
 ghost use Rattle.ttx_pes.specs.DataUnit.{teletext_unit, stuffing_unit};
+ghost use Rattle.ttx_pes.specs.Fault.{is_read};
 ghost use Rattle.ttx_pes.specs.Reading.{teletext_at, unit_at, units_at, is_format_fault};
-ghost use Rattle.ttx_pes.specs.Reading.{is_read_failure};
 
 use crate::fault::PesFault;
 use crate::pes_frame::PesFrame;
@@ -25,7 +26,7 @@ const FRAMING: u8 = 0xE4;
 fn teletext_of(block: &[u8]) -> Result<Option<Unit>, PesFault>
     requires { length block.now ≡ 46 }
     ensures exact { teletext_at block.now ≡ result }
-    ensures read { is_read_failure result ≡ false }
+    ensures read { failed is_read result ≡ false }
     ensures kind { IfErr result (λ fault. is_format_fault fault ≡ true) }
 {
     if block[1] != LENGTH {
@@ -52,7 +53,7 @@ fn take_unit(frame: &mut PesFrame, block: &[u8]) -> Result<(), PesFault>
     requires block { length block.now ≡ 46 }
     ensures room { length frame.new.units ≤ length frame.old.units + 1 }
     ensures ok { OnOk result (unit_at frame.old.units block.now ≡ Ok frame.new.units) }
-    ensures read { is_read_failure result ≡ false }
+    ensures read { failed is_read result ≡ false }
     ensures kind { IfErr result (λ fault. is_format_fault fault ≡ true) }
     ensures err { IfErr result (λ e. unit_at frame.old.units block.now ≡ Err e) }
     ensures pts { frame.new.pts ≡ frame.old.pts }
@@ -70,7 +71,7 @@ pub(crate) fn take_units(frame: &mut PesFrame, count: usize, blocks: &[u8]) -> R
     requires room { length frame.old.units + count ≤ 35 }
     requires blocks { length blocks.now ≡ 46 * count }
     ensures ok { OnOk result (units_at count frame.old.units blocks.now ≡ Ok frame.new.units) }
-    ensures read { is_read_failure result ≡ false }
+    ensures read { failed is_read result ≡ false }
     ensures kind { IfErr result (λ fault. is_format_fault fault ≡ true) }
     ensures err { IfErr result (λ e. units_at count frame.old.units blocks.now ≡ Err e) }
     ensures pts { frame.new.pts ≡ frame.old.pts }

@@ -29,7 +29,7 @@ pub enum PesFault {
     UnitLength,
     /// The framing code of a Teletext unit is not E4 (hexadecimal).
     Framing,
-    /// A Teletext unit's line is not behind the one before it in its packet (own).
+    /// A Teletext unit's line does not come after the one before it in its packet (own).
     LineOrder,
     /// The source failed.
     Read,
@@ -59,7 +59,7 @@ impl PesFault {
         self.number_and_name().1
     }
 
-    // Both.
+    // The number and the name.
     fn number_and_name(self) -> (u8, &'static str)
         ensures number { result.0 ≡ (number_and_name self).0 }
         ensures name { result.1.now ≡ (number_and_name self).1 }

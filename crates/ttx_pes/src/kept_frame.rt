@@ -1,6 +1,7 @@
 //! A frame with the data field that it was read from, so that one that is sent again is compared
 //! and not read again.
-ghost use Rattle.std.specs.Prelude.{◌≡◌, ◌+◌, ◌%◌, ◌≤◌, ◌↔◌, true, Ok, Err, OnOk, IfOk, IfErr, length};
+ghost use Rattle.std.specs.Prelude.{◌≡◌, ◌+◌, ◌%◌, ◌≤◌, ◌↔◌, true, Ok, Err, OnOk, IfOk, IfErr};
+ghost use Rattle.std.specs.Prelude.{length};
 ghost use Rattle.std.specs.Prelude.{drop, []};
 ghost use Rattle.sub_io.specs.Reading.{AreBytes};
 ghost use Rattle.ttx_pes.specs.PesPacket.{empty_value};

@@ -1,7 +1,7 @@
 //! Laws of the format, each as a call whose contract is the law.
 ghost use Rattle.ttx_pes.specs.Laws.{LawOfCanonicalPacket, LawOfGrammar, LawOfNumberedFrame};
 ghost use Rattle.ttx_pes.specs.Laws.{LawOfLineOrder, LawOfOneValue, LawOfPacketValue, LawOfReading};
-ghost use Rattle.ttx_pes.specs.Laws.{LawOfReadingBack};
+ghost use Rattle.ttx_pes.specs.Laws.{LawOfReadingBack, LawOfRefusal};
 
 /// A PES packet has one value, and none is a proper prefix of another: a file falls into packets in
 /// one way.
@@ -29,6 +29,13 @@ pub fn law_of_reading()
 /// does not have.
 pub fn law_of_grammar()
     ensures { LawOfGrammar }
+{}
+
+/// Where no packet is read, the fault is that of the first question in which the bytes fail: some
+/// packet of the grammar agrees with them in all that is asked before, none in what is asked there.
+/// Where they fail in a question no packet is read.
+pub fn law_of_refusal()
+    ensures { LawOfRefusal }
 {}
 
 /// What was written of a frame is read as that frame, and what follows it is left.

@@ -1,8 +1,8 @@
 //! EBU Teletext in PES packets (EN 300 472), both ways.
 //!
 //! A reader gives the PTS and the Teletext units of each PES packet, and takes exactly the packet's
-//! bytes; one that compares tells also whether the data field is that of the packet before. A writer
-//! puts a frame's canonical packet. Stands on `sub_io` for the devices and on
+//! bytes; one that compares tells also whether the data field is that of the packet before. A
+//! writer puts a frame's canonical packet. Stands on `sub_io` for the devices and on
 //! `ttx_packet` for the packets; schedules are written and checked over it.
 //!
 //! ```text
@@ -36,7 +36,7 @@ pub use comparing_reader::{Compared, ComparingReader};
 pub use fault::PesFault;
 pub use laws::{
     law_of_canonical_packet, law_of_grammar, law_of_line_order, law_of_numbered_frame,
-    law_of_one_value, law_of_packet_value, law_of_reading, law_of_reading_back,
+    law_of_one_value, law_of_packet_value, law_of_reading, law_of_reading_back, law_of_refusal,
 };
 pub use line_numbers::put_frame;
 pub use pes_frame::PesFrame;

@@ -1,11 +1,11 @@
 //! Packets that are sent as one frame, on the lines of EN 300 472.
 ghost use Rattle.std.specs.Prelude.{◌≡◌, ◌+◌, ◌^◌, ◌<◌, ◌≤◌, ◌==◌, false, length, IfErr};
 ghost use Rattle.std.specs.Prelude.{if◌then◌else◌};
-ghost use Rattle.sub_io.specs.Device.{CanFail, Writes};
+ghost use Rattle.sub_io.specs.Device.{CanFail, CountsIf, Writes, failed};
+ghost use Rattle.ttx_pes.specs.Fault.{is_write};
 ghost use Rattle.ttx_pes.specs.declared.fault.PesFault.TheVariants.{Write};
 ghost use Rattle.ttx_pes.specs.LineOrder.{line_order_place, numbered_place, numbered_unit};
 ghost use Rattle.ttx_pes.specs.PesPacket.{canonical_packet, numbered_frame};
-ghost use Rattle.ttx_pes.specs.Writer.{is_write_failure};
 
 use crate::fault::PesFault;
 use crate::pes_frame::PesFrame;
@@ -57,8 +57,7 @@ pub fn put_frame<K: Sink>(sink: &mut K, pts: u64, packets: &[Packet]) -> Result<
     ensures bytes { Writes (K.contents sink.old) (K.contents sink.new)
         (canonical_packet (numbered_frame pts packets.now)) result }
     ensures faults { IfErr result (λ fault. fault ≡ Write) }
-    ensures count { K.failure_count sink.new
-        ≡ K.failure_count sink.old + (if is_write_failure result then 1 else 0) }
+    ensures count { CountsIf K.failure_count sink.old (failed is_write result) sink.new }
 {
     PesWriter::new().put(sink, &frame_of(pts, packets))
 }

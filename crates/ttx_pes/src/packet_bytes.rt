@@ -1,12 +1,15 @@
 //! The bytes of the next PES packet, taken from a source.
-ghost use Rattle.std.specs.Prelude.{◌≡◌, ◌+◌, ◌%◌, ◌<◌, ◌≤◌, ◌≢◌, true, false, [], length, take, drop, Some};
-ghost use Rattle.std.specs.Prelude.{None, Ok, Err, IfOk, IfErr, IfSome, if◌then◌else◌, IsSome, is_ok};
+ghost use Rattle.std.specs.Prelude.{◌≡◌, ◌+◌, ◌%◌, ◌<◌, ◌≤◌, ◌≢◌, true, false, [], length, take};
+ghost use Rattle.std.specs.Prelude.{drop, Some};
+ghost use Rattle.std.specs.Prelude.{None, Ok, Err, IfOk, IfErr, IfSome, IsSome, OnErr};
 ghost use Rattle.std.specs.Io.KnownBytes.{IsAtEnd};
-ghost use Rattle.sub_io.specs.Device.{CanFail, CountsFailure};
+ghost use Rattle.sub_io.specs.Device.{CanFail, CountsFailure, CountsIf, failed};
 ghost use Rattle.sub_io.specs.Reading.{AreBytes, IfTold};
+ghost use Rattle.ttx_pes.specs.Fault.{is_read};
 ghost use Rattle.ttx_pes.specs.declared.fault.PesFault.TheVariants.{Ended, Read, TooMany, Write};
-ghost use Rattle.ttx_pes.specs.Reading.{answer_at, is_read_failure, rest_after};
-ghost use Rattle.ttx_pes.specs.Taking.{TakesOn, TakesSized};
+ghost use Rattle.ttx_pes.specs.Reading.{answer_at, rest_after};
+ghost use Rattle.ttx_pes.specs.Reader.{FailsWithin};
+ghost use Rattle.ttx_pes.specs.Taking.{StopsBelow, TakesOn, TakesSized};
 
 use crate::fault::PesFault;
 use crate::pes_header::size_of;
@@ -44,6 +47,8 @@ fn fill_on<S: Source>(
     ensures bytes { IfOk result (λ n. TakesOn (S.remaining source.old) (take held room.old)
         (S.remaining source.new) (take n room.new)) }
     ensures end { IfOk result (λ n. n < least → IsAtEnd (S.remaining source.new)) }
+    ensures err { OnErr result (StopsBelow (S.remaining source.old) (take held room.old)
+        (S.remaining source.new) least) }
     ensures count { CountsFailure (S.failure_count source.old) result (S.failure_count source.new) }
 {
     let mut at = held;
@@ -73,12 +78,13 @@ pub(crate) fn take_packet<S: Source>(
         TakesSized (S.remaining source.old) (S.remaining source.new) (take size room.new))) }
     ensures range { IfOk result (λ taken. IfSome taken (λ size.
         (184 ≤ size) × (size ≤ 1656) × (size % 184 ≡ 0))) }
+    ensures failed { failed is_read result ≡ true
+        → FailsWithin (S.remaining source.old) (S.remaining source.new) }
     ensures below { IfOk result (λ taken. IsSome taken → given ≢ MOST_PACKETS) }
     ensures too_many { IfErr result (λ fault. fault ≡ TooMany → given ≡ MOST_PACKETS) }
     ensures no_ended { IfErr result (λ fault. fault ≢ Ended) }
     ensures no_write { IfErr result (λ fault. fault ≢ Write) }
-    ensures count { S.failure_count source.new
-        ≡ S.failure_count source.old + (if is_read_failure result then 1 else 0) }
+    ensures count { CountsIf S.failure_count source.old (failed is_read result) source.new }
 {
     let most = if given == MOST_PACKETS { HEAD } else { LEAST };
     let got = fill_on(source, room, 0, HEAD, most)?;

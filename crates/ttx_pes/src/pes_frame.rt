@@ -16,7 +16,7 @@ pub struct PesFrame {
     // to the default would cost a write of each.
     units: ArrayVec<Unit, 35>,
     count: usize,
-    // The place that the next unit has to be behind.
+    // The place that the next unit's has to come after.
     last: u8,
 }
 
@@ -78,8 +78,8 @@ impl PesFrame {
     ///
     /// # Errors
     ///
-    /// The unit itself, where there are 35 units or its line is not behind those before it; the
-    /// frame stays as it was. A unit of line 0 may stand anywhere.
+    /// The unit itself, where there are 35 units or its line does not come after those before it;
+    /// the frame stays as it was. A unit of line 0 may stand anywhere.
     #[tactic(auto, using(crate::proofs::LineOrderLemmas::order))]
     pub fn add(&mut self, unit: Unit) -> Result<(), Unit>
         ensures variant { IsOk result ↔ ((length self.old.units < 35)

@@ -2,9 +2,11 @@
 //! data_identifier).
 ghost use Rattle.std.specs.Prelude.{◌≡◌, ◌+◌, ◌*◌, ◌/◌, ◌%◌, ◌^◌, ◌<◌, ◌≤◌, false, true, length};
 ghost use Rattle.std.specs.Prelude.{slice_index, IfOk, IfErr};
+ghost use Rattle.sub_io.specs.Device.{failed};
 ghost use Rattle.sub_io.specs.Reading.{AreBytes};
+ghost use Rattle.ttx_pes.specs.Fault.{is_read};
 ghost use Rattle.ttx_pes.specs.PesPacket.{header, pts_bytes};
-ghost use Rattle.ttx_pes.specs.Reading.{pts_at, size_at, is_format_fault, is_read_failure};
+ghost use Rattle.ttx_pes.specs.Reading.{pts_at, size_at, is_format_fault};
 
 use crate::fault::PesFault;
 use crate::writer::{Bytes, add};
@@ -19,7 +21,7 @@ const PAYLOAD: usize = 184;
 pub(crate) fn size_of(head: &[u8; 6]) -> Result<usize, PesFault>
     ensures exact { size_at head.now ≡ result }
     ensures bytes { AreBytes head.now }
-    ensures read { is_read_failure result ≡ false }
+    ensures read { failed is_read result ≡ false }
     ensures kind { IfErr result (λ fault. is_format_fault fault ≡ true) }
     ensures range { IfOk result (λ size. (184 ≤ size) × (size ≤ 1656) × (size % 184 ≡ 0)) }
 {
@@ -46,7 +48,7 @@ fn length_of(head: &[u8; 6]) -> u16
 pub(crate) fn pts_of(body: &[u8]) -> Result<u64, PesFault>
     requires { 40 ≤ length body.now }
     ensures exact { pts_at body.now ≡ result }
-    ensures read { is_read_failure result ≡ false }
+    ensures read { failed is_read result ≡ false }
     ensures kind { IfErr result (λ fault. is_format_fault fault ≡ true) }
     ensures range { IfOk result (λ pts. pts < 2 ^ 33) }
 {
@@ -69,7 +71,7 @@ pub(crate) fn pts_of(body: &[u8]) -> Result<u64, PesFault>
     Ok(high * (1 << 30) + fifteen_bits(body, 4) * (1 << 15) + fifteen_bits(body, 6))
 }
 
-// A group of 15 bits of the PTS, without the marker bit behind it.
+// A group of 15 bits of the PTS, without the marker bit after it.
 fn fifteen_bits(body: &[u8], place: usize) -> u64
     requires { place + 2 ≤ length body.now }
     ensures value { result

@@ -2,14 +2,16 @@
 ghost use Rattle.std.specs.Prelude.{◌≡◌, ℕ, ◌+◌, ◌%◌, ◌<◌, ◌≤◌, ◌≢◌, ◌↔◌, true, false, []};
 ghost use Rattle.std.specs.Prelude.{if◌then◌else◌, length, Some, None, Ok, Err, IfOk, OnOk, IfErr};
 ghost use Rattle.std.specs.Prelude.{IfSome, OnSome};
-ghost use Rattle.sub_io.specs.Device.{CanFail};
+ghost use Rattle.sub_io.specs.Device.{CanFail, CountsIf, failed};
 ghost use Rattle.sub_io.specs.Reading.{AreBytes, IfTold};
+ghost use Rattle.ttx_pes.specs.Fault.{is_read};
 ghost use Rattle.ttx_pes.specs.declared.fault.PesFault.TheVariants.{Ended, TooMany, Write};
 ghost use Rattle.ttx_pes.specs.declared.progress.Progress.TheVariants.{Reading, AtEnd, Broken};
 ghost use Rattle.ttx_pes.specs.PesPacket.{empty_value};
-ghost use Rattle.ttx_pes.specs.Reading.{answer_at, value_at, is_format_fault, is_read_failure};
+ghost use Rattle.ttx_pes.specs.Reading.{answer_at, value_at, is_format_fault, most_packets};
 ghost use Rattle.ttx_pes.specs.Reading.{rest_after};
-ghost use Rattle.ttx_pes.specs.Reader.{progress_after, given_frame, TakesPesPacket, BeginsNone};
+ghost use Rattle.ttx_pes.specs.Reader.{BeginsNone, FailsWithin, TakesPesPacket, given_frame};
+ghost use Rattle.ttx_pes.specs.Reader.{progress_after};
 
 use crate::data_unit::take_units;
 use crate::fault::PesFault;
@@ -48,7 +50,7 @@ fn read_value(body: &[u8], frame: &mut PesFrame) -> Result<(), PesFault>
     ensures ok { OnOk result (value_at body.now ≡ Ok frame.new) }
     ensures err { IfErr result (λ fault. value_at body.now ≡ Err fault) }
     ensures bytes { AreBytes body.now }
-    ensures read { is_read_failure result ≡ false }
+    ensures read { failed is_read result ≡ false }
     ensures kind { IfErr result (λ fault. is_format_fault fault ≡ true) }
 {
     let pts = pts_of(body)?;
@@ -66,17 +68,18 @@ fn read_packet<S: Source>(
 ) -> Result<bool, PesFault>
     requires { CanFail (S.failure_count source.old) }
     ensures exact { IfTold (S.remaining source.old) (λ bytes.
-        is_read_failure result ≡ false → answer_at given bytes ≡ given_frame result frame.new) }
+        failed is_read result ≡ false → answer_at given bytes ≡ given_frame result frame.new) }
     ensures frame { result ≡ Ok true
         → TakesPesPacket (S.remaining source.old) (S.remaining source.new) frame.new }
     ensures end { result ≡ Ok false → IfTold (S.remaining source.old) (λ bytes.
         (bytes ≡ []) × (S.remaining source.new ≡ Some (rest_after bytes))) }
+    ensures failed { failed is_read result ≡ true
+        → FailsWithin (S.remaining source.old) (S.remaining source.new) }
     ensures too_many { IfErr result (λ fault. fault ≡ TooMany → given ≡ MOST_PACKETS) }
     ensures never { IfErr result (λ fault. fault ≢ Ended) }
     ensures no_write { IfErr result (λ fault. fault ≢ Write) }
     ensures below { result ≡ Ok true → given ≢ MOST_PACKETS }
-    ensures count { S.failure_count source.new
-        ≡ S.failure_count source.old + (if is_read_failure result then 1 else 0) }
+    ensures count { CountsIf S.failure_count source.old (failed is_read result) source.new }
 {
     let Some(size) = take_packet(given, source, room)? else {
         return Ok(false);
@@ -118,12 +121,12 @@ impl PesReader {
         // left.
         ensures exact { (given : ℕ) → self.old ≡ Reading given
             → IfTold (S.remaining source.old) (λ bytes.
-            is_read_failure result ≡ false → answer_at given bytes ≡ result) }
+            failed is_read result ≡ false → answer_at given bytes ≡ result) }
         ensures left { (given : ℕ) → self.old ≡ Reading given
             → IfTold (S.remaining source.old) (λ bytes.
             OnOk result (S.remaining source.new ≡ Some (rest_after bytes))) }
 
-        // The same in the words of the grammar.
+        // What the bytes decide, in the words of the grammar.
         ensures none { (given : ℕ) → self.old ≡ Reading given
             → IfTold (S.remaining source.old) (λ bytes. result ≡ Ok None → bytes ≡ []) }
         ensures excluded { (given : ℕ) → self.old ≡ Reading given
@@ -133,6 +136,9 @@ impl PesReader {
             fault ≡ TooMany → self.old ≡ Reading MOST_PACKETS) }
         ensures byte_left { (given : ℕ) → self.old ≡ Reading given
             → IfTold (S.remaining source.old) (λ bytes. result ≡ Err TooMany → 0 < length bytes) }
+        // A source that failed failed within this packet, whose bytes so far hold no fault.
+        ensures failed { failed is_read result ≡ true
+            → FailsWithin (S.remaining source.old) (S.remaining source.new) }
 
         // How the reader goes on.
         ensures progress { self.new ≡ progress_after self.old result }
@@ -141,8 +147,7 @@ impl PesReader {
         ensures broken { self.old ≡ Broken → source.new ≡ source.old }
         // Nothing is written, so no sink fails: also where the source tells nothing.
         ensures no_write { IfErr result (λ fault. fault ≢ Write) }
-        ensures count { S.failure_count source.new
-            ≡ S.failure_count source.old + (if is_read_failure result then 1 else 0) }
+        ensures count { CountsIf S.failure_count source.old (failed is_read result) source.new }
     {
         let mut frame = PesFrame::new(0);
         match self.next_into(source, &mut frame) {
@@ -176,13 +181,13 @@ impl PesReader {
         // left.
         ensures exact { (given : ℕ) → self.old ≡ Reading given
             → IfTold (S.remaining source.old) (λ bytes.
-            is_read_failure result ≡ false
+            failed is_read result ≡ false
             → answer_at given bytes ≡ given_frame result frame.new) }
         ensures left { (given : ℕ) → self.old ≡ Reading given
             → IfTold (S.remaining source.old) (λ bytes.
             OnOk result (S.remaining source.new ≡ Some (rest_after bytes))) }
 
-        // The same in the words of the grammar.
+        // What the bytes decide, in the words of the grammar.
         ensures none { (given : ℕ) → self.old ≡ Reading given
             → IfTold (S.remaining source.old) (λ bytes. result ≡ Ok false → bytes ≡ []) }
         ensures excluded { (given : ℕ) → self.old ≡ Reading given
@@ -192,16 +197,19 @@ impl PesReader {
             fault ≡ TooMany → self.old ≡ Reading MOST_PACKETS) }
         ensures byte_left { (given : ℕ) → self.old ≡ Reading given
             → IfTold (S.remaining source.old) (λ bytes. result ≡ Err TooMany → 0 < length bytes) }
+        // A source that failed failed within this packet, whose bytes so far hold no fault.
+        ensures failed { failed is_read result ≡ true
+            → FailsWithin (S.remaining source.old) (S.remaining source.new) }
 
         // How the reader goes on.
         ensures progress { self.new ≡ progress_after self.old (given_frame result frame.new) }
+        ensures few { (given : ℕ) → self.new ≡ Reading given → given ≤ most_packets }
         ensures at_end { self.old ≡ AtEnd → (result ≡ Ok false) × (source.new ≡ source.old) }
         ensures ended { (self.old ≡ Broken) ↔ (result ≡ Err Ended) }
         ensures broken { self.old ≡ Broken → source.new ≡ source.old }
         // Nothing is written, so no sink fails: also where the source tells nothing.
         ensures no_write { IfErr result (λ fault. fault ≢ Write) }
-        ensures count { S.failure_count source.new
-            ≡ S.failure_count source.old + (if is_read_failure result then 1 else 0) }
+        ensures count { CountsIf S.failure_count source.old (failed is_read result) source.new }
     {
         let given = match self.progress {
             Progress::Reading(given) => given,

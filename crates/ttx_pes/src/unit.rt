@@ -91,7 +91,7 @@ impl Unit {
         &self.packet
     }
 
-    // The place behind the place `last` and this unit, if the unit may stand there.
+    // The place after the place `last` and this unit, if the unit may stand there.
     pub(crate) fn place_after(&self, last: u8) -> Option<u8>
         requires { last < 64 }
         ensures variant { is_some result ≡ stands_after last self.now }

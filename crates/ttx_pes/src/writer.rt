@@ -1,10 +1,10 @@
 //! Writing PES packets.
 ghost use Rattle.std.specs.Prelude.{◌≡◌, ◌+◌, ◌<◌, ◌≤◌, ◌++◌, length, Err, IfErr, is_err, true};
 ghost use Rattle.std.specs.Prelude.{false, if◌then◌else◌};
-ghost use Rattle.sub_io.specs.Device.{CanFail, Writes};
+ghost use Rattle.sub_io.specs.Device.{CanFail, CountsIf, Writes, failed};
+ghost use Rattle.ttx_pes.specs.Fault.{is_write};
 ghost use Rattle.ttx_pes.specs.declared.fault.PesFault.TheVariants.{Ended, Write};
 ghost use Rattle.ttx_pes.specs.PesPacket.{canonical_packet};
-ghost use Rattle.ttx_pes.specs.Writer.{is_write_failure};
 
 use crate::data_unit::{add_stuffing, add_unit};
 use crate::fault::PesFault;
@@ -79,8 +79,7 @@ impl PesWriter {
         ensures faults { IfErr result (λ fault. fault ≡ (if self.old then Ended else Write)) }
         ensures ended { self.old ≡ true → (result ≡ Err Ended) × (sink.new ≡ sink.old) }
         ensures state { self.new ≡ is_err result }
-        ensures count { K.failure_count sink.new
-            ≡ K.failure_count sink.old + (if is_write_failure result then 1 else 0) }
+        ensures count { CountsIf K.failure_count sink.old (failed is_write result) sink.new }
     {
         if self.broken {
             return Err(PesFault::Ended);

@@ -30,7 +30,7 @@ fn tells_the_pes_packet_of_a_failing_pull(rt: HostRuntime) -> Result<(), Fail> {
     let alloc = rt.alloc();
     let (file, pes) = (hi(alloc)?, schedule_of_hi(alloc, 250)?);
     let options = every(250)?;
-    // 368 pulls give a byte each, and one the end. The first pull, the one behind the last, line
+    // 368 pulls give a byte each, and one the end. The first pull, the one after the last, line
     for (begin, end, want) in [
         (0, 184, "fault 41 Read pes 0\n"),
         (184, 368, "fault 41 Read pes 1\n"),
@@ -53,7 +53,7 @@ fn tells_the_block_of_a_failing_pull(rt: HostRuntime) -> Result<(), Fail> {
     let alloc = rt.alloc();
     let (file, pes) = (hi(alloc)?, schedule_of_hi(alloc, 250)?);
     let options = every(250)?;
-    // 1152 pulls give a byte each, and one the end. The first pull, the one behind the last, line
+    // 1152 pulls give a byte each, and one the end. The first pull, the one after the last, line
     for (begin, end, want) in [
         (0, 1024, "fault 26 Read block 0\n"),
         (1024, 1152, "fault 26 Read block 1\n"),

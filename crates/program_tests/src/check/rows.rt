@@ -233,7 +233,7 @@ fn with_packet(
     Ok(pes)
 }
 
-// A packet of this front, with blanks behind it.
+// A packet of this front, with blanks after it.
 fn packet_of(front: &[u8]) -> Packet {
     let mut bytes = [0x20; 42];
     for (byte, value) in bytes.iter_mut().zip(front.iter()) {
@@ -264,7 +264,7 @@ fn hears_a_header_of_another_page_by_its_mode(rt: HostRuntime) -> Result<(), Fai
     Ok(())
 }
 
-// Asserts the line of a check of `Hi` and its schedule with a packet more behind the row.
+// Asserts the line of a check of `Hi` and its schedule with a packet more after the row.
 fn assert_adds(
     rt: &(impl Abort + Alloc<A = Global>),
     file: &[u8],

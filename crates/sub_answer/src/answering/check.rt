@@ -1,25 +1,29 @@
 //! `check STL PES`: checks a PES file against a subtitle file.
-ghost use Rattle.std.specs.Prelude.{◌≡◌, ◌≢◌, ◌<◌, Ok};
+ghost use Rattle.std.specs.Prelude.{◌≡◌, ◌≢◌, ◌<◌, [], IsTrue, Ok};
 ghost use Rattle.sub_io.specs.Device.{CanFail};
 ghost use Rattle.sub_io.specs.Reading.{IfTold};
 ghost use Rattle.stl_file.specs.Reader.{outcome_of};
 ghost use Rattle.stl_rows.specs.Loading.{loaded};
 ghost use Rattle.stl_rows.specs.Programme.{ProgrammeValue};
 ghost use Rattle.sub_check.specs.LostRows.{RobustToMarkedLoss};
+ghost use Rattle.sub_check.specs.OnScreen.{Shown};
 ghost use Rattle.sub_check.specs.PesFrames.{Carries};
+ghost use Rattle.sub_check.specs.Recovery.{Recovers};
 ghost use Rattle.sub_check.specs.Robust.{Robust};
 ghost use Rattle.sub_check.specs.Transmission.{Transmission};
 ghost use Rattle.sub_answer.specs.Answering.{AnswersCheck};
+ghost use Rattle.sub_answer.specs.CheckLines.{accepted_line, verdict};
 ghost use Rattle.sub_answer.specs.DeviceCall.{sink_call, source_call};
 ghost use Rattle.sub_answer.specs.Listing.{CountsFault};
 
-use crate::check_lines::push_verdict;
-use crate::lines::Line;
+use crate::faults::told_of_check;
+use crate::lines::{Line, push_decimal, push_text, push_told};
+use crate::printing::print;
 use crate::status::Status;
 use std::alloc::Global;
 use stl_rows::National;
-use sub_check::check_files;
-use sub_io::{Sink, Source, put_all};
+use sub_check::{Accepted, CheckFault, check_files};
+use sub_io::{Sink, Source};
 use sub_plan::Options;
 
 /// Checks a PES file against a subtitle file, and prints the one line of the verdict.
@@ -47,7 +51,8 @@ pub fn print_verdict<S: Source, T: Source, K: Sink>(
         (sink_call K.contents K.failure_count out.old out.new) result }
 
     // What is accepted is robust, with lost rows too: every receiver shows each due page within the
-    // repeat bound, but for cells whose byte was hit.
+    // repeat bound, but for cells whose byte was hit. By it receivers recover from whatever they
+    // held before, and where complete pages are asked for, it is on their screens.
     ensures robust { (programme : ProgrammeValue) (frames : Transmission)
         → IfTold (S.remaining stl.old) (λ file.
         loaded national (outcome_of file) ≡ Ok programme
@@ -55,7 +60,9 @@ pub fn print_verdict<S: Source, T: Source, K: Sink>(
         Carries options.now.origin bytes frames
         → result ≡ Status.Done
         → Robust programme frames options.now
-        × RobustToMarkedLoss programme frames options.now)) }
+        × RobustToMarkedLoss programme frames options.now
+        × Recovers programme frames options.now
+        × (IsTrue options.now.asks_complete → Shown programme frames options.now))) }
 
     // A subtitle file that gives no programme is not accepted, and no PES byte is read.
     ensures subtitles { IfTold (S.remaining stl.old) (λ file.
@@ -70,8 +77,36 @@ pub fn print_verdict<S: Source, T: Source, K: Sink>(
     let answer = check_files(alloc, stl, pes, national, options);
     let mut line = Line::new();
     let status = push_verdict(&mut line, answer);
-    match put_all(out, line.as_slice()) {
-        Ok(()) => status,
-        Err(_) => Status::Fault,
+    print(line.as_slice(), status, out)
+}
+
+// Makes the line of the answer of a check, and gives the status that goes with it.
+fn push_verdict(line: &mut Line, answer: Result<Accepted, CheckFault>) -> Status
+    requires { line.old.items ≡ [] }
+    ensures items { line.new.items ≡ (verdict answer).text }
+    ensures status { result ≡ (verdict answer).status }
+{
+    match answer {
+        Ok(accepted) => {
+            push_accepted(line, accepted);
+            Status::Done
+        }
+        Err(fault) => {
+            let told = told_of_check(fault);
+            push_told(line, &told);
+            told.kind.status()
+        }
     }
+}
+
+// Makes the line of what is accepted.
+fn push_accepted(line: &mut Line, accepted: Accepted)
+    requires { line.old.items ≡ [] }
+    ensures { line.new.items ≡ accepted_line accepted }
+{
+    push_text(line, b"accepted ");
+    push_decimal(line, accepted.frames);
+    push_text(line, b" frames ");
+    push_decimal(line, accepted.transmissions);
+    push_text(line, b" transmissions\n");
 }

@@ -1,19 +1,19 @@
 //! `listen PES`: runs one receiver over the PES packets of a file.
 ghost use Rattle.std.specs.Prelude.{◌≡◌, ℕ, ◌+◌, ◌*◌, ◌≤◌, ◌<◌, ◌++◌, IfErr, Option, length};
 ghost use Rattle.std.specs.Prelude.{false, if◌then◌else◌, slice_index, true};
-ghost use Rattle.sub_io.specs.Device.{CanFail};
+ghost use Rattle.sub_io.specs.Device.{CanFail, CountsIf, failed};
 ghost use Rattle.arrayvec.specs.ArrayVec.{array_vec_len};
 ghost use Rattle.sub_io.specs.Reading.{IfTold};
 ghost use Rattle.ttx_page.specs.Page.{AreCodes};
+ghost use Rattle.ttx_page.specs.Screen.{display};
 ghost use Rattle.sub_check.specs.FrameRules.{Unread};
 ghost use Rattle.sub_check.specs.PesReading.{ReadsAs};
 ghost use Rattle.sub_check.specs.Transmission.{Transmission};
 ghost use Rattle.sub_answer.specs.Answering.{AnswersListen};
 ghost use Rattle.sub_answer.specs.DeviceCall.{sink_call, source_call};
 ghost use Rattle.sub_answer.specs.Listing.{CountsFault, PrintsOrFails, told_listing};
-ghost use Rattle.sub_answer.specs.ListeningRun.{IsOldPage, Runs, is_source_failure};
-ghost use Rattle.sub_answer.specs.ListeningRun.{is_source_fault};
-ghost use Rattle.sub_answer.specs.ListeningRun.{is_subtitle_fault, listen_told};
+ghost use Rattle.sub_answer.specs.ListeningRun.{IsOldPage, Runs, is_subtitle_fault, listen_told};
+ghost use Rattle.sub_answer.specs.ListeningRun.{is_read};
 ghost use Rattle.sub_answer.specs.Told.{value_of};
 ghost use Rattle.sub_answer.specs.declared.answering.listen.ListenFault.TheVariants.{File};
 
@@ -22,13 +22,14 @@ use crate::faults::told_of_check;
 use crate::lines::{Line, push_told};
 use crate::listening::{Listening, ReceiverKind};
 use crate::printing::print;
-use crate::reception::{first_lost_header, hear_units};
+use crate::reception::first_lost_header;
+use crate::sendings::hear_sending;
 use crate::status::Status;
 use crate::told::{Kind, Place, Told};
-use sub_check::{CheckFault, next_frame};
+use sub_check::{CheckFault, next_sending};
 use sub_io::{Sink, Source};
 use ttx_page::{Blank, Keep, Page, Receiver};
-use ttx_pes::{PesFrame, PesReader};
+use ttx_pes::ComparingReader;
 
 /// The PES packets of a file at most: one for each frame of a day.
 const MOST_PACKETS: u32 = 2_160_000;
@@ -59,9 +60,12 @@ impl From<CheckFault> for ListenFault {
 /// shows.
 ///
 /// The receiver is tuned to the page with an old page that holds 3F in every cell. It hears the
-/// packets as they are read, but for those that are passed over or lost, each with its flips. At
-/// the first PES packet after TIME nothing more is read; its own faults are still told. Nothing is
-/// printed before the last packet was heard.
+/// packets as they are read, but for those that are passed over or lost, each with its flips, and
+/// for the rows that it drops. At the first PES packet after TIME nothing more is read; its own
+/// faults are still told. Nothing is printed before the last packet was heard.
+///
+/// Where complete pages are asked for, what is printed is what is on its screen: a page comes onto
+/// it when a header of another page ends it.
 ///
 /// A file is refused at the first PES packet that `check` would not read on at, and at a PES packet
 /// of which a page header, or a packet without an address, is lost.
@@ -84,12 +88,13 @@ pub fn print_listening<S: Source, K: Sink>(
         < S.failure_count pes.new + K.failure_count out.new }
 {
     match listening.receiver {
-        ReceiverKind::Keep => listen::<Keep, S, K>(pes, listening, out),
+        // One that drops rows hears none with a byte of even parity.
+        ReceiverKind::Keep | ReceiverKind::DropRow => listen::<Keep, S, K>(pes, listening, out),
         ReceiverKind::Blank => listen::<Blank, S, K>(pes, listening, out),
     }
 }
 
-// The same with a receiver of either kind.
+// Listens with a receiver of either kind.
 fn listen<R: Receiver + Drop, S: Source, K: Sink>(
     pes: &mut S,
     listening: &Listening,
@@ -107,8 +112,9 @@ fn listen<R: Receiver + Drop, S: Source, K: Sink>(
         < S.failure_count pes.new + K.failure_count out.new }
 {
     let mut receiver = R::tune(listening.options.page(), old_page());
-    match hear_file(&mut receiver, pes, listening) {
-        Ok(()) => print_state(&receiver, out),
+    let mut screen = None;
+    match hear_file(&mut receiver, &mut screen, pes, listening) {
+        Ok(()) => print_state(&receiver, &screen, listening.options.asks_complete(), out),
         Err(fault) => print_fault(&fault, out),
     }
 }
@@ -133,32 +139,35 @@ fn old_row() -> [u8; 40]
     [0x3F; 40]
 }
 
-// Lets a receiver hear what it gets of a file up to TIME.
+// Lets a receiver with a screen hear what it hears of a file up to TIME.
 fn hear_file<R: Receiver, S: Source>(
     receiver: &mut R,
+    screen: &mut Option<Page>,
     pes: &mut S,
     listening: &Listening,
 ) -> Result<(), ListenFault>
-    requires { CanFail (S.failure_count pes.old) }
+    requires count { CanFail (S.failure_count pes.old) }
+    requires tuned { R.tuned_to receiver.old ≡ listening.now.options.page }
     ensures exact { (frames : Transmission) (unread : Option Unread)
         → IfTold (S.remaining pes.old) (λ bytes.
         ReadsAs listening.now.options.origin 0 bytes frames unread
-        → is_source_failure result ≡ false
-        → Runs listening.now frames unread (R.tuned_to receiver.old) (R.state receiver.old)
-        (R.state receiver.new) result) }
+        → failed is_read result ≡ false
+        → Runs listening.now frames unread (R.tuned_to receiver.old)
+        (display (R.state receiver.old) screen.old)
+        (display (R.state receiver.new) screen.new) result) }
     ensures own { IfErr result (λ f. is_subtitle_fault f ≡ false) }
-    ensures count { S.failure_count pes.new
-        ≡ S.failure_count pes.old + (if is_source_failure result then 1 else 0) }
+    ensures count { CountsIf S.failure_count pes.old (failed is_read result) pes.new }
 {
-    let mut reader = PesReader::new();
-    let mut packet = PesFrame::new(0);
+    let mut reader = ComparingReader::new();
     let mut least = 0;
     let mut number = 0u64;
+    let mut kept = false;
     for index in 0..=MOST_PACKETS {
-        let next = next_frame(&mut reader, pes, &listening.options, index, &mut packet)?;
-        let Some(frame) = next else {
+        let next = next_sending(&mut reader, pes, &listening.options, index)?;
+        let Some(sending) = next else {
             return Ok(());
         };
+        let frame = sending.frame;
         if frame < least {
             let fault = CheckFault::Order { pes: index };
             return Err(ListenFault::File(fault));
@@ -166,11 +175,13 @@ fn hear_file<R: Receiver, S: Source>(
         if frame > listening.at {
             return Ok(());
         }
+        let packet = reader.frame();
         let units = packet.units();
         if let Some(packet) = first_lost_header(listening, number, units) {
             return Err(ListenFault::LostHeader { frame, packet });
         }
-        hear_units(receiver, listening, number, units);
+        let again = sending.again;
+        kept = hear_sending(receiver, screen, listening, number, units, again, kept);
         number += units.len() as u64;
         least = frame + 1;
     }
@@ -186,9 +197,9 @@ fn print_fault<K: Sink>(fault: &ListenFault, out: &mut K) -> Status
         (K.failure_count out.new) (K.contents out.new)
         (told_listing (listen_told fault.now)) result }
     ensures count { CountsFault (K.failure_count out.old) result (K.failure_count out.new) }
-    ensures fault { result ≡ Status.Fault → is_source_fault fault.now ≡ false
+    ensures fault { result ≡ Status.Fault → is_read fault.now ≡ false
         → K.failure_count out.old < K.failure_count out.new }
-    ensures source { is_source_fault fault.now ≡ true → result ≡ Status.Fault }
+    ensures source { is_read fault.now ≡ true → result ≡ Status.Fault }
 {
     let told = told_of_listen(fault);
     let mut line = Line::new();

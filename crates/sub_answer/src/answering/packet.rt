@@ -8,9 +8,6 @@ ghost use Rattle.sub_answer.specs.Lines.{hex_four, hex_two, marked, page_and_sub
 ghost use Rattle.sub_answer.specs.Lines.{text_line};
 ghost use Rattle.sub_answer.specs.Listing.{CountsFault, PrintsOrFails, packet_listing};
 ghost use Rattle.sub_answer.specs.Listing.{header_listing, row_listing};
-ghost use Rattle.sub_answer.specs.Told.{told_as, value_of};
-ghost use Rattle.sub_answer.specs.declared.told.Kind.TheVariants as kind;
-ghost use Rattle.sub_answer.specs.declared.told.Place.TheVariants.{Nowhere};
 
 use crate::lines::{push_decimal, push_text, push_told, shown};
 use crate::printing::print;
@@ -21,8 +18,24 @@ use bitflags::Flags;
 use sub_io::Sink;
 use ttx_packet::{Control, Header, Packet, is_odd};
 
-// Room for all that is printed of one packet, 128 bytes at most.
-type Text = ArrayVec<u8, 256>;
+// Room for the line of an address.
+const ADDRESS_ROOM: usize = 64;
+
+// Room for the control bits that are set.
+const CONTROL_ROOM: usize = 40;
+
+// Room for the line of a page header.
+const HEADER_ROOM: usize = 80;
+
+// Room for the line of 40 text bytes.
+const TEXT_ROOM: usize = 48;
+
+// Room for all that is printed of one packet.
+const PACKET_ROOM: usize = 256;
+
+const _: () = prove!(ADDRESS_ROOM + HEADER_ROOM + TEXT_ROOM <= PACKET_ROOM);
+
+type Text = ArrayVec<u8, PACKET_ROOM>;
 
 const HEX_DIGITS: [u8; 16] = *b"0123456789ABCDEF";
 
@@ -50,24 +63,14 @@ fn push_packet(text: &mut Text, packet: &Packet) -> Status
 {
     match packet.address() {
         None => {
-            push_told(text, &refused(3, "BadAddress"));
+            push_told(
+                text,
+                &Told::new(Kind::Refused, 3, "BadAddress", Place::Nowhere),
+            );
             Status::Refused
         }
         Some((magazine, 0)) => push_page_header(text, packet, magazine),
         Some((magazine, packet_number)) => push_row(text, packet, magazine, packet_number),
-    }
-}
-
-// A refusal without a place.
-fn refused(number: u8, name: &'static str) -> Told
-    ensures value { value_of result ≡ told_as kind.Refused (number, name.now) Nowhere }
-    ensures name { result.name.now ≡ name.now }
-{
-    Told {
-        kind: Kind::Refused,
-        number,
-        name,
-        place: Place::Nowhere,
     }
 }
 
@@ -79,7 +82,10 @@ fn push_page_header(text: &mut Text, packet: &Packet, magazine: u8) -> Status
     ensures fine { result ≢ Status.Fault }
 {
     let Some(header) = packet.header() else {
-        push_told(text, &refused(4, "BadHeader"));
+        push_told(
+            text,
+            &Told::new(Kind::Refused, 4, "BadHeader", Place::Nowhere),
+        );
         return Status::Refused;
     };
     push_address(text, magazine, 0);
@@ -104,9 +110,9 @@ fn push_row(text: &mut Text, packet: &Packet, magazine: u8, packet_number: u8) -
 
 // Appends a packet's address as a line.
 fn push_address(line: &mut Text, magazine: u8, packet_number: u8)
-    requires { array_vec_len line.old + 64 ≤ 256 }
+    requires { array_vec_len line.old + ADDRESS_ROOM ≤ PACKET_ROOM }
     ensures items { line.new.items ≡ line.old.items ++ address_line magazine packet_number }
-    ensures len { array_vec_len line.new ≤ array_vec_len line.old + 64 }
+    ensures len { array_vec_len line.new ≤ array_vec_len line.old + ADDRESS_ROOM }
 {
     push_text(line, b"magazine ");
     let shown_magazine = if magazine == 0 { 8 } else { magazine };
@@ -118,9 +124,9 @@ fn push_address(line: &mut Text, magazine: u8, packet_number: u8)
 
 // Appends what a page header says as a line.
 fn push_header(line: &mut Text, header: &Header)
-    requires { array_vec_len line.old + 80 ≤ 256 }
+    requires { array_vec_len line.old + HEADER_ROOM ≤ PACKET_ROOM }
     ensures items { line.new.items ≡ line.old.items ++ header_line header.now }
-    ensures len { array_vec_len line.new ≤ array_vec_len line.old + 80 }
+    ensures len { array_vec_len line.new ≤ array_vec_len line.old + HEADER_ROOM }
 {
     push_page(line, header);
     push_text(line, b" control");
@@ -130,7 +136,7 @@ fn push_header(line: &mut Text, header: &Header)
 
 // Appends the page number and the subcode.
 fn push_page(line: &mut Text, header: &Header)
-    requires { array_vec_len line.old + 20 ≤ 256 }
+    requires { array_vec_len line.old + 20 ≤ PACKET_ROOM }
     ensures items { line.new.items ≡ line.old.items ++ page_and_subcode header.now }
     ensures len { array_vec_len line.new ≤ array_vec_len line.old + 20 }
 {
@@ -143,7 +149,7 @@ fn push_page(line: &mut Text, header: &Header)
 // Appends a byte as two upper case hexadecimal digits.
 #[tactic(auto, unfolding(crate::specs::Lines::hex_two))]
 fn push_hex(line: &mut Text, byte: u8)
-    requires { array_vec_len line.old + 2 ≤ 256 }
+    requires { array_vec_len line.old + 2 ≤ PACKET_ROOM }
     ensures items { line.new.items ≡ line.old.items ++ hex_two byte }
     ensures len { array_vec_len line.new ≡ array_vec_len line.old + 2 }
 {
@@ -153,7 +159,7 @@ fn push_hex(line: &mut Text, byte: u8)
 
 // Appends a number as four upper case hexadecimal digits.
 fn push_long_hex(line: &mut Text, number: u16)
-    requires { array_vec_len line.old + 4 ≤ 256 }
+    requires { array_vec_len line.old + 4 ≤ PACKET_ROOM }
     ensures items { line.new.items ≡ line.old.items ++ hex_four number }
     ensures len { array_vec_len line.new ≡ array_vec_len line.old + 4 }
 {
@@ -163,9 +169,9 @@ fn push_long_hex(line: &mut Text, number: u16)
 
 // Appends the control bits that are set, or ` none`.
 fn push_control(line: &mut Text, header: &Header)
-    requires { array_vec_len line.old + 40 ≤ 256 }
+    requires { array_vec_len line.old + CONTROL_ROOM ≤ PACKET_ROOM }
     ensures items { line.new.items ≡ line.old.items ++ control_list header.now }
-    ensures len { array_vec_len line.new ≤ array_vec_len line.old + 40 }
+    ensures len { array_vec_len line.new ≤ array_vec_len line.old + CONTROL_ROOM }
 {
     let names = control_names(header);
     if names.is_empty() {
@@ -175,8 +181,8 @@ fn push_control(line: &mut Text, header: &Header)
     }
 }
 
-// The control bits that are set, rising, each behind a space.
-fn control_names(header: &Header) -> ArrayVec<u8, 40>
+// The control bits that are set, rising, each after a space.
+fn control_names(header: &Header) -> ArrayVec<u8, CONTROL_ROOM>
     ensures { result.items ≡ control_names header.now }
 {
     let control = header.control;
@@ -196,8 +202,8 @@ fn control_names(header: &Header) -> ArrayVec<u8, 40>
 }
 
 // Appends the name of a bit that is set.
-fn push_name(names: &mut ArrayVec<u8, 40>, is_set: bool, name: &[u8])
-    requires { array_vec_len names.old + length name.now ≤ 40 }
+fn push_name(names: &mut ArrayVec<u8, CONTROL_ROOM>, is_set: bool, name: &[u8])
+    requires { array_vec_len names.old + length name.now ≤ CONTROL_ROOM }
     ensures items { names.new.items ≡ names.old.items ++ marked is_set name.now }
     ensures len { array_vec_len names.new ≤ array_vec_len names.old + length name.now }
 {
@@ -209,9 +215,9 @@ fn push_name(names: &mut ArrayVec<u8, 40>, is_set: bool, name: &[u8])
 // Appends text bytes between bars as a line.
 fn push_text_line(line: &mut Text, bytes: &[u8])
     requires short { length bytes.now ≤ 40 }
-    requires room { array_vec_len line.old + 48 ≤ 256 }
+    requires room { array_vec_len line.old + TEXT_ROOM ≤ PACKET_ROOM }
     ensures items { line.new.items ≡ line.old.items ++ text_line bytes.now }
-    ensures len { array_vec_len line.new ≤ array_vec_len line.old + 48 }
+    ensures len { array_vec_len line.new ≤ array_vec_len line.old + TEXT_ROOM }
 {
     push_text(line, b"text |");
     push_shown(line, bytes);
@@ -231,7 +237,7 @@ fn shown_text(byte: u8) -> u8
 
 // Appends the characters of text bytes.
 fn push_shown(line: &mut Text, bytes: &[u8])
-    requires { array_vec_len line.old + length bytes.now ≤ 256 }
+    requires { array_vec_len line.old + length bytes.now ≤ PACKET_ROOM }
     ensures items { line.new.items ≡ line.old.items ++ map text_glyph bytes.now }
     ensures len { array_vec_len line.new ≡ array_vec_len line.old + length bytes.now }
 {

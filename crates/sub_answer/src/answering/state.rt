@@ -1,4 +1,4 @@
-//! What is printed of a receiver.
+//! What is printed of a receiver with a screen.
 ghost use Rattle.std.specs.Prelude.{◌≡◌, ℕ, ◌+◌, ◌*◌, ◌≤◌, ◌<◌, ◌++◌, ◌==◌, map, length};
 ghost use Rattle.std.specs.List.{list_all};
 ghost use Rattle.sub_io.specs.Device.{CanFail};
@@ -6,8 +6,9 @@ ghost use Rattle.arrayvec.specs.ArrayVec.{array_vec_len};
 ghost use Rattle.ttx_page.specs.Page.{space};
 ghost use Rattle.sub_answer.specs.Lines.{glyph};
 ghost use Rattle.sub_answer.specs.Listing.{CountsFault, PrintsOrFails, done};
-ghost use Rattle.sub_answer.specs.StateText.{open_line, page_text, row_line, row_text, rows_text};
-ghost use Rattle.sub_answer.specs.StateText.{state_text};
+ghost use Rattle.ttx_page.specs.Screen.{display};
+ghost use Rattle.sub_answer.specs.StateText.{display_text, open_line, page_text, row_line};
+ghost use Rattle.sub_answer.specs.StateText.{row_text, rows_text, seen_text};
 
 use crate::lines::{push_text, push_two_digits, shown};
 use crate::printing::print;
@@ -22,32 +23,59 @@ type Rows = ArrayVec<u8, 1200>;
 // Room for these and the two lines before them.
 type Text = ArrayVec<u8, 1280>;
 
-/// Prints what a receiver has heard and shows.
-pub fn print_state<R: Receiver, K: Sink>(receiver: &R, out: &mut K) -> Status
+/// Prints what a receiver has heard, and the page that it holds; where complete pages are asked
+/// for, the one that is on its screen.
+pub fn print_state<R: Receiver, K: Sink>(
+    receiver: &R,
+    screen: &Option<Page>,
+    asks_complete: bool,
+    out: &mut K,
+) -> Status
     requires { CanFail (K.failure_count out.old) }
     ensures printed { PrintsOrFails (K.failure_count out.old) (K.contents out.old)
         (K.failure_count out.new) (K.contents out.new)
-        (done (state_text (R.state receiver.now))) result }
+        (done (display_text asks_complete (display (R.state receiver.now) screen.now))) result }
     ensures count { CountsFault (K.failure_count out.old) result (K.failure_count out.new) }
     ensures fault { result ≡ Status.Fault
         → K.failure_count out.old < K.failure_count out.new }
 {
     let mut text = Text::new();
-    push_state(&mut text, receiver);
+    push_state(&mut text, receiver, screen, asks_complete);
     print(text.as_slice(), Status::Done, out)
 }
 
-// Appends what a receiver has heard and shows.
-fn push_state<R: Receiver>(text: &mut Text, receiver: &R)
+// Appends what a receiver has heard and what is seen of it.
+fn push_state<R: Receiver>(
+    text: &mut Text,
+    receiver: &R,
+    screen: &Option<Page>,
+    asks_complete: bool,
+)
     requires { array_vec_len text.old ≡ 0 }
-    ensures { text.new.items ≡ text.old.items ++ state_text (R.state receiver.now) }
+    ensures { text.new.items ≡ text.old.items
+        ++ display_text asks_complete (display (R.state receiver.now) screen.now) }
 {
     if receiver.heard() {
         push_text(text, b"heard yes\n");
         push_text(text, open_text(receiver.open()));
-        push_page(text, receiver.page());
+        push_seen(text, receiver, screen, asks_complete);
     } else {
         push_text(text, b"heard no\n");
+    }
+}
+
+// Appends the lines of the page that a receiver holds, or of its screen.
+fn push_seen<R: Receiver>(text: &mut Text, receiver: &R, screen: &Option<Page>, asks_complete: bool)
+    requires { array_vec_len text.old + 1200 ≤ 1280 }
+    ensures { text.new.items ≡ text.old.items
+        ++ seen_text asks_complete (display (R.state receiver.now) screen.now) }
+{
+    if !asks_complete {
+        return push_page(text, receiver.page());
+    }
+    match screen {
+        Some(page) => push_page(text, page),
+        None => push_text(text, b"shown no\n"),
     }
 }
 

@@ -1,4 +1,5 @@
-//! Normal forms; what a file that is refused or a device that fails leaves is tested by the program's
+//! Normal forms; what a file that is refused or a device that fails leaves is tested by the
+//! program's
 //! `normal`.
 
 use super::files::{ALONE, FIRST, LAST, a_file, put};

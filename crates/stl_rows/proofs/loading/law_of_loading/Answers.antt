@@ -3,4 +3,4 @@ use Rattle.stl_rows.proofs.LoadingLaw.{loading_is}
 use Rattle.stl_rows.proofs.loading.law_of_loading.Goals as goal
 
 pub returns : goal.returns
-returns c = loading_is c.file_is_what_is_read.ensures
+returns c = loading_is c.law_of_files.ensures

@@ -2,13 +2,12 @@
 -- tells-refused.
 use Rattle.std.proofs.Common.{refl, rules, ap}
 use Rattle.std.specs.Prelude.{Ok, Option, Result}
-use Rattle.stl_file.specs.Reader.{ReaderValue}
 use Rattle.stl_file.specs.Subtitle.{SubtitleValue}
 use Rattle.stl_file.specs.declared.fault.StlFault.{StlFault}
 use Rattle.stl_file.specs.Gsi.{gsi_size}
 use Rattle.std.proofs.Common.{drop}
 use Rattle.stl_rows.proofs.FailedReadLemmas.{fails-next, fails-opening, has_taken-next}
-use Rattle.stl_rows.proofs.FailedReadLemmas.{has_taken-opened, is_read-kind}
+use Rattle.stl_rows.proofs.FailedReadLemmas.{has_taken-opened}
 use Rattle.stl_rows.proofs.LoadingLemmas.{goes_on-opened, goes_on-put, still_reading, tells-opening}
 use Rattle.stl_rows.proofs.LoadingLemmas.{tells-next, tells-none, tells-refused}
 use Rattle.stl_rows.proofs.ProgrammeLemmas.{IsProgramme-none}
@@ -21,7 +20,7 @@ returns-in-Err-clause-fault g c =
 pub returns-in-Err-clause-read : goal.returns-in-Err-clause-read
 returns-in-Err-clause-read g c = λ is.
     fails-opening c.args.national _ _
-    (c.in-Err.ensures.failed (is_read-kind ReaderValue c.in-Err.fault is))
+    (c.in-Err.ensures.failed is)
 
 pub subtitles-init : goal.subtitles-init
 subtitles-init g c = record {
@@ -52,8 +51,7 @@ returns-in-Err-next-clause-read g c = λ is.
     let i = c.subtitles.invariant in
     fails-next c.args.national _ _ _ c.subtitles.subtitles.items c.subtitles.reader
     c.next.new.self.block c.block-block.result i.taken i.reading i.told
-    (c.in-Err-next.ensures.failed i.reading
-    (is_read-kind (Option SubtitleValue) c.in-Err-next.fault is))
+    (c.in-Err-next.ensures.failed i.reading is)
     c.block-block.ensures.value
 
 pub returns-in-Ok-None-clause-exact : goal.returns-in-Ok-None-clause-exact

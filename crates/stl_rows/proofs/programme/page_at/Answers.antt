@@ -1,5 +1,5 @@
 -- Past all, in a gap, or within a subtitle: due-past, due-between, due-at.
-use Rattle.std.proofs.Common.{arith, ◌∙◌, ap}
+use Rattle.std.proofs.Common.{arith, ◌∙◌, ap, sym}
 use Rattle.std.specs.Result.{result_unwrap_or}
 use Rattle.ttx_page.specs.Page.{blank}
 use Rattle.stl_rows.proofs.DuePageLemmas.{due-at, due-between, due-past}
@@ -24,9 +24,9 @@ returns-then-frame-tci c =
           c.first_after-at.ensures.after;
     }) (omega arith) c.index-subtitles-at.is (omega arith)
 
-pub returns-in-Ok : goal.returns-in-Ok
-returns-in-Ok c =
-    ap (λ r. result_unwrap_or r blank) c.in-Ok.ensures
+pub returns : goal.returns
+returns c =
+    ap (λ r. result_unwrap_or r blank) (sym c.drawn_page.ensures)
     ∙ due-at c.args.national c.args.subtitles.now c.args.frame c.first_after-at.result
     c.index-subtitles-at.result (record {
       before = c.first_after-at.ensures.before;

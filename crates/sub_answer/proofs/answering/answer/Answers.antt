@@ -1,19 +1,15 @@
 -- What a command's body says of its answer, said of the request.
 use Rattle.sub_answer.proofs.answering.answer.Goals as goal
 
+pub returns-in-Packets-clause-packets : goal.returns-in-Packets-clause-packets
+returns-in-Packets-clause-packets g c =
+    rw c.in-Packets.is (rw c.new.ensures.start at c.list.ensures.listing)
+
 pub returns-in-Normal-clause-normal : goal.returns-in-Normal-clause-normal
-returns-in-Normal-clause-normal g c = rw c.in-Normal.is (record {
-  work = c.write_normal.ensures.work;
-  answer = c.write_normal.ensures.answer;
-  fault = c.write_normal.ensures.fault;
-})
+returns-in-Normal-clause-normal g c = rw c.in-Normal.is c.write-in-Normal.ensures.work
 
 pub returns-in-Schedule-clause-schedule : goal.returns-in-Schedule-clause-schedule
-returns-in-Schedule-clause-schedule g c = rw c.in-Schedule.is (record {
-  work = c.write_schedule.ensures.work;
-  answer = c.write_schedule.ensures.answer;
-  fault = c.write_schedule.ensures.fault;
-})
+returns-in-Schedule-clause-schedule g c = rw c.in-Schedule.is c.write.ensures.work
 
 pub returns-in-Check-clause-check : goal.returns-in-Check-clause-check
 returns-in-Check-clause-check g c = rw c.in-Check.is c.print_verdict.ensures.check

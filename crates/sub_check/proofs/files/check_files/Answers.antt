@@ -1,13 +1,15 @@
 -- The programme that is loaded is the file's one: `same_programme`; what is told of both files:
 -- `files_accepted`, `files_refused`.
 use Rattle.std.proofs.Common.{◌≡◌, Result, ap, refl, rules, subst, sym, true}
-use Rattle.stl_rows.specs.Loading.{FailsLoading, is_read_kind}
+use Rattle.sub_io.specs.Device.{failed}
+use Rattle.stl_rows.specs.Fault.{is_read}
+use Rattle.stl_rows.specs.Loading.{FailsLoading}
 use Rattle.stl_rows.specs.declared.fault.LoadFault.{LoadFault}
-use Rattle.sub_check.specs.Checking.{is_subtitle_refusal}
 use Rattle.sub_check.specs.declared.checker.Accepted.{Accepted}
 use Rattle.sub_check.specs.declared.fault.CheckFault.{CheckFault}
 use Rattle.sub_check.proofs.CheckLemmas.{files_accepted, files_refused, same_programme}
 use Rattle.sub_check.proofs.files.check_files.Goals as goal
+use Rattle.sub_check.specs.Fault.{is_subtitle_fault}
 
 pub returns-in-Err-clause-accepted : goal.returns-in-Err-clause-accepted
 returns-in-Err-clause-accepted g c = λ file told bytes heard.
@@ -26,7 +28,7 @@ returns-in-Err-clause-checked g c = λ file told. record {
     shown = λ transmission carries ok asks. cc;
     counts = λ transmission carries. tt;
     first = λ looked fine. cc;
-    failed = λ pes is. cc;
+    read = λ pes is. cc;
     content = λ frame row column is. cc;
     schedule = λ serial planned some looked fine. cc;
   };
@@ -55,9 +57,9 @@ returns-in-Err-clause-stl_read g c = λ fault is read.
     subst
     (λ (f : LoadFault). FailsLoading c.args.national (g.S.Source.remaining c.args.stl.now)
     (g.S.Source.remaining c.load.new.source) f.block) same
-    (c.in-Err.ensures.read (subst (λ (f : LoadFault). is_read_kind f.kind ≡ true) (sym same) read))
+    (c.in-Err.ensures.read (subst (λ (f : LoadFault). is_read f ≡ true) (sym same) read))
 
 pub returns-in-Ok-clause-stl_read : goal.returns-in-Ok-clause-stl_read
 returns-in-Ok-clause-stl_read g c = λ fault is read.
     let own = c.check.ensures.own in
-    let refused = ap (λ (r : Result Accepted CheckFault). is_subtitle_refusal r) is in cc
+    let refused = ap (λ (r : Result Accepted CheckFault). failed is_subtitle_fault r) is in cc

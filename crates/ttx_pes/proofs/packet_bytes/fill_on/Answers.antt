@@ -1,5 +1,9 @@
--- Each turn of `fill_on` puts its piece after those before it, by Consumes-more.
-use Rattle.std.proofs.Common.{rules, ◌-◌, ◌∙◌, arith}
+-- Each turn of `fill_on` puts its piece after those before it, by Consumes-more; what was taken
+-- where a pull fails stands in the room.
+use Rattle.std.proofs.Common.{rules, ◌-◌, ◌∙◌, ap, arith, take}
+use Rattle.std.proofs.KnownBytes.{Consumes-kept}
+use Rattle.std.proofs.lemmas.List.{length-take-le, take-take}
+use Rattle.std.proofs.lemmas.Result.{err_from_is_err_and}
 use Rattle.std.proofs.lemmas.Slice.{take-put_mid_below}
 use Rattle.sub_io.proofs.DeviceLemmas.{Consumes-more}
 use Rattle.ttx_pes.proofs.packet_bytes.fill_on.Goals as goal
@@ -15,3 +19,22 @@ loop-at-preserved g c = record {
       (c.loop-at.invariant.bytes before h) c.in_ok-n.ensures.bytes.0;
   count = search rules;
 }
+
+pub returns-in_err-n-clause-err : goal.returns-in_err-n-clause-err
+returns-in_err-n-clause-err g c =
+    let at = c.loop-at.at in
+    let room = c.loop-at.room in
+    let old = c.args.room.now in
+    let len = length-take-le at room (omega arith) in
+    let held = length-take-le c.args.held old (omega arith) in
+    let p = err_from_is_err_and c.from_residual.result c.from_residual.ensures.1 in
+    rw p.1 (record {
+      taken = take at room;
+      few = omega arith;
+      from = ap (λ k. take k (take at room)) held
+          ∙ take-take c.args.held at room c.loop-at.invariant.from
+          ∙ c.loop-at.invariant.kept;
+      takes = λ before h.
+          Consumes-kept _ _ _ (take at room) (c.loop-at.invariant.bytes before h)
+          c.in_err-n.ensures.bytes;
+    })

@@ -8,6 +8,7 @@ use Rattle.sub_io.specs.Reading.{AreBytes}
 use Rattle.ttx_pes.specs.Reading.{size_at}
 use Rattle.ttx_pes.proofs.TakingLemmas.{Left-from_consumed, none_taken, none_left, too_many}
 use Rattle.ttx_pes.proofs.TakingLemmas.{first_short, bad_size, second_short, head_kept}
+use Rattle.ttx_pes.proofs.TakingLemmas.{failed_first, failed_second}
 use Rattle.ttx_pes.proofs.packet_bytes.take_packet.Goals as goal
 
 pub returns-then-got-eq0-clause-end : goal.returns-then-got-eq0-clause-end
@@ -91,3 +92,14 @@ returns-clause-taken g c =
           ∙ ap (λ (k : ℕ). Ok k) (sym len);
       fit = subst (λ (x : List ℕ). AreBytes x) (same ∙ sym head) c.size_of.ensures.bytes;
     }
+
+pub returns-in_err-got-clause-failed : goal.returns-in_err-got-clause-failed
+returns-in_err-got-clause-failed g c = λ _.
+    failed_first _ _ c.args.room.now c.in_err-got.ensures.err
+
+pub returns-in_err-fill_on-clause-failed : goal.returns-in_err-fill_on-clause-failed
+returns-in_err-fill_on-clause-failed g c = λ _.
+    let same : c.unwrap.result.now ≡ take 6 c.fill_on.new.room = search rules in
+    failed_second _ _ _ c.in_ok-got.got c.in_ok-size.size c.fill_on.new.room
+    (c.in_ok-got.ensures.bytes _ (Consumes-nil _)) (omega arith) c.in_ok-got.ensures.room
+    (ap size_at (sym same) ∙ c.in_ok-size.ensures.exact) c.in_err-fill_on.ensures.err

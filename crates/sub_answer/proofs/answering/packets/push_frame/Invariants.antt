@@ -2,7 +2,7 @@
 -- lines behind those so far are the lines of all.
 use Rattle.std.proofs.Common.{◌≡◌, ◌+◌, ◌*◌, ◌≤◌, ◌++◌, drop, length}
 use Rattle.arrayvec.specs.ArrayVec.{array_vec_len}
-use Rattle.sub_answer.specs.FileListing.{unit_lines}
+use Rattle.sub_answer.specs.PacketsListing.{unit_lines}
 use Rattle.sub_answer.proofs.answering.packets.push_frame.Given as goal
 
 abbrev pub invariant-loop-number : goal.invariant-loop-number

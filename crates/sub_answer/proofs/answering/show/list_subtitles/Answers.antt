@@ -1,34 +1,76 @@
--- The GSI block is read, show_listing-opened, or refused: prints-refused, prints-cut.
-use Rattle.std.proofs.Common.{◌≡◌, ◌∙◌, ap, arith, drop, refl, rules, subst, sym}
+-- The GSI block is read, outcome_of-opened, or refused: outcome_of-refused.
+use Rattle.std.proofs.Common.{◌≡◌, ◌∙◌, Some, ap, arith, drop, refl, rules, sym}
 use Rattle.stl_file.specs.Gsi.{gsi_size}
-use Rattle.sub_answer.specs.Faults.{stl_told}
+use Rattle.stl_file.specs.Reading.{fails}
+use Rattle.sub_answer.specs.Faults.{stl_kind, stl_told}
+use Rattle.sub_answer.specs.Listing.{ends_in_fault, told_listing}
 use Rattle.sub_answer.specs.Told.{line_of, status_of}
-use Rattle.sub_answer.specs.Listing.{Listing, Prints}
-use Rattle.sub_answer.proofs.FileListingLemmas.{is-false, prints-cut, prints-refused}
-use Rattle.sub_answer.proofs.FileListingLemmas.{show_listing-opened}
+use Rattle.sub_answer.specs.declared.status.Status.{Status}
+use Rattle.sub_answer.proofs.ListingLemmas.{outcome_of-opened, outcome_of-refused, stl-failed}
+use Rattle.sub_answer.proofs.ListingLemmas.{stl-read, stl-status}
+use Rattle.sub_answer.proofs.PrintingLemmas.{printed-fault, risen-of_fault}
+use Rattle.sub_answer.proofs.WritingLemmas.{counted}
 use Rattle.sub_answer.proofs.answering.show.list_subtitles.Goals as goal
 
-pub returns-in-Ok-clause-prints : goal.returns-in-Ok-clause-prints
-returns-in-Ok-clause-prints g c = λ bytes told same.
-    let count = c.in-Ok.ensures.count in
-    subst
-    (λ (l : Listing). Prints (g.K.Sink.contents c.args.out.now)
-    (g.K.Sink.contents c.list_behind.new.out) l c.list_behind.result)
-    (sym (show_listing-opened bytes c.in-Ok.reader (c.in-Ok.ensures.exact bytes told refl)))
-    (c.list_behind.ensures.prints (drop gsi_size bytes) (c.in-Ok.ensures.left bytes told)
-    (omega (arith, count, same)))
+pub returns-in-Ok-clause-listing : goal.returns-in-Ok-clause-listing
+returns-in-Ok-clause-listing g c =
+    let listed = c.list.ensures.listing in
+    let opened = c.in-Ok.ensures.count in
+    let counted = listed.source_count in
+    record {
+      failed = listed.failed;
+      listing = listed.listing;
+      is_listed = record {
+        outcome = listed.is_listed.outcome;
+        listing_is = listed.is_listed.listing_is;
+        exact = λ bytes told ok.
+            listed.is_listed.exact (drop gsi_size bytes) (c.in-Ok.ensures.left bytes told) ok
+            ∙ outcome_of-opened bytes c.in-Ok.reader (c.in-Ok.ensures.exact bytes told refl);
+        failure = listed.is_listed.failure;
+      };
+      source_count = omega (arith, opened, counted);
+      printed = listed.printed;
+    }
 
-pub returns-in-Ok-put_all-clause-prints : goal.returns-in-Ok-put_all-clause-prints
-returns-in-Ok-put_all-clause-prints g c = λ bytes told same.
-    let text : c.as_slice.result.now ≡ line_of (stl_told c.in-Err.fault 0) = search rules in
-    prints-refused _ _ bytes c.as_slice.result.now c.in-Err.fault c.status.result
-    (c.in-Err.ensures.exact bytes told (is-false _ _ _ c.in-Err.ensures.count same)) text
-    (c.status.ensures ∙ ap status_of c.told_of_stl-told.ensures.kind)
-    c.in-Ok-put_all.ensures.bytes
+pub returns-in-Err-clause-listing : goal.returns-in-Err-clause-listing
+returns-in-Err-clause-listing g c =
+    let f = c.in-Err.fault in
+    let text : line_of (stl_told f 0) ≡ c.as_slice.result.now = search rules in
+    record {
+      failed = ends_in_fault (Some (status_of (stl_kind f)));
+      listing = told_listing (stl_told f 0);
+      is_listed = record {
+        outcome = fails f 0;
+        listing_is = refl;
+        exact = λ bytes told ok.
+            outcome_of-refused bytes f
+            (c.in-Err.ensures.exact bytes told (sym (stl-failed f) ∙ ok));
+        failure = λ e. stl-read f e;
+      };
+      source_count = rw (stl-failed f) c.in-Err.ensures.count;
+      printed =
+          c.print.ensures.printed (told_listing (stl_told f 0)) text
+          (sym (c.status.ensures ∙ ap status_of c.told_of_stl-told.ensures.kind));
+    }
 
-pub returns-in-Err-put_all-clause-prints : goal.returns-in-Err-put_all-clause-prints
-returns-in-Err-put_all-clause-prints g c = λ bytes told same.
-    let text : c.as_slice.result.now ≡ line_of (stl_told c.in-Err.fault 0) = search rules in
-    prints-cut _ _ bytes c.as_slice.result.now c.in-Err.fault
-    (c.in-Err.ensures.exact bytes told (is-false _ _ _ c.in-Err.ensures.count same)) text
-    c.in-Err-put_all.ensures.bytes
+pub returns-in-Err-clause-stl_count : goal.returns-in-Err-clause-stl_count
+returns-in-Err-clause-stl_count g c =
+    let f = c.in-Err.fault in
+    let text : line_of (stl_told f 0) ≡ c.as_slice.result.now = search rules in
+    counted (ends_in_fault (Some (status_of (stl_kind f)))) _ _ _
+    (rw (stl-failed f) c.in-Err.ensures.count)
+    (λ e. printed-fault _ _ _ _ (told_listing (stl_told f 0)) _
+    (c.print.ensures.printed (told_listing (stl_told f 0)) text
+    (sym (c.status.ensures ∙ ap status_of c.told_of_stl-told.ensures.kind)))
+    (stl-status f e))
+
+pub returns-in-Err-clause-fault : goal.returns-in-Err-clause-fault
+returns-in-Err-clause-fault g c = λ is.
+    let f = c.in-Err.fault in
+    let text : line_of (stl_told f 0) ≡ c.as_slice.result.now = search rules in
+    risen-of_fault (ends_in_fault (Some (status_of (stl_kind f)))) _ _ _ _ _ _
+    (told_listing (stl_told f 0)) _
+    (rw (stl-failed f) c.in-Err.ensures.count)
+    (c.print.ensures.printed (told_listing (stl_told f 0)) text
+    (sym (c.status.ensures ∙ ap status_of c.told_of_stl-told.ensures.kind)))
+    (λ own. ap (λ (s : Status). ends_in_fault (Some s)) own) is

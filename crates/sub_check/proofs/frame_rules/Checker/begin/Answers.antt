@@ -34,8 +34,7 @@ returns-in-Err-clause-exact c g frames task watched is =
     let e = is.frame_is in
     let same = is.packets_are in
     let first =
-    c.in-Err.ensures.knows []
-    c.new-listener.ensures.knows in
+    c.in-Err.ensures.knows [] [] c.new-listener.ensures.knows (λ e. cc) in
     let order : OrderOk g frames 0 =
     record {
       order = λ t. absurd (omega (arith, t.0));
@@ -55,8 +54,7 @@ returns-then-not-found-clause-exact c g frames task watched is =
     let e = is.frame_is in
     let same = is.packets_are in
     let both =
-    c.in-Ok.ensures.knows []
-    c.new-listener.ensures.knows in
+    c.in-Ok.ensures.knows [] [] c.new-listener.ensures.knows (λ e. cc) in
     let order : OrderOk g frames 0 =
     record {
       order = λ t. absurd (omega (arith, t.0));
@@ -65,9 +63,9 @@ returns-then-not-found-clause-exact c g frames task watched is =
           (c.first_in.ensures.value ∙ sym task.first_is ∙ f) in omega arith;
     } in
     let taken =
-    Taken-from g frames 0 c.any_header-found.result c.in-Ok.headers c.hear_all.new.self _ _
+    Taken-from g frames 0 c.any_header-found.result c.in-Ok.headers c.hear_sending.new.self _ _
     is.there same (c.new-listener.ensures.watched ∙ sym watched) c.in-Ok.ensures.watched
-    c.any_header-found.ensures c.in-Ok.ensures.headers _
+    c.any_header-found.ensures both.2 _
     (length-map c.args.units.now (λ (u : UnitValue). u.packet)) both.0 both.1 in
     subst (λ x. NamesFirst g frames (fault.NoFirstHeader x)) is.frame_is
     (first_header_missing g frames is.there order taken.packets
@@ -79,8 +77,7 @@ returns-in-Some-clause-exact c g frames task watched is =
     let e = is.frame_is in
     let same = is.packets_are in
     let both =
-    c.in-Ok.ensures.knows []
-    c.new-listener.ensures.knows in
+    c.in-Ok.ensures.knows [] [] c.new-listener.ensures.knows (λ e. cc) in
     let order : OrderOk g frames 0 =
     record {
       order = λ t. absurd (omega (arith, t.0));
@@ -89,13 +86,13 @@ returns-in-Some-clause-exact c g frames task watched is =
           (c.first_in.ensures.value ∙ sym task.first_is ∙ f) in omega arith;
     } in
     let taken =
-    Taken-from g frames 0 c.any_header-found.result c.in-Ok.headers c.hear_all.new.self _ _
+    Taken-from g frames 0 c.any_header-found.result c.in-Ok.headers c.hear_sending.new.self _ _
     is.there same (c.new-listener.ensures.watched ∙ sym watched) c.in-Ok.ensures.watched
-    c.any_header-found.ensures c.in-Ok.ensures.headers _
+    c.any_header-found.ensures both.2 _
     (length-map c.args.units.now (λ (u : UnitValue). u.packet)) both.0 both.1 in
     let head : HasHeader g frames 0 = taken.header ∙ c.if-not-found.false in
     let f : ℕ = frame_at frames 0 in
-    let s = c.hear_all.new.self in
+    let s = c.hear_sending.new.self in
     let due =
     c.in-Ok.ensures.due ∙ c.new-listener.ensures.due ∙ c.due_page.ensures.value in
     let d = rw (due, ← is.frame_is) at c.in-Some.ensures in
@@ -116,8 +113,7 @@ returns-then-is_incomplete-clause-exact c g frames task watched is =
     let e = is.frame_is in
     let same = is.packets_are in
     let both =
-    c.in-Ok.ensures.knows []
-    c.new-listener.ensures.knows in
+    c.in-Ok.ensures.knows [] [] c.new-listener.ensures.knows (λ e. cc) in
     let order : OrderOk g frames 0 =
     record {
       order = λ t. absurd (omega (arith, t.0));
@@ -126,13 +122,13 @@ returns-then-is_incomplete-clause-exact c g frames task watched is =
           (c.first_in.ensures.value ∙ sym task.first_is ∙ f) in omega arith;
     } in
     let taken =
-    Taken-from g frames 0 c.any_header-found.result c.in-Ok.headers c.hear_all.new.self _ _
+    Taken-from g frames 0 c.any_header-found.result c.in-Ok.headers c.hear_sending.new.self _ _
     is.there same (c.new-listener.ensures.watched ∙ sym watched) c.in-Ok.ensures.watched
-    c.any_header-found.ensures c.in-Ok.ensures.headers _
+    c.any_header-found.ensures both.2 _
     (length-map c.args.units.now (λ (u : UnitValue). u.packet)) both.0 both.1 in
     let head : HasHeader g frames 0 = taken.header ∙ c.if-not-found.false in
     let f : ℕ = frame_at frames 0 in
-    let s = c.hear_all.new.self in
+    let s = c.hear_sending.new.self in
     let due =
     c.in-Ok.ensures.due ∙ c.new-listener.ensures.due ∙ c.due_page.ensures.value in
     let d = rw (due, ← is.frame_is) at c.in_default.ensures in
@@ -155,8 +151,7 @@ returns-clause-exact c g frames task watched is =
     let e = is.frame_is in
     let same = is.packets_are in
     let both =
-    c.in-Ok.ensures.knows []
-    c.new-listener.ensures.knows in
+    c.in-Ok.ensures.knows [] [] c.new-listener.ensures.knows (λ e. cc) in
     let order : OrderOk g frames 0 =
     record {
       order = λ t. absurd (omega (arith, t.0));
@@ -165,13 +160,13 @@ returns-clause-exact c g frames task watched is =
           (c.first_in.ensures.value ∙ sym task.first_is ∙ f) in omega arith;
     } in
     let taken =
-    Taken-from g frames 0 c.any_header-found.result c.in-Ok.headers c.hear_all.new.self _ _
+    Taken-from g frames 0 c.any_header-found.result c.in-Ok.headers c.hear_sending.new.self _ _
     is.there same (c.new-listener.ensures.watched ∙ sym watched) c.in-Ok.ensures.watched
-    c.any_header-found.ensures c.in-Ok.ensures.headers _
+    c.any_header-found.ensures both.2 _
     (length-map c.args.units.now (λ (u : UnitValue). u.packet)) both.0 both.1 in
     let head : HasHeader g frames 0 = taken.header ∙ c.if-not-found.false in
     let f : ℕ = frame_at frames 0 in
-    let s = c.hear_all.new.self in
+    let s = c.hear_sending.new.self in
     let due =
     c.in-Ok.ensures.due ∙ c.new-listener.ensures.due ∙ c.due_page.ensures.value in
     let d = rw (due, ← is.frame_is) at c.in_default.ensures in
@@ -182,7 +177,7 @@ returns-clause-exact c g frames task watched is =
     record {
       some = omega arith;
       watched_is = taken.watched_is;
-      knows = taken.knows;
+      knows = taken.last;
       frame_is = sym is.frame_is;
       rising = λ j l. let r = rising j l in omega arith;
       header = subst (λ x. HeaderIs g frames 1 x) is.frame_is h;

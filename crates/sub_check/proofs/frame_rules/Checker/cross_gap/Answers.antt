@@ -1,16 +1,16 @@
 -- The frames between two PES packets: each refusal is the first place, OrderLemmas.
-use Rattle.std.proofs.Common.{refl, ℕ, ◌≤◌, inl, inr, sym, ap, ◌∙◌, subst, arith}
+use Rattle.std.proofs.Common.{refl, ℕ, ◌-◌, ◌≤◌, inl, inr, sym, ap, ◌∙◌, subst, arith}
 use Rattle.std.proofs.lemmas.Bool.{cases_eq}
 use Rattle.stl_rows.specs.DuePage.{TellsNextEdge}
-use Rattle.sub_check.specs.FrameRules.{frame_at, joined, Shows, IsCovered}
+use Rattle.sub_check.specs.FrameRules.{frame_at, joined, packets_at, Shows, IsCovered}
 use Rattle.sub_plan.specs.Schedule.{due_in}
 use Rattle.sub_check.specs.FirstBroken.{IsInGap}
-use Rattle.sub_check.specs.Listening.{Knows}
+use Rattle.sub_check.specs.Listening.{KnowsLast}
 use Rattle.sub_check.specs.declared.listener.Listener.{Listener}
 use Rattle.sub_check.specs.Following.{HeaderIs}
 use Rattle.sub_check.proofs.OrderLemmas.{first_gap_cell, first_gap}
 use Rattle.sub_check.proofs.ShownLemmas.{shows_from, shows_not, covered_from, covered_not}
-use Rattle.sub_check.proofs.ShownLemmas.{Knows-drawn}
+use Rattle.sub_check.proofs.ShownLemmas.{KnowsLast-drawn}
 use Rattle.sub_check.proofs.ShownLemmas.{cells_above}
 use Rattle.sub_check.proofs.frame_rules.Checker.cross_gap.Goals as goal
 
@@ -39,9 +39,10 @@ returns-in-Some-clause-exact c g frames n task follows there to_is order =
     let kept = ap (λ (x : Listener). x.watched) c.advance.ensures.listener in
     let fine = c.loop-f.invariant.fine g frames n task follows there to_is in
     let watched = kept ∙ c.loop-f.invariant.watched_same ∙ follows.watched_is in
-    let knows =
-    subst (Knows (joined frames n)) (sym c.advance.ensures.listener)
-    (Knows-drawn (joined frames n) c.loop-f.self.listener _ fine.0) in
+    let known =
+    subst (KnowsLast (joined frames n) (packets_at frames (n - 1))) (sym c.advance.ensures.listener)
+    (KnowsLast-drawn (joined frames n) _ c.loop-f.self.listener _ fine.0) in
+    let knows = known.knows in
     let some = follows.some in
     let frame = follows.frame_is in
     let in_gap : IsInGap frames n f = (some, there, omega arith, omega arith) in
@@ -63,9 +64,10 @@ returns-then-f-self-clause-exact c g frames n task follows there to_is order =
     let kept = ap (λ (x : Listener). x.watched) c.advance.ensures.listener in
     let fine = c.loop-f.invariant.fine g frames n task follows there to_is in
     let watched = kept ∙ c.loop-f.invariant.watched_same ∙ follows.watched_is in
-    let knows =
-    subst (Knows (joined frames n)) (sym c.advance.ensures.listener)
-    (Knows-drawn (joined frames n) c.loop-f.self.listener _ fine.0) in
+    let known =
+    subst (KnowsLast (joined frames n) (packets_at frames (n - 1))) (sym c.advance.ensures.listener)
+    (KnowsLast-drawn (joined frames n) _ c.loop-f.self.listener _ fine.0) in
+    let knows = known.knows in
     let some = follows.some in
     let frame = follows.frame_is in
     let in_gap : IsInGap frames n f = (some, there, omega arith, omega arith) in
@@ -98,14 +100,15 @@ loop-f-preserved c =
       fine = λ g frames n task follows there to_is.
           let fine = c.loop-f.invariant.fine g frames n task follows there to_is in
           let watched = kept ∙ c.loop-f.invariant.watched_same ∙ follows.watched_is in
-          let knows =
-          subst (Knows (joined frames n)) (sym c.advance.ensures.listener)
-          (Knows-drawn (joined frames n) c.loop-f.self.listener _ fine.0) in
+          let known =
+          subst (KnowsLast (joined frames n) (packets_at frames (n - 1))) (sym c.advance.ensures.listener)
+          (KnowsLast-drawn (joined frames n) _ c.loop-f.self.listener _ fine.0) in
+          let knows = known.knows in
           let h : HeaderIs g frames n c.advance.new.self.header_at =
           subst (λ x. HeaderIs g frames n x)
           (sym (c.advance.ensures.header_at ∙ c.loop-f.invariant.header_same))
           follows.header in (
-            knows,
+            known,
             λ j row column l t. elim (cases_eq j f) [
               | inl e ↦ subst (λ x. Shows g frames n x row column) (sym e)
                   (shows_from g p c.args.every task frames n f s knows watched row column t.1

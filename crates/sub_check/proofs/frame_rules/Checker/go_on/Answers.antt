@@ -5,14 +5,14 @@ use Rattle.sub_check.specs.Following.{OrderOk}
 use Rattle.sub_check.proofs.OrderLemmas.{first_order}
 use Rattle.sub_check.proofs.frame_rules.Checker.go_on.Goals as goal
 
-pub returns-then-frame-self-clause-exact : goal.returns-then-frame-self-clause-exact
-returns-then-frame-self-clause-exact c g frames task follows is =
+pub returns-then-sending-self-clause-exact : goal.returns-then-sending-self-clause-exact
+returns-then-sending-self-clause-exact c g frames task follows is again =
     let a = follows.frame_is in
     let b = is.frame_is in
     first_order g frames c.args.pes follows.past follows.some is.there (λ l. omega arith)
 
 pub returns-in_err-cross_gap-clause-exact : goal.returns-in_err-cross_gap-clause-exact
-returns-in_err-cross_gap-clause-exact c g frames task follows is =
+returns-in_err-cross_gap-clause-exact c g frames task follows is again =
     let p = err_from_is_err_and c.from_residual.result c.from_residual.ensures.1 in
     let some = follows.some in
     let a = follows.frame_is in
@@ -24,7 +24,7 @@ returns-in_err-cross_gap-clause-exact c g frames task follows is =
     order)
 
 pub returns-clause-exact : goal.returns-clause-exact
-returns-clause-exact c g frames task follows is =
+returns-clause-exact c g frames task follows is again =
     let some = follows.some in
     let a = follows.frame_is in
     let b = is.frame_is in
@@ -33,7 +33,7 @@ returns-clause-exact c g frames task follows is =
     let crossed =
     c.in_ok-cross_gap.ensures.exact g frames c.args.pes task follows is.there is.frame_is order
     in
-    c.take.ensures.exact g frames c.args.pes task crossed.1 is order crossed.0
+    c.take.ensures.exact g frames c.args.pes task crossed.1 is again order crossed.0
 
 pub returns-in_err-cross_gap-clause-own : goal.returns-in_err-cross_gap-clause-own
 returns-in_err-cross_gap-clause-own c =

@@ -3,11 +3,11 @@ use Rattle.std.proofs.Common.{◌≡◌, ℕ, ◌+◌, ◌-◌, ◌≤◌, sym, 
 use Rattle.sub_check.specs.declared.listener.Listener.{Listener}
 use Rattle.sub_check.specs.FrameRules.{frame_at, joined}
 use Rattle.sub_check.specs.FirstBroken.{NamesFirst}
-use Rattle.sub_check.specs.Listening.{Knows}
+use Rattle.sub_check.specs.Listening.{KnowsLast}
 use Rattle.sub_check.specs.Following.{HeaderIs}
 use Rattle.sub_check.proofs.OrderLemmas.{first_packet, first_cell, first_frame, first_open}
 use Rattle.sub_check.proofs.ShownLemmas.{shows_from, shows_not, covered_from, covered_not}
-use Rattle.sub_check.proofs.ShownLemmas.{Knows-drawn, ended_from, ended_not}
+use Rattle.sub_check.proofs.ShownLemmas.{KnowsLast-drawn, ended_from, ended_not}
 use Rattle.sub_check.proofs.TakingLemmas.{Taken-from, HeaderIs-more, rising_more, fault_moved}
 use Rattle.sub_check.proofs.TakingLemmas.{past_more}
 use Rattle.sub_check.specs.declared.fault.CheckFault.TheVariants as fault
@@ -22,12 +22,12 @@ use Rattle.ttx_pes.specs.DataUnit.{UnitValue}
 use Rattle.sub_check.proofs.frame_rules.Checker.take.Goals as goal
 
 pub returns-in-Err-clause-exact : goal.returns-in-Err-clause-exact
-returns-in-Err-clause-exact c g frames n task follows is order gap =
+returns-in-Err-clause-exact c g frames n task follows is again order gap =
     let same = is.packets_are in
     let first =
-    c.in-Err.ensures.knows (joined frames n)
-    (subst (Knows (joined frames n)) (sym c.advance.ensures.listener)
-    (Knows-drawn (joined frames n) c.args.self.now.listener _ follows.knows)) in
+    c.in-Err.ensures.knows (joined frames n) (packets_at frames (n - 1))
+    (subst (KnowsLast (joined frames n) (packets_at frames (n - 1))) (sym c.advance.ensures.listener)
+    (KnowsLast-drawn (joined frames n) _ c.args.self.now.listener _ follows.knows)) again in
     subst (NamesFirst g frames) (sym c.fault_of.ensures.value)
     (subst (λ x. NamesFirst g frames (packet_fault c.in-Err.fault.rule x c.in-Err.fault.packet))
     is.frame_is
@@ -37,21 +37,21 @@ returns-in-Err-clause-exact c g frames n task follows is order gap =
     (ap (λ (x : Listener). x.watched) c.advance.ensures.listener ∙ follows.watched_is) first)))
 
 pub returns-in-Some-clause-exact : goal.returns-in-Some-clause-exact
-returns-in-Some-clause-exact c g frames n task follows is order gap =
+returns-in-Some-clause-exact c g frames n task follows is again order gap =
     let p = c.args.programme.now in
     let same = is.packets_are in
     let both =
-    c.in-Ok.ensures.knows (joined frames n)
-    (subst (Knows (joined frames n)) (sym c.advance.ensures.listener)
-    (Knows-drawn (joined frames n) c.args.self.now.listener _ follows.knows)) in
+    c.in-Ok.ensures.knows (joined frames n) (packets_at frames (n - 1))
+    (subst (KnowsLast (joined frames n) (packets_at frames (n - 1))) (sym c.advance.ensures.listener)
+    (KnowsLast-drawn (joined frames n) _ c.args.self.now.listener _ follows.knows)) again in
     let taken =
-    Taken-from g frames n c.any_header-found.result c.in-Ok.headers c.hear_all.new.self _ _
+    Taken-from g frames n c.any_header-found.result c.in-Ok.headers c.hear_sending.new.self _ _
     is.there same
     (ap (λ (x : Listener). x.watched) c.advance.ensures.listener ∙ follows.watched_is)
-    c.in-Ok.ensures.watched c.any_header-found.ensures c.in-Ok.ensures.headers _
+    c.in-Ok.ensures.watched c.any_header-found.ensures both.2 _
     (length-map c.args.units.now (λ (u : UnitValue). u.packet)) both.0 both.1 in
     let f : ℕ = frame_at frames n in
-    let s = c.hear_all.new.self in
+    let s = c.hear_sending.new.self in
     let some = follows.some in
     let due = ap (λ (x : Listener). x.comparison.due) c.advance.ensures.listener in
     let d = rw (c.in-Ok.ensures.due, due, ← is.frame_is) at c.in-Some.ensures in
@@ -67,31 +67,31 @@ returns-in-Some-clause-exact c g frames n task follows is order gap =
     (d.cells_before k l)))
 
 pub returns-then-frame-self-clause-exact : goal.returns-then-frame-self-clause-exact
-returns-then-frame-self-clause-exact c g frames n task follows is order gap =
+returns-then-frame-self-clause-exact c g frames n task follows is again order gap =
     let p = c.args.programme.now in
     let same = is.packets_are in
     let both =
-    c.in-Ok.ensures.knows (joined frames n)
-    (subst (Knows (joined frames n)) (sym c.advance.ensures.listener)
-    (Knows-drawn (joined frames n) c.args.self.now.listener _ follows.knows)) in
+    c.in-Ok.ensures.knows (joined frames n) (packets_at frames (n - 1))
+    (subst (KnowsLast (joined frames n) (packets_at frames (n - 1))) (sym c.advance.ensures.listener)
+    (KnowsLast-drawn (joined frames n) _ c.args.self.now.listener _ follows.knows)) again in
     let taken =
-    Taken-from g frames n c.any_header-found.result c.in-Ok.headers c.hear_all.new.self _ _
+    Taken-from g frames n c.any_header-found.result c.in-Ok.headers c.hear_sending.new.self _ _
     is.there same
     (ap (λ (x : Listener). x.watched) c.advance.ensures.listener ∙ follows.watched_is)
-    c.in-Ok.ensures.watched c.any_header-found.ensures c.in-Ok.ensures.headers _
+    c.in-Ok.ensures.watched c.any_header-found.ensures both.2 _
     (length-map c.args.units.now (λ (u : UnitValue). u.packet)) both.0 both.1 in
     let f : ℕ = frame_at frames n in
-    let s = c.hear_all.new.self in
+    let s = c.hear_sending.new.self in
     let some = follows.some in
     let frame = is.frame_is in
     let due = ap (λ (x : Listener). x.comparison.due) c.advance.ensures.listener in
     let d = rw (c.in-Ok.ensures.due, due, ← is.frame_is) at c.in_default.ensures in
     let rising =
-    rising_more frames n c.args.self.now.frame c.args.frame follows.rising (omega arith)
+    rising_more frames n c.args.self.now.frame c.args.sending.frame follows.rising (omega arith)
     is.frame_is in
     let before : HeaderIs g frames n c.advance.new.self.header_at =
     subst (λ x. HeaderIs g frames n x) (sym c.advance.ensures.header_at) follows.header in
-    let h = HeaderIs-more g frames n c.advance.new.self.header_at c.args.frame
+    let h = HeaderIs-more g frames n c.advance.new.self.header_at c.args.sending.frame
     c.any_header-found.result before is.frame_is taken.header rising in
     let h' : HeaderIs g frames (n + 1) c.later_header-self.result =
     subst (λ x. HeaderIs g frames (n + 1) x) (sym c.later_header-self.ensures) h in
@@ -106,31 +106,31 @@ returns-then-frame-self-clause-exact c g frames n task follows is order gap =
     (omega arith)))
 
 pub returns-then-is_incomplete-clause-exact : goal.returns-then-is_incomplete-clause-exact
-returns-then-is_incomplete-clause-exact c g frames n task follows is order gap =
+returns-then-is_incomplete-clause-exact c g frames n task follows is again order gap =
     let p = c.args.programme.now in
     let same = is.packets_are in
     let both =
-    c.in-Ok.ensures.knows (joined frames n)
-    (subst (Knows (joined frames n)) (sym c.advance.ensures.listener)
-    (Knows-drawn (joined frames n) c.args.self.now.listener _ follows.knows)) in
+    c.in-Ok.ensures.knows (joined frames n) (packets_at frames (n - 1))
+    (subst (KnowsLast (joined frames n) (packets_at frames (n - 1))) (sym c.advance.ensures.listener)
+    (KnowsLast-drawn (joined frames n) _ c.args.self.now.listener _ follows.knows)) again in
     let taken =
-    Taken-from g frames n c.any_header-found.result c.in-Ok.headers c.hear_all.new.self _ _
+    Taken-from g frames n c.any_header-found.result c.in-Ok.headers c.hear_sending.new.self _ _
     is.there same
     (ap (λ (x : Listener). x.watched) c.advance.ensures.listener ∙ follows.watched_is)
-    c.in-Ok.ensures.watched c.any_header-found.ensures c.in-Ok.ensures.headers _
+    c.in-Ok.ensures.watched c.any_header-found.ensures both.2 _
     (length-map c.args.units.now (λ (u : UnitValue). u.packet)) both.0 both.1 in
     let f : ℕ = frame_at frames n in
-    let s = c.hear_all.new.self in
+    let s = c.hear_sending.new.self in
     let some = follows.some in
     let frame = is.frame_is in
     let due = ap (λ (x : Listener). x.comparison.due) c.advance.ensures.listener in
     let d = rw (c.in-Ok.ensures.due, due, ← is.frame_is) at c.in_default.ensures in
     let rising =
-    rising_more frames n c.args.self.now.frame c.args.frame follows.rising (omega arith)
+    rising_more frames n c.args.self.now.frame c.args.sending.frame follows.rising (omega arith)
     is.frame_is in
     let before : HeaderIs g frames n c.advance.new.self.header_at =
     subst (λ x. HeaderIs g frames n x) (sym c.advance.ensures.header_at) follows.header in
-    let h = HeaderIs-more g frames n c.advance.new.self.header_at c.args.frame
+    let h = HeaderIs-more g frames n c.advance.new.self.header_at c.args.sending.frame
     c.any_header-found.result before is.frame_is taken.header rising in
     let h' : HeaderIs g frames (n + 1) c.later_header-self.result =
     subst (λ x. HeaderIs g frames (n + 1) x) (sym c.later_header-self.ensures) h in
@@ -147,31 +147,31 @@ returns-then-is_incomplete-clause-exact c g frames n task follows is order gap =
     (sym c.is_incomplete.ensures ∙ c.if-is_incomplete.true)))
 
 pub returns-clause-exact : goal.returns-clause-exact
-returns-clause-exact c g frames n task follows is order gap =
+returns-clause-exact c g frames n task follows is again order gap =
     let p = c.args.programme.now in
     let same = is.packets_are in
     let both =
-    c.in-Ok.ensures.knows (joined frames n)
-    (subst (Knows (joined frames n)) (sym c.advance.ensures.listener)
-    (Knows-drawn (joined frames n) c.args.self.now.listener _ follows.knows)) in
+    c.in-Ok.ensures.knows (joined frames n) (packets_at frames (n - 1))
+    (subst (KnowsLast (joined frames n) (packets_at frames (n - 1))) (sym c.advance.ensures.listener)
+    (KnowsLast-drawn (joined frames n) _ c.args.self.now.listener _ follows.knows)) again in
     let taken =
-    Taken-from g frames n c.any_header-found.result c.in-Ok.headers c.hear_all.new.self _ _
+    Taken-from g frames n c.any_header-found.result c.in-Ok.headers c.hear_sending.new.self _ _
     is.there same
     (ap (λ (x : Listener). x.watched) c.advance.ensures.listener ∙ follows.watched_is)
-    c.in-Ok.ensures.watched c.any_header-found.ensures c.in-Ok.ensures.headers _
+    c.in-Ok.ensures.watched c.any_header-found.ensures both.2 _
     (length-map c.args.units.now (λ (u : UnitValue). u.packet)) both.0 both.1 in
     let f : ℕ = frame_at frames n in
-    let s = c.hear_all.new.self in
+    let s = c.hear_sending.new.self in
     let some = follows.some in
     let frame = is.frame_is in
     let due = ap (λ (x : Listener). x.comparison.due) c.advance.ensures.listener in
     let d = rw (c.in-Ok.ensures.due, due, ← is.frame_is) at c.in_default.ensures in
     let rising =
-    rising_more frames n c.args.self.now.frame c.args.frame follows.rising (omega arith)
+    rising_more frames n c.args.self.now.frame c.args.sending.frame follows.rising (omega arith)
     is.frame_is in
     let before : HeaderIs g frames n c.advance.new.self.header_at =
     subst (λ x. HeaderIs g frames n x) (sym c.advance.ensures.header_at) follows.header in
-    let h = HeaderIs-more g frames n c.advance.new.self.header_at c.args.frame
+    let h = HeaderIs-more g frames n c.advance.new.self.header_at c.args.sending.frame
     c.any_header-found.result before is.frame_is taken.header rising in
     let h' : HeaderIs g frames (n + 1) c.later_header-self.result =
     subst (λ x. HeaderIs g frames (n + 1) x) (sym c.later_header-self.ensures) h in
@@ -181,7 +181,7 @@ returns-clause-exact c g frames n task follows is order gap =
     record {
       some = omega arith;
       watched_is = taken.watched_is;
-      knows = taken.knows;
+      knows = taken.last;
       frame_is = sym is.frame_is ∙ ap (frame_at frames) next;
       rising = rising;
       header = h';

@@ -1,9 +1,12 @@
 -- One packet on, and the first that breaks a rule.
 use Rattle.std.proofs.Common.{◌≡◌, ℕ, ◌+◌, ◌<◌, ◌++◌, List, [], ◌∷◌, length, take, get_or, cond}
-use Rattle.std.proofs.Common.{sym, ap, ap₂, ◌∙◌, subst, rules, append_assoc}
+use Rattle.std.proofs.lemmas.List.{length-map, take_all}
+use Rattle.ttx_pes.specs.DataUnit.{UnitValue}
+use Rattle.std.proofs.Common.{true, sym, ap, ap₂, ◌∙◌, subst, rules, append_assoc, arith}
 use Rattle.ttx_page.specs.PacketKind.{is_this_page, kind}
-use Rattle.sub_check.specs.Listening.{Knows}
-use Rattle.sub_check.specs.PacketRules.{IsClean, header_count, packets_of_units}
+use Rattle.sub_check.specs.Listening.{Knows, KnowsLast}
+use Rattle.sub_check.specs.PacketRules.{AreClean, IsClean, header_count, packets_of_units}
+use Rattle.sub_check.proofs.SentAgainLemmas.{begins_on, kept_last}
 use Rattle.sub_check.proofs.PacketLists.{units_more, unit_at, header_count-push, AreClean-more}
 use Rattle.sub_check.proofs.listener.Listener.hear_all.Goals as goal
 
@@ -22,10 +25,16 @@ loop-k-preserved c =
     units_more units k u l c.index-units-k.is ∙ ap (λ x. take k ps ++ x ∷ []) (sym here) in
     let at : get_or ps k [] ≡ p = unit_at units k u l c.index-units-k.is ∙ sym here in
     let one = c.counted-headers.ensures in
-    let header = c.hear.ensures.header in
+    let header = c.hear-is_header.ensures.header in
     record {
-      same = c.hear.ensures.watched ∙ i.same;
-      due = c.hear.ensures.due ∙ i.due;
+      begins = begins_on k c.begins_with-begins.result c.loop-k.begins c.hear-is_header.result _
+          c.begins_with-begins.ensures
+          (λ z. header
+          ∙ ap (λ v. is_this_page (kind v.page p)) i.same
+          ∙ ap (λ q. is_this_page (kind w.page q)) (sym at)
+          ∙ ap (λ n. is_this_page (kind w.page (get_or ps n []))) z) i.begins;
+      same = c.hear-is_header.ensures.watched ∙ i.same;
+      due = c.hear-is_header.ensures.due ∙ i.due;
       few = search rules;
       header =
           one
@@ -37,10 +46,34 @@ loop-k-preserved c =
           let clean = c.in_default.ensures (heard ++ take k ps) before.1 in
           let moved : IsClean w (heard ++ take k ps) p =
           subst (λ v. IsClean v (heard ++ take k ps) p) i.same clean in
-          let new = c.hear.ensures.knows (heard ++ take k ps) before.1 clean in (
+          let new = c.hear-is_header.ensures.knows (heard ++ take k ps) before.1 clean in (
             AreClean-more w heard ps k before.0
                 (subst (IsClean w (heard ++ take k ps)) (sym at) moved),
-            subst (λ xs. Knows xs c.hear.new.self)
+            subst (λ xs. Knows xs c.hear-is_header.new.self)
                 (append_assoc heard (take k ps) (p ∷ []) ∙ ap (λ xs. heard ++ xs) (sym more)) new,
           );
     }
+
+pub returns-clause-knows : goal.returns-clause-knows
+returns-clause-knows c heard known =
+    let w = c.args.self.now.watched in
+    let i = c.loop-k.invariant in
+    let units = c.args.units.now in
+    let ps = packets_of_units units in
+    let long : length ps ≡ length units = length-map units (λ (u : UnitValue). u.packet) in
+    let k : c.loop-k.k ≡ length units = search rules in
+    let all : take c.loop-k.k ps ≡ ps = take_all c.loop-k.k ps (omega (arith, k, long)) in
+    let r = i.known heard known in
+    let clean : AreClean w heard ps (length units) =
+    subst (AreClean w heard ps) k r.0 in
+    let knows : Knows (heard ++ ps) c.loop-k.self =
+    subst (λ xs. Knows (heard ++ xs) c.loop-k.self) all r.1 in
+    let count : c.loop-k.headers ≡ header_count w.page ps =
+    i.header ∙ ap (header_count w.page) all in (
+      clean,
+      subst (λ m. KnowsLast (heard ++ ps) ps (record c.loop-k.self { last = m }))
+          (sym c.last_headers-self.ensures)
+          (kept_last w heard ps _ c.loop-k.headers c.loop-k.begins c.loop-k.self i.same knows
+          clean long count (λ e. subst (λ n. (0 < n) × (is_this_page (kind w.page (get_or ps 0 [])) ≡ true)) k (i.begins e))),
+      count,
+    )

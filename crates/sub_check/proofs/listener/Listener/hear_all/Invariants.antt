@@ -1,5 +1,6 @@
 -- The packets so far keep the rules, and what is kept is what they say.
-use Rattle.std.proofs.Common.{◌≡◌, ◌≤◌, ℕ, List, ◌++◌, take}
+use Rattle.std.proofs.Common.{◌≡◌, ◌≤◌, ◌<◌, ℕ, List, [], ◌++◌, take, get_or, true}
+use Rattle.ttx_page.specs.PacketKind.{is_this_page, kind}
 use Rattle.sub_check.specs.PacketRules.{AreClean, header_count, packets_of_units}
 use Rattle.sub_check.specs.Listening.{Knows}
 use Rattle.sub_check.proofs.listener.Listener.hear_all.Given as goal
@@ -11,6 +12,11 @@ invariant-loop-k l = record {
   few : l.headers ≤ l.k;
   header :
       l.headers ≡ header_count l.initial.self.watched.page (take l.k (packets_of_units l.units));
+  begins :
+      l.begins ≡ true
+      → (0 < l.k)
+      × (is_this_page (kind l.initial.self.watched.page (get_or (packets_of_units l.units) 0 []))
+      ≡ true);
   known :
       (heard : List (List ℕ))
       → Knows heard l.initial.self

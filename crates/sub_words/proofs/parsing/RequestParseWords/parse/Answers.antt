@@ -7,13 +7,13 @@ use Rattle.sub_words.proofs.parsing.RequestParseWords.parse.Goals as goal
 
 pub read_command-requires : goal.read_command-requires
 read_command-requires c =
-    let met = rw c.in-Some.is at c.command_of.ensures in
+    let met = rw c.in-Some.is at c.command_met.ensures in
     command_in-named (texts_of c.args.words.now)
     (c.in-Some.name.now, rows_of (found_of c.in-Some.arguments.now))
     (sym c.in_ok-matches.ensures.command ∙ sym met)
 
 pub returns-clause-fault : goal.returns-clause-fault
 returns-clause-fault c =
-    let none = rw c.in-None.is at c.command_of.ensures in
+    let none = rw c.in-None.is at c.command_met.ensures in
     absurd (command_in-taken (texts_of c.args.words.now) c.in_ok-matches.ensures.taken
     (sym c.in_ok-matches.ensures.command ∙ sym none))

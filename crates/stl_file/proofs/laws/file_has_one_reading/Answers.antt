@@ -1,6 +1,0 @@
--- A file has one reading.
-use Rattle.stl_file.proofs.Sound.{one_file}
-use Rattle.stl_file.proofs.laws.file_has_one_reading.Goals as goal
-
-pub returns : goal.returns
-returns c = one_file

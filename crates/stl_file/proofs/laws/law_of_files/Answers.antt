@@ -1,0 +1,6 @@
+-- A file is what is read.
+use Rattle.stl_file.proofs.Sound.{file_read}
+use Rattle.stl_file.proofs.laws.law_of_files.Goals as goal
+
+pub returns : goal.returns
+returns c = file_read

@@ -1,6 +1,0 @@
--- The normal form of a normal form is itself.
-use Rattle.stl_file.proofs.Normals.{normal_twice}
-use Rattle.stl_file.proofs.laws.normal_form_is_its_own.Goals as goal
-
-pub returns : goal.returns
-returns c = normal_twice

@@ -1,0 +1,101 @@
+-- The tables of bytes against the definitions, computed over all bytes (english_entry,
+-- german_entry), and what each kind of entry says (cell_entry and on).
+use Rattle.std.proofs.Common.{◌≡◌, ℕ, ◌<◌, ◌≤◌, Bool, true, false, ◌&&◌, nat_eq, nat_lt, get_or}
+use Rattle.std.proofs.Common.{refl, sym, ap, arith, inl, inr, eqb-true, ltb-true, true≢false}
+use Rattle.std.proofs.lemmas.Bool.{agree_below_at, and_parts}
+use Rattle.stl_rows.specs.declared.text_code.TextCode.{TextCode}
+use Rattle.stl_rows.specs.declared.text_code.TextCode.TheVariants.{Cell, NoCell, NewLine, Refused}
+use Rattle.stl_rows.specs.declared.text_code.TheConstants.{ENGLISH, GERMAN}
+use Rattle.stl_rows.specs.declared.fault.RowFaultKind.{RowFaultKind}
+use Rattle.stl_rows.specs.declared.fault.RowFaultKind.TheVariants.{Character, Control, RowTooLong}
+use Rattle.stl_rows.specs.declared.fault.RowFaultKind.TheVariants.{PastBottom, DoubleRow, Hidden}
+use Rattle.stl_rows.specs.declared.national.National.TheVariants.{English, German}
+use Rattle.stl_rows.specs.CodeTable.{IsEntry}
+use Rattle.stl_rows.specs.TextCode.{cell_of, code_of, code_of_other}
+
+-- ---- the test that is computed
+
+abbrev is_refusal : RowFaultKind → ℕ → Bool
+is_refusal Character entry = nat_eq entry 0x83
+is_refusal Control entry = nat_eq entry 0x82
+is_refusal RowTooLong entry = false
+is_refusal PastBottom entry = false
+is_refusal DoubleRow entry = false
+is_refusal Hidden entry = false
+
+abbrev is_entry : TextCode → ℕ → Bool
+is_entry (Cell code) entry = nat_eq entry code && nat_lt code 128
+is_entry NoCell entry = nat_eq entry 0x80
+is_entry NewLine entry = nat_eq entry 0x81
+is_entry (Refused kind) entry = is_refusal kind entry
+
+-- It tells an entry.
+of_test : (s : TextCode) (entry : ℕ) → is_entry s entry ≡ true → IsEntry s entry
+of_test (Cell code) entry h =
+    let parts = and_parts (nat_eq entry code) (nat_lt code 128) h in
+    (eqb-true entry code parts.0, ltb-true code 128 parts.1)
+of_test NoCell entry h = eqb-true entry 0x80 h
+of_test NewLine entry h = eqb-true entry 0x81 h
+of_test (Refused Character) entry h = inr (eqb-true entry 0x83 h, refl)
+of_test (Refused Control) entry h = inl (eqb-true entry 0x82 h, refl)
+of_test (Refused RowTooLong) entry h = absurd (true≢false (sym h))
+of_test (Refused PastBottom) entry h = absurd (true≢false (sym h))
+of_test (Refused DoubleRow) entry h = absurd (true≢false (sym h))
+of_test (Refused Hidden) entry h = absurd (true≢false (sym h))
+
+-- The entries of the English table: 256 cases, computed. For `entry_of`.
+pub english_entry : (byte : ℕ) → byte < 256 → IsEntry (code_of English byte) (get_or ENGLISH byte 0)
+unfolding cell_of code_of_other
+english_entry byte h =
+    of_test _ _ (agree_below_at (λ x. is_entry (code_of English x) (get_or ENGLISH x 0)) (λ x. true)
+    256 byte refl h)
+
+-- Those of the German one.
+pub german_entry : (byte : ℕ) → byte < 256 → IsEntry (code_of German byte) (get_or GERMAN byte 0)
+unfolding cell_of code_of_other
+german_entry byte h =
+    of_test _ _ (agree_below_at (λ x. is_entry (code_of German x) (get_or GERMAN x 0)) (λ x. true)
+    256 byte refl h)
+
+-- ---- what an entry says. For `code_of_byte`
+
+pub cell_entry : (s : TextCode) (entry : ℕ) → IsEntry s entry → entry ≤ 0x7F → Cell entry ≡ s
+cell_entry (Cell code) entry h low = ap Cell h.0
+cell_entry NoCell entry h low = absurd (omega arith)
+cell_entry NewLine entry h low = absurd (omega arith)
+cell_entry (Refused kind) entry (inl h) low = absurd (omega (arith, h.0))
+cell_entry (Refused kind) entry (inr h) low = absurd (omega (arith, h.0))
+
+pub no_cell_entry : (s : TextCode) (entry : ℕ) → IsEntry s entry → entry ≡ 0x80 → NoCell ≡ s
+no_cell_entry (Cell code) entry h e = absurd (omega (arith, h.0, h.1))
+no_cell_entry NoCell entry h e = refl
+no_cell_entry NewLine entry h e = absurd (omega arith)
+no_cell_entry (Refused kind) entry (inl h) e = absurd (omega (arith, h.0))
+no_cell_entry (Refused kind) entry (inr h) e = absurd (omega (arith, h.0))
+
+pub new_line_entry : (s : TextCode) (entry : ℕ) → IsEntry s entry → entry ≡ 0x81 → NewLine ≡ s
+new_line_entry (Cell code) entry h e = absurd (omega (arith, h.0, h.1))
+new_line_entry NoCell entry h e = absurd (omega arith)
+new_line_entry NewLine entry h e = refl
+new_line_entry (Refused kind) entry (inl h) e = absurd (omega (arith, h.0))
+new_line_entry (Refused kind) entry (inr h) e = absurd (omega (arith, h.0))
+
+pub control_entry : (s : TextCode) (entry : ℕ)
+    → IsEntry s entry
+    → entry ≡ 0x82
+    → Refused Control ≡ s
+control_entry (Cell code) entry h e = absurd (omega (arith, h.0, h.1))
+control_entry NoCell entry h e = absurd (omega arith)
+control_entry NewLine entry h e = absurd (omega arith)
+control_entry (Refused kind) entry (inl h) e = ap Refused (sym h.1)
+control_entry (Refused kind) entry (inr h) e = absurd (omega (arith, h.0))
+
+pub character_entry : (s : TextCode) (entry : ℕ)
+    → IsEntry s entry
+    → 0x82 < entry
+    → Refused Character ≡ s
+character_entry (Cell code) entry h e = absurd (omega (arith, h.0, h.1))
+character_entry NoCell entry h e = absurd (omega arith)
+character_entry NewLine entry h e = absurd (omega arith)
+character_entry (Refused kind) entry (inl h) e = absurd (omega (arith, h.0))
+character_entry (Refused kind) entry (inr h) e = ap Refused (sym h.1)

@@ -1,0 +1,8 @@
+-- The first of all faults is told: drawn-first.
+use Rattle.stl_rows.proofs.DrawnPageLemmas.{drawn-first}
+use Rattle.stl_rows.proofs.text_faults.first_fault.Goals as goal
+
+pub returns : goal.returns
+returns c =
+    drawn-first c.args.national c.args.subtitle.now c.text.result.now c.vp.result
+    c.fault_of_text.result c.text.ensures.value c.vp.ensures.value c.fault_of_text.ensures

@@ -1,0 +1,169 @@
+//! What keeps a subtitle from being drawn, found in one reading of its text.
+
+ghost use Rattle.std.specs.Prelude.{◌≡◌, ◌+◌, ◌<◌, ◌≤◌, ◌++◌, ◌||◌, ◌==◌, length, map};
+ghost use Rattle.std.specs.Prelude.{[], IsOk, MatchOption, Err, false};
+ghost use Rattle.stl_rows.specs.DrawnPage.{drawn, line_faults};
+ghost use Rattle.stl_rows.specs.Line.{double_height, start_box};
+ghost use Rattle.stl_rows.specs.LineByLine.{prepared_lines, shape_fault_kinds, told_first};
+ghost use Rattle.stl_rows.specs.TextCode.{fault_of, first_of, refusals, text_codes};
+
+use crate::fault::{RowFault, RowFaultKind};
+use crate::national::National;
+use crate::text_code::{TextCode, text_code_at};
+use stl_file::Subtitle;
+
+// The line that is being read: its number and row, and of its cells what its faults depend on.
+#[derive(Clone, Copy)]
+struct OpenLine {
+    number: u16,
+    row: u16,
+    // Whether the line before it has double height.
+    is_under_double: bool,
+    len: u16,
+    is_boxed: bool,
+    is_double: bool,
+}
+
+impl OpenLine {
+    // The first line, which goes to row VP.
+    fn first(vp: u8) -> OpenLine
+        ensures { result ≡ record {
+          number = 0;
+          row = vp;
+          is_under_double = false;
+          len = 0;
+          is_boxed = false;
+          is_double = false;
+        } }
+    {
+        OpenLine {
+            number: 0,
+            row: u16::from(vp),
+            is_under_double: false,
+            len: 0,
+            is_boxed: false,
+            is_double: false,
+        }
+    }
+
+    // Adds a cell.
+    fn push(&mut self, cell: u8)
+        requires { self.old.len < 1008 }
+        ensures { self.new ≡ record self.old {
+          len = self.old.len + 1;
+          is_boxed = self.old.is_boxed || (cell == start_box);
+          is_double = self.old.is_double || (cell == double_height);
+        } }
+    {
+        self.len += 1;
+        self.is_boxed = self.is_boxed || cell == 0x0B;
+        self.is_double = self.is_double || cell == 0x0D;
+    }
+
+    // The line under it, without cells yet.
+    fn end(&mut self)
+        requires number { self.old.number ≤ 1008 }
+        requires row { self.old.row ≤ 1031 }
+        ensures { self.new ≡ record {
+          number = self.old.number + 1;
+          row = self.old.row + 1;
+          is_under_double = self.old.is_double;
+          len = 0;
+          is_boxed = false;
+          is_double = false;
+        } }
+    {
+        *self = OpenLine {
+            number: self.number + 1,
+            row: self.row + 1,
+            is_under_double: self.is_double,
+            len: 0,
+            is_boxed: false,
+            is_double: false,
+        };
+    }
+
+    // What is wrong with the line.
+    #[tactic(auto, unfolding(crate::specs::LineByLine::shape_fault_kinds))]
+    fn fault_kind(&self) -> Option<RowFaultKind>
+        requires { self.now.len ≤ 1008 }
+        ensures { result ≡ first_of (shape_fault_kinds self.now.row self.now.is_under_double
+            self.now.len self.now.is_boxed self.now.is_double) }
+    {
+        let room = if self.is_boxed { 40 } else { 36 };
+        if self.len > room {
+            return Some(RowFaultKind::RowTooLong);
+        }
+        if self.len > 0 && self.row > 23 {
+            return Some(RowFaultKind::PastBottom);
+        }
+        if self.is_double && self.row == 23 {
+            return Some(RowFaultKind::DoubleRow);
+        }
+        if self.len > 0 && self.is_under_double {
+            return Some(RowFaultKind::Hidden);
+        }
+        None
+    }
+
+    // The fault that was found before the line, or else the first of the line.
+    fn first_fault(&self, before: Option<RowFault>) -> Option<RowFault>
+        requires { self.now.len ≤ 1008 }
+        ensures { result ≡ told_first before (map (fault_of self.now.number) (shape_fault_kinds
+            self.now.row self.now.is_under_double self.now.len self.now.is_boxed
+            self.now.is_double)) }
+    {
+        if before.is_some() {
+            return before;
+        }
+        match self.fault_kind() {
+            Some(kind) => Some(RowFault {
+                kind,
+                at: self.number,
+            }),
+            None => None,
+        }
+    }
+}
+
+// The first fault of a text whose first line goes to row VP. A byte that is refused is told before
+// any line.
+fn fault_of_text(national: National, vp: u8, text: &[u8]) -> Option<RowFault>
+    requires last { vp ≤ 23 }
+    requires short { length text.now ≤ 1008 }
+    ensures { result ≡ first_of (refusals (text_codes national 0 text.now)
+        ++ line_faults 0 vp false (prepared_lines [] (text_codes national 0 text.now))) }
+{
+    let mut fault = None;
+    let mut line = OpenLine::first(vp);
+    let mut at = 0;
+    while at < text.len() {
+        let (code, next) = text_code_at(national, text, at);
+        match code {
+            TextCode::Cell(cell) => line.push(cell),
+            TextCode::NewLine => {
+                fault = line.first_fault(fault);
+                line.end();
+            }
+            TextCode::NoCell => {}
+            TextCode::Refused(kind) => {
+                return Some(RowFault {
+                    kind,
+                    at: at as u16,
+                });
+            }
+        }
+        at = next;
+    }
+    line.first_fault(fault)
+}
+
+/// What keeps a subtitle from being drawn. `None` where it draws a page.
+///
+/// The text is read once and no cell is kept.
+pub(crate) fn first_fault(subtitle: &Subtitle, national: National) -> Option<RowFault>
+    ensures { MatchOption result (IsOk (drawn national subtitle.now))
+        (λ fault. drawn national subtitle.now ≡ Err fault) }
+{
+    fault_of_text(national, subtitle.vp(), subtitle.text())
+}

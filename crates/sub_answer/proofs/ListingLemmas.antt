@@ -1,0 +1,277 @@
+-- A listing that is printed piece after piece. Main lemmas: listed-more, listed-end, listed-cut,
+-- packets_from-next, packets-fail, subtitles-fail.
+use Rattle.std.proofs.Common.{◌≡◌, ◌∙◌, ap, refl, sym, subst, arith, ℕ, zero, suc, ◌+◌, ◌-◌, ◌<◌}
+use Rattle.std.proofs.Common.{◌≤◌}
+use Rattle.std.proofs.Common.{List, [], ◌∷◌, ◌++◌, append_assoc, drop, length, inl, inr}
+use Rattle.std.proofs.Common.{Bool, true, false, Option, Some, None, Ok, Err}
+use Rattle.std.specs.Io.KnownBytes.{Appends}
+use Rattle.std.proofs.KnownBytes.{Appends-nil, Appends-trans}
+use Rattle.sub_io.specs.Device.{AppendsPrefix}
+use Rattle.sub_io.specs.Reading.{IfTold}
+use Rattle.sub_io.proofs.DeviceLemmas.{AppendsPrefix-first, AppendsPrefix-second}
+use Rattle.ttx_pes.specs.Fault as pes_fault
+use Rattle.ttx_pes.specs.Reading.{answer_at, most_packets, rest_after}
+use Rattle.ttx_pes.specs.declared.fault.PesFault.{PesFault}
+use Rattle.ttx_pes.specs.declared.fault.PesFault.TheVariants as pes
+use Rattle.stl_file.specs.Fault as stl_fault
+use Rattle.stl_file.specs.Gsi.{gsi_size}
+use Rattle.stl_file.specs.Reader.{EndsKept, ReaderValue, TakesSubtitle, opened_at}
+use Rattle.stl_file.specs.Reader.{outcome_left, outcome_of}
+use Rattle.stl_file.specs.Reading.{fails}
+use Rattle.stl_file.specs.Subtitle.{SubtitleValue}
+use Rattle.stl_file.specs.declared.fault.StlFault.{StlFault}
+use Rattle.stl_file.specs.declared.fault.StlFault.TheVariants as stl
+use Rattle.sub_answer.specs.Faults.{pes_kind, stl_kind}
+use Rattle.sub_answer.specs.Listing.{Gives, Listing, PrintsOrFails, ends_in_fault}
+use Rattle.sub_answer.specs.Listing.{Lists, followed}
+use Rattle.sub_answer.specs.PacketsListing.{answer_then, packets_from}
+use Rattle.sub_answer.specs.Told.{status_of}
+use Rattle.sub_answer.specs.declared.status.Status.{Status}
+use Rattle.sub_answer.specs.declared.status.Status.TheVariants.{Fault}
+
+-- ---- lines behind lines
+
+-- What was printed since the sink held `old` is the front of each listing that goes on with what
+-- may be listed now.
+pub record IsFront
+    (Before After : Option (List ℕ) → Option (List ℕ) → Bool → Listing → Type 0)
+    (told left old now : Option (List ℕ))
+    : Type 0 where
+  pub text : List ℕ
+  pub printed : Appends old now text
+  pub listed :
+      (end : Option (List ℕ)) (failed : Bool) (more : Listing)
+      → After left end failed more
+      → Before told end failed (followed text more)
+
+-- Nothing was printed so far. For `list`.
+pub front-none :
+    (Before : Option (List ℕ) → Option (List ℕ) → Bool → Listing → Type 0)
+    (told old : Option (List ℕ))
+    → IsFront Before Before told told old old
+front-none Before told old = record {
+  text = [];
+  printed = Appends-nil old;
+  listed = λ end failed more is. is;
+}
+
+-- Lines behind lines are lines.
+followed-twice : (first second : List ℕ) (more : Listing)
+    → followed first (followed second more) ≡ followed (first ++ second) more
+followed-twice first second more =
+    ap (λ (t : List ℕ). let l : Listing = record { text = t; status = more.status } in l)
+    (sym (append_assoc first second more.text))
+
+-- The next lines were printed, and more may follow. For `list`.
+pub front-more :
+    (Before At After : Option (List ℕ) → Option (List ℕ) → Bool → Listing → Type 0)
+    (told left rest old now new : Option (List ℕ)) (text : List ℕ)
+    → IsFront Before At told left old now
+    → Gives At After left rest text None
+    → Appends now new text
+    → IsFront Before After told rest old new
+front-more Before At After told left rest old now new text i gives p = record {
+  text = i.text ++ text;
+  printed = Appends-trans old now new i.text text i.printed p;
+  listed = λ end failed more is.
+      subst (Before told end failed) (followed-twice i.text text more)
+      (i.listed end failed (followed text more) (gives.0 end failed more is));
+}
+
+-- A listing that was printed, or of which a sink that failed has a prefix.
+pub record IsPrinted
+    (Before : Option (List ℕ) → Option (List ℕ) → Bool → Listing → Type 0)
+    (told rest : Option (List ℕ)) (failed : Bool) (n n' : ℕ) (old new : Option (List ℕ))
+    (status : Status)
+    : Type 0 where
+  pub listing : Listing
+  pub is_listed : Before told rest failed listing
+  pub printed : PrintsOrFails n old n' new listing status
+
+-- The last lines were printed. For `list`.
+pub front-end :
+    (Before At After : Option (List ℕ) → Option (List ℕ) → Bool → Listing → Type 0)
+    (told left rest old now new : Option (List ℕ)) (text : List ℕ) (status : Status) (n n' : ℕ)
+    → IsFront Before At told left old now
+    → Gives At After left rest text (Some status)
+    → Appends now new text
+    → n' ≡ n
+    → IsPrinted Before told rest (ends_in_fault (Some status)) n n' old new status
+front-end Before At After told left rest old now new text status n n' i gives p same = record {
+  listing = followed i.text (record { text = text; status = status });
+  is_listed = i.listed rest (ends_in_fault (Some status)) (record { text = text; status = status })
+      gives;
+  printed = inl (same, Appends-trans old now new i.text text i.printed p, refl);
+}
+
+-- The sink failed at these lines, whatever should follow them. For `list`.
+pub front-cut :
+    (Before At After : Option (List ℕ) → Option (List ℕ) → Bool → Listing → Type 0)
+    (told left rest old now new : Option (List ℕ)) (text : List ℕ) (end : Option Status) (n n' : ℕ)
+    → IsFront Before At told left old now
+    → Gives At After left rest text end
+    → AppendsPrefix now new text
+    → n' ≡ n + 1
+    → IsPrinted Before told rest (ends_in_fault end) n n' old new Fault
+front-cut Before At After told left rest old now new text None n n' i gives p risen =
+    let more = gives.1 in record {
+      listing = followed i.text (followed text more.0);
+      is_listed = i.listed rest false (followed text more.0)
+          (gives.0 rest false more.0 more.1);
+      printed = inr (
+        risen,
+        AppendsPrefix-second old now new i.text (text ++ more.0.text) i.printed
+            (AppendsPrefix-first now new text more.0.text p),
+        refl,
+      );
+    }
+front-cut Before At After told left rest old now new text (Some status) n n' i gives p risen =
+    record {
+      listing = followed i.text (record { text = text; status = status });
+      is_listed = i.listed rest (ends_in_fault (Some status))
+          (record { text = text; status = status }) gives;
+      printed = inr (risen, AppendsPrefix-second old now new i.text text i.printed p, refl);
+    }
+
+-- Something is listed where a source has not failed.
+lists-some :
+    (O : Type 0) (listing_of : O → Listing) (given : List ℕ → O) (TellsRead : O → Type 0)
+    (left : Option (List ℕ))
+    → O
+    → (more : Listing) × Lists listing_of given TellsRead left left false more
+lists-some O listing_of given TellsRead None o = (
+  listing_of o,
+  record {
+    outcome = o;
+    listing_is = refl;
+    exact = λ bytes e ok. absurd cc;
+    failure = λ e. absurd cc;
+  },
+)
+lists-some O listing_of given TellsRead (Some b) o = (
+  listing_of (given b),
+  record {
+    outcome = given b;
+    listing_is = refl;
+    exact = λ bytes e ok. let same : b ≡ bytes = cc in ap given same;
+    failure = λ e. absurd cc;
+  },
+)
+
+-- A piece was read, and what is given from here on comes behind it. For the listers.
+pub gives-next :
+    (O : Type 0) (before after : O → Listing) (given given' : List ℕ → O) (TellsRead : O → Type 0)
+    (piece : O → O) (told left : Option (List ℕ)) (text : List ℕ)
+    → ((o : O) → before (piece o) ≡ followed text (after o))
+    → ((o : O) → TellsRead o → TellsRead (piece o))
+    → IfTold told (λ bytes.
+    (rest : List ℕ) × (left ≡ Some rest) × (given bytes ≡ piece (given' rest)))
+    → O
+    → Gives (Lists before given TellsRead) (Lists after given' TellsRead) told left text None
+gives-next O before after given given' TellsRead piece told left text lines tells reads o = (
+  λ end failed more l. record {
+    outcome = piece l.outcome;
+    listing_is = ap (followed text) l.listing_is ∙ sym (lines l.outcome);
+    exact = λ bytes is ok.
+        let read = reads bytes is in
+        ap piece (l.exact read.0 read.1 ok) ∙ sym read.2;
+    failure = λ e. tells l.outcome (l.failure e);
+  },
+  lists-some O after given' TellsRead left o,
+)
+
+-- Equal texts and equal statuses are equal listings.
+pub same-listing : (text text' : List ℕ) (status status' : Status)
+    → text ≡ text'
+    → status ≡ status'
+    → (let l : Listing = record { text = text; status = status } in l)
+    ≡ record { text = text'; status = status' }
+same-listing text text' status status' e f = rw (e, f) refl
+
+-- ---- PES packets
+
+-- The next answer of a reader, by the packets that may still come.
+packets_from-room : (room index : ℕ) (bytes : List ℕ)
+    → index + room ≡ most_packets
+    → packets_from room index bytes
+    ≡ answer_then (answer_at index bytes)
+    (packets_from (room - 1) (index + 1) (rest_after bytes))
+unfolding packets_from answer_at
+packets_from-room zero index [] e = refl
+packets_from-room zero index (x ∷ b) e =
+    let last : index ≡ most_packets = omega arith in rw last refl
+packets_from-room (suc room) index bytes e =
+    let less : suc room - 1 ≡ room = omega arith in rw less refl
+
+-- The same after so many of all. For `PacketLister`.
+pub packets_from-next : (index : ℕ) (bytes : List ℕ)
+    → index ≤ most_packets
+    → packets_from (most_packets - index) index bytes
+    ≡ answer_then (answer_at index bytes)
+    (packets_from (most_packets - (index + 1)) (index + 1) (rest_after bytes))
+packets_from-next index bytes few =
+    let less : most_packets - (index + 1) ≡ most_packets - index - 1 = omega arith in
+    rw less (packets_from-room (most_packets - index) index bytes (omega arith))
+
+-- The fault of the source alone ends a listing in a fault.
+pub pes-failed : (f : PesFault)
+    → ends_in_fault (Some (status_of (pes_kind f))) ≡ pes_fault.is_read f
+pes-failed pes.Read = refl
+pes-failed f = refl
+
+-- So that fault is told.
+pub pes-read : (f : PesFault)
+    → ends_in_fault (Some (status_of (pes_kind f))) ≡ true
+    → f ≡ pes.Read
+pes-read pes.Read e = refl
+pes-read f e = cc
+
+-- ---- subtitles
+
+-- One block or more were taken.
+rises : (from to : ℕ) (blocks : List (List ℕ))
+    → EndsKept blocks
+    → from + length blocks ≡ to
+    → from < to
+rises from to [] ends counted = absurd ends
+rises from to (b ∷ blocks) ends counted = omega arith
+
+-- A subtitle takes a block or more. For `SubtitleLister`.
+pub block-rises : (from to : ℕ) (old new : Option (List ℕ)) (s : SubtitleValue)
+    → TakesSubtitle from to old new s
+    → from < to
+block-rises from to old new s t = rises from to t.blocks t.ends t.counted
+
+-- The fault of the source alone ends a listing in a fault.
+pub stl-failed : (f : StlFault)
+    → ends_in_fault (Some (status_of (stl_kind f))) ≡ stl_fault.is_read f
+stl-failed stl.Read = refl
+stl-failed f = refl
+
+-- So that fault is told.
+pub stl-read : (f : StlFault)
+    → ends_in_fault (Some (status_of (stl_kind f))) ≡ true
+    → f ≡ stl.Read
+stl-read stl.Read e = refl
+stl-read f e = cc
+
+-- The status that goes with it.
+pub stl-status : (f : StlFault)
+    → ends_in_fault (Some (status_of (stl_kind f))) ≡ true
+    → status_of (stl_kind f) ≡ Fault
+stl-status stl.Read e = refl
+stl-status f e = cc
+
+-- What a file gives whose GSI block is read. For `list_subtitles`.
+pub outcome_of-opened : (bytes : List ℕ) (r : ReaderValue)
+    → opened_at bytes ≡ Ok r
+    → outcome_left r (drop gsi_size bytes) ≡ outcome_of bytes
+unfolding outcome_of
+outcome_of-opened bytes r e = rw e refl
+
+-- The same, where it is refused.
+pub outcome_of-refused : (bytes : List ℕ) (f : StlFault)
+    → opened_at bytes ≡ Err f
+    → fails f 0 ≡ outcome_of bytes
+unfolding outcome_of
+outcome_of-refused bytes f e = rw e refl

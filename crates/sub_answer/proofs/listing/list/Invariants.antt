@@ -1,0 +1,18 @@
+-- No device has failed, and what was printed is the front of what may be listed.
+use Rattle.std.proofs.Common.{◌≡◌}
+use Rattle.sub_answer.proofs.ListingLemmas.{IsFront}
+use Rattle.sub_answer.proofs.listing.list.Given as goal
+
+abbrev pub invariant-pieces : goal.invariant-pieces
+invariant-pieces g l = record {
+  ready : g.L.Lister.ready l.lister;
+  source : g.S.Source.failure_count l.source ≡ g.S.Source.failure_count l.fn.source;
+  out : g.K.Sink.failure_count l.out ≡ g.K.Sink.failure_count l.fn.out;
+  front : IsFront
+      (g.L.Lister.lists l.fn.lister) (g.L.Lister.lists l.lister)
+      (g.S.Source.remaining l.fn.source) (g.S.Source.remaining l.source)
+      (g.K.Sink.contents l.fn.out) (g.K.Sink.contents l.out);
+}
+
+abbrev pub decreases-pieces : goal.decreases-pieces
+decreases-pieces g l = g.L.Lister.pieces l.lister

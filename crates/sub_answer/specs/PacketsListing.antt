@@ -1,0 +1,56 @@
+-- What `packets` prints of a file of PES packets.
+use Rattle.std.specs.Prelude.{◌≡◌, ℕ, zero, suc, ◌+◌, List, [], ◌∷◌, ◌++◌, codes, decimal}
+use Rattle.std.specs.Prelude.{Option, Some, None, Result, Ok, Err, Bool}
+use Rattle.ttx_pes.specs.DataUnit.{UnitValue}
+use Rattle.ttx_pes.specs.PesPacket.{PesValue}
+use Rattle.ttx_pes.specs.Reading.{answer_at, most_packets, rest_after}
+use Rattle.ttx_pes.specs.declared.fault.PesFault.{PesFault}
+use Rattle.ttx_pes.specs.declared.fault.PesFault.TheVariants.{Read, TooMany}
+use Rattle.sub_answer.specs.Faults.{pes_told}
+use Rattle.sub_answer.specs.Lines.{pes_line, unit_line}
+use Rattle.sub_answer.specs.Listing.{Lists, Listing, done, followed, told_listing}
+
+-- What a file of PES packets gives: packets, and then the end or a fault.
+pub data PesOutcome : Type 0 where
+  ends : PesOutcome
+  fails : PesFault → PesOutcome
+  gives : PesValue → PesOutcome → PesOutcome
+
+-- What a reader answers, and behind a packet what comes then.
+abbrev pub answer_then : Result (Option PesValue) PesFault → PesOutcome → PesOutcome
+answer_then (Ok (Some v)) more = gives v more
+answer_then (Ok None) more = ends
+answer_then (Err f) more = fails f
+
+-- What bytes give after so many PES packets, where so many may still come: behind one for each
+-- frame of a day any byte is too many.
+unfoldable pub packets_from : ℕ → ℕ → List ℕ → PesOutcome
+packets_from zero index [] = ends
+packets_from zero index (x ∷ b) = fails TooMany
+packets_from (suc room) index bytes =
+    answer_then (answer_at index bytes) (packets_from room (index + 1) (rest_after bytes))
+
+-- It ends where the source failed.
+abbrev pub TellsPesRead : PesOutcome → Type 0
+TellsPesRead ends = ⊥
+TellsPesRead (fails f) = f ≡ Read
+TellsPesRead (gives v more) = TellsPesRead more
+
+-- The lines of Teletext units, of which the first has this number.
+abbrev pub unit_lines : ℕ → List UnitValue → List ℕ
+unit_lines number [] = []
+unit_lines number (u ∷ units) = unit_line number u ++ unit_lines (number + 1) units
+
+-- The lines of a PES packet and of its units.
+abbrev pub frame_lines : ℕ → PesValue → List ℕ
+frame_lines index v = pes_line index v.pts ++ unit_lines 0 v.units
+
+-- What is printed after so many PES packets: each of them in turn, and at the end their number.
+abbrev pub pes_listing : ℕ → PesOutcome → Listing
+pes_listing index ends = done (decimal index ++ codes " pes\n")
+pes_listing index (fails f) = told_listing (pes_told f index)
+pes_listing index (gives v more) = followed (frame_lines index v) (pes_listing (index + 1) more)
+
+-- A file of PES packets is listed.
+abbrev pub ListsPackets : Option (List ℕ) → Option (List ℕ) → Bool → Listing → Type 0
+ListsPackets = Lists (pes_listing 0) (packets_from most_packets 0) TellsPesRead

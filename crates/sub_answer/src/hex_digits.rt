@@ -1,0 +1,50 @@
+//! Lower case hexadecimal digits of 16 bytes at once, a byte in each lane of a vector.
+//!
+//! A half of a byte is the place of its digit in a table of 16. The digits of the upper halves and
+//! those of the lower ones then take turns.
+ghost use Rattle.std.specs.Prelude.{◌≡◌, ◌/◌, ◌%◌, ◌++◌, length, map, take, drop, slice_index};
+ghost use Rattle.hex.specs.Hex.{encode_lower, encode_with, lower_digits};
+
+use std::simd::prelude::*;
+
+/// The digits by the number that they stand for.
+const DIGITS: [u8; 16] = *b"0123456789abcdef";
+
+// The first digit of each byte, that of its upper half.
+#[inline(always)]
+fn first_digits(bytes: u8x16) -> u8x16
+    ensures { result ≡ map (λ b. slice_index lower_digits (b / 16)) bytes }
+{
+    u8x16::from_array(DIGITS).swizzle_dyn(bytes >> u8x16::splat(4))
+}
+
+// The second digit of each byte, that of its lower half.
+#[inline(always)]
+fn second_digits(bytes: u8x16) -> u8x16
+    ensures { result ≡ map (λ b. slice_index lower_digits (b % 16)) bytes }
+{
+    u8x16::from_array(DIGITS).swizzle_dyn(bytes & u8x16::splat(15))
+}
+
+/// The 32 digits of 16 bytes.
+#[inline(always)]
+pub fn digits_of_block(block: &[u8; 16]) -> [u8; 32]
+    ensures { result ≡ encode_lower block.now }
+{
+    let bytes = u8x16::from_array(*block);
+    let first = first_digits(bytes);
+    let second = second_digits(bytes);
+    let mut digits = [0; 32];
+    let (front, back) = digits.split_at_mut(16);
+    let of_front = first.shuffle(
+        second,
+        [0, 16, 1, 17, 2, 18, 3, 19, 4, 20, 5, 21, 6, 22, 7, 23],
+    );
+    let of_back = first.shuffle(
+        second,
+        [8, 24, 9, 25, 10, 26, 11, 27, 12, 28, 13, 29, 14, 30, 15, 31],
+    );
+    front.copy_from_slice(&of_front.to_array());
+    back.copy_from_slice(&of_back.to_array());
+    digits
+}

@@ -1,0 +1,72 @@
+//! How a file is listed: what is read of it is printed, one piece after the other.
+ghost use Rattle.std.specs.Prelude.{◌≡◌, ℕ, ◌+◌, ◌<◌, [], Bool, List, None, Option};
+ghost use Rattle.sub_io.specs.Device.{CanFail, CountsIf};
+ghost use Rattle.sub_answer.specs.DeviceCall.{sink_call, source_call};
+ghost use Rattle.sub_answer.specs.Listing.{CountsFault, Gives, Listing, PrintsListing};
+ghost use Rattle.sub_answer.specs.Listing.{ends_in_fault};
+
+use crate::status::Status;
+use arrayvec::ArrayVec;
+use sub_io::{Sink, Source, put_all};
+
+/// Room for one piece: the lines of one PES packet, or of one subtitle.
+pub const PIECE: usize = 7168;
+
+/// The lines of one piece.
+pub type Text = ArrayVec<u8, PIECE>;
+
+/// Reads what is listed of a file, and makes its lines.
+pub trait Lister {
+    /// It has not come to the end, and met no fault.
+    ghost ready: { Self → Type 0 };
+
+    /// How many pieces it can still give at most.
+    ghost pieces: { Self → ℕ };
+
+    /// What may be listed from here on, by what the source tells before and after, and whether it
+    /// failed.
+    ghost lists: { Self → Option (List ℕ) → Option (List ℕ) → Bool → Listing → Type 0 };
+
+    /// Makes the lines of the next piece. `None` where another may follow, else how the listing
+    /// ends.
+    fn next<S: Source>(&mut self, source: &mut S, text: &mut Text) -> Option<Status>
+        requires ready { ready self.old }
+        requires source { CanFail (S.failure_count source.old) }
+        requires empty { text.old.items ≡ [] }
+        ensures gives { Gives (lists self.old) (lists self.new)
+            (S.remaining source.old) (S.remaining source.new) text.new.items result }
+        ensures ready { result ≡ None → ready self.new }
+        ensures fewer { result ≡ None → pieces self.new < pieces self.old }
+        ensures count { CountsIf S.failure_count source.old (ends_in_fault result) source.new };
+}
+
+/// Lists a file, one piece after the other as they are read.
+///
+/// Lines before a refusal stay. One piece is kept at a time, and its lines are put at once.
+pub fn list<L: Lister, S: Source, K: Sink>(lister: &mut L, source: &mut S, out: &mut K) -> Status
+    requires ready { L.ready lister.old }
+    requires source { CanFail (S.failure_count source.old) }
+    requires out { CanFail (K.failure_count out.old) }
+    ensures listing { PrintsListing (L.lists lister.old)
+        (source_call S.remaining S.failure_count source.old source.new)
+        (sink_call K.contents K.failure_count out.old out.new) result }
+    ensures source_count { CountsFault (S.failure_count source.old) result
+        (S.failure_count source.new) }
+    ensures out_count { CountsFault (K.failure_count out.old) result (K.failure_count out.new) }
+    ensures fault { result ≡ Status.Fault
+        → S.failure_count source.old + K.failure_count out.old
+        < S.failure_count source.new + K.failure_count out.new }
+{
+    let mut text = Text::new();
+    'pieces: loop {
+        text.clear();
+        let end = lister.next(source, &mut text);
+        match put_all(out, text.as_slice()) {
+            Ok(()) => (),
+            Err(_) => return Status::Fault,
+        }
+        if let Some(status) = end {
+            return status;
+        }
+    }
+}

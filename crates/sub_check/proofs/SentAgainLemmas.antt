@@ -1,0 +1,313 @@
+-- Packets that are sent again keep the rules again, and what is kept stays: `law_of_sent_again`,
+-- `heard_again`, `kept_last`.
+use Rattle.std.proofs.Common.{◌≡◌, ℕ, zero, suc, ◌<◌, Bool, true, false, ◌==◌, cond, List, []}
+use Rattle.std.proofs.Common.{◌∷◌, ◌++◌, Option, Some, None, not, ◌&&◌, nat_le, length}
+use Rattle.std.proofs.Common.{take, get_or, option_map, refl, sym, ap, ap₂, ◌∙◌, subst, arith}
+use Rattle.std.proofs.Common.{append-nil, ◌+◌, eqb-true}
+use Rattle.std.specs.List.{AllByRecursion, list_any}
+use Rattle.std.specs.Option.{option_or}
+use Rattle.std.proofs.lemmas.Bool.{or_left}
+use Rattle.std.proofs.lemmas.Option.{same_Some}
+use Rattle.ttx_packet.specs.PacketAddress.{PacketAddress, address}
+use Rattle.ttx_packet.specs.PageHeader.{c11, header}
+use Rattle.ttx_packet.specs.declared.header.Header.{Header}
+use Rattle.ttx_page.specs.declared.packet_kind.PacketKind.TheVariants.{ThisPage, EndsPage, Row}
+use Rattle.ttx_page.specs.declared.packet_kind.PacketKind.TheVariants.{Other}
+use Rattle.ttx_page.specs.PacketKind.{kind, kind_at, kind_of_header, is_this_page, ends_page}
+use Rattle.ttx_page.specs.Span.{before_end}
+use Rattle.sub_check.specs.Listening.{HoldsRows, Knows, KnowsLast, WereJudged}
+use Rattle.sub_check.specs.PacketRules.{AreClean, IsClean, first_header, header_count}
+use Rattle.sub_check.specs.SentAgain.{BeginsWithHeader, LawOfSentAgain, LookAlike}
+use Rattle.sub_check.specs.declared.listener.Listener.{Listener}
+use Rattle.sub_check.specs.declared.packet_rules.PacketRule.TheVariants as rule
+use Rattle.sub_check.specs.declared.packet_rules.Watched.{Watched}
+use Rattle.sub_check.proofs.PacketRuleLemmas.{clean_from, parity_free, changed_free}
+use Rattle.sub_check.proofs.PacketRuleLemmas.{enhancement_free}
+use Rattle.sub_check.proofs.PushLemmas.{first_header-append}
+use Rattle.ttx_page.proofs.SpanLists.{after-append, holds-append_right}
+
+-- ---- a header of the page
+
+-- A header of the page is a page header.
+header_of :
+    (w : Watched) (p : List ℕ)
+    → is_this_page (kind w.page p) ≡ true
+    → (h : Header) × (header p ≡ Some h) × (kind w.page p ≡ ThisPage h)
+unfolding kind
+header_of w p e = go (address p) (header p) refl e
+  where
+    coded :
+        (m : ℕ) (o : Option Header)
+        → is_this_page (kind_of_header w.page m o) ≡ true
+        → (h : Header) × (o ≡ Some h) × (kind_of_header w.page m o ≡ ThisPage h)
+    coded m None e = cc
+    coded m (Some h) e = deep (m == w.page.magazine) (h.page == w.page.page) (c11 h) e
+      where
+        deep :
+            (b c d : Bool)
+            → is_this_page (cond b (cond c (ThisPage h) EndsPage) (cond d EndsPage Other)) ≡ true
+            → (k : Header)
+            × (Some h ≡ Some k)
+            × (cond b (cond c (ThisPage h) EndsPage) (cond d EndsPage Other) ≡ ThisPage k)
+        deep true true d e = (h, refl, refl)
+        deep true false d e = cc
+        deep false c true e = cc
+        deep false c false e = cc
+
+    row : (b : Bool) (y : ℕ) → is_this_page (cond b (Row y) Other) ≡ true → ⊥
+    row true y e = cc
+    row false y e = cc
+
+    go :
+        (a : Option PacketAddress) (o : Option Header)
+        → header p ≡ o
+        → is_this_page (kind_at w.page a o) ≡ true
+        → (h : Header) × (header p ≡ Some h) × (kind_at w.page a o ≡ ThisPage h)
+    go None o q e = cc
+    go (Some a) o q e = zero_or (a.packet_number == 0) e
+      where
+        zero_or :
+            (b : Bool)
+            → is_this_page
+            (cond b (kind_of_header w.page a.magazine o)
+            (cond ((a.magazine == w.page.magazine) && nat_le a.packet_number 24)
+            (Row a.packet_number) Other))
+            ≡ true
+            → (h : Header)
+            × (header p ≡ Some h)
+            × (cond b (kind_of_header w.page a.magazine o)
+            (cond ((a.magazine == w.page.magazine) && nat_le a.packet_number 24)
+            (Row a.packet_number) Other)
+            ≡ ThisPage h)
+        zero_or true e = let r = coded a.magazine o e in (r.0, q ∙ r.1, r.2)
+        zero_or false e =
+            absurd (row ((a.magazine == w.page.magazine) && nat_le a.packet_number 24) _ e)
+
+-- ---- what a rule looks back to
+
+-- A rule that is kept after one list is kept after another that looks alike.
+keeps_alike :
+    (w : Watched) (b c : List (List ℕ)) (p : List ℕ)
+    → LookAlike w.page b c
+    → IsClean w b p
+    → IsClean w c p
+keeps_alike w b c p same k rule.Address = k rule.Address
+keeps_alike w b c p same k rule.HeaderCode = k rule.HeaderCode
+keeps_alike w b c p same k rule.Mode = λ h first e f. k rule.Mode h first e (same.header_is ∙ f)
+keeps_alike w b c p same k rule.Control = k rule.Control
+keeps_alike w b c p same k rule.Parity = λ is. k rule.Parity (same.open_is ∙ is)
+keeps_alike w b c p same k rule.RowChanged = λ is row e.
+    subst (AllByRecursion (λ q. kind w.page q ≡ Row row → q ≡ p)) same.span_is
+    (k rule.RowChanged (same.open_is ∙ is) row e)
+keeps_alike w b c p same k rule.Enhancement = λ is. k rule.Enhancement (same.open_is ∙ is)
+
+-- What is kept after one list is what is kept after another that looks alike.
+knows_alike :
+    (b c : List (List ℕ)) (s : Listener) → LookAlike s.watched.page b c → Knows b s → Knows c s
+knows_alike b c s same k = record {
+  serial_is = k.serial_is ∙ ap (λ o. option_map (λ (h : Header). c11 h) o) same.header_is;
+  open_is = k.open_is ∙ same.open_is;
+  rows_are =
+      subst (λ rows. HoldsRows s.watched rows s.sent s.comparison.page) same.span_is k.rows_are;
+}
+
+-- With the same header again, the first stays.
+same_first : (o : Option Header) (h : Header) → option_or o (Some h) ≡ option_or (option_or o (Some h)) (Some h)
+same_first None h = refl
+same_first (Some x) h = refl
+
+module _
+    (w : Watched) (heard : List (List ℕ)) (first : List ℕ)
+    (is : is_this_page (kind w.page first) ≡ true)
+  where
+    -- The first page header after a header of the page and others.
+    first_after :
+        (xs others : List (List ℕ)) (h : Header)
+        → header first ≡ Some h
+        → first_header (xs ++ first ∷ others) ≡ option_or (first_header xs) (Some h)
+    first_after xs others h e =
+        first_header-append xs (first ∷ others)
+        ∙ ap (λ o. option_or (first_header xs) (option_or o (first_header others))) e
+
+    -- After a header of the page what came before it does not matter, but for the first header,
+    -- which is then there.
+    alike :
+        (others more : List (List ℕ))
+        → LookAlike w.page (heard ++ first ∷ more) ((heard ++ first ∷ others) ++ first ∷ more)
+    alike others more =
+        let h = header_of w first is in
+        let held = or_left _ _ is in
+        let after =
+        after-append (kind w.page) heard (first ∷ more) held
+        ∙ sym (after-append (kind w.page) (heard ++ first ∷ others) (first ∷ more) held) in
+        record {
+          header_is =
+              first_after heard more h.0 h.1
+              ∙ same_first (first_header heard) h.0
+              ∙ sym
+              (first_after (heard ++ first ∷ others) more h.0 h.1
+              ∙ ap (λ o. option_or o (Some h.0)) (first_after heard others h.0 h.1));
+          open_is =
+              ap₂ (λ b ys. b && not (list_any (λ p. ends_page (kind w.page p)) ys))
+              (holds-append_right (kind w.page) heard (first ∷ more) held
+              ∙ sym
+              (holds-append_right (kind w.page) (heard ++ first ∷ others) (first ∷ more) held))
+              after;
+          span_is = ap (before_end (kind w.page)) after;
+        }
+
+    -- The header itself is clean again.
+    first_again :
+        (others : List (List ℕ))
+        → IsClean w heard first
+        → IsClean w (heard ++ first ∷ others) first
+    first_again others k =
+        let h = header_of w first is in
+        clean_from w (heard ++ first ∷ others) first (k rule.Address) (k rule.HeaderCode)
+        (λ x y e f. go (first_header heard) refl x y e
+        (sym (first_after heard others h.0 h.1) ∙ f)) (k rule.Control)
+        (parity_free w (heard ++ first ∷ others) first _ h.2 (λ row e. cc))
+        (changed_free w (heard ++ first ∷ others) first _ h.2 (λ row e. cc))
+        (enhancement_free w (heard ++ first ∷ others) first _ h.2 (λ e. cc))
+      where
+        go :
+            (o : Option Header)
+            → first_header heard ≡ o
+            → (x y : Header)
+            → header first ≡ Some x
+            → option_or o (Some (header_of w first is).0) ≡ Some y
+            → c11 x ≡ c11 y
+        go None q x y e f =
+            ap (λ (z : Header). c11 z)
+            (same_Some x y (sym e ∙ (header_of w first is).1 ∙ f))
+        go (Some z) q x y e f = k rule.Mode x y e (q ∙ f)
+
+    -- And so is each of the packets.
+    clean_again :
+        (others : List (List ℕ)) (n : ℕ)
+        → AreClean w heard (first ∷ others) n
+        → AreClean w (heard ++ first ∷ others) (first ∷ others) n
+    clean_again others n clean zero l =
+        subst (λ xs. IsClean w xs first) (sym (append-nil (heard ++ first ∷ others)))
+        (first_again others
+        (subst (λ xs. IsClean w xs first) (append-nil heard) (clean zero l)))
+    clean_again others n clean (suc k) l =
+        keeps_alike w (heard ++ first ∷ take k others)
+        ((heard ++ first ∷ others) ++ first ∷ take k others) _ (alike others (take k others))
+        (clean (suc k) l)
+
+-- Packets that begin with a header of the page and keep the rules keep them again.
+pub law_of_sent_again : LawOfSentAgain
+law_of_sent_again w heard packets begins clean =
+    let first = begins.first in
+    let others = begins.others in
+    subst
+    (λ ps.
+    AreClean w (heard ++ ps) ps (length ps) × LookAlike w.page (heard ++ ps) ((heard ++ ps) ++ ps))
+    (sym begins.packets_are) (
+      clean_again w heard first begins.is_header others _
+          (subst (λ ps. AreClean w heard ps (length ps)) begins.packets_are clean),
+      alike w heard first begins.is_header others others,
+    )
+
+-- ---- what is kept of the packets heard last
+
+-- The packets heard last, sent again. For `hear_sending`.
+pub heard_again :
+    (heard last ps : List (List ℕ)) (n headers : ℕ) (s : Listener)
+    → KnowsLast heard last s
+    → s.last ≡ Some headers
+    → last ≡ ps
+    → length ps ≡ n
+    → AreClean s.watched heard ps n
+    × KnowsLast (heard ++ ps) ps s
+    × (headers ≡ header_count s.watched.page ps)
+heard_again heard last ps n headers s known is same long =
+    let j = known.last_is headers is in
+    let law = law_of_sent_again s.watched j.before last j.begins j.clean in
+    let clean : AreClean s.watched heard last (length last) =
+    subst (λ xs. AreClean s.watched xs last (length last)) (sym j.heard_is) law.0 in
+    let alike : LookAlike s.watched.page heard (heard ++ last) =
+    subst (λ xs. LookAlike s.watched.page xs (xs ++ last)) (sym j.heard_is) law.1 in
+    subst
+    (λ m.
+    AreClean s.watched heard ps m
+    × KnowsLast (heard ++ ps) ps s
+    × (headers ≡ header_count s.watched.page ps)) long
+    (subst
+    (λ xs.
+    AreClean s.watched heard xs (length xs)
+    × KnowsLast (heard ++ xs) xs s
+    × (headers ≡ header_count s.watched.page xs)) same (
+      clean,
+      record {
+        knows = knows_alike heard (heard ++ last) s alike known.knows;
+        last_is = λ m e.
+            let k = known.last_is m e in
+            record {
+              before = heard;
+              heard_is = refl;
+              begins = k.begins;
+              clean = clean;
+              count = k.count;
+            };
+      },
+      sym j.count,
+    ))
+
+-- What is kept of the packets heard last, where they were heard just now. For `hear_all`.
+pub kept_last :
+    (w : Watched) (heard ps : List (List ℕ)) (n headers : ℕ) (begins : Bool) (s : Listener)
+    → s.watched ≡ w
+    → Knows (heard ++ ps) s
+    → AreClean w heard ps n
+    → length ps ≡ n
+    → headers ≡ header_count w.page ps
+    → (begins ≡ true → (0 < n) × (is_this_page (kind w.page (get_or ps 0 [])) ≡ true))
+    → KnowsLast (heard ++ ps) ps (record s { last = cond begins (Some headers) None })
+kept_last w heard ps n headers begins s same known clean long count is = record {
+  knows =
+      record { serial_is = known.serial_is; open_is = known.open_is; rows_are = known.rows_are };
+  last_is = λ m e.
+      subst (λ v. WereJudged v (heard ++ ps) ps m) (sym same) (go begins is m e);
+}
+  where
+    first : (xs : List (List ℕ)) → 0 < length xs
+        → is_this_page (kind w.page (get_or xs 0 [])) ≡ true
+        → BeginsWithHeader w.page xs
+    first [] some e = absurd (omega arith)
+    first (x ∷ xs) some e =
+        record { first = x; others = xs; packets_are = refl; is_header = e }
+
+    go :
+        (b : Bool)
+        → (b ≡ true → (0 < n) × (is_this_page (kind w.page (get_or ps 0 [])) ≡ true))
+        → (m : ℕ)
+        → cond b (Some headers) None ≡ Some m
+        → WereJudged w (heard ++ ps) ps m
+    go true is m e = record {
+      before = heard;
+      heard_is = refl;
+      begins = first ps (subst (λ x. 0 < x) (sym long) (is refl).0) (is refl).1;
+      clean = subst (AreClean w heard ps) (sym long) clean;
+      count = sym count ∙ same_Some headers m e;
+    }
+    go false is m e = cc
+
+-- Whether the first packet is a header of the page, one packet on. For `hear_all`.
+pub begins_on :
+    (k : ℕ) (now before here is_first : Bool)
+    → now ≡ cond (k == 0) here before
+    → (k ≡ 0 → here ≡ is_first)
+    → (before ≡ true → (0 < k) × (is_first ≡ true))
+    → now ≡ true
+    → (0 < k + 1) × (is_first ≡ true)
+begins_on k now before here is_first e same old is = go (k == 0) refl (sym e ∙ is)
+  where
+    go :
+        (b : Bool)
+        → (k == 0) ≡ b
+        → cond b here before ≡ true
+        → (0 < k + 1) × (is_first ≡ true)
+    go true q f = (omega arith, sym (same (eqb-true k 0 q)) ∙ f)
+    go false q f = (omega arith, (old f).1)

@@ -1,0 +1,35 @@
+-- The frame of the PTS, or that it has none.
+use Rattle.std.proofs.Common.{◌≡◌, ◌<◌, ℕ, refl, sym, ◌∙◌, subst}
+use Rattle.std.proofs.lemmas.Option.{none-some, same_Some}
+use Rattle.sub_check.specs.FrameRules.Unread.{NoFrame}
+use Rattle.sub_check.proofs.sending.sending_of.Goals as goal
+
+pub returns-in-Some-clause-exact : goal.returns-in-Some-clause-exact
+returns-in-Some-clause-exact c = λ bytes read.
+    let is = (c.in-Some.ensures c.in-Some.frame).0 refl in (
+      read,
+      record {
+        in_day = is.0;
+        is = is.1 ∙ c.pts.ensures.value;
+        alone = λ other day e.
+            sym (same_Some c.in-Some.frame other
+            ((c.in-Some.ensures other).1 (day, e ∙ sym c.pts.ensures.value)));
+      },
+    )
+
+pub returns-in-None-clause-exact : goal.returns-in-None-clause-exact
+returns-in-None-clause-exact c = λ bytes read. (
+  NoFrame,
+  refl,
+  (
+    c.args.packet.now,
+    read,
+    λ frame day e.
+        none-some frame ((c.in-None.ensures frame).1 (day, e ∙ sym c.pts.ensures.value)),
+  ),
+)
+
+pub returns-in-Some-clause-day : goal.returns-in-Some-clause-day
+returns-in-Some-clause-day c = λ sending same.
+    let is : c.in-Some.frame ≡ sending.frame = cc in
+    subst (λ (f : ℕ). f < 2160000) is ((c.in-Some.ensures c.in-Some.frame).0 refl).0

@@ -1,0 +1,11 @@
+-- The parts that `split` gives are those between the commas.
+use Rattle.std.proofs.Common.{lit<}
+use Rattle.std.proofs.lemmas.Iterator.Consumers.{map_from_collect}
+use Rattle.std.proofs.lemmas.Iterator.Splits.{YieldsList-from_str_split}
+use Rattle.sub_words.proofs.lists.items_of.Goals as goal
+
+pub returns : goal.returns
+returns g c =
+    map_from_collect _ c.collect.ensures.ran
+    (YieldsList-from_str_split 44 c.args.text.now (lit< tt) c.split.ensures.text
+    c.split.ensures.has_more c.split.ensures.pattern)

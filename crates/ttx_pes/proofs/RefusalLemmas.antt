@@ -1,0 +1,473 @@
+-- Which refusal bytes get: that of the first question in which they fail. Main lemma:
+-- refusal_by_questions.
+use Rattle.std.proofs.Common.{◌≡◌, ℕ, ◌+◌, ◌-◌, ◌*◌, ◌/◌, ◌%◌, ◌<◌, ◌≤◌, ◌++◌, true, false, List}
+use Rattle.std.proofs.Common.{[], length, get_or, take, drop, Result, Ok, Err, refl, sym, ap, ◌∙◌}
+use Rattle.std.proofs.Common.{arith, inl, inr, length-append, length-take, length-drop, eqb, leb}
+use Rattle.std.proofs.lemmas.Bool.{cases_Bool, cases_eq, cases_lt, eq-eqb, eqb-true, le-leb, ne_eqb}
+use Rattle.std.proofs.lemmas.List.{get_or-drop, get_or-take, get_or_append_left}
+use Rattle.std.specs.Prelude.{◌&&◌}
+use Rattle.std.proofs.lemmas.Bool.{and_parts}
+use Rattle.sub_io.specs.Reading.{AreBytes}
+use Rattle.ttx_pes.specs.declared.fault.PesFault.{PesFault}
+use Rattle.ttx_pes.specs.declared.fault.PesFault.TheVariants as fault
+use Rattle.ttx_pes.specs.PesPacket.{IsPesPacket, PesValue}
+use Rattle.ttx_pes.specs.Reading.{is_start, packet_at, pts_at, pts_bits, size_at, told_size}
+use Rattle.ttx_pes.specs.Reading.{units_at, value_at}
+use Rattle.ttx_pes.specs.Refusal.{FailFirst, Question, told_fault, SixBytes, Start, PacketLength}
+use Rattle.ttx_pes.specs.Refusal.{AllBytes, Scrambling, PtsFlags, HeaderLength, Time, Agree}
+use Rattle.ttx_pes.specs.Refusal.{AgreeBefore, AgreeUpTo, DataIdentifier, FramingCode, Line}
+use Rattle.ttx_pes.specs.Refusal.{UnitLength, unit_place}
+use Rattle.ttx_pes.proofs.DataUnitLemmas.{AreBytes-drop, AreBytes-take}
+use Rattle.ttx_pes.proofs.PesHeaderLemmas.{frame_made, head_sound, header_sound, value_with}
+use Rattle.ttx_pes.proofs.ReadingLemmas.{packet_cut, packet_short, packet_size, packet_whole}
+use Rattle.ttx_pes.proofs.ReadingLemmas.{read_is_packet}
+use Rattle.ttx_pes.proofs.SampleLemmas.{fields_of}
+use Rattle.ttx_pes.proofs.UnitPlaceLemmas.{Err-injective, after_err, answer_cases, units_split}
+use Rattle.ttx_pes.proofs.PacketRefusalLemmas.{Begun, HasMarkers, IsStart, IsTold, all_fails}
+use Rattle.ttx_pes.proofs.PacketRefusalLemmas.{header_length_fails, identifier_fails, length_fails}
+use Rattle.ttx_pes.proofs.PacketRefusalLemmas.{pts_flags_fails, scrambling_fails, six_fails}
+use Rattle.ttx_pes.proofs.PacketRefusalLemmas.{start_fails, time_fails}
+use Rattle.ttx_pes.proofs.UnitRefusalLemmas.{Found, Headed, unit_fails}
+
+-- An answer refuses for one fault alone.
+refused_as : {A : Type 0} {r : Result A PesFault} {g f : PesFault}
+    → r ≡ Err g
+    → r ≡ Err f
+    → g ≡ f
+refused_as {A = A} {g = g} {f = f} told e = Err-injective {A = A} g f (sym told ∙ e)
+
+-- A wrong start or length.
+size_fails : (b : List ℕ) (f : PesFault)
+    → 6 ≤ length b
+    → size_at (take 6 b) ≡ Err f
+    → Found f b
+unfolding size_at
+size_fails b f long e =
+    let x = take 6 b in
+    let e0 : get_or x 0 0 ≡ get_or b 0 0 = get_or-take 6 b 0 0 (omega arith) in
+    let e1 : get_or x 1 0 ≡ get_or b 1 0 = get_or-take 6 b 1 0 (omega arith) in
+    let e2 : get_or x 2 0 ≡ get_or b 2 0 = get_or-take 6 b 2 0 (omega arith) in
+    let e3 : get_or x 3 0 ≡ get_or b 3 0 = get_or-take 6 b 3 0 (omega arith) in
+    let e4 : get_or x 4 0 ≡ get_or b 4 0 = get_or-take 6 b 4 0 (omega arith) in
+    let e5 : get_or x 5 0 ≡ get_or b 5 0 = get_or-take 6 b 5 0 (omega arith) in
+    elim (cases_Bool (is_start x)) [
+      | inr wrong ↦
+          let told : size_at x ≡ Err fault.Start = rw wrong refl in
+          let is : fault.Start ≡ f = Err-injective {A = ℕ} fault.Start f (sym told ∙ e) in (
+            Start,
+            is,
+            start_fails b long (λ same.
+                let z0 : get_or x 0 0 ≡ 0 = e0 ∙ same.0 in
+                let z1 : get_or x 1 0 ≡ 0 = e1 ∙ same.1 in
+                let z2 : get_or x 2 0 ≡ 1 = e2 ∙ same.2 in
+                let z3 : get_or x 3 0 ≡ 189 = e3 ∙ same.3 in
+                let starts : is_start x ≡ true = rw (z0, z1, z2, z3) refl in
+                absurd cc),
+          )
+      | inl held ↦
+          let t3 = and_parts (eqb (get_or x 0 0) 0 && eqb (get_or x 1 0) 0 && eqb (get_or x 2 0) 1)
+          (eqb (get_or x 3 0) 189) held in
+          let t2 = and_parts (eqb (get_or x 0 0) 0 && eqb (get_or x 1 0) 0)
+          (eqb (get_or x 2 0) 1) t3.0 in
+          let t1 = and_parts (eqb (get_or x 0 0) 0) (eqb (get_or x 1 0) 0) t2.0 in
+          let start : IsStart b = (
+            sym e0 ∙ eqb-true _ _ t1.0,
+            sym e1 ∙ eqb-true _ _ t1.1,
+            sym e2 ∙ eqb-true _ _ t2.1,
+            sym e3 ∙ eqb-true _ _ t3.1,
+          ) in
+          elim (cases_Bool (eqb (told_size x % 184) 0 && leb (told_size x) 1656)) [
+            | inl fits ↦
+                let told : size_at x ≡ Ok (told_size x) = rw (held, fits) refl in
+                absurd cc
+            | inr wrong ↦
+                let told : size_at x ≡ Err fault.Length = rw (held, wrong) refl in
+                let is : fault.Length ≡ f = Err-injective {A = ℕ} fault.Length f (sym told ∙ e) in (
+                  PacketLength,
+                  is,
+                  length_fails b long start (λ n lo hi h4 h5.
+                      let z4 : get_or x 4 0 ≡ ((184 * n - 6) / 256) % 256 = e4 ∙ h4 in
+                      let z5 : get_or x 5 0 ≡ (184 * n - 6) % 256 = e5 ∙ h5 in
+                      let total : told_size x ≡ 184 * n = omega arith in
+                      let whole : eqb ((184 * n) % 184) 0 ≡ true = eq-eqb _ _ (omega arith) in
+                      let low : leb (184 * n) 1656 ≡ true = le-leb _ _ (omega arith) in
+                      let fits : (eqb (told_size x % 184) 0 && leb (told_size x) 1656) ≡ true =
+                      rw (total, whole, low) refl in
+                      absurd cc),
+                )
+          ]
+    ]
+
+-- A wrong header, of which y is what follows its first six bytes.
+header_fails : (n : ℕ) (b y : List ℕ) (f : PesFault)
+    → Begun n b
+    → ((i : ℕ) → i < 40 → get_or y i 0 ≡ get_or b (6 + i) 0)
+    → pts_at y ≡ Err f
+    → Found f b
+unfolding pts_at
+header_fails n b y f g byte e =
+    let e6 : get_or y 0 0 ≡ get_or b 6 0 = byte 0 (omega arith) in
+    let e7 : get_or y 1 0 ≡ get_or b 7 0 = byte 1 (omega arith) in
+    let e8 : get_or y 2 0 ≡ get_or b 8 0 = byte 2 (omega arith) in
+    let e9 : get_or y 3 0 ≡ get_or b 9 0 = byte 3 (omega arith) in
+    let e11 : get_or y 5 0 ≡ get_or b 11 0 = byte 5 (omega arith) in
+    let e13 : get_or y 7 0 ≡ get_or b 13 0 = byte 7 (omega arith) in
+    let e45 : get_or y 39 0 ≡ get_or b 45 0 = byte 39 (omega arith) in
+    elim (cases_eq (get_or b 6 0 / 16) 8) [
+      | inr wrong ↦
+          let t : eqb (get_or y 0 0 / 16) 8 ≡ false = rw e6 (ne_eqb _ _ wrong) in
+          let told : pts_at y ≡ Err fault.Flags = rw t refl in
+          (Scrambling, refused_as told e, scrambling_fails n b g wrong)
+      | inl h6 ↦
+          let t6 : eqb (get_or y 0 0 / 16) 8 ≡ true = rw e6 (eq-eqb _ _ h6) in
+          elim (cases_eq (get_or b 7 0 / 64) 2) [
+            | inr wrong ↦
+                let t : eqb (get_or y 1 0 / 64) 2 ≡ false = rw e7 (ne_eqb _ _ wrong) in
+                let told : pts_at y ≡ Err fault.NoTime = rw (t6, t) refl in
+                (PtsFlags, refused_as told e, pts_flags_fails n b g h6 wrong)
+            | inl h7 ↦
+                let t7 : eqb (get_or y 1 0 / 64) 2 ≡ true = rw e7 (eq-eqb _ _ h7) in
+                elim (cases_eq (get_or b 8 0) 36) [
+                  | inr wrong ↦
+                      let t : eqb (get_or y 2 0) 36 ≡ false = rw e8 (ne_eqb _ _ wrong) in
+                      let told : pts_at y ≡ Err fault.HeaderLength = rw (t6, t7, t) refl in (
+                        HeaderLength,
+                        refused_as told e,
+                        header_length_fails n b g h6 h7 wrong,
+                      )
+                  | inl h8 ↦
+                      let t8 : eqb (get_or y 2 0) 36 ≡ true = rw e8 (eq-eqb _ _ h8) in
+                      let marks =
+                      eqb (get_or y 3 0 / 16) 2 && eqb (get_or y 3 0 % 2) 1
+                      && eqb (get_or y 5 0 % 2) 1 && eqb (get_or y 7 0 % 2) 1 in
+                      elim (cases_Bool marks) [
+                        | inr wrong ↦
+                            let told : pts_at y ≡ Err fault.Time = rw (t6, t7, t8, wrong) refl in (
+                              Time,
+                              refused_as told e,
+                              time_fails n b g h6 h7 h8 (λ h.
+                                  let m0 : eqb (get_or y 3 0 / 16) 2 ≡ true =
+                                  rw e9 (eq-eqb _ _ h.0) in
+                                  let m1 : eqb (get_or y 3 0 % 2) 1 ≡ true =
+                                  rw e9 (eq-eqb _ _ h.1) in
+                                  let m2 : eqb (get_or y 5 0 % 2) 1 ≡ true =
+                                  rw e11 (eq-eqb _ _ h.2) in
+                                  let m3 : eqb (get_or y 7 0 % 2) 1 ≡ true =
+                                  rw e13 (eq-eqb _ _ h.3) in
+                                  let marked : marks ≡ true = rw (m0, m1, m2, m3) refl in
+                                  absurd cc),
+                            )
+                        | inl held ↦
+                            let m3 = and_parts
+                            (eqb (get_or y 3 0 / 16) 2 && eqb (get_or y 3 0 % 2) 1
+                            && eqb (get_or y 5 0 % 2) 1) (eqb (get_or y 7 0 % 2) 1) held in
+                            let m2 = and_parts
+                            (eqb (get_or y 3 0 / 16) 2 && eqb (get_or y 3 0 % 2) 1)
+                            (eqb (get_or y 5 0 % 2) 1) m3.0 in
+                            let m1 = and_parts (eqb (get_or y 3 0 / 16) 2)
+                            (eqb (get_or y 3 0 % 2) 1) m2.0 in
+                            let h : HasMarkers b = (
+                              rw (sym e9) (eqb-true _ _ m1.0),
+                              rw (sym e9) (eqb-true _ _ m1.1),
+                              rw (sym e11) (eqb-true _ _ m2.1),
+                              rw (sym e13) (eqb-true _ _ m3.1),
+                            ) in
+                            elim (cases_eq (get_or b 45 0 / 16) 1) [
+                              | inr wrong ↦
+                                  let t : eqb (get_or y 39 0 / 16) 1 ≡ false =
+                                  rw e45 (ne_eqb _ _ wrong) in
+                                  let told : pts_at y ≡ Err fault.DataId =
+                                  rw (t6, t7, t8, held, t) refl in (
+                                    DataIdentifier,
+                                    refused_as told e,
+                                    identifier_fails n b g h6 h7 h8 h wrong,
+                                  )
+                              | inl h45 ↦
+                                  let t45 : eqb (get_or y 39 0 / 16) 1 ≡ true =
+                                  rw e45 (eq-eqb _ _ h45) in
+                                  let read : pts_at y ≡ Ok (pts_bits y) =
+                                  rw (t6, t7, t8, held, t45) refl in
+                                  absurd cc
+                            ]
+                      ]
+                ]
+          ]
+    ]
+
+-- A wrong body, from byte 6 on.
+body_fails : (n : ℕ) (b y : List ℕ) (f : PesFault)
+    → Begun n b
+    → length y ≡ 184 * n - 6
+    → AreBytes y
+    → ((i : ℕ) → i < 184 * n - 6 → get_or y i 0 ≡ get_or b (6 + i) 0)
+    → value_at y ≡ Err f
+    → Found f b
+unfolding value_at
+body_fails n b y f g len fit byte e =
+    let lo = g.size.0 in
+    elim (answer_cases (pts_at y)) [
+      | inr (h, bad) ↦
+          let told : value_at y ≡ Err h = after_err (pts_at y) _ h bad in
+          let is : h ≡ f = Err-injective {A = PesValue} h f (sym told ∙ e) in
+          header_fails n b y f g (λ i lt. byte i (omega arith))
+          (bad ∙ ap (λ (x : PesFault). Err x) is)
+      | inl (t, good) ↦
+          let d = drop 40 y in
+          let left : length d ≡ 46 * (4 * n - 1) = length-drop 40 y ∙ omega arith in
+          let count : length d / 46 ≡ 4 * n - 1 = omega arith in
+          let s = header_sound y t good in
+          let e6 : get_or y 0 0 ≡ get_or b 6 0 = byte 0 (omega arith) in
+          let e7 : get_or y 1 0 ≡ get_or b 7 0 = byte 1 (omega arith) in
+          let e8 : get_or y 2 0 ≡ get_or b 8 0 = byte 2 (omega arith) in
+          let e9 : get_or y 3 0 ≡ get_or b 9 0 = byte 3 (omega arith) in
+          let e11 : get_or y 5 0 ≡ get_or b 11 0 = byte 5 (omega arith) in
+          let e13 : get_or y 7 0 ≡ get_or b 13 0 = byte 7 (omega arith) in
+          let e45 : get_or y 39 0 ≡ get_or b 45 0 = byte 39 (omega arith) in
+          let headed : Headed n b d = record {
+            begun = g;
+            scrambling = rw (sym e6) s.flagged;
+            pts_flags = rw (sym e7) s.pts_alone;
+            header_length = sym e8 ∙ s.len;
+            markers = (
+              rw (sym e9) s.prefix,
+              rw (sym e9) s.marker3,
+              rw (sym e11) s.marker5,
+              rw (sym e13) s.marker7,
+            );
+            identifier = rw (sym e45) s.ebu;
+            long = left;
+            fit = AreBytes-drop 40 y fit;
+            byte = λ i lt.
+                let there : 6 + (40 + i) ≡ 46 + i = omega arith in
+                sym (get_or-drop 40 y i 0 ∙ byte (40 + i) (omega arith)
+                ∙ ap (λ (x : ℕ). get_or b x 0) there);
+          } in
+          elim (answer_cases (units_at (4 * n - 1) [] d)) [
+            | inl (us, read) ↦
+                let told : value_at y ≡ Ok (value_with t us) =
+                frame_made y t (4 * n - 1) us good count read in
+                absurd cc
+            | inr (h, bad) ↦
+                let told : value_at y ≡ Err h = rw (good, count, bad) refl in
+                let is : h ≡ f = Err-injective {A = PesValue} h f (sym told ∙ e) in
+                unit_fails n b d f headed
+                (units_split (4 * n - 1) [] d f (bad ∙ ap (λ (x : PesFault). Err x) is))
+          ]
+    ]
+
+-- Where no packet is read, the fault is that of the first question in which the bytes fail.
+refused_first : (b : List ℕ) (f : PesFault)
+    → AreBytes b
+    → packet_at b ≡ Err f
+    → (q : Question) × (told_fault q ≡ f) × FailFirst q b
+refused_first b f fit e = elim (cases_lt (length b) 6) [
+  | inl short ↦ (
+    SixBytes,
+    Err-injective {A = PesValue × List ℕ} fault.Truncated f (sym (packet_short b short) ∙ e),
+    six_fails b short,
+  )
+  | inr long ↦ elim (answer_cases (size_at (take 6 b))) [
+    | inr (g, bad) ↦
+        let is : g ≡ f =
+        Err-injective {A = PesValue × List ℕ} g f (sym (packet_size b g long bad) ∙ e) in
+        size_fails b f long (bad ∙ ap (λ (x : PesFault). Err x) is)
+    | inl (size, sized) ↦
+        let h = head_sound (take 6 b) size (length-take 6 b ∙ omega arith) (AreBytes-take 6 b fit)
+        sized in
+        let n = h.0 in
+        let lo = h.1 in
+        let hi = h.2 in
+        let size-is = h.3 in
+        let at : (i : ℕ) → i < 6 → get_or b i 0 ≡ get_or (take 6 b) i 0 = λ i lt.
+        sym (get_or-take 6 b i 0 lt) in
+        let start : IsStart b = (
+          at 0 (omega arith) ∙ ap (λ (x : List ℕ). get_or x 0 0) h.4,
+          at 1 (omega arith) ∙ ap (λ (x : List ℕ). get_or x 1 0) h.4,
+          at 2 (omega arith) ∙ ap (λ (x : List ℕ). get_or x 2 0) h.4,
+          at 3 (omega arith) ∙ ap (λ (x : List ℕ). get_or x 3 0) h.4,
+        ) in
+        let told : IsTold n b = (
+          at 4 (omega arith) ∙ ap (λ (x : List ℕ). get_or x 4 0) h.4,
+          at 5 (omega arith) ∙ ap (λ (x : List ℕ). get_or x 5 0) h.4,
+        ) in
+        elim (cases_lt (length b) size) [
+          | inl cut ↦ (
+            AllBytes,
+            Err-injective {A = PesValue × List ℕ} fault.Truncated f
+                (sym (packet_cut b size long sized cut) ∙ e),
+            all_fails n b long (lo, hi) start told (omega arith),
+          )
+          | inr whole ↦
+              let y = take (size - 6) (drop 6 b) in
+              let begun : Begun n b = record {
+                fit = fit;
+                size = (lo, hi);
+                start = start;
+                told = told;
+                all = omega arith;
+              } in
+              let len : length y ≡ 184 * n - 6 =
+              length-take (size - 6) (drop 6 b) ∙ omega (arith, length-drop 6 b) in
+              let byte : (i : ℕ) → i < 184 * n - 6 → get_or y i 0 ≡ get_or b (6 + i) 0 = λ i lt.
+              get_or-take (size - 6) (drop 6 b) i 0 (omega arith) ∙ get_or-drop 6 b i 0 in
+              elim (answer_cases (value_at y)) [
+                | inl (v, read) ↦
+                    let given : packet_at b ≡ Ok (v, drop size b) =
+                    packet_whole b size long sized whole ∙ rw read refl in
+                    absurd cc
+                | inr (g, bad) ↦
+                    let refused : packet_at b ≡ Err g =
+                    packet_whole b size long sized whole ∙ rw bad refl in
+                    let is : g ≡ f = refused_as refused e in
+                    body_fails n b y f begun len
+                    (AreBytes-take (size - 6) (drop 6 b) (AreBytes-drop 6 b fit)) byte
+                    (bad ∙ ap (λ (x : PesFault). Err x) is)
+              ]
+        ]
+  ]
+]
+
+-- ---- the other way round
+
+-- What has the same bytes agrees in each question.
+agree_in_each : (b c : List ℕ)
+    → 6 ≤ length b
+    → length c ≤ length b
+    → ((i : ℕ) → i < length c → get_or b i 0 ≡ get_or c i 0)
+    → (q : Question)
+    → Agree b c q
+agree_in_each b c long all same SixBytes = long
+agree_in_each b c long all same Start = (same 0, (same 1, (same 2, (same 3, tt))))
+agree_in_each b c long all same PacketLength = (same 4, (same 5, tt))
+agree_in_each b c long all same AllBytes = all
+agree_in_each b c long all same Scrambling = same 6
+agree_in_each b c long all same PtsFlags = same 7
+agree_in_each b c long all same HeaderLength = same 8
+agree_in_each b c long all same Time =
+    (same 9, (same 10, (same 11, (same 12, (same 13, tt)))))
+agree_in_each b c long all same DataIdentifier = same 45
+agree_in_each b c long all same (UnitLength k) = same (unit_place k 1)
+agree_in_each b c long all same (FramingCode k) =
+    (same (unit_place k 0), (same (unit_place k 3), tt))
+agree_in_each b c long all same (Line k) = same (unit_place k 2)
+
+-- A packet that begins the bytes agrees with them in each question.
+prefix_agrees : (b c rest : List ℕ) (v : PesValue)
+    → b ≡ c ++ rest
+    → IsPesPacket v c
+    → (q : Question)
+    → Agree b c q
+prefix_agrees b c rest v e h q =
+    let f = fields_of v c h in
+    let total : length b ≡ length c + length rest = ap length e ∙ length-append c rest in
+    let long : 6 ≤ length b = omega (arith, total, f.all, f.size.0) in
+    let all : length c ≤ length b = omega (arith, total) in
+    let same : (i : ℕ) → i < length c → get_or b i 0 ≡ get_or c i 0 = λ i lt.
+    ap (λ (x : List ℕ). get_or x i 0) e ∙ get_or_append_left c rest 0 i lt in
+    agree_in_each b c long all same q
+
+-- What agrees in each question agrees up to any data unit.
+agree_up_to : (b c : List ℕ) → ((q : Question) → Agree b c q) → (k : ℕ) → AgreeUpTo k b c
+agree_up_to b c a k = record {
+  in_packet = (
+    a SixBytes,
+    (
+      a Start,
+      (
+        a PacketLength,
+        (
+          a AllBytes,
+          (
+            a Scrambling,
+            (
+              a PtsFlags,
+              (a HeaderLength, (a Time, (a DataIdentifier, tt))),
+            ),
+          ),
+        ),
+      ),
+    ),
+  );
+  in_units = λ j _. (a (UnitLength j), (a (FramingCode j), (a (Line j), tt)));
+}
+
+-- And in all that is asked before any question.
+agree_before : (b c : List ℕ) → ((q : Question) → Agree b c q) → (q : Question) → AgreeBefore q b c
+agree_before b c a SixBytes = tt
+agree_before b c a Start = (a SixBytes, tt)
+agree_before b c a PacketLength = (a SixBytes, (a Start, tt))
+agree_before b c a AllBytes = (a SixBytes, (a Start, (a PacketLength, tt)))
+agree_before b c a Scrambling = (a SixBytes, (a Start, (a PacketLength, (a AllBytes, tt))))
+agree_before b c a PtsFlags =
+    (a SixBytes, (a Start, (a PacketLength, (a AllBytes, (a Scrambling, tt)))))
+agree_before b c a HeaderLength =
+    (a SixBytes, (a Start, (a PacketLength, (a AllBytes, (a Scrambling, (a PtsFlags, tt))))))
+agree_before b c a Time = (
+  a SixBytes,
+  (
+    a Start,
+    (
+      a PacketLength,
+      (
+        a AllBytes,
+        (
+          a Scrambling,
+          (
+            a PtsFlags,
+            (a HeaderLength, tt),
+          ),
+        ),
+      ),
+    ),
+  ),
+)
+agree_before b c a DataIdentifier = (
+  a SixBytes,
+  (
+    a Start,
+    (
+      a PacketLength,
+      (
+        a AllBytes,
+        (
+          a Scrambling,
+          (
+            a PtsFlags,
+            (a HeaderLength, (a Time, tt)),
+          ),
+        ),
+      ),
+    ),
+  ),
+)
+agree_before b c a (UnitLength k) = agree_up_to b c a k
+agree_before b c a (FramingCode k) = (agree_up_to b c a k, a (UnitLength k))
+agree_before b c a (Line k) = (agree_up_to b c a k, a (UnitLength k), a (FramingCode k))
+
+-- Where a question fails first no packet is read: it would agree.
+none_is_read : (b : List ℕ) (q : Question) (r : PesValue × List ℕ)
+    → AreBytes b
+    → FailFirst q b
+    → packet_at b ≡ Ok r
+    → ⊥
+none_is_read b q (v, rest) fit h read =
+    let s = read_is_packet v b rest fit read in
+    let a = prefix_agrees b s.0 rest v s.2 s.1 in
+    h.none v s.0 s.1 (agree_before b s.0 a q) (a q)
+
+-- So it is refused.
+is_refused_there : (b : List ℕ) (q : Question)
+    → AreBytes b
+    → FailFirst q b
+    → (f : PesFault) × (packet_at b ≡ Err f)
+is_refused_there b q fit h = elim (answer_cases (packet_at b)) [
+  | inr (f, bad) ↦ (f, bad)
+  | inl (r, read) ↦ absurd (none_is_read b q r fit h read)
+]
+
+-- Both: the law.
+pub refusal_by_questions : (b : List ℕ)
+    → AreBytes b
+    → ((f : PesFault) → packet_at b ≡ Err f → (q : Question) × (told_fault q ≡ f) × FailFirst q b)
+    × ((q : Question) → FailFirst q b → (f : PesFault) × (packet_at b ≡ Err f))
+refusal_by_questions b fit = (λ f e. refused_first b f fit e, λ q h. is_refused_there b q fit h)

@@ -1,0 +1,43 @@
+-- PES packets that are taken one after the other, for loops over a reader: takes-none, takes-more.
+use Rattle.std.proofs.Common.{◌≡◌, ℕ, ◌+◌, List, [], ◌∷◌, ◌++◌, length, Option, refl, sym, ap}
+use Rattle.std.proofs.Common.{subst}
+use Rattle.std.proofs.Common.{◌∙◌, arith, length-append}
+use Rattle.std.proofs.lemmas.List.{append-nil}
+use Rattle.std.proofs.lemmas.List.Folds.{concat-append}
+use Rattle.std.specs.Io.KnownBytes.{Consumes}
+use Rattle.std.specs.List.{AllByRecursion, concat}
+use Rattle.std.proofs.KnownBytes.{Consumes-nil, Consumes-trans}
+use Rattle.ttx_pes.specs.PesPacket.{PesValue, IsPesPacket}
+use Rattle.ttx_pes.specs.Reader.{TakesPackets, TakesPesPacket}
+
+-- One packet behind packets.
+each-more : (packets : List (List ℕ)) (b : List ℕ)
+    → AllByRecursion (λ x. (v : PesValue) × IsPesPacket v x) packets
+    → (v : PesValue) × IsPesPacket v b
+    → AllByRecursion (λ x. (v : PesValue) × IsPesPacket v x) (packets ++ b ∷ [])
+each-more [] b h p = (p, tt)
+each-more (x ∷ packets) b h p = (h.0, each-more packets b h.1 p)
+
+-- At first none was taken.
+pub takes-none : (old : Option (List ℕ)) → TakesPackets 0 old old
+takes-none old =
+    record { packets = []; number = refl; each = tt; consumed = Consumes-nil old }
+
+-- One more was.
+pub takes-more : (n : ℕ) (old mid new : Option (List ℕ)) (v : PesValue)
+    → TakesPackets n old mid
+    → TakesPesPacket mid new v
+    → TakesPackets (n + 1) old new
+takes-more n old mid new v h t =
+    let number = h.number in
+    let joined : concat (h.packets ++ t.bytes ∷ []) ≡ concat h.packets ++ t.bytes =
+    concat-append h.packets (t.bytes ∷ [])
+    ∙ ap (λ b. concat h.packets ++ b) (append-nil t.bytes) in
+    record {
+      packets = h.packets ++ t.bytes ∷ [];
+      number = length-append h.packets (t.bytes ∷ []) ∙ omega arith;
+      each = each-more h.packets t.bytes h.each (v, t.is_packet);
+      consumed =
+          subst (Consumes old new) (sym joined)
+          (Consumes-trans old mid new (concat h.packets) t.bytes h.consumed t.consumed);
+    }
