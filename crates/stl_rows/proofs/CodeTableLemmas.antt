@@ -11,7 +11,7 @@ use Rattle.stl_rows.specs.declared.fault.RowFaultKind.TheVariants.{Character, Co
 use Rattle.stl_rows.specs.declared.fault.RowFaultKind.TheVariants.{PastBottom, DoubleRow, Hidden}
 use Rattle.stl_rows.specs.declared.national.National.TheVariants.{English, German}
 use Rattle.stl_rows.specs.CodeTable.{IsEntry}
-use Rattle.stl_rows.specs.TextCode.{cell_of, code_of, code_of_other}
+use Rattle.stl_rows.specs.TextCode.{cell_of, text_code, code_of_other}
 
 -- ---- the test that is computed
 
@@ -44,17 +44,19 @@ of_test (Refused DoubleRow) entry h = absurd (true≢false (sym h))
 of_test (Refused Hidden) entry h = absurd (true≢false (sym h))
 
 -- The entries of the English table: 256 cases, computed. For `entry_of`.
-pub english_entry : (byte : ℕ) → byte < 256 → IsEntry (code_of English byte) (get_or ENGLISH byte 0)
+pub english_entry :
+    (byte : ℕ) → byte < 256 → IsEntry (text_code English byte) (get_or ENGLISH byte 0)
 unfolding cell_of code_of_other
 english_entry byte h =
-    of_test _ _ (agree_below_at (λ x. is_entry (code_of English x) (get_or ENGLISH x 0)) (λ x. true)
+    of_test _ _
+    (agree_below_at (λ x. is_entry (text_code English x) (get_or ENGLISH x 0)) (λ x. true)
     256 byte refl h)
 
 -- Those of the German one.
-pub german_entry : (byte : ℕ) → byte < 256 → IsEntry (code_of German byte) (get_or GERMAN byte 0)
+pub german_entry : (byte : ℕ) → byte < 256 → IsEntry (text_code German byte) (get_or GERMAN byte 0)
 unfolding cell_of code_of_other
 german_entry byte h =
-    of_test _ _ (agree_below_at (λ x. is_entry (code_of German x) (get_or GERMAN x 0)) (λ x. true)
+    of_test _ _ (agree_below_at (λ x. is_entry (text_code German x) (get_or GERMAN x 0)) (λ x. true)
     256 byte refl h)
 
 -- ---- what an entry says. For `code_of_byte`

@@ -11,7 +11,8 @@ use Rattle.std.proofs.lemmas.List.FromFn.{fill_by_all, get_or-map-range_with_len
 use Rattle.std.proofs.lemmas.List.FromFn.{length-map-range_with_len}
 use Rattle.ttx_page.specs.Page.{Rows, blank, blank_row, space}
 use Rattle.stl_rows.specs.declared.fault.RowFault.{RowFault}
-use Rattle.stl_rows.specs.DrawnPage.{drawn, faults, line_faults, line_on, lines, page_of, unless}
+use Rattle.stl_rows.specs.DrawnPage.{drawn, faults, line_faults, line_on, lines, page_of_lines}
+use Rattle.stl_rows.specs.DrawnPage.{unless}
 use Rattle.std.specs.Prelude.{IsOk, MatchOption}
 use Rattle.stl_rows.specs.Line.{code_in_column, row_of, start_column}
 use Rattle.stl_rows.specs.LineByLine.{prepared_lines, put_line, put_lines}
@@ -133,8 +134,8 @@ page_row jc vp k ls first h =
 -- the page with all lines put one after another is the page that shows them
 pub put_lines-page : (jc vp : ℕ) (ls : List (List ℕ))
     → 1 ≤ vp
-    → put_lines jc vp blank ls ≡ page_of jc vp ls
-unfolding page_of
+    → put_lines jc vp blank ls ≡ page_of_lines jc vp ls
+unfolding page_of_lines
 put_lines-page jc vp ls first =
     let f : ℕ → List ℕ = λ row. row_of jc (line_on vp ls row) in
     ext_get_or [] (put_lines jc vp blank ls) _
@@ -155,7 +156,7 @@ no_faults : (n : National) (t : SubtitleValue) → IsOk (drawn n t) → faults n
 unfolding drawn
 no_faults n t ok = go (faults n t) ok
   where
-    go : (fs : List RowFault) → IsOk (unless fs (page_of t.jc t.vp (lines n t))) → fs ≡ []
+    go : (fs : List RowFault) → IsOk (unless fs (page_of_lines t.jc t.vp (lines n t))) → fs ≡ []
     go [] h = refl
     go (f ∷ fs) h = search rules
 
@@ -189,7 +190,7 @@ unfolding drawn
 drawn-page n t text jc vp old page e f g b ok first is =
     let put : page ≡ put_lines t.jc t.vp blank (prepared_lines [] (text_codes n 0 t.text)) =
     is ∙ (λ i. put_lines (f i) (g i) (b i) (prepared_lines [] (text_codes n 0 (e i)))) in
-    ap (λ fs. unless fs (page_of t.jc t.vp (lines n t))) (no_faults n t ok)
+    ap (λ fs. unless fs (page_of_lines t.jc t.vp (lines n t))) (no_faults n t ok)
     ∙ ap (λ (p : Rows). let r : Result Rows RowFault = Ok p in r)
     (sym (put ∙ ap (put_lines t.jc t.vp blank) (lines_are n t)
     ∙ put_lines-page t.jc t.vp (lines n t) first))
@@ -212,8 +213,8 @@ drawn-first n t text vp o e f is =
   where
     go : (fs : List RowFault) (o : Option RowFault)
         → o ≡ first_of fs
-        → MatchOption o (IsOk (unless fs (page_of t.jc t.vp (lines n t))))
-        (λ f. unless fs (page_of t.jc t.vp (lines n t)) ≡ Err f)
+        → MatchOption o (IsOk (unless fs (page_of_lines t.jc t.vp (lines n t))))
+        (λ f. unless fs (page_of_lines t.jc t.vp (lines n t)) ≡ Err f)
     go [] None h = search rules
     go [] (Some f) h = cc
     go (x ∷ fs) None h = cc

@@ -10,7 +10,7 @@ use Rattle.stl_file.specs.Subtitle.{SubtitleValue}
 use Rattle.stl_rows.specs.declared.fault.RowFault.{RowFault}
 use Rattle.stl_rows.specs.declared.national.National.{National}
 use Rattle.stl_rows.specs.DrawnPage.{drawn, faults, last_row, line_fault_kinds, line_faults}
-use Rattle.stl_rows.specs.DrawnPage.{line_on, lines, page_of, unless}
+use Rattle.stl_rows.specs.DrawnPage.{line_on, lines, page_of_lines, unless}
 use Rattle.stl_rows.specs.DuePage.{drawn_or_blank, due, is_due}
 use Rattle.stl_rows.specs.Line.{is_double, row_of}
 use Rattle.stl_rows.specs.TextCode.{fault_of, refusals, text_codes}
@@ -46,8 +46,8 @@ line_free vp ls e = go (nat_lt 24 vp)
 row_free :
     (jc vp : ℕ) (ls : List (List ℕ))
     → line_faults 0 vp false ls ≡ []
-    → row_at (page_of jc vp ls) 24 ≡ blank_row
-unfolding page_of
+    → row_at (page_of_lines jc vp ls) 24 ≡ blank_row
+unfolding page_of_lines
 row_free jc vp ls e =
     get_or-map-range_with_len (λ row. row_of jc (line_on vp ls row)) 1 24 23 24 [] (omega arith)
     refl
@@ -64,7 +64,8 @@ drawn_free national t = go (faults national t) refl
     go :
         (fs : List RowFault)
         → faults national t ≡ fs
-        → row_at (result_unwrap_or (unless fs (page_of t.jc t.vp (lines national t))) blank) 24
+        → row_at
+          (result_unwrap_or (unless fs (page_of_lines t.jc t.vp (lines national t))) blank) 24
         ≡ blank_row
     go [] e = row_free t.jc t.vp (lines national t)
         (right_empty (refusals (text_codes national 0 t.text)) _ e)

@@ -17,11 +17,11 @@ use Rattle.stl_rows.specs.declared.text_code.TextCode.{TextCode}
 use Rattle.stl_rows.specs.declared.text_code.TextCode.TheVariants.{Cell, NoCell, NewLine, Refused}
 use Rattle.stl_rows.specs.declared.fault.RowFault.{RowFault}
 use Rattle.stl_rows.specs.declared.fault.RowFaultKind.TheVariants.{Character, Control}
-use Rattle.stl_rows.specs.DrawnPage.{drawn, faults, line_on, lines, page_of, unless}
+use Rattle.stl_rows.specs.DrawnPage.{drawn, faults, line_on, lines, page_of_lines, unless}
 use Rattle.stl_rows.specs.DuePage.{drawn_or_blank, due, is_due}
 use Rattle.stl_rows.specs.Line.{code_in_column, has_cells, is_boxed, prepared, row_of, start_column}
 use Rattle.stl_rows.specs.TextCode.{CellEntry, HasSevenBits, cell_in, cell_of, cell_of_letter}
-use Rattle.stl_rows.specs.TextCode.{cell_of_pair, cell_or_other, cells, code_before, code_of}
+use Rattle.stl_rows.specs.TextCode.{cell_of_pair, cell_or_other, cells, code_before, text_code}
 use Rattle.stl_rows.specs.TextCode.{code_of_other, codes_after, diaeresis, diaeresis_cells}
 use Rattle.stl_rows.specs.TextCode.{first_of, is_control, is_no_cell, lines_of, new_line}
 use Rattle.stl_rows.specs.TextCode.{pair_or_single, text_codes, with_code}
@@ -130,7 +130,7 @@ other_small byte = go (is_no_cell byte) (byte == new_line) (is_control byte)
     go false false false = tt
 
 -- the cell of a byte by itself is a code
-code_small : (national : National) (byte : ℕ) → HasSevenBits (code_of national byte)
+code_small : (national : National) (byte : ℕ) → HasSevenBits (text_code national byte)
 code_small national byte = go (cell_of national byte) (cell_of-small national byte)
   where
     go : (o : Option ℕ) → SmallCode o → HasSevenBits (cell_or_other byte o)
@@ -183,7 +183,7 @@ cells_small national at (suc skip) (b ∷ bytes) = cells_small national (at + 1)
 cells_small national at zero (b ∷ bytes) =
     let s = code_before national b bytes in
     with_small s.0 (lines_of (codes_after national (at + 1) s.1 bytes))
-    (by_small (cell_of_pair national b (first_of bytes)) (code_of national b)
+    (by_small (cell_of_pair national b (first_of bytes)) (text_code national b)
     (pair_small national b (first_of bytes)) (code_small national b))
     (cells_small national (at + 1) s.1 bytes)
 
@@ -261,8 +261,11 @@ line_small vp ls row h = go (nat_lt row vp)
     go false = get_line ls (row - vp) h
 
 -- the page that shows lines of codes is a page
-page_is : (jc vp : ℕ) (ls : List (List ℕ)) → AllByRecursion Small ls → IsPage (page_of jc vp ls)
-unfolding page_of
+page_is :
+    (jc vp : ℕ) (ls : List (List ℕ))
+    → AllByRecursion Small ls
+    → IsPage (page_of_lines jc vp ls)
+unfolding page_of_lines
 page_is jc vp ls h =
     record {
       rows = length-map-range_with_len line_row 1 24;
@@ -291,8 +294,8 @@ drawn_is national t =
     (all_prepared (lines_of (text_codes national 0 t.text)) (cells_small national 0 0 t.text)))
   where
     go : (fs : List RowFault)
-        → IsPage (page_of t.jc t.vp (lines national t))
-        → IsPage (result_unwrap_or (unless fs (page_of t.jc t.vp (lines national t))) blank)
+        → IsPage (page_of_lines t.jc t.vp (lines national t))
+        → IsPage (result_unwrap_or (unless fs (page_of_lines t.jc t.vp (lines national t))) blank)
     go [] h = h
     go (f ∷ fs) h = is_page_blank
 

@@ -4,7 +4,7 @@ use Rattle.std.proofs.Common.{sym, ap, ◌∙◌, arith, add-one, drop-cons}
 use Rattle.stl_rows.specs.declared.national.National.{National}
 use Rattle.stl_rows.specs.declared.text_code.TextCode.{TextCode}
 use Rattle.stl_rows.specs.declared.text_code.TextCode.TheVariants.{Cell}
-use Rattle.stl_rows.specs.TextCode.{cell_of_pair, code_of, codes_after, first_of, pair_or_single}
+use Rattle.stl_rows.specs.TextCode.{cell_of_pair, text_code, codes_after, first_of, pair_or_single}
 use Rattle.stl_rows.specs.TextCode.{text_codes}
 
 -- a text from a place on begins with the byte there
@@ -28,7 +28,7 @@ pub text_codes-pair : (n : National) (at : ℕ) (text : List ℕ) (code : ℕ) �
     → Some code ≡ cell_of_pair n (get_or text at 0) (first_of (drop (at + 1) text))
     → text_codes n at (drop at text) ≡ (at, Cell code) ∷ text_codes n (at + 2) (drop (at + 2) text)
 text_codes-pair n at text code h e =
-    let alone : TextCode = code_of n (get_or text at 0) in
+    let alone : TextCode = text_code n (get_or text at 0) in
     let rest : List ℕ = drop (at + 1) text in
     let split : text_codes n at (drop at text) ≡ text_codes n at (get_or text at 0 ∷ rest) =
     ap (text_codes n at) (cut_at text at (omega arith)) in

@@ -53,8 +53,8 @@ abbrev pub line_on : ℕ → List (List ℕ) → ℕ → List ℕ
 line_on vp lines row = if nat_lt row vp then [] else slice_index_or lines (row - vp) []
 
 -- The page that shows lines: rows 1 to 24.
-unfoldable pub page_of : ℕ → ℕ → List (List ℕ) → Rows
-page_of jc vp lines = map (λ row. row_of jc (line_on vp lines row)) (range_with_len 1 24)
+unfoldable pub page_of_lines : ℕ → ℕ → List (List ℕ) → Rows
+page_of_lines jc vp lines = map (λ row. row_of jc (line_on vp lines row)) (range_with_len 1 24)
 
 -- A value where nothing is wrong, else the first fault.
 abbrev pub unless : {A E : Type 0} → List E → A → Result A E
@@ -63,4 +63,4 @@ unless (e ∷ es) value = Err e
 
 -- The drawn page of a subtitle, or its first fault.
 unfoldable pub drawn : National → SubtitleValue → Result Rows RowFault
-drawn national t = unless (faults national t) (page_of t.jc t.vp (lines national t))
+drawn national t = unless (faults national t) (page_of_lines t.jc t.vp (lines national t))

@@ -139,8 +139,8 @@ cell_or_other byte (Some code) = Cell code
 cell_or_other byte None = code_of_other byte
 
 -- What a byte says by itself.
-abbrev pub code_of : National → ℕ → TextCode
-code_of national byte = cell_or_other byte (cell_of national byte)
+abbrev pub text_code : National → ℕ → TextCode
+text_code national byte = cell_or_other byte (cell_of national byte)
 
 -- The cell of a letter after C8.
 unfoldable pub cell_of_letter : ℕ → Option ℕ
@@ -167,7 +167,7 @@ pair_or_single (Some code) single = (Cell code, 1)
 -- The text code that begins with a byte, and how many of the bytes after it belong to it.
 abbrev pub code_before : National → ℕ → List ℕ → TextCode × ℕ
 code_before national byte bytes =
-    pair_or_single (cell_of_pair national byte (first_of bytes)) (code_of national byte)
+    pair_or_single (cell_of_pair national byte (first_of bytes)) (text_code national byte)
 
 -- The text codes of bytes that begin at a place, each with its place. The first `taken` bytes
 -- belong to the text code before them.

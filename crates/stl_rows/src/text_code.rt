@@ -4,7 +4,7 @@ ghost use Rattle.std.specs.Prelude.{◌≡◌, ◌+◌, ◌<◌, ◌≤◌, ◌�
 ghost use Rattle.std.specs.Prelude.{IfSome, IsSome};
 ghost use Rattle.ttx_page.specs.Page.{IsCode};
 ghost use Rattle.stl_rows.specs.CodeTable.{IsEntry};
-ghost use Rattle.stl_rows.specs.TextCode.{cell_of_letter, cell_of_pair, code_of, first_of};
+ghost use Rattle.stl_rows.specs.TextCode.{cell_of_letter, cell_of_pair, text_code, first_of};
 ghost use Rattle.stl_rows.specs.TextCode.{HasSevenBits, text_codes};
 
 use crate::fault::RowFaultKind;
@@ -79,7 +79,7 @@ const GERMAN: [u8; 256] = [
 // The entry of a byte.
 #[inline(always)]
 fn entry_of(national: National, byte: u8) -> u8
-    ensures { IsEntry (code_of national byte) result }
+    ensures { IsEntry (text_code national byte) result }
 {
     match national {
         National::English => ENGLISH[byte as usize],
@@ -90,7 +90,7 @@ fn entry_of(national: National, byte: u8) -> u8
 // What a byte says by itself.
 #[inline(always)]
 fn code_of_byte(national: National, byte: u8) -> TextCode
-    ensures value { result ≡ code_of national byte }
+    ensures value { result ≡ text_code national byte }
     ensures small { HasSevenBits result }
 {
     let entry = entry_of(national, byte);

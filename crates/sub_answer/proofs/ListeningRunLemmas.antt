@@ -19,7 +19,7 @@ use Rattle.ttx_pes.specs.Reading.{most_packets, rest_after}
 use Rattle.ttx_pes.specs.declared.fault.PesFault.TheVariants as pes
 use Rattle.sub_check.specs.Checking.{TellsFrame}
 use Rattle.sub_check.specs.FirstBroken.{unread_fault}
-use Rattle.sub_check.specs.FrameRules.{Unread, frame_at, joined}
+use Rattle.sub_check.specs.FrameRules.{Unread, frame_at, packets_before}
 use Rattle.sub_check.specs.FrameRules.Unread.{BadPacket, NoFrame}
 use Rattle.sub_check.specs.PacketRules.{packets_of_units}
 use Rattle.sub_check.specs.PesReading.{ReadsAs}
@@ -29,7 +29,7 @@ use Rattle.sub_check.specs.declared.fault.CheckFault.TheVariants as check
 use Rattle.sub_check.proofs.PesReadingLemmas.{ReadsNext, reads-below, reads_end, reads_fault}
 use Rattle.sub_check.proofs.PesReadingLemmas.{reads_next}
 use Rattle.sub_check.proofs.ShownLemmas.{joined_more}
-use Rattle.sub_answer.specs.ListeningRun.{AreHeard, IsHeard, RefusesAfter, Runs, is_subtitle_fault}
+use Rattle.sub_answer.specs.ListeningRun.{AreHeard, IsHeard, RefusesAfter, Runs, is_of_subtitles}
 use Rattle.sub_answer.specs.ListeningRun.{IsOldPage, Listens, least_frame, listen_told, listing_of}
 use Rattle.sub_answer.specs.ListeningRun.{is_read, tuned_with}
 use Rattle.sub_answer.specs.Told.{status_of}
@@ -47,7 +47,7 @@ use Rattle.sub_answer.specs.declared.status.Status.TheVariants.{Fault}
 -- A fault of neither file's source nor of a subtitle file is a refusal. For `print_fault`.
 pub listen_told-not_fault : (f : ListenFault)
     → is_read f ≡ false
-    → is_subtitle_fault f ≡ false
+    → is_of_subtitles f ≡ false
     → status_of (listen_told f).kind ≢ Fault
 listen_told-not_fault (fault.File (check.Subtitles f)) fine own is = cc
 listen_told-not_fault (fault.File (check.Pes index pes.Read)) fine own is = cc
@@ -230,8 +230,8 @@ pub record Reaches
   pub rest_is : remaining ≡ Some rest
   pub left : ReadsAs l.options.origin n rest (drop n frames) unread
   pub heard : AreHeard l frames n
-  pub run : Shows w old (as_heard l 0 (joined frames n)) now
-  pub number_is : number ≡ length (joined frames n)
+  pub run : Shows w old (as_heard l 0 (packets_before frames n)) now
+  pub number_is : number ≡ length (packets_before frames n)
   pub least_is : least ≡ least_frame frames n
 
 -- the frame after a frame is the least that may follow
@@ -394,7 +394,7 @@ module _
                     next.sent.frame_is,
                     omega arith,
                     in_time,
-                    ap (λ ps. first_lost_header (reception_of l) (length (joined frames n)) ps)
+                    ap (λ ps. first_lost_header (reception_of l) (length (packets_before frames n)) ps)
                         next.sent.packets_are
                         ∙ ap (λ m. first_lost_header (reception_of l) m (packets_of_units v.units))
                         (sym reached.number_is)
@@ -418,21 +418,21 @@ module _
                 let below = reads-below n reached.rest v told.0 in
                 let few = reached.few in
                 let more = joined_more frames n there
-                ∙ ap (λ ps. joined frames n ++ ps) next.sent.packets_are in
+                ∙ ap (λ ps. packets_before frames n ++ ps) next.sent.packets_are in
                 let r = reception_of l in
                 let here : IsHeard l frames n = record {
                   there = there;
                   rises = omega arith;
                   in_time = omega arith;
                   whole =
-                      ap (λ ps. first_lost_header r (length (joined frames n)) ps)
+                      ap (λ ps. first_lost_header r (length (packets_before frames n)) ps)
                       next.sent.packets_are
                       ∙ ap (λ m. first_lost_header r m (packets_of_units v.units))
                       (sym reached.number_is)
                       ∙ whole;
                 } in
                 let size = ap length more
-                ∙ length-append (joined frames n) (packets_of_units v.units) in
+                ∙ length-append (packets_before frames n) (packets_of_units v.units) in
                 let units = length-map v.units (λ (u : UnitValue). u.packet) in
                 let number_is = reached.number_is in
                 record {
@@ -448,12 +448,12 @@ module _
                       ];
                   run =
                       subst (λ (ps : List (List ℕ)). Shows w old ps after)
-                      (sym (as_heard-append l 0 (joined frames n) (packets_of_units v.units))
+                      (sym (as_heard-append l 0 (packets_before frames n) (packets_of_units v.units))
                       ∙ ap (as_heard l 0) (sym more))
                       (Shows-append w _ _ old now after reached.run
                       (subst
                       (λ (m : ℕ). Shows w now (as_heard l m (packets_of_units v.units)) after)
-                      (number_is ∙ zero_more (length (joined frames n))) run));
+                      (number_is ∙ zero_more (length (packets_before frames n))) run));
                   number_is = omega (arith, size, units, number_is);
                   least_is =
                       ap (λ m. m + 1) (sym frame_is) ∙ sym (least_frame-next frames n);

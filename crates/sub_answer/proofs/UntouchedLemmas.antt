@@ -10,7 +10,7 @@ use Rattle.sub_answer.specs.Reception.{Reception, as_received, is_flip_of}
 use Rattle.sub_answer.specs.Reception.{is_heard, is_taken, as_heard}
 use Rattle.sub_answer.specs.Reception.{reception_of}
 use Rattle.sub_answer.specs.Untouched.{BeginsErased, ErasesPageAt, HeardLast, is_untouched}
-use Rattle.sub_answer.specs.Untouched.{is_within}
+use Rattle.sub_answer.specs.Untouched.{is_in_range}
 use Rattle.sub_answer.specs.Reception.{with_flip, with_flips}
 use Rattle.ttx_packet.specs.PageId.{PageIdValue}
 use Rattle.ttx_packet.specs.RowPacket.{first_even_byte}
@@ -23,42 +23,42 @@ use Rattle.sub_answer.specs.declared.listening.ReceiverKind.{ReceiverKind}
 use Rattle.sub_answer.specs.declared.listening.ReceiverKind.TheVariants.{Keep, Blank, DropRow}
 
 -- A number from the first one on, before the end, is within.
-within : (first end m : ℕ) → first ≤ m → m < end → is_within first end m ≡ true
+within : (first end m : ℕ) → first ≤ m → m < end → is_in_range first end m ≡ true
 within first end m low high = and_from _ _ (le-leb first m low) (lt-ltb m end high)
 
 -- Another number than one that is within.
 is_other : (first end n m : ℕ)
-    → is_within first end n ≡ false
+    → is_in_range first end n ≡ false
     → first ≤ m
     → m < end
     → (n == m) ≡ false
 is_other first end n m out low high =
     ne_eqb n m
     (λ e. true≢false
-    (sym (within first end m low high) ∙ ap (is_within first end) (sym e) ∙ out))
+    (sym (within first end m low high) ∙ ap (is_in_range first end) (sym e) ∙ out))
 
 -- Where none of the numbers is within, none is that of a packet within.
 none_lost : (lost : List ℕ) (first end m : ℕ)
-    → list_any (is_within first end) lost ≡ false
+    → list_any (is_in_range first end) lost ≡ false
     → first ≤ m
     → m < end
     → list_any (λ n. n == m) lost ≡ false
 none_lost [] first end m out low high = refl
 none_lost (n ∷ lost) first end m out low high =
-    let parts = or_parts (is_within first end n) (list_any (is_within first end) lost) out in
+    let parts = or_parts (is_in_range first end n) (list_any (is_in_range first end) lost) out in
     rw (is_other first end n m parts.0 low high) (none_lost lost first end m parts.1 low high)
 
 -- And where no flip is, none changes a packet within.
 none_flipped : (flips : List Flip) (first end m : ℕ) (packet : List ℕ)
-    → list_any (λ (f : Flip). is_within first end f.packet) flips ≡ false
+    → list_any (λ (f : Flip). is_in_range first end f.packet) flips ≡ false
     → first ≤ m
     → m < end
     → with_flips flips m packet ≡ packet
 none_flipped [] first end m packet out low high = refl
 none_flipped (f ∷ flips) first end m packet out low high =
     let parts =
-    or_parts (is_within first end f.packet)
-    (list_any (λ (g : Flip). is_within first end g.packet) flips) out in
+    or_parts (is_in_range first end f.packet)
+    (list_any (λ (g : Flip). is_in_range first end g.packet) flips) out in
     let other : is_flip_of f m ≡ false =
     and_left _ _
     (and_left _ _ (and_left _ _ (is_other first end f.packet m parts.0 low high))) in
@@ -69,8 +69,8 @@ none_flipped (f ∷ flips) first end m packet out low high =
 module _
     (r : Reception) (first end : ℕ)
     (skip : nat_le r.skip first ≡ true)
-    (kept : list_any (is_within first end) r.lost ≡ false)
-    (clean : list_any (λ (f : Flip). is_within first end f.packet) r.flips ≡ false)
+    (kept : list_any (is_in_range first end) r.lost ≡ false)
+    (clean : list_any (λ (f : Flip). is_in_range first end f.packet) r.flips ≡ false)
   where
     -- Packets within are received as they are.
     all_received : (m : ℕ) (packets : List (List ℕ))
@@ -95,7 +95,7 @@ received_untouched : (r : Reception) (number count : ℕ) (packets : List (List 
     → length packets ≡ count
     → as_received r number packets ≡ packets
 received_untouched r number count packets is long =
-    let b = and_parts (nat_le r.skip number && not (list_any (is_within number (number + count)) r.lost)) _ is in
+    let b = and_parts (nat_le r.skip number && not (list_any (is_in_range number (number + count)) r.lost)) _ is in
     let a = and_parts (nat_le r.skip number) _ b.0 in
     let kept = not-true _ a.1 in
     let clean = not-true _ b.1 in

@@ -7,7 +7,7 @@ use Rattle.ttx_page.specs.Page.{Rows, IsCell, cell}
 use Rattle.ttx_page.specs.Screen.{Display, Shows}
 use Rattle.sub_check.specs.Fault as check_number
 use Rattle.sub_check.specs.FirstBroken.{unread_fault}
-use Rattle.sub_check.specs.FrameRules.{Unread, frame_at, joined, packets_at}
+use Rattle.sub_check.specs.FrameRules.{Unread, frame_at, packets_before, packets_of_frame}
 use Rattle.sub_check.specs.Transmission.{Transmission}
 use Rattle.sub_check.specs.declared.fault.CheckFault.TheVariants as check
 use Rattle.sub_answer.specs.Faults.{check_told}
@@ -35,9 +35,9 @@ is_read (fault.File f) = check_number.is_pes_read f
 is_read (fault.LostHeader frame packet) = false
 
 -- The fault is one of a subtitle file, which is not read here.
-abbrev pub is_subtitle_fault : ListenFault → Bool
-is_subtitle_fault (fault.File f) = check_number.is_subtitle_fault f
-is_subtitle_fault (fault.LostHeader frame packet) = false
+abbrev pub is_of_subtitles : ListenFault → Bool
+is_of_subtitles (fault.File f) = check_number.is_subtitle_fault f
+is_of_subtitles (fault.LostHeader frame packet) = false
 
 -- ---- what is heard
 
@@ -48,7 +48,7 @@ least_frame frames (suc i) = frame_at frames i + 1
 
 -- The number of the first packet of frame i of the list, counted over the whole file.
 abbrev pub first_number : Transmission → ℕ → ℕ
-first_number frames i = length (joined frames i)
+first_number frames i = length (packets_before frames i)
 
 -- Frame i of the list is heard: it is after the one before, not after TIME, and no page header of
 -- it is lost.
@@ -57,7 +57,7 @@ pub record IsHeard (l : Listening) (frames : Transmission) (i : ℕ) : Type 0 wh
   pub rises : least_frame frames i ≤ frame_at frames i
   pub in_time : frame_at frames i ≤ l.at
   pub whole :
-      first_lost_header (reception_of l) (first_number frames i) (packets_at frames i) ≡ None
+      first_lost_header (reception_of l) (first_number frames i) (packets_of_frame frames i) ≡ None
 
 -- The first n frames of the list are heard.
 abbrev pub AreHeard : Listening → Transmission → ℕ → Type 0
@@ -80,7 +80,7 @@ RefusesAfter l frames unread n (fault.LostHeader frame packet) =
     × (frame_at frames n ≡ frame)
     × (least_frame frames n ≤ frame)
     × (frame ≤ l.at)
-    × (first_lost_header (reception_of l) (first_number frames n) (packets_at frames n)
+    × (first_lost_header (reception_of l) (first_number frames n) (packets_of_frame frames n)
     ≡ Some packet)
 RefusesAfter l frames unread n f =
     (u : Unread) × (n ≡ length frames) × (unread ≡ Some u)
@@ -96,7 +96,7 @@ pub record Runs
     : Type 0 where
   pub n : ℕ
   pub heard : AreHeard l frames n
-  pub run : Shows w old (as_heard l 0 (joined frames n)) new
+  pub run : Shows w old (as_heard l 0 (packets_before frames n)) new
   pub ends :
       MatchResult result (λ _. EndsAfter l frames unread n) (RefusesAfter l frames unread n)
 

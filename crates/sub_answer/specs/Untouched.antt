@@ -13,15 +13,15 @@ use Rattle.sub_answer.specs.declared.listening.Flip.{Flip}
 use Rattle.sub_answer.specs.declared.listening.Listening.{Listening}
 
 -- The number stands from the first one on, before the end.
-abbrev pub is_within : ℕ → ℕ → ℕ → Bool
-is_within first end number = nat_le first number && nat_lt number end
+abbrev pub is_in_range : ℕ → ℕ → ℕ → Bool
+is_in_range first end number = nat_le first number && nat_lt number end
 
 -- None of these packets, so many from a first one on, is passed over or lost, or has a flip.
 abbrev pub is_untouched : Reception → ℕ → ℕ → Bool
 is_untouched r first count =
     nat_le r.skip first
-    && not (list_any (is_within first (first + count)) r.lost)
-    && not (list_any (λ (f : Flip). is_within first (first + count) f.packet) r.flips)
+    && not (list_any (is_in_range first (first + count)) r.lost)
+    && not (list_any (λ (f : Flip). is_in_range first (first + count) f.packet) r.flips)
 
 -- The packet is a header of the page, and erases it, C4.
 pub record ErasesPageAt (w : PageIdValue) (packet : List ℕ) : Type 0 where

@@ -7,7 +7,7 @@ ghost use Rattle.ttx_page.specs.Screen.{Shows, display};
 ghost use Rattle.sub_check.specs.PacketRules.{packets_of_units};
 ghost use Rattle.sub_answer.specs.Reception.{as_heard, reception_of};
 ghost use Rattle.sub_answer.specs.Untouched.{BeginsErased, ErasesPageAt, HeardLast};
-ghost use Rattle.sub_answer.specs.Untouched.{is_untouched, is_within};
+ghost use Rattle.sub_answer.specs.Untouched.{is_untouched, is_in_range};
 
 use crate::listening::{Flip, Listening};
 use crate::reception::hear_units;
@@ -78,7 +78,7 @@ fn is_untouched(listening: &Listening, number: u64, count: usize) -> bool
 
 // Whether a packet from the first one on, before the end, is listed as lost.
 fn any_lost(lost: &[u64], first: u64, end: u64) -> bool
-    ensures { result ≡ list_any (is_within first end) lost.now }
+    ensures { result ≡ list_any (is_in_range first end) lost.now }
 {
     for number in lost {
         if is_within(first, end, *number) {
@@ -90,7 +90,7 @@ fn any_lost(lost: &[u64], first: u64, end: u64) -> bool
 
 // Whether one of them has a flip.
 fn any_flip(flips: &[Flip], first: u64, end: u64) -> bool
-    ensures { result ≡ list_any (λ (f : Flip). is_within first end f.packet) flips.now }
+    ensures { result ≡ list_any (λ (f : Flip). is_in_range first end f.packet) flips.now }
 {
     for flip in flips {
         if is_within(first, end, flip.packet) {
@@ -102,7 +102,7 @@ fn any_flip(flips: &[Flip], first: u64, end: u64) -> bool
 
 // Whether a number stands from the first one on, before the end.
 fn is_within(first: u64, end: u64, number: u64) -> bool
-    ensures { result ≡ is_within first end number }
+    ensures { result ≡ is_in_range first end number }
 {
     first <= number && number < end
 }

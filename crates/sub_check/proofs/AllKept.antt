@@ -5,7 +5,7 @@ use Rattle.std.proofs.Common.{refl, sym, ap, subst}
 use Rattle.std.specs.List.{AllByRecursion, AllZip, items_where_true}
 use Rattle.std.proofs.lemmas.List.Elements.{All-nil, All-cons, recursion_from_All}
 use Rattle.ttx_packet.specs.OneBit.{AreNear}
-use Rattle.ttx_page.specs.LostRows.{IsHitOrLost, MayBeMarked, fates_of}
+use Rattle.ttx_page.specs.LostRows.{IsHitOrLost, MayBeMarked, arrivals_of}
 use Rattle.ttx_page.proofs.NoiseLaws as noise
 use Rattle.sub_check.specs.Transmission.{on_air}
 use Rattle.sub_check.specs.Robust.{Robust}
@@ -26,20 +26,20 @@ items-all_true (p ∷ sent) (true ∷ marks) all may =
 items-all_true (p ∷ sent) (false ∷ marks) all may = let h : false ≡ true = all.0 in cc
 
 -- And then nothing of what was got is lost.
-fates_of-all_true :
+arrivals_of-all_true :
     (sent got : List (List ℕ)) (marks : List Bool)
     → AllByRecursion IsTrue marks
     → AllZip MayBeMarked sent marks
     → AllZip AreNear sent got
-    → fates_of marks got ≡ map Some got
-fates_of-all_true [] [] [] all may near = refl
-fates_of-all_true [] (g ∷ got) marks all may near = elim near [ ]
-fates_of-all_true [] [] (m ∷ marks) all may near = elim may [ ]
-fates_of-all_true (p ∷ sent) [] marks all may near = elim near [ ]
-fates_of-all_true (p ∷ sent) (g ∷ got) [] all may near = elim may [ ]
-fates_of-all_true (p ∷ sent) (g ∷ got) (true ∷ marks) all may near =
-    ap (λ fs. Some g ∷ fs) (fates_of-all_true sent got marks all.1 may.1 near.1)
-fates_of-all_true (p ∷ sent) (g ∷ got) (false ∷ marks) all may near =
+    → arrivals_of marks got ≡ map Some got
+arrivals_of-all_true [] [] [] all may near = refl
+arrivals_of-all_true [] (g ∷ got) marks all may near = elim near [ ]
+arrivals_of-all_true [] [] (m ∷ marks) all may near = elim may [ ]
+arrivals_of-all_true (p ∷ sent) [] marks all may near = elim near [ ]
+arrivals_of-all_true (p ∷ sent) (g ∷ got) [] all may near = elim may [ ]
+arrivals_of-all_true (p ∷ sent) (g ∷ got) (true ∷ marks) all may near =
+    ap (λ fs. Some g ∷ fs) (arrivals_of-all_true sent got marks all.1 may.1 near.1)
+arrivals_of-all_true (p ∷ sent) (g ∷ got) (false ∷ marks) all may near =
     let h : false ≡ true = all.0 in cc
 
 -- A mark for each packet, all true.
@@ -69,8 +69,8 @@ law_of_all_kept programme transmission options = (robust, kept)
         let all : AllByRecursion IsTrue marks = recursion_from_All IsTrue marks (all_true sent) in
         let items : items_where_true marks sent ≡ sent =
         items-all_true sent marks all (may_all sent) in
-        let fates : fates_of marks got ≡ map Some got =
-        fates_of-all_true sent got marks all (may_all sent) near in
+        let arrivals : arrivals_of marks got ≡ map Some got =
+        arrivals_of-all_true sent got marks all (may_all sent) near in
         let served =
         with_all g j f marks (all_true sent) got old new listening (may_all sent)
         (subst (λ ps. AllZip AreNear ps got) (sym items) near) unheard shut hears in
@@ -83,7 +83,7 @@ law_of_all_kept programme transmission options = (robust, kept)
                 inr (
                   hit.0,
                   ((noise.law_of_nothing_lost options.page sent got).hits row column).0
-                      (subst (λ fs. IsHitOrLost options.page sent fs row column) fates hit.1),
+                      (subst (λ fs. IsHitOrLost options.page sent fs row column) arrivals hit.1),
                 )
           ];
         }
@@ -96,8 +96,8 @@ law_of_all_kept programme transmission options = (robust, kept)
         let all : AllByRecursion IsTrue marks = recursion_from_All IsTrue marks all_marks in
         let items : items_where_true marks sent ≡ sent = items-all_true sent marks all may in
         let near_sent : AllZip AreNear sent got = subst (λ ps. AllZip AreNear ps got) items near in
-        let fates : fates_of marks got ≡ map Some got =
-        fates_of-all_true sent got marks all may near_sent in
+        let arrivals : arrivals_of marks got ≡ map Some got =
+        arrivals_of-all_true sent got marks all may near_sent in
         let served = robust g j f got old new listening near_sent unheard shut hears in
         record {
           in_time = served.in_time;
@@ -107,7 +107,7 @@ law_of_all_kept programme transmission options = (robust, kept)
             | inr hit ↦
                 inr (
                   hit.0,
-                  subst (λ fs. IsHitOrLost options.page sent fs row column) (sym fates)
+                  subst (λ fs. IsHitOrLost options.page sent fs row column) (sym arrivals)
                       (((noise.law_of_nothing_lost options.page sent got).hits row column).1 hit.1),
                 )
           ];

@@ -9,7 +9,7 @@ use Rattle.ttx_packet.specs.PageHeader.{header, coded_header}
 use Rattle.ttx_packet.specs.Parity.{is_odd}
 use Rattle.ttx_page.specs.Page.{blank, blank_row}
 use Rattle.ttx_page.specs.PacketKind.{kind}
-use Rattle.stl_rows.specs.DrawnPage.{drawn, page_of, line_fault_kinds}
+use Rattle.stl_rows.specs.DrawnPage.{drawn, page_of_lines, line_fault_kinds}
 use Rattle.stl_rows.specs.DuePage.{due}
 use Rattle.stl_rows.specs.Line.{is_boxed, is_double, prepared, row_of}
 use Rattle.stl_rows.specs.TextCode.{cell_of, cell_of_pair}
@@ -30,12 +30,12 @@ example_of_short_packet = by_test _ _ _ _ refl
 
 pub example_of_late_start : example.ExampleOfLateStart
 unfolding kind address header coded_header decoded is_near is_odd count_ones ones_in
-    due blank blank_row drawn page_of row_of line_fault_kinds prepared is_boxed is_double
+    due blank blank_row drawn page_of_lines row_of line_fault_kinds prepared is_boxed is_double
 example_of_late_start = by_test _ _ _ _ refl
 
 pub example_of_early_end : example.ExampleOfEarlyEnd
 unfolding kind address header coded_header decoded is_near is_odd count_ones ones_in
-    due blank blank_row drawn page_of row_of line_fault_kinds prepared is_boxed is_double
+    due blank blank_row drawn page_of_lines row_of line_fault_kinds prepared is_boxed is_double
 example_of_early_end = by_test _ _ _ _ refl
 
 -- ---- exact words
@@ -147,12 +147,12 @@ example_of_wrong_content = by_test _ _ _ _ refl
 
 pub example_of_missing_text : example.ExampleOfMissingText
 unfolding kind address header coded_header decoded is_near is_odd count_ones ones_in
-    due blank blank_row drawn page_of row_of line_fault_kinds prepared is_boxed is_double
+    due blank blank_row drawn page_of_lines row_of line_fault_kinds prepared is_boxed is_double
     cell_of cell_of_pair
 example_of_missing_text = by_test _ _ _ _ refl
 
 pub example_of_change_in_gap : example.ExampleOfChangeInGap
 unfolding kind address header coded_header decoded is_near is_odd count_ones ones_in
-    due blank blank_row drawn page_of row_of line_fault_kinds prepared is_boxed is_double
+    due blank blank_row drawn page_of_lines row_of line_fault_kinds prepared is_boxed is_double
     cell_of cell_of_pair
 example_of_change_in_gap = by_test _ _ _ _ refl

@@ -6,7 +6,7 @@ use Rattle.std.proofs.lemmas.Bool.{cases_Bool}
 use Rattle.ttx_page.specs.PacketKind.{kind}
 use Rattle.ttx_page.specs.Span.{holds_header, is_open_after, is_unended}
 use Rattle.sub_plan.specs.Options.{OptionsValue}
-use Rattle.sub_check.specs.FrameRules.{frame_at, joined}
+use Rattle.sub_check.specs.FrameRules.{frame_at, packets_before}
 use Rattle.sub_check.specs.OnScreen.{Complete}
 use Rattle.sub_check.specs.Transmission.{Transmission, on_air_until}
 use Rattle.sub_check.proofs.GoodLemmas.{air-both, first-same, last-same}
@@ -19,7 +19,7 @@ module _ (options : OptionsValue) (t : Transmission)
   is_open packets = is_open_after (kind options.page) packets
 
   -- At the end of frame i of the list all its packets so far are on air.
-  on_air_at : (i : ℕ) → i < length t → on_air_until t (frame_at t i) ≡ joined t (i + 1)
+  on_air_at : (i : ℕ) → i < length t → on_air_until t (frame_at t i) ≡ packets_before t (i + 1)
   on_air_at i l =
       let low = rises_to t rising 0 i (omega arith) l in
       let back : frame_at t (i + 1 - 1) ≡ frame_at t i = ap (frame_at t) (omega arith) in
@@ -39,45 +39,45 @@ module _ (options : OptionsValue) (t : Transmission)
   -- Where the page is open at the end of no frame of the list, pages are complete.
   pub complete_from :
       0 < length t
-      → ((i : ℕ) → i < length t → is_open (joined t (i + 1)) ≡ false)
+      → ((i : ℕ) → i < length t → is_open (packets_before t (i + 1)) ≡ false)
       → Complete t options
   complete_from some ended f low high holds =
       let first = first-same t in
       let last = last-same t in
       elim (locate t rising (length t - 1) f (omega (arith, some)) (omega arith) (omega arith)) [
         | inl (i, l, e) ↦
-            let on : on_air_until t f ≡ joined t (i + 1) =
+            let on : on_air_until t f ≡ packets_before t (i + 1) =
             ap (on_air_until t) (sym e) ∙ on_air_at i l in
             ap (is_unended (kind options.page)) on
-            ∙ ended_of (joined t (i + 1)) (ended i l)
+            ∙ ended_of (packets_before t (i + 1)) (ended i l)
             (ap (holds_header (kind options.page)) (sym on) ∙ holds)
         | inr (i, gap) ↦
-            let on : on_air_until t f ≡ joined t i =
+            let on : on_air_until t f ≡ packets_before t i =
             air-both t f
             ∙ air_is t rising i f gap.0 (omega (arith, gap.1)) (omega (arith, gap.2))
             (λ m. gap.3) in
             let same : i - 1 + 1 ≡ i = omega (arith, gap.0) in
-            let shut : is_open (joined t i) ≡ false =
-            ap (λ n. is_open (joined t n)) (sym same) ∙ ended (i - 1) (omega (arith, gap.1)) in
+            let shut : is_open (packets_before t i) ≡ false =
+            ap (λ n. is_open (packets_before t n)) (sym same) ∙ ended (i - 1) (omega (arith, gap.1)) in
             ap (is_unended (kind options.page)) on
-            ∙ ended_of (joined t i) shut
+            ∙ ended_of (packets_before t i) shut
             (ap (holds_header (kind options.page)) (sym on) ∙ holds)
       ]
 
   -- And the other way round.
   pub ended_at :
-      Complete t options → (i : ℕ) → i < length t → is_open (joined t (i + 1)) ≡ false
+      Complete t options → (i : ℕ) → i < length t → is_open (packets_before t (i + 1)) ≡ false
   ended_at complete i l =
-      elim (cases_Bool (holds_header (kind options.page) (joined t (i + 1)))) [
+      elim (cases_Bool (holds_header (kind options.page) (packets_before t (i + 1)))) [
         | inl holds ↦
             let on = on_air_at i l in
             let first = first-same t in
             let last = last-same t in
             let low = rises_to t rising 0 i (omega arith) l in
             let high = rises_to t rising i (length t - 1) (omega arith) (omega arith) in
-            ap (λ b. b && is_unended (kind options.page) (joined t (i + 1))) holds
+            ap (λ b. b && is_unended (kind options.page) (packets_before t (i + 1))) holds
             ∙ ap (is_unended (kind options.page)) (sym on)
             ∙ complete (frame_at t i) (omega arith) (omega arith)
             (ap (holds_header (kind options.page)) on ∙ holds)
-        | inr none ↦ ap (λ b. b && is_unended (kind options.page) (joined t (i + 1))) none
+        | inr none ↦ ap (λ b. b && is_unended (kind options.page) (packets_before t (i + 1))) none
       ]

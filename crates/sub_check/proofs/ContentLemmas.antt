@@ -22,7 +22,8 @@ use Rattle.sub_check.specs.FirstBroken.Place.{AtOrder, AtStart, AtGapCell, AtGap
 use Rattle.sub_check.specs.FirstBroken.Place.{AtCell, AtFrame, AtOpen, AtUnread, AtNothing}
 use Rattle.sub_check.specs.FirstBroken.Place.{AtEnd}
 use Rattle.sub_check.specs.FirstBroken.{IsBefore, fault_at}
-use Rattle.sub_check.specs.FrameRules.{HasHeader, Shows, Task, Unread, frame_at, joined, packets_at}
+use Rattle.sub_check.specs.FrameRules.{HasHeader, ShowsDue, Task, Unread, frame_at, packets_before}
+use Rattle.sub_check.specs.FrameRules.{packets_of_frame}
 use Rattle.sub_check.specs.FrameRules.{task_of}
 use Rattle.sub_check.specs.FrameRules.Unread.{BadPacket, NoFrame}
 use Rattle.sub_check.specs.PacketRules.{IsClean, rank}
@@ -42,67 +43,67 @@ use Rattle.ttx_page.proofs.SpanLists.{holds-append_left}
 -- ---- packets that keep the rules
 
 module _ (w : Watched) (frames : Transmission) (n : ℕ) (fits : n ≤ length frames)
-    (clean : (i k : ℕ) → i < n → k < length (packets_at frames i)
+    (clean : (i k : ℕ) → i < n → k < length (packets_of_frame frames i)
     → IsClean w (before frames i k) (packet_at frames i k)) where
   -- Their addresses and headers are code words.
-  exact : AllByRecursion HasExactWords (joined frames n)
+  exact : AllByRecursion HasExactWords (packets_before frames n)
   exact =
       at_start frames n fits (AllByRecursion HasExactWords) tt
       (λ i k l m ih. Each-push HasExactWords (before frames i k) (packet_at frames i k) ih
       (clean i k l m rule.Address, clean i k l m rule.HeaderCode)) n (omega arith)
 
   -- Each header of the page erases it.
-  erases : AllByRecursion (ErasesPage w.page) (joined frames n)
+  erases : AllByRecursion (ErasesPage w.page) (packets_before frames n)
   erases =
       at_start frames n fits (AllByRecursion (ErasesPage w.page)) tt
       (λ i k l m ih. Each-push (ErasesPage w.page) (before frames i k) (packet_at frames i k) ih
       (λ h e. (clean i k l m rule.Control h e).erases)) n (omega arith)
 
   -- Their span is fair.
-  fair : IsFair w (span (kind w.page) (joined frames n))
+  fair : IsFair w (span (kind w.page) (packets_before frames n))
   fair =
       at_start frames n fits (λ xs. IsFair w (span (kind w.page) xs)) (IsFair-none w)
       (λ i k l m ih. fair_step w (before frames i k) (packet_at frames i k) (clean i k l m) ih) n
       (omega arith)
 
   -- So they are what is asked for the law of quiet.
-  sound : IsSound w.page (joined frames n)
+  sound : IsSound w.page (packets_before frames n)
   sound =
-      let c = clean_span w (span (kind w.page) (joined frames n)) fair in
+      let c = clean_span w (span (kind w.page) (packets_before frames n)) fair in
       record {
-        exact = All-from_recursion HasExactWords (joined frames n) exact;
-        erases = All-from_recursion (ErasesPage w.page) (joined frames n) erases;
+        exact = All-from_recursion HasExactWords (packets_before frames n) exact;
+        erases = All-from_recursion (ErasesPage w.page) (packets_before frames n) erases;
         odd = c.odd;
         same = c.same;
       }
 
   -- With a header among them every receiver shows what they show.
   all_show :
-      holds_header (kind w.page) (joined frames n) ≡ true
+      holds_header (kind w.page) (packets_before frames n) ≡ true
       → (old new : State)
       → IsFalse old.heard
       → IsFalse old.is_open
-      → Hears w.page old (joined frames n) new
+      → Hears w.page old (packets_before frames n) new
       → (row column : ℕ)
       → IsCell row column
-      → cell new.page row column ≡ shown w.page (joined frames n) row column
+      → cell new.page row column ≡ shown w.page (packets_before frames n) row column
   all_show head old new unheard shut hears row column is =
-      let sent = joined frames n in
+      let sent = packets_before frames n in
       let ends =
       law_of_noise w.page sent sent old new sound (AreNear-themselves sent) unheard shut hears in
       law_of_quiet w.page sent old new sound unheard shut hears (ends.heard ∙ head) row column is
 
 -- A header in the first frame is one in the first n frames.
-first_header-joined :
+first_header-packets_before :
     (w : Watched) (frames : Transmission) (n : ℕ)
     → 0 < n
     → n ≤ length frames
-    → holds_header (kind w.page) (packets_at frames 0) ≡ true
-    → holds_header (kind w.page) (joined frames n) ≡ true
-first_header-joined w [] n some fits head = absurd (omega arith)
-first_header-joined w (s ∷ frames) n some fits head =
+    → holds_header (kind w.page) (packets_of_frame frames 0) ≡ true
+    → holds_header (kind w.page) (packets_before frames n) ≡ true
+first_header-packets_before w [] n some fits head = absurd (omega arith)
+first_header-packets_before w (s ∷ frames) n some fits head =
     let e : n ≡ suc (n - 1) = omega arith in
-    subst (λ m. holds_header (kind w.page) (joined (s ∷ frames) m) ≡ true) (sym e)
+    subst (λ m. holds_header (kind w.page) (packets_before (s ∷ frames) m) ≡ true) (sym e)
     (holds-append_left (kind w.page) s.packets
     (flat_map (λ (x : SentFrame). x.packets) (take (n - 1) frames)) head)
 
@@ -159,7 +160,7 @@ module _ (frames : Transmission) (n f : ℕ) (some : 0 < n) (fits : n ≤ length
       last-same read ∙ ap (λ m. frame_at read (m - 1)) long ∙ same_frame (n - 1) (omega arith)
 
   -- All of them are on air up to frame f.
-  on_air_is : on_air_until read f ≡ joined frames n
+  on_air_is : on_air_until read f ≡ packets_before frames n
   on_air_is =
       between-all read (first_frame read) (f + 1)
       (recursion_from_All
@@ -187,11 +188,11 @@ module _ (programme : ProgrammeValue) (options : OptionsValue) (unread : Option 
       → ((i : ℕ) → 0 < i → i < n → frame_at frames (i - 1) < frame_at frames i)
       → frame_at frames (n - 1) ≤ f
       → (n < length frames → (frame_at frames (n - 1) ≡ f) ⊎ (f < frame_at frames n))
-      → ((i k : ℕ) → i < n → k < length (packets_at frames i)
+      → ((i k : ℕ) → i < n → k < length (packets_of_frame frames i)
       → IsClean g.watched (before frames i k) (packet_at frames i k))
       → HasHeader g frames 0
       → IsCell row column
-      → (Shows g frames n f row column → ⊥)
+      → (ShowsDue g frames n f row column → ⊥)
       → IsWrongEverywhere programme options frames f row column
   wrong_from n f row column some fits rising up_to next clean head is other =
       let last = last_is frames n f some fits rising up_to in
@@ -209,7 +210,7 @@ module _ (programme : ProgrammeValue) (options : OptionsValue) (unread : Option 
         wrong = λ old new unheard shut hears e.
             other
             (sym (all_show g.watched frames n fits clean
-            (first_header-joined g.watched frames n some fits head) old new unheard shut
+            (first_header-packets_before g.watched frames n some fits head) old new unheard shut
             (subst (λ ps. Hears options.page old ps new)
             (on_air_is frames n f some fits rising up_to) hears) row column is)
             ∙ e);

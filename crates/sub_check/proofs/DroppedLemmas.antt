@@ -11,14 +11,14 @@ use Rattle.sub_check.proofs.RobustLemmas.{sound, suffices, law_of_good_and_loss}
 -- Where packets are lost too: robust to loss, with the dropped rows lost.
 pub law_of_good_dropping_and_loss : LawOfGoodDroppingAndLoss
 law_of_good_dropping_and_loss
-    programme transmission options good g j f fates old new listening near unheard shut hears =
+    programme transmission options good g j f arrivals old new listening near unheard shut hears =
     let sent : List (List ℕ) = on_air transmission g j f in
     let clean = sound programme transmission options g j f (suffices good) listening in
     let served =
     law_of_good_and_loss programme transmission options good g j f
-    (map (drops.fate_of options.page) fates) old new listening
-    (drops.arrives_dropped options.page sent fates (recursion_from_All _ sent clean.exact) near)
-    unheard shut (drops.hears_arrived options.page fates old new hears) in
+    (map (drops.arrival_of options.page) arrivals) old new listening
+    (drops.arrives_dropped options.page sent arrivals (recursion_from_All _ sent clean.exact) near)
+    unheard shut (drops.hears_arrived options.page arrivals old new hears) in
     record {
       in_time = served.in_time;
       heard = served.heard;
@@ -27,7 +27,7 @@ law_of_good_dropping_and_loss
         | inr hit ↦
             inr (
               hit.0,
-              drops.hit_in_row options.page sent fates row column near clean.odd named.2 hit.1,
+              drops.hit_in_row options.page sent arrivals row column near clean.odd named.2 hit.1,
             )
       ];
     }

@@ -14,7 +14,8 @@ use Rattle.ttx_page.specs.Shown.{shown}
 use Rattle.ttx_page.specs.Page.{cell, IsCell}
 use Rattle.sub_check.specs.Transmission.{SentFrame, Transmission}
 use Rattle.sub_check.specs.Good.{IsSubtitleHeader, IsEnhancement}
-use Rattle.sub_check.specs.FrameRules.{Task, frame_at, packets_at, joined, end_frame, HasHeader}
+use Rattle.sub_check.specs.FrameRules.{Task, frame_at, packets_of_frame, packets_before, end_frame}
+use Rattle.sub_check.specs.FrameRules.{HasHeader}
 use Rattle.sub_check.specs.FrameRules.{IsEnded}
 
 -- The packets of frames g to f, joined, without the first j of those in frame g.
@@ -25,7 +26,7 @@ air frames g j f =
 
 -- All packets.
 abbrev pub whole : Transmission → List (List ℕ)
-whole frames = joined frames (length frames)
+whole frames = packets_before frames (length frames)
 
 -- What stands in a span: rows with odd text, those of one row equal, and no packet 25 to 28.
 pub record IsFair (w : Watched) (packets : List (List ℕ)) : Type 0 where
@@ -58,9 +59,9 @@ pub record GoodFrames (g : Task) (frames : Transmission) : Type 0 where
       → IsSubtitleHeader g.watched.national h) (whole frames)
   -- 5: in the span of the packets up to any frame, cut short anywhere, the rows are odd and those
   -- of one row are equal, and no packet 25 to 28 stands
-  pub fair : (i k : ℕ) → i < length frames → k ≤ length (packets_at frames i)
+  pub fair : (i k : ℕ) → i < length frames → k ≤ length (packets_of_frame frames i)
       → IsFair g.watched
-      (span (kind g.watched.page) (joined frames i ++ take k (packets_at frames i)))
+      (span (kind g.watched.page) (packets_before frames i ++ take k (packets_of_frame frames i)))
   -- 6: a header of the page stands in the first frame, and in each run of frames as long as the
   -- repeat bound
   pub starts : HasHeader g frames 0

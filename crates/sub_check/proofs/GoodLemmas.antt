@@ -7,7 +7,8 @@ use Rattle.std.specs.List.{AllByRecursion, flat_map, list_any}
 use Rattle.std.proofs.lemmas.List.{take_all, take-append-le}
 use Rattle.std.proofs.lemmas.List.Elements.{All-from_recursion}
 use Rattle.std.proofs.lemmas.Bool.{cases_lt, lt-ltb, le-ltb, le-leb, lt-leb, and_right, or_right}
-use Rattle.sub_check.specs.FrameRules.{Unread, task_of, watched_of, frame_at, packets_at, joined}
+use Rattle.sub_check.specs.FrameRules.{Unread, task_of, watched_of, frame_at, packets_of_frame}
+use Rattle.sub_check.specs.FrameRules.{packets_before}
 use Rattle.sub_check.specs.FrameRules.{end_frame}
 use Rattle.ttx_packet.specs.PageHeader.{HasExactWords, header, c11}
 use Rattle.ttx_packet.specs.RowPacket.{HasOddText}
@@ -131,7 +132,7 @@ any-right f (x ∷ xs) ys e = or_right (f x) (list_any f (xs ++ ys)) (any-right 
 
 -- A header in a frame of the list is one in the frame of the day.
 any_sent : (w : Watched) (t : Transmission) (j n : ℕ) → j < length t → frame_at t j ≡ n
-    → holds_header (kind w.page) (packets_at t j) ≡ true
+    → holds_header (kind w.page) (packets_of_frame t j) ≡ true
     → holds_header (kind w.page) (packets_of t n) ≡ true
 any_sent w [] j n l e h = absurd (omega arith)
 any_sent w (s ∷ ss) zero n l e h = go (nat_le n s.frame && nat_lt s.frame (n + 1)) on
@@ -201,37 +202,39 @@ module _ (programme : ProgrammeValue) (options : OptionsValue) (unread : Option 
     (t : Transmission) (h : GoodFrames (task_of programme options unread) t) where
   -- The packets of the first frames, cut anywhere, leave a fair span.
   cut_fair : (m : ℕ) → m ≤ length t → (n : ℕ)
-      → IsFair (watched_of programme options) (span (kind options.page) (take n (joined t m)))
+      → IsFair (watched_of programme options)
+        (span (kind options.page) (take n (packets_before t m)))
   cut_fair zero l zero = IsFair-none (watched_of programme options)
   cut_fair zero l (suc n) = IsFair-none (watched_of programme options)
   cut_fair (suc m) l n =
       let e : m + 1 ≡ suc m = omega arith in
-      let more : joined t (suc m) ≡ joined t m ++ packets_at t m = ap (joined t) (sym e)
+      let more : packets_before t (suc m) ≡ packets_before t m ++ packets_of_frame t m =
+        ap (packets_before t) (sym e)
       ∙ joined_more t m (omega arith) in
       subst (λ xs. IsFair (watched_of programme options) (span (kind options.page) (take n xs)))
-      (sym more) (elim (cases_lt n (length (joined t m))) [
+      (sym more) (elim (cases_lt n (length (packets_before t m))) [
         | inl short ↦ subst
             (λ xs. IsFair (watched_of programme options) (span (kind options.page) xs))
-            (sym (take-append-le n (joined t m) (packets_at t m) (omega arith)))
+            (sym (take-append-le n (packets_before t m) (packets_of_frame t m) (omega arith)))
             (cut_fair m (omega arith) n)
         | inr long ↦ subst
             (λ xs. IsFair (watched_of programme options) (span (kind options.page) xs))
-            (sym (take-over (joined t m) (packets_at t m) n long))
-            (elim (cases_lt (length (packets_at t m)) (n - length (joined t m))) [
+            (sym (take-over (packets_before t m) (packets_of_frame t m) n long))
+            (elim (cases_lt (length (packets_of_frame t m)) (n - length (packets_before t m))) [
               | inl past ↦ subst
                   (λ xs. IsFair (watched_of programme options)
-                  (span (kind options.page) (joined t m ++ xs)))
-                  (take_all (length (packets_at t m)) (packets_at t m) (omega arith)
-                  ∙ sym (take_all (n - length (joined t m)) (packets_at t m)
+                  (span (kind options.page) (packets_before t m ++ xs)))
+                  (take_all (length (packets_of_frame t m)) (packets_of_frame t m) (omega arith)
+                  ∙ sym (take_all (n - length (packets_before t m)) (packets_of_frame t m)
                   (omega arith)))
-                  (h.fair m (length (packets_at t m)) (omega arith) (omega arith))
-              | inr within ↦ h.fair m (n - length (joined t m)) (omega arith) within
+                  (h.fair m (length (packets_of_frame t m)) (omega arith) (omega arith))
+              | inr within ↦ h.fair m (n - length (packets_before t m)) (omega arith) within
             ])
       ])
 
   -- What is on air up to a frame is the packets of the first frames.
   joined_at : (f : ℕ) → f ≤ end_frame t
-      → (m : ℕ) × (m ≤ length t) × (air t (frame_at t 0) 0 f ≡ joined t m)
+      → (m : ℕ) × (m ≤ length t) × (air t (frame_at t 0) 0 f ≡ packets_before t m)
   joined_at f high = elim (cases_lt f (frame_at t 0)) [
     | inl early ↦ (
       0,

@@ -21,7 +21,8 @@ use Rattle.sub_check.specs.Checking.{Accepts, AreTaken, AreWhole, IsFrameOf, Rea
 use Rattle.sub_check.specs.Checking.{IsRuleFault, TellsFrame}
 use Rattle.sub_check.specs.FirstBroken.{IsReadUpTo, NamesFirst, unread_fault}
 use Rattle.sub_check.specs.Following.{Follows, FrameOk, IsSentFrame}
-use Rattle.sub_check.specs.FrameRules.{Unread, task_of, frame_at, packets_at, end_frame, joined}
+use Rattle.sub_check.specs.FrameRules.{Unread, task_of, frame_at, packets_of_frame, end_frame}
+use Rattle.sub_check.specs.FrameRules.{packets_before}
 use Rattle.sub_check.specs.PacketRules.{header_count, packets_of_units}
 use Rattle.sub_check.specs.PesFrames.{IsSentAs}
 use Rattle.sub_check.specs.PesReading.{ReadsAs}
@@ -52,7 +53,7 @@ whole_units (u ∷ units) h = (h.0.packet.size, whole_units units h.1)
 whole_more :
     (frames : Transmission) (n : ℕ) (v : PesValue)
     → n < length frames
-    → packets_at frames n ≡ packets_of_units v.units
+    → packets_of_frame frames n ≡ packets_of_units v.units
     → IsPesValue v
     → AreWhole (take n frames)
     → AreWhole (take (n + 1) frames)
@@ -112,7 +113,7 @@ taken_more origin bytes rest frames n v frame old new taken was is takes sent of
             pts = sym of.is ∙ ap (pts_of origin) (sym number);
             packets = packets;
           }));
-      joined =
+      packets_before =
           taken.joined
           ∙ ap (λ r. concat taken.packets ++ r) parts
           ∙ sym (append_assoc (concat taken.packets) takes.bytes (rest_after rest))
@@ -124,7 +125,7 @@ taken_more origin bytes rest frames n v frame old new taken was is takes sent of
 -- Nothing is taken yet.
 none_taken : (origin : ℕ) (bytes : List ℕ) → AreTaken origin bytes [] bytes
 none_taken origin bytes =
-    record { values = []; packets = []; each = tt; sent = tt; joined = refl }
+    record { values = []; packets = []; each = tt; sent = tt; packets_before = refl }
 
 -- The answer is that the source failed at a PES packet.
 abbrev pub IsFailureAt : Result Accepted CheckFault → ℕ → Type 0
@@ -330,7 +331,7 @@ module _
               transmissions_are =
                   headers
                   ∙ follows.count
-                  ∙ ap (λ m. header_count options.page (joined frames m)) all;
+                  ∙ ap (λ m. header_count options.page (packets_before frames m)) all;
             }
 
         -- At the end of the file: refused.

@@ -4,7 +4,7 @@ use Rattle.std.proofs.Common.{le_trans}
 use Rattle.std.specs.List.{list_any, AllZip, items_where_true}
 use Rattle.std.proofs.lemmas.List.Elements.{recursion_from_All}
 use Rattle.ttx_packet.specs.OneBit.{AreNear}
-use Rattle.ttx_page.specs.LostRows.{MayBeMarked, fates_of}
+use Rattle.ttx_page.specs.LostRows.{MayBeMarked, arrivals_of}
 use Rattle.ttx_page.specs.PacketKind.{kind, ends_page}
 use Rattle.ttx_page.specs.Span.{holds_header, is_unended}
 use Rattle.ttx_page.proofs.NoiseLaws as noise
@@ -50,7 +50,7 @@ module _ (programme : ProgrammeValue) (transmission : Transmission) (options : O
       let sent : List (List ℕ) = on_air transmission g j f in
       subst (λ ps. holds_header (kind options.page) ps ≡ true)
       (noise.arrived_marked sent marks got may near)
-      (screens.header_arrives options.page sent (fates_of marks got)
+      (screens.header_arrives options.page sent (arrivals_of marks got)
       (recursion_from_All _ sent
       (sound programme transmission options g j f (suffices good) listening).exact)
       (noise.arrives_marked sent marks got may near) holds)

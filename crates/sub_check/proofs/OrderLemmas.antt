@@ -7,9 +7,10 @@ use Rattle.ttx_page.specs.Page.{IsCell}
 use Rattle.sub_check.specs.Transmission.{Transmission}
 use Rattle.sub_check.specs.declared.packet_rules.PacketRule.{PacketRule}
 use Rattle.sub_check.specs.PacketRules.{KeepsRule, BreaksFirstAt, rank}
-use Rattle.sub_check.specs.FrameRules.{Task, Unread, frame_at, packets_at, joined, end_frame}
-use Rattle.sub_check.specs.FrameRules.{HasHeader, Shows, IsCovered, IsEnded}
-use Rattle.sub_check.specs.FirstBroken.{IsBefore, IsInGap, Holds, HoldsBefore}
+use Rattle.sub_check.specs.FrameRules.{Task, Unread, frame_at, packets_of_frame, packets_before}
+use Rattle.sub_check.specs.FrameRules.{end_frame}
+use Rattle.sub_check.specs.FrameRules.{HasHeader, ShowsDue, IsCovered, IsEnded}
+use Rattle.sub_check.specs.FirstBroken.{IsBefore, IsInGap, HoldsThere, HoldsBefore}
 use Rattle.sub_check.specs.FirstBroken.{HoldsEverywhere, NamesFirst, packet_fault, unread_fault}
 use Rattle.sub_check.specs.Following.{Keeps, OrderOk, GapOk, PacketsOk, EndOk, FrameOk}
 use Rattle.sub_check.specs.FirstBroken.Place.{AtOrder, AtStart, AtGapCell, AtGap, AtPacket, AtFirst}
@@ -174,9 +175,9 @@ module _ (g : Task) (frames : Transmission) (n : ℕ) (past : (j : ℕ) → j < 
     pub first_gap_cell : (f row column : ℕ) → OrderOk g frames n
         → ((d row column : ℕ) → d < f → Keeps g frames (AtGapCell n d row column))
         → ((d : ℕ) → d < f → Keeps g frames (AtGap n d))
-        → IsInGap frames n f → IsCell row column → (Shows g frames n f row column → ⊥)
-        → ((r c : ℕ) → IsCell r c → r < row → Shows g frames n f r c)
-        → ((c : ℕ) → c < column → Shows g frames n f row c)
+        → IsInGap frames n f → IsCell row column → (ShowsDue g frames n f row column → ⊥)
+        → ((r c : ℕ) → IsCell r c → r < row → ShowsDue g frames n f r c)
+        → ((c : ℕ) → c < column → ShowsDue g frames n f row c)
         → NamesFirst g frames (fault.Content f row column)
     first_gap_cell f row column order cells gaps in_gap is_cell broken rows columns = (
       AtGapCell n f row column,
@@ -205,10 +206,10 @@ module _ (g : Task) (frames : Transmission) (n : ℕ) (past : (j : ℕ) → j < 
         cell_of d r c (inl l) = cells d r c l
         cell_of d r c (inr (e, inl l)) = absurd (omega arith)
         cell_of d r c (inr (e, inr (h, inl l))) =
-            λ there. subst (λ x. Shows g frames n x r c) (sym e) (rows r c there.1 l)
+            λ there. subst (λ x. ShowsDue g frames n x r c) (sym e) (rows r c there.1 l)
         cell_of d r c (inr (e, inr (h, inr (i, inl l)))) =
-            λ there. subst (λ x. Shows g frames n x r c) (sym e)
-            (subst (λ x. Shows g frames n f x c) (sym i) (columns c l))
+            λ there. subst (λ x. ShowsDue g frames n x r c) (sym e)
+            (subst (λ x. ShowsDue g frames n f x c) (sym i) (columns c l))
         cell_of d r c (inr (e, inr (h, inr (i, inr m)))) = absurd m.1
 
         gap_of : (d : ℕ) → IsBefore (d ∷ 2 ∷ []) (f ∷ 1 ∷ row ∷ column ∷ [])
@@ -221,7 +222,7 @@ module _ (g : Task) (frames : Transmission) (n : ℕ) (past : (j : ℕ) → j < 
     pub first_gap : (f : ℕ) → OrderOk g frames n
         → ((d row column : ℕ) → d < f → Keeps g frames (AtGapCell n d row column))
         → ((d : ℕ) → d < f → Keeps g frames (AtGap n d))
-        → IsInGap frames n f → ((r c : ℕ) → IsCell r c → Shows g frames n f r c)
+        → IsInGap frames n f → ((r c : ℕ) → IsCell r c → ShowsDue g frames n f r c)
         → (IsCovered g frames n f → ⊥)
         → NamesFirst g frames (fault.Gap f)
     first_gap f order cells gaps in_gap shows broken = (
@@ -251,7 +252,7 @@ module _ (g : Task) (frames : Transmission) (n : ℕ) (past : (j : ℕ) → j < 
             → Keeps g frames (AtGapCell n d r c)
         cell_of d r c (inl l) = cells d r c l
         cell_of d r c (inr (e, b)) =
-            λ there. subst (λ x. Shows g frames n x r c) (sym e) (shows r c there.1)
+            λ there. subst (λ x. ShowsDue g frames n x r c) (sym e) (shows r c there.1)
 
         gap_of : (d : ℕ) → IsBefore (d ∷ 2 ∷ []) (f ∷ 2 ∷ []) → Keeps g frames (AtGap n d)
         gap_of d (inl l) = gaps d l
@@ -260,7 +261,8 @@ module _ (g : Task) (frames : Transmission) (n : ℕ) (past : (j : ℕ) → j < 
 
     -- The rules of a packet.
     pub first_packet : (k : ℕ) (rule : PacketRule) → n < length frames → OrderOk g frames n
-        → GapOk g frames n → BreaksFirstAt g.watched (joined frames n) (packets_at frames n) k rule
+        → GapOk g frames n
+        → BreaksFirstAt g.watched (packets_before frames n) (packets_of_frame frames n) k rule
         → NamesFirst g frames (packet_fault rule (frame_at frames n) k)
     first_packet k rule there order gap is = (
       AtPacket n k rule,
@@ -290,16 +292,16 @@ module _ (g : Task) (frames : Transmission) (n : ℕ) (past : (j : ℕ) → j < 
         packet_of j f (inl l) = λ there. is.clean j l f
         packet_of j f (inr (e, b)) =
             λ there. subst
-            (λ x. KeepsRule f g.watched (joined frames n ++ take x (packets_at frames n))
-            (get_or (packets_at frames n) x [])) (sym e)
+            (λ x. KeepsRule f g.watched (packets_before frames n ++ take x (packets_of_frame frames n))
+            (get_or (packets_of_frame frames n) x [])) (sym e)
             (is.first.earlier f (one_before (rank f) (rank rule) [] b))
 
     -- Content, at the end of a frame of the list.
     pub first_cell : (row column : ℕ) → n < length frames → OrderOk g frames n → GapOk g frames n
         → PacketsOk g frames n → (n ≡ 0 → HasHeader g frames 0)
-        → IsCell row column → (Shows g frames (n + 1) (frame_at frames n) row column → ⊥)
-        → ((r c : ℕ) → IsCell r c → r < row → Shows g frames (n + 1) (frame_at frames n) r c)
-        → ((c : ℕ) → c < column → Shows g frames (n + 1) (frame_at frames n) row c)
+        → IsCell row column → (ShowsDue g frames (n + 1) (frame_at frames n) row column → ⊥)
+        → ((r c : ℕ) → IsCell r c → r < row → ShowsDue g frames (n + 1) (frame_at frames n) r c)
+        → ((c : ℕ) → c < column → ShowsDue g frames (n + 1) (frame_at frames n) row c)
         → NamesFirst g frames (fault.Content (frame_at frames n) row column)
     first_cell row column there order gap packets head is_cell broken rows columns = (
       AtCell n row column,
@@ -328,7 +330,7 @@ module _ (g : Task) (frames : Transmission) (n : ℕ) (past : (j : ℕ) → j < 
         cell_of r c (inl l) = absurd (omega arith)
         cell_of r c (inr (e, inl l)) = λ t. rows r c t.1 l
         cell_of r c (inr (e, inr (i, inl l))) =
-            λ t. subst (λ x. Shows g frames (n + 1) (frame_at frames n) x c) (sym i) (columns c l)
+            λ t. subst (λ x. ShowsDue g frames (n + 1) (frame_at frames n) x c) (sym i) (columns c l)
         cell_of r c (inr (e, inr (i, inr m))) = absurd m.1
 
         frame_of : IsBefore (2 ∷ []) (1 ∷ row ∷ column ∷ []) → Keeps g frames (AtFrame n)
@@ -342,7 +344,7 @@ module _ (g : Task) (frames : Transmission) (n : ℕ) (past : (j : ℕ) → j < 
     -- Gap, at the end of a frame of the list.
     pub first_frame : n < length frames → OrderOk g frames n → GapOk g frames n
         → PacketsOk g frames n → (n ≡ 0 → HasHeader g frames 0)
-        → ((r c : ℕ) → IsCell r c → Shows g frames (n + 1) (frame_at frames n) r c)
+        → ((r c : ℕ) → IsCell r c → ShowsDue g frames (n + 1) (frame_at frames n) r c)
         → (IsCovered g frames (n + 1) (frame_at frames n) → ⊥)
         → NamesFirst g frames (fault.Gap (frame_at frames n))
     first_frame there order gap packets head shows broken = (
@@ -370,7 +372,7 @@ module _ (g : Task) (frames : Transmission) (n : ℕ) (past : (j : ℕ) → j < 
     -- Incomplete, at the end of a frame of the list.
     pub first_open : n < length frames → OrderOk g frames n → GapOk g frames n
         → PacketsOk g frames n → (n ≡ 0 → HasHeader g frames 0)
-        → ((r c : ℕ) → IsCell r c → Shows g frames (n + 1) (frame_at frames n) r c)
+        → ((r c : ℕ) → IsCell r c → ShowsDue g frames (n + 1) (frame_at frames n) r c)
         → IsCovered g frames (n + 1) (frame_at frames n)
         → (IsEnded g frames (n + 1) → ⊥)
         → NamesFirst g frames (fault.Incomplete (frame_at frames n))
@@ -398,7 +400,7 @@ module _ (g : Task) (frames : Transmission) (n : ℕ) (past : (j : ℕ) → j < 
 
 -- Early.
 pub first_early : (g : Task) (frames : Transmission) → 0 < length frames
-    → (Holds g frames AtStart → ⊥) → NamesFirst g frames (fault.Early (frame_at frames 0))
+    → (HoldsThere g frames AtStart → ⊥) → NamesFirst g frames (fault.Early (frame_at frames 0))
 first_early g frames some broken = (
   AtStart,
   refl,
@@ -549,7 +551,7 @@ holds_but_end g frames ended past some end AtEnd t = end t
 -- Late.
 pub first_late : (g : Task) (frames : Transmission) → g.unread ≡ None
     → ((j : ℕ) → j < length frames → FrameOk g frames j) → 0 < length frames
-    → (Holds g frames AtEnd → ⊥) → NamesFirst g frames (fault.Late (end_frame frames))
+    → (HoldsThere g frames AtEnd → ⊥) → NamesFirst g frames (fault.Late (end_frame frames))
 first_late g frames ended past some broken =
     (AtEnd, refl, record { there = some; broken = broken; earlier = earlier_of })
   where

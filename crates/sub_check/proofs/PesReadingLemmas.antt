@@ -19,7 +19,8 @@ use Rattle.sub_check.specs.PacketRules.{packets_of_units}
 use Rattle.sub_plan.specs.FrameTime.{frames_of_day, pts_of}
 use Rattle.sub_check.specs.Fault.{is_pes_read, is_pes_write}
 use Rattle.sub_check.specs.PesFrames.{IsSentAs}
-use Rattle.sub_check.specs.PesReading.{EndsAs, PesFileValue, ReadsAs, file_at, file_by, file_with}
+use Rattle.sub_check.specs.PesReading.{EndsReading, PesFileValue, ReadsAs, file_at, file_by}
+use Rattle.sub_check.specs.PesReading.{file_with}
 use Rattle.sub_check.specs.PesReading.{frame_below, frame_of_pts}
 use Rattle.sub_check.specs.Transmission.{SentFrame, Transmission}
 
@@ -185,7 +186,7 @@ some_step origin given bytes l =
 -- What a file is of which no frame is read.
 ended :
     (origin given : ℕ) (bytes : List ℕ) (u : Option Unread) (rest : PesFileValue)
-    → EndsAs origin given bytes u
+    → EndsReading origin given bytes u
     → file_by origin (answer_at given bytes) rest ≡ record { frames = []; unread = u }
 ended origin given bytes None rest e = ap (λ r. file_by origin r rest) e
 ended origin given bytes (Some (BadPacket f)) rest e = ap (λ r. file_by origin r rest) e
@@ -197,7 +198,7 @@ ended origin given bytes (Some NoFrame) rest (v, e, none) =
 pub reads_ended :
     (origin given : ℕ) (bytes : List ℕ) (u : Option Unread)
     → given ≤ most_packets
-    → EndsAs origin given bytes u
+    → EndsReading origin given bytes u
     → ReadsAs origin given bytes [] u
 reads_ended origin given bytes u few ends =
     let s = some_step origin given bytes few in s.1 ∙ ended origin given bytes u s.0 ends
@@ -292,7 +293,7 @@ at_end :
     (origin n : ℕ) (bytes : List ℕ) (frames : Transmission) (unread u : Option Unread)
     → n ≤ most_packets
     → ReadsAs origin n bytes (drop n frames) unread
-    → EndsAs origin n bytes u
+    → EndsReading origin n bytes u
     → (length frames ≤ n) × (unread ≡ u)
 at_end origin n bytes frames unread u few reads ends =
     let whole = sym reads ∙ reads_ended origin n bytes u few ends in
@@ -315,7 +316,7 @@ pub reads_fault :
     (origin n : ℕ) (bytes : List ℕ) (frames : Transmission) (unread : Option Unread) (u : Unread)
     → n ≤ most_packets
     → ReadsAs origin n bytes (drop n frames) unread
-    → EndsAs origin n bytes (Some u)
+    → EndsReading origin n bytes (Some u)
     → (length frames ≤ n) × (unread ≡ Some u)
 reads_fault origin n bytes frames unread u few reads ends =
     at_end origin n bytes frames unread (Some u) few reads ends

@@ -22,8 +22,9 @@ use Rattle.ttx_page.proofs.SpanPush.{span-this}
 use Rattle.sub_check.proofs.PushLemmas.{first_header-push}
 use Rattle.sub_check.specs.Transmission.{Transmission}
 use Rattle.sub_check.specs.Good.{IsSubtitleHeader, IsEnhancement}
-use Rattle.sub_check.specs.FrameRules.{Task, frame_at, packets_at, joined, end_frame, HasHeader}
-use Rattle.sub_check.specs.FrameRules.{Shows, IsCovered}
+use Rattle.sub_check.specs.FrameRules.{Task, frame_at, packets_of_frame, packets_before, end_frame}
+use Rattle.sub_check.specs.FrameRules.{HasHeader}
+use Rattle.sub_check.specs.FrameRules.{ShowsDue, IsCovered}
 use Rattle.sub_check.specs.declared.fault.CheckFault.{CheckFault}
 use Rattle.sub_check.specs.FirstBroken.{HoldsEverywhere, NamesFirst}
 use Rattle.sub_check.specs.FirstBroken.Place.{AtOrder, AtStart, AtGapCell, AtGap, AtPacket, AtFirst}
@@ -176,7 +177,7 @@ module _ (g : Task) (t : Transmission) (some_frames : 0 < g.every) (h : HoldsEve
   rising i a b = h (AtOrder i) (a, b)
 
   -- Each packet keeps the rules.
-  clean_at : (i k : ℕ) → i < length t → k < length (packets_at t i)
+  clean_at : (i k : ℕ) → i < length t → k < length (packets_of_frame t i)
       → IsClean g.watched (before t i k) (packet_at t i k)
   clean_at i k l m f = h (AtPacket i k f) (l, m)
 
@@ -187,13 +188,13 @@ module _ (g : Task) (t : Transmission) (some_frames : 0 < g.every) (h : HoldsEve
       elim (locate t rising (length t - 1) f (omega (arith, some)) low high) [
         | inl (i, l, e) ↦
             let back : frame_at t (i + 1 - 1) ≡ frame_at t i = ap (frame_at t) (omega arith) in
-            let on : air t (frame_at t 0) 0 f ≡ joined t (i + 1) =
+            let on : air t (frame_at t 0) 0 f ≡ packets_before t (i + 1) =
             air_is t rising (i + 1) f (omega arith) (omega arith) (omega arith)
             (λ m. let r = rises_strictly t rising i (i + 1) (omega arith) m in omega arith) in
             ap (λ xs. shown g.watched.page xs row column) on ∙ h (AtCell i row column) (l, is)
             ∙ ap (λ d. cell (g.due d) row column) e
         | inr (i, gap) ↦
-            let on : air t (frame_at t 0) 0 f ≡ joined t i =
+            let on : air t (frame_at t 0) 0 f ≡ packets_before t i =
             air_is t rising i f gap.0 (omega (arith, gap.1)) (omega (arith, gap.2)) (λ m. gap.3) in
             ap (λ xs. shown g.watched.page xs row column) on
             ∙ h (AtGapCell i f row column) (gap, is)
@@ -262,19 +263,19 @@ module _ (g : Task) (t : Transmission) (some_frames : 0 < g.every) (h : HoldsEve
 
 module _ (g : Task) (t : Transmission) (h : GoodFrames g t) where
   -- What holds of all packets holds of one.
-  at : (P : List ℕ → Type 0) (i k : ℕ) → i < length t → k < length (packets_at t i)
+  at : (P : List ℕ → Type 0) (i k : ℕ) → i < length t → k < length (packets_of_frame t i)
       → AllByRecursion P (whole t) → P (packet_at t i k)
   at P i k l m all = let s = whole-split t i k l m in
       Each-at P (before t i k) s.0 (packet_at t i k) (subst (AllByRecursion P) s.1 all)
 
   -- And of those before it.
-  front : (P : List ℕ → Type 0) (i k : ℕ) → i < length t → k < length (packets_at t i)
+  front : (P : List ℕ → Type 0) (i k : ℕ) → i < length t → k < length (packets_of_frame t i)
       → AllByRecursion P (whole t) → AllByRecursion P (before t i k)
   front P i k l m all = let s = whole-split t i k l m in
       Each-front P (before t i k) (packet_at t i k ∷ s.0) (subst (AllByRecursion P) s.1 all)
 
   -- Each packet has the C11 of the first header.
-  mode_at : (i k : ℕ) → i < length t → k < length (packets_at t i)
+  mode_at : (i k : ℕ) → i < length t → k < length (packets_of_frame t i)
       → KeepsRule rule.Mode g.watched (before t i k) (packet_at t i k)
   mode_at i k l m a f ea ef =
       let row =
@@ -289,7 +290,7 @@ module _ (g : Task) (t : Transmission) (h : GoodFrames g t) where
       q.2 a f ea q.1
 
   -- While the page is open the span with the packet is fair.
-  fair_open : (i k : ℕ) → i < length t → k < length (packets_at t i)
+  fair_open : (i k : ℕ) → i < length t → k < length (packets_of_frame t i)
       → is_this_page (kind g.watched.page (packet_at t i k)) ≡ false
       → ends_page (kind g.watched.page (packet_at t i k)) ≡ false
       → is_open_after (kind g.watched.page) (before t i k) ≡ true
@@ -302,7 +303,7 @@ module _ (g : Task) (t : Transmission) (h : GoodFrames g t) where
       (h.fair i (k + 1) l (omega arith))
 
   -- Each packet keeps each rule.
-  free_at : (i k : ℕ) → i < length t → k < length (packets_at t i)
+  free_at : (i k : ℕ) → i < length t → k < length (packets_of_frame t i)
       → IsClean g.watched (before t i k) (packet_at t i k)
   free_at i k l m rule.Address = (at HasExactWords i k l m h.exact).0
   free_at i k l m rule.HeaderCode = (at HasExactWords i k l m h.exact).1
@@ -355,7 +356,7 @@ module _ (g : Task) (t : Transmission) (h : GoodFrames g t) where
   -- After so many frames the due page is shown.
   shows_of : (n f row column : ℕ) → 0 < n → n ≤ length t → frame_at t (n - 1) ≤ f
       → (n < length t → f < frame_at t n) → f ≤ end_frame t → IsCell row column
-      → Shows g t n f row column
+      → ShowsDue g t n f row column
   shows_of n f row column some le low high last is =
       let first = rises_to t h.rising 0 (n - 1) (omega arith) (omega arith) in
       sym (ap (λ xs. shown g.watched.page xs row column) (air_is t h.rising n f some le low high))

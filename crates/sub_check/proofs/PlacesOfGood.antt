@@ -7,7 +7,8 @@ use Rattle.std.specs.List.{AllByRecursion, flat_map, list_any}
 use Rattle.std.proofs.lemmas.List.Elements.{recursion_from_All}
 use Rattle.std.proofs.lemmas.Option.{none-some, same_Some}
 use Rattle.std.proofs.lemmas.Bool.{cases_eq, and_parts, leb-true, ltb-true}
-use Rattle.sub_check.specs.FrameRules.{HasHeader, task_of, watched_of, frame_at, packets_at, joined}
+use Rattle.sub_check.specs.FrameRules.{HasHeader, task_of, watched_of, frame_at, packets_of_frame}
+use Rattle.sub_check.specs.FrameRules.{packets_before}
 use Rattle.sub_check.specs.FrameRules.{end_frame}
 use Rattle.ttx_packet.specs.PageHeader.{HasExactWords, header, c11}
 use Rattle.ttx_packet.specs.RowPacket.{HasOddText}
@@ -68,12 +69,12 @@ any-split f (x ∷ xs) ys e = go (f x) e (any-split f xs ys)
 sent_any : (w : Watched) (t : Transmission) (n : ℕ)
     → holds_header (kind w.page) (packets_of t n) ≡ true
     → (j : ℕ) × (j < length t) × (frame_at t j ≡ n) ×
-    (holds_header (kind w.page) (packets_at t j) ≡ true)
+    (holds_header (kind w.page) (packets_of_frame t j) ≡ true)
 sent_any w [] n e = cc
 sent_any w (s ∷ ss) n e =
     let later : (holds_header (kind w.page) (packets_of ss n) ≡ true)
     → (j : ℕ) × (j < length (s ∷ ss)) × (frame_at (s ∷ ss) j ≡ n) ×
-    (holds_header (kind w.page) (packets_at (s ∷ ss) j) ≡ true) =
+    (holds_header (kind w.page) (packets_of_frame (s ∷ ss) j) ≡ true) =
     λ d. (let r = sent_any w ss n d in (suc r.0, omega (arith, r.1), r.2, r.3)) in
     go (nat_le n s.frame && nat_lt s.frame (n + 1)) refl e later
   where
@@ -82,9 +83,9 @@ sent_any w (s ∷ ss) n e =
         true
         → (holds_header (kind w.page) (packets_of ss n) ≡ true
         → (j : ℕ) × (j < length (s ∷ ss)) × (frame_at (s ∷ ss) j ≡ n) ×
-        (holds_header (kind w.page) (packets_at (s ∷ ss) j) ≡ true))
+        (holds_header (kind w.page) (packets_of_frame (s ∷ ss) j) ≡ true))
         → (j : ℕ) × (j < length (s ∷ ss)) × (frame_at (s ∷ ss) j ≡ n) ×
-        (holds_header (kind w.page) (packets_at (s ∷ ss) j) ≡ true)
+        (holds_header (kind w.page) (packets_of_frame (s ∷ ss) j) ≡ true)
     go true p d later =
         elim (any-split (λ x. is_this_page (kind w.page x)) s.packets (packets_of ss n) d) [
           | inl here ↦
@@ -142,21 +143,23 @@ module _ (programme : ProgrammeValue) (options : OptionsValue) (t : Transmission
       let y = number_at t i nothing l in omega arith
 
   -- At each packet the span is fair.
-  fair_at : (i k : ℕ) → i < length t → k ≤ length (packets_at t i)
+  fair_at : (i k : ℕ) → i < length t → k ≤ length (packets_of_frame t i)
       → IsFair (watched_of programme options)
-      (span (kind options.page) (joined t i ++ take k (packets_at t i)))
+      (span (kind options.page) (packets_before t i ++ take k (packets_of_frame t i)))
   fair_at i k l m =
       let f : ℕ = frame_at t i in
-      let n : ℕ = length (joined t i) + k in
+      let n : ℕ = length (packets_before t i) + k in
       let last = last-same t in
       let within = rises_to t rising_back i (length t - 1) (omega arith) (omega arith) in
       let back : frame_at t (i + 1 - 1) ≡ frame_at t i = ap (frame_at t) (omega arith) in
-      let on : air t (frame_at t 0) 0 f ≡ joined t (i + 1) =
+      let on : air t (frame_at t 0) 0 f ≡ packets_before t (i + 1) =
       air_is t rising_back (i + 1) f (omega arith) (omega arith) (omega arith)
       (λ z. rises_strictly t rising_back i (i + 1) (omega arith) z) in
-      let cut : take n (joined t i ++ packets_at t i) ≡ joined t i ++ take k (packets_at t i) =
-      take-over (joined t i) (packets_at t i) n (omega arith)
-      ∙ ap (λ x. joined t i ++ take x (packets_at t i)) (omega arith) in
+      let cut :
+        take n (packets_before t i ++ packets_of_frame t i)
+        ≡ packets_before t i ++ take k (packets_of_frame t i) =
+      take-over (packets_before t i) (packets_of_frame t i) n (omega arith)
+      ∙ ap (λ x. packets_before t i ++ take x (packets_of_frame t i)) (omega arith) in
       fair_back (watched_of programme options) _
       (subst (λ xs. IsCleanSpan options.page (span (kind options.page) xs))
       (ap (take n) (air-both t f ∙ on ∙ joined_more t i l) ∙ cut) (h.spans f n (omega arith)))

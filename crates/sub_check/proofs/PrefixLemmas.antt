@@ -7,43 +7,44 @@ use Rattle.std.proofs.lemmas.List.{take_more, take_all, take-append-drop, drop_m
 use Rattle.std.proofs.lemmas.Bool.{cases_eq, cases_lt, le-leb, lt-leb, and_from, and_right}
 use Rattle.std.proofs.lemmas.Bool.{cond-true, cond-false}
 use Rattle.sub_check.specs.Transmission.{SentFrame, Transmission}
-use Rattle.sub_check.specs.FrameRules.{frame_at, packets_at, joined}
+use Rattle.sub_check.specs.FrameRules.{frame_at, packets_of_frame, packets_before}
 use Rattle.sub_check.specs.FirstBroken.{IsInGap}
 use Rattle.sub_check.proofs.GoodByPlace.{air, whole}
 use Rattle.sub_check.proofs.ShownLemmas.{joined_more}
 
 -- The packets before packet k of frame i of the list, and that packet.
 abbrev pub before : Transmission → ℕ → ℕ → List (List ℕ)
-before t i k = joined t i ++ take k (packets_at t i)
+before t i k = packets_before t i ++ take k (packets_of_frame t i)
 
 -- Packet k of frame i of the list.
 abbrev pub packet_at : Transmission → ℕ → ℕ → List ℕ
-packet_at t i k = get_or (packets_at t i) k []
+packet_at t i k = get_or (packets_of_frame t i) k []
 
 -- The packets before the next packet.
-pub before_more : (t : Transmission) (i k : ℕ) → k < length (packets_at t i)
+pub before_more : (t : Transmission) (i k : ℕ) → k < length (packets_of_frame t i)
     → before t i (k + 1) ≡ before t i k ++ packet_at t i k ∷ []
-before_more t i k l = ap (λ xs. joined t i ++ xs) (take_more (packets_at t i) k [] l)
-    ∙ sym (append_assoc (joined t i) (take k (packets_at t i)) (packet_at t i k ∷ []))
+before_more t i k l = ap (λ xs. packets_before t i ++ xs) (take_more (packets_of_frame t i) k [] l)
+    ∙ sym (append_assoc (packets_before t i) (take k (packets_of_frame t i)) (packet_at t i k ∷ []))
 
 -- The packets before the first packet of a frame.
-before_none : (t : Transmission) (i : ℕ) → before t i 0 ≡ joined t i
-before_none t i = append-nil (joined t i)
+before_none : (t : Transmission) (i : ℕ) → before t i 0 ≡ packets_before t i
+before_none t i = append-nil (packets_before t i)
 
 -- The packets before the end of a frame.
 before_all : (t : Transmission) (i : ℕ) → i < length t
-    → before t i (length (packets_at t i)) ≡ joined t (i + 1)
+    → before t i (length (packets_of_frame t i)) ≡ packets_before t (i + 1)
 before_all t i l =
-    ap (λ xs. joined t i ++ xs) (take_all (length (packets_at t i)) (packets_at t i) (omega arith))
+    ap (λ xs. packets_before t i ++ xs)
+    (take_all (length (packets_of_frame t i)) (packets_of_frame t i) (omega arith))
     ∙ sym (joined_more t i l)
 
 -- What holds of no packets, and goes on by each packet of the first m frames, holds of each prefix
 -- of theirs.
 module _ (t : Transmission) (m : ℕ) (fits : m ≤ length t) (Q : List (List ℕ) → Type 0) (none : Q [])
-    (more : (i k : ℕ) → i < m → k < length (packets_at t i) → Q (before t i k)
+    (more : (i k : ℕ) → i < m → k < length (packets_of_frame t i) → Q (before t i k)
     → Q (before t i k ++ packet_at t i k ∷ [])) where
   -- So far in a frame, where it holds at the frame's start.
-  within : (i : ℕ) → i < m → Q (joined t i) → (k : ℕ) → k ≤ length (packets_at t i)
+  within : (i : ℕ) → i < m → Q (packets_before t i) → (k : ℕ) → k ≤ length (packets_of_frame t i)
       → Q (before t i k)
   within i l base zero h = subst Q (sym (before_none t i)) base
   within i l base (suc k) h =
@@ -53,48 +54,49 @@ module _ (t : Transmission) (m : ℕ) (fits : m ≤ length t) (Q : List (List �
       (more i k l (omega arith) (within i l base k (omega arith))))
 
   -- At the start of each frame.
-  pub at_start : (n : ℕ) → n ≤ m → Q (joined t n)
+  pub at_start : (n : ℕ) → n ≤ m → Q (packets_before t n)
   at_start zero h = none
   at_start (suc n) h =
       let e : n + 1 ≡ suc n = omega arith in
-      subst (λ c. Q (joined t c)) e
+      subst (λ c. Q (packets_before t c)) e
       (subst Q (before_all t n (omega arith))
-      (within n (omega arith) (at_start n (omega arith)) (length (packets_at t n))
+      (within n (omega arith) (at_start n (omega arith)) (length (packets_of_frame t n))
       (omega arith)))
 
   -- And at each of its packets.
-  pub at_packet : (i k : ℕ) → i < m → k ≤ length (packets_at t i) → Q (before t i k)
+  pub at_packet : (i k : ℕ) → i < m → k ≤ length (packets_of_frame t i) → Q (before t i k)
   at_packet i k l h = within i l (at_start i (omega arith)) k h
 
 -- Each prefix is the front of the whole.
-joined-front : (t : Transmission) (n m : ℕ) → n + m ≤ length t
-    → (rest : List (List ℕ)) × (joined t (n + m) ≡ joined t n ++ rest)
-joined-front t n zero h = ([], ap (joined t) (omega arith) ∙ sym (append-nil (joined t n)))
-joined-front t n (suc m) h =
-    let ih = joined-front t n m (omega arith) in
+packets_before-front : (t : Transmission) (n m : ℕ) → n + m ≤ length t
+    → (rest : List (List ℕ)) × (packets_before t (n + m) ≡ packets_before t n ++ rest)
+packets_before-front t n zero h =
+    ([], ap (packets_before t) (omega arith) ∙ sym (append-nil (packets_before t n)))
+packets_before-front t n (suc m) h =
+    let ih = packets_before-front t n m (omega arith) in
     let e : n + suc m ≡ n + m + 1 = omega arith in (
-      ih.0 ++ packets_at t (n + m),
-      ap (joined t) e ∙ joined_more t (n + m) (omega arith)
-          ∙ ap (λ xs. xs ++ packets_at t (n + m)) ih.1
-          ∙ append_assoc (joined t n) ih.0 (packets_at t (n + m)),
+      ih.0 ++ packets_of_frame t (n + m),
+      ap (packets_before t) e ∙ joined_more t (n + m) (omega arith)
+          ∙ ap (λ xs. xs ++ packets_of_frame t (n + m)) ih.1
+          ∙ append_assoc (packets_before t n) ih.0 (packets_of_frame t (n + m)),
     )
 
 -- All packets: those before packet k of frame i, that packet, and the others.
-pub whole-split : (t : Transmission) (i k : ℕ) → i < length t → k < length (packets_at t i)
+pub whole-split : (t : Transmission) (i k : ℕ) → i < length t → k < length (packets_of_frame t i)
     → (rest : List (List ℕ)) × (whole t ≡ before t i k ++ packet_at t i k ∷ rest)
 whole-split t i k l h =
-    let front = joined-front t (i + 1) (length t - (i + 1)) (omega arith) in
+    let front = packets_before-front t (i + 1) (length t - (i + 1)) (omega arith) in
     let e : length t ≡ i + 1 + (length t - (i + 1)) = omega arith in
-    let cut : packets_at t i ≡ take k (packets_at t i) ++ packet_at t i k ∷ drop (k + 1)
-    (packets_at t i) = sym (take-append-drop k (packets_at t i))
-    ∙ ap (λ xs. take k (packets_at t i) ++ xs) (drop_more (packets_at t i) k [] h) in (
-      drop (k + 1) (packets_at t i) ++ front.0,
-      ap (joined t) e ∙ front.1
+    let cut : packets_of_frame t i ≡ take k (packets_of_frame t i) ++ packet_at t i k ∷ drop (k + 1)
+    (packets_of_frame t i) = sym (take-append-drop k (packets_of_frame t i))
+    ∙ ap (λ xs. take k (packets_of_frame t i) ++ xs) (drop_more (packets_of_frame t i) k [] h) in (
+      drop (k + 1) (packets_of_frame t i) ++ front.0,
+      ap (packets_before t) e ∙ front.1
           ∙ ap (λ xs. xs ++ front.0)
-          (joined_more t i l ∙ ap (λ xs. joined t i ++ xs) cut
-          ∙ sym (append_assoc (joined t i) (take k (packets_at t i))
-          (packet_at t i k ∷ drop (k + 1) (packets_at t i))))
-          ∙ append_assoc (before t i k) (packet_at t i k ∷ drop (k + 1) (packets_at t i)) front.0,
+          (joined_more t i l ∙ ap (λ xs. packets_before t i ++ xs) cut
+          ∙ sym (append_assoc (packets_before t i) (take k (packets_of_frame t i))
+          (packet_at t i k ∷ drop (k + 1) (packets_of_frame t i))))
+          ∙ append_assoc (before t i k) (packet_at t i k ∷ drop (k + 1) (packets_of_frame t i)) front.0,
     )
 
 -- ---- frames
@@ -165,7 +167,7 @@ filter_take (s ∷ ss) (suc n) g f kept other =
 pub air_is : (t : Transmission)
     → ((i : ℕ) → 0 < i → i < length t → frame_at t (i - 1) < frame_at t i) → (n f : ℕ) → 0 < n
     → n ≤ length t → frame_at t (n - 1) ≤ f → (n < length t → f < frame_at t n)
-    → air t (frame_at t 0) 0 f ≡ joined t n
+    → air t (frame_at t 0) 0 f ≡ packets_before t n
 air_is t rising n f some le low high =
     ap (flat_map (λ (s : SentFrame). s.packets)) (filter_take t n (frame_at t 0) f first later)
   where

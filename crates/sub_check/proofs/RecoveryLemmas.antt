@@ -1,6 +1,6 @@
 -- Receivers recover by a good transmission: `law_of_good_and_recovery`.
 use Rattle.std.proofs.Common.{◌≡◌, ℕ, inl, inr, true, List, sym, ◌∙◌, subst}
-use Rattle.ttx_page.specs.LostRows.{fates_of}
+use Rattle.ttx_page.specs.LostRows.{arrivals_of}
 use Rattle.ttx_page.specs.PacketKind.{kind}
 use Rattle.ttx_page.specs.Receiver.{State, HearsDropping}
 use Rattle.ttx_page.specs.Recovery.{EndsAfresh}
@@ -55,7 +55,7 @@ law_of_good_dropping_and_recovery
     let sent : List (List ℕ) = on_air transmission g j f in
     restored programme transmission options g j f _ new good listening
     (λ holds.
-    drops.law_of_dropping_recovery options.page sent (fates_of marks got) old new
+    drops.law_of_dropping_recovery options.page sent (arrivals_of marks got) old new
     (sound programme transmission options g j f (suffices good) listening)
     (noise.arrives_marked sent marks got may near) holds
     (subst (λ ps. HearsDropping options.page old ps new)

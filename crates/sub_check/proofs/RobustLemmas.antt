@@ -11,7 +11,7 @@ use Rattle.ttx_packet.specs.PageId.{PageIdValue}
 use Rattle.ttx_packet.specs.Parity.{code_of}
 use Rattle.ttx_packet.specs.RowPacket.{text_byte}
 use Rattle.ttx_page.specs.declared.packet_kind.PacketKind.{PacketKind}
-use Rattle.ttx_page.specs.LostRows.{fates_of}
+use Rattle.ttx_page.specs.LostRows.{arrivals_of}
 use Rattle.ttx_page.specs.Noise.{ErasesPage, IsOddRow, IsSameRow, IsSound}
 use Rattle.ttx_page.specs.Page.{space, cell, IsCell}
 use Rattle.ttx_page.specs.PacketKind.{kind, is_row}
@@ -30,7 +30,7 @@ use Rattle.sub_check.specs.Robust.{IsListening, Robust}
 use Rattle.sub_check.specs.LostRows.{RobustToLoss, RobustWithNothingLost}
 use Rattle.sub_check.specs.Sufficient.{IsSufficient, LawOfSufficientParts}
 use Rattle.sub_check.specs.Laws.{LawOfWindow, LawOfGood, LawOfGoodAndLoss, LawOfGoodAndMarkedLoss}
-use Rattle.sub_check.specs.Laws.{LawOfNothingLost}
+use Rattle.sub_check.specs.Laws.{LawOfRobustWithNothingLost}
 use Rattle.sub_check.proofs.TransmissionLemmas.{packets_between-split, packets_between-each}
 use Rattle.ttx_page.proofs.SpanLists.{after-append}
 
@@ -189,9 +189,9 @@ sufficient_and_loss :
     → IsSufficient programme transmission options
     → RobustToLoss programme transmission options
 sufficient_and_loss
-    programme transmission options enough g j f fates old new listening near unheard shut hears =
+    programme transmission options enough g j f arrivals old new listening near unheard shut hears =
     let ends =
-    noise.law_of_lost_rows options.page (on_air transmission g j f) fates old new
+    noise.law_of_lost_rows options.page (on_air transmission g j f) arrivals old new
     (sound programme transmission options g j f enough listening) near unheard shut hears in
     record {
       in_time = window programme transmission options g j f enough listening;
@@ -211,19 +211,19 @@ pub law_of_good_and_loss : LawOfGoodAndLoss
 law_of_good_and_loss programme transmission options good =
     sufficient_and_loss programme transmission options (suffices good)
 
--- A good transmission is robust to lost rows, by marks: the fates that they give.
+-- A good transmission is robust to lost rows, by marks: the arrivals that they give.
 pub law_of_good_and_marked_loss : LawOfGoodAndMarkedLoss
 law_of_good_and_marked_loss
     programme transmission options good g j f marks got old new listening may near unheard shut
     hears =
     let sent : List (List ℕ) = on_air transmission g j f in
-    law_of_good_and_loss programme transmission options good g j f (fates_of marks got) old new
+    law_of_good_and_loss programme transmission options good g j f (arrivals_of marks got) old new
     listening (noise.arrives_marked sent marks got may near) unheard shut
     (subst (λ ps. Hears options.page old ps new)
     (sym (noise.arrived_marked sent marks got may near)) hears)
 
 -- With nothing lost, the premises and the hits are those of a robust transmission.
-pub law_of_nothing_lost : LawOfNothingLost
+pub law_of_nothing_lost : LawOfRobustWithNothingLost
 law_of_nothing_lost programme transmission options = (robust, lossless)
   where
     robust :

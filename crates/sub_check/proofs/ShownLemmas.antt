@@ -24,7 +24,8 @@ use Rattle.sub_check.specs.Transmission.{SentFrame, Transmission}
 use Rattle.sub_check.specs.declared.listener.Listener.{Listener}
 use Rattle.stl_rows.specs.Programme.{ProgrammeValue}
 use Rattle.sub_check.specs.Listening.{Knows, KnowsLast, HoldsRows, IsSoundRow}
-use Rattle.sub_check.specs.FrameRules.{Task, frame_at, packets_at, joined, HasHeader, Shows}
+use Rattle.sub_check.specs.FrameRules.{Task, frame_at, packets_of_frame, packets_before, HasHeader}
+use Rattle.sub_check.specs.FrameRules.{ShowsDue}
 use Rattle.sub_check.specs.FrameRules.{IsCovered, IsEnded}
 use Rattle.sub_plan.specs.Schedule.{due_in}
 use Rattle.sub_check.specs.Following.{IsTaskOf, HeaderIs}
@@ -70,28 +71,28 @@ shown_is w packets sent page h row column is =
         (find_none (λ p. is_row row (kind w.page p)) packets e))
 
 module _ (g : Task) (p : ProgrammeValue) (every : ℕ) (task : IsTaskOf g p every)
-    (frames : Transmission) (n f : ℕ) (s : Listener) (knows : Knows (joined frames n) s)
+    (frames : Transmission) (n f : ℕ) (s : Listener) (knows : Knows (packets_before frames n) s)
     (watched_is : s.watched ≡ g.watched) where
   -- The page that is kept is what the packets show.
   kept_shown : (row column : ℕ) → IsCell row column
-      → cell s.comparison.page row column ≡ shown g.watched.page (joined frames n) row column
+      → cell s.comparison.page row column ≡ shown g.watched.page (packets_before frames n) row column
   kept_shown row column is =
-      shown_is s.watched (span (kind s.watched.page) (joined frames n)) s.sent s.comparison.page
+      shown_is s.watched (span (kind s.watched.page) (packets_before frames n)) s.sent s.comparison.page
       knows.rows_are row column is
-      ∙ ap (λ w. shown w.page (joined frames n) row column) watched_is
+      ∙ ap (λ w. shown w.page (packets_before frames n) row column) watched_is
 
   -- The page that is kept equals the due page at a cell exactly where the transmission shows what
   -- is due.
   pub shows_from : (row column : ℕ) → IsCell row column
       → cell s.comparison.page row column ≡ cell (due_in p f) row column
-      → Shows g frames n f row column
+      → ShowsDue g frames n f row column
   shows_from row column is e = sym (kept_shown row column is) ∙ e
       ∙ ap (λ d. cell d row column) (sym (task.due_is f))
 
   -- And where they differ, so does what is shown from what is due.
   pub shows_not : (row column : ℕ) → IsCell row column
       → (cell s.comparison.page row column ≡ cell (due_in p f) row column → ⊥)
-      → Shows g frames n f row column → ⊥
+      → ShowsDue g frames n f row column → ⊥
   shows_not row column is other shows =
       other (kept_shown row column is ∙ shows ∙ ap (λ d. cell d row column) (task.due_is f))
 
@@ -114,19 +115,19 @@ KnowsLast-drawn heard last s due k =
 -- ---- complete pages
 
 module _ (g : Task) (frames : Transmission) (n : ℕ) (s : Listener)
-    (knows : Knows (joined frames n) s) (watched_is : s.watched ≡ g.watched) where
+    (knows : Knows (packets_before frames n) s) (watched_is : s.watched ≡ g.watched) where
   -- The page that is kept is open where the packets leave it open.
   left_open :
       (s.watched.complete && s.is_open)
-      ≡ (g.watched.complete && is_open_after (kind g.watched.page) (joined frames n))
+      ≡ (g.watched.complete && is_open_after (kind g.watched.page) (packets_before frames n))
   left_open =
       ap (λ b. s.watched.complete && b) knows.open_is
-      ∙ ap (λ (w : Watched). w.complete && is_open_after (kind w.page) (joined frames n)) watched_is
+      ∙ ap (λ (w : Watched). w.complete && is_open_after (kind w.page) (packets_before frames n)) watched_is
 
   -- Where it is not open, the page is ended.
   pub ended_from : (s.watched.complete && s.is_open) ≡ false → IsEnded g frames n
   ended_from e asks =
-      ap (λ b. b && is_open_after (kind g.watched.page) (joined frames n)) (sym asks)
+      ap (λ b. b && is_open_after (kind g.watched.page) (packets_before frames n)) (sym asks)
       ∙ sym left_open
       ∙ e
 
@@ -178,7 +179,7 @@ HeaderIs-some g frames n head rising = record {
 
 -- The packets of one frame more.
 pub joined_more : (frames : Transmission) (n : ℕ) → n < length frames
-    → joined frames (n + 1) ≡ joined frames n ++ packets_at frames n
+    → packets_before frames (n + 1) ≡ packets_before frames n ++ packets_of_frame frames n
 joined_more [] n l = absurd (omega arith)
 joined_more (s ∷ ss) n l =
     ap (flat_map (λ (x : SentFrame). x.packets)) (take_more (s ∷ ss) n s l)

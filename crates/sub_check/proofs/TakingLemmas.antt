@@ -16,8 +16,9 @@ use Rattle.stl_rows.specs.Programme.{ProgrammeValue}
 use Rattle.ttx_packet.specs.PageId.{PageIdValue}
 use Rattle.stl_rows.specs.declared.national.National.{National}
 use Rattle.sub_plan.specs.Options.{OptionsValue}
-use Rattle.sub_check.specs.FrameRules.{Task, Unread, task_of, watched_of, frame_at, packets_at}
-use Rattle.sub_check.specs.FrameRules.{joined}
+use Rattle.sub_check.specs.FrameRules.{Task, Unread, task_of, watched_of, frame_at}
+use Rattle.sub_check.specs.FrameRules.{packets_of_frame}
+use Rattle.sub_check.specs.FrameRules.{packets_before}
 use Rattle.sub_check.specs.Following.{PacketsOk, HeaderIs, IsTaskOf, FrameOk}
 use Rattle.sub_check.proofs.PacketLists.{holds-count}
 use Rattle.sub_check.proofs.ShownLemmas.{HeaderIs-none, HeaderIs-some, joined_more}
@@ -26,36 +27,36 @@ use Rattle.sub_check.proofs.ShownLemmas.{HeaderIs-none, HeaderIs-some, joined_mo
 pub record Taken (g : Task) (frames : Transmission) (n : ℕ) (found : Bool) (headers : ℕ)
     (s : Listener) : Type 0 where
   pub packets : PacketsOk g frames n
-  pub last : KnowsLast (joined frames (n + 1)) (packets_at frames (n + 1 - 1)) s
-  pub knows : Knows (joined frames (n + 1)) s
+  pub last : KnowsLast (packets_before frames (n + 1)) (packets_of_frame frames (n + 1 - 1)) s
+  pub knows : Knows (packets_before frames (n + 1)) s
   pub watched_is : s.watched ≡ g.watched
-  pub header : holds_header (kind g.watched.page) (packets_at frames n) ≡ found
-  pub count : header_count g.watched.page (packets_at frames n) ≡ headers
+  pub header : holds_header (kind g.watched.page) (packets_of_frame frames n) ≡ found
+  pub count : header_count g.watched.page (packets_of_frame frames n) ≡ headers
 
 -- That, from what the listener shows.
 pub Taken-from : (g : Task) (frames : Transmission) (n : ℕ) (found : Bool) (headers : ℕ)
     (s : Listener) (w : Watched) (ps : List (List ℕ))
-    → n < length frames → packets_at frames n ≡ ps → w ≡ g.watched → s.watched ≡ w
+    → n < length frames → packets_of_frame frames n ≡ ps → w ≡ g.watched → s.watched ≡ w
     → found ≡ nat_lt 0 headers → headers ≡ header_count w.page ps
-    → (m : ℕ) → length ps ≡ m → AreClean w (joined frames n) ps m
-    → KnowsLast (joined frames n ++ ps) ps s
+    → (m : ℕ) → length ps ≡ m → AreClean w (packets_before frames n) ps m
+    → KnowsLast (packets_before frames n ++ ps) ps s
     → Taken g frames n found headers s
 Taken-from g frames n found headers s w ps there same watched kept is count m long clean last =
-    let all : joined frames n ++ ps ≡ joined frames (n + 1) =
-    ap (λ xs. joined frames n ++ xs) (sym same) ∙ sym (joined_more frames n there) in
-    let here : ps ≡ packets_at frames (n + 1 - 1) =
-    sym same ∙ ap (packets_at frames) (omega arith) in
+    let all : packets_before frames n ++ ps ≡ packets_before frames (n + 1) =
+    ap (λ xs. packets_before frames n ++ xs) (sym same) ∙ sym (joined_more frames n there) in
+    let here : ps ≡ packets_of_frame frames (n + 1 - 1) =
+    sym same ∙ ap (packets_of_frame frames) (omega arith) in
     record {
       packets = record {
         each = λ k rule t. subst
-            (λ v. KeepsRule rule v (joined frames n ++ take k (packets_at frames n))
-            (get_or (packets_at frames n) k [])) watched
+            (λ v. KeepsRule rule v (packets_before frames n ++ take k (packets_of_frame frames n))
+            (get_or (packets_of_frame frames n) k [])) watched
             (subst (λ xs. (k : ℕ) → k < length xs → (f : PacketRule)
-            → KeepsRule f w (joined frames n ++ take k xs) (get_or xs k [])) (sym same)
-            (subst (AreClean w (joined frames n) ps) (sym long) clean) k t.1 rule);
+            → KeepsRule f w (packets_before frames n ++ take k xs) (get_or xs k [])) (sym same)
+            (subst (AreClean w (packets_before frames n) ps) (sym long) clean) k t.1 rule);
       };
-      last = subst (λ xs. KnowsLast xs (packets_at frames (n + 1 - 1)) s) all
-          (subst (λ xs. KnowsLast (joined frames n ++ ps) xs s) here last);
+      last = subst (λ xs. KnowsLast xs (packets_of_frame frames (n + 1 - 1)) s) all
+          (subst (λ xs. KnowsLast (packets_before frames n ++ ps) xs s) here last);
       knows = subst (λ xs. Knows xs s) all last.knows;
       watched_is = kept ∙ watched;
       header =
@@ -72,7 +73,7 @@ Taken-from g frames n found headers s w ps there same watched kept is count m lo
 -- The last header's frame, one frame on.
 pub HeaderIs-more : (g : Task) (frames : Transmission) (n at frame : ℕ) (found : Bool)
     → HeaderIs g frames n at → frame_at frames n ≡ frame
-    → holds_header (kind g.watched.page) (packets_at frames n) ≡ found
+    → holds_header (kind g.watched.page) (packets_of_frame frames n) ≡ found
     → ((j : ℕ) → j < n + 1 → frame_at frames j ≤ frame)
     → HeaderIs g frames (n + 1) (cond found frame at)
 HeaderIs-more g frames n at frame true h f e rising =
@@ -93,12 +94,12 @@ rising_more frames n frame next rising later is j l = elim (cases_eq j n) [
 
 -- The packets of a first fault are those of the frame.
 pub fault_moved : (g : Task) (frames : Transmission) (n : ℕ) (w : Watched) (ps : List (List ℕ))
-    (k : ℕ) (rule : PacketRule) → packets_at frames n ≡ ps → w ≡ g.watched
-    → BreaksFirstAt w (joined frames n) ps k rule
-    → BreaksFirstAt g.watched (joined frames n) (packets_at frames n) k rule
+    (k : ℕ) (rule : PacketRule) → packets_of_frame frames n ≡ ps → w ≡ g.watched
+    → BreaksFirstAt w (packets_before frames n) ps k rule
+    → BreaksFirstAt g.watched (packets_before frames n) (packets_of_frame frames n) k rule
 fault_moved g frames n w ps k rule same watched is =
-    subst (λ v. BreaksFirstAt v (joined frames n) (packets_at frames n) k rule) watched
-    (subst (λ xs. BreaksFirstAt w (joined frames n) xs k rule) (sym same) is)
+    subst (λ v. BreaksFirstAt v (packets_before frames n) (packets_of_frame frames n) k rule) watched
+    (subst (λ xs. BreaksFirstAt w (packets_before frames n) xs k rule) (sym same) is)
 
 -- All that is asked of the frames so far, one frame on.
 pub past_more : (g : Task) (frames : Transmission) (n : ℕ) → ((j : ℕ) → j < n → FrameOk g frames j)

@@ -14,10 +14,10 @@ use Rattle.sub_plan.specs.FrameTime.{frames_of_day, pts_of}
 use Rattle.sub_check.specs.Fault.{is_pes_read, is_pes_write, is_subtitle_fault}
 use Rattle.sub_check.specs.FirstBroken.{HoldsEverywhere, unread_fault}
 use Rattle.sub_check.specs.Following.{Follows}
-use Rattle.sub_check.specs.FrameRules.{Task, Unread, frame_at, end_frame, joined}
+use Rattle.sub_check.specs.FrameRules.{Task, Unread, frame_at, end_frame, packets_before}
 use Rattle.sub_check.specs.PacketRules.{header_count}
 use Rattle.sub_check.specs.PesFrames.{IsSentAs}
-use Rattle.sub_check.specs.PesReading.{EndsAs, ReadsAs}
+use Rattle.sub_check.specs.PesReading.{EndsReading, ReadsAs}
 use Rattle.sub_check.specs.Transmission.{SentFrame, Transmission, first_frame, last_frame}
 use Rattle.sub_check.specs.declared.checker.Accepted.{Accepted}
 use Rattle.sub_check.specs.declared.fault.CheckFault.{CheckFault}
@@ -49,7 +49,7 @@ TellsFrame origin pes bytes v (Ok None) = answer_at pes bytes ≡ Ok None
 TellsFrame origin pes bytes v (Ok (Some frame)) =
     (answer_at pes bytes ≡ Ok (Some v)) × IsFrameOf origin v.pts frame
 TellsFrame origin pes bytes v (Err f) =
-    (u : Unread) × (f ≡ unread_fault pes (Some u)) × EndsAs origin pes bytes (Some u)
+    (u : Unread) × (f ≡ unread_fault pes (Some u)) × EndsReading origin pes bytes (Some u)
 
 -- The frame of a sending that was read.
 abbrev pub as_frame : Result (Option Sending) CheckFault → Result (Option ℕ) CheckFault
@@ -78,7 +78,7 @@ pub record AreTaken (origin : ℕ) (bytes : List ℕ) (frames : Transmission) (r
     pub packets : List (List ℕ)
     pub each : AllZip IsPesPacket values packets
     pub sent : AllZip (IsSentAs origin) values frames
-    pub joined : bytes ≡ concat packets ++ rest
+    pub packets_before : bytes ≡ concat packets ++ rest
 
 -- A transmission is accepted: the bytes are a PES file of it, all that is asked holds, and the
 -- answer counts its frames and headers.
@@ -90,7 +90,7 @@ pub record Accepts (g : Task) (origin : ℕ) (bytes : List ℕ) (frames : Transm
   pub whole : AreWhole frames
   pub frames_are : a.frames + frame_at frames 0 ≡ end_frame frames + 1
   pub transmissions_are :
-      a.transmissions ≡ header_count g.watched.page (joined frames (length frames))
+      a.transmissions ≡ header_count g.watched.page (packets_before frames (length frames))
 
 -- What is told of an accepted transmission: the frames of the day from the first to the last, and
 -- the headers of the page.

@@ -32,14 +32,14 @@ RobustForDropping programme transmission options =
 -- excused also where a packet of its row was lost.
 abbrev pub RobustForDroppingAndLoss : ProgrammeValue → Transmission → OptionsValue → Type 0
 RobustForDroppingAndLoss programme transmission options =
-    (g j f : ℕ) (fates : List (Option (List ℕ))) (old new : State)
+    (g j f : ℕ) (arrivals : List (Option (List ℕ))) (old new : State)
     → IsListening transmission g j f
-    → AllZip Arrives (on_air transmission g j f) fates
+    → AllZip Arrives (on_air transmission g j f) arrivals
     → IsFalse old.heard
     → IsFalse old.is_open
-    → HearsDropping options.page old (arrived fates) new
+    → HearsDropping options.page old (arrived arrivals) new
     → IsServed programme options g f (on_air transmission g j f)
-    (SomewhereInRow (IsHitOrLost options.page (on_air transmission g j f) fates)) new
+    (SomewhereInRow (IsHitOrLost options.page (on_air transmission g j f) arrivals)) new
 
 -- A good transmission is robust for receivers that drop rows.
 -- So the sentence of the headline holds of the decoders of the field that drop a row that is hit,

@@ -1,9 +1,9 @@
 -- Transmissions of page 888 in full, byte by byte: a good one, for each part of a rule one that
 -- breaks that rule alone, and for each rule that the headline needs one that is not robust.
 use Rattle.std.specs.Prelude.{ℕ, false, List, [], ◌∷◌, ◌++◌, replicate, take}
-use Rattle.ttx_packet.specs.PageId.{PageIdValue}
 use Rattle.stl_rows.specs.declared.national.National.TheVariants.{English, German}
 use Rattle.stl_rows.specs.Programme.{ProgrammeValue}
+use Rattle.sub_plan.specs.Examples.{page_888}
 use Rattle.sub_plan.specs.Options.{OptionsValue}
 use Rattle.sub_check.specs.Transmission.{Transmission}
 use Rattle.sub_check.specs.Good.{Good}
@@ -17,10 +17,6 @@ use Rattle.sub_check.specs.Rules.Rule.{CleanSpans, RepeatBound, DuePages}
 -- Ten coded bytes, and 32 spaces.
 abbrev pub x0 : List ℕ → List ℕ
 x0 coded = coded ++ replicate 32 0x20
-
--- Page 888, whose magazine 8 is sent as 0.
-abbrev pub page_888 : PageIdValue
-page_888 = record { magazine = 0; page = 0x88 }
 
 -- A header of page 888 with these four bytes of control bits: S2 and C4, S4 with C5 and C6, C7 to
 -- C10, C11 to C14. Between them stand: address, address, page units, page tens, S1; S3.

@@ -4,8 +4,9 @@ use Rattle.std.specs.Prelude.{◌≡◌, ℕ, ◌+◌, ◌-◌, ◌<◌, ◌≤�
 use Rattle.std.specs.Prelude.{None, length, take}
 use Rattle.std.specs.Prelude.{slice_index_or}
 use Rattle.ttx_page.specs.Page.{IsCell}
-use Rattle.sub_check.specs.FrameRules.{Task, Unread, frame_at, packets_at, joined, end_frame}
-use Rattle.sub_check.specs.FrameRules.{HasHeader, Shows, IsCovered, IsEnded}
+use Rattle.sub_check.specs.FrameRules.{Task, Unread, frame_at, packets_of_frame, packets_before}
+use Rattle.sub_check.specs.FrameRules.{end_frame}
+use Rattle.sub_check.specs.FrameRules.{HasHeader, ShowsDue, IsCovered, IsEnded}
 use Rattle.sub_check.specs.FrameRules.Unread.{BadPacket, NoFrame}
 use Rattle.sub_check.specs.PacketRules.{KeepsRule, rank}
 use Rattle.sub_check.specs.Transmission.{Transmission}
@@ -78,7 +79,7 @@ IsThere frames (AtOrder i) = (0 < i) × (i < length frames)
 IsThere frames AtStart = 0 < length frames
 IsThere frames (AtGapCell i f row column) = IsInGap frames i f × IsCell row column
 IsThere frames (AtGap i f) = IsInGap frames i f
-IsThere frames (AtPacket i k rule) = (i < length frames) × (k < length (packets_at frames i))
+IsThere frames (AtPacket i k rule) = (i < length frames) × (k < length (packets_of_frame frames i))
 IsThere frames AtFirst = 0 < length frames
 IsThere frames (AtCell i row column) = (i < length frames) × IsCell row column
 IsThere frames (AtFrame i) = i < length frames
@@ -88,38 +89,38 @@ IsThere frames AtNothing = Unit {0}
 IsThere frames AtEnd = 0 < length frames
 
 -- What is asked there.
-abbrev pub Holds : Task → Transmission → Place → Type 0
+abbrev pub HoldsThere : Task → Transmission → Place → Type 0
 -- The frame is after the one before.
-Holds g frames (AtOrder i) = frame_at frames (i - 1) < frame_at frames i
+HoldsThere g frames (AtOrder i) = frame_at frames (i - 1) < frame_at frames i
 -- No subtitle is due before the first frame.
-Holds g frames AtStart = (first : ℕ) → g.first_in ≡ Some first → frame_at frames 0 ≤ first
+HoldsThere g frames AtStart = (first : ℕ) → g.first_in ≡ Some first → frame_at frames 0 ≤ first
 -- The page shows what is due.
-Holds g frames (AtGapCell i f row column) = Shows g frames i f row column
+HoldsThere g frames (AtGapCell i f row column) = ShowsDue g frames i f row column
 -- A header of the page is not too long ago.
-Holds g frames (AtGap i f) = IsCovered g frames i f
+HoldsThere g frames (AtGap i f) = IsCovered g frames i f
 -- The packet keeps the rule, sent after all packets before it.
-Holds g frames (AtPacket i k rule) =
-    KeepsRule rule g.watched (joined frames i ++ take k (packets_at frames i))
-    (slice_index_or (packets_at frames i) k [])
+HoldsThere g frames (AtPacket i k rule) =
+    KeepsRule rule g.watched (packets_before frames i ++ take k (packets_of_frame frames i))
+    (slice_index_or (packets_of_frame frames i) k [])
 -- The first frame has a header of the page.
-Holds g frames AtFirst = HasHeader g frames 0
+HoldsThere g frames AtFirst = HasHeader g frames 0
 -- The page shows what is due.
-Holds g frames (AtCell i row column) = Shows g frames (i + 1) (frame_at frames i) row column
+HoldsThere g frames (AtCell i row column) = ShowsDue g frames (i + 1) (frame_at frames i) row column
 -- A header of the page is not too long ago.
-Holds g frames (AtFrame i) = IsCovered g frames (i + 1) (frame_at frames i)
+HoldsThere g frames (AtFrame i) = IsCovered g frames (i + 1) (frame_at frames i)
 -- The page is not open, where complete pages are asked for.
-Holds g frames (AtOpen i) = IsEnded g frames (i + 1)
+HoldsThere g frames (AtOpen i) = IsEnded g frames (i + 1)
 -- Nothing follows but the end of the PES file.
-Holds g frames AtUnread = g.unread ≡ None
+HoldsThere g frames AtUnread = g.unread ≡ None
 -- There is a frame.
-Holds g frames AtNothing = 0 < length frames
+HoldsThere g frames AtNothing = 0 < length frames
 -- The last subtitle is over.
-Holds g frames AtEnd = (last : ℕ) → g.last_out ≡ Some last → last ≤ end_frame frames
+HoldsThere g frames AtEnd = (last : ℕ) → g.last_out ≡ Some last → last ≤ end_frame frames
 
 -- At each place before the key, what is asked there holds.
 abbrev pub HoldsBefore : Task → Transmission → List ℕ → Type 0
 HoldsBefore g frames limit =
-    (y : Place) → IsBefore (key y) limit → IsThere frames y → Holds g frames y
+    (y : Place) → IsBefore (key y) limit → IsThere frames y → HoldsThere g frames y
 
 -- The first n frames of the list were read, and all that is asked of them holds.
 pub record IsReadUpTo (g : Task) (frames : Transmission) (n : ℕ) : Type 0 where
@@ -129,12 +130,12 @@ pub record IsReadUpTo (g : Task) (frames : Transmission) (n : ℕ) : Type 0 wher
 -- What is asked is broken at the place, and at none before it.
 pub record IsFirst (g : Task) (frames : Transmission) (x : Place) : Type 0 where
   pub there : IsThere frames x
-  pub broken : Holds g frames x → ⊥
+  pub broken : HoldsThere g frames x → ⊥
   pub earlier : HoldsBefore g frames (key x)
 
 -- All that is asked holds.
 abbrev pub HoldsEverywhere : Task → Transmission → Type 0
-HoldsEverywhere g frames = (y : Place) → IsThere frames y → Holds g frames y
+HoldsEverywhere g frames = (y : Place) → IsThere frames y → HoldsThere g frames y
 
 -- The refusal of a packet that breaks a rule.
 abbrev pub packet_fault : PacketRule → ℕ → ℕ → CheckFault

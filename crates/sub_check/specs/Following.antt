@@ -5,16 +5,16 @@ use Rattle.stl_rows.specs.Programme.{ProgrammeValue, first_in, last_out}
 use Rattle.sub_check.specs.declared.frame_rules.Checker.{Checker}
 use Rattle.sub_check.specs.declared.packet_rules.PacketRule.{PacketRule}
 use Rattle.sub_check.specs.Listening.{KnowsLast}
-use Rattle.sub_check.specs.FrameRules.{Task, frame_at, packets_at, joined, HasHeader}
+use Rattle.sub_check.specs.FrameRules.{Task, frame_at, packets_of_frame, packets_before, HasHeader}
 use Rattle.sub_plan.specs.Schedule.{due_in}
 use Rattle.sub_check.specs.PacketRules.{header_count}
-use Rattle.sub_check.specs.FirstBroken.{Place, IsThere, Holds}
+use Rattle.sub_check.specs.FirstBroken.{Place, IsThere, HoldsThere}
 use Rattle.sub_check.specs.FirstBroken.Place.{AtOrder, AtStart, AtGapCell, AtGap, AtPacket, AtFirst}
 use Rattle.sub_check.specs.FirstBroken.Place.{AtCell, AtFrame, AtOpen}
 
 -- Where the transmission has the place, what is asked there holds.
 abbrev pub Keeps : Task → Transmission → Place → Type 0
-Keeps g frames y = IsThere frames y → Holds g frames y
+Keeps g frames y = IsThere frames y → HoldsThere g frames y
 
 -- The order of frame i of the list.
 pub record OrderOk (g : Task) (frames : Transmission) (i : ℕ) : Type 0 where
@@ -56,7 +56,7 @@ pub record IsSentFrame (frames : Transmission) (i frame : ℕ) (packets : List (
   where
     pub there : i < length frames
     pub frame_is : frame_at frames i ≡ frame
-    pub packets_are : packets_at frames i ≡ packets
+    pub packets_are : packets_of_frame frames i ≡ packets
 
 -- Of the first n frames the last with a header of the page has this number.
 pub record HeaderIs (g : Task) (frames : Transmission) (n : ℕ) (frame : ℕ) : Type 0 where
@@ -68,9 +68,9 @@ pub record HeaderIs (g : Task) (frames : Transmission) (n : ℕ) (frame : ℕ) :
 pub record Follows (g : Task) (frames : Transmission) (n : ℕ) (c : Checker) : Type 0 where
   pub some : 0 < n
   pub watched_is : c.listener.watched ≡ g.watched
-  pub knows : KnowsLast (joined frames n) (packets_at frames (n - 1)) c.listener
+  pub knows : KnowsLast (packets_before frames n) (packets_of_frame frames (n - 1)) c.listener
   pub frame_is : c.frame ≡ frame_at frames (n - 1)
   pub rising : (j : ℕ) → j < n → frame_at frames j ≤ c.frame
   pub header : HeaderIs g frames n c.header_at
-  pub count : c.headers ≡ header_count g.watched.page (joined frames n)
+  pub count : c.headers ≡ header_count g.watched.page (packets_before frames n)
   pub past : (j : ℕ) → j < n → FrameOk g frames j

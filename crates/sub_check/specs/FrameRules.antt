@@ -56,12 +56,12 @@ abbrev pub frame_at : Transmission → ℕ → ℕ
 frame_at frames i = slice_index (map (λ (s : SentFrame). s.frame) frames) i
 
 -- Its packets.
-abbrev pub packets_at : Transmission → ℕ → List (List ℕ)
-packets_at frames i = slice_index_or (map (λ (s : SentFrame). s.packets) frames) i []
+abbrev pub packets_of_frame : Transmission → ℕ → List (List ℕ)
+packets_of_frame frames i = slice_index_or (map (λ (s : SentFrame). s.packets) frames) i []
 
 -- The packets of the first n frames of the list, joined.
-abbrev pub joined : Transmission → ℕ → List (List ℕ)
-joined frames n = flat_map (λ (s : SentFrame). s.packets) (take n frames)
+abbrev pub packets_before : Transmission → ℕ → List (List ℕ)
+packets_before frames n = flat_map (λ (s : SentFrame). s.packets) (take n frames)
 
 -- The number of the last frame.
 abbrev pub end_frame : Transmission → ℕ
@@ -69,12 +69,12 @@ end_frame frames = frame_at frames (length frames - 1)
 
 -- A header of the page is among the packets of frame i of the list.
 abbrev pub HasHeader : Task → Transmission → ℕ → Type 0
-HasHeader g frames i = holds_header (kind g.watched.page) (packets_at frames i) ≡ true
+HasHeader g frames i = holds_header (kind g.watched.page) (packets_of_frame frames i) ≡ true
 
 -- After n frames of the list, at the end of frame f of the day, the cell shows what is due.
-abbrev pub Shows : Task → Transmission → ℕ → ℕ → ℕ → ℕ → Type 0
-Shows g frames n f row column =
-    shown g.watched.page (joined frames n) row column ≡ cell (g.due f) row column
+abbrev pub ShowsDue : Task → Transmission → ℕ → ℕ → ℕ → ℕ → Type 0
+ShowsDue g frames n f row column =
+    shown g.watched.page (packets_before frames n) row column ≡ cell (g.due f) row column
 
 -- Of the frames of the day that end with f, as many as the repeat bound, one is before the first
 -- frame of the list, or has a header of the page.
@@ -87,4 +87,4 @@ IsCovered g frames n f =
 abbrev pub IsEnded : Task → Transmission → ℕ → Type 0
 IsEnded g frames n =
     IsTrue g.watched.complete
-    → IsFalse (is_open_after (kind g.watched.page) (joined frames n))
+    → IsFalse (is_open_after (kind g.watched.page) (packets_before frames n))

@@ -29,7 +29,7 @@ LawOfGood =
     → Good programme transmission options
     → Robust programme transmission options
 
--- A good transmission is robust to lost rows, by fates.
+-- A good transmission is robust to lost rows, by arrivals.
 abbrev pub LawOfGoodAndLoss : Type 0
 LawOfGoodAndLoss =
     (programme : ProgrammeValue) (transmission : Transmission) (options : OptionsValue)
@@ -43,9 +43,9 @@ LawOfGoodAndMarkedLoss =
     → Good programme transmission options
     → RobustToMarkedLoss programme transmission options
 
--- With nothing lost, robust to lost rows is robust, by fates.
-abbrev pub LawOfNothingLost : Type 0
-LawOfNothingLost =
+-- With nothing lost, robust to lost rows is robust, by arrivals.
+abbrev pub LawOfRobustWithNothingLost : Type 0
+LawOfRobustWithNothingLost =
     (programme : ProgrammeValue) (transmission : Transmission) (options : OptionsValue)
     → RobustWithNothingLost programme transmission options
     ↔ Robust programme transmission options

@@ -2,35 +2,35 @@
 use Rattle.std.specs.Prelude.{ℕ, Bool, List, Option, Some, map, All, IsTrue, IsFalse}
 use Rattle.std.specs.List.{AllZip, items_where_true}
 use Rattle.ttx_packet.specs.OneBit.{AreNear}
-use Rattle.ttx_page.specs.LostRows.{Arrives, arrived, IsHitOrLost, MayBeMarked, fates_of}
+use Rattle.ttx_page.specs.LostRows.{Arrives, arrived, IsHitOrLost, MayBeMarked, arrivals_of}
 use Rattle.ttx_page.specs.Receiver.{State, Hears}
 use Rattle.stl_rows.specs.Programme.{ProgrammeValue}
 use Rattle.sub_plan.specs.Options.{OptionsValue}
 use Rattle.sub_check.specs.Transmission.{Transmission, on_air}
 use Rattle.sub_check.specs.Robust.{IsListening, IsServed}
 
--- ---- by fates: beside each packet stands what was got of it, nothing where it was lost
+-- ---- by arrivals: beside each packet stands what was got of it, nothing where it was lost
 
--- From one start to one end, where these are the fates of the packets on air: every receiver is
+-- From one start to one end, where these are the arrivals of the packets on air: every receiver is
 -- served, and a space is excused where its byte was hit or its row was lost.
 abbrev pub IsRobustAt :
     ProgrammeValue → Transmission → OptionsValue → ℕ → ℕ → ℕ → List (Option (List ℕ)) → Type 0
-IsRobustAt programme transmission options g j f fates =
+IsRobustAt programme transmission options g j f arrivals =
     (old new : State)
     → IsListening transmission g j f
-    → AllZip Arrives (on_air transmission g j f) fates
+    → AllZip Arrives (on_air transmission g j f) arrivals
     → IsFalse old.heard
     → IsFalse old.is_open
-    → Hears options.page old (arrived fates) new
+    → Hears options.page old (arrived arrivals) new
     → IsServed programme options g f (on_air transmission g j f)
-    (IsHitOrLost options.page (on_air transmission g j f) fates) new
+    (IsHitOrLost options.page (on_air transmission g j f) arrivals) new
 
 -- A transmission robust to lost rows: wherever one starts and stops, and whatever becomes of the
 -- packets.
 abbrev pub RobustToLoss : ProgrammeValue → Transmission → OptionsValue → Type 0
 RobustToLoss programme transmission options =
-    (g j f : ℕ) (fates : List (Option (List ℕ)))
-    → IsRobustAt programme transmission options g j f fates
+    (g j f : ℕ) (arrivals : List (Option (List ℕ)))
+    → IsRobustAt programme transmission options g j f arrivals
 
 -- ---- by marks: beside each packet stands true where it is kept, and false where it is lost
 
@@ -47,7 +47,7 @@ IsRobustWithMarks programme transmission options g j f marks =
     → IsFalse old.is_open
     → Hears options.page old got new
     → IsServed programme options g f (on_air transmission g j f)
-    (IsHitOrLost options.page (on_air transmission g j f) (fates_of marks got)) new
+    (IsHitOrLost options.page (on_air transmission g j f) (arrivals_of marks got)) new
 
 -- A transmission robust to lost rows, by marks: wherever one starts and stops, and whatever the
 -- marks.
@@ -58,7 +58,7 @@ RobustToMarkedLoss programme transmission options =
 
 -- ---- with nothing lost
 
--- Robust to lost rows where no packet is lost, by fates.
+-- Robust to lost rows where no packet is lost, by arrivals.
 abbrev pub RobustWithNothingLost : ProgrammeValue → Transmission → OptionsValue → Type 0
 RobustWithNothingLost programme transmission options =
     (g j f : ℕ) (got : List (List ℕ))

@@ -4,7 +4,7 @@ use Rattle.std.specs.Prelude.{◌≡◌, ℕ, ◌≤◌, ◌⊎◌, Bool, List, 
 use Rattle.std.specs.List.{AllZip, items_where_true}
 use Rattle.ttx_packet.specs.OneBit.{AreNear}
 use Rattle.ttx_page.specs.DroppedRows.{SomewhereInRow}
-use Rattle.ttx_page.specs.LostRows.{IsHitOrLost, MayBeMarked, fates_of}
+use Rattle.ttx_page.specs.LostRows.{IsHitOrLost, MayBeMarked, arrivals_of}
 use Rattle.ttx_page.specs.Page.{Rows, space, cell, IsCell}
 use Rattle.ttx_page.specs.PacketKind.{kind}
 use Rattle.ttx_page.specs.Screen.{Display, Shows, ShowsDropping}
@@ -54,7 +54,7 @@ Shown programme transmission options =
     → Shows options.page old got new
     → IsTrue (holds_header (kind options.page) (on_air transmission g j f))
     → HasDuePage programme f
-    (IsHitOrLost options.page (on_air transmission g j f) (fates_of marks got)) new.screen
+    (IsHitOrLost options.page (on_air transmission g j f) (arrivals_of marks got)) new.screen
 
 -- Shown by receivers that drop rows: a space is excused where any byte of its row was hit, or the
 -- row lost.
@@ -67,7 +67,7 @@ ShownForDropping programme transmission options =
     → ShowsDropping options.page old got new
     → IsTrue (holds_header (kind options.page) (on_air transmission g j f))
     → HasDuePage programme f
-    (SomewhereInRow (IsHitOrLost options.page (on_air transmission g j f) (fates_of marks got)))
+    (SomewhereInRow (IsHitOrLost options.page (on_air transmission g j f) (arrivals_of marks got)))
     new.screen
 
 -- A good transmission of complete pages is shown.

@@ -64,10 +64,10 @@ ReadsAs origin given bytes frames unread =
 
 -- After `given` PES packets no frame is read of the bytes: they are at their end, or no PES
 -- packet begins them, by this fault, or one does whose PTS is that of no frame of the day.
-abbrev pub EndsAs : ℕ → ℕ → List ℕ → Option Unread → Type 0
-EndsAs origin given bytes None = answer_at given bytes ≡ Ok None
-EndsAs origin given bytes (Some (BadPacket f)) = answer_at given bytes ≡ Err f
-EndsAs origin given bytes (Some NoFrame) =
+abbrev pub EndsReading : ℕ → ℕ → List ℕ → Option Unread → Type 0
+EndsReading origin given bytes None = answer_at given bytes ≡ Ok None
+EndsReading origin given bytes (Some (BadPacket f)) = answer_at given bytes ≡ Err f
+EndsReading origin given bytes (Some NoFrame) =
     (v : PesValue)
     × (answer_at given bytes ≡ Ok (Some v))
     × ((frame : ℕ) → frame < frames_of_day → pts_of origin frame ≢ v.pts)

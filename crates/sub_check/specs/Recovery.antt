@@ -4,7 +4,7 @@ use Rattle.std.specs.Prelude.{◌≡◌, ℕ, ◌+◌, ◌≤◌, ◌⊎◌, Boo
 use Rattle.std.specs.List.{AllZip, items_where_true}
 use Rattle.ttx_packet.specs.OneBit.{AreNear}
 use Rattle.ttx_page.specs.DroppedRows.{SomewhereInRow}
-use Rattle.ttx_page.specs.LostRows.{IsHitOrLost, MayBeMarked, fates_of}
+use Rattle.ttx_page.specs.LostRows.{IsHitOrLost, MayBeMarked, arrivals_of}
 use Rattle.ttx_page.specs.Page.{space, cell, IsCell}
 use Rattle.ttx_page.specs.PacketKind.{kind}
 use Rattle.ttx_page.specs.Receiver.{State, Hears, HearsDropping}
@@ -51,7 +51,7 @@ Recovers programme transmission options =
     → AllZip AreNear (items_where_true marks (on_air transmission g j f)) got
     → Hears options.page old got new
     → IsRestored programme options g f (on_air transmission g j f)
-    (IsHitOrLost options.page (on_air transmission g j f) (fates_of marks got)) new
+    (IsHitOrLost options.page (on_air transmission g j f) (arrivals_of marks got)) new
 
 -- A transmission from which receivers that drop rows recover: a space is excused where any byte of
 -- its row was hit, or the row lost.
@@ -63,7 +63,8 @@ RecoversForDropping programme transmission options =
     → AllZip AreNear (items_where_true marks (on_air transmission g j f)) got
     → HearsDropping options.page old got new
     → IsRestored programme options g f (on_air transmission g j f)
-    (SomewhereInRow (IsHitOrLost options.page (on_air transmission g j f) (fates_of marks got))) new
+    (SomewhereInRow (IsHitOrLost options.page (on_air transmission g j f) (arrivals_of marks got)))
+    new
 
 -- Receivers recover from anything by a good transmission.
 -- So what was on the air before, and what noise made of it, is over with the next header.

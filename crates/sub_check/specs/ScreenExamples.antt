@@ -4,7 +4,8 @@ use Rattle.ttx_page.specs.Page.{Rows, blank}
 use Rattle.ttx_page.specs.Screen.{Display, Shows}
 use Rattle.stl_rows.specs.Programme.{ProgrammeValue}
 use Rattle.sub_plan.specs.Options.{OptionsValue}
-use Rattle.sub_check.specs.Examples.{page_888, header_888, row_22, closing, one_frame, each}
+use Rattle.sub_plan.specs.Examples.{page_888}
+use Rattle.sub_check.specs.Examples.{header_888, row_22, closing, one_frame, each}
 use Rattle.sub_check.specs.Examples.{no_subtitles}
 use Rattle.sub_check.specs.Good.{Good}
 use Rattle.sub_check.specs.OnScreen.{Complete, Shown}

@@ -6,7 +6,7 @@ ghost use Rattle.std.specs.Prelude.{Some, nat_lt, true};
 ghost use Rattle.stl_rows.specs.DuePage.{TellsNextEdge};
 ghost use Rattle.sub_check.specs.Checking.{IsRuleFault};
 ghost use Rattle.sub_check.specs.FirstBroken.{NamesFirst, packet_fault};
-ghost use Rattle.sub_check.specs.FrameRules.{Task, frame_at, packets_at};
+ghost use Rattle.sub_check.specs.FrameRules.{Task, frame_at, packets_of_frame};
 ghost use Rattle.sub_plan.specs.Schedule.{due_in};
 ghost use Rattle.sub_check.specs.PacketRules.{packets_of_units};
 ghost use Rattle.sub_check.specs.Transmission.{Transmission};
@@ -130,7 +130,7 @@ impl Checker {
         ensures exact { (g : Task) (frames : Transmission) (n : ℕ)
             → IsTaskOf g programme.now every → Follows g frames n self.old
             → IsSentFrame frames n sending.frame (packets_of_units units.now)
-            → (sending.again ≡ true → packets_at frames (n - 1) ≡ packets_of_units units.now)
+            → (sending.again ≡ true → packets_of_frame frames (n - 1) ≡ packets_of_units units.now)
             → OrderOk g frames n → GapOk g frames n
             → MatchResult result (λ _. Follows g frames (n + 1) self.new) (NamesFirst g frames) }
     {
@@ -181,7 +181,8 @@ impl Checker {
         ensures exact { (g : Task) (frames : Transmission)
             → IsTaskOf g programme.now every → Follows g frames pes self.old
             → IsSentFrame frames pes sending.frame (packets_of_units units.now)
-            → (sending.again ≡ true → packets_at frames (pes - 1) ≡ packets_of_units units.now)
+            → (sending.again ≡ true
+            → packets_of_frame frames (pes - 1) ≡ packets_of_units units.now)
             → MatchResult result (λ _. Follows g frames (pes + 1) self.new) (NamesFirst g frames) }
     {
         if sending.frame <= self.frame {

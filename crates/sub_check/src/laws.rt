@@ -2,7 +2,7 @@
 //!
 //! The functions do nothing: the contract of each is a law over the definitions of `specs/`.
 ghost use Rattle.sub_check.specs.Laws.{LawOfGood, LawOfGoodAndLoss, LawOfGoodAndMarkedLoss};
-ghost use Rattle.sub_check.specs.Laws.{LawOfAllKept, LawOfNothingLost, LawOfWindow};
+ghost use Rattle.sub_check.specs.Laws.{LawOfAllKept, LawOfRobustWithNothingLost, LawOfWindow};
 ghost use Rattle.sub_check.specs.PesReading.{LawOfPesFiles};
 ghost use Rattle.sub_check.specs.Planned.{LawOfPlan, LawOfPlanRead};
 ghost use Rattle.sub_check.specs.Rules.{LawOfRules};
@@ -41,7 +41,7 @@ pub fn law_of_good_and_marked_loss()
 
 /// With nothing lost, robust to lost rows is robust.
 pub fn law_of_nothing_lost()
-    ensures { LawOfNothingLost }
+    ensures { LawOfRobustWithNothingLost }
 {}
 
 /// With all packets marked as kept, robust to lost rows is robust.

@@ -1,7 +1,7 @@
 //! A file of std that is written, and closed before its value ends.
 
 ghost use Rattle.std.specs.Prelude.{◌≡◌, ◌+◌, ◌<◌, ◌≤◌, IfOk, IsErr, None, Option, Some, length};
-ghost use Rattle.sub_io.specs.Counted.{Counted};
+ghost use Rattle.sub_io.specs.Counted.{Counted, told_while_open};
 ghost use Rattle.sub_io.specs.Device.{CanFail, CountsFailure, Pushes};
 
 use crate::{Close, Failed, Sink};
@@ -13,8 +13,7 @@ use std::marker::Model;
 /// Each error of the writer is a failure, `Interrupted` too, and so is a write that takes no byte
 /// and each push once it is closed.
 ///
-/// Contracts see it as the writer, until it is closed, and its count of failures. What a file has
-/// taken is not told.
+/// Contracts see it as the writer, until it is closed, and its count of failures.
 #[derive(Drop)]
 pub struct IntoFile<W> {
     inner: Option<W>,
@@ -40,7 +39,7 @@ impl<W: Write> IntoFile<W> {
 }
 
 impl<W: Write> Sink for IntoFile<W> {
-    ghost contents = { λ _. None };
+    ghost contents = { λ s. told_while_open W.contents s.device };
 
     ghost failure_count = { λ s. s.failure_count };
 
@@ -55,7 +54,8 @@ impl<W: Write> Sink for IntoFile<W> {
         ensures closed { self.old.device ≡ None → IsErr result × (self.new.device ≡ None) }
         ensures some { IfOk result (λ n. 0 < n) }
         ensures bound { IfOk result (λ n. n ≤ length from.now) }
-        ensures bytes { Pushes None None from.now result }
+        ensures bytes { Pushes (told_while_open W.contents self.old.device)
+            (told_while_open W.contents self.new.device) from.now result }
         ensures count { CountsFailure self.old.failure_count result self.new.failure_count }
     {
         let Some(writer) = &mut self.inner else {

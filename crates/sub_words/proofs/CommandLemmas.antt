@@ -19,7 +19,8 @@ use Rattle.clap.specs.declared.parser.matches.ArgMatches.{ArgMatches}
 use Rattle.clap.specs.declared.parser.matches.ArgMatches.TheViews.{out-SubCommand}
 use Rattle.clap.specs.declared.parser.matches.SubCommand.{SubCommand}
 use Rattle.clap.proofs.OnLiterals.{clap_on_literals}
-use Rattle.sub_words.specs.Commands.{are_sound, command_in, command_names, refusals, subttx_app}
+use Rattle.sub_words.specs.Commands.{are_sound, command_in, command_names, clap_refusals}
+use Rattle.sub_words.specs.Commands.{subttx_app}
 use Rattle.sub_words.specs.Requests.{IsOneOf}
 
 -- the exactness of the matches is promised of a simple command, as the program's is
@@ -75,10 +76,10 @@ subcommand_given app words required e =
 
 -- words that `clap` takes give a command: for the answer of `parse`
 pub command_in-taken : (words : List Text)
-    → refusals words ≡ []
+    → clap_refusals words ≡ []
     → command_in words ≡ None
     → ⊥
-unfolding subttx_app refusals command_in
+unfolding subttx_app clap_refusals command_in
 command_in-taken words taken none =
     let there = subcommand_given subttx_app words refl taken in
     let missing : is_some (subcommand_of subttx_app words) ≡ false = ap is_some none in
@@ -133,8 +134,8 @@ command_in-parsed app words m is_program has =
 pub refusals-parsed : (app : App) (words : List Text) (m : ArgMatches)
     → app ≡ subttx_app
     → (is_simple_and_free app ≡ true → FailsBy {T = ArgMatches} (fault_of app words) (Ok m))
-    → refusals words ≡ []
-unfolding refusals
+    → clap_refusals words ≡ []
+unfolding clap_refusals
 refusals-parsed app words m is_program fails =
     let P : App → Type 0 = λ a. is_simple_and_free a ≡ true → fault_of a words ≡ [] in
     subst P is_program fails is_free-subttx
@@ -155,8 +156,8 @@ pub IsFaultOf-refused : (app : App) (words : List Text) (e : Error)
     → (is_simple_and_free app ≡ true → FailsBy {T = ArgMatches} (fault_of app words) (Err e))
     → (takes app words ≡ true → kind_of e ≡ OutOfMemory)
     → kind_of e ≢ OutOfMemory
-    → (refusals words ≢ []) × (are_sound words ≢ true)
-unfolding refusals are_sound
+    → (clap_refusals words ≢ []) × (are_sound words ≢ true)
+unfolding clap_refusals are_sound
 IsFaultOf-refused app words e is_program fails passes other =
     let P : App → Type 0 = λ a. is_simple_and_free a ≡ true → HasKind (fault_of a words) e in
     let Q : App → Type 0 = λ a. takes a words ≡ true → kind_of e ≡ OutOfMemory in (

@@ -16,12 +16,12 @@ use Rattle.sub_answer.specs.declared.request.UsageFault.{UsageFault}
 use Rattle.sub_answer.specs.declared.request.UsageFault.TheVariants as fault
 
 -- The text of an argument, defaults included.
-abbrev pub text_of : Text → List Row → Text
-text_of id rows = unwrap_or (first_of id rows) []
+abbrev pub argument : Text → List Row → Text
+argument id rows = unwrap_or (first_of id rows) []
 
 -- Whether a flag is set. `clap` keeps the text `true` or `false` for it.
-abbrev pub is_set : Text → List Row → Bool
-is_set id rows = bytes_eq (text_of id rows) (codes "true")
+abbrev pub is_given : Text → List Row → Bool
+is_given id rows = bytes_eq (argument id rows) (codes "true")
 
 -- A number that is neither below nor above what is allowed.
 abbrev pub within : ℕ → ℕ → Option ℕ → Option ℕ
@@ -38,19 +38,19 @@ options_with page every origin = do
 
 -- The page of `--page P`.
 abbrev pub page_of : List Row → Result PageIdValue UsageFault
-page_of rows = ok_or (page_of_text (text_of (codes "page") rows)) fault.BadPage
+page_of rows = ok_or (page_of_text (argument (codes "page") rows)) fault.BadPage
 
 -- `[--page P] [--every N] [--origin T]`
 abbrev pub options_of : List Row → Result OptionsValue UsageFault
 options_of rows = do
   page ← page_of rows
-  options_with page (number_of_text (text_of (codes "every") rows))
-      (number_of_text (text_of (codes "origin") rows))
+  options_with page (number_of_text (argument (codes "every") rows))
+      (number_of_text (argument (codes "origin") rows))
 
 -- `[--complete]`: the options also ask for complete pages where the flag is set.
 abbrev pub asking_of : List Row → OptionsValue → OptionsValue
 asking_of rows options =
-    if is_set (codes "complete") rows then record options { asks_complete = true } else options
+    if is_given (codes "complete") rows then record options { asks_complete = true } else options
 
 -- `[--page P] [--every N] [--origin T] [--complete]`
 abbrev pub checking_of : List Row → Result OptionsValue UsageFault
@@ -66,7 +66,7 @@ national_of_text text =
 
 -- `[--option O]`
 abbrev pub national_of : List Row → Result National UsageFault
-national_of rows = ok_or (national_of_text (text_of (codes "option") rows)) fault.BadOption
+national_of rows = ok_or (national_of_text (argument (codes "option") rows)) fault.BadOption
 
 -- ---- the arguments of `listen`
 
@@ -74,16 +74,16 @@ national_of rows = ok_or (national_of_text (text_of (codes "option") rows)) faul
 abbrev pub tuning_of : List Row → Result OptionsValue UsageFault
 tuning_of rows = do
   page ← page_of rows
-  options ← options_with page (Some 1) (number_of_text (text_of (codes "origin") rows))
+  options ← options_with page (Some 1) (number_of_text (argument (codes "origin") rows))
   Ok (asking_of rows options)
 
 -- `--at TIME`
 abbrev pub time_of : List Row → Result ℕ UsageFault
-time_of rows = ok_or (frame_of_text (text_of (codes "at") rows)) fault.BadTime
+time_of rows = ok_or (frame_of_text (argument (codes "at") rows)) fault.BadTime
 
 -- `[--skip N]`
 abbrev pub skip_of : List Row → Result ℕ UsageFault
-skip_of rows = ok_or (number_of_text (text_of (codes "skip") rows)) fault.BadSkip
+skip_of rows = ok_or (number_of_text (argument (codes "skip") rows)) fault.BadSkip
 
 -- What the text of a list says. An option that is left out stands for the empty list, and one with
 -- an empty text does not.
@@ -101,4 +101,4 @@ lost_of rows = ok_or (said_if_given numbers_of_text (first_of (codes "lose") row
 
 -- `[--receiver R]`
 abbrev pub receiver_of : List Row → Result ReceiverKind UsageFault
-receiver_of rows = ok_or (receiver_of_text (text_of (codes "receiver") rows)) fault.BadReceiver
+receiver_of rows = ok_or (receiver_of_text (argument (codes "receiver") rows)) fault.BadReceiver

@@ -113,8 +113,8 @@ subttx_app = with_subcommand (with_makers (with_listings bare_app)) listen_app.t
 
 -- What `clap`'s contract says of words, as functions of them. The kinds of its refusal: none where
 -- it takes the words.
-unfoldable pub refusals : List Text → Kinds
-refusals words = fault_of subttx_app words
+unfoldable pub clap_refusals : List Text → Kinds
+clap_refusals words = fault_of subttx_app words
 
 -- The command that the words name, with its arguments as rows.
 unfoldable pub command_in : List Text → Option (Text × List Row)

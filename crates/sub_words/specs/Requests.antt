@@ -7,9 +7,10 @@ use Rattle.clap.specs.Words.{Text, Row}
 use Rattle.hex.specs.Hex.{decode_sized}
 use Rattle.stl_rows.specs.declared.national.National.{National}
 use Rattle.sub_plan.specs.Options.{OptionsValue}
-use Rattle.sub_words.specs.Arguments.{checking_of, flips_of, is_set, lost_of, national_of}
-use Rattle.sub_words.specs.Arguments.{options_of, receiver_of, skip_of, text_of, time_of, tuning_of}
-use Rattle.sub_words.specs.Commands.{are_sound, command_in, refusals}
+use Rattle.sub_words.specs.Arguments.{checking_of, flips_of, is_given, lost_of, national_of}
+use Rattle.sub_words.specs.Arguments.{options_of, receiver_of, skip_of, argument, time_of}
+use Rattle.sub_words.specs.Arguments.{tuning_of}
+use Rattle.sub_words.specs.Commands.{are_sound, command_in, clap_refusals}
 use Rattle.sub_answer.specs.declared.listening.Listening.{Listening}
 use Rattle.sub_answer.specs.declared.request.Request.{Request}
 use Rattle.sub_answer.specs.declared.request.Request.TheVariants as ask
@@ -26,7 +27,7 @@ first_fault (Some fault ∷ rest) = Some fault
 
 -- HEX is 84 digits, of either case.
 abbrev pub hex_fault : List Row → Option UsageFault
-hex_fault rows = if is_ok (decode_sized (text_of (codes "hex") rows) 42) then None
+hex_fault rows = if is_ok (decode_sized (argument (codes "hex") rows) 42) then None
     else Some fault.BadHex
 
 -- The file to be written has another name than the input.
@@ -40,12 +41,12 @@ packet_faults rows = hex_fault rows ∷ []
 -- Of `normal`: equal names.
 abbrev pub normal_faults : List Row → List (Option UsageFault)
 normal_faults rows =
-    same_file_fault (text_of (codes "in") rows) (text_of (codes "out") rows) ∷ []
+    same_file_fault (argument (codes "in") rows) (argument (codes "out") rows) ∷ []
 
 -- Of `schedule`: equal names, the page, the repeat bound, the origin, the national option.
 abbrev pub schedule_faults : List Row → List (Option UsageFault)
 schedule_faults rows =
-    same_file_fault (text_of (codes "stl") rows) (text_of (codes "pes") rows)
+    same_file_fault (argument (codes "stl") rows) (argument (codes "pes") rows)
     ∷ result_err (options_of rows) ∷ result_err (national_of rows) ∷ []
 
 -- Of `check`: the same without equal names.
@@ -96,8 +97,8 @@ pub record HoldsPair
     (rows : List Row) (asked : Result OptionsValue UsageFault)
     (stl pes : Text) (options : OptionsValue) (national : National)
     : Type 0 where
-  pub stl_is : stl ≡ text_of (codes "stl") rows
-  pub pes_is : pes ≡ text_of (codes "pes") rows
+  pub stl_is : stl ≡ argument (codes "stl") rows
+  pub pes_is : pes ≡ argument (codes "pes") rows
   pub options_are : asked ≡ Ok options
   pub national_is : national_of rows ≡ Ok national
 
@@ -112,18 +113,18 @@ pub record HoldsListening (rows : List Row) (l : Listening) : Type 0 where
 
 -- The request holds the values of its command's arguments.
 abbrev pub Holds : List Row → Request → Type 0
-Holds rows (ask.Packet bytes) = decode_sized (text_of (codes "hex") rows) 42 ≡ Ok bytes
-Holds rows (ask.Packets pes) = pes.now ≡ text_of (codes "pes") rows
-Holds rows (ask.Show stl) = stl.now ≡ text_of (codes "stl") rows
+Holds rows (ask.Packet bytes) = decode_sized (argument (codes "hex") rows) 42 ≡ Ok bytes
+Holds rows (ask.Packets pes) = pes.now ≡ argument (codes "pes") rows
+Holds rows (ask.Show stl) = stl.now ≡ argument (codes "stl") rows
 Holds rows (ask.Normal input output) =
-    (input.now ≡ text_of (codes "in") rows) × (output.now ≡ text_of (codes "out") rows)
+    (input.now ≡ argument (codes "in") rows) × (output.now ≡ argument (codes "out") rows)
 Holds rows (ask.Schedule stl pes options serial national) =
     HoldsPair rows (options_of rows) stl.now pes.now options national
-    × (serial ≡ is_set (codes "serial") rows)
+    × (serial ≡ is_given (codes "serial") rows)
 Holds rows (ask.Check stl pes options national) =
     HoldsPair rows (checking_of rows) stl.now pes.now options national
 Holds rows (ask.Listen pes listening) =
-    (pes.now ≡ text_of (codes "pes") rows) × HoldsListening rows listening
+    (pes.now ≡ argument (codes "pes") rows) × HoldsListening rows listening
 
 -- The request is that of a command and its arguments.
 pub record IsRequestBy (name : Text) (rows : List Row) (request : Request) : Type 0 where
@@ -145,7 +146,7 @@ IsFaultOrMemory name rows other = IsFaultBy name rows other
 
 -- `clap` takes the words, and they give this command these arguments.
 pub record Names (words : List Text) (name : Text) (rows : List Row) : Type 0 where
-  pub taken : refusals words ≡ []
+  pub taken : clap_refusals words ≡ []
   pub command : command_in words ≡ Some (name, rows)
 
 -- The request is the one that the words ask for.
@@ -165,7 +166,7 @@ pub record Breaks (words : List Text) (fault : UsageFault) : Type 0 where
 -- The fault is one that the words have: `clap` refuses them, or they break the program's own rule.
 -- Want of memory says nothing of the words, and no file is opened by reading them.
 abbrev pub IsFaultOf : List Text → UsageFault → Type 0
-IsFaultOf words fault.Words = (refusals words ≢ []) × (are_sound words ≢ true)
+IsFaultOf words fault.Words = (clap_refusals words ≢ []) × (are_sound words ≢ true)
 IsFaultOf words fault.Memory = ⊤
 IsFaultOf words fault.Open = ⊥
 IsFaultOf words own = Breaks words own

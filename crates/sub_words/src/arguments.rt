@@ -1,8 +1,8 @@
 //! The arguments of a command, read one by one.
 ghost use Rattle.std.specs.Prelude.{◌≡◌, codes};
 ghost use Rattle.clap.specs.Words.{found_of, rows_of};
-ghost use Rattle.sub_words.specs.Arguments.{asking_of, checking_of, is_set, national_of};
-ghost use Rattle.sub_words.specs.Arguments.{options_of, options_with, page_of, text_of};
+ghost use Rattle.sub_words.specs.Arguments.{asking_of, checking_of, is_given, national_of};
+ghost use Rattle.sub_words.specs.Arguments.{options_of, options_with, page_of, argument};
 
 use crate::numbers::parse_number;
 use clap::ArgMatches;
@@ -13,7 +13,7 @@ use ttx_packet::PageId;
 
 /// The text of an argument, defaults included.
 pub fn text_at<'a>(matches: &ArgMatches<'a>, id: &str) -> &'a str
-    ensures { result.now ≡ text_of id.now (rows_of (found_of matches.now)) }
+    ensures { result.now ≡ argument id.now (rows_of (found_of matches.now)) }
 {
     match matches.get_str(id) {
         Some(text) => text,
@@ -23,7 +23,7 @@ pub fn text_at<'a>(matches: &ArgMatches<'a>, id: &str) -> &'a str
 
 /// Whether a flag is set. `clap` keeps the text `true` or `false` for it.
 pub fn flag_at<'a>(matches: &ArgMatches<'a>, id: &str) -> bool
-    ensures { result ≡ is_set id.now (rows_of (found_of matches.now)) }
+    ensures { result ≡ is_given id.now (rows_of (found_of matches.now)) }
 {
     text_at(matches, id) == "true"
 }

@@ -1,7 +1,7 @@
 //! The words of the command line, read as a request.
 ghost use Rattle.std.specs.Prelude.{◌≡◌, [], IfErr, IfOk, OnOk, option_map};
 ghost use Rattle.clap.specs.Words.{found_of, rows_of, subcommand_rows_of};
-ghost use Rattle.sub_words.specs.Commands.{command_in, refusals, texts_of};
+ghost use Rattle.sub_words.specs.Commands.{command_in, clap_refusals, texts_of};
 ghost use Rattle.sub_words.specs.Requests.{AsksFor, IsFaultOf};
 
 use crate::command::subttx_command;
@@ -44,7 +44,7 @@ impl<'a> ParseWords<'a> for Request<'a> {
 // The matches that `clap` gives for the words.
 fn matches_of<'a>(alloc: Global, words: &'a [&'a str]) -> Result<ArgMatches<'a>, UsageFault>
     ensures command { IfOk result (λ m. subcommand_rows_of m ≡ command_in (texts_of words.now)) }
-    ensures taken { OnOk result (refusals (texts_of words.now) ≡ []) }
+    ensures taken { OnOk result (clap_refusals (texts_of words.now) ≡ []) }
     ensures fault { IfErr result (IsFaultOf (texts_of words.now)) }
 {
     let Ok(command) = subttx_command(alloc) else {

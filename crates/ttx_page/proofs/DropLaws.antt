@@ -18,7 +18,7 @@ use Rattle.ttx_page.specs.PacketKind.{kind, kind_at, kind_of_header, is_some_row
 use Rattle.ttx_page.specs.Receiver.{State, Step, Hears, is_dropped, StepDropping, HearsDropping}
 use Rattle.ttx_page.specs.Span.{span}
 use Rattle.ttx_page.specs.Noise.{IsOddRow}
-use Rattle.ttx_page.specs.LostRows.{MayBeLost, Arrives, arrived, IsHurt, IsHitOrLost}
+use Rattle.ttx_page.specs.LostRows.{MayBeLost, Arrives, arrived, LosesByte, IsHitOrLost}
 use Rattle.ttx_page.specs.DroppedRows.{without_dropped, LawOfDropping, SomewhereInRow}
 use Rattle.ttx_page.specs.DroppedRows.{LawOfDroppedRows}
 use Rattle.ttx_page.specs.Recovery.{LawOfDroppingRecovery}
@@ -87,35 +87,35 @@ HearsDropping-push w (p ∷ ps) packet old mid new run step =
 
 -- ---- a dropped row is a lost one
 
--- The fate of a packet where rows are dropped.
-abbrev pub fate_of : PageIdValue → Option (List ℕ) → Option (List ℕ)
-fate_of w None = None
-fate_of w (Some got) = cond (is_dropped w got) None (Some got)
+-- The arrival of a packet where rows are dropped.
+abbrev pub arrival_of : PageIdValue → Option (List ℕ) → Option (List ℕ)
+arrival_of w None = None
+arrival_of w (Some got) = cond (is_dropped w got) None (Some got)
 
--- What arrives by these fates is what arrived, without the dropped rows.
-arrived-map_fate_of :
-    (w : PageIdValue) (fates : List (Option (List ℕ)))
-    → arrived (map (fate_of w) fates) ≡ without_dropped w (arrived fates)
-arrived-map_fate_of w [] = refl
-arrived-map_fate_of w (None ∷ os) = arrived-map_fate_of w os
-arrived-map_fate_of w (Some got ∷ os) = go (is_dropped w got) (arrived-map_fate_of w os)
+-- What arrives by these arrivals is what arrived, without the dropped rows.
+arrived-map_arrival_of :
+    (w : PageIdValue) (arrivals : List (Option (List ℕ)))
+    → arrived (map (arrival_of w) arrivals) ≡ without_dropped w (arrived arrivals)
+arrived-map_arrival_of w [] = refl
+arrived-map_arrival_of w (None ∷ os) = arrived-map_arrival_of w os
+arrived-map_arrival_of w (Some got ∷ os) = go (is_dropped w got) (arrived-map_arrival_of w os)
   where
     go :
         (b : Bool)
-        → arrived (map (fate_of w) os) ≡ without_dropped w (arrived os)
-        → arrived (cond b None (Some got) ∷ map (fate_of w) os)
+        → arrived (map (arrival_of w) os) ≡ without_dropped w (arrived os)
+        → arrived (cond b None (Some got) ∷ map (arrival_of w) os)
         ≡ cond (not b) (got ∷ without_dropped w (arrived os)) (without_dropped w (arrived os))
     go true e = e
     go false e = ap (λ ps. got ∷ ps) e
 
--- A run that drops rows is one over what arrives by these fates.
+-- A run that drops rows is one over what arrives by these arrivals.
 pub hears_arrived :
-    (w : PageIdValue) (fates : List (Option (List ℕ))) (old new : State)
-    → HearsDropping w old (arrived fates) new
-    → Hears w old (arrived (map (fate_of w) fates)) new
-hears_arrived w fates old new run =
-    subst (λ ps. Hears w old ps new) (sym (arrived-map_fate_of w fates))
-    (left_out w (arrived fates) old new run)
+    (w : PageIdValue) (arrivals : List (Option (List ℕ))) (old new : State)
+    → HearsDropping w old (arrived arrivals) new
+    → Hears w old (arrived (map (arrival_of w) arrivals)) new
+hears_arrived w arrivals old new run =
+    subst (λ ps. Hears w old ps new) (sym (arrived-map_arrival_of w arrivals))
+    (left_out w (arrived arrivals) old new run)
 
 -- A packet X/0 is no row.
 no_row_of_header :
@@ -154,10 +154,10 @@ row_may_be_lost w packet row a is zero_number =
 
 -- Where rows are dropped, no page header is lost.
 pub arrives_dropped :
-    (w : PageIdValue) (sent : List (List ℕ)) (fates : List (Option (List ℕ)))
+    (w : PageIdValue) (sent : List (List ℕ)) (arrivals : List (Option (List ℕ)))
     → AllByRecursion HasExactWords sent
-    → AllZip Arrives sent fates
-    → AllZip Arrives sent (map (fate_of w) fates)
+    → AllZip Arrives sent arrivals
+    → AllZip Arrives sent (map (arrival_of w) arrivals)
 arrives_dropped w [] [] exact near = tt
 arrives_dropped w [] (o ∷ os) exact near = elim near [ ]
 arrives_dropped w (p ∷ ps) [] exact near = elim near [ ]
@@ -200,24 +200,25 @@ even_byte_of packet some = go (first_even_byte packet) refl some
 
 -- An item where rows are dropped.
 abbrev dropped_item : PageIdValue → Item → Item
-dropped_item w item = (item.0, fate_of w item.1)
+dropped_item w item = (item.0, arrival_of w item.1)
 
--- A packet that is hurt where rows are dropped is hurt at some column of its row.
-hurt_in_row :
-    (w : PageIdValue) (row column : ℕ) (sent : List ℕ) (fate : Option (List ℕ))
+-- Where rows are dropped, a packet that loses a byte has lost one at some column of its row.
+lost_byte_in_row :
+    (w : PageIdValue) (row column : ℕ) (sent : List ℕ) (arrival : Option (List ℕ))
     → column < 40
     → IsOddRow w sent
     → kind w sent ≡ Row row
-    → IsHurt sent (fate_of w fate) column
-    → (other : ℕ) × (other < 40) × IsHurt sent fate other
-hurt_in_row w row column sent None below odd is hurt = (column, below, tt)
-hurt_in_row w row column sent (Some got) below odd is hurt = go (is_dropped w got) refl hurt
+    → LosesByte sent (arrival_of w arrival) column
+    → (other : ℕ) × (other < 40) × LosesByte sent arrival other
+lost_byte_in_row w row column sent None below odd is lost_byte = (column, below, tt)
+lost_byte_in_row w row column sent (Some got) below odd is lost_byte =
+    go (is_dropped w got) refl lost_byte
   where
     go :
         (b : Bool)
         → is_dropped w got ≡ b
-        → IsHurt sent (cond b None (Some got)) column
-        → (other : ℕ) × (other < 40) × IsHurt sent (Some got) other
+        → LosesByte sent (cond b None (Some got)) column
+        → (other : ℕ) × (other < 40) × LosesByte sent (Some got) other
     go true e h =
         let even = even_byte_of got (and_parts _ _ e).1 in (
           even.0,
@@ -228,28 +229,28 @@ hurt_in_row w row column sent (Some got) below odd is hurt = go (is_dropped w go
     go false e h = (column, below, h)
 
 -- The items, where rows are dropped.
-zip-map_fate_of :
-    (w : PageIdValue) (sent : List (List ℕ)) (fates : List (Option (List ℕ)))
-    → zip sent (map (fate_of w) fates) ≡ map (dropped_item w) (zip sent fates)
-zip-map_fate_of w [] os = refl
-zip-map_fate_of w (p ∷ ps) [] = refl
-zip-map_fate_of w (p ∷ ps) (o ∷ os) =
-    ap (λ xs. (p, fate_of w o) ∷ xs) (zip-map_fate_of w ps os)
+zip-map_arrival_of :
+    (w : PageIdValue) (sent : List (List ℕ)) (arrivals : List (Option (List ℕ)))
+    → zip sent (map (arrival_of w) arrivals) ≡ map (dropped_item w) (zip sent arrivals)
+zip-map_arrival_of w [] os = refl
+zip-map_arrival_of w (p ∷ ps) [] = refl
+zip-map_arrival_of w (p ∷ ps) (o ∷ os) =
+    ap (λ xs. (p, arrival_of w o) ∷ xs) (zip-map_arrival_of w ps os)
 
 -- A cell that is hit or lost where rows are dropped is in a row that is hit or lost.
 pub hit_in_row :
-    (w : PageIdValue) (sent : List (List ℕ)) (fates : List (Option (List ℕ))) (row column : ℕ)
-    → AllZip Arrives sent fates
+    (w : PageIdValue) (sent : List (List ℕ)) (arrivals : List (Option (List ℕ))) (row column : ℕ)
+    → AllZip Arrives sent arrivals
     → All (IsOddRow w) (span (kind w) sent)
     → column < 40
-    → IsHitOrLost w sent (map (fate_of w) fates) row column
-    → SomewhereInRow (IsHitOrLost w sent fates) row column
-hit_in_row w sent fates row column near odd below hit =
-    let items : List Item = zip sent fates in
+    → IsHitOrLost w sent (map (arrival_of w) arrivals) row column
+    → SomewhereInRow (IsHitOrLost w sent arrivals) row column
+hit_in_row w sent arrivals row column near odd below hit =
+    let items : List Item = zip sent arrivals in
     let spanned : List Item = span (kind_of_item w) items in
-    let same : span (kind_of_item w) (zip sent (map (fate_of w) fates))
+    let same : span (kind_of_item w) (zip sent (map (arrival_of w) arrivals))
     ≡ map (dropped_item w) spanned =
-    ap (span (kind_of_item w)) (zip-map_fate_of w sent fates)
+    ap (span (kind_of_item w)) (zip-map_arrival_of w sent arrivals)
     ∙ span-map (kind_of_item w) (dropped_item w) items in
     let at : Any (λ (x : Item). HitAt w row column (dropped_item w x)) spanned =
     Any-map (HitAt w row column) (dropped_item w) spanned
@@ -257,45 +258,45 @@ hit_in_row w sent fates row column near odd below hit =
     let odd_items : All (λ (x : Item). IsOddRow w (sent_of x)) spanned =
     All-from_recursion (λ (x : Item). IsOddRow w (sent_of x)) spanned
     (AllByRecursion-map (IsOddRow w) sent_of spanned
-    (subst (AllByRecursion (IsOddRow w)) (span-items w sent fates near)
+    (subst (AllByRecursion (IsOddRow w)) (span-items w sent arrivals near)
     (recursion_from_All (IsOddRow w) (span (kind w) sent) odd))) in
     let item : Item = at.1 in
     let odd_here : IsOddRow w item.0 =
     All-contains (λ (x : Item). IsOddRow w (sent_of x)) spanned item odd_items
     (at.0, at.2, at.3) in
-    let hurt = hurt_in_row w row column item.0 item.1 below odd_here at.4.0 at.4.1 in
-    (hurt.0, hurt.1, (at.0, item, at.2, at.3, (at.4.0, hurt.2)))
+    let lost_byte = lost_byte_in_row w row column item.0 item.1 below odd_here at.4.0 at.4.1 in
+    (lost_byte.0, lost_byte.1, (at.0, item, at.2, at.3, (at.4.0, lost_byte.2)))
 
 -- The law of dropped rows.
 pub law_of_dropped_rows : LawOfDroppedRows
-law_of_dropped_rows w sent fates old new sound near unheard shut hears =
+law_of_dropped_rows w sent arrivals old new sound near unheard shut hears =
     let ends =
-    law_of_lost_rows w sent (map (fate_of w) fates) old new sound
-    (arrives_dropped w sent fates (recursion_from_All _ sent sound.exact) near) unheard shut
-    (hears_arrived w fates old new hears) in
+    law_of_lost_rows w sent (map (arrival_of w) arrivals) old new sound
+    (arrives_dropped w sent arrivals (recursion_from_All _ sent sound.exact) near) unheard shut
+    (hears_arrived w arrivals old new hears) in
     record {
       heard = ends.heard;
       is_open = ends.is_open;
       cells = λ now_heard row column named. elim (ends.cells now_heard row column named) [
         | inl coded ↦ inl coded
         | inr hit ↦
-            inr (hit.0, hit_in_row w sent fates row column near sound.odd named.2 hit.1)
+            inr (hit.0, hit_in_row w sent arrivals row column near sound.odd named.2 hit.1)
       ];
     }
 
 -- The law of recovery, for receivers that drop rows.
 pub law_of_dropping_recovery : LawOfDroppingRecovery
-law_of_dropping_recovery w sent fates old new sound near holds hears =
+law_of_dropping_recovery w sent arrivals old new sound near holds hears =
     let ends =
-    law_of_recovery w sent (map (fate_of w) fates) old new sound
-    (arrives_dropped w sent fates (recursion_from_All _ sent sound.exact) near) holds
-    (hears_arrived w fates old new hears) in
+    law_of_recovery w sent (map (arrival_of w) arrivals) old new sound
+    (arrives_dropped w sent arrivals (recursion_from_All _ sent sound.exact) near) holds
+    (hears_arrived w arrivals old new hears) in
     record {
       heard = ends.heard;
       is_open = ends.is_open;
       cells = λ row column named. elim (ends.cells row column named) [
         | inl coded ↦ inl coded
         | inr hit ↦
-            inr (hit.0, hit_in_row w sent fates row column near sound.odd named.2 hit.1)
+            inr (hit.0, hit_in_row w sent arrivals row column near sound.odd named.2 hit.1)
       ];
     }

@@ -21,7 +21,7 @@ use Rattle.ttx_page.specs.Span.{holds_header, is_unended, after_last_header, spa
 use Rattle.ttx_page.specs.Shown.{shown, IsHit}
 use Rattle.ttx_page.specs.Noise.{ErasesPage, IsSameRow, IsSound, EndsAs, LawOfNoise, LawOfQuiet}
 use Rattle.ttx_page.specs.LostRows.{LawOfMarkedLoss, LawOfNothingLost, Arrives, arrived}
-use Rattle.ttx_page.specs.LostRows.{IsHitOrLost, LawOfLostRows, MayBeMarked, fates_of}
+use Rattle.ttx_page.specs.LostRows.{IsHitOrLost, LawOfLostRows, MayBeMarked, arrivals_of}
 use Rattle.ttx_page.specs.Recovery.{EndsAfresh, LawOfMarkedRecovery, LawOfRecovery}
 use Rattle.ttx_page.proofs.SpanLists.{Any-from_somewhere, Any-map, map-Any, find_is, find_none}
 use Rattle.ttx_page.proofs.SpanLists.{none_pass, AllByRecursion-map, list_any-map, after-map}
@@ -39,9 +39,9 @@ sent_of item = item.0
 
 -- The packets of the items are those that were sent.
 pub map-sent_of-zip :
-    (sent : List (List ℕ)) (fates : List (Option (List ℕ)))
-    → AllZip Arrives sent fates
-    → map sent_of (zip sent fates) ≡ sent
+    (sent : List (List ℕ)) (arrivals : List (Option (List ℕ)))
+    → AllZip Arrives sent arrivals
+    → map sent_of (zip sent arrivals) ≡ sent
 map-sent_of-zip [] [] near = refl
 map-sent_of-zip [] (o ∷ os) near = elim near [ ]
 map-sent_of-zip (p ∷ ps) [] near = elim near [ ]
@@ -49,10 +49,10 @@ map-sent_of-zip (p ∷ ps) (o ∷ os) near = ap (λ qs. p ∷ qs) (map-sent_of-z
 
 -- A run over what arrived is one over the items.
 goes_from :
-    (w : PageIdValue) (sent : List (List ℕ)) (fates : List (Option (List ℕ))) (old new : State)
-    → AllZip Arrives sent fates
-    → Hears w old (arrived fates) new
-    → GoesOn w old (zip sent fates) new
+    (w : PageIdValue) (sent : List (List ℕ)) (arrivals : List (Option (List ℕ))) (old new : State)
+    → AllZip Arrives sent arrivals
+    → Hears w old (arrived arrivals) new
+    → GoesOn w old (zip sent arrivals) new
 goes_from w [] [] old new near hears = hears
 goes_from w [] (o ∷ os) old new near hears = elim near [ ]
 goes_from w (p ∷ ps) [] old new near hears = elim near [ ]
@@ -63,10 +63,10 @@ goes_from w (p ∷ ps) (Some got ∷ os) old new near hears =
 
 -- The items of what arrives are fair.
 fair_from :
-    (w : PageIdValue) (sent : List (List ℕ)) (fates : List (Option (List ℕ)))
+    (w : PageIdValue) (sent : List (List ℕ)) (arrivals : List (Option (List ℕ)))
     → AllByRecursion HasExactWords sent
-    → AllZip Arrives sent fates
-    → AllFair w (zip sent fates)
+    → AllZip Arrives sent arrivals
+    → AllFair w (zip sent arrivals)
 fair_from w [] os exact near = tt
 fair_from w (p ∷ ps) [] exact near = tt
 fair_from w (p ∷ ps) (o ∷ os) exact near =
@@ -129,29 +129,29 @@ shown-no_row w sent row column e =
 
 -- ---- the items' lists are those of what is sent
 
-module _ (w : PageIdValue) (sent : List (List ℕ)) (fates : List (Option (List ℕ)))
-    (near : AllZip Arrives sent fates) where
+module _ (w : PageIdValue) (sent : List (List ℕ)) (arrivals : List (Option (List ℕ)))
+    (near : AllZip Arrives sent arrivals) where
   -- What was sent, with what was got of it.
   abbrev items : List Item
-  items = zip sent fates
+  items = zip sent arrivals
 
   -- The items hold a header of the page where the packets do.
   holds_header-items : holds_header (kind w) sent ≡ holds_header (kind_of_item w) items
   holds_header-items =
-      ap (holds_header (kind w)) (sym (map-sent_of-zip sent fates near))
+      ap (holds_header (kind w)) (sym (map-sent_of-zip sent arrivals near))
       ∙ list_any-map sent_of (λ p. is_this_page (kind w p)) items
 
   -- What stands after the last header: the packets of the items'.
   after_last_header-items :
       after_last_header (kind w) sent ≡ map sent_of (after_last_header (kind_of_item w) items)
   after_last_header-items =
-      ap (after_last_header (kind w)) (sym (map-sent_of-zip sent fates near))
+      ap (after_last_header (kind w)) (sym (map-sent_of-zip sent arrivals near))
       ∙ after-map (kind w) sent_of items
 
   -- The span: the packets of the items'. Also for `DropLaws`.
   pub span-items : span (kind w) sent ≡ map sent_of (span (kind_of_item w) items)
   span-items =
-      ap (span (kind w)) (sym (map-sent_of-zip sent fates near)) ∙ span-map (kind w) sent_of items
+      ap (span (kind w)) (sym (map-sent_of-zip sent arrivals near)) ∙ span-map (kind w) sent_of items
 
   -- The span ends where that of the items does.
   is_unended-items :
@@ -169,7 +169,7 @@ module _ (w : PageIdValue) (sent : List (List ℕ)) (fates : List (Option (List 
       → AllByRecursion (λ (item : Item). P (sent_of item)) items
   over_items P h =
       AllByRecursion-map P sent_of items
-      (subst (AllByRecursion P) (sym (map-sent_of-zip sent fates near)) h)
+      (subst (AllByRecursion P) (sym (map-sent_of-zip sent arrivals near)) h)
 
   -- Each item of a row in the span has the code that is shown.
   targets_of :
@@ -202,7 +202,7 @@ module _ (w : PageIdValue) (sent : List (List ℕ)) (fates : List (Option (List 
 
   -- What is sent is fair.
   fair : IsSound w sent → AllFair w items
-  fair sound = fair_from w sent fates (recursion_from_All _ sent sound.exact) near
+  fair sound = fair_from w sent arrivals (recursion_from_All _ sent sound.exact) near
 
   -- A run over the items from any state, where these hold a header of the page.
   ends_afresh :
@@ -210,7 +210,7 @@ module _ (w : PageIdValue) (sent : List (List ℕ)) (fates : List (Option (List 
       → IsSound w sent
       → holds_header (kind w) sent ≡ true
       → GoesOn w old items new
-      → EndsAfresh w sent (IsHitOrLost w sent fates) new
+      → EndsAfresh w sent (IsHitOrLost w sent arrivals) new
   ends_afresh old new sound holds goes =
       let claim =
       ends_by_last_header w items old new (fair sound)
@@ -236,7 +236,7 @@ module _ (w : PageIdValue) (sent : List (List ℕ)) (fates : List (Option (List 
       → IsFalse old.heard
       → IsFalse old.is_open
       → GoesOn w old items new
-      → EndsAs w sent (IsHitOrLost w sent fates) new
+      → EndsAs w sent (IsHitOrLost w sent arrivals) new
   ends_unheard old new sound none unheard shut goes =
       let flags =
       flags_over w items old new (fair sound) (sym holds_header-items ∙ none) goes in
@@ -255,23 +255,23 @@ module _ (w : PageIdValue) (sent : List (List ℕ)) (fates : List (Option (List 
 
 -- The law of recovery.
 pub law_of_recovery : LawOfRecovery
-law_of_recovery w sent fates old new sound near holds hears =
-    ends_afresh w sent fates near old new sound holds (goes_from w sent fates old new near hears)
+law_of_recovery w sent arrivals old new sound near holds hears =
+    ends_afresh w sent arrivals near old new sound holds (goes_from w sent arrivals old new near hears)
 
 -- The law of lost rows: that of recovery, where a header of the page was sent.
 pub law_of_lost_rows : LawOfLostRows
-law_of_lost_rows w sent fates old new sound near unheard shut hears =
+law_of_lost_rows w sent arrivals old new sound near unheard shut hears =
     elim (cases_Bool (holds_header (kind w) sent)) [
       | inl holds ↦
-          let ends = law_of_recovery w sent fates old new sound near holds hears in
+          let ends = law_of_recovery w sent arrivals old new sound near holds hears in
           record {
             heard = ends.heard ∙ sym holds;
             is_open = ends.is_open ∙ ap (λ b. b && is_unended (kind w) sent) (sym holds);
             cells = λ now_heard. ends.cells;
           }
       | inr none ↦
-          ends_unheard w sent fates near old new sound none unheard shut
-          (goes_from w sent fates old new near hears)
+          ends_unheard w sent arrivals near old new sound none unheard shut
+          (goes_from w sent arrivals old new near hears)
     ]
 
 -- What is near arrives, where all is got.
@@ -338,7 +338,7 @@ pub arrives_marked :
     (sent : List (List ℕ)) (marks : List Bool) (got : List (List ℕ))
     → AllZip MayBeMarked sent marks
     → AllZip AreNear (items_where_true marks sent) got
-    → AllZip Arrives sent (fates_of marks got)
+    → AllZip Arrives sent (arrivals_of marks got)
 arrives_marked [] [] got may near = tt
 arrives_marked [] (m ∷ ms) got may near = elim may [ ]
 arrives_marked (p ∷ ps) [] got may near = elim may [ ]
@@ -353,7 +353,7 @@ pub arrived_marked :
     (sent : List (List ℕ)) (marks : List Bool) (got : List (List ℕ))
     → AllZip MayBeMarked sent marks
     → AllZip AreNear (items_where_true marks sent) got
-    → arrived (fates_of marks got) ≡ got
+    → arrived (arrivals_of marks got) ≡ got
 arrived_marked [] [] [] may near = refl
 arrived_marked [] [] (g ∷ gs) may near = elim near [ ]
 arrived_marked [] (m ∷ ms) got may near = elim may [ ]
@@ -408,17 +408,17 @@ law_of_quiet w sent old new sound unheard shut hears heard row column named =
       | inr hit ↦ absurd (no_hit w sent row column hit.1)
     ]
 
--- The law of recovery by marks: that by fates.
+-- The law of recovery by marks: that by arrivals.
 pub law_of_marked_recovery : LawOfMarkedRecovery
 law_of_marked_recovery w sent marks got old new sound may near holds hears =
-    law_of_recovery w sent (fates_of marks got) old new sound
+    law_of_recovery w sent (arrivals_of marks got) old new sound
     (arrives_marked sent marks got may near) holds
     (subst (λ ps. Hears w old ps new) (sym (arrived_marked sent marks got may near)) hears)
 
--- The law of lost rows by marks: that by fates.
+-- The law of lost rows by marks: that by arrivals.
 pub law_of_marked_loss : LawOfMarkedLoss
 law_of_marked_loss w sent marks got old new sound may near unheard shut hears =
-    law_of_lost_rows w sent (fates_of marks got) old new sound
+    law_of_lost_rows w sent (arrivals_of marks got) old new sound
     (arrives_marked sent marks got may near) unheard shut
     (subst (λ ps. Hears w old ps new) (sym (arrived_marked sent marks got may near)) hears)
 

@@ -15,7 +15,7 @@ use Rattle.ttx_page.specs.Receiver.{State}
 use Rattle.ttx_page.specs.declared.packet_kind.PacketKind.TheVariants.{Row}
 use Rattle.ttx_page.specs.Span.{holds_header, after_last_header, before_end, span}
 use Rattle.ttx_page.specs.Noise.{ErasesPage}
-use Rattle.ttx_page.specs.LostRows.{IsHurt}
+use Rattle.ttx_page.specs.LostRows.{LosesByte}
 use Rattle.ttx_page.proofs.SpanLists.{Somewhere, after-later, after-here}
 use Rattle.ttx_page.proofs.NoiseSteps.{Item, opens_blank, cell-blank, kind_of_item, Fair}
 use Rattle.ttx_page.proofs.NoiseSteps.{Goes, flags_of, page_of, cell_of}
@@ -87,9 +87,9 @@ Targets w row column code item =
     kind w item.0 ≡ Row row
     → IsTrue (is_odd (text_byte item.0 column)) × (code_of (text_byte item.0 column) ≡ code)
 
--- The item is a packet of the row, hurt at the column.
+-- The item is a packet of the row that loses its byte at the column.
 abbrev pub HitAt : PageIdValue → ℕ → ℕ → Item → Type 0
-HitAt w row column item = (kind w item.0 ≡ Row row) × IsHurt item.0 item.1 column
+HitAt w row column item = (kind w item.0 ≡ Row row) × LosesByte item.0 item.1 column
 
 -- No item is a packet of the row.
 abbrev pub no_row : PageIdValue → ℕ → List Item → Type 0
@@ -126,18 +126,19 @@ CellEnds-store w row column code item items was mid is m (inr (inl hit)) =
     inr (inl (hit.0, inr hit.1))
 CellEnds-store w row column code item items was mid is m (inr (inr none)) = inl (none.1 ∙ m)
 
--- A packet of the row that is hurt, before others.
-CellEnds-hurt :
+-- A packet of the row that loses a byte, before others.
+CellEnds-lost_byte :
     (w : PageIdValue) (row column code : ℕ) (item : Item) (items : List Item) (was mid is : ℕ)
     → HitAt w row column item
     → (mid ≡ code) ⊎ (mid ≡ space)
     → CellEnds w row column code items mid is
     → CellEnds w row column code (item ∷ items) was is
-CellEnds-hurt w row column code item items was mid is h at (inl coded) = inl coded
-CellEnds-hurt w row column code item items was mid is h at (inr (inl hit)) =
+CellEnds-lost_byte w row column code item items was mid is h at (inl coded) = inl coded
+CellEnds-lost_byte w row column code item items was mid is h at (inr (inl hit)) =
     inr (inl (hit.0, inr hit.1))
-CellEnds-hurt w row column code item items was mid is h (inl m) (inr (inr none)) = inl (none.1 ∙ m)
-CellEnds-hurt w row column code item items was mid is h (inr m) (inr (inr none)) =
+CellEnds-lost_byte w row column code item items was mid is h (inl m) (inr (inr none)) =
+    inl (none.1 ∙ m)
+CellEnds-lost_byte w row column code item items was mid is h (inr m) (inr (inr none)) =
     inr (inl (none.1 ∙ m, inl h))
 
 -- A cell that is the code or a space, and is kept, is the code or a space.
@@ -241,8 +242,8 @@ cell_over w row column code (item ∷ items) old new named fair e up targets at 
               | inl stored ↦
                   let c : cell goes.0.page row column ≡ code = stored ∙ (targets'.0 in_row.0).1 in
                   CellEnds-store w row column code item _ _ _ _ c (ih still targets'.1 (inl c))
-              | inr hurt ↦ let a = kept_at _ _ code hurt.1 at in
-                  CellEnds-hurt w row column code item _ _ _ _ (in_row.0, hurt.0) a
+              | inr lost_byte ↦ let a = kept_at _ _ code lost_byte.1 at in
+                  CellEnds-lost_byte w row column code item _ _ _ _ (in_row.0, lost_byte.0) a
                   (ih still targets'.1 a)
             ]
           ]

@@ -24,7 +24,7 @@ use Rattle.ttx_page.specs.Receiver.{State, StoresRow, StepAt, Step}
 use Rattle.ttx_page.specs.declared.packet_kind.PacketKind.TheVariants.{ThisPage, EndsPage, Row}
 use Rattle.ttx_page.specs.declared.packet_kind.PacketKind.TheVariants.{Other}
 use Rattle.ttx_page.specs.Noise.{ErasesPage}
-use Rattle.ttx_page.specs.LostRows.{Arrives, IsHurt}
+use Rattle.ttx_page.specs.LostRows.{Arrives, LosesByte}
 
 -- A packet that is sent, and what is got of it.
 abbrev pub Item : Type 0
@@ -82,10 +82,10 @@ Fair-from_lost w sent h = go (address sent) refl (header sent)
 
 -- What arrives is fair. For `fair_from`.
 pub Fair-from_arrives :
-    (w : PageIdValue) (sent : List ℕ) (fate : Option (List ℕ))
+    (w : PageIdValue) (sent : List ℕ) (arrival : Option (List ℕ))
     → HasExactWords sent
-    → Arrives sent fate
-    → Fair w sent fate
+    → Arrives sent arrival
+    → Fair w sent arrival
 Fair-from_arrives w sent None exact h = Fair-from_lost w sent h
 Fair-from_arrives w sent (Some got) exact near = (
   kind-near w sent got exact near,
@@ -136,10 +136,10 @@ flags_at Other got old mid e step = (
 
 -- The two flags after an item that is no header of the page. For `flags_over`.
 pub flags_of :
-    (w : PageIdValue) (sent : List ℕ) (fate : Option (List ℕ)) (old mid : State)
-    → Fair w sent fate
+    (w : PageIdValue) (sent : List ℕ) (arrival : Option (List ℕ)) (old mid : State)
+    → Fair w sent arrival
     → is_this_page (kind w sent) ≡ false
-    → Goes w fate old mid
+    → Goes w arrival old mid
     → (mid.heard ≡ old.heard) × (mid.is_open ≡ (old.is_open && not (ends_page (kind w sent))))
 flags_of w sent (Some got) old mid fair e step =
     flags_at (kind w sent) got old mid e (subst (λ k. StepAt k got old mid) fair.0 step)
@@ -165,11 +165,11 @@ page_at Other got old mid e shut step = ap (λ (s : State). s.page) step
 
 -- A page that is not open stays as it is, at an item. For `page_over`.
 pub page_of :
-    (w : PageIdValue) (sent : List ℕ) (fate : Option (List ℕ)) (old mid : State)
-    → Fair w sent fate
+    (w : PageIdValue) (sent : List ℕ) (arrival : Option (List ℕ)) (old mid : State)
+    → Fair w sent arrival
     → is_this_page (kind w sent) ≡ false
     → old.is_open ≡ false
-    → Goes w fate old mid
+    → Goes w arrival old mid
     → mid.page ≡ old.page
 page_of w sent (Some got) old mid fair e shut step =
     page_at (kind w sent) got old mid e shut (subst (λ k. StepAt k got old mid) fair.0 step)
@@ -242,26 +242,26 @@ cell_at row column (Row y) got old mid named e up step =
 
 -- What becomes of a cell at an item, while the page is open: the page ends; or the item is none of
 -- its row, and the cell stays; or it is one, and the cell gets the code that was sent, or the
--- packet is hurt there and the cell is kept.
+-- packet loses its byte there and the cell is kept.
 abbrev pub CellOf : PageIdValue → ℕ → ℕ → List ℕ → Option (List ℕ) → State → State → Type 0
-CellOf w row column sent fate old mid =
+CellOf w row column sent arrival old mid =
     ((ends_page (kind w sent) ≡ true) × (mid.page ≡ old.page))
     ⊎ ((ends_page (kind w sent) ≡ false)
     × (((is_row row (kind w sent) ≡ false) × (cell mid.page row column ≡ cell old.page row column))
     ⊎ ((kind w sent ≡ Row row)
     × ((cell mid.page row column ≡ code_of (text_byte sent column))
-    ⊎ (IsHurt sent fate column × Kept row column old mid)))))
+    ⊎ (LosesByte sent arrival column × Kept row column old mid)))))
 
 -- One cell at one item. For `cell_over`.
 pub cell_of :
-    (w : PageIdValue) (row column : ℕ) (sent : List ℕ) (fate : Option (List ℕ)) (old mid : State)
+    (w : PageIdValue) (row column : ℕ) (sent : List ℕ) (arrival : Option (List ℕ)) (old mid : State)
     → IsCell row column
-    → Fair w sent fate
+    → Fair w sent arrival
     → (kind w sent ≡ Row row → IsTrue (is_odd (text_byte sent column)))
     → is_this_page (kind w sent) ≡ false
     → old.is_open ≡ true
-    → Goes w fate old mid
-    → CellOf w row column sent fate old mid
+    → Goes w arrival old mid
+    → CellOf w row column sent arrival old mid
 cell_of w row column sent None old mid named fair odd e up stay =
     let same = ap (λ (s : State). cell s.page row column) stay in
     elim (cases_Bool (is_row row (kind w sent))) [
@@ -288,7 +288,7 @@ cell_of w row column sent (Some got) old mid named fair odd e up step =
         × (text_byte got column ≢ text_byte sent column))
         → RowAt row column got old mid
         → (cell mid.page row column ≡ code_of (text_byte sent column))
-        ⊎ (IsHurt sent (Some got) column × Kept row column old mid)
+        ⊎ (LosesByte sent (Some got) column × Kept row column old mid)
     at_row o (inl same) (inl stored) = inl (stored.1 ∙ ap code_of same)
     at_row o (inl same) (inr kept) = absurd (true≢false (sym o ∙ sym (ap is_odd same) ∙ kept.0))
     at_row o (inr other) (inl stored) = absurd (true≢false (sym stored.0 ∙ other.0))
@@ -305,11 +305,11 @@ this_page Other e = absurd (true≢false (sym e))
 
 -- A header that erases is got, and opens a blank page. For `ends_by_last_header`.
 pub opens_blank :
-    (w : PageIdValue) (sent : List ℕ) (fate : Option (List ℕ)) (old mid : State)
-    → Fair w sent fate
+    (w : PageIdValue) (sent : List ℕ) (arrival : Option (List ℕ)) (old mid : State)
+    → Fair w sent arrival
     → ErasesPage w sent
     → is_this_page (kind w sent) ≡ true
-    → Goes w fate old mid
+    → Goes w arrival old mid
     → (mid.heard ≡ true) × (mid.is_open ≡ true) × (mid.page ≡ blank)
 opens_blank w sent None old mid fair erases e goes = absurd (true≢false (sym e ∙ fair.0))
 opens_blank w sent (Some got) old mid fair erases e step =

@@ -181,11 +181,11 @@ held_by_dropping w (p ∷ ps) old new run =
 
 -- Where a header of the page is sent, one arrives.
 pub header_arrives :
-    (w : PageIdValue) (sent : List (List ℕ)) (fates : List (Option (List ℕ)))
+    (w : PageIdValue) (sent : List (List ℕ)) (arrivals : List (Option (List ℕ)))
     → AllByRecursion HasExactWords sent
-    → AllZip Arrives sent fates
+    → AllZip Arrives sent arrivals
     → holds_header (kind w) sent ≡ true
-    → holds_header (kind w) (arrived fates) ≡ true
+    → holds_header (kind w) (arrived arrivals) ≡ true
 header_arrives w [] os exact near holds = absurd (true≢false (sym holds))
 header_arrives w (p ∷ ps) [] exact near holds = elim near [ ]
 header_arrives w (p ∷ ps) (None ∷ os) exact near holds =

@@ -29,10 +29,10 @@ SomewhereInRow IsExcused row column = (other : ℕ) × (other < 40) × IsExcused
 -- So here too noise never puts a wrong character on the screen.
 abbrev pub LawOfDroppedRows : Type 0
 LawOfDroppedRows =
-    (w : PageIdValue) (sent : List (List ℕ)) (fates : List (Option (List ℕ))) (old new : State)
+    (w : PageIdValue) (sent : List (List ℕ)) (arrivals : List (Option (List ℕ))) (old new : State)
     → IsSound w sent
-    → AllZip Arrives sent fates
+    → AllZip Arrives sent arrivals
     → IsFalse old.heard
     → IsFalse old.is_open
-    → HearsDropping w old (arrived fates) new
-    → EndsAs w sent (SomewhereInRow (IsHitOrLost w sent fates)) new
+    → HearsDropping w old (arrived arrivals) new
+    → EndsAs w sent (SomewhereInRow (IsHitOrLost w sent arrivals)) new

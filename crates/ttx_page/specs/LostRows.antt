@@ -13,7 +13,7 @@ use Rattle.ttx_page.specs.Receiver.{State, Hears}
 use Rattle.ttx_page.specs.Shown.{IsHit}
 use Rattle.ttx_page.specs.Span.{span}
 
--- ---- by fates: beside each packet stands what was got of it, nothing where it was lost
+-- ---- by arrivals: beside each packet stands what was got of it, nothing where it was lost
 
 -- The packet has no packet number 0: it is no page header.
 abbrev pub MayBeLost : List ℕ → Type 0
@@ -27,32 +27,32 @@ Arrives sent None = MayBeLost sent
 -- The packets that were got, in order.
 abbrev pub arrived : List (Option (List ℕ)) → List (List ℕ)
 arrived [] = []
-arrived (None ∷ fates) = arrived fates
-arrived (Some got ∷ fates) = got ∷ arrived fates
+arrived (None ∷ arrivals) = arrived arrivals
+arrived (Some got ∷ arrivals) = got ∷ arrived arrivals
 
 -- The packet was lost, or got with another byte at the column.
-abbrev pub IsHurt : List ℕ → Option (List ℕ) → ℕ → Type 0
-IsHurt sent None column = ⊤
-IsHurt sent (Some got) column = text_byte got column ≢ text_byte sent column
+abbrev pub LosesByte : List ℕ → Option (List ℕ) → ℕ → Type 0
+LosesByte sent None column = ⊤
+LosesByte sent (Some got) column = text_byte got column ≢ text_byte sent column
 
 -- The byte of a cell was hit: some packet of its row in the span was lost, or got with another byte
 -- at the column.
 abbrev pub IsHitOrLost :
     PageIdValue → List (List ℕ) → List (Option (List ℕ)) → ℕ → ℕ → Type 0
-IsHitOrLost w sent fates row column =
-    Any (λ pair. (kind w pair.0 ≡ Row row) × IsHurt pair.0 pair.1 column)
-    (span (λ (pair : List ℕ × Option (List ℕ)). kind w pair.0) (zip sent fates))
+IsHitOrLost w sent arrivals row column =
+    Any (λ pair. (kind w pair.0 ≡ Row row) × LosesByte pair.0 pair.1 column)
+    (span (λ (pair : List ℕ × Option (List ℕ)). kind w pair.0) (zip sent arrivals))
 
 -- The law of noise where any packets but page headers are lost: a cell of a lost row counts as hit.
 abbrev pub LawOfLostRows : Type 0
 LawOfLostRows =
-    (w : PageIdValue) (sent : List (List ℕ)) (fates : List (Option (List ℕ))) (old new : State)
+    (w : PageIdValue) (sent : List (List ℕ)) (arrivals : List (Option (List ℕ))) (old new : State)
     → IsSound w sent
-    → AllZip Arrives sent fates
+    → AllZip Arrives sent arrivals
     → IsFalse old.heard
     → IsFalse old.is_open
-    → Hears w old (arrived fates) new
-    → EndsAs w sent (IsHitOrLost w sent fates) new
+    → Hears w old (arrived arrivals) new
+    → EndsAs w sent (IsHitOrLost w sent arrivals) new
 
 -- ---- by marks: beside each packet stands true where it is kept, and false where it is lost
 
@@ -60,12 +60,12 @@ LawOfLostRows =
 abbrev pub MayBeMarked : List ℕ → Bool → Type 0
 MayBeMarked sent mark = IsFalse mark → MayBeLost sent
 
--- The fates of the packets, where these were got of those that are kept.
-abbrev pub fates_of : List Bool → List (List ℕ) → List (Option (List ℕ))
-fates_of [] got = []
-fates_of (false ∷ marks) got = None ∷ fates_of marks got
-fates_of (true ∷ marks) [] = None ∷ fates_of marks []
-fates_of (true ∷ marks) (first ∷ got) = Some first ∷ fates_of marks got
+-- The arrivals of the packets, where these were got of those that are kept.
+abbrev pub arrivals_of : List Bool → List (List ℕ) → List (Option (List ℕ))
+arrivals_of [] got = []
+arrivals_of (false ∷ marks) got = None ∷ arrivals_of marks got
+arrivals_of (true ∷ marks) [] = None ∷ arrivals_of marks []
+arrivals_of (true ∷ marks) (first ∷ got) = Some first ∷ arrivals_of marks got
 
 -- The law of lost rows, where what was got is near the list of the packets that are kept.
 abbrev pub LawOfMarkedLoss : Type 0
@@ -78,7 +78,7 @@ LawOfMarkedLoss =
     → IsFalse old.heard
     → IsFalse old.is_open
     → Hears w old got new
-    → EndsAs w sent (IsHitOrLost w sent (fates_of marks got)) new
+    → EndsAs w sent (IsHitOrLost w sent (arrivals_of marks got)) new
 
 -- ---- with nothing lost
 

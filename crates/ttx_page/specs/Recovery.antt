@@ -6,7 +6,7 @@ use Rattle.std.specs.List.{AllZip, items_where_true}
 use Rattle.ttx_packet.specs.OneBit.{AreNear}
 use Rattle.ttx_packet.specs.PageId.{PageIdValue}
 use Rattle.ttx_page.specs.DroppedRows.{SomewhereInRow}
-use Rattle.ttx_page.specs.LostRows.{Arrives, arrived, IsHitOrLost, MayBeMarked, fates_of}
+use Rattle.ttx_page.specs.LostRows.{Arrives, arrived, IsHitOrLost, MayBeMarked, arrivals_of}
 use Rattle.ttx_page.specs.Noise.{IsSound}
 use Rattle.ttx_page.specs.Page.{space, cell, IsCell}
 use Rattle.ttx_page.specs.PacketKind.{kind}
@@ -33,12 +33,12 @@ pub record EndsAfresh
 -- page was sent, it holds what the law of noise says. Any packets but page headers may be lost.
 abbrev pub LawOfRecovery : Type 0
 LawOfRecovery =
-    (w : PageIdValue) (sent : List (List ℕ)) (fates : List (Option (List ℕ))) (old new : State)
+    (w : PageIdValue) (sent : List (List ℕ)) (arrivals : List (Option (List ℕ))) (old new : State)
     → IsSound w sent
-    → AllZip Arrives sent fates
+    → AllZip Arrives sent arrivals
     → IsTrue (holds_header (kind w) sent)
-    → Hears w old (arrived fates) new
-    → EndsAfresh w sent (IsHitOrLost w sent fates) new
+    → Hears w old (arrived arrivals) new
+    → EndsAfresh w sent (IsHitOrLost w sent arrivals) new
 
 -- Recovery by marks: what was got is near the list of the packets that are kept.
 abbrev pub LawOfMarkedRecovery : Type 0
@@ -50,14 +50,14 @@ LawOfMarkedRecovery =
     → AllZip AreNear (items_where_true marks sent) got
     → IsTrue (holds_header (kind w) sent)
     → Hears w old got new
-    → EndsAfresh w sent (IsHitOrLost w sent (fates_of marks got)) new
+    → EndsAfresh w sent (IsHitOrLost w sent (arrivals_of marks got)) new
 
 -- Recovery of receivers that drop rows: a cell counts as hit where any byte of its row was.
 abbrev pub LawOfDroppingRecovery : Type 0
 LawOfDroppingRecovery =
-    (w : PageIdValue) (sent : List (List ℕ)) (fates : List (Option (List ℕ))) (old new : State)
+    (w : PageIdValue) (sent : List (List ℕ)) (arrivals : List (Option (List ℕ))) (old new : State)
     → IsSound w sent
-    → AllZip Arrives sent fates
+    → AllZip Arrives sent arrivals
     → IsTrue (holds_header (kind w) sent)
-    → HearsDropping w old (arrived fates) new
-    → EndsAfresh w sent (SomewhereInRow (IsHitOrLost w sent fates)) new
+    → HearsDropping w old (arrived arrivals) new
+    → EndsAfresh w sent (SomewhereInRow (IsHitOrLost w sent arrivals)) new

@@ -9,7 +9,8 @@ use Rattle.std.proofs.lemmas.List.{append-nil, take_all, take-append-le}
 use Rattle.std.specs.List.{flat_map, refill, AllByRecursion}
 use Rattle.ttx_pes.specs.DataUnit.{UnitValue, IsUnit, IsPassedUnit, AreDataUnits}
 use Rattle.ttx_pes.specs.DataUnit.{teletext_unit, stuffing, stuffing_unit}
-use Rattle.ttx_pes.specs.PesPacket.{PesValue, IsPesPacket, IsPesValue, canonical_packet, header}
+use Rattle.ttx_pes.specs.PesPacket.{PesValue, IsPesPacket, IsPesValue, canonical_packet}
+use Rattle.ttx_pes.specs.PesPacket.{pes_packet_header}
 use Rattle.ttx_pes.specs.PesPacket.{payloads_for, pts_bytes, repeated}
 
 -- A stuffing unit is passed over.
@@ -48,7 +49,7 @@ written_units (u ∷ us) n h =
 
 -- The canonical packet is a packet of its value: the law.
 pub canonical_is_packet : (v : PesValue) → IsPesValue v → IsPesPacket v (canonical_packet v)
-unfolding canonical_packet payloads_for header
+unfolding canonical_packet payloads_for pes_packet_header
 canonical_is_packet v h =
     let few = h.few in
     let k = payloads_for (length v.units) in
@@ -104,24 +105,24 @@ pub spelled : (v : PesValue) (us : List UnitValue) (pts : ℕ) (out base head : 
     → out ≡ base ++ repeated n stuffing_unit
     → base ≡ head ++ flat_map teletext_unit (take i us)
     → length us ≤ i
-    → head ≡ header (length us / 4 + 1) pts → n ≡ 4 * (length us / 4 + 1) - 1 - length us
+    → head ≡ pes_packet_header (length us / 4 + 1) pts → n ≡ 4 * (length us / 4 + 1) - 1 - length us
     → out ≡ canonical_packet v
 unfolding canonical_packet payloads_for
 spelled v us pts out base head n i same pts-same e f le h k =
     let all : take i us ≡ us = take_all i us le in
-    let made : out ≡ header (length us / 4 + 1) pts
+    let made : out ≡ pes_packet_header (length us / 4 + 1) pts
     ++ (flat_map teletext_unit us
     ++ repeated (4 * (length us / 4 + 1) - 1 - length us) stuffing_unit) =
     e ∙ ap (λ (x : List ℕ). x ++ repeated n stuffing_unit) (f ∙ rw (h, all) refl)
-    ∙ append_assoc (header (length us / 4 + 1) pts) (flat_map teletext_unit us)
+    ∙ append_assoc (pes_packet_header (length us / 4 + 1) pts) (flat_map teletext_unit us)
     (repeated n stuffing_unit)
-    ∙ ap (λ (m : ℕ). header (length us / 4 + 1) pts
+    ∙ ap (λ (m : ℕ). pes_packet_header (length us / 4 + 1) pts
     ++ (flat_map teletext_unit us ++ repeated m stuffing_unit)) k in
     made ∙ ap
-    (λ (x : List UnitValue). header (length x / 4 + 1) pts
+    (λ (x : List UnitValue). pes_packet_header (length x / 4 + 1) pts
     ++ (flat_map teletext_unit x
     ++ repeated (4 * (length x / 4 + 1) - 1 - length x) stuffing_unit)) same
-    ∙ ap (λ (t : ℕ). header (length v.units / 4 + 1) t
+    ∙ ap (λ (t : ℕ). pes_packet_header (length v.units / 4 + 1) t
     ++ (flat_map teletext_unit v.units
     ++ repeated (4 * (length v.units / 4 + 1) - 1 - length v.units) stuffing_unit)) pts-same
 
@@ -132,19 +133,19 @@ canonical_packet-pts : (us : List UnitValue) (old pts : ℕ)
     → take 9 (canonical_packet (record { pts = old; units = us }))
     ++ (pts_bytes pts ++ drop 5 (drop 9 (canonical_packet (record { pts = old; units = us }))))
     ≡ canonical_packet (record { pts = pts; units = us })
-unfolding canonical_packet payloads_for header
+unfolding canonical_packet payloads_for pes_packet_header
 canonical_packet-pts us old pts = refl
 
 -- And it is as long.
 length-other_pts : (us : List UnitValue) (old pts : ℕ)
     → length (canonical_packet (record { pts = old; units = us }))
     ≡ length (canonical_packet (record { pts = pts; units = us }))
-unfolding canonical_packet payloads_for header
+unfolding canonical_packet payloads_for pes_packet_header
 length-other_pts us old pts = refl
 
 -- It reaches past its PTS.
 pub canonical_packet-has_pts : (v : PesValue) → 14 ≤ length (canonical_packet v)
-unfolding canonical_packet payloads_for header
+unfolding canonical_packet payloads_for pes_packet_header
 canonical_packet-has_pts v = omega arith
 
 -- Bytes 9 to 13 of a canonical packet, set to another PTS in place.

@@ -90,8 +90,8 @@ repeated zero b = []
 repeated (suc n) b = b ++ repeated n b
 
 -- The first 46 bytes: alignment set, a PTS alone, stuffing bytes FF, data_identifier 10.
-unfoldable pub header : ℕ → ℕ → List ℕ
-header n pts =
+unfoldable pub pes_packet_header : ℕ → ℕ → List ℕ
+pes_packet_header n pts =
     packet_start
     ++ (bytes_high_first 2 (packet_length n)
     ++ ((0x84 ∷ 0x80 ∷ header_data_length ∷ [])
@@ -102,7 +102,7 @@ header n pts =
 unfoldable pub canonical_packet : PesValue → List ℕ
 canonical_packet v =
     let n = payloads_for (length v.units) in
-    header n v.pts
+    pes_packet_header n v.pts
     ++ (flat_map teletext_unit v.units
     ++ repeated (4 * n - 1 - length v.units) stuffing_unit)
 

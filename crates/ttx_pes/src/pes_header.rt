@@ -5,7 +5,7 @@ ghost use Rattle.std.specs.Prelude.{slice_index, IfOk, IfErr};
 ghost use Rattle.sub_io.specs.Device.{failed};
 ghost use Rattle.sub_io.specs.Reading.{AreBytes};
 ghost use Rattle.ttx_pes.specs.Fault.{is_read};
-ghost use Rattle.ttx_pes.specs.PesPacket.{header, pts_bytes};
+ghost use Rattle.ttx_pes.specs.PesPacket.{pes_packet_header, pts_bytes};
 ghost use Rattle.ttx_pes.specs.Reading.{pts_at, size_at, is_format_fault};
 
 use crate::fault::PesFault;
@@ -96,11 +96,11 @@ pub(crate) fn bytes_of_pts(pts: u64) -> [u8; 5]
 }
 
 // The first 46 bytes of the canonical packet of n payloads.
-#[tactic(auto, unfolding(crate::specs::PesPacket::header))]
+#[tactic(auto, unfolding(crate::specs::PesPacket::pes_packet_header))]
 pub(crate) fn header_of(n: u16, pts: u64) -> Bytes
     requires n { (1 ≤ n) × (n ≤ 9) }
     requires pts { pts < 2 ^ 33 }
-    ensures items { result.items ≡ header n pts }
+    ensures items { result.items ≡ pes_packet_header n pts }
     ensures len { length result.items ≡ 46 }
 {
     let mut length = [0; 2];

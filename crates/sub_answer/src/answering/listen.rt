@@ -12,7 +12,7 @@ ghost use Rattle.sub_check.specs.Transmission.{Transmission};
 ghost use Rattle.sub_answer.specs.Answering.{AnswersListen};
 ghost use Rattle.sub_answer.specs.DeviceCall.{sink_call, source_call};
 ghost use Rattle.sub_answer.specs.Listing.{CountsFault, PrintsOrFails, told_listing};
-ghost use Rattle.sub_answer.specs.ListeningRun.{IsOldPage, Runs, is_subtitle_fault, listen_told};
+ghost use Rattle.sub_answer.specs.ListeningRun.{IsOldPage, Runs, is_of_subtitles, listen_told};
 ghost use Rattle.sub_answer.specs.ListeningRun.{is_read};
 ghost use Rattle.sub_answer.specs.Told.{value_of};
 ghost use Rattle.sub_answer.specs.declared.answering.listen.ListenFault.TheVariants.{File};
@@ -155,7 +155,7 @@ fn hear_file<R: Receiver, S: Source>(
         → Runs listening.now frames unread (R.tuned_to receiver.old)
         (display (R.state receiver.old) screen.old)
         (display (R.state receiver.new) screen.new) result) }
-    ensures own { IfErr result (λ f. is_subtitle_fault f ≡ false) }
+    ensures own { IfErr result (λ f. is_of_subtitles f ≡ false) }
     ensures count { CountsIf S.failure_count pes.old (failed is_read result) pes.new }
 {
     let mut reader = ComparingReader::new();
@@ -192,7 +192,7 @@ fn hear_file<R: Receiver, S: Source>(
 // Prints the line of a fault.
 fn print_fault<K: Sink>(fault: &ListenFault, out: &mut K) -> Status
     requires out { CanFail (K.failure_count out.old) }
-    requires own { is_subtitle_fault fault.now ≡ false }
+    requires own { is_of_subtitles fault.now ≡ false }
     ensures printed { PrintsOrFails (K.failure_count out.old) (K.contents out.old)
         (K.failure_count out.new) (K.contents out.new)
         (told_listing (listen_told fault.now)) result }

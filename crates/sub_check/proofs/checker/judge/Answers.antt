@@ -5,7 +5,7 @@ use Rattle.std.proofs.lemmas.Result.{err_from_is_err_and}
 use Rattle.ttx_pes.proofs.TakenPackets.{takes-more, takes-none}
 use Rattle.ttx_pes.specs.DataUnit.{UnitValue}
 use Rattle.sub_check.specs.Following.{IsSentFrame}
-use Rattle.sub_check.specs.FrameRules.{packets_at, task_of}
+use Rattle.sub_check.specs.FrameRules.{packets_of_frame, task_of}
 use Rattle.sub_check.specs.PacketRules.{packets_of_units}
 use Rattle.sub_check.specs.declared.fault.CheckFault.{CheckFault}
 use Rattle.sub_check.specs.declared.sending.Sending.{Sending}
@@ -191,7 +191,7 @@ loop-pes-preserved g c =
                 (sym (c.in_ok-more.ensures.again c.in-Some-more.sending
                 (ap (λ x. let r : Result (Option Sending) CheckFault = Ok x in r) c.in-Some-more.is) e)
                 ∙ sym c.units_of-units.ensures.value))),
-            ap (packets_at frames) (omega arith) ∙ sent.packets_are,
+            ap (packets_of_frame frames) (omega arith) ∙ sent.packets_are,
           );
     }
 

@@ -4,7 +4,7 @@ use Rattle.ttx_pes.specs.Reader.{TakesPackets}
 use Rattle.stl_rows.specs.DuePage.{TellsNextEdge}
 use Rattle.ttx_pes.specs.declared.progress.Progress.TheVariants.{Reading}
 use Rattle.sub_check.specs.Checking.{Reaches}
-use Rattle.sub_check.specs.FrameRules.{Unread, packets_at, task_of}
+use Rattle.sub_check.specs.FrameRules.{Unread, packets_of_frame, task_of}
 use Rattle.sub_plan.specs.Schedule.{due_in}
 use Rattle.sub_check.specs.PacketRules.{packets_of_units}
 use Rattle.sub_check.specs.PesReading.{ReadsAs}
@@ -27,5 +27,5 @@ invariant-loop-pes g l = record {
       → ReadsAs l.options.origin 0 bytes frames unread
       → Reaches (task_of l.programme l.options unread) l.options.origin bytes frames unread
       (g.S.Source.remaining l.source) l.pes l.first l.checker
-      × (packets_at frames (l.pes - 1) ≡ packets_of_units l.reader.frame.units);
+      × (packets_of_frame frames (l.pes - 1) ≡ packets_of_units l.reader.frame.units);
 }

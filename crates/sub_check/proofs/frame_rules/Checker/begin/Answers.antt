@@ -12,7 +12,7 @@ use Rattle.sub_check.proofs.TakingLemmas.{Taken-from, fault_moved, past_more}
 use Rattle.sub_check.specs.declared.fault.CheckFault.TheVariants as fault
 use Rattle.sub_check.proofs.ShownLemmas.{cells_above}
 use Rattle.sub_check.specs.FirstBroken.{packet_fault}
-use Rattle.sub_check.specs.FrameRules.{packets_at, joined}
+use Rattle.sub_check.specs.FrameRules.{packets_of_frame, packets_before}
 use Rattle.sub_check.specs.PacketRules.{header_count}
 use Rattle.sub_check.proofs.PacketLists.{header_count-append}
 use Rattle.sub_check.proofs.ShownLemmas.{joined_more}
@@ -182,10 +182,10 @@ returns-clause-exact c g frames task watched is =
       rising = λ j l. let r = rising j l in omega arith;
       header = subst (λ x. HeaderIs g frames 1 x) is.frame_is h;
       count =
-          let none : header_count g.watched.page (joined frames 0) ≡ 0 = refl in
+          let none : header_count g.watched.page (packets_before frames 0) ≡ 0 = refl in
           let whole =
           ap (header_count g.watched.page) (joined_more frames 0 is.there)
-          ∙ header_count-append g.watched.page (joined frames 0) (packets_at frames 0) in
+          ∙ header_count-append g.watched.page (packets_before frames 0) (packets_of_frame frames 0) in
           let counted = taken.count in
           let given = c.from.ensures in
           omega (arith, none, whole, counted, given);

@@ -2,7 +2,8 @@
 use Rattle.std.proofs.Common.{refl, ℕ, ◌-◌, ◌≤◌, inl, inr, sym, ap, ◌∙◌, subst, arith}
 use Rattle.std.proofs.lemmas.Bool.{cases_eq}
 use Rattle.stl_rows.specs.DuePage.{TellsNextEdge}
-use Rattle.sub_check.specs.FrameRules.{frame_at, joined, packets_at, Shows, IsCovered}
+use Rattle.sub_check.specs.FrameRules.{frame_at, packets_before, packets_of_frame, ShowsDue}
+use Rattle.sub_check.specs.FrameRules.{IsCovered}
 use Rattle.sub_plan.specs.Schedule.{due_in}
 use Rattle.sub_check.specs.FirstBroken.{IsInGap}
 use Rattle.sub_check.specs.Listening.{KnowsLast}
@@ -40,8 +41,9 @@ returns-in-Some-clause-exact c g frames n task follows there to_is order =
     let fine = c.loop-f.invariant.fine g frames n task follows there to_is in
     let watched = kept ∙ c.loop-f.invariant.watched_same ∙ follows.watched_is in
     let known =
-    subst (KnowsLast (joined frames n) (packets_at frames (n - 1))) (sym c.advance.ensures.listener)
-    (KnowsLast-drawn (joined frames n) _ c.loop-f.self.listener _ fine.0) in
+    subst (KnowsLast (packets_before frames n) (packets_of_frame frames (n - 1)))
+    (sym c.advance.ensures.listener)
+    (KnowsLast-drawn (packets_before frames n) _ c.loop-f.self.listener _ fine.0) in
     let knows = known.knows in
     let some = follows.some in
     let frame = follows.frame_is in
@@ -65,8 +67,9 @@ returns-then-f-self-clause-exact c g frames n task follows there to_is order =
     let fine = c.loop-f.invariant.fine g frames n task follows there to_is in
     let watched = kept ∙ c.loop-f.invariant.watched_same ∙ follows.watched_is in
     let known =
-    subst (KnowsLast (joined frames n) (packets_at frames (n - 1))) (sym c.advance.ensures.listener)
-    (KnowsLast-drawn (joined frames n) _ c.loop-f.self.listener _ fine.0) in
+    subst (KnowsLast (packets_before frames n) (packets_of_frame frames (n - 1)))
+    (sym c.advance.ensures.listener)
+    (KnowsLast-drawn (packets_before frames n) _ c.loop-f.self.listener _ fine.0) in
     let knows = known.knows in
     let some = follows.some in
     let frame = follows.frame_is in
@@ -101,8 +104,9 @@ loop-f-preserved c =
           let fine = c.loop-f.invariant.fine g frames n task follows there to_is in
           let watched = kept ∙ c.loop-f.invariant.watched_same ∙ follows.watched_is in
           let known =
-          subst (KnowsLast (joined frames n) (packets_at frames (n - 1))) (sym c.advance.ensures.listener)
-          (KnowsLast-drawn (joined frames n) _ c.loop-f.self.listener _ fine.0) in
+          subst (KnowsLast (packets_before frames n) (packets_of_frame frames (n - 1)))
+          (sym c.advance.ensures.listener)
+          (KnowsLast-drawn (packets_before frames n) _ c.loop-f.self.listener _ fine.0) in
           let knows = known.knows in
           let h : HeaderIs g frames n c.advance.new.self.header_at =
           subst (λ x. HeaderIs g frames n x)
@@ -110,7 +114,7 @@ loop-f-preserved c =
           follows.header in (
             known,
             λ j row column l t. elim (cases_eq j f) [
-              | inl e ↦ subst (λ x. Shows g frames n x row column) (sym e)
+              | inl e ↦ subst (λ x. ShowsDue g frames n x row column) (sym e)
                   (shows_from g p c.args.every task frames n f s knows watched row column t.1
                   (d row column t.1))
               | inr other ↦ fine.1 j row column (omega arith) t

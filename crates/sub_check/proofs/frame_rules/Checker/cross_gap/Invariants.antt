@@ -3,7 +3,7 @@ use Rattle.std.proofs.Common.{◌≡◌, ℕ, ◌<◌, length, ◌-◌}
 use Rattle.stl_rows.specs.DuePage.{TellsNextEdge}
 use Rattle.sub_check.specs.Transmission.{Transmission}
 use Rattle.sub_check.specs.Listening.{KnowsLast}
-use Rattle.sub_check.specs.FrameRules.{Task, frame_at, joined, packets_at}
+use Rattle.sub_check.specs.FrameRules.{Task, frame_at, packets_before, packets_of_frame}
 use Rattle.sub_plan.specs.Schedule.{due_in}
 use Rattle.sub_check.specs.FirstBroken.Place.{AtGapCell, AtGap}
 use Rattle.sub_check.specs.Following.{Keeps, Follows, IsTaskOf}
@@ -19,7 +19,7 @@ invariant-loop-f l = record {
   edge : TellsNextEdge l.programme.records (l.f - 1) l.self.edge;
   fine : (g : Task) (frames : Transmission) (n : ℕ) → IsTaskOf g l.programme l.every
       → Follows g frames n l.initial.self → n < length frames → frame_at frames n ≡ l.to
-      → KnowsLast (joined frames n) (packets_at frames (n - 1)) l.self.listener
+      → KnowsLast (packets_before frames n) (packets_of_frame frames (n - 1)) l.self.listener
       × ((d row column : ℕ) → d < l.f → Keeps g frames (AtGapCell n d row column))
       × ((d : ℕ) → d < l.f → Keeps g frames (AtGap n d));
 }

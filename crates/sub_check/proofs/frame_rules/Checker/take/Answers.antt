@@ -1,7 +1,7 @@
 -- A frame of the list: each refusal is the first place, OrderLemmas.
 use Rattle.std.proofs.Common.{◌≡◌, ℕ, ◌+◌, ◌-◌, ◌≤◌, sym, ap, ap₂, ◌∙◌, subst, arith}
 use Rattle.sub_check.specs.declared.listener.Listener.{Listener}
-use Rattle.sub_check.specs.FrameRules.{frame_at, joined}
+use Rattle.sub_check.specs.FrameRules.{frame_at, packets_before}
 use Rattle.sub_check.specs.FirstBroken.{NamesFirst}
 use Rattle.sub_check.specs.Listening.{KnowsLast}
 use Rattle.sub_check.specs.Following.{HeaderIs}
@@ -13,7 +13,7 @@ use Rattle.sub_check.proofs.TakingLemmas.{past_more}
 use Rattle.sub_check.specs.declared.fault.CheckFault.TheVariants as fault
 use Rattle.sub_check.proofs.ShownLemmas.{cells_above}
 use Rattle.sub_check.specs.FirstBroken.{packet_fault}
-use Rattle.sub_check.specs.FrameRules.{packets_at}
+use Rattle.sub_check.specs.FrameRules.{packets_of_frame}
 use Rattle.sub_check.specs.PacketRules.{header_count}
 use Rattle.sub_check.proofs.PacketLists.{header_count-append}
 use Rattle.sub_check.proofs.ShownLemmas.{joined_more}
@@ -25,9 +25,10 @@ pub returns-in-Err-clause-exact : goal.returns-in-Err-clause-exact
 returns-in-Err-clause-exact c g frames n task follows is again order gap =
     let same = is.packets_are in
     let first =
-    c.in-Err.ensures.knows (joined frames n) (packets_at frames (n - 1))
-    (subst (KnowsLast (joined frames n) (packets_at frames (n - 1))) (sym c.advance.ensures.listener)
-    (KnowsLast-drawn (joined frames n) _ c.args.self.now.listener _ follows.knows)) again in
+    c.in-Err.ensures.knows (packets_before frames n) (packets_of_frame frames (n - 1))
+    (subst (KnowsLast (packets_before frames n) (packets_of_frame frames (n - 1)))
+     (sym c.advance.ensures.listener)
+    (KnowsLast-drawn (packets_before frames n) _ c.args.self.now.listener _ follows.knows)) again in
     subst (NamesFirst g frames) (sym c.fault_of.ensures.value)
     (subst (λ x. NamesFirst g frames (packet_fault c.in-Err.fault.rule x c.in-Err.fault.packet))
     is.frame_is
@@ -41,9 +42,10 @@ returns-in-Some-clause-exact c g frames n task follows is again order gap =
     let p = c.args.programme.now in
     let same = is.packets_are in
     let both =
-    c.in-Ok.ensures.knows (joined frames n) (packets_at frames (n - 1))
-    (subst (KnowsLast (joined frames n) (packets_at frames (n - 1))) (sym c.advance.ensures.listener)
-    (KnowsLast-drawn (joined frames n) _ c.args.self.now.listener _ follows.knows)) again in
+    c.in-Ok.ensures.knows (packets_before frames n) (packets_of_frame frames (n - 1))
+    (subst (KnowsLast (packets_before frames n) (packets_of_frame frames (n - 1)))
+     (sym c.advance.ensures.listener)
+    (KnowsLast-drawn (packets_before frames n) _ c.args.self.now.listener _ follows.knows)) again in
     let taken =
     Taken-from g frames n c.any_header-found.result c.in-Ok.headers c.hear_sending.new.self _ _
     is.there same
@@ -71,9 +73,10 @@ returns-then-frame-self-clause-exact c g frames n task follows is again order ga
     let p = c.args.programme.now in
     let same = is.packets_are in
     let both =
-    c.in-Ok.ensures.knows (joined frames n) (packets_at frames (n - 1))
-    (subst (KnowsLast (joined frames n) (packets_at frames (n - 1))) (sym c.advance.ensures.listener)
-    (KnowsLast-drawn (joined frames n) _ c.args.self.now.listener _ follows.knows)) again in
+    c.in-Ok.ensures.knows (packets_before frames n) (packets_of_frame frames (n - 1))
+    (subst (KnowsLast (packets_before frames n) (packets_of_frame frames (n - 1)))
+     (sym c.advance.ensures.listener)
+    (KnowsLast-drawn (packets_before frames n) _ c.args.self.now.listener _ follows.knows)) again in
     let taken =
     Taken-from g frames n c.any_header-found.result c.in-Ok.headers c.hear_sending.new.self _ _
     is.there same
@@ -110,9 +113,10 @@ returns-then-is_incomplete-clause-exact c g frames n task follows is again order
     let p = c.args.programme.now in
     let same = is.packets_are in
     let both =
-    c.in-Ok.ensures.knows (joined frames n) (packets_at frames (n - 1))
-    (subst (KnowsLast (joined frames n) (packets_at frames (n - 1))) (sym c.advance.ensures.listener)
-    (KnowsLast-drawn (joined frames n) _ c.args.self.now.listener _ follows.knows)) again in
+    c.in-Ok.ensures.knows (packets_before frames n) (packets_of_frame frames (n - 1))
+    (subst (KnowsLast (packets_before frames n) (packets_of_frame frames (n - 1)))
+     (sym c.advance.ensures.listener)
+    (KnowsLast-drawn (packets_before frames n) _ c.args.self.now.listener _ follows.knows)) again in
     let taken =
     Taken-from g frames n c.any_header-found.result c.in-Ok.headers c.hear_sending.new.self _ _
     is.there same
@@ -151,9 +155,10 @@ returns-clause-exact c g frames n task follows is again order gap =
     let p = c.args.programme.now in
     let same = is.packets_are in
     let both =
-    c.in-Ok.ensures.knows (joined frames n) (packets_at frames (n - 1))
-    (subst (KnowsLast (joined frames n) (packets_at frames (n - 1))) (sym c.advance.ensures.listener)
-    (KnowsLast-drawn (joined frames n) _ c.args.self.now.listener _ follows.knows)) again in
+    c.in-Ok.ensures.knows (packets_before frames n) (packets_of_frame frames (n - 1))
+    (subst (KnowsLast (packets_before frames n) (packets_of_frame frames (n - 1)))
+     (sym c.advance.ensures.listener)
+    (KnowsLast-drawn (packets_before frames n) _ c.args.self.now.listener _ follows.knows)) again in
     let taken =
     Taken-from g frames n c.any_header-found.result c.in-Ok.headers c.hear_sending.new.self _ _
     is.there same
@@ -189,7 +194,7 @@ returns-clause-exact c g frames n task follows is again order gap =
           ap₂ (λ m k. m + k) (c.advance.ensures.headers ∙ follows.count)
           (c.from.ensures ∙ sym taken.count)
           ∙ sym (ap (header_count g.watched.page) (joined_more frames n is.there)
-          ∙ header_count-append g.watched.page (joined frames n) (packets_at frames n));
+          ∙ header_count-append g.watched.page (packets_before frames n) (packets_of_frame frames n));
       past = past_more g frames n follows.past (record {
         order = order;
         gap = gap;
