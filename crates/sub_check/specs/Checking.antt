@@ -78,7 +78,7 @@ pub record AreTaken (origin : ℕ) (bytes : List ℕ) (frames : Transmission) (r
     pub packets : List (List ℕ)
     pub each : AllZip IsPesPacket values packets
     pub sent : AllZip (IsSentAs origin) values frames
-    pub packets_before : bytes ≡ concat packets ++ rest
+    pub joined : bytes ≡ concat packets ++ rest
 
 -- A transmission is accepted: the bytes are a PES file of it, all that is asked holds, and the
 -- answer counts its frames and headers.
