@@ -113,7 +113,7 @@ taken_more origin bytes rest frames n v frame old new taken was is takes sent of
             pts = sym of.is ∙ ap (pts_of origin) (sym number);
             packets = packets;
           }));
-      packets_before =
+      joined =
           taken.joined
           ∙ ap (λ r. concat taken.packets ++ r) parts
           ∙ sym (append_assoc (concat taken.packets) takes.bytes (rest_after rest))
@@ -125,7 +125,7 @@ taken_more origin bytes rest frames n v frame old new taken was is takes sent of
 -- Nothing is taken yet.
 none_taken : (origin : ℕ) (bytes : List ℕ) → AreTaken origin bytes [] bytes
 none_taken origin bytes =
-    record { values = []; packets = []; each = tt; sent = tt; packets_before = refl }
+    record { values = []; packets = []; each = tt; sent = tt; joined = refl }
 
 -- The answer is that the source failed at a PES packet.
 abbrev pub IsFailureAt : Result Accepted CheckFault → ℕ → Type 0
