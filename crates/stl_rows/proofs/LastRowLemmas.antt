@@ -65,7 +65,7 @@ drawn_free national t = go (faults national t) refl
         (fs : List RowFault)
         → faults national t ≡ fs
         → row_at
-          (result_unwrap_or (unless fs (page_of_lines t.jc t.vp (lines national t))) blank) 24
+        (result_unwrap_or (unless fs (page_of_lines t.jc t.vp (lines national t))) blank) 24
         ≡ blank_row
     go [] e = row_free t.jc t.vp (lines national t)
         (right_empty (refusals (text_codes national 0 t.text)) _ e)

@@ -104,6 +104,3 @@ pub fn draw(subtitle: &Subtitle, national: National) -> Result<Page, RowFault>
         None => Ok(drawn_page(subtitle, national)),
     }
 }
-
-#[cfg(test)]
-mod tests;

@@ -24,7 +24,7 @@ mod text_faults;
 
 pub use drawing::draw;
 pub use fault::{LoadFault, LoadFaultKind, RowFault, RowFaultKind};
-pub use loading::{law_of_loading, load};
+pub use loading::{law_of_loading, load, load_in};
 pub use national::National;
 pub use programme::{
     Programme, law_of_blank_pages, law_of_due_pages, law_of_due_subtitles, law_of_edges,

@@ -61,8 +61,12 @@ pub fn load<S: Source>(
     }
 }
 
-// Loads a file's subtitles into any memory, so that a test can refuse a growth.
-fn load_in<A: Allocator + Drop, S: Source>(
+/// Loads the subtitles of an STL file into any memory: `load` is this in the program's own.
+///
+/// # Errors
+///
+/// Those of `load`.
+pub fn load_in<A: Allocator + Drop, S: Source>(
     alloc: A,
     source: &mut S,
     national: National,
@@ -162,6 +166,3 @@ pub fn law_of_loading()
 {
     law_of_files();
 }
-
-#[cfg(test)]
-mod tests;

@@ -25,22 +25,3 @@ impl National {
         }
     }
 }
-
-#[cfg(test)]
-mod tests {
-    use super::*;
-
-    #[test]
-    fn parses_names(rt: HostRuntime) {
-        for (text, want) in [
-            ("english", Some(National::English)),
-            ("german", Some(National::German)),
-            ("German", None),
-            ("english ", None),
-            ("french", None),
-            ("", None),
-        ] {
-            assert_eq!(rt; National::parse(text), want, "{text}");
-        }
-    }
-}

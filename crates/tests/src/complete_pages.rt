@@ -1,12 +1,11 @@
 //! Options that ask for complete pages, and what is refused then.
-use fixtures::{FIRST, TEN, file_of_hi, schedule_of_hi};
+use fixtures::{FIRST, TEN, every, file_of_hi, options, schedule_of_hi};
 use std::alloc::Global;
 use std::test::Fail;
 use stl_rows::National;
 use sub_check::{Accepted, CheckFault, check_files};
 use sub_io::MemSource;
 use sub_plan::Options;
-use ttx_packet::PageId;
 
 /// What is answered where the transmission is accepted.
 const ACCEPTED: Accepted = Accepted {
@@ -14,15 +13,9 @@ const ACCEPTED: Accepted = Accepted {
     transmissions: 2,
 };
 
-// Options for page 888.
-fn options(every: u64, origin: u64) -> Option<Options> {
-    let page = PageId::parse("888").ok()?;
-    Options::new(page, every, origin).ok()
-}
-
 #[test]
 fn asks_where_it_is_asked_to(rt: HostRuntime) -> Result<(), Fail> {
-    let plain = options(250, 7).ok_or("options")?;
+    let plain = options("888", 250, 7)?;
     let asking = plain.asking_complete();
     assert_eq!(rt; plain.asks_complete(), false);
     assert_eq!(rt; asking.asks_complete(), true);
@@ -54,7 +47,7 @@ fn refuses_a_page_that_no_header_ends(rt: HostRuntime) -> Result<(), Fail> {
     ] {
         let mut bytes = schedule_of_hi();
         bytes[at] = id;
-        let plain = options(250, 0).ok_or("options")?;
+        let plain = every(250)?;
         let got = answer(rt.alloc(), &bytes, &plain);
         assert_eq!(rt; got, Ok(ACCEPTED), "not asking, {id} at {at}");
         let got = answer(rt.alloc(), &bytes, &plain.asking_complete());
@@ -66,13 +59,13 @@ fn refuses_a_page_that_no_header_ends(rt: HostRuntime) -> Result<(), Fail> {
 #[test]
 fn tells_what_comes_before_an_open_page(rt: HostRuntime) -> Result<(), Fail> {
     let frame = TEN;
-    let every = options(25, 0).ok_or("options")?.asking_complete();
+    let asking = every(25)?.asking_complete();
     let gap = CheckFault::Gap { frame: TEN + 25 };
-    assert_eq!(rt; answer(rt.alloc(), &schedule_of_hi(), &every), Err(gap));
+    assert_eq!(rt; answer(rt.alloc(), &schedule_of_hi(), &asking), Err(gap));
     // The first PES packet alone, its closing header a stuffing unit.
     let mut first = FIRST;
     first[138] = 0xFF;
-    let plain = options(250, 0).ok_or("options")?;
+    let plain = every(250)?;
     let late = CheckFault::Late { frame };
     assert_eq!(rt; answer(rt.alloc(), &first, &plain), Err(late));
     let open = CheckFault::Incomplete { frame };

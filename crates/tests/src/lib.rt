@@ -16,6 +16,8 @@ mod complete_pages;
 #[cfg(test)]
 mod devices;
 #[cfg(test)]
+mod drawings;
+#[cfg(test)]
 mod dropped_rows;
 #[cfg(test)]
 mod failed_reads;
@@ -29,6 +31,8 @@ mod packets;
 mod pages;
 #[cfg(test)]
 mod pes_packets;
+#[cfg(test)]
+mod programmes;
 #[cfg(test)]
 mod receivers;
 #[cfg(test)]

@@ -1,16 +1,14 @@
 //! The schedule of a small subtitle file, byte for byte; what else is written and refused is tested
 //! by the lines that the program prints.
-use fixtures::{file_of_hi, schedule_of_hi};
+use fixtures::{every, file_of_hi, schedule_of_hi};
 use std::test::Fail;
 use stl_rows::{National, load};
 use sub_io::{MemSink, MemSource};
-use sub_plan::{Options, schedule};
-use ttx_packet::PageId;
+use sub_plan::schedule;
 
 #[test]
 fn writes_each_byte(rt: HostRuntime) -> Result<(), Fail> {
-    let page = PageId::parse("888").ok().ok_or("page")?;
-    let options = Options::new(page, 250, 0).ok().ok_or("options")?;
+    let options = every(250)?;
     // national option, mode, byte 9 of the page's header and of the closing header as they are
     // carried
     for (national, serial, header, closing) in [
@@ -19,9 +17,7 @@ fn writes_each_byte(rt: HostRuntime) -> Result<(), Fail> {
         (National::German, false, 0x0B, 0xA8),
         (National::German, true, 0xE3, 0x40),
     ] {
-        let programme = load(rt.alloc(), &mut MemSource::new(&file_of_hi()), national)
-            .ok()
-            .ok_or("programme")?;
+        let programme = load(rt.alloc(), &mut MemSource::new(&file_of_hi()), national)?;
         let mut room = [0; 400];
         let mut sink = MemSink::new(&mut room);
         let result = schedule(&programme, &options, serial, &mut sink);

@@ -1,6 +1,6 @@
 //! Texts and the rows that they draw, under both national options.
-use crate::{National, RowFault, RowFaultKind, draw};
 use stl_file::{Subtitle, TimeCode};
+use stl_rows::{National, RowFault, RowFaultKind, draw};
 use ttx_page::Page;
 
 /// A row that isn't blank.
