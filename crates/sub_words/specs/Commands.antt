@@ -7,6 +7,7 @@ use Rattle.clap.specs.Words.{takes, with_rule, with_subcommand}
 use Rattle.clap.specs.declared.builder.action.ArgAction.TheVariants.{SetTrue}
 use Rattle.sub_words.specs.declared.command.Argument.{Argument}
 use Rattle.sub_words.specs.declared.command.Argument.TheVariants as argument
+use Rattle.sub_words.specs.declared.command.CommandTable.{CommandTable}
 
 -- An argument that has to be there.
 abbrev pub required_rule : Text → Rule
@@ -36,53 +37,59 @@ rule_of (argument.Option id value) = option_rule id.now value.now
 rule_of (argument.BareOption id) = bare_option_rule id.now
 rule_of (argument.Flag id) = flag_rule id.now
 
--- A command with these rules behind those that it has.
+-- A command with these rules after those that it has.
 abbrev pub with_rules : App → List Rule → App
 with_rules app [] = app
 with_rules app (rule ∷ rules) = with_rules (with_rule app rule) rules
 
--- `packet HEX`
-abbrev pub packet_app : App
-packet_app = with_rules (new_app (codes "packet")) (required_rule (codes "hex") ∷ [])
+-- The commands, each with the rules of its arguments.
+abbrev pub commands : List (Text × List Rule)
+commands =
+    -- packet HEX
+    (codes "packet", required_rule (codes "hex") ∷ [])
+    -- packets PES
+    ∷ (codes "packets", required_rule (codes "pes") ∷ [])
+    -- show STL
+    ∷ (codes "show", required_rule (codes "stl") ∷ [])
+    -- normal IN OUT
+    ∷ (codes "normal", required_rule (codes "in") ∷ required_rule (codes "out") ∷ [])
+    -- schedule STL PES [--page P] [--origin T] [--every N] [--option O] [--serial]
+    ∷ (
+      codes "schedule",
+      required_rule (codes "stl") ∷ required_rule (codes "pes")
+          ∷ option_rule (codes "page") (codes "888") ∷ option_rule (codes "origin") (codes "0")
+          ∷ option_rule (codes "every") (codes "250") ∷ option_rule (codes "option") (codes "english")
+          ∷ flag_rule (codes "serial") ∷ [],
+    )
+    -- check STL PES [--page P] [--origin T] [--every N] [--option O] [--complete]
+    ∷ (
+      codes "check",
+      required_rule (codes "stl") ∷ required_rule (codes "pes")
+          ∷ option_rule (codes "page") (codes "888") ∷ option_rule (codes "origin") (codes "0")
+          ∷ option_rule (codes "every") (codes "250") ∷ option_rule (codes "option") (codes "english")
+          ∷ flag_rule (codes "complete") ∷ [],
+    )
+    -- listen PES [--page P] [--origin T] --at TIME [--skip N] [--flip F] [--lose L] [--receiver R]
+    -- [--complete]
+    ∷ (
+      codes "listen",
+      required_rule (codes "pes") ∷ option_rule (codes "page") (codes "888")
+          ∷ option_rule (codes "origin") (codes "0") ∷ required_option_rule (codes "at")
+          ∷ option_rule (codes "skip") (codes "0") ∷ bare_option_rule (codes "flip")
+          ∷ bare_option_rule (codes "lose") ∷ option_rule (codes "receiver") (codes "blank")
+          ∷ flag_rule (codes "complete") ∷ [],
+    )
+    ∷ []
 
--- `packets PES`
-abbrev pub packets_app : App
-packets_app = with_rules (new_app (codes "packets")) (required_rule (codes "pes") ∷ [])
+-- What the program's table says of a command.
+abbrev pub table_of : CommandTable → Text × List Rule
+table_of command = (command.name.now, map rule_of command.arguments.now)
 
--- `show STL`
-abbrev pub show_app : App
-show_app = with_rules (new_app (codes "show")) (required_rule (codes "stl") ∷ [])
-
--- `normal IN OUT`
-abbrev pub normal_app : App
-normal_app = with_rules (new_app (codes "normal"))
-    (required_rule (codes "in") ∷ required_rule (codes "out") ∷ [])
-
--- `schedule STL PES [--page P] [--origin T] [--every N] [--option O] [--serial]`
-abbrev pub schedule_app : App
-schedule_app = with_rules (new_app (codes "schedule"))
-    (required_rule (codes "stl") ∷ required_rule (codes "pes")
-    ∷ option_rule (codes "page") (codes "888") ∷ option_rule (codes "origin") (codes "0")
-    ∷ option_rule (codes "every") (codes "250") ∷ option_rule (codes "option") (codes "english")
-    ∷ flag_rule (codes "serial") ∷ [])
-
--- `check STL PES [--page P] [--origin T] [--every N] [--option O] [--complete]`
-abbrev pub check_app : App
-check_app = with_rules (new_app (codes "check"))
-    (required_rule (codes "stl") ∷ required_rule (codes "pes")
-    ∷ option_rule (codes "page") (codes "888") ∷ option_rule (codes "origin") (codes "0")
-    ∷ option_rule (codes "every") (codes "250") ∷ option_rule (codes "option") (codes "english")
-    ∷ flag_rule (codes "complete") ∷ [])
-
--- `listen PES [--page P] [--origin T] --at TIME [--skip N] [--flip F] [--lose L] [--receiver R]
--- [--complete]`
-abbrev pub listen_app : App
-listen_app = with_rules (new_app (codes "listen"))
-    (required_rule (codes "pes") ∷ option_rule (codes "page") (codes "888")
-    ∷ option_rule (codes "origin") (codes "0") ∷ required_option_rule (codes "at")
-    ∷ option_rule (codes "skip") (codes "0") ∷ bare_option_rule (codes "flip")
-    ∷ bare_option_rule (codes "lose") ∷ option_rule (codes "receiver") (codes "blank")
-    ∷ flag_rule (codes "complete") ∷ [])
+-- A program with these commands after those that it has.
+abbrev pub with_commands : App → List (Text × List Rule) → App
+with_commands app [] = app
+with_commands app (command ∷ commands) =
+    with_commands (with_subcommand app (with_rules (new_app command.0) command.1).top) commands
 
 -- The program before its commands: it offers neither help nor a version, and wants a command.
 abbrev pub bare_app : App
@@ -95,21 +102,9 @@ bare_app = let plain = new_app (codes "subttx") in record plain {
   };
 }
 
--- The commands that list what a packet or a file holds.
-abbrev pub with_listings : App → App
-with_listings app =
-    with_subcommand (with_subcommand (with_subcommand app packet_app.top) packets_app.top)
-    show_app.top
-
--- The commands that write a file, or judge a pair of files.
-abbrev pub with_makers : App → App
-with_makers app =
-    with_subcommand (with_subcommand (with_subcommand app normal_app.top) schedule_app.top)
-    check_app.top
-
 -- The program and its commands.
 unfoldable pub subttx_app : App
-subttx_app = with_subcommand (with_makers (with_listings bare_app)) listen_app.top
+subttx_app = with_commands bare_app commands
 
 -- What `clap`'s contract says of words, as functions of them. The kinds of its refusal: none where
 -- it takes the words.
@@ -126,9 +121,7 @@ are_sound words = takes subttx_app words
 
 -- The names of the commands.
 abbrev pub command_names : List Text
-command_names =
-    codes "packet" ∷ codes "packets" ∷ codes "show" ∷ codes "normal" ∷ codes "schedule"
-    ∷ codes "check" ∷ codes "listen" ∷ []
+command_names = map (λ command. command.0) commands
 
 -- The words of the command line as texts.
 abbrev pub texts_of : List (Bor (List ℕ)) → List Text

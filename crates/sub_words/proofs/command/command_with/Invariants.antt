@@ -1,6 +1,6 @@
 -- The command with the rules that are left is the whole command.
 use Rattle.std.proofs.Common.{◌≡◌, drop, false, map}
-use Rattle.clap.specs.Words.{app_of, new_app}
+use Rattle.clap.specs.Words.{app_of}
 use Rattle.clap.specs.declared.builder.command.Command.TheViews.{out-Command}
 use Rattle.sub_words.specs.Commands.{rule_of, with_rules}
 use Rattle.sub_words.proofs.command.command_with.Given as goal
