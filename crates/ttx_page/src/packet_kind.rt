@@ -25,6 +25,9 @@ impl PacketKind {
     ghost use Rattle.ttx_packet.specs.PageHeader.{header};
 
     /// What a packet is to a receiver of a page.
+    ///
+    /// It is built into its callers: a receiver looks at no more of a header than C4.
+    #[inline(always)]
     pub fn of(watched: PageId, packet: &Packet) -> PacketKind
         ensures value { result ≡ kind watched packet.now }
         ensures row { (row : ℕ) → result ≡ PacketKind.Row row → (1 ≤ row) × (row ≤ 24) }

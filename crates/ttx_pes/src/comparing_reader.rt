@@ -1,6 +1,6 @@
 //! Reading PES packets that are mostly the one before, sent again.
-ghost use Rattle.std.specs.Prelude.{◌≡◌, ℕ, ◌+◌, ◌<◌, ◌≢◌, ◌↔◌, true, false, [], if◌then◌else◌};
-ghost use Rattle.std.specs.Prelude.{length};
+ghost use Rattle.std.specs.Prelude.{◌≡◌, ℕ, ◌+◌, ◌<◌, ◌≤◌, ◌≢◌, ◌↔◌, true, false, []};
+ghost use Rattle.std.specs.Prelude.{if◌then◌else◌, length};
 ghost use Rattle.std.specs.Prelude.{Some, Ok, Err, OnOk, IfErr};
 ghost use Rattle.sub_io.specs.Device.{CanFail, CountsIf, failed};
 ghost use Rattle.sub_io.specs.Reading.{IfTold};
@@ -10,7 +10,7 @@ ghost use Rattle.ttx_pes.specs.declared.comparing_reader.Compared.TheVariants.{E
 ghost use Rattle.ttx_pes.specs.declared.fault.PesFault.TheVariants.{Ended, TooMany, Write};
 ghost use Rattle.ttx_pes.specs.declared.progress.Progress.TheVariants.{Reading, AtEnd, Broken};
 ghost use Rattle.ttx_pes.specs.PesPacket.{empty_value};
-ghost use Rattle.ttx_pes.specs.Reading.{answer_at, is_format_fault, rest_after};
+ghost use Rattle.ttx_pes.specs.Reading.{answer_at, is_format_fault, most_packets, rest_after};
 ghost use Rattle.ttx_pes.specs.Reader.{BeginsNone, FailsWithin, given_frame, progress_after};
 
 use crate::fault::PesFault;
@@ -167,6 +167,7 @@ impl ComparingReader {
         // How the reader goes on.
         ensures progress { self.new.progress
             ≡ progress_after self.old.progress (given_frame (as_given result) self.new.frame) }
+        ensures few { (given : ℕ) → self.new.progress ≡ Reading given → given ≤ most_packets }
         ensures at_end { self.old.progress ≡ AtEnd
             → (result ≡ Ok End) × (source.new ≡ source.old) }
         ensures ended { (self.old.progress ≡ Broken) ↔ (result ≡ Err Ended) }
