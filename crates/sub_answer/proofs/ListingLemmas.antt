@@ -17,7 +17,7 @@ use Rattle.stl_file.specs.Fault as stl_fault
 use Rattle.stl_file.specs.Gsi.{gsi_size}
 use Rattle.stl_file.specs.Reader.{EndsKept, ReaderValue, TakesSubtitle, opened_at}
 use Rattle.stl_file.specs.Reader.{outcome_left, outcome_of}
-use Rattle.stl_file.specs.Reading.{fails}
+use Rattle.stl_file.specs.Reading.{fails, Outcome}
 use Rattle.stl_file.specs.Subtitle.{SubtitleValue}
 use Rattle.stl_file.specs.declared.fault.StlFault.{StlFault}
 use Rattle.stl_file.specs.declared.fault.StlFault.TheVariants as stl
@@ -25,6 +25,7 @@ use Rattle.sub_answer.specs.Faults.{pes_kind, stl_kind}
 use Rattle.sub_answer.specs.Listing.{Gives, Listing, PrintsOrFails, ends_in_fault}
 use Rattle.sub_answer.specs.Listing.{Lists, followed}
 use Rattle.sub_answer.specs.PacketsListing.{answer_then, packets_from}
+use Rattle.sub_answer.specs.ShowListing.{FailsAfterSubtitles}
 use Rattle.sub_answer.specs.Told.{status_of}
 use Rattle.sub_answer.specs.declared.status.Status.{Status}
 use Rattle.sub_answer.specs.declared.status.Status.TheVariants.{Fault}
@@ -135,11 +136,11 @@ front-cut Before At After told left rest old now new text (Some status) n n' i g
 
 -- Something is listed where a source has not failed.
 lists-some :
-    (O : Type 0) (listing_of : O → Listing) (given : List ℕ → O) (TellsRead : O → Type 0)
-    (left : Option (List ℕ))
+    (O : Type 0) (listing_of : O → Listing) (given : List ℕ → O)
+    (Fails : Option (List ℕ) → O → Option (List ℕ) → Type 0) (left : Option (List ℕ))
     → O
-    → (more : Listing) × Lists listing_of given TellsRead left left false more
-lists-some O listing_of given TellsRead None o = (
+    → (more : Listing) × Lists listing_of given Fails left left false more
+lists-some O listing_of given Fails None o = (
   listing_of o,
   record {
     outcome = o;
@@ -148,7 +149,7 @@ lists-some O listing_of given TellsRead None o = (
     failure = λ e. absurd cc;
   },
 )
-lists-some O listing_of given TellsRead (Some b) o = (
+lists-some O listing_of given Fails (Some b) o = (
   listing_of (given b),
   record {
     outcome = given b;
@@ -160,24 +161,25 @@ lists-some O listing_of given TellsRead (Some b) o = (
 
 -- A piece was read, and what is given from here on comes behind it. For the listers.
 pub gives-next :
-    (O : Type 0) (before after : O → Listing) (given given' : List ℕ → O) (TellsRead : O → Type 0)
+    (O : Type 0) (before after : O → Listing) (given given' : List ℕ → O)
+    (Fails Fails' : Option (List ℕ) → O → Option (List ℕ) → Type 0)
     (piece : O → O) (told left : Option (List ℕ)) (text : List ℕ)
     → ((o : O) → before (piece o) ≡ followed text (after o))
-    → ((o : O) → TellsRead o → TellsRead (piece o))
+    → ((o : O) (end : Option (List ℕ)) → Fails' left o end → Fails told (piece o) end)
     → IfTold told (λ bytes.
     (rest : List ℕ) × (left ≡ Some rest) × (given bytes ≡ piece (given' rest)))
     → O
-    → Gives (Lists before given TellsRead) (Lists after given' TellsRead) told left text None
-gives-next O before after given given' TellsRead piece told left text lines tells reads o = (
+    → Gives (Lists before given Fails) (Lists after given' Fails') told left text None
+gives-next O before after given given' Fails Fails' piece told left text lines tells reads o = (
   λ end failed more l. record {
     outcome = piece l.outcome;
     listing_is = ap (followed text) l.listing_is ∙ sym (lines l.outcome);
     exact = λ bytes is ok.
         let read = reads bytes is in
         ap piece (l.exact read.0 read.1 ok) ∙ sym read.2;
-    failure = λ e. tells l.outcome (l.failure e);
+    failure = λ e. tells l.outcome end (l.failure e);
   },
-  lists-some O after given' TellsRead left o,
+  lists-some O after given' Fails' left o,
 )
 
 -- Equal texts and equal statuses are equal listings.
@@ -261,6 +263,14 @@ pub stl-status : (f : StlFault)
     → status_of (stl_kind f) ≡ Fault
 stl-status stl.Read e = refl
 stl-status f e = cc
+
+-- After the GSI block no block was taken. For `list_subtitles`.
+pub fails-first : (n : ℕ) (told left : Option (List ℕ)) (outcome : Outcome)
+    → n ≡ 0
+    → FailsAfterSubtitles n told outcome left
+    → FailsAfterSubtitles 0 told outcome left
+fails-first n told left outcome none h =
+    subst (λ (k : ℕ). FailsAfterSubtitles k told outcome left) none h
 
 -- What a file gives whose GSI block is read. For `list_subtitles`.
 pub outcome_of-opened : (bytes : List ℕ) (r : ReaderValue)

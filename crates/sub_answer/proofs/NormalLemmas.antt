@@ -16,12 +16,11 @@ use Rattle.stl_file.specs.declared.fault.NormalFault.TheVariants as normal
 use Rattle.stl_file.specs.File.{IsFile}
 use Rattle.stl_file.specs.NormalForm.{Judged, NormalAnswers, WritesNormal, WritesPrefix}
 use Rattle.stl_file.specs.NormalForm.{normal_form, subtitles_of}
-use Rattle.stl_file.specs.Reader.{outcome_of}
+use Rattle.stl_file.specs.Reader.{block_of_byte, outcome_of}
 use Rattle.stl_file.specs.Reading.{Outcome}
 use Rattle.stl_file.specs.Subtitle.{SubtitleValue}
 use Rattle.stl_file.proofs.FirstBytes.{outcome_of-first}
-use Rattle.sub_answer.specs.NormalWriting.{TellsRead, most_read}
-use Rattle.sub_answer.specs.NormalWriting.{normal_of, normal_writing, read_block}
+use Rattle.sub_answer.specs.NormalWriting.{TellsRead, most_read, normal_of, normal_writing}
 use Rattle.sub_answer.specs.Writing.{Completes, written, written_line}
 use Rattle.sub_answer.specs.declared.answering.normal.InputFault.TheVariants as input
 use Rattle.sub_answer.specs.declared.status.Status.TheVariants.{Done, Refused}
@@ -162,12 +161,12 @@ pub block-at : (x y z : Option (List ℕ)) (a block : ℕ) (xs : List ℕ)
     → Consumes x y (take a xs)
     → Keeps y z
     → a ≤ length xs
-    → block ≡ read_block a
+    → block ≡ block_of_byte a
     → TellsRead x z (input.Read block)
 block-at x y z a block xs p kept fits is = (
   take a xs,
   Consumes-kept x y z _ p kept,
-  is ∙ ap read_block (sym (length-take-le a xs fits)),
+  is ∙ ap block_of_byte (sym (length-take-le a xs fits)),
 )
 
 -- the GSI block of the normal form is the file's

@@ -1,7 +1,7 @@
 -- The answer of a check by the clause of `check_files`, `answered`; where the files are accepted,
 -- `done-exactly`; where memory was refused, `memory-printed`. All serve `print_verdict`.
-use Rattle.std.proofs.Common.{◌≡◌, ◌≢◌, ◌↔◌, ℕ, List, Option, Some, Result, Ok, Err}
-use Rattle.std.proofs.Common.{IsOk, Bool, true, false, refl, arith, ◌+◌, if◌then◌else◌}
+use Rattle.std.proofs.Common.{◌≡◌, ◌≢◌, ◌↔◌, ℕ, List, Option, Some, Result, Ok, Err, IsOk, Bool}
+use Rattle.std.proofs.Common.{true, false, refl, arith, ◌+◌, if◌then◌else◌, ap}
 use Rattle.std.specs.Io.KnownBytes.{Appends}
 use Rattle.sub_io.specs.Device.{failed}
 use Rattle.sub_io.specs.Reading.{IfTold}
@@ -78,6 +78,7 @@ pub answered :
 answered national options file bytes (Ok a) are = record {
   subtitles = are.subtitles;
   pes = accepted_from national options file bytes a are;
+  read = λ index e. cc;
 }
 answered national options file bytes (Err f) are = record {
   subtitles = are.subtitles;
@@ -91,6 +92,15 @@ answered national options file bytes (Err f) are = record {
         loads = given.1;
         reads = refl;
         first = (are.checked given.0 given.1 bytes refl).first looked fine;
+      };
+  read = λ index e.
+      let is : f ≡ fault.Pes index pes_fault.Read = cc in
+      let given =
+      has_programme national (outcome_of file) (Err f) are.refused (ap is_subtitle_fault is) in
+      record {
+        programme = given.0;
+        loads = given.1;
+        up_to = (are.checked given.0 given.1 bytes refl).read index e;
       };
 }
 

@@ -4,7 +4,8 @@ use Rattle.std.proofs.Common.{if◌then◌else◌}
 use Rattle.sub_io.specs.Reading.{IfTold}
 use Rattle.stl_file.specs.Reader.{outcome_of}
 use Rattle.stl_file.specs.declared.fault.StlFault.TheVariants.{Read}
-use Rattle.stl_rows.specs.Loading.{TellsFault}
+use Rattle.stl_rows.specs.Fault.{is_read_kind}
+use Rattle.stl_rows.specs.Loading.{FailsLoading, TellsFault}
 use Rattle.stl_rows.specs.declared.fault.LoadFaultKind.{LoadFaultKind}
 use Rattle.stl_rows.specs.declared.fault.LoadFaultKind.TheVariants.{File, Memory}
 use Rattle.stl_rows.specs.declared.national.National.{National}
@@ -29,10 +30,11 @@ fault_line-kind : (national : National) (told left : Option (List ℕ)) (line : 
     (kind : LoadFaultKind)
     → line ≡ line_of (load_told kind block)
     → IfTold told (λ bytes. TellsFault national (outcome_of bytes) block kind)
+    → (is_read_kind kind ≡ true → FailsLoading national told left block)
     → HasScheduleFaultLine national told left line (load_end kind)
-fault_line-kind national told left line block (File Read) is t = (block, is)
-fault_line-kind national told left line block Memory is t = (block, is, t)
-fault_line-kind national told left line block kind is t = tt
+fault_line-kind national told left line block (File Read) is t place = (block, is, place refl)
+fault_line-kind national told left line block Memory is t place = (block, is, t)
+fault_line-kind national told left line block kind is t place = tt
 
 -- The same of the end that goes with the fault.
 pub fault_line-loading : (national : National) (told left : Option (List ℕ)) (line : List ℕ)
@@ -40,9 +42,10 @@ pub fault_line-loading : (national : National) (told left : Option (List ℕ)) (
     → ending ≡ load_end kind
     → line ≡ line_of (load_told kind block)
     → IfTold told (λ bytes. TellsFault national (outcome_of bytes) block kind)
+    → (is_read_kind kind ≡ true → FailsLoading national told left block)
     → HasScheduleFaultLine national told left line ending
-fault_line-loading national told left line block kind ending end_is is t =
-    rw end_is (fault_line-kind national told left line block kind is t)
+fault_line-loading national told left line block kind ending end_is is t place =
+    rw end_is (fault_line-kind national told left line block kind is t place)
 
 -- A device that failed, or no memory: the status is `Fault`.
 pub fault-of_read : (ending : End) (n n' : ℕ) (out out' : Option (List ℕ)) (line : List ℕ)

@@ -1,8 +1,13 @@
 -- What is said of the answer to a request, command by command.
-use Rattle.std.specs.Prelude.{⊤, ◌≡◌, ◌≢◌, ◌↔◌, ℕ, Bool, true, false, List, Option, Result}
+use Rattle.std.specs.Prelude.{⊤, ◌≡◌, ◌≢◌, ◌↔◌, ℕ, Bool, true, false, List, Option, Result, Err}
 use Rattle.sub_io.specs.Device.{RisesIf, failed}
 use Rattle.sub_io.specs.Reading.{IfTold}
+use Rattle.ttx_pes.specs.Reader.{FailsAtPacket}
+use Rattle.ttx_pes.specs.declared.fault.PesFault.TheVariants.{Read}
 use Rattle.stl_file.specs.Reader.{outcome_of}
+use Rattle.stl_rows.specs.Fault.{is_read}
+use Rattle.stl_rows.specs.Loading.{FailsLoading}
+use Rattle.stl_rows.specs.declared.fault.LoadFault.{LoadFault}
 use Rattle.stl_rows.specs.declared.national.National.{National}
 use Rattle.sub_plan.specs.Options.{OptionsValue}
 use Rattle.sub_check.specs.Checking.{TellsSubtitles}
@@ -12,6 +17,7 @@ use Rattle.sub_check.specs.PesReading.{ReadsAs}
 use Rattle.sub_check.specs.Transmission.{Transmission}
 use Rattle.sub_check.specs.declared.checker.Accepted.{Accepted}
 use Rattle.sub_check.specs.declared.fault.CheckFault.{CheckFault}
+use Rattle.sub_check.specs.declared.fault.CheckFault.TheVariants as check
 use Rattle.sub_answer.specs.CheckLines.{verdict}
 use Rattle.sub_answer.specs.DeviceCall.{SinkCall, SourceCall}
 use Rattle.sub_answer.specs.Listing.{Listing, PrintsOrFails}
@@ -105,6 +111,17 @@ pub record PrintsAnswer
   -- It tells which device failed.
   pub stl_count : RisesIf stl.old_count (failed is_stl_read answer) stl.new_count
   pub pes_count : RisesIf pes.old_count (failed is_pes_read answer) pes.new_count
+  -- That a source failed is told at the block of the byte that was asked for, and no fault comes
+  -- before it, or at the PES packet within which it failed.
+  pub stl_read :
+      (f : LoadFault)
+      → answer ≡ Err (check.Subtitles f)
+      → is_read f ≡ true
+      → FailsLoading national stl.told stl.left f.block
+  pub pes_read :
+      (index : ℕ)
+      → answer ≡ Err (check.Pes index Read)
+      → FailsAtPacket index pes.told pes.left
   -- Where it refuses the subtitle file, no PES byte is read.
   pub before : failed is_subtitle_fault answer ≡ true → pes.new ≡ pes.old
   -- Where the files tell their bytes, these decide it.

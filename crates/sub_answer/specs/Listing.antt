@@ -96,17 +96,17 @@ PrintsOrFails old_count old new_count new listing status =
     ⊎ ((new_count ≡ old_count + 1) × AppendsPrefix old new listing.text × (status ≡ Fault))
 
 -- The outcome of reading a source is listed: where the source tells its bytes and did not fail,
--- these decide the outcome, and where it failed, the outcome tells it. The source is known by the
--- bytes that it told before and tells after.
+-- these decide the outcome, and where it failed, what was taken of it does. The source is known by
+-- the bytes that it told before and tells after.
 pub record Lists
     {Outcome : Type 0} (listing_of : Outcome → Listing) (given : List ℕ → Outcome)
-    (TellsRead : Outcome → Type 0)
+    (FailsAfter : Option (List ℕ) → Outcome → Option (List ℕ) → Type 0)
     (told left : Option (List ℕ)) (failed : Bool) (listing : Listing)
     : Type 0 where
   pub outcome : Outcome
   pub listing_is : listing ≡ listing_of outcome
   pub exact : IfTold told (λ bytes. failed ≡ false → outcome ≡ given bytes)
-  pub failure : failed ≡ true → TellsRead outcome
+  pub failure : failed ≡ true → FailsAfter told outcome left
 
 -- A source was read and listed, whether it failed or not, and the listing was printed, or a sink
 -- that failed has a prefix of it.

@@ -1,10 +1,10 @@
 -- What `normal` writes and prints, and how much of its input it reads.
-use Rattle.std.specs.Prelude.{◌≡◌, ⊤, ℕ, ◌+◌, ◌-◌, ◌/◌, nat_lt, List, codes, length, take}
-use Rattle.std.specs.Prelude.{Bool, true, false, Option, Ok, Err, if◌then◌else◌}
+use Rattle.std.specs.Prelude.{◌≡◌, ⊤, ℕ, List, codes, length, take, Bool, true, false, Option, Ok}
+use Rattle.std.specs.Prelude.{Err}
 use Rattle.std.specs.Io.KnownBytes.{Consumes}
 use Rattle.stl_file.specs.Gsi.{gsi_size}
 use Rattle.stl_file.specs.NormalForm.{Judged, normal_form, subtitles_of}
-use Rattle.stl_file.specs.Reader.{outcome_of}
+use Rattle.stl_file.specs.Reader.{block_of_byte, outcome_of}
 use Rattle.stl_file.specs.declared.fault.NormalFault.TheVariants as normal
 use Rattle.stl_file.specs.declared.fault.StlFault.TheVariants as stl
 use Rattle.sub_answer.specs.Faults.{normal_told, stl_told, usage_told}
@@ -36,14 +36,10 @@ normal_writing s = normal_of s (subtitles_of (outcome_of s))
 abbrev pub most_read : ℕ
 most_read = 12800897
 
--- The block of the byte that stands after n bytes: 0 is the GSI block.
-abbrev pub read_block : ℕ → ℕ
-read_block n = if nat_lt n 1024 then 0 else (n - 1024) / 128 + 1
-
 -- The source failed at a byte of this block, after the bytes that were taken.
 abbrev pub TellsRead : Option (List ℕ) → Option (List ℕ) → InputFault → Type 0
 TellsRead old new (input.Read block) =
-    (bytes : List ℕ) × Consumes old new bytes × (block ≡ read_block (length bytes))
+    (bytes : List ℕ) × Consumes old new bytes × (block ≡ block_of_byte (length bytes))
 TellsRead old new input.Memory = ⊤
 
 -- The source failed.
@@ -57,7 +53,7 @@ is_read input.Memory = false
 abbrev pub HasReadLine : Option (List ℕ) → Option (List ℕ) → List ℕ → Type 0
 HasReadLine old new line =
     (bytes : List ℕ) × Consumes old new bytes
-    × (line ≡ line_of (stl_told stl.Read (read_block (length bytes))))
+    × (line ≡ line_of (stl_told stl.Read (block_of_byte (length bytes))))
 
 -- What is printed where a device or memory failed.
 abbrev pub HasNormalFaultLine : Option (List ℕ) → Option (List ℕ) → List ℕ → End → Type 0

@@ -3,6 +3,7 @@ use Rattle.std.specs.Prelude.{◌≡◌, ℕ, zero, suc, ◌+◌, List, [], ◌�
 use Rattle.std.specs.Prelude.{Option, Some, None, Result, Ok, Err, Bool}
 use Rattle.ttx_pes.specs.DataUnit.{UnitValue}
 use Rattle.ttx_pes.specs.PesPacket.{PesValue}
+use Rattle.ttx_pes.specs.Reader.{FailsWithin, TakesPesPacket}
 use Rattle.ttx_pes.specs.Reading.{answer_at, most_packets, rest_after}
 use Rattle.ttx_pes.specs.declared.fault.PesFault.{PesFault}
 use Rattle.ttx_pes.specs.declared.fault.PesFault.TheVariants.{Read, TooMany}
@@ -30,11 +31,12 @@ packets_from zero index (x ∷ b) = fails TooMany
 packets_from (suc room) index bytes =
     answer_then (answer_at index bytes) (packets_from room (index + 1) (rest_after bytes))
 
--- It ends where the source failed.
-abbrev pub TellsPesRead : PesOutcome → Type 0
-TellsPesRead ends = ⊥
-TellsPesRead (fails f) = f ≡ Read
-TellsPesRead (gives v more) = TellsPesRead more
+-- The source gave these PES packets, and then failed within the next one.
+abbrev pub FailsAfterPackets : Option (List ℕ) → PesOutcome → Option (List ℕ) → Type 0
+FailsAfterPackets told ends left = ⊥
+FailsAfterPackets told (fails f) left = (f ≡ Read) × FailsWithin told left
+FailsAfterPackets told (gives v more) left =
+    (behind : Option (List ℕ)) × TakesPesPacket told behind v × FailsAfterPackets behind more left
 
 -- The lines of Teletext units, of which the first has this number.
 abbrev pub unit_lines : ℕ → List UnitValue → List ℕ
@@ -53,4 +55,4 @@ pes_listing index (gives v more) = followed (frame_lines index v) (pes_listing (
 
 -- A file of PES packets is listed.
 abbrev pub ListsPackets : Option (List ℕ) → Option (List ℕ) → Bool → Listing → Type 0
-ListsPackets = Lists (pes_listing 0) (packets_from most_packets 0) TellsPesRead
+ListsPackets = Lists (pes_listing 0) (packets_from most_packets 0) FailsAfterPackets

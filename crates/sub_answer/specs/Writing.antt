@@ -7,7 +7,7 @@ use Rattle.sub_io.specs.Reading.{IfTold}
 use Rattle.stl_file.specs.Reader.{outcome_of}
 use Rattle.stl_file.specs.Subtitle.{SubtitleValue}
 use Rattle.stl_file.specs.declared.fault.StlFault.TheVariants.{Read}
-use Rattle.stl_rows.specs.Loading.{EndsRecord, loaded}
+use Rattle.stl_rows.specs.Loading.{EndsRecord, FailsLoading, loaded}
 use Rattle.stl_rows.specs.Programme.{ProgrammeValue}
 use Rattle.stl_rows.specs.declared.fault.LoadFault.{LoadFault}
 use Rattle.stl_rows.specs.declared.fault.LoadFaultKind.{LoadFaultKind}
@@ -106,6 +106,7 @@ abbrev pub HasScheduleFaultLine
     : National → Option (List ℕ) → Option (List ℕ) → List ℕ → End → Type 0
 HasScheduleFaultLine national told left line end.ReadFailed =
     (block : ℕ) × (line ≡ line_of (load_told (File Read) block))
+    × FailsLoading national told left block
 HasScheduleFaultLine national told left line end.WriteFailed =
     line ≡ line_of (plan_told plan_fault.Write)
 HasScheduleFaultLine national told left line end.NoMemory =

@@ -6,10 +6,11 @@ ghost use Rattle.sub_io.specs.Device.{CanFail, CountsFailure, CountsIf, failed};
 ghost use Rattle.sub_io.specs.Reading.{IfTold};
 ghost use Rattle.stl_file.specs.Fault.{is_write};
 ghost use Rattle.stl_file.specs.NormalForm.{NormalAnswers};
+ghost use Rattle.stl_file.specs.Reader.{block_of_byte};
 ghost use Rattle.stl_file.specs.declared.fault.NormalFault.TheVariants.{Write};
 ghost use Rattle.sub_answer.specs.Faults.{normal_told};
-ghost use Rattle.sub_answer.specs.NormalWriting.{HasNormalFaultLine, TellsRead, is_read};
-ghost use Rattle.sub_answer.specs.NormalWriting.{most_read, normal_writing, read_block};
+ghost use Rattle.sub_answer.specs.NormalWriting.{HasNormalFaultLine, TellsRead, is_read, most_read};
+ghost use Rattle.sub_answer.specs.NormalWriting.{normal_writing};
 ghost use Rattle.sub_answer.specs.Told.{line_of};
 ghost use Rattle.sub_answer.specs.Writing.{Works, is_read_end, is_write_end};
 
@@ -155,7 +156,7 @@ pub fn read_input<A: Allocator + Drop, S: Source>(
 // The block of the byte that stands after `len` bytes: 0 in the GSI block.
 fn block_of(len: usize) -> u32
     requires { len < most_read }
-    ensures { result ≡ read_block len }
+    ensures { result ≡ block_of_byte len }
 {
     if len < 1024 {
         0

@@ -9,7 +9,8 @@ ghost use Rattle.stl_file.specs.declared.progress.Progress.TheVariants.{Reading}
 ghost use Rattle.sub_answer.specs.DeviceCall.{sink_call, source_call};
 ghost use Rattle.sub_answer.specs.Lines.{subtitle_line};
 ghost use Rattle.sub_answer.specs.Listing.{CountsFault, Lists, PrintsListing};
-ghost use Rattle.sub_answer.specs.ShowListing.{ListsSubtitles, TellsStlRead, subtitles_listing};
+ghost use Rattle.sub_answer.specs.ShowListing.{FailsAfterSubtitles, ListsSubtitles};
+ghost use Rattle.sub_answer.specs.ShowListing.{subtitles_listing};
 
 use crate::faults::told_of_stl;
 use crate::lines::{Line, push_decimal, push_text, push_text_digits, push_time, push_told};
@@ -59,7 +60,8 @@ impl Lister for SubtitleLister {
 
     ghost pieces = { λ l. most_blocks - l.reader.block };
 
-    ghost lists = { λ l. Lists (subtitles_listing l.count) (outcome_left l.reader) TellsStlRead };
+    ghost lists = { λ l. Lists (subtitles_listing l.count) (outcome_left l.reader)
+        (FailsAfterSubtitles l.reader.block) };
 
     fn next<S: Source>(&mut self, source: &mut S, text: &mut Text) -> Option<Status> {
         match self.reader.next(source) {

@@ -1,13 +1,14 @@
 -- The GSI block is read, outcome_of-opened, or refused: outcome_of-refused.
-use Rattle.std.proofs.Common.{◌≡◌, ◌∙◌, Some, ap, arith, drop, refl, rules, sym}
+use Rattle.std.proofs.Common.{◌≡◌, ◌∙◌, Some, ap, arith, drop, refl, rules, sym, inl, inr}
 use Rattle.stl_file.specs.Gsi.{gsi_size}
 use Rattle.stl_file.specs.Reading.{fails}
+use Rattle.stl_file.specs.declared.fault.StlFault.{StlFault}
 use Rattle.sub_answer.specs.Faults.{stl_kind, stl_told}
 use Rattle.sub_answer.specs.Listing.{ends_in_fault, told_listing}
 use Rattle.sub_answer.specs.Told.{line_of, status_of}
 use Rattle.sub_answer.specs.declared.status.Status.{Status}
 use Rattle.sub_answer.proofs.ListingLemmas.{outcome_of-opened, outcome_of-refused, stl-failed}
-use Rattle.sub_answer.proofs.ListingLemmas.{stl-read, stl-status}
+use Rattle.sub_answer.proofs.ListingLemmas.{stl-read, stl-status, fails-first}
 use Rattle.sub_answer.proofs.PrintingLemmas.{printed-fault, risen-of_fault}
 use Rattle.sub_answer.proofs.WritingLemmas.{counted}
 use Rattle.sub_answer.proofs.answering.show.list_subtitles.Goals as goal
@@ -26,7 +27,14 @@ returns-in-Ok-clause-listing g c =
         exact = λ bytes told ok.
             listed.is_listed.exact (drop gsi_size bytes) (c.in-Ok.ensures.left bytes told) ok
             ∙ outcome_of-opened bytes c.in-Ok.reader (c.in-Ok.ensures.exact bytes told refl);
-        failure = listed.is_listed.failure;
+        failure = λ e.
+            inr (
+              _,
+              c.in-Ok.reader.gsi,
+              c.in-Ok.ensures.taken.0,
+              c.in-Ok.ensures.taken.1,
+              fails-first _ _ _ _ c.in-Ok.ensures.start.0 (listed.is_listed.failure e),
+            );
       };
       source_count = omega (arith, opened, counted);
       printed = listed.printed;
@@ -45,7 +53,14 @@ returns-in-Err-clause-listing g c =
         exact = λ bytes told ok.
             outcome_of-refused bytes f
             (c.in-Err.ensures.exact bytes told (sym (stl-failed f) ∙ ok));
-        failure = λ e. stl-read f e;
+        failure = λ e.
+            let taken = c.in-Err.ensures.failed (sym (stl-failed f) ∙ e) in
+            inl (
+              ap (λ (x : StlFault). fails x 0) (stl-read f e),
+              taken.0,
+              taken.1,
+              taken.2,
+            );
       };
       source_count = rw (stl-failed f) c.in-Err.ensures.count;
       printed =

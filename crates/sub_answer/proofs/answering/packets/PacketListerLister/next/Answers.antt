@@ -6,7 +6,7 @@ use Rattle.ttx_pes.specs.Reading.{most_packets, rest_after}
 use Rattle.ttx_pes.specs.declared.fault.PesFault.{PesFault}
 use Rattle.sub_answer.specs.Faults.{pes_told}
 use Rattle.sub_answer.specs.Listing.{ends_in_fault, followed}
-use Rattle.sub_answer.specs.PacketsListing.{TellsPesRead, answer_then, ends, fails, gives}
+use Rattle.sub_answer.specs.PacketsListing.{FailsAfterPackets, answer_then, ends, fails, gives}
 use Rattle.sub_answer.specs.PacketsListing.{packets_from, pes_listing}
 use Rattle.sub_answer.specs.Told.{line_of, status_of}
 use Rattle.sub_answer.specs.declared.status.Status.{Status}
@@ -21,10 +21,11 @@ returns-in-Ok-true-clause-gives g c =
     let is : c.next_into.result ≡ Ok true = cc in
     gives-next _ (pes_listing index) (pes_listing (index + 1))
     (packets_from (most_packets - index) index)
-    (packets_from (most_packets - (index + 1)) (index + 1)) TellsPesRead (gives frame) _ _
+    (packets_from (most_packets - (index + 1)) (index + 1)) FailsAfterPackets FailsAfterPackets
+    (gives frame) _ _
     c.push_frame.new.text.items
     (λ o. ap (λ t. followed t (pes_listing (index + 1) o)) (sym c.push_frame.ensures))
-    (λ o tells. tells)
+    (λ o end fails. (_, c.next_into.ensures.frame is, fails))
     (λ bytes told. (
       rest_after bytes,
       rw is at (c.next_into.ensures.left index c.requires.ready.0 bytes told),
@@ -73,5 +74,8 @@ returns-in-Err-clause-gives g c =
           (rest_after bytes)))
           (c.in-Err.ensures.exact index c.requires.ready.0 bytes told
           (sym (pes-failed f) ∙ failed ∙ ok)));
-      failure = λ e. pes-read f (failed ∙ e);
+      failure = λ e. (
+        pes-read f (failed ∙ e),
+        c.in-Err.ensures.failed (sym (pes-failed f) ∙ failed ∙ e),
+      );
     }

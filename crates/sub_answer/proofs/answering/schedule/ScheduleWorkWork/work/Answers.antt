@@ -12,4 +12,4 @@ returns-in-Err-clause-line g c =
     (c.push_told.ensures.items
     ∙ ap (λ (xs : List ℕ). xs ++ line_of (value_of c.told_of_load.result)) c.requires.line
     ∙ ap line_of c.told_of_load.ensures.value)
-    c.in-Err.ensures.fault
+    c.in-Err.ensures.fault c.in-Err.ensures.read

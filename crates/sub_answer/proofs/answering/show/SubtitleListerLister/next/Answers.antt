@@ -8,7 +8,7 @@ use Rattle.stl_file.specs.declared.progress.Progress.TheVariants.{Reading}
 use Rattle.std.proofs.Common.{List, ℕ}
 use Rattle.sub_answer.specs.Faults.{stl_told}
 use Rattle.sub_answer.specs.Listing.{ends_in_fault, followed}
-use Rattle.sub_answer.specs.ShowListing.{TellsStlRead, subtitles_listing}
+use Rattle.sub_answer.specs.ShowListing.{FailsAfterSubtitles, subtitles_listing}
 use Rattle.sub_answer.specs.Told.{line_of, status_of}
 use Rattle.sub_answer.specs.declared.status.Status.{Status}
 use Rattle.sub_answer.proofs.ListingLemmas.{block-rises, gives-next, same-listing, stl-failed}
@@ -20,10 +20,15 @@ returns-in-Ok-Some-clause-gives g c =
     let count = c.args.self.now.count in
     let new = c.next.new.self in
     gives-next _ (subtitles_listing count) (subtitles_listing (count + 1))
-    (outcome_left c.args.self.now.reader) (outcome_left new) TellsStlRead
+    (outcome_left c.args.self.now.reader) (outcome_left new)
+    (FailsAfterSubtitles c.args.self.now.reader.block) (FailsAfterSubtitles new.block)
     (gives c.in-Ok-Some.subtitle new.block) _ _ c.push_subtitle.new.text.items
     (λ o. ap (λ t. followed t (subtitles_listing (count + 1) o)) (sym c.push_subtitle.ensures.items))
-    (λ o tells. tells)
+    (λ o end fails. (
+      _,
+      rw c.in-Ok-Some.field-0-is at (c.in-Ok-Some.ensures.subtitle c.requires.ready.0),
+      fails,
+    ))
     (λ bytes told.
     let answers = rw c.in-Ok-Some.field-0-is at (c.in-Ok-Some.ensures.exact bytes told refl) in
     (answers.rest, answers.rest_is, answers.outcome))
@@ -81,5 +86,8 @@ returns-in-Err-clause-gives g c =
       listing_is = same-listing _ _ _ _ text status;
       exact = λ bytes told ok.
           sym (c.in-Err.ensures.exact bytes told (sym (stl-failed f) ∙ failed ∙ ok)).outcome;
-      failure = λ e. stl-read f (failed ∙ e);
+      failure = λ e. (
+        stl-read f (failed ∙ e),
+        c.in-Err.ensures.failed c.requires.ready.0 (sym (stl-failed f) ∙ failed ∙ e),
+      );
     }
