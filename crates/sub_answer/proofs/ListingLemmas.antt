@@ -1,7 +1,7 @@
--- A listing that is printed piece after piece. Main lemmas: listed-more, listed-end, listed-cut,
--- packets_from-next, packets-fail, subtitles-fail.
+-- A listing that is printed piece after piece. Main lemmas: front-more, front-end, front-cut,
+-- gives-next, packets_from-next.
 use Rattle.std.proofs.Common.{◌≡◌, ◌∙◌, ap, refl, sym, subst, arith, ℕ, zero, suc, ◌+◌, ◌-◌, ◌<◌}
-use Rattle.std.proofs.Common.{◌≤◌}
+use Rattle.std.proofs.Common.{◌≤◌, ◌≢◌}
 use Rattle.std.proofs.Common.{List, [], ◌∷◌, ◌++◌, append_assoc, drop, length, inl, inr}
 use Rattle.std.proofs.Common.{Bool, true, false, Option, Some, None, Ok, Err}
 use Rattle.std.specs.Io.KnownBytes.{Appends}
@@ -22,10 +22,10 @@ use Rattle.stl_file.specs.Subtitle.{SubtitleValue}
 use Rattle.stl_file.specs.declared.fault.StlFault.{StlFault}
 use Rattle.stl_file.specs.declared.fault.StlFault.TheVariants as stl
 use Rattle.sub_answer.specs.Faults.{pes_kind, stl_kind}
-use Rattle.sub_answer.specs.Listing.{Gives, Listing, PrintsOrFails, ends_in_fault}
-use Rattle.sub_answer.specs.Listing.{Lists, followed}
+use Rattle.sub_answer.specs.Listing.{Extent, Gives, Listing, Lists, PrintsOrFails, ends_in_fault}
+use Rattle.sub_answer.specs.Listing.{extent_of, followed, has_failed, to_cut}
 use Rattle.sub_answer.specs.PacketsListing.{answer_then, packets_from}
-use Rattle.sub_answer.specs.ShowListing.{FailsAfterSubtitles}
+use Rattle.sub_answer.specs.ShowListing.{ReadsSubtitles}
 use Rattle.sub_answer.specs.Told.{status_of}
 use Rattle.sub_answer.specs.declared.status.Status.{Status}
 use Rattle.sub_answer.specs.declared.status.Status.TheVariants.{Fault}
@@ -35,25 +35,25 @@ use Rattle.sub_answer.specs.declared.status.Status.TheVariants.{Fault}
 -- What was printed since the sink held `old` is the front of each listing that goes on with what
 -- may be listed now.
 pub record IsFront
-    (Before After : Option (List ℕ) → Option (List ℕ) → Bool → Listing → Type 0)
+    (Before After : Option (List ℕ) → Option (List ℕ) → Extent → Listing → Type 0)
     (told left old now : Option (List ℕ))
     : Type 0 where
   pub text : List ℕ
   pub printed : Appends old now text
   pub listed :
-      (end : Option (List ℕ)) (failed : Bool) (more : Listing)
-      → After left end failed more
-      → Before told end failed (followed text more)
+      (end : Option (List ℕ)) (extent : Extent) (more : Listing)
+      → After left end extent more
+      → Before told end extent (followed text more)
 
 -- Nothing was printed so far. For `list`.
 pub front-none :
-    (Before : Option (List ℕ) → Option (List ℕ) → Bool → Listing → Type 0)
+    (Before : Option (List ℕ) → Option (List ℕ) → Extent → Listing → Type 0)
     (told old : Option (List ℕ))
     → IsFront Before Before told told old old
 front-none Before told old = record {
   text = [];
   printed = Appends-nil old;
-  listed = λ end failed more is. is;
+  listed = λ end extent more is. is;
 }
 
 -- Lines behind lines are lines.
@@ -65,7 +65,7 @@ followed-twice first second more =
 
 -- The next lines were printed, and more may follow. For `list`.
 pub front-more :
-    (Before At After : Option (List ℕ) → Option (List ℕ) → Bool → Listing → Type 0)
+    (Before At After : Option (List ℕ) → Option (List ℕ) → Extent → Listing → Type 0)
     (told left rest old now new : Option (List ℕ)) (text : List ℕ)
     → IsFront Before At told left old now
     → Gives At After left rest text None
@@ -74,51 +74,59 @@ pub front-more :
 front-more Before At After told left rest old now new text i gives p = record {
   text = i.text ++ text;
   printed = Appends-trans old now new i.text text i.printed p;
-  listed = λ end failed more is.
-      subst (Before told end failed) (followed-twice i.text text more)
-      (i.listed end failed (followed text more) (gives.0 end failed more is));
+  listed = λ end extent more is.
+      subst (Before told end extent) (followed-twice i.text text more)
+      (i.listed end extent (followed text more) (gives.0 end extent more is));
 }
 
 -- A listing that was printed, or of which a sink that failed has a prefix.
 pub record IsPrinted
-    (Before : Option (List ℕ) → Option (List ℕ) → Bool → Listing → Type 0)
-    (told rest : Option (List ℕ)) (failed : Bool) (n n' : ℕ) (old new : Option (List ℕ))
+    (Before : Option (List ℕ) → Option (List ℕ) → Extent → Listing → Type 0)
+    (told rest : Option (List ℕ)) (extent : Extent) (n n' : ℕ) (old new : Option (List ℕ))
     (status : Status)
     : Type 0 where
   pub listing : Listing
-  pub is_listed : Before told rest failed listing
+  pub is_listed : Before told rest extent listing
+  pub cut : extent ≡ to_cut → n' ≢ n
   pub printed : PrintsOrFails n old n' new listing status
+
+-- What ends a listing is no cut. For `list` and `list_subtitles`.
+pub never-cut : (status : Status) → extent_of (Some status) ≢ to_cut
+never-cut Fault e = cc
+never-cut status e = cc
 
 -- The last lines were printed. For `list`.
 pub front-end :
-    (Before At After : Option (List ℕ) → Option (List ℕ) → Bool → Listing → Type 0)
+    (Before At After : Option (List ℕ) → Option (List ℕ) → Extent → Listing → Type 0)
     (told left rest old now new : Option (List ℕ)) (text : List ℕ) (status : Status) (n n' : ℕ)
     → IsFront Before At told left old now
     → Gives At After left rest text (Some status)
     → Appends now new text
     → n' ≡ n
-    → IsPrinted Before told rest (ends_in_fault (Some status)) n n' old new status
+    → IsPrinted Before told rest (extent_of (Some status)) n n' old new status
 front-end Before At After told left rest old now new text status n n' i gives p same = record {
   listing = followed i.text (record { text = text; status = status });
-  is_listed = i.listed rest (ends_in_fault (Some status)) (record { text = text; status = status })
+  is_listed = i.listed rest (extent_of (Some status)) (record { text = text; status = status })
       gives;
+  cut = λ e. absurd (never-cut status e);
   printed = inl (same, Appends-trans old now new i.text text i.printed p, refl);
 }
 
 -- The sink failed at these lines, whatever should follow them. For `list`.
 pub front-cut :
-    (Before At After : Option (List ℕ) → Option (List ℕ) → Bool → Listing → Type 0)
+    (Before At After : Option (List ℕ) → Option (List ℕ) → Extent → Listing → Type 0)
     (told left rest old now new : Option (List ℕ)) (text : List ℕ) (end : Option Status) (n n' : ℕ)
     → IsFront Before At told left old now
     → Gives At After left rest text end
     → AppendsPrefix now new text
     → n' ≡ n + 1
-    → IsPrinted Before told rest (ends_in_fault end) n n' old new Fault
+    → IsPrinted Before told rest (extent_of end) n n' old new Fault
 front-cut Before At After told left rest old now new text None n n' i gives p risen =
     let more = gives.1 in record {
       listing = followed i.text (followed text more.0);
-      is_listed = i.listed rest false (followed text more.0)
-          (gives.0 rest false more.0 more.1);
+      is_listed = i.listed rest to_cut (followed text more.0)
+          (gives.0 rest to_cut more.0 more.1);
+      cut = λ e same. omega (arith, risen, same);
       printed = inr (
         risen,
         AppendsPrefix-second old now new i.text (text ++ more.0.text) i.printed
@@ -129,57 +137,59 @@ front-cut Before At After told left rest old now new text None n n' i gives p ri
 front-cut Before At After told left rest old now new text (Some status) n n' i gives p risen =
     record {
       listing = followed i.text (record { text = text; status = status });
-      is_listed = i.listed rest (ends_in_fault (Some status))
+      is_listed = i.listed rest (extent_of (Some status))
           (record { text = text; status = status }) gives;
+      cut = λ e same. omega (arith, risen, same);
       printed = inr (risen, AppendsPrefix-second old now new i.text text i.printed p, refl);
     }
 
--- Something is listed where a source has not failed.
+-- Something is listed where a sink failed.
 lists-some :
     (O : Type 0) (listing_of : O → Listing) (given : List ℕ → O)
-    (Fails : Option (List ℕ) → O → Option (List ℕ) → Type 0) (left : Option (List ℕ))
+    (Takes : Bool → Option (List ℕ) → O → Option (List ℕ) → Type 0) (left : Option (List ℕ))
     → O
-    → (more : Listing) × Lists listing_of given Fails left left false more
-lists-some O listing_of given Fails None o = (
+    → (more : Listing) × Lists listing_of given Takes left left to_cut more
+lists-some O listing_of given Takes None o = (
   listing_of o,
   record {
     outcome = o;
     listing_is = refl;
     exact = λ bytes e ok. absurd cc;
-    failure = λ e. absurd cc;
+    taken = λ other. absurd (other refl);
   },
 )
-lists-some O listing_of given Fails (Some b) o = (
+lists-some O listing_of given Takes (Some b) o = (
   listing_of (given b),
   record {
     outcome = given b;
     listing_is = refl;
     exact = λ bytes e ok. let same : b ≡ bytes = cc in ap given same;
-    failure = λ e. absurd cc;
+    taken = λ other. absurd (other refl);
   },
 )
 
--- A piece was read, and what is given from here on comes behind it. For the listers.
+-- A piece was read, and what is given from here on comes after it. For the listers.
 pub gives-next :
     (O : Type 0) (before after : O → Listing) (given given' : List ℕ → O)
-    (Fails Fails' : Option (List ℕ) → O → Option (List ℕ) → Type 0)
+    (Takes Takes' : Bool → Option (List ℕ) → O → Option (List ℕ) → Type 0)
     (piece : O → O) (told left : Option (List ℕ)) (text : List ℕ)
     → ((o : O) → before (piece o) ≡ followed text (after o))
-    → ((o : O) (end : Option (List ℕ)) → Fails' left o end → Fails told (piece o) end)
+    → ((o : O) (failed : Bool) (end : Option (List ℕ))
+    → Takes' failed left o end → Takes failed told (piece o) end)
     → IfTold told (λ bytes.
     (rest : List ℕ) × (left ≡ Some rest) × (given bytes ≡ piece (given' rest)))
     → O
-    → Gives (Lists before given Fails) (Lists after given' Fails') told left text None
-gives-next O before after given given' Fails Fails' piece told left text lines tells reads o = (
-  λ end failed more l. record {
+    → Gives (Lists before given Takes) (Lists after given' Takes') told left text None
+gives-next O before after given given' Takes Takes' piece told left text lines tells reads o = (
+  λ end extent more l. record {
     outcome = piece l.outcome;
     listing_is = ap (followed text) l.listing_is ∙ sym (lines l.outcome);
     exact = λ bytes is ok.
         let read = reads bytes is in
         ap piece (l.exact read.0 read.1 ok) ∙ sym read.2;
-    failure = λ e. tells l.outcome end (l.failure e);
+    taken = λ other. tells l.outcome (has_failed extent) end (l.taken other);
   },
-  lists-some O after given' Fails' left o,
+  lists-some O after given' Takes' left o,
 )
 
 -- Equal texts and equal statuses are equal listings.
@@ -221,13 +231,6 @@ pub pes-failed : (f : PesFault)
 pes-failed pes.Read = refl
 pes-failed f = refl
 
--- So that fault is told.
-pub pes-read : (f : PesFault)
-    → ends_in_fault (Some (status_of (pes_kind f))) ≡ true
-    → f ≡ pes.Read
-pes-read pes.Read e = refl
-pes-read f e = cc
-
 -- ---- subtitles
 
 -- One block or more were taken.
@@ -250,13 +253,6 @@ pub stl-failed : (f : StlFault)
 stl-failed stl.Read = refl
 stl-failed f = refl
 
--- So that fault is told.
-pub stl-read : (f : StlFault)
-    → ends_in_fault (Some (status_of (stl_kind f))) ≡ true
-    → f ≡ stl.Read
-stl-read stl.Read e = refl
-stl-read f e = cc
-
 -- The status that goes with it.
 pub stl-status : (f : StlFault)
     → ends_in_fault (Some (status_of (stl_kind f))) ≡ true
@@ -265,12 +261,13 @@ stl-status stl.Read e = refl
 stl-status f e = cc
 
 -- After the GSI block no block was taken. For `list_subtitles`.
-pub fails-first : (n : ℕ) (told left : Option (List ℕ)) (outcome : Outcome)
+pub reads-first :
+    (failed : Bool) (n : ℕ) (told left : Option (List ℕ)) (outcome : Outcome)
     → n ≡ 0
-    → FailsAfterSubtitles n told outcome left
-    → FailsAfterSubtitles 0 told outcome left
-fails-first n told left outcome none h =
-    subst (λ (k : ℕ). FailsAfterSubtitles k told outcome left) none h
+    → ReadsSubtitles failed n told outcome left
+    → ReadsSubtitles failed 0 told outcome left
+reads-first failed n told left outcome none h =
+    subst (λ (k : ℕ). ReadsSubtitles failed k told outcome left) none h
 
 -- What a file gives whose GSI block is read. For `list_subtitles`.
 pub outcome_of-opened : (bytes : List ℕ) (r : ReaderValue)

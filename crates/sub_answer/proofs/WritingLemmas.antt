@@ -13,10 +13,9 @@ use Rattle.sub_answer.specs.Faults.{load_told}
 use Rattle.sub_answer.specs.Told.{line_of}
 use Rattle.sub_answer.specs.Writing.{HasScheduleFaultLine, end_status, is_read_end, is_write_end}
 use Rattle.sub_answer.specs.Writing.{load_end}
-use Rattle.sub_answer.specs.Listing.{CountsFault, PrintsOrFails}
+use Rattle.sub_answer.specs.Listing.{CountsFault}
 use Rattle.sub_answer.specs.declared.status.Status.{Status}
 use Rattle.sub_answer.specs.declared.status.Status.TheVariants.{Done, Fault}
-use Rattle.sub_answer.proofs.PrintingLemmas.{printed-fault}
 use Rattle.sub_answer.specs.declared.writing.End.{End}
 use Rattle.sub_answer.specs.declared.writing.End.TheVariants as end
 
@@ -47,30 +46,14 @@ pub fault_line-loading : (national : National) (told left : Option (List ℕ)) (
 fault_line-loading national told left line block kind ending end_is is t place =
     rw end_is (fault_line-kind national told left line block kind is t place)
 
--- A device that failed, or no memory: the status is `Fault`.
-pub fault-of_read : (ending : End) (n n' : ℕ) (out out' : Option (List ℕ)) (line : List ℕ)
-    (status : Status)
-    → PrintsOrFails n out n' out' (record { text = line; status = end_status ending }) status
-    → is_read_end ending ≡ true
-    → status ≡ Fault
-fault-of_read end.ReadFailed n n' out out' line status p is =
-    printed-fault n n' out out' (record { text = line; status = Fault }) status p refl
-fault-of_read end.Written n n' out out' line status p is = cc
-fault-of_read end.Refused n n' out out' line status p is = cc
-fault-of_read end.WriteFailed n n' out out' line status p is = cc
-fault-of_read end.NoMemory n n' out out' line status p is = cc
+-- Where the input failed, or the file, the status of the work is `Fault`. For `write`.
+pub read_end-status : (ending : End) → is_read_end ending ≡ true → end_status ending ≡ Fault
+read_end-status end.ReadFailed is = refl
+read_end-status ending is = cc
 
-pub fault-of_write : (ending : End) (n n' : ℕ) (out out' : Option (List ℕ)) (line : List ℕ)
-    (status : Status)
-    → PrintsOrFails n out n' out' (record { text = line; status = end_status ending }) status
-    → is_write_end ending ≡ true
-    → status ≡ Fault
-fault-of_write end.WriteFailed n n' out out' line status p is =
-    printed-fault n n' out out' (record { text = line; status = Fault }) status p refl
-fault-of_write end.Written n n' out out' line status p is = cc
-fault-of_write end.Refused n n' out out' line status p is = cc
-fault-of_write end.ReadFailed n n' out out' line status p is = cc
-fault-of_write end.NoMemory n n' out out' line status p is = cc
+pub write_end-status : (ending : End) → is_write_end ending ≡ true → end_status ending ≡ Fault
+write_end-status end.WriteFailed is = refl
+write_end-status ending is = cc
 
 -- A device is counted as failed where the work ended by it.
 pub counted : (failed : Bool) (m m' : ℕ) (status : Status)

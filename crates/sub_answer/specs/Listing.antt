@@ -80,10 +80,27 @@ pub record CountsFault (old : ℕ) (status : Status) (new : ℕ) : Type 0 where
   pub risen : old ≤ new
   pub once : new ≤ old + 1
 
+-- How far a source is read for a listing: to what ends the listing, to where the source failed, or
+-- no further than to where the sink failed.
+pub data Extent : Type 0 where
+  to_end : Extent
+  to_failure : Extent
+  to_cut : Extent
+
+-- The source failed.
+abbrev pub has_failed : Extent → Bool
+has_failed to_failure = true
+has_failed _ = false
+
+-- How far it was read where a listing ends with this status, or is cut where more may follow.
+abbrev pub extent_of : Option Status → Extent
+extent_of (Some Fault) = to_failure
+extent_of (Some _) = to_end
+extent_of None = to_cut
+
 -- A listing ends in a fault.
 abbrev pub ends_in_fault : Option Status → Bool
-ends_in_fault (Some Fault) = true
-ends_in_fault _ = false
+ends_in_fault end = has_failed (extent_of end)
 
 -- ---- what was printed
 
@@ -96,39 +113,41 @@ PrintsOrFails old_count old new_count new listing status =
     ⊎ ((new_count ≡ old_count + 1) × AppendsPrefix old new listing.text × (status ≡ Fault))
 
 -- The outcome of reading a source is listed: where the source tells its bytes and did not fail,
--- these decide the outcome, and where it failed, what was taken of it does. The source is known by
--- the bytes that it told before and tells after.
+-- these decide the outcome; where it was read to the end of the listing or failed, what was taken of
+-- it does, also where it tells nothing. The source is known by the bytes that it told before and
+-- tells after.
 pub record Lists
     {Outcome : Type 0} (listing_of : Outcome → Listing) (given : List ℕ → Outcome)
-    (FailsAfter : Option (List ℕ) → Outcome → Option (List ℕ) → Type 0)
-    (told left : Option (List ℕ)) (failed : Bool) (listing : Listing)
+    (Takes : Bool → Option (List ℕ) → Outcome → Option (List ℕ) → Type 0)
+    (told left : Option (List ℕ)) (extent : Extent) (listing : Listing)
     : Type 0 where
   pub outcome : Outcome
   pub listing_is : listing ≡ listing_of outcome
-  pub exact : IfTold told (λ bytes. failed ≡ false → outcome ≡ given bytes)
-  pub failure : failed ≡ true → FailsAfter told outcome left
+  pub exact : IfTold told (λ bytes. has_failed extent ≡ false → outcome ≡ given bytes)
+  pub taken : extent ≢ to_cut → Takes (has_failed extent) told outcome left
 
 -- A source was read and listed, whether it failed or not, and the listing was printed, or a sink
 -- that failed has a prefix of it.
 pub record PrintsListing
-    {S : Type 0} (IsListed : Option (List ℕ) → Option (List ℕ) → Bool → Listing → Type 0)
+    {S : Type 0} (IsListed : Option (List ℕ) → Option (List ℕ) → Extent → Listing → Type 0)
     (source : SourceCall S) (out : SinkCall) (status : Status)
     : Type 0 where
-  pub failed : Bool
+  pub extent : Extent
   pub listing : Listing
-  pub is_listed : IsListed source.told source.left failed listing
-  pub source_count : RisesIf source.old_count failed source.new_count
+  pub is_listed : IsListed source.told source.left extent listing
+  pub source_count : RisesIf source.old_count (has_failed extent) source.new_count
+  pub cut : extent ≡ to_cut → out.new_count ≢ out.old_count
   pub printed : PrintsOrFails out.old_count out.old out.new_count out.new listing status
 
 -- One piece of a listing was read and its lines made: whatever is listed from here on is listed
--- behind them, and something is; or they end the listing.
+-- after them, and something is; or they end the listing.
 abbrev pub Gives
-    : (Option (List ℕ) → Option (List ℕ) → Bool → Listing → Type 0)
-    → (Option (List ℕ) → Option (List ℕ) → Bool → Listing → Type 0)
+    : (Option (List ℕ) → Option (List ℕ) → Extent → Listing → Type 0)
+    → (Option (List ℕ) → Option (List ℕ) → Extent → Listing → Type 0)
     → Option (List ℕ) → Option (List ℕ) → List ℕ → Option Status → Type 0
 Gives Before After told left text None =
-    ((end : Option (List ℕ)) (failed : Bool) (more : Listing)
-    → After left end failed more → Before told end failed (followed text more))
-    × ((more : Listing) × After left left false more)
+    ((end : Option (List ℕ)) (extent : Extent) (more : Listing)
+    → After left end extent more → Before told end extent (followed text more))
+    × ((more : Listing) × After left left to_cut more)
 Gives Before After told left text (Some status) =
-    Before told left (ends_in_fault (Some status)) (record { text = text; status = status })
+    Before told left (extent_of (Some status)) (record { text = text; status = status })

@@ -1,15 +1,16 @@
 -- What `packets` prints of a file of PES packets.
 use Rattle.std.specs.Prelude.{◌≡◌, ℕ, zero, suc, ◌+◌, List, [], ◌∷◌, ◌++◌, codes, decimal}
-use Rattle.std.specs.Prelude.{Option, Some, None, Result, Ok, Err, Bool}
+use Rattle.std.specs.Prelude.{Option, Some, None, Result, Ok, Err, Bool, true, false}
 use Rattle.ttx_pes.specs.DataUnit.{UnitValue}
+use Rattle.ttx_pes.specs.Fault.{is_read}
 use Rattle.ttx_pes.specs.PesPacket.{PesValue}
 use Rattle.ttx_pes.specs.Reader.{FailsWithin, TakesPesPacket}
 use Rattle.ttx_pes.specs.Reading.{answer_at, most_packets, rest_after}
 use Rattle.ttx_pes.specs.declared.fault.PesFault.{PesFault}
-use Rattle.ttx_pes.specs.declared.fault.PesFault.TheVariants.{Read, TooMany}
+use Rattle.ttx_pes.specs.declared.fault.PesFault.TheVariants.{TooMany}
 use Rattle.sub_answer.specs.Faults.{pes_told}
 use Rattle.sub_answer.specs.Lines.{pes_line, unit_line}
-use Rattle.sub_answer.specs.Listing.{Lists, Listing, done, followed, told_listing}
+use Rattle.sub_answer.specs.Listing.{Extent, Lists, Listing, done, followed, told_listing}
 
 -- What a file of PES packets gives: packets, and then the end or a fault.
 pub data PesOutcome : Type 0 where
@@ -31,12 +32,13 @@ packets_from zero index (x ∷ b) = fails TooMany
 packets_from (suc room) index bytes =
     answer_then (answer_at index bytes) (packets_from room (index + 1) (rest_after bytes))
 
--- The source gave these PES packets, and then failed within the next one.
-abbrev pub FailsAfterPackets : Option (List ℕ) → PesOutcome → Option (List ℕ) → Type 0
-FailsAfterPackets told ends left = ⊥
-FailsAfterPackets told (fails f) left = (f ≡ Read) × FailsWithin told left
-FailsAfterPackets told (gives v more) left =
-    (behind : Option (List ℕ)) × TakesPesPacket told behind v × FailsAfterPackets behind more left
+-- These PES packets were taken of a source. Where it failed, it failed within the next one.
+abbrev pub ReadsPackets : Bool → Option (List ℕ) → PesOutcome → Option (List ℕ) → Type 0
+ReadsPackets failed told ends left = failed ≡ false
+ReadsPackets failed told (fails f) left =
+    (is_read f ≡ failed) × (failed ≡ true → FailsWithin told left)
+ReadsPackets failed told (gives v more) left =
+    (behind : Option (List ℕ)) × TakesPesPacket told behind v × ReadsPackets failed behind more left
 
 -- The lines of Teletext units, of which the first has this number.
 abbrev pub unit_lines : ℕ → List UnitValue → List ℕ
@@ -54,5 +56,5 @@ pes_listing index (fails f) = told_listing (pes_told f index)
 pes_listing index (gives v more) = followed (frame_lines index v) (pes_listing (index + 1) more)
 
 -- A file of PES packets is listed.
-abbrev pub ListsPackets : Option (List ℕ) → Option (List ℕ) → Bool → Listing → Type 0
-ListsPackets = Lists (pes_listing 0) (packets_from most_packets 0) FailsAfterPackets
+abbrev pub ListsPackets : Option (List ℕ) → Option (List ℕ) → Extent → Listing → Type 0
+ListsPackets = Lists (pes_listing 0) (packets_from most_packets 0) ReadsPackets

@@ -1,32 +1,47 @@
 -- What `show` prints of a subtitle file.
 use Rattle.std.specs.Io.KnownBytes.{Consumes}
-use Rattle.std.specs.Prelude.{◌≡◌, ℕ, ◌+◌, List, codes, decimal, ◌++◌, Option, Bool, ◌<◌, ◌⊎◌}
-use Rattle.std.specs.Prelude.{length}
+use Rattle.std.specs.Prelude.{◌≡◌, ◌⊎◌, ℕ, ◌+◌, ◌<◌, List, codes, decimal, ◌++◌, length, Option}
+use Rattle.std.specs.Prelude.{Bool, true, false}
+use Rattle.stl_file.specs.Fault.{is_format, is_read}
 use Rattle.stl_file.specs.Gsi.{IsGsi, gsi_size}
-use Rattle.stl_file.specs.Reader.{FailsReading, TakesSubtitle, outcome_of}
+use Rattle.stl_file.specs.Reader.{FailsReading, Refuses, RefusesOpening, TakesPassed}
+use Rattle.stl_file.specs.Reader.{TakesSubtitle, outcome_of}
 use Rattle.stl_file.specs.Reading.{Outcome, ends, fails, gives}
-use Rattle.stl_file.specs.declared.fault.StlFault.TheVariants.{Read}
+use Rattle.stl_file.specs.declared.fault.StlFault.{StlFault}
 use Rattle.sub_answer.specs.Faults.{stl_told}
 use Rattle.sub_answer.specs.Lines.{subtitle_line}
-use Rattle.sub_answer.specs.Listing.{Lists, Listing, done, followed, told_listing}
+use Rattle.sub_answer.specs.Listing.{Extent, Lists, Listing, done, followed, told_listing}
 
--- After so many blocks the source gave these subtitles, and then failed at this block.
-abbrev pub FailsAfterSubtitles : ℕ → Option (List ℕ) → Outcome → Option (List ℕ) → Type 0
-FailsAfterSubtitles from told ends left = ⊥
-FailsAfterSubtitles from told (fails f block) left =
-    (f ≡ Read) × FailsReading from block told left
-FailsAfterSubtitles from told (gives s block more) left =
+-- These subtitles were taken of a source, so many blocks after the GSI block, and then blocks that
+-- are passed over; or there is no file of what comes then. Where the source failed, it failed at
+-- this block.
+abbrev pub ReadsSubtitles : Bool → ℕ → Option (List ℕ) → Outcome → Option (List ℕ) → Type 0
+ReadsSubtitles failed from told ends left =
+    (failed ≡ false) × (to : ℕ) × TakesPassed from to told left
+ReadsSubtitles failed from told (fails f block) left =
+    (is_read f ≡ failed)
+    × (failed ≡ true → FailsReading from block told left)
+    × (is_format f ≡ true → Refuses from block told left f)
+ReadsSubtitles failed from told (gives s block more) left =
     (behind : Option (List ℕ)) × TakesSubtitle from block told behind s
-    × FailsAfterSubtitles block behind more left
+    × ReadsSubtitles failed block behind more left
 
--- The source failed in the GSI block, or after it.
-abbrev pub FailsInFile : Option (List ℕ) → Outcome → Option (List ℕ) → Type 0
-FailsInFile told outcome left =
-    ((outcome ≡ fails Read 0)
-    × (bytes : List ℕ) × (length bytes < gsi_size) × Consumes told left bytes)
-    ⊎ ((behind : Option (List ℕ)) × (gsi : List ℕ)
-    × IsGsi gsi × Consumes told behind gsi
-    × FailsAfterSubtitles 0 behind outcome left)
+-- No GSI block was read: the source failed in it, or no file begins so.
+pub record ReadsNoGsi (failed : Bool) (told : Option (List ℕ)) (outcome : Outcome)
+    (left : Option (List ℕ)) : Type 0 where
+  pub fault : StlFault
+  pub outcome_is : outcome ≡ fails fault 0
+  pub read : is_read fault ≡ failed
+  pub failure :
+      failed ≡ true → (bytes : List ℕ) × (length bytes < gsi_size) × Consumes told left bytes
+  pub refused : is_format fault ≡ true → RefusesOpening told left fault
+
+-- A GSI block was read, and subtitles after it, or none was.
+abbrev pub ReadsFile : Bool → Option (List ℕ) → Outcome → Option (List ℕ) → Type 0
+ReadsFile failed told outcome left =
+    ReadsNoGsi failed told outcome left
+    ⊎ ((behind : Option (List ℕ)) × (gsi : List ℕ) × IsGsi gsi × Consumes told behind gsi
+    × ReadsSubtitles failed 0 behind outcome left)
 
 -- What is printed after so many subtitles: each of them in turn, and at the end their number.
 abbrev pub subtitles_listing : ℕ → Outcome → Listing
@@ -36,5 +51,5 @@ subtitles_listing count (gives s block more) =
     followed (subtitle_line s) (subtitles_listing (count + 1) more)
 
 -- A subtitle file is listed.
-abbrev pub ListsSubtitles : Option (List ℕ) → Option (List ℕ) → Bool → Listing → Type 0
-ListsSubtitles = Lists (subtitles_listing 0) outcome_of FailsInFile
+abbrev pub ListsSubtitles : Option (List ℕ) → Option (List ℕ) → Extent → Listing → Type 0
+ListsSubtitles = Lists (subtitles_listing 0) outcome_of ReadsFile

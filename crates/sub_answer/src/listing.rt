@@ -1,8 +1,8 @@
 //! How a file is listed: what is read of it is printed, one piece after the other.
-ghost use Rattle.std.specs.Prelude.{◌≡◌, ℕ, ◌+◌, ◌<◌, [], Bool, List, None, Option};
+ghost use Rattle.std.specs.Prelude.{◌≡◌, ℕ, ◌+◌, ◌<◌, [], List, None, Option};
 ghost use Rattle.sub_io.specs.Device.{CanFail, CountsIf};
 ghost use Rattle.sub_answer.specs.DeviceCall.{sink_call, source_call};
-ghost use Rattle.sub_answer.specs.Listing.{CountsFault, Gives, Listing, PrintsListing};
+ghost use Rattle.sub_answer.specs.Listing.{CountsFault, Extent, Gives, Listing, PrintsListing};
 ghost use Rattle.sub_answer.specs.Listing.{ends_in_fault};
 
 use crate::status::Status;
@@ -23,9 +23,9 @@ pub trait Lister {
     /// How many pieces it can still give at most.
     ghost pieces: { Self → ℕ };
 
-    /// What may be listed from here on, by what the source tells before and after, and whether it
-    /// failed.
-    ghost lists: { Self → Option (List ℕ) → Option (List ℕ) → Bool → Listing → Type 0 };
+    /// What may be listed from here on, by what the source tells before and after, and how far it
+    /// is read.
+    ghost lists: { Self → Option (List ℕ) → Option (List ℕ) → Extent → Listing → Type 0 };
 
     /// Makes the lines of the next piece. `None` where another may follow, else how the listing
     /// ends.

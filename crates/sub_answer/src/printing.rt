@@ -17,6 +17,7 @@ pub fn print<K: Sink>(text: &[u8], status: Status, out: &mut K) -> Status
         → PrintsOrFails (K.failure_count out.old) (K.contents out.old)
         (K.failure_count out.new) (K.contents out.new) listing result }
     ensures done { result ≡ Status.Done → status ≡ Status.Done }
+    ensures fault { status ≡ Status.Fault → result ≡ Status.Fault }
     ensures count { CountsFault (K.failure_count out.old) result (K.failure_count out.new) }
 {
     match put_all(out, text) {

@@ -5,7 +5,7 @@ ghost use Rattle.ttx_pes.specs.Reading.{most_packets};
 ghost use Rattle.ttx_pes.specs.declared.progress.Progress.TheVariants.{Reading};
 ghost use Rattle.sub_answer.specs.Lines.{pes_line, unit_line};
 ghost use Rattle.sub_answer.specs.Listing.{Lists};
-ghost use Rattle.sub_answer.specs.PacketsListing.{FailsAfterPackets, frame_lines, packets_from};
+ghost use Rattle.sub_answer.specs.PacketsListing.{ReadsPackets, frame_lines, packets_from};
 ghost use Rattle.sub_answer.specs.PacketsListing.{pes_listing};
 
 use crate::faults::told_of_pes;
@@ -43,7 +43,7 @@ impl Lister for PacketLister {
     ghost pieces = { λ l. most_packets - l.index };
 
     ghost lists = { λ l. Lists (pes_listing l.index)
-        (packets_from (most_packets - l.index) l.index) FailsAfterPackets };
+        (packets_from (most_packets - l.index) l.index) ReadsPackets };
 
     fn next<S: Source>(&mut self, source: &mut S, text: &mut Text) -> Option<Status> {
         match self.reader.next_into(source, &mut self.frame) {

@@ -9,7 +9,7 @@ ghost use Rattle.stl_file.specs.declared.progress.Progress.TheVariants.{Reading}
 ghost use Rattle.sub_answer.specs.DeviceCall.{sink_call, source_call};
 ghost use Rattle.sub_answer.specs.Lines.{subtitle_line};
 ghost use Rattle.sub_answer.specs.Listing.{CountsFault, Lists, PrintsListing};
-ghost use Rattle.sub_answer.specs.ShowListing.{FailsAfterSubtitles, ListsSubtitles};
+ghost use Rattle.sub_answer.specs.ShowListing.{ListsSubtitles, ReadsSubtitles};
 ghost use Rattle.sub_answer.specs.ShowListing.{subtitles_listing};
 
 use crate::faults::told_of_stl;
@@ -61,7 +61,7 @@ impl Lister for SubtitleLister {
     ghost pieces = { λ l. most_blocks - l.reader.block };
 
     ghost lists = { λ l. Lists (subtitles_listing l.count) (outcome_left l.reader)
-        (FailsAfterSubtitles l.reader.block) };
+        (λ failed. ReadsSubtitles failed l.reader.block) };
 
     fn next<S: Source>(&mut self, source: &mut S, text: &mut Text) -> Option<Status> {
         match self.reader.next(source) {

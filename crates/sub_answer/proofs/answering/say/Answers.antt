@@ -3,7 +3,7 @@ use Rattle.std.proofs.Common.{◌≡◌, refl, rules}
 use Rattle.sub_answer.specs.Faults.{usage_told}
 use Rattle.sub_answer.specs.Told.{line_of}
 use Rattle.sub_answer.specs.declared.status.Status.TheVariants.{Fault}
-use Rattle.sub_answer.proofs.PrintingLemmas.{printed-fault, printed-prefix, printed-whole}
+use Rattle.sub_answer.proofs.PrintingLemmas.{printed-prefix, printed-whole}
 use Rattle.sub_answer.proofs.answering.say.Goals as goal
 
 pub returns-clause-whole : goal.returns-clause-whole
@@ -21,11 +21,3 @@ returns-clause-prefix g c =
     (record { text = line_of (usage_told c.args.fault.now); status = Fault }) _
     (c.print.ensures.printed
     (record { text = line_of (usage_told c.args.fault.now); status = Fault }) text refl)
-
-pub returns-clause-status : goal.returns-clause-status
-returns-clause-status g c =
-    let text : line_of (usage_told c.args.fault.now) ≡ c.as_slice.result.now = search rules in
-    printed-fault _ _ _ _
-    (record { text = line_of (usage_told c.args.fault.now); status = Fault }) _
-    (c.print.ensures.printed
-    (record { text = line_of (usage_told c.args.fault.now); status = Fault }) text refl) refl

@@ -3,7 +3,7 @@
 use Rattle.std.proofs.Common.{◌∙◌, ◌+◌, ap, arith, if◌then◌else◌, refl, subst, Some, ℕ}
 use Rattle.std.specs.Io.KnownBytes.{Appends}
 use Rattle.sub_io.specs.Device.{AppendsPrefix}
-use Rattle.sub_answer.specs.Listing.{ends_in_fault}
+use Rattle.sub_answer.specs.Listing.{ends_in_fault, extent_of}
 use Rattle.sub_answer.proofs.ListingLemmas.{front-cut, front-end, front-more, front-none}
 use Rattle.sub_answer.proofs.listing.list.Goals as goal
 
@@ -30,9 +30,10 @@ returns-in-Err-clause-listing g c =
     c.as_slice.ensures.value c.in-Err.ensures.bytes)
     (omega (arith, out, put)) in
     record {
-      failed = ends_in_fault end;
+      extent = extent_of end;
       listing = cut.listing;
       is_listed = cut.is_listed;
+      cut = cut.cut;
       source_count =
           c.next-end.ensures.count
           ∙ ap (λ (n : ℕ). n + (if ends_in_fault end then 1 else 0)) before.source;
@@ -54,9 +55,10 @@ returns-in-Some-clause-listing g c =
     c.as_slice.ensures.value c.in-Ok.ensures.bytes)
     (omega (arith, out, put)) in
     record {
-      failed = ends_in_fault (Some status);
+      extent = extent_of (Some status);
       listing = whole.listing;
       is_listed = whole.is_listed;
+      cut = whole.cut;
       source_count =
           c.in-Some.ensures.count
           ∙ ap (λ (n : ℕ). n + (if ends_in_fault (Some status) then 1 else 0)) before.source;

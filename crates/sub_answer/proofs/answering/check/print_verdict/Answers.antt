@@ -2,7 +2,7 @@
 use Rattle.std.proofs.Common.{◌≡◌, ◌∙◌, subst, sym}
 use Rattle.sub_check.specs.CheckedFiles.{AreChecked}
 use Rattle.sub_answer.specs.CheckLines.{verdict}
-use Rattle.sub_answer.proofs.PrintingLemmas.{printed-fault, printed-status, printed-whole}
+use Rattle.sub_answer.proofs.PrintingLemmas.{printed-status, printed-whole}
 use Rattle.sub_answer.proofs.VerdictLemmas.{answered, done-exactly, memory-printed, ok-of_done}
 use Rattle.sub_answer.proofs.VerdictLemmas.{pes_read-status, refused-not_ok, stl_read-status}
 use Rattle.sub_answer.proofs.WritingLemmas.{counted}
@@ -74,17 +74,11 @@ returns-clause-subtitles g c = λ file told none.
 pub returns-clause-stl_count : goal.returns-clause-stl_count
 returns-clause-stl_count g c =
     let answer = c.check_files-answer.result in
-    let text : (verdict answer).text ≡ c.as_slice.result.now = search in
     counted (failed is_stl_read answer) _ _ _ c.check_files-answer.ensures.stl_count
-    (λ is. printed-fault _ _ _ _ (verdict answer) _
-    (c.print.ensures.printed (verdict answer) text (sym c.push_verdict-status.ensures.status))
-    (stl_read-status answer is))
+    (λ is. c.print.ensures.fault (c.push_verdict-status.ensures.status ∙ stl_read-status answer is))
 
 pub returns-clause-pes_count : goal.returns-clause-pes_count
 returns-clause-pes_count g c =
     let answer = c.check_files-answer.result in
-    let text : (verdict answer).text ≡ c.as_slice.result.now = search in
     counted (failed is_pes_read answer) _ _ _ c.check_files-answer.ensures.pes_count
-    (λ is. printed-fault _ _ _ _ (verdict answer) _
-    (c.print.ensures.printed (verdict answer) text (sym c.push_verdict-status.ensures.status))
-    (pes_read-status answer is))
+    (λ is. c.print.ensures.fault (c.push_verdict-status.ensures.status ∙ pes_read-status answer is))

@@ -6,11 +6,11 @@ use Rattle.ttx_pes.specs.Reading.{most_packets, rest_after}
 use Rattle.ttx_pes.specs.declared.fault.PesFault.{PesFault}
 use Rattle.sub_answer.specs.Faults.{pes_told}
 use Rattle.sub_answer.specs.Listing.{ends_in_fault, followed}
-use Rattle.sub_answer.specs.PacketsListing.{FailsAfterPackets, answer_then, ends, fails, gives}
+use Rattle.sub_answer.specs.PacketsListing.{ReadsPackets, answer_then, ends, fails, gives}
 use Rattle.sub_answer.specs.PacketsListing.{packets_from, pes_listing}
 use Rattle.sub_answer.specs.Told.{line_of, status_of}
 use Rattle.sub_answer.specs.declared.status.Status.{Status}
-use Rattle.sub_answer.proofs.ListingLemmas.{gives-next, packets_from-next, pes-failed, pes-read}
+use Rattle.sub_answer.proofs.ListingLemmas.{gives-next, packets_from-next, pes-failed}
 use Rattle.sub_answer.proofs.ListingLemmas.{same-listing}
 use Rattle.sub_answer.proofs.answering.packets.PacketListerLister.next.Goals as goal
 
@@ -21,11 +21,11 @@ returns-in-Ok-true-clause-gives g c =
     let is : c.next_into.result ≡ Ok true = cc in
     gives-next _ (pes_listing index) (pes_listing (index + 1))
     (packets_from (most_packets - index) index)
-    (packets_from (most_packets - (index + 1)) (index + 1)) FailsAfterPackets FailsAfterPackets
+    (packets_from (most_packets - (index + 1)) (index + 1)) ReadsPackets ReadsPackets
     (gives frame) _ _
     c.push_frame.new.text.items
     (λ o. ap (λ t. followed t (pes_listing (index + 1) o)) (sym c.push_frame.ensures))
-    (λ o end fails. (_, c.next_into.ensures.frame is, fails))
+    (λ o failed end reads. (_, c.next_into.ensures.frame is, reads))
     (λ bytes told. (
       rest_after bytes,
       rw is at (c.next_into.ensures.left index c.requires.ready.0 bytes told),
@@ -55,7 +55,7 @@ returns-in-Ok-false-clause-gives g c =
           (rest_after bytes)))
           (c.next_into.ensures.exact index c.requires.ready.0 bytes told (rw is refl)
           ∙ ap (λ (r : Result Bool PesFault). given_frame r c.next_into.new.frame) is));
-      failure = λ e. absurd cc;
+      taken = λ other. refl;
     }
 
 pub returns-in-Err-clause-gives : goal.returns-in-Err-clause-gives
@@ -74,8 +74,8 @@ returns-in-Err-clause-gives g c =
           (rest_after bytes)))
           (c.in-Err.ensures.exact index c.requires.ready.0 bytes told
           (sym (pes-failed f) ∙ failed ∙ ok)));
-      failure = λ e. (
-        pes-read f (failed ∙ e),
-        c.in-Err.ensures.failed (sym (pes-failed f) ∙ failed ∙ e),
+      taken = λ other. (
+        sym (pes-failed f) ∙ failed,
+        λ e. c.in-Err.ensures.failed (sym (pes-failed f) ∙ failed ∙ e),
       );
     }

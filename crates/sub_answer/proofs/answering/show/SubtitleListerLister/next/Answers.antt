@@ -8,11 +8,10 @@ use Rattle.stl_file.specs.declared.progress.Progress.TheVariants.{Reading}
 use Rattle.std.proofs.Common.{List, ℕ}
 use Rattle.sub_answer.specs.Faults.{stl_told}
 use Rattle.sub_answer.specs.Listing.{ends_in_fault, followed}
-use Rattle.sub_answer.specs.ShowListing.{FailsAfterSubtitles, subtitles_listing}
+use Rattle.sub_answer.specs.ShowListing.{ReadsSubtitles, subtitles_listing}
 use Rattle.sub_answer.specs.Told.{line_of, status_of}
 use Rattle.sub_answer.specs.declared.status.Status.{Status}
 use Rattle.sub_answer.proofs.ListingLemmas.{block-rises, gives-next, same-listing, stl-failed}
-use Rattle.sub_answer.proofs.ListingLemmas.{stl-read}
 use Rattle.sub_answer.proofs.answering.show.SubtitleListerLister.next.Goals as goal
 
 pub returns-in-Ok-Some-clause-gives : goal.returns-in-Ok-Some-clause-gives
@@ -21,13 +20,14 @@ returns-in-Ok-Some-clause-gives g c =
     let new = c.next.new.self in
     gives-next _ (subtitles_listing count) (subtitles_listing (count + 1))
     (outcome_left c.args.self.now.reader) (outcome_left new)
-    (FailsAfterSubtitles c.args.self.now.reader.block) (FailsAfterSubtitles new.block)
+    (λ failed. ReadsSubtitles failed c.args.self.now.reader.block)
+    (λ failed. ReadsSubtitles failed new.block)
     (gives c.in-Ok-Some.subtitle new.block) _ _ c.push_subtitle.new.text.items
     (λ o. ap (λ t. followed t (subtitles_listing (count + 1) o)) (sym c.push_subtitle.ensures.items))
-    (λ o end fails. (
+    (λ o failed end reads. (
       _,
       rw c.in-Ok-Some.field-0-is at (c.in-Ok-Some.ensures.subtitle c.requires.ready.0),
-      fails,
+      reads,
     ))
     (λ bytes told.
     let answers = rw c.in-Ok-Some.field-0-is at (c.in-Ok-Some.ensures.exact bytes told refl) in
@@ -71,7 +71,11 @@ returns-in-Ok-None-clause-gives g c =
       exact = λ bytes told ok.
           let answers = rw c.in-Ok-None.field-0-is at (c.in-Ok-None.ensures.exact bytes told refl)
           in sym answers.outcome;
-      failure = λ e. absurd cc;
+      taken = λ other. (
+        refl,
+        _,
+        rw c.in-Ok-None.field-0-is at (c.in-Ok-None.ensures.none c.requires.ready.0),
+      );
     }
 
 pub returns-in-Err-clause-gives : goal.returns-in-Err-clause-gives
@@ -86,8 +90,9 @@ returns-in-Err-clause-gives g c =
       listing_is = same-listing _ _ _ _ text status;
       exact = λ bytes told ok.
           sym (c.in-Err.ensures.exact bytes told (sym (stl-failed f) ∙ failed ∙ ok)).outcome;
-      failure = λ e. (
-        stl-read f (failed ∙ e),
-        c.in-Err.ensures.failed c.requires.ready.0 (sym (stl-failed f) ∙ failed ∙ e),
+      taken = λ other. (
+        sym (stl-failed f) ∙ failed,
+        λ e. c.in-Err.ensures.failed c.requires.ready.0 (sym (stl-failed f) ∙ failed ∙ e),
+        c.in-Err.ensures.refused c.requires.ready.0,
       );
     }
