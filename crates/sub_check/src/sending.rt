@@ -5,7 +5,7 @@ ghost use Rattle.sub_io.specs.Device.{CanFail, CountsIf, failed};
 ghost use Rattle.sub_io.specs.Reading.{IfTold};
 ghost use Rattle.ttx_pes.specs.PesPacket.{IsPesValue};
 ghost use Rattle.ttx_pes.specs.Reader.{FailsWithin, TakesPesPacket};
-ghost use Rattle.ttx_pes.specs.Reading.{answer_at, rest_after};
+ghost use Rattle.ttx_pes.specs.Reading.{answer_at, most_packets, rest_after};
 ghost use Rattle.ttx_pes.specs.declared.progress.Progress.TheVariants.{Reading};
 ghost use Rattle.sub_check.specs.Checking.{TellsFrame, as_frame};
 ghost use Rattle.sub_check.specs.Fault.{is_pes_read, is_pes_write, is_subtitle_fault};
@@ -59,6 +59,8 @@ pub fn next_sending<S: Source>(
     ensures no_write { failed is_pes_write result ≡ false }
     ensures progress { (sending : Sending) → result ≡ Ok (Some sending)
         → reader.new.progress ≡ Reading (pes + 1) }
+    // More than a day has frames are refused.
+    ensures few { (sending : Sending) → result ≡ Ok (Some sending) → pes < most_packets }
     ensures day { (sending : Sending) → result ≡ Ok (Some sending) → sending.frame < 2160000 }
     ensures count { CountsIf S.failure_count source.old (failed is_pes_read result) source.new }
 {
