@@ -17,10 +17,11 @@ use Rattle.ttx_pes.specs.declared.fault.PesFault.TheVariants.{Read}
 use Rattle.ttx_pes.specs.Reading.{answer_at, most_packets, rest_after}
 use Rattle.sub_plan.specs.FrameTime.{frames_of_day, pts_of}
 use Rattle.sub_plan.specs.Options.{OptionsValue}
+use Rattle.sub_check.specs.Checker.{CheckerValue}
 use Rattle.sub_check.specs.Checking.{Accepts, AreTaken, AreWhole, IsFrameOf, Reaches, TellsEnd}
 use Rattle.sub_check.specs.Checking.{IsRuleFault, TellsFrame}
 use Rattle.sub_check.specs.FirstBroken.{IsReadUpTo, NamesFirst, unread_fault}
-use Rattle.sub_check.specs.Following.{Follows, FrameOk, IsSentFrame}
+use Rattle.sub_check.specs.Following.{AreOk, Follows, IsSentFrame}
 use Rattle.sub_check.specs.FrameRules.{Unread, task_of, frame_at, packets_of_frame, end_frame}
 use Rattle.sub_check.specs.FrameRules.{packets_before}
 use Rattle.sub_check.specs.PacketRules.{header_count, packets_of_units}
@@ -30,7 +31,6 @@ use Rattle.sub_check.specs.Transmission.{SentFrame, Transmission}
 use Rattle.sub_check.specs.declared.checker.Accepted.{Accepted}
 use Rattle.sub_check.specs.declared.fault.CheckFault.{CheckFault}
 use Rattle.sub_check.specs.declared.fault.CheckFault.TheVariants as fault
-use Rattle.sub_check.specs.declared.frame_rules.Checker.{Checker}
 use Rattle.sub_check.proofs.OrderLemmas.{first_late, first_nothing, first_unread, holds_before}
 use Rattle.sub_check.proofs.OrderLemmas.{holds_but_end}
 use Rattle.sub_check.proofs.PacketLists.{Each-push}
@@ -165,7 +165,7 @@ module _
         (n : ℕ) (bytes : List ℕ) (v : PesValue) (f : CheckFault)
         → n ≤ most_packets
         → n ≤ length frames
-        → ((j : ℕ) → j < n → FrameOk (task_of programme options unread) frames j)
+        → AreOk (task_of programme options unread) frames n
         → ReadsAs options.origin n bytes (drop n frames) unread
         → TellsFrame options.origin n bytes v (Err f)
         → NamesFirst (task_of programme options unread) frames f
@@ -181,7 +181,7 @@ module _
     pub source_failed :
         (n pes : ℕ) (f : CheckFault)
         → n ≤ length frames
-        → ((j : ℕ) → j < n → FrameOk (task_of programme options unread) frames j)
+        → AreOk (task_of programme options unread) frames n
         → (is_pes_read f ≡ true → f ≡ fault.Pes n Read)
         → IsFailureAt (Err f) pes
         → IsReadUpTo (task_of programme options unread) frames pes
@@ -216,7 +216,8 @@ module _
 
     -- What is reached after it.
     pub reaches_first :
-        (bytes : List ℕ) (v : PesValue) (frame : ℕ) (old remaining : Option (List ℕ)) (c : Checker)
+        (bytes : List ℕ) (v : PesValue) (frame : ℕ) (old remaining : Option (List ℕ))
+        (c : CheckerValue)
         → ReadsAs options.origin 0 bytes frames unread
         → TellsFrame options.origin 0 bytes v (Ok (Some frame))
         → old ≡ Some bytes
@@ -225,14 +226,13 @@ module _
         → IsPesValue v
         → Follows (task_of programme options unread) frames 1 c
         → Reaches (task_of programme options unread) options.origin bytes frames unread remaining 1
-        frame c
+        c
     reaches_first bytes v frame old remaining c reads (is, of) told left takes value follows =
         let next =
         reads_next options.origin 0 bytes frames unread v frame (omega arith) reads is of in
         record {
           few = omega arith;
           within = let there = next.sent.there in omega arith;
-          first_is = next.sent.frame_is;
           rest = rest_after bytes;
           rest_is = left;
           taken =
@@ -244,10 +244,10 @@ module _
         }
 
     module _
-        (bytes : List ℕ) (n first : ℕ) (before : Option (List ℕ)) (b : Checker)
+        (bytes : List ℕ) (n : ℕ) (before : Option (List ℕ)) (b : CheckerValue)
         (reached :
         Reaches (task_of programme options unread) options.origin bytes frames unread before n
-        first b)
+        b)
       where
         -- The next PES packet is the next frame of the list.
         pub next_sent :
@@ -260,14 +260,14 @@ module _
 
         -- What is reached after it.
         pub reaches_next :
-            (v : PesValue) (frame : ℕ) (remaining : Option (List ℕ)) (c : Checker)
+            (v : PesValue) (frame : ℕ) (remaining : Option (List ℕ)) (c : CheckerValue)
             → TellsFrame options.origin n reached.rest v (Ok (Some frame))
             → remaining ≡ Some (rest_after reached.rest)
             → TakesPesPacket before remaining v
             → IsPesValue v
             → Follows (task_of programme options unread) frames (n + 1) c
             → Reaches (task_of programme options unread) options.origin bytes frames unread
-            remaining (n + 1) first c
+            remaining (n + 1) c
         reaches_next v frame remaining c (is, of) left takes value follows =
             let next =
             reads_next options.origin n reached.rest frames unread v frame reached.few reached.left
@@ -277,7 +277,6 @@ module _
             record {
               few = omega (arith, below);
               within = let there = next.sent.there in omega arith;
-              first_is = reached.first_is;
               rest = rest_after reached.rest;
               rest_is = left;
               taken =
@@ -302,7 +301,7 @@ module _
         pub end_accepted :
             (a : Accepted)
             → answer_at n reached.rest ≡ Ok None
-            → TellsEnd (last_out programme.records) first b.frame b.headers (Ok a)
+            → TellsEnd (last_out b.programme.records) b.first b.frame b.headers (Ok a)
             → Accepts (task_of programme options unread) options.origin bytes frames a
         end_accepted a is (over, count, headers) =
             let at =
@@ -313,7 +312,7 @@ module _
             let some = follows.some in
             let last : b.frame ≡ end_frame frames =
             follows.frame_is ∙ ap (λ m. frame_at frames (m - 1)) all in
-            let first_is = reached.first_is in
+            let first_is = follows.remembers.first_is in
             let few = reached.few in
             record {
               few = omega arith;
@@ -325,12 +324,13 @@ module _
               holds =
                   holds_but_end (task_of programme options unread) frames at.1
                   (λ j l. follows.past j (omega arith)) (omega arith)
-                  (λ t l e. let m = over l e in omega arith);
+                  (λ t l e.
+                  let m = over l (sym follows.remembers.task_is.last_is ∙ e) in omega arith);
               whole = subst AreWhole (take_all n frames (omega arith)) reached.whole;
               frames_are = omega (arith, count);
               transmissions_are =
                   headers
-                  ∙ follows.count
+                  ∙ follows.remembers.count
                   ∙ ap (λ m. header_count options.page (packets_before frames m)) all;
             }
 
@@ -338,7 +338,7 @@ module _
         pub end_refused :
             (f : CheckFault)
             → answer_at n reached.rest ≡ Ok None
-            → TellsEnd (last_out programme.records) first b.frame b.headers (Err f)
+            → TellsEnd (last_out b.programme.records) b.first b.frame b.headers (Err f)
             → NamesFirst (task_of programme options unread) frames f
         end_refused f is (not_over, told) =
             let at =
@@ -353,13 +353,14 @@ module _
             (ap fault.Late (sym last) ∙ sym told)
             (first_late (task_of programme options unread) frames at.1
             (λ j l. follows.past j (omega arith)) (omega arith)
-            (λ h. not_over (λ l e. let m = h l e in omega arith)))
+            (λ h. not_over
+            (λ l e. let m = h l (follows.remembers.task_is.last_is ∙ e) in omega arith)))
 
         -- At the end of the file: what is told.
         pub end_told :
             (r : Result Accepted CheckFault)
             → answer_at n reached.rest ≡ Ok None
-            → TellsEnd (last_out programme.records) first b.frame b.headers r
+            → TellsEnd (last_out b.programme.records) b.first b.frame b.headers r
             → MatchResult r
             (Accepts (task_of programme options unread) options.origin bytes frames)
             (NamesFirst (task_of programme options unread) frames)

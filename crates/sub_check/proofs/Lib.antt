@@ -23,6 +23,7 @@ pub mod ListeningLemmas
 pub mod ShownLemmas
 pub mod OrderLemmas
 pub mod TakingLemmas
+pub mod GapLemmas
 pub mod GoodByPlace
 pub mod PrefixLemmas
 pub mod PlaceLemmas

@@ -10,9 +10,9 @@ use Rattle.sub_check.specs.PacketRules.{KeepsRule, BreaksFirstAt, rank}
 use Rattle.sub_check.specs.FrameRules.{Task, Unread, frame_at, packets_of_frame, packets_before}
 use Rattle.sub_check.specs.FrameRules.{end_frame}
 use Rattle.sub_check.specs.FrameRules.{HasHeader, ShowsDue, IsCovered, IsEnded}
-use Rattle.sub_check.specs.FirstBroken.{IsBefore, IsInGap, HoldsThere, HoldsBefore}
+use Rattle.sub_check.specs.FirstBroken.{IsBefore, IsInGap, HoldsThere, HoldsBefore, Place, key}
 use Rattle.sub_check.specs.FirstBroken.{HoldsEverywhere, NamesFirst, packet_fault, unread_fault}
-use Rattle.sub_check.specs.Following.{Keeps, OrderOk, GapOk, PacketsOk, EndOk, FrameOk}
+use Rattle.sub_check.specs.Following.{AreOk, Keeps, OrderOk, GapOk, PacketsOk, EndOk}
 use Rattle.sub_check.specs.FirstBroken.Place.{AtOrder, AtStart, AtGapCell, AtGap, AtPacket, AtFirst}
 use Rattle.sub_check.specs.FirstBroken.Place.{AtCell, AtFrame, AtOpen, AtUnread, AtNothing}
 use Rattle.sub_check.specs.FirstBroken.Place.{AtEnd}
@@ -71,8 +71,7 @@ gap_of_none g frames =
           λ f t. absurd (omega (arith, t.0));
     }
 
-module _ (g : Task) (frames : Transmission) (n : ℕ) (past : (j : ℕ) → j < n → FrameOk g frames j)
-  where
+module _ (g : Task) (frames : Transmission) (n : ℕ) (past : AreOk g frames n) where
     upto : (q : ℕ) (tail : List ℕ) → (0 < q → OrderOk g frames n) → (1 < q → GapOk g frames n)
         → (2 < q → PacketsOk g frames n) → (3 < q → EndOk g frames n) → Here g frames n q tail
         → HoldsBefore g frames (0 ∷ n ∷ q ∷ tail)
@@ -164,12 +163,6 @@ module _ (g : Task) (frames : Transmission) (n : ℕ) (past : (j : ℕ) → j < 
             });
       },
     )
-
-    -- A frame of the gap before which the gap is fine.
-    pub GapUpto : ℕ → Type 0
-    GapUpto f =
-        ((d row column : ℕ) → d < f → Keeps g frames (AtGapCell n d row column)) ×
-        ((d : ℕ) → d < f → Keeps g frames (AtGap n d))
 
     -- Content, before a frame of the list.
     pub first_gap_cell : (f row column : ℕ) → OrderOk g frames n
@@ -453,29 +446,89 @@ first_header_missing g frames some order packets broken = (
     later : (r c : ℕ) → IsBefore (1 ∷ r ∷ c ∷ []) (0 ∷ []) → ⊥
     later r c b = let l = one_before 1 0 (r ∷ c ∷ []) b in omega arith
 
+-- Where all that is asked of the frames of the list holds, what is asked holds at each of some
+-- places if it does at the last three of them.
+holds_there :
+    (g : Task) (frames : Transmission)
+    → AreOk g frames (length frames)
+    → (Q : Place → Type 0)
+    → (Q AtUnread → g.unread ≡ None)
+    → (Q AtNothing → 0 < length frames)
+    → (Q AtEnd → Keeps g frames AtEnd)
+    → (y : Place)
+    → Q y
+    → Keeps g frames y
+holds_there g frames past Q unread some end (AtOrder i) q t = (past i t.1).order.order t
+holds_there g frames past Q unread some end AtStart q t = (past 0 t).order.start refl t
+holds_there g frames past Q unread some end (AtGapCell i f r c) q t =
+    (past i t.0.1).gap.cells f r c t
+holds_there g frames past Q unread some end (AtGap i f) q t = (past i t.1).gap.covered f t
+holds_there g frames past Q unread some end (AtPacket i k f) q t = (past i t.0).packets.each k f t
+holds_there g frames past Q unread some end AtFirst q t = (past 0 t).end.first refl t
+holds_there g frames past Q unread some end (AtCell i r c) q t = (past i t.0).end.cells r c t
+holds_there g frames past Q unread some end (AtFrame i) q t = (past i t).end.covered t
+holds_there g frames past Q unread some end (AtOpen i) q t = (past i t).end.ended t
+holds_there g frames past Q unread some end AtUnread q t = unread q
+holds_there g frames past Q unread some end AtNothing q t = some q
+holds_there g frames past Q unread some end AtEnd q t = end q t
+
 -- Empty.
 pub first_nothing : (g : Task) (frames : Transmission) → g.unread ≡ None → length frames ≡ 0
     → NamesFirst g frames fault.Empty
-first_nothing g frames ended none =
-    (AtNothing, refl, record { there = tt; broken = λ l. omega arith; earlier = nowhere })
-  where
-    nowhere : HoldsBefore g frames (1 ∷ 1 ∷ [])
-    nowhere (AtOrder i) b t = absurd (omega (arith, t.1))
-    nowhere AtStart b t = absurd (omega (arith, t))
-    nowhere (AtGapCell i f r c) b t = absurd (omega (arith, t.0.1))
-    nowhere (AtGap i f) b t = absurd (omega (arith, t.1))
-    nowhere (AtPacket i k f) b t = absurd (omega (arith, t.0))
-    nowhere AtFirst b t = absurd (omega (arith, t))
-    nowhere (AtCell i r c) b t = absurd (omega (arith, t.0))
-    nowhere (AtFrame i) b t = absurd (omega (arith, t))
-    nowhere (AtOpen i) b t = absurd (omega (arith, t))
-    nowhere AtUnread b t = ended
-    nowhere AtNothing (inl l) t = absurd (omega (arith, l))
-    nowhere AtNothing (inr (e, inl l)) t = absurd (omega (arith, l))
-    nowhere AtNothing (inr (e, inr m)) t = absurd m.1
-    nowhere AtEnd b t = absurd (omega (arith, t))
+first_nothing g frames ended none = (
+  AtNothing,
+  refl,
+  record {
+    there = tt;
+    broken = λ l. omega arith;
+    earlier =
+        holds_there g frames (λ j l. absurd (omega arith)) (λ y. IsBefore (key y) (1 ∷ 1 ∷ []))
+        (λ b. ended) (λ b. absurd (let l = one_more b in omega arith))
+        (λ b. absurd (let l = one_more b in omega arith));
+  },
+)
 
 -- What is not read: the faults of a PES packet, and OffFrame.
+pub first_unread : (g : Task) (frames : Transmission) → AreOk g frames (length frames)
+    → (u : Unread) → g.unread ≡ Some u
+    → NamesFirst g frames (unread_fault (length frames) (Some u))
+first_unread g frames past u is = (
+  AtUnread,
+  ap (unread_fault (length frames)) (sym is),
+  record {
+    there = tt;
+    broken = λ none. none-some u (sym none ∙ is);
+    earlier =
+        holds_there g frames past (λ y. IsBefore (key y) (1 ∷ 0 ∷ []))
+        (λ b. absurd (let l = one_more b in omega arith))
+        (λ b. absurd (let l = one_more b in omega arith))
+        (λ b. absurd (let l = one_more b in omega arith));
+  },
+)
+
+-- All places hold where all frames are fine.
+pub holds_but_end : (g : Task) (frames : Transmission) → g.unread ≡ None
+    → AreOk g frames (length frames) → 0 < length frames → Keeps g frames AtEnd
+    → HoldsEverywhere g frames
+holds_but_end g frames ended past some end y =
+    holds_there g frames past (λ y. Unit {0}) (λ q. ended) (λ q. some) (λ q. end) y tt
+
+-- Late.
+pub first_late : (g : Task) (frames : Transmission) → g.unread ≡ None
+    → AreOk g frames (length frames) → 0 < length frames
+    → (HoldsThere g frames AtEnd → ⊥) → NamesFirst g frames (fault.Late (end_frame frames))
+first_late g frames ended past some broken = (
+  AtEnd,
+  refl,
+  record {
+    there = some;
+    broken = broken;
+    earlier =
+        holds_there g frames past (λ y. IsBefore (key y) (1 ∷ 2 ∷ [])) (λ b. ended) (λ b. some)
+        (λ b. absurd (let l = one_more b in omega arith));
+  },
+)
+
 -- A place before all that is asked of a frame is that of an earlier one. For `holds_before`.
 frame_before : (i n : ℕ) → (0 < 0) ⊎ ((◌≡◌ {A = ℕ} 0 0) × ((i < n) ⊎ ((i ≡ n) × ⊥))) → i < n
 frame_before i n (inl l) = absurd (omega arith)
@@ -490,7 +543,7 @@ not_before (inr (e, more)) = omega arith
 -- Where all that is asked of the frames so far holds, so does what is asked at each place before
 -- the next one. For `judge`.
 pub holds_before : (g : Task) (frames : Transmission) (n : ℕ)
-    → ((j : ℕ) → j < n → FrameOk g frames j)
+    → AreOk g frames n
     → HoldsBefore g frames (0 ∷ n ∷ [])
 holds_before g frames n past (AtOrder i) b t = (past i (frame_before i n b)).order.order t
 holds_before g frames n past AtStart b t = (past 0 (frame_before 0 n b)).order.start refl t
@@ -506,67 +559,3 @@ holds_before g frames n past (AtOpen i) b t = (past i (frame_before i n b)).end.
 holds_before g frames n past AtUnread b t = absurd (not_before b)
 holds_before g frames n past AtNothing b t = absurd (not_before b)
 holds_before g frames n past AtEnd b t = absurd (not_before b)
-
-pub first_unread : (g : Task) (frames : Transmission)
-    → ((j : ℕ) → j < length frames → FrameOk g frames j) → (u : Unread) → g.unread ≡ Some u
-    → NamesFirst g frames (unread_fault (length frames) (Some u))
-first_unread g frames past u is = (
-  AtUnread,
-  ap (unread_fault (length frames)) (sym is),
-  record
-      { there = tt; broken = λ none. none-some u (sym none ∙ is); earlier = earlier_of },
-)
-  where
-    earlier_of : HoldsBefore g frames (1 ∷ 0 ∷ [])
-    earlier_of (AtOrder i) b t = (past i t.1).order.order t
-    earlier_of AtStart b t = (past 0 t).order.start refl t
-    earlier_of (AtGapCell i f r c) b t = (past i t.0.1).gap.cells f r c t
-    earlier_of (AtGap i f) b t = (past i t.1).gap.covered f t
-    earlier_of (AtPacket i k f) b t = (past i t.0).packets.each k f t
-    earlier_of AtFirst b t = (past 0 t).end.first refl t
-    earlier_of (AtCell i r c) b t = (past i t.0).end.cells r c t
-    earlier_of (AtFrame i) b t = (past i t).end.covered t
-    earlier_of (AtOpen i) b t = (past i t).end.ended t
-    earlier_of AtUnread b t = absurd (let l = one_more b in omega arith)
-    earlier_of AtNothing b t = absurd (let l = one_more b in omega arith)
-    earlier_of AtEnd b t = absurd (let l = one_more b in omega arith)
-
--- All places hold where all frames are fine.
-pub holds_but_end : (g : Task) (frames : Transmission) → g.unread ≡ None
-    → ((j : ℕ) → j < length frames → FrameOk g frames j) → 0 < length frames → Keeps g frames AtEnd
-    → HoldsEverywhere g frames
-holds_but_end g frames ended past some end (AtOrder i) t = (past i t.1).order.order t
-holds_but_end g frames ended past some end AtStart t = (past 0 t).order.start refl t
-holds_but_end g frames ended past some end (AtGapCell i f r c) t = (past i t.0.1).gap.cells f r c t
-holds_but_end g frames ended past some end (AtGap i f) t = (past i t.1).gap.covered f t
-holds_but_end g frames ended past some end (AtPacket i k f) t = (past i t.0).packets.each k f t
-holds_but_end g frames ended past some end AtFirst t = (past 0 t).end.first refl t
-holds_but_end g frames ended past some end (AtCell i r c) t = (past i t.0).end.cells r c t
-holds_but_end g frames ended past some end (AtFrame i) t = (past i t).end.covered t
-holds_but_end g frames ended past some end (AtOpen i) t = (past i t).end.ended t
-holds_but_end g frames ended past some end AtUnread t = ended
-holds_but_end g frames ended past some end AtNothing t = some
-holds_but_end g frames ended past some end AtEnd t = end t
-
--- Late.
-pub first_late : (g : Task) (frames : Transmission) → g.unread ≡ None
-    → ((j : ℕ) → j < length frames → FrameOk g frames j) → 0 < length frames
-    → (HoldsThere g frames AtEnd → ⊥) → NamesFirst g frames (fault.Late (end_frame frames))
-first_late g frames ended past some broken =
-    (AtEnd, refl, record { there = some; broken = broken; earlier = earlier_of })
-  where
-    earlier_of : HoldsBefore g frames (1 ∷ 2 ∷ [])
-    earlier_of (AtOrder i) b t = (past i t.1).order.order t
-    earlier_of AtStart b t = (past 0 t).order.start refl t
-    earlier_of (AtGapCell i f r c) b t = (past i t.0.1).gap.cells f r c t
-    earlier_of (AtGap i f) b t = (past i t.1).gap.covered f t
-    earlier_of (AtPacket i k f) b t = (past i t.0).packets.each k f t
-    earlier_of AtFirst b t = (past 0 t).end.first refl t
-    earlier_of (AtCell i r c) b t = (past i t.0).end.cells r c t
-    earlier_of (AtFrame i) b t = (past i t).end.covered t
-    earlier_of (AtOpen i) b t = (past i t).end.ended t
-    earlier_of AtUnread b t = ended
-    earlier_of AtNothing b t = some
-    earlier_of AtEnd (inl l) t = absurd (omega arith)
-    earlier_of AtEnd (inr (e, inl l)) t = absurd (omega arith)
-    earlier_of AtEnd (inr (e, inr m)) t = absurd m.1

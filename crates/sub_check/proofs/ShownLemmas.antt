@@ -28,7 +28,8 @@ use Rattle.sub_check.specs.FrameRules.{Task, frame_at, packets_of_frame, packets
 use Rattle.sub_check.specs.FrameRules.{ShowsDue}
 use Rattle.sub_check.specs.FrameRules.{IsCovered, IsEnded}
 use Rattle.sub_plan.specs.Schedule.{due_in}
-use Rattle.sub_check.specs.Following.{IsTaskOf, HeaderIs}
+use Rattle.sub_check.specs.Checker.{CheckerValue, IsAtFrame, at_frame}
+use Rattle.sub_check.specs.Following.{IsTaskOf, HeaderIs, Remembers}
 use Rattle.sub_check.proofs.PacketLists.{Each-find, Each-join, find_none}
 use Rattle.ttx_page.proofs.NoiseSteps.{row_from_test}
 
@@ -83,14 +84,14 @@ module _ (g : Task) (p : ProgrammeValue) (every : ℕ) (task : IsTaskOf g p ever
 
   -- The page that is kept equals the due page at a cell exactly where the transmission shows what
   -- is due.
-  pub shows_from : (row column : ℕ) → IsCell row column
+  shows_from : (row column : ℕ) → IsCell row column
       → cell s.comparison.page row column ≡ cell (due_in p f) row column
       → ShowsDue g frames n f row column
   shows_from row column is e = sym (kept_shown row column is) ∙ e
       ∙ ap (λ d. cell d row column) (sym (task.due_is f))
 
   -- And where they differ, so does what is shown from what is due.
-  pub shows_not : (row column : ℕ) → IsCell row column
+  shows_not : (row column : ℕ) → IsCell row column
       → (cell s.comparison.page row column ≡ cell (due_in p f) row column → ⊥)
       → ShowsDue g frames n f row column → ⊥
   shows_not row column is other shows =
@@ -142,13 +143,13 @@ module _ (g : Task) (frames : Transmission) (n : ℕ) (s : Listener)
 module _ (g : Task) (frames : Transmission) (n at f every : ℕ) (h : HeaderIs g frames n at)
     (same : g.every ≡ every) (past : at ≤ f) where
   -- A header less than so many frames ago.
-  pub covered_from : f - at < every → IsCovered g frames n f
+  covered_from : f - at < every → IsCovered g frames n f
   covered_from l = let found = h.found.2 in
       let below : f < frame_at frames h.found.0 + g.every = omega arith in
       inr (h.found.0, h.found.1, below, h.found.3)
 
   -- And one longer ago.
-  pub covered_not : every ≤ f - at → IsCovered g frames n f → ⊥
+  covered_not : every ≤ f - at → IsCovered g frames n f → ⊥
   covered_not l (inl e) = let b = h.begins in omega arith
   covered_not l (inr (j, i, e, head)) = let b = h.last j i head in omega arith
 
@@ -188,7 +189,7 @@ joined_more (s ∷ ss) n l =
     (sym (get_or-map (λ (x : SentFrame). x.packets) (s ∷ ss) n s [] l))
 
 -- The cells of the rows above the first that differs are equal.
-pub cells_above :
+cells_above :
     {a b : Rows} {row column : ℕ}
     → DiffersFirst a b row column
     → (r c : ℕ)
@@ -197,40 +198,136 @@ pub cells_above :
     → cell a r c ≡ cell b r c
 cells_above d r c is l = ap (λ xs. get_or xs c 0) (d.rows_above r is.0 l)
 
--- Where the next edge after the frame before is not this frame, the due page stays. For `advance`.
-pub due_between_edges :
-    (national : National) (records : List SubtitleValue) (frame : ℕ) (edge : Option ℕ)
-    → 0 < frame
-    → TellsNextEdge records (frame - 1) edge
-    → (edge ≡ Some frame → ⊥)
-    → due national records frame ≡ due national records (frame - 1)
-due_between_edges national records frame None some tells other =
-    edges_alone national records frame some
-    (λ edge. let l = tells frame edge in omega (arith, some))
-due_between_edges national records frame (Some e) some tells other =
-    edges_alone national records frame some
-    (λ edge.
-    let l = tells.least frame edge (omega (arith, some)) in
-    let m = tells.after in
-    other (ap Some (omega (arith, some))))
+-- The page that is kept is the page that is due, cell by cell.
+abbrev pub AreSameCells : Listener → Type 0
+AreSameCells s =
+    (row column : ℕ)
+    → IsCell row column
+    → cell s.comparison.page row column ≡ cell s.comparison.due row column
 
--- And it is the next edge after this frame. For `advance`.
-pub same_edge :
-    (records : List SubtitleValue) (frame : ℕ) (edge : Option ℕ)
-    → 0 < frame
-    → TellsNextEdge records (frame - 1) edge
-    → (edge ≡ Some frame → ⊥)
+-- The first cell that does not show what is due.
+pub record WrongFirst (g : Task) (frames : Transmission) (n f row column : ℕ) : Type 0 where
+  pub is_cell : IsCell row column
+  pub broken : ShowsDue g frames n f row column → ⊥
+  pub above : (r k : ℕ) → IsCell r k → r < row → ShowsDue g frames n f r k
+  pub before : (k : ℕ) → k < column → ShowsDue g frames n f row k
+
+-- What the tests at a frame's end tell of the transmission.
+module _ (g : Task) (frames : Transmission) (n : ℕ) (c : CheckerValue)
+    (known : Remembers g frames n c)
+    (due : c.listener.comparison.due ≡ due_in c.programme c.frame) where
+  -- A cell that is as it is due.
+  shows_there : (row column : ℕ) → IsCell row column
+      → cell c.listener.comparison.page row column ≡ cell (due_in c.programme c.frame) row column
+      → ShowsDue g frames n c.frame row column
+  shows_there =
+      shows_from g c.programme c.every known.task_is frames n c.frame c.listener known.knows.knows
+      known.watched_is
+
+  pub shows_all : AreSameCells c.listener → (row column : ℕ) → IsCell row column
+      → ShowsDue g frames n c.frame row column
+  shows_all same row column is =
+      shows_there row column is (same row column is ∙ ap (λ d. cell d row column) due)
+
+  pub wrong_first : (row column : ℕ)
+      → DiffersFirst c.listener.comparison.page c.listener.comparison.due row column
+      → WrongFirst g frames n c.frame row column
+  wrong_first row column first =
+      let d : DiffersFirst c.listener.comparison.page (due_in c.programme c.frame) row column =
+      subst (λ x. DiffersFirst c.listener.comparison.page x row column) due first in
+      record {
+        is_cell = d.is_cell;
+        broken = shows_not g c.programme c.every known.task_is frames n c.frame c.listener
+            known.knows.knows known.watched_is row column d.is_cell d.differ;
+        above = λ r k is l. shows_there r k is (cells_above d r k is l);
+        before = λ k l. shows_there row k
+            (d.is_cell.0, d.is_cell.1, omega (arith, d.is_cell.2)) (d.cells_before k l);
+      }
+
+  -- The last header is not after the frame.
+  header_before : 0 < n → c.header_at ≤ c.frame
+  header_before some =
+      let found = (known.header some).found in
+      let e = found.2 in
+      let l = known.rising found.0 found.1 in
+      omega arith
+
+  pub covered : 0 < n → c.frame - c.header_at < c.every → IsCovered g frames n c.frame
+  covered some =
+      covered_from g frames n c.header_at c.frame c.every (known.header some)
+      known.task_is.every_is (header_before some)
+
+  pub uncovered : 0 < n → c.every ≤ c.frame - c.header_at → IsCovered g frames n c.frame → ⊥
+  uncovered some =
+      covered_not g frames n c.header_at c.frame c.every (known.header some)
+      known.task_is.every_is (header_before some)
+
+-- Where the next edge after the frame before is not this frame, the due page stays.
+due_between_edges :
+    (national : National) (records : List SubtitleValue) (frame : ℕ) (edge : Option ℕ)
     → TellsNextEdge records frame edge
-same_edge records frame None some tells other =
-    λ e is. let l = tells e is in omega (arith, some)
-same_edge records frame (Some edge) some tells other =
+    → (edge ≡ Some (frame + 1) → ⊥)
+    → due national records (frame + 1) ≡ due national records frame
+due_between_edges national records frame None tells other =
+    edges_alone national records (frame + 1) (omega arith)
+    (λ edge. let l = tells (frame + 1) edge in omega arith)
+    ∙ ap (due national records) (omega arith)
+due_between_edges national records frame (Some e) tells other =
+    edges_alone national records (frame + 1) (omega arith)
+    (λ edge.
+    let l = tells.least (frame + 1) edge (omega arith) in
+    let m = tells.after in
+    other (ap Some (omega arith)))
+    ∙ ap (due national records) (omega arith)
+
+-- And it is the next edge after this frame.
+same_edge :
+    (records : List SubtitleValue) (frame : ℕ) (edge : Option ℕ)
+    → TellsNextEdge records frame edge
+    → (edge ≡ Some (frame + 1) → ⊥)
+    → TellsNextEdge records (frame + 1) edge
+same_edge records frame None tells other = λ e is. let l = tells e is in omega arith
+same_edge records frame (Some edge) tells other =
     record {
       is_edge = tells.is_edge;
       after =
           let m = tells.after in
-          elim (cases_eq edge frame) [
+          elim (cases_eq edge (frame + 1)) [
             | inl e ↦ absurd (other (ap Some e))
-            | inr ne ↦ omega (arith, some)
+            | inr ne ↦ omega arith
           ];
       least = λ e is l. tells.least e is (omega arith);
     }
+
+-- What is kept at a frame is so at the next, where no subtitle begins or ends there. For
+-- `advance`.
+pub IsAtFrame-next :
+    (p : ProgrammeValue) (s : Listener) (first frame : ℕ) (edge : Option ℕ) (at headers f : ℕ)
+    → IsAtFrame p s first frame edge at headers
+    → f ≡ frame + 1
+    → (edge ≡ Some f → ⊥)
+    → IsAtFrame p s first f edge at headers
+IsAtFrame-next p s first frame edge at headers f is next other =
+    let here : edge ≡ Some (frame + 1) → ⊥ = λ e. other (e ∙ ap Some (sym next)) in
+    let a = is.first_before in
+    let b = is.header_before in
+    let c = is.few in
+    subst (λ x. IsAtFrame p s first x edge at headers) (sym next) (record {
+      due_is =
+          is.due_is ∙ sym (due_between_edges p.national p.records frame edge is.edge_is here);
+      edge_is = same_edge p.records frame edge is.edge_is here;
+      first_before = omega arith;
+      header_before = omega arith;
+      few = omega arith;
+    })
+
+-- What is kept as due is due at this frame. For `advance`.
+pub at_frame-stays :
+    (f : ℕ) (c : CheckerValue)
+    → c.listener.comparison.due ≡ due_in c.programme f
+    → record c { frame = f } ≡ at_frame f c
+at_frame-stays f c is =
+    ap (λ (d : Rows). let moved : CheckerValue = record c {
+      frame = f;
+      listener = record c.listener { comparison = record c.listener.comparison { due = d } };
+    } in moved) is

@@ -1,40 +1,48 @@
--- What is kept, one frame of the list on.
-use Rattle.std.proofs.Common.{◌≡◌, ℕ, ◌+◌, ◌-◌, ◌<◌, ◌≤◌, Option, nat_lt, inl, inr, Bool, true}
-use Rattle.std.proofs.Common.{false}
-use Rattle.std.proofs.Common.{cond, List, [], ◌++◌, length, take, get_or, refl, sym, ap, ap₂}
-use Rattle.std.proofs.Common.{◌∙◌, subst, arith}
-use Rattle.std.proofs.lemmas.Bool.{cases_eq, true≢false}
-use Rattle.sub_check.specs.declared.packet_rules.Watched.{Watched}
+-- What is kept, one frame of the list on, and what is told at its end: `Remembers-moved`,
+-- `names_packet`, `names_missing`, `took`, `names_cell`, `names_gap`, `names_open`, `follows`.
+use Rattle.std.proofs.Common.{◌≡◌, ℕ, zero, suc, ◌+◌, ◌-◌, ◌<◌, ◌≤◌, nat_lt, inl, inr, Bool, true}
+use Rattle.std.proofs.Common.{false, ◌&&◌, cond, List, [], ◌++◌, length, take, get_or, refl, sym}
+use Rattle.std.proofs.Common.{Option, ap, ap₂, ◌∙◌, subst, arith}
+use Rattle.std.proofs.lemmas.Bool.{cases_eq, cases_lt, lt-ltb, true≢false}
+use Rattle.stl_rows.specs.Programme.{ProgrammeValue}
+use Rattle.stl_rows.specs.declared.national.National.{National}
+use Rattle.ttx_packet.specs.PageId.{PageIdValue}
+use Rattle.ttx_page.specs.Page.{DiffersFirst, IsCell}
 use Rattle.ttx_page.specs.PacketKind.{kind}
 use Rattle.ttx_page.specs.Span.{holds_header}
+use Rattle.sub_plan.specs.Options.{OptionsValue}
+use Rattle.sub_plan.specs.Schedule.{due_in}
+use Rattle.sub_check.specs.Checker.{CheckerValue, at_frame}
+use Rattle.sub_check.specs.FirstBroken.{NamesFirst, packet_fault}
+use Rattle.sub_check.specs.Following.{AreOk, Follows, FrameOk, GapOk, HeaderIs, IsSentFrame}
+use Rattle.sub_check.specs.Following.{IsTaskOf, OrderOk, PacketsOk, Remembers}
+use Rattle.sub_check.specs.FrameRules.{HasHeader, IsCovered, ShowsDue, Task, Unread, frame_at}
+use Rattle.sub_check.specs.FrameRules.{packets_before, packets_of_frame, task_of, watched_of}
+use Rattle.sub_check.specs.Listening.{KnowsLast}
+use Rattle.sub_check.specs.PacketRules.{AreClean, BreaksFirstAt, KeepsRule, header_count}
 use Rattle.sub_check.specs.Transmission.{Transmission}
+use Rattle.sub_check.specs.declared.fault.CheckFault.TheVariants as fault
 use Rattle.sub_check.specs.declared.listener.Listener.{Listener}
 use Rattle.sub_check.specs.declared.packet_rules.PacketRule.{PacketRule}
-use Rattle.sub_check.specs.PacketRules.{KeepsRule, AreClean, BreaksFirstAt, header_count}
-use Rattle.sub_check.specs.Listening.{Knows, KnowsLast}
-use Rattle.stl_rows.specs.Programme.{ProgrammeValue}
-use Rattle.ttx_packet.specs.PageId.{PageIdValue}
-use Rattle.stl_rows.specs.declared.national.National.{National}
-use Rattle.sub_plan.specs.Options.{OptionsValue}
-use Rattle.sub_check.specs.FrameRules.{Task, Unread, task_of, watched_of, frame_at}
-use Rattle.sub_check.specs.FrameRules.{packets_of_frame}
-use Rattle.sub_check.specs.FrameRules.{packets_before}
-use Rattle.sub_check.specs.Following.{PacketsOk, HeaderIs, IsTaskOf, FrameOk}
-use Rattle.sub_check.proofs.PacketLists.{holds-count}
-use Rattle.sub_check.proofs.ShownLemmas.{HeaderIs-none, HeaderIs-some, joined_more}
+use Rattle.sub_check.specs.declared.packet_rules.Watched.{Watched}
+use Rattle.sub_check.proofs.OrderLemmas.{first_cell, first_frame, first_header_missing, first_open}
+use Rattle.sub_check.proofs.OrderLemmas.{first_packet}
+use Rattle.sub_check.proofs.PacketLists.{header_count-append, holds-count}
+use Rattle.sub_check.proofs.ShownLemmas.{AreSameCells, HeaderIs-none, HeaderIs-some}
+use Rattle.sub_check.proofs.ShownLemmas.{KnowsLast-drawn, WrongFirst, covered, ended_from, ended_not, joined_more}
+use Rattle.sub_check.proofs.ShownLemmas.{shows_all, uncovered, wrong_first}
 
 -- What is kept after the packets of frame n of the list, and that they keep the rules.
-pub record Taken (g : Task) (frames : Transmission) (n : ℕ) (found : Bool) (headers : ℕ)
+record Taken (g : Task) (frames : Transmission) (n : ℕ) (found : Bool) (headers : ℕ)
     (s : Listener) : Type 0 where
   pub packets : PacketsOk g frames n
   pub last : KnowsLast (packets_before frames (n + 1)) (packets_of_frame frames (n + 1 - 1)) s
-  pub knows : Knows (packets_before frames (n + 1)) s
   pub watched_is : s.watched ≡ g.watched
   pub header : holds_header (kind g.watched.page) (packets_of_frame frames n) ≡ found
   pub count : header_count g.watched.page (packets_of_frame frames n) ≡ headers
 
 -- That, from what the listener shows.
-pub Taken-from : (g : Task) (frames : Transmission) (n : ℕ) (found : Bool) (headers : ℕ)
+Taken-from : (g : Task) (frames : Transmission) (n : ℕ) (found : Bool) (headers : ℕ)
     (s : Listener) (w : Watched) (ps : List (List ℕ))
     → n < length frames → packets_of_frame frames n ≡ ps → w ≡ g.watched → s.watched ≡ w
     → found ≡ nat_lt 0 headers → headers ≡ header_count w.page ps
@@ -57,7 +65,6 @@ Taken-from g frames n found headers s w ps there same watched kept is count m lo
       };
       last = subst (λ xs. KnowsLast xs (packets_of_frame frames (n + 1 - 1)) s) all
           (subst (λ xs. KnowsLast (packets_before frames n ++ ps) xs s) here last);
-      knows = subst (λ xs. Knows xs s) all last.knows;
       watched_is = kept ∙ watched;
       header =
           ap (holds_header (kind g.watched.page)) same
@@ -70,43 +77,279 @@ Taken-from g frames n found headers s w ps there same watched kept is count m lo
           ∙ sym count;
     }
 
+-- Headers among the packets of the first n frames are those of some frame.
+some_before : (g : Task) (frames : Transmission) (n headers : ℕ)
+    → headers ≡ header_count g.watched.page (packets_before frames n) → 0 < headers → 0 < n
+some_before g frames zero headers count some =
+    let none : header_count g.watched.page (packets_before frames 0) ≡ 0 = refl in
+    absurd (omega (arith, none, count))
+some_before g frames (suc n) headers count some = omega arith
+
 -- The last header's frame, one frame on.
-pub HeaderIs-more : (g : Task) (frames : Transmission) (n at frame : ℕ) (found : Bool)
-    → HeaderIs g frames n at → frame_at frames n ≡ frame
+HeaderIs-more : (g : Task) (frames : Transmission) (n at frame : ℕ) (found : Bool)
+    → (0 < n → HeaderIs g frames n at) → frame_at frames n ≡ frame
     → holds_header (kind g.watched.page) (packets_of_frame frames n) ≡ found
     → ((j : ℕ) → j < n + 1 → frame_at frames j ≤ frame)
+    → (found ≡ false → 0 < n)
     → HeaderIs g frames (n + 1) (cond found frame at)
-HeaderIs-more g frames n at frame true h f e rising =
+HeaderIs-more g frames n at frame true h f e rising some =
     subst (λ x. HeaderIs g frames (n + 1) x) f
     (HeaderIs-some g frames n e
     (λ j l. subst (λ x. frame_at frames j ≤ x) (sym f) (rising j l)))
-HeaderIs-more g frames n at frame false h f e rising =
-    HeaderIs-none g frames n at h (λ head. true≢false (sym head ∙ e))
+HeaderIs-more g frames n at frame false h f e rising some =
+    HeaderIs-none g frames n at (h (some refl)) (λ head. true≢false (sym head ∙ e))
 
 -- The frames rise, one frame on.
-pub rising_more : (frames : Transmission) (n frame next : ℕ)
-    → ((j : ℕ) → j < n → frame_at frames j ≤ frame) → frame < next → frame_at frames n ≡ next
-    → (j : ℕ) → j < n + 1 → frame_at frames j ≤ next
-rising_more frames n frame next rising later is j l = elim (cases_eq j n) [
+rising_more : (frames : Transmission) (n frame : ℕ)
+    → ((j : ℕ) → j < n → frame_at frames j ≤ frame) → frame_at frames n ≡ frame
+    → (j : ℕ) → j < n + 1 → frame_at frames j ≤ frame
+rising_more frames n frame rising is j l = elim (cases_eq j n) [
   | inl e ↦ let s : frame_at frames j ≡ frame_at frames n = ap (frame_at frames) e in omega arith
-  | inr other ↦ let r = rising j (omega arith) in omega arith
+  | inr other ↦ rising j (omega arith)
 ]
 
 -- The packets of a first fault are those of the frame.
-pub fault_moved : (g : Task) (frames : Transmission) (n : ℕ) (w : Watched) (ps : List (List ℕ))
+fault_moved : (g : Task) (frames : Transmission) (n : ℕ) (w : Watched) (ps : List (List ℕ))
     (k : ℕ) (rule : PacketRule) → packets_of_frame frames n ≡ ps → w ≡ g.watched
     → BreaksFirstAt w (packets_before frames n) ps k rule
     → BreaksFirstAt g.watched (packets_before frames n) (packets_of_frame frames n) k rule
 fault_moved g frames n w ps k rule same watched is =
-    subst (λ v. BreaksFirstAt v (packets_before frames n) (packets_of_frame frames n) k rule) watched
-    (subst (λ xs. BreaksFirstAt w (packets_before frames n) xs k rule) (sym same) is)
+    subst (λ v. BreaksFirstAt v (packets_before frames n) (packets_of_frame frames n) k rule)
+    watched (subst (λ xs. BreaksFirstAt w (packets_before frames n) xs k rule) (sym same) is)
 
 -- All that is asked of the frames so far, one frame on.
-pub past_more : (g : Task) (frames : Transmission) (n : ℕ) → ((j : ℕ) → j < n → FrameOk g frames j)
-    → FrameOk g frames n → (j : ℕ) → j < n + 1 → FrameOk g frames j
+past_more : (g : Task) (frames : Transmission) (n : ℕ) → AreOk g frames n → FrameOk g frames n
+    → AreOk g frames (n + 1)
 past_more g frames n past here j l =
     elim (cases_eq j n)
     [ inl e ↦ subst (FrameOk g frames) (sym e) here | inr other ↦ past j (omega arith) ]
+
+-- What is kept is so at a later frame too.
+pub Remembers-moved :
+    (g : Task) (frames : Transmission) (n f : ℕ) (c : CheckerValue)
+    → Remembers g frames n c
+    → c.frame ≤ f
+    → Remembers g frames n (at_frame f c)
+Remembers-moved g frames n f c known later = record {
+  task_is = known.task_is;
+  watched_is = known.watched_is;
+  knows = KnowsLast-drawn (packets_before frames n) _ c.listener _ known.knows;
+  first_is = known.first_is;
+  rising = λ j l. let before = known.rising j l in omega arith;
+  begun = known.begun;
+  header = known.header;
+  count = known.count;
+}
+
+-- Before the first frame nothing is kept.
+pub Remembers-none :
+    (g : Task) (frames : Transmission) (c : CheckerValue)
+    → IsTaskOf g c.programme c.every
+    → c.listener.watched ≡ g.watched
+    → KnowsLast [] (packets_of_frame frames 0) c.listener
+    → c.first ≡ frame_at frames 0
+    → c.headers ≡ 0
+    → Remembers g frames 0 c
+Remembers-none g frames c task watched knows first none = record {
+  task_is = task;
+  watched_is = watched;
+  knows = knows;
+  first_is = first;
+  rising = λ j l. absurd (omega arith);
+  begun = λ l. absurd (omega arith);
+  header = λ l. absurd (omega arith);
+  count = none;
+}
+
+-- ---- the packets of a frame
+
+-- After the packets of frame n of the list, of whose end nothing is asked yet.
+pub record Took (g : Task) (frames : Transmission) (n : ℕ) (c : CheckerValue) : Type 0 where
+  pub there : n < length frames
+  pub frame_is : frame_at frames n ≡ c.frame
+  pub past : AreOk g frames n
+  pub order : OrderOk g frames n
+  pub gap : GapOk g frames n
+  pub packets : PacketsOk g frames n
+  pub known : Remembers g frames (n + 1) c
+  pub due_is : c.listener.comparison.due ≡ due_in c.programme c.frame
+
+module _ (g : Task) (frames : Transmission) (n : ℕ) (v b : CheckerValue) (same : b ≡ v)
+    (ps : List (List ℕ)) (before : Remembers g frames n v) (past : AreOk g frames n)
+    (is : IsSentFrame frames n v.frame ps) (order : OrderOk g frames n) (gap : GapOk g frames n)
+  where
+  -- What was kept before, of the fields.
+  known : Remembers g frames n b
+  known = subst (Remembers g frames n) (sym same) before
+
+  here : frame_at frames n ≡ b.frame
+  here = is.frame_is ∙ ap (λ (c : CheckerValue). c.frame) (sym same)
+
+  -- A packet that breaks a rule.
+  pub names_packet : (k : ℕ) (rule : PacketRule)
+      → BreaksFirstAt b.listener.watched (packets_before frames n) ps k rule
+      → NamesFirst g frames (packet_fault rule b.frame k)
+  names_packet k rule broken =
+      subst (λ x. NamesFirst g frames (packet_fault rule x k)) here
+      (first_packet g frames n past k rule is.there order gap
+      (fault_moved g frames n b.listener.watched ps k rule is.packets_are known.watched_is broken))
+
+  module _ (s : Listener) (m headers total : ℕ) (found : Bool)
+      (kept : s.watched ≡ b.listener.watched) (long : length ps ≡ m)
+      (heard :
+      AreClean b.listener.watched (packets_before frames n) ps m
+      × KnowsLast (packets_before frames n ++ ps) ps s
+      × (headers ≡ header_count b.listener.watched.page ps))
+      (found_is : found ≡ nat_lt 0 headers) (total_is : total ≡ b.headers + headers)
+    where
+    taken : Taken g frames n found headers s
+    taken =
+        Taken-from g frames n found headers s b.listener.watched ps is.there is.packets_are
+        known.watched_is kept found_is heard.2 m long heard.0 heard.1
+
+    -- No header of the page, in the first frame.
+    pub names_missing : total ≡ 0 → NamesFirst g frames (fault.NoFirstHeader b.frame)
+    names_missing none =
+        subst (λ x. NamesFirst g frames (fault.NoFirstHeader x)) here
+        (go n refl)
+      where
+        without : HasHeader g frames n → ⊥
+        without head =
+            let no : found ≡ false =
+            found_is ∙ ap (nat_lt 0) (let z : headers ≡ 0 = omega (arith, none, total_is) in z) in
+            true≢false (sym head ∙ taken.header ∙ no)
+
+        go : (i : ℕ) → n ≡ i → NamesFirst g frames (fault.NoFirstHeader (frame_at frames n))
+        go zero e =
+            subst (λ j. NamesFirst g frames (fault.NoFirstHeader (frame_at frames j))) (sym e)
+            (first_header_missing g frames (let t = is.there in omega arith)
+            (subst (OrderOk g frames) e order) (subst (PacketsOk g frames) e taken.packets)
+            (subst (λ j. HasHeader g frames j → ⊥) e without))
+        go (suc i) e =
+            absurd (let some = known.begun (omega arith) in omega (arith, some, none, total_is))
+
+    -- What is kept after them.
+    pub took : (at : ℕ) → (total ≡ 0 → ⊥) → at ≡ cond found b.frame b.header_at
+        → s.comparison.due ≡ due_in b.programme b.frame
+        → Took g frames n (record b { listener = s; header_at = at; headers = total })
+    took at some at_is due = record {
+      there = is.there;
+      frame_is = here;
+      past = past;
+      order = order;
+      gap = gap;
+      packets = taken.packets;
+      known = record {
+        task_is = known.task_is;
+        watched_is = taken.watched_is;
+        knows = taken.last;
+        first_is = known.first_is;
+        rising = rising;
+        begun = λ l. more;
+        header = λ l. subst (HeaderIs g frames (n + 1)) (sym at_is)
+            (HeaderIs-more g frames n b.header_at b.frame found known.header here taken.header
+            rising (λ e. some_before g frames n b.headers known.count (without e)));
+        count =
+            total_is
+            ∙ ap₂ (λ x y. x + y) known.count (sym taken.count)
+            ∙ sym (ap (header_count g.watched.page) (joined_more frames n is.there)
+            ∙ header_count-append g.watched.page (packets_before frames n)
+            (packets_of_frame frames n));
+      };
+      due_is = due;
+    }
+      where
+        more : 0 < total
+        more = elim (cases_lt 0 total) [ inl l ↦ l | inr l ↦ absurd (some (omega arith)) ]
+
+        rising : (j : ℕ) → j < n + 1 → frame_at frames j ≤ b.frame
+        rising = rising_more frames n b.frame known.rising here
+
+        without : found ≡ false → 0 < b.headers
+        without e =
+            elim (cases_lt 0 headers) [
+              | inl l ↦ absurd (true≢false (sym (lt-ltb 0 headers l) ∙ sym found_is ∙ e))
+              | inr l ↦ omega (arith, more, total_is)
+            ]
+
+-- ---- the end of a frame
+
+module _ (g : Task) (frames : Transmission) (n : ℕ) (c : CheckerValue) (t : Took g frames n c) where
+  -- The first frame has a header.
+  head : n ≡ 0 → HasHeader g frames 0
+  head e =
+      let found = (t.known.header (omega arith)).found in
+      let j : found.0 ≡ 0 = let l = found.1 in omega arith in
+      subst (HasHeader g frames) j found.3
+
+  -- Each cell shows what is due.
+  shown_there :
+      AreSameCells c.listener
+      → (row column : ℕ)
+      → IsCell row column
+      → ShowsDue g frames (n + 1) (frame_at frames n) row column
+  shown_there same row column is =
+      subst (λ f. ShowsDue g frames (n + 1) f row column) (sym t.frame_is)
+      (shows_all g frames (n + 1) c t.known t.due_is same row column is)
+
+  -- A cell that differs.
+  pub names_cell : (row column : ℕ)
+      → DiffersFirst c.listener.comparison.page c.listener.comparison.due row column
+      → NamesFirst g frames (fault.Content c.frame row column)
+  names_cell row column d =
+      let w : WrongFirst g frames (n + 1) (frame_at frames n) row column =
+      subst (λ f. WrongFirst g frames (n + 1) f row column) (sym t.frame_is)
+      (wrong_first g frames (n + 1) c t.known t.due_is row column d) in
+      subst (λ f. NamesFirst g frames (fault.Content f row column)) t.frame_is
+      (first_cell g frames n t.past row column t.there t.order t.gap t.packets head w.is_cell
+      w.broken w.above w.before)
+
+  -- A header too long ago.
+  pub names_gap : AreSameCells c.listener → c.every ≤ c.frame - c.header_at
+      → NamesFirst g frames (fault.Gap c.frame)
+  names_gap same l =
+      subst (λ f. NamesFirst g frames (fault.Gap f)) t.frame_is
+      (first_frame g frames n t.past t.there t.order t.gap t.packets head (shown_there same)
+      (λ there. uncovered g frames (n + 1) c t.known t.due_is (omega arith) l
+      (subst (IsCovered g frames (n + 1)) t.frame_is there)))
+
+  -- A header that is not.
+  covered_there : c.frame - c.header_at < c.every → IsCovered g frames (n + 1) (frame_at frames n)
+  covered_there l =
+      subst (IsCovered g frames (n + 1)) (sym t.frame_is)
+      (covered g frames (n + 1) c t.known t.due_is (omega arith) l)
+
+  -- A page that is open.
+  pub names_open : AreSameCells c.listener → c.frame - c.header_at < c.every
+      → (c.listener.watched.complete && c.listener.is_open) ≡ true
+      → NamesFirst g frames (fault.Incomplete c.frame)
+  names_open same l is_open =
+      subst (λ f. NamesFirst g frames (fault.Incomplete f)) t.frame_is
+      (first_open g frames n t.past t.there t.order t.gap t.packets head (shown_there same)
+      (covered_there l)
+      (ended_not g frames (n + 1) c.listener t.known.knows.knows t.known.watched_is is_open))
+
+  -- All that is asked holds.
+  pub follows : AreSameCells c.listener → c.frame - c.header_at < c.every
+      → (c.listener.watched.complete && c.listener.is_open) ≡ false
+      → Follows g frames (n + 1) c
+  follows same l closed = record {
+    some = omega arith;
+    frame_is = sym t.frame_is ∙ ap (frame_at frames) (omega arith);
+    remembers = t.known;
+    past = past_more g frames n t.past (record {
+      order = t.order;
+      gap = t.gap;
+      packets = t.packets;
+      end = record {
+        first = λ e there. head e;
+        cells = λ row column there. shown_there same row column there.1;
+        covered = λ there. covered_there l;
+        ended = λ there. ended_from g frames (n + 1) c.listener t.known.knows.knows
+            t.known.watched_is closed;
+      };
+    });
+  }
 
 -- The task of a programme and options, where the bound was read of the options, is that of the
 -- programme. For `judge`.

@@ -11,6 +11,7 @@ use Rattle.stl_rows.specs.declared.national.National.{National}
 use Rattle.ttx_pes.specs.PesPacket.{IsPesPacket, PesValue}
 use Rattle.ttx_pes.specs.Reading.{answer_at, most_packets}
 use Rattle.sub_plan.specs.FrameTime.{frames_of_day, pts_of}
+use Rattle.sub_check.specs.Checker.{CheckerValue}
 use Rattle.sub_check.specs.Fault.{is_pes_read, is_pes_write, is_subtitle_fault}
 use Rattle.sub_check.specs.FirstBroken.{HoldsEverywhere, unread_fault}
 use Rattle.sub_check.specs.Following.{Follows}
@@ -22,7 +23,6 @@ use Rattle.sub_check.specs.Transmission.{SentFrame, Transmission, first_frame, l
 use Rattle.sub_check.specs.declared.checker.Accepted.{Accepted}
 use Rattle.sub_check.specs.declared.fault.CheckFault.{CheckFault}
 use Rattle.sub_check.specs.declared.fault.CheckFault.TheVariants as fault
-use Rattle.sub_check.specs.declared.frame_rules.Checker.{Checker}
 use Rattle.sub_check.specs.declared.sending.Sending.{Sending}
 
 -- The fault is told by a rule: it is none of the subtitle file, and not that the PES source failed.
@@ -102,11 +102,10 @@ pub record HasCounts (page : PageIdValue) (frames : Transmission) (a : Accepted)
 -- After n PES packets, n frames of the list are read and followed, and the others are left.
 pub record Reaches
     (g : Task) (origin : ℕ) (bytes : List ℕ) (frames : Transmission) (unread : Option Unread)
-    (remaining : Option (List ℕ)) (n first : ℕ) (c : Checker)
+    (remaining : Option (List ℕ)) (n : ℕ) (c : CheckerValue)
     : Type 0 where
   pub few : n ≤ most_packets
   pub within : n ≤ length frames
-  pub first_is : frame_at frames 0 ≡ first
   pub rest : List ℕ
   pub rest_is : remaining ≡ Some rest
   pub taken : AreTaken origin bytes (take n frames) rest

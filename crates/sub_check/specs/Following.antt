@@ -2,7 +2,7 @@
 use Rattle.std.specs.Prelude.{◌≡◌, ℕ, ◌-◌, ◌<◌, ◌≤◌, List, length}
 use Rattle.sub_check.specs.Transmission.{Transmission}
 use Rattle.stl_rows.specs.Programme.{ProgrammeValue, first_in, last_out}
-use Rattle.sub_check.specs.declared.frame_rules.Checker.{Checker}
+use Rattle.sub_check.specs.Checker.{CheckerValue}
 use Rattle.sub_check.specs.declared.packet_rules.PacketRule.{PacketRule}
 use Rattle.sub_check.specs.Listening.{KnowsLast}
 use Rattle.sub_check.specs.FrameRules.{Task, frame_at, packets_of_frame, packets_before, HasHeader}
@@ -64,13 +64,24 @@ pub record HeaderIs (g : Task) (frames : Transmission) (n : ℕ) (frame : ℕ) :
   pub last : (j : ℕ) → j < n → HasHeader g frames j → frame_at frames j ≤ frame
   pub begins : frame_at frames 0 ≤ frame
 
--- What is kept is what the first n frames say, and all that is asked of them holds.
-pub record Follows (g : Task) (frames : Transmission) (n : ℕ) (c : Checker) : Type 0 where
-  pub some : 0 < n
+-- All that is asked of the first n frames of the list holds.
+abbrev pub AreOk : Task → Transmission → ℕ → Type 0
+AreOk g frames n = (j : ℕ) → j < n → FrameOk g frames j
+
+-- What is kept is what the first n frames of the list say, at a frame that none of them is after.
+pub record Remembers (g : Task) (frames : Transmission) (n : ℕ) (c : CheckerValue) : Type 0 where
+  pub task_is : IsTaskOf g c.programme c.every
   pub watched_is : c.listener.watched ≡ g.watched
   pub knows : KnowsLast (packets_before frames n) (packets_of_frame frames (n - 1)) c.listener
-  pub frame_is : c.frame ≡ frame_at frames (n - 1)
+  pub first_is : c.first ≡ frame_at frames 0
   pub rising : (j : ℕ) → j < n → frame_at frames j ≤ c.frame
-  pub header : HeaderIs g frames n c.header_at
+  pub begun : 0 < n → 0 < c.headers
+  pub header : 0 < n → HeaderIs g frames n c.header_at
   pub count : c.headers ≡ header_count g.watched.page (packets_before frames n)
-  pub past : (j : ℕ) → j < n → FrameOk g frames j
+
+-- That, at the last of these frames, and all that is asked of them holds.
+pub record Follows (g : Task) (frames : Transmission) (n : ℕ) (c : CheckerValue) : Type 0 where
+  pub some : 0 < n
+  pub frame_is : c.frame ≡ frame_at frames (n - 1)
+  pub remembers : Remembers g frames n c
+  pub past : AreOk g frames n

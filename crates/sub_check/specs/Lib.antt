@@ -16,6 +16,7 @@ pub mod Listening
 pub mod Comparison
 pub mod FrameRules
 pub mod FirstBroken
+pub mod Checker
 pub mod Following
 pub mod PesReading
 pub mod Checking

@@ -1,13 +1,13 @@
 //! The exact checker: a PES file against a programme, one PES packet at a time.
-ghost use Rattle.std.specs.Prelude.{◌≡◌, ℕ, ◌≤◌, MatchResult, IfErr};
+ghost use Rattle.std.specs.Prelude.{◌≡◌, ℕ, MatchResult};
 ghost use Rattle.std.specs.Prelude.{Err, Option, false};
 ghost use Rattle.sub_io.specs.Device.{CanFail, CountsIf, failed};
 ghost use Rattle.sub_io.specs.Reading.{IfTold};
-ghost use Rattle.stl_rows.specs.Programme.{IsProgramme, last_out};
+ghost use Rattle.stl_rows.specs.Programme.{IsProgramme};
 ghost use Rattle.ttx_pes.specs.Reader.{FailsAtPacket};
 ghost use Rattle.sub_plan.specs.Options.{IsOptions};
 ghost use Rattle.sub_check.specs.CheckedFiles.{IsChecked};
-ghost use Rattle.sub_check.specs.Checking.{Accepts, IsRuleFault, TellsEnd};
+ghost use Rattle.sub_check.specs.Checking.{Accepts};
 ghost use Rattle.sub_check.specs.Fault.{is_pes_read, is_pes_write, is_subtitle_fault};
 ghost use Rattle.sub_check.specs.FirstBroken.{IsReadUpTo, NamesFirst};
 ghost use Rattle.sub_check.specs.FrameRules.{Unread, task_of};
@@ -15,7 +15,7 @@ ghost use Rattle.sub_check.specs.PesReading.{ReadsAs};
 ghost use Rattle.sub_check.specs.Transmission.{Transmission};
 
 use crate::fault::CheckFault;
-use crate::frame_rules::{Checker, is_over};
+use crate::frame_rules::Checker;
 use crate::packet_rules::Watched;
 use crate::sending::{next_sending, units_of};
 use stl_rows::Programme;
@@ -33,23 +33,6 @@ pub struct Accepted {
     pub frames: u64,
     /// How many headers of the page there are.
     pub transmissions: u64,
-}
-
-// What is left to ask at the end of the file.
-fn finish(programme: &Programme, first: u32, checker: &Checker) -> Result<Accepted, CheckFault>
-    requires { first ≤ checker.now.frame }
-    ensures end { TellsEnd (last_out programme.now.records) first checker.now.frame
-        checker.now.headers result }
-    ensures own { IfErr result IsRuleFault }
-{
-    let frame = checker.frame;
-    if !is_over(programme.last_out(), frame) {
-        return Err(CheckFault::Late { frame });
-    }
-    Ok(Accepted {
-        frames: u64::from(frame - first) + 1,
-        transmissions: checker.headers,
-    })
 }
 
 /// Checks a PES file against a programme: it is accepted exactly where it carries a good
@@ -130,15 +113,14 @@ fn judge<S: Source>(
     let Some(sending) = read else {
         return Err(CheckFault::Empty);
     };
-    let first = sending.frame;
-    let mut checker = Checker::begin(programme, watched, first, units_of(&reader), every)?;
+    let mut checker = Checker::begin(programme, watched, every, sending.frame, units_of(&reader))?;
     for pes in 1..=MOST_PACKETS {
         let more = next_sending(&mut reader, source, options, pes)?;
         let Some(sending) = more else {
-            return finish(programme, first, &checker);
+            return checker.finish();
         };
         let units = units_of(&reader);
-        checker.go_on(programme, pes, sending, units, every)?;
+        checker.go_on(pes, sending, units)?;
     }
     let fault = PesFault::TooMany;
     Err(CheckFault::Pes {

@@ -1,96 +1,104 @@
 //! The rules of frames: their order, the frames between two PES packets, and what is due at each
 //! frame's end.
 ghost use Rattle.std.specs.Prelude.{◌≡◌, ℕ, ◌+◌, ◌-◌, ◌<◌, ◌≤◌, ◌↔◌, length, if◌then◌else◌};
-ghost use Rattle.std.specs.Prelude.{◌*◌, MatchResult, OnOk, IfOk, IfErr, IsTrue};
+ghost use Rattle.std.specs.Prelude.{◌*◌, MatchResult, OnOk, IfErr, IsTrue};
 ghost use Rattle.std.specs.Prelude.{Some, nat_lt, true};
-ghost use Rattle.stl_rows.specs.DuePage.{TellsNextEdge};
-ghost use Rattle.sub_check.specs.Checking.{IsRuleFault};
+ghost use Rattle.stl_rows.specs.Programme.{last_out};
+ghost use Rattle.sub_check.specs.Checking.{IsRuleFault, TellsEnd};
 ghost use Rattle.sub_check.specs.FirstBroken.{NamesFirst, packet_fault};
 ghost use Rattle.sub_check.specs.FrameRules.{Task, frame_at, packets_of_frame};
-ghost use Rattle.sub_plan.specs.Schedule.{due_in};
 ghost use Rattle.sub_check.specs.PacketRules.{packets_of_units};
 ghost use Rattle.sub_check.specs.Transmission.{Transmission};
 
+use crate::checker::Accepted;
 use crate::fault::CheckFault;
 use crate::listener::Listener;
 use crate::packet_rules::{PacketRule, Watched};
 use crate::sending::Sending;
+use std::marker::Model;
 use stl_rows::Programme;
 use ttx_pes::Unit;
 
 /// How far the check has come.
 #[derive(Drop)]
-pub(crate) struct Checker {
-    pub listener: Listener,
-    /// The next frame at which another page may be due.
-    pub edge: Option<u32>,
-    /// The frame of the last PES packet.
-    pub frame: u32,
-    /// The frame of the last header of the page.
-    pub header_at: u32,
-    /// How many headers of the page there were.
-    pub headers: u64,
+pub(crate) struct Checker<'a> {
+    programme: &'a Programme,
+    // The repeat bound.
+    every: u32,
+    listener: Listener,
+    // The frame of the first PES packet.
+    first: u32,
+    // The frame of the day that was reached last.
+    frame: u32,
+    // The next frame at which another page may be due.
+    edge: Option<u32>,
+    // The frame of the last header of the page.
+    header_at: u32,
+    // How many headers of the page there were.
+    headers: u64,
 }
 
-impl Checker {
-    ghost use Rattle.sub_check.specs.Listening.{Knows};
-    ghost use Rattle.sub_check.specs.Following.{Follows, GapOk, IsSentFrame, IsTaskOf, OrderOk};
+impl<'a> Model for Checker<'a> {
+    ghost use Rattle.sub_check.specs.Checker.{CheckerValue, IsAtFrame};
 
-    // Goes on to a frame: where a subtitle begins or ends, the due page is drawn anew.
-    fn advance(&mut self, programme: &Programme, f: u32)
-        requires some { 0 < f }
-        requires due { self.old.listener.comparison.due ≡ due_in programme.now (f - 1) }
-        requires edge { TellsNextEdge programme.now.records (f - 1) self.old.edge }
-        ensures edge { TellsNextEdge programme.now.records f self.new.edge }
-        ensures frame { self.new.frame ≡ self.old.frame }
-        ensures header_at { self.new.header_at ≡ self.old.header_at }
-        ensures headers { self.new.headers ≡ self.old.headers }
-        ensures listener { self.new.listener ≡ record self.old.listener {
-          comparison = record self.old.listener.comparison { due = due_in programme.now f };
-        } }
+    ghost Value = { CheckerValue };
+
+    ghost view = { λ c. record {
+      programme = c.programme.now;
+      every = c.every;
+      listener = c.listener;
+      first = c.first;
+      frame = c.frame;
+      header_at = c.header_at;
+      headers = c.headers;
+    } };
+
+    ghost invariant = { λ c. IsAtFrame c.programme.now c.listener c.first c.frame c.edge c.header_at
+        c.headers };
+}
+
+impl<'a> Checker<'a> {
+    ghost use Rattle.sub_check.specs.Checker.{at_frame};
+    ghost use Rattle.sub_check.specs.Following.{AreOk, Follows, GapOk, IsSentFrame, IsTaskOf};
+    ghost use Rattle.sub_check.specs.Following.{OrderOk, Remembers};
+
+    // Goes on to the next frame: where a subtitle begins or ends, the due page is drawn anew.
+    fn advance(&mut self, f: u32)
+        requires { f ≡ self.old.frame + 1 }
+        ensures { self.new ≡ at_frame f self.old }
     {
         if is_at(self.edge, f) {
-            self.cross_edge(programme, f);
+            self.cross_edge(f);
+        } else {
+            self.frame = f;
         }
     }
 
-    // The due page and the next edge, at a frame where a subtitle begins or ends. Apart from
-    // `advance`, which else would make room for a page at each frame.
+    // Goes on to a frame where a subtitle begins or ends. Apart from `advance`, which else would
+    // make room for a page at each frame.
     #[inline(never)]
-    fn cross_edge(&mut self, programme: &Programme, f: u32)
-        ensures edge { TellsNextEdge programme.now.records f self.new.edge }
-        ensures frame { self.new.frame ≡ self.old.frame }
-        ensures header_at { self.new.header_at ≡ self.old.header_at }
-        ensures headers { self.new.headers ≡ self.old.headers }
-        ensures listener { self.new.listener ≡ record self.old.listener {
-          comparison = record self.old.listener.comparison { due = due_in programme.now f };
-        } }
+    fn cross_edge(&mut self, f: u32)
+        requires { self.old.frame ≤ f }
+        ensures { self.new ≡ at_frame f self.old }
     {
+        let programme = self.programme;
         self.listener.draw(programme.due_page(f));
         self.edge = programme.next_edge(f);
+        self.frame = f;
     }
 
-    // The frames of the day between the last PES packet and the next.
-    fn cross_gap(&mut self, programme: &Programme, to: u32, every: u32) -> Result<(), CheckFault>
-        requires header { self.old.header_at ≤ self.old.frame }
-        requires later { self.old.frame < to }
-        requires due { self.old.listener.comparison.due ≡ due_in programme.now self.old.frame }
-        requires edge { TellsNextEdge programme.now.records self.old.frame self.old.edge }
-        ensures frame { self.new.frame ≡ self.old.frame }
-        ensures header_at { self.new.header_at ≡ self.old.header_at }
-        ensures headers { self.new.headers ≡ self.old.headers }
+    // Goes on to the frame of the next PES packet, over the frames of the day before it.
+    fn cross_gap(&mut self, to: u32) -> Result<(), CheckFault>
+        requires { self.old.frame < to }
         ensures own { IfErr result IsRuleFault }
-        ensures due { OnOk result
-            (self.new.listener.comparison.due ≡ due_in programme.now (to - 1)) }
-        ensures edge { OnOk result (TellsNextEdge programme.now.records (to - 1) self.new.edge) }
+        ensures frame { OnOk result (self.new ≡ at_frame to self.old) }
         ensures exact { (g : Task) (frames : Transmission) (n : ℕ)
-            → IsTaskOf g programme.now every → Follows g frames n self.old
+            → Follows g frames n self.old
             → n < length frames → frame_at frames n ≡ to → OrderOk g frames n
-            → MatchResult result (λ _. GapOk g frames n × Follows g frames n self.new)
-            (NamesFirst g frames) }
+            → MatchResult result (λ _. GapOk g frames n) (NamesFirst g frames) }
     {
         for f in self.frame + 1..to {
-            self.advance(programme, f);
+            self.advance(f);
             if let Some((row, column)) = self.listener.first_wrong() {
                 return Err(CheckFault::Content {
                     frame: f,
@@ -98,56 +106,40 @@ impl Checker {
                     column,
                 });
             }
-            if f - self.header_at >= every {
+            if f - self.header_at >= self.every {
                 return Err(CheckFault::Gap { frame: f });
             }
         }
+        self.advance(to);
         Ok(())
     }
 
-    // The packets of a frame, and its end.
-    fn take(
-        &mut self,
-        programme: &Programme,
-        sending: Sending,
-        units: &[Unit],
-        every: u32,
-    ) -> Result<(), CheckFault>
+    // The packets of the frame that was reached, and its end.
+    fn take(&mut self, again: bool, units: &[Unit]) -> Result<(), CheckFault>
         requires few { length units.now ≤ 35 }
-        requires header { self.old.header_at ≤ self.old.frame }
-        requires later { self.old.frame < sending.frame }
-        requires headers { self.old.headers ≤ 255 * self.old.frame + 255 }
-        requires due { self.old.listener.comparison.due ≡ due_in programme.now (sending.frame - 1) }
-        requires edge { TellsNextEdge programme.now.records (sending.frame - 1) self.old.edge }
+        requires room { self.old.headers ≤ 255 * self.old.frame }
         ensures own { IfErr result IsRuleFault }
-        ensures header { OnOk result (self.new.header_at ≤ self.new.frame) }
-        ensures frame { OnOk result (self.new.frame ≡ sending.frame) }
-        ensures headers { OnOk result (self.new.headers ≤ 255 * self.new.frame + 255) }
-        ensures due { OnOk result
-            (self.new.listener.comparison.due ≡ due_in programme.now self.new.frame) }
-        ensures edge { OnOk result
-            (TellsNextEdge programme.now.records self.new.frame self.new.edge) }
         ensures exact { (g : Task) (frames : Transmission) (n : ℕ)
-            → IsTaskOf g programme.now every → Follows g frames n self.old
-            → IsSentFrame frames n sending.frame (packets_of_units units.now)
-            → (sending.again ≡ true → packets_of_frame frames (n - 1) ≡ packets_of_units units.now)
+            → Remembers g frames n self.old → AreOk g frames n
+            → IsSentFrame frames n self.old.frame (packets_of_units units.now)
+            → (again ≡ true → packets_of_frame frames (n - 1) ≡ packets_of_units units.now)
             → OrderOk g frames n → GapOk g frames n
             → MatchResult result (λ _. Follows g frames (n + 1) self.new) (NamesFirst g frames) }
     {
-        let frame = sending.frame;
-        self.advance(programme, frame);
-        let headers = match self.listener.hear_sending(units, sending.again) {
+        let frame = self.frame;
+        let headers = match self.listener.hear_sending(units, again) {
             Err(fault) => return Err(fault_of(fault.rule, frame, fault.packet)),
             Ok(headers) => headers,
         };
-        let found = any_header(headers);
         self.headers = self.headers + u64::from(headers);
-        self.header_at = later_header(found, frame, self.header_at);
-        self.frame = frame;
+        self.header_at = later_header(any_header(headers), frame, self.header_at);
+        if self.headers == 0 {
+            return Err(CheckFault::NoFirstHeader { frame });
+        }
         if let Some((row, column)) = self.listener.first_wrong() {
             return Err(CheckFault::Content { frame, row, column });
         }
-        if frame - self.header_at >= every {
+        if frame - self.header_at >= self.every {
             return Err(CheckFault::Gap { frame });
         }
         if self.listener.is_incomplete() {
@@ -157,29 +149,11 @@ impl Checker {
     }
 
     /// A PES packet after the first: what is sent, and its units.
-    pub fn go_on(
-        &mut self,
-        programme: &Programme,
-        pes: u32,
-        sending: Sending,
-        units: &[Unit],
-        every: u32,
-    ) -> Result<(), CheckFault>
+    pub fn go_on(&mut self, pes: u32, sending: Sending, units: &[Unit]) -> Result<(), CheckFault>
         requires few { length units.now ≤ 35 }
-        requires header { self.old.header_at ≤ self.old.frame }
-        requires headers { self.old.headers ≤ 255 * self.old.frame + 255 }
-        requires due { self.old.listener.comparison.due ≡ due_in programme.now self.old.frame }
-        requires edge { TellsNextEdge programme.now.records self.old.frame self.old.edge }
         ensures own { IfErr result IsRuleFault }
-        ensures header { OnOk result (self.new.header_at ≤ self.new.frame) }
-        ensures later { OnOk result (self.old.frame ≤ self.new.frame) }
-        ensures headers { OnOk result (self.new.headers ≤ 255 * self.new.frame + 255) }
-        ensures due { OnOk result
-            (self.new.listener.comparison.due ≡ due_in programme.now self.new.frame) }
-        ensures edge { OnOk result
-            (TellsNextEdge programme.now.records self.new.frame self.new.edge) }
         ensures exact { (g : Task) (frames : Transmission)
-            → IsTaskOf g programme.now every → Follows g frames pes self.old
+            → Follows g frames pes self.old
             → IsSentFrame frames pes sending.frame (packets_of_units units.now)
             → (sending.again ≡ true
             → packets_of_frame frames (pes - 1) ≡ packets_of_units units.now)
@@ -188,28 +162,20 @@ impl Checker {
         if sending.frame <= self.frame {
             return Err(CheckFault::Order { pes });
         }
-        self.cross_gap(programme, sending.frame, every)?;
-        self.take(programme, sending, units, every)
+        self.cross_gap(sending.frame)?;
+        self.take(sending.again, units)
     }
 
     /// The first PES packet: its frame and its units.
     pub fn begin(
-        programme: &Programme,
+        programme: &'a Programme,
         watched: Watched,
+        every: u32,
         frame: u32,
         units: &[Unit],
-        every: u32,
-    ) -> Result<Checker, CheckFault>
-        requires some { 0 < every }
+    ) -> Result<Self, CheckFault>
         requires few { length units.now ≤ 35 }
         ensures own { IfErr result IsRuleFault }
-        ensures header { IfOk result (λ checker. checker.header_at ≤ checker.frame) }
-        ensures frame { IfOk result (λ checker. checker.frame ≡ frame) }
-        ensures headers { IfOk result (λ checker. checker.headers ≤ 255 * checker.frame + 255) }
-        ensures due { IfOk result (λ checker.
-            checker.listener.comparison.due ≡ due_in programme.now checker.frame) }
-        ensures edge { IfOk result (λ checker.
-            TellsNextEdge programme.now.records checker.frame checker.edge) }
         ensures exact { (g : Task) (frames : Transmission)
             → IsTaskOf g programme.now every → g.watched ≡ watched
             → IsSentFrame frames 0 frame (packets_of_units units.now)
@@ -218,27 +184,33 @@ impl Checker {
         if !is_in_time(programme.first_in(), frame) {
             return Err(CheckFault::Early { frame });
         }
-        let mut listener = Listener::new(watched, programme.due_page(frame));
-        let headers = match listener.hear_sending(units, false) {
-            Err(fault) => return Err(fault_of(fault.rule, frame, fault.packet)),
-            Ok(headers) => headers,
-        };
-        let found = any_header(headers);
-        if !found {
-            return Err(CheckFault::NoFirstHeader { frame });
-        }
-        if let Some((row, column)) = listener.first_wrong() {
-            return Err(CheckFault::Content { frame, row, column });
-        }
-        if listener.is_incomplete() {
-            return Err(CheckFault::Incomplete { frame });
-        }
-        Ok(Checker {
-            listener,
-            edge: programme.next_edge(frame),
+        let mut checker = Checker {
+            programme,
+            every,
+            listener: Listener::new(watched, programme.due_page(frame)),
+            first: frame,
             frame,
+            edge: programme.next_edge(frame),
             header_at: frame,
-            headers: u64::from(headers),
+            headers: 0,
+        };
+        checker.take(false, units)?;
+        Ok(checker)
+    }
+
+    /// What is left to ask at the end of the file.
+    pub fn finish(&self) -> Result<Accepted, CheckFault>
+        ensures end { TellsEnd (last_out self.now.programme.records) self.now.first self.now.frame
+            self.now.headers result }
+        ensures own { IfErr result IsRuleFault }
+    {
+        let frame = self.frame;
+        if !is_over(self.programme.last_out(), frame) {
+            return Err(CheckFault::Late { frame });
+        }
+        Ok(Accepted {
+            frames: u64::from(frame - self.first) + 1,
+            transmissions: self.headers,
         })
     }
 }
@@ -293,8 +265,8 @@ fn is_in_time(first_in: Option<u32>, frame: u32) -> bool
     }
 }
 
-/// Whether the last TCO, if there is one, is not after the frame.
-pub(crate) fn is_over(last_out: Option<u32>, frame: u32) -> bool
+// Whether the last TCO, if there is one, is not after the frame.
+fn is_over(last_out: Option<u32>, frame: u32) -> bool
     ensures { IsTrue result ↔ ((last : ℕ) → last_out ≡ Some last → last ≤ frame) }
 {
     match last_out {

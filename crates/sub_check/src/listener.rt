@@ -46,7 +46,7 @@ impl Listener {
     pub fn new(watched: Watched, due: Page) -> Self
         ensures watched { result.watched ≡ watched }
         ensures due { result.comparison.due ≡ due }
-        ensures knows { KnowsLast [] [] result }
+        ensures knows { (last : List (List ℕ)) → KnowsLast [] last result }
     {
         Listener {
             watched,

@@ -54,14 +54,8 @@ returns-in_err-checker-clause-count g c =
 
 pub loop-pes-init : goal.loop-pes-init
 loop-pes-init g c =
-    let same = c.in_ok-checker.ensures.frame in
     let counted = c.in_ok-read.ensures.count in
     record {
-      later = omega arith;
-      header = c.in_ok-checker.ensures.header;
-      headers = c.in_ok-checker.ensures.headers;
-      due = c.in_ok-checker.ensures.due;
-      edge = c.in_ok-checker.ensures.edge;
       reading =
           c.in_ok-read.ensures.progress c.in-Some.sending
           (ap (λ x. let r : Result (Option Sending) CheckFault = Ok x in r) c.in-Some.is);
@@ -99,15 +93,14 @@ returns-in_err-more-clause-exact g c = λ frames unread bytes told reads fine.
     let known = rw (p.1, p.2) at fine in
     let i = (c.loop-pes.invariant.told frames unread bytes told reads).0 in
     rw (p.1, p.2)
-    (next_refusal c.args.programme.now c.args.options.now frames unread bytes c.loop-pes.pes
-    c.in-Some.sending.frame _ c.loop-pes.checker i c.next_sending-in-loop-pes.new.reader.frame _
+    (next_refusal c.args.programme.now c.args.options.now frames unread bytes c.loop-pes.pes _
+    c.loop-pes.checker i c.next_sending-in-loop-pes.new.reader.frame _
     (c.in_err-more.ensures.exact i.rest i.rest_is known))
 
 pub returns-in_default-more-clause-exact : goal.returns-in_default-more-clause-exact
 returns-in_default-more-clause-exact g c = λ frames unread bytes told reads fine.
     let i = (c.loop-pes.invariant.told frames unread bytes told reads).0 in
-    end_told c.args.programme.now c.args.options.now frames unread bytes c.loop-pes.pes
-    c.in-Some.sending.frame _
+    end_told c.args.programme.now c.args.options.now frames unread bytes c.loop-pes.pes _
     c.loop-pes.checker i c.finish.result
     (rw c.in_default-more.is at (c.in_ok-more.ensures.exact i.rest i.rest_is refl))
     c.finish.ensures.end
@@ -121,13 +114,12 @@ returns-in_err-go_on-clause-exact g c = λ frames unread bytes told reads fine.
     let at = rw c.in-Some-more.is at (c.in_ok-more.ensures.exact i.rest i.rest_is refl) in
     rw (p.1, p.2)
     (c.in_err-go_on.ensures.exact (task_of c.args.programme.now c.args.options.now unread) frames
-    (task_is c.args.programme.now c.args.options.now unread _ c.every-every.ensures.value)
     i.follows
     (subst
     (λ (us : List UnitValue). IsSentFrame frames c.loop-pes.pes c.in-Some-more.sending.frame
     (packets_of_units us)) (sym c.units_of-units.ensures.value)
-    (next_sent c.args.programme.now c.args.options.now frames unread bytes c.loop-pes.pes
-    c.in-Some.sending.frame _ c.loop-pes.checker i c.next_sending-in-loop-pes.new.reader.frame
+    (next_sent c.args.programme.now c.args.options.now frames unread bytes c.loop-pes.pes _
+    c.loop-pes.checker i c.next_sending-in-loop-pes.new.reader.frame
     c.in-Some-more.sending.frame at))
     (λ e. (c.loop-pes.invariant.told frames unread bytes told reads).1
     ∙ ap packets_of_units
@@ -149,14 +141,7 @@ pub loop-pes-preserved : goal.loop-pes-preserved
 loop-pes-preserved g c =
     let counted = c.in_ok-more.ensures.count in
     let before = c.loop-pes.invariant.failures in
-    let grows = c.in_ok-go_on.ensures.later in
-    let first = c.loop-pes.invariant.later in
     record {
-      later = omega (arith, grows, first);
-      header = c.in_ok-go_on.ensures.header;
-      headers = c.in_ok-go_on.ensures.headers;
-      due = c.in_ok-go_on.ensures.due;
-      edge = c.in_ok-go_on.ensures.edge;
       reading =
           c.in_ok-more.ensures.progress c.in-Some-more.sending
           (ap (λ x. let r : Result (Option Sending) CheckFault = Ok x in r) c.in-Some-more.is);
@@ -169,11 +154,11 @@ loop-pes-preserved g c =
           let i = (c.loop-pes.invariant.told frames unread bytes told reads).0 in
           let at = rw c.in-Some-more.is at (c.in_ok-more.ensures.exact i.rest i.rest_is refl) in
           let sent =
-          next_sent c.args.programme.now c.args.options.now frames unread bytes c.loop-pes.pes
-          c.in-Some.sending.frame _ c.loop-pes.checker i c.next_sending-in-loop-pes.new.reader.frame
+          next_sent c.args.programme.now c.args.options.now frames unread bytes c.loop-pes.pes _
+          c.loop-pes.checker i c.next_sending-in-loop-pes.new.reader.frame
           c.in-Some-more.sending.frame at in (
             reaches_next c.args.programme.now c.args.options.now frames unread bytes c.loop-pes.pes
-                c.in-Some.sending.frame _ c.loop-pes.checker i c.next_sending-in-loop-pes.new.reader.frame
+                _ c.loop-pes.checker i c.next_sending-in-loop-pes.new.reader.frame
                 c.in-Some-more.sending.frame _ c.go_on.new.self at
                 (c.in_ok-more.ensures.left i.rest i.rest_is)
                 (c.in_ok-more.ensures.taken c.in-Some-more.sending
@@ -181,7 +166,6 @@ loop-pes-preserved g c =
                 c.units_of-units.ensures.frame
                 (c.in_ok-go_on.ensures.exact
                 (task_of c.args.programme.now c.args.options.now unread) frames
-                (task_is c.args.programme.now c.args.options.now unread _ c.every-every.ensures.value)
                 i.follows
                 (subst
                 (λ (us : List UnitValue). IsSentFrame frames c.loop-pes.pes c.in-Some-more.sending.frame

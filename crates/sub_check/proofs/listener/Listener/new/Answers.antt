@@ -6,7 +6,7 @@ use Rattle.sub_check.proofs.ListeningLemmas.{HoldsRows-none}
 use Rattle.sub_check.proofs.listener.Listener.new.Goals as goal
 
 pub returns-clause-knows : goal.returns-clause-knows
-returns-clause-knows c = record {
+returns-clause-knows c last = record {
   knows = record {
     serial_is = refl;
     open_is = refl;
