@@ -203,13 +203,13 @@ module _ (programme : ProgrammeValue) (options : OptionsValue) (unread : Option 
   -- The packets of the first frames, cut anywhere, leave a fair span.
   cut_fair : (m : ℕ) → m ≤ length t → (n : ℕ)
       → IsFair (watched_of programme options)
-        (span (kind options.page) (take n (packets_before t m)))
+      (span (kind options.page) (take n (packets_before t m)))
   cut_fair zero l zero = IsFair-none (watched_of programme options)
   cut_fair zero l (suc n) = IsFair-none (watched_of programme options)
   cut_fair (suc m) l n =
       let e : m + 1 ≡ suc m = omega arith in
       let more : packets_before t (suc m) ≡ packets_before t m ++ packets_of_frame t m =
-        ap (packets_before t) (sym e)
+      ap (packets_before t) (sym e)
       ∙ joined_more t m (omega arith) in
       subst (λ xs. IsFair (watched_of programme options) (span (kind options.page) (take n xs)))
       (sym more) (elim (cases_lt n (length (packets_before t m))) [

@@ -72,324 +72,324 @@ gap_of_none g frames =
     }
 
 module _ (g : Task) (frames : Transmission) (n : ℕ) (past : AreOk g frames n) where
-    upto : (q : ℕ) (tail : List ℕ) → (0 < q → OrderOk g frames n) → (1 < q → GapOk g frames n)
-        → (2 < q → PacketsOk g frames n) → (3 < q → EndOk g frames n) → Here g frames n q tail
-        → HoldsBefore g frames (0 ∷ n ∷ q ∷ tail)
-    upto q tail order gap packets end local (AtOrder i) b = elim (split i n 0 q (0 ∷ []) tail b) [
-      | earlier l ↦ (past i l).order.order
-      | sooner e l ↦ subst (λ j. Keeps g frames (AtOrder j)) (sym e) (order l).order
-      | here e f r ↦ subst (λ j. Keeps g frames (AtOrder j)) (sym e) (local.order f r)
-    ]
-    upto q tail order gap packets end local AtStart b = elim (split 0 n 0 q (1 ∷ []) tail b) [
-      | earlier l ↦ (past 0 l).order.start refl
-      | sooner e l ↦ (order l).start (sym e)
-      | here e f r ↦ local.start f e r
-    ]
-    upto q tail order gap packets end local (AtGapCell i f row column) b =
-        elim (split i n 1 q (f ∷ 1 ∷ row ∷ column ∷ []) tail b) [
-          | earlier l ↦ (past i l).gap.cells f row column
-          | sooner e l ↦ subst (λ j. Keeps g frames (AtGapCell j f row column)) (sym e)
-              ((gap l).cells f row column)
-          | here e h r ↦ subst (λ j. Keeps g frames (AtGapCell j f row column)) (sym e)
-              (local.gap_cell h f row column r)
-        ]
-    upto q tail order gap packets end local (AtGap i f) b =
-        elim (split i n 1 q (f ∷ 2 ∷ []) tail b) [
-          | earlier l ↦ (past i l).gap.covered f
-          | sooner e l ↦ subst (λ j. Keeps g frames (AtGap j f)) (sym e) ((gap l).covered f)
-          | here e h r ↦ subst (λ j. Keeps g frames (AtGap j f)) (sym e) (local.gap h f r)
-        ]
-    upto q tail order gap packets end local (AtPacket i k rule) b =
-        elim (split i n 2 q (k ∷ rank rule ∷ []) tail b) [
-          | earlier l ↦ (past i l).packets.each k rule
-          | sooner e l ↦ subst (λ j. Keeps g frames (AtPacket j k rule)) (sym e)
-              ((packets l).each k rule)
-          | here e h r ↦ subst (λ j. Keeps g frames (AtPacket j k rule)) (sym e)
-              (local.packet h k rule r)
-        ]
-    upto q tail order gap packets end local AtFirst b = elim (split 0 n 3 q (0 ∷ []) tail b) [
-      | earlier l ↦ (past 0 l).end.first refl
-      | sooner e l ↦ (end l).first (sym e)
-      | here e f r ↦ local.first f e r
-    ]
-    upto q tail order gap packets end local (AtCell i row column) b =
-        elim (split i n 3 q (1 ∷ row ∷ column ∷ []) tail b) [
-          | earlier l ↦ (past i l).end.cells row column
-          | sooner e l ↦ subst (λ j. Keeps g frames (AtCell j row column)) (sym e)
-              ((end l).cells row column)
-          | here e h r ↦ subst (λ j. Keeps g frames (AtCell j row column)) (sym e)
-              (local.cell h row column r)
-        ]
-    upto q tail order gap packets end local (AtFrame i) b = elim (split i n 3 q (2 ∷ []) tail b) [
-      | earlier l ↦ (past i l).end.covered
-      | sooner e l ↦ subst (λ j. Keeps g frames (AtFrame j)) (sym e) (end l).covered
-      | here e h r ↦ subst (λ j. Keeps g frames (AtFrame j)) (sym e) (local.frame h r)
-    ]
-    upto q tail order gap packets end local (AtOpen i) b = elim (split i n 3 q (3 ∷ []) tail b) [
-      | earlier l ↦ (past i l).end.ended
-      | sooner e l ↦ subst (λ j. Keeps g frames (AtOpen j)) (sym e) (end l).ended
-      | here e h r ↦ subst (λ j. Keeps g frames (AtOpen j)) (sym e) (local.ended h r)
-    ]
-    upto q tail order gap packets end local AtUnread (inl l) = absurd (omega arith)
-    upto q tail order gap packets end local AtUnread (inr r) = absurd (omega arith)
-    upto q tail order gap packets end local AtNothing (inl l) = absurd (omega arith)
-    upto q tail order gap packets end local AtNothing (inr r) = absurd (omega arith)
-    upto q tail order gap packets end local AtEnd (inl l) = absurd (omega arith)
-    upto q tail order gap packets end local AtEnd (inr r) = absurd (omega arith)
+  upto : (q : ℕ) (tail : List ℕ) → (0 < q → OrderOk g frames n) → (1 < q → GapOk g frames n)
+      → (2 < q → PacketsOk g frames n) → (3 < q → EndOk g frames n) → Here g frames n q tail
+      → HoldsBefore g frames (0 ∷ n ∷ q ∷ tail)
+  upto q tail order gap packets end local (AtOrder i) b = elim (split i n 0 q (0 ∷ []) tail b) [
+    | earlier l ↦ (past i l).order.order
+    | sooner e l ↦ subst (λ j. Keeps g frames (AtOrder j)) (sym e) (order l).order
+    | here e f r ↦ subst (λ j. Keeps g frames (AtOrder j)) (sym e) (local.order f r)
+  ]
+  upto q tail order gap packets end local AtStart b = elim (split 0 n 0 q (1 ∷ []) tail b) [
+    | earlier l ↦ (past 0 l).order.start refl
+    | sooner e l ↦ (order l).start (sym e)
+    | here e f r ↦ local.start f e r
+  ]
+  upto q tail order gap packets end local (AtGapCell i f row column) b =
+      elim (split i n 1 q (f ∷ 1 ∷ row ∷ column ∷ []) tail b) [
+        | earlier l ↦ (past i l).gap.cells f row column
+        | sooner e l ↦ subst (λ j. Keeps g frames (AtGapCell j f row column)) (sym e)
+            ((gap l).cells f row column)
+        | here e h r ↦ subst (λ j. Keeps g frames (AtGapCell j f row column)) (sym e)
+            (local.gap_cell h f row column r)
+      ]
+  upto q tail order gap packets end local (AtGap i f) b =
+      elim (split i n 1 q (f ∷ 2 ∷ []) tail b) [
+        | earlier l ↦ (past i l).gap.covered f
+        | sooner e l ↦ subst (λ j. Keeps g frames (AtGap j f)) (sym e) ((gap l).covered f)
+        | here e h r ↦ subst (λ j. Keeps g frames (AtGap j f)) (sym e) (local.gap h f r)
+      ]
+  upto q tail order gap packets end local (AtPacket i k rule) b =
+      elim (split i n 2 q (k ∷ rank rule ∷ []) tail b) [
+        | earlier l ↦ (past i l).packets.each k rule
+        | sooner e l ↦ subst (λ j. Keeps g frames (AtPacket j k rule)) (sym e)
+            ((packets l).each k rule)
+        | here e h r ↦ subst (λ j. Keeps g frames (AtPacket j k rule)) (sym e)
+            (local.packet h k rule r)
+      ]
+  upto q tail order gap packets end local AtFirst b = elim (split 0 n 3 q (0 ∷ []) tail b) [
+    | earlier l ↦ (past 0 l).end.first refl
+    | sooner e l ↦ (end l).first (sym e)
+    | here e f r ↦ local.first f e r
+  ]
+  upto q tail order gap packets end local (AtCell i row column) b =
+      elim (split i n 3 q (1 ∷ row ∷ column ∷ []) tail b) [
+        | earlier l ↦ (past i l).end.cells row column
+        | sooner e l ↦ subst (λ j. Keeps g frames (AtCell j row column)) (sym e)
+            ((end l).cells row column)
+        | here e h r ↦ subst (λ j. Keeps g frames (AtCell j row column)) (sym e)
+            (local.cell h row column r)
+      ]
+  upto q tail order gap packets end local (AtFrame i) b = elim (split i n 3 q (2 ∷ []) tail b) [
+    | earlier l ↦ (past i l).end.covered
+    | sooner e l ↦ subst (λ j. Keeps g frames (AtFrame j)) (sym e) (end l).covered
+    | here e h r ↦ subst (λ j. Keeps g frames (AtFrame j)) (sym e) (local.frame h r)
+  ]
+  upto q tail order gap packets end local (AtOpen i) b = elim (split i n 3 q (3 ∷ []) tail b) [
+    | earlier l ↦ (past i l).end.ended
+    | sooner e l ↦ subst (λ j. Keeps g frames (AtOpen j)) (sym e) (end l).ended
+    | here e h r ↦ subst (λ j. Keeps g frames (AtOpen j)) (sym e) (local.ended h r)
+  ]
+  upto q tail order gap packets end local AtUnread (inl l) = absurd (omega arith)
+  upto q tail order gap packets end local AtUnread (inr r) = absurd (omega arith)
+  upto q tail order gap packets end local AtNothing (inl l) = absurd (omega arith)
+  upto q tail order gap packets end local AtNothing (inr r) = absurd (omega arith)
+  upto q tail order gap packets end local AtEnd (inl l) = absurd (omega arith)
+  upto q tail order gap packets end local AtEnd (inr r) = absurd (omega arith)
 
-    -- Order.
-    pub first_order : (0 < n)
-        → n < length frames
-        → (frame_at frames (n - 1) < frame_at frames n → ⊥)
-        → NamesFirst g frames (fault.Order n)
-    first_order some there broken = (
-      AtOrder n,
-      refl,
-      record {
-        there = (some, there);
-        broken = broken;
-        earlier =
-            upto 0 (0 ∷ []) (λ l. absurd (omega arith)) (λ l. absurd (omega arith))
-            (λ l. absurd (omega arith)) (λ l. absurd (omega arith)) (record {
-              order = λ e b. absurd (let l = one_before 0 0 [] b in omega arith);
-              start = λ e f b. absurd (let l = one_before 1 0 [] b in omega arith);
-              gap_cell = λ e. absurd (omega arith);
-              gap = λ e. absurd (omega arith);
-              packet = λ e. absurd (omega arith);
-              first = λ e. absurd (omega arith);
-              cell = λ e. absurd (omega arith);
-              frame = λ e. absurd (omega arith);
-              ended = λ e. absurd (omega arith);
-            });
-      },
-    )
+  -- Order.
+  pub first_order : (0 < n)
+      → n < length frames
+      → (frame_at frames (n - 1) < frame_at frames n → ⊥)
+      → NamesFirst g frames (fault.Order n)
+  first_order some there broken = (
+    AtOrder n,
+    refl,
+    record {
+      there = (some, there);
+      broken = broken;
+      earlier =
+          upto 0 (0 ∷ []) (λ l. absurd (omega arith)) (λ l. absurd (omega arith))
+          (λ l. absurd (omega arith)) (λ l. absurd (omega arith)) (record {
+            order = λ e b. absurd (let l = one_before 0 0 [] b in omega arith);
+            start = λ e f b. absurd (let l = one_before 1 0 [] b in omega arith);
+            gap_cell = λ e. absurd (omega arith);
+            gap = λ e. absurd (omega arith);
+            packet = λ e. absurd (omega arith);
+            first = λ e. absurd (omega arith);
+            cell = λ e. absurd (omega arith);
+            frame = λ e. absurd (omega arith);
+            ended = λ e. absurd (omega arith);
+          });
+    },
+  )
 
-    -- Content, before a frame of the list.
-    pub first_gap_cell : (f row column : ℕ) → OrderOk g frames n
-        → ((d row column : ℕ) → d < f → Keeps g frames (AtGapCell n d row column))
-        → ((d : ℕ) → d < f → Keeps g frames (AtGap n d))
-        → IsInGap frames n f → IsCell row column → (ShowsDue g frames n f row column → ⊥)
-        → ((r c : ℕ) → IsCell r c → r < row → ShowsDue g frames n f r c)
-        → ((c : ℕ) → c < column → ShowsDue g frames n f row c)
-        → NamesFirst g frames (fault.Content f row column)
-    first_gap_cell f row column order cells gaps in_gap is_cell broken rows columns = (
-      AtGapCell n f row column,
-      refl,
-      record {
-        there = (in_gap, is_cell);
-        broken = broken;
-        earlier =
-            upto 1 (f ∷ 1 ∷ row ∷ column ∷ []) (λ l. order) (λ l. absurd (omega arith))
-            (λ l. absurd (omega arith)) (λ l. absurd (omega arith)) (record {
-              order = λ e. absurd (omega arith);
-              start = λ e. absurd (omega arith);
-              gap_cell = λ e. cell_of;
-              gap = λ e. gap_of;
-              packet = λ e. absurd (omega arith);
-              first = λ e. absurd (omega arith);
-              cell = λ e. absurd (omega arith);
-              frame = λ e. absurd (omega arith);
-              ended = λ e. absurd (omega arith);
-            });
-      },
-    )
-      where
-        cell_of : (d r c : ℕ) → IsBefore (d ∷ 1 ∷ r ∷ c ∷ []) (f ∷ 1 ∷ row ∷ column ∷ [])
-            → Keeps g frames (AtGapCell n d r c)
-        cell_of d r c (inl l) = cells d r c l
-        cell_of d r c (inr (e, inl l)) = absurd (omega arith)
-        cell_of d r c (inr (e, inr (h, inl l))) =
-            λ there. subst (λ x. ShowsDue g frames n x r c) (sym e) (rows r c there.1 l)
-        cell_of d r c (inr (e, inr (h, inr (i, inl l)))) =
-            λ there. subst (λ x. ShowsDue g frames n x r c) (sym e)
-            (subst (λ x. ShowsDue g frames n f x c) (sym i) (columns c l))
-        cell_of d r c (inr (e, inr (h, inr (i, inr m)))) = absurd m.1
+  -- Content, before a frame of the list.
+  pub first_gap_cell : (f row column : ℕ) → OrderOk g frames n
+      → ((d row column : ℕ) → d < f → Keeps g frames (AtGapCell n d row column))
+      → ((d : ℕ) → d < f → Keeps g frames (AtGap n d))
+      → IsInGap frames n f → IsCell row column → (ShowsDue g frames n f row column → ⊥)
+      → ((r c : ℕ) → IsCell r c → r < row → ShowsDue g frames n f r c)
+      → ((c : ℕ) → c < column → ShowsDue g frames n f row c)
+      → NamesFirst g frames (fault.Content f row column)
+  first_gap_cell f row column order cells gaps in_gap is_cell broken rows columns = (
+    AtGapCell n f row column,
+    refl,
+    record {
+      there = (in_gap, is_cell);
+      broken = broken;
+      earlier =
+          upto 1 (f ∷ 1 ∷ row ∷ column ∷ []) (λ l. order) (λ l. absurd (omega arith))
+          (λ l. absurd (omega arith)) (λ l. absurd (omega arith)) (record {
+            order = λ e. absurd (omega arith);
+            start = λ e. absurd (omega arith);
+            gap_cell = λ e. cell_of;
+            gap = λ e. gap_of;
+            packet = λ e. absurd (omega arith);
+            first = λ e. absurd (omega arith);
+            cell = λ e. absurd (omega arith);
+            frame = λ e. absurd (omega arith);
+            ended = λ e. absurd (omega arith);
+          });
+    },
+  )
+    where
+      cell_of : (d r c : ℕ) → IsBefore (d ∷ 1 ∷ r ∷ c ∷ []) (f ∷ 1 ∷ row ∷ column ∷ [])
+          → Keeps g frames (AtGapCell n d r c)
+      cell_of d r c (inl l) = cells d r c l
+      cell_of d r c (inr (e, inl l)) = absurd (omega arith)
+      cell_of d r c (inr (e, inr (h, inl l))) =
+          λ there. subst (λ x. ShowsDue g frames n x r c) (sym e) (rows r c there.1 l)
+      cell_of d r c (inr (e, inr (h, inr (i, inl l)))) =
+          λ there. subst (λ x. ShowsDue g frames n x r c) (sym e)
+          (subst (λ x. ShowsDue g frames n f x c) (sym i) (columns c l))
+      cell_of d r c (inr (e, inr (h, inr (i, inr m)))) = absurd m.1
 
-        gap_of : (d : ℕ) → IsBefore (d ∷ 2 ∷ []) (f ∷ 1 ∷ row ∷ column ∷ [])
-            → Keeps g frames (AtGap n d)
-        gap_of d (inl l) = gaps d l
-        gap_of d (inr (e, inl l)) = absurd (omega arith)
-        gap_of d (inr (e, inr m)) = absurd (omega arith)
+      gap_of : (d : ℕ) → IsBefore (d ∷ 2 ∷ []) (f ∷ 1 ∷ row ∷ column ∷ [])
+          → Keeps g frames (AtGap n d)
+      gap_of d (inl l) = gaps d l
+      gap_of d (inr (e, inl l)) = absurd (omega arith)
+      gap_of d (inr (e, inr m)) = absurd (omega arith)
 
-    -- Gap, before a frame of the list.
-    pub first_gap : (f : ℕ) → OrderOk g frames n
-        → ((d row column : ℕ) → d < f → Keeps g frames (AtGapCell n d row column))
-        → ((d : ℕ) → d < f → Keeps g frames (AtGap n d))
-        → IsInGap frames n f → ((r c : ℕ) → IsCell r c → ShowsDue g frames n f r c)
-        → (IsCovered g frames n f → ⊥)
-        → NamesFirst g frames (fault.Gap f)
-    first_gap f order cells gaps in_gap shows broken = (
-      AtGap n f,
-      refl,
-      record {
-        there = in_gap;
-        broken = broken;
-        earlier =
-            upto 1 (f ∷ 2 ∷ []) (λ l. order) (λ l. absurd (omega arith))
-            (λ l. absurd (omega arith))
-            (λ l. absurd (omega arith)) (record {
-              order = λ e. absurd (omega arith);
-              start = λ e. absurd (omega arith);
-              gap_cell = λ e. cell_of;
-              gap = λ e. gap_of;
-              packet = λ e. absurd (omega arith);
-              first = λ e. absurd (omega arith);
-              cell = λ e. absurd (omega arith);
-              frame = λ e. absurd (omega arith);
-              ended = λ e. absurd (omega arith);
-            });
-      },
-    )
-      where
-        cell_of : (d r c : ℕ) → IsBefore (d ∷ 1 ∷ r ∷ c ∷ []) (f ∷ 2 ∷ [])
-            → Keeps g frames (AtGapCell n d r c)
-        cell_of d r c (inl l) = cells d r c l
-        cell_of d r c (inr (e, b)) =
-            λ there. subst (λ x. ShowsDue g frames n x r c) (sym e) (shows r c there.1)
+  -- Gap, before a frame of the list.
+  pub first_gap : (f : ℕ) → OrderOk g frames n
+      → ((d row column : ℕ) → d < f → Keeps g frames (AtGapCell n d row column))
+      → ((d : ℕ) → d < f → Keeps g frames (AtGap n d))
+      → IsInGap frames n f → ((r c : ℕ) → IsCell r c → ShowsDue g frames n f r c)
+      → (IsCovered g frames n f → ⊥)
+      → NamesFirst g frames (fault.Gap f)
+  first_gap f order cells gaps in_gap shows broken = (
+    AtGap n f,
+    refl,
+    record {
+      there = in_gap;
+      broken = broken;
+      earlier =
+          upto 1 (f ∷ 2 ∷ []) (λ l. order) (λ l. absurd (omega arith))
+          (λ l. absurd (omega arith))
+          (λ l. absurd (omega arith)) (record {
+            order = λ e. absurd (omega arith);
+            start = λ e. absurd (omega arith);
+            gap_cell = λ e. cell_of;
+            gap = λ e. gap_of;
+            packet = λ e. absurd (omega arith);
+            first = λ e. absurd (omega arith);
+            cell = λ e. absurd (omega arith);
+            frame = λ e. absurd (omega arith);
+            ended = λ e. absurd (omega arith);
+          });
+    },
+  )
+    where
+      cell_of : (d r c : ℕ) → IsBefore (d ∷ 1 ∷ r ∷ c ∷ []) (f ∷ 2 ∷ [])
+          → Keeps g frames (AtGapCell n d r c)
+      cell_of d r c (inl l) = cells d r c l
+      cell_of d r c (inr (e, b)) =
+          λ there. subst (λ x. ShowsDue g frames n x r c) (sym e) (shows r c there.1)
 
-        gap_of : (d : ℕ) → IsBefore (d ∷ 2 ∷ []) (f ∷ 2 ∷ []) → Keeps g frames (AtGap n d)
-        gap_of d (inl l) = gaps d l
-        gap_of d (inr (e, inl l)) = absurd (omega arith)
-        gap_of d (inr (e, inr m)) = absurd m.1
+      gap_of : (d : ℕ) → IsBefore (d ∷ 2 ∷ []) (f ∷ 2 ∷ []) → Keeps g frames (AtGap n d)
+      gap_of d (inl l) = gaps d l
+      gap_of d (inr (e, inl l)) = absurd (omega arith)
+      gap_of d (inr (e, inr m)) = absurd m.1
 
-    -- The rules of a packet.
-    pub first_packet : (k : ℕ) (rule : PacketRule) → n < length frames → OrderOk g frames n
-        → GapOk g frames n
-        → BreaksFirstAt g.watched (packets_before frames n) (packets_of_frame frames n) k rule
-        → NamesFirst g frames (packet_fault rule (frame_at frames n) k)
-    first_packet k rule there order gap is = (
-      AtPacket n k rule,
-      refl,
-      record {
-        there = (there, is.exists);
-        broken = is.first.broken;
-        earlier =
-            upto 2 (k ∷ rank rule ∷ []) (λ l. order) (λ l. gap) (λ l. absurd (omega arith))
-            (λ l. absurd (omega arith)) (record {
-              order = λ e. absurd (omega arith);
-              start = λ e. absurd (omega arith);
-              gap_cell = λ e. absurd (omega arith);
-              gap = λ e. absurd (omega arith);
-              packet = λ e. packet_of;
-              first = λ e. absurd (omega arith);
-              cell = λ e. absurd (omega arith);
-              frame = λ e. absurd (omega arith);
-              ended = λ e. absurd (omega arith);
-            });
-      },
-    )
-      where
-        packet_of : (j : ℕ) (f : PacketRule)
-            → IsBefore (j ∷ rank f ∷ []) (k ∷ rank rule ∷ [])
-            → Keeps g frames (AtPacket n j f)
-        packet_of j f (inl l) = λ there. is.clean j l f
-        packet_of j f (inr (e, b)) =
-            λ there. subst
-            (λ x. KeepsRule f g.watched (packets_before frames n ++ take x (packets_of_frame frames n))
-            (get_or (packets_of_frame frames n) x [])) (sym e)
-            (is.first.earlier f (one_before (rank f) (rank rule) [] b))
+  -- The rules of a packet.
+  pub first_packet : (k : ℕ) (rule : PacketRule) → n < length frames → OrderOk g frames n
+      → GapOk g frames n
+      → BreaksFirstAt g.watched (packets_before frames n) (packets_of_frame frames n) k rule
+      → NamesFirst g frames (packet_fault rule (frame_at frames n) k)
+  first_packet k rule there order gap is = (
+    AtPacket n k rule,
+    refl,
+    record {
+      there = (there, is.exists);
+      broken = is.first.broken;
+      earlier =
+          upto 2 (k ∷ rank rule ∷ []) (λ l. order) (λ l. gap) (λ l. absurd (omega arith))
+          (λ l. absurd (omega arith)) (record {
+            order = λ e. absurd (omega arith);
+            start = λ e. absurd (omega arith);
+            gap_cell = λ e. absurd (omega arith);
+            gap = λ e. absurd (omega arith);
+            packet = λ e. packet_of;
+            first = λ e. absurd (omega arith);
+            cell = λ e. absurd (omega arith);
+            frame = λ e. absurd (omega arith);
+            ended = λ e. absurd (omega arith);
+          });
+    },
+  )
+    where
+      packet_of : (j : ℕ) (f : PacketRule)
+          → IsBefore (j ∷ rank f ∷ []) (k ∷ rank rule ∷ [])
+          → Keeps g frames (AtPacket n j f)
+      packet_of j f (inl l) = λ there. is.clean j l f
+      packet_of j f (inr (e, b)) =
+          λ there. subst
+          (λ x. KeepsRule f g.watched (packets_before frames n ++ take x (packets_of_frame frames n))
+          (get_or (packets_of_frame frames n) x [])) (sym e)
+          (is.first.earlier f (one_before (rank f) (rank rule) [] b))
 
-    -- Content, at the end of a frame of the list.
-    pub first_cell : (row column : ℕ) → n < length frames → OrderOk g frames n → GapOk g frames n
-        → PacketsOk g frames n → (n ≡ 0 → HasHeader g frames 0)
-        → IsCell row column → (ShowsDue g frames (n + 1) (frame_at frames n) row column → ⊥)
-        → ((r c : ℕ) → IsCell r c → r < row → ShowsDue g frames (n + 1) (frame_at frames n) r c)
-        → ((c : ℕ) → c < column → ShowsDue g frames (n + 1) (frame_at frames n) row c)
-        → NamesFirst g frames (fault.Content (frame_at frames n) row column)
-    first_cell row column there order gap packets head is_cell broken rows columns = (
-      AtCell n row column,
-      refl,
-      record {
-        there = (there, is_cell);
-        broken = broken;
-        earlier =
-            upto 3 (1 ∷ row ∷ column ∷ []) (λ l. order) (λ l. gap) (λ l. packets)
-            (λ l. absurd (omega arith)) (record {
-              order = λ e. absurd (omega arith);
-              start = λ e. absurd (omega arith);
-              gap_cell = λ e. absurd (omega arith);
-              gap = λ e. absurd (omega arith);
-              packet = λ e. absurd (omega arith);
-              first = λ e f b t. head (sym f);
-              cell = λ e. cell_of;
-              frame = λ e. frame_of;
-              ended = λ e. open_of;
-            });
-      },
-    )
-      where
-        cell_of : (r c : ℕ) → IsBefore (1 ∷ r ∷ c ∷ []) (1 ∷ row ∷ column ∷ [])
-            → Keeps g frames (AtCell n r c)
-        cell_of r c (inl l) = absurd (omega arith)
-        cell_of r c (inr (e, inl l)) = λ t. rows r c t.1 l
-        cell_of r c (inr (e, inr (i, inl l))) =
-            λ t. subst (λ x. ShowsDue g frames (n + 1) (frame_at frames n) x c) (sym i) (columns c l)
-        cell_of r c (inr (e, inr (i, inr m))) = absurd m.1
+  -- Content, at the end of a frame of the list.
+  pub first_cell : (row column : ℕ) → n < length frames → OrderOk g frames n → GapOk g frames n
+      → PacketsOk g frames n → (n ≡ 0 → HasHeader g frames 0)
+      → IsCell row column → (ShowsDue g frames (n + 1) (frame_at frames n) row column → ⊥)
+      → ((r c : ℕ) → IsCell r c → r < row → ShowsDue g frames (n + 1) (frame_at frames n) r c)
+      → ((c : ℕ) → c < column → ShowsDue g frames (n + 1) (frame_at frames n) row c)
+      → NamesFirst g frames (fault.Content (frame_at frames n) row column)
+  first_cell row column there order gap packets head is_cell broken rows columns = (
+    AtCell n row column,
+    refl,
+    record {
+      there = (there, is_cell);
+      broken = broken;
+      earlier =
+          upto 3 (1 ∷ row ∷ column ∷ []) (λ l. order) (λ l. gap) (λ l. packets)
+          (λ l. absurd (omega arith)) (record {
+            order = λ e. absurd (omega arith);
+            start = λ e. absurd (omega arith);
+            gap_cell = λ e. absurd (omega arith);
+            gap = λ e. absurd (omega arith);
+            packet = λ e. absurd (omega arith);
+            first = λ e f b t. head (sym f);
+            cell = λ e. cell_of;
+            frame = λ e. frame_of;
+            ended = λ e. open_of;
+          });
+    },
+  )
+    where
+      cell_of : (r c : ℕ) → IsBefore (1 ∷ r ∷ c ∷ []) (1 ∷ row ∷ column ∷ [])
+          → Keeps g frames (AtCell n r c)
+      cell_of r c (inl l) = absurd (omega arith)
+      cell_of r c (inr (e, inl l)) = λ t. rows r c t.1 l
+      cell_of r c (inr (e, inr (i, inl l))) =
+          λ t. subst (λ x. ShowsDue g frames (n + 1) (frame_at frames n) x c) (sym i) (columns c l)
+      cell_of r c (inr (e, inr (i, inr m))) = absurd m.1
 
-        frame_of : IsBefore (2 ∷ []) (1 ∷ row ∷ column ∷ []) → Keeps g frames (AtFrame n)
-        frame_of (inl l) = absurd (omega arith)
-        frame_of (inr m) = absurd (omega arith)
+      frame_of : IsBefore (2 ∷ []) (1 ∷ row ∷ column ∷ []) → Keeps g frames (AtFrame n)
+      frame_of (inl l) = absurd (omega arith)
+      frame_of (inr m) = absurd (omega arith)
 
-        open_of : IsBefore (3 ∷ []) (1 ∷ row ∷ column ∷ []) → Keeps g frames (AtOpen n)
-        open_of (inl l) = absurd (omega arith)
-        open_of (inr m) = absurd (omega arith)
+      open_of : IsBefore (3 ∷ []) (1 ∷ row ∷ column ∷ []) → Keeps g frames (AtOpen n)
+      open_of (inl l) = absurd (omega arith)
+      open_of (inr m) = absurd (omega arith)
 
-    -- Gap, at the end of a frame of the list.
-    pub first_frame : n < length frames → OrderOk g frames n → GapOk g frames n
-        → PacketsOk g frames n → (n ≡ 0 → HasHeader g frames 0)
-        → ((r c : ℕ) → IsCell r c → ShowsDue g frames (n + 1) (frame_at frames n) r c)
-        → (IsCovered g frames (n + 1) (frame_at frames n) → ⊥)
-        → NamesFirst g frames (fault.Gap (frame_at frames n))
-    first_frame there order gap packets head shows broken = (
-      AtFrame n,
-      refl,
-      record {
-        there = there;
-        broken = broken;
-        earlier =
-            upto 3 (2 ∷ []) (λ l. order) (λ l. gap) (λ l. packets) (λ l. absurd (omega arith))
-            (record {
-              order = λ e. absurd (omega arith);
-              start = λ e. absurd (omega arith);
-              gap_cell = λ e. absurd (omega arith);
-              gap = λ e. absurd (omega arith);
-              packet = λ e. absurd (omega arith);
-              first = λ e f b t. head (sym f);
-              cell = λ e r c b t. shows r c t.1;
-              frame = λ e b. absurd (let l = one_before 2 2 [] b in omega arith);
-              ended = λ e b. absurd (let l = one_before 3 2 [] b in omega arith);
-            });
-      },
-    )
+  -- Gap, at the end of a frame of the list.
+  pub first_frame : n < length frames → OrderOk g frames n → GapOk g frames n
+      → PacketsOk g frames n → (n ≡ 0 → HasHeader g frames 0)
+      → ((r c : ℕ) → IsCell r c → ShowsDue g frames (n + 1) (frame_at frames n) r c)
+      → (IsCovered g frames (n + 1) (frame_at frames n) → ⊥)
+      → NamesFirst g frames (fault.Gap (frame_at frames n))
+  first_frame there order gap packets head shows broken = (
+    AtFrame n,
+    refl,
+    record {
+      there = there;
+      broken = broken;
+      earlier =
+          upto 3 (2 ∷ []) (λ l. order) (λ l. gap) (λ l. packets) (λ l. absurd (omega arith))
+          (record {
+            order = λ e. absurd (omega arith);
+            start = λ e. absurd (omega arith);
+            gap_cell = λ e. absurd (omega arith);
+            gap = λ e. absurd (omega arith);
+            packet = λ e. absurd (omega arith);
+            first = λ e f b t. head (sym f);
+            cell = λ e r c b t. shows r c t.1;
+            frame = λ e b. absurd (let l = one_before 2 2 [] b in omega arith);
+            ended = λ e b. absurd (let l = one_before 3 2 [] b in omega arith);
+          });
+    },
+  )
 
-    -- Incomplete, at the end of a frame of the list.
-    pub first_open : n < length frames → OrderOk g frames n → GapOk g frames n
-        → PacketsOk g frames n → (n ≡ 0 → HasHeader g frames 0)
-        → ((r c : ℕ) → IsCell r c → ShowsDue g frames (n + 1) (frame_at frames n) r c)
-        → IsCovered g frames (n + 1) (frame_at frames n)
-        → (IsEnded g frames (n + 1) → ⊥)
-        → NamesFirst g frames (fault.Incomplete (frame_at frames n))
-    first_open there order gap packets head shows covered broken = (
-      AtOpen n,
-      refl,
-      record {
-        there = there;
-        broken = broken;
-        earlier =
-            upto 3 (3 ∷ []) (λ l. order) (λ l. gap) (λ l. packets) (λ l. absurd (omega arith))
-            (record {
-              order = λ e. absurd (omega arith);
-              start = λ e. absurd (omega arith);
-              gap_cell = λ e. absurd (omega arith);
-              gap = λ e. absurd (omega arith);
-              packet = λ e. absurd (omega arith);
-              first = λ e f b t. head (sym f);
-              cell = λ e r c b t. shows r c t.1;
-              frame = λ e b t. covered;
-              ended = λ e b. absurd (let l = one_before 3 3 [] b in omega arith);
-            });
-      },
-    )
+  -- Incomplete, at the end of a frame of the list.
+  pub first_open : n < length frames → OrderOk g frames n → GapOk g frames n
+      → PacketsOk g frames n → (n ≡ 0 → HasHeader g frames 0)
+      → ((r c : ℕ) → IsCell r c → ShowsDue g frames (n + 1) (frame_at frames n) r c)
+      → IsCovered g frames (n + 1) (frame_at frames n)
+      → (IsEnded g frames (n + 1) → ⊥)
+      → NamesFirst g frames (fault.Incomplete (frame_at frames n))
+  first_open there order gap packets head shows covered broken = (
+    AtOpen n,
+    refl,
+    record {
+      there = there;
+      broken = broken;
+      earlier =
+          upto 3 (3 ∷ []) (λ l. order) (λ l. gap) (λ l. packets) (λ l. absurd (omega arith))
+          (record {
+            order = λ e. absurd (omega arith);
+            start = λ e. absurd (omega arith);
+            gap_cell = λ e. absurd (omega arith);
+            gap = λ e. absurd (omega arith);
+            packet = λ e. absurd (omega arith);
+            first = λ e f b t. head (sym f);
+            cell = λ e r c b t. shows r c t.1;
+            frame = λ e b t. covered;
+            ended = λ e b. absurd (let l = one_before 3 3 [] b in omega arith);
+          });
+    },
+  )
 
 -- Early.
 pub first_early : (g : Task) (frames : Transmission) → 0 < length frames

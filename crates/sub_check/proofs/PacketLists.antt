@@ -1,6 +1,6 @@
 -- Facts of each packet of a list.
 use Rattle.std.proofs.Common.{◌≡◌, ℕ, Bool, true, false, ◌||◌, List, [], ◌∷◌, ◌++◌, refl, sym, ap}
-use Rattle.std.proofs.Common.{◌∙◌, subst, arith, inl, inr, eqb-true, cond, find, filter, nat_lt}
+use Rattle.std.proofs.Common.{◌∙◌, subst, arith, inl, inr, cond, find, filter, nat_lt}
 use Rattle.std.proofs.Common.{length, take, get_or, ◌+◌, ◌<◌, Some, None}
 use Rattle.std.specs.List.{AllByRecursion, list_any}
 use Rattle.std.proofs.lemmas.Bool.{or_parts, eq-eqb, both_ways, cond-false, cases_eq, lt-ltb}
@@ -11,8 +11,7 @@ use Rattle.ttx_pes.specs.DataUnit.{UnitValue}
 use Rattle.sub_check.specs.PacketRules.{IsClean, AreClean, header_count, packets_of_units}
 use Rattle.sub_check.specs.declared.packet_rules.Watched.{Watched}
 use Rattle.ttx_page.specs.declared.packet_kind.PacketKind.{PacketKind}
-use Rattle.ttx_page.specs.declared.packet_kind.PacketKind.TheVariants.{ThisPage, EndsPage, Row}
-use Rattle.ttx_page.specs.declared.packet_kind.PacketKind.TheVariants.{Other}
+use Rattle.ttx_page.specs.declared.packet_kind.PacketKind.TheVariants.{Row}
 use Rattle.ttx_page.specs.PacketKind.{is_row, is_this_page, kind}
 
 module _ {X : Type 0} where

@@ -156,8 +156,8 @@ module _ (programme : ProgrammeValue) (options : OptionsValue) (t : Transmission
       air_is t rising_back (i + 1) f (omega arith) (omega arith) (omega arith)
       (λ z. rises_strictly t rising_back i (i + 1) (omega arith) z) in
       let cut :
-        take n (packets_before t i ++ packets_of_frame t i)
-        ≡ packets_before t i ++ take k (packets_of_frame t i) =
+      take n (packets_before t i ++ packets_of_frame t i)
+      ≡ packets_before t i ++ take k (packets_of_frame t i) =
       take-over (packets_before t i) (packets_of_frame t i) n (omega arith)
       ∙ ap (λ x. packets_before t i ++ take x (packets_of_frame t i)) (omega arith) in
       fair_back (watched_of programme options) _

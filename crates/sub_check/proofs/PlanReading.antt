@@ -1,6 +1,6 @@
 -- The bytes of a schedule are read to their end as its frames: `law_of_plan_read`.
-use Rattle.std.proofs.Common.{◌≡◌, ℕ, suc, ◌+◌, ◌-◌, ◌*◌, ◌<◌, ◌≤◌, Bool, true, false, cond}
-use Rattle.std.proofs.Common.{List, [], ◌∷◌, length, map, filter, Option, Ok, Some, None, All}
+use Rattle.std.proofs.Common.{◌≡◌, ℕ, ◌+◌, ◌-◌, ◌*◌, ◌<◌, ◌≤◌, Bool}
+use Rattle.std.proofs.Common.{List, [], ◌∷◌, length, map, Option, Some, None, All}
 use Rattle.std.proofs.Common.{refl, sym, arith, lit<, subst}
 use Rattle.std.specs.List.{AllByRecursion, range_with_len}
 use Rattle.std.proofs.Math.Nat.{mod-lt}
@@ -9,7 +9,7 @@ use Rattle.std.proofs.lemmas.List.FromFn.{length-range_with_len}
 use Rattle.ttx_packet.specs.PacketAddress.{IsPacket}
 use Rattle.ttx_page.specs.Page.{IsPage, Rows}
 use Rattle.ttx_pes.specs.PesPacket.{PesValue}
-use Rattle.ttx_pes.specs.Reading.{answer_at, most_packets}
+use Rattle.ttx_pes.specs.Reading.{most_packets}
 use Rattle.ttx_pes.proofs.LineOrderLemmas.{numbered_is_value}
 use Rattle.ttx_pes.proofs.ReadingLemmas.{written_is_read}
 use Rattle.stl_rows.specs.declared.national.National.{National}

@@ -1,14 +1,14 @@
 -- Each of the seven rules as a test that computes: rule_decided. Below each test stands what it
 -- decides.
 use Rattle.std.proofs.Common.{◌≡◌, ℕ, zero, suc, ◌+◌, ◌-◌, ◌<◌, ◌≤◌, inl, inr, ◌==◌, Bool, true}
-use Rattle.std.proofs.Common.{false, not, ◌&&◌, ◌||◌, nat_lt, nat_le, cond, List, [], ◌∷◌, length}
+use Rattle.std.proofs.Common.{not, ◌&&◌, ◌||◌, nat_lt, nat_le, List, [], ◌∷◌, length}
 use Rattle.std.proofs.Common.{take, slice_index, Option, Some, find, option_map, unwrap_or, All}
-use Rattle.std.proofs.Common.{◌++◌, refl, sym, ap, ◌∙◌, subst, arith, le_refl}
+use Rattle.std.proofs.Common.{refl, sym, ap, ◌∙◌, subst, arith, le_refl}
 use Rattle.std.specs.Bool.{Decides}
 use Rattle.std.specs.List.{list_all}
 use Rattle.std.specs.Str.{bytes_eq}
 use Rattle.std.proofs.Math.Seq.{take-nil}
-use Rattle.std.proofs.lemmas.Bool.{cases_lt, ltb-true, leb-true}
+use Rattle.std.proofs.lemmas.Bool.{cases_lt}
 use Rattle.std.proofs.lemmas.Bool.Decides.{Decides-and, Decides-not, Decides-like, Decides-eqb}
 use Rattle.std.proofs.lemmas.Bool.Decides.{Decides-ltb}
 use Rattle.std.proofs.lemmas.List.{take_all}
@@ -34,7 +34,7 @@ use Rattle.sub_plan.specs.Options.{OptionsValue}
 use Rattle.sub_plan.specs.Schedule.{due_in}
 use Rattle.sub_plan.specs.Sending.{has_c14}
 use Rattle.sub_check.specs.Transmission.{SentFrame, Transmission, IsRising, EachPacket, first_frame}
-use Rattle.sub_check.specs.Transmission.{last_frame, packets_of, packets_between, on_air_until}
+use Rattle.sub_check.specs.Transmission.{last_frame, packets_of, on_air_until}
 use Rattle.sub_check.specs.Good.{IsInOneMode, IsSubtitleHeader, IsControlled, IsEnhancement}
 use Rattle.sub_check.specs.Good.{IsCleanSpan, HasCleanSpans, HoldsHeader, Repeats, ShowsDuePages}
 use Rattle.sub_check.specs.Rules.{Rule, IsKept}

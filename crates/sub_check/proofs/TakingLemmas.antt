@@ -178,99 +178,99 @@ module _ (g : Task) (frames : Transmission) (n : ℕ) (v b : CheckerValue) (same
     (ps : List (List ℕ)) (before : Remembers g frames n v) (past : AreOk g frames n)
     (is : IsSentFrame frames n v.frame ps) (order : OrderOk g frames n) (gap : GapOk g frames n)
   where
-  -- What was kept before, of the fields.
-  known : Remembers g frames n b
-  known = subst (Remembers g frames n) (sym same) before
+    -- What was kept before, of the fields.
+    known : Remembers g frames n b
+    known = subst (Remembers g frames n) (sym same) before
 
-  here : frame_at frames n ≡ b.frame
-  here = is.frame_is ∙ ap (λ (c : CheckerValue). c.frame) (sym same)
+    here : frame_at frames n ≡ b.frame
+    here = is.frame_is ∙ ap (λ (c : CheckerValue). c.frame) (sym same)
 
-  -- A packet that breaks a rule.
-  pub names_packet : (k : ℕ) (rule : PacketRule)
-      → BreaksFirstAt b.listener.watched (packets_before frames n) ps k rule
-      → NamesFirst g frames (packet_fault rule b.frame k)
-  names_packet k rule broken =
-      subst (λ x. NamesFirst g frames (packet_fault rule x k)) here
-      (first_packet g frames n past k rule is.there order gap
-      (fault_moved g frames n b.listener.watched ps k rule is.packets_are known.watched_is broken))
+    -- A packet that breaks a rule.
+    pub names_packet : (k : ℕ) (rule : PacketRule)
+        → BreaksFirstAt b.listener.watched (packets_before frames n) ps k rule
+        → NamesFirst g frames (packet_fault rule b.frame k)
+    names_packet k rule broken =
+        subst (λ x. NamesFirst g frames (packet_fault rule x k)) here
+        (first_packet g frames n past k rule is.there order gap
+        (fault_moved g frames n b.listener.watched ps k rule is.packets_are known.watched_is broken))
 
-  module _ (s : Listener) (m headers total : ℕ) (found : Bool)
-      (kept : s.watched ≡ b.listener.watched) (long : length ps ≡ m)
-      (heard :
-      AreClean b.listener.watched (packets_before frames n) ps m
-      × KnowsLast (packets_before frames n ++ ps) ps s
-      × (headers ≡ header_count b.listener.watched.page ps))
-      (found_is : found ≡ nat_lt 0 headers) (total_is : total ≡ b.headers + headers)
-    where
-    taken : Taken g frames n found headers s
-    taken =
-        Taken-from g frames n found headers s b.listener.watched ps is.there is.packets_are
-        known.watched_is kept found_is heard.2 m long heard.0 heard.1
-
-    -- No header of the page, in the first frame.
-    pub names_missing : total ≡ 0 → NamesFirst g frames (fault.NoFirstHeader b.frame)
-    names_missing none =
-        subst (λ x. NamesFirst g frames (fault.NoFirstHeader x)) here
-        (go n refl)
+    module _ (s : Listener) (m headers total : ℕ) (found : Bool)
+        (kept : s.watched ≡ b.listener.watched) (long : length ps ≡ m)
+        (heard :
+        AreClean b.listener.watched (packets_before frames n) ps m
+        × KnowsLast (packets_before frames n ++ ps) ps s
+        × (headers ≡ header_count b.listener.watched.page ps))
+        (found_is : found ≡ nat_lt 0 headers) (total_is : total ≡ b.headers + headers)
       where
-        without : HasHeader g frames n → ⊥
-        without head =
-            let no : found ≡ false =
-            found_is ∙ ap (nat_lt 0) (let z : headers ≡ 0 = omega (arith, none, total_is) in z) in
-            true≢false (sym head ∙ taken.header ∙ no)
+        taken : Taken g frames n found headers s
+        taken =
+            Taken-from g frames n found headers s b.listener.watched ps is.there is.packets_are
+            known.watched_is kept found_is heard.2 m long heard.0 heard.1
 
-        go : (i : ℕ) → n ≡ i → NamesFirst g frames (fault.NoFirstHeader (frame_at frames n))
-        go zero e =
-            subst (λ j. NamesFirst g frames (fault.NoFirstHeader (frame_at frames j))) (sym e)
-            (first_header_missing g frames (let t = is.there in omega arith)
-            (subst (OrderOk g frames) e order) (subst (PacketsOk g frames) e taken.packets)
-            (subst (λ j. HasHeader g frames j → ⊥) e without))
-        go (suc i) e =
-            absurd (let some = known.begun (omega arith) in omega (arith, some, none, total_is))
+        -- No header of the page, in the first frame.
+        pub names_missing : total ≡ 0 → NamesFirst g frames (fault.NoFirstHeader b.frame)
+        names_missing none =
+            subst (λ x. NamesFirst g frames (fault.NoFirstHeader x)) here
+            (go n refl)
+          where
+            without : HasHeader g frames n → ⊥
+            without head =
+                let no : found ≡ false =
+                found_is ∙ ap (nat_lt 0) (let z : headers ≡ 0 = omega (arith, none, total_is) in z) in
+                true≢false (sym head ∙ taken.header ∙ no)
 
-    -- What is kept after them.
-    pub took : (at : ℕ) → (total ≡ 0 → ⊥) → at ≡ cond found b.frame b.header_at
-        → s.comparison.due ≡ due_in b.programme b.frame
-        → Took g frames n (record b { listener = s; header_at = at; headers = total })
-    took at some at_is due = record {
-      there = is.there;
-      frame_is = here;
-      past = past;
-      order = order;
-      gap = gap;
-      packets = taken.packets;
-      known = record {
-        task_is = known.task_is;
-        watched_is = taken.watched_is;
-        knows = taken.last;
-        first_is = known.first_is;
-        rising = rising;
-        begun = λ l. more;
-        header = λ l. subst (HeaderIs g frames (n + 1)) (sym at_is)
-            (HeaderIs-more g frames n b.header_at b.frame found known.header here taken.header
-            rising (λ e. some_before g frames n b.headers known.count (without e)));
-        count =
-            total_is
-            ∙ ap₂ (λ x y. x + y) known.count (sym taken.count)
-            ∙ sym (ap (header_count g.watched.page) (joined_more frames n is.there)
-            ∙ header_count-append g.watched.page (packets_before frames n)
-            (packets_of_frame frames n));
-      };
-      due_is = due;
-    }
-      where
-        more : 0 < total
-        more = elim (cases_lt 0 total) [ inl l ↦ l | inr l ↦ absurd (some (omega arith)) ]
+            go : (i : ℕ) → n ≡ i → NamesFirst g frames (fault.NoFirstHeader (frame_at frames n))
+            go zero e =
+                subst (λ j. NamesFirst g frames (fault.NoFirstHeader (frame_at frames j))) (sym e)
+                (first_header_missing g frames (let t = is.there in omega arith)
+                (subst (OrderOk g frames) e order) (subst (PacketsOk g frames) e taken.packets)
+                (subst (λ j. HasHeader g frames j → ⊥) e without))
+            go (suc i) e =
+                absurd (let some = known.begun (omega arith) in omega (arith, some, none, total_is))
 
-        rising : (j : ℕ) → j < n + 1 → frame_at frames j ≤ b.frame
-        rising = rising_more frames n b.frame known.rising here
+        -- What is kept after them.
+        pub took : (at : ℕ) → (total ≡ 0 → ⊥) → at ≡ cond found b.frame b.header_at
+            → s.comparison.due ≡ due_in b.programme b.frame
+            → Took g frames n (record b { listener = s; header_at = at; headers = total })
+        took at some at_is due = record {
+          there = is.there;
+          frame_is = here;
+          past = past;
+          order = order;
+          gap = gap;
+          packets = taken.packets;
+          known = record {
+            task_is = known.task_is;
+            watched_is = taken.watched_is;
+            knows = taken.last;
+            first_is = known.first_is;
+            rising = rising;
+            begun = λ l. more;
+            header = λ l. subst (HeaderIs g frames (n + 1)) (sym at_is)
+                (HeaderIs-more g frames n b.header_at b.frame found known.header here taken.header
+                rising (λ e. some_before g frames n b.headers known.count (without e)));
+            count =
+                total_is
+                ∙ ap₂ (λ x y. x + y) known.count (sym taken.count)
+                ∙ sym (ap (header_count g.watched.page) (joined_more frames n is.there)
+                ∙ header_count-append g.watched.page (packets_before frames n)
+                (packets_of_frame frames n));
+          };
+          due_is = due;
+        }
+          where
+            more : 0 < total
+            more = elim (cases_lt 0 total) [ inl l ↦ l | inr l ↦ absurd (some (omega arith)) ]
 
-        without : found ≡ false → 0 < b.headers
-        without e =
-            elim (cases_lt 0 headers) [
-              | inl l ↦ absurd (true≢false (sym (lt-ltb 0 headers l) ∙ sym found_is ∙ e))
-              | inr l ↦ omega (arith, more, total_is)
-            ]
+            rising : (j : ℕ) → j < n + 1 → frame_at frames j ≤ b.frame
+            rising = rising_more frames n b.frame known.rising here
+
+            without : found ≡ false → 0 < b.headers
+            without e =
+                elim (cases_lt 0 headers) [
+                  | inl l ↦ absurd (true≢false (sym (lt-ltb 0 headers l) ∙ sym found_is ∙ e))
+                  | inr l ↦ omega (arith, more, total_is)
+                ]
 
 -- ---- the end of a frame
 

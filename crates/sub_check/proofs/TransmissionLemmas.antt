@@ -6,14 +6,8 @@ use Rattle.std.proofs.Common.{All, refl}
 use Rattle.std.proofs.Common.{sym, ap, ap₂, ◌∙◌, arith, append_assoc}
 use Rattle.std.specs.List.{AllByRecursion}
 use Rattle.std.proofs.lemmas.Bool.{cases_lt, lt-ltb, le-ltb, le-leb, lt-leb, and_left, and_right}
-use Rattle.std.proofs.lemmas.Bool.{or_left, or_right}
 use Rattle.std.proofs.lemmas.List.Elements.{recursion_from_All, All-append, All-nil, All-head}
 use Rattle.std.proofs.lemmas.List.Elements.{All-tail}
-use Rattle.std.proofs.lemmas.List.Folds.{list_any-append}
-use Rattle.ttx_page.specs.declared.packet_kind.PacketKind.{PacketKind}
-use Rattle.ttx_page.specs.PacketKind.{is_this_page}
-use Rattle.ttx_page.specs.Span.{holds_header, after_last_header}
-use Rattle.ttx_page.proofs.SpanLists.{after-later}
 use Rattle.sub_check.specs.Transmission.{SentFrame, Transmission, IsRising, packets_between}
 use Rattle.sub_check.specs.Transmission.{EachPacket}
 

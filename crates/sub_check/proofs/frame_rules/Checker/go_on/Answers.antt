@@ -1,9 +1,8 @@
 -- Order, the frames before, and the frame itself.
-use Rattle.std.proofs.Common.{◌≡◌, ◌-◌, refl, sym, ap, subst, arith}
+use Rattle.std.proofs.Common.{sym, ap, subst, arith}
 use Rattle.std.proofs.lemmas.Result.{err_from_is_err_and}
 use Rattle.sub_check.specs.Checker.{CheckerValue}
-use Rattle.sub_check.specs.Following.{Follows, IsSentFrame, OrderOk, Remembers}
-use Rattle.sub_check.specs.FrameRules.{frame_at}
+use Rattle.sub_check.specs.Following.{IsSentFrame, OrderOk, Remembers}
 use Rattle.sub_check.specs.PacketRules.{packets_of_units}
 use Rattle.sub_check.proofs.OrderLemmas.{first_order}
 use Rattle.sub_check.proofs.TakingLemmas.{Remembers-moved}
