@@ -17,22 +17,6 @@ text_more front xs i lt ne =
     append_assoc front (get_or xs i 0 ∷ []) (before_unused (drop (i + 1) xs))
     ∙ rw (drop_more xs i 0 lt, no) refl
 
--- a byte that is no unused space can be left out of the test
-pub no_unused_more : (xs : List ℕ) (i : ℕ)
-    → i < length xs
-    → (get_or xs i 0 ≡ unused_space → ⊥)
-    → has_no_unused (drop i xs) ≡ has_no_unused (drop (i + 1) xs)
-no_unused_more xs i lt ne =
-    let no : eqb (get_or xs i 0) unused_space ≡ false = ne_eqb _ _ ne in
-    rw (drop_more xs i 0 lt, no) refl
-
--- an unused space ends the test
-pub no_unused_not : (xs : List ℕ) (i : ℕ)
-    → i < length xs
-    → get_or xs i 0 ≡ unused_space
-    → has_no_unused (drop i xs) ≡ false
-no_unused_not xs i lt e = rw (drop_more xs i 0 lt, e) refl
-
 -- a head that is no unused space, and a tail without one
 by_head : (t : Bool) (r s : Bool)
     → cond t false r ≡ true

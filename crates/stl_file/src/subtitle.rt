@@ -237,7 +237,6 @@ fn time_of(bytes: [u8; 4]) -> Result<TimeCode, StlFault>
 }
 
 // Whether a text has no unused space.
-#[tactic(auto, using(crate::proofs::Text::no_unused_more, crate::proofs::Text::no_unused_not))]
 fn is_text(text: &[u8]) -> bool
     ensures { result ≡ has_no_unused text.now }
 {

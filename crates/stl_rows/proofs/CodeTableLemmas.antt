@@ -1,7 +1,7 @@
--- The tables of bytes against the definitions, computed over all bytes (english_entry,
--- german_entry), and what each kind of entry says (cell_entry and on).
-use Rattle.std.proofs.Common.{◌≡◌, ℕ, ◌<◌, ◌≤◌, Bool, true, false, ◌&&◌, nat_eq, nat_lt, get_or}
-use Rattle.std.proofs.Common.{refl, sym, ap, arith, inl, inr, eqb-true, ltb-true, true≢false}
+-- The tables of bytes against the definitions, computed over all bytes: english_entry,
+-- german_entry.
+use Rattle.std.proofs.Common.{◌≡◌, ℕ, ◌<◌, Bool, true, false, ◌&&◌, nat_eq, nat_lt, get_or}
+use Rattle.std.proofs.Common.{refl, sym, inl, inr, eqb-true, ltb-true, true≢false}
 use Rattle.std.proofs.lemmas.Bool.{agree_below_at, and_parts}
 use Rattle.stl_rows.specs.declared.text_code.TextCode.{TextCode}
 use Rattle.stl_rows.specs.declared.text_code.TextCode.TheVariants.{Cell, NoCell, NewLine, Refused}
@@ -58,46 +58,3 @@ unfolding cell_of code_of_other
 german_entry byte h =
     of_test _ _ (agree_below_at (λ x. is_entry (text_code German x) (get_or GERMAN x 0)) (λ x. true)
     256 byte refl h)
-
--- ---- what an entry says. For `code_of_byte`
-
-pub cell_entry : (s : TextCode) (entry : ℕ) → IsEntry s entry → entry ≤ 0x7F → Cell entry ≡ s
-cell_entry (Cell code) entry h low = ap Cell h.0
-cell_entry NoCell entry h low = absurd (omega arith)
-cell_entry NewLine entry h low = absurd (omega arith)
-cell_entry (Refused kind) entry (inl h) low = absurd (omega (arith, h.0))
-cell_entry (Refused kind) entry (inr h) low = absurd (omega (arith, h.0))
-
-pub no_cell_entry : (s : TextCode) (entry : ℕ) → IsEntry s entry → entry ≡ 0x80 → NoCell ≡ s
-no_cell_entry (Cell code) entry h e = absurd (omega (arith, h.0, h.1))
-no_cell_entry NoCell entry h e = refl
-no_cell_entry NewLine entry h e = absurd (omega arith)
-no_cell_entry (Refused kind) entry (inl h) e = absurd (omega (arith, h.0))
-no_cell_entry (Refused kind) entry (inr h) e = absurd (omega (arith, h.0))
-
-pub new_line_entry : (s : TextCode) (entry : ℕ) → IsEntry s entry → entry ≡ 0x81 → NewLine ≡ s
-new_line_entry (Cell code) entry h e = absurd (omega (arith, h.0, h.1))
-new_line_entry NoCell entry h e = absurd (omega arith)
-new_line_entry NewLine entry h e = refl
-new_line_entry (Refused kind) entry (inl h) e = absurd (omega (arith, h.0))
-new_line_entry (Refused kind) entry (inr h) e = absurd (omega (arith, h.0))
-
-pub control_entry : (s : TextCode) (entry : ℕ)
-    → IsEntry s entry
-    → entry ≡ 0x82
-    → Refused Control ≡ s
-control_entry (Cell code) entry h e = absurd (omega (arith, h.0, h.1))
-control_entry NoCell entry h e = absurd (omega arith)
-control_entry NewLine entry h e = absurd (omega arith)
-control_entry (Refused kind) entry (inl h) e = ap Refused (sym h.1)
-control_entry (Refused kind) entry (inr h) e = absurd (omega (arith, h.0))
-
-pub character_entry : (s : TextCode) (entry : ℕ)
-    → IsEntry s entry
-    → 0x82 < entry
-    → Refused Character ≡ s
-character_entry (Cell code) entry h e = absurd (omega (arith, h.0, h.1))
-character_entry NoCell entry h e = absurd (omega arith)
-character_entry NewLine entry h e = absurd (omega arith)
-character_entry (Refused kind) entry (inl h) e = absurd (omega (arith, h.0))
-character_entry (Refused kind) entry (inr h) e = ap Refused (sym h.1)

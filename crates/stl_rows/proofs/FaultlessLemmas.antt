@@ -142,7 +142,8 @@ few_cells row cells (line ∷ lines) h =
 -- ---- the steps of the loop of `put_text`
 
 -- the lines go on behind a cell
-pub cells_go_on : (cells cells' : List ℕ) (at code : ℕ) (s : TextCode) (ss rest : List (ℕ × TextCode))
+pub cells_go_on : (cells cells' : List ℕ) (at code : ℕ) (s : TextCode)
+    (ss rest : List (ℕ × TextCode))
     → ss ≡ (at, s) ∷ rest
     → s ≡ Cell code
     → cells' ≡ cells ++ code ∷ []

@@ -7,7 +7,6 @@ use Rattle.std.specs.List.{onto_first}
 use Rattle.std.specs.Prelude.{slice_set}
 use Rattle.std.proofs.lemmas.List.{append_assoc, drop_all}
 use Rattle.ttx_page.specs.Page.{Rows}
-use Rattle.stl_rows.specs.declared.fault.RowFaultKind.{RowFaultKind}
 use Rattle.stl_rows.specs.declared.text_code.TextCode.{TextCode}
 use Rattle.stl_rows.specs.declared.text_code.TextCode.TheVariants.{Cell, NoCell, NewLine, Refused}
 use Rattle.stl_rows.specs.Line.{prepared, row_of}
@@ -62,28 +61,14 @@ prepared_lines-cell cells at code s ss rest step is =
     rw (step, is) (ap (map prepared) (onto_code cells code (lines_of rest)))
 
 -- a new line ends the line
-pub prepared_lines-line_end : (cells : List ℕ) (at : ℕ) (s : TextCode) (ss rest : List (ℕ × TextCode))
+pub prepared_lines-line_end : (cells : List ℕ) (at : ℕ) (s : TextCode)
+    (ss rest : List (ℕ × TextCode))
     → ss ≡ (at, s) ∷ rest
     → s ≡ NewLine
     → prepared_lines cells ss ≡ prepared cells ∷ prepared_lines [] rest
 prepared_lines-line_end cells at s ss rest step is =
     rw (step, is) (ap (map prepared) (onto_line_end cells (lines_of rest)
     ∙ ap (λ ls. cells ∷ ls) (sym (onto_none rest))))
-
--- a text code without a cell changes nothing
-pub prepared_lines-none : (cells : List ℕ) (at : ℕ) (s : TextCode) (ss rest : List (ℕ × TextCode))
-    → ss ≡ (at, s) ∷ rest
-    → s ≡ NoCell
-    → prepared_lines cells ss ≡ prepared_lines cells rest
-prepared_lines-none cells at s ss rest step is = rw (step, is) refl
-
--- nor does one that is refused
-pub prepared_lines-refused : (cells : List ℕ) (at : ℕ) (kind : RowFaultKind) (s : TextCode)
-    (ss rest : List (ℕ × TextCode))
-    → ss ≡ (at, s) ∷ rest
-    → s ≡ Refused kind
-    → prepared_lines cells ss ≡ prepared_lines cells rest
-prepared_lines-refused cells at kind s ss rest step is = rw (step, is) refl
 
 -- no text code is left at the end of the text
 pub text_codes-end : (n : National) (at : ℕ) (text : List ℕ)

@@ -9,14 +9,13 @@ use Rattle.std.specs.List.{list_any}
 use Rattle.stl_rows.specs.declared.fault.RowFault.{RowFault}
 use Rattle.stl_rows.specs.declared.national.National.{National}
 use Rattle.stl_rows.specs.declared.text_code.TextCode.{TextCode}
-use Rattle.stl_rows.specs.declared.text_code.TextCode.TheVariants.{Cell, NoCell, NewLine}
+use Rattle.stl_rows.specs.declared.text_code.TextCode.TheVariants.{Cell, NewLine}
 use Rattle.stl_rows.specs.DrawnPage.{line_fault_kinds, line_faults}
 use Rattle.stl_rows.specs.Line.{double_height, has_cells, is_boxed, is_double, prepared, start_box}
 use Rattle.stl_rows.specs.LineByLine.{HasShape, prepared_lines, shape_fault_kinds, told_first}
 use Rattle.stl_rows.specs.TextCode.{fault_of, first_of, refusals, text_codes}
 use Rattle.stl_rows.proofs.LineByLineLemmas.{prepared_lines-cell, prepared_lines-line_end}
-use Rattle.stl_rows.proofs.LineByLineLemmas.{prepared_lines-none, prepared_lines-end}
-use Rattle.stl_rows.proofs.LineByLineLemmas.{text_codes-end}
+use Rattle.stl_rows.proofs.LineByLineLemmas.{prepared_lines-end, text_codes-end}
 
 -- ---- shapes
 
@@ -163,22 +162,6 @@ told-cell w f number row under len boxed double ss rest at code s h step is = re
       (prepared_lines-cell h.cells at code s ss rest step is);
 }
 
--- no cell
-pub told-none : (w f : Option RowFault) (number row : ℕ) (under : Bool) (len : ℕ)
-    (boxed double : Bool) (ss rest : List (ℕ × TextCode)) (at : ℕ) (s : TextCode)
-    → IsToldBehind w f number row under len boxed double ss
-    → ss ≡ (at, s) ∷ rest
-    → s ≡ NoCell
-    → IsToldBehind w f number row under len boxed double rest
-told-none w f number row under len boxed double ss rest at s h step is = record {
-  cells = h.cells;
-  shape = h.shape;
-  told =
-      h.told
-      ∙ ap (λ ls. told_first f (line_faults number row under ls))
-      (prepared_lines-none h.cells at s ss rest step is);
-}
-
 -- the faults of the open line by its shape, as told
 told_line : (f g : Option RowFault) (number row : ℕ) (under : Bool) (cells : List ℕ) (len : ℕ)
     (boxed double : Bool) (lines : List (List ℕ))
@@ -240,14 +223,9 @@ pub refused-none : (rs fs : List RowFault) (g : Option RowFault)
 refused-none [] fs g h e = e
 refused-none (r ∷ rs) fs g h e = cc
 
-pub refused-some : (rs fs : List RowFault) (r : RowFault)
-    → first_of rs ≡ Some r
-    → Some r ≡ first_of (rs ++ fs)
-refused-some [] fs r h = cc
-refused-some (x ∷ rs) fs r h = sym h
-
 -- a cell is not refused
-pub refused-cell : (o : Option RowFault) (at code : ℕ) (s : TextCode) (ss rest : List (ℕ × TextCode))
+pub refused-cell : (o : Option RowFault) (at code : ℕ) (s : TextCode)
+    (ss rest : List (ℕ × TextCode))
     → o ≡ first_of (refusals ss)
     → ss ≡ (at, s) ∷ rest
     → s ≡ Cell code
@@ -267,4 +245,5 @@ pub refused-end : (n : National) (o : Option RowFault) (at : ℕ) (text : List �
     → o ≡ first_of (refusals (text_codes n at (drop at text)))
     → length text ≤ at
     → o ≡ None
-refused-end n o at text h past = h ∙ ap (λ ss. first_of (refusals ss)) (text_codes-end n at text past)
+refused-end n o at text h past =
+    h ∙ ap (λ ss. first_of (refusals ss)) (text_codes-end n at text past)

@@ -173,7 +173,9 @@ law_of_header_packet magazine h m is =
     }
 
 -- A bit of the control bits, where those outside C4 to C14 are left out.
-placed_bit : (n k : ℕ) → k < 11 → (bit_and (n % 0x800) (2 ^ k) == 2 ^ k) ≡ (bit_and n (2 ^ k) == 2 ^ k)
+placed_bit : (n k : ℕ)
+    → k < 11
+    → (bit_and (n % 0x800) (2 ^ k) == 2 ^ k) ≡ (bit_and n (2 ^ k) == 2 ^ k)
 placed_bit n k l =
     let same : bit_at (n % 0x800) k ≡ bit_at n k =
     sym (bit_at_cat_low (n / 0x800) 11 (n % 0x800) k l)

@@ -151,7 +151,8 @@ module _ (w : PageIdValue) (sent : List (List ℕ)) (arrivals : List (Option (Li
   -- The span: the packets of the items'. Also for `DropLaws`.
   pub span-items : span (kind w) sent ≡ map sent_of (span (kind_of_item w) items)
   span-items =
-      ap (span (kind w)) (sym (map-sent_of-zip sent arrivals near)) ∙ span-map (kind w) sent_of items
+      ap (span (kind w)) (sym (map-sent_of-zip sent arrivals near))
+      ∙ span-map (kind w) sent_of items
 
   -- The span ends where that of the items does.
   is_unended-items :
@@ -256,7 +257,8 @@ module _ (w : PageIdValue) (sent : List (List ℕ)) (arrivals : List (Option (Li
 -- The law of recovery.
 pub law_of_recovery : LawOfRecovery
 law_of_recovery w sent arrivals old new sound near holds hears =
-    ends_afresh w sent arrivals near old new sound holds (goes_from w sent arrivals old new near hears)
+    ends_afresh w sent arrivals near old new sound holds
+    (goes_from w sent arrivals old new near hears)
 
 -- The law of lost rows: that of recovery, where a header of the page was sent.
 pub law_of_lost_rows : LawOfLostRows

@@ -93,7 +93,8 @@ module _
         → IsSettled old
         → IsSettled new
     settled_at w packet old new step shows was shut =
-        let same : new.held.page ≡ old.held.page = (leaves w packet old.held new.held step shut).1 in
+        let same : new.held.page ≡ old.held.page =
+        (leaves w packet old.held new.held step shut).1 in
         elim (cases_Bool old.held.is_open) [
           | inl up ↦
               shows.ended (ap (λ b. b && not new.held.is_open) up ∙ ap not shut)

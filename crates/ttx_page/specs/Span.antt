@@ -49,7 +49,8 @@ pub record IsSpan {A : Type 0} (kind_of : A → PacketKind) (items : List A) (fr
   pub order : (0 < from) × (from ≤ to) × (to ≤ length items)
   -- At the place before the span stands a header of the page, and none stands later.
   pub header : HoldsAt (λ x. IsTrue (is_this_page (kind_of x))) items (from - 1)
-  pub no_later_header : AllWithin (λ x. IsFalse (is_this_page (kind_of x))) items from (length items)
+  pub no_later_header :
+      AllWithin (λ x. IsFalse (is_this_page (kind_of x))) items from (length items)
   -- At no place of the span stands a header that ends the page. One stands at the place after it,
   -- where the list has such a place.
   pub no_earlier_end : AllWithin (λ x. IsFalse (ends_page (kind_of x))) items from to

@@ -27,7 +27,9 @@ pub record TakesSized (old new : Option (List ℕ)) (bytes : List ℕ) : Type 0 
 
 -- Where a data field, bytes 45 to the end of a packet, is kept, these are its Teletext units.
 abbrev pub HasUnits : List ℕ → List UnitValue → Type 0
-HasUnits field units = 0 < length field → units_at (length (drop 1 field) / 46) [] (drop 1 field) ≡ Ok units
+HasUnits field units =
+    0 < length field
+    → units_at (length (drop 1 field) / 46) [] (drop 1 field) ≡ Ok units
 
 -- A frame and the data field that it was read from, which is empty where none is kept.
 pub record KeptValue : Type 0 where

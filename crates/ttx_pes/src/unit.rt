@@ -24,7 +24,8 @@ impl Model for Unit {
     ghost invariant = { λ u. IsUnit
         (record { id = u.id; field = u.field; line = u.line; packet = u.packet }) };
 
-    ghost inverse = { λ u. record { id = u.id; field = u.field; line = u.line; packet = u.packet } };
+    ghost inverse = { λ u.
+        record { id = u.id; field = u.field; line = u.line; packet = u.packet } };
 }
 
 impl Default for Unit {

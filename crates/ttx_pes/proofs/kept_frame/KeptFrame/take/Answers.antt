@@ -9,7 +9,8 @@ use Rattle.ttx_pes.proofs.kept_frame.KeptFrame.take.Goals as goal
 pub returns-in_err-pts-clause-err : goal.returns-in_err-pts-clause-err
 returns-in_err-pts-clause-err c =
     let p = err_from_is_err_and c.from_residual.result c.from_residual.ensures.1 in
-    rw (p.1, p.2) (fault_of_header c.args.body.now c.in_err-pts.field-0.0 c.in_err-pts.ensures.exact)
+    rw (p.1, p.2)
+    (fault_of_header c.args.body.now c.in_err-pts.field-0.0 c.in_err-pts.ensures.exact)
 
 pub returns-then-is_kept-clause-value : goal.returns-then-is_kept-clause-value
 returns-then-is_kept-clause-value c =
