@@ -9,15 +9,18 @@ use Rattle.std.proofs.lemmas.List.{at_drop_more}
 use Rattle.std.proofs.lemmas.List.Elements.{filter-append}
 use Rattle.std.proofs.lemmas.List.{length-append, length-map}
 use Rattle.std.proofs.lemmas.Bool.{and_right, cases_lt}
+use Rattle.sub_io.specs.Reading.{IfTold}
 use Rattle.ttx_packet.specs.PageId.{PageIdValue}
 use Rattle.ttx_packet.specs.PacketAddress.{address}
-use Rattle.ttx_page.specs.Receiver.{Step}
+use Rattle.ttx_page.specs.Receiver.{Hears, State, Step}
 use Rattle.ttx_page.specs.Screen.{Display, Shows, ShowsAt}
 use Rattle.ttx_pes.specs.DataUnit.{UnitValue}
 use Rattle.ttx_pes.specs.PesPacket.{PesValue}
+use Rattle.ttx_pes.specs.Reader.{FailsWithin, TakesPackets}
 use Rattle.ttx_pes.specs.Reading.{most_packets, rest_after}
 use Rattle.ttx_pes.specs.declared.fault.PesFault.TheVariants as pes
 use Rattle.sub_check.specs.Checking.{TellsFrame}
+use Rattle.sub_check.specs.Fault.{is_pes_read}
 use Rattle.sub_check.specs.FirstBroken.{unread_fault}
 use Rattle.sub_check.specs.FrameRules.{Unread, frame_at, packets_before}
 use Rattle.sub_check.specs.FrameRules.Unread.{BadPacket, NoFrame}
@@ -29,12 +32,14 @@ use Rattle.sub_check.specs.declared.fault.CheckFault.TheVariants as check
 use Rattle.sub_check.proofs.PesReadingLemmas.{ReadsNext, reads-below, reads_end, reads_fault}
 use Rattle.sub_check.proofs.PesReadingLemmas.{reads_next}
 use Rattle.sub_check.proofs.ShownLemmas.{joined_more}
-use Rattle.sub_answer.specs.ListeningRun.{AreHeard, IsHeard, RefusesAfter, Runs, is_of_subtitles}
+use Rattle.sub_answer.specs.ListeningRun.{AreHeard, FailsListening, IsHeard, RefusesAfter, Runs}
+use Rattle.sub_answer.specs.ListeningRun.{is_of_subtitles}
 use Rattle.sub_answer.specs.ListeningRun.{IsOldPage, Listens, least_frame, listen_told, listing_of}
 use Rattle.sub_answer.specs.ListeningRun.{is_read, tuned_with}
 use Rattle.sub_answer.specs.Told.{status_of}
 use Rattle.ttx_page.specs.Page.{Rows}
-use Rattle.sub_answer.specs.Reception.{Reception, as_heard, as_received, first_lost_header}
+use Rattle.sub_answer.specs.Reception.{Reception, RunsThrough, as_heard, as_received}
+use Rattle.sub_answer.specs.Reception.{first_lost_header}
 use Rattle.sub_answer.specs.Reception.{is_heard, is_lost, is_taken, may_be_lost_at, reception_of}
 use Rattle.sub_answer.specs.Reception.{with_flips}
 use Rattle.sub_answer.specs.declared.answering.listen.ListenFault.{ListenFault}
@@ -135,7 +140,16 @@ as_heard-append l number first more =
     (as_received r (number + length first) more)
 
 -- two runs, one after the other
-pub Shows-append : (w : PageIdValue) (first more : List (List ℕ)) (old mid new : Display)
+Hears-append : (w : PageIdValue) (first more : List (List ℕ)) (old mid new : State)
+    → Hears w old first mid
+    → Hears w mid more new
+    → Hears w old (first ++ more) new
+Hears-append w [] more old mid new run next = subst (λ (s : State). Hears w s more new) run next
+Hears-append w (p ∷ ps) more old mid new run next =
+    (run.0, run.1, Hears-append w ps more run.0 mid new run.2 next)
+
+-- the same, with a screen
+Shows-append : (w : PageIdValue) (first more : List (List ℕ)) (old mid new : Display)
     → Shows w old first mid
     → Shows w mid more new
     → Shows w old (first ++ more) new
@@ -143,79 +157,119 @@ Shows-append w [] more old mid new run next = subst (λ (d : Display). Shows w d
 Shows-append w (p ∷ ps) more old mid new run next =
     (run.0, run.1, run.2, Shows-append w ps more run.0 mid new run.3 next)
 
--- a packet that is received and taken, and the run after it. For `hear_packet`.
-pub shows_packet : (w : PageIdValue) (l : Listening) (number : ℕ) (packet got : List ℕ)
-    → (packets : List (List ℕ)) (old new end : Display)
-    → is_heard (reception_of l) number ≡ true
-    → got ≡ with_flips l.flips.items number packet
-    → is_taken l.receiver l.options.page got ≡ true
-    → Step w old.held got new.held
-    → ShowsAt w old got new
-    → Shows w new (as_heard l (number + 1) packets) end
-    → Shows w old (as_heard l number (packet ∷ packets)) end
-shows_packet w l number packet got packets old new end heard same takes step shows run =
-    let taken = is_taken l.receiver l.options.page in
-    let rest = as_received (reception_of l) (number + 1) packets in
-    subst (λ (b : Bool). Shows w old (filter taken
-    (if b then with_flips l.flips.items number packet ∷ rest else rest)) end)
-    (sym heard)
-    (subst (λ (p : List ℕ). Shows w old (filter taken (p ∷ rest)) end) same
-    (subst (λ (b : Bool). Shows w old (cond b (got ∷ filter taken rest) (filter taken rest)) end)
-    (sym takes) (new, step, shows, run)))
+-- the same, with a screen or none
+runs-append : (b : Bool) (w : PageIdValue) (first more : List (List ℕ)) (old mid new : Display)
+    → RunsThrough b w old first mid
+    → RunsThrough b w mid more new
+    → RunsThrough b w old (first ++ more) new
+runs-append true w first more old mid new run next = Shows-append w first more old mid new run next
+runs-append false w first more old mid new run next =
+    Hears-append w first more old.held mid.held new.held run next
 
--- a packet that is received and dropped, and the run after it
-pub drops_packet : (w : PageIdValue) (l : Listening) (number : ℕ) (packet got : List ℕ)
+-- a run through no packets. For `hear_units`, `hear_untouched`.
+pub runs-none : (b : Bool) (w : PageIdValue) (d : Display) → RunsThrough b w d [] d
+runs-none true w d = refl
+runs-none false w d = refl
+
+-- a packet that is shown, and the run after it. For `take`.
+pub runs_shown : (b : Bool) (w : PageIdValue) (packet : List ℕ) (packets : List (List ℕ))
+    → (old new end : Display)
+    → b ≡ true
+    → Step w old.held packet new.held
+    → ShowsAt w old packet new
+    → RunsThrough b w new packets end
+    → RunsThrough b w old (packet ∷ packets) end
+runs_shown true w packet packets old new end e step shows run = (new, step, shows, run)
+runs_shown false w packet packets old new end e step shows run = cc
+
+-- a packet that is heard, with no screen. For `take`.
+pub runs_heard : (b : Bool) (w : PageIdValue) (packet : List ℕ) (packets : List (List ℕ))
+    → (old new end : Display)
+    → b ≡ false
+    → Step w old.held packet new.held
+    → RunsThrough b w new packets end
+    → RunsThrough b w old (packet ∷ packets) end
+runs_heard true w packet packets old new end e step run = cc
+runs_heard false w packet packets old new end e step run = (new.held, step, run)
+
+-- a packet that is taken. For `take`.
+pub runs_taken : (l : Listening) (w : PageIdValue) (packet : List ℕ) (packets : List (List ℕ))
+    → (old end : Display)
+    → is_taken l.receiver l.options.page packet ≡ true
+    → RunsThrough l.options.asks_complete w old
+    (packet ∷ filter (is_taken l.receiver l.options.page) packets) end
+    → RunsThrough l.options.asks_complete w old
+    (filter (is_taken l.receiver l.options.page) (packet ∷ packets)) end
+runs_taken l w packet packets old end takes run =
+    let rest = filter (is_taken l.receiver l.options.page) packets in
+    subst (λ (b : Bool). RunsThrough l.options.asks_complete w old (cond b (packet ∷ rest) rest) end)
+    (sym takes) run
+
+-- a packet that is dropped. For `take`.
+pub runs_dropped : (l : Listening) (w : PageIdValue) (packet : List ℕ) (packets : List (List ℕ))
+    → (old end : Display)
+    → is_taken l.receiver l.options.page packet ≡ false
+    → RunsThrough l.options.asks_complete w old
+    (filter (is_taken l.receiver l.options.page) packets) end
+    → RunsThrough l.options.asks_complete w old
+    (filter (is_taken l.receiver l.options.page) (packet ∷ packets)) end
+runs_dropped l w packet packets old end drops run =
+    let rest = filter (is_taken l.receiver l.options.page) packets in
+    subst (λ (b : Bool). RunsThrough l.options.asks_complete w old (cond b (packet ∷ rest) rest) end)
+    (sym drops) run
+
+-- a packet that is received. For `hear_packet`.
+pub runs_received : (l : Listening) (w : PageIdValue) (number : ℕ) (packet got : List ℕ)
     → (packets : List (List ℕ)) (old end : Display)
     → is_heard (reception_of l) number ≡ true
     → got ≡ with_flips l.flips.items number packet
-    → is_taken l.receiver l.options.page got ≡ false
-    → Shows w old (as_heard l (number + 1) packets) end
-    → Shows w old (as_heard l number (packet ∷ packets)) end
-drops_packet w l number packet got packets old end heard same drops run =
+    → RunsThrough l.options.asks_complete w old
+    (filter (is_taken l.receiver l.options.page)
+    (got ∷ as_received (reception_of l) (number + 1) packets)) end
+    → RunsThrough l.options.asks_complete w old (as_heard l number (packet ∷ packets)) end
+runs_received l w number packet got packets old end heard same run =
     let taken = is_taken l.receiver l.options.page in
     let rest = as_received (reception_of l) (number + 1) packets in
-    subst (λ (b : Bool). Shows w old (filter taken
+    subst (λ (b : Bool). RunsThrough l.options.asks_complete w old (filter taken
     (if b then with_flips l.flips.items number packet ∷ rest else rest)) end)
     (sym heard)
-    (subst (λ (p : List ℕ). Shows w old (filter taken (p ∷ rest)) end) same
-    (subst (λ (b : Bool). Shows w old (cond b (got ∷ filter taken rest) (filter taken rest)) end)
-    (sym drops) run))
+    (subst
+    (λ (p : List ℕ). RunsThrough l.options.asks_complete w old (filter taken (p ∷ rest)) end)
+    same run)
 
--- a packet that is not received, and the run after it
-pub passes_packet : (w : PageIdValue) (l : Listening) (number : ℕ) (packet : List ℕ)
+-- a packet that is not received, and the run after it. For `hear_packet`.
+pub runs_passed : (l : Listening) (w : PageIdValue) (number : ℕ) (packet : List ℕ)
     → (packets : List (List ℕ)) (old end : Display)
     → is_heard (reception_of l) number ≡ false
-    → Shows w old (as_heard l (number + 1) packets) end
-    → Shows w old (as_heard l number (packet ∷ packets)) end
-passes_packet w l number packet packets old end passed run =
+    → RunsThrough l.options.asks_complete w old (as_heard l (number + 1) packets) end
+    → RunsThrough l.options.asks_complete w old (as_heard l number (packet ∷ packets)) end
+runs_passed l w number packet packets old end passed run =
     let taken = is_taken l.receiver l.options.page in
     let rest = as_received (reception_of l) (number + 1) packets in
-    subst (λ (b : Bool). Shows w old (filter taken
+    subst (λ (b : Bool). RunsThrough l.options.asks_complete w old (filter taken
     (if b then with_flips l.flips.items number packet ∷ rest else rest)) end)
     (sym passed) run
 
--- a run through what is heard of the units that are left. For `hear_units`.
-pub shows_further : (v w : PageIdValue) (l : Listening) (number k : ℕ) (units : List UnitValue)
-    → (d : UnitValue) (packet : List ℕ) (now next end : Display)
+-- a run through what is heard of the units that are left. For `hear_units`, `hear_untouched`.
+pub runs_further : (b : Bool) (v w : PageIdValue) (heard later : List (List ℕ) → List (List ℕ))
+    → (k : ℕ) (units : List UnitValue) (d : UnitValue) (packet : List ℕ) (now next end : Display)
     → k < length units
     → v ≡ w
     → packet ≡ (get_or units k d).packet
     → ((packets : List (List ℕ)) (last : Display)
-    → Shows v next (as_heard l (number + k + 1) packets) last
-    → Shows v now (as_heard l (number + k) (packet ∷ packets)) last)
-    → Shows w next (as_heard l (number + (k + 1)) (packets_of_units (drop (k + 1) units))) end
-    → Shows w now (as_heard l (number + k) (packets_of_units (drop k units))) end
-shows_further v w l number k units d packet now next end within tuned same step run =
-    let rest = packets_of_units (drop (k + 1) units) in
-    let stepped : Shows w next (as_heard l (number + k + 1) rest) end
-    → Shows w now (as_heard l (number + k) ((get_or units k d).packet ∷ rest)) end =
-    subst (λ (p : List ℕ). Shows w next (as_heard l (number + k + 1) rest) end
-    → Shows w now (as_heard l (number + k) (p ∷ rest)) end) same
-    (subst (λ (u : PageIdValue). Shows u next (as_heard l (number + k + 1) rest) end
-    → Shows u now (as_heard l (number + k) (packet ∷ rest)) end) tuned (step rest end)) in
-    subst (λ (packets : List (List ℕ)). Shows w now packets end)
-    (sym (at_drop_more (λ us. as_heard l (number + k) (packets_of_units us)) units k d within))
-    (stepped (subst (λ (n : ℕ). Shows w next (as_heard l n rest) end) (omega arith) run))
+    → RunsThrough b v next (later packets) last
+    → RunsThrough b v now (heard (packet ∷ packets)) last)
+    → RunsThrough b w next (later (packets_of_units (drop (k + 1) units))) end
+    → RunsThrough b w now (heard (packets_of_units (drop k units))) end
+runs_further b v w heard later k units d packet now next end within tuned same step run =
+    let more = packets_of_units (drop (k + 1) units) in
+    let stepped : RunsThrough b w next (later more) end
+    → RunsThrough b w now (heard (packet ∷ more)) end =
+    subst (λ (u : PageIdValue). RunsThrough b u next (later more) end
+    → RunsThrough b u now (heard (packet ∷ more)) end) tuned (step more end) in
+    subst (λ (packets : List (List ℕ)). RunsThrough b w now packets end)
+    (sym (at_drop_more (λ us. heard (packets_of_units us)) units k d within))
+    (subst (λ (p : List ℕ). RunsThrough b w now (heard (p ∷ more)) end) same (stepped run))
 
 -- ---- what is reached after n frames
 
@@ -230,7 +284,8 @@ pub record Reaches
   pub rest_is : remaining ≡ Some rest
   pub left : ReadsAs l.options.origin n rest (drop n frames) unread
   pub heard : AreHeard l frames n
-  pub run : Shows w old (as_heard l 0 (packets_before frames n)) now
+  pub run :
+      RunsThrough l.options.asks_complete w old (as_heard l 0 (packets_before frames n)) now
   pub number_is : number ≡ length (packets_before frames n)
   pub least_is : least ≡ least_frame frames n
 
@@ -252,6 +307,31 @@ pub did_not_rise : (b : Bool) (old new : ℕ)
     → b ≡ false
 did_not_rise true old new counted same = absurd (omega (arith, counted, same))
 did_not_rise false old new counted same = refl
+
+-- a count that rose
+pub did_rise : (b : Bool) (old new : ℕ)
+    → new ≡ old + (if b then 1 else 0)
+    → new ≢ old
+    → b ≡ true
+did_rise true old new counted other = refl
+did_rise false old new counted other = absurd (other (omega (arith, counted)))
+
+-- the source failed after the packets that were heard. For `hear_file`.
+pub fails_listening : (l : Listening) (n : ℕ) (f : CheckFault) (old mid new : Option (List ℕ))
+    → TakesPackets n old mid
+    → (is_pes_read f ≡ true → f ≡ check.Pes n pes.Read)
+    → (is_pes_read f ≡ true → FailsWithin mid new)
+    → ((frames : Transmission) (unread : Option Unread)
+    → IfTold old (λ bytes.
+    ReadsAs l.options.origin 0 bytes frames unread → AreHeard l frames n))
+    → is_pes_read f ≡ true
+    → FailsListening l old new (fault.File f)
+fails_listening l n f old mid new taken place within heard is = record {
+  index = n;
+  is = ap (λ (x : CheckFault). fault.File x) (place is);
+  place = record { behind = mid; before = taken; within = within is };
+  heard = heard;
+}
 
 -- what is printed of a run of a receiver that was tuned. For `listen`.
 pub listens_from : (l : Listening) (frames : Transmission) (unread : Option Unread)
@@ -291,7 +371,7 @@ module _
       rest_is = told;
       left = reads;
       heard = λ i below. absurd (omega arith);
-      run = refl;
+      run = runs-none l.options.asks_complete w old;
       number_is = refl;
       least_is = refl;
     }
@@ -408,7 +488,8 @@ module _
                 → frame ≤ l.at
                 → first_lost_header (reception_of l) number (packets_of_units v.units) ≡ None
                 → left ≡ Some (rest_after reached.rest)
-                → Shows w now (as_heard l number (packets_of_units v.units)) after
+                → RunsThrough l.options.asks_complete w now
+                (as_heard l number (packets_of_units v.units)) after
                 → Reaches l frames unread w old left (n + 1) (number + length v.units) (frame + 1)
                 after
             reaches_next left after rises in_time whole left_is run =
@@ -447,12 +528,13 @@ module _
                         | inr h ↦ subst (IsHeard l frames) (omega arith) here
                       ];
                   run =
-                      subst (λ (ps : List (List ℕ)). Shows w old ps after)
+                      subst (λ (ps : List (List ℕ)). RunsThrough l.options.asks_complete w old ps after)
                       (sym (as_heard-append l 0 (packets_before frames n) (packets_of_units v.units))
                       ∙ ap (as_heard l 0) (sym more))
-                      (Shows-append w _ _ old now after reached.run
+                      (runs-append l.options.asks_complete w _ _ old now after reached.run
                       (subst
-                      (λ (m : ℕ). Shows w now (as_heard l m (packets_of_units v.units)) after)
+                      (λ (m : ℕ). RunsThrough l.options.asks_complete w now
+                      (as_heard l m (packets_of_units v.units)) after)
                       (number_is ∙ zero_more (length (packets_before frames n))) run));
                   number_is = omega (arith, size, units, number_is);
                   least_is =

@@ -1,13 +1,14 @@
--- A receiver with a screen that has heard packets of which the first erases the page may be what it
--- is when it has heard them again, at once: `sent_again`.
+-- A receiver that has heard packets of which the first erases the page may be what it is when it has
+-- heard them again, at once: `runs_again`.
 use Rattle.std.proofs.Common.{◌≡◌, ℕ, inl, inr, Bool, true, false, not, List, [], ◌∷◌}
 use Rattle.std.proofs.Common.{IsFalse, refl, sym, ap, ◌∙◌, subst, true≢false}
 use Rattle.std.proofs.lemmas.Bool.{and_right, cond-true}
 use Rattle.ttx_packet.specs.PageHeader.{c4}
 use Rattle.ttx_packet.specs.PageId.{PageIdValue}
 use Rattle.ttx_page.specs.Page.{Rows, blank}
-use Rattle.ttx_page.specs.Receiver.{State, Step, StepAt}
+use Rattle.ttx_page.specs.Receiver.{Hears, State, Step, StepAt}
 use Rattle.ttx_page.specs.Screen.{Display, Shows, display, is_ended}
+use Rattle.sub_answer.specs.Reception.{RunsThrough}
 use Rattle.sub_answer.specs.Untouched.{ErasesPageAt}
 use Rattle.ttx_page.specs.declared.packet_kind.PacketKind.TheVariants.{ThisPage}
 
@@ -69,13 +70,13 @@ carry w (p ∷ ps) old new (mid, step, shows, rest) =
       carried,
     )
 
--- So it may be left as it is where they are sent again. For `heard_again`.
-pub sent_again :
+-- So one with a screen may be left as it is where they are sent again.
+shows_again :
     (w : PageIdValue) (first : List ℕ) (others : List (List ℕ)) (old new : Display)
     → ErasesPageAt w first
     → Shows w old (first ∷ others) new
     → Shows w new (first ∷ others) new
-sent_again w first others old new e (mid, step, shows, rest) =
+shows_again w first others old new e (mid, step, shows, rest) =
     let open_is = stays_open w first e old.held mid.held step in
     let none : IsFalse (is_ended new.held mid.held) =
     and_right new.held.is_open (not mid.held.is_open) (ap not open_is) in (
@@ -88,3 +89,22 @@ sent_again w first others old new e (mid, step, shows, rest) =
       },
       carry w others mid new rest,
     )
+
+-- And one whose screen is not looked at.
+hears_again :
+    (w : PageIdValue) (first : List ℕ) (others : List (List ℕ)) (old new : State)
+    → ErasesPageAt w first
+    → Hears w old (first ∷ others) new
+    → Hears w new (first ∷ others) new
+hears_again w first others old new e (mid, step, rest) =
+    (mid, same_step w first e old new mid step, rest)
+
+-- So each may be left as it is where they are sent again. For `heard_again`.
+pub runs_again :
+    (b : Bool) (w : PageIdValue) (first : List ℕ) (others : List (List ℕ)) (old new : Display)
+    → ErasesPageAt w first
+    → RunsThrough b w old (first ∷ others) new
+    → RunsThrough b w new (first ∷ others) new
+runs_again true w first others old new e run = shows_again w first others old new e run
+runs_again false w first others old new e run =
+    hears_again w first others old.held new.held e run

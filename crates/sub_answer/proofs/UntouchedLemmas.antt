@@ -6,7 +6,7 @@ use Rattle.std.proofs.Common.{filter, is_some, subst}
 use Rattle.std.specs.List.{list_any}
 use Rattle.std.proofs.lemmas.Bool.{and_from, and_left, and_parts, cond-false, cond-true}
 use Rattle.std.proofs.lemmas.Bool.{le-leb, leb-true, lt-ltb, ne_eqb, not-true, or_parts, true≢false}
-use Rattle.sub_answer.specs.Reception.{Reception, as_received, is_flip_of}
+use Rattle.sub_answer.specs.Reception.{Reception, RunsThrough, as_received, is_flip_of}
 use Rattle.sub_answer.specs.Reception.{is_heard, is_taken, as_heard}
 use Rattle.sub_answer.specs.Reception.{reception_of}
 use Rattle.sub_answer.specs.Untouched.{BeginsErased, ErasesPageAt, HeardLast, is_untouched}
@@ -15,8 +15,8 @@ use Rattle.sub_answer.specs.Reception.{with_flip, with_flips}
 use Rattle.ttx_packet.specs.PageId.{PageIdValue}
 use Rattle.ttx_packet.specs.RowPacket.{first_even_byte}
 use Rattle.ttx_page.specs.PacketKind.{is_some_row}
-use Rattle.ttx_page.specs.Screen.{Display, Shows}
-use Rattle.sub_answer.proofs.SentAgainLemmas.{sent_again}
+use Rattle.ttx_page.specs.Screen.{Display}
+use Rattle.sub_answer.proofs.SentAgainLemmas.{runs_again}
 use Rattle.sub_answer.specs.declared.listening.Flip.{Flip}
 use Rattle.sub_answer.specs.declared.listening.Listening.{Listening}
 use Rattle.sub_answer.specs.declared.listening.ReceiverKind.{ReceiverKind}
@@ -120,24 +120,20 @@ module _
         ap (filter (is_taken l.receiver l.options.page))
         (received_untouched (reception_of l) number count packets is long)
 
-    -- A receiver that has just heard them.
+    -- A receiver that heard them as they are heard what it hears of them.
     pub heard_now : (old now : Display)
-        → w ≡ l.options.page
-        → BeginsErased w packets
-        → Shows w old (as_heard l number packets) now
-        → HeardLast l w packets now
-    heard_now old now tuned begins run = record {
-      tuned = tuned;
-      begins = begins;
-      start = old;
-      run = subst (λ ps. Shows w old ps now) heard_is run;
-    }
+        → RunsThrough l.options.asks_complete w old
+        (filter (is_taken l.receiver l.options.page) packets) now
+        → RunsThrough l.options.asks_complete w old (as_heard l number packets) now
+    heard_now old now run =
+        subst (λ ps. RunsThrough l.options.asks_complete w old ps now) (sym heard_is) run
 
     -- One that heard them before may be left as it is.
     pub heard_again : (now : Display)
         → HeardLast l w packets now
-        → Shows w now (as_heard l number packets) now
+        → RunsThrough l.options.asks_complete w now (as_heard l number packets) now
     heard_again now h =
+        let asks = l.options.asks_complete in
         let b = h.begins in
         let taken = is_taken l.receiver l.options.page in
         let kept : filter taken packets ≡ b.first ∷ filter taken b.others =
@@ -145,6 +141,6 @@ module _
         ∙ cond-true (taken b.first) (b.first ∷ filter taken b.others) (filter taken b.others)
         (is_taken_at l.receiver l.options.page b.first
         (subst (λ v. ErasesPageAt v b.first) h.tuned b.erases)) in
-        subst (λ ps. Shows w now ps now) (sym (heard_is ∙ kept))
-        (sent_again w b.first (filter taken b.others) h.start now b.erases
-        (subst (λ ps. Shows w h.start ps now) kept h.run))
+        subst (λ ps. RunsThrough asks w now ps now) (sym (heard_is ∙ kept))
+        (runs_again asks w b.first (filter taken b.others) h.start now b.erases
+        (subst (λ ps. RunsThrough asks w h.start ps now) kept h.run))

@@ -20,11 +20,12 @@ use Rattle.sub_check.specs.declared.fault.CheckFault.{CheckFault}
 use Rattle.sub_check.specs.declared.fault.CheckFault.TheVariants as check
 use Rattle.sub_answer.specs.CheckLines.{verdict}
 use Rattle.sub_answer.specs.DeviceCall.{SinkCall, SourceCall}
-use Rattle.sub_answer.specs.Listing.{Listing, PrintsOrFails}
-use Rattle.sub_answer.specs.ListeningRun.{Listens}
+use Rattle.sub_answer.specs.Listing.{Listing, PrintsOrFails, told_listing}
+use Rattle.sub_answer.specs.ListeningRun.{FailsListening, Listens, listen_told}
 use Rattle.sub_answer.specs.Verdict.{IsAccepted, IsAnswer}
 use Rattle.sub_answer.specs.Writing.{PrintsMemory, Works, Writing, end_status, is_read_end}
 use Rattle.sub_answer.specs.Writing.{is_write_end}
+use Rattle.sub_answer.specs.declared.answering.listen.ListenFault.{ListenFault}
 use Rattle.sub_answer.specs.declared.listening.Listening.{Listening}
 use Rattle.sub_answer.specs.declared.request.Request.{Request}
 use Rattle.sub_answer.specs.declared.request.Request.TheVariants as ask
@@ -157,12 +158,22 @@ pub record AnswersCheck
       → PrintsMemory national stl.told out.old out.new
 
 -- `listen` prints what a receiver shows that heard the frames of the PES file, or the refusal.
-abbrev pub AnswersListen : {S : Type 0} → Listening → SourceCall S → SinkCall → Status → Type 0
-AnswersListen listening pes out status =
-    (frames : Transmission) (unread : Option Unread)
-    → IfTold pes.told (λ bytes.
-    ReadsAs listening.options.origin 0 bytes frames unread
-    → pes.new_count ≡ pes.old_count
-    → (listing : Listing)
-    × Listens listening frames unread listing
-    × PrintsOrFails out.old_count out.old out.new_count out.new listing status)
+pub record AnswersListen
+    {S : Type 0} (listening : Listening) (pes : SourceCall S) (out : SinkCall) (status : Status)
+    : Type 0 where
+  pub exact :
+      (frames : Transmission) (unread : Option Unread)
+      → IfTold pes.told (λ bytes.
+      ReadsAs listening.options.origin 0 bytes frames unread
+      → pes.new_count ≡ pes.old_count
+      → (listing : Listing)
+      × Listens listening frames unread listing
+      × PrintsOrFails out.old_count out.old out.new_count out.new listing status)
+  -- That the source failed is told at the PES packet within which it failed, and where nothing that
+  -- was read before is refused.
+  pub read :
+      pes.new_count ≢ pes.old_count
+      → (f : ListenFault)
+      × FailsListening listening pes.told pes.left f
+      × PrintsOrFails out.old_count out.old out.new_count out.new
+      (told_listing (listen_told f)) status

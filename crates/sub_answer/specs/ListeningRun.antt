@@ -1,18 +1,22 @@
 -- What `listen` answers: the frames up to TIME that are heard, what ends them, and what is printed.
 use Rattle.std.specs.Prelude.{◌≡◌, ℕ, zero, suc, ◌+◌, ◌<◌, ◌≤◌, ◌⊎◌, Bool, false}
 use Rattle.std.specs.Prelude.{length, codes, Option, Some, None, Result, Ok, Err}
-use Rattle.std.specs.Prelude.{MatchResult}
+use Rattle.std.specs.Prelude.{List, MatchResult}
+use Rattle.sub_io.specs.Reading.{IfTold}
 use Rattle.ttx_packet.specs.PageId.{PageIdValue}
 use Rattle.ttx_page.specs.Page.{Rows, IsCell, cell}
-use Rattle.ttx_page.specs.Screen.{Display, Shows}
+use Rattle.ttx_page.specs.Screen.{Display}
+use Rattle.ttx_pes.specs.Reader.{FailsAtPacket}
+use Rattle.ttx_pes.specs.declared.fault.PesFault.TheVariants.{Read}
 use Rattle.sub_check.specs.Fault as check_number
 use Rattle.sub_check.specs.FirstBroken.{unread_fault}
 use Rattle.sub_check.specs.FrameRules.{Unread, frame_at, packets_before, packets_of_frame}
+use Rattle.sub_check.specs.PesReading.{ReadsAs}
 use Rattle.sub_check.specs.Transmission.{Transmission}
 use Rattle.sub_check.specs.declared.fault.CheckFault.TheVariants as check
 use Rattle.sub_answer.specs.Faults.{check_told}
 use Rattle.sub_answer.specs.Listing.{Listing, done, told_listing}
-use Rattle.sub_answer.specs.Reception.{as_heard, first_lost_header, reception_of}
+use Rattle.sub_answer.specs.Reception.{RunsThrough, as_heard, first_lost_header, reception_of}
 use Rattle.sub_answer.specs.StateText.{display_text}
 use Rattle.sub_answer.specs.Told.{ToldValue, told_as}
 use Rattle.sub_answer.specs.declared.answering.listen.ListenFault.{ListenFault}
@@ -86,17 +90,29 @@ RefusesAfter l frames unread n f =
     (u : Unread) × (n ≡ length frames) × (unread ≡ Some u)
     × (f ≡ fault.File (unread_fault n (Some u)))
 
+-- The source failed at a PES packet: those before it were taken, and their frames were heard.
+pub record FailsListening (l : Listening) (told left : Option (List ℕ)) (f : ListenFault) : Type 0
+  where
+    pub index : ℕ
+    pub is : f ≡ fault.File (check.Pes index Read)
+    pub place : FailsAtPacket index told left
+    pub heard :
+        (frames : Transmission) (unread : Option Unread)
+        → IfTold told (λ bytes.
+        ReadsAs l.options.origin 0 bytes frames unread → AreHeard l frames index)
+
 -- ---- the run of a receiver
 
--- What becomes of a receiver with a screen that hears a file: it runs through what it hears of the
--- packets up to TIME, or the file is refused.
+-- What becomes of a receiver that hears a file: it runs through what it hears of the packets up to
+-- TIME, or the file is refused.
 pub record Runs
     (l : Listening) (frames : Transmission) (unread : Option Unread) (w : PageIdValue)
     (old new : Display) (result : Result (Unit {0}) ListenFault)
     : Type 0 where
   pub n : ℕ
   pub heard : AreHeard l frames n
-  pub run : Shows w old (as_heard l 0 (packets_before frames n)) new
+  pub run :
+      RunsThrough l.options.asks_complete w old (as_heard l 0 (packets_before frames n)) new
   pub ends :
       MatchResult result (λ _. EndsAfter l frames unread n) (RefusesAfter l frames unread n)
 

@@ -2,11 +2,12 @@
 -- flipped (own); and what it hears of that. Packets are numbered from 0 over the whole file.
 use Rattle.std.specs.Prelude.{ℕ, ◌+◌, ◌-◌, ◌^◌, Bool, true, false, not, ◌&&◌, List, [], ◌∷◌}
 use Rattle.std.specs.Prelude.{Option, Some, None, option_map, bit_xor, slice_index, slice_set}
-use Rattle.std.specs.Prelude.{if◌then◌else◌, ◌==◌, nat_le}
+use Rattle.std.specs.Prelude.{if◌then◌else◌, ◌==◌, nat_le, MatchBool}
 use Rattle.std.specs.List.{filter, list_any}
 use Rattle.ttx_packet.specs.PacketAddress.{PacketAddress, address}
 use Rattle.ttx_packet.specs.PageId.{PageIdValue}
-use Rattle.ttx_page.specs.Receiver.{is_dropped}
+use Rattle.ttx_page.specs.Receiver.{Hears, is_dropped}
+use Rattle.ttx_page.specs.Screen.{Display, Shows}
 use Rattle.sub_answer.specs.declared.listening.Flip.{Flip}
 use Rattle.sub_answer.specs.declared.listening.Listening.{Listening}
 use Rattle.sub_answer.specs.declared.listening.ReceiverKind.{ReceiverKind}
@@ -67,6 +68,12 @@ is_taken _ w packet = true
 abbrev pub as_heard : Listening → ℕ → List (List ℕ) → List (List ℕ)
 as_heard l number packets =
     filter (is_taken l.receiver l.options.page) (as_received (reception_of l) number packets)
+
+-- What becomes of a receiver of page w that hears these packets: where complete pages are asked for,
+-- it has a screen; else what it holds is all that is said of it, and no screen need be run.
+abbrev pub RunsThrough : Bool → PageIdValue → Display → List (List ℕ) → Display → Type 0
+RunsThrough asks_complete w old packets new =
+    MatchBool asks_complete (Shows w old packets new) (Hears w old.held packets new.held)
 
 -- A packet may be lost: it has an address, and is no packet X/0 (EN 300 706).
 abbrev pub may_be_lost_at : Option PacketAddress → Bool

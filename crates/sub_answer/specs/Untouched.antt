@@ -6,9 +6,9 @@ use Rattle.ttx_packet.specs.PageId.{PageIdValue}
 use Rattle.ttx_packet.specs.PageHeader.{c4}
 use Rattle.ttx_packet.specs.declared.header.Header.{Header}
 use Rattle.ttx_page.specs.PacketKind.{kind}
-use Rattle.ttx_page.specs.Screen.{Display, Shows}
+use Rattle.ttx_page.specs.Screen.{Display}
 use Rattle.ttx_page.specs.declared.packet_kind.PacketKind.TheVariants.{ThisPage}
-use Rattle.sub_answer.specs.Reception.{Reception, is_taken}
+use Rattle.sub_answer.specs.Reception.{Reception, RunsThrough, is_taken}
 use Rattle.sub_answer.specs.declared.listening.Flip.{Flip}
 use Rattle.sub_answer.specs.declared.listening.Listening.{Listening}
 
@@ -42,4 +42,6 @@ pub record HeardLast (l : Listening) (w : PageIdValue) (packets : List (List ℕ
   pub tuned : w ≡ l.options.page
   pub begins : BeginsErased w packets
   pub start : Display
-  pub run : Shows w start (filter (is_taken l.receiver l.options.page) packets) now
+  pub run :
+      RunsThrough l.options.asks_complete w start
+      (filter (is_taken l.receiver l.options.page) packets) now

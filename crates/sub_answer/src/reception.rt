@@ -2,10 +2,11 @@
 //! flips, dropped rows.
 ghost use Rattle.std.specs.Prelude.{◌≡◌, ℕ, ◌+◌, ◌-◌, ◌^◌, ◌<◌, ◌≤◌, ◌&&◌, ◌∷◌, List, length};
 ghost use Rattle.std.specs.Prelude.{not};
+ghost use Rattle.std.specs.List.{filter};
 ghost use Rattle.ttx_packet.specs.PacketAddress.{address};
-ghost use Rattle.ttx_page.specs.Screen.{Display, Shows, display};
+ghost use Rattle.ttx_page.specs.Screen.{Display, display};
 ghost use Rattle.sub_check.specs.PacketRules.{packets_of_units};
-ghost use Rattle.sub_answer.specs.Reception.{as_heard, first_lost_header, is_heard};
+ghost use Rattle.sub_answer.specs.Reception.{RunsThrough, as_heard, first_lost_header, is_heard};
 ghost use Rattle.sub_answer.specs.Reception.{is_lost, is_taken, may_be_lost_at, reception_of};
 ghost use Rattle.sub_answer.specs.Reception.{with_flip, with_flips};
 
@@ -33,8 +34,8 @@ pub fn first_lost_header(listening: &Listening, number: u64, units: &[Unit]) -> 
     None
 }
 
-/// Lets a receiver with a screen hear what it hears of the packets of a PES packet. `number` is
-/// that of the first.
+/// Lets a receiver hear what it hears of the packets of a PES packet, with its screen where complete
+/// pages are asked for. `number` is that of the first.
 pub fn hear_units<R: Receiver>(
     receiver: &mut R,
     screen: &mut Option<Page>,
@@ -44,7 +45,8 @@ pub fn hear_units<R: Receiver>(
 )
     requires few { length units.now ≤ 35 }
     requires number { number + 35 < u64.MAX }
-    ensures run { Shows (R.tuned_to receiver.old) (display (R.state receiver.old) screen.old)
+    ensures run { RunsThrough listening.now.options.asks_complete (R.tuned_to receiver.old)
+        (display (R.state receiver.old) screen.old)
         (as_heard listening.now number (packets_of_units units.now))
         (display (R.state receiver.new) screen.new) }
     ensures tuned { R.tuned_to receiver.new ≡ R.tuned_to receiver.old }
@@ -55,8 +57,27 @@ pub fn hear_units<R: Receiver>(
     }
 }
 
-// Lets a receiver with a screen hear what it hears of a packet. So what comes after it goes on from
-// there.
+/// Lets a receiver hear the packets of a PES packet of which none is passed over or lost or has a
+/// flip: as they are, but for the rows that it drops. So no packet is copied.
+pub fn hear_untouched<R: Receiver>(
+    receiver: &mut R,
+    screen: &mut Option<Page>,
+    listening: &Listening,
+    units: &[Unit],
+)
+    ensures run { RunsThrough listening.now.options.asks_complete (R.tuned_to receiver.old)
+        (display (R.state receiver.old) screen.old)
+        (filter (is_taken listening.now.receiver listening.now.options.page)
+        (packets_of_units units.now))
+        (display (R.state receiver.new) screen.new) }
+    ensures tuned { R.tuned_to receiver.new ≡ R.tuned_to receiver.old }
+{
+    for k in 0..units.len() {
+        take(receiver, screen, listening, units[k].packet());
+    }
+}
+
+// Lets a receiver hear what it hears of a packet. So what comes after it goes on from there.
 fn hear_packet<R: Receiver>(
     receiver: &mut R,
     screen: &mut Option<Page>,
@@ -65,17 +86,46 @@ fn hear_packet<R: Receiver>(
     packet: &Packet,
 )
     ensures run { (packets : List (List ℕ)) (end : Display)
-        → Shows (R.tuned_to receiver.old) (display (R.state receiver.new) screen.new)
+        → RunsThrough listening.now.options.asks_complete (R.tuned_to receiver.old)
+        (display (R.state receiver.new) screen.new)
         (as_heard listening.now (number + 1) packets) end
-        → Shows (R.tuned_to receiver.old) (display (R.state receiver.old) screen.old)
+        → RunsThrough listening.now.options.asks_complete (R.tuned_to receiver.old)
+        (display (R.state receiver.old) screen.old)
         (as_heard listening.now number (packet.now ∷ packets)) end }
     ensures tuned { R.tuned_to receiver.new ≡ R.tuned_to receiver.old }
 {
     if is_heard(listening, number) {
         let got = flipped(&listening.flips, number, packet);
-        if is_taken(listening, &got) {
-            show(receiver, screen, &got);
-        }
+        take(receiver, screen, listening, &got);
+    }
+}
+
+// Lets a receiver hear a packet that it gets, if it takes it.
+#[inline(always)]
+fn take<R: Receiver>(
+    receiver: &mut R,
+    screen: &mut Option<Page>,
+    listening: &Listening,
+    packet: &Packet,
+)
+    ensures run { (packets : List (List ℕ)) (end : Display)
+        → RunsThrough listening.now.options.asks_complete (R.tuned_to receiver.old)
+        (display (R.state receiver.new) screen.new)
+        (filter (is_taken listening.now.receiver listening.now.options.page) packets) end
+        → RunsThrough listening.now.options.asks_complete (R.tuned_to receiver.old)
+        (display (R.state receiver.old) screen.old)
+        (filter (is_taken listening.now.receiver listening.now.options.page)
+        (packet.now ∷ packets)) end }
+    ensures tuned { R.tuned_to receiver.new ≡ R.tuned_to receiver.old }
+{
+    if !is_taken(listening, packet) {
+        return;
+    }
+    if listening.options.asks_complete() {
+        show(receiver, screen, packet);
+    } else {
+        // No page is copied to a screen that is not looked at.
+        receiver.hear(packet);
     }
 }
 

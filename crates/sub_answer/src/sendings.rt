@@ -1,26 +1,27 @@
-//! What a receiver with a screen hears of the packets of a PES packet, and of those that are sent
-//! again.
-ghost use Rattle.std.specs.Prelude.{◌≡◌, ◌&&◌, ℕ, ◌+◌, ◌<◌, ◌≤◌, List, length, true};
+//! What a receiver hears of the packets of a PES packet, and of those that are sent again.
+ghost use Rattle.std.specs.Prelude.{◌≡◌, ℕ, ◌+◌, ◌<◌, ◌≤◌, List, length, true};
 ghost use Rattle.std.specs.List.{list_any};
 ghost use Rattle.ttx_packet.specs.PageHeader.{c4};
-ghost use Rattle.ttx_page.specs.Screen.{Shows, display};
+ghost use Rattle.ttx_page.specs.Screen.{display};
 ghost use Rattle.sub_check.specs.PacketRules.{packets_of_units};
-ghost use Rattle.sub_answer.specs.Reception.{as_heard, reception_of};
+ghost use Rattle.sub_answer.specs.Reception.{RunsThrough, as_heard, reception_of};
 ghost use Rattle.sub_answer.specs.Untouched.{BeginsErased, ErasesPageAt, HeardLast};
 ghost use Rattle.sub_answer.specs.Untouched.{is_untouched, is_in_range};
 
 use crate::listening::{Flip, Listening};
-use crate::reception::hear_units;
+use crate::reception::{hear_units, hear_untouched};
 use bitflags::Flags;
 use ttx_packet::{Control, Header, Packet, PageId};
 use ttx_page::{PacketKind, Page, Receiver};
 use ttx_pes::Unit;
 
-/// Lets a receiver with a screen hear what it hears of the packets of a PES packet. `number` is
-/// that of the first, and `again` says that they are those heard last.
+/// Lets a receiver hear what it hears of the packets of a PES packet, with its screen where complete
+/// pages are asked for. `number` is that of the first, and `again` says that they are those heard
+/// last.
 ///
 /// `kept` says that those heard last were untouched, and that the first of them erased the page:
-/// the receiver is then left as it is where they are sent again, untouched.
+/// the receiver is then left as it is where they are sent again, untouched. What is sent once is
+/// not looked at for that: a sending is heard twice before it is kept.
 pub fn hear_sending<R: Receiver>(
     receiver: &mut R,
     screen: &mut Option<Page>,
@@ -37,7 +38,8 @@ pub fn hear_sending<R: Receiver>(
         → (kept ≡ true → HeardLast listening.now (R.tuned_to receiver.old) last
         (display (R.state receiver.old) screen.old))
         → (again ≡ true → last ≡ packets_of_units units.now)
-        → Shows (R.tuned_to receiver.old) (display (R.state receiver.old) screen.old)
+        → RunsThrough listening.now.options.asks_complete (R.tuned_to receiver.old)
+        (display (R.state receiver.old) screen.old)
         (as_heard listening.now number (packets_of_units units.now))
         (display (R.state receiver.new) screen.new) }
     ensures kept { (last : List (List ℕ))
@@ -48,19 +50,15 @@ pub fn hear_sending<R: Receiver>(
         (packets_of_units units.now) (display (R.state receiver.new) screen.new) }
     ensures tuned { R.tuned_to receiver.new ≡ R.tuned_to receiver.old }
 {
-    let untouched = is_untouched(listening, number, units.len());
-    if untouched && again && kept {
+    if !is_untouched(listening, number, units.len()) {
+        hear_units(receiver, screen, listening, number, units);
+        return false;
+    }
+    if again && kept {
         return true;
     }
-    hear_units(receiver, screen, listening, number, units);
-    is_kept(untouched, begins_erased(listening.options.page(), units))
-}
-
-// Whether a receiver that heard a sending may be left as it is where it is sent again.
-fn is_kept(untouched: bool, begins_erased: bool) -> bool
-    ensures { result ≡ (untouched && begins_erased) }
-{
-    untouched && begins_erased
+    hear_untouched(receiver, screen, listening, units);
+    again && begins_erased(listening.options.page(), units)
 }
 
 // Whether none of so many packets is passed over or lost, or has a flip. `number` is that of the

@@ -12,8 +12,8 @@ ghost use Rattle.sub_check.specs.Transmission.{Transmission};
 ghost use Rattle.sub_answer.specs.Answering.{AnswersListen};
 ghost use Rattle.sub_answer.specs.DeviceCall.{sink_call, source_call};
 ghost use Rattle.sub_answer.specs.Listing.{CountsFault, PrintsOrFails, told_listing};
-ghost use Rattle.sub_answer.specs.ListeningRun.{IsOldPage, Runs, is_of_subtitles, listen_told};
-ghost use Rattle.sub_answer.specs.ListeningRun.{is_read};
+ghost use Rattle.sub_answer.specs.ListeningRun.{FailsListening, IsOldPage, Runs, is_of_subtitles};
+ghost use Rattle.sub_answer.specs.ListeningRun.{is_read, listen_told};
 ghost use Rattle.sub_answer.specs.Told.{value_of};
 ghost use Rattle.sub_answer.specs.declared.answering.listen.ListenFault.TheVariants.{File};
 
@@ -65,7 +65,7 @@ impl From<CheckFault> for ListenFault {
 /// faults are still told. Nothing is printed before the last packet was heard.
 ///
 /// Where complete pages are asked for, what is printed is what is on its screen: a page comes onto
-/// it when a header of another page ends it.
+/// it when a header of another page ends it. Else it has no screen.
 ///
 /// A file is refused at the first PES packet that `check` would not read on at, and at a PES packet
 /// of which a page header, or a packet without an address, is lost.
@@ -77,7 +77,8 @@ pub fn print_listening<S: Source, K: Sink>(
     requires first { CanFail (S.failure_count pes.old) }
     requires out { CanFail (K.failure_count out.old) }
     // Where the source tells its bytes and does not fail, they are read as frames, and what is
-    // printed is the state of a receiver that heard what it gets of them, or the refusal.
+    // printed is the state of a receiver that heard what it gets of them, or the refusal. A source
+    // that fails is told at the PES packet within which it failed, after what was heard.
     ensures exact { AnswersListen listening.now
         (source_call S.remaining S.failure_count pes.old pes.new)
         (sink_call K.contents K.failure_count out.old out.new) result }
@@ -139,7 +140,8 @@ fn old_row() -> [u8; 40]
     [0x3F; 40]
 }
 
-// Lets a receiver with a screen hear what it hears of a file up to TIME.
+// Lets a receiver with a screen hear what it hears of a file up to TIME. Where no complete pages are
+// asked for, the screen is left as it is.
 fn hear_file<R: Receiver, S: Source>(
     receiver: &mut R,
     screen: &mut Option<Page>,
@@ -155,6 +157,8 @@ fn hear_file<R: Receiver, S: Source>(
         → Runs listening.now frames unread (R.tuned_to receiver.old)
         (display (R.state receiver.old) screen.old)
         (display (R.state receiver.new) screen.new) result) }
+    ensures failed { IfErr result (λ f. is_read f ≡ true
+        → FailsListening listening.now (S.remaining pes.old) (S.remaining pes.new) f) }
     ensures own { IfErr result (λ f. is_of_subtitles f ≡ false) }
     ensures count { CountsIf S.failure_count pes.old (failed is_read result) pes.new }
 {
@@ -185,8 +189,8 @@ fn hear_file<R: Receiver, S: Source>(
         number += units.len() as u64;
         least = frame + 1;
     }
-    // Not reached: the reader refuses a packet more than a day has frames.
-    Ok(())
+    // The reader refuses a packet more than a day has frames.
+    unreachable!()
 }
 
 // Prints the line of a fault.

@@ -10,18 +10,29 @@ ghost use Rattle.ttx_page.specs.Screen.{display};
 ghost use Rattle.sub_answer.specs.StateText.{display_text, open_line, page_text, row_line};
 ghost use Rattle.sub_answer.specs.StateText.{row_text, rows_text, seen_text};
 
-use crate::lines::{push_text, push_two_digits, shown};
+use crate::lines::{LINE_ROOM, push_text, push_two_digits, shown};
 use crate::printing::print;
 use crate::status::Status;
 use arrayvec::ArrayVec;
 use sub_io::Sink;
 use ttx_page::{Page, Receiver};
 
-// Room for the lines of 24 rows, 50 bytes each.
-type Rows = ArrayVec<u8, 1200>;
+// Room for the line of a row: 40 characters, and ten before and after them.
+const ROW_ROOM: usize = 50;
+
+// Room for the lines of 24 rows.
+const ROWS_ROOM: usize = 1200;
+
+const _: () = prove!(24 * ROW_ROOM <= ROWS_ROOM);
 
 // Room for these and the two lines before them.
-type Text = ArrayVec<u8, 1280>;
+const STATE_ROOM: usize = 1456;
+
+const _: () = prove!(2 * LINE_ROOM + ROWS_ROOM <= STATE_ROOM);
+
+type Rows = ArrayVec<u8, ROWS_ROOM>;
+
+type Text = ArrayVec<u8, STATE_ROOM>;
 
 /// Prints what a receiver has heard, and the page that it holds; where complete pages are asked
 /// for, the one that is on its screen.
@@ -66,7 +77,7 @@ fn push_state<R: Receiver>(
 
 // Appends the lines of the page that a receiver holds, or of its screen.
 fn push_seen<R: Receiver>(text: &mut Text, receiver: &R, screen: &Option<Page>, asks_complete: bool)
-    requires { array_vec_len text.old + 1200 ≤ 1280 }
+    requires { array_vec_len text.old + ROWS_ROOM ≤ STATE_ROOM }
     ensures { text.new.items ≡ text.old.items
         ++ seen_text asks_complete (display (R.state receiver.now) screen.now) }
 {
@@ -89,7 +100,7 @@ fn open_text(is_open: bool) -> &'static [u8]
 
 // Appends the lines of a page.
 fn push_page(text: &mut Text, page: &Page)
-    requires { array_vec_len text.old + 1200 ≤ 1280 }
+    requires { array_vec_len text.old + ROWS_ROOM ≤ STATE_ROOM }
     ensures { text.new.items ≡ text.old.items ++ page_text page.now }
 {
     let mut rows = Rows::new();
@@ -113,9 +124,9 @@ fn push_rows(rows: &mut Rows, page: &Page)
 
 // Appends the line of a row, if it holds a cell other than a space.
 fn push_row(rows: &mut Rows, row: u8, cells: &[u8; 40])
-    requires { array_vec_len rows.old + 50 ≤ 1200 }
+    requires { array_vec_len rows.old + ROW_ROOM ≤ ROWS_ROOM }
     ensures items { rows.new.items ≡ rows.old.items ++ row_text row cells.now }
-    ensures len { array_vec_len rows.new ≤ array_vec_len rows.old + 50 }
+    ensures len { array_vec_len rows.new ≤ array_vec_len rows.old + ROW_ROOM }
 {
     if !is_blank(cells) {
         push_row_line(rows, row, cells);
@@ -124,9 +135,9 @@ fn push_row(rows: &mut Rows, row: u8, cells: &[u8; 40])
 
 // Appends the line of a row.
 fn push_row_line(rows: &mut Rows, row: u8, cells: &[u8; 40])
-    requires { array_vec_len rows.old + 50 ≤ 1200 }
+    requires { array_vec_len rows.old + ROW_ROOM ≤ ROWS_ROOM }
     ensures items { rows.new.items ≡ rows.old.items ++ row_line row cells.now }
-    ensures len { array_vec_len rows.new ≡ array_vec_len rows.old + 50 }
+    ensures len { array_vec_len rows.new ≡ array_vec_len rows.old + ROW_ROOM }
 {
     push_text(rows, b"row ");
     push_two_digits(rows, row);
@@ -149,7 +160,7 @@ fn is_blank(cells: &[u8; 40]) -> bool
 
 // Appends the characters of cells.
 fn push_glyphs(rows: &mut Rows, cells: &[u8])
-    requires { array_vec_len rows.old + length cells.now ≤ 1200 }
+    requires { array_vec_len rows.old + length cells.now ≤ ROWS_ROOM }
     ensures items { rows.new.items ≡ rows.old.items ++ map glyph cells.now }
     ensures len { array_vec_len rows.new ≡ array_vec_len rows.old + length cells.now }
 {

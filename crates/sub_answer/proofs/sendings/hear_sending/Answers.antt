@@ -1,6 +1,5 @@
 -- A sending that is untouched and sent again leaves the receiver as it is: UntouchedLemmas.
 use Rattle.std.proofs.Common.{◌∙◌, ℕ, List, subst, sym}
-use Rattle.std.proofs.lemmas.Bool.{and_parts}
 use Rattle.std.proofs.lemmas.List.{length-map}
 use Rattle.ttx_packet.specs.PageId.{PageIdValue}
 use Rattle.ttx_page.specs.Screen.{display}
@@ -10,11 +9,14 @@ use Rattle.sub_answer.specs.Untouched.{BeginsErased, HeardLast}
 use Rattle.sub_answer.proofs.UntouchedLemmas.{heard_again, heard_now}
 use Rattle.sub_answer.proofs.sendings.hear_sending.Goals as goal
 
+pub returns-then-not-is_untouched-clause-run : goal.returns-then-not-is_untouched-clause-run
+returns-then-not-is_untouched-clause-run g c = λ last kept again. c.hear_units.ensures.run
+
 pub returns-then-kept-clause-run : goal.returns-then-kept-clause-run
 returns-then-kept-clause-run g c = λ last kept again.
     heard_again c.args.listening.now (g.R.Receiver.tuned_to c.args.receiver.now) c.args.number _
     (packets_of_units c.args.units.now)
-    (sym c.is_untouched-untouched.ensures ∙ c.if-untouched.true)
+    (sym c.is_untouched.ensures ∙ c.if-not-is_untouched.false)
     (length-map c.args.units.now (λ (u : UnitValue). u.packet)) _
     (subst (λ (ps : List (List ℕ)). HeardLast c.args.listening.now
     (g.R.Receiver.tuned_to c.args.receiver.now) ps
@@ -28,20 +30,32 @@ returns-then-kept-clause-kept g c = λ last kept again e.
     (display (g.R.Receiver.state c.args.receiver.now) c.args.screen.now))
     (again c.if-again.true) (kept c.if-kept.true)
 
-pub returns-clause-run : goal.returns-clause-run
-returns-clause-run g c = λ last kept again. c.hear_units.ensures.run
-
-pub returns-clause-kept : goal.returns-clause-kept
-returns-clause-kept g c = λ last kept again e.
-    let both = and_parts _ _ (sym c.is_kept.ensures ∙ e) in
-    let old = g.R.Receiver.tuned_to c.args.receiver.now in
-    let page = c.page.ensures.value in
-    subst (λ (w : PageIdValue). HeardLast c.args.listening.now w
+pub returns-then-again-2-clause-run : goal.returns-then-again-2-clause-run
+returns-then-again-2-clause-run g c = λ last kept again.
+    heard_now c.args.listening.now (g.R.Receiver.tuned_to c.args.receiver.now) c.args.number _
     (packets_of_units c.args.units.now)
-    (display (g.R.Receiver.state c.hear_units.new.receiver) c.hear_units.new.screen))
-    (sym c.hear_units.ensures.tuned)
-    (heard_now c.args.listening.now old c.args.number _ (packets_of_units c.args.units.now)
-    (sym c.is_untouched-untouched.ensures ∙ both.0)
-    (length-map c.args.units.now (λ (u : UnitValue). u.packet)) _ _ c.requires.tuned
-    (subst (λ (w : PageIdValue). BeginsErased w (packets_of_units c.args.units.now))
-    (page ∙ sym c.requires.tuned) (c.begins_erased.ensures both.1)) c.hear_units.ensures.run)
+    (sym c.is_untouched.ensures ∙ c.if-not-is_untouched.false)
+    (length-map c.args.units.now (λ (u : UnitValue). u.packet)) _ _ c.hear_untouched.ensures.run
+
+pub returns-else-again-2-clause-run : goal.returns-else-again-2-clause-run
+returns-else-again-2-clause-run g c = λ last kept again.
+    heard_now c.args.listening.now (g.R.Receiver.tuned_to c.args.receiver.now) c.args.number _
+    (packets_of_units c.args.units.now)
+    (sym c.is_untouched.ensures ∙ c.if-not-is_untouched.false)
+    (length-map c.args.units.now (λ (u : UnitValue). u.packet)) _ _ c.hear_untouched.ensures.run
+
+pub returns-then-again-2-clause-kept : goal.returns-then-again-2-clause-kept
+returns-then-again-2-clause-kept g c = λ last kept again e.
+    let l = c.args.listening.now in
+    let old = g.R.Receiver.tuned_to c.args.receiver.now in
+    let packets = packets_of_units c.args.units.now in
+    let d = display (g.R.Receiver.state c.hear_untouched.new.receiver) c.hear_untouched.new.screen in
+    let now : HeardLast l old packets d = record {
+      tuned = c.requires.tuned;
+      begins =
+          subst (λ (w : PageIdValue). BeginsErased w packets)
+          (c.page.ensures.value ∙ sym c.requires.tuned) (c.begins_erased.ensures e);
+      start = display (g.R.Receiver.state c.args.receiver.now) c.args.screen.now;
+      run = c.hear_untouched.ensures.run;
+    } in
+    subst (λ (w : PageIdValue). HeardLast l w packets d) (sym c.hear_untouched.ensures.tuned) now

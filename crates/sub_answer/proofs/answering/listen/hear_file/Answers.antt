@@ -1,19 +1,20 @@
 -- Each way out of the loop tells what the file is; by ListeningRunLemmas.
 use Rattle.std.proofs.Common.{◌+◌, ◌≤◌, ◌∙◌, List, Option, Result, Ok, ap, arith, length}
-use Rattle.std.proofs.Common.{refl, subst, sym, true, ◌≡◌}
+use Rattle.std.proofs.Common.{refl, rules, subst, sym, true, ◌≡◌}
 use Rattle.std.proofs.lemmas.Result.{err_from_is_err_and}
 use Rattle.ttx_packet.specs.PageId.{PageIdValue}
-use Rattle.ttx_page.specs.Screen.{Shows, display}
+use Rattle.ttx_page.specs.Screen.{display}
 use Rattle.ttx_pes.specs.DataUnit.{UnitValue}
 use Rattle.ttx_pes.specs.PesPacket.{PesValue}
+use Rattle.ttx_pes.proofs.TakenPackets.{takes-more, takes-none}
 use Rattle.sub_check.specs.PacketRules.{packets_of_units}
 use Rattle.sub_check.specs.declared.fault.CheckFault.{CheckFault}
 use Rattle.sub_check.specs.declared.sending.Sending.{Sending}
 use Rattle.sub_answer.specs.Untouched.{HeardLast}
-use Rattle.sub_answer.specs.Reception.{as_heard, first_lost_header, reception_of}
+use Rattle.sub_answer.specs.Reception.{RunsThrough, as_heard, first_lost_header, reception_of}
 use Rattle.sub_answer.proofs.ListeningRunLemmas.{Reaches, ends_at_end, ends_late, ends_lost}
-use Rattle.sub_answer.proofs.ListeningRunLemmas.{ends_order}
-use Rattle.sub_answer.proofs.ListeningRunLemmas.{ends_unread, reaches_next}
+use Rattle.sub_answer.proofs.ListeningRunLemmas.{ends_order, ends_unread, fails_listening}
+use Rattle.sub_answer.proofs.ListeningRunLemmas.{reaches_next, reaches_start}
 use Rattle.sub_answer.proofs.answering.listen.hear_file.Goals as goal
 
 pub returns-in_err-next-clause-exact : goal.returns-in_err-next-clause-exact
@@ -24,6 +25,29 @@ returns-in_err-next-clause-exact g c = λ frames unread bytes told reads fine.
     rw (p.1, p.2)
     (ends_unread c.args.listening.now frames unread _ _ c.loop-index.index _ _ _ _ i
     c.next_sending.new.reader.frame _ (c.in_err-next.ensures.exact i.rest i.rest_is known))
+
+pub loop-index-init : goal.loop-index-init
+loop-index-init g c = record {
+  reading = search rules;
+  day_packets = omega arith;
+  taken = takes-none _;
+  kept = λ e. cc;
+  failures = refl;
+  tuned = refl;
+  few = omega arith;
+  day = omega arith;
+  told = λ frames unread bytes told reads.
+      reaches_start c.args.listening.now frames unread _ _ bytes _ told reads;
+}
+
+pub returns-in_err-next-clause-failed : goal.returns-in_err-next-clause-failed
+returns-in_err-next-clause-failed g c =
+    let p = err_from_is_err_and c.from_residual.result c.from_residual.ensures.1 in
+    rw (p.1, p.2)
+    (fails_listening c.args.listening.now c.loop-index.index _ _ _ _ c.loop-index.invariant.taken
+    c.in_err-next.ensures.place c.in_err-next.ensures.within
+    (λ frames unread bytes told reads.
+    (c.loop-index.invariant.told frames unread bytes told reads).heard))
 
 pub returns-in_default-clause-exact : goal.returns-in_default-clause-exact
 returns-in_default-clause-exact g c = λ frames unread bytes told reads fine.
@@ -77,6 +101,7 @@ loop-index-preserved g c =
     c.units-units.ensures.frame.few in
     let given = ap (λ x. let r : Result (Option Sending) CheckFault = Ok x in r) c.in-Some.is in
     let day = c.in_ok-next.ensures.day c.in-Some.sending given in
+    let packets = c.in_ok-next.ensures.few c.in-Some.sending given in
     let rises = c.if-frame-least.false in
     let in_time = c.if-frame-listening.false in
     let l = c.args.listening.now in
@@ -89,13 +114,18 @@ loop-index-preserved g c =
     λ e. ap packets_of_units
     (sym (c.in_ok-next.ensures.again c.in-Some.sending given e) ∙ sym value) in
     let run =
-    subst (λ (us : List UnitValue). Shows (g.R.Receiver.tuned_to c.loop-index.receiver)
+    subst (λ (us : List UnitValue). RunsThrough l.options.asks_complete
+    (g.R.Receiver.tuned_to c.loop-index.receiver)
     (display (g.R.Receiver.state c.loop-index.receiver) c.loop-index.screen)
     (as_heard l c.loop-index.number (packets_of_units us))
     (display (g.R.Receiver.state c.hear_sending-kept.new.receiver) c.hear_sending-kept.new.screen)) value
     (c.hear_sending-kept.ensures.run last c.loop-index.invariant.kept again) in
     record {
       reading = c.in_ok-next.ensures.progress c.in-Some.sending given;
+      day_packets = omega (arith, packets);
+      taken =
+          takes-more c.loop-index.index _ _ _ _ c.loop-index.invariant.taken
+          (c.in_ok-next.ensures.taken c.in-Some.sending given);
       failures = omega (arith, counted, before);
       tuned = c.hear_sending-kept.ensures.tuned ∙ c.loop-index.invariant.tuned;
       few = omega (arith, few, units);
@@ -120,16 +150,9 @@ loop-index-preserved g c =
           (rw c.in-Some.is at (c.in_ok-next.ensures.exact i.rest i.rest_is refl)) _ _
           (omega (arith, rises)) (omega (arith, in_time)) whole
           (c.in_ok-next.ensures.left i.rest i.rest_is)
-          (subst (λ (w : PageIdValue). Shows w
+          (subst (λ (w : PageIdValue). RunsThrough l.options.asks_complete w
           (display (g.R.Receiver.state c.loop-index.receiver) c.loop-index.screen)
           (as_heard l c.loop-index.number (packets_of_units c.next_sending.new.reader.frame.units))
           (display (g.R.Receiver.state c.hear_sending-kept.new.receiver) c.hear_sending-kept.new.screen))
           c.loop-index.invariant.tuned run));
     }
-
-pub returns-clause-exact : goal.returns-clause-exact
-returns-clause-exact g c = λ frames unread bytes told reads fine.
-    let i = c.loop-index.invariant.told frames unread bytes told reads in
-    let few = i.few in
-    let past = c.loop-index-test.false in
-    absurd (omega (arith, few, past))

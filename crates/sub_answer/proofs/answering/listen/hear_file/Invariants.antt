@@ -1,6 +1,7 @@
 -- After so many PES packets the receiver ran through what it hears of their packets.
 use Rattle.std.proofs.Common.{◌≡◌, ◌*◌, ◌≤◌, true, ℕ, List, Option, Some}
 use Rattle.ttx_page.specs.Screen.{display}
+use Rattle.ttx_pes.specs.Reader.{TakesPackets}
 use Rattle.ttx_pes.specs.declared.progress.Progress.TheVariants.{Reading}
 use Rattle.sub_check.specs.FrameRules.{Unread}
 use Rattle.sub_check.specs.PacketRules.{packets_of_units}
@@ -13,6 +14,8 @@ use Rattle.sub_answer.proofs.answering.listen.hear_file.Given as goal
 abbrev pub invariant-loop-index : goal.invariant-loop-index
 invariant-loop-index g l = record {
   reading : l.reader.progress ≡ Reading l.index;
+  day_packets : l.index ≤ 2160000;
+  taken : TakesPackets l.index (g.S.Source.remaining l.fn.pes) (g.S.Source.remaining l.pes);
   kept :
       l.kept ≡ true
       → HeardLast l.listening (g.R.Receiver.tuned_to l.receiver)
