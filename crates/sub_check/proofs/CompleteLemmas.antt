@@ -58,7 +58,8 @@ module _ (options : OptionsValue) (t : Transmission)
             (λ m. gap.3) in
             let same : i - 1 + 1 ≡ i = omega (arith, gap.0) in
             let shut : is_open (packets_before t i) ≡ false =
-            ap (λ n. is_open (packets_before t n)) (sym same) ∙ ended (i - 1) (omega (arith, gap.1)) in
+            ap (λ n. is_open (packets_before t n)) (sym same)
+            ∙ ended (i - 1) (omega (arith, gap.1)) in
             ap (is_unended (kind options.page)) on
             ∙ ended_of (packets_before t i) shut
             (ap (holds_header (kind options.page)) (sym on) ∙ holds)

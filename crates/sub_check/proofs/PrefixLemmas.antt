@@ -96,7 +96,8 @@ whole-split t i k l h =
           (joined_more t i l ∙ ap (λ xs. packets_before t i ++ xs) cut
           ∙ sym (append_assoc (packets_before t i) (take k (packets_of_frame t i))
           (packet_at t i k ∷ drop (k + 1) (packets_of_frame t i))))
-          ∙ append_assoc (before t i k) (packet_at t i k ∷ drop (k + 1) (packets_of_frame t i)) front.0,
+          ∙ append_assoc (before t i k) (packet_at t i k ∷ drop (k + 1) (packets_of_frame t i))
+          front.0,
     )
 
 -- ---- frames

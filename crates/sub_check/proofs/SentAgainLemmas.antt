@@ -112,7 +112,8 @@ knows_alike b c s same k = record {
 }
 
 -- With the same header again, the first stays.
-same_first : (o : Option Header) (h : Header) → option_or o (Some h) ≡ option_or (option_or o (Some h)) (Some h)
+same_first : (o : Option Header) (h : Header)
+    → option_or o (Some h) ≡ option_or (option_or o (Some h)) (Some h)
 same_first None h = refl
 same_first (Some x) h = refl
 

@@ -76,9 +76,11 @@ module _ (g : Task) (p : ProgrammeValue) (every : ℕ) (task : IsTaskOf g p ever
     (watched_is : s.watched ≡ g.watched) where
   -- The page that is kept is what the packets show.
   kept_shown : (row column : ℕ) → IsCell row column
-      → cell s.comparison.page row column ≡ shown g.watched.page (packets_before frames n) row column
+      → cell s.comparison.page row column
+      ≡ shown g.watched.page (packets_before frames n) row column
   kept_shown row column is =
-      shown_is s.watched (span (kind s.watched.page) (packets_before frames n)) s.sent s.comparison.page
+      shown_is s.watched (span (kind s.watched.page) (packets_before frames n)) s.sent
+      s.comparison.page
       knows.rows_are row column is
       ∙ ap (λ w. shown w.page (packets_before frames n) row column) watched_is
 
@@ -123,7 +125,8 @@ module _ (g : Task) (frames : Transmission) (n : ℕ) (s : Listener)
       ≡ (g.watched.complete && is_open_after (kind g.watched.page) (packets_before frames n))
   left_open =
       ap (λ b. s.watched.complete && b) knows.open_is
-      ∙ ap (λ (w : Watched). w.complete && is_open_after (kind w.page) (packets_before frames n)) watched_is
+      ∙ ap (λ (w : Watched). w.complete && is_open_after (kind w.page) (packets_before frames n))
+      watched_is
 
   -- Where it is not open, the page is ended.
   pub ended_from : (s.watched.complete && s.is_open) ≡ false → IsEnded g frames n

@@ -74,6 +74,7 @@ returns-clause-knows c heard known =
       subst (λ m. KnowsLast (heard ++ ps) ps (record c.loop-k.self { last = m }))
           (sym c.last_headers-self.ensures)
           (kept_last w heard ps _ c.loop-k.headers c.loop-k.begins c.loop-k.self i.same knows
-          clean long count (λ e. subst (λ n. (0 < n) × (is_this_page (kind w.page (get_or ps 0 [])) ≡ true)) k (i.begins e))),
+          clean long count (λ e. subst
+          (λ n. (0 < n) × (is_this_page (kind w.page (get_or ps 0 [])) ≡ true)) k (i.begins e))),
       count,
     )
