@@ -3,7 +3,7 @@
 use Rattle.std.proofs.Common.{◌≡◌, ◌∙◌, ap, refl, sym, subst, arith, ℕ, zero, suc, ◌+◌, ◌-◌, ◌<◌}
 use Rattle.std.proofs.Common.{◌≤◌, ◌≢◌}
 use Rattle.std.proofs.Common.{List, [], ◌∷◌, ◌++◌, append_assoc, drop, length, inl, inr}
-use Rattle.std.proofs.Common.{Bool, true, false, Option, Some, None, Ok, Err}
+use Rattle.std.proofs.Common.{Bool, true, Option, Some, None, Ok, Err}
 use Rattle.std.specs.Io.KnownBytes.{Appends}
 use Rattle.std.proofs.KnownBytes.{Appends-nil, Appends-trans}
 use Rattle.sub_io.specs.Device.{AppendsPrefix}

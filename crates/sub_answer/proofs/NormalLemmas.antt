@@ -23,7 +23,7 @@ use Rattle.stl_file.proofs.FirstBytes.{outcome_of-first}
 use Rattle.sub_answer.specs.NormalWriting.{TellsRead, most_read, normal_of, normal_writing}
 use Rattle.sub_answer.specs.Writing.{Completes, written, written_line}
 use Rattle.sub_answer.specs.declared.answering.normal.InputFault.TheVariants as input
-use Rattle.sub_answer.specs.declared.status.Status.TheVariants.{Done, Refused}
+use Rattle.sub_answer.specs.declared.status.Status.TheVariants.{Done}
 
 -- ---- what was written
 
