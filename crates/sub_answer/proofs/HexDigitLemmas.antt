@@ -24,7 +24,8 @@ pub upper_ok : (v : List ℕ) → length v ≡ 16 → Each1 (Fits w8) v
     → SwzOk w8 16 16 0 (zip2 down v (replicate 16 4))
 upper_ok v long fits =
     let small =
-    Each1-weaker (λ a. a < 256) (λ a. a / 16 < 16) (λ a h. omega arith) v (below_from_Fits w8 v fits)
+    Each1-weaker (λ a. a < 256) (λ a. a / 16 < 16) (λ a h. omega arith) v
+    (below_from_Fits w8 v fits)
     in
     SwzOk-from_below w8 16 1 16 0 (zip2 down v (replicate 16 4)) refl
     (omega (arith, length-zip2 down v (replicate 16 4) long))

@@ -183,7 +183,8 @@ refused-not_ok (Ok a) refused done = cc
 refused-not_ok (Err f) refused done = status_of-not_done (check_kind f) done
 
 -- A source that failed gives a fault. For `stl_read-status`.
-load_read-status : (kind : LoadFaultKind) → is_read_kind kind ≡ true → status_of (load_kind kind) ≡ Fault
+load_read-status :
+    (kind : LoadFaultKind) → is_read_kind kind ≡ true → status_of (load_kind kind) ≡ Fault
 load_read-status (load.File stl.Read) is = refl
 load_read-status kind is = cc
 

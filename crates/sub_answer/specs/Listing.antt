@@ -113,8 +113,8 @@ PrintsOrFails old_count old new_count new listing status =
     ⊎ ((new_count ≡ old_count + 1) × AppendsPrefix old new listing.text × (status ≡ Fault))
 
 -- The outcome of reading a source is listed: where the source tells its bytes and did not fail,
--- these decide the outcome; where it was read to the end of the listing or failed, what was taken of
--- it does, also where it tells nothing. The source is known by the bytes that it told before and
+-- these decide the outcome; where it was read to the end of the listing or failed, what was taken
+-- of it does, also where it tells nothing. The source is known by the bytes that it told before and
 -- tells after.
 pub record Lists
     {Outcome : Type 0} (listing_of : Outcome → Listing) (given : List ℕ → Outcome)

@@ -144,7 +144,7 @@ pub fn read_input<A: Allocator + Drop, S: Source>(
             Ok(n) => len += n,
             Err(_) => {
                 return Err(InputFault::Read {
-                    block: block_of(len),
+                    block: block_of_byte(len),
                 });
             }
         }
@@ -154,7 +154,7 @@ pub fn read_input<A: Allocator + Drop, S: Source>(
 }
 
 // The block of the byte that stands after `len` bytes: 0 in the GSI block.
-fn block_of(len: usize) -> u32
+fn block_of_byte(len: usize) -> u32
     requires { len < most_read }
     ensures { result ≡ block_of_byte len }
 {

@@ -27,7 +27,7 @@ loop-len-preserved g c = record {
 pub returns-in-Err-clause-read : goal.returns-in-Err-clause-read
 returns-in-Err-clause-read g c =
     block-at _ _ _ c.loop-len.len _ c.loop-len.bytes.items c.loop-len.invariant.taken
-    c.in-Err.ensures.kept (search rules) c.block_of.ensures
+    c.in-Err.ensures.kept (search rules) c.block_of_byte.ensures
 
 pub returns-clause-bytes : goal.returns-clause-bytes
 returns-clause-bytes g c =

@@ -23,7 +23,8 @@ returns-in-Ok-Some-clause-gives g c =
     (λ failed. ReadsSubtitles failed c.args.self.now.reader.block)
     (λ failed. ReadsSubtitles failed new.block)
     (gives c.in-Ok-Some.subtitle new.block) _ _ c.push_subtitle.new.text.items
-    (λ o. ap (λ t. followed t (subtitles_listing (count + 1) o)) (sym c.push_subtitle.ensures.items))
+    (λ o. ap (λ t. followed t (subtitles_listing (count + 1) o))
+    (sym c.push_subtitle.ensures.items))
     (λ o failed end reads. (
       _,
       rw c.in-Ok-Some.field-0-is at (c.in-Ok-Some.ensures.subtitle c.requires.ready.0),
@@ -64,7 +65,8 @@ returns-in-Ok-None-clause-gives g c =
     c.push_decimal.ensures.items
     ∙ ap (λ (xs : List ℕ). xs ++ decimal c.from.result) c.requires.empty
     ∙ ap (λ (n : ℕ). decimal n) c.from.ensures in
-    let text = c.push_text.ensures.items ∙ ap (λ (xs : List ℕ). xs ++ codes " subtitles\n") number in
+    let text =
+    c.push_text.ensures.items ∙ ap (λ (xs : List ℕ). xs ++ codes " subtitles\n") number in
     record {
       outcome = ends;
       listing_is = same-listing _ _ _ _ text refl;
