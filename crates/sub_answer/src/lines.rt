@@ -110,7 +110,7 @@ pub fn push_text_digits<const N: usize>(line: &mut ArrayVec<u8, N>, text: &[u8])
 }
 
 /// The character of a cell's code.
-pub fn shown(code: u8) -> u8
+pub fn glyph(code: u8) -> u8
     ensures { result ≡ glyph code }
 {
     if code >= 0x20 && code <= 0x7E {
@@ -124,8 +124,7 @@ pub fn shown(code: u8) -> u8
 pub fn push_told<const N: usize>(line: &mut ArrayVec<u8, N>, told: &Told)
     requires few { length told.now.name.now ≤ 16 }
     requires room { array_vec_len line.old + LINE_ROOM ≤ N }
-    ensures items { line.new.items ≡ line.old.items ++ line_of (value_of told.now) }
-    ensures len { array_vec_len line.new ≤ array_vec_len line.old + LINE_ROOM }
+    ensures { line.new.items ≡ line.old.items ++ line_of (value_of told.now) }
 {
     push_text(line, text_of_kind(told.kind));
     push_decimal(line, u64::from(told.number));

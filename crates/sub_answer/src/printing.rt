@@ -1,5 +1,5 @@
 //! The last text that a command prints, and its status.
-ghost use Rattle.std.specs.Prelude.{◌≡◌};
+ghost use Rattle.std.specs.Prelude.{◌≡◌, ◌≢◌, ◌+◌};
 ghost use Rattle.sub_io.specs.Device.{CanFail};
 ghost use Rattle.sub_answer.specs.Listing.{CountsFault, Listing, PrintsOrFails};
 
@@ -18,6 +18,8 @@ pub fn print<K: Sink>(text: &[u8], status: Status, out: &mut K) -> Status
         (K.failure_count out.new) (K.contents out.new) listing result }
     ensures done { result ≡ Status.Done → status ≡ Status.Done }
     ensures fault { status ≡ Status.Fault → result ≡ Status.Fault }
+    ensures failed { result ≡ Status.Fault → status ≢ Status.Fault
+        → K.failure_count out.new ≡ K.failure_count out.old + 1 }
     ensures count { CountsFault (K.failure_count out.old) result (K.failure_count out.new) }
 {
     match put_all(out, text) {

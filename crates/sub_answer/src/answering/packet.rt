@@ -9,7 +9,7 @@ ghost use Rattle.sub_answer.specs.Lines.{text_line};
 ghost use Rattle.sub_answer.specs.Listing.{CountsFault, PrintsOrFails, packet_listing};
 ghost use Rattle.sub_answer.specs.Listing.{header_listing, row_listing};
 
-use crate::lines::{push_decimal, push_text, push_told, shown};
+use crate::lines::{glyph, push_decimal, push_text, push_told};
 use crate::printing::print;
 use crate::status::Status;
 use crate::told::{Kind, Place, Told};
@@ -216,8 +216,7 @@ fn push_name(names: &mut ArrayVec<u8, CONTROL_ROOM>, is_set: bool, name: &[u8])
 fn push_text_line(line: &mut Text, bytes: &[u8])
     requires short { length bytes.now ≤ 40 }
     requires room { array_vec_len line.old + TEXT_ROOM ≤ PACKET_ROOM }
-    ensures items { line.new.items ≡ line.old.items ++ text_line bytes.now }
-    ensures len { array_vec_len line.new ≤ array_vec_len line.old + TEXT_ROOM }
+    ensures { line.new.items ≡ line.old.items ++ text_line bytes.now }
 {
     push_text(line, b"text |");
     push_shown(line, bytes);
@@ -225,11 +224,11 @@ fn push_text_line(line: &mut Text, bytes: &[u8])
 }
 
 // The character of a text byte.
-fn shown_text(byte: u8) -> u8
+fn text_glyph(byte: u8) -> u8
     ensures { result ≡ text_glyph byte }
 {
     if is_odd(byte) {
-        shown(byte % 128)
+        glyph(byte % 128)
     } else {
         b'?'
     }
@@ -242,6 +241,6 @@ fn push_shown(line: &mut Text, bytes: &[u8])
     ensures len { array_vec_len line.new ≡ array_vec_len line.old + length bytes.now }
 {
     for byte in bytes {
-        line.push(shown_text(*byte));
+        line.push(text_glyph(*byte));
     }
 }

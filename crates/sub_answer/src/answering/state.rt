@@ -10,7 +10,7 @@ ghost use Rattle.ttx_page.specs.Screen.{display};
 ghost use Rattle.sub_answer.specs.StateText.{display_text, open_line, page_text, row_line};
 ghost use Rattle.sub_answer.specs.StateText.{row_text, rows_text, seen_text};
 
-use crate::lines::{LINE_ROOM, push_text, push_two_digits, shown};
+use crate::lines::{LINE_ROOM, glyph, push_text, push_two_digits};
 use crate::printing::print;
 use crate::status::Status;
 use arrayvec::ArrayVec;
@@ -165,6 +165,6 @@ fn push_glyphs(rows: &mut Rows, cells: &[u8])
     ensures len { array_vec_len rows.new ≡ array_vec_len rows.old + length cells.now }
 {
     for cell in cells {
-        rows.push(shown(*cell));
+        rows.push(glyph(*cell));
     }
 }

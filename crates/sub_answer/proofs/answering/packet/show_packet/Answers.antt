@@ -1,7 +1,6 @@
--- The text is that of the packet; by printed-failed.
+-- The text is that of the packet.
 use Rattle.std.proofs.Common.{◌≡◌, ◌∙◌, List, ℕ, ap, rules, sym}
 use Rattle.sub_answer.specs.Listing.{packet_listing}
-use Rattle.sub_answer.proofs.PrintingLemmas.{printed-failed}
 use Rattle.sub_answer.proofs.answering.packet.show_packet.Goals as goal
 
 pub returns-clause-printed : goal.returns-clause-printed
@@ -15,13 +14,4 @@ returns-clause-printed g c =
 
 pub returns-clause-fault : goal.returns-clause-fault
 returns-clause-fault g c = λ is.
-    let same : c.new.result ≡ c.args.bytes.now = search rules in
-    let status =
-    sym (c.push_packet-status.ensures.status
-    ∙ ap (λ (p : List ℕ). (packet_listing p).status) same) in
-    printed-failed _ _ _ _ (packet_listing c.args.bytes.now) _
-    (c.print.ensures.printed (packet_listing c.args.bytes.now)
-    (sym (c.as_slice.ensures.value ∙ c.push_packet-status.ensures.text
-    ∙ ap (λ (p : List ℕ). (packet_listing p).text) same))
-    status)
-    is (λ fault. c.push_packet-status.ensures.fine (sym status ∙ fault))
+    c.print.ensures.failed is c.push_packet-status.ensures.fine

@@ -9,7 +9,7 @@ returns-in-Err-clause-line g c =
     fault_line-loading c.args.self.now.national _ (g.S.Source.remaining c.load.new.source) _
     c.in-Err.fault.block c.in-Err.fault.kind _
     c.load_end.ensures
-    (c.push_told.ensures.items
+    (c.push_told.ensures
     ∙ ap (λ (xs : List ℕ). xs ++ line_of (value_of c.told_of_load.result)) c.requires.line
     ∙ ap line_of c.told_of_load.ensures.value)
     c.in-Err.ensures.fault c.in-Err.ensures.read
