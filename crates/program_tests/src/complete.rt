@@ -3,7 +3,8 @@ use fixtures::{CLOSING, HEAD, HEADER, ROW, TEN, block, file_of, file_of_hi, sche
 use std::alloc::Global;
 use std::process::Abort;
 use std::test::Fail;
-use sub_answer::{ReceiverKind, Request, Status, answer, say};
+use sub_answer::{Request, Status, answer, say};
+use sub_check::ReceiverKind;
 use sub_io::{MemSink, MemSource, Sink};
 use sub_words::{ParseWords, parse_receiver};
 use ttx_packet::Packet;

@@ -7,7 +7,8 @@ use crate::check::makers::{TEN, first_packets, options, push_pes, schedule_of_hi
 use std::alloc::Global;
 use std::process::Abort;
 use std::test::Fail;
-use sub_answer::{Flip, Listening, ReceiverKind, Request, Status};
+use sub_answer::{Request, Status};
+use sub_check::{Flip, Listening, ReceiverKind};
 use sub_io::{FailAt, MemSink, MemSource, Sink, Source};
 use sub_plan::Options;
 use sub_words::{parse_flips, parse_number, parse_numbers, parse_time};

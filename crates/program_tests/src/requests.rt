@@ -3,7 +3,8 @@ use crate::check::makers::options;
 use std::process::Abort;
 use std::test::Fail;
 use stl_rows::National;
-use sub_answer::{FileNames, Flip, ReceiverKind, Request};
+use sub_answer::{FileNames, Request};
+use sub_check::{Flip, ReceiverKind};
 use sub_plan::Options;
 use sub_words::ParseWords;
 

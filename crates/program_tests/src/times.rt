@@ -1,5 +1,5 @@
 //! Times and receivers as people write them.
-use sub_answer::ReceiverKind;
+use sub_check::ReceiverKind;
 use sub_words::{parse_receiver, parse_time};
 
 #[test]

@@ -2,8 +2,6 @@ pub mod PrintingLemmas
 pub mod WritingLemmas
 pub mod VerdictLemmas
 pub mod NormalLemmas
-pub mod ListeningRunLemmas
+pub mod ListenListingLemmas
 pub mod ListingLemmas
 pub mod HexDigitLemmas
-pub mod SentAgainLemmas
-pub mod UntouchedLemmas

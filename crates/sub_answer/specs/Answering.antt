@@ -21,12 +21,13 @@ use Rattle.sub_check.specs.declared.fault.CheckFault.TheVariants as check
 use Rattle.sub_answer.specs.CheckLines.{verdict}
 use Rattle.sub_answer.specs.DeviceCall.{SinkCall, SourceCall}
 use Rattle.sub_answer.specs.Listing.{Listing, PrintsOrFails, told_listing}
-use Rattle.sub_answer.specs.ListeningRun.{FailsListening, Listens, listen_told}
+use Rattle.sub_check.specs.ListeningRun.{FailsListening}
+use Rattle.sub_answer.specs.ListenListing.{Listens, listen_told}
 use Rattle.sub_answer.specs.Verdict.{IsAccepted, IsAnswer}
 use Rattle.sub_answer.specs.Writing.{PrintsMemory, Works, Writing, end_status, is_read_end}
 use Rattle.sub_answer.specs.Writing.{is_write_end}
-use Rattle.sub_answer.specs.declared.answering.listen.ListenFault.{ListenFault}
-use Rattle.sub_answer.specs.declared.listening.Listening.{Listening}
+use Rattle.sub_check.specs.declared.listening_run.ListenFault.{ListenFault}
+use Rattle.sub_check.specs.declared.listening.Listening.{Listening}
 use Rattle.sub_answer.specs.declared.request.Request.{Request}
 use Rattle.sub_answer.specs.declared.request.Request.TheVariants as ask
 use Rattle.sub_answer.specs.declared.status.Status.{Status}

@@ -8,10 +8,8 @@ pub mod DeviceCall
 pub mod CheckLines
 pub mod Verdict
 pub mod NormalWriting
-pub mod Reception
-pub mod Untouched
 pub mod StateText
-pub mod ListeningRun
+pub mod ListenListing
 pub mod PacketsListing
 pub mod ShowListing
 pub mod Files

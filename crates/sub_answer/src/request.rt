@@ -1,8 +1,8 @@
 //! What the program is asked for, and why it can't be asked so.
 ghost use Rattle.std.specs.Prelude.{◌≡◌, ◌≤◌, length};
 
-use crate::listening::Listening;
 use stl_rows::National;
+use sub_check::Listening;
 use sub_plan::Options;
 use thiserror::Error;
 

@@ -38,3 +38,6 @@ pub mod PlanLemmas
 pub mod PlanReading
 pub mod PesFileLemmas
 pub mod ContentLemmas
+pub mod HeardAgainLemmas
+pub mod UntouchedLemmas
+pub mod ListeningRunLemmas

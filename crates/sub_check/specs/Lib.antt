@@ -26,3 +26,6 @@ pub mod ScreenExamples
 pub mod WrongContent
 pub mod CheckedFiles
 pub mod Fault
+pub mod Reception
+pub mod Untouched
+pub mod ListeningRun

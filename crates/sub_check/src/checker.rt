@@ -24,7 +24,7 @@ use sub_plan::Options;
 use ttx_pes::{ComparingReader, PesFault};
 
 /// The PES packets of a file at most: one for each frame of a day.
-const MOST_PACKETS: u32 = 2_160_000;
+pub(crate) const MOST_PACKETS: u32 = 2_160_000;
 
 /// What an accepted transmission holds.
 #[derive(Clone, Copy, Debug, PartialEq, Eq)]

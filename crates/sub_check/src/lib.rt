@@ -19,10 +19,14 @@ mod examples;
 mod fault;
 mod files;
 mod frame_rules;
+mod hearing;
 mod laws;
 mod listener;
+mod listening;
+mod listening_run;
 mod on_screen;
 mod packet_rules;
+mod reception;
 mod recovery;
 mod screen_examples;
 mod sending;
@@ -38,10 +42,11 @@ pub use laws::{
     law_of_plan_read, law_of_repeats, law_of_rules, law_of_sent_again, law_of_spans_by_packet,
     law_of_sufficient_parts, law_of_window,
 };
+pub use listening::{Flip, Listening, ReceiverKind};
+pub use listening_run::{ListenFault, listen};
 pub use on_screen::{
     law_of_complete_plan, law_of_good_and_complete, law_of_good_dropping_and_complete,
 };
 pub use packet_rules::{PacketRule, Watched};
 pub use recovery::{law_of_good_and_recovery, law_of_good_dropping_and_recovery};
 pub use screen_examples::{example_of_no_end, examples_of_screens};
-pub use sending::{Sending, next_sending};

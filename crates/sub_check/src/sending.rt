@@ -17,7 +17,7 @@ use ttx_pes::{Compared, ComparingReader, PesFault, PesFrame, Unit};
 
 /// What is sent in a frame: the packets of one PES packet.
 #[derive(Clone, Copy, Debug, PartialEq, Eq)]
-pub struct Sending {
+pub(crate) struct Sending {
     /// The frame of the day.
     pub frame: u32,
     /// Its packets are those of the PES packet before, byte for byte.
@@ -32,7 +32,7 @@ pub struct Sending {
 /// # Errors
 ///
 /// `Pes` with the fault of the packet, `OffFrame` where its PTS is that of no frame of the day.
-pub fn next_sending<S: Source>(
+pub(crate) fn next_sending<S: Source>(
     reader: &mut ComparingReader,
     source: &mut S,
     options: &Options,

@@ -10,8 +10,8 @@ use Rattle.stl_rows.specs.declared.national.National.TheVariants.{English, Germa
 use Rattle.sub_plan.specs.Options.{OptionsValue}
 use Rattle.sub_words.specs.Texts.{flips_of_text, frame_of_text, number_of_text, numbers_of_text}
 use Rattle.sub_words.specs.Texts.{receiver_of_text}
-use Rattle.sub_answer.specs.declared.listening.Flip.{Flip}
-use Rattle.sub_answer.specs.declared.listening.ReceiverKind.{ReceiverKind}
+use Rattle.sub_check.specs.declared.listening.Flip.{Flip}
+use Rattle.sub_check.specs.declared.listening.ReceiverKind.{ReceiverKind}
 use Rattle.sub_answer.specs.declared.request.UsageFault.{UsageFault}
 use Rattle.sub_answer.specs.declared.request.UsageFault.TheVariants as fault
 

@@ -11,7 +11,7 @@ use Rattle.sub_words.specs.Arguments.{checking_of, flips_of, is_given, lost_of, 
 use Rattle.sub_words.specs.Arguments.{options_of, receiver_of, skip_of, argument, time_of}
 use Rattle.sub_words.specs.Arguments.{tuning_of}
 use Rattle.sub_words.specs.Commands.{are_sound, command_in, clap_refusals}
-use Rattle.sub_answer.specs.declared.listening.Listening.{Listening}
+use Rattle.sub_check.specs.declared.listening.Listening.{Listening}
 use Rattle.sub_answer.specs.declared.request.Request.{Request}
 use Rattle.sub_answer.specs.declared.request.Request.TheVariants as ask
 use Rattle.sub_answer.specs.declared.request.UsageFault.{UsageFault}

@@ -7,7 +7,7 @@ ghost use Rattle.sub_words.specs.Texts.{flips_of_text, is_same_byte};
 use crate::lists::{Item, parse_list};
 use crate::numbers::parse_number;
 use std::alloc::{AllocError, Allocator};
-use sub_answer::Flip;
+use sub_check::Flip;
 
 /// The flips of a list: 1 to 64 of them joined by commas, each as `P:B:K`, and no two in one byte.
 ///

@@ -12,7 +12,8 @@ use crate::numbers::{parse_number, parse_numbers};
 use crate::times::{parse_receiver, parse_time};
 use clap::ArgMatches;
 use std::alloc::Global;
-use sub_answer::{Flip, Listening, ReceiverKind, UsageFault};
+use sub_answer::UsageFault;
+use sub_check::{Flip, Listening, ReceiverKind};
 use sub_plan::Options;
 
 /// What a receiver is to hear.

@@ -3,7 +3,7 @@ ghost use Rattle.std.specs.Prelude.{◌≡◌, ◌+◌, ◌<◌, ◌≤◌, IfSo
 ghost use Rattle.sub_words.specs.Texts.{frame_of_text, receiver_of_text, two_digits_at};
 
 use stl_file::TimeCode;
-use sub_answer::ReceiverKind;
+use sub_check::ReceiverKind;
 
 /// The receiver that a text names: `blank`, `keep` or `drop`.
 #[tactic(auto, unfolding(crate::specs::Texts::receiver_of_text))]

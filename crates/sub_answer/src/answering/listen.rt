@@ -1,60 +1,26 @@
 //! `listen PES`: runs one receiver over the PES packets of a file.
-ghost use Rattle.std.specs.Prelude.{◌≡◌, ℕ, ◌+◌, ◌*◌, ◌≤◌, ◌<◌, ◌++◌, IfErr, Option, length};
-ghost use Rattle.std.specs.Prelude.{false, if◌then◌else◌, slice_index, true};
-ghost use Rattle.sub_io.specs.Device.{CanFail, CountsIf, failed};
-ghost use Rattle.arrayvec.specs.ArrayVec.{array_vec_len};
-ghost use Rattle.sub_io.specs.Reading.{IfTold};
+ghost use Rattle.std.specs.Prelude.{◌≡◌, ℕ, ◌+◌, ◌*◌, ◌≤◌, ◌<◌, length};
+ghost use Rattle.std.specs.Prelude.{false, slice_index, true};
+ghost use Rattle.sub_io.specs.Device.{CanFail};
 ghost use Rattle.ttx_page.specs.Page.{AreCodes};
-ghost use Rattle.ttx_page.specs.Screen.{display};
-ghost use Rattle.sub_check.specs.FrameRules.{Unread};
-ghost use Rattle.sub_check.specs.PesReading.{ReadsAs};
-ghost use Rattle.sub_check.specs.Transmission.{Transmission};
 ghost use Rattle.sub_answer.specs.Answering.{AnswersListen};
 ghost use Rattle.sub_answer.specs.DeviceCall.{sink_call, source_call};
 ghost use Rattle.sub_answer.specs.Listing.{CountsFault, PrintsOrFails, told_listing};
-ghost use Rattle.sub_answer.specs.ListeningRun.{FailsListening, IsOldPage, Runs, is_of_subtitles};
-ghost use Rattle.sub_answer.specs.ListeningRun.{is_read, listen_told};
+ghost use Rattle.sub_check.specs.ListeningRun.{is_of_subtitles};
+ghost use Rattle.sub_answer.specs.ListenListing.{IsOldPage};
+ghost use Rattle.sub_check.specs.ListeningRun.{is_read};
+ghost use Rattle.sub_answer.specs.ListenListing.{listen_told};
 ghost use Rattle.sub_answer.specs.Told.{value_of};
-ghost use Rattle.sub_answer.specs.declared.answering.listen.ListenFault.TheVariants.{File};
 
 use crate::answering::state::print_state;
 use crate::faults::told_of_check;
 use crate::lines::{Line, push_told};
-use crate::listening::{Listening, ReceiverKind};
 use crate::printing::print;
-use crate::reception::first_lost_header;
-use crate::sendings::hear_sending;
 use crate::status::Status;
 use crate::told::{Kind, Place, Told};
-use sub_check::{CheckFault, next_sending};
+use sub_check::{ListenFault, Listening, ReceiverKind, listen};
 use sub_io::{Sink, Source};
 use ttx_page::{Blank, Keep, Page, Receiver};
-use ttx_pes::ComparingReader;
-
-/// The PES packets of a file at most: one for each frame of a day.
-const MOST_PACKETS: u32 = 2_160_000;
-
-/// Why a PES file is not heard.
-#[derive(Clone, Copy, Debug, PartialEq, Eq)]
-pub enum ListenFault {
-    /// It is not read on, or a frame is not after the one before: what `check` tells of it.
-    File(CheckFault),
-    /// 76: a packet that is listed as lost is a page header, or has no address.
-    LostHeader {
-        /// The frame of the day.
-        frame: u32,
-        /// The packet, counted from 0 among the Teletext units of its PES packet.
-        packet: u32,
-    },
-}
-
-impl From<CheckFault> for ListenFault {
-    ghost from_gives = { λ fault e. e ≡ File fault };
-
-    fn from(fault: CheckFault) -> ListenFault {
-        ListenFault::File(fault)
-    }
-}
 
 /// Runs a receiver over the PES packets of a file up to TIME, and prints what it has heard and
 /// shows.
@@ -90,13 +56,13 @@ pub fn print_listening<S: Source, K: Sink>(
 {
     match listening.receiver {
         // One that drops rows hears none with a byte of even parity.
-        ReceiverKind::Keep | ReceiverKind::DropRow => listen::<Keep, S, K>(pes, listening, out),
-        ReceiverKind::Blank => listen::<Blank, S, K>(pes, listening, out),
+        ReceiverKind::Keep | ReceiverKind::DropRow => print_run::<Keep, S, K>(pes, listening, out),
+        ReceiverKind::Blank => print_run::<Blank, S, K>(pes, listening, out),
     }
 }
 
-// Listens with a receiver of either kind.
-fn listen<R: Receiver + Drop, S: Source, K: Sink>(
+// Prints what a receiver of either kind has heard and shows.
+fn print_run<R: Receiver + Drop, S: Source, K: Sink>(
     pes: &mut S,
     listening: &Listening,
     out: &mut K,
@@ -114,7 +80,7 @@ fn listen<R: Receiver + Drop, S: Source, K: Sink>(
 {
     let mut receiver = R::tune(listening.options.page(), old_page());
     let mut screen = None;
-    match hear_file(&mut receiver, &mut screen, pes, listening) {
+    match listen(&mut receiver, &mut screen, pes, listening) {
         Ok(()) => print_state(&receiver, &screen, listening.options.asks_complete(), out),
         Err(fault) => print_fault(&fault, out),
     }
@@ -138,59 +104,6 @@ fn old_row() -> [u8; 40]
     ensures value { (column : ℕ) → column < 40 → slice_index result column ≡ 0x3F }
 {
     [0x3F; 40]
-}
-
-// Lets a receiver with a screen hear what it hears of a file up to TIME. Where no complete pages are
-// asked for, the screen is left as it is.
-fn hear_file<R: Receiver, S: Source>(
-    receiver: &mut R,
-    screen: &mut Option<Page>,
-    pes: &mut S,
-    listening: &Listening,
-) -> Result<(), ListenFault>
-    requires count { CanFail (S.failure_count pes.old) }
-    requires tuned { R.tuned_to receiver.old ≡ listening.now.options.page }
-    ensures exact { (frames : Transmission) (unread : Option Unread)
-        → IfTold (S.remaining pes.old) (λ bytes.
-        ReadsAs listening.now.options.origin 0 bytes frames unread
-        → failed is_read result ≡ false
-        → Runs listening.now frames unread (R.tuned_to receiver.old)
-        (display (R.state receiver.old) screen.old)
-        (display (R.state receiver.new) screen.new) result) }
-    ensures failed { IfErr result (λ f. is_read f ≡ true
-        → FailsListening listening.now (S.remaining pes.old) (S.remaining pes.new) f) }
-    ensures own { IfErr result (λ f. is_of_subtitles f ≡ false) }
-    ensures count { CountsIf S.failure_count pes.old (failed is_read result) pes.new }
-{
-    let mut reader = ComparingReader::new();
-    let mut least = 0;
-    let mut number = 0u64;
-    let mut kept = false;
-    for index in 0..=MOST_PACKETS {
-        let next = next_sending(&mut reader, pes, &listening.options, index)?;
-        let Some(sending) = next else {
-            return Ok(());
-        };
-        let frame = sending.frame;
-        if frame < least {
-            let fault = CheckFault::Order { pes: index };
-            return Err(ListenFault::File(fault));
-        }
-        if frame > listening.at {
-            return Ok(());
-        }
-        let packet = reader.frame();
-        let units = packet.units();
-        if let Some(packet) = first_lost_header(listening, number, units) {
-            return Err(ListenFault::LostHeader { frame, packet });
-        }
-        let again = sending.again;
-        kept = hear_sending(receiver, screen, listening, number, units, again, kept);
-        number += units.len() as u64;
-        least = frame + 1;
-    }
-    // The reader refuses a packet more than a day has frames.
-    unreachable!()
 }
 
 // Prints the line of a fault.

@@ -1,9 +1,9 @@
 -- The line is that of the fault; its status: `listen_told-not_fault`, `listen_told-source`.
 use Rattle.std.proofs.Common.{◌≡◌, ◌∙◌, ap, arith, rules, sym}
 use Rattle.sub_answer.specs.Listing.{told_listing}
-use Rattle.sub_answer.specs.ListeningRun.{listen_told}
+use Rattle.sub_answer.specs.ListenListing.{listen_told}
 use Rattle.sub_answer.specs.Told.{line_of, status_of}
-use Rattle.sub_answer.proofs.ListeningRunLemmas.{listen_told-not_fault, listen_told-source}
+use Rattle.sub_answer.proofs.ListenListingLemmas.{listen_told-not_fault, listen_told-source}
 use Rattle.sub_answer.proofs.PrintingLemmas.{printed-failed, printed-fault}
 use Rattle.sub_answer.proofs.answering.listen.print_fault.Goals as goal
 

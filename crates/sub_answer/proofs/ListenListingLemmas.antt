@@ -1,0 +1,76 @@
+-- What is told of a fault of a run, and what is printed of one.
+use Rattle.std.proofs.Common.{◌≡◌, ◌≢◌, ap, refl, subst, arith, ℕ, ◌+◌}
+use Rattle.std.proofs.Common.{Bool, true, false}
+use Rattle.std.proofs.Common.{Option, Result}
+use Rattle.std.proofs.Common.{if◌then◌else◌}
+use Rattle.ttx_packet.specs.PageId.{PageIdValue}
+use Rattle.ttx_page.specs.Screen.{Display}
+use Rattle.ttx_pes.specs.declared.fault.PesFault.TheVariants as pes
+use Rattle.sub_check.specs.FrameRules.{Unread}
+use Rattle.sub_check.specs.Transmission.{Transmission}
+use Rattle.sub_check.specs.declared.fault.CheckFault.TheVariants as check
+use Rattle.sub_check.specs.ListeningRun.{Runs}
+use Rattle.sub_check.specs.ListeningRun.{is_of_subtitles}
+use Rattle.sub_answer.specs.ListenListing.{IsOldPage, Listens, listen_told, listing_of}
+use Rattle.sub_check.specs.ListeningRun.{is_read}
+use Rattle.sub_answer.specs.ListenListing.{tuned_with}
+use Rattle.sub_answer.specs.Told.{status_of}
+use Rattle.ttx_page.specs.Page.{Rows}
+use Rattle.sub_check.specs.declared.listening_run.ListenFault.{ListenFault}
+use Rattle.sub_check.specs.declared.listening_run.ListenFault.TheVariants as fault
+use Rattle.sub_check.specs.declared.listening.Listening.{Listening}
+use Rattle.sub_answer.specs.declared.status.Status.TheVariants.{Fault}
+
+-- A fault of neither file's source nor of a subtitle file is a refusal. For `print_fault`.
+pub listen_told-not_fault : (f : ListenFault)
+    → is_read f ≡ false
+    → is_of_subtitles f ≡ false
+    → status_of (listen_told f).kind ≢ Fault
+listen_told-not_fault (fault.File (check.Subtitles f)) fine own is = cc
+listen_told-not_fault (fault.File (check.Pes index pes.Read)) fine own is = cc
+listen_told-not_fault f fine own is = cc
+
+-- The fault of a source that failed has the status `Fault`. For `print_fault`.
+pub listen_told-source : (f : ListenFault)
+    → is_read f ≡ true
+    → status_of (listen_told f).kind ≡ Fault
+listen_told-source (fault.File (check.Pes index pes.Read)) failed = refl
+listen_told-source f failed = cc
+
+-- a count that did not rise
+pub did_not_rise : (b : Bool) (old new : ℕ)
+    → new ≡ old + (if b then 1 else 0)
+    → new ≡ old
+    → b ≡ false
+did_not_rise true old new counted same = absurd (omega (arith, counted, same))
+did_not_rise false old new counted same = refl
+
+-- a count that rose
+pub did_rise : (b : Bool) (old new : ℕ)
+    → new ≡ old + (if b then 1 else 0)
+    → new ≢ old
+    → b ≡ true
+did_rise true old new counted other = refl
+did_rise false old new counted other = absurd (other (omega (arith, counted)))
+
+-- what is printed of a run of a receiver that was tuned. For `listen`.
+pub listens_from : (l : Listening) (frames : Transmission) (unread : Option Unread)
+    → (w : PageIdValue) (old end : Display) (result : Result (Unit {0}) ListenFault) (page : Rows)
+    → (asks_complete : Bool)
+    → asks_complete ≡ l.options.asks_complete
+    → w ≡ l.options.page
+    → old ≡ tuned_with page
+    → IsOldPage page
+    → Runs l frames unread w old end result
+    → Listens l frames unread (listing_of asks_complete end result)
+listens_from l frames unread w old end result page asks_complete asks tuned start is_old runs =
+    record {
+      old_page = page;
+      is_old = is_old;
+      end = end;
+      result = result;
+      runs =
+          subst (λ (d : Display). Runs l frames unread l.options.page d end result) start
+          (subst (λ (u : PageIdValue). Runs l frames unread u old end result) tuned runs);
+      listing_is = ap (λ b. listing_of b end result) asks;
+    }

@@ -1,0 +1,146 @@
+-- What is received of packets that are untouched, and what becomes of a receiver that heard them
+-- before: `heard_now`, `heard_again`.
+use Rattle.std.proofs.Common.{◌≡◌, ◌∙◌, ap, ap₂, refl, sym, arith, ℕ, ◌+◌, ◌<◌, ◌≤◌, true}
+use Rattle.std.proofs.Common.{false, ◌&&◌, not, ◌==◌, nat_le, List, [], ◌∷◌, length}
+use Rattle.std.proofs.Common.{filter, is_some, subst}
+use Rattle.std.specs.List.{list_any}
+use Rattle.std.proofs.lemmas.Bool.{and_from, and_left, and_parts, cond-false, cond-true}
+use Rattle.std.proofs.lemmas.Bool.{le-leb, leb-true, lt-ltb, ne_eqb, not-true, or_parts, true≢false}
+use Rattle.sub_check.specs.Reception.{Reception, RunsThrough, as_received, is_flip_of}
+use Rattle.sub_check.specs.Reception.{is_heard, is_taken, as_heard}
+use Rattle.sub_check.specs.Reception.{reception_of}
+use Rattle.sub_check.specs.Untouched.{ErasesPageAt, HeardLast, is_untouched}
+use Rattle.sub_check.specs.Untouched.{is_in_range}
+use Rattle.sub_check.specs.Reception.{with_flip, with_flips}
+use Rattle.ttx_packet.specs.PageId.{PageIdValue}
+use Rattle.ttx_packet.specs.RowPacket.{first_even_byte}
+use Rattle.ttx_page.specs.PacketKind.{is_some_row}
+use Rattle.ttx_page.specs.Screen.{Display}
+use Rattle.sub_check.proofs.HeardAgainLemmas.{runs_again}
+use Rattle.sub_check.specs.declared.listening.Flip.{Flip}
+use Rattle.sub_check.specs.declared.listening.Listening.{Listening}
+use Rattle.sub_check.specs.declared.listening.ReceiverKind.{ReceiverKind}
+use Rattle.sub_check.specs.declared.listening.ReceiverKind.TheVariants.{Keep, Blank, DropRow}
+
+-- A number from the first one on, before the end, is within.
+within : (first end m : ℕ) → first ≤ m → m < end → is_in_range first end m ≡ true
+within first end m low high = and_from _ _ (le-leb first m low) (lt-ltb m end high)
+
+-- Another number than one that is within.
+is_other : (first end n m : ℕ)
+    → is_in_range first end n ≡ false
+    → first ≤ m
+    → m < end
+    → (n == m) ≡ false
+is_other first end n m out low high =
+    ne_eqb n m
+    (λ e. true≢false
+    (sym (within first end m low high) ∙ ap (is_in_range first end) (sym e) ∙ out))
+
+-- Where none of the numbers is within, none is that of a packet within.
+none_lost : (lost : List ℕ) (first end m : ℕ)
+    → list_any (is_in_range first end) lost ≡ false
+    → first ≤ m
+    → m < end
+    → list_any (λ n. n == m) lost ≡ false
+none_lost [] first end m out low high = refl
+none_lost (n ∷ lost) first end m out low high =
+    let parts = or_parts (is_in_range first end n) (list_any (is_in_range first end) lost) out in
+    rw (is_other first end n m parts.0 low high) (none_lost lost first end m parts.1 low high)
+
+-- And where no flip is, none changes a packet within.
+none_flipped : (flips : List Flip) (first end m : ℕ) (packet : List ℕ)
+    → list_any (λ (f : Flip). is_in_range first end f.packet) flips ≡ false
+    → first ≤ m
+    → m < end
+    → with_flips flips m packet ≡ packet
+none_flipped [] first end m packet out low high = refl
+none_flipped (f ∷ flips) first end m packet out low high =
+    let parts =
+    or_parts (is_in_range first end f.packet)
+    (list_any (λ (g : Flip). is_in_range first end g.packet) flips) out in
+    let other : is_flip_of f m ≡ false =
+    and_left _ _
+    (and_left _ _ (and_left _ _ (is_other first end f.packet m parts.0 low high))) in
+    let same : with_flip f m packet ≡ packet = cond-false _ _ _ other in
+    ap (λ (p : List ℕ). with_flips flips m p) same
+    ∙ none_flipped flips first end m packet parts.1 low high
+
+module _
+    (r : Reception) (first end : ℕ)
+    (skip : nat_le r.skip first ≡ true)
+    (kept : list_any (is_in_range first end) r.lost ≡ false)
+    (clean : list_any (λ (f : Flip). is_in_range first end f.packet) r.flips ≡ false)
+  where
+    -- Packets within are received as they are.
+    all_received : (m : ℕ) (packets : List (List ℕ))
+        → first ≤ m
+        → m + length packets ≤ end
+        → as_received r m packets ≡ packets
+    all_received m [] low high = refl
+    all_received m (p ∷ ps) low high =
+        let below : m < end = omega arith in
+        let past : nat_le r.skip m ≡ true =
+        le-leb r.skip m (let s = leb-true r.skip first skip in omega arith) in
+        let heard : is_heard r m ≡ true =
+        and_from _ _ past (ap not (none_lost r.lost first end m kept low below)) in
+        cond-true _ _ _ heard
+        ∙ ap₂ (λ (x : List ℕ) (xs : List (List ℕ)). x ∷ xs)
+        (none_flipped r.flips first end m p clean low below)
+        (all_received (m + 1) ps (omega arith) (omega arith))
+
+-- Packets that are untouched are received as they are.
+received_untouched : (r : Reception) (number count : ℕ) (packets : List (List ℕ))
+    → is_untouched r number count ≡ true
+    → length packets ≡ count
+    → as_received r number packets ≡ packets
+received_untouched r number count packets is long =
+    let b = and_parts (nat_le r.skip number && not (list_any (is_in_range number (number + count)) r.lost)) _ is in
+    let a = and_parts (nat_le r.skip number) _ b.0 in
+    let kept = not-true _ a.1 in
+    let clean = not-true _ b.1 in
+    all_received r number (number + count) a.0 kept clean number packets (omega arith) (omega arith)
+
+-- A header of the page is no row, which alone may be dropped.
+is_taken_at : (kind_of : ReceiverKind) (w : PageIdValue) (packet : List ℕ)
+    → ErasesPageAt w packet
+    → is_taken kind_of w packet ≡ true
+is_taken_at Keep w packet e = refl
+is_taken_at Blank w packet e = refl
+is_taken_at DropRow w packet e =
+    ap not (and_left _ (is_some (first_even_byte packet)) (ap is_some_row e.kind_is))
+
+module _
+    (l : Listening) (w : PageIdValue) (number count : ℕ) (packets : List (List ℕ))
+    (is : is_untouched (reception_of l) number count ≡ true) (long : length packets ≡ count)
+  where
+    -- What is heard of them does not depend on their numbers.
+    heard_is : as_heard l number packets ≡ filter (is_taken l.receiver l.options.page) packets
+    heard_is =
+        ap (filter (is_taken l.receiver l.options.page))
+        (received_untouched (reception_of l) number count packets is long)
+
+    -- A receiver that heard them as they are heard what it hears of them.
+    pub heard_now : (old now : Display)
+        → RunsThrough l.options.asks_complete w old
+        (filter (is_taken l.receiver l.options.page) packets) now
+        → RunsThrough l.options.asks_complete w old (as_heard l number packets) now
+    heard_now old now run =
+        subst (λ ps. RunsThrough l.options.asks_complete w old ps now) (sym heard_is) run
+
+    -- One that heard them before may be left as it is.
+    pub heard_again : (now : Display)
+        → HeardLast l w packets now
+        → RunsThrough l.options.asks_complete w now (as_heard l number packets) now
+    heard_again now h =
+        let asks = l.options.asks_complete in
+        let b = h.begins in
+        let taken = is_taken l.receiver l.options.page in
+        let kept : filter taken packets ≡ b.first ∷ filter taken b.others =
+        ap (filter taken) b.packets_are
+        ∙ cond-true (taken b.first) (b.first ∷ filter taken b.others) (filter taken b.others)
+        (is_taken_at l.receiver l.options.page b.first
+        (subst (λ v. ErasesPageAt v b.first) h.tuned b.erases)) in
+        subst (λ ps. RunsThrough asks w now ps now) (sym (heard_is ∙ kept))
+        (runs_again asks w b.first (filter taken b.others) h.start now b.erases
+        (subst (λ ps. RunsThrough asks w h.start ps now) kept h.run))

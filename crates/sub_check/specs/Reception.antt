@@ -1,0 +1,89 @@
+-- What a receiver gets of the packets of a file: some are passed over, some are lost, and bits are
+-- flipped (own); and what it hears of that. Packets are numbered from 0 over the whole file.
+use Rattle.std.specs.Prelude.{ℕ, ◌+◌, ◌-◌, ◌^◌, Bool, true, false, not, ◌&&◌, List, [], ◌∷◌}
+use Rattle.std.specs.Prelude.{Option, Some, None, option_map, bit_xor, slice_index, slice_set}
+use Rattle.std.specs.Prelude.{if◌then◌else◌, ◌==◌, nat_le, MatchBool}
+use Rattle.std.specs.List.{filter, list_any}
+use Rattle.ttx_packet.specs.PacketAddress.{PacketAddress, address}
+use Rattle.ttx_packet.specs.PageId.{PageIdValue}
+use Rattle.ttx_page.specs.Receiver.{Hears, is_dropped}
+use Rattle.ttx_page.specs.Screen.{Display, Shows}
+use Rattle.sub_check.specs.declared.listening.Flip.{Flip}
+use Rattle.sub_check.specs.declared.listening.Listening.{Listening}
+use Rattle.sub_check.specs.declared.listening.ReceiverKind.{ReceiverKind}
+use Rattle.sub_check.specs.declared.listening.ReceiverKind.TheVariants.{DropRow}
+
+-- What a request says of the packets: how many are passed over, which are lost, which bits are
+-- flipped.
+pub record Reception : Type 0 where
+  pub skip : ℕ
+  pub lost : List ℕ
+  pub flips : List Flip
+
+-- What a request for a listening says of them.
+abbrev pub reception_of : Listening → Reception
+reception_of l = record { skip = l.skip; lost = l.lost.items; flips = l.flips.items }
+
+-- The packet of a number is not passed over, and is listed as lost.
+abbrev pub is_lost : Reception → ℕ → Bool
+is_lost r number = nat_le r.skip number && list_any (λ n. n == number) r.lost
+
+-- It is neither passed over nor lost.
+abbrev pub is_heard : Reception → ℕ → Bool
+is_heard r number = nat_le r.skip number && not (list_any (λ n. n == number) r.lost)
+
+-- The flip is one of a bit of this packet.
+abbrev pub is_flip_of : Flip → ℕ → Bool
+is_flip_of f number =
+    (f.packet == number) && nat_le f.byte 41 && nat_le 1 f.bit && nat_le f.bit 8
+
+-- A packet with one bit changed, where the flip is one of it: bit 1 is the lowest of its byte.
+abbrev pub with_flip : Flip → ℕ → List ℕ → List ℕ
+with_flip f number packet =
+    if is_flip_of f number
+    then slice_set packet f.byte (bit_xor (slice_index packet f.byte) (2 ^ (f.bit - 1)))
+    else packet
+
+-- A packet as it is received: each flip of it changes a bit.
+abbrev pub with_flips : List Flip → ℕ → List ℕ → List ℕ
+with_flips [] number packet = packet
+with_flips (f ∷ flips) number packet = with_flips flips number (with_flip f number packet)
+
+-- What the receiver gets of packets of which the first has a number.
+abbrev pub as_received : Reception → ℕ → List (List ℕ) → List (List ℕ)
+as_received r number [] = []
+as_received r number (packet ∷ packets) =
+    if is_heard r number
+    then with_flips r.flips number packet ∷ as_received r (number + 1) packets
+    else as_received r (number + 1) packets
+
+-- Whether a receiver of page w takes a packet that it gets: one that drops rows passes over a row
+-- of its page with a byte of even parity.
+abbrev pub is_taken : ReceiverKind → PageIdValue → List ℕ → Bool
+is_taken DropRow w packet = not (is_dropped w packet)
+is_taken _ w packet = true
+
+-- What the receiver hears of packets of which the first has a number: what is received of them,
+-- without the rows that it drops.
+abbrev pub as_heard : Listening → ℕ → List (List ℕ) → List (List ℕ)
+as_heard l number packets =
+    filter (is_taken l.receiver l.options.page) (as_received (reception_of l) number packets)
+
+-- What becomes of a receiver of page w that hears these packets: where complete pages are asked for,
+-- it has a screen; else what it holds is all that is said of it, and no screen need be run.
+abbrev pub RunsThrough : Bool → PageIdValue → Display → List (List ℕ) → Display → Type 0
+RunsThrough asks_complete w old packets new =
+    MatchBool asks_complete (Shows w old packets new) (Hears w old.held packets new.held)
+
+-- A packet may be lost: it has an address, and is no packet X/0 (EN 300 706).
+abbrev pub may_be_lost_at : Option PacketAddress → Bool
+may_be_lost_at None = false
+may_be_lost_at (Some a) = not (a.packet_number == 0)
+
+-- The first of these packets that is lost and may not be, by its place among them.
+abbrev pub first_lost_header : Reception → ℕ → List (List ℕ) → Option ℕ
+first_lost_header r number [] = None
+first_lost_header r number (packet ∷ packets) =
+    if is_lost r number && not (may_be_lost_at (address packet))
+    then Some 0
+    else option_map (λ place. place + 1) (first_lost_header r (number + 1) packets)
