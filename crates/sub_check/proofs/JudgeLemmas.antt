@@ -1,7 +1,7 @@
--- What each way out of the checker's loop shows of the whole file: `unread_refusal`,
--- `empty_refusal`, `reaches_first`, `reaches_next`, `end_accepted`, `end_refused`.
-use Rattle.std.proofs.Common.{◌≡◌, ℕ, ◌+◌, ◌-◌, ◌<◌, ◌≤◌, List, [], ◌∷◌, ◌++◌, length, drop}
-use Rattle.std.proofs.Common.{take, get_or}
+-- What each way out of the checker's loop shows of the whole file: `next_refusal`, `next_read`,
+-- `empty_refusal`, `end_told`, `source_failed`.
+use Rattle.std.proofs.Common.{zero, suc, ◌≡◌, ℕ, ◌+◌, ◌-◌, ◌<◌, ◌≤◌, List, [], ◌∷◌, ◌++◌, length}
+use Rattle.std.proofs.Common.{drop, take, get_or}
 use Rattle.std.proofs.Common.{Option, Some, None, Result, MatchResult, Ok, Err, All, sym, ap, refl}
 use Rattle.std.proofs.Common.{◌∙◌, subst, arith, append_assoc, append-nil}
 use Rattle.std.specs.List.{AllByRecursion, AllZip, concat}
@@ -18,7 +18,7 @@ use Rattle.ttx_pes.specs.Reading.{answer_at, most_packets, rest_after}
 use Rattle.sub_plan.specs.FrameTime.{frames_of_day, pts_of}
 use Rattle.sub_plan.specs.Options.{OptionsValue}
 use Rattle.sub_check.specs.Checker.{CheckerValue}
-use Rattle.sub_check.specs.Checking.{Accepts, AreTaken, AreWhole, IsFrameOf, Reaches, TellsEnd}
+use Rattle.sub_check.specs.Checking.{Accepts, AreTaken, AreWhole, IsFrameOf, TellsEnd}
 use Rattle.sub_check.specs.Checking.{IsRuleFault, TellsFrame}
 use Rattle.sub_check.specs.FirstBroken.{IsReadUpTo, NamesFirst, unread_fault}
 use Rattle.sub_check.specs.Following.{AreOk, Follows, IsSentFrame}
@@ -122,11 +122,6 @@ taken_more origin bytes rest frames n v frame old new taken was is takes sent of
           ∙ ap (λ r. concat taken.packets ++ r) (append-nil takes.bytes)));
     }
 
--- Nothing is taken yet.
-none_taken : (origin : ℕ) (bytes : List ℕ) → AreTaken origin bytes [] bytes
-none_taken origin bytes =
-    record { values = []; packets = []; each = tt; sent = tt; joined = refl }
-
 -- The answer is that the source failed at a PES packet.
 abbrev pub IsFailureAt : Result Accepted CheckFault → ℕ → Type 0
 IsFailureAt r pes = r ≡ Err (fault.Pes pes Read)
@@ -155,214 +150,177 @@ failed_at n pes f old mid new taken place within e =
     subst (λ (m : ℕ). FailsAtPacket m old new) same
     (record { behind = mid; before = taken; within = within read })
 
+-- What is sent again is what was sent before; the first sending is sent again after itself. For
+-- `judge`.
+pub again_is :
+    (frames : Transmission) (n frame : ℕ) (ps kept : List (List ℕ))
+    → IsSentFrame frames n frame ps
+    → (0 < n → packets_of_frame frames (n - 1) ≡ kept)
+    → kept ≡ ps
+    → packets_of_frame frames (n - 1) ≡ ps
+again_is frames zero frame ps kept is before same = is.packets_are
+again_is frames (suc n) frame ps kept is before same = before (omega arith) ∙ same
+
+-- After n PES packets, n frames of the list are read, and the others are left.
+pub record Reads
+    (origin : ℕ) (bytes : List ℕ) (frames : Transmission) (unread : Option Unread)
+    (remaining : Option (List ℕ)) (n : ℕ)
+    : Type 0 where
+  pub few : n ≤ most_packets
+  pub within : n ≤ length frames
+  pub rest : List ℕ
+  pub rest_is : remaining ≡ Some rest
+  pub taken : AreTaken origin bytes (take n frames) rest
+  pub left : ReadsAs origin n rest (drop n frames) unread
+  pub whole : AreWhole (take n frames)
+
+-- Before the first of them.
+pub Reads-none :
+    (origin : ℕ) (bytes : List ℕ) (frames : Transmission) (unread : Option Unread)
+    (remaining : Option (List ℕ))
+    → remaining ≡ Some bytes
+    → ReadsAs origin 0 bytes frames unread
+    → Reads origin bytes frames unread remaining 0
+Reads-none origin bytes frames unread remaining told reads = record {
+  few = omega arith;
+  within = omega arith;
+  rest = bytes;
+  rest_is = told;
+  taken = record { values = []; packets = []; each = tt; sent = tt; joined = refl };
+  left = reads;
+  whole = tt;
+}
+
 module _
     (programme : ProgrammeValue) (options : OptionsValue)
-    (frames : Transmission) (unread : Option Unread)
+    (frames : Transmission) (unread : Option Unread) (bytes : List ℕ) (n : ℕ)
+    (before : Option (List ℕ)) (reads : Reads options.origin bytes frames unread before n)
   where
-    -- What keeps the file from being read on is the first that is broken, where all before it
-    -- holds.
-    pub unread_refusal :
-        (n : ℕ) (bytes : List ℕ) (v : PesValue) (f : CheckFault)
-        → n ≤ most_packets
-        → n ≤ length frames
-        → AreOk (task_of programme options unread) frames n
-        → ReadsAs options.origin n bytes (drop n frames) unread
-        → TellsFrame options.origin n bytes v (Err f)
-        → NamesFirst (task_of programme options unread) frames f
-    unread_refusal n bytes v f few within past reads (u, told, ends) =
-        let at = reads_fault options.origin n bytes frames unread u few reads ends in
-        let all : length frames ≡ n = omega (arith, at.0) in
-        subst (NamesFirst (task_of programme options unread) frames)
-        (ap (λ m. unread_fault m (Some u)) all ∙ sym told)
-        (first_unread (task_of programme options unread) frames
-        (λ j l. past j (omega (arith, at.0))) u at.1)
+    -- The next PES packet is the next frame of the list.
+    pub next_sent :
+        (v : PesValue) (frame : ℕ)
+        → TellsFrame options.origin n reads.rest v (Ok (Some frame))
+        → IsSentFrame frames n frame (packets_of_units v.units)
+    next_sent v frame (is, of) =
+        (reads_next options.origin n reads.rest frames unread v frame reads.few reads.left is
+        of).sent
 
-    -- That the source failed is told at the PES packet that could not be read.
-    pub source_failed :
-        (n pes : ℕ) (f : CheckFault)
-        → n ≤ length frames
-        → AreOk (task_of programme options unread) frames n
-        → (is_pes_read f ≡ true → f ≡ fault.Pes n Read)
-        → IsFailureAt (Err f) pes
-        → IsReadUpTo (task_of programme options unread) frames pes
-    source_failed n pes f within past place e =
-        let is : f ≡ fault.Pes pes Read = cc in
-        let named : fault.Pes pes Read ≡ fault.Pes n Read =
-        sym is ∙ place (ap is_pes_read is) in
-        let same : n ≡ pes = cc in
-        subst (IsReadUpTo (task_of programme options unread) frames) same (record {
-          within = within;
-          holds = holds_before (task_of programme options unread) frames n past;
-        })
+    -- What is read with it.
+    pub next_read :
+        (v : PesValue) (frame : ℕ) (remaining : Option (List ℕ))
+        → TellsFrame options.origin n reads.rest v (Ok (Some frame))
+        → remaining ≡ Some (rest_after reads.rest)
+        → TakesPesPacket before remaining v
+        → IsPesValue v
+        → Reads options.origin bytes frames unread remaining (n + 1)
+    next_read v frame remaining (is, of) left takes value =
+        let next =
+        reads_next options.origin n reads.rest frames unread v frame reads.few reads.left is of in
+        let below = reads-below n reads.rest v is in
+        let few = reads.few in
+        record {
+          few = omega (arith, below);
+          within = let there = next.sent.there in omega arith;
+          rest = rest_after reads.rest;
+          rest_is = left;
+          taken =
+              taken_more options.origin bytes reads.rest frames n v frame before remaining
+              reads.taken reads.rest_is left takes next.sent of;
+          left = next.left;
+          whole = whole_more frames n v next.sent.there next.sent.packets_are value reads.whole;
+        }
+
+    -- Where all that is asked of the frames so far holds.
+    module _ (past : AreOk (task_of programme options unread) frames n) where
+      -- What keeps the file from being read on is the first that is broken.
+      pub next_refusal :
+          (v : PesValue) (f : CheckFault)
+          → TellsFrame options.origin n reads.rest v (Err f)
+          → NamesFirst (task_of programme options unread) frames f
+      next_refusal v f (u, told, ends) =
+          let within = reads.within in
+          let at =
+          reads_fault options.origin n reads.rest frames unread u reads.few reads.left ends in
+          let all : length frames ≡ n = omega (arith, at.0) in
+          subst (NamesFirst (task_of programme options unread) frames)
+          (ap (λ m. unread_fault m (Some u)) all ∙ sym told)
+          (first_unread (task_of programme options unread) frames
+          (λ j l. past j (omega (arith, at.0))) u at.1)
+
+      -- That the source failed is told at the PES packet that could not be read.
+      pub source_failed :
+          (pes : ℕ) (f : CheckFault)
+          → (is_pes_read f ≡ true → f ≡ fault.Pes n Read)
+          → IsFailureAt (Err f) pes
+          → IsReadUpTo (task_of programme options unread) frames pes
+      source_failed pes f place e =
+          let is : f ≡ fault.Pes pes Read = cc in
+          let named : fault.Pes pes Read ≡ fault.Pes n Read =
+          sym is ∙ place (ap is_pes_read is) in
+          let same : n ≡ pes = cc in
+          subst (IsReadUpTo (task_of programme options unread) frames) same (record {
+            within = reads.within;
+            holds = holds_before (task_of programme options unread) frames n past;
+          })
 
     -- A file with no PES packet.
     pub empty_refusal :
-        (bytes : List ℕ)
-        → ReadsAs options.origin 0 bytes frames unread
-        → answer_at 0 bytes ≡ Ok None
+        n ≡ 0
+        → answer_at n reads.rest ≡ Ok None
         → NamesFirst (task_of programme options unread) frames fault.Empty
-    empty_refusal bytes reads is =
-        let at = reads_end options.origin 0 bytes frames unread (omega arith) reads is in
+    empty_refusal none is =
+        let at = reads_end options.origin n reads.rest frames unread reads.few reads.left is in
         first_nothing (task_of programme options unread) frames at.1 (omega (arith, at.0))
 
-    -- The first PES packet is the first frame of the list.
-    pub first_sent :
-        (bytes : List ℕ) (v : PesValue) (frame : ℕ)
-        → ReadsAs options.origin 0 bytes frames unread
-        → TellsFrame options.origin 0 bytes v (Ok (Some frame))
-        → IsSentFrame frames 0 frame (packets_of_units v.units)
-    first_sent bytes v frame reads (is, of) =
-        (reads_next options.origin 0 bytes frames unread v frame (omega arith) reads is of).sent
+    -- The end of any other.
+    module _ (c : CheckerValue) (follows : Follows (task_of programme options unread) frames n c)
+        (some : 0 < n) (is : answer_at n reads.rest ≡ Ok None) where
+      ended : (length frames ≤ n) × (unread ≡ None)
+      ended = reads_end options.origin n reads.rest frames unread reads.few reads.left is
 
-    -- What is reached after it.
-    pub reaches_first :
-        (bytes : List ℕ) (v : PesValue) (frame : ℕ) (old remaining : Option (List ℕ))
-        (c : CheckerValue)
-        → ReadsAs options.origin 0 bytes frames unread
-        → TellsFrame options.origin 0 bytes v (Ok (Some frame))
-        → old ≡ Some bytes
-        → remaining ≡ Some (rest_after bytes)
-        → TakesPesPacket old remaining v
-        → IsPesValue v
-        → Follows (task_of programme options unread) frames 1 c
-        → Reaches (task_of programme options unread) options.origin bytes frames unread remaining 1
-        c
-    reaches_first bytes v frame old remaining c reads (is, of) told left takes value follows =
-        let next =
-        reads_next options.origin 0 bytes frames unread v frame (omega arith) reads is of in
-        record {
-          few = omega arith;
-          within = let there = next.sent.there in omega arith;
-          rest = rest_after bytes;
-          rest_is = left;
-          taken =
-              taken_more options.origin bytes bytes frames 0 v frame old remaining
-              (none_taken options.origin bytes) told left takes next.sent of;
-          left = next.left;
-          follows = follows;
-          whole = whole_more frames 0 v next.sent.there next.sent.packets_are value tt;
-        }
+      all : n ≡ length frames
+      all = let within = reads.within in omega (arith, ended.0)
 
-    module _
-        (bytes : List ℕ) (n : ℕ) (before : Option (List ℕ)) (b : CheckerValue)
-        (reached :
-        Reaches (task_of programme options unread) options.origin bytes frames unread before n
-        b)
-      where
-        -- The next PES packet is the next frame of the list.
-        pub next_sent :
-            (v : PesValue) (frame : ℕ)
-            → TellsFrame options.origin n reached.rest v (Ok (Some frame))
-            → IsSentFrame frames n frame (packets_of_units v.units)
-        next_sent v frame (is, of) =
-            (reads_next options.origin n reached.rest frames unread v frame reached.few reached.left
-            is of).sent
+      last : c.frame ≡ end_frame frames
+      last = follows.frame_is some ∙ ap (λ m. frame_at frames (m - 1)) all
 
-        -- What is reached after it.
-        pub reaches_next :
-            (v : PesValue) (frame : ℕ) (remaining : Option (List ℕ)) (c : CheckerValue)
-            → TellsFrame options.origin n reached.rest v (Ok (Some frame))
-            → remaining ≡ Some (rest_after reached.rest)
-            → TakesPesPacket before remaining v
-            → IsPesValue v
-            → Follows (task_of programme options unread) frames (n + 1) c
-            → Reaches (task_of programme options unread) options.origin bytes frames unread
-            remaining (n + 1) c
-        reaches_next v frame remaining c (is, of) left takes value follows =
-            let next =
-            reads_next options.origin n reached.rest frames unread v frame reached.few reached.left
-            is of in
-            let below = reads-below n reached.rest v is in
-            let few = reached.few in
-            record {
-              few = omega (arith, below);
-              within = let there = next.sent.there in omega arith;
-              rest = rest_after reached.rest;
-              rest_is = left;
-              taken =
-                  taken_more options.origin bytes reached.rest frames n v frame before remaining
-                  reached.taken reached.rest_is left takes next.sent of;
-              left = next.left;
-              follows = follows;
-              whole =
-                  whole_more frames n v next.sent.there next.sent.packets_are value reached.whole;
-            }
+      past : AreOk (task_of programme options unread) frames (length frames)
+      past = λ j l. follows.past j (omega (arith, all))
 
-        -- A refusal of what follows.
-        pub next_refusal :
-            (v : PesValue) (f : CheckFault)
-            → TellsFrame options.origin n reached.rest v (Err f)
-            → NamesFirst (task_of programme options unread) frames f
-        next_refusal v f told =
-            unread_refusal n reached.rest v f reached.few reached.within reached.follows.past
-            reached.left told
-
-        -- At the end of the file: accepted.
-        pub end_accepted :
-            (a : Accepted)
-            → answer_at n reached.rest ≡ Ok None
-            → TellsEnd (last_out b.programme.records) b.first b.frame b.headers (Ok a)
-            → Accepts (task_of programme options unread) options.origin bytes frames a
-        end_accepted a is (over, count, headers) =
-            let at =
-            reads_end options.origin n reached.rest frames unread reached.few reached.left is in
-            let within = reached.within in
-            let all : n ≡ length frames = omega (arith, at.0) in
-            let follows = reached.follows in
-            let some = follows.some in
-            let last : b.frame ≡ end_frame frames =
-            follows.frame_is ∙ ap (λ m. frame_at frames (m - 1)) all in
-            let first_is = follows.remembers.first_is in
-            let few = reached.few in
-            record {
-              few = omega arith;
-              taken =
-                  subst (λ fs. AreTaken options.origin bytes fs [])
-                  (take_all n frames (omega arith))
-                  (subst (AreTaken options.origin bytes (take n frames))
-                  (no_bytes n reached.rest is) reached.taken);
-              holds =
-                  holds_but_end (task_of programme options unread) frames at.1
-                  (λ j l. follows.past j (omega arith)) (omega arith)
-                  (λ t l e.
-                  let m = over l (sym follows.remembers.task_is.last_is ∙ e) in omega arith);
-              whole = subst AreWhole (take_all n frames (omega arith)) reached.whole;
-              frames_are = omega (arith, count);
-              transmissions_are =
-                  headers
-                  ∙ follows.remembers.count
-                  ∙ ap (λ m. header_count options.page (packets_before frames m)) all;
-            }
-
-        -- At the end of the file: refused.
-        pub end_refused :
-            (f : CheckFault)
-            → answer_at n reached.rest ≡ Ok None
-            → TellsEnd (last_out b.programme.records) b.first b.frame b.headers (Err f)
-            → NamesFirst (task_of programme options unread) frames f
-        end_refused f is (not_over, told) =
-            let at =
-            reads_end options.origin n reached.rest frames unread reached.few reached.left is in
-            let within = reached.within in
-            let all : n ≡ length frames = omega (arith, at.0) in
-            let follows = reached.follows in
-            let some = follows.some in
-            let last : b.frame ≡ end_frame frames =
-            follows.frame_is ∙ ap (λ m. frame_at frames (m - 1)) all in
-            subst (NamesFirst (task_of programme options unread) frames)
-            (ap fault.Late (sym last) ∙ sym told)
-            (first_late (task_of programme options unread) frames at.1
-            (λ j l. follows.past j (omega arith)) (omega arith)
-            (λ h. not_over
-            (λ l e. let m = h l (follows.remembers.task_is.last_is ∙ e) in omega arith)))
-
-        -- At the end of the file: what is told.
-        pub end_told :
-            (r : Result Accepted CheckFault)
-            → answer_at n reached.rest ≡ Ok None
-            → TellsEnd (last_out b.programme.records) b.first b.frame b.headers r
-            → MatchResult r
-            (Accepts (task_of programme options unread) options.origin bytes frames)
-            (NamesFirst (task_of programme options unread) frames)
-        end_told (Ok a) is told = end_accepted a is told
-        end_told (Err f) is told = end_refused f is told
+      -- What is told there.
+      pub end_told :
+          (r : Result Accepted CheckFault)
+          → TellsEnd (last_out c.programme.records) c.first c.frame c.headers r
+          → MatchResult r
+          (Accepts (task_of programme options unread) options.origin bytes frames)
+          (NamesFirst (task_of programme options unread) frames)
+      end_told (Ok a) (over, count, headers) =
+          let first_is = follows.first_is some in
+          let few = reads.few in
+          record {
+            few = omega (arith, all, few);
+            taken =
+                subst (λ fs. AreTaken options.origin bytes fs [])
+                (take_all n frames (omega (arith, all)))
+                (subst (AreTaken options.origin bytes (take n frames)) (no_bytes n reads.rest is)
+                reads.taken);
+            holds =
+                holds_but_end (task_of programme options unread) frames ended.1 past
+                (omega (arith, all, some))
+                (λ t l e.
+                let m = over l (sym follows.remembers.task_is.last_is ∙ e) in
+                omega (arith, last));
+            whole = subst AreWhole (take_all n frames (omega (arith, all))) reads.whole;
+            frames_are = omega (arith, count, last, first_is);
+            transmissions_are =
+                headers
+                ∙ follows.remembers.count
+                ∙ ap (λ m. header_count options.page (packets_before frames m)) all;
+          }
+      end_told (Err f) (not_over, told) =
+          subst (NamesFirst (task_of programme options unread) frames)
+          (ap fault.Late (sym last) ∙ sym told)
+          (first_late (task_of programme options unread) frames ended.1 past (omega (arith, all, some))
+          (λ h. not_over
+          (λ l e.
+          let m = h l (follows.remembers.task_is.last_is ∙ e) in omega (arith, last))))

@@ -23,13 +23,13 @@ use Rattle.ttx_page.specs.Shown.{shown}
 use Rattle.sub_check.specs.Transmission.{SentFrame, Transmission}
 use Rattle.sub_check.specs.declared.listener.Listener.{Listener}
 use Rattle.stl_rows.specs.Programme.{ProgrammeValue}
-use Rattle.sub_check.specs.Listening.{Knows, KnowsLast, HoldsRows, IsSoundRow}
+use Rattle.sub_check.specs.Listening.{KnowsLast, HoldsRows, IsSoundRow}
 use Rattle.sub_check.specs.FrameRules.{Task, frame_at, packets_of_frame, packets_before, HasHeader}
 use Rattle.sub_check.specs.FrameRules.{ShowsDue}
 use Rattle.sub_check.specs.FrameRules.{IsCovered, IsEnded}
 use Rattle.sub_plan.specs.Schedule.{due_in}
 use Rattle.sub_check.specs.Checker.{CheckerValue, IsAtFrame, at_frame}
-use Rattle.sub_check.specs.Following.{IsTaskOf, HeaderIs, Remembers}
+use Rattle.sub_check.specs.Following.{HeaderIs, Remembers}
 use Rattle.sub_check.proofs.PacketLists.{Each-find, Each-join, find_none}
 use Rattle.ttx_page.proofs.NoiseSteps.{row_from_test}
 
@@ -71,34 +71,6 @@ shown_is w packets sent page h row column is =
         ∙ sym (ap (λ o. unwrap_or (option_map (λ p. code_of (text_byte p column)) o) space)
         (find_none (λ p. is_row row (kind w.page p)) packets e))
 
-module _ (g : Task) (p : ProgrammeValue) (every : ℕ) (task : IsTaskOf g p every)
-    (frames : Transmission) (n f : ℕ) (s : Listener) (knows : Knows (packets_before frames n) s)
-    (watched_is : s.watched ≡ g.watched) where
-  -- The page that is kept is what the packets show.
-  kept_shown : (row column : ℕ) → IsCell row column
-      → cell s.comparison.page row column
-      ≡ shown g.watched.page (packets_before frames n) row column
-  kept_shown row column is =
-      shown_is s.watched (span (kind s.watched.page) (packets_before frames n)) s.sent
-      s.comparison.page
-      knows.rows_are row column is
-      ∙ ap (λ w. shown w.page (packets_before frames n) row column) watched_is
-
-  -- The page that is kept equals the due page at a cell exactly where the transmission shows what
-  -- is due.
-  shows_from : (row column : ℕ) → IsCell row column
-      → cell s.comparison.page row column ≡ cell (due_in p f) row column
-      → ShowsDue g frames n f row column
-  shows_from row column is e = sym (kept_shown row column is) ∙ e
-      ∙ ap (λ d. cell d row column) (sym (task.due_is f))
-
-  -- And where they differ, so does what is shown from what is due.
-  shows_not : (row column : ℕ) → IsCell row column
-      → (cell s.comparison.page row column ≡ cell (due_in p f) row column → ⊥)
-      → ShowsDue g frames n f row column → ⊥
-  shows_not row column is other shows =
-      other (kept_shown row column is ∙ shows ∙ ap (λ d. cell d row column) (task.due_is f))
-
 -- What is known of the packets stays where another page is due.
 pub KnowsLast-drawn :
     (heard last : List (List ℕ)) (s : Listener) (due : Rows)
@@ -115,46 +87,7 @@ KnowsLast-drawn heard last s due k =
       last_is = k.last_is;
     }
 
--- ---- complete pages
-
-module _ (g : Task) (frames : Transmission) (n : ℕ) (s : Listener)
-    (knows : Knows (packets_before frames n) s) (watched_is : s.watched ≡ g.watched) where
-  -- The page that is kept is open where the packets leave it open.
-  left_open :
-      (s.watched.complete && s.is_open)
-      ≡ (g.watched.complete && is_open_after (kind g.watched.page) (packets_before frames n))
-  left_open =
-      ap (λ b. s.watched.complete && b) knows.open_is
-      ∙ ap (λ (w : Watched). w.complete && is_open_after (kind w.page) (packets_before frames n))
-      watched_is
-
-  -- Where it is not open, the page is ended.
-  pub ended_from : (s.watched.complete && s.is_open) ≡ false → IsEnded g frames n
-  ended_from e asks =
-      ap (λ b. b && is_open_after (kind g.watched.page) (packets_before frames n)) (sym asks)
-      ∙ sym left_open
-      ∙ e
-
-  -- And where it is open it is not.
-  pub ended_not : (s.watched.complete && s.is_open) ≡ true → IsEnded g frames n → ⊥
-  ended_not e ended =
-      let parts = and_parts g.watched.complete _ (sym left_open ∙ e) in
-      true≢false (sym parts.1 ∙ ended parts.0)
-
 -- ---- headers
-
-module _ (g : Task) (frames : Transmission) (n at f every : ℕ) (h : HeaderIs g frames n at)
-    (same : g.every ≡ every) (past : at ≤ f) where
-  -- A header less than so many frames ago.
-  covered_from : f - at < every → IsCovered g frames n f
-  covered_from l = let found = h.found.2 in
-      let below : f < frame_at frames h.found.0 + g.every = omega arith in
-      inr (h.found.0, h.found.1, below, h.found.3)
-
-  -- And one longer ago.
-  covered_not : every ≤ f - at → IsCovered g frames n f → ⊥
-  covered_not l (inl e) = let b = h.begins in omega arith
-  covered_not l (inr (j, i, e, head)) = let b = h.last j i head in omega arith
 
 -- A frame without a header leaves the last header's frame.
 pub HeaderIs-none : (g : Task) (frames : Transmission) (n at : ℕ) → HeaderIs g frames n at
@@ -218,52 +151,96 @@ pub record WrongFirst (g : Task) (frames : Transmission) (n f row column : ℕ) 
 -- What the tests at a frame's end tell of the transmission.
 module _ (g : Task) (frames : Transmission) (n : ℕ) (c : CheckerValue)
     (known : Remembers g frames n c)
-    (due : c.listener.comparison.due ≡ due_in c.programme c.frame) where
-  -- A cell that is as it is due.
-  shows_there : (row column : ℕ) → IsCell row column
-      → cell c.listener.comparison.page row column ≡ cell (due_in c.programme c.frame) row column
-      → ShowsDue g frames n c.frame row column
-  shows_there =
-      shows_from g c.programme c.every known.task_is frames n c.frame c.listener known.knows.knows
-      known.watched_is
+  where
+    -- The page that is kept is what the packets show.
+    kept_shown : (row column : ℕ) → IsCell row column
+        → cell c.listener.comparison.page row column
+        ≡ shown g.watched.page (packets_before frames n) row column
+    kept_shown row column is =
+        shown_is c.listener.watched
+        (span (kind c.listener.watched.page) (packets_before frames n)) c.listener.sent
+        c.listener.comparison.page known.knows.knows.rows_are row column is
+        ∙ ap (λ (w : Watched). shown w.page (packets_before frames n) row column) known.watched_is
 
-  pub shows_all : AreSameCells c.listener → (row column : ℕ) → IsCell row column
-      → ShowsDue g frames n c.frame row column
-  shows_all same row column is =
-      shows_there row column is (same row column is ∙ ap (λ d. cell d row column) due)
+    module _ (due : c.listener.comparison.due ≡ due_in c.programme c.frame) where
+      -- A cell that is as it is due.
+      shows_there : (row column : ℕ) → IsCell row column
+          → cell c.listener.comparison.page row column ≡ cell c.listener.comparison.due row column
+          → ShowsDue g frames n c.frame row column
+      shows_there row column is e =
+          sym (kept_shown row column is)
+          ∙ e
+          ∙ ap (λ d. cell d row column) (due ∙ sym (known.task_is.due_is c.frame))
 
-  pub wrong_first : (row column : ℕ)
-      → DiffersFirst c.listener.comparison.page c.listener.comparison.due row column
-      → WrongFirst g frames n c.frame row column
-  wrong_first row column first =
-      let d : DiffersFirst c.listener.comparison.page (due_in c.programme c.frame) row column =
-      subst (λ x. DiffersFirst c.listener.comparison.page x row column) due first in
-      record {
+      pub shows_all : AreSameCells c.listener → (row column : ℕ) → IsCell row column
+          → ShowsDue g frames n c.frame row column
+      shows_all same row column is = shows_there row column is (same row column is)
+
+      pub wrong_first : (row column : ℕ)
+          → DiffersFirst c.listener.comparison.page c.listener.comparison.due row column
+          → WrongFirst g frames n c.frame row column
+      wrong_first row column d = record {
         is_cell = d.is_cell;
-        broken = shows_not g c.programme c.every known.task_is frames n c.frame c.listener
-            known.knows.knows known.watched_is row column d.is_cell d.differ;
+        broken = λ shows. d.differ
+            (kept_shown row column d.is_cell
+            ∙ shows
+            ∙ ap (λ x. cell x row column) (known.task_is.due_is c.frame ∙ sym due));
         above = λ r k is l. shows_there r k is (cells_above d r k is l);
         before = λ k l. shows_there row k
             (d.is_cell.0, d.is_cell.1, omega (arith, d.is_cell.2)) (d.cells_before k l);
       }
 
-  -- The last header is not after the frame.
-  header_before : 0 < n → c.header_at ≤ c.frame
-  header_before some =
-      let found = (known.header some).found in
-      let e = found.2 in
-      let l = known.rising found.0 found.1 in
-      omega arith
+    module _ (some : 0 < n) where
+      -- The last header is not after the frame.
+      header_before : c.header_at ≤ c.frame
+      header_before =
+          let found = (known.header some).found in
+          let e = found.2 in
+          let l = known.rising found.0 found.1 in
+          omega arith
 
-  pub covered : 0 < n → c.frame - c.header_at < c.every → IsCovered g frames n c.frame
-  covered some =
-      covered_from g frames n c.header_at c.frame c.every (known.header some)
-      known.task_is.every_is (header_before some)
+      -- It is less than so many frames ago, or not.
+      pub covered : c.frame - c.header_at < c.every → IsCovered g frames n c.frame
+      covered l =
+          let found = (known.header some).found in
+          let e = found.2 in
+          let same = known.task_is.every_is in
+          let below : c.frame < frame_at frames found.0 + g.every =
+          omega (arith, header_before) in
+          inr (found.0, found.1, below, found.3)
 
-  pub uncovered : 0 < n → c.every ≤ c.frame - c.header_at → IsCovered g frames n c.frame → ⊥
-  uncovered some =
-      covered_not g frames n c.header_at c.frame c.every (known.header some)
-      known.task_is.every_is (header_before some)
+      pub uncovered : c.every ≤ c.frame - c.header_at → IsCovered g frames n c.frame → ⊥
+      uncovered l (inl e) =
+          let same = known.task_is.every_is in
+          let b = (known.header some).begins in
+          omega (arith, header_before)
+      uncovered l (inr (j, i, e, head)) =
+          let same = known.task_is.every_is in
+          let b = (known.header some).last j i head in
+          omega (arith, header_before)
+
+    -- The page that is kept is open where the packets leave it open.
+    left_open :
+        (c.listener.watched.complete && c.listener.is_open)
+        ≡ (g.watched.complete && is_open_after (kind g.watched.page) (packets_before frames n))
+    left_open =
+        ap (λ b. c.listener.watched.complete && b) known.knows.knows.open_is
+        ∙ ap (λ (w : Watched). w.complete && is_open_after (kind w.page) (packets_before frames n))
+        known.watched_is
+
+    -- Where it is not open, the page is ended.
+    pub ended : (c.listener.watched.complete && c.listener.is_open) ≡ false → IsEnded g frames n
+    ended e asks =
+        ap (λ b. b && is_open_after (kind g.watched.page) (packets_before frames n)) (sym asks)
+        ∙ sym left_open
+        ∙ e
+
+    -- And where it is open it is not.
+    pub not_ended : (c.listener.watched.complete && c.listener.is_open) ≡ true
+        → IsEnded g frames n → ⊥
+    not_ended e is =
+        let parts = and_parts g.watched.complete _ (sym left_open ∙ e) in
+        true≢false (sym parts.1 ∙ is parts.0)
 
 -- Where the next edge after the frame before is not this frame, the due page stays.
 due_between_edges :

@@ -2,7 +2,8 @@
 -- `names_packet`, `names_missing`, `took`, `names_cell`, `names_gap`, `names_open`, `follows`.
 use Rattle.std.proofs.Common.{◌≡◌, ℕ, zero, suc, ◌+◌, ◌-◌, ◌<◌, ◌≤◌, nat_lt, inl, inr, Bool, true}
 use Rattle.std.proofs.Common.{false, ◌&&◌, cond, List, [], ◌++◌, length, take, get_or, refl, sym}
-use Rattle.std.proofs.Common.{Option, ap, ap₂, ◌∙◌, subst, arith}
+use Rattle.std.proofs.Common.{MatchResult, Option, Some, Result, Ok, Err, ap, ap₂, ◌∙◌, subst, arith}
+use Rattle.std.specs.Prelude.{OnOk}
 use Rattle.std.proofs.lemmas.Bool.{cases_eq, cases_lt, lt-ltb, true≢false}
 use Rattle.stl_rows.specs.Programme.{ProgrammeValue}
 use Rattle.stl_rows.specs.declared.national.National.{National}
@@ -12,70 +13,26 @@ use Rattle.ttx_page.specs.PacketKind.{kind}
 use Rattle.ttx_page.specs.Span.{holds_header}
 use Rattle.sub_plan.specs.Options.{OptionsValue}
 use Rattle.sub_plan.specs.Schedule.{due_in}
-use Rattle.sub_check.specs.Checker.{CheckerValue, at_frame}
+use Rattle.sub_check.specs.Checker.{CheckerValue, at_first, at_frame, most_headers}
 use Rattle.sub_check.specs.FirstBroken.{NamesFirst, packet_fault}
-use Rattle.sub_check.specs.Following.{AreOk, Follows, FrameOk, GapOk, HeaderIs, IsSentFrame}
-use Rattle.sub_check.specs.Following.{IsTaskOf, OrderOk, PacketsOk, Remembers}
+use Rattle.sub_check.specs.Following.{AreOk, Arrives, Follows, FrameOk, GapOk, HeaderIs, IsTaskOf}
+use Rattle.sub_check.specs.Following.{OrderOk, PacketsOk, Remembers}
 use Rattle.sub_check.specs.FrameRules.{HasHeader, IsCovered, ShowsDue, Task, Unread, frame_at}
 use Rattle.sub_check.specs.FrameRules.{packets_before, packets_of_frame, task_of, watched_of}
 use Rattle.sub_check.specs.Listening.{KnowsLast}
 use Rattle.sub_check.specs.PacketRules.{AreClean, BreaksFirstAt, KeepsRule, header_count}
 use Rattle.sub_check.specs.Transmission.{Transmission}
+use Rattle.sub_check.specs.declared.fault.CheckFault.{CheckFault}
 use Rattle.sub_check.specs.declared.fault.CheckFault.TheVariants as fault
 use Rattle.sub_check.specs.declared.listener.Listener.{Listener}
 use Rattle.sub_check.specs.declared.packet_rules.PacketRule.{PacketRule}
 use Rattle.sub_check.specs.declared.packet_rules.Watched.{Watched}
 use Rattle.sub_check.proofs.OrderLemmas.{first_cell, first_frame, first_header_missing, first_open}
-use Rattle.sub_check.proofs.OrderLemmas.{first_packet}
+use Rattle.sub_check.proofs.OrderLemmas.{first_packet, gap_of_none}
 use Rattle.sub_check.proofs.PacketLists.{header_count-append, holds-count}
 use Rattle.sub_check.proofs.ShownLemmas.{AreSameCells, HeaderIs-none, HeaderIs-some}
-use Rattle.sub_check.proofs.ShownLemmas.{KnowsLast-drawn, WrongFirst, covered, ended_from, ended_not, joined_more}
-use Rattle.sub_check.proofs.ShownLemmas.{shows_all, uncovered, wrong_first}
-
--- What is kept after the packets of frame n of the list, and that they keep the rules.
-record Taken (g : Task) (frames : Transmission) (n : ℕ) (found : Bool) (headers : ℕ)
-    (s : Listener) : Type 0 where
-  pub packets : PacketsOk g frames n
-  pub last : KnowsLast (packets_before frames (n + 1)) (packets_of_frame frames (n + 1 - 1)) s
-  pub watched_is : s.watched ≡ g.watched
-  pub header : holds_header (kind g.watched.page) (packets_of_frame frames n) ≡ found
-  pub count : header_count g.watched.page (packets_of_frame frames n) ≡ headers
-
--- That, from what the listener shows.
-Taken-from : (g : Task) (frames : Transmission) (n : ℕ) (found : Bool) (headers : ℕ)
-    (s : Listener) (w : Watched) (ps : List (List ℕ))
-    → n < length frames → packets_of_frame frames n ≡ ps → w ≡ g.watched → s.watched ≡ w
-    → found ≡ nat_lt 0 headers → headers ≡ header_count w.page ps
-    → (m : ℕ) → length ps ≡ m → AreClean w (packets_before frames n) ps m
-    → KnowsLast (packets_before frames n ++ ps) ps s
-    → Taken g frames n found headers s
-Taken-from g frames n found headers s w ps there same watched kept is count m long clean last =
-    let all : packets_before frames n ++ ps ≡ packets_before frames (n + 1) =
-    ap (λ xs. packets_before frames n ++ xs) (sym same) ∙ sym (joined_more frames n there) in
-    let here : ps ≡ packets_of_frame frames (n + 1 - 1) =
-    sym same ∙ ap (packets_of_frame frames) (omega arith) in
-    record {
-      packets = record {
-        each = λ k rule t. subst
-            (λ v. KeepsRule rule v (packets_before frames n ++ take k (packets_of_frame frames n))
-            (get_or (packets_of_frame frames n) k [])) watched
-            (subst (λ xs. (k : ℕ) → k < length xs → (f : PacketRule)
-            → KeepsRule f w (packets_before frames n ++ take k xs) (get_or xs k [])) (sym same)
-            (subst (AreClean w (packets_before frames n) ps) (sym long) clean) k t.1 rule);
-      };
-      last = subst (λ xs. KnowsLast xs (packets_of_frame frames (n + 1 - 1)) s) all
-          (subst (λ xs. KnowsLast (packets_before frames n ++ ps) xs s) here last);
-      watched_is = kept ∙ watched;
-      header =
-          ap (holds_header (kind g.watched.page)) same
-          ∙ ap (λ v. holds_header (kind v.page) ps) (sym watched)
-          ∙ holds-count w.page ps
-          ∙ sym (is ∙ ap (nat_lt 0) count);
-      count =
-          ap (header_count g.watched.page) same
-          ∙ ap (λ v. header_count v.page ps) (sym watched)
-          ∙ sym count;
-    }
+use Rattle.sub_check.proofs.ShownLemmas.{KnowsLast-drawn, WrongFirst, covered, ended, joined_more}
+use Rattle.sub_check.proofs.ShownLemmas.{not_ended, shows_all, uncovered, wrong_first}
 
 -- Headers among the packets of the first n frames are those of some frame.
 some_before : (g : Task) (frames : Transmission) (n headers : ℕ)
@@ -108,15 +65,6 @@ rising_more frames n frame rising is j l = elim (cases_eq j n) [
   | inr other ↦ rising j (omega arith)
 ]
 
--- The packets of a first fault are those of the frame.
-fault_moved : (g : Task) (frames : Transmission) (n : ℕ) (w : Watched) (ps : List (List ℕ))
-    (k : ℕ) (rule : PacketRule) → packets_of_frame frames n ≡ ps → w ≡ g.watched
-    → BreaksFirstAt w (packets_before frames n) ps k rule
-    → BreaksFirstAt g.watched (packets_before frames n) (packets_of_frame frames n) k rule
-fault_moved g frames n w ps k rule same watched is =
-    subst (λ v. BreaksFirstAt v (packets_before frames n) (packets_of_frame frames n) k rule)
-    watched (subst (λ xs. BreaksFirstAt w (packets_before frames n) xs k rule) (sym same) is)
-
 -- All that is asked of the frames so far, one frame on.
 past_more : (g : Task) (frames : Transmission) (n : ℕ) → AreOk g frames n → FrameOk g frames n
     → AreOk g frames (n + 1)
@@ -134,38 +82,105 @@ Remembers-moved g frames n f c known later = record {
   task_is = known.task_is;
   watched_is = known.watched_is;
   knows = KnowsLast-drawn (packets_before frames n) _ c.listener _ known.knows;
-  first_is = known.first_is;
   rising = λ j l. let before = known.rising j l in omega arith;
   begun = known.begun;
   header = known.header;
   count = known.count;
 }
 
--- Before the first frame nothing is kept.
-pub Remembers-none :
+-- Before the first frame nothing is kept. For `new`.
+pub Follows-none :
     (g : Task) (frames : Transmission) (c : CheckerValue)
     → IsTaskOf g c.programme c.every
     → c.listener.watched ≡ g.watched
     → KnowsLast [] (packets_of_frame frames 0) c.listener
-    → c.first ≡ frame_at frames 0
     → c.headers ≡ 0
-    → Remembers g frames 0 c
-Remembers-none g frames c task watched knows first none = record {
-  task_is = task;
-  watched_is = watched;
-  knows = knows;
-  first_is = first;
-  rising = λ j l. absurd (omega arith);
-  begun = λ l. absurd (omega arith);
-  header = λ l. absurd (omega arith);
-  count = none;
+    → Follows g frames 0 c
+Follows-none g frames c task watched knows none = record {
+  remembers = record {
+    task_is = task;
+    watched_is = watched;
+    knows = knows;
+    rising = λ j l. absurd (omega arith);
+    begun = λ l. absurd (omega arith);
+    header = λ l. absurd (omega arith);
+    count = none;
+  };
+  first_is = λ l. absurd (omega arith);
+  frame_is = λ l. absurd (omega arith);
+  past = λ j l. absurd (omega arith);
 }
+
+-- The first frame is reached. For `reach`.
+pub Arrives-first :
+    (g : Task) (frames : Transmission) (n f : ℕ) (c : CheckerValue)
+    → Follows g frames n c
+    → n ≡ 0
+    → frame_at frames n ≡ f
+    → ((first : ℕ) → g.first_in ≡ Some first → f ≤ first)
+    → Arrives g frames n (at_first f c)
+Arrives-first g frames zero f c follows none is in_time =
+    let known = follows.remembers in
+    record {
+      remembers = record {
+        task_is = known.task_is;
+        watched_is = known.watched_is;
+        knows = KnowsLast-drawn [] _ c.listener _ known.knows;
+        rising = λ j l. absurd (omega arith);
+        begun = λ l. absurd (omega arith);
+        header = λ l. absurd (omega arith);
+        count = refl;
+      };
+      first_is = sym is;
+      frame_is = sym is;
+      past = follows.past;
+      order = record {
+        order = λ t. absurd (omega (arith, t.0));
+        start = λ e t first at. let l = in_time first at in omega arith;
+      };
+      gap = gap_of_none g frames;
+    }
+Arrives-first g frames (suc n) f c follows none is in_time = absurd (omega arith)
+
+-- A later one is, where the gap before it is crossed. For `reach`.
+pub Arrives-later :
+    {A : Type 0} (r : Result A CheckFault)
+    (g : Task) (frames : Transmission) (n f : ℕ) (c new : CheckerValue)
+    → Follows g frames n c
+    → 0 < n
+    → c.frame < f
+    → frame_at frames n ≡ f
+    → OrderOk g frames n
+    → OnOk r (new ≡ at_frame f c)
+    → MatchResult r (λ _. GapOk g frames n) (NamesFirst g frames)
+    → MatchResult r (λ _. Arrives g frames n new) (NamesFirst g frames)
+Arrives-later (Ok a) g frames n f c new follows some later is order same gap =
+    subst (Arrives g frames n) (sym same) (record {
+      remembers = Remembers-moved g frames n f c follows.remembers (omega arith);
+      first_is = follows.first_is some;
+      frame_is = sym is;
+      past = follows.past;
+      order = order;
+      gap = gap;
+    })
+Arrives-later (Err e) g frames n f c new follows some later is order same named = named
+
+-- And there is room to count its headers. For `reach`.
+pub room_later :
+    {A : Type 0} (r : Result A CheckFault) (f : ℕ) (c new : CheckerValue)
+    → OnOk r (new ≡ at_frame f c)
+    → c.headers ≤ most_headers f
+    → OnOk r (new.headers ≤ most_headers new.frame)
+room_later (Ok a) f c new same few =
+    subst (λ (v : CheckerValue). v.headers ≤ most_headers v.frame) (sym same) few
+room_later (Err e) f c new same few = same
 
 -- ---- the packets of a frame
 
 -- After the packets of frame n of the list, of whose end nothing is asked yet.
 pub record Took (g : Task) (frames : Transmission) (n : ℕ) (c : CheckerValue) : Type 0 where
   pub there : n < length frames
+  pub first_is : c.first ≡ frame_at frames 0
   pub frame_is : frame_at frames n ≡ c.frame
   pub past : AreOk g frames n
   pub order : OrderOk g frames n
@@ -175,15 +190,18 @@ pub record Took (g : Task) (frames : Transmission) (n : ℕ) (c : CheckerValue) 
   pub due_is : c.listener.comparison.due ≡ due_in c.programme c.frame
 
 module _ (g : Task) (frames : Transmission) (n : ℕ) (v b : CheckerValue) (same : b ≡ v)
-    (ps : List (List ℕ)) (before : Remembers g frames n v) (past : AreOk g frames n)
-    (is : IsSentFrame frames n v.frame ps) (order : OrderOk g frames n) (gap : GapOk g frames n)
+    (ps : List (List ℕ)) (arrives : Arrives g frames n v) (there : n < length frames)
+    (packets_are : packets_of_frame frames n ≡ ps)
   where
     -- What was kept before, of the fields.
+    arrived : Arrives g frames n b
+    arrived = subst (Arrives g frames n) (sym same) arrives
+
     known : Remembers g frames n b
-    known = subst (Remembers g frames n) (sym same) before
+    known = arrived.remembers
 
     here : frame_at frames n ≡ b.frame
-    here = is.frame_is ∙ ap (λ (c : CheckerValue). c.frame) (sym same)
+    here = sym arrived.frame_is
 
     -- A packet that breaks a rule.
     pub names_packet : (k : ℕ) (rule : PacketRule)
@@ -191,8 +209,12 @@ module _ (g : Task) (frames : Transmission) (n : ℕ) (v b : CheckerValue) (same
         → NamesFirst g frames (packet_fault rule b.frame k)
     names_packet k rule broken =
         subst (λ x. NamesFirst g frames (packet_fault rule x k)) here
-        (first_packet g frames n past k rule is.there order gap
-        (fault_moved g frames n b.listener.watched ps k rule is.packets_are known.watched_is broken))
+        (first_packet g frames n arrived.past k rule there arrived.order arrived.gap
+        (subst
+        (λ v. BreaksFirstAt v (packets_before frames n) (packets_of_frame frames n) k rule)
+        known.watched_is
+        (subst (λ xs. BreaksFirstAt b.listener.watched (packets_before frames n) xs k rule)
+        (sym packets_are) broken)))
 
     module _ (s : Listener) (m headers total : ℕ) (found : Bool)
         (kept : s.watched ≡ b.listener.watched) (long : length ps ≡ m)
@@ -202,57 +224,87 @@ module _ (g : Task) (frames : Transmission) (n : ℕ) (v b : CheckerValue) (same
         × (headers ≡ header_count b.listener.watched.page ps))
         (found_is : found ≡ nat_lt 0 headers) (total_is : total ≡ b.headers + headers)
       where
-        taken : Taken g frames n found headers s
-        taken =
-            Taken-from g frames n found headers s b.listener.watched ps is.there is.packets_are
-            known.watched_is kept found_is heard.2 m long heard.0 heard.1
+        -- The packets keep the rules.
+        packets_ok : PacketsOk g frames n
+        packets_ok = record {
+          each = λ k rule t. subst
+              (λ v.
+              KeepsRule rule v (packets_before frames n ++ take k (packets_of_frame frames n))
+              (get_or (packets_of_frame frames n) k [])) known.watched_is
+              (subst
+              (λ xs.
+              (k : ℕ)
+              → k < length xs
+              → (f : PacketRule)
+              → KeepsRule f b.listener.watched (packets_before frames n ++ take k xs)
+              (get_or xs k [])) (sym packets_are)
+              (subst (AreClean b.listener.watched (packets_before frames n) ps) (sym long) heard.0)
+              k t.1 rule);
+        }
+
+        -- The headers among them.
+        counted : header_count g.watched.page (packets_of_frame frames n) ≡ headers
+        counted =
+            ap (header_count g.watched.page) packets_are
+            ∙ ap (λ (w : Watched). header_count w.page ps) (sym known.watched_is)
+            ∙ sym heard.2
+
+        has_header : holds_header (kind g.watched.page) (packets_of_frame frames n) ≡ found
+        has_header =
+            holds-count g.watched.page (packets_of_frame frames n)
+            ∙ ap (nat_lt 0) counted
+            ∙ sym found_is
 
         -- No header of the page, in the first frame.
         pub names_missing : total ≡ 0 → NamesFirst g frames (fault.NoFirstHeader b.frame)
         names_missing none =
-            subst (λ x. NamesFirst g frames (fault.NoFirstHeader x)) here
-            (go n refl)
+            subst (λ x. NamesFirst g frames (fault.NoFirstHeader x)) here (go n refl)
           where
             without : HasHeader g frames n → ⊥
             without head =
-                let no : found ≡ false =
-                found_is ∙ ap (nat_lt 0) (let z : headers ≡ 0 = omega (arith, none, total_is) in z) in
-                true≢false (sym head ∙ taken.header ∙ no)
+                let no : headers ≡ 0 = omega (arith, none, total_is) in
+                true≢false (sym head ∙ has_header ∙ found_is ∙ ap (nat_lt 0) no)
 
             go : (i : ℕ) → n ≡ i → NamesFirst g frames (fault.NoFirstHeader (frame_at frames n))
             go zero e =
                 subst (λ j. NamesFirst g frames (fault.NoFirstHeader (frame_at frames j))) (sym e)
-                (first_header_missing g frames (let t = is.there in omega arith)
-                (subst (OrderOk g frames) e order) (subst (PacketsOk g frames) e taken.packets)
+                (first_header_missing g frames (omega (arith, there))
+                (subst (OrderOk g frames) e arrived.order) (subst (PacketsOk g frames) e packets_ok)
                 (subst (λ j. HasHeader g frames j → ⊥) e without))
             go (suc i) e =
-                absurd (let some = known.begun (omega arith) in omega (arith, some, none, total_is))
+                absurd
+                (let some = known.begun (omega (arith, e)) in omega (arith, some, none, total_is))
 
         -- What is kept after them.
         pub took : (at : ℕ) → (total ≡ 0 → ⊥) → at ≡ cond found b.frame b.header_at
             → s.comparison.due ≡ due_in b.programme b.frame
             → Took g frames n (record b { listener = s; header_at = at; headers = total })
         took at some at_is due = record {
-          there = is.there;
+          there = there;
+          first_is = arrived.first_is;
           frame_is = here;
-          past = past;
-          order = order;
-          gap = gap;
-          packets = taken.packets;
+          past = arrived.past;
+          order = arrived.order;
+          gap = arrived.gap;
+          packets = packets_ok;
           known = record {
             task_is = known.task_is;
-            watched_is = taken.watched_is;
-            knows = taken.last;
-            first_is = known.first_is;
+            watched_is = kept ∙ known.watched_is;
+            knows =
+                subst (λ xs. KnowsLast xs (packets_of_frame frames (n + 1 - 1)) s)
+                (ap (λ xs. packets_before frames n ++ xs) (sym packets_are)
+                ∙ sym (joined_more frames n there))
+                (subst (λ xs. KnowsLast (packets_before frames n ++ ps) xs s)
+                (sym packets_are ∙ ap (packets_of_frame frames) (omega arith)) heard.1);
             rising = rising;
             begun = λ l. more;
             header = λ l. subst (HeaderIs g frames (n + 1)) (sym at_is)
-                (HeaderIs-more g frames n b.header_at b.frame found known.header here taken.header
+                (HeaderIs-more g frames n b.header_at b.frame found known.header here has_header
                 rising (λ e. some_before g frames n b.headers known.count (without e)));
             count =
                 total_is
-                ∙ ap₂ (λ x y. x + y) known.count (sym taken.count)
-                ∙ sym (ap (header_count g.watched.page) (joined_more frames n is.there)
+                ∙ ap₂ (λ x y. x + y) known.count (sym counted)
+                ∙ sym (ap (header_count g.watched.page) (joined_more frames n there)
                 ∙ header_count-append g.watched.page (packets_before frames n)
                 (packets_of_frame frames n));
           };
@@ -310,14 +362,14 @@ module _ (g : Task) (frames : Transmission) (n : ℕ) (c : CheckerValue) (t : To
   names_gap same l =
       subst (λ f. NamesFirst g frames (fault.Gap f)) t.frame_is
       (first_frame g frames n t.past t.there t.order t.gap t.packets head (shown_there same)
-      (λ there. uncovered g frames (n + 1) c t.known t.due_is (omega arith) l
+      (λ there. uncovered g frames (n + 1) c t.known (omega arith) l
       (subst (IsCovered g frames (n + 1)) t.frame_is there)))
 
   -- A header that is not.
   covered_there : c.frame - c.header_at < c.every → IsCovered g frames (n + 1) (frame_at frames n)
   covered_there l =
       subst (IsCovered g frames (n + 1)) (sym t.frame_is)
-      (covered g frames (n + 1) c t.known t.due_is (omega arith) l)
+      (covered g frames (n + 1) c t.known (omega arith) l)
 
   -- A page that is open.
   pub names_open : AreSameCells c.listener → c.frame - c.header_at < c.every
@@ -327,16 +379,16 @@ module _ (g : Task) (frames : Transmission) (n : ℕ) (c : CheckerValue) (t : To
       subst (λ f. NamesFirst g frames (fault.Incomplete f)) t.frame_is
       (first_open g frames n t.past t.there t.order t.gap t.packets head (shown_there same)
       (covered_there l)
-      (ended_not g frames (n + 1) c.listener t.known.knows.knows t.known.watched_is is_open))
+      (not_ended g frames (n + 1) c t.known is_open))
 
   -- All that is asked holds.
   pub follows : AreSameCells c.listener → c.frame - c.header_at < c.every
       → (c.listener.watched.complete && c.listener.is_open) ≡ false
       → Follows g frames (n + 1) c
   follows same l closed = record {
-    some = omega arith;
-    frame_is = sym t.frame_is ∙ ap (frame_at frames) (omega arith);
     remembers = t.known;
+    first_is = λ some. t.first_is;
+    frame_is = λ some. sym t.frame_is ∙ ap (frame_at frames) (omega arith);
     past = past_more g frames n t.past (record {
       order = t.order;
       gap = t.gap;
@@ -345,8 +397,7 @@ module _ (g : Task) (frames : Transmission) (n : ℕ) (c : CheckerValue) (t : To
         first = λ e there. head e;
         cells = λ row column there. shown_there same row column there.1;
         covered = λ there. covered_there l;
-        ended = λ there. ended_from g frames (n + 1) c.listener t.known.knows.knows
-            t.known.watched_is closed;
+        ended = λ there. ended g frames (n + 1) c t.known closed;
       };
     });
   }

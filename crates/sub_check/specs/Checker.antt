@@ -26,8 +26,16 @@ at_frame f c = record c {
   };
 }
 
+-- The same at the frame of the first PES packet, which counts as the last with a header.
+abbrev pub at_first : ℕ → CheckerValue → CheckerValue
+at_first f c = record (at_frame f c) { first = f; header_at = f; headers = 0 }
+
+-- The headers of the page before a frame at most: those of a frame are counted in 8 bits.
+abbrev pub most_headers : ℕ → ℕ
+most_headers frame = 255 * frame
+
 -- The page that is kept as due and the next edge are those of the frame that was reached, neither
--- the first frame nor the last header is after it, and no frame has more than 255 headers.
+-- the first frame nor the last header is after it, and the headers are not too many to be counted.
 pub record IsAtFrame
     (programme : ProgrammeValue) (listener : Listener) (first frame : ℕ) (edge : Option ℕ)
     (header_at headers : ℕ)
@@ -36,4 +44,4 @@ pub record IsAtFrame
   pub edge_is : TellsNextEdge programme.records frame edge
   pub first_before : first ≤ frame
   pub header_before : header_at ≤ frame
-  pub few : headers ≤ 255 * frame + 255
+  pub few : headers ≤ most_headers (frame + 1)

@@ -1,6 +1,5 @@
--- What the checker's steps answer, and what it has reached after the first n PES packets.
+-- What the checker's steps answer.
 use Rattle.std.specs.Prelude.{◌≡◌, ℕ, ◌+◌, ◌<◌, ◌≤◌, false, List, [], ◌++◌, length}
-use Rattle.std.specs.Prelude.{take, drop}
 use Rattle.std.specs.Prelude.{Option, Some, None, ⊤}
 use Rattle.std.specs.Prelude.{Result, Ok, Err, All, flat_map}
 use Rattle.std.specs.List.{AllByRecursion, AllZip, concat}
@@ -11,14 +10,12 @@ use Rattle.stl_rows.specs.declared.national.National.{National}
 use Rattle.ttx_pes.specs.PesPacket.{IsPesPacket, PesValue}
 use Rattle.ttx_pes.specs.Reading.{answer_at, most_packets}
 use Rattle.sub_plan.specs.FrameTime.{frames_of_day, pts_of}
-use Rattle.sub_check.specs.Checker.{CheckerValue}
 use Rattle.sub_check.specs.Fault.{is_pes_read, is_pes_write, is_subtitle_fault}
 use Rattle.sub_check.specs.FirstBroken.{HoldsEverywhere, unread_fault}
-use Rattle.sub_check.specs.Following.{Follows}
 use Rattle.sub_check.specs.FrameRules.{Task, Unread, frame_at, end_frame, packets_before}
 use Rattle.sub_check.specs.PacketRules.{header_count}
 use Rattle.sub_check.specs.PesFrames.{IsSentAs}
-use Rattle.sub_check.specs.PesReading.{EndsReading, ReadsAs}
+use Rattle.sub_check.specs.PesReading.{EndsReading}
 use Rattle.sub_check.specs.Transmission.{SentFrame, Transmission, first_frame, last_frame}
 use Rattle.sub_check.specs.declared.checker.Accepted.{Accepted}
 use Rattle.sub_check.specs.declared.fault.CheckFault.{CheckFault}
@@ -98,17 +95,3 @@ pub record HasCounts (page : PageIdValue) (frames : Transmission) (a : Accepted)
   pub frames_are : a.frames + first_frame frames ≡ last_frame frames + 1
   pub transmissions_are :
       a.transmissions ≡ header_count page (flat_map (λ (s : SentFrame). s.packets) frames)
-
--- After n PES packets, n frames of the list are read and followed, and the others are left.
-pub record Reaches
-    (g : Task) (origin : ℕ) (bytes : List ℕ) (frames : Transmission) (unread : Option Unread)
-    (remaining : Option (List ℕ)) (n : ℕ) (c : CheckerValue)
-    : Type 0 where
-  pub few : n ≤ most_packets
-  pub within : n ≤ length frames
-  pub rest : List ℕ
-  pub rest_is : remaining ≡ Some rest
-  pub taken : AreTaken origin bytes (take n frames) rest
-  pub left : ReadsAs origin n rest (drop n frames) unread
-  pub follows : Follows g frames n c
-  pub whole : AreWhole (take n frames)

@@ -73,7 +73,6 @@ pub record Remembers (g : Task) (frames : Transmission) (n : ℕ) (c : CheckerVa
   pub task_is : IsTaskOf g c.programme c.every
   pub watched_is : c.listener.watched ≡ g.watched
   pub knows : KnowsLast (packets_before frames n) (packets_of_frame frames (n - 1)) c.listener
-  pub first_is : c.first ≡ frame_at frames 0
   pub rising : (j : ℕ) → j < n → frame_at frames j ≤ c.frame
   pub begun : 0 < n → 0 < c.headers
   pub header : 0 < n → HeaderIs g frames n c.header_at
@@ -81,7 +80,16 @@ pub record Remembers (g : Task) (frames : Transmission) (n : ℕ) (c : CheckerVa
 
 -- That, at the last of these frames, and all that is asked of them holds.
 pub record Follows (g : Task) (frames : Transmission) (n : ℕ) (c : CheckerValue) : Type 0 where
-  pub some : 0 < n
-  pub frame_is : c.frame ≡ frame_at frames (n - 1)
   pub remembers : Remembers g frames n c
+  pub first_is : 0 < n → c.first ≡ frame_at frames 0
+  pub frame_is : 0 < n → c.frame ≡ frame_at frames (n - 1)
   pub past : AreOk g frames n
+
+-- That, at the frame after them, and what is asked before its packets holds.
+pub record Arrives (g : Task) (frames : Transmission) (n : ℕ) (c : CheckerValue) : Type 0 where
+  pub remembers : Remembers g frames n c
+  pub first_is : c.first ≡ frame_at frames 0
+  pub frame_is : c.frame ≡ frame_at frames n
+  pub past : AreOk g frames n
+  pub order : OrderOk g frames n
+  pub gap : GapOk g frames n

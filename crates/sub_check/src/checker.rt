@@ -23,9 +23,6 @@ use sub_io::Source;
 use sub_plan::Options;
 use ttx_pes::{ComparingReader, PesFault};
 
-/// The PES packets of a file at most: one for each frame of a day.
-pub(crate) const MOST_PACKETS: u32 = 2_160_000;
-
 /// What an accepted transmission holds.
 #[derive(Clone, Copy, Debug, PartialEq, Eq)]
 pub struct Accepted {
@@ -109,22 +106,18 @@ fn judge<S: Source>(
         complete: options.asks_complete(),
     };
     let mut reader = ComparingReader::new();
-    let read = next_sending(&mut reader, source, options, 0)?;
-    let Some(sending) = read else {
-        return Err(CheckFault::Empty);
-    };
-    let mut checker = Checker::begin(programme, watched, every, sending.frame, units_of(&reader))?;
-    for pes in 1..=MOST_PACKETS {
+    let mut checker = Checker::new(programme, watched, every);
+    let mut pes = 0;
+    'packets: loop {
         let more = next_sending(&mut reader, source, options, pes)?;
         let Some(sending) = more else {
+            if pes == 0 {
+                return Err(CheckFault::Empty);
+            }
             return checker.finish();
         };
         let units = units_of(&reader);
         checker.go_on(pes, sending, units)?;
+        pes += 1;
     }
-    let fault = PesFault::TooMany;
-    Err(CheckFault::Pes {
-        pes: MOST_PACKETS,
-        fault,
-    })
 }

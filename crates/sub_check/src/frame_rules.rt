@@ -1,13 +1,13 @@
 //! The rules of frames: their order, the frames between two PES packets, and what is due at each
 //! frame's end.
 ghost use Rattle.std.specs.Prelude.{◌≡◌, ℕ, ◌+◌, ◌-◌, ◌<◌, ◌≤◌, ◌↔◌, length, if◌then◌else◌};
-ghost use Rattle.std.specs.Prelude.{◌*◌, MatchResult, OnOk, IfErr, IsTrue};
+ghost use Rattle.std.specs.Prelude.{MatchResult, OnOk, IfErr, IsTrue};
 ghost use Rattle.std.specs.Prelude.{Some, nat_lt, true};
 ghost use Rattle.stl_rows.specs.Programme.{last_out};
 ghost use Rattle.sub_check.specs.Checking.{IsRuleFault, TellsEnd};
 ghost use Rattle.sub_check.specs.FirstBroken.{NamesFirst, packet_fault};
 ghost use Rattle.sub_check.specs.FrameRules.{Task, frame_at, packets_of_frame};
-ghost use Rattle.sub_check.specs.PacketRules.{packets_of_units};
+ghost use Rattle.sub_check.specs.PacketRules.{most_units, packets_of_units};
 ghost use Rattle.sub_check.specs.Transmission.{Transmission};
 
 use crate::checker::Accepted;
@@ -58,9 +58,27 @@ impl<'a> Model for Checker<'a> {
 }
 
 impl<'a> Checker<'a> {
-    ghost use Rattle.sub_check.specs.Checker.{at_frame};
-    ghost use Rattle.sub_check.specs.Following.{AreOk, Follows, GapOk, IsSentFrame, IsTaskOf};
-    ghost use Rattle.sub_check.specs.Following.{OrderOk, Remembers};
+    ghost use Rattle.sub_check.specs.Checker.{at_first, at_frame, most_headers};
+    ghost use Rattle.sub_check.specs.Following.{Arrives, Follows, GapOk, IsSentFrame, IsTaskOf};
+    ghost use Rattle.sub_check.specs.Following.{OrderOk};
+
+    /// Before the first PES packet: nothing was heard.
+    pub fn new(programme: &'a Programme, watched: Watched, every: u32) -> Self
+        ensures { (g : Task) (frames : Transmission)
+            → IsTaskOf g programme.now every → g.watched ≡ watched
+            → Follows g frames 0 result }
+    {
+        Checker {
+            programme,
+            every,
+            listener: Listener::new(watched, programme.due_page(0)),
+            first: 0,
+            frame: 0,
+            edge: programme.next_edge(0),
+            header_at: 0,
+            headers: 0,
+        }
+    }
 
     // Goes on to the next frame: where a subtitle begins or ends, the due page is drawn anew.
     fn advance(&mut self, f: u32)
@@ -93,7 +111,7 @@ impl<'a> Checker<'a> {
         ensures own { IfErr result IsRuleFault }
         ensures frame { OnOk result (self.new ≡ at_frame to self.old) }
         ensures exact { (g : Task) (frames : Transmission) (n : ℕ)
-            → Follows g frames n self.old
+            → Follows g frames n self.old → 0 < n
             → n < length frames → frame_at frames n ≡ to → OrderOk g frames n
             → MatchResult result (λ _. GapOk g frames n) (NamesFirst g frames) }
     {
@@ -116,14 +134,13 @@ impl<'a> Checker<'a> {
 
     // The packets of the frame that was reached, and its end.
     fn take(&mut self, again: bool, units: &[Unit]) -> Result<(), CheckFault>
-        requires few { length units.now ≤ 35 }
-        requires room { self.old.headers ≤ 255 * self.old.frame }
+        requires few { length units.now ≤ most_units }
+        requires room { self.old.headers ≤ most_headers self.old.frame }
         ensures own { IfErr result IsRuleFault }
         ensures exact { (g : Task) (frames : Transmission) (n : ℕ)
-            → Remembers g frames n self.old → AreOk g frames n
-            → IsSentFrame frames n self.old.frame (packets_of_units units.now)
+            → Arrives g frames n self.old
+            → n < length frames → packets_of_frame frames n ≡ packets_of_units units.now
             → (again ≡ true → packets_of_frame frames (n - 1) ≡ packets_of_units units.now)
-            → OrderOk g frames n → GapOk g frames n
             → MatchResult result (λ _. Follows g frames (n + 1) self.new) (NamesFirst g frames) }
     {
         let frame = self.frame;
@@ -148,9 +165,45 @@ impl<'a> Checker<'a> {
         Ok(())
     }
 
-    /// A PES packet after the first: what is sent, and its units.
+    // Begins at the frame of the first PES packet. Apart from `reach`, for the room of a page.
+    #[inline(never)]
+    fn start(&mut self, frame: u32)
+        ensures { self.new ≡ at_first frame self.old }
+    {
+        let programme = self.programme;
+        self.listener.draw(programme.due_page(frame));
+        self.edge = programme.next_edge(frame);
+        self.first = frame;
+        self.frame = frame;
+        self.header_at = frame;
+        self.headers = 0;
+    }
+
+    // Goes on to the frame of a PES packet.
+    fn reach(&mut self, pes: u32, frame: u32) -> Result<(), CheckFault>
+        ensures own { IfErr result IsRuleFault }
+        ensures room { OnOk result (self.new.headers ≤ most_headers self.new.frame) }
+        ensures exact { (g : Task) (frames : Transmission)
+            → Follows g frames pes self.old
+            → pes < length frames → frame_at frames pes ≡ frame
+            → MatchResult result (λ _. Arrives g frames pes self.new) (NamesFirst g frames) }
+    {
+        if pes == 0 {
+            if !is_in_time(self.programme.first_in(), frame) {
+                return Err(CheckFault::Early { frame });
+            }
+            self.start(frame);
+            return Ok(());
+        }
+        if frame <= self.frame {
+            return Err(CheckFault::Order { pes });
+        }
+        self.cross_gap(frame)
+    }
+
+    /// A PES packet: its number, what is sent, and its units.
     pub fn go_on(&mut self, pes: u32, sending: Sending, units: &[Unit]) -> Result<(), CheckFault>
-        requires few { length units.now ≤ 35 }
+        requires few { length units.now ≤ most_units }
         ensures own { IfErr result IsRuleFault }
         ensures exact { (g : Task) (frames : Transmission)
             → Follows g frames pes self.old
@@ -159,43 +212,8 @@ impl<'a> Checker<'a> {
             → packets_of_frame frames (pes - 1) ≡ packets_of_units units.now)
             → MatchResult result (λ _. Follows g frames (pes + 1) self.new) (NamesFirst g frames) }
     {
-        if sending.frame <= self.frame {
-            return Err(CheckFault::Order { pes });
-        }
-        self.cross_gap(sending.frame)?;
+        self.reach(pes, sending.frame)?;
         self.take(sending.again, units)
-    }
-
-    /// The first PES packet: its frame and its units.
-    pub fn begin(
-        programme: &'a Programme,
-        watched: Watched,
-        every: u32,
-        frame: u32,
-        units: &[Unit],
-    ) -> Result<Self, CheckFault>
-        requires few { length units.now ≤ 35 }
-        ensures own { IfErr result IsRuleFault }
-        ensures exact { (g : Task) (frames : Transmission)
-            → IsTaskOf g programme.now every → g.watched ≡ watched
-            → IsSentFrame frames 0 frame (packets_of_units units.now)
-            → MatchResult result (Follows g frames 1) (NamesFirst g frames) }
-    {
-        if !is_in_time(programme.first_in(), frame) {
-            return Err(CheckFault::Early { frame });
-        }
-        let mut checker = Checker {
-            programme,
-            every,
-            listener: Listener::new(watched, programme.due_page(frame)),
-            first: frame,
-            frame,
-            edge: programme.next_edge(frame),
-            header_at: frame,
-            headers: 0,
-        };
-        checker.take(false, units)?;
-        Ok(checker)
     }
 
     /// What is left to ask at the end of the file.

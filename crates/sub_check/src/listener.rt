@@ -5,7 +5,7 @@ ghost use Rattle.std.specs.Prelude.{if◌then◌else◌, ◌&&◌, ◌==◌, Som
 ghost use Rattle.ttx_packet.specs.PageHeader.{header};
 ghost use Rattle.ttx_page.specs.Page.{AreCodes, DiffersFirst, IsCell, IsPage, blank, cell};
 ghost use Rattle.ttx_page.specs.PacketKind.{is_this_page, kind};
-ghost use Rattle.sub_check.specs.PacketRules.{header_count, packets_of_units};
+ghost use Rattle.sub_check.specs.PacketRules.{header_count, most_units, packets_of_units};
 
 use crate::comparison::Comparison;
 use crate::packet_rules::{
@@ -26,16 +26,16 @@ pub(crate) struct BrokenRule {
 /// What is kept of the packets that were heard.
 #[derive(Drop)]
 pub(crate) struct Listener {
-    pub watched: Watched,
-    /// C11 of the first header.
-    pub serial: Option<bool>,
-    /// The page is open for rows.
-    pub is_open: bool,
-    /// The rows that were sent since the last header of the page.
-    pub sent: [bool; 24],
-    pub comparison: Comparison,
-    /// How many headers of the page the packets heard last hold, where the first of these is one.
-    pub last: Option<u8>,
+    watched: Watched,
+    // C11 of the first header.
+    serial: Option<bool>,
+    // The page is open for rows.
+    is_open: bool,
+    // The rows that were sent since the last header of the page.
+    sent: [bool; 24],
+    comparison: Comparison,
+    // How many headers of the page the packets heard last hold, where the first of these is one.
+    last: Option<u8>,
 }
 
 impl Listener {
@@ -169,7 +169,7 @@ impl Listener {
     /// Packets that begin with a header of the page and keep the rules keep them again, and leave
     /// what is kept as it is: no packet is looked at.
     pub fn hear_sending(&mut self, units: &[Unit], again: bool) -> Result<u8, BrokenRule>
-        requires few { length units.now ≤ 35 }
+        requires few { length units.now ≤ most_units }
         ensures watched { self.new.watched ≡ self.old.watched }
         ensures due { self.new.comparison.due ≡ self.old.comparison.due }
         ensures knows { (heard last : List (List ℕ)) → KnowsLast heard last self.old
@@ -191,7 +191,7 @@ impl Listener {
 
     // Hears the packets of a frame as long as they break no rule.
     fn hear_all(&mut self, units: &[Unit]) -> Result<u8, BrokenRule>
-        requires few { length units.now ≤ 35 }
+        requires few { length units.now ≤ most_units }
         ensures watched { self.new.watched ≡ self.old.watched }
         ensures due { self.new.comparison.due ≡ self.old.comparison.due }
         ensures knows { (heard : List (List ℕ)) → Knows heard self.old → MatchResult result
@@ -262,7 +262,7 @@ impl Listener {
 
 // One header more, or none.
 fn counted(headers: u8, is_header: bool) -> u8
-    requires { headers < 35 }
+    requires { headers < most_units }
     ensures { result ≡ headers + (if is_header then 1 else 0) }
 {
     if is_header { headers + 1 } else { headers }

@@ -9,7 +9,6 @@ ghost use Rattle.sub_check.specs.PesReading.{ReadsAs};
 ghost use Rattle.sub_check.specs.Transmission.{Transmission};
 ghost use Rattle.sub_check.specs.declared.listening_run.ListenFault.TheVariants.{File};
 
-use crate::checker::MOST_PACKETS;
 use crate::fault::CheckFault;
 use crate::hearing::hear_sending;
 use crate::listening::Listening;
@@ -18,6 +17,9 @@ use crate::sending::next_sending;
 use sub_io::Source;
 use ttx_page::{Page, Receiver};
 use ttx_pes::ComparingReader;
+
+/// The PES packets of a file at most: one for each frame of a day.
+const MOST_PACKETS: u32 = 2_160_000;
 
 /// Why a PES file is not heard.
 #[derive(Clone, Copy, Debug, PartialEq, Eq)]

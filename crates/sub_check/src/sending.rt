@@ -7,8 +7,10 @@ ghost use Rattle.ttx_pes.specs.PesPacket.{IsPesValue};
 ghost use Rattle.ttx_pes.specs.Reader.{FailsWithin, TakesPesPacket};
 ghost use Rattle.ttx_pes.specs.Reading.{answer_at, most_packets, rest_after};
 ghost use Rattle.ttx_pes.specs.declared.progress.Progress.TheVariants.{Reading};
+ghost use Rattle.sub_plan.specs.FrameTime.{frames_of_day};
 ghost use Rattle.sub_check.specs.Checking.{TellsFrame, as_frame};
 ghost use Rattle.sub_check.specs.Fault.{is_pes_read, is_pes_write, is_subtitle_fault};
+ghost use Rattle.sub_check.specs.PacketRules.{most_units};
 
 use crate::fault::CheckFault;
 use sub_io::Source;
@@ -61,7 +63,7 @@ pub(crate) fn next_sending<S: Source>(
         → reader.new.progress ≡ Reading (pes + 1) }
     // More than a day has frames are refused.
     ensures few { (sending : Sending) → result ≡ Ok (Some sending) → pes < most_packets }
-    ensures day { (sending : Sending) → result ≡ Ok (Some sending) → sending.frame < 2160000 }
+    ensures day { (sending : Sending) → result ≡ Ok (Some sending) → sending.frame < frames_of_day }
     ensures count { CountsIf S.failure_count source.old (failed is_pes_read result) source.new }
 {
     match reader.next(source) {
@@ -86,7 +88,7 @@ fn sending_of(
     ensures own { failed is_subtitle_fault result ≡ false }
     ensures source { failed is_pes_read result ≡ false }
     ensures no_write { failed is_pes_write result ≡ false }
-    ensures day { (sending : Sending) → result ≡ Ok (Some sending) → sending.frame < 2160000 }
+    ensures day { (sending : Sending) → result ≡ Ok (Some sending) → sending.frame < frames_of_day }
 {
     match options.frame_of(packet.pts()) {
         Some(frame) => Ok(Some(Sending { frame, again })),
@@ -97,7 +99,7 @@ fn sending_of(
 /// The Teletext units of the PES packet that was read last.
 pub(crate) fn units_of(reader: &ComparingReader) -> &[Unit]
     ensures value { result.now ≡ reader.now.frame.units }
-    ensures few { length result.now ≤ 35 }
+    ensures few { length result.now ≤ most_units }
     ensures frame { IsPesValue reader.now.frame }
 {
     reader.frame().units()

@@ -3,106 +3,58 @@ use Rattle.std.proofs.Common.{◌∙◌, List, Option, Result, Ok, sym, refl, ap
 use Rattle.std.proofs.Common.{arith}
 use Rattle.std.proofs.lemmas.Result.{err_from_is_err_and}
 use Rattle.ttx_pes.proofs.TakenPackets.{takes-more, takes-none}
+use Rattle.ttx_pes.specs.Comparing.{ComparingValue}
 use Rattle.ttx_pes.specs.DataUnit.{UnitValue}
 use Rattle.sub_check.specs.Following.{IsSentFrame}
 use Rattle.sub_check.specs.FrameRules.{packets_of_frame, task_of}
 use Rattle.sub_check.specs.PacketRules.{packets_of_units}
 use Rattle.sub_check.specs.declared.fault.CheckFault.{CheckFault}
 use Rattle.sub_check.specs.declared.sending.Sending.{Sending}
-use Rattle.sub_check.proofs.JudgeLemmas.{empty_refusal, end_told, first_sent, next_refusal}
-use Rattle.sub_check.proofs.JudgeLemmas.{next_sent, no_failure_at, source_failed, reaches_first}
-use Rattle.sub_check.proofs.JudgeLemmas.{reaches_next, unread_refusal, failed_at}
+use Rattle.sub_check.proofs.JudgeLemmas.{Reads-none, again_is, empty_refusal, end_told, failed_at}
+use Rattle.sub_check.proofs.JudgeLemmas.{next_read, next_refusal, next_sent, no_failure_at}
+use Rattle.sub_check.proofs.JudgeLemmas.{source_failed}
 use Rattle.sub_check.proofs.TakingLemmas.{task_is, watched_is}
 use Rattle.sub_check.proofs.checker.judge.Goals as goal
 
-pub returns-in_err-read-clause-exact : goal.returns-in_err-read-clause-exact
-returns-in_err-read-clause-exact g c = λ frames unread bytes told reads fine.
-    let p = err_from_is_err_and c.from_residual.result c.from_residual.ensures.1 in
-    let known = rw (p.1, p.2) at fine in
-    rw (p.1, p.2)
-    (unread_refusal c.args.programme.now c.args.options.now frames unread 0 bytes
-    c.next_sending.new.reader.frame _ (omega arith) (omega arith) (λ j l. absurd (omega arith)) reads
-    (c.in_err-read.ensures.exact bytes told known))
-
-pub returns-in_default-clause-exact : goal.returns-in_default-clause-exact
-returns-in_default-clause-exact g c = λ frames unread bytes told reads fine.
-    empty_refusal c.args.programme.now c.args.options.now frames unread bytes reads
-    (rw c.in_default.is at (c.in_ok-read.ensures.exact bytes told fine))
-
-pub returns-in_err-checker-clause-exact : goal.returns-in_err-checker-clause-exact
-returns-in_err-checker-clause-exact g c = λ frames unread bytes told reads fine.
-    let p =
-    err_from_is_err_and c.from_residual-in_err-checker.result
-    c.from_residual-in_err-checker.ensures.1 in
-    let at = rw c.in-Some.is at (c.in_ok-read.ensures.exact bytes told refl) in
-    rw (p.1, p.2)
-    (c.in_err-checker.ensures.exact (task_of c.args.programme.now c.args.options.now unread) frames
-    (task_is c.args.programme.now c.args.options.now unread _ c.every-every.ensures.value)
-    (watched_is c.args.programme.now c.args.options.now _ _ _ c.page.ensures.value
-    c.national.ensures.value c.asks_complete.ensures.value)
-    (subst (λ (us : List UnitValue). IsSentFrame frames 0 c.in-Some.sending.frame (packets_of_units us))
-    (sym c.units_of.ensures.value)
-    (first_sent c.args.programme.now c.args.options.now frames unread bytes
-    c.next_sending.new.reader.frame c.in-Some.sending.frame reads at)))
-
-pub returns-in_err-checker-clause-count : goal.returns-in_err-checker-clause-count
-returns-in_err-checker-clause-count g c =
-    let p =
-    err_from_is_err_and c.from_residual-in_err-checker.result
-    c.from_residual-in_err-checker.ensures.1 in
-    rw (p.1, p.2, c.in_err-checker.ensures.own.no_source) c.in_ok-read.ensures.count
-
-pub loop-pes-init : goal.loop-pes-init
-loop-pes-init g c =
-    let counted = c.in_ok-read.ensures.count in
-    record {
-      reading =
-          c.in_ok-read.ensures.progress c.in-Some.sending
-          (ap (λ x. let r : Result (Option Sending) CheckFault = Ok x in r) c.in-Some.is);
-      taken =
-          takes-more 0 _ _ _ _ (takes-none _)
-          (c.in_ok-read.ensures.taken c.in-Some.sending
-          (ap (λ x. let r : Result (Option Sending) CheckFault = Ok x in r) c.in-Some.is));
-      failures = omega (arith, counted);
-      told = λ frames unread bytes told reads.
-          let at = rw c.in-Some.is at (c.in_ok-read.ensures.exact bytes told refl) in
-          let sent =
-          first_sent c.args.programme.now c.args.options.now frames unread bytes
-          c.next_sending.new.reader.frame c.in-Some.sending.frame reads at in (
-            reaches_first c.args.programme.now c.args.options.now frames unread bytes
-                c.next_sending.new.reader.frame c.in-Some.sending.frame _ _ c.in_ok-checker.checker reads
-                at told (c.in_ok-read.ensures.left bytes told)
-                (c.in_ok-read.ensures.taken c.in-Some.sending
-                (ap (λ x. let r : Result (Option Sending) CheckFault = Ok x in r) c.in-Some.is))
-                c.units_of.ensures.frame
-                (c.in_ok-checker.ensures.exact
-                (task_of c.args.programme.now c.args.options.now unread) frames
-                (task_is c.args.programme.now c.args.options.now unread _ c.every-every.ensures.value)
-                (watched_is c.args.programme.now c.args.options.now _ _ _ c.page.ensures.value
-                c.national.ensures.value c.asks_complete.ensures.value)
-                (subst (λ (us : List UnitValue). IsSentFrame frames 0 c.in-Some.sending.frame
-                (packets_of_units us)) (sym c.units_of.ensures.value) sent)),
-            sent.packets_are,
-          );
-    }
+pub packets-init : goal.packets-init
+packets-init g c = record {
+  few = omega arith;
+  reading = ap (λ (r : ComparingValue). r.progress) c.new-reader.ensures;
+  taken = takes-none _;
+  failures = refl;
+  told = λ frames unread bytes told reads. (
+    Reads-none c.args.options.now.origin bytes frames unread _ told reads,
+    c.new-checker.ensures (task_of c.args.programme.now c.args.options.now unread) frames
+        (task_is c.args.programme.now c.args.options.now unread _ c.every-every.ensures.value)
+        (watched_is c.args.programme.now c.args.options.now _ _ _ c.page.ensures.value
+        c.national.ensures.value c.asks_complete.ensures.value),
+    λ some. absurd (omega arith),
+  );
+}
 
 pub returns-in_err-more-clause-exact : goal.returns-in_err-more-clause-exact
 returns-in_err-more-clause-exact g c = λ frames unread bytes told reads fine.
-    let p =
-    err_from_is_err_and c.from_residual-in_err-more.result c.from_residual-in_err-more.ensures.1 in
+    let p = err_from_is_err_and c.from_residual.result c.from_residual.ensures.1 in
     let known = rw (p.1, p.2) at fine in
-    let i = (c.loop-pes.invariant.told frames unread bytes told reads).0 in
+    let i = c.packets.invariant.told frames unread bytes told reads in
     rw (p.1, p.2)
-    (next_refusal c.args.programme.now c.args.options.now frames unread bytes c.loop-pes.pes _
-    c.loop-pes.checker i c.next_sending-in-loop-pes.new.reader.frame _
-    (c.in_err-more.ensures.exact i.rest i.rest_is known))
+    (next_refusal c.args.programme.now c.args.options.now frames unread bytes c.packets.pes _ i.0
+    i.1.past c.next_sending.new.reader.frame _
+    (c.in_err-more.ensures.exact i.0.rest i.0.rest_is known))
 
-pub returns-in_default-more-clause-exact : goal.returns-in_default-more-clause-exact
-returns-in_default-more-clause-exact g c = λ frames unread bytes told reads fine.
-    let i = (c.loop-pes.invariant.told frames unread bytes told reads).0 in
-    end_told c.args.programme.now c.args.options.now frames unread bytes c.loop-pes.pes _
-    c.loop-pes.checker i c.finish.result
-    (rw c.in_default-more.is at (c.in_ok-more.ensures.exact i.rest i.rest_is refl))
+pub returns-then-pes-eq0-clause-exact : goal.returns-then-pes-eq0-clause-exact
+returns-then-pes-eq0-clause-exact g c = λ frames unread bytes told reads fine.
+    let i = c.packets.invariant.told frames unread bytes told reads in
+    empty_refusal c.args.programme.now c.args.options.now frames unread bytes c.packets.pes _ i.0
+    c.if-pes-eq0.true
+    (rw c.in_default.is at (c.in_ok-more.ensures.exact i.0.rest i.0.rest_is refl))
+
+pub returns-in_default-clause-exact : goal.returns-in_default-clause-exact
+returns-in_default-clause-exact g c = λ frames unread bytes told reads fine.
+    let i = c.packets.invariant.told frames unread bytes told reads in
+    end_told c.args.programme.now c.args.options.now frames unread bytes c.packets.pes _ i.0
+    c.packets.checker i.1 (omega arith)
+    (rw c.in_default.is at (c.in_ok-more.ensures.exact i.0.rest i.0.rest_is refl)) c.finish.result
     c.finish.ensures.end
 
 pub returns-in_err-go_on-clause-exact : goal.returns-in_err-go_on-clause-exact
@@ -110,22 +62,21 @@ returns-in_err-go_on-clause-exact g c = λ frames unread bytes told reads fine.
     let p =
     err_from_is_err_and c.from_residual-in_err-go_on.result
     c.from_residual-in_err-go_on.ensures.1 in
-    let i = (c.loop-pes.invariant.told frames unread bytes told reads).0 in
-    let at = rw c.in-Some-more.is at (c.in_ok-more.ensures.exact i.rest i.rest_is refl) in
+    let i = c.packets.invariant.told frames unread bytes told reads in
+    let at = rw c.in-Some.is at (c.in_ok-more.ensures.exact i.0.rest i.0.rest_is refl) in
+    let sent =
+    subst (λ (us : List UnitValue). IsSentFrame frames c.packets.pes c.in-Some.sending.frame
+    (packets_of_units us)) (sym c.units_of-units.ensures.value)
+    (next_sent c.args.programme.now c.args.options.now frames unread bytes c.packets.pes _ i.0
+    c.next_sending.new.reader.frame c.in-Some.sending.frame at) in
     rw (p.1, p.2)
     (c.in_err-go_on.ensures.exact (task_of c.args.programme.now c.args.options.now unread) frames
-    i.follows
-    (subst
-    (λ (us : List UnitValue). IsSentFrame frames c.loop-pes.pes c.in-Some-more.sending.frame
-    (packets_of_units us)) (sym c.units_of-units.ensures.value)
-    (next_sent c.args.programme.now c.args.options.now frames unread bytes c.loop-pes.pes _
-    c.loop-pes.checker i c.next_sending-in-loop-pes.new.reader.frame
-    c.in-Some-more.sending.frame at))
-    (λ e. (c.loop-pes.invariant.told frames unread bytes told reads).1
-    ∙ ap packets_of_units
-    (sym (c.in_ok-more.ensures.again c.in-Some-more.sending
-    (ap (λ x. let r : Result (Option Sending) CheckFault = Ok x in r) c.in-Some-more.is) e)
-    ∙ sym c.units_of-units.ensures.value)))
+    i.1 sent
+    (λ e. again_is frames c.packets.pes _ _ _ sent i.2
+    (ap packets_of_units
+    (sym (c.in_ok-more.ensures.again c.in-Some.sending
+    (ap (λ x. let r : Result (Option Sending) CheckFault = Ok x in r) c.in-Some.is) e)
+    ∙ sym c.units_of-units.ensures.value))))
 
 pub returns-in_err-go_on-clause-count : goal.returns-in_err-go_on-clause-count
 returns-in_err-go_on-clause-count g c =
@@ -133,82 +84,54 @@ returns-in_err-go_on-clause-count g c =
     err_from_is_err_and c.from_residual-in_err-go_on.result
     c.from_residual-in_err-go_on.ensures.1 in
     let counted = c.in_ok-more.ensures.count in
-    let before = c.loop-pes.invariant.failures in
+    let before = c.packets.invariant.failures in
     rw (p.1, p.2, c.in_err-go_on.ensures.own.no_source)
     (omega (arith, counted, before))
 
-pub loop-pes-preserved : goal.loop-pes-preserved
-loop-pes-preserved g c =
+pub packets-preserved : goal.packets-preserved
+packets-preserved g c =
+    let given = ap (λ x. let r : Result (Option Sending) CheckFault = Ok x in r) c.in-Some.is in
+    let next = c.in_ok-more.ensures.few c.in-Some.sending given in
     let counted = c.in_ok-more.ensures.count in
-    let before = c.loop-pes.invariant.failures in
+    let before = c.packets.invariant.failures in
+    let takes = c.in_ok-more.ensures.taken c.in-Some.sending given in
     record {
-      reading =
-          c.in_ok-more.ensures.progress c.in-Some-more.sending
-          (ap (λ x. let r : Result (Option Sending) CheckFault = Ok x in r) c.in-Some-more.is);
-      taken =
-          takes-more c.loop-pes.pes _ _ _ _ c.loop-pes.invariant.taken
-          (c.in_ok-more.ensures.taken c.in-Some-more.sending
-          (ap (λ x. let r : Result (Option Sending) CheckFault = Ok x in r) c.in-Some-more.is));
+      few = omega (arith, next);
+      reading = c.in_ok-more.ensures.progress c.in-Some.sending given;
+      taken = takes-more c.packets.pes _ _ _ _ c.packets.invariant.taken takes;
       failures = omega (arith, counted, before);
       told = λ frames unread bytes told reads.
-          let i = (c.loop-pes.invariant.told frames unread bytes told reads).0 in
-          let at = rw c.in-Some-more.is at (c.in_ok-more.ensures.exact i.rest i.rest_is refl) in
+          let i = c.packets.invariant.told frames unread bytes told reads in
+          let at = rw c.in-Some.is at (c.in_ok-more.ensures.exact i.0.rest i.0.rest_is refl) in
+          let first =
+          next_sent c.args.programme.now c.args.options.now frames unread bytes c.packets.pes _ i.0
+          c.next_sending.new.reader.frame c.in-Some.sending.frame at in
           let sent =
-          next_sent c.args.programme.now c.args.options.now frames unread bytes c.loop-pes.pes _
-          c.loop-pes.checker i c.next_sending-in-loop-pes.new.reader.frame
-          c.in-Some-more.sending.frame at in (
-            reaches_next c.args.programme.now c.args.options.now frames unread bytes c.loop-pes.pes
-                _ c.loop-pes.checker i c.next_sending-in-loop-pes.new.reader.frame
-                c.in-Some-more.sending.frame _ c.go_on.new.self at
-                (c.in_ok-more.ensures.left i.rest i.rest_is)
-                (c.in_ok-more.ensures.taken c.in-Some-more.sending
-                (ap (λ x. let r : Result (Option Sending) CheckFault = Ok x in r) c.in-Some-more.is))
-                c.units_of-units.ensures.frame
-                (c.in_ok-go_on.ensures.exact
-                (task_of c.args.programme.now c.args.options.now unread) frames
-                i.follows
-                (subst
-                (λ (us : List UnitValue). IsSentFrame frames c.loop-pes.pes c.in-Some-more.sending.frame
-                (packets_of_units us)) (sym c.units_of-units.ensures.value) sent)
-                (λ e. (c.loop-pes.invariant.told frames unread bytes told reads).1
-                ∙ ap packets_of_units
-                (sym (c.in_ok-more.ensures.again c.in-Some-more.sending
-                (ap (λ x. let r : Result (Option Sending) CheckFault = Ok x in r) c.in-Some-more.is) e)
+          subst (λ (us : List UnitValue). IsSentFrame frames c.packets.pes c.in-Some.sending.frame
+          (packets_of_units us)) (sym c.units_of-units.ensures.value) first in (
+            next_read c.args.programme.now c.args.options.now frames unread bytes c.packets.pes _
+                i.0 c.next_sending.new.reader.frame c.in-Some.sending.frame _ at
+                (c.in_ok-more.ensures.left i.0.rest i.0.rest_is) takes
+                c.units_of-units.ensures.frame,
+            c.in_ok-go_on.ensures.exact (task_of c.args.programme.now c.args.options.now unread) frames
+                i.1 sent
+                (λ e. again_is frames c.packets.pes _ _ _ sent i.2
+                (ap packets_of_units
+                (sym (c.in_ok-more.ensures.again c.in-Some.sending given e)
                 ∙ sym c.units_of-units.ensures.value))),
-            ap (packets_of_frame frames) (omega arith) ∙ sent.packets_are,
+            λ some. ap (packets_of_frame frames) (omega arith) ∙ first.packets_are,
           );
     }
 
-pub returns-clause-exact : goal.returns-clause-exact
-returns-clause-exact g c = λ frames unread bytes told reads fine.
-    let i = (c.loop-pes.invariant.told frames unread bytes told reads).0 in
-    let few = i.few in
-    let past = c.loop-pes-test.false in
-    absurd (omega (arith, few, past))
-
-pub returns-in_err-read-clause-failed : goal.returns-in_err-read-clause-failed
-returns-in_err-read-clause-failed g c = λ frames unread pes bytes told reads is.
-    let p = err_from_is_err_and c.from_residual.result c.from_residual.ensures.1 in
-    source_failed c.args.programme.now c.args.options.now frames unread 0 pes _ (omega arith)
-    (λ j l. absurd (omega arith)) c.in_err-read.ensures.place (rw (p.1, p.2) at is)
-
-pub returns-in_err-checker-clause-failed : goal.returns-in_err-checker-clause-failed
-returns-in_err-checker-clause-failed g c = λ frames unread pes bytes told reads is.
-    let p =
-    err_from_is_err_and c.from_residual-in_err-checker.result
-    c.from_residual-in_err-checker.ensures.1 in
-    absurd (no_failure_at _ pes c.in_err-checker.ensures.own (rw (p.1, p.2) at is))
-
 pub returns-in_err-more-clause-failed : goal.returns-in_err-more-clause-failed
 returns-in_err-more-clause-failed g c = λ frames unread pes bytes told reads is.
-    let p =
-    err_from_is_err_and c.from_residual-in_err-more.result c.from_residual-in_err-more.ensures.1 in
-    let i = (c.loop-pes.invariant.told frames unread bytes told reads).0 in
-    source_failed c.args.programme.now c.args.options.now frames unread c.loop-pes.pes pes _
-    i.within i.follows.past c.in_err-more.ensures.place (rw (p.1, p.2) at is)
+    let p = err_from_is_err_and c.from_residual.result c.from_residual.ensures.1 in
+    let i = c.packets.invariant.told frames unread bytes told reads in
+    source_failed c.args.programme.now c.args.options.now frames unread bytes c.packets.pes _ i.0
+    i.1.past pes _ c.in_err-more.ensures.place (rw (p.1, p.2) at is)
 
-pub returns-in_default-more-clause-failed : goal.returns-in_default-more-clause-failed
-returns-in_default-more-clause-failed g c = λ frames unread pes bytes told reads is.
+pub returns-in_default-clause-failed : goal.returns-in_default-clause-failed
+returns-in_default-clause-failed g c = λ frames unread pes bytes told reads is.
     absurd (no_failure_at c.finish.result pes c.finish.ensures.own is)
 
 pub returns-in_err-go_on-clause-failed : goal.returns-in_err-go_on-clause-failed
@@ -218,28 +141,14 @@ returns-in_err-go_on-clause-failed g c = λ frames unread pes bytes told reads i
     c.from_residual-in_err-go_on.ensures.1 in
     absurd (no_failure_at _ pes c.in_err-go_on.ensures.own (rw (p.1, p.2) at is))
 
-pub returns-in_err-read-clause-read : goal.returns-in_err-read-clause-read
-returns-in_err-read-clause-read g c = λ pes is.
-    let p = err_from_is_err_and c.from_residual.result c.from_residual.ensures.1 in
-    failed_at 0 pes _ _ _ _ (takes-none _) c.in_err-read.ensures.place c.in_err-read.ensures.within
-    (rw (p.1, p.2) at is)
-
-pub returns-in_err-checker-clause-read : goal.returns-in_err-checker-clause-read
-returns-in_err-checker-clause-read g c = λ pes is.
-    let p =
-    err_from_is_err_and c.from_residual-in_err-checker.result
-    c.from_residual-in_err-checker.ensures.1 in
-    absurd (no_failure_at _ pes c.in_err-checker.ensures.own (rw (p.1, p.2) at is))
-
 pub returns-in_err-more-clause-read : goal.returns-in_err-more-clause-read
 returns-in_err-more-clause-read g c = λ pes is.
-    let p =
-    err_from_is_err_and c.from_residual-in_err-more.result c.from_residual-in_err-more.ensures.1 in
-    failed_at c.loop-pes.pes pes _ _ _ _ c.loop-pes.invariant.taken c.in_err-more.ensures.place
+    let p = err_from_is_err_and c.from_residual.result c.from_residual.ensures.1 in
+    failed_at c.packets.pes pes _ _ _ _ c.packets.invariant.taken c.in_err-more.ensures.place
     c.in_err-more.ensures.within (rw (p.1, p.2) at is)
 
-pub returns-in_default-more-clause-read : goal.returns-in_default-more-clause-read
-returns-in_default-more-clause-read g c = λ pes is.
+pub returns-in_default-clause-read : goal.returns-in_default-clause-read
+returns-in_default-clause-read g c = λ pes is.
     absurd (no_failure_at c.finish.result pes c.finish.ensures.own is)
 
 pub returns-in_err-go_on-clause-read : goal.returns-in_err-go_on-clause-read

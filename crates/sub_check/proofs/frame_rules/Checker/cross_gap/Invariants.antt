@@ -12,7 +12,7 @@ invariant-loop-f l = record {
   self_is : l.self ≡ at_frame (l.f - 1) l.fn.self;
   later : l.fn.self.frame < l.f;
   fine : (g : Task) (frames : Transmission) (n : ℕ) → Follows g frames n l.fn.self
-      → n < length frames → frame_at frames n ≡ l.to
+      → 0 < n → n < length frames → frame_at frames n ≡ l.to
       → ((d row column : ℕ) → d < l.f → Keeps g frames (AtGapCell n d row column))
       × ((d : ℕ) → d < l.f → Keeps g frames (AtGap n d));
 }

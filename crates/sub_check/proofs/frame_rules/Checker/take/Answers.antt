@@ -3,33 +3,33 @@ use Rattle.std.proofs.Common.{◌+◌, sym, ap, ◌∙◌, subst}
 use Rattle.std.proofs.lemmas.List.{length-map}
 use Rattle.ttx_pes.specs.DataUnit.{UnitValue}
 use Rattle.sub_check.specs.FirstBroken.{NamesFirst}
-use Rattle.sub_check.specs.Following.{Remembers}
+use Rattle.sub_check.specs.Following.{Arrives}
 use Rattle.sub_check.proofs.TakingLemmas.{follows, names_cell, names_gap, names_missing, names_open}
 use Rattle.sub_check.proofs.TakingLemmas.{names_packet, took}
 use Rattle.sub_check.proofs.frame_rules.Checker.take.Goals as goal
 
 pub returns-in-Err-clause-exact : goal.returns-in-Err-clause-exact
-returns-in-Err-clause-exact c g frames n before past is again order gap =
-    let known = subst (Remembers g frames n) (sym c.self.view_is) before in
+returns-in-Err-clause-exact c g frames n arrives there packets again =
+    let known = (subst (Arrives g frames n) (sym c.self.view_is) arrives).remembers in
     subst (NamesFirst g frames) (sym c.fault_of.ensures.value)
-    (names_packet g frames n _ _ c.self.view_is _ before past is order gap c.in-Err.fault.packet
+    (names_packet g frames n _ _ c.self.view_is _ arrives there packets c.in-Err.fault.packet
     c.in-Err.fault.rule (c.in-Err.ensures.knows _ _ known.knows again))
 
 pub returns-then-self-eq0-clause-exact : goal.returns-then-self-eq0-clause-exact
-returns-then-self-eq0-clause-exact c g frames n before past is again order gap =
-    let known = subst (Remembers g frames n) (sym c.self.view_is) before in
+returns-then-self-eq0-clause-exact c g frames n arrives there packets again =
+    let known = (subst (Arrives g frames n) (sym c.self.view_is) arrives).remembers in
     let heard = c.in-Ok.ensures.knows _ _ known.knows again in
-    names_missing g frames n _ _ c.self.view_is _ before past is order gap c.hear_sending.new.self _
+    names_missing g frames n _ _ c.self.view_is _ arrives there packets c.hear_sending.new.self _
     c.in-Ok.headers _ c.any_header.result c.in-Ok.ensures.watched
     (length-map c.args.units.now (λ (u : UnitValue). u.packet)) heard c.any_header.ensures
     (ap (λ x. c.self.inside.headers + x) c.from.ensures) c.if-self-eq0.true
 
 pub returns-in-Some-clause-exact : goal.returns-in-Some-clause-exact
-returns-in-Some-clause-exact c g frames n before past is again order gap =
-    let known = subst (Remembers g frames n) (sym c.self.view_is) before in
+returns-in-Some-clause-exact c g frames n arrives there packets again =
+    let known = (subst (Arrives g frames n) (sym c.self.view_is) arrives).remembers in
     let heard = c.in-Ok.ensures.knows _ _ known.knows again in
     let t =
-    took g frames n _ _ c.self.view_is _ before past is order gap c.hear_sending.new.self _
+    took g frames n _ _ c.self.view_is _ arrives there packets c.hear_sending.new.self _
     c.in-Ok.headers _ c.any_header.result c.in-Ok.ensures.watched
     (length-map c.args.units.now (λ (u : UnitValue). u.packet)) heard c.any_header.ensures
     (ap (λ x. c.self.inside.headers + x) c.from.ensures) _ c.if-self-eq0.false
@@ -37,11 +37,11 @@ returns-in-Some-clause-exact c g frames n before past is again order gap =
     names_cell g frames n _ t c.in-Some.row c.in-Some.column c.in-Some.ensures
 
 pub returns-then-frame-self-clause-exact : goal.returns-then-frame-self-clause-exact
-returns-then-frame-self-clause-exact c g frames n before past is again order gap =
-    let known = subst (Remembers g frames n) (sym c.self.view_is) before in
+returns-then-frame-self-clause-exact c g frames n arrives there packets again =
+    let known = (subst (Arrives g frames n) (sym c.self.view_is) arrives).remembers in
     let heard = c.in-Ok.ensures.knows _ _ known.knows again in
     let t =
-    took g frames n _ _ c.self.view_is _ before past is order gap c.hear_sending.new.self _
+    took g frames n _ _ c.self.view_is _ arrives there packets c.hear_sending.new.self _
     c.in-Ok.headers _ c.any_header.result c.in-Ok.ensures.watched
     (length-map c.args.units.now (λ (u : UnitValue). u.packet)) heard c.any_header.ensures
     (ap (λ x. c.self.inside.headers + x) c.from.ensures) _ c.if-self-eq0.false
@@ -49,11 +49,11 @@ returns-then-frame-self-clause-exact c g frames n before past is again order gap
     names_gap g frames n _ t c.in_default.ensures c.if-frame-self.true
 
 pub returns-then-is_incomplete-clause-exact : goal.returns-then-is_incomplete-clause-exact
-returns-then-is_incomplete-clause-exact c g frames n before past is again order gap =
-    let known = subst (Remembers g frames n) (sym c.self.view_is) before in
+returns-then-is_incomplete-clause-exact c g frames n arrives there packets again =
+    let known = (subst (Arrives g frames n) (sym c.self.view_is) arrives).remembers in
     let heard = c.in-Ok.ensures.knows _ _ known.knows again in
     let t =
-    took g frames n _ _ c.self.view_is _ before past is order gap c.hear_sending.new.self _
+    took g frames n _ _ c.self.view_is _ arrives there packets c.hear_sending.new.self _
     c.in-Ok.headers _ c.any_header.result c.in-Ok.ensures.watched
     (length-map c.args.units.now (λ (u : UnitValue). u.packet)) heard c.any_header.ensures
     (ap (λ x. c.self.inside.headers + x) c.from.ensures) _ c.if-self-eq0.false
@@ -62,11 +62,11 @@ returns-then-is_incomplete-clause-exact c g frames n before past is again order 
     (sym c.is_incomplete.ensures ∙ c.if-is_incomplete.true)
 
 pub returns-clause-exact : goal.returns-clause-exact
-returns-clause-exact c g frames n before past is again order gap =
-    let known = subst (Remembers g frames n) (sym c.self.view_is) before in
+returns-clause-exact c g frames n arrives there packets again =
+    let known = (subst (Arrives g frames n) (sym c.self.view_is) arrives).remembers in
     let heard = c.in-Ok.ensures.knows _ _ known.knows again in
     let t =
-    took g frames n _ _ c.self.view_is _ before past is order gap c.hear_sending.new.self _
+    took g frames n _ _ c.self.view_is _ arrives there packets c.hear_sending.new.self _
     c.in-Ok.headers _ c.any_header.result c.in-Ok.ensures.watched
     (length-map c.args.units.now (λ (u : UnitValue). u.packet)) heard c.any_header.ensures
     (ap (λ x. c.self.inside.headers + x) c.from.ensures) _ c.if-self-eq0.false
