@@ -1,5 +1,5 @@
--- A receiver that has heard packets of which the first erases the page may be what it is when it has
--- heard them again, at once: `runs_again`.
+-- A receiver that has heard packets of which the first erases the page may be what it is when it
+-- has heard them again, at once: `runs_again`.
 use Rattle.std.proofs.Common.{◌≡◌, ℕ, inl, inr, Bool, true, false, not, List, [], ◌∷◌}
 use Rattle.std.proofs.Common.{IsFalse, refl, sym, ap, ◌∙◌, subst, true≢false}
 use Rattle.std.proofs.lemmas.Bool.{and_right, cond-true}
@@ -40,7 +40,8 @@ carry :
     (w : PageIdValue) (packets : List (List ℕ)) (old new : Display)
     → Shows w old packets new
     → Shows w (display old.held new.screen) packets new
-carry w [] old new e = subst (λ (s : State). new ≡ display s new.screen) (ap (λ (d : Display). d.held) e) refl
+carry w [] old new e =
+    subst (λ (s : State). new ≡ display s new.screen) (ap (λ (d : Display). d.held) e) refl
 carry w (p ∷ ps) old new (mid, step, shows, rest) =
     go (is_ended old.held mid.held) refl (carry w ps mid new rest)
   where

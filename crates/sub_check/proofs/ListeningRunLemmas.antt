@@ -178,7 +178,8 @@ pub runs_taken : (l : Listening) (w : PageIdValue) (packet : List ℕ) (packets 
     (filter (is_taken l.receiver l.options.page) (packet ∷ packets)) end
 runs_taken l w packet packets old end takes run =
     let rest = filter (is_taken l.receiver l.options.page) packets in
-    subst (λ (b : Bool). RunsThrough l.options.asks_complete w old (cond b (packet ∷ rest) rest) end)
+    subst
+    (λ (b : Bool). RunsThrough l.options.asks_complete w old (cond b (packet ∷ rest) rest) end)
     (sym takes) run
 
 -- a packet that is dropped. For `take`.
@@ -191,7 +192,8 @@ pub runs_dropped : (l : Listening) (w : PageIdValue) (packet : List ℕ) (packet
     (filter (is_taken l.receiver l.options.page) (packet ∷ packets)) end
 runs_dropped l w packet packets old end drops run =
     let rest = filter (is_taken l.receiver l.options.page) packets in
-    subst (λ (b : Bool). RunsThrough l.options.asks_complete w old (cond b (packet ∷ rest) rest) end)
+    subst
+    (λ (b : Bool). RunsThrough l.options.asks_complete w old (cond b (packet ∷ rest) rest) end)
     (sym drops) run
 
 -- a packet that is received. For `hear_packet`.
@@ -412,7 +414,8 @@ module _
                     next.sent.frame_is,
                     omega arith,
                     in_time,
-                    ap (λ ps. first_lost_header (reception_of l) (length (packets_before frames n)) ps)
+                    ap (λ ps. first_lost_header (reception_of l)
+                        (length (packets_before frames n)) ps)
                         next.sent.packets_are
                         ∙ ap (λ m. first_lost_header (reception_of l) m (packets_of_units v.units))
                         (sym reached.number_is)
@@ -466,8 +469,10 @@ module _
                         | inr h ↦ subst (IsHeard l frames) (omega arith) here
                       ];
                   run =
-                      subst (λ (ps : List (List ℕ)). RunsThrough l.options.asks_complete w old ps after)
-                      (sym (as_heard-append l 0 (packets_before frames n) (packets_of_units v.units))
+                      subst
+                      (λ (ps : List (List ℕ)). RunsThrough l.options.asks_complete w old ps after)
+                      (sym
+                      (as_heard-append l 0 (packets_before frames n) (packets_of_units v.units))
                       ∙ ap (as_heard l 0) (sym more))
                       (runs-append l.options.asks_complete w _ _ old now after reached.run
                       (subst

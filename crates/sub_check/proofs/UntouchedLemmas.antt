@@ -95,7 +95,9 @@ received_untouched : (r : Reception) (number count : ℕ) (packets : List (List 
     → length packets ≡ count
     → as_received r number packets ≡ packets
 received_untouched r number count packets is long =
-    let b = and_parts (nat_le r.skip number && not (list_any (is_in_range number (number + count)) r.lost)) _ is in
+    let b =
+    and_parts (nat_le r.skip number && not (list_any (is_in_range number (number + count)) r.lost))
+    _ is in
     let a = and_parts (nat_le r.skip number) _ b.0 in
     let kept = not-true _ a.1 in
     let clean = not-true _ b.1 in

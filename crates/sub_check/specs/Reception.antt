@@ -69,8 +69,8 @@ abbrev pub as_heard : Listening → ℕ → List (List ℕ) → List (List ℕ)
 as_heard l number packets =
     filter (is_taken l.receiver l.options.page) (as_received (reception_of l) number packets)
 
--- What becomes of a receiver of page w that hears these packets: where complete pages are asked for,
--- it has a screen; else what it holds is all that is said of it, and no screen need be run.
+-- What becomes of a receiver of page w that hears these packets: where complete pages are asked
+-- for, it has a screen; else what it holds is all that is said of it, and no screen need be run.
 abbrev pub RunsThrough : Bool → PageIdValue → Display → List (List ℕ) → Display → Type 0
 RunsThrough asks_complete w old packets new =
     MatchBool asks_complete (Shows w old packets new) (Hears w old.held packets new.held)

@@ -15,9 +15,9 @@ use ttx_packet::{Control, Header, Packet, PageId};
 use ttx_page::{PacketKind, Page, Receiver};
 use ttx_pes::Unit;
 
-/// Lets a receiver hear what it hears of the packets of a PES packet, with its screen where complete
-/// pages are asked for. `number` is that of the first, and `again` says that they are those heard
-/// last.
+/// Lets a receiver hear what it hears of the packets of a PES packet, with its screen where
+/// complete pages are asked for. `number` is that of the first, and `again` says that they are
+/// those heard last.
 ///
 /// `kept` says that those heard last were untouched, and that the first of them erased the page:
 /// the receiver is then left as it is where they are sent again, untouched. What is sent once is

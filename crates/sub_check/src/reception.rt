@@ -34,8 +34,8 @@ pub fn first_lost_header(listening: &Listening, number: u64, units: &[Unit]) -> 
     None
 }
 
-/// Lets a receiver hear what it hears of the packets of a PES packet, with its screen where complete
-/// pages are asked for. `number` is that of the first.
+/// Lets a receiver hear what it hears of the packets of a PES packet, with its screen where
+/// complete pages are asked for. `number` is that of the first.
 pub fn hear_units<R: Receiver>(
     receiver: &mut R,
     screen: &mut Option<Page>,

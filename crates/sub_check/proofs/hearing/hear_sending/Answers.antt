@@ -49,7 +49,8 @@ returns-then-again-2-clause-kept g c = λ last kept again e.
     let l = c.args.listening.now in
     let old = g.R.Receiver.tuned_to c.args.receiver.now in
     let packets = packets_of_units c.args.units.now in
-    let d = display (g.R.Receiver.state c.hear_untouched.new.receiver) c.hear_untouched.new.screen in
+    let d =
+    display (g.R.Receiver.state c.hear_untouched.new.receiver) c.hear_untouched.new.screen in
     let now : HeardLast l old packets d = record {
       tuned = c.requires.tuned;
       begins =

@@ -86,7 +86,8 @@ returns-in-Some-first_lost_header-clause-exact g c = λ frames unread bytes told
     (rw c.in-Some.is at (c.in_ok-next.ensures.exact i.rest i.rest_is refl)) packet
     (omega (arith, rises)) (omega (arith, in_time))
     (ap (λ (us : List UnitValue). first_lost_header (reception_of l) c.loop-index.number
-    (packets_of_units us)) (sym (c.units-units.ensures.value ∙ ap (λ (v : PesValue). v.units) c.frame-packet.ensures))
+    (packets_of_units us))
+    (sym (c.units-units.ensures.value ∙ ap (λ (v : PesValue). v.units) c.frame-packet.ensures))
     ∙ sym c.first_lost_header.ensures
     ∙ c.in-Some-first_lost_header.is)
 
@@ -95,7 +96,8 @@ loop-index-preserved g c =
     let counted = c.in_ok-next.ensures.count in
     let before = c.loop-index.invariant.failures in
     let few = c.loop-index.invariant.few in
-    let value = c.units-units.ensures.value ∙ ap (λ (v : PesValue). v.units) c.frame-packet.ensures in
+    let value = c.units-units.ensures.value
+    ∙ ap (λ (v : PesValue). v.units) c.frame-packet.ensures in
     let units =
     subst (λ (us : List UnitValue). length us ≤ 35) (sym c.units-units.ensures.value)
     c.units-units.ensures.frame.few in
@@ -118,7 +120,8 @@ loop-index-preserved g c =
     (g.R.Receiver.tuned_to c.loop-index.receiver)
     (display (g.R.Receiver.state c.loop-index.receiver) c.loop-index.screen)
     (as_heard l c.loop-index.number (packets_of_units us))
-    (display (g.R.Receiver.state c.hear_sending-kept.new.receiver) c.hear_sending-kept.new.screen)) value
+    (display (g.R.Receiver.state c.hear_sending-kept.new.receiver)
+    c.hear_sending-kept.new.screen)) value
     (c.hear_sending-kept.ensures.run last c.loop-index.invariant.kept again) in
     record {
       reading = c.in_ok-next.ensures.progress c.in-Some.sending given;
@@ -143,7 +146,8 @@ loop-index-preserved g c =
           (display (g.R.Receiver.state c.args.receiver.now) c.args.screen.now)
           (g.S.Source.remaining c.next_sending.new.source) (c.loop-index.index + 1)
           (c.loop-index.number + length us) (c.in-Some.sending.frame + 1)
-          (display (g.R.Receiver.state c.hear_sending-kept.new.receiver) c.hear_sending-kept.new.screen))
+          (display (g.R.Receiver.state c.hear_sending-kept.new.receiver)
+          c.hear_sending-kept.new.screen))
           (sym value)
           (reaches_next l frames unread _ _ c.loop-index.index _ _ _ _ i
           c.next_sending.new.reader.frame c.in-Some.sending.frame
@@ -153,6 +157,7 @@ loop-index-preserved g c =
           (subst (λ (w : PageIdValue). RunsThrough l.options.asks_complete w
           (display (g.R.Receiver.state c.loop-index.receiver) c.loop-index.screen)
           (as_heard l c.loop-index.number (packets_of_units c.next_sending.new.reader.frame.units))
-          (display (g.R.Receiver.state c.hear_sending-kept.new.receiver) c.hear_sending-kept.new.screen))
+          (display (g.R.Receiver.state c.hear_sending-kept.new.receiver)
+          c.hear_sending-kept.new.screen))
           c.loop-index.invariant.tuned run));
     }

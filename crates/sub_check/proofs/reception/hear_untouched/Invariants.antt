@@ -16,5 +16,6 @@ invariant-loop-k g l = record {
       (packets_of_units (drop l.k l.units))) end
       → RunsThrough l.listening.options.asks_complete (g.R.Receiver.tuned_to l.fn.receiver)
       (display (g.R.Receiver.state l.fn.receiver) l.fn.screen)
-      (filter (is_taken l.listening.receiver l.listening.options.page) (packets_of_units l.units)) end;
+      (filter (is_taken l.listening.receiver l.listening.options.page)
+      (packets_of_units l.units)) end;
 }
