@@ -2,18 +2,9 @@
 use Rattle.std.proofs.Common.{◌≡◌, ◌≢◌, ◌∙◌, ℕ, ◌+◌, ◌<◌, List, Option, arith, inl, inr, sym}
 use Rattle.std.proofs.Common.{Bool, true, false, if◌then◌else◌}
 use Rattle.std.specs.Io.KnownBytes.{Appends}
-use Rattle.sub_io.specs.Device.{AppendsPrefix}
-use Rattle.sub_io.proofs.DeviceLemmas.{AppendsPrefix-whole}
 use Rattle.sub_answer.specs.Listing.{Listing, PrintsOrFails}
 use Rattle.sub_answer.specs.declared.status.Status.{Status}
 use Rattle.sub_answer.specs.declared.status.Status.TheVariants.{Fault}
-
--- The sink has a prefix of the text, whatever became of it.
-pub printed-prefix : (n n' : ℕ) (old new : Option (List ℕ)) (listing : Listing) (status : Status)
-    → PrintsOrFails n old n' new listing status
-    → AppendsPrefix old new listing.text
-printed-prefix n n' old new listing status (inl p) = AppendsPrefix-whole old new listing.text p.1
-printed-prefix n n' old new listing status (inr p) = p.1
 
 -- Where the sink did not fail, the text was printed whole and gives the status.
 pub printed-whole : (n n' : ℕ) (old new : Option (List ℕ)) (listing : Listing) (status : Status)

@@ -13,8 +13,7 @@ mod show;
 mod state;
 
 ghost use Rattle.std.specs.Prelude.{◌≡◌, ◌≢◌, ◌+◌, ◌<◌, IsTrue, Ok, false, true};
-ghost use Rattle.std.specs.Io.KnownBytes.{Appends};
-ghost use Rattle.sub_io.specs.Device.{AppendsPrefix, CanFail};
+ghost use Rattle.sub_io.specs.Device.{CanFail};
 ghost use Rattle.sub_io.specs.Reading.{IfTold};
 ghost use Rattle.stl_file.specs.Reader.{outcome_of};
 ghost use Rattle.stl_rows.specs.Loading.{loaded};
@@ -194,11 +193,10 @@ pub fn answer<S: Source, T: Source, F: Flush, K: Sink>(
 /// The status is `Fault`, also where `out` fails and takes a prefix of the line.
 pub fn say<K: Sink>(fault: &UsageFault, out: &mut K) -> Status
     requires { CanFail (K.failure_count out.old) }
+    ensures printed { PrintsOrFails (K.failure_count out.old) (K.contents out.old)
+        (K.failure_count out.new) (K.contents out.new)
+        (record { text = line_of (usage_told fault.now); status = Status.Fault }) result }
     ensures status { result ≡ Status.Fault }
-    ensures whole { K.failure_count out.new ≡ K.failure_count out.old
-        → Appends (K.contents out.old) (K.contents out.new) (line_of (usage_told fault.now)) }
-    ensures prefix { AppendsPrefix (K.contents out.old) (K.contents out.new)
-        (line_of (usage_told fault.now)) }
     ensures count { CountsFault (K.failure_count out.old) result (K.failure_count out.new) }
 {
     let mut line = Line::new();
