@@ -23,23 +23,6 @@ pub printed-status : (n n' : ℕ) (old new : Option (List ℕ)) (listing : Listi
 printed-status n n' old new listing status (inl p) other = p.2
 printed-status n n' old new listing status (inr p) other = absurd (other p.2)
 
--- A listing of a fault ends with it, whatever became of it.
-pub printed-fault : (n n' : ℕ) (old new : Option (List ℕ)) (listing : Listing) (status : Status)
-    → PrintsOrFails n old n' new listing status
-    → listing.status ≡ Fault
-    → status ≡ Fault
-printed-fault n n' old new listing status (inl p) is = p.2 ∙ is
-printed-fault n n' old new listing status (inr p) is = p.2
-
--- The sink failed where the status is `Fault` and the listing's own is not.
-pub printed-failed : (n n' : ℕ) (old new : Option (List ℕ)) (listing : Listing) (status : Status)
-    → PrintsOrFails n old n' new listing status
-    → status ≡ Fault
-    → listing.status ≢ Fault
-    → n' ≡ n + 1
-printed-failed n n' old new listing status (inl p) is other = absurd (other (sym p.2 ∙ is))
-printed-failed n n' old new listing status (inr p) is other = p.0
-
 -- A device failed where the status is `Fault`: the source, where the listing's own is.
 pub risen-of_fault : (failed : Bool) (m m' n n' : ℕ) (old new : Option (List ℕ))
     (listing : Listing) (status : Status)

@@ -4,7 +4,6 @@ use Rattle.sub_answer.specs.Listing.{told_listing}
 use Rattle.sub_answer.specs.ListenListing.{listen_told}
 use Rattle.sub_answer.specs.Told.{line_of, status_of}
 use Rattle.sub_answer.proofs.ListenListingLemmas.{listen_told-not_fault, listen_told-source}
-use Rattle.sub_answer.proofs.PrintingLemmas.{printed-failed, printed-fault}
 use Rattle.sub_answer.proofs.answering.listen.print_fault.Goals as goal
 
 pub returns-clause-printed : goal.returns-clause-printed
@@ -15,18 +14,14 @@ returns-clause-printed g c =
 
 pub returns-clause-fault : goal.returns-clause-fault
 returns-clause-fault g c = λ is fine.
-    let text : line_of (listen_told c.args.fault.now) ≡ c.as_slice.result.now = search rules in
+    let status = c.status.ensures ∙ ap status_of c.told_of_listen-told.ensures.kind in
     let risen =
-    printed-failed _ _ _ _ (told_listing (listen_told c.args.fault.now)) _
-    (c.print.ensures.printed (told_listing (listen_told c.args.fault.now)) text
-    (sym (c.status.ensures ∙ ap status_of c.told_of_listen-told.ensures.kind)))
-    is (listen_told-not_fault c.args.fault.now fine c.requires.own) in
+    c.print.ensures.failed is
+    (λ e. listen_told-not_fault c.args.fault.now fine c.requires.own (sym status ∙ e)) in
     omega (arith, risen)
 
 pub returns-clause-source : goal.returns-clause-source
 returns-clause-source g c = λ failed.
-    let text : line_of (listen_told c.args.fault.now) ≡ c.as_slice.result.now = search rules in
-    printed-fault _ _ _ _ (told_listing (listen_told c.args.fault.now)) _
-    (c.print.ensures.printed (told_listing (listen_told c.args.fault.now)) text
-    (sym (c.status.ensures ∙ ap status_of c.told_of_listen-told.ensures.kind)))
-    (listen_told-source c.args.fault.now failed)
+    c.print.ensures.fault
+    (c.status.ensures ∙ ap status_of c.told_of_listen-told.ensures.kind
+    ∙ listen_told-source c.args.fault.now failed)
