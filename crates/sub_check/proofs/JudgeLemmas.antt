@@ -320,7 +320,8 @@ module _
       end_told (Err f) (not_over, told) =
           subst (NamesFirst (task_of programme options unread) frames)
           (ap fault.Late (sym last) ∙ sym told)
-          (first_late (task_of programme options unread) frames ended.1 past (omega (arith, all, some))
+          (first_late (task_of programme options unread) frames ended.1 past
+          (omega (arith, all, some))
           (λ h. not_over
           (λ l e.
           let m = h l (follows.remembers.task_is.last_is ∙ e) in omega (arith, last))))

@@ -285,7 +285,8 @@ module _ (g : Task) (frames : Transmission) (n : ℕ) (past : AreOk g frames n) 
       packet_of j f (inl l) = λ there. is.clean j l f
       packet_of j f (inr (e, b)) =
           λ there. subst
-          (λ x. KeepsRule f g.watched (packets_before frames n ++ take x (packets_of_frame frames n))
+          (λ x.
+          KeepsRule f g.watched (packets_before frames n ++ take x (packets_of_frame frames n))
           (get_or (packets_of_frame frames n) x [])) (sym e)
           (is.first.earlier f (one_before (rank f) (rank rule) [] b))
 

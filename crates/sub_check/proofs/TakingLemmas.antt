@@ -2,7 +2,8 @@
 -- `names_packet`, `names_missing`, `took`, `names_cell`, `names_gap`, `names_open`, `follows`.
 use Rattle.std.proofs.Common.{◌≡◌, ℕ, zero, suc, ◌+◌, ◌-◌, ◌<◌, ◌≤◌, nat_lt, inl, inr, Bool, true}
 use Rattle.std.proofs.Common.{false, ◌&&◌, cond, List, [], ◌++◌, length, take, get_or, refl, sym}
-use Rattle.std.proofs.Common.{MatchResult, Option, Some, Result, Ok, Err, ap, ap₂, ◌∙◌, subst, arith}
+use Rattle.std.proofs.Common.{MatchResult, Option, Some, Result, Ok, Err, ap, ap₂, ◌∙◌, subst}
+use Rattle.std.proofs.Common.{arith}
 use Rattle.std.specs.Prelude.{OnOk}
 use Rattle.std.proofs.lemmas.Bool.{cases_eq, cases_lt, lt-ltb, true≢false}
 use Rattle.stl_rows.specs.Programme.{ProgrammeValue}

@@ -113,8 +113,8 @@ packets-preserved g c =
                 i.0 c.next_sending.new.reader.frame c.in-Some.sending.frame _ at
                 (c.in_ok-more.ensures.left i.0.rest i.0.rest_is) takes
                 c.units_of-units.ensures.frame,
-            c.in_ok-go_on.ensures.exact (task_of c.args.programme.now c.args.options.now unread) frames
-                i.1 sent
+            c.in_ok-go_on.ensures.exact (task_of c.args.programme.now c.args.options.now unread)
+                frames i.1 sent
                 (λ e. again_is frames c.packets.pes _ _ _ sent i.2
                 (ap packets_of_units
                 (sym (c.in_ok-more.ensures.again c.in-Some.sending given e)

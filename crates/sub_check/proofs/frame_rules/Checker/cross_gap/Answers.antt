@@ -11,7 +11,8 @@ returns-in-Some-clause-exact c g frames n follows some there to_is order =
     c.self-in-loop-f.view_is ∙ c.advance.ensures
     ∙ ap (at_frame c.loop-f.f) c.loop-f.invariant.self_is in
     gap_names_cell g frames n c.loop-f.f c.args.self.now _ same follows some
-    c.loop-f.invariant.later there (omega arith) order fine.0 fine.1 c.in-Some.row c.in-Some.column c.in-Some.ensures
+    c.loop-f.invariant.later there (omega arith) order fine.0 fine.1 c.in-Some.row c.in-Some.column
+    c.in-Some.ensures
 
 pub returns-then-f-self-clause-exact : goal.returns-then-f-self-clause-exact
 returns-then-f-self-clause-exact c g frames n follows some there to_is order =
@@ -20,7 +21,8 @@ returns-then-f-self-clause-exact c g frames n follows some there to_is order =
     c.self-in-loop-f.view_is ∙ c.advance.ensures
     ∙ ap (at_frame c.loop-f.f) c.loop-f.invariant.self_is in
     gap_names_gap g frames n c.loop-f.f c.args.self.now _ same follows some
-    c.loop-f.invariant.later there (omega arith) order fine.0 fine.1 c.in_default.ensures c.if-f-self.true
+    c.loop-f.invariant.later there (omega arith) order fine.0 fine.1 c.in_default.ensures
+    c.if-f-self.true
 
 pub loop-f-preserved : goal.loop-f-preserved
 loop-f-preserved c = record {
