@@ -14,13 +14,11 @@ mod complete;
 #[cfg(test)]
 mod failed_reads;
 #[cfg(test)]
-mod flips;
+mod failing;
 #[cfg(test)]
 mod listen;
 #[cfg(test)]
 mod normal;
-#[cfg(test)]
-mod numbers;
 #[cfg(test)]
 mod packet;
 #[cfg(test)]
@@ -34,8 +32,8 @@ mod schedule;
 #[cfg(test)]
 mod show;
 #[cfg(test)]
-mod times;
-#[cfg(test)]
-mod watched;
+mod values;
 #[cfg(test)]
 mod words;
+#[cfg(test)]
+mod writing;

@@ -1,124 +1,36 @@
-//! `normal`: what is written and printed of subtitle files, whole, refused, and where a device
-//! fails.
-ghost use Rattle.std.specs.Prelude.{◌<◌};
-ghost use Rattle.sub_io.specs.Device.{CanFail};
+//! `normal`: what is printed of subtitle files, whole and refused.
+use crate::answers::{answer_words, assert_prints};
+use fixtures::{Drip, Endless, HEAD, block, file_of_two, gsi};
+use sub_answer::Status;
+use sub_io::{FailAt, MemSink, MemSource, Sink};
 
-use crate::answers::answer_into;
-use crate::check::devices::{Drip, Endless};
-use crate::watched::Watched;
-use std::alloc::Global;
-use std::process::Abort;
-use sub_answer::{Request, Status};
-use sub_io::{FailAt, Flush, MemSink, MemSource, Sink, Source};
+/// The words of it.
+pub const NORMAL: [&str; 4] = ["subttx", "normal", "a", "b"];
 
-// Answers `normal`.
-fn write_normal<S: Source, F: Flush, K: Sink>(
-    alloc: Global,
-    input: &mut S,
-    file: &mut F,
-    out: &mut K,
-) -> Status
-    requires input { CanFail (S.failure_count input.old) }
-    requires file { CanFail (F.failure_count file.old) }
-    requires out { CanFail (K.failure_count out.old) }
-{
-    let request = Request::Normal {
-        input: "a.stl",
-        output: "b.stl",
-    };
-    answer_into(alloc, &request, input, file, out)
+// A block with these EBN and CF, and a text field of one byte.
+fn part(ebn: u8, cf: u8, text: u8) -> [u8; 128] {
+    let mut head = HEAD;
+    (head[3], head[15]) = (ebn, cf);
+    block(&head, &[text; 112])
 }
 
-// The head of a TTI block: group 0, subtitle 1, from 10:00:00:00 to 10:00:02:00, row 22, centred.
-const HEAD: [u8; 16] = [0, 1, 0, 0, 0, 10, 0, 0, 0, 10, 0, 2, 0, 22, 2, 0];
-
-// The counts TNB and TNS are not looked at.
-const NO_COUNTS: &[u8; 10] = b"          ";
-
-// Puts DFC, DSC and CCT of a GSI block, and the counts TNB and TNS.
-fn put_gsi(file: &mut [u8], counts: &[u8; 10]) {
-    if let Some(fields) = file.get_mut(3..14) {
-        fields.copy_from_slice(b"STL25.01100");
-    }
-    if let Some(fields) = file.get_mut(238..248) {
-        fields.copy_from_slice(counts);
-    }
-}
-
-// Puts a TTI block with a text field of one byte, as the block of this number from 0 to 9.
-fn put_block(file: &mut [u8], number: usize, ebn: u8, cf: u8, text: u8) {
-    let Some(block) = file.get_mut(1024 + 128 * number.min(9)..) else {
-        return;
-    };
-    for (place, byte) in block.iter_mut().take(128).enumerate() {
-        *byte = match place {
-            3 => ebn,
-            15 => cf,
-            _ => HEAD.get(place).copied().unwrap_or(text),
-        };
-    }
-}
-
-// A GSI block, a comment, user data, and a subtitle of two blocks.
-fn commented() -> [u8; 1536] {
-    let mut file = [0x20; 1536];
-    put_gsi(&mut file, NO_COUNTS);
-    put_block(&mut file, 0, 0xFF, 1, 0x43);
-    put_block(&mut file, 1, 0xFE, 0, 0x55);
-    put_block(&mut file, 2, 0x00, 0, 0x41);
-    put_block(&mut file, 3, 0xFF, 0, 0x42);
+/// A GSI block, a comment, user data, and a subtitle of two blocks.
+pub fn commented() -> [u8; 1536] {
+    let mut file = [0; 1536];
+    file[..1280].copy_from_slice(&file_of_two(&part(0xFF, 1, 0x43), &part(0xFE, 0, 0x55)));
+    file[1280..1408].copy_from_slice(&part(0x00, 0, 0x41));
+    file[1408..].copy_from_slice(&part(0xFF, 0, 0x42));
     file
 }
 
-// The normal form of that: two blocks, and the counts TNB and TNS.
-fn normal_form() -> [u8; 1280] {
-    let mut want = [0x20; 1280];
-    put_gsi(&mut want, b"0000200001");
-    put_block(&mut want, 0, 0x00, 0, 0x41);
-    put_block(&mut want, 1, 0xFF, 0, 0x42);
-    want
+/// The normal form of that: two blocks, and the counts TNB and TNS.
+pub fn normal_form() -> [u8; 1280] {
+    let mut file = file_of_two(&part(0x00, 0, 0x41), &part(0xFF, 0, 0x42));
+    file[238..248].copy_from_slice(b"0000200001");
+    file
 }
 
-// Asserts the line that is printed of a source, and how many bytes are written: none where it is
-// refused.
-fn assert_writes<S: Source>(
-    rt: &(impl Abort + Alloc<A = Global>),
-    input: &mut S,
-    line: &[u8],
-    len: usize,
-)
-    requires { CanFail (S.failure_count input.old) }
-{
-    let mut room = [0; 1536];
-    let mut file = MemSink::new(&mut room);
-    let mut text = [0; 64];
-    let mut out = MemSink::new(&mut text);
-    let status = write_normal(rt.alloc(), input, &mut file, &mut out);
-    assert!(rt; out.written() == line);
-    assert_eq!(rt; file.written().len(), len);
-    let want = if len == 0 {
-        Status::Refused
-    } else {
-        Status::Done
-    };
-    assert_eq!(rt; status, want);
-}
-
-#[test]
-fn writes_the_normal_form_and_that_again(rt: HostRuntime) {
-    let (input, want) = (commented(), normal_form());
-    for bytes in [&input[..], &want[..]] {
-        let mut room = [0; 1536];
-        let mut file = MemSink::new(&mut room);
-        let mut text = [0; 64];
-        let mut out = MemSink::new(&mut text);
-        let status = write_normal(rt.alloc(), &mut MemSource::new(bytes), &mut file, &mut out);
-        assert_eq!(rt; status, Status::Done);
-        assert!(rt; out.written() == b"written 1 subtitles\n".as_slice());
-        assert!(rt; file.written() == want.as_slice());
-    }
-}
-
+#[rattlefmt::skip]
 #[test]
 fn refuses_files_at_the_first_fault(rt: HostRuntime) {
     // the byte that is changed and its value in the file of a comment, user data and a subtitle
@@ -138,18 +50,20 @@ fn refuses_files_at_the_first_fault(rt: HostRuntime) {
         (1291, 0, b"refused 21 EmptyTime block 3\n"), // TCO is TCI
         (1287, 3, b"refused 21 EmptyTime block 3\n"), // TCI after TCO
     ];
+    // The file that is written has no room, so nothing is.
     for (place, value, line) in changes {
         let mut input = commented();
         assert!(rt; place < 1536);
         input[place] = value;
-        assert_writes(&rt, &mut MemSource::new(&input), line, 0);
+        let (mut input, mut none) = (MemSource::new(&input), MemSource::new(&[]));
+        assert_prints(&rt, &NORMAL, &mut input, &mut none, &[], line);
     }
 }
 
 #[rattlefmt::skip]
 #[test]
 fn answers_files_of_each_length(rt: HostRuntime) {
-    let mut input = commented();
+    let input = commented();
     // the first length and the one after the last, the line, how many bytes are written
     for (begin, end, line, written) in [
         (0, 1024, &b"refused 10 Truncated block 0\n"[..], 0),
@@ -165,91 +79,39 @@ fn answers_files_of_each_length(rt: HostRuntime) {
     ] {
         for len in begin..end {
             assert!(rt; len <= input.len());
-            assert_writes(&rt, &mut MemSource::new(&input[..len]), line, written);
+            let (mut input, mut none) = (MemSource::new(&input[..len]), MemSource::new(&[]));
+            let (mut room, mut text) = ([0; 1536], [0; 64]);
+            let (mut file, mut out) = (MemSink::new(&mut room), MemSink::new(&mut text));
+            let alloc = rt.alloc();
+            let status = answer_words(alloc, &NORMAL, &mut input, &mut none, &mut file, &mut out);
+            assert!(rt; out.written() == line, "{len} bytes");
+            assert_eq!(rt; file.written().len(), written, "{len} bytes");
+            assert_eq!(rt; status == Status::Done, written > 0, "{len} bytes");
         }
     }
-    input[3..11].copy_from_slice(b"STL30.01");
-    assert_writes(&rt, &mut MemSource::new(&input), b"refused 12 Rate block 0\n", 0);
 }
 
 #[test]
-fn refuses_too_many_blocks(rt: HostRuntime) {
-    // of one subtitle
-    let mut long = [0x20; 2304];
-    put_gsi(&mut long, NO_COUNTS);
-    for number in 0..10 {
-        put_block(&mut long, number, 0, 0, 0x41);
-    }
-    let line = b"refused 23 TooLong block 10\n";
-    assert_writes(&rt, &mut MemSource::new(&long), line, 0);
-    // of a file: comments without end
-    let mut gsi = [0x20; 1024];
-    put_gsi(&mut gsi, NO_COUNTS);
-    let line = b"refused 25 TooManyBlocks block 100000\n";
-    assert_writes(&rt, &mut Endless::new(&gsi, &[1; 128]), line, 0);
-}
-
-// Asserts the line where the file fails.
-fn assert_write_fails<F: Flush>(rt: &(impl Abort + Alloc<A = Global>), file: &mut F)
-    requires { CanFail (F.failure_count file.old) }
-{
-    let input = commented();
-    let mut text = [0; 64];
-    let mut out = MemSink::new(&mut text);
-    let status = write_normal(rt.alloc(), &mut MemSource::new(&input), file, &mut out);
-    assert_eq!(rt; status, Status::Fault);
-    assert!(rt; out.written() == b"fault 29 Write\n".as_slice());
-}
-
-// Asserts that a file of so many bytes gets the first of the normal form.
-fn assert_takes(rt: &(impl Abort + Alloc<A = Global>), want: &[u8], len: usize) {
-    let mut room = [0; 1280];
-    assert!(rt; len <= room.len());
-    let mut file = Watched::new(MemSink::new(&mut room[..len]));
-    assert_write_fails(rt, &mut file);
-    let given = file.inner().written();
-    assert!(rt;
-        given.len() == len && want.starts_with(given),
-        "{len} bytes"
+fn refuses_another_rate_and_too_many_blocks(rt: HostRuntime) {
+    let (mut none, mut again) = (MemSource::new(&[]), MemSource::new(&[]));
+    let mut rate = commented();
+    rate[3..11].copy_from_slice(b"STL30.01");
+    let line = b"refused 12 Rate block 0\n";
+    assert_prints(
+        &rt,
+        &NORMAL,
+        &mut MemSource::new(&rate),
+        &mut none,
+        &[],
+        line,
     );
-    assert_eq!(rt; file.late_calls(), 0);
-}
-
-// Asserts that a file is left alone after the call that fails.
-fn assert_stops_at(rt: &(impl Abort + Alloc<A = Global>), call: u64) {
-    let mut room = [0; 1280];
-    let mut file = Watched::new(FailAt::new(MemSink::new(&mut room), call));
-    assert_write_fails(rt, &mut file);
-    assert_eq!(rt; file.late_calls(), 0, "call {call}");
-}
-
-// Asserts that the file is whole where the output has room for so many bytes of the line.
-fn assert_keeps_the_file(rt: &(impl Abort + Alloc<A = Global>), want: &[u8], len: usize) {
-    let input = commented();
-    let mut room = [0; 1280];
-    let mut file = MemSink::new(&mut room);
-    let mut text = [0; 20];
-    assert!(rt; len <= text.len());
-    let mut out = Watched::new(MemSink::new(&mut text[..len]));
-    let status = write_normal(rt.alloc(), &mut MemSource::new(&input), &mut file, &mut out);
-    assert_eq!(rt; status, Status::Fault);
-    assert!(rt; file.written() == want, "{len} bytes");
-    assert_eq!(rt; out.late_calls(), 0);
-}
-
-#[test]
-fn writes_a_prefix_where_a_device_fails(rt: HostRuntime) {
-    let want = normal_form();
-    for len in 0..1280 {
-        assert_takes(&rt, &want, len);
-    }
-    // The GSI block, a push of the subtitle, and the flush.
-    for call in 0..3 {
-        assert_stops_at(&rt, call);
-    }
-    for len in 0..20 {
-        assert_keeps_the_file(&rt, &want, len);
-    }
+    // of a file: comments without end
+    let mut long = Endless {
+        rest: &gsi(),
+        again: &[1; 128],
+    };
+    let line = b"refused 25 TooManyBlocks block 100000\n";
+    assert_prints(&rt, &NORMAL, &mut long, &mut again, &[], line);
 }
 
 #[test]
@@ -265,13 +127,14 @@ fn tells_a_failed_read_before_any_refusal(rt: HostRuntime) {
         (1152, b"fault 26 Read block 2\n"),
         (1536, b"fault 26 Read block 5\n"),
     ] {
-        let mut source = FailAt::new(Drip::new(&input), call);
-        let mut file = MemSink::new(&mut []);
-        let mut text = [0; 64];
-        let mut out = MemSink::new(&mut text);
-        let status = write_normal(rt.alloc(), &mut source, &mut file, &mut out);
-        assert_eq!(rt; status, Status::Fault, "call {call}");
-        assert!(rt; out.written() == line.as_slice(), "call {call}");
-        assert_eq!(rt; file.failures(), 0, "call {call}");
+        let mut source = FailAt::new(Drip { rest: &input }, call);
+        assert_prints(
+            &rt,
+            &NORMAL,
+            &mut source,
+            &mut MemSource::new(&[]),
+            &[],
+            line,
+        );
     }
 }

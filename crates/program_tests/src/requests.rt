@@ -1,5 +1,8 @@
 //! The requests that words are read as.
-use crate::check::makers::options;
+use crate::answers::SCHEDULE;
+use crate::normal::NORMAL;
+use fixtures::options;
+use std::alloc::Global;
 use std::process::Abort;
 use std::test::Fail;
 use stl_rows::National;
@@ -35,9 +38,7 @@ fn assert_schedules(
 
 #[test]
 fn reads_the_words_of_files(rt: HostRuntime) -> Result<(), Fail> {
-    let alloc = rt.alloc();
-    let words = ["subttx", "normal", "a", "b"];
-    let Ok(Request::Normal { input, output }) = Request::parse(alloc, &words) else {
+    let Ok(Request::Normal { input, output }) = Request::parse(rt.alloc(), &NORMAL) else {
         return Err("normal".into());
     };
     assert_eq!(rt; (input, output), ("a", "b"));
@@ -47,7 +48,7 @@ fn reads_the_words_of_files(rt: HostRuntime) -> Result<(), Fail> {
 #[test]
 fn reads_the_words_of_a_schedule(rt: HostRuntime) -> Result<(), Fail> {
     let alloc = rt.alloc();
-    let defaults: &[&str] = &["subttx", "schedule", "a", "b"];
+    let defaults: &[&str] = &SCHEDULE;
     let given: &[&str] = &[
         "subttx", "schedule", "a", "b", "--serial", "--page", "100", "--every", "25", "--origin",
         "1", "--option", "german",
@@ -65,20 +66,20 @@ fn reads_the_words_of_a_schedule(rt: HostRuntime) -> Result<(), Fail> {
     Ok(())
 }
 
-// Asserts that a request is to listen to file a with this page and PTS of frame 0, up to a frame,
+// Asserts that words ask to listen to file a with this page and PTS of frame 0, up to a frame,
 // with so many packets passed over, and with these flips and lost packets.
-fn assert_listens(
-    rt: &impl Abort,
-    request: &Request<'_>,
+fn assert_listens<'a>(
+    rt: &(impl Abort + Alloc<A = Global>),
+    words: &'a [&'a str],
     want: &Options,
     (at, skip): (u32, u64),
     flips: &[Flip],
     lost: &[u64],
     receiver: ReceiverKind,
 ) {
-    match request {
-        Request::Listen { pes, listening } => {
-            assert_eq!(rt; *pes, "a");
+    match Request::parse(rt.alloc(), words) {
+        Ok(Request::Listen { pes, listening }) => {
+            assert_eq!(rt; pes, "a");
             assert_eq!(rt; listening.options.page(), want.page());
             assert_eq!(rt; listening.options.origin(), want.origin());
             assert_eq!(rt; (listening.at, listening.skip), (at, skip));
@@ -90,57 +91,25 @@ fn assert_listens(
     }
 }
 
-#[test]
-fn reads_the_words_of_a_receiver(rt: HostRuntime) -> Result<(), Fail> {
-    let defaults = ["subttx", "listen", "a", "--at", "10:00:00:10"];
-    let options = options("888", 250, 0)?;
-    match Request::parse(rt.alloc(), &defaults) {
-        Ok(request) => {
-            let numbers = (900_010, 0);
-            assert_listens(
-                &rt,
-                &request,
-                &options,
-                numbers,
-                &[],
-                &[],
-                ReceiverKind::Blank,
-            );
-        }
-        Err(_) => return Err("a request".into()),
-    }
-    Ok(())
-}
-
 // The flips of `--flip 1:21:1,02:0:8`.
+#[rattlefmt::skip]
 const FLIPS: [Flip; 2] = [
-    Flip {
-        packet: 1,
-        byte: 21,
-        bit: 1,
-    },
-    Flip {
-        packet: 2,
-        byte: 0,
-        bit: 8,
-    },
+    Flip { packet: 1, byte: 21, bit: 1 },
+    Flip { packet: 2, byte: 0, bit: 8 },
 ];
 
 #[rattlefmt::skip]
 #[test]
-fn reads_all_words_of_a_receiver(rt: HostRuntime) -> Result<(), Fail> {
+fn reads_the_words_of_a_receiver(rt: HostRuntime) -> Result<(), Fail> {
+    let words = ["subttx", "listen", "a", "--at", "10:00:00:10"];
+    let defaults = options("888", 250, 0)?;
+    assert_listens(&rt, &words, &defaults, (900_010, 0), &[], &[], ReceiverKind::Blank);
     let words = [
         "subttx", "listen", "a", "--page", "100", "--origin", "1", "--at", "23:59:59:24",
         "--skip", "07", "--flip", "1:21:1,02:0:8", "--lose", "3,4", "--receiver", "keep",
     ];
-    let options = options("100", 250, 1)?;
-    match Request::parse(rt.alloc(), &words) {
-        Ok(request) => {
-            let numbers = (2_159_999, 7);
-            assert_listens(&rt, &request, &options, numbers, &FLIPS, &[3, 4], ReceiverKind::Keep);
-        }
-        Err(_) => return Err("a request".into()),
-    }
+    let given = options("100", 250, 1)?;
+    assert_listens(&rt, &words, &given, (2_159_999, 7), &FLIPS, &[3, 4], ReceiverKind::Keep);
     Ok(())
 }
 

@@ -1,36 +1,38 @@
 //! Words that are refused before anything is read.
-use crate::answers::{assert_prints, assert_prints_into};
+use crate::answers::{assert_fills, assert_tells};
 use std::alloc::Global;
 use std::process::Abort;
-use sub_answer::{Request, Status};
+use sub_answer::Request;
 use sub_words::ParseWords;
 
 // Asserts the line of words that are refused.
-fn assert_refuses<'a>(rt: &(impl Abort + Alloc<A = Global>), words: &'a [&'a str], want: &[u8]) {
-    let mut room = [0u8; 32];
-    assert_prints_into(rt, &mut room, words, want, Status::Fault);
+fn assert_refuses<'a>(rt: &(impl Abort + Alloc<A = Global>), words: &'a [&'a str], want: &str) {
+    assert_tells(rt, words, &[], &[], want);
 }
 
 #[test]
-fn prints_the_line_of_refused_words(rt: HostRuntime) {
-    assert_prints(&rt, &["subttx"], b"usage 0 Words\n", Status::Fault);
-    assert_prints(
+fn prints_the_line_of_refused_words_into_any_output(rt: HostRuntime) {
+    assert_fills(&rt, &["subttx"], (&[], &[]), &[], b"usage 0 Words\n");
+    assert_fills(
         &rt,
         &["subttx", "packet", "15"],
+        (&[], &[]),
+        &[],
         b"usage 2 BadHex\n",
-        Status::Fault,
     );
-    assert_prints(
+    assert_fills(
         &rt,
         &["subttx", "normal", "a", "a"],
+        (&[], &[]),
+        &[],
         b"usage 7 SameFile\n",
-        Status::Fault,
     );
 }
 
+#[rattlefmt::skip]
 #[test]
 fn refuses_words_that_are_no_command(rt: HostRuntime) {
-    let no_words: [&[&str]; 24] = [
+    let no_words: [&[&str]; 29] = [
         &["subttx"],
         &["subttx", "--help"],
         &["subttx", "-h"],
@@ -53,19 +55,17 @@ fn refuses_words_that_are_no_command(rt: HostRuntime) {
         &["subttx", "normal", "a.stl", "b.stl", "--page", "888"],
         &["subttx", "listen", "b.pes"], // `--at` has no default
         &["subttx", "listen", "--at", "10:00:00:10"],
-        &[
-            "subttx",
-            "listen",
-            "b.pes",
-            "--at",
-            "10:00:00:10",
-            "--every",
-            "25",
-        ],
+        &["subttx", "listen", "b.pes", "--at", "10:00:00:10", "--every", "25"],
         &["subttx", "--page", "888", "check", "a.stl", "b.pes"],
+        // a flag takes no text, stands once, and is one of two commands
+        &["subttx", "check", "a", "b", "--complete=yes"],
+        &["subttx", "check", "a", "b", "--complete", "--complete"],
+        &["subttx", "listen", "a", "--at", "10:00:00:10", "--complete=yes"],
+        &["subttx", "schedule", "a", "b", "--complete"],
+        &["subttx", "packets", "a", "--complete"],
     ];
     for words in no_words {
-        assert_refuses(&rt, words, b"usage 0 Words\n");
+        assert_refuses(&rt, words, "usage 0 Words\n");
     }
 }
 
@@ -85,164 +85,125 @@ fn refuses_digits_that_are_no_packet(rt: HostRuntime) {
         "g515d0d015d015d002152020202020202020202020202020202020202020202020202020202020202020",
     ];
     for hex in digits {
-        assert_refuses(&rt, &["subttx", "packet", hex], b"usage 2 BadHex\n");
+        assert_refuses(&rt, &["subttx", "packet", hex], "usage 2 BadHex\n");
     }
 }
 
 // The arguments of a schedule, in the order in which their faults are told, and the line.
 #[rattlefmt::skip]
-const SCHEDULES: [(&str, &str, &str, &str, &str); 15] = [
+const SCHEDULES: [[&str; 5]; 15] = [
     // page, every, origin, option, line
-    ("8FF", "0", "x", "french", "usage 1 BadPage\n"),
-    ("088", "250", "0", "english", "usage 1 BadPage\n"),
-    ("", "250", "0", "english", "usage 1 BadPage\n"),
-    ("888", "0", "x", "french", "usage 80 Every\n"),
-    ("888", "x", "8589934592", "english", "usage 80 Every\n"),
-    ("888", "1501", "0", "english", "usage 80 Every\n"),
-    ("888", "00000000001", "0", "english", "usage 80 Every\n"), // eleven digits
-    ("888", "+1", "0", "english", "usage 80 Every\n"),
-    ("888", "", "0", "english", "usage 80 Every\n"),
-    ("888", "1500", "8589934592", "french", "usage 81 Origin\n"),
-    ("888", "1", "x", "german", "usage 81 Origin\n"),
-    ("888", "1", "99999999990", "german", "usage 81 Origin\n"),
-    ("888", "1", "8589934591", "french", "usage 83 BadOption\n"),
-    ("888", "1", "0", "English", "usage 83 BadOption\n"),
-    ("888", "1", "0", "", "usage 83 BadOption\n"),
+    ["8FF", "0", "x", "french", "usage 1 BadPage\n"],
+    ["088", "250", "0", "english", "usage 1 BadPage\n"],
+    ["", "250", "0", "english", "usage 1 BadPage\n"],
+    ["888", "0", "x", "french", "usage 80 Every\n"],
+    ["888", "x", "8589934592", "english", "usage 80 Every\n"],
+    ["888", "1501", "0", "english", "usage 80 Every\n"],
+    ["888", "00000000001", "0", "english", "usage 80 Every\n"], // eleven digits
+    ["888", "+1", "0", "english", "usage 80 Every\n"],
+    ["888", "", "0", "english", "usage 80 Every\n"],
+    ["888", "1500", "8589934592", "french", "usage 81 Origin\n"],
+    ["888", "1", "x", "german", "usage 81 Origin\n"],
+    ["888", "1", "99999999990", "german", "usage 81 Origin\n"],
+    ["888", "1", "8589934591", "french", "usage 83 BadOption\n"],
+    ["888", "1", "0", "English", "usage 83 BadOption\n"],
+    ["888", "1", "0", "", "usage 83 BadOption\n"],
 ];
 
-// Asserts the line of the words of a schedule.
-fn assert_schedule_refused(
-    rt: &(impl Abort + Alloc<A = Global>),
-    pes: &str,
-    page: &str,
-    every: &str,
-    origin: &str,
-    option: &str,
-    want: &str,
-) {
+// Asserts the line of a schedule with these arguments, and of a check with the options before the
+// files.
+#[rattlefmt::skip]
+fn assert_refuses_row(rt: &(impl Abort + Alloc<A = Global>), row: &[&str; 5]) {
     let words = [
-        "subttx", "schedule", "a", pes, "--page", page, "--every", every, "--origin", origin,
-        "--option", option,
+        "subttx", "schedule", "a", "b", "--page", row[0], "--every", row[1], "--origin", row[2],
+        "--option", row[3],
     ];
-    assert_refuses(rt, &words, want.as_bytes());
-}
-
-// The same of a check, which may name one file twice.
-fn assert_check_refused(
-    rt: &(impl Abort + Alloc<A = Global>),
-    pes: &str,
-    page: &str,
-    every: &str,
-    origin: &str,
-    option: &str,
-    want: &str,
-) {
+    assert_refuses(rt, &words, row[4]);
     let words = [
-        "subttx", "check", "--option", option, "--origin", origin, "--every", every, "--page",
-        page, "a", pes,
+        "subttx", "check", "--option", row[3], "--origin", row[2], "--every", row[1], "--page",
+        row[0], "a", "b",
     ];
-    assert_refuses(rt, &words, want.as_bytes());
+    assert_refuses(rt, &words, row[4]);
 }
 
-#[test]
-fn tells_the_first_fault_of_a_schedule(rt: HostRuntime) {
-    for (page, every, origin, option, want) in SCHEDULES {
-        assert_schedule_refused(&rt, "b", page, every, origin, option, want);
-        assert_check_refused(&rt, "b", page, every, origin, option, want);
-    }
-    assert_schedule_refused(&rt, "a", "8FF", "0", "x", "french", "usage 7 SameFile\n");
-    assert_check_refused(&rt, "a", "8FF", "0", "x", "french", "usage 1 BadPage\n");
-    assert_refuses(&rt, &["subttx", "normal", "a", "a"], b"usage 7 SameFile\n");
-}
-
-// The arguments of a receiver in the order in which their faults are told.
 #[rattlefmt::skip]
 #[test]
-fn tells_the_first_fault_of_a_receiver(rt: HostRuntime) {
-    // words, line
-    let refused: [(&[&str], &[u8]); 14] = [
-        (&["subttx", "listen", "a", "--page", "8FF", "--origin", "x", "--at", "x",
-            "--skip", "x", "--flip", "x", "--lose", "x", "--receiver", "x"],
-            b"usage 1 BadPage\n"),
-        (&["subttx", "listen", "a", "--page", "888", "--origin", "8589934592", "--at", "x",
-            "--skip", "x", "--flip", "x", "--lose", "x", "--receiver", "x"],
-            b"usage 81 Origin\n"),
-        (&["subttx", "listen", "a", "--page", "888", "--origin", "0", "--at", "24:00:00:00",
-            "--skip", "x", "--flip", "x", "--lose", "x", "--receiver", "x"],
-            b"usage 6 BadTime\n"),
-        (&["subttx", "listen", "a", "--page", "888", "--origin", "0", "--at", "10:00:00:25",
-            "--skip", "0", "--flip", "0:0:1", "--lose", "0", "--receiver", "keep"],
-            b"usage 6 BadTime\n"),
-        (&["subttx", "listen", "a", "--page", "888", "--origin", "0", "--at", "1:00:00:10",
-            "--skip", "0", "--flip", "0:0:1", "--lose", "0", "--receiver", "keep"],
-            b"usage 6 BadTime\n"),
-        (&["subttx", "listen", "a", "--page", "888", "--origin", "0", "--at", "10:00:00:10",
-            "--skip", "x", "--flip", "x", "--lose", "x", "--receiver", "x"],
-            b"usage 8 BadSkip\n"),
-        (&["subttx", "listen", "a", "--page", "888", "--origin", "0", "--at", "10:00:00:10",
-            "--skip", "0", "--flip", "1:21:1,1:21:2", "--lose", "x", "--receiver", "x"],
-            b"usage 5 BadFlip\n"),
-        (&["subttx", "listen", "a", "--page", "888", "--origin", "0", "--at", "10:00:00:10",
-            "--skip", "0", "--flip", "", "--lose", "0", "--receiver", "keep"],
-            b"usage 5 BadFlip\n"),
-        (&["subttx", "listen", "a", "--page", "888", "--origin", "0", "--at", "10:00:00:10",
-            "--skip", "0", "--flip", "0:42:1", "--lose", "0", "--receiver", "keep"],
-            b"usage 5 BadFlip\n"),
-        (&["subttx", "listen", "a", "--page", "888", "--origin", "0", "--at", "10:00:00:10",
-            "--skip", "0", "--flip", "0:0:0", "--lose", "0", "--receiver", "keep"],
-            b"usage 5 BadFlip\n"),
-        (&["subttx", "listen", "a", "--page", "888", "--origin", "0", "--at", "10:00:00:10",
-            "--skip", "0", "--flip", "0:41:8", "--lose", "1,1", "--receiver", "x"],
-            b"usage 84 BadLose\n"),
-        (&["subttx", "listen", "a", "--page", "888", "--origin", "0", "--at", "10:00:00:10",
-            "--skip", "0", "--flip", "0:41:8", "--lose", "1,01", "--receiver", "keep"],
-            b"usage 84 BadLose\n"),
-        (&["subttx", "listen", "a", "--page", "888", "--origin", "0", "--at", "10:00:00:10",
-            "--skip", "0", "--flip", "0:41:8", "--lose", "", "--receiver", "keep"],
-            b"usage 84 BadLose\n"),
-        (&["subttx", "listen", "a", "--page", "888", "--origin", "0", "--at", "10:00:00:10",
-            "--skip", "0", "--flip", "0:41:8", "--lose", "1,2", "--receiver", "all"],
-            b"usage 9 BadReceiver\n"),
+fn tells_the_first_fault_of_a_schedule(rt: HostRuntime) {
+    for row in &SCHEDULES {
+        assert_refuses_row(&rt, row);
+    }
+    // A check may name one file twice.
+    let options = [
+        "subttx", "schedule", "a", "a", "--page", "8FF", "--every", "0", "--origin", "x",
+        "--option", "french",
     ];
-    for (words, want) in refused {
-        assert_refuses(&rt, words, want);
+    assert_refuses(&rt, &options, "usage 7 SameFile\n");
+    let options = [
+        "subttx", "check", "--option", "french", "--origin", "x", "--every", "0", "--page", "8FF",
+        "a", "a",
+    ];
+    assert_refuses(&rt, &options, "usage 1 BadPage\n");
+    assert_refuses(&rt, &["subttx", "normal", "a", "a"], "usage 7 SameFile\n");
+}
+
+// The arguments of a receiver in the order in which their faults are told, and the line.
+#[rattlefmt::skip]
+const RECEIVERS: [[&str; 8]; 14] = [
+    // page, origin, time, packets passed over, flips, lost packets, receiver, line
+    ["8FF", "x", "x", "x", "x", "x", "x", "usage 1 BadPage\n"],
+    ["888", "8589934592", "x", "x", "x", "x", "x", "usage 81 Origin\n"],
+    ["888", "0", "24:00:00:00", "x", "x", "x", "x", "usage 6 BadTime\n"],
+    ["888", "0", "10:00:00:25", "0", "0:0:1", "0", "keep", "usage 6 BadTime\n"],
+    ["888", "0", "1:00:00:10", "0", "0:0:1", "0", "keep", "usage 6 BadTime\n"],
+    ["888", "0", "10:00:00:10", "x", "x", "x", "x", "usage 8 BadSkip\n"],
+    ["888", "0", "10:00:00:10", "0", "1:21:1,1:21:2", "x", "x", "usage 5 BadFlip\n"],
+    ["888", "0", "10:00:00:10", "0", "", "0", "keep", "usage 5 BadFlip\n"],
+    ["888", "0", "10:00:00:10", "0", "0:42:1", "0", "keep", "usage 5 BadFlip\n"],
+    ["888", "0", "10:00:00:10", "0", "0:0:0", "0", "keep", "usage 5 BadFlip\n"],
+    ["888", "0", "10:00:00:10", "0", "0:41:8", "1,1", "x", "usage 84 BadLose\n"],
+    ["888", "0", "10:00:00:10", "0", "0:41:8", "1,01", "keep", "usage 84 BadLose\n"],
+    ["888", "0", "10:00:00:10", "0", "0:41:8", "", "keep", "usage 84 BadLose\n"],
+    ["888", "0", "10:00:00:10", "0", "0:41:8", "1,2", "all", "usage 9 BadReceiver\n"],
+];
+
+// Asserts the line of a listening with these arguments.
+#[rattlefmt::skip]
+fn assert_refuses_receiver(rt: &(impl Abort + Alloc<A = Global>), row: &[&str; 8]) {
+    let words = [
+        "subttx", "listen", "a", "--page", row[0], "--origin", row[1], "--at", row[2], "--skip",
+        row[3], "--flip", row[4], "--lose", row[5], "--receiver", row[6],
+    ];
+    assert_refuses(rt, &words, row[7]);
+}
+
+#[test]
+fn tells_the_first_fault_of_a_receiver(rt: HostRuntime) {
+    for row in &RECEIVERS {
+        assert_refuses_receiver(&rt, row);
     }
 }
 
 // What `clap` makes of words that begin with a dash, and of options that are repeated.
+#[rattlefmt::skip]
 #[test]
 fn reads_dashes_as_clap_does(rt: HostRuntime) {
     let refused: [&[&str]; 6] = [
         &["subttx", "check", "-a", "b"],
         &["subttx", "check", "a", "b", "--every", "-1"],
-        &[
-            "subttx", "check", "a", "b", "--page", "888", "--page", "888",
-        ],
+        &["subttx", "check", "a", "b", "--page", "888", "--page", "888"],
         &["subttx", "check", "a", "b", "--", "--page", "888"],
         &["subttx", "schedule", "a", "b", "--serial", "--serial"],
         &["subttx", "--", "check", "a", "b"],
     ];
     for words in refused {
-        assert_refuses(&rt, words, b"usage 0 Words\n");
+        assert_refuses(&rt, words, "usage 0 Words\n");
     }
-    assert_refuses(
-        &rt,
-        &["subttx", "check", "a", "b", "--every=-1"],
-        b"usage 80 Every\n",
-    );
+    assert_refuses(&rt, &["subttx", "check", "a", "b", "--every=-1"], "usage 80 Every\n");
     let taken: [&[&str]; 4] = [
         &["subttx", "check", "--", "-a", "-"],
         &["subttx", "check", "--page", "888", "--", "-a", "-"],
         &["subttx", "check", "--page=888", "--", "-a", "-"],
-        &[
-            "subttx",
-            "check",
-            "--every=250",
-            "--option=english",
-            "--",
-            "-a",
-            "-",
-        ],
+        &["subttx", "check", "--every=250", "--option=english", "--", "-a", "-"],
     ];
     for words in taken {
         match Request::parse(rt.alloc(), words) {

@@ -1,24 +1,20 @@
 //! The checker: what it accepts, and what it says of files without a PES packet. All other verdicts
 //! are tested by the lines that the program prints.
-use fixtures::{file_of_hi, gsi, schedule_of_hi};
+use fixtures::{every, file_of_hi, gsi, schedule_of_hi};
 use std::test::Fail;
 use stl_rows::{National, load};
 use sub_check::{Accepted, CheckFault, check, check_files};
 use sub_io::MemSource;
-use sub_plan::Options;
-use ttx_packet::PageId;
 use ttx_pes::PesFault;
 
 #[test]
 fn accepts_a_schedule(rt: HostRuntime) -> Result<(), Fail> {
-    let page = PageId::parse("888").ok().ok_or("page")?;
-    let options = Options::new(page, 250, 0).ok().ok_or("options")?;
     let answer = check_files(
         rt.alloc(),
         &mut MemSource::new(&file_of_hi()),
         &mut MemSource::new(&schedule_of_hi()),
         National::English,
-        &options,
+        &every(250)?,
     );
     let (frames, transmissions) = (51, 2);
     let accepted = Accepted {
@@ -31,11 +27,8 @@ fn accepts_a_schedule(rt: HostRuntime) -> Result<(), Fail> {
 
 #[test]
 fn refuses_empty_and_cut_files(rt: HostRuntime) -> Result<(), Fail> {
-    let programme = load(rt.alloc(), &mut MemSource::new(&gsi()), National::English)
-        .ok()
-        .ok_or("programme")?;
-    let page = PageId::parse("888").ok().ok_or("page")?;
-    let options = Options::new(page, 250, 0).ok().ok_or("options")?;
+    let programme = load(rt.alloc(), &mut MemSource::new(&gsi()), National::English)?;
+    let options = every(250)?;
     let empty = check(&programme, &mut MemSource::new(&[]), &options);
     assert_eq!(rt; empty, Err(CheckFault::Empty));
     let cut = check(&programme, &mut MemSource::new(&[0, 0, 1]), &options);

@@ -12,8 +12,6 @@ mod closing;
 #[cfg(test)]
 mod compared_packets;
 #[cfg(test)]
-mod complete_pages;
-#[cfg(test)]
 mod devices;
 #[cfg(test)]
 mod drawings;

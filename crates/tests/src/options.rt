@@ -1,4 +1,5 @@
 //! Options of a transmission.
+use fixtures::options;
 use std::test::Fail;
 use sub_plan::{OptionFault, Options};
 use ttx_packet::PageId;
@@ -24,7 +25,7 @@ fn tells_frames_and_their_times(rt: HostRuntime) -> Result<(), Fail> {
         (8_589_930_992, 1, 0), // past 33 bits
         (1, 2_159_999, 7_775_996_401),
     ] {
-        let options = Options::new(page, 250, origin).ok().ok_or("options")?;
+        let options = options("888", 250, origin)?;
         assert_eq!(rt; options.pts_of(frame), pts);
         assert_eq!(rt; options.frame_of(pts), Some(frame));
         assert_eq!(rt; options.frame_of(pts + 1), None);
@@ -32,7 +33,17 @@ fn tells_frames_and_their_times(rt: HostRuntime) -> Result<(), Fail> {
         assert_eq!(rt; options.page(), page);
         assert_eq!(rt; (options.every(), options.origin()), (250, origin));
     }
-    let options = Options::new(page, 250, 0).ok().ok_or("options")?;
-    assert_eq!(rt; options.frame_of(7_776_000_000), None); // frame 2,160,000
+    assert_eq!(rt; options("888", 250, 0)?.frame_of(7_776_000_000), None); // frame 2,160,000
+    Ok(())
+}
+
+#[test]
+fn asks_for_complete_pages_where_it_is_asked_to(rt: HostRuntime) -> Result<(), Fail> {
+    let plain = options("888", 250, 7)?;
+    let asking = plain.asking_complete();
+    assert_eq!(rt; plain.asks_complete(), false);
+    assert_eq!(rt; asking.asks_complete(), true);
+    assert_eq!(rt; asking.page(), plain.page());
+    assert_eq!(rt; (asking.every(), asking.origin()), (250, 7));
     Ok(())
 }

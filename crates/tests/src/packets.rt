@@ -1,5 +1,6 @@
 //! Codes, packets and page numbers.
 use bitflags::Flags;
+use fixtures::HEADER;
 use ttx_packet::{
     Control, Header, Packet, PageId, ham, is_odd, is_word, mirror, mirrored, par, unham,
 };
@@ -76,9 +77,6 @@ fn makes_odd_bytes(rt: HostRuntime) {
     assert!(rt; !is_odd(0xA0));
 }
 
-// The header of page 888 in parallel mode, with a text of spaces.
-const HEADER_888: [u8; 10] = [0x15, 0x15, 0xD0, 0xD0, 0x15, 0xD0, 0x15, 0xD0, 0x02, 0x15];
-
 #[test]
 fn makes_and_reads_a_header(rt: HostRuntime) {
     let control = Control::C4.union(Control::C6).union(Control::C7);
@@ -88,9 +86,7 @@ fn makes_and_reads_a_header(rt: HostRuntime) {
         control,
     };
     let packet = Packet::of_header(0, &header);
-    let mut bytes = [0x20; 42];
-    bytes[..10].copy_from_slice(&HEADER_888);
-    assert_eq!(rt; *packet.bytes(), bytes);
+    assert_eq!(rt; *packet.bytes(), HEADER);
     assert_eq!(rt; packet.data()[0], 0xD0);
     assert_eq!(rt; packet.mirrored()[3], 0x0B);
     assert!(rt; packet.is_clean_address() && packet.is_clean_header());

@@ -1,4 +1,5 @@
 //! What the two receivers make of short lists of packets, by the standard's rules.
+use fixtures::packet_of;
 use ttx_packet::{Packet, PageId};
 use ttx_page::{Blank, Keep, PacketKind, Page, Receiver, hear_all, show_all};
 
@@ -32,9 +33,7 @@ const ROW_122: [u8; 10] = [0x02, 0x9B, 0xC1, 0x41, 0x20, 0x20, 0x20, 0x20, 0x20,
 const NO_ADDRESS: [u8; 10] = [0x16; 10];
 
 fn packet(start: [u8; 10]) -> Packet {
-    let mut bytes = [0x20; 42];
-    bytes[..10].copy_from_slice(&start);
-    Packet::new(bytes)
+    Packet::new(packet_of(&start))
 }
 
 /// A page that a receiver may hold from before: 3F, a question mark, in every cell.
