@@ -17,9 +17,11 @@ fn part(ebn: u8, cf: u8, text: u8) -> [u8; 128] {
 /// A GSI block, a comment, user data, and a subtitle of two blocks.
 pub fn commented() -> [u8; 1536] {
     let mut file = [0; 1536];
-    file[..1280].copy_from_slice(&file_of_two(&part(0xFF, 1, 0x43), &part(0xFE, 0, 0x55)));
-    file[1280..1408].copy_from_slice(&part(0x00, 0, 0x41));
-    file[1408..].copy_from_slice(&part(0xFF, 0, 0x42));
+    let (front, subtitle) = file.split_at_mut(1280);
+    front.copy_from_slice(&file_of_two(&part(0xFF, 1, 0x43), &part(0xFE, 0, 0x55)));
+    let (first, last) = subtitle.split_at_mut(128);
+    first.copy_from_slice(&part(0x00, 0, 0x41));
+    last.copy_from_slice(&part(0xFF, 0, 0x42));
     file
 }
 
