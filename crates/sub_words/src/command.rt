@@ -35,6 +35,64 @@ pub struct CommandTable<'a> {
     pub arguments: &'a [Argument<'a>],
 }
 
+// The commands, each with its arguments.
+const COMMANDS: [CommandTable<'static>; 7] = [
+    CommandTable {
+        name: "packet",
+        arguments: &[Argument::Required("hex")],
+    },
+    CommandTable {
+        name: "packets",
+        arguments: &[Argument::Required("pes")],
+    },
+    CommandTable {
+        name: "show",
+        arguments: &[Argument::Required("stl")],
+    },
+    CommandTable {
+        name: "normal",
+        arguments: &[Argument::Required("in"), Argument::Required("out")],
+    },
+    CommandTable {
+        name: "schedule",
+        arguments: &[
+            Argument::Required("stl"),
+            Argument::Required("pes"),
+            Argument::Option("page", "888"),
+            Argument::Option("origin", "0"),
+            Argument::Option("every", "250"),
+            Argument::Option("option", "english"),
+            Argument::Flag("serial"),
+        ],
+    },
+    CommandTable {
+        name: "check",
+        arguments: &[
+            Argument::Required("stl"),
+            Argument::Required("pes"),
+            Argument::Option("page", "888"),
+            Argument::Option("origin", "0"),
+            Argument::Option("every", "250"),
+            Argument::Option("option", "english"),
+            Argument::Flag("complete"),
+        ],
+    },
+    CommandTable {
+        name: "listen",
+        arguments: &[
+            Argument::Required("pes"),
+            Argument::Option("page", "888"),
+            Argument::Option("origin", "0"),
+            Argument::RequiredOption("at"),
+            Argument::Option("skip", "0"),
+            Argument::BareOption("flip"),
+            Argument::BareOption("lose"),
+            Argument::Option("receiver", "blank"),
+            Argument::Flag("complete"),
+        ],
+    },
+];
+
 // Adds an argument.
 fn with_argument<'a>(
     command: Command<'a>,
@@ -129,61 +187,5 @@ pub fn subttx_command<'a>(alloc: Global) -> Result<Command<'a>, AllocError>
     ensures app { IfOk result (λ c. app_of c ≡ subttx_app) }
     ensures local { IfOk result (λ c. (out-Command c).has_globals ≡ false) }
 {
-    let commands = [
-        CommandTable {
-            name: "packet",
-            arguments: &[Argument::Required("hex")],
-        },
-        CommandTable {
-            name: "packets",
-            arguments: &[Argument::Required("pes")],
-        },
-        CommandTable {
-            name: "show",
-            arguments: &[Argument::Required("stl")],
-        },
-        CommandTable {
-            name: "normal",
-            arguments: &[Argument::Required("in"), Argument::Required("out")],
-        },
-        CommandTable {
-            name: "schedule",
-            arguments: &[
-                Argument::Required("stl"),
-                Argument::Required("pes"),
-                Argument::Option("page", "888"),
-                Argument::Option("origin", "0"),
-                Argument::Option("every", "250"),
-                Argument::Option("option", "english"),
-                Argument::Flag("serial"),
-            ],
-        },
-        CommandTable {
-            name: "check",
-            arguments: &[
-                Argument::Required("stl"),
-                Argument::Required("pes"),
-                Argument::Option("page", "888"),
-                Argument::Option("origin", "0"),
-                Argument::Option("every", "250"),
-                Argument::Option("option", "english"),
-                Argument::Flag("complete"),
-            ],
-        },
-        CommandTable {
-            name: "listen",
-            arguments: &[
-                Argument::Required("pes"),
-                Argument::Option("page", "888"),
-                Argument::Option("origin", "0"),
-                Argument::RequiredOption("at"),
-                Argument::Option("skip", "0"),
-                Argument::BareOption("flip"),
-                Argument::BareOption("lose"),
-                Argument::Option("receiver", "blank"),
-                Argument::Flag("complete"),
-            ],
-        },
-    ];
-    with_commands(bare_program(alloc), alloc, &commands)
+    with_commands(bare_program(alloc), alloc, &COMMANDS)
 }
