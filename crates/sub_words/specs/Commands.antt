@@ -58,7 +58,8 @@ commands =
       codes "schedule",
       required_rule (codes "stl") ∷ required_rule (codes "pes")
           ∷ option_rule (codes "page") (codes "888") ∷ option_rule (codes "origin") (codes "0")
-          ∷ option_rule (codes "every") (codes "250") ∷ option_rule (codes "option") (codes "english")
+          ∷ option_rule (codes "every") (codes "250")
+          ∷ option_rule (codes "option") (codes "english")
           ∷ flag_rule (codes "serial") ∷ [],
     )
     -- check STL PES [--page P] [--origin T] [--every N] [--option O] [--complete]
@@ -66,7 +67,8 @@ commands =
       codes "check",
       required_rule (codes "stl") ∷ required_rule (codes "pes")
           ∷ option_rule (codes "page") (codes "888") ∷ option_rule (codes "origin") (codes "0")
-          ∷ option_rule (codes "every") (codes "250") ∷ option_rule (codes "option") (codes "english")
+          ∷ option_rule (codes "every") (codes "250")
+          ∷ option_rule (codes "option") (codes "english")
           ∷ flag_rule (codes "complete") ∷ [],
     )
     -- listen PES [--page P] [--origin T] --at TIME [--skip N] [--flip F] [--lose L] [--receiver R]
