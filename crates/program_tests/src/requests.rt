@@ -67,7 +67,7 @@ fn reads_the_words_of_a_schedule(rt: HostRuntime) -> Result<(), Fail> {
 }
 
 // Asserts that words ask to listen to file a with this page and PTS of frame 0, up to a frame,
-// with so many packets passed over, and with these flips and lost packets.
+// with this number of packets passed over, and with these flips and lost packets.
 fn assert_listens<'a>(
     rt: &(impl Abort + Alloc<A = Global>),
     words: &'a [&'a str],

@@ -35,7 +35,7 @@ refused_open s f old e = (
   keeps_same old,
 )
 
--- behind a GSI block that is taken, a file gives what its body gives
+-- after a GSI block that is taken, a file gives what its body gives
 file_body : (s : List ℕ) (r : ReaderValue)
     → opened_at s ≡ good r
     → subtitles_of (outcome_of s) ≡ subtitles_of (outcome_from 0 (drop 1024 s))
@@ -142,7 +142,7 @@ module _ (s : List ℕ) (r : ReaderValue) (c : Counts) (g : List ℕ) (opened : 
   pub prefix_gsi : (u w : Option (List ℕ)) → AppendsPrefix u w g → WritesPrefix s u w
   prefix_gsi u w x = prefix_is u w (AppendsPrefix-first u w g (joined (all_blocks all.ts)) x)
 
-  -- the sink failed behind the GSI block
+  -- the sink failed after the GSI block
   pub prefix_body : (u v w : Option (List ℕ))
       → Appends u v g
       → AppendsPrefix v w (joined

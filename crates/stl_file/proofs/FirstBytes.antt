@@ -14,7 +14,7 @@ use Rattle.stl_file.specs.Reading.{Outcome, gives, outcome_after, outcome_at, st
 use Rattle.stl_file.specs.Reader.{opened, opened_at, outcome_of, outcome_opened}
 use Rattle.stl_file.proofs.Outcomes.{outcome_full, outcome_step}
 
--- of a list with a whole block so many bytes have one too
+-- the first m bytes of a list with a whole block have one too
 long-take : (m : ℕ) (b : List ℕ)
     → ((length b < m) ⊎ (m ≤ length b))
     → 128 ≤ m
@@ -25,7 +25,7 @@ long-take m b (inr fits) most long =
     let size : length (take m b) ≡ m = length-take-le m b fits in
     omega (arith, size)
 
--- what comes of a block goes by what the bytes behind it give
+-- what comes of a block goes by what the bytes after it give
 after-same : (room : ℕ) (f g : Option Begun → Outcome) (r : Result Step StlFault)
     → ((next : Option Begun) → f next ≡ g next)
     → outcome_after room f r ≡ outcome_after room g r
@@ -66,14 +66,14 @@ outcome_at-suc room begun b fewer (inr long) =
     subst (λ (k : ℕ). outcome_at (suc room) begun (take k b) ≡ outcome_at (suc room) begun b)
     (sym m) (outcome_at-step room begun b fewer long)
 
--- one byte behind the last block that may come
+-- one byte after the last block that may come
 outcome_at-zero : (begun : Option Begun) (b : List ℕ)
     → outcome_at 0 begun (take 1 b) ≡ outcome_at 0 begun b
 outcome_at-zero begun [] = refl
 outcome_at-zero begun (x ∷ b) =
     outcome_full begun (x ∷ []) (omega arith) ∙ sym (outcome_full begun (x ∷ b) (omega arith))
 
--- one byte more than so many blocks have decides what they give
+-- one byte more than `room` blocks have decides what they give
 outcome_at-first : (room : ℕ) (begun : Option Begun) (b : List ℕ)
     → outcome_at room begun (take (128 * room + 1) b) ≡ outcome_at room begun b
 outcome_at-first zero begun b = outcome_at-zero begun b

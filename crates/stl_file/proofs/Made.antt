@@ -75,7 +75,7 @@ before_pad : (k : ℕ) → before_unused (replicate k unused_space) ≡ []
 before_pad zero = refl
 before_pad (suc k) = refl
 
--- a text behind which unused space was put comes back
+-- a text after which unused space was put comes back
 before_clean : (xs : List ℕ) (k : ℕ)
     → IsClean xs
     → before_unused (xs ++ replicate k unused_space) ≡ xs

@@ -31,7 +31,7 @@ chain_kept sgn_is sn_is (b ∷ []) c = ((c.0.size, kept_by_both b (inr c.1) c.0.
 chain_kept sgn_is sn_is (b ∷ x ∷ g) c =
     ((c.0.size, kept_by_both b (inl c.1) c.0.is_subtitle), chain_kept sgn_is sn_is (x ∷ g) c.2)
 
--- kept blocks behind one another
+-- kept blocks, one after the other
 kept_append : (xs ys : List (List ℕ)) → AllKept xs → AllKept ys → AllKept (xs ++ ys)
 kept_append [] ys h k = k
 kept_append (x ∷ xs) ys h k = (h.0, kept_append xs ys h.1 k)
@@ -130,7 +130,7 @@ counts_front tnb tns g size =
     take_at (take 238 g) (five_digits tnb ++ (five_digits tns ++ drop 248 g)) 238
     (front_size g size)
 
--- it keeps what stands behind them
+-- it keeps what stands after them
 counts_back : (tnb tns : ℕ) (g : List ℕ)
     → length g ≡ 1024
     → drop 248 (with_counts tnb tns g) ≡ drop 248 g

@@ -1,4 +1,4 @@
--- The GSI block, and a reader behind it; main lemmas: gsi_sound, gsi_complete, open_whole.
+-- The GSI block, and a reader after it; main lemmas: gsi_sound, gsi_complete, open_whole.
 use Rattle.std.proofs.Common.{◌≡◌, ℕ, ◌+◌, ◌<◌, ◌≤◌, Bool, true, false, cond, not, eqb, List, ◌++◌}
 use Rattle.std.proofs.Common.{length, take, drop, Option, Some, Result, Ok, Err, refl, sym, ap, ◌∙◌}
 use Rattle.std.proofs.Common.{arith, length-append, length-take, inl, inr, ◌⊎◌, bytes_eq}
@@ -113,7 +113,7 @@ Opened = Result ReaderValue StlFault
 
 module _ (bytes : List ℕ) (n : ℕ) (new : Option (List ℕ)) (block : List ℕ)
     (t : Told bytes n new block) (bound : n ≤ length block) (size : length block ≡ 1024) where
-  -- so many bytes were taken and are left
+  -- n bytes were taken, and the rest is left
   len_of : length bytes ≡ n + length t.rest
   len_of = ap length t.parts
       ∙ omega (arith, length-append (take n block) t.rest, length-take n block)
@@ -144,7 +144,7 @@ module _ (bytes : List ℕ) (n : ℕ) (new : Option (List ℕ)) (block : List �
       ap (take 1024) (parts_of le) ∙ take_at block t.rest 1024 size in
       rw (no, front, e) refl
 
-  -- what is left behind it
+  -- what is left after it
   pub open_rest : 1024 ≤ n → new ≡ Some (drop 1024 bytes)
   open_rest le =
       let back : drop 1024 bytes ≡ t.rest =

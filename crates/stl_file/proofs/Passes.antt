@@ -1,4 +1,4 @@
--- A pass of `normal` over the blocks behind the GSI block; main lemmas: pass_on, pass_end,
+-- A pass of `normal` over the blocks after the GSI block; main lemmas: pass_on, pass_end,
 -- all_prefix.
 use Rattle.std.proofs.Common.{◌≡◌, ℕ, suc, ◌+◌, ◌-◌, ◌<◌, ◌≤◌, Bool, true, false, cond, List, []}
 use Rattle.std.proofs.Common.{◌∷◌, ◌++◌, length, Option, Some, None, Result, Ok, Err, refl}
@@ -167,7 +167,7 @@ module _ (body rest next : List ℕ) (p r : ReaderValue) (done : List SubtitleVa
   module _ (s : SubtitleValue) (old new : Option (List ℕ))
       (x : Answers p rest r (Some next) (Ok (Some s)))
       (takes : TakesSubtitle p.block r.block old new s) where
-    -- the pass behind a subtitle
+    -- the pass after a subtitle
     pub pass_on : r.progress ≡ p.progress
         → HasPlace r.progress r.block
         → Passes body r next (done ++ s ∷ [])

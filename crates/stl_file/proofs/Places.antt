@@ -27,7 +27,7 @@ names-before block (fails f at) h = omega arith
 names-before block (gives s at o) h =
     let le : block + 1 ≤ at = h.0 in (omega arith, names-before block o h.1)
 
--- what comes of a block, where all behind it names no block before
+-- what comes of a block, where all after it names no block before
 names-after : (room block : ℕ) (next : Option Begun → Outcome) (r : Result Step StlFault)
     → block ≤ most_blocks - room
     → ((begun : Option Begun) → NamesFrom block (next begun))
@@ -43,7 +43,7 @@ names-nil : (room block : ℕ) (begun : Option Begun)
 names-nil room block None e = tt
 names-nil room block (Some begun) e = omega arith
 
--- a block that is cut or whole, where what comes behind it names none before
+-- a block that is cut or whole, where what comes after it names none before
 names-block : (room block : ℕ) (begun : Option Begun) (b : List ℕ)
     → 0 < length b
     → block + suc room ≡ most_blocks
@@ -58,7 +58,7 @@ names-block room block begun b some e next (inr whole) =
     (names-after room (block + 1) (λ step. outcome_at room step (drop 128 b))
     (step_at begun (take 128 b)) (omega arith) next)
 
--- what bytes give behind so many blocks names none of these
+-- what bytes give after `block` blocks names none of these
 pub names_from : (room block : ℕ) (begun : Option Begun) (b : List ℕ)
     → block + room ≡ most_blocks
     → NamesFrom (block + 1) (outcome_at room begun b)

@@ -226,7 +226,7 @@ judged_ok : (b : List ℕ) (o : Result ReaderValue StlFault) (ts : List Subtitle
 judged_ok b (Ok r) ts e = (r, refl, e)
 judged_ok b (Err f) ts e = absurd cc
 
--- the bytes behind a GSI block that is taken
+-- the bytes after a GSI block that is taken
 pub body_sound : (s : List ℕ) (ts : List SubtitleValue)
     → 1024 ≤ length s
     → IsGsi (take 1024 s)

@@ -34,7 +34,7 @@ use Rattle.stl_file.proofs.Places.{names_from}
 
 -- ---- what was read so far
 
--- The blocks that were read in this call, behind `from` others: they lead to `block`, the kept ones
+-- The blocks that were read in this call, after `from` others: they lead to `block`, the kept ones
 -- are those of the subtitle that was begun, and what they and any more bytes give is known.
 pub record HasRead (from : ℕ) (old now : Option (List ℕ)) (block : ℕ) (begun : Option Begun)
     : Type 0 where
@@ -121,11 +121,11 @@ module _ (from : ℕ) (old mid new : Option (List ℕ)) (n block : ℕ) (begun :
   with_bytes : Consumes old new (joined h.blocks ++ take n buffer)
   with_bytes = Consumes-trans old mid new (joined h.blocks) (take n buffer) h.consumed f.bytes
 
-  -- so many bytes came in this turn
+  -- n bytes came in this turn
   length_front : length (take n buffer) ≡ n
   length_front = let le = f.bound in length-take n buffer ∙ omega arith
 
-  -- so many bytes in this call
+  -- the bytes that came in this call
   length_all : length (joined h.blocks ++ take n buffer) ≡ 128 * length h.blocks + n
   length_all =
       let l = length-append (joined h.blocks) (take n buffer) in
@@ -147,7 +147,7 @@ module _ (from : ℕ) (old mid new : Option (List ℕ)) (n block : ℕ) (begun :
       let g = told_all bytes e in
       ap (outcome_from from) g.parts ∙ h.goes (take n buffer ++ g.rest)
 
-  -- a fault that no bytes behind it could cure
+  -- a fault that no bytes after it could cure
   refuses : (x : StlFault) (to place : ℕ)
       → to ≡ from + (128 * length h.blocks + n + 127) / 128
       → ((more : List ℕ)
@@ -265,7 +265,7 @@ module _ (from : ℕ) (old mid new : Option (List ℕ)) (n block : ℕ) (begun :
               ∙ ap (λ (k : ℕ). fails fault.TooManyBlocks (k + 1)) (sym full);
         }
 
-    -- no file has so many
+    -- no file has a block more
     pub refuses_too_many : Refuses from (block + 1) old new fault.TooManyBlocks
     refuses_too_many =
         refuses fault.TooManyBlocks (block + 1) (most_blocks + 1)
@@ -428,7 +428,7 @@ module _ (from : ℕ) (old mid new : Option (List ℕ)) (n block : ℕ) (begun :
 
 -- ---- the source fails
 
--- fewer than 128 bytes were taken behind the blocks
+-- fewer than 128 bytes were taken after the blocks
 pub fails_reading : (from block : ℕ) (old mid new : Option (List ℕ)) (begun : Option Begun)
     (bytes : List ℕ)
     → HasRead from old mid block begun

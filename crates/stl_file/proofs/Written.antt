@@ -27,7 +27,7 @@ pushed out a b c head piece pad s ebn ea eb ec eh ep =
     ∙ append_assoc out head (piece ++ replicate (112 - length piece) unused_space)
     ∙ ap (λ (h : List ℕ). out ++ (h ++ text_field piece)) eh)
 
--- a long text has one piece more than what is behind its first piece
+-- a long text has one piece more than what is after its first piece
 pub pieces_more : (text : List ℕ)
     → 112 < length text
     → full_pieces text ≡ suc (full_pieces (drop 112 text))

@@ -142,7 +142,7 @@ impl StlReader {
         ensures none { self.old.progress ≡ Reading → IfOk result (λ found. IfNone found
             (TakesPassed self.old.block self.new.block
             (S.remaining source.old) (S.remaining source.new))) }
-        // A refusal has no file behind it.
+        // A refusal is that of no file.
         ensures refused { self.old.progress ≡ Reading → IfErr result (λ fault.
             is_format fault ≡ true → Refuses self.old.block self.new.block
             (S.remaining source.old) (S.remaining source.new) fault) }

@@ -24,7 +24,7 @@ use Rattle.stl_rows.specs.Programme.{ProgrammeValue, follow_faults}
 use Rattle.stl_rows.specs.Loading.{FailsLoading, load_fault, loaded_behind, unless_told}
 use Rattle.stl_rows.proofs.LoadingLemmas.{GoesOn}
 
--- the GSI block and so many TTI blocks were taken
+-- the GSI block and `block` TTI blocks were taken
 pub record HasTaken (old now : Option (List ℕ)) (block : ℕ) : Type 0 where
   pub bytes : List ℕ
   pub consumed : Consumes old now bytes
@@ -141,7 +141,7 @@ rest-is None new rest bytes e p = absurd cc
 rest-is (Some xs) None rest bytes e p = absurd p
 rest-is (Some xs) (Some ys) rest bytes e p = let same : xs ≡ rest = cc in (ys, sym same ∙ p)
 
--- behind so many TTI blocks
+-- after `from` TTI blocks
 block-is : (bytes more : List ℕ) (from to : ℕ)
     → length bytes ≡ 1024 + 128 * from
     → to ≡ from + length more / 128 + 1

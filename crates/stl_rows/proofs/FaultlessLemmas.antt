@@ -141,7 +141,7 @@ few_cells row cells (line ∷ lines) h =
 
 -- ---- the steps of the loop of `put_text`
 
--- the lines go on behind a cell
+-- the lines go on after a cell
 pub cells_go_on : (cells cells' : List ℕ) (at code : ℕ) (s : TextCode)
     (ss rest : List (ℕ × TextCode))
     → ss ≡ (at, s) ∷ rest
@@ -227,7 +227,7 @@ in_columns row cells line lines e h =
     let same : length (prepared line) ≡ length (prepared cells) = ap (λ l. length (prepared l)) e in
     omega (arith, first_fits row (prepared cells) lines h)
 
--- the lines behind it have no fault
+-- the lines after it have no fault
 pub faultless_next : (row : ℕ) (cells cells' : List ℕ) (rest : List (ℕ × TextCode))
     → AreFaultless row (prepared cells ∷ prepared_lines [] rest)
     → cells' ≡ []
@@ -236,7 +236,7 @@ faultless_next row cells cells' rest h none =
     subst (λ l. AreFaultless (row + 1) (prepared_lines l rest)) (sym none)
     (next_lines row (prepared cells) (prepared_lines [] rest) h)
 
--- the page goes on behind a line that was put on it
+-- the page goes on after a line that was put on it
 pub page_goes_on : (w : Rows) (jc row : ℕ) (page page' : Rows) (cells line cells' : List ℕ) (at : ℕ)
     (s : TextCode) (ss rest : List (ℕ × TextCode))
     → w ≡ put_lines jc row page (prepared_lines cells ss)

@@ -21,7 +21,7 @@ pub onto_line_end : (cells : List ℕ) (lines : List (List ℕ))
     → onto cells ([] ∷ lines) ≡ cells ∷ lines
 onto_line_end cells lines = ap (λ (l : List ℕ). l ∷ lines) (append-nil cells)
 
--- no cells before the first line change nothing, behind one text code
+-- no cells before the first line change nothing, after one text code
 pub onto_none_code : (s : TextCode) (lines : List (List ℕ))
     → onto [] lines ≡ lines
     → onto [] (with_code s lines) ≡ with_code s lines
@@ -51,7 +51,7 @@ pub prepared_lines-whole : (codes : List (ℕ × TextCode))
     → prepared_lines [] codes ≡ map prepared (lines_of codes)
 prepared_lines-whole codes = ap (map prepared) (onto_none codes)
 
--- a cell comes behind those before it
+-- a cell comes after those before it
 pub prepared_lines-cell : (cells : List ℕ) (at code : ℕ) (s : TextCode)
     (ss rest : List (ℕ × TextCode))
     → ss ≡ (at, s) ∷ rest

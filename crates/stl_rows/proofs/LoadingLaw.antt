@@ -45,7 +45,7 @@ record IsLoaded (n : National) (records : List SubtitleValue) (o : Outcome) (p :
   is : p ≡ record { national = n; records = records ++ given }
   follow : Follow n records given
 
--- the next subtitle was loaded, with what came behind it. For loaded_given
+-- the next subtitle was loaded, with what came after it. For loaded_given
 loaded_next : (n : National) (records : List SubtitleValue) (t : SubtitleValue) (block : ℕ)
     (o : Outcome) (p : ProgrammeValue)
     → follow_faults n records t ≡ []

@@ -21,7 +21,7 @@ use Rattle.stl_rows.specs.Programme.{ProgrammeValue, follow_faults}
 use Rattle.stl_rows.specs.Loading.{EndsRecord, TellsFault, TellsFollow, load_fault, loaded}
 use Rattle.stl_rows.specs.Loading.{loaded_behind, unless_told}
 
--- what the file still gives, behind the subtitles that are loaded, is what comes of the whole file
+-- what the file still gives, after the subtitles that are loaded, is what comes of the whole file
 pub record GoesOn (national : National) (outcome left : Outcome) (records : List SubtitleValue) :
     Type 0 where
   pub same : loaded_behind national records left ≡ loaded national outcome
@@ -33,7 +33,7 @@ pub record GoesOn (national : National) (outcome left : Outcome) (records : List
 pub goes_on-start : (national : National) (outcome : Outcome) → GoesOn national outcome outcome []
 goes_on-start national outcome = record { same = refl; ends_record = λ at h. h }
 
--- a subtitle with no fault was put behind the others
+-- a subtitle with no fault was put after the others
 pub goes_on-next : (national : National) (outcome rest : Outcome) (records : List SubtitleValue)
     (t : SubtitleValue) (block : ℕ)
     → GoesOn national outcome (gives t block rest) records
@@ -68,7 +68,7 @@ fault-first : (national : National) (outcome rest : Outcome) (records : List Sub
 fault-first national outcome rest records t block kind on h =
     sym on.same ∙ told-first (follow_faults national records t) kind block _ h
 
--- a subtitle could not be put behind the others
+-- a subtitle could not be put after the others
 pub tells-put : (national : National) (outcome rest : Outcome) (records : List SubtitleValue)
     (t : SubtitleValue) (block : ℕ) (kind : LoadFaultKind)
     → GoesOn national outcome (gives t block rest) records
@@ -179,7 +179,7 @@ goes_on-given national bytes rest records old new now result t on is a =
     (outcome_with new a.rest r) records) is
     (goes_on-answer national bytes rest records old new now result on a)
 
--- it could not be put behind the others
+-- it could not be put after the others
 pub tells-refused : (national : National) (bytes rest : List ℕ) (records : List SubtitleValue)
     (old new : ReaderValue) (now : Option (List ℕ))
     (result : Result (Option SubtitleValue) StlFault) (t : SubtitleValue) (block : ℕ)
@@ -195,7 +195,7 @@ tells-refused national bytes rest records old new now result t block kind on is 
     (tells-put national (outcome_of bytes) (outcome_left new a.rest) records t new.block kind
     (goes_on-given national bytes rest records old new now result t on is a) told)
 
--- it was put behind the others
+-- it was put after the others
 pub goes_on-put : (national : National) (bytes rest : List ℕ)
     (records records' : List SubtitleValue) (old new : ReaderValue) (now : Option (List ℕ))
     (result : Result (Option SubtitleValue) StlFault) (t : SubtitleValue)

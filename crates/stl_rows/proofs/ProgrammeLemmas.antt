@@ -137,7 +137,7 @@ IsProgramme-push n ts t ok each h =
       drawable = next.drawable;
     }
 
--- a subtitle with no fault was put behind those of a programme: for `put`
+-- a subtitle with no fault was put after those of a programme: for `put`
 pub IsProgramme-put : (n : National) (xs ts new : List SubtitleValue) (t : SubtitleValue)
     → xs ≡ ts
     → IsProgramme n ts

@@ -13,7 +13,7 @@ cut_at : (text : List ℕ) (at : ℕ)
     → drop at text ≡ get_or text at 0 ∷ drop (at + 1) text
 cut_at text at h = rw (add-one, drop-cons text at 0) refl
 
--- behind a pair the text goes on two bytes further
+-- after a pair the text goes on two bytes further
 after_pair : (n : National) (at : ℕ) (text : List ℕ)
     → at + 1 < length text
     → codes_after n (at + 1) 1 (drop (at + 1) text) ≡ text_codes n (at + 2) (drop (at + 2) text)

@@ -240,7 +240,7 @@ pub refused-line_end : (o : Option RowFault) (at : ℕ) (s : TextCode) (ss rest 
     → o ≡ first_of (refusals rest)
 refused-line_end o at s ss rest h step is = h ∙ rw (step, is) refl
 
--- nothing is refused behind the end of the text
+-- nothing is refused after the end of the text
 pub refused-end : (n : National) (o : Option RowFault) (at : ℕ) (text : List ℕ)
     → o ≡ first_of (refusals (text_codes n at (drop at text)))
     → length text ≤ at

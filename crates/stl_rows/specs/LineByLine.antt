@@ -43,7 +43,7 @@ pub record HasShape (cells : List ℕ) (len : ℕ) (boxed double : Bool) : Type 
   pub box : is_boxed cells ≡ boxed
   pub height : is_double cells ≡ double
 
--- What is wrong with a line of so many cells, in order: the line gets two codes on each side where
+-- What is wrong with a line of `len` cells, in order: the line gets two codes on each side where
 -- it has no start box of its own.
 unfoldable pub shape_fault_kinds : ℕ → Bool → ℕ → Bool → Bool → List RowFaultKind
 shape_fault_kinds row is_under_double len boxed double =

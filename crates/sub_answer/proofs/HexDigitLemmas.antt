@@ -104,7 +104,7 @@ drop-encode_with t (b ∷ xs) (suc n) =
     let e : 2 * suc n ≡ suc (suc (2 * n)) = omega arith in
     ap (λ m. drop m (encode_with t (b ∷ xs))) e ∙ drop-encode_with t xs n
 
--- The digits of 42 bytes behind a line, put as those of two blocks, and the last 20 of the digits
+-- The digits of 42 bytes after a line, put as those of two blocks, and the last 20 of the digits
 -- of the block that ends the bytes. For `push_lower_hex`.
 pub digits_by_blocks : (t xs line one two three : List ℕ)
     → length xs ≡ 42

@@ -30,7 +30,7 @@ use Rattle.sub_answer.specs.Told.{status_of}
 use Rattle.sub_answer.specs.declared.status.Status.{Status}
 use Rattle.sub_answer.specs.declared.status.Status.TheVariants.{Fault}
 
--- ---- lines behind lines
+-- ---- lines after lines
 
 -- What was printed since the sink held `old` is the front of each listing that goes on with what
 -- may be listed now.
@@ -56,7 +56,7 @@ front-none Before told old = record {
   listed = λ end extent more is. is;
 }
 
--- Lines behind lines are lines.
+-- Lines after lines are lines.
 followed-twice : (first second : List ℕ) (more : Listing)
     → followed first (followed second more) ≡ followed (first ++ second) more
 followed-twice first second more =
@@ -215,7 +215,7 @@ packets_from-room zero index (x ∷ b) e =
 packets_from-room (suc room) index bytes e =
     let less : suc room - 1 ≡ room = omega arith in rw less refl
 
--- The same after so many of all. For `PacketLister`.
+-- The same after `index` of them. For `PacketLister`.
 pub packets_from-next : (index : ℕ) (bytes : List ℕ)
     → index ≤ most_packets
     → packets_from (most_packets - index) index bytes

@@ -88,7 +88,7 @@ written-flushed s old mid new n w kept = record {
 
 -- ---- reading the input
 
--- the next piece that went behind those before it
+-- the next piece that went after those before it
 pub Consumes-behind : (x y z : Option (List ℕ)) (a n : ℕ) (xs ys : List ℕ)
     → take a ys ≡ take a xs
     → Consumes x y (take a xs)
@@ -98,7 +98,7 @@ Consumes-behind x y z a n xs ys same p q =
     subst (Consumes x z) (sym (take-add a n ys ∙ ap (λ l. l ++ take n (drop a ys)) same))
     (Consumes-trans x y z _ _ p q)
 
--- so many bytes of a list are no more
+-- the first n of a list are at most n
 take-few : (n : ℕ) (xs : List ℕ) → length (take n xs) ≤ n
 take-few zero xs = omega arith
 take-few (suc n) [] = omega arith

@@ -18,14 +18,14 @@ pub data PesOutcome : Type 0 where
   fails : PesFault → PesOutcome
   gives : PesValue → PesOutcome → PesOutcome
 
--- What a reader answers, and behind a packet what comes then.
+-- What a reader answers, and after a packet what comes then.
 abbrev pub answer_then : Result (Option PesValue) PesFault → PesOutcome → PesOutcome
 answer_then (Ok (Some v)) more = gives v more
 answer_then (Ok None) more = ends
 answer_then (Err f) more = fails f
 
--- What bytes give after so many PES packets, where so many may still come: behind one for each
--- frame of a day any byte is too many.
+-- What bytes give after `index` PES packets, where `room` more may come: after one for each frame
+-- of a day any byte is too many.
 unfoldable pub packets_from : ℕ → ℕ → List ℕ → PesOutcome
 packets_from zero index [] = ends
 packets_from zero index (x ∷ b) = fails TooMany
@@ -49,7 +49,7 @@ unit_lines number (u ∷ units) = unit_line number u ++ unit_lines (number + 1) 
 abbrev pub frame_lines : ℕ → PesValue → List ℕ
 frame_lines index v = pes_line index v.pts ++ unit_lines 0 v.units
 
--- What is printed after so many PES packets: each of them in turn, and at the end their number.
+-- What is printed after `index` PES packets: each of them in turn, and at the end their number.
 abbrev pub pes_listing : ℕ → PesOutcome → Listing
 pes_listing index ends = done (decimal index ++ codes " pes\n")
 pes_listing index (fails f) = told_listing (pes_told f index)

@@ -12,7 +12,7 @@ use Rattle.sub_answer.specs.Faults.{stl_told}
 use Rattle.sub_answer.specs.Lines.{subtitle_line}
 use Rattle.sub_answer.specs.Listing.{Extent, Lists, Listing, done, followed, told_listing}
 
--- These subtitles were taken of a source, so many blocks after the GSI block, and then blocks that
+-- These subtitles were taken of a source, `from` blocks after the GSI block, and then blocks that
 -- are passed over; or there is no file of what comes then. Where the source failed, it failed at
 -- this block.
 abbrev pub ReadsSubtitles : Bool → ℕ → Option (List ℕ) → Outcome → Option (List ℕ) → Type 0
@@ -43,7 +43,7 @@ ReadsFile failed told outcome left =
     ⊎ ((behind : Option (List ℕ)) × (gsi : List ℕ) × IsGsi gsi × Consumes told behind gsi
     × ReadsSubtitles failed 0 behind outcome left)
 
--- What is printed after so many subtitles: each of them in turn, and at the end their number.
+-- What is printed after `count` subtitles: each of them in turn, and at the end their number.
 abbrev pub subtitles_listing : ℕ → Outcome → Listing
 subtitles_listing count ends = done (decimal count ++ codes " subtitles\n")
 subtitles_listing count (fails f block) = told_listing (stl_told f block)

@@ -275,7 +275,7 @@ module _ (programme : ProgrammeValue) (options : OptionsValue) (unread : Option 
       (span (kind options.page) (take n xs))) (sym (air-both t f ∙ on.2))
       (cut_fair on.0 on.1 n))
 
-  -- A header comes in each so many frames.
+  -- A header comes among as many frames as the repeat bound.
   repeats_of : (start : ℕ) → first_frame t ≤ start → start + options.every ≤ last_frame t + 1
       → (n : ℕ) × (start ≤ n) × (n < start + options.every) × IsTrue
       (holds_header (kind options.page) (packets_of t n))

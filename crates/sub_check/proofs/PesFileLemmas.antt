@@ -56,7 +56,7 @@ packet_of given (x ∷ b) v e = go (given == most_packets) (packet_at (x ∷ b))
     go false (Ok (w, rest)) q d = let same : w ≡ v = cc in
         (rest, q ∙ ap (λ u. let r : Result (PesValue × List ℕ) PesFault = Ok (u, rest) in r) same)
 
--- The bytes are PES packets of these values, joined, that are sent as these frames; with so many
+-- The bytes are PES packets of these values, joined, that are sent as these frames; with `given`
 -- before them they are no more than a day has frames.
 record AreSent (origin given : ℕ) (bytes : List ℕ) (frames : Transmission) : Type 0 where
   pub values : List PesValue

@@ -140,7 +140,7 @@ step origin m given bytes e =
     let is : most_packets - suc m ≡ given = omega arith in
     ap (λ n. file_by origin (answer_at n bytes) (file_at origin m (rest_after bytes))) is
 
--- The same after so many PES packets.
+-- The same after `given` PES packets.
 step_after :
     (origin given : ℕ) (bytes : List ℕ)
     → given < most_packets

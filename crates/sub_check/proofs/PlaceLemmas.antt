@@ -200,7 +200,7 @@ module _ (g : Task) (t : Transmission) (some_frames : 0 < g.every) (h : HoldsEve
             ∙ h (AtGapCell i f row column) (gap, is)
       ]
 
-  -- A header comes in each so many frames.
+  -- A header comes among as many frames as the repeat bound.
   repeats_at : (a : ℕ) → frame_at t 0 ≤ a → a + g.every ≤ end_frame t + 1
       → (j : ℕ) × (j < length t) × (a ≤ frame_at t j) × (frame_at t j < a + g.every) × HasHeader g
       t j
@@ -353,7 +353,7 @@ module _ (g : Task) (t : Transmission) (h : GoodFrames g t) where
   last_at_least : (i : ℕ) → i < length t → frame_at t i ≤ end_frame t
   last_at_least i l = rises_to t h.rising i (length t - 1) (omega arith) (omega arith)
 
-  -- After so many frames the due page is shown.
+  -- After n frames the due page is shown.
   shows_of : (n f row column : ℕ) → 0 < n → n ≤ length t → frame_at t (n - 1) ≤ f
       → (n < length t → f < frame_at t n) → f ≤ end_frame t → IsCell row column
       → ShowsDue g t n f row column

@@ -175,7 +175,7 @@ module _ (programme : ProgrammeValue) (options : OptionsValue) (t : Transmission
             absurd (omega (arith, r.2))
       ]
 
-  -- A header comes in each so many frames.
+  -- A header comes among as many frames as the repeat bound.
   repeats_back : (a : ℕ) → frame_at t 0 ≤ a → a + options.every ≤ end_frame t + 1
       → (j : ℕ) × (j < length t) × (a ≤ frame_at t j) × (frame_at t j < a + options.every) ×
       HasHeader (task_of programme options None) t j

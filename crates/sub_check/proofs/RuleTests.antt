@@ -286,7 +286,7 @@ spans_decided page frames =
 
 -- ---- the repeat bound
 
--- From a frame on so many frames hold a header.
+-- A header is held within `every` frames from a frame on.
 abbrev holds_within : PageIdValue → Transmission → ℕ → ℕ → Bool
 holds_within page frames every start =
     any_below (λ k. holds_header (kind page) (packets_of frames (start + k))) every

@@ -199,7 +199,7 @@ module _ (g : Task) (frames : Transmission) (n : ℕ) (c : CheckerValue)
           let l = known.rising found.0 found.1 in
           omega arith
 
-      -- It is less than so many frames ago, or not.
+      -- It is less than `every` frames ago, or not.
       pub covered : c.frame - c.header_at < c.every → IsCovered g frames n c.frame
       covered l =
           let found = (known.header some).found in

@@ -131,7 +131,7 @@ clean_cuts page packets each (suc n) =
           (take_all n packets past ∙ sym (take_all (suc n) packets (omega arith))) ih
     ]
 
--- And back, at each packet by the cut behind it.
+-- And back, at each packet by the cut after it.
 each_follows :
     (page : PageIdValue) (packets : List (List ℕ))
     → ((n : ℕ) → IsCleanSpan page (span (kind page) (take n packets)))

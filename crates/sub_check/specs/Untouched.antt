@@ -16,7 +16,7 @@ use Rattle.sub_check.specs.declared.listening.Listening.{Listening}
 abbrev pub is_in_range : ℕ → ℕ → ℕ → Bool
 is_in_range first end number = nat_le first number && nat_lt number end
 
--- None of these packets, so many from a first one on, is passed over or lost, or has a flip.
+-- None of `count` packets from a first one on is passed over or lost, or has a flip.
 abbrev pub is_untouched : Reception → ℕ → ℕ → Bool
 is_untouched r first count =
     nat_le r.skip first

@@ -61,7 +61,7 @@ pub fn hear_sending<R: Receiver>(
     again && begins_erased(listening.options.page(), units)
 }
 
-// Whether none of so many packets is passed over or lost, or has a flip. `number` is that of the
+// Whether none of `count` packets is passed over or lost, or has a flip. `number` is that of the
 // first.
 fn is_untouched(listening: &Listening, number: u64, count: usize) -> bool
     requires few { count ≤ 35 }

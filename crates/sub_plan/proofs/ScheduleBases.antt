@@ -290,7 +290,7 @@ next_whole x every r n some e f =
     sym (mod-add-mod x every n) ∙ ap (λ (y : ℕ). (y + n) % every) e ∙ ap (λ (y : ℕ). y % every) f
     ∙ mod_self every
 
--- In each so many frames there is one that sends.
+-- Among `every` frames there is one that sends.
 pub sending_in_gap : (due : ℕ → Rows) (every first last g : ℕ)
     → 1 ≤ every
     → first ≤ g

@@ -152,7 +152,7 @@ law_of_sendings due every first last f = (
 
 -- ---- the law of gaps
 
--- In each so many frames stands one.
+-- Among `every` frames stands one.
 pub law_of_gaps : LawOfGaps
 unfolding sendings_from
 law_of_gaps due every first last g some low room =

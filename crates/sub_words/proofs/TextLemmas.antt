@@ -43,7 +43,7 @@ said_by_all-none said text texts so_far i d all e within nothing =
     ∙ said_nothing so_far (said (text (get_or texts i d)))
     (said_by_all said (map text (drop (i + 1) texts))) nothing
 
--- a text that says something stands behind what was said so far
+-- a text that says something stands after what was said so far
 pub said_by_all-more : {A X : Type 0} (said : List ℕ → Option A) (text : X → List ℕ)
     → (texts : List X) (so_far : List A) (i : ℕ) (d : X) (x : A) (all : Option (List A))
     → all ≡ option_map (λ rest. so_far ++ rest) (said_by_all said (map text (drop i texts)))

@@ -200,7 +200,7 @@ AreBytes-take n b h i = elim (cases_lt i n) [
   | inr le ↦ rw (get_or_past (take n b) i 0 (omega (arith, length-take n b))) (omega arith)
 ]
 
--- Bytes behind a prefix.
+-- Bytes after a prefix.
 pub AreBytes-drop : (n : ℕ) (b : List ℕ) → AreBytes b → AreBytes (drop n b)
 AreBytes-drop n b h i = rw get_or-drop (h (n + i))
 
@@ -210,7 +210,7 @@ pub record Adds (front us : List UnitValue) (u : Option UnitValue) : Type 0 wher
   pub rises : (more : List UnitValue) → AreInLineOrder (last_place 0 us) more
       → AreInLineOrder (last_place 0 front) (option_to_list u ++ more)
 
--- What is read behind the units so far keeps the order.
+-- What is read after the units so far keeps the order.
 with_unit_adds : (front us : List UnitValue) (u : Option UnitValue)
     → with_unit front u ≡ Ok us
     → Adds front us u

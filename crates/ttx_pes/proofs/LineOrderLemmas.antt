@@ -12,14 +12,14 @@ use Rattle.ttx_pes.specs.LineOrder.{line_order_place, last_place, stands_after, 
 use Rattle.ttx_pes.specs.LineOrder.{numbered_units, numbered_unit, numbered_place}
 use Rattle.ttx_pes.specs.PesPacket.{IsPesValue, numbered_frame}
 
--- The last place behind one more unit.
+-- The last place after one more unit.
 pub last_place-push : (last : ℕ) (us : List UnitValue) (u : UnitValue)
     → last_place last (us ++ u ∷ []) ≡ cond (eqb u.line 0) (last_place last us) (line_order_place u)
 last_place-push last [] u = refl
 last_place-push last (t ∷ us) u =
     last_place-push (cond (eqb t.line 0) last (line_order_place t)) us u
 
--- The order goes on by a unit that stands behind it.
+-- The order goes on by a unit that stands after it.
 pub AreInLineOrder-push : (last : ℕ) (us : List UnitValue) (u : UnitValue)
     → AreInLineOrder last us
     → stands_after (last_place last us) u ≡ true
@@ -80,7 +80,7 @@ place_rises i = elim (cases_lt i 16) [
       le-ltb (i + 1) 16 (omega arith) in rw (a, b) (omega arith)
 ]
 
--- The last place behind a numbered unit: the next number may stand there.
+-- The last place after a numbered unit: the next number may stand there.
 pub last_numbered : (i : ℕ) (u : UnitValue) (us new : List UnitValue)
     → eqb u.line 0 ≡ false
     → line_order_place u ≡ numbered_place i

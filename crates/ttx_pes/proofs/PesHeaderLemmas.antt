@@ -120,7 +120,7 @@ head_complete n lo hi =
     let low : leb (184 * n) 1656 ≡ true = le-leb _ _ (omega arith) in
     rw (total, whole, low) refl
 
--- ---- the bytes behind them
+-- ---- the bytes after them
 
 -- A body: the packet's bytes from byte 6 on.
 pub record IsBody (n : ℕ) (v : PesValue) (b : List ℕ) : Type 0 where
@@ -326,7 +326,7 @@ pub frame_made : (b : List ℕ) (t n : ℕ) (us : List UnitValue)
 unfolding value_at
 frame_made b t n us e count eu = rw (e, count, eu) refl
 
--- What is left behind the header.
+-- What is left after the header.
 pub drop-body_list : (flags more t identifier : ℕ) (stuffing units : List ℕ)
     → length stuffing ≡ 31
     → drop 40 (body_list flags more t stuffing identifier units) ≡ units

@@ -25,7 +25,7 @@ pub nothing : (given : ℕ) (bytes : List ℕ) → bytes ≡ [] → answer_at gi
 unfolding answer_at
 nothing given bytes e = rw e refl
 
--- What is left behind a packet that was taken.
+-- What is left after a packet that was taken.
 pub packet_left : (old new : Option (List ℕ)) (v : PesValue) (bytes : List ℕ)
     → TakesPesPacket old new v
     → old ≡ Some bytes
@@ -88,7 +88,7 @@ unfolding answer_at
 byte_is_left given [] e = absurd cc
 byte_is_left given (x ∷ b) e = omega arith
 
--- A reader that has given so many packets has given no other number. For `next`.
+-- A reader has given one number of packets. For `next`.
 pub given_same : (p : Progress) (a b : ℕ) → p ≡ Reading a → p ≡ Reading b → a ≡ b
 given_same p a b e f = cc
 

@@ -68,7 +68,7 @@ pub packet_whole : (b : List ℕ) (size : ℕ)
 unfolding packet_at
 packet_whole b size h e le = rw (le-ltb (length b) 6 h, e, le-ltb (length b) size le) refl
 
--- A packet in its two parts, with bytes behind it.
+-- A packet in its two parts, with bytes after it.
 pub packet_parts : (head body rest : List ℕ) (size : ℕ)
     → length head ≡ 6
     → size_at head ≡ Ok size
@@ -271,7 +271,7 @@ none_begins bytes f bad v b rest h e = let good = packet_is_read v b rest h in
 
 -- ---- what was written
 
--- What is left behind a packet.
+-- What is left after a packet.
 pub rest_after-packet : (v : PesValue) (b rest : List ℕ)
     → packet_at b ≡ Ok (v, rest)
     → rest_after b ≡ rest

@@ -90,7 +90,7 @@ fields_of v p h =
       identifier = ap (λ (x : ℕ). x / 16) identifier ∙ h.ebu_data;
     }
 
--- What is behind them.
+-- What is after them.
 packet_units : (v : PesValue) (p : List ℕ) (h : IsPesPacket v p) → drop 46 p ≡ h.data_units
 unfolding body_list
 packet_units v p h =

@@ -10,7 +10,7 @@ use Rattle.std.proofs.KnownBytes.{Consumes-nil, Consumes-trans}
 use Rattle.ttx_pes.specs.PesPacket.{PesValue, IsPesPacket}
 use Rattle.ttx_pes.specs.Reader.{TakesPackets, TakesPesPacket}
 
--- One packet behind packets.
+-- One packet after packets.
 each-more : (packets : List (List ℕ)) (b : List ℕ)
     → AllByRecursion (λ x. (v : PesValue) × IsPesPacket v x) packets
     → (v : PesValue) × IsPesPacket v b

@@ -172,7 +172,7 @@ whole given bytes old new taken r h is le ne e =
     (ap packet_at t.parts ∙ packet_of_bytes taken t.rest le h.sized)
     ∙ answered r (value_at (drop 6 taken)) t.rest e
 
--- Bytes behind bytes.
+-- Bytes after bytes.
 joined_fit : (a b : List ℕ) → AreBytes a → AreBytes b → AreBytes (a ++ b)
 joined_fit [] b p q i = q i
 joined_fit (x ∷ a) b p q zero = p 0

@@ -47,7 +47,7 @@ pub fn list_subtitles<S: Source, K: Sink>(stl: &mut S, out: &mut K) -> Status
     }
 }
 
-// Lists the subtitles behind a GSI block.
+// Lists the subtitles after a GSI block.
 #[derive(Drop)]
 struct SubtitleLister {
     reader: StlReader,

@@ -1,4 +1,4 @@
--- A subtitle is written in so many blocks.
+-- The number of blocks that a subtitle is written in.
 use Rattle.std.proofs.Common.{ap, length, arith}
 use Rattle.stl_file.specs.NormalForm.{full_pieces}
 use Rattle.stl_file.proofs.Written.{blocks_count}

@@ -1,4 +1,4 @@
--- The lines that are left, behind the cells so far, have no fault, and put on the page so far they
+-- The lines that are left, after the cells so far, have no fault, and put on the page so far they
 -- give the page of all lines.
 use Rattle.std.proofs.Common.{◌≡◌, ℕ, ◌+◌, ◌-◌, ◌<◌, ◌≤◌, [], length, drop, slice_index}
 use Rattle.stl_rows.specs.LineByLine.{prepared_lines, put_lines}

@@ -1,4 +1,4 @@
--- The cells up to here stand behind the line.
+-- The cells up to here stand after the line.
 use Rattle.std.proofs.Common.{◌≡◌, ◌++◌, take}
 use Rattle.stl_rows.proofs.line.append.Given as goal
 

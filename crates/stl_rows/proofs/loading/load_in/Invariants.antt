@@ -1,4 +1,4 @@
--- The subtitles are a programme, and what the file still gives behind them is what comes of all.
+-- The subtitles are a programme, and what the file still gives after them is what comes of all.
 use Rattle.std.proofs.Common.{◌≡◌, ◌-◌, ℕ, List, Some}
 use Rattle.stl_file.specs.declared.progress.Progress.TheVariants.{Reading}
 use Rattle.stl_file.specs.Reader.{outcome_left, outcome_of}

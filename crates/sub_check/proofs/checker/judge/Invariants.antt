@@ -1,4 +1,4 @@
--- After so many PES packets, what is kept is what they say, and none of them broke a rule.
+-- After `pes` PES packets, what is kept is what they say, and none of them broke a rule.
 use Rattle.std.proofs.Common.{◌≡◌, ◌<◌, ◌≤◌, ◌-◌, ℕ, List, Option, Some}
 use Rattle.ttx_pes.specs.Reader.{TakesPackets}
 use Rattle.ttx_pes.specs.Reading.{most_packets}

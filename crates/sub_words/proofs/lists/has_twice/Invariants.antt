@@ -1,4 +1,4 @@
--- The first items stand nowhere behind them.
+-- The first items stand nowhere after them.
 use Rattle.std.proofs.Common.{◌≡◌, drop}
 use Rattle.sub_words.specs.Texts.{are_apart}
 use Rattle.sub_words.proofs.lists.has_twice.Given as goal

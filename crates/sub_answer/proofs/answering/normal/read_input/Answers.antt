@@ -1,4 +1,4 @@
--- Each pull puts its piece behind those before it; what was taken is told at the end.
+-- Each pull puts its piece after those before it; what was taken is told at the end.
 use Rattle.std.proofs.Common.{rules, ◌∙◌}
 use Rattle.sub_answer.proofs.NormalLemmas.{Consumes-behind, block-at, taken-at_end, taken-at_most}
 use Rattle.sub_answer.proofs.answering.normal.read_input.Goals as goal

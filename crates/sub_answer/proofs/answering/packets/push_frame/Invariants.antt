@@ -1,5 +1,5 @@
 -- There is room for the lines of the units that are left, 192 bytes each, of 35 at most; these
--- lines behind those so far are the lines of all.
+-- lines after those so far are the lines of all.
 use Rattle.std.proofs.Common.{◌≡◌, ◌+◌, ◌*◌, ◌≤◌, ◌++◌, drop, length}
 use Rattle.arrayvec.specs.ArrayVec.{array_vec_len}
 use Rattle.sub_answer.specs.PacketsListing.{unit_lines}
