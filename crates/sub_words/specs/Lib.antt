@@ -2,3 +2,4 @@ pub mod Commands
 pub mod Texts
 pub mod Arguments
 pub mod Requests
+pub mod Laws

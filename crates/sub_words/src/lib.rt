@@ -12,6 +12,7 @@ mod arguments;
 mod command;
 mod flips;
 mod hearing;
+mod laws;
 mod lists;
 mod numbers;
 mod parsing;
@@ -19,6 +20,7 @@ mod reading;
 mod times;
 
 pub use flips::parse_flips;
+pub use laws::law_of_flips;
 pub use numbers::{parse_number, parse_numbers};
 pub use parsing::ParseWords;
 pub use times::{parse_receiver, parse_time};
