@@ -1,4 +1,5 @@
 -- What is told of a fault of a run, and what is printed of one.
+use Rattle.std.specs.Prelude.{IfOk}
 use Rattle.std.proofs.Common.{◌≡◌, ◌≢◌, ap, refl, subst, arith, ℕ, ◌+◌}
 use Rattle.std.proofs.Common.{Bool, true, false}
 use Rattle.std.proofs.Common.{Option, Result}
@@ -14,6 +15,7 @@ use Rattle.sub_check.specs.ListeningRun.{is_of_subtitles}
 use Rattle.sub_answer.specs.ListenListing.{IsOldPage, Listens, listen_told, listing_of}
 use Rattle.sub_check.specs.ListeningRun.{is_read}
 use Rattle.sub_answer.specs.ListenListing.{tuned_with}
+use Rattle.sub_answer.specs.StateText.{IsSeenWhole}
 use Rattle.sub_answer.specs.Told.{status_of}
 use Rattle.ttx_page.specs.Page.{Rows}
 use Rattle.sub_check.specs.declared.listening_run.ListenFault.{ListenFault}
@@ -62,8 +64,9 @@ pub listens_from : (l : Listening) (frames : Transmission) (unread : Option Unre
     → old ≡ tuned_with page
     → IsOldPage page
     → Runs l frames unread w old end result
+    → IfOk result (λ _. IsSeenWhole asks_complete end)
     → Listens l frames unread (listing_of asks_complete end result)
-listens_from l frames unread w old end result page asks_complete asks tuned start is_old runs =
+listens_from l frames unread w old end result page asks_complete asks tuned start is_old runs seen =
     record {
       old_page = page;
       is_old = is_old;
@@ -73,4 +76,5 @@ listens_from l frames unread w old end result page asks_complete asks tuned star
           subst (λ (d : Display). Runs l frames unread l.options.page d end result) start
           (subst (λ (u : PageIdValue). Runs l frames unread u old end result) tuned runs);
       listing_is = ap (λ b. listing_of b end result) asks;
+      page_is = subst (λ (b : Bool). IfOk result (λ _. IsSeenWhole b end)) asks seen;
     }

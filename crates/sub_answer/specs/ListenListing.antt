@@ -1,13 +1,13 @@
 -- What `listen` prints: the state of a receiver at the end of its run, or the refusal.
 use Rattle.std.specs.Prelude.{◌≡◌, ℕ, Bool, false}
-use Rattle.std.specs.Prelude.{codes, Option, None, Result, Ok, Err}
+use Rattle.std.specs.Prelude.{codes, Option, None, Result, Ok, Err, IfOk}
 use Rattle.ttx_page.specs.Page.{Rows, IsCell, cell}
 use Rattle.ttx_page.specs.Screen.{Display}
 use Rattle.sub_check.specs.FrameRules.{Unread}
 use Rattle.sub_check.specs.Transmission.{Transmission}
 use Rattle.sub_answer.specs.Faults.{check_told}
 use Rattle.sub_answer.specs.Listing.{Listing, done, told_listing}
-use Rattle.sub_answer.specs.StateText.{display_text}
+use Rattle.sub_answer.specs.StateText.{IsSeenWhole, display_text}
 use Rattle.sub_answer.specs.Told.{ToldValue, told_as}
 use Rattle.sub_check.specs.declared.listening_run.ListenFault.{ListenFault}
 use Rattle.sub_check.specs.declared.listening_run.ListenFault.TheVariants as fault
@@ -49,3 +49,4 @@ pub record Listens
   pub result : Result (Unit {0}) ListenFault
   pub runs : Runs l frames unread l.options.page (tuned_with old_page) end result
   pub listing_is : listing ≡ listing_of l.options.asks_complete end result
+  pub page_is : IfOk result (λ _. IsSeenWhole l.options.asks_complete end)

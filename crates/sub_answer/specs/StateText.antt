@@ -1,9 +1,9 @@
 -- What is printed of a receiver: whether it has heard its page, whether the page is open, and the
 -- rows that hold a cell other than a space, of the page that it holds or of the one on its screen.
 use Rattle.std.specs.Prelude.{ℕ, zero, suc, ◌==◌, Bool, true, false, List, [], ◌++◌, codes, length}
-use Rattle.std.specs.Prelude.{map, Option, Some, None, if◌then◌else◌}
+use Rattle.std.specs.Prelude.{map, Option, Some, None, IfSome, IsTrue, if◌then◌else◌}
 use Rattle.std.specs.List.{list_all}
-use Rattle.ttx_page.specs.Page.{Rows, row_at, space}
+use Rattle.ttx_page.specs.Page.{IsPage, Rows, row_at, space}
 use Rattle.ttx_page.specs.Screen.{Display}
 use Rattle.sub_answer.specs.Lines.{glyph, two_digits}
 
@@ -39,6 +39,15 @@ screen_text (Some page) = page_text page
 abbrev pub seen_text : Bool → Display → List ℕ
 seen_text asks_complete d =
     if asks_complete then screen_text d.screen else page_text d.held.page
+
+-- That page, if there is one.
+abbrev pub seen_page : Bool → Display → Option Rows
+seen_page asks_complete d = if asks_complete then d.screen else Some d.held.page
+
+-- Where its page was heard, the page that is printed has 24 rows of 40 codes.
+abbrev pub IsSeenWhole : Bool → Display → Type 0
+IsSeenWhole asks_complete d =
+    IsTrue d.held.heard → IfSome (seen_page asks_complete d) IsPage
 
 -- What is printed of a receiver with a screen.
 abbrev pub display_text : Bool → Display → List ℕ

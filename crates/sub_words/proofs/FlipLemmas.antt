@@ -64,7 +64,8 @@ AreAsSent-with_flip : (f : Flip) (number : ℕ) (sent got : List ℕ) (flips : L
     → AreAsSent sent (with_flip f number got) number flips
 AreAsSent-with_flip f number sent got [] other as_sent = tt
 AreAsSent-with_flip f number sent got (g ∷ flips) other as_sent =
-    let parts = or_parts (is_same_byte g f) (list_any (λ (g : Flip). is_same_byte g f) flips) other in (
+    let parts =
+    or_parts (is_same_byte g f) (list_any (λ (g : Flip). is_same_byte g f) flips) other in (
       λ is. go (is_flip_of f number) refl is parts.0,
       AreAsSent-with_flip f number sent got flips parts.1 as_sent.1,
     )

@@ -1,14 +1,14 @@
 //! What is printed of a receiver with a screen.
-ghost use Rattle.std.specs.Prelude.{◌≡◌, ℕ, ◌+◌, ◌*◌, ◌≤◌, ◌<◌, ◌++◌, ◌==◌, map, length};
+ghost use Rattle.std.specs.Prelude.{◌≡◌, IfSome, ◌+◌, ◌*◌, ◌≤◌, ◌<◌, ◌++◌, ◌==◌, map, length};
 ghost use Rattle.std.specs.List.{list_all};
 ghost use Rattle.sub_io.specs.Device.{CanFail};
 ghost use Rattle.arrayvec.specs.ArrayVec.{array_vec_len};
-ghost use Rattle.ttx_page.specs.Page.{space};
+ghost use Rattle.ttx_page.specs.Page.{IsPage, space};
 ghost use Rattle.sub_answer.specs.Lines.{glyph};
 ghost use Rattle.sub_answer.specs.Listing.{CountsFault, PrintsOrFails, done};
 ghost use Rattle.ttx_page.specs.Screen.{display};
-ghost use Rattle.sub_answer.specs.StateText.{display_text, open_line, page_text, row_line};
-ghost use Rattle.sub_answer.specs.StateText.{row_text, rows_text, seen_text};
+ghost use Rattle.sub_answer.specs.StateText.{IsSeenWhole, display_text, open_line, page_text};
+ghost use Rattle.sub_answer.specs.StateText.{row_line, row_text, rows_text, seen_page, seen_text};
 
 use crate::lines::{LINE_ROOM, glyph, push_text, push_two_digits};
 use crate::printing::print;
@@ -46,6 +46,7 @@ pub fn print_state<R: Receiver, K: Sink>(
     ensures printed { PrintsOrFails (K.failure_count out.old) (K.contents out.old)
         (K.failure_count out.new) (K.contents out.new)
         (done (display_text asks_complete (display (R.state receiver.now) screen.now))) result }
+    ensures page { IsSeenWhole asks_complete (display (R.state receiver.now) screen.now) }
     ensures count { CountsFault (K.failure_count out.old) result (K.failure_count out.new) }
     ensures fault { result ≡ Status.Fault
         → K.failure_count out.old < K.failure_count out.new }
@@ -63,8 +64,9 @@ fn push_state<R: Receiver>(
     asks_complete: bool,
 )
     requires { array_vec_len text.old ≡ 0 }
-    ensures { text.new.items ≡ text.old.items
+    ensures items { text.new.items ≡ text.old.items
         ++ display_text asks_complete (display (R.state receiver.now) screen.now) }
+    ensures page { IsSeenWhole asks_complete (display (R.state receiver.now) screen.now) }
 {
     if receiver.heard() {
         push_text(text, b"heard yes\n");
@@ -78,8 +80,10 @@ fn push_state<R: Receiver>(
 // Appends the lines of the page that a receiver holds, or of its screen.
 fn push_seen<R: Receiver>(text: &mut Text, receiver: &R, screen: &Option<Page>, asks_complete: bool)
     requires { array_vec_len text.old + ROWS_ROOM ≤ STATE_ROOM }
-    ensures { text.new.items ≡ text.old.items
+    ensures items { text.new.items ≡ text.old.items
         ++ seen_text asks_complete (display (R.state receiver.now) screen.now) }
+    ensures page { IfSome (seen_page asks_complete (display (R.state receiver.now) screen.now))
+        IsPage }
 {
     if !asks_complete {
         return push_page(text, receiver.page());
@@ -101,7 +105,8 @@ fn open_text(is_open: bool) -> &'static [u8]
 // Appends the lines of a page.
 fn push_page(text: &mut Text, page: &Page)
     requires { array_vec_len text.old + ROWS_ROOM ≤ STATE_ROOM }
-    ensures { text.new.items ≡ text.old.items ++ page_text page.now }
+    ensures items { text.new.items ≡ text.old.items ++ page_text page.now }
+    ensures page { IsPage page.now }
 {
     let mut rows = Rows::new();
     push_rows(&mut rows, page);
@@ -115,7 +120,8 @@ fn push_page(text: &mut Text, page: &Page)
 // Appends the lines of the rows that hold a cell other than a space.
 fn push_rows(rows: &mut Rows, page: &Page)
     requires { array_vec_len rows.old ≡ 0 }
-    ensures { rows.new.items ≡ rows.old.items ++ rows_text 24 page.now }
+    ensures items { rows.new.items ≡ rows.old.items ++ rows_text 24 page.now }
+    ensures page { IsPage page.now }
 {
     for i in 0..24u8 {
         push_row(rows, i + 1, page.row(i + 1));

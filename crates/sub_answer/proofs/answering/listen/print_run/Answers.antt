@@ -15,7 +15,8 @@ returns-in-Ok-clause-exact g c = record {
         c.asks_complete.result c.asks_complete.ensures.value
         (c.tune-receiver.ensures.tuned ∙ c.page.ensures.value)
         (ap (λ s. display s None) c.tune-receiver.ensures.state)
-        c.old_page.ensures (c.in-Ok.ensures.exact frames unread bytes told reads refl),
+        c.old_page.ensures (c.in-Ok.ensures.exact frames unread bytes told reads refl)
+        c.print_state.ensures.page,
     c.print_state.ensures.printed,
   );
   read = λ other.
@@ -34,7 +35,7 @@ returns-clause-exact g c = record {
         (ap (λ s. display s None) c.tune-receiver.ensures.state)
         c.old_page.ensures
         (c.in-Err.ensures.exact frames unread bytes told reads
-        (did_not_rise (is_read c.in-Err.fault) _ _ c.in-Err.ensures.count same)),
+        (did_not_rise (is_read c.in-Err.fault) _ _ c.in-Err.ensures.count same)) tt,
     c.print_fault.ensures.printed,
   );
   read = λ other. (
