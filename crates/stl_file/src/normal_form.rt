@@ -96,7 +96,8 @@ fn put_subtitles<K: Sink>(gsi: Gsi, body: &[u8], sink: &mut K) -> Result<(), Fai
                 write_subtitle(&subtitle, sink)?;
             }
             Ok(None) => return Ok(()),
-            Err(_) => return Ok(()),
+            // The first reading has refused no block.
+            Err(_) => unreachable!(),
         }
     }
 }

@@ -50,8 +50,8 @@ returns-in-Ok-None-clause-bytes g c =
     (g.K.Sink.contents c.loop-subtitle.sink) (joined (all_blocks ts)))
     (sym (ap given e)) i.wrote
 
-pub returns-in-Err-clause-bytes : goal.returns-in-Err-clause-bytes
-returns-in-Err-clause-bytes g c =
+pub unreachable-requires : goal.unreachable-requires
+unreachable-requires g c =
     let i = c.loop-subtitle.invariant in
     absurd (no_fault _ _ c.requires.accepted
     (pass_refused c.args.body.now c.loop-subtitle.source c.next.new.source
