@@ -14,6 +14,10 @@ pub record UnitValue : Type 0 where
   pub line : ℕ
   pub packet : List ℕ
 
+-- The bytes of a data unit.
+abbrev pub data_unit_size : ℕ
+data_unit_size = 46
+
 -- data_unit_id of EBU Teletext that is not subtitles.
 abbrev pub teletext_id : ℕ
 teletext_id = 0x02

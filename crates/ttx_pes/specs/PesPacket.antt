@@ -20,9 +20,25 @@ empty_value = record { pts = 0; units = [] }
 abbrev pub packet_start : List ℕ
 packet_start = 0x00 ∷ 0x00 ∷ 0x01 ∷ 0xBD ∷ []
 
--- PES_packet_length: a PES packet fills n payloads of 184 bytes, and its first 6 bytes don't count.
+-- The bytes of a payload: a PES packet fills 1 to 9 of them.
+abbrev pub payload_size : ℕ
+payload_size = 184
+
+-- The bytes of the longest packet, nine payloads.
+abbrev pub longest_packet : ℕ
+longest_packet = 1656
+
+-- The bytes of a packet before its data units.
+abbrev pub header_size : ℕ
+header_size = 46
+
+-- The Teletext units of a packet at most: nine payloads have room for these.
+abbrev pub most_units : ℕ
+most_units = 35
+
+-- PES_packet_length of n payloads: the first 6 bytes of the packet don't count.
 abbrev pub packet_length : ℕ → ℕ
-packet_length n = 184 * n - 6
+packet_length n = payload_size * n - 6
 
 -- PES_header_data_length.
 abbrev pub header_data_length : ℕ
@@ -106,10 +122,10 @@ canonical_packet v =
     ++ (flat_map teletext_unit v.units
     ++ repeated (4 * n - 1 - length v.units) stuffing_unit)
 
--- The values that a `PesFrame` can hold: those of PES packets. 35 units fill nine payloads.
+-- The values that a `PesFrame` can hold: those of PES packets.
 pub record IsPesValue (v : PesValue) : Type 0 where
   pub pts : v.pts < 2 ^ 33
-  pub few : length v.units ≤ 35
+  pub few : length v.units ≤ most_units
   pub each : AllByRecursion IsUnit v.units
   pub in_order : AreInLineOrder 0 v.units
 

@@ -8,9 +8,10 @@ use Rattle.sub_io.specs.Reading.{◌>>=◌}
 use Rattle.ttx_packet.specs.BitOrder.{mirror}
 use Rattle.ttx_pes.specs.declared.fault.PesFault.{PesFault}
 use Rattle.ttx_pes.specs.declared.fault.PesFault.TheVariants as fault
-use Rattle.ttx_pes.specs.DataUnit.{UnitValue, is_teletext, data_unit_length, framing_code}
+use Rattle.ttx_pes.specs.DataUnit.{UnitValue, is_teletext, data_unit_length, data_unit_size}
+use Rattle.ttx_pes.specs.DataUnit.{framing_code}
 use Rattle.ttx_pes.specs.LineOrder.{last_place, stands_after}
-use Rattle.ttx_pes.specs.PesPacket.{PesValue, header_data_length}
+use Rattle.ttx_pes.specs.PesPacket.{PesValue, header_data_length, longest_packet, payload_size}
 
 -- The Teletext unit that 46 bytes are.
 abbrev pub unit_of : List ℕ → UnitValue
@@ -45,8 +46,8 @@ unit_at units b = do
 unfoldable pub units_at : ℕ → List UnitValue → List ℕ → Result (List UnitValue) PesFault
 units_at zero units b = Ok units
 units_at (suc n) units b = do
-  more ← unit_at units (take 46 b)
-  units_at n more (drop 46 b)
+  more ← unit_at units (take data_unit_size b)
+  units_at n more (drop data_unit_size b)
 
 -- The byte at a place of the packet, where its first six bytes are cut off.
 abbrev pub byte_at : List ℕ → ℕ → ℕ
@@ -83,7 +84,7 @@ pts_at b =
 unfoldable pub value_at : List ℕ → Result PesValue PesFault
 value_at b = do
   pts ← pts_at b
-  units ← units_at (length (drop 40 b) / 46) [] (drop 40 b)
+  units ← units_at (length (drop 40 b) / data_unit_size) [] (drop 40 b)
   Ok (record { pts = pts; units = units })
 
 -- Bytes 0 to 3 are the start of a packet with private data.
@@ -102,7 +103,8 @@ told_size b = 0x100 * slice_index b 4 + slice_index b 5 + 6
 unfoldable pub size_at : List ℕ → Result ℕ PesFault
 size_at b =
     if not (is_start b) then Err fault.Start
-    else if not ((told_size b % 184 == 0) && nat_le (told_size b) 1656) then Err fault.Length
+    else if not ((told_size b % payload_size == 0) && nat_le (told_size b) longest_packet) then
+    Err fault.Length
     else Ok (told_size b)
 
 -- A packet's value, and the bytes after the packet.

@@ -5,7 +5,8 @@ use Rattle.std.specs.Prelude.{◌≡◌, ℕ, ◌+◌, ◌*◌, ◌<◌, ◌≤�
 use Rattle.std.specs.List.{AllByRecursion}
 use Rattle.ttx_pes.specs.declared.fault.PesFault.{PesFault}
 use Rattle.ttx_pes.specs.declared.fault.PesFault.TheVariants as fault
-use Rattle.ttx_pes.specs.PesPacket.{PesValue, IsPesPacket}
+use Rattle.ttx_pes.specs.DataUnit.{data_unit_size}
+use Rattle.ttx_pes.specs.PesPacket.{PesValue, IsPesPacket, header_size}
 
 -- What is asked: of the packet, and then of its data units one after the other, counted from 0.
 pub data Question : Type 0 where
@@ -54,9 +55,9 @@ abbrev pub HaveSameByte : List ℕ → List ℕ → ℕ → Type 0
 HaveSameByte bytes packet place =
     place < length packet → slice_index bytes place ≡ slice_index packet place
 
--- The place of a byte of a data unit, of 46 bytes each: the first begins at 46.
+-- The place of a byte of a data unit.
 abbrev pub unit_place : ℕ → ℕ → ℕ
-unit_place k i = 46 + (46 * k + i)
+unit_place k i = header_size + (data_unit_size * k + i)
 
 -- The bytes agree with a packet in what is asked: there are as many, or those of a field are the
 -- packet's.

@@ -2,7 +2,7 @@
 use Rattle.std.specs.Prelude.{◌≡◌, ℕ, ◌/◌, ◌<◌, List, [], length, take, drop, Option, Ok}
 use Rattle.std.specs.Io.KnownBytes.{Consumes}
 use Rattle.sub_io.specs.Reading.{AreBytes}
-use Rattle.ttx_pes.specs.DataUnit.{UnitValue}
+use Rattle.ttx_pes.specs.DataUnit.{UnitValue, data_unit_size}
 use Rattle.ttx_pes.specs.PesPacket.{PesValue}
 use Rattle.ttx_pes.specs.Reading.{size_at, units_at}
 
@@ -29,7 +29,7 @@ pub record TakesSized (old new : Option (List ℕ)) (bytes : List ℕ) : Type 0 
 abbrev pub HasUnits : List ℕ → List UnitValue → Type 0
 HasUnits field units =
     0 < length field
-    → units_at (length (drop 1 field) / 46) [] (drop 1 field) ≡ Ok units
+    → units_at (length (drop 1 field) / data_unit_size) [] (drop 1 field) ≡ Ok units
 
 -- A frame and the data field that it was read from, which is empty where none is kept.
 pub record KeptValue : Type 0 where

@@ -15,8 +15,9 @@ ghost use Rattle.ttx_pes.specs.Reader.{BeginsNone, FailsWithin, given_frame, pro
 
 use crate::fault::PesFault;
 use crate::kept_frame::KeptFrame;
-use crate::packet_bytes::{MOST_PACKETS, Room, body_of, take_packet};
+use crate::packet_bytes::{Room, body_of, take_packet};
 use crate::pes_frame::PesFrame;
+use crate::pes_header::LONGEST_PACKET;
 use crate::progress::Progress;
 use std::marker::Model;
 use sub_io::Source;
@@ -80,8 +81,8 @@ fn read_compared<S: Source>(
         (bytes ≡ []) × (S.remaining source.new ≡ Some (rest_after bytes))) }
     ensures failed { failed is_read result ≡ true
         → FailsWithin (S.remaining source.old) (S.remaining source.new) }
-    ensures below { as_given result ≡ Ok true → given ≢ MOST_PACKETS }
-    ensures too_many { IfErr result (λ fault. fault ≡ TooMany → given ≡ MOST_PACKETS) }
+    ensures below { as_given result ≡ Ok true → given ≢ most_packets }
+    ensures too_many { IfErr result (λ fault. fault ≡ TooMany → given ≡ most_packets) }
     ensures no_ended { IfErr result (λ fault. fault ≢ Ended) }
     ensures no_write { IfErr result (λ fault. fault ≢ Write) }
     ensures count { CountsIf S.failure_count source.old (failed is_read result) source.new }
@@ -104,7 +105,7 @@ impl ComparingReader {
     {
         ComparingReader {
             progress: Progress::Reading(0),
-            room: [0; 1656],
+            room: [0; LONGEST_PACKET],
             kept: KeptFrame::new(),
         }
     }
@@ -157,7 +158,7 @@ impl ComparingReader {
             → IfTold (S.remaining source.old) (λ bytes.
             IfErr result (λ fault. is_format_fault fault ≡ true → BeginsNone bytes)) }
         ensures too_many { IfErr result (λ fault.
-            fault ≡ TooMany → self.old.progress ≡ Reading MOST_PACKETS) }
+            fault ≡ TooMany → self.old.progress ≡ Reading most_packets) }
         ensures byte_left { (given : ℕ) → self.old.progress ≡ Reading given
             → IfTold (S.remaining source.old) (λ bytes. result ≡ Err TooMany → 0 < length bytes) }
         // A source that failed failed within this packet, whose bytes so far hold no fault.

@@ -2,8 +2,9 @@
 ghost use Rattle.std.specs.Prelude.{◌≡◌, ◌+◌, ◌*◌, ◌≤◌, ◌++◌, false, true, length, Ok, Err, OnOk};
 ghost use Rattle.std.specs.Prelude.{IfErr};
 ghost use Rattle.sub_io.specs.Device.{failed};
-ghost use Rattle.ttx_pes.specs.DataUnit.{teletext_unit, stuffing_unit};
+ghost use Rattle.ttx_pes.specs.DataUnit.{data_unit_size, teletext_unit, stuffing_unit};
 ghost use Rattle.ttx_pes.specs.Fault.{is_read};
+ghost use Rattle.ttx_pes.specs.PesPacket.{longest_packet, most_units};
 ghost use Rattle.ttx_pes.specs.Reading.{teletext_at, unit_at, units_at, is_format_fault};
 
 use crate::fault::PesFault;
@@ -12,8 +13,8 @@ use crate::unit::Unit;
 use crate::writer::{Bytes, add};
 use ttx_packet::{Packet, mirrored};
 
-// The bytes of a data unit.
-const SIZE: usize = 46;
+/// The bytes of a data unit.
+pub(crate) const DATA_UNIT: usize = 46;
 
 // data_unit_length of each.
 const LENGTH: u8 = 0x2C;
@@ -24,7 +25,7 @@ const FRAMING: u8 = 0xE4;
 // The Teletext unit that a data unit is, if it is one.
 #[tactic(auto, unfolding(crate::specs::Reading::teletext_at))]
 fn teletext_of(block: &[u8]) -> Result<Option<Unit>, PesFault>
-    requires { length block.now ≡ 46 }
+    requires { length block.now ≡ data_unit_size }
     ensures exact { teletext_at block.now ≡ result }
     ensures read { failed is_read result ≡ false }
     ensures kind { IfErr result (λ fault. is_format_fault fault ≡ true) }
@@ -49,8 +50,8 @@ fn teletext_of(block: &[u8]) -> Result<Option<Unit>, PesFault>
 // Adds the Teletext unit that a data unit is, if it is one.
 #[tactic(auto, unfolding(crate::specs::Reading::unit_at))]
 fn take_unit(frame: &mut PesFrame, block: &[u8]) -> Result<(), PesFault>
-    requires room { length frame.old.units + 1 ≤ 35 }
-    requires block { length block.now ≡ 46 }
+    requires room { length frame.old.units + 1 ≤ most_units }
+    requires block { length block.now ≡ data_unit_size }
     ensures room { length frame.new.units ≤ length frame.old.units + 1 }
     ensures ok { OnOk result (unit_at frame.old.units block.now ≡ Ok frame.new.units) }
     ensures read { failed is_read result ≡ false }
@@ -68,8 +69,8 @@ fn take_unit(frame: &mut PesFrame, block: &[u8]) -> Result<(), PesFault>
 
 // Adds the Teletext units among that many data units, up to the first fault.
 pub(crate) fn take_units(frame: &mut PesFrame, count: usize, blocks: &[u8]) -> Result<(), PesFault>
-    requires room { length frame.old.units + count ≤ 35 }
-    requires blocks { length blocks.now ≡ 46 * count }
+    requires room { length frame.old.units + count ≤ most_units }
+    requires blocks { length blocks.now ≡ data_unit_size * count }
     ensures ok { OnOk result (units_at count frame.old.units blocks.now ≡ Ok frame.new.units) }
     ensures read { failed is_read result ≡ false }
     ensures kind { IfErr result (λ fault. is_format_fault fault ≡ true) }
@@ -78,7 +79,7 @@ pub(crate) fn take_units(frame: &mut PesFrame, count: usize, blocks: &[u8]) -> R
 {
     let mut rest = blocks;
     for _ in 0..count {
-        let (block, after) = rest.split_at(SIZE);
+        let (block, after) = rest.split_at(DATA_UNIT);
         take_unit(frame, block)?;
         rest = after;
     }
@@ -87,9 +88,9 @@ pub(crate) fn take_units(frame: &mut PesFrame, count: usize, blocks: &[u8]) -> R
 
 // Adds the data unit of a Teletext unit.
 pub(crate) fn add_unit(out: &mut Bytes, unit: &Unit)
-    requires { length out.old.items + 46 ≤ 1656 }
+    requires { length out.old.items + data_unit_size ≤ longest_packet }
     ensures items { out.new.items ≡ out.old.items ++ teletext_unit unit.now }
-    ensures len { length out.new.items ≡ length out.old.items + 46 }
+    ensures len { length out.new.items ≡ length out.old.items + data_unit_size }
 {
     let field_and_line = 192 + 32 * (2 - unit.field()) + unit.line();
     add(out, &[unit.id(), LENGTH, field_and_line, FRAMING]);
@@ -98,9 +99,9 @@ pub(crate) fn add_unit(out: &mut Bytes, unit: &Unit)
 
 // Adds a stuffing unit.
 pub(crate) fn add_stuffing(out: &mut Bytes)
-    requires { length out.old.items + 46 ≤ 1656 }
+    requires { length out.old.items + data_unit_size ≤ longest_packet }
     ensures items { out.new.items ≡ out.old.items ++ stuffing_unit }
-    ensures len { length out.new.items ≡ length out.old.items + 46 }
+    ensures len { length out.new.items ≡ length out.old.items + data_unit_size }
 {
     add(out, &[0xFF, LENGTH]);
     add(out, &[0xFF; 44]);

@@ -4,34 +4,39 @@ ghost use Rattle.std.specs.Prelude.{◌≡◌, ◌+◌, ◌%◌, ◌≤◌, ◌�
 ghost use Rattle.std.specs.Prelude.{length};
 ghost use Rattle.std.specs.Prelude.{drop, []};
 ghost use Rattle.sub_io.specs.Reading.{AreBytes};
-ghost use Rattle.ttx_pes.specs.PesPacket.{empty_value};
+ghost use Rattle.ttx_pes.specs.PesPacket.{empty_value, longest_packet, payload_size};
 ghost use Rattle.ttx_pes.specs.Reading.{value_at, is_format_fault};
 
-use crate::data_unit::take_units;
+use crate::data_unit::{DATA_UNIT, take_units};
 use crate::fault::PesFault;
 use crate::pes_frame::PesFrame;
-use crate::pes_header::pts_of;
+use crate::pes_header::{LONGEST_PACKET, pts_of};
 use crate::same_bytes::is_same;
 use std::marker::Model;
+
+// The bytes of the longest data field.
+const LONGEST_FIELD: usize = LONGEST_PACKET - 45;
 
 /// A frame, and the data field that it was read from: bytes 45 to the end of its packet.
 #[derive(Drop)]
 pub(crate) struct KeptFrame {
     frame: PesFrame,
     // The first `count` bytes are kept.
-    field: [u8; 1611],
+    field: [u8; LONGEST_FIELD],
     count: usize,
 }
 
 impl Model for KeptFrame {
-    ghost use Rattle.std.specs.Prelude.{◌≤◌, take};
+    ghost use Rattle.std.specs.Prelude.{◌+◌, ◌≤◌, take};
+    ghost use Rattle.ttx_pes.specs.PesPacket.{longest_packet};
     ghost use Rattle.ttx_pes.specs.Taking.{HasUnits, KeptValue};
 
     ghost Value = { KeptValue };
 
     ghost view = { λ k. record { frame = k.frame; data_field = take k.count k.field } };
 
-    ghost invariant = { λ k. (k.count ≤ 1611) × HasUnits (take k.count k.field) k.frame.units };
+    ghost invariant = { λ k. (k.count + 45 ≤ longest_packet)
+        × HasUnits (take k.count k.field) k.frame.units };
 }
 
 impl KeptFrame {
@@ -41,7 +46,7 @@ impl KeptFrame {
     {
         KeptFrame {
             frame: PesFrame::new(0),
-            field: [0; 1611],
+            field: [0; LONGEST_FIELD],
             count: 0,
         }
     }
@@ -73,8 +78,8 @@ impl KeptFrame {
     // Makes it the value of a packet's bytes from byte 6 on, with their data field, and answers
     // whether that is the one kept before.
     pub(crate) fn take(&mut self, body: &[u8]) -> Result<bool, PesFault>
-        requires short { length body.now ≤ 1650 }
-        requires whole { (length body.now + 6) % 184 ≡ 0 }
+        requires short { length body.now + 6 ≤ longest_packet }
+        requires whole { (length body.now + 6) % payload_size ≡ 0 }
         ensures value { OnOk result (value_at body.now ≡ Ok self.new.frame) }
         ensures field { OnOk result (self.new.data_field ≡ drop 39 body.now) }
         ensures same { IfOk result (λ same.
@@ -93,7 +98,7 @@ impl KeptFrame {
         self.count = 0;
         self.frame.restart(pts);
         let (_, blocks) = field.split_at(1);
-        take_units(&mut self.frame, blocks.len() / 46, blocks)?;
+        take_units(&mut self.frame, blocks.len() / DATA_UNIT, blocks)?;
         self.field[..field.len()].copy_from_slice(field);
         self.count = field.len();
         Ok(false)

@@ -39,7 +39,8 @@ pub use laws::{
     law_of_one_value, law_of_packet_value, law_of_reading, law_of_reading_back, law_of_refusal,
 };
 pub use line_numbers::put_frame;
-pub use pes_frame::PesFrame;
+pub use packet_bytes::MOST_PACKETS;
+pub use pes_frame::{MOST_UNITS, PesFrame};
 pub use progress::Progress;
 pub use reader::PesReader;
 pub use repeated_packet::RepeatedPacket;

@@ -7,23 +7,22 @@ ghost use Rattle.sub_io.specs.Device.{CanFail, CountsFailure, CountsIf, failed};
 ghost use Rattle.sub_io.specs.Reading.{AreBytes, IfTold};
 ghost use Rattle.ttx_pes.specs.Fault.{is_read};
 ghost use Rattle.ttx_pes.specs.declared.fault.PesFault.TheVariants.{Ended, Read, TooMany, Write};
-ghost use Rattle.ttx_pes.specs.Reading.{answer_at, rest_after};
+ghost use Rattle.ttx_pes.specs.PesPacket.{longest_packet, payload_size};
+ghost use Rattle.ttx_pes.specs.Reading.{answer_at, most_packets, rest_after};
 ghost use Rattle.ttx_pes.specs.Reader.{FailsWithin};
 ghost use Rattle.ttx_pes.specs.Taking.{StopsBelow, TakesOn, TakesSized};
 
 use crate::fault::PesFault;
-use crate::pes_header::size_of;
+use crate::pes_header::{LONGEST_PACKET, PAYLOAD, size_of};
 use sub_io::{Failed, Source};
 
-/// The packets of a file at most: one for each frame of a day at 25 a second.
-pub(crate) const MOST_PACKETS: u32 = 2_160_000;
+/// The PES packets of a file at most: one for each frame of a day at 25 a second.
+pub const MOST_PACKETS: u32 = 2_160_000;
 
-/// Room for the bytes of one packet: nine payloads of 184 bytes at most.
-pub(crate) type Room = [u8; 1656];
+/// Room for the bytes of one packet.
+pub(crate) type Room = [u8; LONGEST_PACKET];
 
-// The bytes that each packet has at least, one payload, and those that tell how many it has.
-const LEAST: usize = 184;
-
+// The bytes that tell how many the packet has.
 const HEAD: usize = 6;
 
 // Pulls into the room, of which the first bytes are held already, until it holds the least number
@@ -77,16 +76,16 @@ pub(crate) fn take_packet<S: Source>(
     ensures taken { IfOk result (λ taken. IfSome taken (λ size.
         TakesSized (S.remaining source.old) (S.remaining source.new) (take size room.new))) }
     ensures range { IfOk result (λ taken. IfSome taken (λ size.
-        (184 ≤ size) × (size ≤ 1656) × (size % 184 ≡ 0))) }
+        (payload_size ≤ size) × (size ≤ longest_packet) × (size % payload_size ≡ 0))) }
     ensures failed { failed is_read result ≡ true
         → FailsWithin (S.remaining source.old) (S.remaining source.new) }
-    ensures below { IfOk result (λ taken. IsSome taken → given ≢ MOST_PACKETS) }
-    ensures too_many { IfErr result (λ fault. fault ≡ TooMany → given ≡ MOST_PACKETS) }
+    ensures below { IfOk result (λ taken. IsSome taken → given ≢ most_packets) }
+    ensures too_many { IfErr result (λ fault. fault ≡ TooMany → given ≡ most_packets) }
     ensures no_ended { IfErr result (λ fault. fault ≢ Ended) }
     ensures no_write { IfErr result (λ fault. fault ≢ Write) }
     ensures count { CountsIf S.failure_count source.old (failed is_read result) source.new }
 {
-    let most = if given == MOST_PACKETS { HEAD } else { LEAST };
+    let most = if given == MOST_PACKETS { HEAD } else { PAYLOAD };
     let got = fill_on(source, room, 0, HEAD, most)?;
     if got == 0 {
         return Ok(None);
@@ -106,7 +105,7 @@ pub(crate) fn take_packet<S: Source>(
 
 // The bytes from byte 6 on of the packet of that many bytes.
 pub(crate) fn body_of(room: &Room, size: usize) -> &[u8]
-    requires { (6 ≤ size) × (size ≤ 1656) }
+    requires { (6 ≤ size) × (size ≤ longest_packet) }
     ensures { result.now ≡ drop 6 (take size room.now) }
 {
     let (packet, _) = room.split_at(size);

@@ -2,10 +2,14 @@
 ghost use Rattle.std.specs.Prelude.{◌≡◌, ◌+◌, ◌^◌, ◌<◌, ◌≤◌, ◌↔◌, true, [], ◌∷◌, ◌++◌, length};
 ghost use Rattle.std.specs.Prelude.{take};
 ghost use Rattle.std.specs.Prelude.{IsOk, OnOk, IfErr, OnErr};
+ghost use Rattle.ttx_pes.specs.PesPacket.{most_units};
 
 use crate::unit::Unit;
 use arrayvec::ArrayVec;
 use std::marker::Model;
+
+/// The Teletext units of a PES packet at most: nine payloads have room for these.
+pub const MOST_UNITS: usize = 35;
 
 /// What one PES packet carries: a PTS, and Teletext units in the order of their lines (EN 300 472;
 /// the order is (own)).
@@ -14,7 +18,7 @@ pub struct PesFrame {
     pts: u64,
     // The first `count` are the frame's. Those after them are left from frames before: to set them
     // to the default would cost a write of each.
-    units: ArrayVec<Unit, 35>,
+    units: ArrayVec<Unit, MOST_UNITS>,
     count: usize,
     // The place that the next unit's has to come after.
     last: u8,
@@ -65,7 +69,7 @@ impl PesFrame {
         self.pts
     }
 
-    /// The Teletext units, in the order of the packet: 35 at most.
+    /// The Teletext units, in the order of the packet: `MOST_UNITS` at most.
     pub fn units(&self) -> &[Unit]
         ensures value { result.now ≡ self.now.units }
         // What each frame holds.
@@ -78,18 +82,18 @@ impl PesFrame {
     ///
     /// # Errors
     ///
-    /// The unit itself, where there are 35 units or its line does not come after those before it;
-    /// the frame stays as it was. A unit of line 0 may stand anywhere.
+    /// The unit itself, where there are `MOST_UNITS` or its line does not come after those before
+    /// it; the frame stays as it was. A unit of line 0 may stand anywhere.
     #[tactic(auto, using(crate::proofs::LineOrderLemmas::order))]
     pub fn add(&mut self, unit: Unit) -> Result<(), Unit>
-        ensures variant { IsOk result ↔ ((length self.old.units < 35)
+        ensures variant { IsOk result ↔ ((length self.old.units < most_units)
             × (stands_after (last_place 0 self.old.units) unit ≡ true)) }
         ensures ok { OnOk result
             (self.new ≡ record self.old { units = self.old.units ++ unit ∷ [] }) }
         ensures err { OnErr result (self.new ≡ self.old) }
         ensures back { IfErr result (λ given. given ≡ unit) }
     {
-        if self.count >= 35 {
+        if self.count >= MOST_UNITS {
             return Err(unit);
         }
         let Some(place) = unit.place_after(self.last) else {
@@ -104,7 +108,7 @@ impl PesFrame {
     // Adds a unit at the end, where it is known to fit.
     #[tactic(auto, using(crate::proofs::LineOrderLemmas::order))]
     pub(crate) fn push(&mut self, unit: Unit)
-        requires room { length self.old.units < 35 }
+        requires room { length self.old.units < most_units }
         requires stands { stands_after (last_place 0 self.old.units) unit ≡ true }
         ensures { self.new ≡ record self.old { units = self.old.units ++ unit ∷ [] } }
     {
@@ -134,9 +138,9 @@ impl PesFrame {
 }
 
 // Puts a unit at a place, over one that is left from a frame before or at the end.
-fn put_at(units: &mut ArrayVec<Unit, 35>, place: usize, unit: Unit)
+fn put_at(units: &mut ArrayVec<Unit, MOST_UNITS>, place: usize, unit: Unit)
     requires place { place ≤ length units.old.items }
-    requires room { place < 35 }
+    requires room { place < most_units }
     ensures items { take (place + 1) units.new.items ≡ take place units.old.items ++ unit ∷ [] }
     ensures len { place < length units.new.items }
 {

@@ -5,6 +5,7 @@ ghost use Rattle.std.specs.Prelude.{slice_index, IfOk, IfErr};
 ghost use Rattle.sub_io.specs.Device.{failed};
 ghost use Rattle.sub_io.specs.Reading.{AreBytes};
 ghost use Rattle.ttx_pes.specs.Fault.{is_read};
+ghost use Rattle.ttx_pes.specs.PesPacket.{header_size, longest_packet, payload_size};
 ghost use Rattle.ttx_pes.specs.PesPacket.{pes_packet_header, pts_bytes};
 ghost use Rattle.ttx_pes.specs.Reading.{pts_at, size_at, is_format_fault};
 
@@ -13,8 +14,11 @@ use crate::writer::{Bytes, add};
 use arrayvec::ArrayVec;
 use byteorder::{BigEndian, ByteOrder};
 
-// A packet of n payloads has 184 * n bytes, at most 1656.
-const PAYLOAD: usize = 184;
+/// The bytes of a payload: a packet fills 1 to 9 of them.
+pub(crate) const PAYLOAD: usize = 184;
+
+/// The bytes of the longest packet.
+pub(crate) const LONGEST_PACKET: usize = 9 * PAYLOAD;
 
 // The size of the packet that begins with these six bytes.
 #[tactic(auto, unfolding(crate::specs::Reading::size_at))]
@@ -23,13 +27,14 @@ pub(crate) fn size_of(head: &[u8; 6]) -> Result<usize, PesFault>
     ensures bytes { AreBytes head.now }
     ensures read { failed is_read result ≡ false }
     ensures kind { IfErr result (λ fault. is_format_fault fault ≡ true) }
-    ensures range { IfOk result (λ size. (184 ≤ size) × (size ≤ 1656) × (size % 184 ≡ 0)) }
+    ensures range { IfOk result (λ size.
+        (payload_size ≤ size) × (size ≤ longest_packet) × (size % payload_size ≡ 0)) }
 {
     if head[0] != 0 || head[1] != 0 || head[2] != 1 || head[3] != 0xBD {
         return Err(PesFault::Start);
     }
     let size = length_of(head) as usize + 6;
-    if size % PAYLOAD != 0 || size > 9 * PAYLOAD {
+    if size % PAYLOAD != 0 || size > LONGEST_PACKET {
         return Err(PesFault::Length);
     }
     Ok(size)
@@ -101,10 +106,10 @@ pub(crate) fn header_of(n: u16, pts: u64) -> Bytes
     requires n { (1 ≤ n) × (n ≤ 9) }
     requires pts { pts < 2 ^ 33 }
     ensures items { result.items ≡ pes_packet_header n pts }
-    ensures len { length result.items ≡ 46 }
+    ensures len { length result.items ≡ header_size }
 {
     let mut length = [0; 2];
-    BigEndian::write_u16(&mut length, 184 * n - 6);
+    BigEndian::write_u16(&mut length, PAYLOAD as u16 * n - 6);
     let mut out = ArrayVec::new();
     add(&mut out, &[0x00, 0x00, 0x01, 0xBD]);
     add(&mut out, &length);

@@ -3,7 +3,7 @@
 /// How far a reader has come: what the contracts see of a `PesReader`.
 #[derive(Clone, Copy, Debug, PartialEq, Eq)]
 pub enum Progress {
-    /// That number of packets was given, 0 to 2,160,000.
+    /// That number of packets was given, 0 to `MOST_PACKETS`.
     Reading(u32),
     /// The source was at its end.
     AtEnd,

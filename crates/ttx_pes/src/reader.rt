@@ -7,17 +7,17 @@ ghost use Rattle.sub_io.specs.Reading.{AreBytes, IfTold};
 ghost use Rattle.ttx_pes.specs.Fault.{is_read};
 ghost use Rattle.ttx_pes.specs.declared.fault.PesFault.TheVariants.{Ended, TooMany, Write};
 ghost use Rattle.ttx_pes.specs.declared.progress.Progress.TheVariants.{Reading, AtEnd, Broken};
-ghost use Rattle.ttx_pes.specs.PesPacket.{empty_value};
+ghost use Rattle.ttx_pes.specs.PesPacket.{empty_value, longest_packet, payload_size};
 ghost use Rattle.ttx_pes.specs.Reading.{answer_at, value_at, is_format_fault, most_packets};
 ghost use Rattle.ttx_pes.specs.Reading.{rest_after};
 ghost use Rattle.ttx_pes.specs.Reader.{BeginsNone, FailsWithin, TakesPesPacket, given_frame};
 ghost use Rattle.ttx_pes.specs.Reader.{progress_after};
 
-use crate::data_unit::take_units;
+use crate::data_unit::{DATA_UNIT, take_units};
 use crate::fault::PesFault;
-use crate::packet_bytes::{MOST_PACKETS, Room, body_of, take_packet};
+use crate::packet_bytes::{Room, body_of, take_packet};
 use crate::pes_frame::PesFrame;
-use crate::pes_header::pts_of;
+use crate::pes_header::{LONGEST_PACKET, pts_of};
 use crate::progress::Progress;
 use std::marker::Model;
 use sub_io::Source;
@@ -45,8 +45,8 @@ impl Model for PesReader {
 // Puts the value of a packet's bytes from byte 6 on into the frame.
 #[tactic(auto, unfolding(crate::specs::Reading::value_at))]
 fn read_value(body: &[u8], frame: &mut PesFrame) -> Result<(), PesFault>
-    requires short { length body.now ≤ 1650 }
-    requires whole { (length body.now + 6) % 184 ≡ 0 }
+    requires short { length body.now + 6 ≤ longest_packet }
+    requires whole { (length body.now + 6) % payload_size ≡ 0 }
     ensures ok { OnOk result (value_at body.now ≡ Ok frame.new) }
     ensures err { IfErr result (λ fault. value_at body.now ≡ Err fault) }
     ensures bytes { AreBytes body.now }
@@ -56,7 +56,7 @@ fn read_value(body: &[u8], frame: &mut PesFrame) -> Result<(), PesFault>
     let pts = pts_of(body)?;
     frame.restart(pts);
     let (_, blocks) = body.split_at(40);
-    take_units(frame, blocks.len() / 46, blocks)
+    take_units(frame, blocks.len() / DATA_UNIT, blocks)
 }
 
 // Puts the next packet's value into the frame, `false` at the end of the source.
@@ -75,10 +75,10 @@ fn read_packet<S: Source>(
         (bytes ≡ []) × (S.remaining source.new ≡ Some (rest_after bytes))) }
     ensures failed { failed is_read result ≡ true
         → FailsWithin (S.remaining source.old) (S.remaining source.new) }
-    ensures too_many { IfErr result (λ fault. fault ≡ TooMany → given ≡ MOST_PACKETS) }
+    ensures too_many { IfErr result (λ fault. fault ≡ TooMany → given ≡ most_packets) }
     ensures never { IfErr result (λ fault. fault ≢ Ended) }
     ensures no_write { IfErr result (λ fault. fault ≢ Write) }
-    ensures below { result ≡ Ok true → given ≢ MOST_PACKETS }
+    ensures below { result ≡ Ok true → given ≢ most_packets }
     ensures count { CountsIf S.failure_count source.old (failed is_read result) source.new }
 {
     let Some(size) = take_packet(given, source, room)? else {
@@ -95,7 +95,7 @@ impl PesReader {
     {
         PesReader {
             progress: Progress::Reading(0),
-            room: [0; 1656],
+            room: [0; LONGEST_PACKET],
         }
     }
 
@@ -133,7 +133,7 @@ impl PesReader {
             → IfTold (S.remaining source.old) (λ bytes.
             IfErr result (λ fault. is_format_fault fault ≡ true → BeginsNone bytes)) }
         ensures too_many { IfErr result (λ fault.
-            fault ≡ TooMany → self.old ≡ Reading MOST_PACKETS) }
+            fault ≡ TooMany → self.old ≡ Reading most_packets) }
         ensures byte_left { (given : ℕ) → self.old ≡ Reading given
             → IfTold (S.remaining source.old) (λ bytes. result ≡ Err TooMany → 0 < length bytes) }
         // A source that failed failed within this packet, whose bytes so far hold no fault.
@@ -194,7 +194,7 @@ impl PesReader {
             → IfTold (S.remaining source.old) (λ bytes.
             IfErr result (λ fault. is_format_fault fault ≡ true → BeginsNone bytes)) }
         ensures too_many { IfErr result (λ fault.
-            fault ≡ TooMany → self.old ≡ Reading MOST_PACKETS) }
+            fault ≡ TooMany → self.old ≡ Reading most_packets) }
         ensures byte_left { (given : ℕ) → self.old ≡ Reading given
             → IfTold (S.remaining source.old) (λ bytes. result ≡ Err TooMany → 0 < length bytes) }
         // A source that failed failed within this packet, whose bytes so far hold no fault.

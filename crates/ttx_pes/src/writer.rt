@@ -4,22 +4,22 @@ ghost use Rattle.std.specs.Prelude.{false, if◌then◌else◌};
 ghost use Rattle.sub_io.specs.Device.{CanFail, CountsIf, Writes, failed};
 ghost use Rattle.ttx_pes.specs.Fault.{is_write};
 ghost use Rattle.ttx_pes.specs.declared.fault.PesFault.TheVariants.{Ended, Write};
-ghost use Rattle.ttx_pes.specs.PesPacket.{canonical_packet};
+ghost use Rattle.ttx_pes.specs.PesPacket.{canonical_packet, longest_packet};
 
 use crate::data_unit::{add_stuffing, add_unit};
 use crate::fault::PesFault;
 use crate::pes_frame::PesFrame;
-use crate::pes_header::header_of;
+use crate::pes_header::{LONGEST_PACKET, header_of};
 use arrayvec::ArrayVec;
 use std::marker::Model;
 use sub_io::{Sink, put_all};
 
-/// The bytes of a packet: nine payloads of 184 bytes at most.
-pub(crate) type Bytes = ArrayVec<u8, 1656>;
+/// The bytes of a packet.
+pub(crate) type Bytes = ArrayVec<u8, LONGEST_PACKET>;
 
 // Adds bytes at the end, where there is room.
 pub(crate) fn add(out: &mut Bytes, bytes: &[u8])
-    requires { length out.old.items + length bytes.now ≤ 1656 }
+    requires { length out.old.items + length bytes.now ≤ longest_packet }
     ensures items { out.new.items ≡ out.old.items ++ bytes.now }
     ensures len { length out.new.items ≡ length out.old.items + length bytes.now }
 {
