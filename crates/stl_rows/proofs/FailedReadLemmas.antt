@@ -15,7 +15,7 @@ use Rattle.stl_file.specs.Reading.{Outcome, ends, fails, gives}
 use Rattle.stl_file.specs.Reader.{FailsReading, NamesFrom, ReaderValue, TakesSubtitle}
 use Rattle.stl_file.specs.Reader.{block_of_byte}
 use Rattle.stl_file.specs.Reader.{outcome_from, outcome_in, outcome_left, outcome_of}
-use Rattle.stl_file.proofs.BlockLists.{length-joined}
+use Rattle.stl_file.proofs.SubtitleBlocksLemmas.{length-joined}
 use Rattle.stl_rows.specs.declared.national.National.{National}
 use Rattle.stl_rows.specs.declared.fault.LoadFault.{LoadFault}
 use Rattle.stl_rows.specs.declared.fault.LoadFaultKind.{LoadFaultKind}

@@ -19,7 +19,7 @@ use Rattle.stl_file.specs.NormalForm.{normal_form, subtitles_of}
 use Rattle.stl_file.specs.Reader.{block_of_byte, outcome_of}
 use Rattle.stl_file.specs.Reading.{Outcome}
 use Rattle.stl_file.specs.Subtitle.{SubtitleValue}
-use Rattle.stl_file.proofs.FirstBytes.{outcome_of-first}
+use Rattle.stl_file.proofs.FileLemmas.{outcome_of-first}
 use Rattle.sub_answer.specs.NormalWriting.{TellsRead, most_read, normal_of, normal_writing}
 use Rattle.sub_answer.specs.Writing.{Completes, written, written_line}
 use Rattle.sub_answer.specs.declared.answering.normal.InputFault.TheVariants as input

@@ -1,5 +1,5 @@
 -- A file is what is read.
-use Rattle.stl_file.proofs.Sound.{file_read}
+use Rattle.stl_file.proofs.FileLemmas.{file_read}
 use Rattle.stl_file.proofs.laws.law_of_files.Goals as goal
 
 pub returns : goal.returns

@@ -1,5 +1,5 @@
 -- The normal form of a file is a file.
-use Rattle.stl_file.proofs.Normals.{normal_is_file}
+use Rattle.stl_file.proofs.NormalFormLemmas.{normal_is_file}
 use Rattle.stl_file.proofs.laws.law_of_normal_form.Goals as goal
 
 pub returns : goal.returns

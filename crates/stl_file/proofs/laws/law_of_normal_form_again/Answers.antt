@@ -1,5 +1,5 @@
 -- The normal form of a normal form is itself.
-use Rattle.stl_file.proofs.Normals.{normal_twice}
+use Rattle.stl_file.proofs.NormalFormLemmas.{normal_twice}
 use Rattle.stl_file.proofs.laws.law_of_normal_form_again.Goals as goal
 
 pub returns : goal.returns

@@ -1,7 +1,7 @@
 -- The number of blocks that a subtitle is written in.
 use Rattle.std.proofs.Common.{ap, length, arith}
 use Rattle.stl_file.specs.NormalForm.{full_pieces}
-use Rattle.stl_file.proofs.Written.{blocks_count}
+use Rattle.stl_file.proofs.BlocksOfLemmas.{blocks_count}
 use Rattle.stl_file.proofs.normal_form.count_of.Goals as goal
 
 pub returns : goal.returns

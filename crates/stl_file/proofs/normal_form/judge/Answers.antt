@@ -1,8 +1,9 @@
 -- A subtitle more is counted; the counts at the end; the fault of a file that is refused.
 use Rattle.std.proofs.Common.{◌++◌, ◌∷◌, [], refl, arith, ap, length, length-append}
 use Rattle.stl_file.specs.NormalForm.{all_blocks, blocks_of}
-use Rattle.stl_file.proofs.Passes.{pass_turn, pass_ends, pass_refused, counted_end, all_push}
-use Rattle.stl_file.proofs.Passes.{refused_same, no_failure}
+use Rattle.stl_file.proofs.BlocksOfLemmas.{all_push}
+use Rattle.stl_file.proofs.NormalCountsLemmas.{pass_turn, pass_ends, pass_refused, counted_end}
+use Rattle.stl_file.proofs.NormalCountsLemmas.{refused_same, no_failure}
 use Rattle.stl_file.proofs.normal_form.judge.Goals as goal
 
 pub overflow_add-counts : goal.overflow_add-counts

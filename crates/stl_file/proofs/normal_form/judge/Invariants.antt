@@ -3,7 +3,7 @@ use Rattle.std.proofs.Common.{◌≡◌, ◌-◌, List, length}
 use Rattle.stl_file.specs.NormalForm.{all_blocks}
 use Rattle.stl_file.specs.Subtitle.{SubtitleValue}
 use Rattle.stl_file.specs.Tti.{most_blocks}
-use Rattle.stl_file.proofs.Passes.{Passes}
+use Rattle.stl_file.proofs.NormalCountsLemmas.{Passes}
 use Rattle.stl_file.proofs.normal_form.judge.Given as goal
 
 abbrev pub invariant-loop-subtitle : goal.invariant-loop-subtitle

@@ -8,9 +8,9 @@ use Rattle.stl_file.specs.NormalCounts.{given}
 use Rattle.stl_file.specs.NormalForm.{all_blocks, subtitles_of}
 use Rattle.stl_file.specs.Reader.{outcome_from}
 use Rattle.stl_file.specs.SubtitleBlocks.{joined}
-use Rattle.stl_file.proofs.Passes.{no_failure}
-use Rattle.stl_file.proofs.Finish.{refused_open, refused_body, prefix_gsi, prefix_body}
-use Rattle.stl_file.proofs.Finish.{whole_written}
+use Rattle.stl_file.proofs.NormalCountsLemmas.{no_failure}
+use Rattle.stl_file.proofs.NormalFormLemmas.{refused_open, refused_body, prefix_gsi, prefix_body}
+use Rattle.stl_file.proofs.NormalFormLemmas.{whole_written}
 use Rattle.stl_file.proofs.normal_form.normal.Goals as goal
 
 pub returns-in-Err-clause-answer : goal.returns-in-Err-clause-answer

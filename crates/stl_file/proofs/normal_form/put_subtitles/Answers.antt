@@ -6,8 +6,8 @@ use Rattle.stl_file.specs.NormalCounts.{given}
 use Rattle.stl_file.specs.NormalForm.{all_blocks}
 use Rattle.stl_file.specs.Subtitle.{SubtitleValue}
 use Rattle.stl_file.specs.SubtitleBlocks.{joined}
-use Rattle.stl_file.proofs.Passes.{pass_turn, pass_ends, pass_refused, all_wrote, all_prefix}
-use Rattle.stl_file.proofs.Passes.{no_fault, no_failure}
+use Rattle.stl_file.proofs.NormalCountsLemmas.{pass_turn, pass_ends, pass_refused, all_wrote}
+use Rattle.stl_file.proofs.NormalCountsLemmas.{all_prefix, no_fault, no_failure}
 use Rattle.stl_file.proofs.normal_form.put_subtitles.Goals as goal
 
 pub returns-in_err-write_subtitle-in-Ok-Some-clause-bytes :

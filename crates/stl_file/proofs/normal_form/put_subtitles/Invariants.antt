@@ -5,7 +5,7 @@ use Rattle.stl_file.specs.NormalForm.{all_blocks}
 use Rattle.stl_file.specs.Subtitle.{SubtitleValue}
 use Rattle.stl_file.specs.SubtitleBlocks.{joined}
 use Rattle.stl_file.specs.Tti.{most_blocks}
-use Rattle.stl_file.proofs.Passes.{Passes}
+use Rattle.stl_file.proofs.NormalCountsLemmas.{Passes}
 use Rattle.stl_file.proofs.normal_form.put_subtitles.Given as goal
 
 abbrev pub invariant-loop-subtitle : goal.invariant-loop-subtitle

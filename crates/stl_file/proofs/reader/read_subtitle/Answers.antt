@@ -2,11 +2,11 @@
 use Rattle.std.proofs.Common.{rules, Ok, sym, ap, ◌∙◌, ◌+◌, subst, arith}
 use Rattle.std.proofs.lemmas.Result.{err_from_is_err_and}
 use Rattle.stl_file.specs.Reading.{StepFits, step_at}
-use Rattle.stl_file.proofs.Taken.{leads_none, leads_unfinished, leads_too_many, leads_truncated}
-use Rattle.stl_file.proofs.Taken.{leads_refused, leads_given, gives_subtitle}
-use Rattle.stl_file.proofs.Taken.{reads_on}
-use Rattle.stl_file.proofs.Taken.{refuses_unfinished, refuses_too_many, refuses_truncated}
-use Rattle.stl_file.proofs.Taken.{refuses_block, fails_reading, own_block}
+use Rattle.stl_file.proofs.ReaderLemmas.{leads_none, leads_unfinished, leads_too_many}
+use Rattle.stl_file.proofs.ReaderLemmas.{leads_truncated, leads_refused, leads_given}
+use Rattle.stl_file.proofs.ReaderLemmas.{gives_subtitle, reads_on, refuses_unfinished}
+use Rattle.stl_file.proofs.ReaderLemmas.{refuses_too_many, refuses_truncated, refuses_block}
+use Rattle.stl_file.proofs.ReaderLemmas.{fails_reading, own_block}
 use Rattle.stl_file.proofs.reader.read_subtitle.Goals as goal
 
 pub returns-in_err-got-clause-failed : goal.returns-in_err-got-clause-failed

@@ -2,7 +2,7 @@
 use Rattle.std.proofs.Common.{◌≡◌, ◌≤◌, ◌-◌}
 use Rattle.stl_file.specs.Reading.{BegunFits}
 use Rattle.stl_file.specs.Tti.{most_blocks}
-use Rattle.stl_file.proofs.Taken.{HasRead}
+use Rattle.stl_file.proofs.ReaderLemmas.{HasRead}
 use Rattle.stl_file.proofs.reader.read_subtitle.Given as goal
 
 abbrev pub invariant-loop-got : goal.invariant-loop-got

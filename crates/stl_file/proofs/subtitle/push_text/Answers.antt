@@ -1,6 +1,6 @@
 -- One byte more goes to the text.
 use Rattle.std.proofs.Common.{arith, ◌∙◌}
-use Rattle.stl_file.proofs.Text.{text_more, no_unused_pushed}
+use Rattle.stl_file.proofs.SubtitleLemmas.{text_more, no_unused_pushed}
 use Rattle.stl_file.proofs.subtitle.push_text.Goals as goal
 
 pub loop-byte-preserved : goal.loop-byte-preserved

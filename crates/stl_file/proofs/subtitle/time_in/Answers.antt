@@ -1,7 +1,7 @@
 -- The field is read as the time code at its place: time_at_tci.
 use Rattle.std.proofs.Common.{ap, sym, ◌∙◌}
 use Rattle.stl_file.specs.Reading.{time_at}
-use Rattle.stl_file.proofs.Times.{time_at_tci}
+use Rattle.stl_file.proofs.TimeCodeLemmas.{time_at_tci}
 use Rattle.stl_file.proofs.subtitle.time_in.Goals as goal
 
 pub returns-clause-exact : goal.returns-clause-exact

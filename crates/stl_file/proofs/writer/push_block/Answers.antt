@@ -1,6 +1,6 @@
 -- A head, a piece of text and unused space are a block.
 use Rattle.std.proofs.Common.{rules}
-use Rattle.stl_file.proofs.Written.{pushed}
+use Rattle.stl_file.proofs.BlocksOfLemmas.{pushed}
 use Rattle.stl_file.proofs.writer.push_block.Goals as goal
 
 pub returns-clause-items : goal.returns-clause-items

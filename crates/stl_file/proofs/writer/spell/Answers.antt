@@ -2,7 +2,8 @@
 use Rattle.std.proofs.Common.{List, ℕ, ◌∙◌, ◌++◌, ap, arith}
 use Rattle.std.proofs.lemmas.List.{length-drop}
 use Rattle.stl_file.specs.NormalForm.{block_of, full_pieces}
-use Rattle.stl_file.proofs.Written.{pieces_more, pieces_end, joined_more, joined_end, blocks_count}
+use Rattle.stl_file.proofs.BlocksOfLemmas.{pieces_more, pieces_end, joined_more, joined_end}
+use Rattle.stl_file.proofs.BlocksOfLemmas.{blocks_count}
 use Rattle.stl_file.proofs.writer.spell.Goals as goal
 
 pub loop-rest-preserved : goal.loop-rest-preserved

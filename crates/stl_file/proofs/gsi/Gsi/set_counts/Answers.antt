@@ -1,7 +1,7 @@
 -- The counts are put at their places, and the block keeps its length.
 use Rattle.std.proofs.Common.{refl, sym, ap, length, ◌∙◌, arith}
 use borrow.Rule.Slice.PartMut.{same_len_mid}
-use Rattle.stl_file.proofs.Written.{counts_put}
+use Rattle.stl_file.proofs.GsiLemmas.{counts_put}
 use Rattle.stl_file.proofs.gsi.Gsi.set_counts.Goals as goal
 
 pub returns : goal.returns

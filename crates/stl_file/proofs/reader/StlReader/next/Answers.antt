@@ -2,7 +2,7 @@
 use Rattle.std.proofs.Common.{rules, arith, ◌≡◌, sym, ap, ◌∙◌}
 use Rattle.std.proofs.lemmas.Grind.{common_steps}
 use Rattle.stl_file.specs.Reader.{block_by, progress_after}
-use Rattle.stl_file.proofs.Next.{answers}
+use Rattle.stl_file.proofs.AnswersLemmas.{answers}
 use Rattle.stl_file.proofs.reader.StlReader.next.Goals.{in-Ok, in-Err}
 use Rattle.stl_file.proofs.reader.StlReader.next.Goals as goal
 

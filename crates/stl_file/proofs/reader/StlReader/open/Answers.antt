@@ -5,7 +5,8 @@ use Rattle.std.proofs.lemmas.List.{take_all}
 use Rattle.std.specs.Io.KnownBytes.{Consumes}
 use Rattle.std.proofs.lemmas.Result.{err_from_is_err_and}
 use Rattle.stl_file.specs.Gsi.{gsi_at}
-use Rattle.stl_file.proofs.Opening.{open_short, open_whole, open_rest, short_opening, bad_opening}
+use Rattle.stl_file.proofs.OpeningLemmas.{open_short, open_whole, open_rest, short_opening}
+use Rattle.stl_file.proofs.OpeningLemmas.{bad_opening}
 use Rattle.stl_file.proofs.reader.StlReader.open.Goals as goal
 
 pub returns-then-got-lt1024-clause-exact : goal.returns-then-got-lt1024-clause-exact

@@ -1,65 +1,32 @@
--- A pass of `normal` over the blocks after the GSI block; main lemmas: pass_on, pass_end,
--- all_prefix.
-use Rattle.std.proofs.Common.{◌≡◌, ℕ, suc, ◌+◌, ◌-◌, ◌<◌, ◌≤◌, Bool, true, false, cond, List, []}
-use Rattle.std.proofs.Common.{◌∷◌, ◌++◌, length, Option, Some, None, Result, Ok, Err, refl}
-use Rattle.std.proofs.Common.{sym, ap, subst, ◌∙◌, append_assoc, arith, length-append, is_ok}
+-- `counted` and `given`: a pass of `normal` over the blocks after the GSI block; main lemmas:
+-- pass_turn, pass_ends, counted_end, all_prefix.
+use Rattle.std.proofs.Common.{◌≡◌, ℕ, Bool, true, false, cond, List, [], ◌∷◌, ◌++◌, length, refl}
+use Rattle.std.proofs.Common.{sym, ap, ◌∙◌, append_assoc, arith, length-append, Option, Some, None}
+use Rattle.std.proofs.Common.{Result, Ok, Err, subst, ◌+◌, ◌-◌, ◌<◌, ◌≤◌, is_ok}
 use Rattle.std.specs.Prelude.{filter, IfSome}
 use Rattle.std.specs.Io.KnownBytes.{Appends}
-use Rattle.std.proofs.KnownBytes.{Appends-trans}
 use Rattle.std.proofs.lemmas.List.{append-nil}
+use Rattle.std.proofs.KnownBytes.{Appends-trans}
 use Rattle.std.proofs.lemmas.Option.{same_Some}
 use Rattle.sub_io.specs.Device.{AppendsPrefix}
 use Rattle.sub_io.proofs.DeviceLemmas.{AppendsPrefix-first, AppendsPrefix-second}
+use Rattle.stl_file.specs.declared.counts.Counts.{Counts}
 use Rattle.stl_file.specs.declared.fault.StlFault.{StlFault}
+use Rattle.stl_file.specs.declared.fault.NormalFault.{NormalFault}
 use Rattle.stl_file.specs.declared.fault.NormalFault.TheVariants.{Refused}
 use Rattle.stl_file.specs.declared.progress.Progress.{Progress}
 use Rattle.stl_file.specs.declared.progress.Progress.TheVariants.{Reading}
 use Rattle.stl_file.specs.Tti.{is_kept, most_blocks}
-use Rattle.stl_file.specs.Subtitle.{SubtitleValue}
 use Rattle.stl_file.specs.SubtitleBlocks.{joined}
-use Rattle.stl_file.specs.Reading.{Outcome}
-use Rattle.stl_file.specs.Reader.{ReaderValue, HasPlace, Answers, TakesSubtitle, progress_after}
-use Rattle.stl_file.specs.Reader.{outcome_from, outcome_left, outcome_with}
-use Rattle.stl_file.specs.NormalForm.{Judged, all_blocks, blocks_of, cons_all, full_pieces}
-use Rattle.stl_file.specs.NormalForm.{subtitles_of}
+use Rattle.stl_file.specs.Reader.{ReaderValue, outcome_from, outcome_left, Answers, outcome_with}
+use Rattle.stl_file.specs.Reader.{progress_after, HasPlace, TakesSubtitle}
+use Rattle.stl_file.specs.Subtitle.{SubtitleValue}
+use Rattle.stl_file.specs.NormalForm.{Judged, all_blocks, subtitles_of, full_pieces, blocks_of}
+use Rattle.stl_file.specs.NormalForm.{cons_all}
 use Rattle.stl_file.specs.NormalCounts.{counted, given}
-use Rattle.stl_file.specs.declared.counts.Counts.{Counts}
-use Rattle.stl_file.specs.declared.fault.NormalFault.{NormalFault}
-use Rattle.stl_file.proofs.Written.{blocks_count}
-use Rattle.stl_file.proofs.Made.{blocks_again}
-
--- ---- lists
-
--- the blocks of two lists of subtitles
-pub all_append : (ss ts : List SubtitleValue)
-    → all_blocks (ss ++ ts) ≡ all_blocks ss ++ all_blocks ts
-all_append [] ts = refl
-all_append (s ∷ ss) ts = ap (λ (x : List (List ℕ)). blocks_of s ++ x) (all_append ss ts)
-    ∙ sym (append_assoc (blocks_of s) (all_blocks ss) (all_blocks ts))
-
--- the bytes of two lists of blocks
-pub joined_append : (xs bs : List (List ℕ)) → joined (xs ++ bs) ≡ joined xs ++ joined bs
-joined_append [] bs = refl
-joined_append (a ∷ xs) bs = ap (λ (x : List ℕ). a ++ x) (joined_append xs bs)
-    ∙ sym (append_assoc a (joined xs) (joined bs))
-
--- the blocks with those of one subtitle more
-pub all_push : (ss : List SubtitleValue) (s : SubtitleValue)
-    → all_blocks (ss ++ s ∷ []) ≡ all_blocks ss ++ blocks_of s
-all_push ss s = all_append ss (s ∷ [])
-    ∙ ap (λ (x : List (List ℕ)). all_blocks ss ++ x) (append-nil (blocks_of s))
-
--- one block more or the same
-choice_len : (t : Bool) (x : List ℕ) (a : List (List ℕ)) (n : ℕ)
-    → length a ≤ n
-    → length (cond t (x ∷ a) a) ≤ suc n
-choice_len true x a n le = omega arith
-choice_len false x a n le = omega arith
-
--- no more blocks are kept than there are
-pub kept_few : (bs : List (List ℕ)) → length (filter is_kept bs) ≤ length bs
-kept_few [] = omega arith
-kept_few (b ∷ bs) = choice_len (is_kept b) b (filter is_kept bs) (length bs) (kept_few bs)
+use Rattle.stl_file.specs.Reading.{Outcome}
+use Rattle.stl_file.proofs.SubtitleBlocksLemmas.{kept_few, joined_append}
+use Rattle.stl_file.proofs.BlocksOfLemmas.{blocks_count, blocks_again, all_push, all_append}
 
 -- ---- the subtitles so far, and those that are left
 

@@ -1,36 +1,35 @@
--- The blocks that one call has taken; main lemmas: reads_on, gives_subtitle, refuses_block.
-use Rattle.std.proofs.Common.{◌≡◌, ◌+◌, ◌*◌, ◌/◌, ℕ, suc, ◌-◌, ◌<◌, ◌≤◌, true}
-use Rattle.std.proofs.Common.{List, [], ◌∷◌, ◌++◌, length, take, Option, Some, None, Result}
-use Rattle.std.proofs.Common.{Ok, Err}
-use Rattle.std.proofs.Common.{refl, sym, ap, subst, ◌∙◌, append_assoc, arith, length-append}
-use Rattle.std.proofs.Common.{length-take}
+-- What a call of a reader takes, and what it leads to; main lemmas: reads_on, gives_subtitle,
+-- refuses_block.
+use Rattle.std.proofs.Common.{◌≡◌, ◌*◌, ℕ, true, List, [], ◌∷◌, ◌++◌, length, refl, sym, ap, ◌∙◌}
+use Rattle.std.proofs.Common.{append_assoc, arith, length-append, take, Option, Some, None, Result}
+use Rattle.std.proofs.Common.{Ok, Err, subst, suc, ◌+◌, ◌-◌, ◌<◌, ◌≤◌, ◌/◌, length-take}
 use Rattle.std.specs.Prelude.{filter}
 use Rattle.std.specs.List.{AllByRecursion}
 use Rattle.std.specs.Io.KnownBytes.{Consumes}
-use Rattle.std.proofs.KnownBytes.{Consumes-trans}
 use Rattle.std.proofs.lemmas.List.{append-nil, take_all, nil_from_length}
+use Rattle.std.proofs.KnownBytes.{Consumes-trans}
 use Rattle.std.proofs.lemmas.Option.{same_Some}
 use Rattle.sub_io.specs.Device.{Fills}
 use Rattle.sub_io.proofs.DeviceLemmas.{Told-from_fills}
 use Rattle.stl_file.specs.declared.fault.StlFault.{StlFault}
-use Rattle.stl_file.specs.declared.fault.StlFault.TheVariants as fault
 use Rattle.stl_file.specs.declared.step.Begun.{Begun}
 use Rattle.stl_file.specs.declared.step.Step.{Step}
 use Rattle.stl_file.specs.declared.step.Step.TheVariants.{More, Give}
-use Rattle.stl_file.specs.Fault.{is_cut, is_of_block}
+use Rattle.stl_file.specs.declared.fault.StlFault.TheVariants as fault
 use Rattle.stl_file.specs.Tti.{is_kept, most_blocks}
+use Rattle.stl_file.specs.SubtitleBlocks.{IsBlock, joined, IsRest}
+use Rattle.stl_file.specs.Reader.{outcome_from, Leads, TakesSubtitle, NamesFrom, block_after}
+use Rattle.stl_file.specs.Reader.{TakesPassed, Refuses, FailsReading}
 use Rattle.stl_file.specs.Subtitle.{SubtitleValue}
-use Rattle.stl_file.specs.SubtitleBlocks.{IsBlock, IsRest, joined}
-use Rattle.stl_file.specs.Reading.{step_at, fails, gives, outcome_after, outcome_at}
-use Rattle.stl_file.specs.Reader.{outcome_from, block_after, Leads}
-use Rattle.stl_file.specs.Reader.{TakesSubtitle, TakesPassed, Refuses, FailsReading, NamesFrom}
 use Rattle.stl_file.specs.NormalForm.{subtitles_of}
-use Rattle.stl_file.proofs.Outcomes.{outcome_nil, outcome_end, outcome_full, outcome_short}
-use Rattle.stl_file.proofs.Outcomes.{outcome_block, outcome_complete}
-use Rattle.stl_file.proofs.Kept.{Represents, step_sound}
-use Rattle.stl_file.proofs.BlockLists.{blocks_push, filter_push, joined_push, ends_push}
-use Rattle.stl_file.proofs.BlockLists.{length-joined}
-use Rattle.stl_file.proofs.Places.{names_from}
+use Rattle.stl_file.specs.Reading.{gives, outcome_after, outcome_at, step_at, fails}
+use Rattle.stl_file.specs.Fault.{is_cut, is_of_block}
+use Rattle.stl_file.proofs.SubtitleBlocksLemmas.{blocks_push, filter_push, joined_push, ends_push}
+use Rattle.stl_file.proofs.SubtitleBlocksLemmas.{length-joined}
+use Rattle.stl_file.proofs.StepLemmas.{Represents, step_sound}
+use Rattle.stl_file.proofs.OutcomeLemmas.{outcome_full, outcome_end, outcome_nil, outcome_short}
+use Rattle.stl_file.proofs.OutcomeLemmas.{outcome_block, names_from}
+use Rattle.stl_file.proofs.RestLemmas.{outcome_complete}
 
 -- ---- what was read so far
 

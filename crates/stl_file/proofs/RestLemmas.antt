@@ -1,85 +1,27 @@
--- What reading gives, by cases, and that the blocks of a file give its subtitles; main lemma:
--- outcome_complete.
-use Rattle.std.proofs.Common.{◌≡◌, ℕ, zero, suc, ◌+◌, ◌-◌, ◌<◌, ◌≤◌, true, false, eqb, List, []}
-use Rattle.std.proofs.Common.{◌∷◌, ◌++◌}
-use Rattle.std.proofs.Common.{length, take, drop, Option, Some, None, Result, Ok, refl, sym}
-use Rattle.std.proofs.Common.{ap, subst, ◌∙◌}
-use Rattle.std.proofs.Common.{append_assoc, arith, length-append, inl, inr, ◌⊎◌}
+-- `IsRest`: bytes are read without a fault exactly when they are blocks of subtitles; main lemmas:
+-- outcome_complete, outcome_sound.
+use Rattle.std.proofs.Common.{◌≡◌, ℕ, Bool, true, false, cond, List, [], ◌∷◌, ◌++◌, length, refl}
+use Rattle.std.proofs.Common.{sym, ap, ◌∙◌, append_assoc, arith, take, drop, Option, Some, None}
+use Rattle.std.proofs.Common.{Result, Ok, Err, subst, zero, suc, ◌+◌, ◌<◌, ◌≤◌, ◌⊎◌, inl, inr, eqb}
 use Rattle.std.specs.Prelude.{filter}
-use Rattle.std.specs.List.{flat_map, AllByRecursion}
-use Rattle.std.proofs.lemmas.Bool.{eq-eqb, ne_eqb, le-ltb, lt-ltb, cases_Bool}
-use Rattle.std.proofs.lemmas.List.{take_at, drop_at, append-nil}
+use Rattle.std.specs.List.{AllByRecursion, flat_map}
+use Rattle.std.proofs.lemmas.List.{append-nil, take-append-drop, length-take-le}
+use Rattle.std.proofs.lemmas.Bool.{cases_lt, eq-eqb, ne_eqb, cases_Bool}
 use Rattle.stl_file.specs.declared.fault.StlFault.{StlFault}
-use Rattle.stl_file.specs.declared.fault.StlFault.TheVariants as fault
 use Rattle.stl_file.specs.declared.step.Begun.{Begun}
 use Rattle.stl_file.specs.declared.step.Step.{Step}
-use Rattle.stl_file.specs.declared.step.Step.TheVariants.{More}
-use Rattle.stl_file.specs.Tti.{sgn, sn, ebn, text_of, is_passed, is_kept, most_blocks}
+use Rattle.stl_file.specs.declared.step.Step.TheVariants.{More, Give}
+use Rattle.stl_file.specs.Tti.{is_kept, most_blocks, sgn, sn, ebn, text_of, is_passed}
+use Rattle.stl_file.specs.SubtitleBlocks.{IsBlock, joined, AreLinked, Begins, AreBlocksOf}
+use Rattle.stl_file.specs.SubtitleBlocks.{AreBlocksOfEach, IsRest}
 use Rattle.stl_file.specs.Subtitle.{SubtitleValue}
-use Rattle.stl_file.specs.SubtitleBlocks.{AreLinked, Begins, IsBlock, AreBlocksOfEach, joined}
-use Rattle.stl_file.specs.Reading.{closed, kept_at, step_at, Outcome, ends, fails}
-use Rattle.stl_file.specs.Reading.{outcome_after, outcome_at}
-use Rattle.stl_file.specs.NormalForm.{Judged, subtitles_of}
-use Rattle.stl_file.proofs.Steps.{first_complete, step_kept, step_passed, chain_head, cons_is}
-use Rattle.stl_file.proofs.Steps.{filter_passed, filter_kept}
-
--- ---- the function by cases
-
--- what no bytes give
-abbrev pub outcome_nil : ℕ → Option Begun → Outcome
-outcome_nil room None = ends
-outcome_nil room (Some begun) = fails fault.Unfinished (most_blocks - room)
-
--- no byte is left
-pub outcome_end : (room : ℕ) (begun : Option Begun)
-    → outcome_at room begun [] ≡ outcome_nil room begun
-unfolding outcome_at
-outcome_end zero None = refl
-outcome_end zero (Some g) = refl
-outcome_end (suc room) None = refl
-outcome_end (suc room) (Some g) = refl
-
--- one block too many
-pub outcome_full : (begun : Option Begun) (b : List ℕ)
-    → 0 < length b
-    → outcome_at 0 begun b ≡ fails fault.TooManyBlocks (most_blocks + 1)
-unfolding outcome_at
-outcome_full begun [] h = absurd (omega arith)
-outcome_full None (x ∷ b) h = refl
-outcome_full (Some g) (x ∷ b) h = refl
-
--- a block that is cut
-pub outcome_short : (room : ℕ) (begun : Option Begun) (b : List ℕ)
-    → 0 < length b
-    → length b < 128
-    → outcome_at (suc room) begun b ≡ fails fault.Truncated (most_blocks - room)
-unfolding outcome_at
-outcome_short room begun [] h lt = absurd (omega arith)
-outcome_short room None (x ∷ b) h lt = rw (lt-ltb (length (x ∷ b)) 128 lt) refl
-outcome_short room (Some g) (x ∷ b) h lt = rw (lt-ltb (length (x ∷ b)) 128 lt) refl
-
--- a whole block
-pub outcome_step : (room : ℕ) (begun : Option Begun) (b : List ℕ)
-    → 128 ≤ length b
-    → outcome_at (suc room) begun b
-    ≡ outcome_after room (λ next. outcome_at room next (drop 128 b))
-    (step_at begun (take 128 b))
-unfolding outcome_at
-outcome_step room begun [] le = absurd (omega arith)
-outcome_step room None (x ∷ b) le = rw (le-ltb (length (x ∷ b)) 128 le) refl
-outcome_step room (Some g) (x ∷ b) le = rw (le-ltb (length (x ∷ b)) 128 le) refl
-
--- a block in front of other bytes
-pub outcome_block : (room : ℕ) (begun : Option Begun) (b rest : List ℕ) (r : Result Step StlFault)
-    → length b ≡ 128
-    → step_at begun b ≡ r
-    → outcome_at (suc room) begun (b ++ rest)
-    ≡ outcome_after room (λ next. outcome_at room next rest) r
-outcome_block room begun b rest r size e =
-    let front : take 128 (b ++ rest) ≡ b = take_at b rest 128 size in
-    let back : drop 128 (b ++ rest) ≡ rest = drop_at b rest 128 size in
-    outcome_step room begun (b ++ rest) (omega (arith, length-append b rest))
-    ∙ rw (front, back, e) refl
+use Rattle.stl_file.specs.NormalForm.{Judged, subtitles_of, cons_all}
+use Rattle.stl_file.specs.Reading.{outcome_after, outcome_at, step_at, closed, kept_at}
+use Rattle.stl_file.proofs.SubtitleBlocksLemmas.{chain_head, cons_is, filter_passed, filter_kept}
+use Rattle.stl_file.proofs.StepLemmas.{first_complete, step_kept, step_passed, Represents}
+use Rattle.stl_file.proofs.StepLemmas.{step_sound}
+use Rattle.stl_file.proofs.OutcomeLemmas.{outcome_full, outcome_step, outcome_end, outcome_nil}
+use Rattle.stl_file.proofs.OutcomeLemmas.{outcome_short, outcome_block}
 
 -- ---- completeness: the blocks of a file give its subtitles
 
@@ -371,3 +313,162 @@ outcome_complete (b ∷ bs) begun (suc room) out h le g =
                 one ∙ rw no (outcome_complete bs o room out h.1 (omega arith) more.1)
           ]
     ]
+
+-- ---- soundness: bytes that give subtitles are the blocks of them
+
+-- lists of blocks, joined
+abbrev groups_of : List (List (List ℕ)) → List (List ℕ)
+groups_of gs = flat_map (λ (g : List (List ℕ)). g) gs
+
+-- the blocks that were read, where some of a subtitle were read before
+pub record Reads (room : ℕ) (before : List (List ℕ)) (b : List ℕ) (ss : List SubtitleValue) : Type 0
+  where
+    pub blocks : List (List ℕ)
+    pub each : AllByRecursion IsBlock blocks
+    pub few : length blocks ≤ room
+    pub bytes : b ≡ joined blocks
+    pub groups : List (List (List ℕ))
+    pub kept : before ++ filter is_kept blocks ≡ groups_of groups
+    pub are_groups : AreBlocksOfEach ss groups
+
+-- one block in front, kept or not
+split_filter : (t : Bool) (x : List ℕ) (a : List (List ℕ))
+    → cond t (x ∷ a) a ≡ cond t (x ∷ []) [] ++ a
+split_filter true x a = refl
+split_filter false x a = refl
+
+-- no subtitle was given
+nil_is : (ss : List SubtitleValue) → ◌≡◌ {A = Judged} (Ok []) (Ok ss) → ss ≡ []
+nil_is ss e = cc
+
+-- one block in front
+reads_more : (room : ℕ) (before : List (List ℕ)) (b : List ℕ) (ss : List SubtitleValue)
+    → 128 ≤ length b
+    → Reads room (before ++ cond (is_kept (take 128 b)) (take 128 b ∷ []) []) (drop 128 b) ss
+    → Reads (suc room) before b ss
+reads_more room before b ss le r =
+    let block = take 128 b in
+    record {
+      blocks = block ∷ r.blocks;
+      each = (length-take-le 128 b le, r.each);
+      few = let f = r.few in omega arith;
+      bytes = sym (take-append-drop 128 b) ∙ ap (λ (x : List ℕ). block ++ x) r.bytes;
+      groups = r.groups;
+      kept = ap (λ (x : List (List ℕ)). before ++ x)
+          (split_filter (is_kept block) block (filter is_kept r.blocks))
+          ∙ sym (append_assoc before (cond (is_kept block) (block ∷ []) [])
+          (filter is_kept r.blocks)) ∙ r.kept;
+      are_groups = r.are_groups;
+    }
+
+-- a block that ends a subtitle
+reads_group : (room : ℕ) (before : List (List ℕ)) (b : List ℕ) (s : SubtitleValue)
+    (ss : List SubtitleValue)
+    → 128 ≤ length b
+    → AreBlocksOf s (before ++ cond (is_kept (take 128 b)) (take 128 b ∷ []) [])
+    → Reads room [] (drop 128 b) ss
+    → Reads (suc room) before b (s ∷ ss)
+reads_group room before b s ss le g r =
+    let block = take 128 b in
+    let own = before ++ cond (is_kept block) (block ∷ []) [] in
+    record {
+      blocks = block ∷ r.blocks;
+      each = (length-take-le 128 b le, r.each);
+      few = let f = r.few in omega arith;
+      bytes = sym (take-append-drop 128 b) ∙ ap (λ (x : List ℕ). block ++ x) r.bytes;
+      groups = own ∷ r.groups;
+      kept = ap (λ (x : List (List ℕ)). before ++ x)
+          (split_filter (is_kept block) block (filter is_kept r.blocks))
+          ∙ sym (append_assoc before (cond (is_kept block) (block ∷ []) [])
+          (filter is_kept r.blocks)) ∙ ap (λ (x : List (List ℕ)). own ++ x) r.kept;
+      are_groups = (g, r.are_groups);
+    }
+
+-- all subtitles, without a fault
+abbrev pub fine : List SubtitleValue → Judged
+fine ss = Ok ss
+
+-- a list with a first subtitle
+cons_ok : (s : SubtitleValue) (j : Judged) (ss : List SubtitleValue)
+    → cons_all s j ≡ fine ss
+    → (rest : List SubtitleValue) × (j ≡ fine rest) × (ss ≡ s ∷ rest)
+cons_ok s (Ok rest) ss e = (rest, refl, cc)
+cons_ok s (Err f) ss e = absurd cc
+
+-- a whole block or less
+long_or_short : (n : ℕ) → (n < 128) ⊎ (128 ≤ n)
+long_or_short n = cases_lt n 128
+
+-- one block that was read, and what follows
+mutual_step : (room : ℕ) (begun : Option Begun) (before : List (List ℕ)) (b : List ℕ)
+    (ss : List SubtitleValue) (r : Result Step StlFault)
+    → 128 ≤ length b
+    → Represents begun before
+    → step_at begun (take 128 b) ≡ r
+    → ((g : Option Begun) (k : List (List ℕ)) (ts : List SubtitleValue) → Represents g k
+    → subtitles_of (outcome_at room g (drop 128 b)) ≡ fine ts → Reads room k (drop 128 b) ts)
+    → subtitles_of (outcome_after room (λ next. outcome_at room next (drop 128 b)) r) ≡ fine ss
+    → Reads (suc room) before b ss
+mutual_step room begun before b ss (Err f) le rep e go all = absurd cc
+mutual_step room begun before b ss (Ok (More next)) le rep e go all =
+    let s = step_sound begun before (take 128 b) (More next) (length-take-le 128 b le) rep e in
+    reads_more room before b ss le
+    (go next (before ++ cond (is_kept (take 128 b)) (take 128 b ∷ []) []) ss s.reaches all)
+mutual_step room begun before b ss (Ok (Give s)) le rep e go all =
+    let t = step_sound begun before (take 128 b) (Give s) (length-take-le 128 b le) rep e in
+    let c = cons_ok s (subtitles_of (outcome_at room None (drop 128 b))) ss all in
+    subst (λ (x : List SubtitleValue). Reads (suc room) before b x) (sym c.2)
+    (reads_group room before b s c.0 le t.reaches (go None [] c.0 refl c.1))
+
+-- bytes that give subtitles and no fault are blocks of them
+pub outcome_sound : (room : ℕ) (begun : Option Begun) (before : List (List ℕ)) (b : List ℕ)
+    (ss : List SubtitleValue)
+    → Represents begun before
+    → subtitles_of (outcome_at room begun b) ≡ fine ss
+    → Reads room before b ss
+outcome_sound room None before [] ss rep e =
+    let n : ss ≡ [] = nil_is ss (sym (ap subtitles_of (outcome_end room None)) ∙ e) in
+    record {
+      blocks = [];
+      each = tt;
+      few = omega arith;
+      bytes = refl;
+      groups = [];
+      kept =
+          append-nil before ∙ rep;
+      are_groups = rw n tt;
+    }
+outcome_sound room (Some o) before [] ss rep e =
+    let no : subtitles_of (outcome_nil room (Some o)) ≡ fine ss =
+    sym (ap subtitles_of (outcome_end room (Some o))) ∙ e in
+    absurd cc
+outcome_sound zero begun before (x ∷ b) ss rep e =
+    let no = sym (ap subtitles_of (outcome_full begun (x ∷ b) (omega arith))) ∙ e in
+    absurd cc
+outcome_sound (suc room) begun before (x ∷ b) ss rep e =
+    elim (long_or_short (length (x ∷ b))) [
+      | inl lt ↦
+          let no = sym (ap subtitles_of (outcome_short room begun (x ∷ b) (omega arith) lt)) ∙ e in
+          absurd cc
+      | inr le ↦
+          mutual_step room begun before (x ∷ b) ss (step_at begun (take 128 (x ∷ b))) le rep refl
+          (λ g k ts. outcome_sound room g k (drop 128 (x ∷ b)) ts)
+          (sym (ap subtitles_of (outcome_step room begun (x ∷ b) le)) ∙ e)
+    ]
+
+-- the same from the first block of a file on
+pub rest_of : (b : List ℕ) (ss : List SubtitleValue)
+    → Reads most_blocks [] b ss
+    → (bs : List (List ℕ)) × (b ≡ joined bs) × IsRest most_blocks bs ss
+rest_of b ss r = (
+  r.blocks,
+  r.bytes,
+  record {
+    each = r.each;
+    few = r.few;
+    parts = r.groups;
+    kept =
+        r.kept;
+    are_of = r.are_groups;
+  },
+)

@@ -1,75 +1,59 @@
--- The GSI block, and a reader after it; main lemmas: gsi_sound, gsi_complete, open_whole.
-use Rattle.std.proofs.Common.{◌≡◌, ℕ, ◌+◌, ◌<◌, ◌≤◌, Bool, true, false, cond, not, eqb, List, ◌++◌}
-use Rattle.std.proofs.Common.{length, take, drop, Option, Some, Result, Ok, Err, refl, sym, ap, ◌∙◌}
-use Rattle.std.proofs.Common.{arith, length-append, length-take, inl, inr, ◌⊎◌, bytes_eq}
-use Rattle.std.specs.Prelude.{◌&&◌}
-use Rattle.std.proofs.lemmas.Bool.{eqb-true, le-ltb, lt-ltb}
-use Rattle.std.proofs.lemmas.List.{take_all, take_at, drop_at}
-use Rattle.std.proofs.lemmas.Slice.Eq.{bytes_eq-Decides}
+-- `opened_at`, and that no file begins with what `open` refuses; main lemmas: opened_sound,
+-- open_whole, bad_opening.
+use Rattle.std.proofs.Common.{◌≡◌, ℕ, Bool, true, false, cond, List, ◌++◌, length, refl, sym, ap}
+use Rattle.std.proofs.Common.{◌∙◌, arith, length-append, take, drop, Option, Some, Result, Ok, Err}
+use Rattle.std.proofs.Common.{◌+◌, ◌<◌, ◌≤◌, ltb, length-take}
+use Rattle.std.specs.Io.KnownBytes.{Consumes}
+use Rattle.std.proofs.lemmas.List.{take_all, length-take-le, take_at, drop_at}
+use Rattle.std.proofs.lemmas.Bool.{le-ltb, ltb-false, lt-ltb}
 use Rattle.sub_io.specs.Device.{Told}
 use Rattle.stl_file.specs.declared.fault.StlFault.{StlFault}
 use Rattle.stl_file.specs.declared.fault.StlFault.TheVariants as fault
-use Rattle.stl_file.specs.Gsi.{IsGsi, gsi_at, dfc, dsc, cct, stl_25, stl_30, level_1, level_2}
-use Rattle.stl_file.specs.Gsi.{latin}
-use Rattle.stl_file.specs.Subtitle.{SubtitleValue}
+use Rattle.stl_file.specs.declared.progress.Progress.TheVariants.{Reading}
 use Rattle.stl_file.specs.SubtitleBlocks.{joined}
-use Rattle.stl_file.specs.Reader.{ReaderValue, opened, opened_at, RefusesOpening}
+use Rattle.stl_file.specs.Reader.{ReaderValue, opened_at, opened, RefusesOpening}
+use Rattle.stl_file.specs.Gsi.{gsi_at, IsGsi}
+use Rattle.stl_file.specs.Subtitle.{SubtitleValue}
 use Rattle.stl_file.specs.File.{IsFile}
-use Rattle.std.specs.Io.KnownBytes.{Consumes}
-use Rattle.sub_io.proofs.ReadingLemmas.{test_held, test_failed, Ok-injective}
+use Rattle.stl_file.proofs.GsiLemmas.{gsi_sound, gsi_complete}
 
--- one of two tests holds
-either : (a b : Bool) → (not a && not b) ≡ false → (a ≡ true) ⊎ (b ≡ true)
-either true b e = inl refl
-either false true e = inr refl
-either false false e = absurd cc
+-- a reader without a fault
+abbrev pub good : ReaderValue → Result ReaderValue StlFault
+good r = Ok r
 
--- where one does not, the other does
-either_not : (a b : Bool) → (not a && not b) ≡ false → b ≡ false → a ≡ true
-either_not true b e f = refl
-either_not false true e f = absurd cc
-either_not false false e f = absurd cc
+-- a reader that was opened has a GSI block
+opened_ok : (g : Result (List ℕ) StlFault) (r : ReaderValue)
+    → opened g ≡ good r
+    → (h : List ℕ) × (g ≡ Ok h) × (r ≡ record { gsi = h; block = 0; progress = Reading })
+opened_ok (Ok h) r e = (h, refl, cc)
+opened_ok (Err f) r e = absurd cc
 
--- bytes that compare as equal are
-same_bytes : (xs ys : List ℕ) → bytes_eq xs ys ≡ true → xs ≡ ys
-same_bytes xs ys e = (bytes_eq-Decides xs ys).0 e
+-- it had enough bytes
+open_if : (t : Bool) (g : Result (List ℕ) StlFault) (r : ReaderValue)
+    → cond t (Err fault.Truncated) (opened g) ≡ good r
+    → (t ≡ false) × (opened g ≡ good r)
+open_if true g r e = absurd cc
+open_if false g r e = (refl, e)
 
--- a GSI block without a fault is taken, as it is
-pub gsi_sound : (g h : List ℕ) → length g ≡ 1024 → gsi_at g ≡ Ok h → (h ≡ g) × IsGsi g
-unfolding gsi_at
-gsi_sound g h size e =
-    let r3 : Result (List ℕ) StlFault =
-    cond (not (bytes_eq (cct g) latin)) (Err fault.Alphabet) (Ok g) in
-    let r2 : Result (List ℕ) StlFault =
-    cond (not (eqb (dsc g) level_1) && not (eqb (dsc g) level_2)) (Err fault.Display) r3 in
-    let r1 : Result (List ℕ) StlFault = cond (bytes_eq (dfc g) stl_30) (Err fault.Rate) r2 in
-    let g0 = test_failed (not (bytes_eq (dfc g) stl_25) && not (bytes_eq (dfc g) stl_30))
-    fault.Format r1 h e in
-    let g1 = test_failed (bytes_eq (dfc g) stl_30) fault.Rate r2 h g0.1 in
-    let g2 = test_failed (not (eqb (dsc g) level_1) && not (eqb (dsc g) level_2)) fault.Display r3 h
-    g1.1 in
-    let g3 = test_held (bytes_eq (cct g) latin) fault.Alphabet (Ok g) h g2.1 in (
-      sym (Ok-injective g h g3.1),
-      record {
-        size = size;
-        format = same_bytes _ _ (either_not _ _ g0.0 g1.0);
-        display = elim (either _ _ g2.0) [
-          | inl a ↦ inl (eqb-true _ _ a)
-          | inr b ↦
-              inr (eqb-true _ _ b)
-        ];
-        alphabet = same_bytes _ _ g3.0;
-      },
-    )
+-- a file that was opened begins with a GSI block that is taken
+pub opened_sound : (s : List ℕ) (r : ReaderValue)
+    → opened_at s ≡ good r
+    → (1024 ≤ length s) × IsGsi (take 1024 s)
+    × (r ≡ record { gsi = take 1024 s; block = 0; progress = Reading })
+unfolding opened_at
+opened_sound s r e =
+    let t = open_if (ltb (length s) 1024) (gsi_at (take 1024 s)) r e in
+    let le : 1024 ≤ length s = ltb-false _ _ t.0 in
+    let o = opened_ok (gsi_at (take 1024 s)) r t.1 in
+    let g = gsi_sound (take 1024 s) o.0 (length-take-le 1024 s le) o.1 in
+    (le, g.1, o.2 ∙ ap (λ (x : List ℕ). record { gsi = x; block = 0; progress = Reading }) g.0)
 
--- a block that is taken is read as itself
-pub gsi_complete : (g : List ℕ) → IsGsi g → gsi_at g ≡ Ok g
-unfolding gsi_at
-gsi_complete g h =
-    elim h.display [
-      | inl one ↦ rw (h.format, h.alphabet, one) refl
-      | inr two ↦ rw (h.format, h.alphabet, two) refl
-    ]
+-- a GSI block that is whole
+pub opened-whole : (s : List ℕ)
+    → 1024 ≤ length s
+    → opened_at s ≡ opened (gsi_at (take 1024 s))
+unfolding opened_at
+opened-whole s le = rw (le-ltb (length s) 1024 le) refl
 
 -- a file begins with its GSI block
 pub file_gsi : (s g : List ℕ) (ts : List SubtitleValue) → IsFile s g ts → take 1024 s ≡ g

@@ -1,63 +1,29 @@
--- Blocks that are read without a fault are the blocks of subtitles; main lemma: step_sound.
-use Rattle.std.proofs.Common.{◌≡◌, ℕ, ◌+◌, ◌<◌, ◌≤◌, Bool, true, false, cond, not, eqb, leb, ltb}
-use Rattle.std.proofs.Common.{List, [], ◌∷◌, ◌++◌, length, get_or, Option, Some, None, Result, Ok}
-use Rattle.std.proofs.Common.{Err, refl, sym, ap, subst, ◌∙◌, append_assoc, arith, length-append}
-use Rattle.std.proofs.Common.{inl, inr, ◌⊎◌}
+-- `step_at`: the blocks that are read without a fault are those of subtitles; main lemmas:
+-- step_sound, first_complete, step_kept, step_passed.
+use Rattle.std.proofs.Common.{◌≡◌, ℕ, Bool, true, false, cond, List, [], ◌∷◌, ◌++◌, length, refl}
+use Rattle.std.proofs.Common.{sym, ap, ◌∙◌, append_assoc, arith, length-append, Option, Some, None}
+use Rattle.std.proofs.Common.{Result, Ok, Err, subst, ◌+◌, ◌<◌, ◌≤◌, ◌⊎◌, inl, inr, not, eqb, leb}
+use Rattle.std.proofs.Common.{ltb}
 use Rattle.std.specs.Prelude.{◌&&◌, ◌||◌}
-use Rattle.std.specs.List.{flat_map, AllByRecursion}
-use Rattle.std.proofs.lemmas.Bool.{eqb-true, eq-eqb, ne_eqb, ltb-true, ltb-false, leb-true, le-leb}
-use Rattle.std.proofs.lemmas.Bool.{lt-ltb, eqb-false, cases_lt, and_parts}
+use Rattle.std.specs.List.{AllByRecursion, flat_map}
 use Rattle.std.proofs.lemmas.List.{append-nil}
+use Rattle.std.proofs.lemmas.Bool.{cases_lt, le-ltb, eqb-true, eq-eqb, ne_eqb, ltb-true, ltb-false}
+use Rattle.std.proofs.lemmas.Bool.{leb-true, le-leb, lt-ltb, eqb-false, and_parts, lt-leb, or_cases}
+use Rattle.sub_io.specs.Reading.{◌>>=◌}
+use Rattle.sub_io.proofs.ReadingLemmas.{test_held, test_failed, step_gave, Ok-injective, given_as}
 use Rattle.stl_file.specs.declared.fault.StlFault.{StlFault}
-use Rattle.stl_file.specs.declared.fault.StlFault.TheVariants as fault
 use Rattle.stl_file.specs.declared.step.Begun.{Begun}
 use Rattle.stl_file.specs.declared.step.Step.{Step}
 use Rattle.stl_file.specs.declared.step.Step.TheVariants.{More, Give}
-use Rattle.stl_file.specs.TimeCode.{frame_of, is_time_code}
-use Rattle.sub_io.specs.Reading.{◌>>=◌}
-use Rattle.stl_file.specs.Tti.{sgn, sn, ebn, cs, vp, jc, cf, text_of, is_passed, is_kept}
-use Rattle.stl_file.specs.Subtitle.{SubtitleValue}
+use Rattle.stl_file.specs.declared.fault.StlFault.TheVariants as fault
+use Rattle.stl_file.specs.Tti.{is_kept, sgn, sn, ebn, cs, vp, jc, cf, text_of, is_passed}
 use Rattle.stl_file.specs.SubtitleBlocks.{IsTimeAt, BelongsTo, AreLinked, Begins, AreBlocksOf}
-use Rattle.stl_file.specs.Reading.{closed, time_at, first_at, kept_at, step_at}
-use Rattle.sub_io.proofs.ReadingLemmas.{test_held, test_failed, step_gave, Ok-injective}
-
--- ---- tests
-
--- a test that let a value through
-through : {A : Type 0} (b : Bool) (d : StlFault) (x y : A)
-    → cond b (Ok x) (Err d) ≡ Ok y
-    → (b ≡ true) × (x ≡ y)
-through true d x y e = (refl, cc)
-through false d x y e = absurd cc
+use Rattle.stl_file.specs.Subtitle.{SubtitleValue}
+use Rattle.stl_file.specs.Reading.{step_at, closed, time_at, first_at, kept_at}
+use Rattle.stl_file.proofs.TimeCodeLemmas.{through, time_sound, time_complete}
+use Rattle.stl_file.proofs.SubtitleBlocksLemmas.{kept_by_both, passed_by_ebn, passed_by_comment}
 
 -- ---- a first block
-
--- a time code that was read stands there
-time_sound : (b : List ℕ) (place frame : ℕ) → time_at b place ≡ Ok frame → IsTimeAt b place frame
-unfolding time_at
-time_sound b place frame e =
-    let t =
-    through (is_time_code (get_or b place 0) (get_or b (place + 1) 0) (get_or b (place + 2) 0)
-    (get_or b (place + 3) 0)) fault.Time
-    (frame_of (get_or b place 0) (get_or b (place + 1) 0) (get_or b (place + 2) 0)
-    (get_or b (place + 3) 0)) frame e in
-    record { in_range = t.0; is = sym t.1 }
-
--- the frame of a time code is one of the day
-in_day : (h m s f : ℕ) → is_time_code h m s f ≡ true → frame_of h m s f < 2160000
-in_day h m s f e =
-    let c = and_parts (ltb h 24 && ltb m 60 && ltb s 60) (ltb f 25) e in
-    let d = and_parts (ltb h 24 && ltb m 60) (ltb s 60) c.0 in
-    let k = and_parts (ltb h 24) (ltb m 60) d.0 in
-    let hl : h < 24 = ltb-true h 24 k.0 in
-    let ml : m < 60 = ltb-true m 60 k.1 in
-    let sl : s < 60 = ltb-true s 60 d.1 in
-    let fl : f < 25 = ltb-true f 25 c.1 in
-    omega arith
-
--- the same of a time code in a block
-pub day_of : (b : List ℕ) (place frame : ℕ) → IsTimeAt b place frame → frame < 2160000
-day_of b place frame t = rw t.is (in_day _ _ _ _ t.in_range)
 
 -- the subtitle that a first block makes
 abbrev made : List ℕ → ℕ → ℕ → SubtitleValue
@@ -120,6 +86,34 @@ first_sound b s e =
           (leb-true _ _ v.1) (time_sound b 5 p.0 p.1) (time_sound b 9 q.0 q.1) (ltb-true _ _ t.0),
       refl,
     )
+
+-- a subtitle with the fields of another
+value_is : (s : SubtitleValue) (a b c d : ℕ) (t : List ℕ)
+    → a ≡ s.sgn
+    → b ≡ s.sn
+    → c ≡ s.vp
+    → d ≡ s.jc
+    → ◌≡◌ {A = SubtitleValue}
+    (record { sgn = a; sn = b; tci = s.tci; tco = s.tco; vp = c; jc = d; text = t })
+    (record s { text = t })
+value_is s a b c d t e f g h = rw (e, f, g, h) refl
+
+-- a block that begins a subtitle is read as its first
+pub first_complete : (b : List ℕ) (s : SubtitleValue)
+    → Begins s b
+    → first_at b ≡ Ok (record s { text = text_of b })
+unfolding first_at
+first_complete b s h =
+    let low : ltb 3 (jc b) ≡ false =
+    le-ltb _ _ (let j = h.jc_range in let k = h.jc_is in omega arith) in
+    let v1 : leb 1 (vp b) ≡ true =
+    le-leb _ _ (let j = h.vp_range.0 in let k = h.vp_is in omega arith) in
+    let v2 : leb (vp b) 23 ≡ true =
+    le-leb _ _ (let j = h.vp_range.1 in let k = h.vp_is in omega arith) in
+    let lt : ltb s.tci s.tco ≡ true = lt-ltb _ _ h.times in
+    rw (h.cumulative, low, v1, v2, time_complete b 5 s.tci h.tci, time_complete b 9 s.tco h.tco, lt)
+    (ap (given_as StlFault)
+    (value_is s (sgn b) (sn b) (vp b) (jc b) (text_of b) h.sgn_is h.sn_is h.vp_is h.jc_is))
 
 -- ---- subtitles that are not whole
 
@@ -299,6 +293,8 @@ kept_sound (Some o) kept b r size none e h k =
     subst (λ (x : Step). Reaches (kept ++ b ∷ []) x) (Ok-injective to r m.1)
     (next_reaches o kept b size none e h.0 h.1 room (eqb-true _ _ both.0) (eqb-true _ _ both.1))
 
+-- ---- any block
+
 -- what one block does to the blocks that are kept
 pub record Steps (kept : List (List ℕ)) (b : List ℕ) (begun : Option Begun) (r : Step) : Type 0
   where
@@ -320,30 +316,6 @@ kept_steps : (kept : List (List ℕ)) (b : List ℕ) (begun : Option Begun) (r :
     → Reaches (kept ++ b ∷ []) r
     → Steps kept b begun r
 kept_steps kept b begun r p h = record { reaches = rw p h; gives = λ s _. rw p refl }
-
--- user data is passed over
-passed_by_ebn : (b : List ℕ) → ebn b ≡ 254 → is_passed b ≡ true
-passed_by_ebn b e = rw e refl
-
--- the EBN of a block that is no user data, as a test
-or_passed : (b : List ℕ)
-    → (ebn b < 240) ⊎ (ebn b ≡ 255)
-    → (ltb (ebn b) 240 || eqb (ebn b) 255) ≡ true
-or_passed b (inl lt) = rw (lt-ltb _ _ lt) refl
-or_passed b (inr e) = rw e refl
-
--- such an EBN is not that of user data
-not_254 : (b : List ℕ) → (ebn b < 240) ⊎ (ebn b ≡ 255) → eqb (ebn b) 254 ≡ false
-not_254 b (inl lt) = ne_eqb _ _ (λ e. omega arith)
-not_254 b (inr e) = rw e refl
-
--- a comment is passed over
-passed_by_comment : (b : List ℕ) → (ebn b < 240) ⊎ (ebn b ≡ 255) → cf b ≡ 1 → is_passed b ≡ true
-passed_by_comment b e c = let o = or_passed b e in let n = not_254 b e in rw (n, o, c) refl
-
--- a block that is neither is kept
-pub kept_by_both : (b : List ℕ) → (ebn b < 240) ⊎ (ebn b ≡ 255) → cf b ≡ 0 → is_passed b ≡ false
-kept_by_both b e c = let o = or_passed b e in let n = not_254 b e in rw (n, o, c) refl
 
 -- an EBN that is no fault and no user data is 00 to EF or FF
 ebn_cases : (b : List ℕ)
@@ -397,4 +369,39 @@ step_sound begun kept b r size h e =
                 kept_steps kept b begun r (kept_by_both b which none)
                 (kept_sound begun kept b r size none which h own.1)
           ]
+    ]
+
+-- the EBN of a subtitle is not reserved
+not_extension : (n : ℕ) → (n < 240) ⊎ (n ≡ 255) → (leb 240 n && not (eqb n 255)) ≡ false
+not_extension n (inl lt) = let no : leb 240 n ≡ false = lt-leb 240 n lt in rw no refl
+not_extension n (inr e) = rw e refl
+
+-- and is not that of user data
+not_user : (n : ℕ) → (n < 240) ⊎ (n ≡ 255) → eqb n 254 ≡ false
+not_user n (inl lt) = ne_eqb _ _ (λ e. omega arith)
+not_user n (inr e) = rw e refl
+
+-- a block of a subtitle is kept
+pub step_kept : (begun : Option Begun) (b : List ℕ)
+    → (ebn b < 240) ⊎ (ebn b ≡ 255)
+    → cf b ≡ 0
+    → step_at begun b ≡ kept_at begun b
+unfolding step_at
+step_kept begun b e c = rw (not_user (ebn b) e, not_extension (ebn b) e, c) refl
+
+-- a comment or user data is passed over
+pub step_passed : (begun : Option Begun) (b : List ℕ)
+    → is_passed b ≡ true
+    → step_at begun b ≡ Ok (More begun)
+unfolding step_at
+step_passed begun b p =
+    elim (or_cases (eqb (ebn b) 254) ((ltb (ebn b) 240 || eqb (ebn b) 255) && eqb (cf b) 1) p) [
+      | inl user ↦ rw user refl
+      | inr comment ↦
+          let both = and_parts (ltb (ebn b) 240 || eqb (ebn b) 255) (eqb (cf b) 1) comment in
+          let one : cf b ≡ 1 = eqb-true _ _ both.1 in
+          let which : (ebn b < 240) ⊎ (ebn b ≡ 255) =
+          elim (or_cases (ltb (ebn b) 240) (eqb (ebn b) 255) both.0)
+          [ inl lt ↦ inl (ltb-true _ _ lt) | inr e ↦ inr (eqb-true _ _ e) ] in
+          rw (not_user (ebn b) which, not_extension (ebn b) which, one) refl
     ]

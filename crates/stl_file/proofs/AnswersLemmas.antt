@@ -1,12 +1,11 @@
--- An answer of a reader, by what was read within the call; main lemma: answers.
-use Rattle.std.proofs.Common.{◌≡◌, ℕ, List, Option, Some, None, Result, Ok, Err, refl, sym, ap, ◌∙◌}
+-- `Answers`: an answer of a reader, by what was read within the call; main lemma: answers.
+use Rattle.std.proofs.Common.{◌≡◌, ℕ, List, refl, sym, ap, ◌∙◌, Option, Some, None, Result, Ok, Err}
 use Rattle.stl_file.specs.declared.fault.StlFault.{StlFault}
 use Rattle.stl_file.specs.declared.progress.Progress.{Progress}
 use Rattle.stl_file.specs.declared.progress.Progress.TheVariants.{Reading}
+use Rattle.stl_file.specs.Reader.{ReaderValue, outcome_left, Leads, Answers, outcome_in}
+use Rattle.stl_file.specs.Reader.{outcome_with, outcome_by, block_by, progress_after}
 use Rattle.stl_file.specs.Subtitle.{SubtitleValue}
-use Rattle.stl_file.specs.Reader.{ReaderValue, Leads, Answers, outcome_left, outcome_in}
-use Rattle.stl_file.specs.Reader.{outcome_with}
-use Rattle.stl_file.specs.Reader.{outcome_by, block_by, progress_after}
 
 -- a reader after an answer
 abbrev pub after : List ℕ → ℕ → Result (Option SubtitleValue) StlFault → ReaderValue

@@ -1,6 +1,10 @@
--- The returns of `normal`; main lemmas: refused_body, prefix_body, whole_written.
-use Rattle.std.proofs.Common.{◌≡◌, ℕ, List, ◌++◌, length, take, drop, Option, Some, None}
-use Rattle.std.proofs.Common.{Result, Ok, Err, refl, sym, ap, subst, ◌∙◌}
+-- The normal form: a file of the same subtitles, and what `normal` answers; main lemmas:
+-- normal_is_file, normal_twice, refused_body, whole_written.
+use Rattle.std.proofs.Common.{◌≡◌, ℕ, false, List, [], ◌∷◌, ◌++◌, length, refl, sym, ap, ◌∙◌, arith}
+use Rattle.std.proofs.Common.{length-append, take, drop, Option, Some, None, Result, Ok, Err, subst}
+use Rattle.std.proofs.Common.{◌≤◌, inl, inr}
+use Rattle.std.specs.Prelude.{filter}
+use Rattle.std.specs.List.{AllByRecursion, flat_map}
 use Rattle.std.specs.Io.KnownBytes.{Appends, Keeps}
 use Rattle.std.proofs.KnownBytes.{Appends-trans}
 use Rattle.sub_io.specs.Device.{AppendsPrefix}
@@ -9,16 +13,131 @@ use Rattle.stl_file.specs.declared.counts.Counts.{Counts}
 use Rattle.stl_file.specs.declared.fault.StlFault.{StlFault}
 use Rattle.stl_file.specs.declared.fault.NormalFault.{NormalFault}
 use Rattle.stl_file.specs.declared.fault.NormalFault.TheVariants.{Refused, Write}
-use Rattle.stl_file.specs.Gsi.{with_counts}
-use Rattle.stl_file.specs.Subtitle.{SubtitleValue}
-use Rattle.stl_file.specs.SubtitleBlocks.{joined}
+use Rattle.stl_file.specs.Tti.{is_kept, most_blocks, is_passed}
+use Rattle.stl_file.specs.SubtitleBlocks.{IsBlock, joined, AreLinked, AreBlocksOfEach, IsRest}
 use Rattle.stl_file.specs.Reader.{ReaderValue, outcome_from, outcome_left, outcome_of}
 use Rattle.stl_file.specs.Reader.{outcome_opened, opened_at}
+use Rattle.stl_file.specs.Gsi.{with_counts}
+use Rattle.stl_file.specs.Subtitle.{SubtitleValue}
 use Rattle.stl_file.specs.File.{IsFile}
 use Rattle.stl_file.specs.NormalForm.{Judged, all_blocks, counted_gsi, normal_form, subtitles_of}
-use Rattle.stl_file.specs.NormalForm.{WritesNormal, WritesPrefix, NormalAnswers}
+use Rattle.stl_file.specs.NormalForm.{WritesNormal, WritesPrefix, NormalAnswers, blocks_of}
 use Rattle.stl_file.specs.NormalCounts.{counted, given}
-use Rattle.stl_file.proofs.Sound.{good, opened_sound, body_sound}
+use Rattle.stl_file.proofs.SubtitleBlocksLemmas.{kept_by_both, kept_few}
+use Rattle.stl_file.proofs.GsiLemmas.{counted_is_gsi, counts_twice}
+use Rattle.stl_file.proofs.OpeningLemmas.{good, opened_sound}
+use Rattle.stl_file.proofs.FileLemmas.{body_sound, one_file}
+use Rattle.stl_file.proofs.BlocksOfLemmas.{blocks_again}
+
+-- ---- blocks of subtitles
+
+-- each of the blocks is kept
+abbrev AllKept : List (List ℕ) → Type 0
+AllKept bs = AllByRecursion (λ (b : List ℕ). (length b ≡ 128) × (is_passed b ≡ false)) bs
+
+-- linked blocks are no comments and no user data
+chain_kept : (sgn_is sn_is : ℕ) (g : List (List ℕ)) → AreLinked sgn_is sn_is g → AllKept g
+chain_kept sgn_is sn_is [] c = absurd c
+chain_kept sgn_is sn_is (b ∷ []) c = ((c.0.size, kept_by_both b (inr c.1) c.0.is_subtitle), tt)
+chain_kept sgn_is sn_is (b ∷ x ∷ g) c =
+    ((c.0.size, kept_by_both b (inl c.1) c.0.is_subtitle), chain_kept sgn_is sn_is (x ∷ g) c.2)
+
+-- kept blocks, one after the other
+kept_append : (xs ys : List (List ℕ)) → AllKept xs → AllKept ys → AllKept (xs ++ ys)
+kept_append [] ys h k = k
+kept_append (x ∷ xs) ys h k = (h.0, kept_append xs ys h.1 k)
+
+-- kept blocks have 128 bytes each
+kept_each : (bs : List (List ℕ)) → AllKept bs → AllByRecursion IsBlock bs
+kept_each [] h = tt
+kept_each (b ∷ bs) h = (h.0.0, kept_each bs h.1)
+
+-- nothing is passed over among them
+kept_all : (bs : List (List ℕ)) → AllKept bs → filter is_kept bs ≡ bs
+kept_all [] h = refl
+kept_all (b ∷ bs) h = rw h.0.1 (ap (λ (x : List (List ℕ)). b ∷ x) (kept_all bs h.1))
+
+-- the blocks of each subtitle
+abbrev own_groups : List SubtitleValue → List (List (List ℕ))
+own_groups [] = []
+own_groups (s ∷ ss) = blocks_of s ∷ own_groups ss
+
+-- the blocks of all subtitles, subtitle by subtitle
+groups_joined : (ss : List SubtitleValue)
+    → all_blocks ss ≡ flat_map (λ (g : List (List ℕ)). g) (own_groups ss)
+groups_joined [] = refl
+groups_joined (s ∷ ss) = ap (λ (x : List (List ℕ)). blocks_of s ++ x) (groups_joined ss)
+
+-- subtitles that have groups: their own blocks are groups of them, and no more
+record Respelled (ss : List SubtitleValue) (count : ℕ) : Type 0 where
+  groups : AreBlocksOfEach ss (own_groups ss)
+  kept : AllKept (all_blocks ss)
+  few : length (all_blocks ss) ≤ count
+
+-- the subtitles of a file have blocks of their own, and no more than the file has
+respelled : (ss : List SubtitleValue) (gs : List (List (List ℕ)))
+    → AreBlocksOfEach ss gs
+    → Respelled ss (length (flat_map (λ (g : List (List ℕ)). g) gs))
+respelled [] [] h = record { groups = tt; kept = tt; few = omega arith }
+respelled [] (g ∷ gs) h = absurd h
+respelled (s ∷ ss) [] h = absurd h
+respelled (s ∷ ss) (g ∷ gs) h =
+    let one = blocks_again s g h.0 in
+    let rest = respelled ss gs h.1 in
+    let a = one.few in
+    let b = rest.few in
+    let l = length-append (blocks_of s) (all_blocks ss) in
+    let m = length-append g (flat_map (λ (x : List (List ℕ)). x) gs) in
+    record {
+      groups = (one.are_of, rest.groups);
+      kept = kept_append (blocks_of s) (all_blocks ss)
+          (chain_kept s.sgn s.sn (blocks_of s) one.are_of.linked) rest.kept;
+      few = omega arith;
+    }
+
+-- the blocks that are made for the subtitles of a file are those of a file
+own_rest : (bs : List (List ℕ)) (ts : List SubtitleValue)
+    → IsRest most_blocks bs ts
+    → IsRest most_blocks (all_blocks ts) ts
+own_rest bs ts r =
+    let own = respelled ts r.parts r.are_of in
+    let o = own.few in
+    let k = ap length r.kept in
+    let f = kept_few bs in
+    let le = r.few in
+    record {
+      each = kept_each (all_blocks ts) own.kept;
+      few = omega arith;
+      parts = own_groups ts;
+      kept = kept_all (all_blocks ts) own.kept ∙ groups_joined ts;
+      are_of = own.groups;
+    }
+
+-- ---- the laws
+
+-- the normal form of a file is a file of the same subtitles
+pub normal_is_file : (s g : List ℕ) (ts : List SubtitleValue)
+    → IsFile s g ts
+    → IsFile (normal_form g ts) (counted_gsi g ts) ts
+normal_is_file s g ts h = record {
+  gsi = counted_is_gsi (length (all_blocks ts)) (length ts) g h.gsi;
+  blocks = all_blocks ts;
+  bytes = refl;
+  rest = own_rest h.blocks ts h.rest;
+}
+
+-- the normal form of a normal form is itself
+pub normal_twice : (s g h : List ℕ) (ts us : List SubtitleValue)
+    → IsFile s g ts
+    → IsFile (normal_form g ts) h us
+    → normal_form h us ≡ normal_form g ts
+normal_twice s g h ts us a b =
+    let o = one_file (normal_form g ts) h (counted_gsi g ts) us ts b (normal_is_file s g ts a) in
+    ap (λ (x : List ℕ). normal_form x us) o.0 ∙ ap (normal_form (counted_gsi g ts)) o.1
+    ∙ ap (λ (x : List ℕ). x ++ joined (all_blocks ts))
+    (counts_twice (length (all_blocks ts)) (length ts) g a.gsi.size)
+
+-- ---- the returns of `normal`
 
 -- a sink that was not touched keeps its bytes
 keeps_same : (o : Option (List ℕ)) → Keeps o o

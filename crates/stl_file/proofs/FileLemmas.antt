@@ -1,0 +1,131 @@
+-- `IsFile`: a file is what is read, and its first bytes decide that; main lemmas: file_read,
+-- one_file, outcome_of-first.
+use Rattle.std.proofs.Common.{◌≡◌, ◌*◌, ℕ, false, List, [], ◌++◌, length, refl, sym, ap, ◌∙◌, arith}
+use Rattle.std.proofs.Common.{length-append, take, drop, None, Result, Ok, Err, subst, ◌+◌, ◌<◌}
+use Rattle.std.proofs.Common.{◌≤◌, ◌⊎◌, inl, inr, length-take-le, ltb}
+use Rattle.std.specs.Prelude.{◌↔◌}
+use Rattle.std.proofs.lemmas.List.{take_all, take-take, drop-take, take-append-drop, take_at}
+use Rattle.std.proofs.lemmas.List.{drop_at}
+use Rattle.std.proofs.lemmas.Bool.{cases_lt, le-ltb}
+use Rattle.stl_file.specs.declared.fault.StlFault.{StlFault}
+use Rattle.stl_file.specs.Tti.{most_blocks}
+use Rattle.stl_file.specs.SubtitleBlocks.{joined}
+use Rattle.stl_file.specs.Reader.{ReaderValue, outcome_left, outcome_of, outcome_opened, opened_at}
+use Rattle.stl_file.specs.Reader.{opened}
+use Rattle.stl_file.specs.Gsi.{gsi_at, IsGsi}
+use Rattle.stl_file.specs.Subtitle.{SubtitleValue}
+use Rattle.stl_file.specs.File.{IsFile}
+use Rattle.stl_file.specs.NormalForm.{subtitles_of}
+use Rattle.stl_file.specs.Reading.{outcome_at}
+use Rattle.stl_file.proofs.OutcomeLemmas.{outcome_at-first}
+use Rattle.stl_file.proofs.RestLemmas.{outcome_complete, fine, outcome_sound, rest_of}
+use Rattle.stl_file.proofs.GsiLemmas.{gsi_complete}
+use Rattle.stl_file.proofs.OpeningLemmas.{good, opened_sound, opened-whole}
+
+-- a file that was read was opened
+judged_ok : (b : List ℕ) (o : Result ReaderValue StlFault) (ts : List SubtitleValue)
+    → subtitles_of (outcome_opened b o) ≡ fine ts
+    → (r : ReaderValue) × (o ≡ good r) × (subtitles_of (outcome_left r b) ≡ fine ts)
+judged_ok b (Ok r) ts e = (r, refl, e)
+judged_ok b (Err f) ts e = absurd cc
+
+-- the bytes after a GSI block that is taken
+pub body_sound : (s : List ℕ) (ts : List SubtitleValue)
+    → 1024 ≤ length s
+    → IsGsi (take 1024 s)
+    → subtitles_of (outcome_at most_blocks None (drop 1024 s)) ≡ fine ts
+    → IsFile s (take 1024 s) ts
+body_sound s ts le g e =
+    let r = rest_of (drop 1024 s) ts (outcome_sound most_blocks None [] (drop 1024 s) ts refl e) in
+    record {
+      gsi = g;
+      blocks = r.0;
+      bytes = sym (take-append-drop 1024 s) ∙ ap (λ (x : List ℕ). take 1024 s ++ x) r.1;
+      rest = r.2;
+    }
+
+-- bytes that are read without a fault are a file
+pub file_sound : (s : List ℕ) (ts : List SubtitleValue)
+    → subtitles_of (outcome_of s) ≡ fine ts
+    → IsFile s (take 1024 s) ts
+unfolding outcome_of
+file_sound s ts e =
+    let j = judged_ok (drop 1024 s) (opened_at s) ts e in
+    let o = opened_sound s j.0 j.1 in
+    body_sound s ts o.0 o.1
+    (ap (λ (r : ReaderValue). subtitles_of (outcome_left r (drop 1024 s))) (sym o.2) ∙ j.2)
+
+-- a file is read without a fault
+pub file_complete : (s g : List ℕ) (ts : List SubtitleValue)
+    → IsFile s g ts
+    → (take 1024 s ≡ g) × (subtitles_of (outcome_of s) ≡ fine ts)
+unfolding outcome_of opened_at
+file_complete s g ts h =
+    let size = h.gsi.size in
+    let whole = ap length h.bytes in
+    let parts = length-append g (joined h.blocks) in
+    let front : take 1024 s ≡ g = ap (take 1024) h.bytes ∙ take_at g (joined h.blocks) 1024 size in
+    let back : drop 1024 s ≡ joined h.blocks =
+    ap (drop 1024) h.bytes ∙ drop_at g (joined h.blocks) 1024 size in
+    let long : ltb (length s) 1024 ≡ false = le-ltb _ _ (omega arith) in
+    let all = outcome_complete h.blocks None most_blocks ts h.rest.each h.rest.few
+    (record { gs = h.rest.parts; kept_is = h.rest.kept; groups = h.rest.are_of }) in
+    (front, rw (long, front, back, gsi_complete g h.gsi) all)
+
+-- a file is what is read
+pub file_read : (s g : List ℕ) (ts : List SubtitleValue)
+    → IsFile s g ts ↔ ((g ≡ take 1024 s) × (subtitles_of (outcome_of s) ≡ Ok ts))
+file_read s g ts = (
+  λ h. let c = file_complete s g ts h in (sym c.0, c.1),
+  λ h. subst (λ (x : List ℕ). IsFile s x ts) (sym h.0) (file_sound s ts h.1),
+)
+
+-- equal answers have equal subtitles
+same_list : (x y : List SubtitleValue) → fine x ≡ fine y → x ≡ y
+same_list x y e = cc
+
+-- a file has one GSI block and one list of subtitles
+pub one_file : (s g h : List ℕ) (ts us : List SubtitleValue)
+    → IsFile s g ts
+    → IsFile s h us
+    → (g ≡ h) × (ts ≡ us)
+one_file s g h ts us a b =
+    let x = file_complete s g ts a in
+    let y = file_complete s h us b in
+    (sym x.0 ∙ y.0, same_list ts us (sym x.1 ∙ y.1))
+
+-- ---- the first bytes
+
+-- a file that was opened goes by its blocks
+opened-same : (r : Result (List ℕ) StlFault) (b c : List ℕ)
+    → outcome_at 99999 None b ≡ outcome_at 99999 None c
+    → outcome_opened b (opened r) ≡ outcome_opened c (opened r)
+opened-same (Err e) b c same = refl
+opened-same (Ok g) b c same = same
+
+-- a file that is longer gives what its first bytes give
+outcome_of-long : (s : List ℕ)
+    → 12800897 < length s
+    → outcome_of (take 12800897 s) ≡ outcome_of s
+unfolding outcome_of
+outcome_of-long s long =
+    let size : length (take 12800897 s) ≡ 12800897 = length-take-le 12800897 s (omega arith) in
+    let front : take 1024 (take 12800897 s) ≡ take 1024 s =
+    take-take 1024 12800897 s (omega arith) in
+    let back : drop 1024 (take 12800897 s) ≡ take (128 * 99999 + 1) (drop 1024 s) =
+    drop-take 1024 (128 * 99999 + 1) s in
+    let whole = opened-whole (take 12800897 s) (omega (arith, size)) in
+    let all = opened-whole s (omega arith) in
+    rw (whole, all, front, back)
+    (opened-same (gsi_at (take 1024 s)) _ _ (outcome_at-first 99999 None (drop 1024 s)))
+
+-- by whether there are more bytes than these
+outcome_of-by : (s : List ℕ)
+    → ((12800897 < length s) ⊎ (length s ≤ 12800897))
+    → outcome_of (take 12800897 s) ≡ outcome_of s
+outcome_of-by s (inl long) = outcome_of-long s long
+outcome_of-by s (inr short) = ap outcome_of (take_all 12800897 s short)
+
+-- one byte more than the longest file has decides what a file gives
+pub outcome_of-first : (s : List ℕ) → outcome_of (take 12800897 s) ≡ outcome_of s
+outcome_of-first s = outcome_of-by s (cases_lt 12800897 (length s))
