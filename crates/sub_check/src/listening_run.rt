@@ -18,9 +18,6 @@ use sub_io::Source;
 use ttx_page::{Page, Receiver};
 use ttx_pes::ComparingReader;
 
-/// The PES packets of a file at most: one for each frame of a day.
-const MOST_PACKETS: u32 = 2_160_000;
-
 /// Why a PES file is not heard.
 #[derive(Clone, Copy, Debug, PartialEq, Eq)]
 pub enum ListenFault {
@@ -79,7 +76,8 @@ pub fn listen<R: Receiver, S: Source>(
     let mut least = 0;
     let mut number = 0u64;
     let mut kept = false;
-    for index in 0..=MOST_PACKETS {
+    let mut index = 0;
+    'packets: loop {
         let next = next_sending(&mut reader, pes, &listening.options, index)?;
         let Some(sending) = next else {
             return Ok(());
@@ -101,7 +99,6 @@ pub fn listen<R: Receiver, S: Source>(
         kept = hear_sending(receiver, screen, listening, number, units, again, kept);
         number += units.len() as u64;
         least = frame + 1;
+        index += 1;
     }
-    // The reader refuses a packet more than a day has frames.
-    unreachable!()
 }

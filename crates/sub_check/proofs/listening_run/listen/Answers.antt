@@ -21,15 +21,15 @@ pub returns-in_err-next-clause-exact : goal.returns-in_err-next-clause-exact
 returns-in_err-next-clause-exact g c = λ frames unread bytes told reads fine.
     let p = err_from_is_err_and c.from_residual.result c.from_residual.ensures.1 in
     let known = rw (p.1, p.2) at fine in
-    let i = c.loop-index.invariant.told frames unread bytes told reads in
+    let i = c.packets.invariant.told frames unread bytes told reads in
     rw (p.1, p.2)
-    (ends_unread c.args.listening.now frames unread _ _ c.loop-index.index _ _ _ _ i
+    (ends_unread c.args.listening.now frames unread _ _ c.packets.index _ _ _ _ i
     c.next_sending.new.reader.frame _ (c.in_err-next.ensures.exact i.rest i.rest_is known))
 
-pub loop-index-init : goal.loop-index-init
-loop-index-init g c = record {
+pub packets-init : goal.packets-init
+packets-init g c = record {
   reading = search rules;
-  day_packets = omega arith;
+  few_packets = omega arith;
   taken = takes-none _;
   kept = λ e. cc;
   failures = refl;
@@ -44,31 +44,31 @@ pub returns-in_err-next-clause-failed : goal.returns-in_err-next-clause-failed
 returns-in_err-next-clause-failed g c =
     let p = err_from_is_err_and c.from_residual.result c.from_residual.ensures.1 in
     rw (p.1, p.2)
-    (fails_listening c.args.listening.now c.loop-index.index _ _ _ _ c.loop-index.invariant.taken
+    (fails_listening c.args.listening.now c.packets.index _ _ _ _ c.packets.invariant.taken
     c.in_err-next.ensures.place c.in_err-next.ensures.within
     (λ frames unread bytes told reads.
-    (c.loop-index.invariant.told frames unread bytes told reads).heard))
+    (c.packets.invariant.told frames unread bytes told reads).heard))
 
 pub returns-in_default-clause-exact : goal.returns-in_default-clause-exact
 returns-in_default-clause-exact g c = λ frames unread bytes told reads fine.
-    let i = c.loop-index.invariant.told frames unread bytes told reads in
-    ends_at_end c.args.listening.now frames unread _ _ c.loop-index.index _ _ _ _ i
+    let i = c.packets.invariant.told frames unread bytes told reads in
+    ends_at_end c.args.listening.now frames unread _ _ c.packets.index _ _ _ _ i
     c.next_sending.new.reader.frame
     (rw c.in_default.is at (c.in_ok-next.ensures.exact i.rest i.rest_is refl))
 
 pub returns-then-frame-least-clause-exact : goal.returns-then-frame-least-clause-exact
 returns-then-frame-least-clause-exact g c = λ frames unread bytes told reads fine.
-    let i = c.loop-index.invariant.told frames unread bytes told reads in
-    ends_order c.args.listening.now frames unread _ _ c.loop-index.index _ _ _ _ i
+    let i = c.packets.invariant.told frames unread bytes told reads in
+    ends_order c.args.listening.now frames unread _ _ c.packets.index _ _ _ _ i
     c.next_sending.new.reader.frame c.in-Some.sending.frame
     (rw c.in-Some.is at (c.in_ok-next.ensures.exact i.rest i.rest_is refl)) c.if-frame-least.true
 
 pub returns-then-frame-listening-clause-exact : goal.returns-then-frame-listening-clause-exact
 returns-then-frame-listening-clause-exact g c = λ frames unread bytes told reads fine.
-    let i = c.loop-index.invariant.told frames unread bytes told reads in
+    let i = c.packets.invariant.told frames unread bytes told reads in
     let rises = c.if-frame-least.false in
     let late = c.if-frame-listening.true in
-    ends_late c.args.listening.now frames unread _ _ c.loop-index.index _ _ _ _ i
+    ends_late c.args.listening.now frames unread _ _ c.packets.index _ _ _ _ i
     c.next_sending.new.reader.frame c.in-Some.sending.frame
     (rw c.in-Some.is at (c.in_ok-next.ensures.exact i.rest i.rest_is refl))
     (omega (arith, rises)) (omega (arith, late))
@@ -76,26 +76,26 @@ returns-then-frame-listening-clause-exact g c = λ frames unread bytes told read
 pub returns-in-Some-first_lost_header-clause-exact :
     goal.returns-in-Some-first_lost_header-clause-exact
 returns-in-Some-first_lost_header-clause-exact g c = λ frames unread bytes told reads fine.
-    let i = c.loop-index.invariant.told frames unread bytes told reads in
+    let i = c.packets.invariant.told frames unread bytes told reads in
     let rises = c.if-frame-least.false in
     let in_time = c.if-frame-listening.false in
     let packet = c.in-Some-first_lost_header.packet in
     let l = c.args.listening.now in
-    ends_lost l frames unread _ _ c.loop-index.index _ _ _ _ i
+    ends_lost l frames unread _ _ c.packets.index _ _ _ _ i
     c.next_sending.new.reader.frame c.in-Some.sending.frame
     (rw c.in-Some.is at (c.in_ok-next.ensures.exact i.rest i.rest_is refl)) packet
     (omega (arith, rises)) (omega (arith, in_time))
-    (ap (λ (us : List UnitValue). first_lost_header (reception_of l) c.loop-index.number
+    (ap (λ (us : List UnitValue). first_lost_header (reception_of l) c.packets.number
     (packets_of_units us))
     (sym (c.units-units.ensures.value ∙ ap (λ (v : PesValue). v.units) c.frame-packet.ensures))
     ∙ sym c.first_lost_header.ensures
     ∙ c.in-Some-first_lost_header.is)
 
-pub loop-index-preserved : goal.loop-index-preserved
-loop-index-preserved g c =
+pub packets-preserved : goal.packets-preserved
+packets-preserved g c =
     let counted = c.in_ok-next.ensures.count in
-    let before = c.loop-index.invariant.failures in
-    let few = c.loop-index.invariant.few in
+    let before = c.packets.invariant.failures in
+    let few = c.packets.invariant.few in
     let value = c.units-units.ensures.value
     ∙ ap (λ (v : PesValue). v.units) c.frame-packet.ensures in
     let units =
@@ -108,56 +108,56 @@ loop-index-preserved g c =
     let in_time = c.if-frame-listening.false in
     let l = c.args.listening.now in
     let whole = ap (λ (us : List UnitValue). first_lost_header (reception_of l)
-    c.loop-index.number (packets_of_units us)) (sym value)
+    c.packets.number (packets_of_units us)) (sym value)
     ∙ sym c.first_lost_header.ensures
     ∙ c.in_default-first_lost_header.is in
-    let last = packets_of_units c.loop-index.reader.frame.units in
+    let last = packets_of_units c.packets.reader.frame.units in
     let again : c.in-Some.sending.again ≡ true → last ≡ packets_of_units c.units-units.result.now =
     λ e. ap packets_of_units
     (sym (c.in_ok-next.ensures.again c.in-Some.sending given e) ∙ sym value) in
     let run =
     subst (λ (us : List UnitValue). RunsThrough l.options.asks_complete
-    (g.R.Receiver.tuned_to c.loop-index.receiver)
-    (display (g.R.Receiver.state c.loop-index.receiver) c.loop-index.screen)
-    (as_heard l c.loop-index.number (packets_of_units us))
+    (g.R.Receiver.tuned_to c.packets.receiver)
+    (display (g.R.Receiver.state c.packets.receiver) c.packets.screen)
+    (as_heard l c.packets.number (packets_of_units us))
     (display (g.R.Receiver.state c.hear_sending-kept.new.receiver)
     c.hear_sending-kept.new.screen)) value
-    (c.hear_sending-kept.ensures.run last c.loop-index.invariant.kept again) in
+    (c.hear_sending-kept.ensures.run last c.packets.invariant.kept again) in
     record {
       reading = c.in_ok-next.ensures.progress c.in-Some.sending given;
-      day_packets = omega (arith, packets);
+      few_packets = omega (arith, packets);
       taken =
-          takes-more c.loop-index.index _ _ _ _ c.loop-index.invariant.taken
+          takes-more c.packets.index _ _ _ _ c.packets.invariant.taken
           (c.in_ok-next.ensures.taken c.in-Some.sending given);
       failures = omega (arith, counted, before);
-      tuned = c.hear_sending-kept.ensures.tuned ∙ c.loop-index.invariant.tuned;
+      tuned = c.hear_sending-kept.ensures.tuned ∙ c.packets.invariant.tuned;
       few = omega (arith, few, units);
       kept = λ e.
           subst (λ (us : List UnitValue). HeardLast l
           (g.R.Receiver.tuned_to c.hear_sending-kept.new.receiver) (packets_of_units us)
           (display (g.R.Receiver.state c.hear_sending-kept.new.receiver)
           c.hear_sending-kept.new.screen)) value
-          (c.hear_sending-kept.ensures.kept last c.loop-index.invariant.kept again e);
+          (c.hear_sending-kept.ensures.kept last c.packets.invariant.kept again e);
       day = omega (arith, day);
       told = λ frames unread bytes told reads.
-          let i = c.loop-index.invariant.told frames unread bytes told reads in
+          let i = c.packets.invariant.told frames unread bytes told reads in
           subst (λ (us : List UnitValue). Reaches l frames unread
           (g.R.Receiver.tuned_to c.args.receiver.now)
           (display (g.R.Receiver.state c.args.receiver.now) c.args.screen.now)
-          (g.S.Source.remaining c.next_sending.new.source) (c.loop-index.index + 1)
-          (c.loop-index.number + length us) (c.in-Some.sending.frame + 1)
+          (g.S.Source.remaining c.next_sending.new.source) (c.packets.index + 1)
+          (c.packets.number + length us) (c.in-Some.sending.frame + 1)
           (display (g.R.Receiver.state c.hear_sending-kept.new.receiver)
           c.hear_sending-kept.new.screen))
           (sym value)
-          (reaches_next l frames unread _ _ c.loop-index.index _ _ _ _ i
+          (reaches_next l frames unread _ _ c.packets.index _ _ _ _ i
           c.next_sending.new.reader.frame c.in-Some.sending.frame
           (rw c.in-Some.is at (c.in_ok-next.ensures.exact i.rest i.rest_is refl)) _ _
           (omega (arith, rises)) (omega (arith, in_time)) whole
           (c.in_ok-next.ensures.left i.rest i.rest_is)
           (subst (λ (w : PageIdValue). RunsThrough l.options.asks_complete w
-          (display (g.R.Receiver.state c.loop-index.receiver) c.loop-index.screen)
-          (as_heard l c.loop-index.number (packets_of_units c.next_sending.new.reader.frame.units))
+          (display (g.R.Receiver.state c.packets.receiver) c.packets.screen)
+          (as_heard l c.packets.number (packets_of_units c.next_sending.new.reader.frame.units))
           (display (g.R.Receiver.state c.hear_sending-kept.new.receiver)
           c.hear_sending-kept.new.screen))
-          c.loop-index.invariant.tuned run));
+          c.packets.invariant.tuned run));
     }

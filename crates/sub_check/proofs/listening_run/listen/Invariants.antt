@@ -1,8 +1,10 @@
 -- After `index` PES packets the receiver ran through what it hears of their packets.
-use Rattle.std.proofs.Common.{◌≡◌, ◌*◌, ◌≤◌, true, ℕ, List, Option, Some}
+use Rattle.std.proofs.Common.{◌≡◌, ◌*◌, ◌-◌, ◌≤◌, true, ℕ, List, Option, Some}
 use Rattle.ttx_page.specs.Screen.{display}
 use Rattle.ttx_pes.specs.Reader.{TakesPackets}
+use Rattle.ttx_pes.specs.Reading.{most_packets}
 use Rattle.ttx_pes.specs.declared.progress.Progress.TheVariants.{Reading}
+use Rattle.sub_plan.specs.FrameTime.{frames_of_day}
 use Rattle.sub_check.specs.FrameRules.{Unread}
 use Rattle.sub_check.specs.PacketRules.{packets_of_units}
 use Rattle.sub_check.specs.PesReading.{ReadsAs}
@@ -11,10 +13,10 @@ use Rattle.sub_check.specs.Untouched.{HeardLast}
 use Rattle.sub_check.proofs.ListeningRunLemmas.{Reaches}
 use Rattle.sub_check.proofs.listening_run.listen.Given as goal
 
-abbrev pub invariant-loop-index : goal.invariant-loop-index
-invariant-loop-index g l = record {
+abbrev pub invariant-packets : goal.invariant-packets
+invariant-packets g l = record {
   reading : l.reader.progress ≡ Reading l.index;
-  day_packets : l.index ≤ 2160000;
+  few_packets : l.index ≤ most_packets;
   taken : TakesPackets l.index (g.S.Source.remaining l.fn.pes) (g.S.Source.remaining l.pes);
   kept :
       l.kept ≡ true
@@ -23,7 +25,7 @@ invariant-loop-index g l = record {
   failures : g.S.Source.failure_count l.pes ≡ g.S.Source.failure_count l.fn.pes;
   tuned : g.R.Receiver.tuned_to l.receiver ≡ g.R.Receiver.tuned_to l.fn.receiver;
   few : l.number ≤ 35 * l.index;
-  day : l.least ≤ 2160000;
+  day : l.least ≤ frames_of_day;
   told :
       (frames : Transmission) (unread : Option Unread) (bytes : List ℕ)
       → g.S.Source.remaining l.fn.pes ≡ Some bytes
@@ -32,3 +34,6 @@ invariant-loop-index g l = record {
       (display (g.R.Receiver.state l.fn.receiver) l.fn.screen) (g.S.Source.remaining l.pes)
       l.index l.number l.least (display (g.R.Receiver.state l.receiver) l.screen);
 }
+
+abbrev pub decreases-packets : goal.decreases-packets
+decreases-packets g l = most_packets - l.index
