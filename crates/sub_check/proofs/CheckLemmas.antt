@@ -40,6 +40,7 @@ use Rattle.sub_check.specs.declared.fault.CheckFault.{CheckFault}
 use Rattle.sub_check.specs.declared.fault.CheckFault.TheVariants as fault
 use Rattle.sub_check.proofs.CompleteLemmas.{complete_from}
 use Rattle.sub_check.proofs.ContentLemmas.{wrong_everywhere}
+use Rattle.sub_check.proofs.GoodByPlace.{GoodFrames}
 use Rattle.sub_check.proofs.GoodLemmas.{Good-from_frames, first-same, last-same, whole-is}
 use Rattle.sub_check.proofs.PesFileLemmas.{carried_is_read}
 use Rattle.sub_check.proofs.PlacesOfGood.{GoodFrames-from_good}
@@ -60,37 +61,6 @@ Decides programme options bytes result =
     (Accepts (task_of programme options unread) options.origin bytes frames)
     (NamesFirst (task_of programme options unread) frames)
 
--- An accepted file is no failure of the source.
-no_failure :
-    (result : Result Accepted CheckFault) → IsOk result → failed is_pes_read result ≡ false
-no_failure (Ok a) ok = refl
-no_failure (Err f) ok = cc
-
--- What is accepted is good.
-good_from :
-    (programme : ProgrammeValue) (options : OptionsValue) (bytes : List ℕ) (unread : Option Unread)
-    (frames : Transmission) (a : Accepted)
-    → IsOptions options
-    → Accepts (task_of programme options unread) options.origin bytes frames a
-    → Good programme frames options
-good_from programme options bytes unread frames a is accepts =
-    Good-from_frames programme options unread frames
-    (Good-from_holds (task_of programme options unread) frames is.least accepts.holds)
-    (All-from_recursion (λ (s : SentFrame). All (λ packet. length packet ≡ 42) s.packets) frames
-    accepts.whole)
-
--- And of complete pages, where these are asked for.
-complete_of :
-    (programme : ProgrammeValue) (options : OptionsValue) (bytes : List ℕ) (unread : Option Unread)
-    (frames : Transmission) (a : Accepted)
-    → IsOptions options
-    → Accepts (task_of programme options unread) options.origin bytes frames a
-    → IsTrue options.asks_complete
-    → Complete frames options
-complete_of programme options bytes unread frames a is accepts asks =
-    let places = Good-from_holds (task_of programme options unread) frames is.least accepts.holds in
-    complete_from options frames places.rising places.some (λ i l. places.ended i l asks)
-
 -- Two lists that agree place by place are of one length.
 zip_length :
     {A B : Type 0} (R : A → B → Type 0) (xs : List A) (ys : List B)
@@ -101,195 +71,190 @@ zip_length R [] (y ∷ ys) h = elim h [ ]
 zip_length R (x ∷ xs) [] h = elim h [ ]
 zip_length R (x ∷ xs) (y ∷ ys) h = ap suc (zip_length R xs ys h.1)
 
--- What is accepted was read: its bytes carry the frames.
-carried_from :
-    (programme : ProgrammeValue) (options : OptionsValue) (bytes : List ℕ) (unread : Option Unread)
-    (frames : Transmission) (a : Accepted)
-    → Accepts (task_of programme options unread) options.origin bytes frames a
-    → Good programme frames options
-    → Carries options.origin bytes frames
-carried_from programme options bytes unread frames a accepts good =
-    let taken = accepts.taken in
-    let few = accepts.few in
-    let sizes = zip_length IsPesPacket taken.values taken.packets taken.each in
-    let sent = zip_length (IsSentAs options.origin) taken.values frames taken.sent in
-    record {
-      values = taken.values;
-      file = record {
-        packets = taken.packets;
-        each = taken.each;
-        few = omega (arith, few, sizes, sent);
-        joined = taken.joined ∙ append-nil (concat taken.packets);
-      };
-      sent = record { each = taken.sent; rising = good.rising };
-    }
+module _ (programme : ProgrammeValue) (options : OptionsValue) (is : IsOptions options) where
+  -- What is accepted is good, of complete pages where these are asked for, and was read: its bytes
+  -- carry the frames.
+  module _ (bytes : List ℕ) (unread : Option Unread) (frames : Transmission) (a : Accepted)
+      (accepts : Accepts (task_of programme options unread) options.origin bytes frames a) where
+    places : GoodFrames (task_of programme options unread) frames
+    places = Good-from_holds (task_of programme options unread) frames is.least accepts.holds
 
--- Accepted exactly where the bytes carry a good transmission.
-accepted_from :
-    (programme : ProgrammeValue) (options : OptionsValue) (bytes : List ℕ)
-    (result : Result Accepted CheckFault)
-    → IsOptions options
-    → Decides programme options bytes result
-    → IsOk result
-    ↔ ((transmission : Transmission)
-    × Carries options.origin bytes transmission
-    × Good programme transmission options
-    × (IsTrue options.asks_complete → Complete transmission options))
-accepted_from programme options bytes (Ok a) is decides =
-    let file = pes_file_of options.origin bytes in
-    let accepts = decides file.frames file.unread refl in
-    let good = good_from programme options bytes file.unread file.frames a is accepts in (
-      λ ok. (
-        file.frames,
-        carried_from programme options bytes file.unread file.frames a accepts good,
-        good,
-        complete_of programme options bytes file.unread file.frames a is accepts,
-      ),
-      λ g. refl,
-    )
-accepted_from programme options bytes (Err f) is decides = (
-  λ ok. cc,
-  λ g.
-      absurd (refuted (task_of programme options None) g.0 f
-      (decides g.0 None (carried_is_read options.origin bytes g.0 g.1))
-      (GoodFrames-from_good programme options g.0 g.2 g.3)),
-)
+    good_from : Good programme frames options
+    good_from =
+        Good-from_frames programme options unread frames places
+        (All-from_recursion (λ (s : SentFrame). All (λ packet. length packet ≡ 42) s.packets)
+        frames accepts.whole)
 
--- What is accepted is good, whatever transmission the bytes carry.
-good_carried :
-    (programme : ProgrammeValue) (options : OptionsValue) (bytes : List ℕ)
-    (transmission : Transmission) (result : Result Accepted CheckFault)
-    → IsOptions options
-    → (failed is_pes_read result ≡ false → Decides programme options bytes result)
-    → Carries options.origin bytes transmission
-    → IsOk result
-    → Good programme transmission options
-good_carried programme options bytes transmission (Ok a) is decides carries ok =
-    good_from programme options bytes None transmission a is
-    (decides refl transmission None (carried_is_read options.origin bytes transmission carries))
-good_carried programme options bytes transmission (Err f) is decides carries ok = cc
+    complete_from_places : IsTrue options.asks_complete → Complete frames options
+    complete_from_places asks =
+        complete_from options frames places.rising places.some (λ i l. places.ended i l asks)
 
--- And of complete pages, where these are asked for.
-complete_carried :
-    (programme : ProgrammeValue) (options : OptionsValue) (bytes : List ℕ)
-    (transmission : Transmission) (result : Result Accepted CheckFault)
-    → IsOptions options
-    → (failed is_pes_read result ≡ false → Decides programme options bytes result)
-    → Carries options.origin bytes transmission
-    → IsOk result
-    → IsTrue options.asks_complete
-    → Complete transmission options
-complete_carried programme options bytes transmission (Ok a) is decides carries ok =
-    complete_of programme options bytes None transmission a is
-    (decides refl transmission None (carried_is_read options.origin bytes transmission carries))
-complete_carried programme options bytes transmission (Err f) is decides carries ok = cc
+    carried_from : Carries options.origin bytes frames
+    carried_from =
+        let taken = accepts.taken in
+        let few = accepts.few in
+        let sizes = zip_length IsPesPacket taken.values taken.packets taken.each in
+        let sent = zip_length (IsSentAs options.origin) taken.values frames taken.sent in
+        record {
+          values = taken.values;
+          file = record {
+            packets = taken.packets;
+            each = taken.each;
+            few = omega (arith, few, sizes, sent);
+            joined = taken.joined ∙ append-nil (concat taken.packets);
+          };
+          sent = record { each = taken.sent; rising = good_from.rising };
+        }
 
--- The counts of what is accepted.
-counts_from :
-    (programme : ProgrammeValue) (options : OptionsValue) (bytes : List ℕ)
-    (transmission : Transmission) (result : Result Accepted CheckFault)
-    → (failed is_pes_read result ≡ false → Decides programme options bytes result)
-    → Carries options.origin bytes transmission
-    → IfOk result (HasCounts options.page transmission)
-counts_from programme options bytes frames (Ok a) decides carries =
-    let accepts = decides refl frames None (carried_is_read options.origin bytes frames carries) in
-    record {
-      frames_are =
-          let first = first-same frames in
-          let last = last-same frames in
-          let count = accepts.frames_are in
-          omega arith;
-      transmissions_are =
-          accepts.transmissions_are ∙ ap (header_count options.page) (whole-is frames);
-    }
-counts_from programme options bytes frames (Err f) decides carries = tt
+  -- No refusal is told of what the bytes carry, where it is good.
+  not_refused :
+      (bytes : List ℕ) (frames : Transmission) (f : CheckFault)
+      → NamesFirst (task_of programme options None) frames f
+      → Good programme frames options
+      → (IsTrue options.asks_complete → Complete frames options)
+      → ⊥
+  not_refused bytes frames f named good complete =
+      refuted (task_of programme options None) frames f named
+      (GoodFrames-from_good programme options frames good complete)
 
--- A refusal names the first place.
-first_from :
-    (programme : ProgrammeValue) (options : OptionsValue) (bytes : List ℕ)
-    (result : Result Accepted CheckFault)
-    → Decides programme options bytes result
-    → IfErr result
-    (NamesFirst (task_of programme options (pes_file_of options.origin bytes).unread)
-    (pes_file_of options.origin bytes).frames)
-first_from programme options bytes (Ok a) decides = tt
-first_from programme options bytes (Err f) decides =
-    let file = pes_file_of options.origin bytes in decides file.frames file.unread refl
+  -- Accepted exactly where the bytes carry a good transmission.
+  accepted_from :
+      (bytes : List ℕ) (result : Result Accepted CheckFault)
+      → Decides programme options bytes result
+      → IsOk result
+      ↔ ((transmission : Transmission)
+      × Carries options.origin bytes transmission
+      × Good programme transmission options
+      × (IsTrue options.asks_complete → Complete transmission options))
+  accepted_from bytes (Ok a) decides =
+      let file = pes_file_of options.origin bytes in
+      let accepts = decides file.frames file.unread refl in (
+        λ ok. (
+          file.frames,
+          carried_from bytes file.unread file.frames a accepts,
+          good_from bytes file.unread file.frames a accepts,
+          complete_from_places bytes file.unread file.frames a accepts,
+        ),
+        λ g. refl,
+      )
+  accepted_from bytes (Err f) decides = (
+    λ ok. cc,
+    λ g.
+        absurd (not_refused bytes g.0 f
+        (decides g.0 None (carried_is_read options.origin bytes g.0 g.1)) g.2 g.3),
+  )
 
--- A refusal of a cell names the first place.
-content_from :
-    (programme : ProgrammeValue) (options : OptionsValue) (bytes : List ℕ) (frame row column : ℕ)
-    (result : Result Accepted CheckFault)
-    → result ≡ Err (fault.Content frame row column)
-    → (failed is_pes_read result ≡ false → Decides programme options bytes result)
-    → NamesFirst (task_of programme options (pes_file_of options.origin bytes).unread)
-    (pes_file_of options.origin bytes).frames (fault.Content frame row column)
-content_from programme options bytes frame row column (Ok a) e decides = cc
-content_from programme options bytes frame row column (Err f) e decides =
-    let same : f ≡ fault.Content frame row column = cc in
-    let file = pes_file_of options.origin bytes in
-    subst (NamesFirst (task_of programme options file.unread) file.frames) same
-    (decides (ap is_pes_read same) file.frames file.unread refl)
+  -- What is accepted keeps to what is told of it, whatever transmission the bytes carry.
+  accepts_carried :
+      (bytes : List ℕ) (transmission : Transmission) (result : Result Accepted CheckFault)
+      → (failed is_pes_read result ≡ false → Decides programme options bytes result)
+      → Carries options.origin bytes transmission
+      → IsOk result
+      → (a : Accepted)
+      × Accepts (task_of programme options None) options.origin bytes transmission a
+  accepts_carried bytes transmission (Ok a) decides carries ok =
+      let read = carried_is_read options.origin bytes transmission carries in
+      (a, decides refl transmission None read)
+  accepts_carried bytes transmission (Err f) decides carries ok = cc
 
--- A schedule is accepted.
-plan_accepted :
-    (programme : ProgrammeValue) (options : OptionsValue) (serial : Bool)
-    (result : Result Accepted CheckFault)
-    → IsOptions options
-    → IsProgramme programme.national programme.records
-    → programme.records ≢ []
-    → Decides programme options (plan programme options serial) result
-    → IsOk result
-plan_accepted programme options serial (Ok a) is p some decides = refl
-plan_accepted programme options serial (Err f) is p some decides =
-    let frames = planned programme options serial in
-    absurd (refuted (task_of programme options None) frames f
-    (decides frames None (law_of_plan_read programme options serial p is))
-    (GoodFrames-from_good programme options frames
-    (law_of_plan programme options serial p some is)
-    (λ asks. law_of_complete_plan programme options serial p some is)))
+  -- The counts of what is accepted.
+  counts_from :
+      (bytes : List ℕ) (transmission : Transmission) (result : Result Accepted CheckFault)
+      → (failed is_pes_read result ≡ false → Decides programme options bytes result)
+      → Carries options.origin bytes transmission
+      → IfOk result (HasCounts options.page transmission)
+  counts_from bytes frames (Ok a) decides carries =
+      let accepts =
+      decides refl frames None (carried_is_read options.origin bytes frames carries) in
+      record {
+        frames_are =
+            let first = first-same frames in
+            let last = last-same frames in
+            let count = accepts.frames_are in
+            omega arith;
+        transmissions_are =
+            accepts.transmissions_are ∙ ap (header_count options.page) (whole-is frames);
+      }
+  counts_from bytes frames (Err f) decides carries = tt
 
--- What is told of a PES file, from what the steps show. For `check`.
-pub checked_from :
-    (programme : ProgrammeValue) (options : OptionsValue) (bytes : List ℕ)
-    (result : Result Accepted CheckFault)
-    → IsOptions options
-    → IsProgramme programme.national programme.records
-    → (failed is_pes_read result ≡ false → Decides programme options bytes result)
-    → ((frames : Transmission) (unread : Option Unread) (pes : ℕ)
-    → ReadsAs options.origin 0 bytes frames unread
-    → result ≡ Err (fault.Pes pes Pes.Read)
-    → IsReadUpTo (task_of programme options unread) frames pes)
-    → IsChecked programme options bytes result
-checked_from programme options bytes result is p decides failed = record {
-  accepted = λ looked fine. accepted_from programme options bytes result is (decides fine);
-  robust = λ transmission carries ok.
-      law_of_good programme transmission options
-      (good_carried programme options bytes transmission result is decides carries ok);
-  robust_to_loss = λ transmission carries ok.
-      law_of_good_and_marked_loss programme transmission options
-      (good_carried programme options bytes transmission result is decides carries ok);
-  recovers = λ transmission carries ok.
-      law_of_good_and_recovery programme transmission options
-      (good_carried programme options bytes transmission result is decides carries ok);
-  shown = λ transmission carries ok asks.
-      law_of_good_and_complete programme transmission options
-      (good_carried programme options bytes transmission result is decides carries ok)
-      (complete_carried programme options bytes transmission result is decides carries ok asks);
-  counts = λ transmission carries.
-      counts_from programme options bytes transmission result decides carries;
-  first = λ looked fine. first_from programme options bytes result (decides fine);
-  read = λ pes e.
-      failed (pes_file_of options.origin bytes).frames (pes_file_of options.origin bytes).unread pes
-      refl e;
-  content = λ frame row column e.
-      wrong_everywhere programme options (pes_file_of options.origin bytes).unread
-      (pes_file_of options.origin bytes).frames frame row column
-      (content_from programme options bytes frame row column result e decides);
-  schedule = λ serial planned some looked fine.
-      plan_accepted programme options serial result is p some
-      (subst (λ b. Decides programme options b result) planned (decides fine));
-}
+  -- A refusal names the first place.
+  first_from :
+      (bytes : List ℕ) (result : Result Accepted CheckFault)
+      → Decides programme options bytes result
+      → IfErr result
+      (NamesFirst (task_of programme options (pes_file_of options.origin bytes).unread)
+      (pes_file_of options.origin bytes).frames)
+  first_from bytes (Ok a) decides = tt
+  first_from bytes (Err f) decides =
+      let file = pes_file_of options.origin bytes in decides file.frames file.unread refl
+
+  -- A refusal of a cell names the first place.
+  content_from :
+      (bytes : List ℕ) (frame row column : ℕ) (result : Result Accepted CheckFault)
+      → result ≡ Err (fault.Content frame row column)
+      → (failed is_pes_read result ≡ false → Decides programme options bytes result)
+      → NamesFirst (task_of programme options (pes_file_of options.origin bytes).unread)
+      (pes_file_of options.origin bytes).frames (fault.Content frame row column)
+  content_from bytes frame row column result e decides =
+      subst (λ r. IfErr r
+      (NamesFirst (task_of programme options (pes_file_of options.origin bytes).unread)
+      (pes_file_of options.origin bytes).frames)) e
+      (first_from bytes result (decides (ap (failed is_pes_read) e)))
+
+  -- A schedule is accepted.
+  plan_accepted :
+      (serial : Bool) (result : Result Accepted CheckFault)
+      → IsProgramme programme.national programme.records
+      → programme.records ≢ []
+      → Decides programme options (plan programme options serial) result
+      → IsOk result
+  plan_accepted serial (Ok a) p some decides = refl
+  plan_accepted serial (Err f) p some decides =
+      let frames = planned programme options serial in
+      absurd (not_refused (plan programme options serial) frames f
+      (decides frames None (law_of_plan_read programme options serial p is))
+      (law_of_plan programme options serial p some is)
+      (λ asks. law_of_complete_plan programme options serial p some is))
+
+  -- What is told of a PES file, from what the steps show. For `check`.
+  pub checked_from :
+      (bytes : List ℕ) (result : Result Accepted CheckFault)
+      → IsProgramme programme.national programme.records
+      → (failed is_pes_read result ≡ false → Decides programme options bytes result)
+      → ((frames : Transmission) (unread : Option Unread) (pes : ℕ)
+      → ReadsAs options.origin 0 bytes frames unread
+      → result ≡ Err (fault.Pes pes Pes.Read)
+      → IsReadUpTo (task_of programme options unread) frames pes)
+      → IsChecked programme options bytes result
+  checked_from bytes result p decides failed = record {
+    accepted = λ looked fine. accepted_from bytes result (decides fine);
+    robust = λ t carries ok. law_of_good programme t options (good t carries ok);
+    robust_to_loss = λ t carries ok.
+        law_of_good_and_marked_loss programme t options (good t carries ok);
+    recovers = λ t carries ok. law_of_good_and_recovery programme t options (good t carries ok);
+    shown = λ t carries ok asks.
+        let accepts = accepts_carried bytes t result decides carries ok in
+        law_of_good_and_complete programme t options (good t carries ok)
+        (complete_from_places bytes None t accepts.0 accepts.1 asks);
+    counts = λ t carries. counts_from bytes t result decides carries;
+    first = λ looked fine. first_from bytes result (decides fine);
+    read = λ pes e.
+        failed (pes_file_of options.origin bytes).frames
+        (pes_file_of options.origin bytes).unread pes refl e;
+    content = λ frame row column e.
+        wrong_everywhere programme options (pes_file_of options.origin bytes).unread
+        (pes_file_of options.origin bytes).frames frame row column
+        (content_from bytes frame row column result e decides);
+    schedule = λ serial planned some looked fine.
+        plan_accepted serial result p some
+        (subst (λ b. Decides programme options b result) planned (decides fine));
+  }
+    where
+      good : (t : Transmission) → Carries options.origin bytes t → IsOk result
+          → Good programme t options
+      good t carries ok =
+          let accepts = accepts_carried bytes t result decides carries ok in
+          good_from bytes None t accepts.0 accepts.1
 
 -- ---- both files
 
@@ -310,15 +275,6 @@ loads national origin stl pes subtitles transmission loading mean =
     (loading national stl subtitles).1
     (mean.gsi, mean.subtitle_file, mean.in_order, mean.drawable)
 
--- The PES file of both carries the transmission.
-carries_of :
-    (national : National) (origin : ℕ) (stl pes : List ℕ) (subtitles : List SubtitleValue)
-    (transmission : Transmission)
-    → Mean national origin stl pes subtitles transmission
-    → Carries origin pes transmission
-carries_of national origin stl pes subtitles transmission mean =
-    record { values = mean.values; file = mean.pes_file; sent = mean.sent }
-
 -- An answer that is no failure, of a subtitle file that was loaded, is none of a source.
 looked_at :
     (answer : Result Accepted CheckFault)
@@ -329,77 +285,77 @@ looked_at (Ok a) looked fine = refl
 looked_at (Err (fault.Subtitles f)) looked fine = cc
 looked_at (Err f) looked fine = fine
 
--- Both files, where the subtitle file was loaded. For `check_files`.
-pub files_accepted :
-    (national : National) (options : OptionsValue) (stl pes : List ℕ) (programme : ProgrammeValue)
-    (answer : Result Accepted CheckFault)
-    → LawOfLoading
-    → loaded national (outcome_of stl) ≡ Ok programme
-    → programme.national ≡ national
-    → failed is_subtitle_fault answer ≡ false
-    → IsChecked programme options pes answer
-    → AreAccepted national options stl pes answer
-files_accepted national options stl pes programme answer loading given own looked checked =
-    let of : programme ≡ record { national = national; records = programme.records } =
-    ap (λ n. let p : ProgrammeValue = record { national = n; records = programme.records } in p)
-    own in
-    record {
-      accepted = λ fine.
-          let exactly = checked.accepted looked (looked_at answer looked fine) in (
-            λ ok.
-                let good = exactly.0 ok in
-                let file =
-                (loading national stl programme.records).0 (given ∙ ap (λ p. Ok p) of) in (
-                  programme.records,
-                  good.0,
-                  record {
-                    gsi = file.0;
-                    subtitle_file = file.1;
-                    in_order = file.2;
-                    drawable = file.3;
-                    values = good.1.values;
-                    pes_file = good.1.file;
-                    sent = good.1.sent;
-                  },
-                  subst (λ (p : ProgrammeValue). Good p good.0 options) of good.2,
-                  good.3,
-                ),
-            λ g.
-                exactly.1 (
-                  g.1,
-                  carries_of national options.origin stl pes g.0 g.1 g.2,
-                  subst (λ (p : ProgrammeValue). Good p g.1 options)
-                      (same_programme _ programme (loaded national (outcome_of stl))
-                      (loads national options.origin stl pes g.0 g.1 loading g.2) given)
-                      g.3,
-                  g.4,
-                ),
-          );
-      robust = λ subtitles transmission mean ok.
-          subst (λ (p : ProgrammeValue). Robust p transmission options)
-          (same_programme programme _ (loaded national (outcome_of stl)) given
-          (loads national options.origin stl pes subtitles transmission loading mean))
-          (checked.robust transmission
-          (carries_of national options.origin stl pes subtitles transmission mean) ok);
-      robust_to_loss = λ subtitles transmission mean ok.
-          subst (λ (p : ProgrammeValue). RobustToMarkedLoss p transmission options)
-          (same_programme programme _ (loaded national (outcome_of stl)) given
-          (loads national options.origin stl pes subtitles transmission loading mean))
-          (checked.robust_to_loss transmission
-          (carries_of national options.origin stl pes subtitles transmission mean) ok);
-      recovers = λ subtitles transmission mean ok.
-          subst (λ (p : ProgrammeValue). Recovers p transmission options)
-          (same_programme programme _ (loaded national (outcome_of stl)) given
-          (loads national options.origin stl pes subtitles transmission loading mean))
-          (checked.recovers transmission
-          (carries_of national options.origin stl pes subtitles transmission mean) ok);
-      shown = λ subtitles transmission mean ok asks.
-          subst (λ (p : ProgrammeValue). Shown p transmission options)
-          (same_programme programme _ (loaded national (outcome_of stl)) given
-          (loads national options.origin stl pes subtitles transmission loading mean))
-          (checked.shown transmission
-          (carries_of national options.origin stl pes subtitles transmission mean) ok asks);
-    }
+module _ (national : National) (options : OptionsValue) (stl pes : List ℕ)
+    (programme : ProgrammeValue) (loading : LawOfLoading)
+    (given : loaded national (outcome_of stl) ≡ Ok programme)
+  where
+    -- What both files mean: the PES file carries the transmission, and what holds of the programme
+    -- that was loaded holds of the subtitles.
+    module _ (subtitles : List SubtitleValue) (transmission : Transmission)
+        (mean : Mean national options.origin stl pes subtitles transmission)
+      where
+        carries_of : Carries options.origin pes transmission
+        carries_of = record { values = mean.values; file = mean.pes_file; sent = mean.sent }
+
+        programme_is : programme ≡ record { national = national; records = subtitles }
+        programme_is =
+            same_programme programme _ (loaded national (outcome_of stl)) given
+            (loads national options.origin stl pes subtitles transmission loading mean)
+
+    -- Both files, where the subtitle file was loaded. For `check_files`.
+    pub files_accepted :
+        (answer : Result Accepted CheckFault)
+        → programme.national ≡ national
+        → failed is_subtitle_fault answer ≡ false
+        → IsChecked programme options pes answer
+        → AreAccepted national options stl pes answer
+    files_accepted answer own looked checked =
+        let of : programme ≡ record { national = national; records = programme.records } =
+        ap (λ n. let p : ProgrammeValue = record { national = n; records = programme.records } in p)
+        own in
+        record {
+          accepted = λ fine.
+              let exactly = checked.accepted looked (looked_at answer looked fine) in (
+                λ ok.
+                    let good = exactly.0 ok in
+                    let file =
+                    (loading national stl programme.records).0 (given ∙ ap (λ p. Ok p) of) in (
+                      programme.records,
+                      good.0,
+                      record {
+                        gsi = file.0;
+                        subtitle_file = file.1;
+                        in_order = file.2;
+                        drawable = file.3;
+                        values = good.1.values;
+                        pes_file = good.1.file;
+                        sent = good.1.sent;
+                      },
+                      subst (λ (p : ProgrammeValue). Good p good.0 options) of good.2,
+                      good.3,
+                    ),
+                λ g.
+                    exactly.1 (
+                      g.1,
+                      carries_of g.0 g.1 g.2,
+                      subst (λ (p : ProgrammeValue). Good p g.1 options)
+                          (sym (programme_is g.0 g.1 g.2)) g.3,
+                      g.4,
+                    ),
+              );
+          robust = λ s t mean ok.
+              subst (λ (p : ProgrammeValue). Robust p t options) (programme_is s t mean)
+              (checked.robust t (carries_of s t mean) ok);
+          robust_to_loss = λ s t mean ok.
+              subst (λ (p : ProgrammeValue). RobustToMarkedLoss p t options)
+              (programme_is s t mean) (checked.robust_to_loss t (carries_of s t mean) ok);
+          recovers = λ s t mean ok.
+              subst (λ (p : ProgrammeValue). Recovers p t options) (programme_is s t mean)
+              (checked.recovers t (carries_of s t mean) ok);
+          shown = λ s t mean ok asks.
+              subst (λ (p : ProgrammeValue). Shown p t options) (programme_is s t mean)
+              (checked.shown t (carries_of s t mean) ok asks);
+        }
 
 -- A fault of loading that is no failure is the file's own.
 own_fault :

@@ -18,9 +18,8 @@ use Rattle.ttx_page.proofs.NoiseLaws.{AreNear-themselves, law_of_noise, law_of_q
 use Rattle.stl_rows.specs.Programme.{ProgrammeValue}
 use Rattle.sub_plan.specs.Options.{OptionsValue}
 use Rattle.sub_check.specs.FirstBroken.{IsFirst, NamesFirst, Place, unread_fault}
-use Rattle.sub_check.specs.FirstBroken.Place.{AtOrder, AtStart, AtGapCell, AtGap, AtPacket, AtFirst}
-use Rattle.sub_check.specs.FirstBroken.Place.{AtCell, AtFrame, AtOpen, AtUnread, AtNothing}
-use Rattle.sub_check.specs.FirstBroken.Place.{AtEnd}
+use Rattle.sub_check.specs.FirstBroken.Place.{AtOrder, AtGapCell, AtPacket, AtFirst}
+use Rattle.sub_check.specs.FirstBroken.Place.{AtCell, AtUnread}
 use Rattle.sub_check.specs.FirstBroken.{IsBefore, fault_at}
 use Rattle.sub_check.specs.FrameRules.{HasHeader, ShowsDue, Task, Unread, frame_at, packets_before}
 use Rattle.sub_check.specs.FrameRules.{packets_of_frame}
@@ -277,29 +276,16 @@ module _ (programme : ProgrammeValue) (options : OptionsValue) (unread : Option 
     where
       go : (y : Place) → fault.Content f row column ≡ fault_at g frames y → IsFirst g frames y
           → IsWrongEverywhere programme options frames f row column
-      go (AtOrder i) e first = cc
-      go AtStart e first = cc
       go (AtGapCell i h r c) e first =
           let a : h ≡ f = cc in
           let b : r ≡ row = cc in
           let d : c ≡ column = cc in
           rw (← a, ← b, ← d) (wrong_gap_cell i h r c first)
-      go (AtGap i h) e first = cc
-      go (AtPacket i k rule.Address) e first = cc
-      go (AtPacket i k rule.HeaderCode) e first = cc
-      go (AtPacket i k rule.Mode) e first = cc
-      go (AtPacket i k rule.Control) e first = cc
-      go (AtPacket i k rule.Parity) e first = cc
-      go (AtPacket i k rule.RowChanged) e first = cc
-      go (AtPacket i k rule.Enhancement) e first = cc
-      go AtFirst e first = cc
       go (AtCell i r c) e first =
           let a : frame_at frames i ≡ f = cc in
           let b : r ≡ row = cc in
           let d : c ≡ column = cc in
           rw (← a, ← b, ← d) (wrong_cell i r c first)
-      go (AtFrame i) e first = cc
-      go (AtOpen i) e first = cc
       go AtUnread e first = absurd (never_unread (length frames) f row column unread e)
-      go AtNothing e first = cc
-      go AtEnd e first = cc
+      go (AtPacket i k rule.Address) e first = cc
+      go y e first = cc

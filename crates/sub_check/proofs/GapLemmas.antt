@@ -77,11 +77,9 @@ module _ (g : Task) (frames : Transmission) (n f : ℕ) (v b : CheckerValue)
           → DiffersFirst b.listener.comparison.page b.listener.comparison.due row column
           → NamesFirst g frames (fault.Content f row column)
       gap_names_cell row column d =
-          let w : WrongFirst g frames n f row column =
-          subst (λ x. WrongFirst g frames n x row column) frame_is
-          (wrong_first g frames n b known due_is row column d) in
-          first_gap_cell g frames n follows.past f row column order cells gaps in_gap w.is_cell
-          w.broken w.above w.before
+          first_gap_cell g frames n follows.past f order cells gaps in_gap row column
+          (subst (λ x. WrongFirst g frames n x row column) frame_is
+          (wrong_first g frames n b known due_is row column d))
 
       -- A header too long ago.
       pub gap_names_gap : AreSameCells b.listener → b.every ≤ f - b.header_at

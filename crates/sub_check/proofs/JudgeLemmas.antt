@@ -270,7 +270,8 @@ module _
         → NamesFirst (task_of programme options unread) frames fault.Empty
     empty_refusal none is =
         let at = reads_end options.origin n reads.rest frames unread reads.few reads.left is in
-        first_nothing (task_of programme options unread) frames at.1 (omega (arith, at.0))
+        first_nothing (task_of programme options unread) frames (λ j l. absurd (omega (arith, at.0)))
+        at.1 (omega (arith, at.0))
 
     -- The end of any other.
     module _ (c : CheckerValue) (follows : Follows (task_of programme options unread) frames n c)
@@ -305,7 +306,7 @@ module _
                 (subst (AreTaken options.origin bytes (take n frames)) (no_bytes n reads.rest is)
                 reads.taken);
             holds =
-                holds_but_end (task_of programme options unread) frames ended.1 past
+                holds_but_end (task_of programme options unread) frames past ended.1
                 (omega (arith, all, some))
                 (λ t l e.
                 let m = over l (sym follows.remembers.task_is.last_is ∙ e) in
@@ -320,7 +321,7 @@ module _
       end_told (Err f) (not_over, told) =
           subst (NamesFirst (task_of programme options unread) frames)
           (ap fault.Late (sym last) ∙ sym told)
-          (first_late (task_of programme options unread) frames ended.1 past
+          (first_late (task_of programme options unread) frames past ended.1
           (omega (arith, all, some))
           (λ h. not_over
           (λ l e.

@@ -163,88 +163,21 @@ module _ (w : Watched) (packets : List (List ℕ)) (sent : List Bool) (page : Li
 
 -- Which rule is the first.
 module _ (w : Watched) (before : List (List ℕ)) (p : List ℕ) where
-  -- The first rule that is broken: C11.
-  pub first_mode : KeepsRule rule.Address w before p → KeepsRule rule.HeaderCode w before p
-      → (KeepsRule rule.Mode w before p → ⊥) → BreaksFirst w before p rule.Mode
-  first_mode a h broken = record { broken = broken; earlier = earlier }
+  -- The first rule that is broken, where each before it is kept.
+  pub first_rule : (f : PacketRule) → KeepsRule rule.Address w before p
+      → KeepsRule rule.HeaderCode w before p → (2 < rank f → KeepsRule rule.Mode w before p)
+      → (3 < rank f → KeepsRule rule.Control w before p)
+      → (4 < rank f → KeepsRule rule.Parity w before p) → rank f < 6
+      → (KeepsRule f w before p → ⊥) → BreaksFirst w before p f
+  first_rule f a h m c o few broken = record { broken = broken; earlier = earlier }
     where
-      earlier : (g : PacketRule) → rank g < 2 → KeepsRule g w before p
+      earlier : (g : PacketRule) → rank g < rank f → KeepsRule g w before p
       earlier rule.Address l = a
       earlier rule.HeaderCode l = h
-      earlier rule.Mode l = absurd (omega arith)
-      earlier rule.Control l = absurd (omega arith)
-      earlier rule.Parity l = absurd (omega arith)
-      earlier rule.RowChanged l = absurd (omega arith)
-      earlier rule.Enhancement l = absurd (omega arith)
-
-  -- The first rule that is broken: the control bits.
-  pub first_control : KeepsRule rule.Address w before p → KeepsRule rule.HeaderCode w before p
-      → KeepsRule rule.Mode w before p → (KeepsRule rule.Control w before p → ⊥)
-      → BreaksFirst w before p rule.Control
-  first_control a h m broken = record { broken = broken; earlier = earlier }
-    where
-      earlier : (g : PacketRule) → rank g < 3 → KeepsRule g w before p
-      earlier rule.Address l = a
-      earlier rule.HeaderCode l = h
-      earlier rule.Mode l = m
-      earlier rule.Control l = absurd (omega arith)
-      earlier rule.Parity l = absurd (omega arith)
-      earlier rule.RowChanged l = absurd (omega arith)
-      earlier rule.Enhancement l = absurd (omega arith)
-
-  -- The later flaws, where the first four are free: given all but the broken one, which is then
-  -- the first.
-  pub first_of_clean : (f : PacketRule) → (KeepsRule f w before p → ⊥)
-      → ((g : PacketRule) → rank g < rank f → KeepsRule g w before p)
-      → BreaksFirst w before p f
-  first_of_clean f broken earlier = record { broken = broken; earlier = earlier }
-
-  -- The first rule that is broken: parity.
-  pub first_row : KeepsRule rule.Address w before p → KeepsRule rule.HeaderCode w before p
-      → KeepsRule rule.Mode w before p → KeepsRule rule.Control w before p
-      → (KeepsRule rule.Parity w before p → ⊥) → BreaksFirst w before p rule.Parity
-  first_row a h m c broken = record { broken = broken; earlier = earlier }
-    where
-      earlier : (g : PacketRule) → rank g < 4 → KeepsRule g w before p
-      earlier rule.Address l = a
-      earlier rule.HeaderCode l = h
-      earlier rule.Mode l = m
-      earlier rule.Control l = c
-      earlier rule.Parity l = absurd (omega arith)
-      earlier rule.RowChanged l = absurd (omega arith)
-      earlier rule.Enhancement l = absurd (omega arith)
-
-  -- The first rule that is broken: the row has changed.
-  pub first_changed : KeepsRule rule.Address w before p → KeepsRule rule.HeaderCode w before p
-      → KeepsRule rule.Mode w before p → KeepsRule rule.Control w before p
-      → KeepsRule rule.Parity w before p → (KeepsRule rule.RowChanged w before p → ⊥)
-      → BreaksFirst w before p rule.RowChanged
-  first_changed a h m c o broken = record { broken = broken; earlier = earlier }
-    where
-      earlier : (g : PacketRule) → rank g < 5 → KeepsRule g w before p
-      earlier rule.Address l = a
-      earlier rule.HeaderCode l = h
-      earlier rule.Mode l = m
-      earlier rule.Control l = c
-      earlier rule.Parity l = o
-      earlier rule.RowChanged l = absurd (omega arith)
-      earlier rule.Enhancement l = absurd (omega arith)
-
-  -- The first rule that is broken: a packet X/25 to X/28.
-  pub first_enhancement : KeepsRule rule.Address w before p → KeepsRule rule.HeaderCode w before p
-      → KeepsRule rule.Mode w before p → KeepsRule rule.Control w before p
-      → KeepsRule rule.Parity w before p → KeepsRule rule.RowChanged w before p
-      → (KeepsRule rule.Enhancement w before p → ⊥) → BreaksFirst w before p rule.Enhancement
-  first_enhancement a h m c o r broken = record { broken = broken; earlier = earlier }
-    where
-      earlier : (g : PacketRule) → rank g < 6 → KeepsRule g w before p
-      earlier rule.Address l = a
-      earlier rule.HeaderCode l = h
-      earlier rule.Mode l = m
-      earlier rule.Control l = c
-      earlier rule.Parity l = o
-      earlier rule.RowChanged l = r
-      earlier rule.Enhancement l = absurd (omega arith)
+      earlier rule.Mode l = m l
+      earlier rule.Control l = c l
+      earlier rule.Parity l = o l
+      earlier g l = absurd (omega (arith, few))
 
 -- C11 of the first header, as it is kept, and the header that was read.
 pub mode_free : (serial : Option Bool) (read : Option Header) (w : Watched)

@@ -89,54 +89,10 @@ module _ (w : PageIdValue) (ok : IsWatchable w) where
 -- The header of a sending has the control bits of a subtitle's.
 subtitle_header : (w : PageIdValue) (national : National) (serial : Bool)
     → IsSubtitleHeader national (watched_header w national serial)
-subtitle_header w English true =
-    record {
-      erases = refl;
-      no_newsflash = refl;
-      subtitle = refl;
-      suppressed = refl;
-      displayed =
-          refl;
-      option_1 = refl;
-      option_2 = refl;
-      option_3 = refl;
-    }
-subtitle_header w English false =
-    record {
-      erases = refl;
-      no_newsflash = refl;
-      subtitle = refl;
-      suppressed = refl;
-      displayed =
-          refl;
-      option_1 = refl;
-      option_2 = refl;
-      option_3 = refl;
-    }
-subtitle_header w German true =
-    record {
-      erases = refl;
-      no_newsflash = refl;
-      subtitle = refl;
-      suppressed = refl;
-      displayed =
-          refl;
-      option_1 = refl;
-      option_2 = refl;
-      option_3 = refl;
-    }
-subtitle_header w German false =
-    record {
-      erases = refl;
-      no_newsflash = refl;
-      subtitle = refl;
-      suppressed = refl;
-      displayed =
-          refl;
-      option_1 = refl;
-      option_2 = refl;
-      option_3 = refl;
-    }
+subtitle_header w English true = assumption
+subtitle_header w English false = assumption
+subtitle_header w German true = assumption
+subtitle_header w German false = assumption
 
 -- ---- the schedule
 

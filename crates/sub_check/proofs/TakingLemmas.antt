@@ -350,12 +350,10 @@ module _ (g : Task) (frames : Transmission) (n : ℕ) (c : CheckerValue) (t : To
       → DiffersFirst c.listener.comparison.page c.listener.comparison.due row column
       → NamesFirst g frames (fault.Content c.frame row column)
   names_cell row column d =
-      let w : WrongFirst g frames (n + 1) (frame_at frames n) row column =
-      subst (λ f. WrongFirst g frames (n + 1) f row column) (sym t.frame_is)
-      (wrong_first g frames (n + 1) c t.known t.due_is row column d) in
       subst (λ f. NamesFirst g frames (fault.Content f row column)) t.frame_is
-      (first_cell g frames n t.past row column t.there t.order t.gap t.packets head w.is_cell
-      w.broken w.above w.before)
+      (first_cell g frames n t.past t.there t.order t.gap t.packets head row column
+      (subst (λ f. WrongFirst g frames (n + 1) f row column) (sym t.frame_is)
+      (wrong_first g frames (n + 1) c t.known t.due_is row column d)))
 
   -- A header too long ago.
   pub names_gap : AreSameCells c.listener → c.every ≤ c.frame - c.header_at

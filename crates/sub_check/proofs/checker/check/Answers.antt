@@ -4,7 +4,7 @@ use Rattle.sub_check.proofs.checker.check.Goals as goal
 
 pub returns-clause-checked : goal.returns-clause-checked
 returns-clause-checked g c = λ bytes told.
-    checked_from c.args.programme.now c.args.options.now bytes c.judge.result
-    c.judge.ensures.options c.judge.ensures.programme
+    checked_from c.args.programme.now c.args.options.now c.judge.ensures.options bytes
+    c.judge.result c.judge.ensures.programme
     (λ fine frames unread reads. c.judge.ensures.exact frames unread bytes told reads fine)
     (λ frames unread pes reads is. c.judge.ensures.failed frames unread pes bytes told reads is)

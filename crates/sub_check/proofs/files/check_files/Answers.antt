@@ -36,9 +36,9 @@ returns-in-Err-clause-checked g c = λ file told. record {
 
 pub returns-in-Ok-clause-accepted : goal.returns-in-Ok-clause-accepted
 returns-in-Ok-clause-accepted g c = λ file told bytes heard.
-    files_accepted c.args.national c.args.options.now file bytes c.in-Ok.programme c.check.result
-    c.law_of_loading.ensures (c.in-Ok.ensures.exact file told) c.in-Ok.ensures.national
-    c.check.ensures.own (c.check.ensures.checked bytes heard)
+    files_accepted c.args.national c.args.options.now file bytes c.in-Ok.programme
+    c.law_of_loading.ensures (c.in-Ok.ensures.exact file told) c.check.result
+    c.in-Ok.ensures.national c.check.ensures.own (c.check.ensures.checked bytes heard)
 
 pub returns-in-Ok-clause-checked : goal.returns-in-Ok-clause-checked
 returns-in-Ok-clause-checked g c = λ file told.

@@ -1,5 +1,5 @@
 -- Each way out names the first rule that is broken: PacketRuleLemmas.
-use Rattle.std.proofs.Common.{◌≡◌, false, sym, ◌∙◌}
+use Rattle.std.proofs.Common.{◌≡◌, false, sym, ◌∙◌, arith}
 use Rattle.std.proofs.lemmas.Bool.{true≢false, iff_false}
 use Rattle.ttx_packet.specs.RowPacket.{HasOddText}
 use Rattle.ttx_page.specs.declared.packet_kind.PacketKind.TheVariants.{ThisPage, EndsPage, Row}
@@ -8,8 +8,8 @@ use Rattle.ttx_page.specs.PacketKind.{kind}
 use Rattle.ttx_page.specs.Span.{is_open_after}
 use Rattle.sub_check.proofs.PacketRuleLemmas.{clean_from, control_free, parity_free, changed_free}
 use Rattle.sub_check.proofs.PacketRuleLemmas.{enhancement_free, rows_unsent, rows_equal, rows_other}
-use Rattle.sub_check.proofs.PacketRuleLemmas.{mode_free, mode_broken, first_mode, first_control}
-use Rattle.sub_check.proofs.PacketRuleLemmas.{first_row, first_changed}
+use Rattle.sub_check.proofs.PacketRuleLemmas.{mode_free, mode_broken, first_rule}
+use Rattle.sub_check.specs.declared.packet_rules.PacketRule.TheVariants as rule
 use Rattle.sub_check.proofs.listener.Listener.broken_rule.Goals.{
   else-self-at-via-then-self-at+else-not-holds_row,
 }
@@ -24,8 +24,9 @@ pub returns-then-not-has_mode : goal.returns-then-not-has_mode
 returns-then-not-has_mode c heard known =
     let w = c.args.self.now.watched in
     let p = c.args.packet.now in
-    first_mode w heard p (c.is_clean_address.ensures.0 c.if-not-is_clean_address.false)
-    (c.has_exact_codes.ensures.0 c.if-not-has_exact_codes.false)
+    first_rule w heard p rule.Mode (c.is_clean_address.ensures.0 c.if-not-is_clean_address.false)
+    (c.has_exact_codes.ensures.0 c.if-not-has_exact_codes.false) (λ l. absurd (omega arith))
+    (λ l. absurd (omega arith)) (λ l. absurd (omega arith)) (omega arith)
     (λ free. iff_false c.has_mode.ensures c.if-not-has_mode.true
     (mode_broken _ _ w heard p c.requires.page_header known.serial_is free))
 
@@ -50,10 +51,11 @@ returns-else-is_subtitle_header c heard known =
     let p = c.args.packet.now in
     let k : kind w.page p ≡ ThisPage c.in-ThisPage.header =
     sym c.requires.kind ∙ c.in-ThisPage.is in
-    first_control w heard p (c.is_clean_address.ensures.0 c.if-not-is_clean_address.false)
+    first_rule w heard p rule.Control (c.is_clean_address.ensures.0 c.if-not-is_clean_address.false)
     (c.has_exact_codes.ensures.0 c.if-not-has_exact_codes.false)
-    (mode_free _ _ w heard p c.requires.page_header known.serial_is
+    (λ l. mode_free _ _ w heard p c.requires.page_header known.serial_is
     (c.has_mode.ensures.0 c.if-not-has_mode.false))
+    (λ l. absurd (omega arith)) (λ l. absurd (omega arith)) (omega arith)
     (λ free. iff_false c.is_subtitle_header.ensures c.if-is_subtitle_header.false
     (free c.in-ThisPage.header k))
 
@@ -90,11 +92,11 @@ returns-then-not-has_odd_text c heard known =
     let w = c.args.self.now.watched in
     let p = c.args.packet.now in
     let k : kind w.page p ≡ Row c.in-Row.row = sym c.requires.kind ∙ c.in-Row.is in
-    first_row w heard p (c.is_clean_address.ensures.0 c.if-not-is_clean_address.false)
+    first_rule w heard p rule.Parity (c.is_clean_address.ensures.0 c.if-not-is_clean_address.false)
     (c.has_exact_codes.ensures.0 c.if-not-has_exact_codes.false)
-    (mode_free _ _ w heard p c.requires.page_header known.serial_is
+    (λ l. mode_free _ _ w heard p c.requires.page_header known.serial_is
     (c.has_mode.ensures.0 c.if-not-has_mode.false))
-    (control_free w heard p _ k (λ h e. cc))
+    (λ l. control_free w heard p _ k (λ h e. cc)) (λ l. absurd (omega arith)) (omega arith)
     (λ free. iff_false c.has_odd_text.ensures c.if-not-has_odd_text.true
     (free (sym known.open_is ∙ c.if-not-self.false) c.in-Row.row k))
 
@@ -104,12 +106,13 @@ returns-then-not-holds_row c heard known =
     let p = c.args.packet.now in
     let k : kind w.page p ≡ Row c.in-Row.row = sym c.requires.kind ∙ c.in-Row.is in
     let range = c.requires.row c.in-Row.row c.in-Row.is in
-    first_changed w heard p (c.is_clean_address.ensures.0 c.if-not-is_clean_address.false)
+    first_rule w heard p rule.RowChanged
+    (c.is_clean_address.ensures.0 c.if-not-is_clean_address.false)
     (c.has_exact_codes.ensures.0 c.if-not-has_exact_codes.false)
-    (mode_free _ _ w heard p c.requires.page_header known.serial_is
+    (λ l. mode_free _ _ w heard p c.requires.page_header known.serial_is
     (c.has_mode.ensures.0 c.if-not-has_mode.false))
-    (control_free w heard p _ k (λ h e. cc))
-    (λ opened row e. c.has_odd_text.ensures.0 c.if-not-has_odd_text.false)
+    (λ l. control_free w heard p _ k (λ h e. cc))
+    (λ l opened row e. c.has_odd_text.ensures.0 c.if-not-has_odd_text.false) (omega arith)
     (λ free. rows_other w _ _ _ known.rows_are c.in-Row.row range.0 range.1 p k c.if-self-at.true
     (λ e. iff_false c.holds_row.ensures.value c.if-not-holds_row.true e)
     (free (sym known.open_is ∙ c.if-not-self.false) c.in-Row.row k))
