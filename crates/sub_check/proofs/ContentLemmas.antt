@@ -32,11 +32,12 @@ use Rattle.sub_check.specs.WrongContent.{IsWrongEverywhere}
 use Rattle.sub_check.specs.declared.fault.CheckFault.TheVariants as fault
 use Rattle.sub_check.specs.declared.packet_rules.PacketRule.TheVariants as rule
 use Rattle.sub_check.specs.declared.packet_rules.Watched.{Watched}
-use Rattle.sub_check.proofs.GoodByPlace.{IsFair}
-use Rattle.sub_check.proofs.GoodLemmas.{clean_span, first-same, last-same, number_at}
+use Rattle.sub_check.proofs.GoodLemmas.{first-same, last-same, number_at}
 use Rattle.sub_check.proofs.PacketLists.{Each-push}
-use Rattle.sub_check.proofs.PlaceLemmas.{IsFair-none, fair_step}
+use Rattle.sub_check.proofs.PlaceLemmas.{fair_step}
 use Rattle.sub_check.proofs.PrefixLemmas.{at_start, before, packet_at, rises_strictly, rises_to}
+use Rattle.sub_check.proofs.StepByStepLemmas.{clean_nil}
+use Rattle.sub_check.specs.Good.{IsCleanSpan}
 use Rattle.ttx_page.proofs.SpanLists.{holds-append_left}
 
 -- ---- packets that keep the rules
@@ -58,23 +59,21 @@ module _ (w : Watched) (frames : Transmission) (n : ℕ) (fits : n ≤ length fr
       (λ i k l m ih. Each-push (ErasesPage w.page) (before frames i k) (packet_at frames i k) ih
       (λ h e. (clean i k l m rule.Control h e).erases)) n (omega arith)
 
-  -- Their span is fair.
-  fair : IsFair w (span (kind w.page) (packets_before frames n))
-  fair =
-      at_start frames n fits (λ xs. IsFair w (span (kind w.page) xs)) (IsFair-none w)
+  -- Their span is clean.
+  clean_span : IsCleanSpan w.page (span (kind w.page) (packets_before frames n))
+  clean_span =
+      at_start frames n fits (λ xs. IsCleanSpan w.page (span (kind w.page) xs)) (clean_nil w.page)
       (λ i k l m ih. fair_step w (before frames i k) (packet_at frames i k) (clean i k l m) ih) n
       (omega arith)
 
   -- So they are what is asked for the law of quiet.
   sound : IsSound w.page (packets_before frames n)
-  sound =
-      let c = clean_span w (span (kind w.page) (packets_before frames n)) fair in
-      record {
-        exact = All-from_recursion HasExactWords (packets_before frames n) exact;
-        erases = All-from_recursion (ErasesPage w.page) (packets_before frames n) erases;
-        odd = c.odd;
-        same = c.same;
-      }
+  sound = record {
+    exact = All-from_recursion HasExactWords (packets_before frames n) exact;
+    erases = All-from_recursion (ErasesPage w.page) (packets_before frames n) erases;
+    odd = clean_span.odd;
+    same = clean_span.same;
+  }
 
   -- With a header among them every receiver shows what they show.
   all_show :

@@ -2,18 +2,14 @@
 -- nothing of an order of tests.
 use Rattle.std.specs.Prelude.{None, ◌≡◌, ℕ, ◌+◌, ◌-◌, ◌<◌, ◌≤◌, ◌&&◌, ◌++◌, List, Some, filter}
 use Rattle.std.specs.Prelude.{take, drop, length, nat_le}
-use Rattle.std.specs.List.{flat_map, AllByRecursion}
-use Rattle.ttx_packet.specs.PageHeader.{HasExactWords, header, c11}
-use Rattle.ttx_packet.specs.RowPacket.{HasOddText}
-use Rattle.ttx_packet.specs.declared.header.Header.{Header}
-use Rattle.sub_check.specs.declared.packet_rules.Watched.{Watched}
-use Rattle.ttx_page.specs.declared.packet_kind.PacketKind.TheVariants.{ThisPage, Row}
+use Rattle.std.specs.List.{flat_map}
+use Rattle.ttx_packet.specs.PageHeader.{HasExactWords}
 use Rattle.ttx_page.specs.PacketKind.{kind}
 use Rattle.ttx_page.specs.Span.{span}
 use Rattle.ttx_page.specs.Shown.{shown}
 use Rattle.ttx_page.specs.Page.{cell, IsCell}
-use Rattle.sub_check.specs.Transmission.{SentFrame, Transmission}
-use Rattle.sub_check.specs.Good.{IsSubtitleHeader, IsEnhancement}
+use Rattle.sub_check.specs.Transmission.{EachPacket, SentFrame, Transmission}
+use Rattle.sub_check.specs.Good.{IsCleanSpan, IsControlled, IsInOneMode}
 use Rattle.sub_check.specs.FrameRules.{Task, frame_at, packets_of_frame, packets_before, end_frame}
 use Rattle.sub_check.specs.FrameRules.{HasHeader}
 use Rattle.sub_check.specs.FrameRules.{IsEnded}
@@ -28,15 +24,6 @@ air frames g j f =
 abbrev pub whole : Transmission → List (List ℕ)
 whole frames = packets_before frames (length frames)
 
--- What stands in a span: rows with odd text, those of one row equal, and no packet 25 to 28.
-pub record IsFair (w : Watched) (packets : List (List ℕ)) : Type 0 where
-  pub odd : AllByRecursion (λ p. (row : ℕ) → kind w.page p ≡ Row row → HasOddText p) packets
-  pub same : AllByRecursion
-      (λ p. AllByRecursion
-      (λ q. (row : ℕ) → kind w.page q ≡ Row row → kind w.page p ≡ Row row → q ≡ p) packets)
-      packets
-  pub plain : AllByRecursion (λ p. IsEnhancement w.page p → ⊥) packets
-
 -- The seven rules, and that pages are complete where this is asked, by places of the list of
 -- frames.
 pub record GoodFrames (g : Task) (frames : Transmission) : Type 0 where
@@ -47,20 +34,15 @@ pub record GoodFrames (g : Task) (frames : Transmission) : Type 0 where
   pub begins : (first : ℕ) → g.first_in ≡ Some first → frame_at frames 0 ≤ first
   pub ends : (last : ℕ) → g.last_out ≡ Some last → last ≤ end_frame frames
   -- 2: addresses and headers are exact words
-  pub exact : AllByRecursion HasExactWords (whole frames)
+  pub exact : EachPacket HasExactWords frames
   -- 3: all headers agree on C11
-  pub serial : AllByRecursion
-      (λ p. AllByRecursion
-      (λ q. (a b : Header) → header p ≡ Some a → header q ≡ Some b → (c11 a) ≡ (c11 b))
-      (whole frames)) (whole frames)
+  pub serial : EachPacket (λ one. EachPacket (IsInOneMode one) frames) frames
   -- 4: headers of the page are plain
-  pub headers : AllByRecursion
-      (λ p. (h : Header) → kind g.watched.page p ≡ ThisPage h
-      → IsSubtitleHeader g.watched.national h) (whole frames)
+  pub headers : EachPacket (IsControlled g.watched.national g.watched.page) frames
   -- 5: in the span of the packets up to any frame, cut short anywhere, the rows are odd and those
   -- of one row are equal, and no packet 25 to 28 stands
   pub fair : (i k : ℕ) → i < length frames → k ≤ length (packets_of_frame frames i)
-      → IsFair g.watched
+      → IsCleanSpan g.watched.page
       (span (kind g.watched.page) (packets_before frames i ++ take k (packets_of_frame frames i)))
   -- 6: a header of the page stands in the first frame, and in each run of frames as long as the
   -- repeat bound

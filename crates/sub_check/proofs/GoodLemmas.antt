@@ -10,11 +10,7 @@ use Rattle.std.proofs.lemmas.Bool.{cases_lt, lt-ltb, le-ltb, le-leb, lt-leb, and
 use Rattle.sub_check.specs.FrameRules.{Unread, task_of, watched_of, frame_at, packets_of_frame}
 use Rattle.sub_check.specs.FrameRules.{packets_before}
 use Rattle.sub_check.specs.FrameRules.{end_frame}
-use Rattle.ttx_packet.specs.PageHeader.{HasExactWords, header, c11}
-use Rattle.ttx_packet.specs.RowPacket.{HasOddText}
-use Rattle.ttx_packet.specs.declared.header.Header.{Header}
 use Rattle.sub_check.specs.declared.packet_rules.Watched.{Watched}
-use Rattle.ttx_page.specs.declared.packet_kind.PacketKind.TheVariants.{ThisPage, Row}
 use Rattle.ttx_page.specs.PacketKind.{kind, is_this_page}
 use Rattle.ttx_page.specs.Span.{span, holds_header}
 use Rattle.ttx_page.specs.Shown.{shown}
@@ -22,12 +18,11 @@ use Rattle.sub_check.specs.Transmission.{SentFrame, Transmission, EachPacket, fi
 use Rattle.sub_check.specs.Transmission.{last_frame, packets_between, packets_of, on_air}
 use Rattle.stl_rows.specs.Programme.{ProgrammeValue, first_in, last_out}
 use Rattle.sub_plan.specs.Options.{OptionsValue}
-use Rattle.sub_check.specs.Good.{IsSubtitleHeader, IsEnhancement, Good, IsCleanSpan}
-use Rattle.sub_check.proofs.GoodByPlace.{GoodFrames, IsFair, air, whole}
-use Rattle.sub_check.proofs.PacketLists.{Each-map}
+use Rattle.sub_check.specs.Good.{Good, IsCleanSpan}
+use Rattle.sub_check.proofs.GoodByPlace.{GoodFrames, air, whole}
 use Rattle.sub_check.proofs.ShownLemmas.{joined_more}
 use Rattle.sub_check.proofs.PrefixLemmas.{filter_take, rises_to, rises_strictly, locate, air_is}
-use Rattle.sub_check.proofs.PlaceLemmas.{IsFair-none}
+use Rattle.sub_check.proofs.StepByStepLemmas.{clean_nil}
 
 -- ---- frames and packets between two of them
 
@@ -105,7 +100,7 @@ pub whole-is : (t : Transmission) → whole t ≡ flat_map (λ (s : SentFrame). 
 whole-is t = ap (flat_map (λ (s : SentFrame). s.packets)) (take_all (length t) t (omega arith))
 
 -- What holds of all packets holds of each packet of the transmission.
-each_packet : (P : List ℕ → Type 0) (t : Transmission) → AllByRecursion P (whole t) → EachPacket P t
+pub each_packet : (P : List ℕ → Type 0) (t : Transmission) → AllByRecursion P (whole t) → EachPacket P t
 each_packet P t h =
     (All-from_recursion (λ (s : SentFrame). All P s.packets) t
     (Each-parts P t (subst (AllByRecursion P) (whole-is t) h)))
@@ -161,31 +156,6 @@ take-over (x ∷ xs) ys zero h = absurd (omega arith)
 take-over (x ∷ xs) ys (suc n) h = let e : suc n - suc (length xs) ≡ n - length xs = omega arith in
     ap (λ zs. x ∷ zs) (take-over xs ys n (omega arith)) ∙ ap (λ k. x ∷ (xs ++ take k ys)) (sym e)
 
--- A fair span is clean.
-pub clean_span : (w : Watched) (rows : List (List ℕ)) → IsFair w rows → IsCleanSpan w.page rows
-clean_span w rows h = record {
-  odd = All-from_recursion (λ p. (row : ℕ) → kind w.page p ≡ Row row → HasOddText p) rows h.odd;
-  same = All-from_recursion
-      (λ first. All
-      (λ second. (row : ℕ) → kind w.page first ≡ Row row → kind w.page second ≡ Row row
-      → first ≡ second) rows) rows
-      (Each-map
-      (λ p. AllByRecursion
-      (λ q. (row : ℕ) → kind w.page q ≡ Row row → kind w.page p ≡ Row row → q ≡ p) rows)
-      (λ first. All
-      (λ second. (row : ℕ) → kind w.page first ≡ Row row
-      → kind w.page second ≡ Row row → first ≡ second) rows)
-      (λ p a. All-from_recursion
-      (λ second. (row : ℕ) → kind w.page p ≡ Row row → kind w.page second ≡ Row row
-      → p ≡ second) rows
-      (Each-map
-      (λ q. (row : ℕ) → kind w.page q ≡ Row row → kind w.page p ≡ Row row → q ≡ p)
-      (λ second. (row : ℕ) → kind w.page p ≡ Row row
-      → kind w.page second ≡ Row row → p ≡ second)
-      (λ q b row kp kq. sym (b row kq kp)) rows a)) rows h.same);
-  plain = All-from_recursion (λ p. IsEnhancement w.page p → ⊥) rows h.plain;
-}
-
 -- The number of a frame of the list.
 pub number_at : (t : Transmission) (i : ℕ) (d : SentFrame) → i < length t
     → (get_or t i d).frame ≡ frame_at t i
@@ -202,27 +172,27 @@ module _ (programme : ProgrammeValue) (options : OptionsValue) (unread : Option 
     (t : Transmission) (h : GoodFrames (task_of programme options unread) t) where
   -- The packets of the first frames, cut anywhere, leave a fair span.
   cut_fair : (m : ℕ) → m ≤ length t → (n : ℕ)
-      → IsFair (watched_of programme options)
+      → IsCleanSpan options.page
       (span (kind options.page) (take n (packets_before t m)))
-  cut_fair zero l zero = IsFair-none (watched_of programme options)
-  cut_fair zero l (suc n) = IsFair-none (watched_of programme options)
+  cut_fair zero l zero = clean_nil options.page
+  cut_fair zero l (suc n) = clean_nil options.page
   cut_fair (suc m) l n =
       let e : m + 1 ≡ suc m = omega arith in
       let more : packets_before t (suc m) ≡ packets_before t m ++ packets_of_frame t m =
       ap (packets_before t) (sym e)
       ∙ joined_more t m (omega arith) in
-      subst (λ xs. IsFair (watched_of programme options) (span (kind options.page) (take n xs)))
+      subst (λ xs. IsCleanSpan options.page (span (kind options.page) (take n xs)))
       (sym more) (elim (cases_lt n (length (packets_before t m))) [
         | inl short ↦ subst
-            (λ xs. IsFair (watched_of programme options) (span (kind options.page) xs))
+            (λ xs. IsCleanSpan options.page (span (kind options.page) xs))
             (sym (take-append-le n (packets_before t m) (packets_of_frame t m) (omega arith)))
             (cut_fair m (omega arith) n)
         | inr long ↦ subst
-            (λ xs. IsFair (watched_of programme options) (span (kind options.page) xs))
+            (λ xs. IsCleanSpan options.page (span (kind options.page) xs))
             (sym (take-over (packets_before t m) (packets_of_frame t m) n long))
             (elim (cases_lt (length (packets_of_frame t m)) (n - length (packets_before t m))) [
               | inl past ↦ subst
-                  (λ xs. IsFair (watched_of programme options)
+                  (λ xs. IsCleanSpan options.page
                   (span (kind options.page) (packets_before t m ++ xs)))
                   (take_all (length (packets_of_frame t m)) (packets_of_frame t m) (omega arith)
                   ∙ sym (take_all (n - length (packets_before t m)) (packets_of_frame t m)
@@ -270,10 +240,8 @@ module _ (programme : ProgrammeValue) (options : OptionsValue) (unread : Option 
   spans_of f n l =
       let last = last-same t in
       let on = joined_at f (omega arith) in
-      clean_span (watched_of programme options) _
-      (subst (λ xs. IsFair (watched_of programme options)
-      (span (kind options.page) (take n xs))) (sym (air-both t f ∙ on.2))
-      (cut_fair on.0 on.1 n))
+      subst (λ xs. IsCleanSpan options.page (span (kind options.page) (take n xs)))
+      (sym (air-both t f ∙ on.2)) (cut_fair on.0 on.1 n)
 
   -- A header comes among as many frames as the repeat bound.
   repeats_of : (start : ℕ) → first_frame t ≤ start → start + options.every ≤ last_frame t + 1
@@ -309,26 +277,9 @@ module _ (programme : ProgrammeValue) (options : OptionsValue) (unread : Option 
         (λ x e. let b = h.begins x e in let first = first-same t in omega arith);
     lasts = if_some (last_out programme.records) (λ frame. frame ≤ last_frame t)
         (λ x e. let b = h.ends x e in let last = last-same t in omega arith);
-    exact = each_packet HasExactWords t h.exact;
-    serial = each_packet
-        (λ one. EachPacket
-        (λ other. (a b : Header) → header one ≡ Some a → header other ≡ Some b
-        → (c11 a) ≡ (c11 b)) t) t
-        (Each-map
-        (λ p. AllByRecursion
-        (λ q. (a b : Header) → header p ≡ Some a → header q ≡ Some b → (c11 a) ≡ (c11 b))
-        (whole t))
-        (λ one. EachPacket
-        (λ other. (a b : Header) → header one ≡ Some a → header other ≡ Some b
-        → (c11 a) ≡ (c11 b)) t)
-        (λ p a. each_packet
-        (λ q. (a b : Header) → header p ≡ Some a
-        → header q ≡ Some b → (c11 a) ≡ (c11 b)) t a) (whole t)
-        h.serial);
-    control =
-        each_packet
-        (λ p. (x : Header) → kind options.page p ≡ ThisPage x
-        → IsSubtitleHeader programme.national x) t h.headers;
+    exact = h.exact;
+    serial = h.serial;
+    control = h.headers;
     spans = spans_of;
     opens = any_sent (watched_of programme options) t 0 (first_frame t) h.some (sym (first-same t))
         h.starts;

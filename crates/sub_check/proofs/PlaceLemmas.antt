@@ -4,99 +4,54 @@ use Rattle.std.proofs.Common.{◌∷◌, ◌++◌, Option, Some, None, length, r
 use Rattle.std.proofs.Common.{arith}
 use Rattle.std.specs.Option.{option_or}
 use Rattle.std.specs.List.{AllByRecursion}
+use Rattle.std.proofs.lemmas.List.Elements.{All-from_recursion, recursion_from_All}
 use Rattle.std.proofs.lemmas.Bool.{cases_lt}
 use Rattle.std.proofs.lemmas.Option.{none-some, same_Some}
 use Rattle.ttx_packet.specs.PageHeader.{HasExactWords, header, c11}
-use Rattle.ttx_packet.specs.RowPacket.{HasOddText}
 use Rattle.ttx_packet.specs.declared.header.Header.{Header}
 use Rattle.sub_check.specs.declared.packet_rules.Watched.{Watched}
-use Rattle.ttx_page.specs.declared.packet_kind.PacketKind.{PacketKind}
-use Rattle.ttx_page.specs.declared.packet_kind.PacketKind.TheVariants.{ThisPage, EndsPage, Row}
-use Rattle.ttx_page.specs.declared.packet_kind.PacketKind.TheVariants.{Other}
+use Rattle.ttx_page.specs.declared.packet_kind.PacketKind.TheVariants.{Row}
 use Rattle.ttx_page.specs.PacketKind.{kind, is_this_page, ends_page}
 use Rattle.ttx_page.specs.Page.{cell, IsCell}
 use Rattle.ttx_page.specs.Span.{span, is_open_after}
 use Rattle.ttx_page.specs.Shown.{shown}
 use Rattle.sub_check.specs.PacketRules.{first_header, KeepsRule, IsClean}
-use Rattle.ttx_page.proofs.SpanPush.{span-this}
 use Rattle.sub_check.proofs.PushLemmas.{first_header-push}
-use Rattle.sub_check.specs.Transmission.{Transmission}
-use Rattle.sub_check.specs.Good.{IsSubtitleHeader, IsEnhancement}
+use Rattle.sub_check.specs.Transmission.{EachPacket, Transmission}
+use Rattle.sub_check.specs.Good.{IsCleanSpan, IsControlled, IsInOneMode}
+use Rattle.sub_check.specs.StepByStep.{MayFollow}
 use Rattle.sub_check.specs.FrameRules.{Task, frame_at, packets_of_frame, packets_before, end_frame}
-use Rattle.sub_check.specs.FrameRules.{HasHeader}
-use Rattle.sub_check.specs.FrameRules.{ShowsDue, IsCovered}
+use Rattle.sub_check.specs.FrameRules.{HasHeader, ShowsDue, IsCovered}
 use Rattle.sub_check.specs.declared.fault.CheckFault.{CheckFault}
 use Rattle.sub_check.specs.FirstBroken.{HoldsEverywhere, NamesFirst}
 use Rattle.sub_check.specs.FirstBroken.Place.{AtOrder, AtStart, AtGapCell, AtGap, AtPacket, AtFirst}
 use Rattle.sub_check.specs.FirstBroken.Place.{AtCell, AtFrame, AtOpen, AtUnread, AtNothing}
 use Rattle.sub_check.specs.FirstBroken.Place.{AtEnd}
-use Rattle.sub_check.proofs.GoodByPlace.{GoodFrames, IsFair, air, whole}
-use Rattle.sub_check.proofs.PacketLists.{Each-push, Each-map, Each-join}
-use Rattle.sub_check.proofs.ListeningLemmas.{span_shut, span_ends, span_open}
+use Rattle.sub_check.proofs.GoodByPlace.{GoodFrames, air, whole}
+use Rattle.sub_check.proofs.GoodLemmas.{each_packet}
+use Rattle.sub_check.proofs.PacketLists.{Each-push, Each-map}
+use Rattle.sub_check.proofs.ListeningLemmas.{span_open}
 use Rattle.sub_check.proofs.PacketRuleLemmas.{kind-enhancement}
-use Rattle.sub_check.proofs.PrefixLemmas.{before, packet_at, at_start, at_packet, whole-split}
-use Rattle.sub_check.proofs.PrefixLemmas.{before_more, rises_to, rises_strictly, locate, air_is}
+use Rattle.sub_check.proofs.PrefixLemmas.{before, packet_at, at_start, at_packet, each_at}
+use Rattle.sub_check.proofs.PrefixLemmas.{each_from, before_more, rises_to, rises_strictly, locate}
+use Rattle.sub_check.proofs.PrefixLemmas.{air_is}
+use Rattle.sub_check.proofs.StepByStepLemmas.{clean_nil, last_clean, pushed}
 use Rattle.sub_check.specs.declared.packet_rules.PacketRule.TheVariants as rule
 
 -- ---- one packet more in a span
 
--- No packets are fair.
-pub IsFair-none : (w : Watched) → IsFair w []
-IsFair-none w = record { odd = tt; same = tt; plain = tt }
-
--- A fair span with a packet more that may follow it.
-IsFair-more : (w : Watched) (rows : List (List ℕ)) (p : List ℕ) → IsFair w rows
-    → ((row : ℕ) → kind w.page p ≡ Row row → HasOddText p)
-    → ((row : ℕ) → kind w.page p ≡ Row row
-    → AllByRecursion (λ q. kind w.page q ≡ Row row → q ≡ p) rows)
-    → (IsEnhancement w.page p → ⊥) → IsFair w (rows ++ p ∷ [])
-IsFair-more w rows p h odd same plain = record {
-  odd = Each-push (λ x. (row : ℕ) → kind w.page x ≡ Row row → HasOddText x) rows p h.odd odd;
-  same = Each-push (λ x. AllByRecursion (Same x) (rows ++ p ∷ [])) rows p
-      (Each-join (λ x. AllByRecursion (Same x) rows)
-      (λ x. (row : ℕ) → kind w.page p ≡ Row row → kind w.page x ≡ Row row → x ≡ p)
-      (λ x. AllByRecursion (Same x) (rows ++ p ∷ []))
-      (λ x a b. Each-push (Same x) rows p a (λ row kp kx. sym (b row kp kx))) rows
-      h.same (turn rows (λ row k. same row k)))
-      (Each-push (Same p) rows p
-      (Each-map (λ x. (row : ℕ) → kind w.page p ≡ Row row → kind w.page x ≡ Row row → x ≡ p)
-      (Same p) (λ x b row kx kp. b row kp kx) rows (turn rows (λ row k. same row k)))
-      (λ row a b. refl));
-  plain = Each-push (λ x. IsEnhancement w.page x → ⊥) rows p h.plain plain;
-}
-  where
-    Same : List ℕ → List ℕ → Type 0
-    Same x q = (row : ℕ) → kind w.page q ≡ Row row → kind w.page x ≡ Row row → q ≡ x
-
-    turn : (xs : List (List ℕ))
-        → ((row : ℕ) → kind w.page p ≡ Row row
-        → AllByRecursion (λ q. kind w.page q ≡ Row row → q ≡ p) xs)
-        → AllByRecursion
-        (λ x. (row : ℕ) → kind w.page p ≡ Row row → kind w.page x ≡ Row row → x ≡ p) xs
-    turn [] f = tt
-    turn (x ∷ xs) f = ((λ row kp kx. (f row kp).0 kx), turn xs (λ row kp. (f row kp).1))
-
--- After a packet that keeps the rules the span is fair still.
+-- After a packet that keeps the rules the span is clean still.
 pub fair_step : (w : Watched) (heard : List (List ℕ)) (p : List ℕ) → IsClean w heard p
-    → IsFair w (span (kind w.page) heard) → IsFair w (span (kind w.page) (heard ++ p ∷ []))
-fair_step w heard p clean h = go (kind w.page p) refl
-  where
-    opened : is_this_page (kind w.page p) ≡ false → ends_page (kind w.page p) ≡ false → (b : Bool)
-        → is_open_after (kind w.page) heard ≡ b → IsFair w (span (kind w.page) (heard ++ p ∷ []))
-    opened this ends true e =
-        subst (IsFair w) (sym (span_open w heard p this ends e))
-        (IsFair-more w (span (kind w.page) heard) p h (clean rule.Parity e)
-        (clean rule.RowChanged e) (clean rule.Enhancement e))
-    opened this ends false e = subst (IsFair w) (sym (span_shut w heard p this e)) h
-
-    go : (k : PacketKind) → kind w.page p ≡ k → IsFair w (span (kind w.page) (heard ++ p ∷ []))
-    go (ThisPage x) e =
-        subst (IsFair w) (sym (span-this (kind w.page) heard p (ap is_this_page e))) (IsFair-none w)
-    go EndsPage e = subst (IsFair w) (sym (span_ends w heard p e)) h
-    go (Row y) e =
-        opened (ap is_this_page e) (ap ends_page e) (is_open_after (kind w.page) heard) refl
-    go Other e =
-        opened (ap is_this_page e) (ap ends_page e) (is_open_after (kind w.page) heard) refl
+    → IsCleanSpan w.page (span (kind w.page) heard)
+    → IsCleanSpan w.page (span (kind w.page) (heard ++ p ∷ []))
+fair_step w heard p clean h =
+    pushed w.page heard p h (λ opened this ends. record {
+      odd = clean rule.Parity opened;
+      same = λ k d l row a b.
+          All-from_recursion (λ q. kind w.page q ≡ Row row → q ≡ p) (span (kind w.page) heard)
+          (clean rule.RowChanged opened row b) k d l a;
+      plain = clean rule.Enhancement opened;
+    })
 
 -- ---- each header agrees with the first
 
@@ -125,22 +80,6 @@ agree_step heard p mode h =
     new b e (Some f) q =
         (f, first_header-push heard p ∙ ap (λ o. option_or o (header p)) q, mode b f e q)
 
--- Where each header agrees with the first, any two agree.
-all_agree : (xs : List (List ℕ)) → AllByRecursion (Agrees xs) xs
-    → AllByRecursion
-    (λ p. AllByRecursion
-    (λ q. (a b : Header) → header p ≡ Some a → header q ≡ Some b → (c11 a) ≡ (c11 b)) xs) xs
-all_agree xs h =
-    Each-map (Agrees xs)
-    (λ p. AllByRecursion
-    (λ q. (a b : Header) → header p ≡ Some a → header q ≡ Some b → (c11 a) ≡ (c11 b)) xs)
-    (λ p ap'. Each-map (Agrees xs)
-    (λ q. (a b : Header) → header p ≡ Some a → header q ≡ Some b
-    → (c11 a) ≡ (c11 b))
-    (λ q aq a b ea eb. let x = ap' a ea in let y = aq b eb in
-    let s : x.0 ≡ y.0 = same_Some x.0 y.0 (sym x.1 ∙ y.1) in x.2
-    ∙ ap (λ (z : Header). (c11 z)) s ∙ sym y.2) xs h) xs h
-
 -- A packet of the list has the first header.
 first_pick : (P : List ℕ → Type 0) (xs : List (List ℕ)) (f : Header) → first_header xs ≡ Some f
     → AllByRecursion P xs → (q : List ℕ) × (header q ≡ Some f) × P q
@@ -152,18 +91,6 @@ first_pick P (x ∷ xs) f e h = go (header x) refl e (λ d. first_pick P xs f d 
         → (q : List ℕ) × (header q ≡ Some f) × P q
     go None q d ih = ih d
     go (Some a) q d ih = (x, q ∙ d, h.0)
-
--- What holds of each item holds of one in the middle.
-Each-at : {X : Type 0} (P : X → Type 0) (xs ys : List X) (x : X) → AllByRecursion P (xs ++ x ∷ ys)
-    → P x
-Each-at P [] ys x h = h.0
-Each-at P (z ∷ zs) ys x h = Each-at P zs ys x h.1
-
--- And of those in front.
-Each-front : {X : Type 0} (P : X → Type 0) (xs ys : List X) → AllByRecursion P (xs ++ ys)
-    → AllByRecursion P xs
-Each-front P [] ys h = tt
-Each-front P (z ∷ zs) ys h = (h.0, Each-front P zs ys h.1)
 
 -- ---- the law, one way
 
@@ -222,6 +149,14 @@ module _ (g : Task) (t : Transmission) (some_frames : 0 < g.every) (h : HoldsEve
         ]
       ]
 
+  -- Each header has the C11 of the first.
+  agreed : EachPacket (Agrees (whole t)) t
+  agreed =
+      each_packet (Agrees (whole t)) t
+      (at_start t (length t) (omega arith) (λ xs. AllByRecursion (Agrees xs) xs) tt
+      (λ i k l m ih. agree_step (before t i k) (packet_at t i k) (clean_at i k l m rule.Mode) ih)
+      (length t) (omega arith))
+
   -- Where all that is asked holds, the transmission is good by places.
   pub Good-from_holds : GoodFrames g t
   Good-from_holds = record {
@@ -230,27 +165,17 @@ module _ (g : Task) (t : Transmission) (some_frames : 0 < g.every) (h : HoldsEve
     some = some;
     begins = h AtStart some;
     ends = h AtEnd some;
-    exact = at_start t (length t) (omega arith) (AllByRecursion HasExactWords) tt
-        (λ i k l m ih. Each-push HasExactWords (before t i k) (packet_at t i k) ih
-        (clean_at i k l m rule.Address, clean_at i k l m rule.HeaderCode)) (length t)
-        (omega arith);
-    serial = all_agree (whole t)
-        (at_start t (length t) (omega arith) (λ xs. AllByRecursion (Agrees xs) xs) tt
-        (λ i k l m ih. agree_step (before t i k) (packet_at t i k) (clean_at i k l m rule.Mode)
-        ih) (length t) (omega arith));
-    headers =
-        at_start t (length t) (omega arith)
-        (AllByRecursion
-        (λ p. (x : Header) → kind g.watched.page p ≡ ThisPage x
-        → IsSubtitleHeader g.watched.national x)) tt
-        (λ i k l m ih. Each-push
-        (λ p. (x : Header) → kind g.watched.page p ≡ ThisPage x
-        → IsSubtitleHeader g.watched.national x) (before t i k)
-        (packet_at t i k) ih (clean_at i k l m rule.Control))
-        (length t) (omega arith);
+    exact = each_from HasExactWords t
+        (λ i k l m. (clean_at i k l m rule.Address, clean_at i k l m rule.HeaderCode));
+    serial = λ i d l k e m i' d' l' k' e' m' a b is too.
+        let x = agreed i d l k e m a is in
+        let y = agreed i' d' l' k' e' m' b too in
+        x.2 ∙ ap (λ (z : Header). c11 z) (same_Some x.0 y.0 (sym x.1 ∙ y.1)) ∙ sym y.2;
+    headers = each_from (IsControlled g.watched.national g.watched.page) t
+        (λ i k l m. clean_at i k l m rule.Control);
     fair = at_packet t (length t) (omega arith)
-        (λ xs. IsFair g.watched (span (kind g.watched.page) xs))
-        (IsFair-none g.watched)
+        (λ xs. IsCleanSpan g.watched.page (span (kind g.watched.page) xs))
+        (clean_nil g.watched.page)
         (λ i k l m ih. fair_step g.watched (before t i k) (packet_at t i k) (clean_at i k l m)
         ih);
     starts = h AtFirst some;
@@ -262,77 +187,49 @@ module _ (g : Task) (t : Transmission) (some_frames : 0 < g.every) (h : HoldsEve
 -- ---- the law, the other way
 
 module _ (g : Task) (t : Transmission) (h : GoodFrames g t) where
-  -- What holds of all packets holds of one.
-  at : (P : List ℕ → Type 0) (i k : ℕ) → i < length t → k < length (packets_of_frame t i)
-      → AllByRecursion P (whole t) → P (packet_at t i k)
-  at P i k l m all = let s = whole-split t i k l m in
-      Each-at P (before t i k) s.0 (packet_at t i k) (subst (AllByRecursion P) s.1 all)
-
-  -- And of those before it.
-  front : (P : List ℕ → Type 0) (i k : ℕ) → i < length t → k < length (packets_of_frame t i)
-      → AllByRecursion P (whole t) → AllByRecursion P (before t i k)
-  front P i k l m all = let s = whole-split t i k l m in
-      Each-front P (before t i k) (packet_at t i k ∷ s.0) (subst (AllByRecursion P) s.1 all)
-
   -- Each packet has the C11 of the first header.
   mode_at : (i k : ℕ) → i < length t → k < length (packets_of_frame t i)
       → KeepsRule rule.Mode g.watched (before t i k) (packet_at t i k)
   mode_at i k l m a f ea ef =
-      let row =
-      at (λ p. AllByRecursion
-      (λ q. (a b : Header) → header p ≡ Some a → header q ≡ Some b → (c11 a) ≡ (c11 b))
-      (whole t)) i k l m h.serial in
-      let q = first_pick
-      (λ q. (a b : Header) → header (packet_at t i k) ≡ Some a → header q ≡ Some b
-      → (c11 a) ≡ (c11 b)) (before t i k) f ef
-      (front (λ q. (a b : Header) → header (packet_at t i k) ≡ Some a
-      → header q ≡ Some b → (c11 a) ≡ (c11 b)) i k l m row) in
+      let P : List ℕ → Type 0 = IsInOneMode (packet_at t i k) in
+      let row = each_at (λ one. EachPacket (IsInOneMode one) t) t i k h.serial l m in
+      let front =
+      at_packet t (length t) (omega arith) (AllByRecursion P) tt
+      (λ j n a b ih. Each-push P (before t j n) (packet_at t j n) ih (each_at P t j n row a b)) i k
+      l (omega arith) in
+      let q = first_pick P (before t i k) f ef front in
       q.2 a f ea q.1
 
-  -- While the page is open the span with the packet is fair.
-  fair_open : (i k : ℕ) → i < length t → k < length (packets_of_frame t i)
+  -- While the page is open the packet may follow the span.
+  may_follow : (i k : ℕ) → i < length t → k < length (packets_of_frame t i)
       → is_this_page (kind g.watched.page (packet_at t i k)) ≡ false
       → ends_page (kind g.watched.page (packet_at t i k)) ≡ false
       → is_open_after (kind g.watched.page) (before t i k) ≡ true
-      → IsFair g.watched
-      (span (kind g.watched.page) (before t i k) ++ packet_at t i k ∷ [])
-  fair_open i k l m this ends opened =
-      subst (IsFair g.watched)
+      → MayFollow g.watched.page (span (kind g.watched.page) (before t i k)) (packet_at t i k)
+  may_follow i k l m this ends opened =
+      last_clean g.watched.page (span (kind g.watched.page) (before t i k)) (packet_at t i k)
+      (subst (IsCleanSpan g.watched.page)
       (ap (span (kind g.watched.page)) (before_more t i k m)
       ∙ span_open g.watched (before t i k) (packet_at t i k) this ends opened)
-      (h.fair i (k + 1) l (omega arith))
+      (h.fair i (k + 1) l (omega arith)))
 
   -- Each packet keeps each rule.
   free_at : (i k : ℕ) → i < length t → k < length (packets_of_frame t i)
       → IsClean g.watched (before t i k) (packet_at t i k)
-  free_at i k l m rule.Address = (at HasExactWords i k l m h.exact).0
-  free_at i k l m rule.HeaderCode = (at HasExactWords i k l m h.exact).1
+  free_at i k l m rule.Address = (each_at HasExactWords t i k h.exact l m).0
+  free_at i k l m rule.HeaderCode = (each_at HasExactWords t i k h.exact l m).1
   free_at i k l m rule.Mode = mode_at i k l m
   free_at i k l m rule.Control =
-      at (λ p. (x : Header) → kind g.watched.page p ≡ ThisPage x
-      → IsSubtitleHeader g.watched.national x) i k l m h.headers
+      each_at (IsControlled g.watched.national g.watched.page) t i k h.headers l m
   free_at i k l m rule.Parity = λ opened row e.
-      let fair = fair_open i k l m (ap is_this_page e) (ap ends_page e) opened in
-      Each-at (λ x. (y : ℕ) → kind g.watched.page x ≡ Row y → HasOddText x)
-      (span (kind g.watched.page) (before t i k)) [] (packet_at t i k) fair.odd row e
+      (may_follow i k l m (ap is_this_page e) (ap ends_page e) opened).odd row e
   free_at i k l m rule.RowChanged = λ opened row e.
-      let rows = span (kind g.watched.page) (before t i k) in
-      let p = packet_at t i k in
-      let fair = fair_open i k l m (ap is_this_page e) (ap ends_page e) opened in
-      let same =
-      Each-at (λ x. AllByRecursion
-      (λ q. (y : ℕ) → kind g.watched.page q ≡ Row y → kind g.watched.page x ≡ Row y
-      → q ≡ x) (rows ++ p ∷ [])) rows [] p fair.same in
-      Each-map (λ q. (y : ℕ) → kind g.watched.page q ≡ Row y → kind g.watched.page p ≡ Row y
-      → q ≡ p) (λ q. kind g.watched.page q ≡ Row row → q ≡ p) (λ q f kq. f row kq e) rows
-      (Each-front
-      (λ q. (y : ℕ) → kind g.watched.page q ≡ Row y → kind g.watched.page p ≡ Row y → q ≡ p)
-      rows (p ∷ []) same)
+      let follows = may_follow i k l m (ap is_this_page e) (ap ends_page e) opened in
+      recursion_from_All (λ q. kind g.watched.page q ≡ Row row → q ≡ packet_at t i k)
+      (span (kind g.watched.page) (before t i k)) (λ j d n f. follows.same j d n row f e)
   free_at i k l m rule.Enhancement = λ opened is.
       let e = kind-enhancement g.watched (packet_at t i k) is in
-      let fair = fair_open i k l m (ap is_this_page e) (ap ends_page e) opened in
-      Each-at (λ x. IsEnhancement g.watched.page x → ⊥) (span (kind g.watched.page) (before t i k))
-      [] (packet_at t i k) fair.plain is
+      (may_follow i k l m (ap is_this_page e) (ap ends_page e) opened).plain is
 
   -- A header is not too long ago.
   covered_at : (n f : ℕ) → f ≤ end_frame t → ((j : ℕ) → n ≤ j → j < length t → f < frame_at t j)

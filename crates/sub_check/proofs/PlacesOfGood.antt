@@ -3,55 +3,27 @@ use Rattle.std.proofs.Common.{IsTrue}
 use Rattle.std.proofs.Common.{◌≡◌, ℕ, suc, ◌+◌, ◌-◌, ◌<◌, ◌≤◌, inl, inr, Bool, true, false, cond}
 use Rattle.std.proofs.Common.{◌&&◌, ◌||◌, nat_le, nat_lt, List, [], ◌∷◌, ◌++◌, Option, Some, None}
 use Rattle.std.proofs.Common.{length, take, All, refl, sym, ap, ◌∙◌, subst, arith, IfSome, ◌⊎◌}
-use Rattle.std.specs.List.{AllByRecursion, flat_map, list_any}
-use Rattle.std.proofs.lemmas.List.Elements.{recursion_from_All}
+use Rattle.std.specs.List.{list_any}
 use Rattle.std.proofs.lemmas.Option.{none-some, same_Some}
 use Rattle.std.proofs.lemmas.Bool.{cases_eq, and_parts, leb-true, ltb-true}
 use Rattle.sub_check.specs.FrameRules.{HasHeader, task_of, watched_of, frame_at, packets_of_frame}
 use Rattle.sub_check.specs.FrameRules.{packets_before}
 use Rattle.sub_check.specs.FrameRules.{end_frame}
-use Rattle.ttx_packet.specs.PageHeader.{HasExactWords, header, c11}
-use Rattle.ttx_packet.specs.RowPacket.{HasOddText}
-use Rattle.ttx_packet.specs.declared.header.Header.{Header}
 use Rattle.sub_check.specs.declared.packet_rules.Watched.{Watched}
-use Rattle.ttx_page.specs.declared.packet_kind.PacketKind.TheVariants.{ThisPage, Row}
 use Rattle.ttx_page.specs.PacketKind.{kind, is_this_page}
 use Rattle.ttx_page.specs.Span.{span, holds_header}
 use Rattle.ttx_page.specs.Shown.{shown}
-use Rattle.sub_check.specs.Transmission.{SentFrame, Transmission, EachPacket, first_frame}
+use Rattle.sub_check.specs.Transmission.{SentFrame, Transmission, first_frame}
 use Rattle.sub_check.specs.Transmission.{last_frame, packets_of}
 use Rattle.stl_rows.specs.Programme.{ProgrammeValue, first_in, last_out}
 use Rattle.sub_plan.specs.Options.{OptionsValue}
-use Rattle.sub_check.specs.Good.{IsSubtitleHeader, IsEnhancement, Good, IsCleanSpan}
+use Rattle.sub_check.specs.Good.{Good, IsCleanSpan}
 use Rattle.sub_check.specs.OnScreen.{Complete}
 use Rattle.sub_check.proofs.CompleteLemmas.{ended_at}
-use Rattle.sub_check.proofs.GoodByPlace.{GoodFrames, IsFair, air, whole}
-use Rattle.sub_check.proofs.PacketLists.{Each-map}
+use Rattle.sub_check.proofs.GoodByPlace.{GoodFrames, air}
 use Rattle.sub_check.proofs.ShownLemmas.{joined_more}
 use Rattle.sub_check.proofs.PrefixLemmas.{rises_to, rises_strictly, air_is}
 use Rattle.sub_check.proofs.GoodLemmas.{air-both, first-same, last-same, number_at, take-over}
-use Rattle.sub_check.proofs.GoodLemmas.{whole-is}
-
--- What holds of two lists holds of both, joined.
-Each-append : (P : List ℕ → Type 0) (xs ys : List (List ℕ)) → AllByRecursion P xs
-    → AllByRecursion P ys → AllByRecursion P (xs ++ ys)
-Each-append P [] ys h k = k
-Each-append P (x ∷ xs) ys h k = (h.0, Each-append P xs ys h.1 k)
-
--- What holds of the packets of each frame holds of all packets.
-parts_back : (P : List ℕ → Type 0) (t : Transmission)
-    → AllByRecursion (λ (x : SentFrame). All P x.packets) t
-    → AllByRecursion P (flat_map (λ (s : SentFrame). s.packets) t)
-parts_back P [] h = tt
-parts_back P (s ∷ ss) h =
-    Each-append P s.packets (flat_map (λ (x : SentFrame). x.packets) ss)
-    (recursion_from_All P s.packets h.0) (parts_back P ss h.1)
-
--- What holds of each packet of the transmission holds of all packets.
-packet_each : (P : List ℕ → Type 0) (t : Transmission) → EachPacket P t → AllByRecursion P (whole t)
-packet_each P t h =
-    subst (AllByRecursion P) (sym (whole-is t))
-    (parts_back P t (recursion_from_All (λ (x : SentFrame). All P x.packets) t h))
 
 -- An item of two lists joined is one of the first or of the second.
 any-split : {X : Type 0} (f : X → Bool) (xs ys : List X) → list_any f (xs ++ ys) ≡ true
@@ -102,32 +74,6 @@ some_if : (o : Option ℕ) (P : ℕ → Type 0) → IfSome o P → (x : ℕ) →
 some_if None P h x e = absurd (none-some x e)
 some_if (Some y) P h x e = subst P (same_Some y x e) h
 
--- A clean span is fair.
-fair_back : (w : Watched) (rows : List (List ℕ)) → IsCleanSpan w.page rows → IsFair w rows
-fair_back w rows h = record {
-  odd = recursion_from_All (λ p. (row : ℕ) → kind w.page p ≡ Row row → HasOddText p) rows h.odd;
-  same = Each-map
-      (λ first. All
-      (λ second. (row : ℕ) → kind w.page first ≡ Row row → kind w.page second ≡ Row row
-      → first ≡ second) rows)
-      (λ p. AllByRecursion
-      (λ q. (row : ℕ) → kind w.page q ≡ Row row → kind w.page p ≡ Row row → q ≡ p)
-      rows)
-      (λ p a. Each-map
-      (λ second. (row : ℕ) → kind w.page p ≡ Row row → kind w.page second ≡ Row row
-      → p ≡ second)
-      (λ q. (row : ℕ) → kind w.page q ≡ Row row → kind w.page p ≡ Row row → q ≡ p)
-      (λ q b row kq kp. sym (b row kp kq)) rows
-      (recursion_from_All
-      (λ second. (row : ℕ) → kind w.page p ≡ Row row
-      → kind w.page second ≡ Row row → p ≡ second) rows a)) rows
-      (recursion_from_All
-      (λ first. All
-      (λ second. (row : ℕ) → kind w.page first ≡ Row row → kind w.page second ≡ Row row
-      → first ≡ second) rows) rows h.same);
-  plain = recursion_from_All (λ p. IsEnhancement w.page p → ⊥) rows h.plain;
-}
-
 module _ (programme : ProgrammeValue) (options : OptionsValue) (t : Transmission)
     (h : Good programme t options) where
   -- There is a frame.
@@ -144,7 +90,7 @@ module _ (programme : ProgrammeValue) (options : OptionsValue) (t : Transmission
 
   -- At each packet the span is fair.
   fair_at : (i k : ℕ) → i < length t → k ≤ length (packets_of_frame t i)
-      → IsFair (watched_of programme options)
+      → IsCleanSpan options.page
       (span (kind options.page) (packets_before t i ++ take k (packets_of_frame t i)))
   fair_at i k l m =
       let f : ℕ = frame_at t i in
@@ -160,9 +106,8 @@ module _ (programme : ProgrammeValue) (options : OptionsValue) (t : Transmission
       ≡ packets_before t i ++ take k (packets_of_frame t i) =
       take-over (packets_before t i) (packets_of_frame t i) n (omega arith)
       ∙ ap (λ x. packets_before t i ++ take x (packets_of_frame t i)) (omega arith) in
-      fair_back (watched_of programme options) _
-      (subst (λ xs. IsCleanSpan options.page (span (kind options.page) xs))
-      (ap (take n) (air-both t f ∙ on ∙ joined_more t i l) ∙ cut) (h.spans f n (omega arith)))
+      subst (λ xs. IsCleanSpan options.page (span (kind options.page) xs))
+      (ap (take n) (air-both t f ∙ on ∙ joined_more t i l) ∙ cut) (h.spans f n (omega arith))
 
   -- The first frame has a header of the page.
   starts_back : HasHeader (task_of programme options None) t 0
@@ -201,25 +146,9 @@ module _ (programme : ProgrammeValue) (options : OptionsValue) (t : Transmission
     ends = λ x e. let last = last-same t in
         let b = some_if (last_out programme.records) (λ frame. frame ≤ last_frame t) h.lasts x e in
         omega arith;
-    exact = packet_each HasExactWords t h.exact;
-    serial = Each-map
-        (λ one. EachPacket
-        (λ other. (a b : Header) → header one ≡ Some a → header other ≡ Some b
-        → (c11 a) ≡ (c11 b)) t)
-        (λ p. AllByRecursion
-        (λ q. (a b : Header) → header p ≡ Some a → header q ≡ Some b
-        → (c11 a) ≡ (c11 b)) (whole t))
-        (λ p a. packet_each
-        (λ q. (a b : Header) → header p ≡ Some a → header q ≡ Some b
-        → (c11 a) ≡ (c11 b)) t a) (whole t)
-        (packet_each
-        (λ one. EachPacket
-        (λ other. (a b : Header) → header one ≡ Some a → header other ≡ Some b
-        → (c11 a) ≡ (c11 b)) t) t h.serial);
-    headers =
-        packet_each
-        (λ p. (x : Header) → kind options.page p ≡ ThisPage x
-        → IsSubtitleHeader programme.national x) t h.control;
+    exact = h.exact;
+    serial = h.serial;
+    headers = h.control;
     fair = fair_at;
     starts = starts_back;
     repeats = repeats_back;

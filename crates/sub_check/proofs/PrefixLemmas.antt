@@ -1,15 +1,15 @@
 -- The lists of packets that a transmission begins with, and where a frame falls.
 use Rattle.std.proofs.Common.{◌≡◌, ℕ, zero, suc, ◌+◌, ◌-◌, ◌<◌, ◌≤◌, ◌⊎◌, inl, inr, true, false}
-use Rattle.std.proofs.Common.{◌&&◌, nat_le, List, [], ◌∷◌, ◌++◌, filter, length, take, drop, get_or}
+use Rattle.std.proofs.Common.{◌&&◌, nat_le, List, [], ◌∷◌, ◌++◌, filter, length, take, get_or}
 use Rattle.std.proofs.Common.{refl, sym, ap, ◌∙◌, subst, arith, append_assoc}
 use Rattle.std.specs.List.{flat_map}
-use Rattle.std.proofs.lemmas.List.{take_more, take_all, take-append-drop, drop_more, append-nil}
+use Rattle.std.proofs.lemmas.List.{take_more, take_all, append-nil, get_or-map, get_or_default}
 use Rattle.std.proofs.lemmas.Bool.{cases_eq, cases_lt, le-leb, lt-leb, and_from, and_right}
 use Rattle.std.proofs.lemmas.Bool.{cond-true, cond-false}
-use Rattle.sub_check.specs.Transmission.{SentFrame, Transmission}
+use Rattle.sub_check.specs.Transmission.{EachPacket, SentFrame, Transmission}
 use Rattle.sub_check.specs.FrameRules.{frame_at, packets_of_frame, packets_before}
 use Rattle.sub_check.specs.FirstBroken.{IsInGap}
-use Rattle.sub_check.proofs.GoodByPlace.{air, whole}
+use Rattle.sub_check.proofs.GoodByPlace.{air}
 use Rattle.sub_check.proofs.ShownLemmas.{joined_more}
 
 -- The packets before packet k of frame i of the list, and that packet.
@@ -67,38 +67,23 @@ module _ (t : Transmission) (m : ℕ) (fits : m ≤ length t) (Q : List (List �
   pub at_packet : (i k : ℕ) → i < m → k ≤ length (packets_of_frame t i) → Q (before t i k)
   at_packet i k l h = within i l (at_start i (omega arith)) k h
 
--- Each prefix is the front of the whole.
-packets_before-front : (t : Transmission) (n m : ℕ) → n + m ≤ length t
-    → (rest : List (List ℕ)) × (packets_before t (n + m) ≡ packets_before t n ++ rest)
-packets_before-front t n zero h =
-    ([], ap (packets_before t) (omega arith) ∙ sym (append-nil (packets_before t n)))
-packets_before-front t n (suc m) h =
-    let ih = packets_before-front t n m (omega arith) in
-    let e : n + suc m ≡ n + m + 1 = omega arith in (
-      ih.0 ++ packets_of_frame t (n + m),
-      ap (packets_before t) e ∙ joined_more t (n + m) (omega arith)
-          ∙ ap (λ xs. xs ++ packets_of_frame t (n + m)) ih.1
-          ∙ append_assoc (packets_before t n) ih.0 (packets_of_frame t (n + m)),
-    )
+-- What holds of each packet of the transmission holds of this one.
+pub each_at : (P : List ℕ → Type 0) (t : Transmission) (i k : ℕ) → EachPacket P t → i < length t
+    → k < length (packets_of_frame t i) → P (packet_at t i k)
+each_at P t i k each l m =
+    let d : SentFrame = record { frame = 0; packets = [] } in
+    let at = get_or-map (λ (s : SentFrame). s.packets) t i d [] l in
+    subst (λ ps. P (get_or ps k [])) (sym at) (each i d l k [] (subst (λ ps. k < length ps) at m))
 
--- All packets: those before packet k of frame i, that packet, and the others.
-pub whole-split : (t : Transmission) (i k : ℕ) → i < length t → k < length (packets_of_frame t i)
-    → (rest : List (List ℕ)) × (whole t ≡ before t i k ++ packet_at t i k ∷ rest)
-whole-split t i k l h =
-    let front = packets_before-front t (i + 1) (length t - (i + 1)) (omega arith) in
-    let e : length t ≡ i + 1 + (length t - (i + 1)) = omega arith in
-    let cut : packets_of_frame t i ≡ take k (packets_of_frame t i) ++ packet_at t i k ∷ drop (k + 1)
-    (packets_of_frame t i) = sym (take-append-drop k (packets_of_frame t i))
-    ∙ ap (λ xs. take k (packets_of_frame t i) ++ xs) (drop_more (packets_of_frame t i) k [] h) in (
-      drop (k + 1) (packets_of_frame t i) ++ front.0,
-      ap (packets_before t) e ∙ front.1
-          ∙ ap (λ xs. xs ++ front.0)
-          (joined_more t i l ∙ ap (λ xs. packets_before t i ++ xs) cut
-          ∙ sym (append_assoc (packets_before t i) (take k (packets_of_frame t i))
-          (packet_at t i k ∷ drop (k + 1) (packets_of_frame t i))))
-          ∙ append_assoc (before t i k) (packet_at t i k ∷ drop (k + 1) (packets_of_frame t i))
-          front.0,
-    )
+-- And back.
+pub each_from : (P : List ℕ → Type 0) (t : Transmission)
+    → ((i k : ℕ) → i < length t → k < length (packets_of_frame t i) → P (packet_at t i k))
+    → EachPacket P t
+each_from P t every i d l k e m =
+    let at = get_or-map (λ (s : SentFrame). s.packets) t i d [] l in
+    let within = subst (λ ps. k < length ps) (sym at) m in
+    subst (λ ps. P (get_or ps k e)) at
+    (subst P (get_or_default (packets_of_frame t i) k [] e within) (every i k l within))
 
 -- ---- frames
 

@@ -83,7 +83,7 @@ pub clean_nil : (page : PageIdValue) → IsCleanSpan page []
 clean_nil page = record { odd = All-nil _; same = All-nil _; plain = All-nil _ }
 
 -- What one more packet makes of the span, by cases.
-pushed :
+pub pushed :
     (page : PageIdValue) (packets : List (List ℕ)) (packet : List ℕ)
     → IsCleanSpan page (span (kind page) packets)
     → (is_open_after (kind page) packets ≡ true
