@@ -15,7 +15,7 @@ use Rattle.ttx_pes.specs.declared.fault.PesFault.{PesFault}
 use Rattle.ttx_pes.specs.declared.fault.PesFault.TheVariants as fault
 use Rattle.ttx_pes.specs.PesPacket.{PesValue, IsPesPacket}
 use Rattle.ttx_pes.specs.Reading.{size_at, value_at, packet_at, answer_at, rest_after}
-use Rattle.ttx_pes.specs.Reader.{FailsWithin, TakesPesPacket}
+use Rattle.ttx_pes.specs.Reader.{FailsWithin, TakesPesPacket, TakesRefused}
 use Rattle.ttx_pes.specs.Comparing.{TakesDataField}
 use Rattle.ttx_pes.specs.Taking.{StopsBelow, TakesSized}
 use Rattle.ttx_pes.proofs.ReadingLemmas.{answer_full, answer_packet, packet_short, packet_size}
@@ -193,6 +193,26 @@ is_packet old new taken v h le e fit =
     (joined_fit (take 6 taken) (drop 6 taken) h.fit fit) in
     let s = read_is_packet v taken [] all reads in
     subst (λ (x : List ℕ). IsPesPacket v x) (sym (s.2 ∙ append-nil s.0)) s.1
+
+-- A fault was read: the bytes that were taken are refused for it, also where they are not told. For
+-- each reader.
+pub packet_refused : (old new : Option (List ℕ)) (size : ℕ) (room body : List ℕ) (f : PesFault)
+    → TakesSized old new (take size room)
+    → 6 ≤ size
+    → size ≤ length room
+    → body ≡ drop 6 (take size room)
+    → value_at body ≡ Err f
+    → TakesRefused old new f
+packet_refused old new size room body f h le fits same e =
+    let taken = take size room in
+    let len = length-take-le size room fits in
+    let refused : value_at (drop 6 taken) ≡ Err f = ap value_at (sym same) ∙ e in
+    record {
+      bytes = taken;
+      consumed = h.consumed;
+      refused = ap packet_at (sym (append-nil taken)) ∙ packet_of_bytes taken [] (omega arith) h.sized
+          ∙ rw refused refl;
+    }
 
 -- The first six bytes stay where more were taken after them. For `take_packet`.
 pub head_kept : (got n : ℕ) (old new : List ℕ)

@@ -7,7 +7,7 @@ use Rattle.ttx_pes.specs.declared.fault.PesFault.{PesFault}
 use Rattle.ttx_pes.specs.declared.progress.Progress.{Progress}
 use Rattle.ttx_pes.specs.declared.progress.Progress.TheVariants.{Reading, AtEnd, Broken}
 use Rattle.ttx_pes.specs.PesPacket.{PesValue, IsPesPacket}
-use Rattle.ttx_pes.specs.Reading.{size_at}
+use Rattle.ttx_pes.specs.Reading.{packet_at, size_at}
 
 -- A packet that is given is counted; the end stays, and so does a fault.
 abbrev pub progress_after : Progress → Result (Option PesValue) PesFault → Progress
@@ -46,6 +46,13 @@ pub record FailsWithin (old new : Option (List ℕ)) : Type 0 where
   pub bytes : List ℕ
   pub consumed : Consumes old new bytes
   pub begun : IsBegun bytes
+
+-- What was taken of a PES packet is refused for this fault of the format: it is the one that these
+-- bytes deserve, whatever else the source has to give.
+pub record TakesRefused (old new : Option (List ℕ)) (f : PesFault) : Type 0 where
+  pub bytes : List ℕ
+  pub consumed : Consumes old new bytes
+  pub refused : packet_at bytes ≡ Err f
 
 -- So many PES packets were taken.
 pub record TakesPackets (n : ℕ) (old new : Option (List ℕ)) : Type 0 where

@@ -11,7 +11,8 @@ ghost use Rattle.ttx_pes.specs.declared.fault.PesFault.TheVariants.{Ended, TooMa
 ghost use Rattle.ttx_pes.specs.declared.progress.Progress.TheVariants.{Reading, AtEnd, Broken};
 ghost use Rattle.ttx_pes.specs.PesPacket.{empty_value};
 ghost use Rattle.ttx_pes.specs.Reading.{answer_at, is_format_fault, most_packets, rest_after};
-ghost use Rattle.ttx_pes.specs.Reader.{BeginsNone, FailsWithin, given_frame, progress_after};
+ghost use Rattle.ttx_pes.specs.Reader.{BeginsNone, FailsWithin, TakesRefused, given_frame};
+ghost use Rattle.ttx_pes.specs.Reader.{progress_after};
 
 use crate::fault::PesFault;
 use crate::kept_frame::KeptFrame;
@@ -82,6 +83,8 @@ fn read_compared<S: Source>(
     ensures failed { failed is_read result ≡ true
         → FailsWithin (S.remaining source.old) (S.remaining source.new) }
     ensures below { as_given result ≡ Ok true → given ≢ most_packets }
+    ensures shown { IfErr result (λ fault. is_format_fault fault ≡ true
+        → TakesRefused (S.remaining source.old) (S.remaining source.new) fault) }
     ensures too_many { IfErr result (λ fault. fault ≡ TooMany → given ≡ most_packets) }
     ensures no_ended { IfErr result (λ fault. fault ≢ Ended) }
     ensures no_write { IfErr result (λ fault. fault ≢ Write) }
@@ -157,6 +160,9 @@ impl ComparingReader {
         ensures excluded { (given : ℕ) → self.old.progress ≡ Reading given
             → IfTold (S.remaining source.old) (λ bytes.
             IfErr result (λ fault. is_format_fault fault ≡ true → BeginsNone bytes)) }
+        // Also where the source tells nothing: bytes that it gave show the fault.
+        ensures refused { IfErr result (λ fault. is_format_fault fault ≡ true
+            → TakesRefused (S.remaining source.old) (S.remaining source.new) fault) }
         ensures too_many { IfErr result (λ fault.
             fault ≡ TooMany → self.old.progress ≡ Reading most_packets) }
         ensures byte_left { (given : ℕ) → self.old.progress ≡ Reading given

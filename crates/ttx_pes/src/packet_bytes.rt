@@ -8,8 +8,8 @@ ghost use Rattle.sub_io.specs.Reading.{AreBytes, IfTold};
 ghost use Rattle.ttx_pes.specs.Fault.{is_read};
 ghost use Rattle.ttx_pes.specs.declared.fault.PesFault.TheVariants.{Ended, Read, TooMany, Write};
 ghost use Rattle.ttx_pes.specs.PesPacket.{longest_packet, payload_size};
-ghost use Rattle.ttx_pes.specs.Reading.{answer_at, most_packets, rest_after};
-ghost use Rattle.ttx_pes.specs.Reader.{FailsWithin};
+ghost use Rattle.ttx_pes.specs.Reading.{answer_at, is_format_fault, most_packets, rest_after};
+ghost use Rattle.ttx_pes.specs.Reader.{FailsWithin, TakesRefused};
 ghost use Rattle.ttx_pes.specs.Taking.{StopsBelow, TakesOn, TakesSized};
 
 use crate::fault::PesFault;
@@ -71,6 +71,8 @@ pub(crate) fn take_packet<S: Source>(
     requires { CanFail (S.failure_count source.old) }
     ensures refused { IfErr result (λ fault. IfTold (S.remaining source.old) (λ bytes.
         fault ≢ Read → answer_at given bytes ≡ Err fault)) }
+    ensures shown { IfErr result (λ fault. is_format_fault fault ≡ true
+        → TakesRefused (S.remaining source.old) (S.remaining source.new) fault) }
     ensures end { result ≡ Ok None → IfTold (S.remaining source.old) (λ bytes.
         (bytes ≡ []) × (S.remaining source.new ≡ Some (rest_after bytes))) }
     ensures taken { IfOk result (λ taken. IfSome taken (λ size.

@@ -10,8 +10,8 @@ ghost use Rattle.ttx_pes.specs.declared.progress.Progress.TheVariants.{Reading, 
 ghost use Rattle.ttx_pes.specs.PesPacket.{empty_value, longest_packet, payload_size};
 ghost use Rattle.ttx_pes.specs.Reading.{answer_at, value_at, is_format_fault, most_packets};
 ghost use Rattle.ttx_pes.specs.Reading.{rest_after};
-ghost use Rattle.ttx_pes.specs.Reader.{BeginsNone, FailsWithin, TakesPesPacket, given_frame};
-ghost use Rattle.ttx_pes.specs.Reader.{progress_after};
+ghost use Rattle.ttx_pes.specs.Reader.{BeginsNone, FailsWithin, TakesPesPacket, TakesRefused};
+ghost use Rattle.ttx_pes.specs.Reader.{given_frame, progress_after};
 
 use crate::data_unit::{DATA_UNIT, take_units};
 use crate::fault::PesFault;
@@ -75,6 +75,8 @@ fn read_packet<S: Source>(
         (bytes ≡ []) × (S.remaining source.new ≡ Some (rest_after bytes))) }
     ensures failed { failed is_read result ≡ true
         → FailsWithin (S.remaining source.old) (S.remaining source.new) }
+    ensures shown { IfErr result (λ fault. is_format_fault fault ≡ true
+        → TakesRefused (S.remaining source.old) (S.remaining source.new) fault) }
     ensures too_many { IfErr result (λ fault. fault ≡ TooMany → given ≡ most_packets) }
     ensures never { IfErr result (λ fault. fault ≢ Ended) }
     ensures no_write { IfErr result (λ fault. fault ≢ Write) }
@@ -132,6 +134,9 @@ impl PesReader {
         ensures excluded { (given : ℕ) → self.old ≡ Reading given
             → IfTold (S.remaining source.old) (λ bytes.
             IfErr result (λ fault. is_format_fault fault ≡ true → BeginsNone bytes)) }
+        // Also where the source tells nothing: bytes that it gave show the fault.
+        ensures refused { IfErr result (λ fault. is_format_fault fault ≡ true
+            → TakesRefused (S.remaining source.old) (S.remaining source.new) fault) }
         ensures too_many { IfErr result (λ fault.
             fault ≡ TooMany → self.old ≡ Reading most_packets) }
         ensures byte_left { (given : ℕ) → self.old ≡ Reading given
@@ -193,6 +198,9 @@ impl PesReader {
         ensures excluded { (given : ℕ) → self.old ≡ Reading given
             → IfTold (S.remaining source.old) (λ bytes.
             IfErr result (λ fault. is_format_fault fault ≡ true → BeginsNone bytes)) }
+        // Also where the source tells nothing: bytes that it gave show the fault.
+        ensures refused { IfErr result (λ fault. is_format_fault fault ≡ true
+            → TakesRefused (S.remaining source.old) (S.remaining source.new) fault) }
         ensures too_many { IfErr result (λ fault.
             fault ≡ TooMany → self.old ≡ Reading most_packets) }
         ensures byte_left { (given : ℕ) → self.old ≡ Reading given

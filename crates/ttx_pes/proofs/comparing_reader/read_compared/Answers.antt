@@ -1,7 +1,7 @@
 -- Each return answers what the bytes that were taken decide: by TakingLemmas.
 use Rattle.std.proofs.Common.{arith, refl}
 use Rattle.std.proofs.lemmas.Result.{err_from_is_err_and}
-use Rattle.ttx_pes.proofs.TakingLemmas.{answer_taken, field_taken}
+use Rattle.ttx_pes.proofs.TakingLemmas.{answer_taken, field_taken, packet_refused}
 use Rattle.ttx_pes.proofs.ReaderLemmas.{nothing}
 use Rattle.ttx_pes.proofs.comparing_reader.read_compared.Goals as goal
 
@@ -22,6 +22,15 @@ returns-in_err-take-clause-exact g c =
     λ bytes is _. rw (p.1, p.2)
     (answer_taken c.args.given bytes _ _ c.in-Some.size c.take_packet.new.room _ _ sized is
     (omega arith) (omega arith) (few refl) c.body_of.ensures c.in_err-take.ensures.err)
+
+pub returns-in_err-take-clause-shown : goal.returns-in_err-take-clause-shown
+returns-in_err-take-clause-shown g c =
+    let p = err_from_is_err_and c.from_residual-in_err-take.result
+    c.from_residual-in_err-take.ensures.1 in
+    let sized = rw c.in-Some.is at c.in_ok-size.ensures.taken in
+    let range = rw c.in-Some.is at c.in_ok-size.ensures.range in
+    rw (p.1, p.2) (λ _. packet_refused _ _ c.in-Some.size c.take_packet.new.room _ _ sized
+    (omega arith) (omega arith) c.body_of.ensures c.in_err-take.ensures.err)
 
 pub returns-then-branch-clause-exact : goal.returns-then-branch-clause-exact
 returns-then-branch-clause-exact g c =

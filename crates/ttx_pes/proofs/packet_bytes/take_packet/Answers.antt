@@ -6,6 +6,7 @@ use Rattle.std.proofs.KnownBytes.{Consumes-nil}
 use Rattle.std.specs.Io.KnownBytes.{Consumes}
 use Rattle.sub_io.specs.Reading.{AreBytes}
 use Rattle.ttx_pes.specs.Reading.{size_at}
+use Rattle.ttx_pes.proofs.ReadingLemmas.{packet_cut, packet_short, packet_size}
 use Rattle.ttx_pes.proofs.TakingLemmas.{Left-from_consumed, none_taken, none_left, too_many}
 use Rattle.ttx_pes.proofs.TakingLemmas.{first_short, bad_size, second_short, head_kept}
 use Rattle.ttx_pes.proofs.TakingLemmas.{failed_first, failed_second}
@@ -69,6 +70,49 @@ returns-then-branch-size-clause-refused g c = λ bytes is _.
     (omega (arith, c.in_ok-fill_on.ensures.from)) (omega arith)
     c.if-given-eq-MOST_PACKETS-2.false
     (ap size_at (head ∙ sym same) ∙ c.in_ok-size.ensures.exact)
+
+pub returns-then-got-lt-HEAD-clause-shown : goal.returns-then-got-lt-HEAD-clause-shown
+returns-then-got-lt-HEAD-clause-shown g c = λ _.
+    let taken = take c.in_ok-got.got c.fill_on.new.room in
+    let len = length-take-le c.in_ok-got.got c.fill_on.new.room c.in_ok-got.ensures.room in
+    record {
+      bytes = taken;
+      consumed = c.in_ok-got.ensures.bytes _ (Consumes-nil _);
+      refused = packet_short taken (omega arith);
+    }
+
+pub returns-in_err-size-clause-shown : goal.returns-in_err-size-clause-shown
+returns-in_err-size-clause-shown g c =
+    let p = err_from_is_err_and c.from_residual-in_err-size.result
+    c.from_residual-in_err-size.ensures.1 in
+    let taken = take c.in_ok-got.got c.fill_on.new.room in
+    let same : c.unwrap.result.now ≡ take 6 c.fill_on.new.room = search rules in
+    let head : take 6 taken ≡ take 6 c.fill_on.new.room =
+    take-take 6 c.in_ok-got.got c.fill_on.new.room (omega arith) in
+    let len = length-take-le c.in_ok-got.got c.fill_on.new.room c.in_ok-got.ensures.room in
+    rw (p.1, p.2) (λ _. record {
+      bytes = taken;
+      consumed = c.in_ok-got.ensures.bytes _ (Consumes-nil _);
+      refused = packet_size taken c.in_err-size.field-0.0 (omega arith)
+          (ap size_at (head ∙ sym same) ∙ c.in_err-size.ensures.exact);
+    })
+
+pub returns-then-branch-size-clause-shown : goal.returns-then-branch-size-clause-shown
+returns-then-branch-size-clause-shown g c = λ _.
+    let n = c.in_ok-fill_on.field-0 in
+    let room = c.fill_on-2.new.room in
+    let taken = take n room in
+    let len = length-take-le n room c.in_ok-fill_on.ensures.room in
+    let same : c.unwrap.result.now ≡ take 6 c.fill_on.new.room = search rules in
+    let head : take 6 taken ≡ take 6 c.fill_on.new.room =
+    head_kept c.in_ok-got.got n c.fill_on.new.room room (omega arith) c.in_ok-fill_on.ensures.from
+    c.in_ok-fill_on.ensures.kept in
+    record {
+      bytes = taken;
+      consumed = c.in_ok-fill_on.ensures.bytes _ (c.in_ok-got.ensures.bytes _ (Consumes-nil _));
+      refused = packet_cut taken c.in_ok-size.size (omega (arith, c.in_ok-fill_on.ensures.from))
+          (ap size_at (head ∙ sym same) ∙ c.in_ok-size.ensures.exact) (omega arith);
+    }
 
 pub returns-clause-taken : goal.returns-clause-taken
 returns-clause-taken g c =
