@@ -4,8 +4,8 @@ use Rattle.std.specs.Prelude.{Option, Some, None, Result, Ok, Err, Bool, true, f
 use Rattle.ttx_pes.specs.DataUnit.{UnitValue}
 use Rattle.ttx_pes.specs.Fault.{is_read}
 use Rattle.ttx_pes.specs.PesPacket.{PesValue}
-use Rattle.ttx_pes.specs.Reader.{FailsWithin, TakesPesPacket}
-use Rattle.ttx_pes.specs.Reading.{answer_at, most_packets, rest_after}
+use Rattle.ttx_pes.specs.Reader.{FailsWithin, TakesPesPacket, TakesRefused}
+use Rattle.ttx_pes.specs.Reading.{answer_at, is_format_fault, most_packets, rest_after}
 use Rattle.ttx_pes.specs.declared.fault.PesFault.{PesFault}
 use Rattle.ttx_pes.specs.declared.fault.PesFault.TheVariants.{TooMany}
 use Rattle.sub_answer.specs.Faults.{pes_told}
@@ -32,11 +32,13 @@ packets_from zero index (x ∷ b) = fails TooMany
 packets_from (suc room) index bytes =
     answer_then (answer_at index bytes) (packets_from room (index + 1) (rest_after bytes))
 
--- These PES packets were taken of a source. Where it failed, it failed within the next one.
+-- These PES packets were taken of a source. Where it failed, it failed within the next one; where
+-- the next one is refused for a fault of the format, bytes that were taken of it show that fault.
 abbrev pub ReadsPackets : Bool → Option (List ℕ) → PesOutcome → Option (List ℕ) → Type 0
 ReadsPackets failed told ends left = failed ≡ false
 ReadsPackets failed told (fails f) left =
     (is_read f ≡ failed) × (failed ≡ true → FailsWithin told left)
+    × (is_format_fault f ≡ true → TakesRefused told left f)
 ReadsPackets failed told (gives v more) left =
     (behind : Option (List ℕ)) × TakesPesPacket told behind v × ReadsPackets failed behind more left
 

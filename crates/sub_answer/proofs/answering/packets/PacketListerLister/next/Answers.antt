@@ -77,5 +77,6 @@ returns-in-Err-clause-gives g c =
       taken = λ other. (
         sym (pes-failed f) ∙ failed,
         λ e. c.in-Err.ensures.failed (sym (pes-failed f) ∙ failed ∙ e),
+        c.in-Err.ensures.refused,
       );
     }
