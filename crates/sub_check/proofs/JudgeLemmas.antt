@@ -15,7 +15,8 @@ use Rattle.ttx_pes.specs.PesPacket.{PesValue, IsPesPacket, IsPesValue}
 use Rattle.ttx_pes.specs.Reader.{FailsAtPacket, FailsWithin, TakesPackets, TakesPesPacket}
 use Rattle.ttx_pes.specs.declared.fault.PesFault.TheVariants.{Read}
 use Rattle.ttx_pes.specs.Reading.{answer_at, most_packets, rest_after}
-use Rattle.sub_plan.specs.FrameTime.{frames_of_day, pts_of}
+use Rattle.stl_file.specs.TimeCode.{day}
+use Rattle.sub_plan.specs.FrameTime.{pts_of}
 use Rattle.sub_plan.specs.Options.{OptionsValue}
 use Rattle.sub_check.specs.Checker.{CheckerValue}
 use Rattle.sub_check.specs.Checking.{Accepts, AreTaken, AreWhole, IsFrameOf, TellsEnd}
@@ -109,7 +110,7 @@ taken_more origin bytes rest frames n v frame old new taken was is takes sent of
           subst (AllZip (IsSentAs origin) (taken.values ++ v ∷ []))
           (sym (take_more frames n d sent.there))
           (zip_push (IsSentAs origin) taken.values (take n frames) v s taken.sent (record {
-            in_day = subst (λ (f : ℕ). f < frames_of_day) (sym number) of.in_day;
+            in_day = subst (λ (f : ℕ). f < day) (sym number) of.in_day;
             pts = sym of.is ∙ ap (pts_of origin) (sym number);
             packets = packets;
           }));

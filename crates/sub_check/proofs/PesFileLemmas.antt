@@ -13,7 +13,7 @@ use Rattle.ttx_pes.specs.declared.fault.PesFault.TheVariants as fault
 use Rattle.ttx_pes.proofs.DataUnitLemmas.{AreBytes-drop}
 use Rattle.ttx_pes.proofs.ReadingLemmas.{answer_of_packet, packet_is_read, read_is_packet}
 use Rattle.ttx_pes.proofs.ReadingLemmas.{rest_after-packet}
-use Rattle.sub_plan.specs.FrameTime.{frames_of_day}
+use Rattle.stl_file.specs.TimeCode.{day}
 use Rattle.sub_check.specs.PacketRules.{packets_of_units}
 use Rattle.sub_check.specs.PesFrames.{Carries, IsSentAs}
 use Rattle.sub_check.specs.PesReading.{LawOfPesFiles, PesFileValue, ReadsAs, file_at, file_by}
@@ -83,7 +83,7 @@ with_packet origin given bytes v frame frames fit at found others_of =
     ap (drop (length whole.0)) whole.2 ∙ drop_at whole.0 read.0 (length whole.0) refl ∙ sym left in
     let others = others_of (subst AreBytes dropped (AreBytes-drop (length whole.0) bytes fit)) in
     let most = others.few in
-    let is = found_below origin v.pts frames_of_day (Some frame) found in
+    let is = found_below origin v.pts day (Some frame) found in
     record {
       values = v ∷ others.values;
       packets = whole.0 ∷ others.packets;

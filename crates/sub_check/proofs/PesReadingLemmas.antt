@@ -16,7 +16,8 @@ use Rattle.sub_check.specs.Following.{IsSentFrame}
 use Rattle.sub_check.specs.FrameRules.{Unread}
 use Rattle.sub_check.specs.FrameRules.Unread.{BadPacket, NoFrame}
 use Rattle.sub_check.specs.PacketRules.{packets_of_units}
-use Rattle.sub_plan.specs.FrameTime.{frames_of_day, pts_of}
+use Rattle.stl_file.specs.TimeCode.{day}
+use Rattle.sub_plan.specs.FrameTime.{pts_of}
 use Rattle.sub_check.specs.Fault.{is_pes_read, is_pes_write}
 use Rattle.sub_check.specs.PesFrames.{IsSentAs}
 use Rattle.sub_check.specs.PesReading.{EndsReading, PesFileValue, ReadsAs, file_at, file_by}
@@ -86,8 +87,8 @@ found_below origin pts (suc n) r e =
 -- Two frames of the day have one PTS only where they are one.
 same_frame :
     (origin a b : ℕ)
-    → a < frames_of_day
-    → b < frames_of_day
+    → a < day
+    → b < day
     → pts_of origin a ≡ pts_of origin b
     → a ≡ b
 same_frame origin a b l m e = omega arith
@@ -95,34 +96,34 @@ same_frame origin a b l m e = omega arith
 -- The frame of the day that has a PTS is found.
 frame_found :
     (origin pts frame : ℕ)
-    → frame < frames_of_day
+    → frame < day
     → pts_of origin frame ≡ pts
     → frame_of_pts origin pts ≡ Some frame
-frame_found origin pts frame day e =
+frame_found origin pts frame in_day e =
     go (frame_of_pts origin pts)
-    (found_below origin pts frames_of_day (frame_of_pts origin pts) refl)
+    (found_below origin pts day (frame_of_pts origin pts) refl)
   where
     go :
         (r : Option ℕ)
-        → MatchOption r ((f : ℕ) → f < frames_of_day → pts_of origin f ≢ pts)
-        (λ f. (f < frames_of_day) × (pts_of origin f ≡ pts))
+        → MatchOption r ((f : ℕ) → f < day → pts_of origin f ≢ pts)
+        (λ f. (f < day) × (pts_of origin f ≡ pts))
         → r ≡ Some frame
-    go None none = absurd (none frame day e)
-    go (Some f) (l, is) = ap Some (same_frame origin f frame l day (is ∙ sym e))
+    go None none = absurd (none frame in_day e)
+    go (Some f) (l, is) = ap Some (same_frame origin f frame l in_day (is ∙ sym e))
 
 -- Where no frame of the day has a PTS, none is found.
 no_frame_found :
     (origin pts : ℕ)
-    → ((frame : ℕ) → frame < frames_of_day → pts_of origin frame ≢ pts)
+    → ((frame : ℕ) → frame < day → pts_of origin frame ≢ pts)
     → frame_of_pts origin pts ≡ None
 no_frame_found origin pts none =
     go (frame_of_pts origin pts)
-    (found_below origin pts frames_of_day (frame_of_pts origin pts) refl)
+    (found_below origin pts day (frame_of_pts origin pts) refl)
   where
     go :
         (r : Option ℕ)
-        → MatchOption r ((f : ℕ) → f < frames_of_day → pts_of origin f ≢ pts)
-        (λ f. (f < frames_of_day) × (pts_of origin f ≡ pts))
+        → MatchOption r ((f : ℕ) → f < day → pts_of origin f ≢ pts)
+        (λ f. (f < day) × (pts_of origin f ≡ pts))
         → r ≡ None
     go None none = refl
     go (Some f) (l, is) = absurd (none f l is)
@@ -225,17 +226,17 @@ begins :
     (origin given : ℕ) (bytes : List ℕ) (v : PesValue) (frame : ℕ)
     → given ≤ most_packets
     → answer_at given bytes ≡ Ok (Some v)
-    → frame < frames_of_day
+    → frame < day
     → pts_of origin frame ≡ v.pts
     → file_at origin (most_packets - given) bytes
     ≡ file_with (Some frame) (packets_of_units v.units)
     (file_at origin (most_packets - (given + 1)) (rest_after bytes))
-begins origin given bytes v frame few is day pts =
+begins origin given bytes v frame few is in_day pts =
     let below = reads-below given bytes v is in
     let rest = file_at origin (most_packets - (given + 1)) (rest_after bytes) in
     step_after origin given bytes (omega (arith, below))
     ∙ ap (λ r. file_by origin r rest) is
-    ∙ ap (λ o. file_with o (packets_of_units v.units) rest) (frame_found origin v.pts frame day pts)
+    ∙ ap (λ o. file_with o (packets_of_units v.units) rest) (frame_found origin v.pts frame in_day pts)
 
 -- A PES packet that is sent as a frame comes before the others.
 pub reads_more :

@@ -15,7 +15,8 @@ use Rattle.ttx_pes.proofs.ReadingLemmas.{written_is_read}
 use Rattle.stl_rows.specs.declared.national.National.{National}
 use Rattle.stl_rows.specs.Programme.{IsProgramme, ProgrammeValue, first_in, last_out}
 use Rattle.stl_rows.proofs.PageShapeLemmas.{due_is_page}
-use Rattle.sub_plan.specs.FrameTime.{frames_of_day, pts_of}
+use Rattle.stl_file.specs.TimeCode.{day}
+use Rattle.sub_plan.specs.FrameTime.{pts_of}
 use Rattle.sub_plan.specs.Laws.{IsSentPacket}
 use Rattle.sub_plan.specs.Options.{IsOptions, OptionsValue}
 use Rattle.sub_plan.specs.Schedule.{due_in, is_sending, pes_value, plan_frames, sendings_at}
@@ -36,16 +37,16 @@ module _
   where
     -- What is sent at a frame is sent as the frame.
     is_sent : (f : ℕ)
-        → f < frames_of_day
+        → f < day
         → IsSentAs o.origin (pes_value o.origin (sending o.page national serial (due f)) f)
         (planned_at due o national serial f)
-    is_sent f day =
+    is_sent f in_day =
         let packets : List (List ℕ) = sending o.page national serial (due f) in
         let each : All IsPacket packets =
         All-weaker (IsSentPacket o.page national serial) IsPacket (λ p is. is.whole) packets
         (all_sent o.page national serial (due f) ok.page (shape f)) in
         record {
-          in_day = day;
+          in_day = in_day;
           pts = refl;
           packets =
               sym (numbered_is_value (pts_of o.origin f) packets
@@ -58,22 +59,22 @@ module _
     sendings_read :
         (given : ℕ) (frames : List ℕ)
         → given + length frames ≤ most_packets
-        → AllByRecursion (λ f. f < frames_of_day) frames
+        → AllByRecursion (λ f. f < day) frames
         → ReadsAs o.origin given (sendings_at due o national serial frames)
         (map (planned_at due o national serial) frames) None
-    sendings_read given [] few day =
+    sendings_read given [] few in_day =
         reads_ended o.origin given [] None (omega arith) (nothing given [] refl)
-    sendings_read given (f ∷ fs) few day =
+    sendings_read given (f ∷ fs) few in_day =
         let v : PesValue = pes_value o.origin (sending o.page national serial (due f)) f in
         let back =
         written_is_read given v (sendings_at due o national serial fs) (λ e. omega arith)
         (law_of_pes_values o national serial (due f) f ok (shape f)) in
         reads_more o.origin given (sendings_at due o national serial (f ∷ fs)) v
         (planned_at due o national serial f) (map (planned_at due o national serial) fs) None
-        (omega arith) back.0 (is_sent f day.0)
+        (omega arith) back.0 (is_sent f in_day.0)
         (subst
         (λ bytes. ReadsAs o.origin (given + 1) bytes (map (planned_at due o national serial) fs)
-        None) (sym back.1) (sendings_read (given + 1) fs (omega arith) day.1))
+        None) (sym back.1) (sendings_read (given + 1) fs (omega arith) in_day.1))
 
 -- A schedule has no more frames than a day, by cases of the first TCI and the last TCO.
 few_between :
@@ -90,7 +91,7 @@ few_between programme every (Some a) (Some b) h k is =
     let short =
     short_filter (is_sending (due_in programme) every a b) (range_with_len a (b + 1 - a)) in
     let long = length-range_with_len a (b + 1 - a) in
-    let day = s.in_day in
+    let in_day = s.in_day in
     omega (arith, short, long)
 
 -- The bytes of a schedule are read as its transmission.
@@ -104,5 +105,5 @@ law_of_plan_read programme options serial is ok =
       few_between programme options.every (first_in programme.records)
           (last_out programme.records) refl refl is,
     ))
-    (recursion_from_All (λ f. f < frames_of_day) (plan_frames programme options.every)
+    (recursion_from_All (λ f. f < day) (plan_frames programme options.every)
     (law_of_day programme options.every is))

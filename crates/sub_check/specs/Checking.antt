@@ -9,7 +9,8 @@ use Rattle.stl_rows.specs.Loading.{TellsFault}
 use Rattle.stl_rows.specs.declared.national.National.{National}
 use Rattle.ttx_pes.specs.PesPacket.{IsPesPacket, PesValue}
 use Rattle.ttx_pes.specs.Reading.{answer_at, most_packets}
-use Rattle.sub_plan.specs.FrameTime.{frames_of_day, pts_of}
+use Rattle.stl_file.specs.TimeCode.{day}
+use Rattle.sub_plan.specs.FrameTime.{pts_of}
 use Rattle.sub_check.specs.Fault.{is_pes_read, is_pes_write, is_subtitle_fault}
 use Rattle.sub_check.specs.FirstBroken.{HoldsEverywhere, unread_fault}
 use Rattle.sub_check.specs.FrameRules.{Task, Unread, frame_at, end_frame, packets_before}
@@ -36,9 +37,9 @@ TellsSubtitles national outcome _ = ⊤
 
 -- A PTS is that of this frame of the day, and of no other.
 pub record IsFrameOf (origin pts frame : ℕ) : Type 0 where
-  pub in_day : frame < frames_of_day
+  pub in_day : frame < day
   pub is : pts_of origin frame ≡ pts
-  pub alone : (other : ℕ) → other < frames_of_day → pts_of origin other ≡ pts → other ≡ frame
+  pub alone : (other : ℕ) → other < day → pts_of origin other ≡ pts → other ≡ frame
 
 -- What is read of the bytes after `pes` PES packets, where the packet read is the value v.
 abbrev pub TellsFrame : ℕ → ℕ → List ℕ → PesValue → Result (Option ℕ) CheckFault → Type 0

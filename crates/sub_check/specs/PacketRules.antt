@@ -32,10 +32,6 @@ codes_of packet = map code_of (drop 2 packet)
 abbrev pub packets_of_units : List UnitValue → List (List ℕ)
 packets_of_units units = map (λ (u : UnitValue). u.packet) units
 
--- The Teletext units of a PES packet at most: nine payloads of a transport packet hold no more.
-abbrev pub most_units : ℕ
-most_units = 35
-
 -- How many of these packets are headers of the page.
 abbrev pub header_count : PageIdValue → List (List ℕ) → ℕ
 header_count page packets = length (filter (λ p. is_this_page (kind page p)) packets)

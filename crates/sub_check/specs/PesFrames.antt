@@ -5,13 +5,14 @@ use Rattle.std.specs.List.{AllZip, concat}
 use Rattle.ttx_pes.specs.DataUnit.{UnitValue}
 use Rattle.ttx_pes.specs.PesPacket.{IsPesPacket, PesValue}
 use Rattle.ttx_pes.specs.Reading.{most_packets}
-use Rattle.sub_plan.specs.FrameTime.{frames_of_day, pts_of}
+use Rattle.stl_file.specs.TimeCode.{day}
+use Rattle.sub_plan.specs.FrameTime.{pts_of}
 use Rattle.sub_check.specs.Transmission.{SentFrame, Transmission, IsRising}
 
 -- A PES packet is sent as a frame: its PTS is that of the frame, which is a frame of the day, and
 -- its Teletext units carry the frame's packets, in order. Stuffing and other data units carry none.
 pub record IsSentAs (origin : ℕ) (pes : PesValue) (s : SentFrame) : Type 0 where
-  pub in_day : s.frame < frames_of_day
+  pub in_day : s.frame < day
   pub pts : pes.pts ≡ pts_of origin s.frame
   pub packets : s.packets ≡ map (λ (u : UnitValue). u.packet) pes.units
 

@@ -6,7 +6,8 @@ use Rattle.sub_io.specs.Reading.{AreBytes}
 use Rattle.ttx_pes.specs.PesPacket.{PesValue}
 use Rattle.ttx_pes.specs.Reading.{answer_at, most_packets, rest_after}
 use Rattle.ttx_pes.specs.declared.fault.PesFault.{PesFault}
-use Rattle.sub_plan.specs.FrameTime.{frames_of_day, pts_of}
+use Rattle.stl_file.specs.TimeCode.{day}
+use Rattle.sub_plan.specs.FrameTime.{pts_of}
 use Rattle.sub_check.specs.FrameRules.{Unread}
 use Rattle.sub_check.specs.FrameRules.Unread.{BadPacket, NoFrame}
 use Rattle.sub_check.specs.PacketRules.{packets_of_units}
@@ -27,7 +28,7 @@ frame_below origin pts (suc n) =
 
 -- The frame of the day that has this PTS.
 abbrev pub frame_of_pts : ℕ → ℕ → Option ℕ
-frame_of_pts origin pts = frame_below origin pts frames_of_day
+frame_of_pts origin pts = frame_below origin pts day
 
 -- A PES packet of this frame and these packets, and then a file; no frame where its PTS is that of
 -- none.
@@ -70,7 +71,7 @@ EndsReading origin given bytes (Some (BadPacket f)) = answer_at given bytes ≡ 
 EndsReading origin given bytes (Some NoFrame) =
     (v : PesValue)
     × (answer_at given bytes ≡ Ok (Some v))
-    × ((frame : ℕ) → frame < frames_of_day → pts_of origin frame ≢ v.pts)
+    × ((frame : ℕ) → frame < day → pts_of origin frame ≢ v.pts)
 
 -- Bytes are read to their end as frames that rise, exactly where they are a PES file that carries
 -- these frames.

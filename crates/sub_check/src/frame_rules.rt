@@ -7,7 +7,8 @@ ghost use Rattle.stl_rows.specs.Programme.{last_out};
 ghost use Rattle.sub_check.specs.Checking.{IsRuleFault, TellsEnd};
 ghost use Rattle.sub_check.specs.FirstBroken.{NamesFirst, packet_fault};
 ghost use Rattle.sub_check.specs.FrameRules.{Task, frame_at, packets_of_frame};
-ghost use Rattle.sub_check.specs.PacketRules.{most_units, packets_of_units};
+ghost use Rattle.ttx_pes.specs.PesPacket.{most_units};
+ghost use Rattle.sub_check.specs.PacketRules.{packets_of_units};
 ghost use Rattle.sub_check.specs.Transmission.{Transmission};
 
 use crate::checker::Accepted;

@@ -3,6 +3,7 @@ ghost use Rattle.std.specs.Prelude.{◌≡◌, ℕ, ◌+◌, ◌<◌, ◌≤◌,
 ghost use Rattle.std.specs.List.{list_any};
 ghost use Rattle.ttx_packet.specs.PageHeader.{c4};
 ghost use Rattle.ttx_page.specs.Screen.{display};
+ghost use Rattle.ttx_pes.specs.PesPacket.{most_units};
 ghost use Rattle.sub_check.specs.PacketRules.{packets_of_units};
 ghost use Rattle.sub_check.specs.Reception.{RunsThrough, as_heard, reception_of};
 ghost use Rattle.sub_check.specs.Untouched.{BeginsErased, ErasesPageAt, HeardLast};
@@ -31,8 +32,8 @@ pub fn hear_sending<R: Receiver>(
     again: bool,
     kept: bool,
 ) -> bool
-    requires few { length units.now ≤ 35 }
-    requires number { number + 35 < u64.MAX }
+    requires few { length units.now ≤ most_units }
+    requires number { number + most_units < u64.MAX }
     requires tuned { R.tuned_to receiver.old ≡ listening.now.options.page }
     ensures run { (last : List (List ℕ))
         → (kept ≡ true → HeardLast listening.now (R.tuned_to receiver.old) last
@@ -64,8 +65,8 @@ pub fn hear_sending<R: Receiver>(
 // Whether none of `count` packets is passed over or lost, or has a flip. `number` is that of the
 // first.
 fn is_untouched(listening: &Listening, number: u64, count: usize) -> bool
-    requires few { count ≤ 35 }
-    requires number { number + 35 < u64.MAX }
+    requires few { count ≤ most_units }
+    requires number { number + most_units < u64.MAX }
     ensures { result ≡ is_untouched (reception_of listening.now) number count }
 {
     let end = number + count as u64;

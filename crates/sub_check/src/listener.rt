@@ -5,7 +5,8 @@ ghost use Rattle.std.specs.Prelude.{if◌then◌else◌, ◌&&◌, ◌==◌, Som
 ghost use Rattle.ttx_packet.specs.PageHeader.{header};
 ghost use Rattle.ttx_page.specs.Page.{AreCodes, DiffersFirst, IsCell, IsPage, blank, cell};
 ghost use Rattle.ttx_page.specs.PacketKind.{is_this_page, kind};
-ghost use Rattle.sub_check.specs.PacketRules.{header_count, most_units, packets_of_units};
+ghost use Rattle.ttx_pes.specs.PesPacket.{most_units};
+ghost use Rattle.sub_check.specs.PacketRules.{header_count, packets_of_units};
 
 use crate::comparison::Comparison;
 use crate::packet_rules::{

@@ -5,6 +5,7 @@ ghost use Rattle.std.specs.Prelude.{not};
 ghost use Rattle.std.specs.List.{filter};
 ghost use Rattle.ttx_packet.specs.PacketAddress.{address};
 ghost use Rattle.ttx_page.specs.Screen.{Display, display};
+ghost use Rattle.ttx_pes.specs.PesPacket.{most_units};
 ghost use Rattle.sub_check.specs.PacketRules.{packets_of_units};
 ghost use Rattle.sub_check.specs.Reception.{RunsThrough, as_heard, first_lost_header, is_heard};
 ghost use Rattle.sub_check.specs.Reception.{is_lost, is_taken, may_be_lost_at, reception_of};
@@ -18,8 +19,8 @@ use ttx_pes::Unit;
 /// The first of the packets of a PES packet that is lost and may not be, since it is a page header
 /// or has no address. `number` is that of the first packet.
 pub fn first_lost_header(listening: &Listening, number: u64, units: &[Unit]) -> Option<u32>
-    requires few { length units.now ≤ 35 }
-    requires number { number + 35 < u64.MAX }
+    requires few { length units.now ≤ most_units }
+    requires number { number + most_units < u64.MAX }
     ensures { result ≡ first_lost_header (reception_of listening.now) number
         (packets_of_units units.now) }
 {
@@ -43,8 +44,8 @@ pub fn hear_units<R: Receiver>(
     number: u64,
     units: &[Unit],
 )
-    requires few { length units.now ≤ 35 }
-    requires number { number + 35 < u64.MAX }
+    requires few { length units.now ≤ most_units }
+    requires number { number + most_units < u64.MAX }
     ensures run { RunsThrough listening.now.options.asks_complete (R.tuned_to receiver.old)
         (display (R.state receiver.old) screen.old)
         (as_heard listening.now number (packets_of_units units.now))

@@ -3,14 +3,13 @@ ghost use Rattle.std.specs.Prelude.{◌≡◌, ◌≢◌, ℕ, ◌+◌, ◌<◌,
 ghost use Rattle.std.specs.Prelude.{None, Some, Ok, false, true};
 ghost use Rattle.sub_io.specs.Device.{CanFail, CountsIf, failed};
 ghost use Rattle.sub_io.specs.Reading.{IfTold};
-ghost use Rattle.ttx_pes.specs.PesPacket.{IsPesValue};
+ghost use Rattle.ttx_pes.specs.PesPacket.{IsPesValue, most_units};
 ghost use Rattle.ttx_pes.specs.Reader.{FailsWithin, TakesPesPacket};
 ghost use Rattle.ttx_pes.specs.Reading.{answer_at, most_packets, rest_after};
 ghost use Rattle.ttx_pes.specs.declared.progress.Progress.TheVariants.{Reading};
-ghost use Rattle.sub_plan.specs.FrameTime.{frames_of_day};
+ghost use Rattle.stl_file.specs.TimeCode.{day};
 ghost use Rattle.sub_check.specs.Checking.{TellsFrame, as_frame};
 ghost use Rattle.sub_check.specs.Fault.{is_pes_read, is_pes_write, is_subtitle_fault};
-ghost use Rattle.sub_check.specs.PacketRules.{most_units};
 
 use crate::fault::CheckFault;
 use sub_io::Source;
@@ -63,7 +62,7 @@ pub(crate) fn next_sending<S: Source>(
         → reader.new.progress ≡ Reading (pes + 1) }
     // More than a day has frames are refused.
     ensures few { (sending : Sending) → result ≡ Ok (Some sending) → pes < most_packets }
-    ensures day { (sending : Sending) → result ≡ Ok (Some sending) → sending.frame < frames_of_day }
+    ensures day { (sending : Sending) → result ≡ Ok (Some sending) → sending.frame < day }
     ensures count { CountsIf S.failure_count source.old (failed is_pes_read result) source.new }
 {
     match reader.next(source) {
@@ -88,7 +87,7 @@ fn sending_of(
     ensures own { failed is_subtitle_fault result ≡ false }
     ensures source { failed is_pes_read result ≡ false }
     ensures no_write { failed is_pes_write result ≡ false }
-    ensures day { (sending : Sending) → result ≡ Ok (Some sending) → sending.frame < frames_of_day }
+    ensures day { (sending : Sending) → result ≡ Ok (Some sending) → sending.frame < day }
 {
     match options.frame_of(packet.pts()) {
         Some(frame) => Ok(Some(Sending { frame, again })),

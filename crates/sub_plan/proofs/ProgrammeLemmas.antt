@@ -10,7 +10,7 @@ use Rattle.ttx_page.specs.Page.{Rows}
 use Rattle.stl_file.specs.Subtitle.{SubtitleValue}
 use Rattle.stl_rows.specs.declared.national.National.{National}
 use Rattle.stl_rows.specs.Programme.{first_in, last_out, IsProgramme, ProgrammeValue}
-use Rattle.sub_plan.specs.FrameTime.{frames_of_day}
+use Rattle.stl_file.specs.TimeCode.{day}
 use Rattle.sub_plan.specs.Schedule.{due_in, is_sending, plan_frames, sendings, sendings_between}
 use Rattle.sub_plan.specs.Schedule.{sendings_from}
 use Rattle.sub_plan.specs.Laws.{LawOfDay}
@@ -37,7 +37,7 @@ some_out (t ∷ ts) a h k = let e = last_is t ts in cc
 -- The first TCI is before the last TCO, which is a frame of the day.
 pub record IsSpan (a b : ℕ) : Type 0 where
   pub rises : a < b
-  pub in_day : b < frames_of_day
+  pub in_day : b < day
 
 -- So it is of a programme.
 pub span-rises : (national : National) (ts : List SubtitleValue) (a b : ℕ) → IsProgramme national ts
@@ -95,12 +95,12 @@ within due every first last order =
 day_between : (programme : ProgrammeValue) (every : ℕ) (a b : Option ℕ)
     → a ≡ first_in programme.records → b ≡ last_out programme.records
     → IsProgramme programme.national programme.records
-    → All (λ frame. frame < frames_of_day) (sendings_between (due_in programme) every a b)
-day_between programme every None b h k ok = All-nil (λ frame. frame < frames_of_day)
-day_between programme every (Some a) None h k ok = All-nil (λ frame. frame < frames_of_day)
+    → All (λ frame. frame < day) (sendings_between (due_in programme) every a b)
+day_between programme every None b h k ok = All-nil (λ frame. frame < day)
+day_between programme every (Some a) None h k ok = All-nil (λ frame. frame < day)
 day_between programme every (Some a) (Some b) h k ok =
     let s = span-rises programme.national programme.records a b ok h k in
-    All-weaker (λ f. f ≤ b) (λ frame. frame < frames_of_day) (λ f l. omega (arith, s.in_day))
+    All-weaker (λ f. f ≤ b) (λ frame. frame < day) (λ f l. omega (arith, s.in_day))
     (sendings (due_in programme) every a b)
     (within (due_in programme) every a b (omega (arith, s.rises)))
 

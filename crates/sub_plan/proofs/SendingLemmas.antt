@@ -24,9 +24,9 @@ use Rattle.ttx_page.specs.declared.packet_kind.PacketKind.{PacketKind}
 use Rattle.ttx_page.specs.declared.packet_kind.PacketKind.TheVariants.{ThisPage, EndsPage, Row}
 use Rattle.ttx_page.specs.Page.{Rows, space, cell, row_at, IsCell, IsPage}
 use Rattle.ttx_page.specs.PacketKind.{kind, is_this_page, ends_page, is_row}
-use Rattle.ttx_page.specs.Span.{holds_header, is_unended, after_last_header, before_end, span}
+use Rattle.ttx_page.specs.Span.{holds_header, is_unended, before_end, span}
 use Rattle.ttx_page.specs.Shown.{shown}
-use Rattle.ttx_page.proofs.SpanLists.{after-here, after-later, after-append}
+use Rattle.ttx_page.proofs.SpanLists.{after-here, after-append}
 use Rattle.stl_rows.specs.declared.national.National.{National}
 use Rattle.stl_rows.specs.declared.national.National.TheVariants.{English, German}
 use Rattle.sub_plan.specs.Options.{IsWatchable}

@@ -2,10 +2,6 @@
 -- (own), and so 3600 ticks.
 use Rattle.std.specs.Prelude.{ℕ, ◌+◌, ◌*◌, ◌%◌, ◌^◌}
 
--- The frames of a day at 25 a second.
-abbrev pub frames_of_day : ℕ
-frames_of_day = 2160000
-
 -- The PTS of a frame: that of frame 0, and 3600 ticks for each frame since, in 33 bits.
 abbrev pub pts_of : ℕ → ℕ → ℕ
 pts_of origin frame = (origin + 3600 * frame) % 2 ^ 33

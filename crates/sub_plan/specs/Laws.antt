@@ -16,7 +16,7 @@ use Rattle.ttx_page.specs.Span.{span}
 use Rattle.ttx_pes.specs.PesPacket.{IsPesValue}
 use Rattle.stl_rows.specs.declared.national.National.{National}
 use Rattle.stl_rows.specs.Programme.{IsProgramme, ProgrammeValue}
-use Rattle.sub_plan.specs.FrameTime.{frames_of_day}
+use Rattle.stl_file.specs.TimeCode.{day}
 use Rattle.sub_plan.specs.Options.{IsOptions, IsWatchable, OptionsValue}
 use Rattle.sub_plan.specs.Schedule.{base, due_in, is_sending, sendings, pes_value, plan_frames}
 use Rattle.sub_plan.specs.Sending.{sending, watched_header}
@@ -169,4 +169,4 @@ abbrev pub LawOfDay : Type 0
 LawOfDay =
     (programme : ProgrammeValue) (every : ℕ)
     → IsProgramme programme.national programme.records
-    → All (λ frame. frame < frames_of_day) (plan_frames programme every)
+    → All (λ frame. frame < day) (plan_frames programme every)

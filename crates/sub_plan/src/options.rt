@@ -1,11 +1,13 @@
 //! The options of a schedule: the page, the repeat bound, and the PTS of frame 0.
 ghost use Rattle.std.specs.Prelude.{◌≡◌, ℕ, ◌^◌, ◌<◌, ◌≤◌, ◌↔◌, ◌⊎◌, Some, Err, IfOk, false, true};
-ghost use Rattle.sub_plan.specs.FrameTime.{frames_of_day, pts_of};
+ghost use Rattle.stl_file.specs.TimeCode.{day};
+ghost use Rattle.sub_plan.specs.FrameTime.{pts_of};
 ghost use Rattle.sub_plan.specs.declared.fault.OptionFault.TheVariants.{Every, Origin};
 
 use crate::fault::OptionFault;
 use std::marker::Model;
 use ttx_packet::PageId;
+use ttx_pes::MOST_PACKETS;
 
 /// Ticks of 90 kHz in a frame, a 25th of a second.
 const TICKS_PER_FRAME: u64 = 3600;
@@ -13,8 +15,8 @@ const TICKS_PER_FRAME: u64 = 3600;
 /// A PTS has 33 bits.
 const PTS_END: u64 = 8_589_934_592;
 
-/// Frames of a day at 25 a second.
-const FRAMES_OF_DAY: u64 = 2_160_000;
+/// Frames of a day at 25 a second: a PES file has a packet for each at most.
+const FRAMES_OF_DAY: u64 = MOST_PACKETS as u64;
 
 /// The greatest repeat bound, in frames: a minute (own).
 const MOST_EVERY: u64 = 1500;
@@ -144,7 +146,7 @@ impl Options {
     /// The PTS of a frame of the day, below 2,160,000: 33 bits, in ticks of 90 kHz (EN 300 472,
     /// PTS).
     pub fn pts_of(&self, frame: u32) -> u64
-        requires { frame < frames_of_day }
+        requires { frame < day }
         ensures value { result ≡ pts_of self.now.origin frame }
         ensures range { result < 2 ^ 33 }
     {
@@ -154,7 +156,7 @@ impl Options {
     /// The frame of the day that has a PTS. `None` for a PTS that no frame has.
     pub fn frame_of(&self, pts: u64) -> Option<u32>
         ensures { (frame : ℕ) → (result ≡ Some frame)
-            ↔ ((frame < frames_of_day) × (pts_of self.now.origin frame ≡ pts)) }
+            ↔ ((frame < day) × (pts_of self.now.origin frame ≡ pts)) }
     {
         if pts >= PTS_END {
             return None;

@@ -7,7 +7,7 @@ ghost use Rattle.sub_io.specs.Device.{CanFail, CountsFailure, CountsIf, Writes, 
 ghost use Rattle.ttx_pes.specs.LineOrder.{numbered_units};
 ghost use Rattle.sub_plan.specs.Fault.{is_write};
 ghost use Rattle.sub_plan.specs.declared.fault.PlanFault.TheVariants.{NoSubtitles};
-ghost use Rattle.sub_plan.specs.FrameTime.{frames_of_day};
+ghost use Rattle.stl_file.specs.TimeCode.{day};
 ghost use Rattle.sub_plan.specs.Schedule.{due_in, plan, plan_frames, sendings, sendings_at};
 ghost use Rattle.sub_plan.specs.Steps.{packets_at, steps};
 
@@ -27,7 +27,7 @@ fn put_at<K: Sink>(
     frame: u32,
     packets: &[Packet],
 ) -> Result<(), Failed>
-    requires day { frame < frames_of_day }
+    requires day { frame < day }
     requires few { length packets.now ≤ 32 }
     requires count { CanFail (K.failure_count sink.old) }
     ensures bytes { Writes (K.contents sink.old) (K.contents sink.new)
@@ -47,7 +47,7 @@ fn repeat_at<K: Sink>(
     frame: u32,
     packet: &mut RepeatedPacket,
 ) -> Result<(), Failed>
-    requires day { frame < frames_of_day }
+    requires day { frame < day }
     requires count { CanFail (K.failure_count sink.old) }
     ensures bytes { (packets : List (List ℕ)) → packet.old.units ≡ numbered_units 0 packets
         → Writes (K.contents sink.old) (K.contents sink.new)
@@ -77,7 +77,7 @@ fn send_steps<K: Sink>(
     packets: &[Packet],
 ) -> Result<u32, Failed>
     requires order { from ≤ end }
-    requires day { end < frames_of_day }
+    requires day { end < day }
     requires packets { length packets.now ≤ 32 }
     requires failures { CanFail (K.failure_count sink.old) }
     ensures few { IfOk result (λ n. n ≤ end - from) }
@@ -137,7 +137,7 @@ fn send_all<K: Sink>(
     sink: &mut K,
 ) -> Result<u32, Failed>
     requires order { first < last }
-    requires day { last < frames_of_day }
+    requires day { last < day }
     requires failures { CanFail (K.failure_count sink.old) }
     ensures number { IfOk result
         (λ n. n ≡ length (sendings (due_in programme.now) options.now.every first last)) }

@@ -5,7 +5,7 @@ use Rattle.std.proofs.lemmas.Result.{err_from_is_err_and}
 use Rattle.ttx_packet.specs.PageId.{PageIdValue}
 use Rattle.ttx_page.specs.Screen.{display}
 use Rattle.ttx_pes.specs.DataUnit.{UnitValue}
-use Rattle.ttx_pes.specs.PesPacket.{PesValue}
+use Rattle.ttx_pes.specs.PesPacket.{PesValue, most_units}
 use Rattle.ttx_pes.proofs.TakenPackets.{takes-more, takes-none}
 use Rattle.sub_check.specs.PacketRules.{packets_of_units}
 use Rattle.sub_check.specs.declared.fault.CheckFault.{CheckFault}
@@ -99,7 +99,7 @@ packets-preserved g c =
     let value = c.units-units.ensures.value
     ∙ ap (λ (v : PesValue). v.units) c.frame-packet.ensures in
     let units =
-    subst (λ (us : List UnitValue). length us ≤ 35) (sym c.units-units.ensures.value)
+    subst (λ (us : List UnitValue). length us ≤ most_units) (sym c.units-units.ensures.value)
     c.units-units.ensures.frame.few in
     let given = ap (λ x. let r : Result (Option Sending) CheckFault = Ok x in r) c.in-Some.is in
     let day = c.in_ok-next.ensures.day c.in-Some.sending given in

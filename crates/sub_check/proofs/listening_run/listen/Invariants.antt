@@ -1,10 +1,11 @@
 -- After `index` PES packets the receiver ran through what it hears of their packets.
 use Rattle.std.proofs.Common.{◌≡◌, ◌*◌, ◌-◌, ◌≤◌, true, ℕ, List, Option, Some}
 use Rattle.ttx_page.specs.Screen.{display}
+use Rattle.ttx_pes.specs.PesPacket.{most_units}
 use Rattle.ttx_pes.specs.Reader.{TakesPackets}
 use Rattle.ttx_pes.specs.Reading.{most_packets}
 use Rattle.ttx_pes.specs.declared.progress.Progress.TheVariants.{Reading}
-use Rattle.sub_plan.specs.FrameTime.{frames_of_day}
+use Rattle.stl_file.specs.TimeCode.{day}
 use Rattle.sub_check.specs.FrameRules.{Unread}
 use Rattle.sub_check.specs.PacketRules.{packets_of_units}
 use Rattle.sub_check.specs.PesReading.{ReadsAs}
@@ -24,8 +25,8 @@ invariant-packets g l = record {
       (packets_of_units l.reader.frame.units) (display (g.R.Receiver.state l.receiver) l.screen);
   failures : g.S.Source.failure_count l.pes ≡ g.S.Source.failure_count l.fn.pes;
   tuned : g.R.Receiver.tuned_to l.receiver ≡ g.R.Receiver.tuned_to l.fn.receiver;
-  few : l.number ≤ 35 * l.index;
-  day : l.least ≤ frames_of_day;
+  few : l.number ≤ most_units * l.index;
+  day : l.least ≤ day;
   told :
       (frames : Transmission) (unread : Option Unread) (bytes : List ℕ)
       → g.S.Source.remaining l.fn.pes ≡ Some bytes

@@ -1,6 +1,7 @@
 -- The frame of the PTS, or that it has none.
 use Rattle.std.proofs.Common.{◌≡◌, ◌<◌, ℕ, refl, sym, ◌∙◌, subst}
 use Rattle.std.proofs.lemmas.Option.{none-some, same_Some}
+use Rattle.stl_file.specs.TimeCode.{day}
 use Rattle.sub_check.specs.FrameRules.Unread.{NoFrame}
 use Rattle.sub_check.proofs.sending.sending_of.Goals as goal
 
@@ -11,9 +12,9 @@ returns-in-Some-clause-exact c = λ bytes read.
       record {
         in_day = is.0;
         is = is.1 ∙ c.pts.ensures.value;
-        alone = λ other day e.
+        alone = λ other in_day e.
             sym (same_Some c.in-Some.frame other
-            ((c.in-Some.ensures other).1 (day, e ∙ sym c.pts.ensures.value)));
+            ((c.in-Some.ensures other).1 (in_day, e ∙ sym c.pts.ensures.value)));
       },
     )
 
@@ -24,12 +25,12 @@ returns-in-None-clause-exact c = λ bytes read. (
   (
     c.args.packet.now,
     read,
-    λ frame day e.
-        none-some frame ((c.in-None.ensures frame).1 (day, e ∙ sym c.pts.ensures.value)),
+    λ frame in_day e.
+        none-some frame ((c.in-None.ensures frame).1 (in_day, e ∙ sym c.pts.ensures.value)),
   ),
 )
 
 pub returns-in-Some-clause-day : goal.returns-in-Some-clause-day
 returns-in-Some-clause-day c = λ sending same.
     let is : c.in-Some.frame ≡ sending.frame = cc in
-    subst (λ (f : ℕ). f < 2160000) is ((c.in-Some.ensures c.in-Some.frame).0 refl).0
+    subst (λ (f : ℕ). f < day) is ((c.in-Some.ensures c.in-Some.frame).0 refl).0
