@@ -14,8 +14,8 @@ use Rattle.ttx_pes.specs.declared.fault.PesFault.TheVariants as fault
 use Rattle.ttx_pes.specs.PesPacket.{PesValue, IsPesPacket, IsPesValue, pts_bytes, canonical_packet}
 use Rattle.ttx_pes.specs.Reading.{size_at, value_at, packet_at, answer_at, rest_after}
 use Rattle.ttx_pes.proofs.DataUnitLemmas.{AreBytes-take, AreBytes-drop}
-use Rattle.ttx_pes.proofs.PesHeaderLemmas.{IsBody, head_sound, head_complete, body_sound}
-use Rattle.ttx_pes.proofs.PesHeaderLemmas.{body_complete}
+use Rattle.ttx_pes.proofs.PesHeaderLemmas.{body_complete, body_of, body_sound, head_complete}
+use Rattle.ttx_pes.proofs.PesHeaderLemmas.{head_sound, packet_of_body, six_of}
 use Rattle.ttx_pes.proofs.PesPacketLemmas.{canonical_is_packet}
 use Rattle.sub_io.proofs.ReadingLemmas.{step_gave, Ok-injective}
 
@@ -108,64 +108,19 @@ unfolding answer_at packet_at
 answer_of_packet given [] v rest ne e = absurd cc
 answer_of_packet given (x ∷ b) v rest ne e = answer_open given (x ∷ b) (omega arith) ne ∙ rw e refl
 
--- The bytes of a packet of its two parts.
-abbrev joined : (n : ℕ) (v : PesValue) (body : List ℕ) → List ℕ
-joined n v body = (0 ∷ 0 ∷ 1 ∷ 189 ∷ bytes_high_first 2 (184 * n - 6)) ++ body
-
--- A packet of its six bytes and its body.
-pub pes_of_parts : (n : ℕ) (v : PesValue) (body : List ℕ)
-    → 1 ≤ n
-    → n ≤ 9
-    → IsBody n v body
-    → IsPesPacket v ((0 ∷ 0 ∷ 1 ∷ 189 ∷ bytes_high_first 2 (184 * n - 6)) ++ body)
-pes_of_parts n v body lo hi h = record {
-  n = n;
-  flags = h.flags;
-  pts_dts_flags = h.pts_flags;
-  header_stuffing = h.stuffing;
-  data_identifier = h.identifier;
-  data_units = h.units;
-  bytes = ap (λ (x : List ℕ). (0 ∷ 0 ∷ 1 ∷ 189 ∷ bytes_high_first 2 (184 * n - 6)) ++ x) h.bytes;
-  size = (lo, hi);
-  not_scrambled = h.flagged;
-  pts_alone = h.pts_alone;
-  pts_fits = h.pts;
-  header_filled = h.filled;
-  ebu_data = h.ebu;
-  are_units = h.data_units;
-  in_order = h.in_order;
-}
-
 -- A packet of the grammar is read, whatever follows: the law.
 pub packet_is_read : (v : PesValue) (b rest : List ℕ)
     → IsPesPacket v b
     → packet_at (b ++ rest) ≡ Ok (v, rest)
 packet_is_read v b rest h =
-    let body =
-    (h.flags ∷ h.pts_dts_flags ∷ 36 ∷ [])
-    ++ (pts_bytes v.pts ++ (h.header_stuffing ++ (h.data_identifier ∷ h.data_units))) in
-    let head = 0 ∷ 0 ∷ 1 ∷ 189 ∷ bytes_high_first 2 (184 * h.n - 6) in
-    let is-body : IsBody h.n v body = record {
-      flags = h.flags;
-      pts_flags = h.pts_dts_flags;
-      stuffing = h.header_stuffing;
-      identifier = h.data_identifier;
-      units = h.data_units;
-      bytes = refl;
-      flagged = h.not_scrambled;
-      pts_alone = h.pts_alone;
-      pts = h.pts_fits;
-      filled = h.header_filled;
-      ebu = h.ebu_data;
-      data_units = h.are_units;
-      in_order = h.in_order;
-    } in
-    let c = body_complete h.n v body h.size.0 is-body in
+    let body = body_of v b h in
+    let c = body_complete v b h in
     let sized = head_complete h.n h.size.0 h.size.1 in
-    let parts : b ++ rest ≡ head ++ (body ++ rest) =
-    ap (λ (x : List ℕ). x ++ rest) h.bytes ∙ append_assoc head body rest in
+    let parts : b ++ rest ≡ six_of h.n ++ (body ++ rest) =
+    ap (λ (x : List ℕ). x ++ rest) (packet_of_body v b h) ∙ append_assoc (six_of h.n) body rest in
     ap packet_at parts
-    ∙ packet_parts head body rest (184 * h.n) refl sized (let lo = h.size.0 in omega arith) c.1
+    ∙ packet_parts (six_of h.n) body rest (184 * h.n) refl sized
+    (let lo = h.size.0 in omega arith) c.1
     ∙ rw c.0 refl
 
 -- A test that let a list through.
@@ -204,10 +159,9 @@ sound_from b size v fit long e le ev =
     let h = head_sound (take 6 b) size (length-take 6 b ∙ omega arith) (AreBytes-take 6 b fit) e in
     let len : length (take (size - 6) (drop 6 b)) ≡ 184 * h.0 - 6 =
     length-take (size - 6) (drop 6 b) ∙ omega (arith, length-drop 6 b, h.3) in
-    let body =
-    body_sound h.0 (take (size - 6) (drop 6 b)) v h.1 len
-    (AreBytes-take (size - 6) (drop 6 b) (AreBytes-drop 6 b fit)) ev in
-    let pes = pes_of_parts h.0 v (take (size - 6) (drop 6 b)) h.1 h.2 body in (
+    let pes =
+    body_sound h.0 (take (size - 6) (drop 6 b)) v h.1 h.2 len
+    (AreBytes-take (size - 6) (drop 6 b) (AreBytes-drop 6 b fit)) ev in (
       take 6 b ++ take (size - 6) (drop 6 b),
       subst (λ (x : List ℕ). IsPesPacket v (x ++ take (size - 6) (drop 6 b))) (sym h.4) pes,
       sym (split_at_size b size (omega (arith, h.1, h.3))),

@@ -6,7 +6,12 @@ use Rattle.std.proofs.Common.{arith, inl, inr, length-append, length-take, lengt
 use Rattle.std.proofs.lemmas.Bool.{cases_Bool, cases_eq, cases_lt, eq-eqb, eqb-true, le-leb, ne_eqb}
 use Rattle.std.proofs.lemmas.List.{get_or-drop, get_or-take, get_or_append_left}
 use Rattle.std.specs.Prelude.{◌&&◌}
-use Rattle.std.proofs.lemmas.Bool.{and_parts}
+use Rattle.std.proofs.Common.{◌∷◌, cond, not}
+use Rattle.std.specs.List.{AllByRecursion}
+use Rattle.ttx_pes.specs.Reading.{has_markers}
+use Rattle.ttx_pes.specs.Refusal.{packet_questions, unit_questions}
+use Rattle.ttx_pes.proofs.PesHeaderLemmas.{tests_held, tests_hold}
+use Rattle.ttx_pes.proofs.UnitPlaceLemmas.{eqb_cases, test_cases}
 use Rattle.sub_io.specs.Reading.{AreBytes}
 use Rattle.ttx_pes.specs.declared.fault.PesFault.{PesFault}
 use Rattle.ttx_pes.specs.declared.fault.PesFault.TheVariants as fault
@@ -50,51 +55,36 @@ size_fails b f long e =
     let e3 : get_or x 3 0 ≡ get_or b 3 0 = get_or-take 6 b 3 0 (omega arith) in
     let e4 : get_or x 4 0 ≡ get_or b 4 0 = get_or-take 6 b 4 0 (omega arith) in
     let e5 : get_or x 5 0 ≡ get_or b 5 0 = get_or-take 6 b 5 0 (omega arith) in
-    elim (cases_Bool (is_start x)) [
-      | inr wrong ↦
-          let told : size_at x ≡ Err fault.Start = rw wrong refl in
-          let is : fault.Start ≡ f = Err-injective {A = ℕ} fault.Start f (sym told ∙ e) in (
-            Start,
-            is,
-            start_fails b long (λ same.
-                let z0 : get_or x 0 0 ≡ 0 = e0 ∙ same.0 in
-                let z1 : get_or x 1 0 ≡ 0 = e1 ∙ same.1 in
-                let z2 : get_or x 2 0 ≡ 1 = e2 ∙ same.2 in
-                let z3 : get_or x 3 0 ≡ 189 = e3 ∙ same.3 in
-                let starts : is_start x ≡ true = rw (z0, z1, z2, z3) refl in
-                absurd cc),
-          )
-      | inl held ↦
-          let t3 = and_parts (eqb (get_or x 0 0) 0 && eqb (get_or x 1 0) 0 && eqb (get_or x 2 0) 1)
-          (eqb (get_or x 3 0) 189) held in
-          let t2 = and_parts (eqb (get_or x 0 0) 0 && eqb (get_or x 1 0) 0)
-          (eqb (get_or x 2 0) 1) t3.0 in
-          let t1 = and_parts (eqb (get_or x 0 0) 0) (eqb (get_or x 1 0) 0) t2.0 in
-          let start : IsStart b = (
-            sym e0 ∙ eqb-true _ _ t1.0,
-            sym e1 ∙ eqb-true _ _ t1.1,
-            sym e2 ∙ eqb-true _ _ t2.1,
-            sym e3 ∙ eqb-true _ _ t3.1,
-          ) in
-          elim (cases_Bool (eqb (told_size x % 184) 0 && leb (told_size x) 1656)) [
-            | inl fits ↦
-                let told : size_at x ≡ Ok (told_size x) = rw (held, fits) refl in
-                absurd cc
-            | inr wrong ↦
-                let told : size_at x ≡ Err fault.Length = rw (held, wrong) refl in
-                let is : fault.Length ≡ f = Err-injective {A = ℕ} fault.Length f (sym told ∙ e) in (
-                  PacketLength,
-                  is,
-                  length_fails b long start (λ n lo hi h4 h5.
-                      let z4 : get_or x 4 0 ≡ ((184 * n - 6) / 256) % 256 = e4 ∙ h4 in
-                      let z5 : get_or x 5 0 ≡ (184 * n - 6) % 256 = e5 ∙ h5 in
-                      let total : told_size x ≡ 184 * n = omega arith in
-                      let whole : eqb ((184 * n) % 184) 0 ≡ true = eq-eqb _ _ (omega arith) in
-                      let low : leb (184 * n) 1656 ≡ true = le-leb _ _ (omega arith) in
-                      let fits : (eqb (told_size x % 184) 0 && leb (told_size x) 1656) ≡ true =
-                      rw (total, whole, low) refl in
-                      absurd cc),
-                )
+    let total = told_size x in
+    let r : Result ℕ PesFault =
+    cond (not (eqb (total % 184) 0 && leb total 1656)) (Err fault.Length) (Ok total) in
+    elim (test_cases (is_start x) fault.Start f r e) [
+      | inl (wrong, is) ↦ (
+        Start,
+        is,
+        start_fails b long (λ h.
+            let held : is_start x ≡ true =
+            rw (e0, e1, e2, e3) (tests_hold _ _ _ _ _ _ _ _ h) in
+            absurd cc),
+      )
+      | inr (right, d) ↦
+          let start : IsStart b =
+          rw (sym e0, sym e1, sym e2, sym e3) (tests_held _ _ _ _ _ _ _ _ right) in
+          elim (test_cases (eqb (total % 184) 0 && leb total 1656) fault.Length f (Ok total) d) [
+            | inr (_, told) ↦ absurd cc
+            | inl (wrong, is) ↦ (
+              PacketLength,
+              is,
+              length_fails b long start (λ n lo hi h4 h5.
+                  let z4 : get_or x 4 0 ≡ ((184 * n - 6) / 256) % 256 = e4 ∙ h4 in
+                  let z5 : get_or x 5 0 ≡ (184 * n - 6) % 256 = e5 ∙ h5 in
+                  let size : total ≡ 184 * n = omega arith in
+                  let whole : eqb ((184 * n) % 184) 0 ≡ true = eq-eqb _ _ (omega arith) in
+                  let low : leb (184 * n) 1656 ≡ true = le-leb _ _ (omega arith) in
+                  let fits : (eqb (total % 184) 0 && leb total 1656) ≡ true =
+                  rw (size, whole, low) refl in
+                  absurd cc),
+            )
           ]
     ]
 
@@ -113,81 +103,43 @@ header_fails n b y f g byte e =
     let e11 : get_or y 5 0 ≡ get_or b 11 0 = byte 5 (omega arith) in
     let e13 : get_or y 7 0 ≡ get_or b 13 0 = byte 7 (omega arith) in
     let e45 : get_or y 39 0 ≡ get_or b 45 0 = byte 39 (omega arith) in
-    elim (cases_eq (get_or b 6 0 / 16) 8) [
-      | inr wrong ↦
-          let t : eqb (get_or y 0 0 / 16) 8 ≡ false = rw e6 (ne_eqb _ _ wrong) in
-          let told : pts_at y ≡ Err fault.Flags = rw t refl in
-          (Scrambling, refused_as told e, scrambling_fails n b g wrong)
-      | inl h6 ↦
-          let t6 : eqb (get_or y 0 0 / 16) 8 ≡ true = rw e6 (eq-eqb _ _ h6) in
-          elim (cases_eq (get_or b 7 0 / 64) 2) [
-            | inr wrong ↦
-                let t : eqb (get_or y 1 0 / 64) 2 ≡ false = rw e7 (ne_eqb _ _ wrong) in
-                let told : pts_at y ≡ Err fault.NoTime = rw (t6, t) refl in
-                (PtsFlags, refused_as told e, pts_flags_fails n b g h6 wrong)
-            | inl h7 ↦
-                let t7 : eqb (get_or y 1 0 / 64) 2 ≡ true = rw e7 (eq-eqb _ _ h7) in
-                elim (cases_eq (get_or b 8 0) 36) [
-                  | inr wrong ↦
-                      let t : eqb (get_or y 2 0) 36 ≡ false = rw e8 (ne_eqb _ _ wrong) in
-                      let told : pts_at y ≡ Err fault.HeaderLength = rw (t6, t7, t) refl in (
-                        HeaderLength,
-                        refused_as told e,
-                        header_length_fails n b g h6 h7 wrong,
-                      )
-                  | inl h8 ↦
-                      let t8 : eqb (get_or y 2 0) 36 ≡ true = rw e8 (eq-eqb _ _ h8) in
-                      let marks =
-                      eqb (get_or y 3 0 / 16) 2 && eqb (get_or y 3 0 % 2) 1
-                      && eqb (get_or y 5 0 % 2) 1 && eqb (get_or y 7 0 % 2) 1 in
-                      elim (cases_Bool marks) [
-                        | inr wrong ↦
-                            let told : pts_at y ≡ Err fault.Time = rw (t6, t7, t8, wrong) refl in (
-                              Time,
-                              refused_as told e,
-                              time_fails n b g h6 h7 h8 (λ h.
-                                  let m0 : eqb (get_or y 3 0 / 16) 2 ≡ true =
-                                  rw e9 (eq-eqb _ _ h.0) in
-                                  let m1 : eqb (get_or y 3 0 % 2) 1 ≡ true =
-                                  rw e9 (eq-eqb _ _ h.1) in
-                                  let m2 : eqb (get_or y 5 0 % 2) 1 ≡ true =
-                                  rw e11 (eq-eqb _ _ h.2) in
-                                  let m3 : eqb (get_or y 7 0 % 2) 1 ≡ true =
-                                  rw e13 (eq-eqb _ _ h.3) in
-                                  let marked : marks ≡ true = rw (m0, m1, m2, m3) refl in
-                                  absurd cc),
-                            )
-                        | inl held ↦
-                            let m3 = and_parts
-                            (eqb (get_or y 3 0 / 16) 2 && eqb (get_or y 3 0 % 2) 1
-                            && eqb (get_or y 5 0 % 2) 1) (eqb (get_or y 7 0 % 2) 1) held in
-                            let m2 = and_parts
-                            (eqb (get_or y 3 0 / 16) 2 && eqb (get_or y 3 0 % 2) 1)
-                            (eqb (get_or y 5 0 % 2) 1) m3.0 in
-                            let m1 = and_parts (eqb (get_or y 3 0 / 16) 2)
-                            (eqb (get_or y 3 0 % 2) 1) m2.0 in
-                            let h : HasMarkers b = (
-                              rw (sym e9) (eqb-true _ _ m1.0),
-                              rw (sym e9) (eqb-true _ _ m1.1),
-                              rw (sym e11) (eqb-true _ _ m2.1),
-                              rw (sym e13) (eqb-true _ _ m3.1),
-                            ) in
-                            elim (cases_eq (get_or b 45 0 / 16) 1) [
-                              | inr wrong ↦
-                                  let t : eqb (get_or y 39 0 / 16) 1 ≡ false =
-                                  rw e45 (ne_eqb _ _ wrong) in
-                                  let told : pts_at y ≡ Err fault.DataId =
-                                  rw (t6, t7, t8, held, t) refl in (
-                                    DataIdentifier,
-                                    refused_as told e,
-                                    identifier_fails n b g h6 h7 h8 h wrong,
-                                  )
-                              | inl h45 ↦
-                                  let t45 : eqb (get_or y 39 0 / 16) 1 ≡ true =
-                                  rw e45 (eq-eqb _ _ h45) in
-                                  let read : pts_at y ≡ Ok (pts_bits y) =
-                                  rw (t6, t7, t8, held, t45) refl in
-                                  absurd cc
+    let r5 : Result ℕ PesFault = Ok (pts_bits y) in
+    let r4 : Result ℕ PesFault = cond (not (eqb (get_or y 39 0 / 16) 1)) (Err fault.DataId) r5 in
+    let r3 : Result ℕ PesFault = cond (not (has_markers y)) (Err fault.Time) r4 in
+    let r2 : Result ℕ PesFault = cond (not (eqb (get_or y 2 0) 36)) (Err fault.HeaderLength) r3 in
+    let r1 : Result ℕ PesFault = cond (not (eqb (get_or y 1 0 / 64) 2)) (Err fault.NoTime) r2 in
+    elim (eqb_cases (get_or y 0 0 / 16) 8 fault.Flags f r1 e) [
+      | inl (bad, is) ↦ (Scrambling, is, scrambling_fails n b g (λ h. bad (rw e6 h)))
+      | inr (t6, d6) ↦
+          let h6 : get_or b 6 0 / 16 ≡ 8 = rw (sym e6) t6 in
+          elim (eqb_cases (get_or y 1 0 / 64) 2 fault.NoTime f r2 d6) [
+            | inl (bad, is) ↦ (PtsFlags, is, pts_flags_fails n b g h6 (λ h. bad (rw e7 h)))
+            | inr (t7, d7) ↦
+                let h7 : get_or b 7 0 / 64 ≡ 2 = rw (sym e7) t7 in
+                elim (eqb_cases (get_or y 2 0) 36 fault.HeaderLength f r3 d7) [
+                  | inl (bad, is) ↦
+                      (HeaderLength, is, header_length_fails n b g h6 h7 (λ h. bad (e8 ∙ h)))
+                  | inr (t8, d8) ↦
+                      let h8 : get_or b 8 0 ≡ 36 = sym e8 ∙ t8 in
+                      elim (test_cases (has_markers y) fault.Time f r4 d8) [
+                        | inl (wrong, is) ↦ (
+                          Time,
+                          is,
+                          time_fails n b g h6 h7 h8 (λ h.
+                              let held : has_markers y ≡ true =
+                              rw (e9, e11, e13) (tests_hold _ _ _ _ _ _ _ _ h) in
+                              absurd cc),
+                        )
+                        | inr (right, d9) ↦
+                            let marks : HasMarkers b =
+                            rw (sym e9, sym e11, sym e13) (tests_held _ _ _ _ _ _ _ _ right) in
+                            elim (eqb_cases (get_or y 39 0 / 16) 1 fault.DataId f r5 d9) [
+                              | inl (bad, is) ↦ (
+                                DataIdentifier,
+                                is,
+                                identifier_fails n b g h6 h7 h8 marks (λ h. bad (rw e45 h)),
+                              )
+                              | inr (_, d45) ↦ absurd cc
                             ]
                       ]
                 ]
@@ -228,12 +180,7 @@ body_fails n b y f g len fit byte e =
             scrambling = rw (sym e6) s.flagged;
             pts_flags = rw (sym e7) s.pts_alone;
             header_length = sym e8 ∙ s.len;
-            markers = (
-              rw (sym e9) s.prefix,
-              rw (sym e9) s.marker3,
-              rw (sym e11) s.marker5,
-              rw (sym e13) s.marker7,
-            );
+            markers = rw (sym e9, sym e11, sym e13) s.markers;
             identifier = rw (sym e45) s.ebu;
             long = left;
             fit = AreBytes-drop 40 y fit;
@@ -366,80 +313,30 @@ prefix_agrees b c rest v e h q =
     ap (λ (x : List ℕ). get_or x i 0) e ∙ get_or_append_left c rest 0 i lt in
     agree_in_each b c long all same q
 
+-- What holds of each question holds of those of a list.
+all_of : (P : Question → Type 0) → ((q : Question) → P q) → (qs : List Question)
+    → AllByRecursion P qs
+all_of P a [] = tt
+all_of P a (q ∷ qs) = (a q, all_of P a qs)
+
 -- What agrees in each question agrees up to any data unit.
 agree_up_to : (b c : List ℕ) → ((q : Question) → Agree b c q) → (k : ℕ) → AgreeUpTo k b c
 agree_up_to b c a k = record {
-  in_packet = (
-    a SixBytes,
-    (
-      a Start,
-      (
-        a PacketLength,
-        (
-          a AllBytes,
-          (
-            a Scrambling,
-            (
-              a PtsFlags,
-              (a HeaderLength, (a Time, (a DataIdentifier, tt))),
-            ),
-          ),
-        ),
-      ),
-    ),
-  );
-  in_units = λ j _. (a (UnitLength j), (a (FramingCode j), (a (Line j), tt)));
+  in_packet = all_of (Agree b c) a packet_questions;
+  in_units = λ j _. all_of (Agree b c) a (unit_questions j);
 }
 
 -- And in all that is asked before any question.
 agree_before : (b c : List ℕ) → ((q : Question) → Agree b c q) → (q : Question) → AgreeBefore q b c
 agree_before b c a SixBytes = tt
-agree_before b c a Start = (a SixBytes, tt)
-agree_before b c a PacketLength = (a SixBytes, (a Start, tt))
-agree_before b c a AllBytes = (a SixBytes, (a Start, (a PacketLength, tt)))
-agree_before b c a Scrambling = (a SixBytes, (a Start, (a PacketLength, (a AllBytes, tt))))
-agree_before b c a PtsFlags =
-    (a SixBytes, (a Start, (a PacketLength, (a AllBytes, (a Scrambling, tt)))))
-agree_before b c a HeaderLength =
-    (a SixBytes, (a Start, (a PacketLength, (a AllBytes, (a Scrambling, (a PtsFlags, tt))))))
-agree_before b c a Time = (
-  a SixBytes,
-  (
-    a Start,
-    (
-      a PacketLength,
-      (
-        a AllBytes,
-        (
-          a Scrambling,
-          (
-            a PtsFlags,
-            (a HeaderLength, tt),
-          ),
-        ),
-      ),
-    ),
-  ),
-)
-agree_before b c a DataIdentifier = (
-  a SixBytes,
-  (
-    a Start,
-    (
-      a PacketLength,
-      (
-        a AllBytes,
-        (
-          a Scrambling,
-          (
-            a PtsFlags,
-            (a HeaderLength, (a Time, tt)),
-          ),
-        ),
-      ),
-    ),
-  ),
-)
+agree_before b c a Start = all_of (Agree b c) a (take 1 packet_questions)
+agree_before b c a PacketLength = all_of (Agree b c) a (take 2 packet_questions)
+agree_before b c a AllBytes = all_of (Agree b c) a (take 3 packet_questions)
+agree_before b c a Scrambling = all_of (Agree b c) a (take 4 packet_questions)
+agree_before b c a PtsFlags = all_of (Agree b c) a (take 5 packet_questions)
+agree_before b c a HeaderLength = all_of (Agree b c) a (take 6 packet_questions)
+agree_before b c a Time = all_of (Agree b c) a (take 7 packet_questions)
+agree_before b c a DataIdentifier = all_of (Agree b c) a (take 8 packet_questions)
 agree_before b c a (UnitLength k) = agree_up_to b c a k
 agree_before b c a (FramingCode k) = (agree_up_to b c a k, a (UnitLength k))
 agree_before b c a (Line k) = (agree_up_to b c a k, a (UnitLength k), a (FramingCode k))

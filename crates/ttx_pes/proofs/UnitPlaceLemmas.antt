@@ -1,9 +1,10 @@
 -- Data units by the bytes that are asked of them: what is read of them depends on four bytes of
 -- each alone. Main lemmas: units_places, units_split.
+use Rattle.std.proofs.Common.{Bool}
 use Rattle.std.proofs.Common.{◌≡◌, ◌≢◌, ℕ, zero, suc, ◌+◌, ◌*◌, ◌%◌, ◌/◌, ◌<◌, true, false, cond}
 use Rattle.std.proofs.Common.{not, eqb, List, [], get_or, take, drop, Result, Ok, Err, refl, sym}
 use Rattle.std.proofs.Common.{ap, ◌∙◌, arith, inl, inr, ◌⊎◌}
-use Rattle.std.proofs.lemmas.Bool.{cases_Bool, cases_eq, eq-eqb, ne_eqb}
+use Rattle.std.proofs.lemmas.Bool.{cases_Bool, cases_eq, eq-eqb, eqb-false, eqb-true, ne_eqb}
 use Rattle.std.proofs.lemmas.List.{get_or-take, get_or-drop}
 use Rattle.sub_io.specs.Reading.{◌>>=◌}
 use Rattle.ttx_pes.specs.declared.fault.PesFault.{PesFault}
@@ -35,6 +36,22 @@ pub Err-injective : {A : Type 0} (f g : PesFault)
     → refused_by {A = A} f ≡ refused_by {A = A} g
     → f ≡ g
 Err-injective f g e = cc
+
+-- A test that refuses, or lets the reading go on to a refusal.
+pub test_cases : {A : Type 0} (t : Bool) (x f : PesFault) (r : Result A PesFault)
+    → cond (not t) (Err x) r ≡ Err f
+    → ((t ≡ false) × (x ≡ f)) ⊎ ((t ≡ true) × (r ≡ Err f))
+test_cases {A = A} true x f r e = inr (refl, e)
+test_cases {A = A} false x f r e = inl (refl, Err-injective {A = A} x f e)
+
+-- The same of a test that two numbers are equal.
+pub eqb_cases : {A : Type 0} (m n : ℕ) (x f : PesFault) (r : Result A PesFault)
+    → cond (not (eqb m n)) (Err x) r ≡ Err f
+    → ((m ≢ n) × (x ≡ f)) ⊎ ((m ≡ n) × (r ≡ Err f))
+eqb_cases m n x f r e = elim (test_cases (eqb m n) x f r e) [
+  | inl h ↦ inl (eqb-false m n h.0, h.1)
+  | inr h ↦ inr (eqb-true m n h.0, h.1)
+]
 
 -- The step after one that gave a value, and after one that refused.
 pub after_ok : {A B : Type 0} (r : Result A PesFault) (f : A → Result B PesFault) (x : A)
