@@ -1,5 +1,5 @@
 -- With all packets kept, robust to lost rows by marks is robust (law_of_all_kept).
-use Rattle.std.proofs.Common.{◌≡◌, ℕ, inl, inr, Bool, true, false, List, [], ◌∷◌, Some, map, All}
+use Rattle.std.proofs.Common.{◌≡◌, ℕ, Bool, true, false, List, [], ◌∷◌, Some, map, All}
 use Rattle.std.proofs.Common.{IsTrue}
 use Rattle.std.proofs.Common.{refl, sym, ap, subst}
 use Rattle.std.specs.List.{AllByRecursion, AllZip, items_where_true}
@@ -11,6 +11,7 @@ use Rattle.sub_check.specs.Transmission.{on_air}
 use Rattle.sub_check.specs.Robust.{Robust}
 use Rattle.sub_check.specs.LostRows.{RobustWithAllKept}
 use Rattle.sub_check.specs.Laws.{LawOfAllKept}
+use Rattle.sub_check.proofs.RobustLemmas.{served_as}
 
 -- Marks that are all true keep all packets.
 items-all_true :
@@ -71,22 +72,12 @@ law_of_all_kept programme transmission options = (robust, kept)
         items-all_true sent marks all (may_all sent) in
         let arrivals : arrivals_of marks got ≡ map Some got =
         arrivals_of-all_true sent got marks all (may_all sent) near in
-        let served =
-        with_all g j f marks (all_true sent) got old new listening (may_all sent)
-        (subst (λ ps. AllZip AreNear ps got) (sym items) near) unheard shut hears in
-        record {
-          in_time = served.in_time;
-          heard = served.heard;
-          cells = λ holds row column named. elim (served.cells holds row column named) [
-            | inl due ↦ inl due
-            | inr hit ↦
-                inr (
-                  hit.0,
-                  ((noise.law_of_nothing_lost options.page sent got).hits row column).0
-                      (subst (λ fs. IsHitOrLost options.page sent fs row column) arrivals hit.1),
-                )
-          ];
-        }
+        served_as
+        (λ row column hit.
+        ((noise.law_of_nothing_lost options.page sent got).hits row column).0
+        (subst (λ fs. IsHitOrLost options.page sent fs row column) arrivals hit))
+        (with_all g j f marks (all_true sent) got old new listening (may_all sent)
+        (subst (λ ps. AllZip AreNear ps got) (sym items) near) unheard shut hears)
 
     kept :
         Robust programme transmission options
@@ -98,17 +89,8 @@ law_of_all_kept programme transmission options = (robust, kept)
         let near_sent : AllZip AreNear sent got = subst (λ ps. AllZip AreNear ps got) items near in
         let arrivals : arrivals_of marks got ≡ map Some got =
         arrivals_of-all_true sent got marks all may near_sent in
-        let served = robust g j f got old new listening near_sent unheard shut hears in
-        record {
-          in_time = served.in_time;
-          heard = served.heard;
-          cells = λ holds row column named. elim (served.cells holds row column named) [
-            | inl due ↦ inl due
-            | inr hit ↦
-                inr (
-                  hit.0,
-                  subst (λ fs. IsHitOrLost options.page sent fs row column) (sym arrivals)
-                      (((noise.law_of_nothing_lost options.page sent got).hits row column).1 hit.1),
-                )
-          ];
-        }
+        served_as
+        (λ row column hit.
+        subst (λ fs. IsHitOrLost options.page sent fs row column) (sym arrivals)
+        (((noise.law_of_nothing_lost options.page sent got).hits row column).1 hit))
+        (robust g j f got old new listening near_sent unheard shut hears)

@@ -41,7 +41,8 @@ use Rattle.sub_check.specs.declared.fault.CheckFault.TheVariants as fault
 use Rattle.sub_check.proofs.CompleteLemmas.{complete_from}
 use Rattle.sub_check.proofs.ContentLemmas.{wrong_everywhere}
 use Rattle.sub_check.proofs.GoodByPlace.{GoodFrames}
-use Rattle.sub_check.proofs.GoodLemmas.{Good-from_frames, first-same, last-same, whole-is}
+use Rattle.sub_check.proofs.GoodLemmas.{Good-from_frames, whole-is}
+use Rattle.sub_check.proofs.PrefixLemmas.{first-same, last-same}
 use Rattle.sub_check.proofs.PesFileLemmas.{carried_is_read}
 use Rattle.sub_check.proofs.PlacesOfGood.{GoodFrames-from_good}
 use Rattle.sub_check.proofs.PlaceLemmas.{Good-from_holds, refuted}

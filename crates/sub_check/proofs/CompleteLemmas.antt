@@ -8,24 +8,14 @@ use Rattle.ttx_page.specs.Span.{holds_header, is_open_after, is_unended}
 use Rattle.sub_plan.specs.Options.{OptionsValue}
 use Rattle.sub_check.specs.FrameRules.{frame_at, packets_before}
 use Rattle.sub_check.specs.OnScreen.{Complete}
-use Rattle.sub_check.specs.Transmission.{Transmission, on_air_until}
-use Rattle.sub_check.proofs.GoodLemmas.{air-both, first-same, last-same}
-use Rattle.sub_check.proofs.PrefixLemmas.{air_is, locate, rises_strictly, rises_to}
+use Rattle.sub_check.specs.Transmission.{Transmission}
+use Rattle.sub_check.proofs.PrefixLemmas.{first-same, last-same, on_air_at, rises_to, so_far}
 
 module _ (options : OptionsValue) (t : Transmission)
     (rising : (i : ℕ) → 0 < i → i < length t → frame_at t (i - 1) < frame_at t i) where
   -- The page is open after these packets.
   abbrev is_open : List (List ℕ) → Bool
   is_open packets = is_open_after (kind options.page) packets
-
-  -- At the end of frame i of the list all its packets so far are on air.
-  on_air_at : (i : ℕ) → i < length t → on_air_until t (frame_at t i) ≡ packets_before t (i + 1)
-  on_air_at i l =
-      let low = rises_to t rising 0 i (omega arith) l in
-      let back : frame_at t (i + 1 - 1) ≡ frame_at t i = ap (frame_at t) (omega arith) in
-      air-both t (frame_at t i)
-      ∙ air_is t rising (i + 1) (frame_at t i) (omega arith) (omega arith) (omega arith)
-      (λ m. rises_strictly t rising i (i + 1) (omega arith) m)
 
   -- A page that is not open, and of which a header was sent, is ended.
   ended_of :
@@ -44,26 +34,14 @@ module _ (options : OptionsValue) (t : Transmission)
   complete_from some ended f low high holds =
       let first = first-same t in
       let last = last-same t in
-      elim (locate t rising (length t - 1) f (omega (arith, some)) (omega arith) (omega arith)) [
-        | inl (i, l, e) ↦
-            let on : on_air_until t f ≡ packets_before t (i + 1) =
-            ap (on_air_until t) (sym e) ∙ on_air_at i l in
-            ap (is_unended (kind options.page)) on
-            ∙ ended_of (packets_before t (i + 1)) (ended i l)
-            (ap (holds_header (kind options.page)) (sym on) ∙ holds)
-        | inr (i, gap) ↦
-            let on : on_air_until t f ≡ packets_before t i =
-            air-both t f
-            ∙ air_is t rising i f gap.0 (omega (arith, gap.1)) (omega (arith, gap.2))
-            (λ m. gap.3) in
-            let same : i - 1 + 1 ≡ i = omega (arith, gap.0) in
-            let shut : is_open (packets_before t i) ≡ false =
-            ap (λ n. is_open (packets_before t n)) (sym same)
-            ∙ ended (i - 1) (omega (arith, gap.1)) in
-            ap (is_unended (kind options.page)) on
-            ∙ ended_of (packets_before t i) shut
-            (ap (holds_header (kind options.page)) (sym on) ∙ holds)
-      ]
+      let (n, above, le, on) = so_far t rising f some (omega arith) (omega arith) in
+      let same : n - 1 + 1 ≡ n = omega (arith, above) in
+      let shut : is_open (packets_before t n) ≡ false =
+      ap (λ m. is_open (packets_before t m)) (sym same) ∙ ended (n - 1) (omega (arith, above, le))
+      in
+      ap (is_unended (kind options.page)) on
+      ∙ ended_of (packets_before t n) shut
+      (ap (holds_header (kind options.page)) (sym on) ∙ holds)
 
   -- And the other way round.
   pub ended_at :
@@ -71,7 +49,7 @@ module _ (options : OptionsValue) (t : Transmission)
   ended_at complete i l =
       elim (cases_Bool (holds_header (kind options.page) (packets_before t (i + 1)))) [
         | inl holds ↦
-            let on = on_air_at i l in
+            let on = on_air_at t rising i l in
             let first = first-same t in
             let last = last-same t in
             let low = rises_to t rising 0 i (omega arith) l in

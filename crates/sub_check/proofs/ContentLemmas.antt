@@ -1,12 +1,12 @@
 -- Where content is refused, every receiver shows another code than is due: `wrong_everywhere`.
 use Rattle.std.proofs.Common.{slice_index, suc}
 use Rattle.std.proofs.Common.{◌≡◌, ℕ, ◌+◌, ◌-◌, ◌<◌, ◌≤◌, ◌⊎◌, inl, inr, true, List, [], ◌∷◌}
-use Rattle.std.proofs.Common.{◌++◌, ◌&&◌, cond, Option, Some, None, length, take, map}
-use Rattle.std.proofs.Common.{IsFalse, refl, sym, ap, ap₂, ◌∙◌, subst, arith, length-take}
+use Rattle.std.proofs.Common.{Option, Some, None, length, take, map}
+use Rattle.std.proofs.Common.{IsFalse, refl, sym, ap, ◌∙◌, subst, arith, length-take}
 use Rattle.std.specs.List.{AllByRecursion, flat_map}
-use Rattle.std.proofs.lemmas.Bool.{cases_eq, le-leb, lt-ltb}
+use Rattle.std.proofs.lemmas.Bool.{cases_eq}
 use Rattle.std.proofs.lemmas.List.{get_or-take, take-map}
-use Rattle.std.proofs.lemmas.List.Elements.{All-from_recursion, recursion_from_All}
+use Rattle.std.proofs.lemmas.List.Elements.{All-from_recursion}
 use Rattle.ttx_packet.specs.PageHeader.{HasExactWords}
 use Rattle.ttx_page.specs.Noise.{ErasesPage, IsSound}
 use Rattle.ttx_page.specs.Page.{IsCell, cell}
@@ -26,16 +26,17 @@ use Rattle.sub_check.specs.FrameRules.{packets_of_frame}
 use Rattle.sub_check.specs.FrameRules.{task_of}
 use Rattle.sub_check.specs.FrameRules.Unread.{BadPacket, NoFrame}
 use Rattle.sub_check.specs.PacketRules.{IsClean, rank}
-use Rattle.sub_check.specs.Transmission.{IsRising, SentFrame, Transmission, first_frame, last_frame}
-use Rattle.sub_check.specs.Transmission.{on_air_until, packets_between}
+use Rattle.sub_check.specs.Transmission.{IsRising, SentFrame, Transmission, last_frame}
+use Rattle.sub_check.specs.Transmission.{on_air_until}
 use Rattle.sub_check.specs.WrongContent.{IsWrongEverywhere}
 use Rattle.sub_check.specs.declared.fault.CheckFault.TheVariants as fault
 use Rattle.sub_check.specs.declared.packet_rules.PacketRule.TheVariants as rule
 use Rattle.sub_check.specs.declared.packet_rules.Watched.{Watched}
-use Rattle.sub_check.proofs.GoodLemmas.{first-same, last-same, number_at}
+use Rattle.sub_check.proofs.GoodLemmas.{number_at, whole-is}
 use Rattle.sub_check.proofs.PacketLists.{Each-push}
 use Rattle.sub_check.proofs.PlaceLemmas.{fair_step}
-use Rattle.sub_check.proofs.PrefixLemmas.{at_start, before, packet_at, rises_strictly, rises_to}
+use Rattle.sub_check.proofs.PrefixLemmas.{at_start, before, last-same, on_air_is, packet_at}
+use Rattle.sub_check.proofs.PrefixLemmas.{rises_strictly}
 use Rattle.sub_check.proofs.StepByStepLemmas.{clean_nil}
 use Rattle.sub_check.specs.Good.{IsCleanSpan}
 use Rattle.ttx_page.proofs.SpanLists.{holds-append_left}
@@ -107,17 +108,6 @@ first_header-packets_before w (s ∷ frames) n some fits head =
 
 -- ---- the first n frames
 
--- All packets of frames within the bounds.
-between-all :
-    (frames : Transmission) (a b : ℕ)
-    → AllByRecursion (λ (s : SentFrame). (a ≤ s.frame) × (s.frame < b)) frames
-    → packets_between frames a b ≡ flat_map (λ (s : SentFrame). s.packets) frames
-between-all [] a b all = refl
-between-all (s ∷ frames) a b all =
-    ap₂ ◌++◌
-    (ap₂ (λ x y. cond (x && y) s.packets []) (le-leb a s.frame all.0.0) (lt-ltb s.frame b all.0.1))
-    (between-all frames a b all.1)
-
 module _ (frames : Transmission) (n f : ℕ) (some : 0 < n) (fits : n ≤ length frames)
     (rising : (i : ℕ) → 0 < i → i < n → frame_at frames (i - 1) < frame_at frames i)
     (up_to : frame_at frames (n - 1) ≤ f) where
@@ -158,19 +148,15 @@ module _ (frames : Transmission) (n f : ℕ) (some : 0 < n) (fits : n ≤ length
       last-same read ∙ ap (λ m. frame_at read (m - 1)) long ∙ same_frame (n - 1) (omega arith)
 
   -- All of them are on air up to frame f.
-  on_air_is : on_air_until read f ≡ packets_before frames n
-  on_air_is =
-      between-all read (first_frame read) (f + 1)
-      (recursion_from_All
-      (λ (s : SentFrame). (first_frame read ≤ s.frame) × (s.frame < f + 1)) read
-      (λ k d l.
+  on_air_read : on_air_until read f ≡ packets_before frames n
+  on_air_read =
       let size = long in
-      let first = first-same read in
-      let at = number_at read k d l in
-      let low = rises_to read rising_read 0 k (omega arith) l in
-      let high = rises_to read rising_read k (n - 1) (omega arith) (omega arith) in
       let last = same_frame (n - 1) (omega arith) in
-      (omega arith, omega arith)))
+      let end : frame_at read (length read - 1) ≡ frame_at read (n - 1) =
+      ap (λ m. frame_at read (m - 1)) size in
+      on_air_is read rising_read (length read) f (omega arith) (λ s. omega arith)
+      (λ l. absurd (omega arith))
+      ∙ whole-is read
 
 module _ (programme : ProgrammeValue) (options : OptionsValue) (unread : Option Unread)
     (frames : Transmission) where
@@ -210,7 +196,7 @@ module _ (programme : ProgrammeValue) (options : OptionsValue) (unread : Option 
             (sym (all_show g.watched frames n fits clean
             (first_header-packets_before g.watched frames n some fits head) old new unheard shut
             (subst (λ ps. Hears options.page old ps new)
-            (on_air_is frames n f some fits rising up_to) hears) row column is)
+            (on_air_read frames n f some fits rising up_to) hears) row column is)
             ∙ e);
       }
 

@@ -1,24 +1,18 @@
 -- When a transmission is good: seven rules that look back over whole lists of packets, and know
 -- nothing of an order of tests.
-use Rattle.std.specs.Prelude.{None, ◌≡◌, ℕ, ◌+◌, ◌-◌, ◌<◌, ◌≤◌, ◌&&◌, ◌++◌, List, Some, filter}
-use Rattle.std.specs.Prelude.{take, drop, length, nat_le}
-use Rattle.std.specs.List.{flat_map}
+use Rattle.std.specs.Prelude.{None, ◌≡◌, ℕ, ◌+◌, ◌-◌, ◌<◌, ◌≤◌, ◌++◌, List, Some}
+use Rattle.std.specs.Prelude.{take, length}
 use Rattle.ttx_packet.specs.PageHeader.{HasExactWords}
 use Rattle.ttx_page.specs.PacketKind.{kind}
 use Rattle.ttx_page.specs.Span.{span}
 use Rattle.ttx_page.specs.Shown.{shown}
 use Rattle.ttx_page.specs.Page.{cell, IsCell}
-use Rattle.sub_check.specs.Transmission.{EachPacket, SentFrame, Transmission}
+use Rattle.sub_check.specs.Transmission.{EachPacket, Transmission, first_frame, last_frame}
+use Rattle.sub_check.specs.Transmission.{on_air_until}
 use Rattle.sub_check.specs.Good.{IsCleanSpan, IsControlled, IsInOneMode}
 use Rattle.sub_check.specs.FrameRules.{Task, frame_at, packets_of_frame, packets_before, end_frame}
 use Rattle.sub_check.specs.FrameRules.{HasHeader}
 use Rattle.sub_check.specs.FrameRules.{IsEnded}
-
--- The packets of frames g to f, joined, without the first j of those in frame g.
-abbrev pub air : Transmission → ℕ → ℕ → ℕ → List (List ℕ)
-air frames g j f =
-    drop j (flat_map (λ (s : SentFrame). s.packets)
-    (filter (λ (s : SentFrame). nat_le g s.frame && nat_le s.frame f) frames))
 
 -- All packets.
 abbrev pub whole : Transmission → List (List ℕ)
@@ -51,8 +45,8 @@ pub record GoodFrames (g : Task) (frames : Transmission) : Type 0 where
       → (j : ℕ) × (j < length frames) × (a ≤ frame_at frames j) × (frame_at frames j < a + g.every)
       × HasHeader g frames j
   -- 7: at the end of each frame the due page is shown
-  pub shows : (f row column : ℕ) → frame_at frames 0 ≤ f → f ≤ end_frame frames → IsCell row column
-      → shown g.watched.page (air frames (frame_at frames 0) 0 f) row column ≡ cell (g.due f) row
-      column
+  pub shows : (f row column : ℕ) → first_frame frames ≤ f → f ≤ last_frame frames
+      → IsCell row column
+      → shown g.watched.page (on_air_until frames f) row column ≡ cell (g.due f) row column
   -- and where complete pages are asked for, the page is open at the end of no frame of the list
   pub ended : (i : ℕ) → i < length frames → IsEnded g frames (i + 1)

@@ -1,82 +1,28 @@
 -- A transmission that is good by places is good: `Good-from_frames`.
 use Rattle.std.proofs.Common.{◌≡◌, ℕ, zero, suc, ◌+◌, ◌-◌, ◌<◌, ◌≤◌, inl, inr, Bool, true, false}
 use Rattle.std.proofs.Common.{cond, ◌&&◌, ◌||◌, nat_le, nat_lt, List, [], ◌∷◌, ◌++◌, Option, Some}
-use Rattle.std.proofs.Common.{None, filter, length, take, drop, get_or, All, refl, sym, ap, ◌∙◌}
+use Rattle.std.proofs.Common.{None, length, take, get_or, All, refl, sym, ap, ◌∙◌}
 use Rattle.std.proofs.Common.{subst, arith, IsTrue, IfSome}
 use Rattle.std.specs.List.{AllByRecursion, flat_map, list_any}
 use Rattle.std.proofs.lemmas.List.{take_all, take-append-le}
 use Rattle.std.proofs.lemmas.List.Elements.{All-from_recursion}
-use Rattle.std.proofs.lemmas.Bool.{cases_lt, lt-ltb, le-ltb, le-leb, lt-leb, and_right, or_right}
+use Rattle.std.proofs.lemmas.Bool.{cases_lt, lt-ltb, le-leb, or_right}
 use Rattle.sub_check.specs.FrameRules.{Unread, task_of, watched_of, frame_at, packets_of_frame}
 use Rattle.sub_check.specs.FrameRules.{packets_before}
 use Rattle.sub_check.specs.FrameRules.{end_frame}
 use Rattle.sub_check.specs.declared.packet_rules.Watched.{Watched}
 use Rattle.ttx_page.specs.PacketKind.{kind, is_this_page}
 use Rattle.ttx_page.specs.Span.{span, holds_header}
-use Rattle.ttx_page.specs.Shown.{shown}
 use Rattle.sub_check.specs.Transmission.{SentFrame, Transmission, EachPacket, first_frame}
-use Rattle.sub_check.specs.Transmission.{last_frame, packets_between, packets_of, on_air}
+use Rattle.sub_check.specs.Transmission.{last_frame, packets_of, on_air_until}
 use Rattle.stl_rows.specs.Programme.{ProgrammeValue, first_in, last_out}
 use Rattle.sub_plan.specs.Options.{OptionsValue}
 use Rattle.sub_check.specs.Good.{Good, IsCleanSpan}
-use Rattle.sub_check.proofs.GoodByPlace.{GoodFrames, air, whole}
+use Rattle.sub_check.proofs.GoodByPlace.{GoodFrames, whole}
 use Rattle.sub_check.proofs.ShownLemmas.{joined_more}
-use Rattle.sub_check.proofs.PrefixLemmas.{filter_take, rises_to, rises_strictly, locate, air_is}
+use Rattle.sub_check.proofs.PrefixLemmas.{first-same, last-same, on_air_is, rises_strictly}
+use Rattle.sub_check.proofs.PrefixLemmas.{so_far}
 use Rattle.sub_check.proofs.StepByStepLemmas.{clean_nil}
-
--- ---- frames and packets between two of them
-
--- Before the next number is up to this one.
-lt_more : (a f : ℕ) → nat_lt a (f + 1) ≡ nat_le a f
-lt_more a f = elim (cases_lt f a) [
-  | inl above ↦ le-ltb a (f + 1) (omega arith) ∙ sym (lt-leb a f above)
-  | inr below ↦ lt-ltb a (f + 1) (omega arith) ∙ sym (le-leb a f below)
-]
-
--- The packets between two frames are those of the frames in the range.
-sent-filter : (t : Transmission) (g f : ℕ)
-    → packets_between t g (f + 1) ≡ flat_map (λ (s : SentFrame). s.packets)
-    (filter (λ (s : SentFrame). nat_le g s.frame && nat_le s.frame f) t)
-sent-filter [] g f = refl
-sent-filter (s ∷ ss) g f =
-    go (nat_le g s.frame && nat_lt s.frame (f + 1)) (nat_le g s.frame && nat_le s.frame f)
-    (ap (λ b. nat_le g s.frame && b) (lt_more s.frame f)) (sent-filter ss g f)
-  where
-    rest : List (List ℕ)
-    rest = packets_between ss g (f + 1)
-
-    go : (b c : Bool) → b ≡ c
-        → packets_between ss g (f + 1) ≡ flat_map (λ (x : SentFrame). x.packets)
-        (filter (λ (x : SentFrame). nat_le g x.frame && nat_le x.frame f) ss)
-        → cond b s.packets [] ++ packets_between ss g (f + 1) ≡ flat_map
-        (λ (x : SentFrame). x.packets)
-        (cond c (s ∷ filter (λ (x : SentFrame). nat_le g x.frame && nat_le x.frame f) ss)
-        (filter (λ (x : SentFrame). nat_le g x.frame && nat_le x.frame f) ss))
-    go true true e ih = ap (λ xs. s.packets ++ xs) ih
-    go false false e ih = ih
-    go true false e ih = cc
-    go false true e ih = cc
-
--- So both wordings of what is on air are one.
-air-same : (t : Transmission) (g j f : ℕ) → on_air t g j f ≡ air t g j f
-air-same t g j f = ap (drop j) (sent-filter t g f)
-
--- The first frame is frame 0 of the list.
-pub first-same : (t : Transmission) → first_frame t ≡ frame_at t 0
-first-same [] = refl
-first-same (s ∷ ss) = refl
-
--- The last frame is the last of the list.
-pub last-same : (t : Transmission) → last_frame t ≡ end_frame t
-last-same [] = refl
-last-same (s ∷ []) = refl
-last-same (s ∷ u ∷ us) = last-same (u ∷ us)
-    ∙ let e : suc (suc (length us) - 1) ≡ suc (suc (length us)) - 1 = omega arith in
-    ap (frame_at (s ∷ u ∷ us)) e
-
--- What is on air from the first frame up to a frame, in both wordings.
-pub air-both : (t : Transmission) (f : ℕ) → on_air t (first_frame t) 0 f ≡ air t (frame_at t 0) 0 f
-air-both t f = ap (λ x. on_air t x 0 f) (first-same t) ∙ air-same t (frame_at t 0) 0 f
 
 -- ---- each packet
 
@@ -204,44 +150,24 @@ module _ (programme : ProgrammeValue) (options : OptionsValue) (unread : Option 
 
   -- What is on air up to a frame is the packets of the first frames.
   joined_at : (f : ℕ) → f ≤ end_frame t
-      → (m : ℕ) × (m ≤ length t) × (air t (frame_at t 0) 0 f ≡ packets_before t m)
+      → (m : ℕ) × (m ≤ length t) × (on_air_until t f ≡ packets_before t m)
   joined_at f high = elim (cases_lt f (frame_at t 0)) [
     | inl early ↦ (
       0,
       omega arith,
-      ap (flat_map (λ (s : SentFrame). s.packets))
-          (filter_take t 0 (frame_at t 0) f (λ j l m. absurd (omega arith))
-          (λ j m l. and_right (nat_le (frame_at t 0) (frame_at t j))
-          (nat_le (frame_at t j) f)
-          (lt-leb (frame_at t j) f
-          (let r = rises_to t h.rising 0 j (omega arith) l in omega arith)))),
+      on_air_is t h.rising 0 f (omega arith) (λ s. absurd (omega arith)) (λ m. early),
     )
-    | inr low ↦ elim (locate t h.rising (length t - 1) f (omega (arith, h.some)) low high) [
-      | inl (i, l, e) ↦
-          let back : frame_at t (i + 1 - 1) ≡ frame_at t i = ap (frame_at t) (omega arith) in (
-            i + 1,
-            omega arith,
-            air_is t h.rising (i + 1) f (omega arith) (omega arith)
-                (omega arith)
-                (λ m. let r = rises_strictly t h.rising i (i + 1) (omega arith) m in omega arith),
-          )
-      | inr (i, gap) ↦ (
-        i,
-        omega (arith, gap.1),
-        air_is t h.rising i f gap.0 (omega (arith, gap.1))
-            (omega (arith, gap.2)) (λ m. gap.3),
-      )
-    ]
+    | inr low ↦ let n = so_far t h.rising f h.some low high in (n.0, n.2, n.3)
   ]
 
   -- So spans are clean.
   spans_of : (f n : ℕ) → f ≤ last_frame t
-      → IsCleanSpan options.page (span (kind options.page) (take n (on_air t (first_frame t) 0 f)))
+      → IsCleanSpan options.page (span (kind options.page) (take n (on_air_until t f)))
   spans_of f n l =
       let last = last-same t in
       let on = joined_at f (omega arith) in
       subst (λ xs. IsCleanSpan options.page (span (kind options.page) (take n xs)))
-      (sym (air-both t f ∙ on.2)) (cut_fair on.0 on.1 n)
+      (sym on.2) (cut_fair on.0 on.1 n)
 
   -- A header comes among as many frames as the repeat bound.
   repeats_of : (start : ℕ) → first_frame t ≤ start → start + options.every ≤ last_frame t + 1
@@ -284,7 +210,5 @@ module _ (programme : ProgrammeValue) (options : OptionsValue) (unread : Option 
     opens = any_sent (watched_of programme options) t 0 (first_frame t) h.some (sym (first-same t))
         h.starts;
     repeats = repeats_of;
-    content = λ f row column low high is. let first = first-same t in let last = last-same t in
-        ap (λ xs. shown options.page xs row column) (air-both t f)
-        ∙ h.shows f row column (omega arith) (omega arith) is;
+    content = h.shows;
   }

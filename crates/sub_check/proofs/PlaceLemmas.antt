@@ -17,24 +17,25 @@ use Rattle.ttx_page.specs.Span.{span, is_open_after}
 use Rattle.ttx_page.specs.Shown.{shown}
 use Rattle.sub_check.specs.PacketRules.{first_header, KeepsRule, IsClean}
 use Rattle.sub_check.proofs.PushLemmas.{first_header-push}
-use Rattle.sub_check.specs.Transmission.{EachPacket, Transmission}
+use Rattle.sub_check.specs.Transmission.{EachPacket, Transmission, first_frame, last_frame}
+use Rattle.sub_check.specs.Transmission.{on_air_until}
 use Rattle.sub_check.specs.Good.{IsCleanSpan, IsControlled, IsInOneMode}
 use Rattle.sub_check.specs.StepByStep.{MayFollow}
-use Rattle.sub_check.specs.FrameRules.{Task, frame_at, packets_of_frame, packets_before, end_frame}
+use Rattle.sub_check.specs.FrameRules.{Task, frame_at, packets_of_frame, end_frame}
 use Rattle.sub_check.specs.FrameRules.{HasHeader, ShowsDue, IsCovered}
 use Rattle.sub_check.specs.declared.fault.CheckFault.{CheckFault}
 use Rattle.sub_check.specs.FirstBroken.{HoldsEverywhere, NamesFirst}
 use Rattle.sub_check.specs.FirstBroken.Place.{AtOrder, AtStart, AtGapCell, AtGap, AtPacket, AtFirst}
 use Rattle.sub_check.specs.FirstBroken.Place.{AtCell, AtFrame, AtOpen, AtUnread, AtNothing}
 use Rattle.sub_check.specs.FirstBroken.Place.{AtEnd}
-use Rattle.sub_check.proofs.GoodByPlace.{GoodFrames, air, whole}
+use Rattle.sub_check.proofs.GoodByPlace.{GoodFrames, whole}
 use Rattle.sub_check.proofs.GoodLemmas.{each_packet}
 use Rattle.sub_check.proofs.PacketLists.{Each-push, Each-map}
 use Rattle.sub_check.proofs.ListeningLemmas.{span_open}
 use Rattle.sub_check.proofs.PacketRuleLemmas.{kind-enhancement}
 use Rattle.sub_check.proofs.PrefixLemmas.{before, packet_at, at_start, at_packet, each_at}
 use Rattle.sub_check.proofs.PrefixLemmas.{each_from, before_more, rises_to, rises_strictly, locate}
-use Rattle.sub_check.proofs.PrefixLemmas.{air_is}
+use Rattle.sub_check.proofs.PrefixLemmas.{first-same, last-same, on_air_at, on_air_is}
 use Rattle.sub_check.proofs.StepByStepLemmas.{clean_nil, last_clean, pushed}
 use Rattle.sub_check.specs.declared.packet_rules.PacketRule.TheVariants as rule
 
@@ -109,21 +110,20 @@ module _ (g : Task) (t : Transmission) (some_frames : 0 < g.every) (h : HoldsEve
   clean_at i k l m f = h (AtPacket i k f) (l, m)
 
   -- At the end of each frame the due page is shown.
-  shows_at : (f row column : ℕ) → frame_at t 0 ≤ f → f ≤ end_frame t → IsCell row column
-      → shown g.watched.page (air t (frame_at t 0) 0 f) row column ≡ cell (g.due f) row column
+  shows_at : (f row column : ℕ) → first_frame t ≤ f → f ≤ last_frame t → IsCell row column
+      → shown g.watched.page (on_air_until t f) row column ≡ cell (g.due f) row column
   shows_at f row column low high is =
-      elim (locate t rising (length t - 1) f (omega (arith, some)) low high) [
+      let first = first-same t in
+      let last = last-same t in
+      elim (locate t rising (length t - 1) f (omega (arith, some)) (omega arith) (omega arith)) [
         | inl (i, l, e) ↦
-            let back : frame_at t (i + 1 - 1) ≡ frame_at t i = ap (frame_at t) (omega arith) in
-            let on : air t (frame_at t 0) 0 f ≡ packets_before t (i + 1) =
-            air_is t rising (i + 1) f (omega arith) (omega arith) (omega arith)
-            (λ m. let r = rises_strictly t rising i (i + 1) (omega arith) m in omega arith) in
-            ap (λ xs. shown g.watched.page xs row column) on ∙ h (AtCell i row column) (l, is)
+            ap (λ xs. shown g.watched.page xs row column)
+            (ap (on_air_until t) (sym e) ∙ on_air_at t rising i l)
+            ∙ h (AtCell i row column) (l, is)
             ∙ ap (λ d. cell (g.due d) row column) e
         | inr (i, gap) ↦
-            let on : air t (frame_at t 0) 0 f ≡ packets_before t i =
-            air_is t rising i f gap.0 (omega (arith, gap.1)) (omega (arith, gap.2)) (λ m. gap.3) in
-            ap (λ xs. shown g.watched.page xs row column) on
+            ap (λ xs. shown g.watched.page xs row column)
+            (on_air_is t rising i f (omega (arith, gap.1)) (λ s. omega (arith, gap.2)) (λ m. gap.3))
             ∙ h (AtGapCell i f row column) (gap, is)
       ]
 
@@ -255,9 +255,12 @@ module _ (g : Task) (t : Transmission) (h : GoodFrames g t) where
       → (n < length t → f < frame_at t n) → f ≤ end_frame t → IsCell row column
       → ShowsDue g t n f row column
   shows_of n f row column some le low high last is =
+      let starts = first-same t in
+      let ends = last-same t in
       let first = rises_to t h.rising 0 (n - 1) (omega arith) (omega arith) in
-      sym (ap (λ xs. shown g.watched.page xs row column) (air_is t h.rising n f some le low high))
-      ∙ h.shows f row column (omega arith) last is
+      sym (ap (λ xs. shown g.watched.page xs row column)
+      (on_air_is t h.rising n f le (λ s. low) high))
+      ∙ h.shows f row column (omega arith) (omega arith) is
 
   -- Where the transmission is good by places, all that is asked holds.
   pub Holds-from_good : HoldsEverywhere g t

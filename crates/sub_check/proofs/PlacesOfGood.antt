@@ -2,7 +2,7 @@
 use Rattle.std.proofs.Common.{IsTrue}
 use Rattle.std.proofs.Common.{◌≡◌, ℕ, suc, ◌+◌, ◌-◌, ◌<◌, ◌≤◌, inl, inr, Bool, true, false, cond}
 use Rattle.std.proofs.Common.{◌&&◌, ◌||◌, nat_le, nat_lt, List, [], ◌∷◌, ◌++◌, Option, Some, None}
-use Rattle.std.proofs.Common.{length, take, refl, sym, ap, ◌∙◌, subst, arith, IfSome, ◌⊎◌}
+use Rattle.std.proofs.Common.{length, take, refl, ap, ◌∙◌, subst, arith, IfSome, ◌⊎◌}
 use Rattle.std.specs.List.{list_any}
 use Rattle.std.proofs.lemmas.Option.{none-some, same_Some}
 use Rattle.std.proofs.lemmas.Bool.{cases_eq, and_parts, leb-true, ltb-true}
@@ -12,7 +12,6 @@ use Rattle.sub_check.specs.FrameRules.{end_frame}
 use Rattle.sub_check.specs.declared.packet_rules.Watched.{Watched}
 use Rattle.ttx_page.specs.PacketKind.{kind, is_this_page}
 use Rattle.ttx_page.specs.Span.{span, holds_header}
-use Rattle.ttx_page.specs.Shown.{shown}
 use Rattle.sub_check.specs.Transmission.{SentFrame, Transmission, first_frame}
 use Rattle.sub_check.specs.Transmission.{last_frame, packets_of}
 use Rattle.stl_rows.specs.Programme.{ProgrammeValue, first_in, last_out}
@@ -20,10 +19,11 @@ use Rattle.sub_plan.specs.Options.{OptionsValue}
 use Rattle.sub_check.specs.Good.{Good, IsCleanSpan}
 use Rattle.sub_check.specs.OnScreen.{Complete}
 use Rattle.sub_check.proofs.CompleteLemmas.{ended_at}
-use Rattle.sub_check.proofs.GoodByPlace.{GoodFrames, air}
+use Rattle.sub_check.proofs.GoodByPlace.{GoodFrames}
 use Rattle.sub_check.proofs.ShownLemmas.{joined_more}
-use Rattle.sub_check.proofs.PrefixLemmas.{rises_to, rises_strictly, air_is}
-use Rattle.sub_check.proofs.GoodLemmas.{air-both, first-same, last-same, number_at, take-over}
+use Rattle.sub_check.proofs.PrefixLemmas.{first-same, last-same, on_air_at, rises_to}
+use Rattle.sub_check.proofs.PrefixLemmas.{rises_strictly}
+use Rattle.sub_check.proofs.GoodLemmas.{number_at, take-over}
 
 -- An item of two lists joined is one of the first or of the second.
 any-split : {X : Type 0} (f : X → Bool) (xs ys : List X) → list_any f (xs ++ ys) ≡ true
@@ -98,16 +98,13 @@ module _ (programme : ProgrammeValue) (options : OptionsValue) (t : Transmission
       let last = last-same t in
       let within = rises_to t rising_back i (length t - 1) (omega arith) (omega arith) in
       let back : frame_at t (i + 1 - 1) ≡ frame_at t i = ap (frame_at t) (omega arith) in
-      let on : air t (frame_at t 0) 0 f ≡ packets_before t (i + 1) =
-      air_is t rising_back (i + 1) f (omega arith) (omega arith) (omega arith)
-      (λ z. rises_strictly t rising_back i (i + 1) (omega arith) z) in
       let cut :
       take n (packets_before t i ++ packets_of_frame t i)
       ≡ packets_before t i ++ take k (packets_of_frame t i) =
       take-over (packets_before t i) (packets_of_frame t i) n (omega arith)
       ∙ ap (λ x. packets_before t i ++ take x (packets_of_frame t i)) (omega arith) in
       subst (λ xs. IsCleanSpan options.page (span (kind options.page) xs))
-      (ap (take n) (air-both t f ∙ on ∙ joined_more t i l) ∙ cut) (h.spans f n (omega arith))
+      (ap (take n) (on_air_at t rising_back i l ∙ joined_more t i l) ∙ cut) (h.spans f n (omega arith))
 
   -- The first frame has a header of the page.
   starts_back : HasHeader (task_of programme options None) t 0
@@ -152,8 +149,6 @@ module _ (programme : ProgrammeValue) (options : OptionsValue) (t : Transmission
     fair = fair_at;
     starts = starts_back;
     repeats = repeats_back;
-    shows = λ f row column low high is. let first = first-same t in let last = last-same t in
-        ap (λ xs. shown options.page xs row column) (sym (air-both t f))
-        ∙ h.content f row column (omega arith) (omega arith) is;
+    shows = h.content;
     ended = λ i l asks. ended_at options t rising_back (complete asks) i l;
   }

@@ -1,15 +1,13 @@
 -- The lists of packets that a transmission begins with, and where a frame falls.
-use Rattle.std.proofs.Common.{◌≡◌, ℕ, zero, suc, ◌+◌, ◌-◌, ◌<◌, ◌≤◌, ◌⊎◌, inl, inr, true, false}
-use Rattle.std.proofs.Common.{◌&&◌, nat_le, List, [], ◌∷◌, ◌++◌, filter, length, take, get_or}
-use Rattle.std.proofs.Common.{refl, sym, ap, ◌∙◌, subst, arith, append_assoc}
-use Rattle.std.specs.List.{flat_map}
+use Rattle.std.proofs.Common.{◌≡◌, ℕ, zero, suc, ◌+◌, ◌-◌, ◌<◌, ◌≤◌, ◌⊎◌, inl, inr}
+use Rattle.std.proofs.Common.{◌&&◌, nat_le, cond, List, [], ◌∷◌, ◌++◌, length, take, get_or}
+use Rattle.std.proofs.Common.{refl, sym, ap, ap₂, ◌∙◌, subst, arith, append_assoc}
 use Rattle.std.proofs.lemmas.List.{take_more, take_all, append-nil, get_or-map, get_or_default}
-use Rattle.std.proofs.lemmas.Bool.{cases_eq, cases_lt, le-leb, lt-leb, and_from, and_right}
-use Rattle.std.proofs.lemmas.Bool.{cond-true, cond-false}
-use Rattle.sub_check.specs.Transmission.{EachPacket, SentFrame, Transmission}
-use Rattle.sub_check.specs.FrameRules.{frame_at, packets_of_frame, packets_before}
+use Rattle.std.proofs.lemmas.Bool.{cases_eq, cases_lt, le-leb, le-ltb, lt-ltb, and_right}
+use Rattle.sub_check.specs.Transmission.{EachPacket, SentFrame, Transmission, first_frame}
+use Rattle.sub_check.specs.Transmission.{last_frame, on_air_until, packets_between}
+use Rattle.sub_check.specs.FrameRules.{end_frame, frame_at, packets_of_frame, packets_before}
 use Rattle.sub_check.specs.FirstBroken.{IsInGap}
-use Rattle.sub_check.proofs.GoodByPlace.{air}
 use Rattle.sub_check.proofs.ShownLemmas.{joined_more}
 
 -- The packets before packet k of frame i of the list, and that packet.
@@ -124,52 +122,71 @@ module _ (t : Transmission)
 
 -- ---- the packets on air up to a frame
 
--- The frames of a range of numbers that is met by the first n are these.
-pub filter_take : (t : Transmission) (n g f : ℕ)
-    → ((j : ℕ) → j < length t → j < n
-    → (nat_le g (frame_at t j) && nat_le (frame_at t j) f) ≡ true)
-    → ((j : ℕ) → n ≤ j → j < length t
-    → (nat_le g (frame_at t j) && nat_le (frame_at t j) f) ≡ false)
-    → filter (λ (s : SentFrame). nat_le g s.frame && nat_le s.frame f) t ≡ take n t
-filter_take [] zero g f kept other = refl
-filter_take [] (suc n) g f kept other = refl
-filter_take (s ∷ ss) zero g f kept other =
-    cond-false (nat_le g s.frame && nat_le s.frame f)
-    (s ∷ filter (λ (x : SentFrame). nat_le g x.frame && nat_le x.frame f) ss)
-    (filter (λ (x : SentFrame). nat_le g x.frame && nat_le x.frame f) ss)
-    (other 0 (omega arith) (omega arith))
-    ∙ filter_take ss zero g f (λ j l m. absurd (omega arith))
-    (λ j l m. other (suc j) (omega arith) (omega arith))
-filter_take (s ∷ ss) (suc n) g f kept other =
-    cond-true (nat_le g s.frame && nat_le s.frame f)
-    (s ∷ filter (λ (x : SentFrame). nat_le g x.frame && nat_le x.frame f) ss)
-    (filter (λ (x : SentFrame). nat_le g x.frame && nat_le x.frame f) ss)
-    (kept 0 (omega arith) (omega arith))
-    ∙ ap (λ xs. s ∷ xs)
-    (filter_take ss n g f (λ j l m. kept (suc j) (omega arith) (omega arith))
-    (λ j l m. other (suc j) (omega arith) (omega arith)))
+-- The first frame is frame 0 of the list.
+pub first-same : (t : Transmission) → first_frame t ≡ frame_at t 0
+first-same [] = refl
+first-same (s ∷ ss) = refl
 
--- What is on air up to a frame that is at or after the first n frames, and before the others.
-pub air_is : (t : Transmission)
-    → ((i : ℕ) → 0 < i → i < length t → frame_at t (i - 1) < frame_at t i) → (n f : ℕ) → 0 < n
-    → n ≤ length t → frame_at t (n - 1) ≤ f → (n < length t → f < frame_at t n)
-    → air t (frame_at t 0) 0 f ≡ packets_before t n
-air_is t rising n f some le low high =
-    ap (flat_map (λ (s : SentFrame). s.packets)) (filter_take t n (frame_at t 0) f first later)
-  where
-    first : (j : ℕ) → j < length t → j < n
-        → (nat_le (frame_at t 0) (frame_at t j) && nat_le (frame_at t j) f) ≡ true
-    first j l m =
-        let a : frame_at t 0 ≤ frame_at t j = rises_to t rising 0 j (omega arith) l in
-        let r = rises_to t rising j (n - 1) (omega arith) (omega arith) in
-        let b : frame_at t j ≤ f = omega arith in
-        and_from (nat_le (frame_at t 0) (frame_at t j)) (nat_le (frame_at t j) f) (le-leb _ _ a)
-        (le-leb _ _ b)
+-- The last frame is the last of the list.
+pub last-same : (t : Transmission) → last_frame t ≡ end_frame t
+last-same [] = refl
+last-same (s ∷ []) = refl
+last-same (s ∷ u ∷ us) = last-same (u ∷ us)
+    ∙ let e : suc (suc (length us) - 1) ≡ suc (suc (length us)) - 1 = omega arith in
+    ap (frame_at (s ∷ u ∷ us)) e
 
-    later : (j : ℕ) → n ≤ j → j < length t
-        → (nat_le (frame_at t 0) (frame_at t j) && nat_le (frame_at t j) f) ≡ false
-    later j l m =
-        let r = rises_to t rising n j l m in
-        let s = high (omega arith) in
-        let b : f < frame_at t j = omega arith in
-        and_right (nat_le (frame_at t 0) (frame_at t j)) (nat_le (frame_at t j) f) (lt-leb _ _ b)
+-- The packets between two numbers within which the first n frames are, and no other.
+between_take : (t : Transmission) (n a b : ℕ)
+    → ((j : ℕ) → j < length t → j < n → (a ≤ frame_at t j) × (frame_at t j < b))
+    → ((j : ℕ) → n ≤ j → j < length t → b ≤ frame_at t j)
+    → packets_between t a b ≡ packets_before t n
+between_take [] zero a b inside after = refl
+between_take [] (suc n) a b inside after = refl
+between_take (s ∷ ss) zero a b inside after =
+    let l = after 0 (omega arith) (omega arith) in
+    ap₂ ◌++◌ (ap (λ x. cond x s.packets []) (and_right (nat_le a s.frame) _ (le-ltb s.frame b l)))
+    (between_take ss zero a b (λ j l m. absurd (omega arith))
+    (λ j l m. after (suc j) (omega arith) (omega arith)))
+between_take (s ∷ ss) (suc n) a b inside after =
+    let l = inside 0 (omega arith) (omega arith) in
+    ap₂ ◌++◌
+    (ap₂ (λ x y. cond (x && y) s.packets []) (le-leb a s.frame l.0) (lt-ltb s.frame b l.1))
+    (between_take ss n a b (λ j l m. inside (suc j) (omega arith) (omega arith))
+    (λ j l m. after (suc j) (omega arith) (omega arith)))
+
+module _ (t : Transmission)
+    (rising : (i : ℕ) → 0 < i → i < length t → frame_at t (i - 1) < frame_at t i) where
+  -- What is on air up to a frame that is at or after the first n frames, and before the others.
+  pub on_air_is : (n f : ℕ) → n ≤ length t → (0 < n → frame_at t (n - 1) ≤ f)
+      → (n < length t → f < frame_at t n) → on_air_until t f ≡ packets_before t n
+  on_air_is n f le low high =
+      let first = first-same t in
+      between_take t n (first_frame t) (f + 1)
+      (λ j l m.
+      let a = rises_to t rising 0 j (omega arith) l in
+      let r = rises_to t rising j (n - 1) (omega arith) (omega arith) in
+      let b = low (omega arith) in
+      (omega arith, omega arith))
+      (λ j l m. let r = rises_to t rising n j l m in let s = high (omega arith) in omega arith)
+
+  -- At the end of frame i of the list all its packets so far are on air.
+  pub on_air_at : (i : ℕ) → i < length t → on_air_until t (frame_at t i) ≡ packets_before t (i + 1)
+  on_air_at i l =
+      let back : frame_at t (i + 1 - 1) ≡ frame_at t i = ap (frame_at t) (omega arith) in
+      on_air_is (i + 1) (frame_at t i) (omega arith) (λ s. omega arith)
+      (λ m. rises_strictly t rising i (i + 1) (omega arith) m)
+
+  -- From the first frame on, it is the packets of one frame or more.
+  pub so_far : (f : ℕ) → 0 < length t → frame_at t 0 ≤ f → f ≤ end_frame t
+      → (n : ℕ) × (0 < n) × (n ≤ length t) × (on_air_until t f ≡ packets_before t n)
+  so_far f some low high =
+      elim (locate t rising (length t - 1) f (omega arith) low high) [
+        | inl (i, l, e) ↦
+            (i + 1, omega arith, omega arith, ap (on_air_until t) (sym e) ∙ on_air_at i l)
+        | inr (i, gap) ↦ (
+          i,
+          gap.0,
+          omega (arith, gap.1),
+          on_air_is i f (omega (arith, gap.1)) (λ s. omega (arith, gap.2)) (λ m. gap.3),
+        )
+      ]

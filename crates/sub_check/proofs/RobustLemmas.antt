@@ -15,7 +15,7 @@ use Rattle.ttx_page.specs.LostRows.{arrivals_of}
 use Rattle.ttx_page.specs.Noise.{ErasesPage, IsOddRow, IsSameRow, IsSound}
 use Rattle.ttx_page.specs.Page.{space, cell, IsCell}
 use Rattle.ttx_page.specs.PacketKind.{kind, is_row}
-use Rattle.ttx_page.specs.Receiver.{Hears}
+use Rattle.ttx_page.specs.Receiver.{Hears, State}
 use Rattle.ttx_page.specs.Shown.{shown}
 use Rattle.ttx_page.specs.Span.{holds_header, after_last_header, before_end, span}
 use Rattle.ttx_page.proofs.SpanLists.{after-none, holds-append_right, holds-append_left}
@@ -26,7 +26,7 @@ use Rattle.sub_plan.specs.Schedule.{due_in}
 use Rattle.sub_check.specs.Transmission.{Transmission, first_frame, last_frame, packets_between}
 use Rattle.sub_check.specs.Transmission.{packets_of, on_air, on_air_until}
 use Rattle.sub_check.specs.Good.{Good, IsCleanSpan}
-use Rattle.sub_check.specs.Robust.{IsListening, Robust}
+use Rattle.sub_check.specs.Robust.{IsListening, IsServed, Robust}
 use Rattle.sub_check.specs.LostRows.{RobustToLoss, RobustWithNothingLost}
 use Rattle.sub_check.specs.Sufficient.{IsSufficient, LawOfSufficientParts}
 use Rattle.sub_check.specs.Laws.{LawOfWindow, LawOfGood, LawOfGoodAndLoss, LawOfGoodAndMarkedLoss}
@@ -222,6 +222,22 @@ law_of_good_and_marked_loss
     (subst (λ ps. Hears options.page old ps new)
     (sym (noise.arrived_marked sent marks got may near)) hears)
 
+-- What is promised with one excuse is promised with each that it gives.
+pub served_as :
+    {programme : ProgrammeValue} {options : OptionsValue} {g f : ℕ} {sent : List (List ℕ)}
+    {P Q : ℕ → ℕ → Type 0} {new : State}
+    → ((row column : ℕ) → P row column → Q row column)
+    → IsServed programme options g f sent P new
+    → IsServed programme options g f sent Q new
+served_as excuse served = record {
+  in_time = served.in_time;
+  heard = served.heard;
+  cells = λ holds row column named. elim (served.cells holds row column named) [
+    | inl due ↦ inl due
+    | inr hit ↦ inr (hit.0, excuse row column hit.1)
+  ];
+}
+
 -- With nothing lost, the premises and the hits are those of a robust transmission.
 pub law_of_nothing_lost : LawOfRobustWithNothingLost
 law_of_nothing_lost programme transmission options = (robust, lossless)
@@ -230,37 +246,19 @@ law_of_nothing_lost programme transmission options = (robust, lossless)
         RobustWithNothingLost programme transmission options
         → Robust programme transmission options
     robust with_none g j f got old new listening near unheard shut hears =
-        let sent : List (List ℕ) = on_air transmission g j f in
-        let law = noise.law_of_nothing_lost options.page sent got in
-        let served =
-        with_none g j f got old new listening (law.near.1 near) unheard shut
-        (subst (λ ps. Hears options.page old ps new) (sym law.packets) hears) in
-        record {
-          in_time = served.in_time;
-          heard = served.heard;
-          cells = λ holds row column named. elim (served.cells holds row column named) [
-            | inl due ↦ inl due
-            | inr hit ↦ inr (hit.0, (law.hits row column).0 hit.1)
-          ];
-        }
+        let law = noise.law_of_nothing_lost options.page (on_air transmission g j f) got in
+        served_as (λ row column. (law.hits row column).0)
+        (with_none g j f got old new listening (law.near.1 near) unheard shut
+        (subst (λ ps. Hears options.page old ps new) (sym law.packets) hears))
 
     lossless :
         Robust programme transmission options
         → RobustWithNothingLost programme transmission options
     lossless robust g j f got old new listening arrives unheard shut hears =
-        let sent : List (List ℕ) = on_air transmission g j f in
-        let law = noise.law_of_nothing_lost options.page sent got in
-        let served =
-        robust g j f got old new listening (law.near.0 arrives) unheard shut
-        (subst (λ ps. Hears options.page old ps new) law.packets hears) in
-        record {
-          in_time = served.in_time;
-          heard = served.heard;
-          cells = λ holds row column named. elim (served.cells holds row column named) [
-            | inl due ↦ inl due
-            | inr hit ↦ inr (hit.0, (law.hits row column).1 hit.1)
-          ];
-        }
+        let law = noise.law_of_nothing_lost options.page (on_air transmission g j f) got in
+        served_as (λ row column. (law.hits row column).1)
+        (robust g j f got old new listening (law.near.0 arrives) unheard shut
+        (subst (λ ps. Hears options.page old ps new) law.packets hears))
 
 -- The parts that suffice: with nothing lost, robust to lost rows is robust.
 pub law_of_sufficient_parts : LawOfSufficientParts

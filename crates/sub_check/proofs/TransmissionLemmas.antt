@@ -5,7 +5,8 @@ use Rattle.std.proofs.Common.{nat_le, cond, List, [], ◌∷◌, ◌++◌, slice
 use Rattle.std.proofs.Common.{All, refl}
 use Rattle.std.proofs.Common.{sym, ap, ap₂, ◌∙◌, arith, append_assoc}
 use Rattle.std.specs.List.{AllByRecursion}
-use Rattle.std.proofs.lemmas.Bool.{cases_lt, lt-ltb, le-ltb, le-leb, lt-leb, and_left, and_right}
+use Rattle.std.proofs.lemmas.Bool.{cases_lt, le-ltb, and_right}
+use Rattle.std.proofs.lemmas.Bool.Decides.{nat_tests}
 use Rattle.std.proofs.lemmas.List.Elements.{recursion_from_All, All-append, All-nil, All-head}
 use Rattle.std.proofs.lemmas.List.Elements.{All-tail}
 use Rattle.sub_check.specs.Transmission.{SentFrame, Transmission, IsRising, packets_between}
@@ -33,14 +34,7 @@ pub packets_between-void :
     (frames : Transmission) (a b : ℕ) → b ≤ a → packets_between frames a b ≡ []
 packets_between-void [] a b l = refl
 packets_between-void (s ∷ frames) a b l =
-    let none : piece a b s ≡ [] =
-    elim (cases_lt s.frame b) [
-      | inl below ↦
-          ap (λ t. cond t s.packets [])
-          (and_left (nat_le a s.frame) (nat_lt s.frame b) (lt-leb a s.frame (omega arith)))
-      | inr above ↦
-          ap (λ t. cond t s.packets []) (and_right (nat_le a s.frame) _ (le-ltb s.frame b above))
-    ] in
+    let none : piece a b s ≡ [] = grind (arith, nat_tests) in
     ap₂ ◌++◌ none (packets_between-void frames a b l)
 
 -- Frames that rise rise after the first.
@@ -73,11 +67,8 @@ packets_between-split (s ∷ frames) a b c rising l m =
     let ih = packets_between-split frames a b c (rising-tail s frames rising) l m in
     elim (cases_lt s.frame b) [
       | inl below ↦
-          let first : piece a c s ≡ piece a b s =
-          ap (λ t. cond (nat_le a s.frame && t) s.packets [])
-          (lt-ltb s.frame c (omega arith) ∙ sym (lt-ltb s.frame b below)) in
-          let second : piece b c s ≡ [] =
-          ap (λ t. cond t s.packets []) (and_left _ (nat_lt s.frame c) (lt-leb b s.frame below)) in
+          let first : piece a c s ≡ piece a b s = grind (arith, nat_tests) in
+          let second : piece b c s ≡ [] = grind (arith, nat_tests) in
           ap₂ ◌++◌ first ih
           ∙ sym (append_assoc (piece a b s) _ _)
           ∙ ap
@@ -85,11 +76,8 @@ packets_between-split (s ∷ frames) a b c rising l m =
           ++ (ys ++ packets_between frames b c))
           (sym second)
       | inr above ↦
-          let first : piece a b s ≡ [] =
-          ap (λ t. cond t s.packets []) (and_right (nat_le a s.frame) _ (le-ltb s.frame b above)) in
-          let same : piece a c s ≡ piece b c s =
-          ap (λ t. cond (t && nat_lt s.frame c) s.packets [])
-          (le-leb a s.frame (omega arith) ∙ sym (le-leb b s.frame above)) in
+          let first : piece a b s ≡ [] = grind (arith, nat_tests) in
+          let same : piece a c s ≡ piece b c s = grind (arith, nat_tests) in
           let none : packets_between frames a b ≡ [] =
           packets_between-none frames a b (later_than s frames b rising above) in
           ap₂ ◌++◌ same (ih ∙ ap (λ ys. ys ++ packets_between frames b c) none)
