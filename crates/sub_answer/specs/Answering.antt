@@ -1,75 +1,49 @@
 -- What is said of the answer to a request, command by command.
-use Rattle.std.specs.Prelude.{⊤, ◌≡◌, ◌≢◌, ◌↔◌, ℕ, Bool, true, false, List, Option, Result, Err}
+use Rattle.std.specs.Prelude.{◌≡◌, ◌≢◌, ◌↔◌, ℕ, Bool, true, false, List, Option, Result, Err, Ok}
+use Rattle.std.specs.Prelude.{IsTrue}
 use Rattle.sub_io.specs.Device.{RisesIf, failed}
 use Rattle.sub_io.specs.Reading.{IfTold}
 use Rattle.ttx_pes.specs.Reader.{FailsAtPacket}
 use Rattle.ttx_pes.specs.declared.fault.PesFault.TheVariants.{Read}
 use Rattle.stl_file.specs.Reader.{outcome_of}
 use Rattle.stl_rows.specs.Fault.{is_read}
-use Rattle.stl_rows.specs.Loading.{FailsLoading}
+use Rattle.stl_rows.specs.Loading.{FailsLoading, loaded}
+use Rattle.stl_rows.specs.Programme.{ProgrammeValue}
 use Rattle.stl_rows.specs.declared.fault.LoadFault.{LoadFault}
 use Rattle.stl_rows.specs.declared.national.National.{National}
 use Rattle.sub_plan.specs.Options.{OptionsValue}
 use Rattle.sub_check.specs.Checking.{TellsSubtitles}
 use Rattle.sub_check.specs.Fault.{is_pes_read, is_stl_read, is_subtitle_fault}
 use Rattle.sub_check.specs.FrameRules.{Unread}
+use Rattle.sub_check.specs.ListeningRun.{FailsListening}
+use Rattle.sub_check.specs.LostRows.{RobustToMarkedLoss}
+use Rattle.sub_check.specs.OnScreen.{Shown}
+use Rattle.sub_check.specs.PesFrames.{Carries}
 use Rattle.sub_check.specs.PesReading.{ReadsAs}
+use Rattle.sub_check.specs.Recovery.{Recovers}
+use Rattle.sub_check.specs.Robust.{Robust}
 use Rattle.sub_check.specs.Transmission.{Transmission}
 use Rattle.sub_check.specs.declared.checker.Accepted.{Accepted}
 use Rattle.sub_check.specs.declared.fault.CheckFault.{CheckFault}
 use Rattle.sub_check.specs.declared.fault.CheckFault.TheVariants as check
+use Rattle.sub_check.specs.declared.listening.Listening.{Listening}
+use Rattle.sub_check.specs.declared.listening_run.ListenFault.{ListenFault}
 use Rattle.sub_answer.specs.CheckLines.{verdict}
 use Rattle.sub_answer.specs.DeviceCall.{SinkCall, SourceCall}
-use Rattle.sub_answer.specs.Listing.{Listing, PrintsOrFails, told_listing}
-use Rattle.sub_check.specs.ListeningRun.{FailsListening}
 use Rattle.sub_answer.specs.ListenListing.{Listens, listen_told}
+use Rattle.sub_answer.specs.Listing.{Listing, PrintsListing, PrintsOrFails, packet_listing}
+use Rattle.sub_answer.specs.Listing.{told_listing}
+use Rattle.sub_answer.specs.NormalWriting.{HasNormalFaultLine, normal_writing}
+use Rattle.sub_answer.specs.PacketsListing.{ListsPackets}
+use Rattle.sub_answer.specs.ShowListing.{ListsSubtitles}
 use Rattle.sub_answer.specs.Verdict.{IsAccepted, IsAnswer}
-use Rattle.sub_answer.specs.Writing.{PrintsMemory, Works, Writing, end_status, is_read_end}
-use Rattle.sub_answer.specs.Writing.{is_write_end}
-use Rattle.sub_check.specs.declared.listening_run.ListenFault.{ListenFault}
-use Rattle.sub_check.specs.declared.listening.Listening.{Listening}
+use Rattle.sub_answer.specs.Writing.{HasScheduleFaultLine, PrintsMemory, Works, Writing, end_status}
+use Rattle.sub_answer.specs.Writing.{is_read_end, is_write_end, schedule_writing}
 use Rattle.sub_answer.specs.declared.request.Request.{Request}
 use Rattle.sub_answer.specs.declared.request.Request.TheVariants as ask
 use Rattle.sub_answer.specs.declared.status.Status.{Status}
 use Rattle.sub_answer.specs.declared.status.Status.TheVariants.{Done, Fault}
 use Rattle.sub_answer.specs.declared.writing.End.{End}
-
--- ---- what a request asks for
-
--- The fact holds of the bytes of a `packet` request.
-abbrev pub ForPacket : Request → (List ℕ → Type 0) → Type 0
-ForPacket (ask.Packet bytes) P = P bytes
-ForPacket _ P = ⊤
-
--- The fact holds, where a `packets` is asked for.
-abbrev pub ForPackets : Request → Type 0 → Type 0
-ForPackets (ask.Packets pes) P = P
-ForPackets _ P = ⊤
-
--- The fact holds, where a `show` is asked for.
-abbrev pub ForShow : Request → Type 0 → Type 0
-ForShow (ask.Show stl) P = P
-ForShow _ P = ⊤
-
--- The fact holds, where a `normal` is asked for.
-abbrev pub ForNormal : Request → Type 0 → Type 0
-ForNormal (ask.Normal input output) P = P
-ForNormal _ P = ⊤
-
--- The fact holds of what a `schedule` request asks for.
-abbrev pub ForSchedule : Request → (OptionsValue → Bool → National → Type 0) → Type 0
-ForSchedule (ask.Schedule stl pes options serial national) P = P options serial national
-ForSchedule _ P = ⊤
-
--- The fact holds of what a `check` request asks for.
-abbrev pub ForCheck : Request → (OptionsValue → National → Type 0) → Type 0
-ForCheck (ask.Check stl pes options national) P = P options national
-ForCheck _ P = ⊤
-
--- The fact holds of what a `listen` request asks for.
-abbrev pub ForListen : Request → (Listening → Type 0) → Type 0
-ForListen (ask.Listen pes listening) P = P listening
-ForListen _ P = ⊤
 
 -- Whether the answer takes memory: a programme, or a whole file, is kept in it.
 abbrev pub takes_memory : Request → Bool
@@ -157,6 +131,25 @@ pub record AnswersCheck
       → pes.new_count ≡ pes.old_count
       → out.new_count ≡ out.old_count
       → PrintsMemory national stl.told out.old out.new
+  -- What is accepted is robust, with lost rows too: every receiver shows each due page within the
+  -- repeat bound, but for cells whose byte was hit. By it receivers recover from whatever they held
+  -- before, and where complete pages are asked for, it is on their screens.
+  pub robust :
+      (programme : ProgrammeValue) (frames : Transmission)
+      → IfTold stl.told (λ file.
+      loaded national (outcome_of file) ≡ Ok programme
+      → IfTold pes.told (λ bytes.
+      Carries options.origin bytes frames
+      → status ≡ Done
+      → Robust programme frames options
+      × RobustToMarkedLoss programme frames options
+      × Recovers programme frames options
+      × (IsTrue options.asks_complete → Shown programme frames options)))
+  -- A subtitle file that gives no programme is not accepted, and no PES byte is read.
+  pub no_programme :
+      IfTold stl.told (λ file.
+      ((programme : ProgrammeValue) → loaded national (outcome_of file) ≢ Ok programme)
+      → (status ≢ Done) × (pes.new ≡ pes.old))
 
 -- `listen` prints what a receiver shows that heard the frames of the PES file, or the refusal.
 pub record AnswersListen
@@ -178,3 +171,23 @@ pub record AnswersListen
       × FailsListening listening pes.told pes.left f
       × PrintsOrFails out.old_count out.old out.new_count out.new
       (told_listing (listen_told f)) status
+
+-- What is answered to a request: what is printed and written, and the status.
+abbrev pub Answers :
+    {S T : Type 0}
+    → Request → SourceCall S → SourceCall T → SinkCall → SinkCall → Status → Type 0
+Answers (ask.Packet bytes) first second file out status =
+    PrintsOrFails out.old_count out.old out.new_count out.new (packet_listing bytes) status
+Answers (ask.Packets pes) first second file out status =
+    PrintsListing ListsPackets first out status
+Answers (ask.Show stl) first second file out status =
+    PrintsListing ListsSubtitles first out status
+Answers (ask.Normal input output) first second file out status =
+    EndsWork first file out status normal_writing HasNormalFaultLine
+Answers (ask.Schedule stl pes options serial national) first second file out status =
+    EndsWork first file out status (schedule_writing national options serial)
+    (HasScheduleFaultLine national)
+Answers (ask.Check stl pes options national) first second file out status =
+    AnswersCheck national options first second out status
+Answers (ask.Listen pes listening) first second file out status =
+    AnswersListen listening first out status

@@ -10,7 +10,6 @@ use Rattle.sub_answer.specs.declared.told.Kind.{Kind}
 use Rattle.sub_answer.specs.declared.told.Kind.TheVariants as kind
 use Rattle.sub_answer.specs.declared.told.Place.{Place}
 use Rattle.sub_answer.specs.declared.told.Place.TheVariants as place
-use Rattle.sub_answer.specs.declared.told.Told.{Told}
 
 -- What is told of a fault: its kind, its number and its name, and its place.
 pub record ToldValue : Type 0 where
@@ -18,10 +17,6 @@ pub record ToldValue : Type 0 where
   pub number : ℕ
   pub name : List ℕ
   pub place : Place
-
--- The same of what the program tells.
-abbrev pub value_of : Told → ToldValue
-value_of t = record { kind = t.kind; number = t.number; name = t.name.now; place = t.place }
 
 -- A fault of this number and name.
 abbrev pub told_as : Kind → ℕ × List ℕ → Place → ToldValue

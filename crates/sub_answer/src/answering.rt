@@ -12,31 +12,14 @@ mod schedule;
 mod show;
 mod state;
 
-ghost use Rattle.std.specs.Prelude.{◌≡◌, ◌≢◌, ◌+◌, ◌<◌, IsTrue, Ok, false, true};
+ghost use Rattle.std.specs.Prelude.{◌≡◌, ◌+◌, ◌<◌, false, true};
 ghost use Rattle.sub_io.specs.Device.{CanFail};
-ghost use Rattle.sub_io.specs.Reading.{IfTold};
-ghost use Rattle.stl_file.specs.Reader.{outcome_of};
-ghost use Rattle.stl_rows.specs.Loading.{loaded};
-ghost use Rattle.stl_rows.specs.Programme.{ProgrammeValue};
-ghost use Rattle.sub_check.specs.LostRows.{RobustToMarkedLoss};
-ghost use Rattle.sub_check.specs.OnScreen.{Shown};
-ghost use Rattle.sub_check.specs.PesFrames.{Carries};
-ghost use Rattle.sub_check.specs.Recovery.{Recovers};
-ghost use Rattle.sub_check.specs.Robust.{Robust};
-ghost use Rattle.sub_check.specs.Transmission.{Transmission};
-ghost use Rattle.sub_answer.specs.Answering.{AnswersCheck, AnswersListen, EndsWork};
-ghost use Rattle.sub_answer.specs.Answering.{ForCheck, ForListen, ForNormal, ForPacket, ForPackets};
-ghost use Rattle.sub_answer.specs.Answering.{ForSchedule, ForShow, takes_memory};
+ghost use Rattle.sub_answer.specs.Answering.{Answers, takes_memory};
 ghost use Rattle.sub_answer.specs.DeviceCall.{sink_call, source_call};
 ghost use Rattle.sub_answer.specs.Faults.{usage_told};
 ghost use Rattle.sub_answer.specs.Files.{files_of, reads_one, reads_two, writes_one};
-ghost use Rattle.sub_answer.specs.Listing.{CountsFault, PrintsListing, PrintsOrFails};
-ghost use Rattle.sub_answer.specs.Listing.{packet_listing};
-ghost use Rattle.sub_answer.specs.NormalWriting.{HasNormalFaultLine, normal_writing};
-ghost use Rattle.sub_answer.specs.PacketsListing.{ListsPackets};
-ghost use Rattle.sub_answer.specs.ShowListing.{ListsSubtitles};
+ghost use Rattle.sub_answer.specs.Listing.{CountsFault, PrintsOrFails};
 ghost use Rattle.sub_answer.specs.Told.{line_of};
-ghost use Rattle.sub_answer.specs.Writing.{HasScheduleFaultLine, schedule_writing};
 
 use crate::faults::told_of_usage;
 use crate::lines::{Line, push_told};
@@ -53,7 +36,9 @@ use packets::PacketLister;
 use schedule::ScheduleWork;
 use show::list_subtitles;
 use std::alloc::Global;
+use sub_check::ReceiverKind;
 use sub_io::{Flush, Sink, Source};
+use ttx_page::{Blank, Keep};
 
 /// Answers a request that `Request::parse` gave.
 ///
@@ -74,64 +59,12 @@ pub fn answer<S: Source, T: Source, F: Flush, K: Sink>(
     requires file { CanFail (F.failure_count file.old) }
     requires out { CanFail (K.failure_count out.old) }
 
-    // `packet` prints the text of the 42 bytes, and reads no device.
-    ensures packet { ForPacket request.now (λ bytes.
-        PrintsOrFails (K.failure_count out.old) (K.contents out.old)
-        (K.failure_count out.new) (K.contents out.new) (packet_listing bytes) result) }
-
-    // `packets` and `show` print what the bytes of their file decide.
-    ensures packets { ForPackets request.now (PrintsListing ListsPackets
-        (source_call S.remaining S.failure_count first.old first.new)
-        (sink_call K.contents K.failure_count out.old out.new) result) }
-    ensures show { ForShow request.now (PrintsListing ListsSubtitles
-        (source_call S.remaining S.failure_count first.old first.new)
-        (sink_call K.contents K.failure_count out.old out.new) result) }
-
-    // `normal` writes and prints what the bytes of the input decide.
-    ensures normal { ForNormal request.now (EndsWork
-        (source_call S.remaining S.failure_count first.old first.new)
-        (sink_call F.contents F.failure_count file.old file.new)
-        (sink_call K.contents K.failure_count out.old out.new) result
-        normal_writing HasNormalFaultLine) }
-
-    // `schedule` writes and prints what the bytes of the subtitle file decide.
-    ensures schedule { ForSchedule request.now (λ options serial national. EndsWork
-        (source_call S.remaining S.failure_count first.old first.new)
-        (sink_call F.contents F.failure_count file.old file.new)
-        (sink_call K.contents K.failure_count out.old out.new) result
-        (schedule_writing national options serial) (HasScheduleFaultLine national)) }
-
-    // `check` prints one answer, which the bytes of both files decide.
-    ensures check { ForCheck request.now (λ options national. AnswersCheck national options
+    // What is printed and written of what the devices tell, command by command.
+    ensures answers { Answers request.now
         (source_call S.remaining S.failure_count first.old first.new)
         (source_call T.remaining T.failure_count second.old second.new)
-        (sink_call K.contents K.failure_count out.old out.new) result) }
-
-    // What `check` accepts is robust, with lost rows too: every receiver shows each due page within
-    // the repeat bound, but for cells whose byte was hit. By it receivers recover from whatever
-    // they held before, and where complete pages are asked for, it is on their screens.
-    ensures check_robust { ForCheck request.now (λ options national.
-        (programme : ProgrammeValue) (frames : Transmission)
-        → IfTold (S.remaining first.old) (λ file.
-        loaded national (outcome_of file) ≡ Ok programme
-        → IfTold (T.remaining second.old) (λ bytes.
-        Carries options.origin bytes frames
-        → result ≡ Status.Done
-        → Robust programme frames options
-        × RobustToMarkedLoss programme frames options
-        × Recovers programme frames options
-        × (IsTrue options.asks_complete → Shown programme frames options)))) }
-
-    // A subtitle file that gives no programme is not accepted, and no PES byte is read.
-    ensures check_subtitles { ForCheck request.now (λ options national.
-        IfTold (S.remaining first.old) (λ file.
-        ((programme : ProgrammeValue) → loaded national (outcome_of file) ≢ Ok programme)
-        → (result ≢ Status.Done) × (second.new ≡ second.old))) }
-
-    // `listen` prints what a receiver shows that heard the frames of the PES file, or the refusal.
-    ensures listen { ForListen request.now (λ listening. AnswersListen listening
-        (source_call S.remaining S.failure_count first.old first.new)
-        (sink_call K.contents K.failure_count out.old out.new) result) }
+        (sink_call F.contents F.failure_count file.old file.new)
+        (sink_call K.contents K.failure_count out.old out.new) result }
 
     // Devices that are not named stay as they are.
     ensures first { reads_one (files_of request.now) ≡ false → first.new ≡ first.old }
@@ -184,7 +117,13 @@ pub fn answer<S: Source, T: Source, F: Flush, K: Sink>(
             national,
             ..
         } => { print_verdict(alloc, first, second, *national, options, out) }
-        Request::Listen { listening, .. } => print_listening(first, listening, out),
+        Request::Listen { listening, .. } => match listening.receiver {
+            // One that drops rows hears none with a byte of even parity.
+            ReceiverKind::Keep | ReceiverKind::DropRow => {
+                print_listening::<Keep, S, K>(first, listening, out)
+            }
+            ReceiverKind::Blank => print_listening::<Blank, S, K>(first, listening, out),
+        },
     }
 }
 

@@ -8,7 +8,6 @@ ghost use Rattle.arrayvec.specs.ArrayVec.{array_vec_len};
 ghost use Rattle.hex.specs.Hex.{encode_lower};
 ghost use Rattle.sub_answer.specs.Lines.{glyph, text_digits, time_text, two_digits};
 ghost use Rattle.sub_answer.specs.Told.{frame_text, kind_text, line_of, place_text};
-ghost use Rattle.sub_answer.specs.Told.{value_of};
 
 use crate::hex_digits::digits_of_block;
 use crate::told::{Kind, Place, Told};
@@ -122,9 +121,8 @@ pub fn glyph(code: u8) -> u8
 
 /// Appends the line of what is told of a fault.
 pub fn push_told<const N: usize>(line: &mut ArrayVec<u8, N>, told: &Told)
-    requires few { length told.now.name.now ≤ 16 }
-    requires room { array_vec_len line.old + LINE_ROOM ≤ N }
-    ensures { line.new.items ≡ line.old.items ++ line_of (value_of told.now) }
+    requires { array_vec_len line.old + LINE_ROOM ≤ N }
+    ensures { line.new.items ≡ line.old.items ++ line_of told.now }
 {
     push_text(line, text_of_kind(told.kind));
     push_decimal(line, u64::from(told.number));

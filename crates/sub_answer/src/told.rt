@@ -1,7 +1,6 @@
 //! What is told of a fault: one line, from which the status follows.
-ghost use Rattle.std.specs.Prelude.{◌≡◌};
-
 use crate::status::Status;
+use std::marker::Model;
 
 /// What a line about a fault begins with.
 #[derive(Clone, Copy, Debug, PartialEq, Eq)]
@@ -59,27 +58,43 @@ pub enum Place {
     },
 }
 
-/// What is told of a fault.
-#[derive(Clone, Copy, Debug)]
+/// What is told of a fault. Contracts see it as a `ToldValue`.
+#[derive(Drop)]
 pub struct Told {
     /// What the line begins with.
     pub kind: Kind,
     /// The number of the fault.
     pub number: u8,
-    /// The name of the fault.
+    /// The name of the fault: at most 16 letters.
     pub name: &'static str,
     /// Where it is.
     pub place: Place,
 }
 
-impl Told {
-    ghost use Rattle.sub_answer.specs.Told.{told_as, value_of};
+impl Model for Told {
+    ghost use Rattle.std.specs.Prelude.{◌≤◌, length};
+    ghost use Rattle.sub_answer.specs.Told.{ToldValue};
 
-    /// What is told of a fault.
+    ghost Value = { ToldValue };
+
+    ghost view = { λ t. record {
+      kind = t.kind;
+      number = t.number;
+      name = t.name.now;
+      place = t.place;
+    } };
+
+    ghost invariant = { λ t. length t.name.now ≤ 16 };
+}
+
+impl Told {
+    ghost use Rattle.std.specs.Prelude.{◌≡◌, ◌≤◌, length};
+    ghost use Rattle.sub_answer.specs.Told.{status_of, told_as};
+
+    /// What is told of a fault that has a number and a name.
     pub fn new(kind: Kind, number: u8, name: &'static str, place: Place) -> Told
-        ensures value { value_of result ≡ told_as kind (number, name.now) place }
-        ensures kind { result.kind ≡ kind }
-        ensures name { result.name.now ≡ name.now }
+        requires { length name.now ≤ 16 }
+        ensures { result ≡ told_as kind (number, name.now) place }
     {
         Told {
             kind,
@@ -88,16 +103,12 @@ impl Told {
             place,
         }
     }
-}
 
-impl Kind {
-    ghost use Rattle.sub_answer.specs.Told.{status_of};
-
-    /// The status that goes with a line.
-    pub fn status(self) -> Status
-        ensures { result ≡ status_of self }
+    /// The status that goes with the line.
+    pub fn status(&self) -> Status
+        ensures { result ≡ status_of self.now.kind }
     {
-        match self {
+        match self.kind {
             Kind::Refused => Status::Refused,
             Kind::Fault | Kind::Usage => Status::Fault,
         }

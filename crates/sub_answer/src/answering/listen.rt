@@ -10,7 +10,6 @@ ghost use Rattle.sub_check.specs.ListeningRun.{is_of_subtitles};
 ghost use Rattle.sub_answer.specs.ListenListing.{IsOldPage};
 ghost use Rattle.sub_check.specs.ListeningRun.{is_read};
 ghost use Rattle.sub_answer.specs.ListenListing.{listen_told};
-ghost use Rattle.sub_answer.specs.Told.{value_of};
 
 use crate::answering::state::print_state;
 use crate::faults::told_of_check;
@@ -18,9 +17,9 @@ use crate::lines::{Line, push_told};
 use crate::printing::print;
 use crate::status::Status;
 use crate::told::{Kind, Place, Told};
-use sub_check::{ListenFault, Listening, ReceiverKind, listen};
+use sub_check::{ListenFault, Listening, listen};
 use sub_io::{Sink, Source};
-use ttx_page::{Blank, Keep, Page, Receiver};
+use ttx_page::{Page, Receiver};
 
 /// Runs a receiver over the PES packets of a file up to TIME, and prints what it has heard and
 /// shows.
@@ -35,7 +34,7 @@ use ttx_page::{Blank, Keep, Page, Receiver};
 ///
 /// A file is refused at the first PES packet that `check` would not read on at, and at a PES packet
 /// of which a page header, or a packet without an address, is lost.
-pub fn print_listening<S: Source, K: Sink>(
+pub fn print_listening<R: Receiver + Drop, S: Source, K: Sink>(
     pes: &mut S,
     listening: &Listening,
     out: &mut K,
@@ -45,30 +44,6 @@ pub fn print_listening<S: Source, K: Sink>(
     // Where the source tells its bytes and does not fail, they are read as frames, and what is
     // printed is the state of a receiver that heard what it gets of them, or the refusal. A source
     // that fails is told at the PES packet within which it failed, after what was heard.
-    ensures exact { AnswersListen listening.now
-        (source_call S.remaining S.failure_count pes.old pes.new)
-        (sink_call K.contents K.failure_count out.old out.new) result }
-    ensures first_count { CountsFault (S.failure_count pes.old) result (S.failure_count pes.new) }
-    ensures out_count { CountsFault (K.failure_count out.old) result (K.failure_count out.new) }
-    ensures fault { result ≡ Status.Fault
-        → S.failure_count pes.old + K.failure_count out.old
-        < S.failure_count pes.new + K.failure_count out.new }
-{
-    match listening.receiver {
-        // One that drops rows hears none with a byte of even parity.
-        ReceiverKind::Keep | ReceiverKind::DropRow => print_run::<Keep, S, K>(pes, listening, out),
-        ReceiverKind::Blank => print_run::<Blank, S, K>(pes, listening, out),
-    }
-}
-
-// Prints what a receiver of either kind has heard and shows.
-fn print_run<R: Receiver + Drop, S: Source, K: Sink>(
-    pes: &mut S,
-    listening: &Listening,
-    out: &mut K,
-) -> Status
-    requires first { CanFail (S.failure_count pes.old) }
-    requires out { CanFail (K.failure_count out.old) }
     ensures exact { AnswersListen listening.now
         (source_call S.remaining S.failure_count pes.old pes.new)
         (sink_call K.contents K.failure_count out.old out.new) result }
@@ -121,25 +96,21 @@ fn print_fault<K: Sink>(fault: &ListenFault, out: &mut K) -> Status
     let told = told_of_listen(fault);
     let mut line = Line::new();
     push_told(&mut line, &told);
-    print(line.as_slice(), told.kind.status(), out)
+    print(line.as_slice(), told.status(), out)
 }
 
 // What is told of a fault.
 fn told_of_listen(fault: &ListenFault) -> Told
-    ensures value { value_of result ≡ listen_told fault.now }
-    ensures kind { result.kind ≡ (listen_told fault.now).kind }
-    ensures few { length result.name.now ≤ 16 }
+    ensures { result ≡ listen_told fault.now }
 {
     match fault {
         ListenFault::File(fault) => told_of_check(*fault),
-        ListenFault::LostHeader { frame, packet } => Told {
-            kind: Kind::Refused,
-            number: 76,
-            name: "LostHeader",
-            place: Place::Packet {
+        ListenFault::LostHeader { frame, packet } => {
+            let place = Place::Packet {
                 frame: *frame,
                 packet: *packet,
-            },
-        },
+            };
+            Told::new(Kind::Refused, 76, "LostHeader", place)
+        }
     }
 }

@@ -60,7 +60,7 @@ impl Lister for PacketLister {
             Err(fault) => {
                 let told = told_of_pes(fault, self.index);
                 push_told(text, &told);
-                Some(told.kind.status())
+                Some(told.status())
             }
         }
     }

@@ -42,7 +42,7 @@ pub fn list_subtitles<S: Source, K: Sink>(stl: &mut S, out: &mut K) -> Status
             let told = told_of_stl(fault, 0);
             let mut line = Line::new();
             push_told(&mut line, &told);
-            print(line.as_slice(), told.kind.status(), out)
+            print(line.as_slice(), told.status(), out)
         }
     }
 }
@@ -78,7 +78,7 @@ impl Lister for SubtitleLister {
             Err(fault) => {
                 let told = told_of_stl(fault, self.reader.block());
                 push_told(text, &told);
-                Some(told.kind.status())
+                Some(told.status())
             }
         }
     }

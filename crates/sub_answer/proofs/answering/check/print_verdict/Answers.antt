@@ -47,29 +47,24 @@ returns-clause-check g c =
           (g.K.Sink.contents c.args.out.now) (g.K.Sink.contents c.print.new.out) answer _ _ _ _
           (sym whole.1 ∙ is) made.stl_count stl_same made.pes_count pes_same
           (λ file told. (made.checked file told).subtitles) whole.0;
+      robust = λ programme frames file told loads bytes heard reads done.
+          let checked = (made.checked file told).checked programme loads bytes heard in
+          let ok =
+          ok-of_done answer
+          (sym c.push_verdict-status.ensures.status ∙ c.print.ensures.done done) in (
+            checked.robust frames reads ok,
+            checked.robust_to_loss frames reads ok,
+            checked.recovers frames reads ok,
+            checked.shown frames reads ok,
+          );
+      no_programme = λ file told none.
+          let refused = (made.checked file told).refused none in (
+            λ done.
+                refused-not_ok answer refused
+                (sym c.push_verdict-status.ensures.status ∙ c.print.ensures.done done),
+            made.before refused,
+          );
     }
-
-pub returns-clause-robust : goal.returns-clause-robust
-returns-clause-robust g c = λ programme frames file told loads bytes heard reads done.
-    let checked =
-    (c.check_files-answer.ensures.checked file told).checked programme loads bytes heard in
-    let ok =
-    ok-of_done c.check_files-answer.result
-    (sym c.push_verdict-status.ensures.status ∙ c.print.ensures.done done) in (
-      checked.robust frames reads ok,
-      checked.robust_to_loss frames reads ok,
-      checked.recovers frames reads ok,
-      checked.shown frames reads ok,
-    )
-
-pub returns-clause-subtitles : goal.returns-clause-subtitles
-returns-clause-subtitles g c = λ file told none.
-    let refused = (c.check_files-answer.ensures.checked file told).refused none in (
-      λ done.
-          refused-not_ok c.check_files-answer.result refused
-          (sym c.push_verdict-status.ensures.status ∙ c.print.ensures.done done),
-      c.check_files-answer.ensures.before refused,
-    )
 
 pub returns-clause-stl_count : goal.returns-clause-stl_count
 returns-clause-stl_count g c =

@@ -10,11 +10,11 @@ pub returns-clause-printed : goal.returns-clause-printed
 returns-clause-printed g c =
     let text : line_of (listen_told c.args.fault.now) ≡ c.as_slice.result.now = search rules in
     c.print.ensures.printed (told_listing (listen_told c.args.fault.now)) text
-    (sym (c.status.ensures ∙ ap status_of c.told_of_listen-told.ensures.kind))
+    (sym (c.status.ensures ∙ ap (λ t. status_of t.kind) c.told_of_listen-told.ensures))
 
 pub returns-clause-fault : goal.returns-clause-fault
 returns-clause-fault g c = λ is fine.
-    let status = c.status.ensures ∙ ap status_of c.told_of_listen-told.ensures.kind in
+    let status = c.status.ensures ∙ ap (λ t. status_of t.kind) c.told_of_listen-told.ensures in
     let risen =
     c.print.ensures.failed is
     (λ e. listen_told-not_fault c.args.fault.now fine c.requires.own (sym status ∙ e)) in
@@ -23,5 +23,5 @@ returns-clause-fault g c = λ is fine.
 pub returns-clause-source : goal.returns-clause-source
 returns-clause-source g c = λ failed.
     c.print.ensures.fault
-    (c.status.ensures ∙ ap status_of c.told_of_listen-told.ensures.kind
+    (c.status.ensures ∙ ap (λ t. status_of t.kind) c.told_of_listen-told.ensures
     ∙ listen_told-source c.args.fault.now failed)

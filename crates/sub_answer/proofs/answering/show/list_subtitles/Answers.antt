@@ -66,7 +66,7 @@ returns-in-Err-clause-listing g c =
       cut = λ e. absurd (never-cut _ e);
       printed =
           c.print.ensures.printed (told_listing (stl_told f 0)) text
-          (sym (c.status.ensures ∙ ap status_of c.told_of_stl-told.ensures.kind));
+          (sym (c.status.ensures ∙ ap (λ t. status_of t.kind) c.told_of_stl-told.ensures));
     }
 
 pub returns-in-Err-clause-stl_count : goal.returns-in-Err-clause-stl_count
@@ -75,7 +75,7 @@ returns-in-Err-clause-stl_count g c =
     counted (ends_in_fault (Some (status_of (stl_kind f)))) _ _ _
     (rw (stl-failed f) c.in-Err.ensures.count)
     (λ e. c.print.ensures.fault
-    (c.status.ensures ∙ ap status_of c.told_of_stl-told.ensures.kind ∙ stl-status f e))
+    (c.status.ensures ∙ ap (λ t. status_of t.kind) c.told_of_stl-told.ensures ∙ stl-status f e))
 
 pub returns-in-Err-clause-fault : goal.returns-in-Err-clause-fault
 returns-in-Err-clause-fault g c = λ is.
@@ -85,5 +85,5 @@ returns-in-Err-clause-fault g c = λ is.
     (told_listing (stl_told f 0)) _
     (rw (stl-failed f) c.in-Err.ensures.count)
     (c.print.ensures.printed (told_listing (stl_told f 0)) text
-    (sym (c.status.ensures ∙ ap status_of c.told_of_stl-told.ensures.kind)))
+    (sym (c.status.ensures ∙ ap (λ t. status_of t.kind) c.told_of_stl-told.ensures)))
     (λ own. ap (λ (s : Status). ends_in_fault (Some s)) own) is

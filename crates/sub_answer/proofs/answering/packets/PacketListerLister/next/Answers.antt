@@ -63,7 +63,7 @@ returns-in-Err-clause-gives g c =
     let index = c.args.self.now.index in
     let f = c.in-Err.fault in
     let text : c.push_told.new.line.items ≡ line_of (pes_told f index) = search rules in
-    let status = c.status.ensures ∙ ap status_of c.told_of_pes-told.ensures.kind in
+    let status = c.status.ensures ∙ ap (λ t. status_of t.kind) c.told_of_pes-told.ensures in
     let failed = ap (λ (s : Status). ends_in_fault (Some s)) (sym status) in
     record {
       outcome = fails f;

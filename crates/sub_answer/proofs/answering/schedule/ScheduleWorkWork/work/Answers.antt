@@ -1,6 +1,6 @@
 -- The line of a fault of loading: fault_line-loading.
 use Rattle.std.proofs.Common.{List, ℕ, ◌++◌, ap, ◌∙◌}
-use Rattle.sub_answer.specs.Told.{line_of, value_of}
+use Rattle.sub_answer.specs.Told.{line_of}
 use Rattle.sub_answer.proofs.WritingLemmas.{fault_line-loading}
 use Rattle.sub_answer.proofs.answering.schedule.ScheduleWorkWork.work.Goals as goal
 
@@ -10,6 +10,6 @@ returns-in-Err-clause-line g c =
     c.in-Err.fault.block c.in-Err.fault.kind _
     c.load_end.ensures
     (c.push_told.ensures
-    ∙ ap (λ (xs : List ℕ). xs ++ line_of (value_of c.told_of_load.result)) c.requires.line
-    ∙ ap line_of c.told_of_load.ensures.value)
+    ∙ ap (λ (xs : List ℕ). xs ++ line_of c.told_of_load.result) c.requires.line
+    ∙ ap line_of c.told_of_load.ensures)
     c.in-Err.ensures.fault c.in-Err.ensures.read
