@@ -1,5 +1,6 @@
 -- How the arguments of a command are read (own).
-use Rattle.std.specs.Prelude.{ℕ, ◌^◌, ◌-◌, Bool, ◌&&◌, List, [], Option, Some, None, Result, Ok}
+use Rattle.std.specs.Prelude.{ℕ, ◌^◌, ◌-◌, ◌==◌, Bool, ◌&&◌, List, [], Option, Some, None, Result}
+use Rattle.std.specs.Prelude.{Ok}
 use Rattle.std.specs.Prelude.{codes, false, nat_le, ok_or, true, unwrap_or, if◌then◌else◌}
 use Rattle.std.specs.Str.{bytes_eq}
 use Rattle.clap.specs.Words.{Row, Text, first_of}
@@ -8,8 +9,8 @@ use Rattle.ttx_packet.specs.PageId.{PageIdValue, page_of_text}
 use Rattle.stl_rows.specs.declared.national.National.{National}
 use Rattle.stl_rows.specs.declared.national.National.TheVariants.{English, German}
 use Rattle.sub_plan.specs.Options.{OptionsValue}
-use Rattle.sub_words.specs.Texts.{flips_of_text, frame_of_text, number_of_text, numbers_of_text}
-use Rattle.sub_words.specs.Texts.{receiver_of_text}
+use Rattle.sub_words.specs.Texts.{flip_of_text, frame_of_text, is_same_byte, list_of_text}
+use Rattle.sub_words.specs.Texts.{number_of_text, receiver_of_text}
 use Rattle.sub_check.specs.declared.listening.Flip.{Flip}
 use Rattle.sub_check.specs.declared.listening.ReceiverKind.{ReceiverKind}
 use Rattle.sub_answer.specs.declared.request.UsageFault.{UsageFault}
@@ -91,13 +92,20 @@ abbrev pub said_if_given : {A : Type 0} → (Text → Option (List A)) → Optio
 said_if_given said None = Some []
 said_if_given said (Some text) = said text
 
+-- The items of an option's list.
+abbrev pub listed_of :
+    {A : Type 0} → (Text → Option A) → (A → A → Bool) → Text → UsageFault → List Row
+    → Result (List A) UsageFault
+listed_of said same id wrong rows =
+    ok_or (said_if_given (list_of_text said same) (first_of id rows)) wrong
+
 -- `[--flip F]`
 abbrev pub flips_of : List Row → Result (List Flip) UsageFault
-flips_of rows = ok_or (said_if_given flips_of_text (first_of (codes "flip") rows)) fault.BadFlip
+flips_of = listed_of flip_of_text is_same_byte (codes "flip") fault.BadFlip
 
 -- `[--lose L]`
 abbrev pub lost_of : List Row → Result (List ℕ) UsageFault
-lost_of rows = ok_or (said_if_given numbers_of_text (first_of (codes "lose") rows)) fault.BadLose
+lost_of = listed_of number_of_text (λ a b. a == b) (codes "lose") fault.BadLose
 
 -- `[--receiver R]`
 abbrev pub receiver_of : List Row → Result ReceiverKind UsageFault

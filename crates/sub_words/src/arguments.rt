@@ -1,6 +1,6 @@
 //! The arguments of a command, read one by one.
-ghost use Rattle.std.specs.Prelude.{◌≡◌, codes};
-ghost use Rattle.clap.specs.Words.{found_of, rows_of};
+ghost use Rattle.std.specs.Prelude.{◌≡◌, codes, option_map};
+ghost use Rattle.clap.specs.Words.{first_of, found_of, rows_of};
 ghost use Rattle.sub_words.specs.Arguments.{asking_of, checking_of, is_given, national_of};
 ghost use Rattle.sub_words.specs.Arguments.{options_of, options_with, page_of, argument};
 
@@ -11,11 +11,19 @@ use sub_answer::UsageFault;
 use sub_plan::{OptionFault, Options};
 use ttx_packet::PageId;
 
+/// The text of an option. `None` where it is left out and has no default.
+pub fn given_at<'a>(matches: &ArgMatches<'a>, id: &str) -> Option<&'a str>
+    ensures { option_map (λ text. text.now) result
+        ≡ first_of id.now (rows_of (found_of matches.now)) }
+{
+    matches.get_str(id)
+}
+
 /// The text of an argument, defaults included.
 pub fn text_at<'a>(matches: &ArgMatches<'a>, id: &str) -> &'a str
     ensures { result.now ≡ argument id.now (rows_of (found_of matches.now)) }
 {
-    match matches.get_str(id) {
+    match given_at(matches, id) {
         Some(text) => text,
         None => "",
     }
@@ -107,8 +115,5 @@ pub fn options_with(
 pub fn national_at<'a>(matches: &ArgMatches<'a>) -> Result<National, UsageFault>
     ensures { result ≡ national_of (rows_of (found_of matches.now)) }
 {
-    match National::parse(text_at(matches, "option")) {
-        Some(national) => Ok(national),
-        None => Err(UsageFault::BadOption),
-    }
+    National::parse(text_at(matches, "option")).ok_or(UsageFault::BadOption)
 }

@@ -5,8 +5,8 @@
 ghost use Rattle.std.specs.Prelude.{◌≡◌, [], ◌∷◌, IfOk, false, map};
 ghost use Rattle.clap.specs.Words.{app_of, new_app, with_rule};
 ghost use Rattle.clap.specs.declared.builder.command.Command.TheViews.{out-Command};
-ghost use Rattle.sub_words.specs.Commands.{bare_app, rule_of, subttx_app, table_of};
-ghost use Rattle.sub_words.specs.Commands.{with_commands, with_rules};
+ghost use Rattle.sub_words.specs.Commands.{rule_of, subttx_app, table_of, with_commands};
+ghost use Rattle.sub_words.specs.Commands.{with_rules};
 
 use clap::{Arg, ArgAction, Command};
 use std::alloc::{AllocError, Global};
@@ -132,18 +132,6 @@ fn command_with<'a>(
     Ok(command)
 }
 
-// The program before its commands.
-fn bare_program<'a>(alloc: Global) -> Command<'a>
-    ensures app { app_of result ≡ bare_app }
-    ensures local { (out-Command result).has_globals ≡ false }
-{
-    Command::new(alloc, "subttx")
-        .disable_help_flag(true)
-        .disable_help_subcommand(true)
-        .disable_version_flag(true)
-        .subcommand_required(true)
-}
-
 // Adds a command by the table of its arguments.
 fn with_command<'a>(
     program: Command<'a>,
@@ -187,5 +175,10 @@ pub fn subttx_command<'a>(alloc: Global) -> Result<Command<'a>, AllocError>
     ensures app { IfOk result (λ c. app_of c ≡ subttx_app) }
     ensures local { IfOk result (λ c. (out-Command c).has_globals ≡ false) }
 {
-    with_commands(bare_program(alloc), alloc, &COMMANDS)
+    let program = Command::new(alloc, "subttx")
+        .disable_help_flag(true)
+        .disable_help_subcommand(true)
+        .disable_version_flag(true)
+        .subcommand_required(true);
+    with_commands(program, alloc, &COMMANDS)
 }

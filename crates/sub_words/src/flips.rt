@@ -1,7 +1,7 @@
 //! Flips of bits as people write them.
 ghost use Rattle.std.specs.Prelude.{◌≡◌, ◌==◌, [], ◌∷◌, IfOk, option_map, slice_get};
 ghost use Rattle.std.specs.List.{slice_split};
-ghost use Rattle.sub_words.specs.Texts.{colon, flip_of_fields, flip_of_numbers, flip_of_text};
+ghost use Rattle.sub_words.specs.Texts.{colon, flip_of_fields, flip_of_text};
 ghost use Rattle.sub_words.specs.Texts.{flips_of_text, is_same_byte};
 
 use crate::lists::{Item, parse_list};
@@ -62,13 +62,6 @@ fn flip_of_fields(packet: &str, byte: &str, bit: &str) -> Option<Flip>
     let packet = parse_number(packet)?;
     let byte = parse_number(byte)?;
     let bit = parse_number(bit)?;
-    flip_of_numbers(packet, byte, bit)
-}
-
-// The flip of a bit of a byte of a packet.
-fn flip_of_numbers(packet: u64, byte: u64, bit: u64) -> Option<Flip>
-    ensures { result ≡ flip_of_numbers packet byte bit }
-{
     if byte > 41 || bit < 1 || bit > 8 {
         return None;
     }

@@ -1,6 +1,6 @@
 //! The words of the command line, read as a request.
-ghost use Rattle.std.specs.Prelude.{◌≡◌, [], IfErr, IfOk, OnOk, option_map};
-ghost use Rattle.clap.specs.Words.{found_of, rows_of, subcommand_rows_of};
+ghost use Rattle.std.specs.Prelude.{◌≡◌, [], IfErr, IfOk, OnOk};
+ghost use Rattle.clap.specs.Words.{subcommand_rows_of};
 ghost use Rattle.sub_words.specs.Commands.{command_in, clap_refusals, texts_of};
 ghost use Rattle.sub_words.specs.Requests.{AsksFor, IsFaultOf};
 
@@ -34,7 +34,7 @@ impl<'a> ParseWords<'a> for Request<'a> {
         ensures fault { IfErr result (IsFaultOf (texts_of words.now)) }
     {
         let matches = matches_of(alloc, words)?;
-        match command_met(&matches) {
+        match matches.subcommand() {
             Some((name, arguments)) => read_command(alloc, name, arguments),
             None => Err(UsageFault::Words),
         }
@@ -57,12 +57,4 @@ fn matches_of<'a>(alloc: Global, words: &'a [&'a str]) -> Result<ArgMatches<'a>,
             _ => Err(UsageFault::Words),
         },
     }
-}
-
-// The name of the command that was met, and its matches.
-fn command_met<'a, 'm>(matches: &'m ArgMatches<'a>) -> Option<(&'a str, &'m ArgMatches<'a>)>
-    ensures { option_map (λ p. (p.0.now, rows_of (found_of p.1.now))) result
-        ≡ subcommand_rows_of matches.now }
-{
-    matches.subcommand()
 }
