@@ -91,7 +91,10 @@ fn open_and_answer<R: AllocGlobal + Files, K: Sink>(
     ensures { IfErr result (λ _. out.new ≡ out.old) }
 {
     match request.files() {
-        FileNames::None => Ok(answer_input(rt.alloc(), request, &mut MemSource::new(&[]), out)),
+        FileNames::None => {
+            let (mut no_first, mut no_second) = (MemSource::new(&[]), MemSource::new(&[]));
+            Ok(answer_inputs(rt.alloc(), request, &mut no_first, &mut no_second, out))
+        }
         FileNames::Read(input) => answer_file(rt, request, &input, out),
         FileNames::ReadBoth(first, second) => answer_pair(rt, request, &first, &second, out),
         FileNames::Write(input, output) => answer_into(rt, request, &input, &output, out),
@@ -154,7 +157,8 @@ fn answer_file<R: AllocGlobal + Files, K: Sink>(
 {
     let mut room = room(rt.alloc())?;
     let mut first = open_input(rt, input, room.as_mut_slice())?;
-    Ok(answer_input(rt.alloc(), request, &mut first, out))
+    let mut no_second = MemSource::new(&[]);
+    Ok(answer_inputs(rt.alloc(), request, &mut first, &mut no_second, out))
 }
 
 // Answers a request with the two files that it reads.
@@ -204,22 +208,8 @@ fn answer_into<R: AllocGlobal + Files, K: Sink>(
     ))
 }
 
-// Answers a request with one input at most. For a device that it does not name, an empty one is
+// Answers a request that writes no file. For a device that it does not name, an empty one is
 // handed in.
-fn answer_input<S: Source, K: Sink>(
-    alloc: Global,
-    request: &Request<'_>,
-    first: &mut S,
-    out: &mut BufferedSink<'_, K>,
-) -> Status
-    requires first { CanFail (S.failure_count first.old) }
-    requires out { failures_and_refused (K.failure_count out.old.device) out.old.refused ≡ 0 }
-{
-    let mut no_second = MemSource::new(&[]);
-    answer_inputs(alloc, request, first, &mut no_second, out)
-}
-
-// Answers a request that writes no file.
 fn answer_inputs<S: Source, T: Source, K: Sink>(
     alloc: Global,
     request: &Request<'_>,
