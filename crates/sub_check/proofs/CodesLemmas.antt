@@ -1,10 +1,10 @@
 -- Two packets of code words and odd text that say the same are equal: `same_packet`.
-use Rattle.std.proofs.Common.{◌≡◌, ℕ, zero, suc, ◌+◌, ◌*◌, ◌/◌, ◌%◌, ◌<◌, inl, inr, Bool, true}
-use Rattle.std.proofs.Common.{false, not}
+use Rattle.std.proofs.Common.{◌≡◌, ℕ, zero, suc, ◌+◌, ◌*◌, ◌/◌, ◌%◌, ◌<◌, inl, inr, true}
+use Rattle.std.proofs.Common.{not}
 use Rattle.std.proofs.Common.{List, [], ◌∷◌, length, get_or, slice_index, drop, map, Some, sym, ap}
 use Rattle.std.proofs.Common.{◌∙◌, subst, arith}
 use Rattle.std.proofs.Common.{refl}
-use Rattle.std.proofs.lemmas.Bool.{agree_below_at, cases_lt}
+use Rattle.std.proofs.lemmas.Bool.{agree_below_at, cases_lt, true≢false}
 use Rattle.std.proofs.lemmas.List.{same_lists, get_or-map, get_or-drop, get_or_default, length-drop}
 use Rattle.std.proofs.lemmas.Option.{same_Some}
 use Rattle.std.specs.Int.RustNames.{count_ones}
@@ -22,6 +22,11 @@ unfolding is_odd count_ones ones_in
 upper_odd code l =
     agree_below_at (λ k. is_odd (k + 128)) (λ k. not (is_odd k)) 128 code refl l
 
+-- A byte below 128 and the one 128 above it are not both odd. For `odd_same`.
+one_odd : (b c : ℕ) → b < 128 → c ≡ b + 128 → is_odd b ≡ true → is_odd c ≡ true → ⊥
+one_odd b c l s ob oc =
+    true≢false (sym (subst (λ x. is_odd x ≡ true) s oc) ∙ upper_odd b l ∙ ap not ob)
+
 -- Odd bytes with one code are equal. For `same_packet`.
 odd_same :
     (b c : ℕ)
@@ -35,25 +40,13 @@ odd_same b c lb lc ob oc e =
     elim (cases_lt b 128) [
       | inl bl ↦ elim (cases_lt c 128) [
         | inl cl ↦ omega arith
-        | inr ch ↦
-            let s : c ≡ b + 128 = omega arith in
-            let o : not (is_odd b) ≡ true =
-            sym (upper_odd b bl) ∙ subst (λ x. is_odd x ≡ true) s oc in
-            absurd (clash (is_odd b) ob o)
+        | inr ch ↦ absurd (one_odd b c bl (omega arith) ob oc)
       ]
       | inr bh ↦ elim (cases_lt c 128) [
-        | inl cl ↦
-            let s : b ≡ c + 128 = omega arith in
-            let o : not (is_odd c) ≡ true =
-            sym (upper_odd c cl) ∙ subst (λ x. is_odd x ≡ true) s ob in
-            absurd (clash (is_odd c) oc o)
+        | inl cl ↦ absurd (one_odd c b cl (omega arith) oc ob)
         | inr ch ↦ omega arith
       ]
     ]
-  where
-    clash : (t : Bool) → t ≡ true → not t ≡ true → ⊥
-    clash true p q = cc
-    clash false p q = cc
 
 -- The address of code words. For `same_address`.
 address_is :

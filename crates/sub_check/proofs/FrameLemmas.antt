@@ -4,13 +4,14 @@ use Rattle.std.proofs.Common.{◌&&◌, nat_le, nat_lt, cond, List, [], ◌∷�
 use Rattle.std.proofs.Common.{flat_map, slice_index_or, All, refl, ap, ap₂, ◌∙◌}
 use Rattle.std.proofs.Common.{arith, append-nil}
 use Rattle.std.specs.List.{range_with_len, AllByRecursion}
-use Rattle.std.proofs.lemmas.Bool.{cases_lt, lt-ltb, le-ltb, le-leb, lt-leb, and_from, and_left}
-use Rattle.std.proofs.lemmas.Bool.{and_right}
+use Rattle.std.proofs.lemmas.Bool.{cases_lt}
+use Rattle.std.proofs.lemmas.Bool.Decides.{nat_tests}
 use Rattle.std.proofs.lemmas.List.{map-append}
 use Rattle.std.proofs.lemmas.List.Elements.{All-map, All-from_recursion, filter-append}
 use Rattle.sub_plan.proofs.ScheduleBases.{range_split}
 use Rattle.sub_check.specs.Transmission.{SentFrame, Transmission, EachPacket, IsRising}
 use Rattle.sub_check.specs.Transmission.{last_frame, packets_between}
+use Rattle.sub_check.proofs.TransmissionLemmas.{packets_between-none}
 
 -- ---- the frames of a filtered range
 
@@ -19,15 +20,18 @@ module _ (made : ℕ → SentFrame) (numbered : (f : ℕ) → (made f).frame ≡
   abbrev pub frames : ℕ → ℕ → Transmission
   frames a n = map made (filter p (range_with_len a n))
 
+  -- The same from one on, of which it is known whether it passes.
+  abbrev passing : Bool → ℕ → ℕ → Transmission
+  passing t a n = map made
+      (cond t (a ∷ filter p (range_with_len (a + 1) n)) (filter p (range_with_len (a + 1) n)))
+
   -- Frames from one on are that or later.
   later : (a n b : ℕ) → b ≤ a → AllByRecursion (λ (frame : SentFrame). b ≤ frame.frame) (frames a n)
   later a zero b l = tt
   later a (suc n) b l = go (p a) (later (a + 1) n b (omega arith))
     where
       go : (t : Bool) → AllByRecursion (λ (frame : SentFrame). b ≤ frame.frame) (frames (a + 1) n)
-          → AllByRecursion (λ (frame : SentFrame). b ≤ frame.frame)
-          (map made (cond t (a ∷ filter p (range_with_len (a + 1) n))
-          (filter p (range_with_len (a + 1) n))))
+          → AllByRecursion (λ (frame : SentFrame). b ≤ frame.frame) (passing t a n)
       go true ih = (omega (arith, numbered a), ih)
       go false ih = ih
 
@@ -48,9 +52,7 @@ module _ (made : ℕ → SentFrame) (numbered : (f : ℕ) → (made f).frame ≡
   rises a zero = λ i j d l m. absurd (omega arith)
   rises a (suc n) = go (p a) (rises (a + 1) n)
     where
-      go : (t : Bool) → IsRising (frames (a + 1) n)
-          → IsRising (map made (cond t (a ∷ filter p (range_with_len (a + 1) n))
-          (filter p (range_with_len (a + 1) n))))
+      go : (t : Bool) → IsRising (frames (a + 1) n) → IsRising (passing t a n)
       go true ih = rising_cons (made a) (frames (a + 1) n)
           (later (a + 1) n (suc (made a).frame) (omega (arith, numbered a))) ih
       go false ih = ih
@@ -67,23 +69,10 @@ module _ (made : ℕ → SentFrame) (numbered : (f : ℕ) → (made f).frame ≡
     where
       outside : p a ≡ true → piece from end (made a) ≡ []
       outside h =
-          elim (cases_lt (made a).frame from) [
-            | inl before ↦ ap (λ t. cond t (made a).packets [])
-                (and_left _ _ (lt-leb from (made a).frame before))
-            | inr after ↦
-                elim (cases_lt (made a).frame end) [
-                  | inl within ↦ absurd
-                      (let e : p a ≡ false =
-                      none a (omega (arith, numbered a)) (omega (arith, numbered a)) in cc)
-                  | inr past ↦ ap (λ t. cond t (made a).packets [])
-                      (and_right _ _ (le-ltb (made a).frame end past))
-                ]
-          ]
+          let is = numbered a in let off = none a in grind (arith, nat_tests)
 
       go : (t : Bool) → p a ≡ t → packets_between (frames (a + 1) n) from end ≡ []
-          → packets_between (map made
-          (cond t (a ∷ filter p (range_with_len (a + 1) n)) (filter p (range_with_len (a + 1) n))))
-          from end ≡ []
+          → packets_between (passing t a n) from end ≡ []
       go true h ih = ap₂ ◌++◌ (outside h) ih
       go false h ih = ih
 
@@ -98,38 +87,20 @@ module _ (made : ℕ → SentFrame) (numbered : (f : ℕ) → (made f).frame ≡
       ]
     where
       past : (t : Bool) → a < g → packets_between (frames (a + 1) n) g (g + 1) ≡ (made g).packets
-          → packets_between (map made
-          (cond t (a ∷ filter p (range_with_len (a + 1) n)) (filter p (range_with_len (a + 1) n))))
-          g (g + 1) ≡ (made g).packets
+          → packets_between (passing t a n) g (g + 1) ≡ (made g).packets
       past true before ih =
-          ap₂ ◌++◌ (ap (λ t. cond t (made a).packets [])
-          (and_left (nat_le g (made a).frame) (nat_lt (made a).frame (g + 1))
-          (lt-leb g (made a).frame (omega (arith, numbered a))))) ih
+          let is = numbered a in
+          let none : piece g (g + 1) (made a) ≡ [] = grind (arith, nat_tests) in
+          ap₂ ◌++◌ none ih
       past false before ih = ih
 
-      rest_none : (k : ℕ) → (b : ℕ) → g < b → packets_between (frames b k) g (g + 1) ≡ []
-      rest_none zero b l = refl
-      rest_none (suc k) b l = skip (p b) (rest_none k (b + 1) (omega arith))
-        where
-          skip : (t : Bool) → packets_between (frames (b + 1) k) g (g + 1) ≡ []
-              → packets_between (map made
-              (cond t (b ∷ filter p (range_with_len (b + 1) k))
-              (filter p (range_with_len (b + 1) k)))) g (g + 1) ≡ []
-          skip true ih = ap₂ ◌++◌
-              (ap (λ t. cond t (made b).packets [])
-              (and_right (nat_le g (made b).frame) (nat_lt (made b).frame (g + 1))
-              (le-ltb (made b).frame (g + 1) (omega (arith, numbered b))))) ih
-          skip false ih = ih
-
       at : (t : Bool) → t ≡ true → a ≡ g
-          → packets_between (map made
-          (cond t (a ∷ filter p (range_with_len (a + 1) n)) (filter p (range_with_len (a + 1) n))))
-          g (g + 1) ≡ (made g).packets
+          → packets_between (passing t a n) g (g + 1) ≡ (made g).packets
       at true h e =
-          let inside : (nat_le g (made a).frame && nat_lt (made a).frame (g + 1)) ≡ true =
-          and_from _ _ (le-leb g (made a).frame (omega (arith, numbered a)))
-          (lt-ltb (made a).frame (g + 1) (omega (arith, numbered a))) in
-          ap₂ ◌++◌ (ap (λ t. cond t (made a).packets []) inside) (rest_none n (a + 1) (omega arith))
+          let is = numbered a in
+          let here : piece g (g + 1) (made a) ≡ (made a).packets = grind (arith, nat_tests) in
+          let rest = later (a + 1) n (g + 1) (omega arith) in
+          ap₂ ◌++◌ here (packets_between-none (frames (a + 1) n) g (g + 1) rest)
           ∙ append-nil (made a).packets ∙ ap (λ x. (made x).packets) e
       at false h e = cc
 

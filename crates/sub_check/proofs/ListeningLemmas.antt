@@ -2,7 +2,7 @@
 use Rattle.std.proofs.Common.{◌≡◌, ◌≢◌, ℕ, ◌-◌, ◌≤◌, ◌⊎◌, inl, inr, Bool, true, false, not, cond}
 use Rattle.std.proofs.Common.{◌&&◌, ◌||◌, List, [], ◌∷◌, ◌++◌, Option, Some, None, option_map}
 use Rattle.std.proofs.Common.{length, get_or, set, replicate, refl, sym, ap, ◌∙◌, subst, arith}
-use Rattle.std.proofs.Common.{get_or-set_same, get_or-set_other}
+use Rattle.std.proofs.Common.{append-nil, get_or-set_same, get_or-set_other}
 use Rattle.std.specs.Option.{option_or}
 use Rattle.std.specs.List.{AllByRecursion, list_any}
 use Rattle.std.proofs.lemmas.List.{get_or-replicate}
@@ -76,11 +76,6 @@ module _ (w : Watched) (heard : List (List ℕ)) (p : List ℕ) where
       (span (kind w.page) heard ++ before_end (kind w.page) (p ∷ []))
       (span (kind w.page) heard) shut
 
-  -- Nothing at the end changes nothing.
-  append-nil' : (xs : List (List ℕ)) → xs ++ [] ≡ xs
-  append-nil' [] = refl
-  append-nil' (x ∷ xs) = ap (λ ys. x ∷ ys) (append-nil' xs)
-
   -- A header that ends the page is not in its span.
   pub span_ends : kind w.page p ≡ EndsPage
       → span (kind w.page) (heard ++ p ∷ []) ≡ span (kind w.page) heard
@@ -94,7 +89,7 @@ module _ (w : Watched) (heard : List (List ℕ)) (p : List ℕ) where
           → cond b (span (kind w.page) heard ++ before_end (kind w.page) (p ∷ []))
           (span (kind w.page) heard) ≡ span (kind w.page) heard
       both true = ap (λ ys. span (kind w.page) heard ++ ys) nothing
-          ∙ append-nil' (span (kind w.page) heard)
+          ∙ append-nil (span (kind w.page) heard)
       both false = refl
 
   -- While the page is open a packet that is no such header is in its span.
@@ -123,10 +118,8 @@ HoldsRows-none w = record {
 
 -- A packet that is no row is not this row.
 no_row_of : (row : ℕ) (k : PacketKind) → ((y : ℕ) → k ≡ Row y → ⊥) → is_row row k ≡ false
-no_row_of row (ThisPage h) other = refl
-no_row_of row EndsPage other = refl
 no_row_of row (Row y) other = absurd (other y refl)
-no_row_of row Other other = refl
+no_row_of row k other = refl
 
 -- With false nothing changes.
 or-false : (b c : Bool) → c ≡ false → b ≡ (b || c)

@@ -1,9 +1,10 @@
 -- The flaws of a packet that comes after others, by what is kept of them.
-use Rattle.std.proofs.Common.{◌≡◌, ℕ, ◌<◌, ◌≤◌, ◌-◌, Bool, true, false, cond, ◌&&◌, ◌==◌, nat_le}
+use Rattle.std.proofs.Common.{◌≡◌, ℕ, ◌<◌, ◌≤◌, ◌-◌, Bool, true, false, cond, ◌==◌, nat_le}
 use Rattle.std.proofs.Common.{List, [], Option, Some, None, option_map, IsTrue, get_or, refl, sym}
-use Rattle.std.proofs.Common.{ap, ◌∙◌, ap₂, arith, ne_eqb, eqb-true, option_and_then}
+use Rattle.std.proofs.Common.{ap, ◌∙◌, arith, ne_eqb, eqb-true, option_and_then}
 use Rattle.std.specs.List.{AllByRecursion}
-use Rattle.std.proofs.lemmas.Bool.{and_parts, and_right, lt-leb, true≢false}
+use Rattle.std.proofs.lemmas.Bool.{and_right, lt-leb, true≢false}
+use Rattle.std.proofs.lemmas.Bool.Decides.{nat_tests}
 use Rattle.std.proofs.lemmas.Option.{none-some, same_Some}
 use Rattle.ttx_packet.specs.PacketAddress.{HasExactAddress, IsPacket, address, PacketAddress}
 use Rattle.ttx_packet.specs.RowPacket.{HasOddText}
@@ -14,9 +15,9 @@ use Rattle.ttx_packet.specs.declared.header.Header.{Header}
 use Rattle.sub_check.proofs.CodesLemmas.{same_packet}
 use Rattle.sub_check.specs.declared.packet_rules.Watched.{Watched}
 use Rattle.ttx_page.specs.declared.packet_kind.PacketKind.{PacketKind}
-use Rattle.ttx_page.specs.declared.packet_kind.PacketKind.TheVariants.{ThisPage, EndsPage, Row}
+use Rattle.ttx_page.specs.declared.packet_kind.PacketKind.TheVariants.{ThisPage, Row}
 use Rattle.ttx_page.specs.declared.packet_kind.PacketKind.TheVariants.{Other}
-use Rattle.ttx_page.specs.PacketKind.{kind, kind_at, kind_of_header, is_row}
+use Rattle.ttx_page.specs.PacketKind.{kind, is_row}
 use Rattle.ttx_page.specs.Span.{is_open_after}
 use Rattle.sub_check.specs.declared.packet_rules.PacketRule.{PacketRule}
 use Rattle.sub_check.specs.Good.{IsEnhancement}
@@ -30,44 +31,7 @@ use Rattle.ttx_page.proofs.NoiseSteps.{row_from_test}
 pub address-row : (w : Watched) (p : List ℕ) (row : ℕ) → kind w.page p ≡ Row row
     → address p ≡ Some (record { magazine = w.page.magazine; packet_number = row })
 unfolding kind
-address-row w p row e = go (address p) refl e
-  where
-    head : (b : Bool) (m : ℕ) (o : Option Header) → kind_of_header w.page m o ≡ Row row → ⊥
-    head b m None e = cc
-    head b m (Some h) e = deep (m == w.page.magazine) (h.page == w.page.page) (c11 h) e
-      where
-        deep : (b c d : Bool)
-            → cond b (cond c (ThisPage h) EndsPage) (cond d EndsPage Other) ≡ Row row → ⊥
-        deep true true d e = cc
-        deep true false d e = cc
-        deep false c true e = cc
-        deep false c false e = cc
-
-    go : (o : Option PacketAddress) → address p ≡ o → kind_at w.page o (header p) ≡ Row row
-        → address p ≡ Some (record { magazine = w.page.magazine; packet_number = row })
-    go None q e = cc
-    go (Some a) q e = zero_or (a.packet_number == 0) e
-      where
-        row_or : (b : Bool) → ((a.magazine == w.page.magazine) && nat_le a.packet_number 24) ≡ b
-            → cond b (Row a.packet_number) Other ≡ Row row
-            → address p ≡ Some (record { magazine = w.page.magazine; packet_number = row })
-        row_or true t e =
-            let parts = and_parts (a.magazine == w.page.magazine) (nat_le a.packet_number 24) t in
-            let m : a.magazine ≡ w.page.magazine = eqb-true a.magazine w.page.magazine parts.0 in
-            let n : a.packet_number ≡ row = cc in
-            let f : ℕ → ℕ → PacketAddress = λ x y. record { magazine = x; packet_number = y } in
-            q ∙ ap Some (ap₂ f m n)
-        row_or false t e = cc
-
-        zero_or : (b : Bool)
-            → cond b (kind_of_header w.page a.magazine (header p))
-            (cond ((a.magazine == w.page.magazine) && nat_le a.packet_number 24)
-            (Row a.packet_number) Other) ≡ Row row
-            → address p ≡ Some
-            (record { magazine = w.page.magazine; packet_number = row })
-        zero_or true e = absurd (head true a.magazine (header p) e)
-        zero_or false e =
-            row_or ((a.magazine == w.page.magazine) && nat_le a.packet_number 24) refl e
+address-row w p row e = grind (arith, nat_tests)
 
 -- A packet 25 to 28 is neither a header nor a row.
 pub kind-enhancement : (w : Watched) (p : List ℕ) → IsEnhancement w.page p → kind w.page p ≡ Other

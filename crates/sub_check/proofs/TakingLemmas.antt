@@ -1,7 +1,7 @@
 -- What is kept, one frame of the list on, and what is told at its end: `Remembers-moved`,
 -- `names_packet`, `names_missing`, `took`, `names_cell`, `names_gap`, `names_open`, `follows`.
 use Rattle.std.proofs.Common.{◌≡◌, ℕ, zero, suc, ◌+◌, ◌-◌, ◌<◌, ◌≤◌, nat_lt, inl, inr, Bool, true}
-use Rattle.std.proofs.Common.{false, ◌&&◌, cond, List, [], ◌++◌, length, take, get_or, refl, sym}
+use Rattle.std.proofs.Common.{false, ◌&&◌, cond, List, [], ◌++◌, length, refl, sym}
 use Rattle.std.proofs.Common.{MatchResult, Option, Some, Result, Ok, Err, ap, ap₂, ◌∙◌, subst}
 use Rattle.std.proofs.Common.{arith}
 use Rattle.std.specs.Prelude.{OnOk}
@@ -21,7 +21,7 @@ use Rattle.sub_check.specs.Following.{OrderOk, PacketsOk, Remembers}
 use Rattle.sub_check.specs.FrameRules.{HasHeader, IsCovered, ShowsDue, Task, Unread, frame_at}
 use Rattle.sub_check.specs.FrameRules.{packets_before, packets_of_frame, task_of, watched_of}
 use Rattle.sub_check.specs.Listening.{KnowsLast}
-use Rattle.sub_check.specs.PacketRules.{AreClean, BreaksFirstAt, KeepsRule, header_count}
+use Rattle.sub_check.specs.PacketRules.{AreClean, BreaksFirstAt, header_count}
 use Rattle.sub_check.specs.Transmission.{Transmission}
 use Rattle.sub_check.specs.declared.fault.CheckFault.{CheckFault}
 use Rattle.sub_check.specs.declared.fault.CheckFault.TheVariants as fault
@@ -190,14 +190,11 @@ pub record Took (g : Task) (frames : Transmission) (n : ℕ) (c : CheckerValue) 
   pub known : Remembers g frames (n + 1) c
   pub due_is : c.listener.comparison.due ≡ due_in c.programme c.frame
 
-module _ (g : Task) (frames : Transmission) (n : ℕ) (v b : CheckerValue) (same : b ≡ v)
-    (ps : List (List ℕ)) (arrives : Arrives g frames n v) (there : n < length frames)
+module _ (g : Task) (frames : Transmission) (n : ℕ) (b : CheckerValue) (ps : List (List ℕ))
+    (arrived : Arrives g frames n b) (there : n < length frames)
     (packets_are : packets_of_frame frames n ≡ ps)
   where
-    -- What was kept before, of the fields.
-    arrived : Arrives g frames n b
-    arrived = subst (Arrives g frames n) (sym same) arrives
-
+    -- What was kept before.
     known : Remembers g frames n b
     known = arrived.remembers
 
@@ -211,11 +208,7 @@ module _ (g : Task) (frames : Transmission) (n : ℕ) (v b : CheckerValue) (same
     names_packet k rule broken =
         subst (λ x. NamesFirst g frames (packet_fault rule x k)) here
         (first_packet g frames n arrived.past k rule there arrived.order arrived.gap
-        (subst
-        (λ v. BreaksFirstAt v (packets_before frames n) (packets_of_frame frames n) k rule)
-        known.watched_is
-        (subst (λ xs. BreaksFirstAt b.listener.watched (packets_before frames n) xs k rule)
-        (sym packets_are) broken)))
+        (rw (packets_are, ← known.watched_is) broken))
 
     module _ (s : Listener) (m headers total : ℕ) (found : Bool)
         (kept : s.watched ≡ b.listener.watched) (long : length ps ≡ m)
@@ -228,19 +221,9 @@ module _ (g : Task) (frames : Transmission) (n : ℕ) (v b : CheckerValue) (same
         -- The packets keep the rules.
         packets_ok : PacketsOk g frames n
         packets_ok = record {
-          each = λ k rule t. subst
-              (λ v.
-              KeepsRule rule v (packets_before frames n ++ take k (packets_of_frame frames n))
-              (get_or (packets_of_frame frames n) k [])) known.watched_is
-              (subst
-              (λ xs.
-              (k : ℕ)
-              → k < length xs
-              → (f : PacketRule)
-              → KeepsRule f b.listener.watched (packets_before frames n ++ take k xs)
-              (get_or xs k [])) (sym packets_are)
-              (subst (AreClean b.listener.watched (packets_before frames n) ps) (sym long) heard.0)
-              k t.1 rule);
+          each = λ k rule t.
+              let within : k < length ps = subst (λ xs. k < length xs) packets_are t.1 in
+              rw (packets_are, ← known.watched_is) (heard.0 k (omega (arith, within, long)) rule);
         }
 
         -- The headers among them.

@@ -10,26 +10,26 @@ use Rattle.sub_check.proofs.frame_rules.Checker.take.Goals as goal
 
 pub returns-in-Err-clause-exact : goal.returns-in-Err-clause-exact
 returns-in-Err-clause-exact c g frames n arrives there packets again =
-    let known = (subst (Arrives g frames n) (sym c.self.view_is) arrives).remembers in
+    let here = subst (Arrives g frames n) (sym c.self.view_is) arrives in
     subst (NamesFirst g frames) (sym c.fault_of.ensures.value)
-    (names_packet g frames n _ _ c.self.view_is _ arrives there packets c.in-Err.fault.packet
-    c.in-Err.fault.rule (c.in-Err.ensures.knows _ _ known.knows again))
+    (names_packet g frames n _ _ here there packets c.in-Err.fault.packet
+    c.in-Err.fault.rule (c.in-Err.ensures.knows _ _ here.remembers.knows again))
 
 pub returns-then-self-eq0-clause-exact : goal.returns-then-self-eq0-clause-exact
 returns-then-self-eq0-clause-exact c g frames n arrives there packets again =
-    let known = (subst (Arrives g frames n) (sym c.self.view_is) arrives).remembers in
-    let heard = c.in-Ok.ensures.knows _ _ known.knows again in
-    names_missing g frames n _ _ c.self.view_is _ arrives there packets c.hear_sending.new.self _
+    let here = subst (Arrives g frames n) (sym c.self.view_is) arrives in
+    let heard = c.in-Ok.ensures.knows _ _ here.remembers.knows again in
+    names_missing g frames n _ _ here there packets c.hear_sending.new.self _
     c.in-Ok.headers _ c.any_header.result c.in-Ok.ensures.watched
     (length-map c.args.units.now (λ (u : UnitValue). u.packet)) heard c.any_header.ensures
     (ap (λ x. c.self.inside.headers + x) c.from.ensures) c.if-self-eq0.true
 
 pub returns-in-Some-clause-exact : goal.returns-in-Some-clause-exact
 returns-in-Some-clause-exact c g frames n arrives there packets again =
-    let known = (subst (Arrives g frames n) (sym c.self.view_is) arrives).remembers in
-    let heard = c.in-Ok.ensures.knows _ _ known.knows again in
+    let here = subst (Arrives g frames n) (sym c.self.view_is) arrives in
+    let heard = c.in-Ok.ensures.knows _ _ here.remembers.knows again in
     let t =
-    took g frames n _ _ c.self.view_is _ arrives there packets c.hear_sending.new.self _
+    took g frames n _ _ here there packets c.hear_sending.new.self _
     c.in-Ok.headers _ c.any_header.result c.in-Ok.ensures.watched
     (length-map c.args.units.now (λ (u : UnitValue). u.packet)) heard c.any_header.ensures
     (ap (λ x. c.self.inside.headers + x) c.from.ensures) _ c.if-self-eq0.false
@@ -38,10 +38,10 @@ returns-in-Some-clause-exact c g frames n arrives there packets again =
 
 pub returns-then-frame-self-clause-exact : goal.returns-then-frame-self-clause-exact
 returns-then-frame-self-clause-exact c g frames n arrives there packets again =
-    let known = (subst (Arrives g frames n) (sym c.self.view_is) arrives).remembers in
-    let heard = c.in-Ok.ensures.knows _ _ known.knows again in
+    let here = subst (Arrives g frames n) (sym c.self.view_is) arrives in
+    let heard = c.in-Ok.ensures.knows _ _ here.remembers.knows again in
     let t =
-    took g frames n _ _ c.self.view_is _ arrives there packets c.hear_sending.new.self _
+    took g frames n _ _ here there packets c.hear_sending.new.self _
     c.in-Ok.headers _ c.any_header.result c.in-Ok.ensures.watched
     (length-map c.args.units.now (λ (u : UnitValue). u.packet)) heard c.any_header.ensures
     (ap (λ x. c.self.inside.headers + x) c.from.ensures) _ c.if-self-eq0.false
@@ -50,10 +50,10 @@ returns-then-frame-self-clause-exact c g frames n arrives there packets again =
 
 pub returns-then-is_incomplete-clause-exact : goal.returns-then-is_incomplete-clause-exact
 returns-then-is_incomplete-clause-exact c g frames n arrives there packets again =
-    let known = (subst (Arrives g frames n) (sym c.self.view_is) arrives).remembers in
-    let heard = c.in-Ok.ensures.knows _ _ known.knows again in
+    let here = subst (Arrives g frames n) (sym c.self.view_is) arrives in
+    let heard = c.in-Ok.ensures.knows _ _ here.remembers.knows again in
     let t =
-    took g frames n _ _ c.self.view_is _ arrives there packets c.hear_sending.new.self _
+    took g frames n _ _ here there packets c.hear_sending.new.self _
     c.in-Ok.headers _ c.any_header.result c.in-Ok.ensures.watched
     (length-map c.args.units.now (λ (u : UnitValue). u.packet)) heard c.any_header.ensures
     (ap (λ x. c.self.inside.headers + x) c.from.ensures) _ c.if-self-eq0.false
@@ -63,10 +63,10 @@ returns-then-is_incomplete-clause-exact c g frames n arrives there packets again
 
 pub returns-clause-exact : goal.returns-clause-exact
 returns-clause-exact c g frames n arrives there packets again =
-    let known = (subst (Arrives g frames n) (sym c.self.view_is) arrives).remembers in
-    let heard = c.in-Ok.ensures.knows _ _ known.knows again in
+    let here = subst (Arrives g frames n) (sym c.self.view_is) arrives in
+    let heard = c.in-Ok.ensures.knows _ _ here.remembers.knows again in
     let t =
-    took g frames n _ _ c.self.view_is _ arrives there packets c.hear_sending.new.self _
+    took g frames n _ _ here there packets c.hear_sending.new.self _
     c.in-Ok.headers _ c.any_header.result c.in-Ok.ensures.watched
     (length-map c.args.units.now (λ (u : UnitValue). u.packet)) heard c.any_header.ensures
     (ap (λ x. c.self.inside.headers + x) c.from.ensures) _ c.if-self-eq0.false
