@@ -7,8 +7,7 @@ use Rattle.stl_rows.specs.declared.text_code.TextCode.{TextCode}
 use Rattle.stl_rows.specs.declared.text_code.TextCode.TheVariants.{Cell, NoCell, NewLine, Refused}
 use Rattle.stl_rows.specs.declared.text_code.TheConstants.{ENGLISH, GERMAN}
 use Rattle.stl_rows.specs.declared.fault.RowFaultKind.{RowFaultKind}
-use Rattle.stl_rows.specs.declared.fault.RowFaultKind.TheVariants.{Character, Control, RowTooLong}
-use Rattle.stl_rows.specs.declared.fault.RowFaultKind.TheVariants.{PastBottom, DoubleRow, Hidden}
+use Rattle.stl_rows.specs.declared.fault.RowFaultKind.TheVariants.{Character, Control}
 use Rattle.stl_rows.specs.declared.national.National.TheVariants.{English, German}
 use Rattle.stl_rows.specs.CodeTable.{IsEntry}
 use Rattle.stl_rows.specs.TextCode.{cell_of, text_code, code_of_other}
@@ -18,10 +17,7 @@ use Rattle.stl_rows.specs.TextCode.{cell_of, text_code, code_of_other}
 abbrev is_refusal : RowFaultKind → ℕ → Bool
 is_refusal Character entry = nat_eq entry 0x83
 is_refusal Control entry = nat_eq entry 0x82
-is_refusal RowTooLong entry = false
-is_refusal PastBottom entry = false
-is_refusal DoubleRow entry = false
-is_refusal Hidden entry = false
+is_refusal kind entry = false
 
 abbrev is_entry : TextCode → ℕ → Bool
 is_entry (Cell code) entry = nat_eq entry code && nat_lt code 128
@@ -38,10 +34,7 @@ of_test NoCell entry h = eqb-true entry 0x80 h
 of_test NewLine entry h = eqb-true entry 0x81 h
 of_test (Refused Character) entry h = inr (eqb-true entry 0x83 h, refl)
 of_test (Refused Control) entry h = inl (eqb-true entry 0x82 h, refl)
-of_test (Refused RowTooLong) entry h = absurd (true≢false (sym h))
-of_test (Refused PastBottom) entry h = absurd (true≢false (sym h))
-of_test (Refused DoubleRow) entry h = absurd (true≢false (sym h))
-of_test (Refused Hidden) entry h = absurd (true≢false (sym h))
+of_test (Refused kind) entry h = absurd (true≢false (sym h))
 
 -- The entries of the English table: 256 cases, computed. For `entry_of`.
 pub english_entry :

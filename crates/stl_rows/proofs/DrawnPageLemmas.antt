@@ -21,6 +21,7 @@ use Rattle.stl_file.specs.Subtitle.{SubtitleValue}
 use Rattle.stl_rows.specs.declared.national.National.{National}
 use Rattle.stl_rows.proofs.LineLemmas.{spaces_at}
 use Rattle.stl_rows.proofs.LineByLineLemmas.{prepared_lines-whole}
+use Rattle.stl_rows.proofs.FaultlessLemmas.{empty_parts}
 
 -- ---- the rows of the page
 
@@ -87,20 +88,16 @@ put_lines-from jc row k page (line ∷ ls) first size blanks low high =
       | inl here ↦
           let e : k ≡ row - 1 = omega arith in
           let z : k + 1 - row ≡ 0 = omega arith in
-          let last : row_of jc line ≡ row_of jc (get_or (line ∷ ls) (k + 1 - row) []) = rw z refl in
           let own : get_or (put_line jc row line page) k [] ≡ row_of jc line =
           rw e (put_line-at jc row line page (omega arith)
           (blanks (row - 1) (omega arith) (omega arith))) in
-          put_lines-above jc (row + 1) k (put_line jc row line page) ls here ∙ own ∙ last
+          rw z (put_lines-above jc (row + 1) k (put_line jc row line page) ls here ∙ own)
       | inr below ↦
           let z : k + 1 - row ≡ suc (k + 1 - (row + 1)) = omega arith in
-          let last : row_of jc (get_or ls (k + 1 - (row + 1)) []) ≡ row_of jc
-          (get_or (line ∷ ls) (k + 1 - row) []) = rw z refl in
-          put_lines-from jc (row + 1) k (put_line jc row line page) ls (omega arith)
+          rw z (put_lines-from jc (row + 1) k (put_line jc row line page) ls (omega arith)
           (length-put_line jc row line page ∙ size)
           (λ q a b. put_line-other jc row q line page (omega arith) ∙ blanks q (omega arith) b)
-          below high
-          ∙ last
+          below high)
     ]
 
 -- each row of the blank page is blank
@@ -122,13 +119,10 @@ page_row jc vp k ls first h =
     elim (cases_lt (k + 1) vp) [
       | inl above ↦
           let e : ltb (k + 1) vp ≡ true = grind (arith, nat_tests) in
-          let last : row_of jc [] ≡ row_of jc (line_on vp ls (k + 1)) = rw e refl in
-          put_lines-above jc vp k blank ls above ∙ blank_at k h ∙ row_of-none jc ∙ last
+          rw e (put_lines-above jc vp k blank ls above ∙ blank_at k h ∙ row_of-none jc)
       | inr from ↦
           let e : ltb (k + 1) vp ≡ false = grind (arith, nat_tests) in
-          let last : row_of jc (get_or ls (k + 1 - vp) []) ≡ row_of jc (line_on vp ls (k + 1)) =
-          rw e refl in
-          put_lines-from jc vp k blank ls first length_blank (λ q a b. blank_at q b) from h ∙ last
+          rw e (put_lines-from jc vp k blank ls first length_blank (λ q a b. blank_at q b) from h)
     ]
 
 -- the page with all lines put one after another is the page that shows them
@@ -161,55 +155,28 @@ no_faults n t ok = go (faults n t) ok
     go (f ∷ fs) h = search rules
 
 -- nor have its lines. For `drawn_page`
-pub no_line_faults : (n : National) (t : SubtitleValue) (text : List ℕ) (vp : ℕ)
-    → text ≡ t.text
-    → vp ≡ t.vp
+pub no_line_faults : (n : National) (t : SubtitleValue)
     → IsOk (drawn n t)
-    → line_faults 0 vp false (prepared_lines [] (text_codes n 0 text)) ≡ []
-no_line_faults n t text vp e f ok =
-    ap (λ x. line_faults 0 vp false (prepared_lines [] (text_codes n 0 x))) e
-    ∙ ap (λ x. line_faults 0 x false (prepared_lines [] (text_codes n 0 t.text))) f
-    ∙ ap (line_faults 0 t.vp false) (lines_are n t)
-    ∙ right_part (refusals (text_codes n 0 t.text)) _ (no_faults n t ok)
-  where
-    right_part : (xs ys : List RowFault) → xs ++ ys ≡ [] → ys ≡ []
-    right_part [] ys e = e
-    right_part (x ∷ xs) ys e = cc
+    → line_faults 0 t.vp false (prepared_lines [] (text_codes n 0 t.text)) ≡ []
+no_line_faults n t ok =
+    rw (lines_are n t) (empty_parts (refusals (text_codes n 0 t.text)) _ (no_faults n t ok)).1
 
 -- its lines put on the blank page are its page. For `drawn_page`
-pub drawn-page : (n : National) (t : SubtitleValue) (text : List ℕ) (jc vp : ℕ) (old page : Rows)
-    → text ≡ t.text
-    → jc ≡ t.jc
-    → vp ≡ t.vp
-    → old ≡ blank
+pub drawn-page : (n : National) (t : SubtitleValue)
     → IsOk (drawn n t)
     → 1 ≤ t.vp
-    → page ≡ put_lines jc vp old (prepared_lines [] (text_codes n 0 text))
-    → drawn n t ≡ Ok page
+    → drawn n t ≡ Ok (put_lines t.jc t.vp blank (prepared_lines [] (text_codes n 0 t.text)))
 unfolding drawn
-drawn-page n t text jc vp old page e f g b ok first is =
-    let put : page ≡ put_lines t.jc t.vp blank (prepared_lines [] (text_codes n 0 t.text)) =
-    is ∙ (λ i. put_lines (f i) (g i) (b i) (prepared_lines [] (text_codes n 0 (e i)))) in
-    ap (λ fs. unless fs (page_of_lines t.jc t.vp (lines n t))) (no_faults n t ok)
-    ∙ ap (λ (p : Rows). let r : Result Rows RowFault = Ok p in r)
-    (sym (put ∙ ap (put_lines t.jc t.vp blank) (lines_are n t)
-    ∙ put_lines-page t.jc t.vp (lines n t) first))
+drawn-page n t ok first =
+    rw (no_faults n t ok, lines_are n t, put_lines-page t.jc t.vp (lines n t) first) refl
 
 -- the first of all faults is told. For `first_fault`
-pub drawn-first : (n : National) (t : SubtitleValue) (text : List ℕ) (vp : ℕ) (o : Option RowFault)
-    → text ≡ t.text
-    → vp ≡ t.vp
-    → o ≡ first_of (refusals (text_codes n 0 text)
-    ++ line_faults 0 vp false (prepared_lines [] (text_codes n 0 text)))
+pub drawn-first : (n : National) (t : SubtitleValue) (o : Option RowFault)
+    → o ≡ first_of (refusals (text_codes n 0 t.text)
+    ++ line_faults 0 t.vp false (prepared_lines [] (text_codes n 0 t.text)))
     → MatchOption o (IsOk (drawn n t)) (λ f. drawn n t ≡ Err f)
 unfolding drawn
-drawn-first n t text vp o e f is =
-    go (faults n t) o
-    (is
-    ∙ (λ i. first_of (refusals (text_codes n 0 (e i))
-    ++ line_faults 0 (f i) false (prepared_lines [] (text_codes n 0 (e i)))))
-    ∙ ap (λ ls. first_of (refusals (text_codes n 0 t.text) ++ line_faults 0 t.vp false ls))
-    (lines_are n t))
+drawn-first n t o is = go (faults n t) o (rw (lines_are n t) at is)
   where
     go : (fs : List RowFault) (o : Option RowFault)
         → o ≡ first_of fs

@@ -88,20 +88,6 @@ at_default : (ts : List SubtitleValue) (i : ℕ) (t d : SubtitleValue)
     → get_or ts i d ≡ t
 at_default ts i t d h e = get_or_default ts i d t h ∙ sym e
 
--- a later subtitle starts where t ends, or after
-later_tci : (n : National) (ts : List SubtitleValue) (at k : ℕ) (t x : SubtitleValue)
-    → IsProgramme n ts
-    → at < k
-    → k < length ts
-    → t ≡ get_or ts at t
-    → x ≡ get_or ts k x
-    → t.tco ≤ x.tci
-later_tci n ts at k t x ok below inside e g =
-    let h : (get_or ts at t).tco ≤ (get_or ts k t).tci = ok.in_order at k t below inside in
-    let a : get_or ts k t ≡ x = at_default ts k x t inside g in
-    let b : (get_or ts at t).tco ≤ x.tci = rw a at h in
-    subst (λ (y : SubtitleValue). y.tco ≤ x.tci) (sym e) b
-
 -- the TCO of the first subtitle after a frame is after it
 tco_after : (ts : List SubtitleValue) (f at : ℕ) (t : SubtitleValue)
     → IsFirstAfter ts f at
@@ -110,50 +96,6 @@ tco_after : (ts : List SubtitleValue) (f at : ℕ) (t : SubtitleValue)
     → f < t.tco
 tco_after ts f at t first inside e =
     subst (λ (y : SubtitleValue). f < y.tco) (sym e) (first.after at t (omega arith) inside)
-
--- none is due in a gap before the first subtitle after a frame
-not_due-between : (n : National) (ts : List SubtitleValue) (f at k : ℕ) (t d : SubtitleValue)
-    → IsProgramme n ts
-    → IsFirstAfter ts f at
-    → at < length ts
-    → t ≡ get_or ts at t
-    → f < t.tci
-    → k < length ts
-    → is_due f (get_or ts k d) ≡ false
-not_due-between n ts f at k t d ok first inside e gap b =
-    elim (cases_lt k at) [
-      | inl low ↦ is_due-after f (get_or ts k d) (first.before k d low)
-      | inr high ↦
-          elim (cases_lt at k) [
-            | inl later ↦
-                is_due-before f (get_or ts k d)
-                (let x : SubtitleValue = get_or ts k d in
-                let g : x ≡ get_or ts k x = get_or_default ts k d x b in
-                omega (
-                  arith,
-                  later_tci n ts at k t x ok later b e g,
-                  tco_after ts f at t first
-                      inside e,
-                ))
-            | inr same ↦
-                let z : k ≡ at = omega arith in
-                let y : get_or ts k d ≡ t = rw z (at_default ts at t d inside e) in
-                rw y (is_due-before f t gap)
-          ]
-    ]
-
--- in a gap the page is blank: for `page_at`
-pub due-between : (n : National) (ts : List SubtitleValue) (f at : ℕ) (t : SubtitleValue)
-    → IsProgramme n ts
-    → IsFirstAfter ts f at
-    → at < length ts
-    → t ≡ get_or ts at t
-    → f < t.tci
-    → blank ≡ due n ts f
-unfolding due
-due-between n ts f at t ok first inside e gap =
-    ap (drawn_or_blank n) (sym (find_none (is_due f) ts (list_any_none (is_due f) ts
-    (λ k d b. not_due-between n ts f at k t d ok first inside e gap b))))
 
 -- the first subtitle after a frame, where it has begun, is shown: for `page_at`
 pub due-at : (n : National) (ts : List SubtitleValue) (f at : ℕ) (t : SubtitleValue)
@@ -170,103 +112,105 @@ due-at n ts f at t first inside e h =
     ∙ ap (drawn_or_blank n) (sym (first_found (is_due f) ts at t inside
     (λ k low. is_due-after f (get_or ts k t) (first.before k t low)) here))
 
--- ---- edges
-
 -- a subtitle of a programme begins before it ends
 edge_within : (n : National) (ts : List SubtitleValue) (k : ℕ) (x : SubtitleValue)
     → IsProgramme n ts
     → k < length ts
     → get_or ts k x ≡ x
     → x.tci < x.tco
-edge_within n ts k x ok b e = subst (λ (y : SubtitleValue). y.tci < y.tco) e (ok.each k x b).times
+edge_within n ts k x ok b e = rw e at (ok.each k x b).times
 
--- an edge after the frame is the TCI of t, or not before its TCO
-later_edge : (n : National) (ts : List SubtitleValue) (f at : ℕ) (t : SubtitleValue)
-    → IsProgramme n ts
-    → IsFirstAfter ts f at
-    → at < length ts
-    → t ≡ get_or ts at t
-    → (e : ℕ) → IsEdge ts e → f < e → (e ≡ t.tci) ⊎ (t.tco ≤ e)
-later_edge n ts f at t ok first inside g e edge after =
-    let k : ℕ = edge.0 in
-    let x : SubtitleValue = edge.1 in
-    let order : x.tci < x.tco = edge_within n ts k x ok edge.2 edge.3 in
-    elim (cases_lt k at) [
-      | inl low ↦
-          let past : x.tco ≤ f =
-          subst (λ (y : SubtitleValue). y.tco ≤ f) edge.3 (first.before k x low) in
-          elim edge.4 [
-            | inl p ↦ absurd (omega (arith, p, past, order, after))
-            | inr p ↦ absurd
-                (omega (arith, p, past, after))
-          ]
-      | inr high ↦
-          elim (cases_lt at k) [
-            | inl later ↦
-                let start : t.tco ≤ x.tci =
-                later_tci n ts at k t x ok later edge.2 g (sym edge.3) in
-                elim edge.4 [
-                  | inl p ↦ inr (omega (arith, p, start))
-                  | inr p ↦ inr
-                      (omega (arith, p, start, order))
-                ]
-            | inr same ↦
-                let z : at ≡ k = omega arith in
-                let y : x ≡ t = sym edge.3 ∙ rw (← z) (at_default ts at t x inside g) in
-                elim edge.4 [
-                  | inl p ↦ inl (p ∙ ap (λ (r : SubtitleValue). r.tci) y)
-                  | inr p ↦ inr (omega (arith, p, ap (λ (r : SubtitleValue). r.tco) y))
-                ]
-          ]
-    ]
+-- ---- the first subtitle after a frame
 
--- the TCI of a subtitle is an edge
-is_edge-tci : (ts : List SubtitleValue) (at : ℕ) (t : SubtitleValue)
-    → at < length ts
-    → t ≡ get_or ts at t
-    → IsEdge ts t.tci
-is_edge-tci ts at t inside e = (at, t, inside, sym e, inl refl)
+module _ (n : National) (ts : List SubtitleValue) (f at : ℕ) (t : SubtitleValue)
+    (ok : IsProgramme n ts) (first : IsFirstAfter ts f at) (inside : at < length ts)
+    (is : t ≡ get_or ts at t) where
+  -- a later subtitle starts where t ends, or after
+  later_tci : (k : ℕ) (x : SubtitleValue)
+      → at < k
+      → k < length ts
+      → x ≡ get_or ts k x
+      → t.tco ≤ x.tci
+  later_tci k x below within g =
+      grind (arith, ok.in_order at k t below within, at_default ts k x t within g)
 
--- the TCO of a subtitle is an edge
-is_edge-tco : (ts : List SubtitleValue) (at : ℕ) (t : SubtitleValue)
-    → at < length ts
-    → t ≡ get_or ts at t
-    → IsEdge ts t.tco
-is_edge-tco ts at t inside e = (at, t, inside, sym e, inr refl)
+  -- none is due in a gap before it
+  not_due-between : (k : ℕ) (d : SubtitleValue)
+      → f < t.tci
+      → k < length ts
+      → is_due f (get_or ts k d) ≡ false
+  not_due-between k d gap b =
+      elim (cases_lt k at) [
+        | inl low ↦ is_due-after f (get_or ts k d) (first.before k d low)
+        | inr high ↦
+            elim (cases_lt at k) [
+              | inl later ↦
+                  is_due-before f (get_or ts k d)
+                  (omega (
+                    arith,
+                    later_tci k (get_or ts k d) later b (get_or_default ts k d (get_or ts k d) b),
+                    tco_after ts f at t first inside is,
+                  ))
+              | inr same ↦
+                  let z : k ≡ at = omega arith in
+                  rw (z, at_default ts at t d inside is) (is_due-before f t gap)
+            ]
+      ]
 
--- before the first subtitle after a frame the next edge is its TCI: for `edge_after`
-pub next_edge-tci : (n : National) (ts : List SubtitleValue) (f at : ℕ) (t : SubtitleValue)
-    → IsProgramme n ts
-    → IsFirstAfter ts f at
-    → at < length ts
-    → t ≡ get_or ts at t
-    → f < t.tci
-    → IsNextEdge ts f t.tci
-next_edge-tci n ts f at t ok first inside g gap = record {
-  is_edge = is_edge-tci ts at t inside g;
-  after = gap;
-  least = λ e edge after.
-      elim (later_edge n ts f at t ok first inside g e edge after) [
-        | inl p ↦ omega (arith, p)
-        | inr p ↦ omega (arith, p, edge_within n ts at t ok inside (sym g))
-      ];
-}
+  -- in a gap the page is blank: for `page_at`
+  pub due-between : f < t.tci → blank ≡ due n ts f
+  unfolding due
+  due-between gap =
+      ap (drawn_or_blank n) (sym (find_none (is_due f) ts (list_any_none (is_due f) ts
+      (λ k d b. not_due-between k d gap b))))
 
--- within the first subtitle after a frame the next edge is its TCO: for `edge_after`
-pub next_edge-tco : (n : National) (ts : List SubtitleValue) (f at : ℕ) (t : SubtitleValue)
-    → IsProgramme n ts
-    → IsFirstAfter ts f at
-    → at < length ts
-    → t ≡ get_or ts at t
-    → t.tci ≤ f
-    → IsNextEdge ts f t.tco
-next_edge-tco n ts f at t ok first inside g low = record {
-  is_edge = is_edge-tco ts at t inside g;
-  after = tco_after ts f at t first inside g;
-  least = λ e edge after.
-      elim (later_edge n ts f at t ok first inside g e edge after)
-      [ inl p ↦ absurd (omega (arith, p, low, after)) | inr p ↦ p ];
-}
+  -- an edge after the frame is the TCI of t, or not before its TCO
+  later_edge : (x : ℕ) → IsEdge ts x → f < x → (x ≡ t.tci) ⊎ (t.tco ≤ x)
+  later_edge x edge after =
+      let k : ℕ = edge.0 in
+      let s : SubtitleValue = edge.1 in
+      let order : s.tci < s.tco = edge_within n ts k s ok edge.2 edge.3 in
+      elim (cases_lt k at) [
+        | inl low ↦
+            let past : s.tco ≤ f = rw edge.3 at (first.before k s low) in
+            absurd (omega (arith, past, order, edge.4, after))
+        | inr high ↦
+            elim (cases_lt at k) [
+              | inl later ↦
+                  let start : t.tco ≤ s.tci = later_tci k s later edge.2 (sym edge.3) in
+                  inr (omega (arith, edge.4, start, order))
+              | inr same ↦
+                  let z : at ≡ k = omega arith in
+                  let y : s ≡ t = sym edge.3 ∙ rw (← z) (at_default ts at t s inside is) in
+                  elim edge.4 [
+                    | inl p ↦ inl (p ∙ ap (λ (r : SubtitleValue). r.tci) y)
+                    | inr p ↦ inr (omega (arith, p, ap (λ (r : SubtitleValue). r.tco) y))
+                  ]
+            ]
+      ]
+
+  -- before it the next edge is its TCI: for `edge_after`
+  pub next_edge-tci : f < t.tci → IsNextEdge ts f t.tci
+  next_edge-tci gap = record {
+    is_edge = (at, t, inside, sym is, inl refl);
+    after = gap;
+    least = λ x edge after.
+        omega (
+          arith,
+          later_edge x edge after,
+          edge_within n ts at t ok inside (sym is),
+        );
+  }
+
+  -- within it the next edge is its TCO: for `edge_after`
+  pub next_edge-tco : t.tci ≤ f → IsNextEdge ts f t.tco
+  next_edge-tco low = record {
+    is_edge = (at, t, inside, sym is, inr refl);
+    after = tco_after ts f at t first inside is;
+    least = λ x edge after. omega (arith, later_edge x edge after, low, after);
+  }
+
+-- ---- edges
 
 -- the due page changes at edges alone: for `law_of_edges`
 pub edges_alone : LawOfEdges

@@ -1,6 +1,6 @@
 -- Where the source fails, and that no fault comes before; main lemmas: fails-opening, fails-next.
 use Rattle.std.proofs.Common.{◌≡◌, ℕ, ◌+◌, ◌*◌, ◌/◌, ◌<◌, ◌≤◌, List, [], ◌∷◌, ◌++◌, length}
-use Rattle.std.proofs.Common.{Option, Some, None, Result, Ok, Err, refl, sym, ap, subst, ◌∙◌}
+use Rattle.std.proofs.Common.{Option, Some, None, Result, Ok, Err, refl, sym, ap, ◌∙◌}
 use Rattle.std.proofs.Common.{arith, length-append, inl, inr, ◌⊎◌}
 use Rattle.std.specs.Prelude.{IfOk, IfSome}
 use Rattle.std.specs.Io.KnownBytes.{Consumes}
@@ -14,7 +14,7 @@ use Rattle.stl_file.specs.SubtitleBlocks.{joined}
 use Rattle.stl_file.specs.Reading.{Outcome, ends, fails, gives}
 use Rattle.stl_file.specs.Reader.{FailsReading, NamesFrom, ReaderValue, TakesSubtitle}
 use Rattle.stl_file.specs.Reader.{block_of_byte}
-use Rattle.stl_file.specs.Reader.{outcome_from, outcome_in, outcome_left, outcome_of}
+use Rattle.stl_file.specs.Reader.{outcome_left, outcome_of}
 use Rattle.stl_file.proofs.SubtitleBlocksLemmas.{length-joined}
 use Rattle.stl_rows.specs.declared.national.National.{National}
 use Rattle.stl_rows.specs.declared.fault.LoadFault.{LoadFault}
@@ -51,9 +51,7 @@ pub has_taken-next : (old mid now : Option (List ℕ)) (from to : ℕ)
     → HasTaken old mid from
     → HasTaken old now to
 has_taken-next old mid now from to result t is takes h =
-    let s : TakesSubtitle from to mid now t =
-    subst (λ (r : Result (Option SubtitleValue) StlFault).
-    IfOk r (λ found. IfSome found (TakesSubtitle from to mid now))) is takes in
+    let s : TakesSubtitle from to mid now t = rw is at takes in
     let blocks = length-joined s.blocks s.each in
     let counted = s.counted in
     let long = h.long in
@@ -65,43 +63,40 @@ has_taken-next old mid now from to result t is takes h =
 
 -- ---- no fault comes before
 
--- an error says what it holds
-fault-is : (x y : LoadFault)
-    → (let e : Result ProgrammeValue LoadFault = Err x in e) ≡ Err y
-    → x ≡ y
-fault-is x y e = cc
+-- a fault of this block or a later one, or the end inside a subtitle
+abbrev IsLate : ℕ → LoadFault → Type 0
+IsLate block fault = (fault.kind ≡ File Unfinished) ⊎ (block ≤ fault.block)
+
+-- a fault at a block
+abbrev told : ℕ → LoadFaultKind → Result ProgrammeValue LoadFault
+told at kind = Err (load_fault at kind)
 
 -- a fault of this block
 at-block : (block at : ℕ) (kind : LoadFaultKind) (fault : LoadFault)
     → block ≤ at
-    → (let e : Result ProgrammeValue LoadFault = Err (load_fault at kind) in e) ≡ Err fault
-    → (fault.kind ≡ File Unfinished) ⊎ (block ≤ fault.block)
+    → told at kind ≡ Err fault
+    → IsLate block fault
 at-block block at kind fault le e =
-    let same : at ≡ fault.block = ap (λ (f : LoadFault). f.block) (fault-is _ _ e) in
-    inr (omega arith)
-
--- the end inside a subtitle
-at-end : (at : ℕ) (fault : LoadFault) (block : ℕ)
-    → (let e : Result ProgrammeValue LoadFault = Err (load_fault at (File Unfinished)) in e)
-    ≡ Err fault
-    → (fault.kind ≡ File Unfinished) ⊎ (block ≤ fault.block)
-at-end at fault block e = inl (sym (ap (λ (f : LoadFault). f.kind) (fault-is _ _ e)))
+    let same : load_fault at kind ≡ fault = cc in
+    inr (omega (arith, ap (λ (f : LoadFault). f.block) same))
 
 -- a fault of the file
 at-fault : (block at : ℕ) (f : StlFault) (fault : LoadFault)
     → NamesFrom block (fails f at)
-    → (let e : Result ProgrammeValue LoadFault = Err (load_fault at (File f)) in e) ≡ Err fault
-    → (fault.kind ≡ File Unfinished) ⊎ (block ≤ fault.block)
-at-fault block at Unfinished fault names e = at-end at fault block e
+    → told at (File f) ≡ Err fault
+    → IsLate block fault
+at-fault block at Unfinished fault names e =
+    let same : fault ≡ load_fault at (File Unfinished) = cc in
+    inl (ap (λ (f : LoadFault). f.kind) same)
 at-fault block at f fault names e = at-block block at (File f) fault names e
 
 -- the first fault of a subtitle, or what comes after it
 at-subtitle : (faults : List LoadFaultKind) (block at : ℕ) (next : Result ProgrammeValue LoadFault)
     (fault : LoadFault)
     → block ≤ at
-    → (next ≡ Err fault → (fault.kind ≡ File Unfinished) ⊎ (block ≤ fault.block))
+    → (next ≡ Err fault → IsLate block fault)
     → unless_told faults at next ≡ Err fault
-    → (fault.kind ≡ File Unfinished) ⊎ (block ≤ fault.block)
+    → IsLate block fault
 at-subtitle [] block at next fault le after e = after e
 at-subtitle (kind ∷ kinds) block at next fault le after e = at-block block at kind fault le e
 
@@ -110,7 +105,7 @@ none-before : (national : National) (records : List SubtitleValue) (block : ℕ)
     (fault : LoadFault)
     → NamesFrom block outcome
     → loaded_behind national records outcome ≡ Err fault
-    → (fault.kind ≡ File Unfinished) ⊎ (block ≤ fault.block)
+    → IsLate block fault
 none-before national records block ends fault names e = absurd cc
 none-before national records block (fails f at) fault names e = at-fault block at f fault names e
 none-before national records block (gives t at outcome) fault names e =
@@ -170,12 +165,9 @@ fails-next national start old new records reader at block taken reading goes fai
       none = λ all told fault e.
           let here = goes all told in
           let left = rest-is old new here.0 failed.bytes here.1 failed.consumed in
-          let names : NamesFrom at (outcome_from reader.block here.0) =
-          subst (λ (b : List ℕ). NamesFrom at (outcome_from reader.block b)) (sym left.1)
-          (failed.none left.0) in
           let read : NamesFrom at (outcome_left reader here.0) =
-          subst (λ p. NamesFrom at (outcome_in p reader.block here.0)) (sym reading) names in
-          subst (λ (b : ℕ). (fault.kind ≡ File Unfinished) ⊎ (b ≤ fault.block)) (sym place)
+          rw (reading, left.1) (failed.none left.0) in
+          rw place
           (none-before national records at (outcome_left reader here.0) fault read
           (here.2.same ∙ e));
     }

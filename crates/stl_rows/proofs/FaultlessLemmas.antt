@@ -1,38 +1,28 @@
 -- Lines without a fault: each fits its row (fits_row), none goes under row 23 (no_cells), and with
 -- cells before the first there are at most 40 of these (few_cells).
-use Rattle.std.proofs.Common.{◌≡◌, ℕ, suc, ◌+◌, ◌<◌, ◌≤◌, Bool, true, false, ◌&&◌, ◌==◌, nat_lt}
+use Rattle.std.proofs.Common.{◌≡◌, ℕ, suc, ◌+◌, ◌<◌, ◌≤◌, Bool, true, false}
 use Rattle.std.proofs.Common.{List}
 use Rattle.std.proofs.Common.{[], ◌∷◌, ◌++◌, length, map, refl, sym, ap, ◌∙◌, arith, inl, inr}
 use Rattle.std.proofs.Common.{ltb-false, length-append}
 use Rattle.std.proofs.lemmas.Bool.{cases_lt, lt-ltb, true≢false}
 use Rattle.stl_rows.specs.declared.fault.RowFaultKind.{RowFaultKind}
-use Rattle.stl_rows.specs.declared.fault.RowFaultKind.TheVariants.{DoubleRow, Hidden, PastBottom}
+use Rattle.stl_rows.specs.declared.fault.RowFaultKind.TheVariants.{PastBottom}
 use Rattle.stl_rows.specs.declared.fault.RowFaultKind.TheVariants.{RowTooLong}
 use Rattle.stl_rows.specs.DrawnPage.{last_row, line_fault_kinds, line_faults, when}
-use Rattle.stl_rows.specs.Line.{columns, has_cells, is_double, prepared}
-use Rattle.stl_rows.specs.LineByLine.{onto, prepared_lines, put_line, put_lines}
+use Rattle.stl_rows.specs.Line.{is_double, prepared}
+use Rattle.stl_rows.specs.LineByLine.{onto, prepared_lines}
 use Rattle.stl_rows.specs.TextCode.{HasSevenBits, fault_of, lines_of, text_codes}
 use Rattle.stl_rows.specs.declared.national.National.{National}
 use Rattle.stl_rows.specs.declared.text_code.TextCode.{TextCode}
 use Rattle.stl_rows.specs.declared.text_code.TextCode.TheVariants.{Cell, NewLine}
-use Rattle.ttx_page.specs.Page.{Rows}
 use Rattle.std.proofs.Common.{drop, get_or, lit<, subst, zero}
 use Rattle.stl_rows.proofs.LineByLineLemmas.{prepared_longer, prepared_lines-cell}
 use Rattle.stl_rows.proofs.LineByLineLemmas.{prepared_lines-line_end, prepared_lines-end}
 
 -- Two lists that join to none are none.
-pub left_empty : {A : Type 0} (xs ys : List A) → xs ++ ys ≡ [] → xs ≡ []
-left_empty [] ys e = refl
-left_empty (x ∷ xs) ys e = cc
-
-pub right_empty : {A : Type 0} (xs ys : List A) → xs ++ ys ≡ [] → ys ≡ []
-right_empty [] ys e = e
-right_empty (x ∷ xs) ys e = cc
-
--- The second of four lists that join to none is none.
-second_empty : {A : Type 0} (a b c d : List A) → a ++ b ++ c ++ d ≡ [] → b ≡ []
-second_empty a b c d e =
-    right_empty a b (left_empty (a ++ b) c (left_empty (a ++ b ++ c) d e))
+pub empty_parts : {A : Type 0} (xs ys : List A) → xs ++ ys ≡ [] → (xs ≡ []) × (ys ≡ [])
+empty_parts [] ys e = (refl, e)
+empty_parts (x ∷ xs) ys e = cc
 
 -- Where nothing is made of a list it is none.
 pub map_empty : {A B : Type 0} (f : A → B) (xs : List A) → map f xs ≡ [] → xs ≡ []
@@ -53,11 +43,7 @@ pub no_cells :
 unfolding line_fault_kinds
 no_cells row under [] l e = refl
 no_cells row under (c ∷ cells) l e =
-    let past : nat_lt last_row row ≡ false =
-    not_when (nat_lt last_row row) PastBottom
-    (second_empty (when (nat_lt columns (length (c ∷ cells))) RowTooLong)
-    (when (nat_lt last_row row) PastBottom)
-    (when (is_double (c ∷ cells) && (row == last_row)) DoubleRow) (when under Hidden) e) in
+    let past = not_when _ PastBottom (empty_parts _ _ (empty_parts _ _ (empty_parts _ _ e).0).0).1 in
     absurd (true≢false (sym (lt-ltb last_row row l) ∙ past))
 
 -- A line without a fault has at most 40 cells.
@@ -66,16 +52,8 @@ fits_columns : (row : ℕ) (under : Bool) (line : List ℕ)
     → length line ≤ 40
 unfolding line_fault_kinds
 fits_columns row under line e =
-    ltb-false 40 (length line) (not_when (nat_lt columns (length line)) RowTooLong
-    (left_empty (when (nat_lt columns (length line)) RowTooLong)
-    (when (has_cells line && nat_lt last_row row) PastBottom)
-    (left_empty (when (nat_lt columns (length line)) RowTooLong
-    ++ when (has_cells line && nat_lt last_row row) PastBottom)
-    (when (is_double line && (row == last_row)) DoubleRow)
-    (left_empty (when (nat_lt columns (length line)) RowTooLong
-    ++ when (has_cells line && nat_lt last_row row) PastBottom
-    ++ when (is_double line && (row == last_row)) DoubleRow)
-    (when (has_cells line && under) Hidden) e))))
+    ltb-false 40 (length line)
+    (not_when _ RowTooLong (empty_parts _ _ (empty_parts _ _ (empty_parts _ _ e).0).0).0)
 
 -- ---- lines from a row on
 
@@ -88,7 +66,7 @@ first_line : (row : ℕ) (line : List ℕ) (lines : List (List ℕ))
     → AreFaultless row (line ∷ lines)
     → (under : Bool) × (line_fault_kinds row under line ≡ [])
 first_line row line lines h =
-    (h.1, map_empty (fault_of h.0) (line_fault_kinds row h.1 line) (left_empty _ _ h.2))
+    (h.1, map_empty (fault_of h.0) (line_fault_kinds row h.1 line) (empty_parts _ _ h.2).0)
 
 -- The lines after it have none. For `put_text`.
 pub next_lines : (row : ℕ) (line : List ℕ) (lines : List (List ℕ))
@@ -97,7 +75,7 @@ pub next_lines : (row : ℕ) (line : List ℕ) (lines : List (List ℕ))
 next_lines row line lines h = (
   h.0 + 1,
   is_double line,
-  right_empty (map (fault_of h.0) (line_fault_kinds row h.1 line)) _ h.2,
+  (empty_parts (map (fault_of h.0) (line_fault_kinds row h.1 line)) _ h.2).1,
 )
 
 -- The first line fits its row.
@@ -140,17 +118,6 @@ few_cells row cells (line ∷ lines) h =
     )
 
 -- ---- the steps of the loop of `put_text`
-
--- the lines go on after a cell
-pub cells_go_on : (cells cells' : List ℕ) (at code : ℕ) (s : TextCode)
-    (ss rest : List (ℕ × TextCode))
-    → ss ≡ (at, s) ∷ rest
-    → s ≡ Cell code
-    → cells' ≡ cells ++ code ∷ []
-    → prepared_lines cells ss ≡ prepared_lines cells' rest
-cells_go_on cells cells' at code s ss rest step is e =
-    prepared_lines-cell cells at code s ss rest step is
-    ∙ ap (λ l. prepared_lines l rest) (sym e)
 
 -- the cells stay codes with one more
 pub codes_go_on : (cells cells' : List ℕ) (code : ℕ) (s : TextCode)
@@ -208,48 +175,3 @@ pub faultless_end : (n : National) (row : ℕ) (cells : List ℕ) (at : ℕ) (te
     → AreFaultless row (prepared cells ∷ [])
 faultless_end n row cells at text h past =
     subst (AreFaultless row) (prepared_lines-end n cells at text past) h
-
--- its cells go to row 23 at most
-pub on_row : (row : ℕ) (cells line : List ℕ) (lines : List (List ℕ))
-    → line ≡ cells
-    → AreFaultless row (prepared cells ∷ lines)
-    → 0 < length line
-    → row ≤ 23
-on_row row cells line lines e h some =
-    first_on_page row cells lines h (omega (arith, ap length e))
-
--- and they fit its columns
-pub in_columns : (row : ℕ) (cells line : List ℕ) (lines : List (List ℕ))
-    → line ≡ cells
-    → AreFaultless row (prepared cells ∷ lines)
-    → length (prepared line) ≤ 40
-in_columns row cells line lines e h =
-    let same : length (prepared line) ≡ length (prepared cells) = ap (λ l. length (prepared l)) e in
-    omega (arith, first_fits row (prepared cells) lines h)
-
--- the lines after it have no fault
-pub faultless_next : (row : ℕ) (cells cells' : List ℕ) (rest : List (ℕ × TextCode))
-    → AreFaultless row (prepared cells ∷ prepared_lines [] rest)
-    → cells' ≡ []
-    → AreFaultless (row + 1) (prepared_lines cells' rest)
-faultless_next row cells cells' rest h none =
-    subst (λ l. AreFaultless (row + 1) (prepared_lines l rest)) (sym none)
-    (next_lines row (prepared cells) (prepared_lines [] rest) h)
-
--- the page goes on after a line that was put on it
-pub page_goes_on : (w : Rows) (jc row : ℕ) (page page' : Rows) (cells line cells' : List ℕ) (at : ℕ)
-    (s : TextCode) (ss rest : List (ℕ × TextCode))
-    → w ≡ put_lines jc row page (prepared_lines cells ss)
-    → ss ≡ (at, s) ∷ rest
-    → s ≡ NewLine
-    → line ≡ cells
-    → page' ≡ put_line jc row (prepared line) page
-    → cells' ≡ []
-    → w ≡ put_lines jc (row + 1) page' (prepared_lines cells' rest)
-page_goes_on w jc row page page' cells line cells' at s ss rest same step is e put none =
-    same
-    ∙ ap (put_lines jc row page) (prepared_lines-line_end cells at s ss rest step is)
-    ∙ ap (λ l. put_lines jc (row + 1) (put_line jc row (prepared l) page) (prepared_lines [] rest))
-    (sym e)
-    ∙ ap (λ p. put_lines jc (row + 1) p (prepared_lines [] rest)) (sym put)
-    ∙ ap (λ l. put_lines jc (row + 1) page' (prepared_lines l rest)) (sym none)

@@ -1,6 +1,6 @@
 -- Row 24 of each due page is blank: `last_row_blank`.
-use Rattle.std.proofs.Common.{◌≡◌, ℕ, zero, suc, ◌+◌, ◌-◌, ◌<◌, Bool, true, false}
-use Rattle.std.proofs.Common.{nat_lt, cond, List, [], ◌∷◌, map, get_or, Option, Some}
+use Rattle.std.proofs.Common.{◌≡◌, ℕ, zero, suc, ◌+◌, ◌-◌, ◌<◌, Bool, false}
+use Rattle.std.proofs.Common.{nat_lt, List, [], ◌∷◌, map, get_or, Option, Some}
 use Rattle.std.proofs.Common.{None, refl, sym, ap, ◌∙◌, arith}
 use Rattle.std.specs.List.{find}
 use Rattle.std.specs.Result.{result_unwrap_or}
@@ -15,7 +15,8 @@ use Rattle.stl_rows.specs.DuePage.{drawn_or_blank, due, is_due}
 use Rattle.stl_rows.specs.Line.{is_double, row_of}
 use Rattle.stl_rows.specs.TextCode.{fault_of, refusals, text_codes}
 use Rattle.stl_rows.proofs.DrawnPageLemmas.{blank_at, row_of-none}
-use Rattle.stl_rows.proofs.FaultlessLemmas.{left_empty, right_empty, map_empty, no_cells}
+use Rattle.stl_rows.proofs.FaultlessLemmas.{empty_parts, map_empty, no_cells}
+use Rattle.stl_rows.proofs.LineByLineLemmas.{either}
 
 -- The same of a line at a place.
 free_at :
@@ -26,21 +27,19 @@ free_at :
 free_at row number under [] k e l = refl
 free_at row number under (line ∷ ls) zero e l =
     no_cells row under line (omega arith)
-    (map_empty (fault_of number) (line_fault_kinds row under line) (left_empty _ _ e))
+    (map_empty (fault_of number) (line_fault_kinds row under line) (empty_parts _ _ e).0)
 free_at row number under (line ∷ ls) (suc k) e l =
     free_at (row + 1) (number + 1) (is_double line) ls k
-    (right_empty (map (fault_of number) (line_fault_kinds row under line)) _ e) (omega arith)
+    (empty_parts (map (fault_of number) (line_fault_kinds row under line)) _ e).1 (omega arith)
 
 -- No line of a subtitle without a fault goes to row 24.
 line_free :
     (vp : ℕ) (ls : List (List ℕ))
     → line_faults 0 vp false ls ≡ []
     → line_on vp ls 24 ≡ []
-line_free vp ls e = go (nat_lt 24 vp)
-  where
-    go : (b : Bool) → cond b [] (get_or ls (24 - vp) []) ≡ []
-    go true = refl
-    go false = free_at vp 0 false ls (24 - vp) e (omega arith)
+line_free vp ls e =
+    either (λ line. line ≡ []) (nat_lt 24 vp) [] _ refl
+    (free_at vp 0 false ls (24 - vp) e (omega arith))
 
 -- Row 24 of the page of such lines is blank.
 row_free :
@@ -68,7 +67,7 @@ drawn_free national t = go (faults national t) refl
         (result_unwrap_or (unless fs (page_of_lines t.jc t.vp (lines national t))) blank) 24
         ≡ blank_row
     go [] e = row_free t.jc t.vp (lines national t)
-        (right_empty (refusals (text_codes national 0 t.text)) _ e)
+        (empty_parts (refusals (text_codes national 0 t.text)) _ e).1
     go (f ∷ fs) e = blank_at 23 (omega arith)
 
 -- Row 24 of each due page is blank.

@@ -1,6 +1,7 @@
 -- The lines of a text as its text codes are read one by one: what each code does to them, as
 -- prepared_lines-cell; and how the page that is drawn goes on with a line, put_lines-line.
-use Rattle.std.proofs.Common.{◌≡◌, ℕ, ◌-◌, ◌<◌, ◌≤◌, List, [], ◌∷◌, ◌++◌, map}
+use Rattle.std.proofs.Common.{◌≡◌, ℕ, ◌-◌, ◌<◌, ◌≤◌, Bool, true, false, cond, List, [], ◌∷◌, ◌++◌}
+use Rattle.std.proofs.Common.{map}
 use Rattle.std.proofs.Common.{length, drop, refl, sym, ap, ◌∙◌, arith, append-nil, length-append}
 use Rattle.std.proofs.lemmas.Bool.Decides.{nat_tests}
 use Rattle.std.specs.List.{onto_first}
@@ -13,6 +14,11 @@ use Rattle.stl_rows.specs.Line.{prepared, row_of}
 use Rattle.stl_rows.specs.LineByLine.{onto, prepared_lines, put_line}
 use Rattle.stl_rows.specs.TextCode.{lines_of, text_codes, with_code}
 use Rattle.stl_rows.specs.declared.national.National.{National}
+
+-- what holds of two things holds of a choice of them
+pub either : {A : Type 0} (P : A → Type 0) (b : Bool) (x y : A) → P x → P y → P (cond b x y)
+either P true x y h k = h
+either P false x y h k = k
 
 -- ---- cells before the first line
 

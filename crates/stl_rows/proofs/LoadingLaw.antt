@@ -1,13 +1,11 @@
 -- A file is loaded exactly where it is a file whose subtitles are in order, disjoint and drawable:
 -- loading_is.
-use Rattle.std.proofs.Common.{◌≡◌, ℕ, zero, suc, ◌+◌, ◌-◌, ◌<◌, ◌≤◌, false, ltb}
-use Rattle.std.proofs.Common.{List, [], ◌∷◌, ◌++◌, Some, Result, Ok, Err, length}
-use Rattle.std.proofs.Common.{get_or}
-use Rattle.std.proofs.Common.{take, refl, sym, ap, subst, ◌∙◌, arith, rules, append_assoc}
-use Rattle.std.proofs.Common.{append-nil}
-use Rattle.std.proofs.Common.{length-append}
+use Rattle.std.proofs.Common.{◌≡◌, ℕ, suc, ◌+◌, ◌-◌, ◌<◌, ◌≤◌, List, [], ◌∷◌, ◌++◌, Some, Result}
+use Rattle.std.proofs.Common.{Ok, Err, length, get_or, take, refl, sym, ap, subst, arith, rules}
+use Rattle.std.proofs.Common.{append_assoc, append-nil, length-append}
 use Rattle.std.proofs.lemmas.Bool.Decides.{nat_tests}
 use Rattle.std.proofs.lemmas.List.{get_or_append_left}
+use Rattle.std.proofs.lemmas.List.Elements.{All-cons, All-nil}
 use Rattle.std.proofs.lemmas.Option.{slice_get-get_or}
 use Rattle.std.proofs.Math.Seq.{get_or-append_seam}
 use Rattle.std.specs.Prelude.{◌↔◌, All, IsOk, slice_get}
@@ -27,6 +25,10 @@ use Rattle.stl_rows.specs.Loading.{LawOfLoading, loaded_behind, unless_told}
 use Rattle.stl_rows.specs.Programme.{AreInOrder, ProgrammeValue, follow_faults, last_of}
 use Rattle.stl_rows.specs.Programme.{order_faults, row_faults}
 use Rattle.stl_rows.proofs.ProgrammeLemmas.{AreShown, AreShown-push}
+
+-- a subtitle begins before it ends
+abbrev IsTimed : SubtitleValue → Type 0
+IsTimed t = t.tci < t.tco
 
 -- each subtitle may follow those before it
 abbrev Follow : National → List SubtitleValue → List SubtitleValue → Type 0
@@ -54,11 +56,7 @@ loaded_next : (n : National) (records : List SubtitleValue) (t : SubtitleValue) 
 loaded_next n records t block o p none rest = record {
   given = t ∷ rest.given;
   all = ap (cons_all t) rest.all;
-  is =
-      rest.is
-      ∙ ap (λ (r : List SubtitleValue). let v : ProgrammeValue = record
-      { national = n; records = r } in v)
-      (append_assoc records (t ∷ []) rest.given);
+  is = rw append_assoc at rest.is;
   follow = (none, rest.follow);
 }
 
@@ -71,10 +69,7 @@ loaded_given n records ends p h =
     record {
       given = [];
       all = refl;
-      is =
-          sym same
-          ∙ ap (λ (r : List SubtitleValue). let v : ProgrammeValue = record
-          { national = n; records = r } in v) (sym (append-nil records));
+      is = rw append-nil (sym same);
       follow = tt;
     }
 loaded_given n records (fails f block) p h = cc
@@ -96,9 +91,7 @@ given_loaded : (n : National) (records : List SubtitleValue) (o : Outcome) (ts :
     → loaded_behind n records o ≡ programme_of n (records ++ ts)
 given_loaded n records ends ts h follow =
     let none : ts ≡ [] = cc in
-    let e : records ≡ records ++ ts =
-    sym (append-nil records) ∙ ap (λ (r : List SubtitleValue). records ++ r) (sym none) in
-    ap (programme_of n) e
+    rw (none, append-nil) refl
 given_loaded n records (fails f block) ts h follow = cc
 given_loaded n records (gives t block o) ts h follow =
     go (subtitles_of o) refl h (given_loaded n (records ++ t ∷ []) o)
@@ -113,25 +106,20 @@ given_loaded n records (gives t block o) ts h follow =
     go (Ok us) e k rest =
         let same : ts ≡ t ∷ us = cc in
         let f : Follow n records (t ∷ us) = subst (Follow n records) same follow in
-        let next : Result ProgrammeValue LoadFault = loaded_behind n (records ++ t ∷ []) o in
-        ap (λ (faults : List LoadFaultKind). unless_told faults block next) f.0
-        ∙ rest us e f.1
-        ∙ ap (programme_of n) (append_assoc records (t ∷ []) us)
-        ∙ ap (λ (r : List SubtitleValue). programme_of n (records ++ r)) (sym same)
+        rw (same, f.0) (rw append_assoc at (rest us e f.1))
 
 -- subtitles with no fault are in order and drawable
 follow_shown : (n : National) (records ts : List SubtitleValue)
     → AreShown n records
-    → All (λ (t : SubtitleValue). t.tci < t.tco) ts
+    → All IsTimed ts
     → Follow n records ts
     → AreShown n (records ++ ts)
-follow_shown n records [] shown times follow = subst (AreShown n) (sym (append-nil records)) shown
+follow_shown n records [] shown times follow = rw append-nil shown
 follow_shown n records (t ∷ ts) shown times follow =
     let next : AreShown n (records ++ t ∷ []) =
     AreShown-push n records t shown (times 0 t (omega arith)) follow.0 in
-    subst (AreShown n) (append_assoc records (t ∷ []) ts)
-    (follow_shown n (records ++ t ∷ []) ts next
-    (λ k d h. times (suc k) d (omega arith)) follow.1)
+    rw append_assoc at
+    (follow_shown n (records ++ t ∷ []) ts next (λ k d h. times (suc k) d (omega arith)) follow.1)
 
 -- a drawable subtitle has no fault of its rows
 no_row_fault : (r : Result Rows RowFault) → IsOk r → row_faults r ≡ []
@@ -141,10 +129,7 @@ no_row_fault (Err f) h = search rules
 -- a subtitle that starts at the TCO of the one before, or later, has no fault of its times
 no_order_fault : (before t : SubtitleValue) → before.tci < before.tco → before.tco ≤ t.tci
     → order_faults (Some before) t ≡ []
-no_order_fault before t times order =
-    let a : ltb t.tci before.tci ≡ false = grind (arith, nat_tests) in
-    let b : ltb t.tci before.tco ≡ false = grind (arith, nat_tests) in
-    rw (a, b) refl
+no_order_fault before t times order = grind (arith, nat_tests)
 
 -- the times of a subtitle against those of the last before it
 times_follow : (n : National) (records ts : List SubtitleValue) (t : SubtitleValue)
@@ -172,33 +157,21 @@ shown_follow : (n : National) (records ts : List SubtitleValue)
     → Follow n records ts
 shown_follow n records [] shown = tt
 shown_follow n records (t ∷ ts) shown =
-    let size : length (records ++ t ∷ ts) ≡ length records + length (t ∷ ts) =
-    length-append records (t ∷ ts) in
-    let is : get_or (records ++ t ∷ ts) (length records) t ≡ t =
-    get_or-append_seam records t ts t in
+    let size = length-append records (t ∷ ts) in
     let drawable : IsOk (drawn n t) =
-    subst (λ (x : SubtitleValue). IsOk (drawn n x)) is
-    (shown.drawable (length records) t (omega (arith, size))) in
-    let rows : row_faults (drawn n t) ≡ [] = no_row_fault (drawn n t) drawable in
-    let order : order_faults (last_of records) t ≡ [] = times_follow n records ts t shown in (
-      rw (order, rows) refl,
-      shown_follow n (records ++ t ∷ []) ts
-          (subst (AreShown n) (sym (append_assoc records (t ∷ []) ts)) shown),
+    rw (get_or-append_seam records t ts t)
+    at (shown.drawable (length records) t (omega arith)) in (
+      rw (times_follow n records ts t shown, no_row_fault (drawn n t) drawable) refl,
+      shown_follow n (records ++ t ∷ []) ts (rw append_assoc shown),
     )
 
 -- each subtitle of a file begins before it ends
-all_times : (ts : List SubtitleValue) (gs : List (List (List ℕ))) → AreBlocksOfEach ts gs
-    → All (λ (t : SubtitleValue). t.tci < t.tco) ts
-all_times [] gs e = λ k d h. absurd (omega arith)
+all_times : (ts : List SubtitleValue) (gs : List (List (List ℕ)))
+    → AreBlocksOfEach ts gs
+    → All IsTimed ts
+all_times [] gs e = All-nil IsTimed
 all_times (t ∷ ts) [] e = λ k d h. absurd e
-all_times (t ∷ ts) (g ∷ gs) e = at (all_times ts gs e.1)
-  where
-    at : All (λ (x : SubtitleValue). x.tci < x.tco) ts
-        → (k : ℕ) (d : SubtitleValue)
-        → k < length (t ∷ ts)
-        → (get_or (t ∷ ts) k d).tci < (get_or (t ∷ ts) k d).tco
-    at rest zero d h = e.0.begins.times
-    at rest (suc k) d h = rest k d (omega arith)
+all_times (t ∷ ts) (g ∷ gs) e = All-cons IsTimed t ts e.0.begins.times (all_times ts gs e.1)
 
 -- no subtitles are in order
 none_shown : (n : National) → AreShown n []
@@ -221,13 +194,11 @@ loading_is file n s ts = (there, back)
     there h =
         let l = loaded_given n [] (outcome_of s) (record { national = n; records = ts }) h in
         let same : ts ≡ l.given = ap (λ (p : ProgrammeValue). p.records) l.is in
-        let all : subtitles_of (outcome_of s) ≡ Ok ts =
-        subst (λ (r : List SubtitleValue). let x : Judged = Ok r in subtitles_of (outcome_of s)
-        ≡ x) (sym same) l.all in
+        let all : subtitles_of (outcome_of s) ≡ Ok ts = rw same l.all in
         let is : IsFile s (take 1024 s) ts = (file s (take 1024 s) ts).1 (refl, all) in
         let shown : AreShown n ts =
         follow_shown n [] ts (none_shown n) (all_times ts is.rest.parts is.rest.are_of)
-        (subst (Follow n []) (sym same) l.follow) in
+        (rw same l.follow) in
         (take 1024 s, is, shown.in_order, shown.drawable)
 
     back : (g : List ℕ) × IsFile s g ts × AreInOrder ts × All

@@ -40,11 +40,8 @@ pub goes_on-next : (national : National) (outcome rest : Outcome) (records : Lis
     → follow_faults national records t ≡ []
     → GoesOn national outcome rest (records ++ t ∷ [])
 goes_on-next national outcome rest records t block on none =
-    let next : Result ProgrammeValue LoadFault = loaded_behind national (records ++ t ∷ []) rest in
-    let step : next ≡ unless_told (follow_faults national records t) block next =
-    ap (λ (faults : List LoadFaultKind). unless_told faults block next) (sym none) in
     record {
-      same = step ∙ on.same;
+      same = rw none at on.same;
       ends_record = λ at h. on.ends_record at (none, inr h);
     }
 
@@ -54,10 +51,7 @@ told-first : (faults : List LoadFaultKind) (kind : LoadFaultKind) (block : ℕ)
     → first_of faults ≡ Some kind
     → unless_told faults block next ≡ Err (load_fault block kind)
 told-first [] kind block next h = cc
-told-first (k ∷ ks) kind block next h =
-    let same : k ≡ kind = cc in
-    ap (λ (x : LoadFaultKind). let e : Result ProgrammeValue LoadFault = Err (load_fault block x) in
-    e) same
+told-first (k ∷ ks) kind block next h = let same : k ≡ kind = cc in rw same refl
 
 -- the first fault of a subtitle is what comes of the whole file
 fault-first : (national : National) (outcome rest : Outcome) (records : List SubtitleValue)
@@ -111,14 +105,7 @@ pub goes_on-opened : (national : National) (bytes : List ℕ) (reader : ReaderVa
     → records ≡ []
     → GoesOn national (outcome_of bytes) (outcome_left reader (drop gsi_size bytes)) records
 unfolding outcome_of
-goes_on-opened national bytes reader records h none =
-    let e : outcome_of bytes ≡ outcome_left reader (drop gsi_size bytes) =
-    ap (outcome_opened (drop gsi_size bytes)) h in
-    let start : GoesOn national (outcome_of bytes) (outcome_left reader (drop gsi_size bytes)) [] =
-    subst (λ (o : Outcome). GoesOn national (outcome_of bytes) o []) e
-    (goes_on-start national (outcome_of bytes)) in
-    subst (λ (r : List SubtitleValue). GoesOn national (outcome_of bytes)
-    (outcome_left reader (drop gsi_size bytes)) r) (sym none) start
+goes_on-opened national bytes reader records h none = rw (none, h) (goes_on-start national _)
 
 -- the file could not be opened
 pub tells-opening : (national : National) (bytes : List ℕ) (fault : StlFault)
@@ -138,7 +125,7 @@ goes_on-answer : (national : National) (bytes rest : List ℕ) (records : List S
     → (a : Answers old rest new now result)
     → GoesOn national (outcome_of bytes) (outcome_with new a.rest result) records
 goes_on-answer national bytes rest records old new now result on a =
-    subst (λ (o : Outcome). GoesOn national (outcome_of bytes) o records) a.outcome on
+    rw a.outcome at on
 
 -- the next blocks are at fault
 pub tells-next : (national : National) (bytes rest : List ℕ) (records : List SubtitleValue)
@@ -162,9 +149,7 @@ pub tells-none : (national : National) (bytes rest : List ℕ) (records : List S
     → loaded national (outcome_of bytes) ≡ Ok (record { national = national; records = records })
 tells-none national bytes rest records old new now result on is a =
     tells-end national (outcome_of bytes) records
-    (subst (λ (r : Result (Option SubtitleValue) StlFault). GoesOn national (outcome_of bytes)
-    (outcome_with new a.rest r) records) is
-    (goes_on-answer national bytes rest records old new now result on a))
+    (rw is at (goes_on-answer national bytes rest records old new now result on a))
 
 -- a subtitle came
 goes_on-given : (national : National) (bytes rest : List ℕ) (records : List SubtitleValue)
@@ -175,9 +160,7 @@ goes_on-given : (national : National) (bytes rest : List ℕ) (records : List Su
     → (a : Answers old rest new now result)
     → GoesOn national (outcome_of bytes) (gives t new.block (outcome_left new a.rest)) records
 goes_on-given national bytes rest records old new now result t on is a =
-    subst (λ (r : Result (Option SubtitleValue) StlFault). GoesOn national (outcome_of bytes)
-    (outcome_with new a.rest r) records) is
-    (goes_on-answer national bytes rest records old new now result on a)
+    rw is at (goes_on-answer national bytes rest records old new now result on a)
 
 -- it could not be put after the others
 pub tells-refused : (national : National) (bytes rest : List ℕ) (records : List SubtitleValue)
@@ -206,6 +189,6 @@ pub goes_on-put : (national : National) (bytes rest : List ℕ)
     → records' ≡ records ++ t ∷ []
     → GoesOn national (outcome_of bytes) (outcome_left new a.rest) records'
 goes_on-put national bytes rest records records' old new now result t on is a none behind =
-    subst (GoesOn national (outcome_of bytes) (outcome_left new a.rest)) (sym behind)
+    rw behind
     (goes_on-next national (outcome_of bytes) (outcome_left new a.rest) records t new.block
     (goes_on-given national bytes rest records old new now result t on is a) none)

@@ -1,13 +1,12 @@
 -- Each due page is a page, 24 rows of 40 codes below 128: due_is_page.
-use Rattle.std.proofs.Common.{◌≡◌, ℕ, zero, suc, ◌+◌, ◌-◌, ◌<◌, inl, inr, Bool, true, false, not}
-use Rattle.std.proofs.Common.{◌&&◌, ◌==◌, nat_le, nat_lt, cond, List, [], ◌∷◌, ◌++◌, length}
-use Rattle.std.proofs.Common.{map, get_or, Option, Some, None, option_and_then}
+use Rattle.std.proofs.Common.{◌≡◌, ℕ, zero, suc, ◌+◌, ◌-◌, ◌<◌, ◌≤◌, inl, inr, not}
+use Rattle.std.proofs.Common.{◌&&◌, ◌==◌, nat_le, nat_lt, List, [], ◌∷◌, ◌++◌, length}
+use Rattle.std.proofs.Common.{map, get_or, Option, Some, None}
 use Rattle.std.proofs.Common.{refl, arith, lit<}
 use Rattle.std.specs.List.{range_with_len, onto_first, find, AllByRecursion}
 use Rattle.std.specs.Prelude.{⊤}
 use Rattle.std.specs.Result.{result_unwrap_or}
-use Rattle.std.proofs.lemmas.Bool.{cases_lt}
-use Rattle.std.proofs.lemmas.Bool.Decides.{nat_tests}
+use Rattle.std.proofs.lemmas.Bool.{cases_lt, cases_Bool, and_parts, leb-true}
 use Rattle.std.proofs.lemmas.List.{get_or_past}
 use Rattle.std.proofs.lemmas.List.FromFn.{get_or-map-range_with_len, length-map-range_with_len}
 use Rattle.ttx_page.specs.Page.{space, blank, IsPage}
@@ -27,6 +26,7 @@ use Rattle.stl_rows.specs.TextCode.{first_of, is_control, is_no_cell, lines_of, 
 use Rattle.stl_rows.specs.TextCode.{pair_or_single, text_codes, with_code}
 use Rattle.stl_rows.specs.declared.national.National.{National}
 use Rattle.stl_rows.specs.declared.national.National.TheVariants.{English, German}
+use Rattle.stl_rows.proofs.LineByLineLemmas.{either}
 
 -- each cell is a code
 abbrev Small : List ℕ → Type 0
@@ -49,85 +49,31 @@ cell_in-small : (entries : List CellEntry) (byte : ℕ)
     → SmallCode (cell_in entries byte)
 cell_in-small [] byte h = tt
 cell_in-small (entry ∷ entries) byte h =
-    go (nat_le entry.first byte) (nat_le byte entry.last) refl refl (cell_in-small entries byte h.1)
-  where
-    go : (a b : Bool) → nat_le entry.first byte ≡ a → nat_le byte entry.last ≡ b
-        → SmallCode (cell_in entries byte)
-        → SmallCode (cond (a && b) (Some (entry.cell + (byte - entry.first)))
-        (cell_in entries byte))
-    go true true low high rest = grind (arith, nat_tests, low, high, h.0)
-    go true false low high rest = rest
-    go false true low high rest = rest
-    go false false low high rest = rest
+    elim (cases_Bool (nat_le entry.first byte && nat_le byte entry.last)) [
+      | inl within ↦
+          let high : byte ≤ entry.last = leb-true _ _ (and_parts _ _ within).1 in
+          rw within (omega (arith, h.0))
+      | inr out ↦ rw out (cell_in-small entries byte h.1)
+    ]
 
 -- the tables of both options give codes
 cell_of-small : (national : National) (b : ℕ) → SmallCode (cell_of national b)
 unfolding cell_of
-cell_of-small English b =
-    cell_in-small (cells English) b (
-      lit< tt,
-      (
-        lit< tt,
-        (
-          lit< tt,
-          (
-            lit< tt,
-            (
-              lit< tt,
-              (
-                lit< tt,
-                (lit< tt, (lit< tt, (lit< tt, (lit< tt, (lit< tt, tt))))),
-              ),
-            ),
-          ),
-        ),
-      ),
-    )
-cell_of-small German b =
-    cell_in-small (cells German) b (
-      lit< tt,
-      (
-        lit< tt,
-        (
-          lit< tt,
-          (
-            lit< tt,
-            (
-              lit< tt,
-              (
-                lit< tt,
-                (lit< tt, (lit< tt, (lit< tt, (lit< tt, (lit< tt, (lit< tt, tt)))))),
-              ),
-            ),
-          ),
-        ),
-      ),
-    )
+cell_of-small English b = cell_in-small (cells English) b (omega arith)
+cell_of-small German b = cell_in-small (cells German) b (omega arith)
 
 -- the table of letters after C8 gives codes
 cell_of_letter-small : (c : ℕ) → SmallCode (cell_of_letter c)
 unfolding cell_of_letter
-cell_of_letter-small c =
-    cell_in-small diaeresis_cells c (
-      lit< tt,
-      (
-        lit< tt,
-        (lit< tt, (lit< tt, (lit< tt, (lit< tt, tt)))),
-      ),
-    )
+cell_of_letter-small c = cell_in-small diaeresis_cells c (omega arith)
 
 -- a byte with no entry gives no cell, and so no cell that is no code
 other_small : (byte : ℕ) → HasSevenBits (code_of_other byte)
 unfolding code_of_other
-other_small byte = go (is_no_cell byte) (byte == new_line) (is_control byte)
-  where
-    go : (n l c : Bool)
-        → HasSevenBits (cond n NoCell (cond l NewLine
-        (cond c (Refused Control) (Refused Character))))
-    go true l c = tt
-    go false true c = tt
-    go false false true = tt
-    go false false false = tt
+other_small byte =
+    either HasSevenBits (is_no_cell byte) NoCell _ tt
+    (either HasSevenBits (byte == new_line) NewLine _ tt
+    (either HasSevenBits (is_control byte) (Refused Control) (Refused Character) tt tt))
 
 -- the cell of a byte by itself is a code
 code_small : (national : National) (byte : ℕ) → HasSevenBits (text_code national byte)
@@ -142,12 +88,9 @@ pair_small : (national : National) (b : ℕ) (next : Option ℕ)
     → SmallCode (cell_of_pair national b next)
 unfolding cell_of_pair
 pair_small English b next = tt
-pair_small German b next = go (b == diaeresis) next
-  where
-    go : (t : Bool) (o : Option ℕ) → SmallCode (cond t (option_and_then cell_of_letter o) None)
-    go true None = tt
-    go true (Some c) = cell_of_letter-small c
-    go false o = tt
+pair_small German b None = either SmallCode (b == diaeresis) None None tt tt
+pair_small German b (Some c) =
+    either SmallCode (b == diaeresis) (cell_of_letter c) None (cell_of_letter-small c) tt
 
 -- the cell of a pair or of a byte by itself is a code
 by_small : (pair : Option ℕ) (alone : TextCode)
@@ -195,11 +138,9 @@ append_small (x ∷ xs) ys h k = (h.0, append_small xs ys h.1 k)
 -- a prepared line of codes holds codes alone
 prepared_small : (cells : List ℕ) → Small cells → Small (prepared cells)
 unfolding prepared
-prepared_small cells h = go (has_cells cells && not (is_boxed cells))
-  where
-    go : (b : Bool) → Small (cond b ((0x0B ∷ 0x0B ∷ []) ++ cells ++ (0x0A ∷ 0x0A ∷ [])) cells)
-    go true = (lit< tt, (lit< tt, append_small cells (0x0A ∷ 0x0A ∷ []) h (lit< tt, (lit< tt, tt))))
-    go false = h
+prepared_small cells h =
+    either Small (has_cells cells && not (is_boxed cells)) _ cells
+    (lit< tt, (lit< tt, append_small cells (0x0A ∷ 0x0A ∷ []) h (omega arith))) h
 
 -- prepared lines of codes hold codes alone
 all_prepared : (ls : List (List ℕ))
@@ -226,11 +167,9 @@ get_line (l ∷ ls) (suc k) h = get_line ls k h.1
 cell_small : (start column : ℕ) (line : List ℕ)
     → Small line
     → code_in_column start line column < 128
-cell_small start column line h = go (nat_le start column)
-  where
-    go : (b : Bool) → cond b (get_or line (column - start) space) space < 128
-    go true = get_small line (column - start) space (lit< tt) h
-    go false = lit< tt
+cell_small start column line h =
+    either (λ c. c < 128) (nat_le start column) _ space
+    (get_small line (column - start) space (lit< tt) h) (lit< tt)
 
 -- a row has 40 cells
 row_length : (jc : ℕ) (line : List ℕ) → length (row_of jc line) ≡ 40
@@ -254,11 +193,7 @@ row_small jc c line h =
 line_small : (vp : ℕ) (ls : List (List ℕ)) (row : ℕ)
     → AllByRecursion Small ls
     → Small (line_on vp ls row)
-line_small vp ls row h = go (nat_lt row vp)
-  where
-    go : (b : Bool) → Small (cond b [] (get_or ls (row - vp) []))
-    go true = tt
-    go false = get_line ls (row - vp) h
+line_small vp ls row h = either Small (nat_lt row vp) [] _ tt (get_line ls (row - vp) h)
 
 -- the page that shows lines of codes is a page
 page_is :

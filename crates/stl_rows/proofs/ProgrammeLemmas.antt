@@ -2,8 +2,7 @@
 use Rattle.std.proofs.Common.{◌≡◌, ℕ, ◌+◌, ◌-◌, ◌<◌, ◌≤◌, Bool, true, false, cond, ltb, List, []}
 use Rattle.std.proofs.Common.{◌∷◌, ◌++◌, Some, None, Result, Ok, Err, length, get_or, refl, sym}
 use Rattle.std.proofs.Common.{subst, arith, rules, inl, inr, length-append}
-use Rattle.std.proofs.lemmas.Bool.{cases_lt}
-use Rattle.std.proofs.lemmas.Bool.Decides.{nat_tests}
+use Rattle.std.proofs.lemmas.Bool.{cases_lt, ltb-false}
 use Rattle.std.proofs.lemmas.List.{get_or_append_left}
 use Rattle.std.proofs.Math.Seq.{get_or-append_seam}
 use Rattle.std.proofs.lemmas.List.Elements.{All-push}
@@ -12,12 +11,13 @@ use Rattle.std.specs.Prelude.{All, IsOk, slice_get}
 use Rattle.ttx_page.specs.Page.{Rows}
 use Rattle.stl_file.specs.Subtitle.{SubtitleValue, IsSubtitle}
 use Rattle.stl_rows.specs.declared.fault.RowFault.{RowFault}
-use Rattle.stl_rows.specs.declared.fault.LoadFaultKind.TheVariants.{OutOfOrder, Overlap}
+use Rattle.stl_rows.specs.declared.fault.LoadFaultKind.TheVariants.{Overlap}
 use Rattle.stl_rows.specs.DrawnPage.{drawn}
 use Rattle.stl_rows.specs.Programme.{AreInOrder, IsProgramme, follow_faults, order_faults}
 use Rattle.stl_rows.specs.Programme.{row_faults}
 use Rattle.stl_rows.specs.TextCode.{first_of}
 use Rattle.stl_rows.specs.declared.national.National.{National}
+use Rattle.stl_rows.proofs.FaultlessLemmas.{empty_parts}
 
 -- subtitles that begin before they end, in order and drawable
 pub record AreShown (n : National) (ts : List SubtitleValue) : Type 0 where
@@ -30,11 +30,6 @@ none-first : {A : Type 0} (xs : List A) → None ≡ first_of xs → xs ≡ []
 none-first [] h = refl
 none-first (x ∷ xs) h = cc
 
--- two lists of faults joined are empty where both are
-empty_parts : {A : Type 0} (xs ys : List A) → xs ++ ys ≡ [] → (xs ≡ []) × (ys ≡ [])
-empty_parts [] ys h = (refl, h)
-empty_parts (x ∷ xs) ys h = cc
-
 -- a subtitle with no fault of its rows draws a page
 draws : (r : Result Rows RowFault) → row_faults r ≡ [] → IsOk r
 draws (Ok page) h = search rules
@@ -42,21 +37,11 @@ draws (Err f) h = cc
 
 -- a subtitle with no fault of its times starts at the TCO of the one before, or later
 after_last : (last t : SubtitleValue) → order_faults (Some last) t ≡ [] → last.tco ≤ t.tci
-after_last last t h =
-    elim (cases_lt t.tci last.tco) [
-      | inl before ↦
-          let e : ltb t.tci last.tco ≡ true = grind (arith, nat_tests) in
-          absurd (some_fault (ltb t.tci last.tci) (ltb t.tci last.tco) e h)
-      | inr after ↦ after
-    ]
+after_last last t h = go (ltb t.tci last.tco) refl (empty_parts _ _ h).1
   where
-    some_fault : (a b : Bool)
-        → b ≡ true
-        → cond a (OutOfOrder ∷ []) [] ++ cond b (Overlap ∷ []) [] ≡ []
-        → ⊥
-    some_fault true b e h = cc
-    some_fault false true e h = cc
-    some_fault false false e h = cc
+    go : (b : Bool) → ltb t.tci last.tco ≡ b → cond b (Overlap ∷ []) [] ≡ [] → last.tco ≤ t.tci
+    go true e k = cc
+    go false e k = ltb-false _ _ e
 
 -- it starts at the TCO of each one before, or later
 last_before : (n : National) (ts : List SubtitleValue) (t : SubtitleValue) (i : ℕ)

@@ -3,6 +3,7 @@
 use Rattle.std.proofs.Common.{◌≡◌, ℕ, suc, ◌+◌, ◌≤◌, Bool, true, false, ◌&&◌, ◌||◌, ◌==◌, not, cond}
 use Rattle.std.proofs.Common.{List, [], ◌∷◌, ◌++◌, Option, Some, None, map, length, drop}
 use Rattle.std.proofs.Common.{refl, sym, ap, ◌∙◌, arith, length-append}
+use Rattle.std.proofs.Math.Bool.{or-false}
 use Rattle.std.proofs.lemmas.Bool.{lt-ltb}
 use Rattle.std.proofs.lemmas.List.Folds.{list_any-append}
 use Rattle.std.specs.List.{list_any}
@@ -14,14 +15,10 @@ use Rattle.stl_rows.specs.DrawnPage.{line_fault_kinds, line_faults}
 use Rattle.stl_rows.specs.Line.{double_height, has_cells, is_boxed, is_double, prepared, start_box}
 use Rattle.stl_rows.specs.LineByLine.{HasShape, prepared_lines, shape_fault_kinds, told_first}
 use Rattle.stl_rows.specs.TextCode.{fault_of, first_of, refusals, text_codes}
-use Rattle.stl_rows.proofs.LineByLineLemmas.{prepared_lines-cell, prepared_lines-line_end}
-use Rattle.stl_rows.proofs.LineByLineLemmas.{prepared_lines-end, text_codes-end}
+use Rattle.stl_rows.proofs.LineByLineLemmas.{either, prepared_lines-cell, prepared_lines-end}
+use Rattle.stl_rows.proofs.LineByLineLemmas.{prepared_lines-line_end, text_codes-end}
 
 -- ---- shapes
-
-or_end : (b : Bool) → (b || false) ≡ b
-or_end true = refl
-or_end false = refl
 
 -- no cells
 pub shape-none : HasShape [] 0 false false
@@ -40,14 +37,8 @@ pub shape-push : (cells : List ℕ) (code len : ℕ) (boxed double : Bool)
 unfolding is_boxed is_double
 shape-push cells code len boxed double h = record {
   count = omega (arith, length-append cells (code ∷ []), h.count);
-  box =
-      list_any-append (λ c. c == start_box) cells (code ∷ [])
-      ∙ ap (λ x. list_any (λ c. c == start_box) cells || x) (or_end (code == start_box))
-      ∙ ap (λ x. x || (code == start_box)) h.box;
-  height =
-      list_any-append (λ c. c == double_height) cells (code ∷ [])
-      ∙ ap (λ x. list_any (λ c. c == double_height) cells || x) (or_end (code == double_height))
-      ∙ ap (λ x. x || (code == double_height)) h.height;
+  box = simp (list_any-append, or-false, h.box);
+  height = simp (list_any-append, or-false, h.height);
 }
 
 -- ---- what a shape tells
@@ -55,16 +46,10 @@ shape-push cells code len boxed double h = record {
 -- a prepared line has the double height of its cells
 double_prepared : (cells : List ℕ) → is_double (prepared cells) ≡ is_double cells
 unfolding prepared is_double
-double_prepared cells = go (has_cells cells && not (is_boxed cells))
-  where
-    go : (b : Bool)
-        → list_any (λ c. c == double_height)
-        (cond b (0x0B ∷ 0x0B ∷ (cells ++ (0x0A ∷ 0x0A ∷ []))) cells)
-        ≡ list_any (λ c. c == double_height) cells
-    go true =
-        list_any-append (λ c. c == double_height) cells (0x0A ∷ 0x0A ∷ [])
-        ∙ or_end (list_any (λ c. c == double_height) cells)
-    go false = refl
+double_prepared cells =
+    either (λ line. list_any (λ c. c == double_height) line ≡ is_double cells)
+    (has_cells cells && not (is_boxed cells)) _ cells
+    (list_any-append (λ c. c == double_height) cells (0x0A ∷ 0x0A ∷ []) ∙ or-false _) refl
 
 -- how long a line with cells is
 length_prepared : (c : ℕ) (cs : List ℕ)
@@ -81,12 +66,8 @@ length_prepared c cs = go (is_boxed (c ∷ cs))
 -- it has cells
 cells_prepared : (c : ℕ) (cs : List ℕ) → has_cells (prepared (c ∷ cs)) ≡ true
 unfolding prepared
-cells_prepared c cs = go (not (is_boxed (c ∷ cs)))
-  where
-    go : (b : Bool)
-        → has_cells (cond b (0x0B ∷ 0x0B ∷ (c ∷ cs ++ (0x0A ∷ 0x0A ∷ []))) (c ∷ cs)) ≡ true
-    go true = refl
-    go false = refl
+cells_prepared c cs =
+    either (λ line. has_cells line ≡ true) (not (is_boxed (c ∷ cs))) _ (c ∷ cs) refl refl
 
 -- the faults of a line without cells
 kinds_of_none : (row : ℕ) (under : Bool)
@@ -222,23 +203,6 @@ pub refused-none : (rs fs : List RowFault) (g : Option RowFault)
     → g ≡ first_of (rs ++ fs)
 refused-none [] fs g h e = e
 refused-none (r ∷ rs) fs g h e = cc
-
--- a cell is not refused
-pub refused-cell : (o : Option RowFault) (at code : ℕ) (s : TextCode)
-    (ss rest : List (ℕ × TextCode))
-    → o ≡ first_of (refusals ss)
-    → ss ≡ (at, s) ∷ rest
-    → s ≡ Cell code
-    → o ≡ first_of (refusals rest)
-refused-cell o at code s ss rest h step is = h ∙ rw (step, is) refl
-
--- nor is a new line
-pub refused-line_end : (o : Option RowFault) (at : ℕ) (s : TextCode) (ss rest : List (ℕ × TextCode))
-    → o ≡ first_of (refusals ss)
-    → ss ≡ (at, s) ∷ rest
-    → s ≡ NewLine
-    → o ≡ first_of (refusals rest)
-refused-line_end o at s ss rest h step is = h ∙ rw (step, is) refl
 
 -- nothing is refused after the end of the text
 pub refused-end : (n : National) (o : Option RowFault) (at : ℕ) (text : List ℕ)

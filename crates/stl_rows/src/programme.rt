@@ -163,21 +163,25 @@ impl Programme {
 }
 
 /// Of subtitles in order, one that is due at a frame is shown there.
+#[tactic(auto, using(crate::proofs::DuePageLemmas::due_is_shown))]
 pub fn law_of_due_subtitles()
     ensures { LawOfDueSubtitles }
 {}
 
 /// Where each subtitle starts later or has ended, the due page is blank.
+#[tactic(auto, using(crate::proofs::DuePageLemmas::none_is_blank))]
 pub fn law_of_blank_pages()
     ensures { LawOfBlankPages }
 {}
 
 /// The due page changes only at a TCI or a TCO.
+#[tactic(auto, using(crate::proofs::DuePageLemmas::edges_alone))]
 pub fn law_of_edges()
     ensures { LawOfEdges }
 {}
 
 /// Row 24 of each due page is blank.
+#[tactic(auto, using(crate::proofs::LastRowLemmas::last_row_blank))]
 pub fn law_of_last_row()
     ensures { LawOfLastRow }
 {}

@@ -4,11 +4,15 @@ use Rattle.stl_rows.proofs.drawing.drawn_page.Goals as goal
 
 pub put_text-requires-clause-whole : goal.put_text-requires-clause-whole
 put_text-requires-clause-whole c =
-    no_line_faults c.args.national c.args.subtitle.now c.text.result.now c.vp.result
-    c.text.ensures.value c.vp.ensures.value c.requires
+    rw (c.text.ensures.value, c.vp.ensures.value)
+    (no_line_faults c.args.national c.args.subtitle.now c.requires)
 
 pub returns : goal.returns
 returns c =
-    drawn-page c.args.national c.args.subtitle.now c.text.result.now c.jc.result c.vp.result
-    c.blank-page.result c.put_text.new.page c.text.ensures.value c.jc.ensures.value
-    c.vp.ensures.value c.blank-page.ensures c.requires c.vp.ensures.is.vp.0 c.put_text.ensures
+    rw (
+      c.put_text.ensures,
+      c.blank-page.ensures,
+      c.text.ensures.value,
+      c.jc.ensures.value,
+      c.vp.ensures.value,
+    ) (drawn-page c.args.national c.args.subtitle.now c.requires c.vp.ensures.is.vp.0)

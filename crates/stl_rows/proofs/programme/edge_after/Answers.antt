@@ -1,6 +1,6 @@
 -- The edge is that of the first subtitle whose TCO is after the frame: next_edge-tci,
 -- next_edge-tco.
-use Rattle.std.proofs.Common.{arith}
+use Rattle.std.proofs.Common.{arith, rules}
 use Rattle.stl_rows.proofs.DuePageLemmas.{next_edge-tci, next_edge-tco}
 use Rattle.stl_rows.proofs.programme.edge_after.Goals as goal
 
@@ -9,17 +9,11 @@ returns-then-frame-tci c =
     rw (c.frame-tci.ensures.value, c.tci.ensures.value)
     (next_edge-tci c.args.national c.args.subtitles.now c.args.frame c.first_after-at.result
     c.index-subtitles-at.result c.requires
-    (record {
-      before = c.first_after-at.ensures.before;
-      after = c.first_after-at.ensures.after;
-    }) (omega arith) c.index-subtitles-at.is (omega arith))
+    (search rules) (omega arith) c.index-subtitles-at.is (omega arith))
 
 pub returns : goal.returns
 returns c =
     rw (c.frame-tco.ensures.value, c.tco.ensures.value)
     (next_edge-tco c.args.national c.args.subtitles.now c.args.frame c.first_after-at.result
     c.index-subtitles-at.result c.requires
-    (record {
-      before = c.first_after-at.ensures.before;
-      after = c.first_after-at.ensures.after;
-    }) (omega arith) c.index-subtitles-at.is (omega arith))
+    (search rules) (omega arith) c.index-subtitles-at.is (omega arith))

@@ -5,18 +5,14 @@ use Rattle.std.proofs.lemmas.List.Sorted.{IsPartitionPoint-from_clause, IsPartit
 use Rattle.stl_rows.proofs.DuePageLemmas.{tco_rises}
 use Rattle.stl_rows.proofs.programme.first_after.Goals as goal
 
-pub returns-clause-before : goal.returns-clause-before
-returns-clause-before c =
+pub returns : goal.returns
+returns c =
     let parted = IsPartitionedBy-leb (λ t. t.tco) _ c.args.frame (tco_rises _ _ c.requires) in
     let point =
     IsPartitionPoint-from_clause (λ t. leb t.tco c.args.frame) _ _
     c.partition_point.ensures.partitioned parted (λ a r q k. search rules) in
-    λ k d h. leb-true _ _ (point.0 k d (omega arith) h)
-
-pub returns-clause-after : goal.returns-clause-after
-returns-clause-after c =
-    let parted = IsPartitionedBy-leb (λ t. t.tco) _ c.args.frame (tco_rises _ _ c.requires) in
-    let point =
-    IsPartitionPoint-from_clause (λ t. leb t.tco c.args.frame) _ _
-    c.partition_point.ensures.partitioned parted (λ a r q k. search rules) in
-    λ k d h b. grind (arith, nat_tests, point.1 k d h b)
+    record {
+      bound = search rules;
+      before = λ k d h. leb-true _ _ (point.0 k d (omega arith) h);
+      after = λ k d h b. grind (arith, nat_tests, point.1 k d h b);
+    }

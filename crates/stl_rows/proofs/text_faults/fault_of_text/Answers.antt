@@ -1,11 +1,10 @@
 -- Where the loop begins, meets a cell, a new line or the end: the lemmas of TextFaultLemmas.
-use Rattle.std.proofs.Common.{refl, arith, false, []}
+use Rattle.std.proofs.Common.{refl, ◌∙◌, arith, false, []}
 use Rattle.stl_rows.specs.DrawnPage.{line_faults}
 use Rattle.stl_rows.specs.LineByLine.{prepared_lines}
 use Rattle.stl_rows.specs.TextCode.{refusals, text_codes}
 use Rattle.stl_rows.proofs.TextFaultLemmas.{told-start, told-cell, told-line_end, told-end}
-use Rattle.stl_rows.proofs.TextFaultLemmas.{refused-cell, refused-line_end, refused-end}
-use Rattle.stl_rows.proofs.TextFaultLemmas.{refused-none}
+use Rattle.stl_rows.proofs.TextFaultLemmas.{refused-end, refused-none}
 use Rattle.stl_rows.proofs.text_faults.fault_of_text.Goals as goal
 
 pub loop-at-init : goal.loop-at-init
@@ -28,7 +27,7 @@ loop-at-preserved-in-Cell c =
       numbers = omega (arith, i.numbers, code.rises);
       rows = omega (arith, i.rows, code.rises);
       cells = omega (arith, i.cells, code.rises);
-      refused = refused-cell _ _ _ _ _ _ i.refused code.step c.in-Cell.is;
+      refused = i.refused ∙ rw (code.step, c.in-Cell.is) refl;
       told = told-cell _ _ _ _ _ _ _ _ _ _ _ _ _ i.told code.step c.in-Cell.is;
     })
 
@@ -41,7 +40,7 @@ loop-at-preserved-in-NewLine c =
       numbers = omega (arith, i.numbers, code.rises);
       rows = omega (arith, i.rows, code.rises);
       cells = omega arith;
-      refused = refused-line_end _ _ _ _ _ i.refused code.step c.in-NewLine.is;
+      refused = i.refused ∙ rw (code.step, c.in-NewLine.is) refl;
       told =
           told-line_end _ _ _ _ _ _ _ _ _ _ _ _ _ i.told code.step c.in-NewLine.is
           c.first_fault-fault.ensures;
