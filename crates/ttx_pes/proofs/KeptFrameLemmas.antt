@@ -8,19 +8,11 @@ use Rattle.ttx_pes.specs.PesPacket.{PesValue}
 use Rattle.ttx_pes.specs.declared.fault.PesFault.{PesFault}
 use Rattle.ttx_pes.specs.Reading.{pts_at, units_at, value_at}
 use Rattle.ttx_pes.specs.Taking.{HasUnits}
-use Rattle.ttx_pes.proofs.PesHeaderLemmas.{value_with}
+use Rattle.ttx_pes.proofs.PesHeaderLemmas.{frame_made, value_with}
 
 -- The data field without its data_identifier is the data units of the packet.
 pub units_of_field : (b : List ℕ) → drop 1 (drop 39 b) ≡ drop 40 b
 units_of_field b = drop-drop 1 39 b
-
--- A value of its parts.
-value_of_parts : (b : List ℕ) (t : ℕ) (us : List UnitValue)
-    → pts_at b ≡ Ok t
-    → units_at (length (drop 40 b) / 46) [] (drop 40 b) ≡ Ok us
-    → value_at b ≡ Ok (value_with t us)
-unfolding value_at
-value_of_parts b t us e eu = rw (e, eu) refl
 
 -- Units that were read now.
 pub value_of_units : (b blocks : List ℕ) (t : ℕ) (old new : PesValue)
@@ -31,14 +23,11 @@ pub value_of_units : (b blocks : List ℕ) (t : ℕ) (old new : PesValue)
     → new.pts ≡ old.pts
     → value_at b ≡ Ok new
 value_of_units b blocks t old new e same from is pts =
-    let us : units_at (length blocks / 46) [] blocks ≡ Ok new.units =
-    subst (λ (o : PesValue). units_at (length blocks / 46) o.units blocks ≡ Ok new.units) from is in
-    let there : units_at (length (drop 40 b) / 46) [] (drop 40 b) ≡ Ok new.units =
-    subst (λ (x : List ℕ). units_at (length x / 46) [] x ≡ Ok new.units)
-    (same ∙ units_of_field b) us in
+    let field = units_of_field b in
+    let none : old.units ≡ [] = ap (λ (o : PesValue). o.units) from in
     let time : new.pts ≡ t = pts ∙ ap (λ (o : PesValue). o.pts) from in
-    value_of_parts b t new.units e there
-    ∙ ap (λ (n : ℕ). Ok (value_with n new.units)) (sym time)
+    let there : units_at (length (drop 40 b) / 46) [] (drop 40 b) ≡ Ok new.units = cc in
+    rw (← time) at (frame_made b t _ new.units e refl there)
 
 -- Units that were read before, of the same data field.
 pub value_of_kept : (b field : List ℕ) (t : ℕ) (old new : PesValue)
@@ -49,10 +38,8 @@ pub value_of_kept : (b field : List ℕ) (t : ℕ) (old new : PesValue)
     → new ≡ value_with t old.units
     → value_at b ≡ Ok new
 value_of_kept b field t old new e same has some is =
-    let there : units_at (length (drop 40 b) / 46) [] (drop 40 b) ≡ Ok old.units =
-    subst (λ (x : List ℕ). units_at (length x / 46) [] x ≡ Ok old.units)
-    (ap (drop 1) (sym same) ∙ units_of_field b) (has some) in
-    value_of_parts b t old.units e there ∙ ap (λ (v : PesValue). Ok v) (sym is)
+    let there = rw (← same, units_of_field b) at (has some) in
+    rw is (frame_made b t _ old.units e refl there)
 
 -- A fault of the header.
 pub fault_of_header : (b : List ℕ) (f : PesFault) → pts_at b ≡ Err f → value_at b ≡ Err f
@@ -75,7 +62,7 @@ pub fault_of_units : (b blocks : List ℕ) (t : ℕ) (old : PesValue) (f : PesFa
     → units_at (length blocks / 46) old.units blocks ≡ Err f
     → value_at b ≡ Err f
 fault_of_units b blocks t old f e same from is =
-    let us : units_at (length blocks / 46) [] blocks ≡ Err f =
-    subst (λ (o : PesValue). units_at (length blocks / 46) o.units blocks ≡ Err f) from is in
-    fault_of_parts b t f e
-    (subst (λ (x : List ℕ). units_at (length x / 46) [] x ≡ Err f) (same ∙ units_of_field b) us)
+    let field = units_of_field b in
+    let none : old.units ≡ [] = ap (λ (o : PesValue). o.units) from in
+    let there : units_at (length (drop 40 b) / 46) [] (drop 40 b) ≡ Err f = cc in
+    fault_of_parts b t f e there

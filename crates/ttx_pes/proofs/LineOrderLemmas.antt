@@ -3,7 +3,8 @@
 use Rattle.std.proofs.Common.{◌≡◌, ℕ, ◌+◌, ◌-◌, ◌^◌, ◌<◌, ◌≤◌, true, false, cond, eqb}
 use Rattle.std.proofs.Common.{ltb, List, [], ◌∷◌, ◌++◌, length, get_or, take, map, refl, sym, ap}
 use Rattle.std.proofs.Common.{◌∙◌, arith, inl, inr}
-use Rattle.std.proofs.lemmas.Bool.{lt-ltb, le-ltb, ne_eqb, cases_lt}
+use Rattle.std.proofs.lemmas.Bool.{cases_Bool, lt-ltb, le-ltb, ne_eqb, cases_lt}
+use Rattle.std.proofs.lemmas.Bool.Decides.{nat_tests}
 use Rattle.std.proofs.lemmas.List.{take_more, length-take-le}
 use Rattle.std.specs.List.{AllByRecursion}
 use Rattle.ttx_packet.specs.PacketAddress.{IsPacket}
@@ -58,27 +59,15 @@ pub numbered_more : (i : ℕ) (ps : List (List ℕ)) (u : UnitValue) (us new : L
     → new ≡ us ++ u ∷ []
     → new ≡ numbered_units 0 (take (i + 1) ps)
 numbered_more i ps u us new lt e f h =
-    let p = get_or ps i [] in
     let len : 0 + length (take i ps) ≡ i = let l = length-take-le i ps (omega arith) in
     omega arith in
-    let one : numbered_units 0 (take i ps ++ p ∷ []) ≡ numbered_units 0 (take i ps)
-    ++ numbered_unit i p ∷ [] =
-    numbered_push 0 (take i ps) p
-    ∙ ap (λ (n : ℕ). numbered_units 0 (take i ps) ++ numbered_unit n p ∷ []) len in
-    h ∙ ap (λ (x : List UnitValue). x ++ u ∷ []) e
-    ∙ ap (λ (x : UnitValue). numbered_units 0 (take i ps) ++ x ∷ []) f ∙ sym one
-    ∙ ap (numbered_units 0) (sym (take_more ps i [] lt))
+    let one = numbered_push 0 (take i ps) (get_or ps i []) in
+    let more = take_more ps i [] lt in
+    cc
 
 -- The places of numbers rise.
 place_rises : (i : ℕ) → numbered_place i < numbered_place (i + 1)
-place_rises i = elim (cases_lt i 16) [
-  | inl lt ↦ let a : ltb i 16 ≡ true = lt-ltb i 16 lt in elim (cases_lt (i + 1) 16) [
-    | inl more ↦ let b : ltb (i + 1) 16 ≡ true = lt-ltb (i + 1) 16 more in rw (a, b) (omega arith)
-    | inr last ↦ let b : ltb (i + 1) 16 ≡ false = le-ltb (i + 1) 16 last in rw (a, b) (omega arith)
-  ]
-  | inr le ↦ let a : ltb i 16 ≡ false = le-ltb i 16 le in let b : ltb (i + 1) 16 ≡ false =
-      le-ltb (i + 1) 16 (omega arith) in rw (a, b) (omega arith)
-]
+place_rises i = grind (arith, nat_tests)
 
 -- The last place after a numbered unit: the next number may stand there.
 pub last_numbered : (i : ℕ) (u : UnitValue) (us new : List UnitValue)
@@ -98,14 +87,9 @@ last_numbered i u us new line at h =
 packets-numbered_units : (i : ℕ) (ps : List (List ℕ))
     → map (λ (u : UnitValue). u.packet) (numbered_units i ps) ≡ ps
 packets-numbered_units i [] = refl
-packets-numbered_units i (p ∷ ps) = elim (cases_lt i 16) [
-  | inl lt ↦
-      let t : ltb i 16 ≡ true = lt-ltb i 16 lt in
-      rw t (ap (λ (x : List (List ℕ)). p ∷ x) (packets-numbered_units (i + 1) ps))
-  | inr le ↦
-      let f : ltb i 16 ≡ false = le-ltb i 16 le in
-      rw f (ap (λ (x : List (List ℕ)). p ∷ x) (packets-numbered_units (i + 1) ps))
-]
+packets-numbered_units i (p ∷ ps) =
+    let rest = packets-numbered_units (i + 1) ps in
+    elim (cases_Bool (ltb i 16)) [ inl low ↦ rw (low, rest) refl | inr high ↦ rw (high, rest) refl ]
 
 -- As many units as packets.
 length-numbered_units : (i : ℕ) (ps : List (List ℕ)) → length (numbered_units i ps) ≡ length ps

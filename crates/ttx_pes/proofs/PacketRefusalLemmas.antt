@@ -1,11 +1,13 @@
 -- Bytes that fail in a question of the packet itself: no packet of the grammar agrees in it, and
 -- one does in all before. Main lemmas: NAME_fails.
 use Rattle.std.proofs.Common.{◌≡◌, ◌≢◌, ℕ, ◌+◌, ◌-◌, ◌*◌, ◌/◌, ◌%◌, ◌^◌, ◌<◌, ◌≤◌, List, [], ◌∷◌}
-use Rattle.std.proofs.Common.{length, get_or, refl, sym, ap, ◌∙◌, arith}
+use Rattle.std.proofs.Common.{◌++◌, length, get_or, take, refl, sym, ap, ◌∙◌, arith}
+use Rattle.std.specs.List.{AllByRecursion}
 use Rattle.sub_io.specs.Reading.{AreBytes}
 use Rattle.ttx_pes.specs.DataUnit.{stuffing_unit}
 use Rattle.ttx_pes.specs.PesPacket.{IsPesPacket, pts_bytes, repeated}
-use Rattle.ttx_pes.specs.Refusal.{Agree, AgreeInFirst, FailFirst, SixBytes, Start, PacketLength}
+use Rattle.ttx_pes.specs.Refusal.{Agree, AgreeBefore, AgreeInFirst, FailFirst, Question, SixBytes}
+use Rattle.ttx_pes.specs.Refusal.{PacketLength, Start, packet_questions}
 use Rattle.ttx_pes.specs.Refusal.{AllBytes, Scrambling, PtsFlags, HeaderLength, Time}
 use Rattle.ttx_pes.specs.Refusal.{DataIdentifier}
 use Rattle.ttx_pes.proofs.PesHeaderLemmas.{pts_bytes_of_read, pts_limit, value_with}
@@ -49,37 +51,57 @@ blank_is_packet n flags more pts identifier size ef em lt ei =
     sample_is_packet n flags more pts identifier [] (repeated (4 * n - 1) stuffing_unit) size ef em
     lt ei (stuffing_units (4 * n - 1)) tt
 
+-- The bytes fail first in a question: a packet without Teletext units agrees in all that is asked
+-- before, and no packet that does agrees there.
+fails : (q : Question) (b : List ℕ) (n flags more pts identifier : ℕ)
+    → (1 ≤ n) × (n ≤ 9)
+    → flags / 16 ≡ 8
+    → more / 64 ≡ 2
+    → pts < 2 ^ 33
+    → identifier / 16 ≡ 1
+    → (Fields n (blank n flags more pts identifier)
+    → AgreeBefore q b (blank n flags more pts identifier))
+    → ((m : ℕ) (p : List ℕ) → Fields m p → AgreeBefore q b p → Agree b p q → ⊥)
+    → FailFirst q b
+fails q b n flags more pts identifier size ef em lt ei before none =
+    let v = value_with pts [] in
+    let p = blank n flags more pts identifier in
+    let h = blank_is_packet n flags more pts identifier size ef em lt ei in
+    record {
+      value = v;
+      packet = p;
+      is_packet = h;
+      before = before (fields_of v p h);
+      none = λ w r k. none k.n r (fields_of w r k);
+    }
+
 -- There are no six bytes.
 pub six_fails : (b : List ℕ) → length b < 6 → FailFirst SixBytes b
-six_fails b short = record {
-  value = value_with 0 [];
-  packet = blank 1 0x80 0x80 0 0x10;
-  is_packet =
-      blank_is_packet 1 0x80 0x80 0 0x10 (omega arith, omega arith) refl refl (omega arith) refl;
-  before = tt;
-  none = λ v q k before same. omega arith;
-}
+six_fails b short =
+    fails SixBytes b 1 0x80 0x80 0 0x10 (omega arith, omega arith) refl refl (omega arith) refl
+    (λ f. tt) (λ m p f before same. omega arith)
 
 -- The start is another.
-pub start_fails : (b : List ℕ)
-    → 6 ≤ length b
-    → (IsStart b → ⊥)
-    → FailFirst Start b
-start_fails b long bad = record {
-  value = value_with 0 [];
-  packet = blank 1 0x80 0x80 0 0x10;
-  is_packet =
-      blank_is_packet 1 0x80 0x80 0 0x10 (omega arith, omega arith) refl refl (omega arith) refl;
-  before = (long, tt);
-  none = λ v q k before same.
-      let f = fields_of v q k in
-      bad (
-        same.0 (within k.n q 0 f (omega arith)) ∙ f.start.0,
-        same.1.0 (within k.n q 1 f (omega arith)) ∙ f.start.1,
-        same.1.1.0 (within k.n q 2 f (omega arith)) ∙ f.start.2,
-        same.1.1.1.0 (within k.n q 3 f (omega arith)) ∙ f.start.3,
-      );
-}
+pub start_fails : (b : List ℕ) → 6 ≤ length b → (IsStart b → ⊥) → FailFirst Start b
+start_fails b long bad =
+    fails Start b 1 0x80 0x80 0 0x10 (omega arith, omega arith) refl refl (omega arith) refl
+    (λ f. (long, tt))
+    (λ m p f before same. bad (
+      same.0 (within m p 0 f (omega arith)) ∙ f.start.0,
+      same.1.0 (within m p 1 f (omega arith)) ∙ f.start.1,
+      same.1.1.0 (within m p 2 f (omega arith)) ∙ f.start.2,
+      same.1.1.1.0 (within m p 3 f (omega arith)) ∙ f.start.3,
+    ))
+
+-- The bytes begin as a packet does: they agree with each in its start.
+agree_start : (m : ℕ) (b p : List ℕ) → IsStart b → Fields m p → Agree b p Start
+agree_start m b p start f = (
+  λ _. start.0 ∙ sym f.start.0,
+  (
+    λ _. start.1 ∙ sym f.start.1,
+    (λ _. start.2 ∙ sym f.start.2, (λ _. start.3 ∙ sym f.start.3, tt)),
+  ),
+)
 
 -- The length is none that a packet has.
 pub length_fails : (b : List ℕ)
@@ -88,17 +110,12 @@ pub length_fails : (b : List ℕ)
     → ((n : ℕ) → 1 ≤ n → n ≤ 9 → get_or b 4 0 ≡ ((184 * n - 6) / 256) % 256
     → get_or b 5 0 ≡ (184 * n - 6) % 256 → ⊥)
     → FailFirst PacketLength b
-length_fails b long start bad = record {
-  value = value_with 0 [];
-  packet = blank 1 0x80 0x80 0 0x10;
-  is_packet =
-      blank_is_packet 1 0x80 0x80 0 0x10 (omega arith, omega arith) refl refl (omega arith) refl;
-  before = (long, ((λ _. start.0, (λ _. start.1, (λ _. start.2, (λ _. start.3, tt)))), tt));
-  none = λ v q k before same.
-      let f = fields_of v q k in
-      bad k.n f.size.0 f.size.1 (same.0 (within k.n q 4 f (omega arith)) ∙ f.told.0)
-      (same.1.0 (within k.n q 5 f (omega arith)) ∙ f.told.1);
-}
+length_fails b long start bad =
+    fails PacketLength b 1 0x80 0x80 0 0x10 (omega arith, omega arith) refl refl (omega arith) refl
+    (λ f. (long, (agree_start 1 b _ start f, tt)))
+    (λ m p f before same. bad m f.size.0 f.size.1
+    (same.0 (within m p 4 f (omega arith)) ∙ f.told.0)
+    (same.1.0 (within m p 5 f (omega arith)) ∙ f.told.1))
 
 -- Packets of one length have as many payloads.
 same_count : (n m x y : ℕ)
@@ -128,6 +145,10 @@ count_is b q n m size e4 e5 f same =
     (same.0 (within m q 4 f (omega arith)) ∙ f.told.0)
     (same.1.0 (within m q 5 f (omega arith)) ∙ f.told.1)
 
+-- The bytes tell n payloads: they agree with each packet of so many in its length.
+agree_told : (n : ℕ) (b p : List ℕ) → IsTold n b → Fields n p → Agree b p PacketLength
+agree_told n b p told f = (λ _. told.0 ∙ sym f.told.0, (λ _. told.1 ∙ sym f.told.1, tt))
+
 -- The packet is cut.
 pub all_fails : (n : ℕ) (b : List ℕ)
     → 6 ≤ length b
@@ -136,40 +157,37 @@ pub all_fails : (n : ℕ) (b : List ℕ)
     → IsTold n b
     → length b < 184 * n
     → FailFirst AllBytes b
-all_fails n b long size start told cut = record {
-  value = value_with 0 [];
-  packet = blank n 0x80 0x80 0 0x10;
-  is_packet = blank_is_packet n 0x80 0x80 0 0x10 size refl refl (omega arith) refl;
-  before = (
-    long,
-    (
-      (λ _. start.0, (λ _. start.1, (λ _. start.2, (λ _. start.3, tt)))),
-      ((λ _. told.0, (λ _. told.1, tt)), tt),
-    ),
-  );
-  none = λ v q k before same.
-      let f = fields_of v q k in
-      let count = count_is b q n k.n size told.0 told.1 f before.1.1.0 in
-      omega (arith, f.all);
-}
+all_fails n b long size start told cut =
+    fails AllBytes b n 0x80 0x80 0 0x10 size refl refl (omega arith) refl
+    (λ f. (long, (agree_start n b _ start f, (agree_told n b _ told f, tt))))
+    (λ m p f before same.
+    let count = count_is b p n m size told.0 told.1 f before.1.1.0 in omega (arith, f.all))
 
 -- What the first four questions say of a packet that is made of the bytes.
 pub agree_four : (n : ℕ) (b p : List ℕ) → Begun n b → Fields n p → AgreeInFirst 4 b p
 agree_four n b p g f =
     let lo = g.size.0 in
     let all = g.all in
-    let long : 6 ≤ length b = omega arith in
     let enough : length p ≤ length b = omega (arith, f.all) in
-    let start : Agree b p Start = (
-      λ _. g.start.0 ∙ sym f.start.0,
-      (
-        λ _. g.start.1 ∙ sym f.start.1,
-        (λ _. g.start.2 ∙ sym f.start.2, (λ _. g.start.3 ∙ sym f.start.3, tt)),
-      ),
-    ) in
-    let told : Agree b p PacketLength =
-    (λ _. g.told.0 ∙ sym f.told.0, (λ _. g.told.1 ∙ sym f.told.1, tt)) in
-    (long, (start, (told, (enough, tt))))
+    (omega arith, (agree_start n b p g.start f, (agree_told n b p g.told f, (enough, tt))))
+
+-- One question more in which they agree.
+asked : (b p : List ℕ) (q : Question) (qs : List Question)
+    → AllByRecursion (Agree b p) qs
+    → Agree b p q
+    → AllByRecursion (Agree b p) (qs ++ q ∷ [])
+asked b p q [] h a = (a, tt)
+asked b p q (r ∷ qs) h a = (h.0, asked b p q qs h.1 a)
+
+-- A packet of the bytes' own bytes 6 and 7 agrees in the questions up to that of its byte 8.
+agree_six : (n pts identifier : ℕ) (b units : List ℕ)
+    → Begun n b
+    → Fields n (sample n (get_or b 6 0) (get_or b 7 0) pts identifier units)
+    → AgreeInFirst 6 b (sample n (get_or b 6 0) (get_or b 7 0) pts identifier units)
+agree_six n pts identifier b units g f =
+    let p = sample n (get_or b 6 0) (get_or b 7 0) pts identifier units in
+    asked b p PtsFlags (take 5 packet_questions)
+    (asked b p Scrambling (take 4 packet_questions) (agree_four n b p g f) (λ _. refl)) (λ _. refl)
 
 -- Byte 6 is another.
 pub scrambling_fails : (n : ℕ) (b : List ℕ)
@@ -177,18 +195,10 @@ pub scrambling_fails : (n : ℕ) (b : List ℕ)
     → get_or b 6 0 / 16 ≢ 8
     → FailFirst Scrambling b
 scrambling_fails n b g bad =
-    let p = blank n 0x80 0x80 0 0x10 in
-    let h = blank_is_packet n 0x80 0x80 0 0x10 g.size refl refl (omega arith) refl in
-    let f = fields_of (value_with 0 []) p h in
-    record {
-      value = value_with 0 [];
-      packet = p;
-      is_packet = h;
-      before = agree_four n b p g f;
-      none = λ v q k before same.
-          let f = fields_of v q k in
-          bad (ap (λ (x : ℕ). x / 16) (same (within k.n q 6 f (omega arith))) ∙ f.scrambling);
-    }
+    fails Scrambling b n 0x80 0x80 0 0x10 g.size refl refl (omega arith) refl
+    (λ f. agree_four n b _ g f)
+    (λ m p f before same.
+    bad (ap (λ (x : ℕ). x / 16) (same (within m p 6 f (omega arith))) ∙ f.scrambling))
 
 -- PTS_DTS_flags are others.
 pub pts_flags_fails : (n : ℕ) (b : List ℕ)
@@ -197,19 +207,11 @@ pub pts_flags_fails : (n : ℕ) (b : List ℕ)
     → get_or b 7 0 / 64 ≢ 2
     → FailFirst PtsFlags b
 pts_flags_fails n b g e6 bad =
-    let p = blank n (get_or b 6 0) 0x80 0 0x10 in
-    let h = blank_is_packet n (get_or b 6 0) 0x80 0 0x10 g.size e6 refl (omega arith) refl in
-    let f = fields_of (value_with 0 []) p h in
-    let a = agree_four n b p g f in
-    record {
-      value = value_with 0 [];
-      packet = p;
-      is_packet = h;
-      before = (a.0, (a.1.0, (a.1.1.0, (a.1.1.1.0, (λ _. refl, tt)))));
-      none = λ v q k before same.
-          let f = fields_of v q k in
-          bad (ap (λ (x : ℕ). x / 64) (same (within k.n q 7 f (omega arith))) ∙ f.pts_flags);
-    }
+    fails PtsFlags b n (get_or b 6 0) 0x80 0 0x10 g.size e6 refl (omega arith) refl
+    (λ f. asked b (blank n (get_or b 6 0) 0x80 0 0x10) Scrambling (take 4 packet_questions)
+    (agree_four n b (blank n (get_or b 6 0) 0x80 0 0x10) g f) (λ _. refl))
+    (λ m p f before same.
+    bad (ap (λ (x : ℕ). x / 64) (same (within m p 7 f (omega arith))) ∙ f.pts_flags))
 
 -- PES_header_data_length is another.
 pub header_length_fails : (n : ℕ) (b : List ℕ)
@@ -219,20 +221,19 @@ pub header_length_fails : (n : ℕ) (b : List ℕ)
     → get_or b 8 0 ≢ 36
     → FailFirst HeaderLength b
 header_length_fails n b g e6 e7 bad =
-    let p = blank n (get_or b 6 0) (get_or b 7 0) 0 0x10 in
-    let h =
-    blank_is_packet n (get_or b 6 0) (get_or b 7 0) 0 0x10 g.size e6 e7 (omega arith) refl in
-    let f = fields_of (value_with 0 []) p h in
-    let a = agree_four n b p g f in
-    record {
-      value = value_with 0 [];
-      packet = p;
-      is_packet = h;
-      before = (a.0, (a.1.0, (a.1.1.0, (a.1.1.1.0, (λ _. refl, (λ _. refl, tt))))));
-      none = λ v q k before same.
-          let f = fields_of v q k in
-          bad (same (within k.n q 8 f (omega arith)) ∙ f.header_length);
-    }
+    fails HeaderLength b n (get_or b 6 0) (get_or b 7 0) 0 0x10 g.size e6 e7 (omega arith) refl
+    (λ f. agree_six n 0 0x10 b (repeated (4 * n - 1) stuffing_unit) g f)
+    (λ m p f before same. bad (same (within m p 8 f (omega arith)) ∙ f.header_length))
+
+-- And in the next one, where byte 8 is that of the grammar.
+agree_seven : (n pts identifier : ℕ) (b units : List ℕ)
+    → Begun n b
+    → get_or b 8 0 ≡ 36
+    → Fields n (sample n (get_or b 6 0) (get_or b 7 0) pts identifier units)
+    → AgreeInFirst 7 b (sample n (get_or b 6 0) (get_or b 7 0) pts identifier units)
+agree_seven n pts identifier b units g e8 f =
+    asked b (sample n (get_or b 6 0) (get_or b 7 0) pts identifier units) HeaderLength
+    (take 6 packet_questions) (agree_six n pts identifier b units g f) (λ _. e8)
 
 -- What the grammar says of the five bytes of a PTS.
 abbrev pub HasMarkers : List ℕ → Type 0
@@ -249,29 +250,17 @@ pub time_fails : (n : ℕ) (b : List ℕ)
     → (HasMarkers b → ⊥)
     → FailFirst Time b
 time_fails n b g e6 e7 e8 bad =
-    let p = blank n (get_or b 6 0) (get_or b 7 0) 0 0x10 in
-    let h =
-    blank_is_packet n (get_or b 6 0) (get_or b 7 0) 0 0x10 g.size e6 e7 (omega arith) refl in
-    let f = fields_of (value_with 0 []) p h in
-    let a = agree_four n b p g f in
-    record {
-      value = value_with 0 [];
-      packet = p;
-      is_packet = h;
-      before =
-          (a.0, (a.1.0, (a.1.1.0, (a.1.1.1.0, (λ _. refl, (λ _. refl, (λ _. e8, tt)))))));
-      none = λ v q k before same.
-          let f = fields_of v q k in
-          let e9 = same.0 (within k.n q 9 f (omega arith)) in
-          let e11 = same.1.1.0 (within k.n q 11 f (omega arith)) in
-          let e13 = same.1.1.1.1.0 (within k.n q 13 f (omega arith)) in
-          bad (
-            ap (λ (x : ℕ). x / 16) e9 ∙ f.prefix,
-            ap (λ (x : ℕ). x % 2) e9 ∙ f.markers.0,
-            ap (λ (x : ℕ). x % 2) e11 ∙ f.markers.1,
-            ap (λ (x : ℕ). x % 2) e13 ∙ f.markers.2,
-          );
-    }
+    fails Time b n (get_or b 6 0) (get_or b 7 0) 0 0x10 g.size e6 e7 (omega arith) refl
+    (λ f. agree_seven n 0 0x10 b (repeated (4 * n - 1) stuffing_unit) g e8 f)
+    (λ m p f before same.
+    let e9 = same.0 (within m p 9 f (omega arith)) in
+    let e11 = same.1.1.0 (within m p 11 f (omega arith)) in
+    let e13 = same.1.1.1.1.0 (within m p 13 f (omega arith)) in bad (
+      ap (λ (x : ℕ). x / 16) e9 ∙ f.prefix,
+      ap (λ (x : ℕ). x % 2) e9 ∙ f.markers.0,
+      ap (λ (x : ℕ). x % 2) e11 ∙ f.markers.1,
+      ap (λ (x : ℕ). x % 2) e13 ∙ f.markers.2,
+    ))
 
 -- The PTS that the bytes tell.
 abbrev pub pts_told : List ℕ → ℕ
@@ -313,6 +302,18 @@ time_agrees n flags more identifier b units fit marks =
       ),
     )
 
+-- A packet of the bytes' own header agrees in all that is asked before its data_identifier.
+pub agree_eight : (n identifier : ℕ) (b units : List ℕ)
+    → Begun n b
+    → get_or b 8 0 ≡ 36
+    → HasMarkers b
+    → Fields n (sample n (get_or b 6 0) (get_or b 7 0) (pts_told b) identifier units)
+    → AgreeInFirst 8 b (sample n (get_or b 6 0) (get_or b 7 0) (pts_told b) identifier units)
+agree_eight n identifier b units g e8 marks f =
+    asked b (sample n (get_or b 6 0) (get_or b 7 0) (pts_told b) identifier units) Time
+    (take 7 packet_questions) (agree_seven n (pts_told b) identifier b units g e8 f)
+    (time_agrees n (get_or b 6 0) (get_or b 7 0) identifier b units g.fit marks)
+
 -- data_identifier is another.
 pub identifier_fails : (n : ℕ) (b : List ℕ)
     → Begun n b
@@ -323,43 +324,21 @@ pub identifier_fails : (n : ℕ) (b : List ℕ)
     → get_or b 45 0 / 16 ≢ 1
     → FailFirst DataIdentifier b
 identifier_fails n b g e6 e7 e8 marks bad =
-    let t = told_again b g.fit marks in
-    let p = blank n (get_or b 6 0) (get_or b 7 0) (pts_told b) 0x10 in
-    let h =
-    blank_is_packet n (get_or b 6 0) (get_or b 7 0) (pts_told b) 0x10 g.size e6 e7 t.1 refl in
-    let f = fields_of (value_with (pts_told b) []) p h in
-    let a = agree_four n b p g f in
-    record {
-      value = value_with (pts_told b) [];
-      packet = p;
-      is_packet = h;
-      before = (
-        a.0,
-        (
-          a.1.0,
-          (
-            a.1.1.0,
-            (
-              a.1.1.1.0,
-              (
-                λ _. refl,
-                (
-                  λ _. refl,
-                  (
-                    λ _. e8,
-                    (
-                      time_agrees n (get_or b 6 0) (get_or b 7 0) 0x10 b
-                          (repeated (4 * n - 1) stuffing_unit) g.fit marks,
-                      tt,
-                    ),
-                  ),
-                ),
-              ),
-            ),
-          ),
-        ),
-      );
-      none = λ v q k before same.
-          let f = fields_of v q k in
-          bad (ap (λ (x : ℕ). x / 16) (same (within k.n q 45 f (omega arith))) ∙ f.identifier);
-    }
+    fails DataIdentifier b n (get_or b 6 0) (get_or b 7 0) (pts_told b) 0x10 g.size e6 e7
+    (told_again b g.fit marks).1 refl
+    (λ f. agree_eight n 0x10 b (repeated (4 * n - 1) stuffing_unit) g e8 marks f)
+    (λ m p f before same.
+    bad (ap (λ (x : ℕ). x / 16) (same (within m p 45 f (omega arith))) ∙ f.identifier))
+
+-- A packet of the bytes' own header agrees in all that is asked before its data units.
+pub agree_nine : (n : ℕ) (b units : List ℕ)
+    → Begun n b
+    → get_or b 8 0 ≡ 36
+    → HasMarkers b
+    → Fields n (sample n (get_or b 6 0) (get_or b 7 0) (pts_told b) (get_or b 45 0) units)
+    → AgreeInFirst 9 b
+    (sample n (get_or b 6 0) (get_or b 7 0) (pts_told b) (get_or b 45 0) units)
+agree_nine n b units g e8 marks f =
+    asked b (sample n (get_or b 6 0) (get_or b 7 0) (pts_told b) (get_or b 45 0) units)
+    DataIdentifier (take 8 packet_questions) (agree_eight n (get_or b 45 0) b units g e8 marks f)
+    (λ _. refl)

@@ -156,16 +156,11 @@ pub record Header (b : List ℕ) (t : ℕ) : Type 0 where
 pub header_sound : (b : List ℕ) (t : ℕ) → pts_at b ≡ Ok t → Header b t
 unfolding pts_at
 header_sound b t e =
-    let r5 : Result ℕ PesFault = Ok (pts_bits b) in
-    let r4 : Result ℕ PesFault = cond (not (eqb (get_or b 39 0 / 16) 1)) (Err fault.DataId) r5 in
-    let r3 : Result ℕ PesFault = cond (not (has_markers b)) (Err fault.Time) r4 in
-    let r2 : Result ℕ PesFault = cond (not (eqb (get_or b 2 0) 36)) (Err fault.HeaderLength) r3 in
-    let r1 : Result ℕ PesFault = cond (not (eqb (get_or b 1 0 / 64) 2)) (Err fault.NoTime) r2 in
-    let g0 = test_held (eqb (get_or b 0 0 / 16) 8) fault.Flags r1 t e in
-    let g1 = test_held (eqb (get_or b 1 0 / 64) 2) fault.NoTime r2 t g0.1 in
-    let g2 = test_held (eqb (get_or b 2 0) 36) fault.HeaderLength r3 t g1.1 in
-    let g3 = test_held (has_markers b) fault.Time r4 t g2.1 in
-    let g4 = test_held (eqb (get_or b 39 0 / 16) 1) fault.DataId r5 t g3.1 in
+    let g0 = test_held (eqb (get_or b 0 0 / 16) 8) fault.Flags _ t e in
+    let g1 = test_held (eqb (get_or b 1 0 / 64) 2) fault.NoTime _ t g0.1 in
+    let g2 = test_held (eqb (get_or b 2 0) 36) fault.HeaderLength _ t g1.1 in
+    let g3 = test_held (has_markers b) fault.Time _ t g2.1 in
+    let g4 = test_held (eqb (get_or b 39 0 / 16) 1) fault.DataId _ t g3.1 in
     record {
       flagged = eqb-true _ _ g0.0;
       pts_alone = eqb-true _ _ g1.0;
@@ -249,9 +244,8 @@ body_from n t b us lo hi len fit h e =
           (fit 3) (fit 4) (fit 5) (fit 6) (fit 7) h.value;
       header_filled = length-take 31 (drop 8 b) ∙ omega (arith, length-drop 8 b);
       ebu_data = h.ebu;
-      are_units =
-          subst (λ (x : List UnitValue). AreDataUnits (4 * n - 1) x (drop 40 b)) (sym u.1) u.2;
-      in_order = subst (λ (x : List UnitValue). AreInLineOrder 0 x) (sym u.1) u.3;
+      are_units = rw u.1 u.2;
+      in_order = rw u.1 u.3;
     }
 
 -- A body that is read is that of a packet of the grammar.
@@ -264,12 +258,9 @@ pub body_sound : (n : ℕ) (b : List ℕ) (v : PesValue)
     → IsPesPacket v (six_of n ++ b)
 unfolding value_at
 body_sound n b v lo hi len fit e =
-    let p = step_gave (pts_at b)
-    (λ t. units_at (length (drop 40 b) / 46) [] (drop 40 b) >>= λ us. Ok
-    (record { pts = t; units = us })) v e in
-    let q = step_gave (units_at (length (drop 40 b) / 46) [] (drop 40 b))
-    (λ us. Ok (record { pts = p.0; units = us })) v p.2 in
-    subst (λ (x : PesValue). IsPesPacket x (six_of n ++ b)) (Ok-injective (value_with p.0 q.0) v q.2)
+    let p = step_gave (pts_at b) _ v e in
+    let q = step_gave (units_at (length (drop 40 b) / 46) [] (drop 40 b)) _ v p.2 in
+    rw (← Ok-injective (value_with p.0 q.0) v q.2)
     (body_from n p.0 b q.0 lo hi len fit (header_sound b p.0 p.1) q.1)
 
 -- A body by its parts.

@@ -110,21 +110,11 @@ pub spelled : (v : PesValue) (us : List UnitValue) (pts : ℕ) (out base head : 
 unfolding canonical_packet payloads_for
 spelled v us pts out base head n i same pts-same e f le h k =
     let all : take i us ≡ us = take_all i us le in
-    let made : out ≡ pes_packet_header (length us / 4 + 1) pts
-    ++ (flat_map teletext_unit us
-    ++ repeated (4 * (length us / 4 + 1) - 1 - length us) stuffing_unit) =
-    e ∙ ap (λ (x : List ℕ). x ++ repeated n stuffing_unit) (f ∙ rw (h, all) refl)
-    ∙ append_assoc (pes_packet_header (length us / 4 + 1) pts) (flat_map teletext_unit us)
-    (repeated n stuffing_unit)
-    ∙ ap (λ (m : ℕ). pes_packet_header (length us / 4 + 1) pts
-    ++ (flat_map teletext_unit us ++ repeated m stuffing_unit)) k in
-    made ∙ ap
-    (λ (x : List UnitValue). pes_packet_header (length x / 4 + 1) pts
-    ++ (flat_map teletext_unit x
-    ++ repeated (4 * (length x / 4 + 1) - 1 - length x) stuffing_unit)) same
-    ∙ ap (λ (t : ℕ). pes_packet_header (length v.units / 4 + 1) t
+    let joined = append_assoc head (flat_map teletext_unit us) (repeated n stuffing_unit) in
+    let made : out ≡ pes_packet_header (length v.units / 4 + 1) v.pts
     ++ (flat_map teletext_unit v.units
-    ++ repeated (4 * (length v.units / 4 + 1) - 1 - length v.units) stuffing_unit)) pts-same
+    ++ repeated (4 * (length v.units / 4 + 1) - 1 - length v.units) stuffing_unit) = cc in
+    made
 
 -- ---- another PTS
 

@@ -176,19 +176,14 @@ unfolding packet_at
 read_is_packet v b rest fit e =
     let whole : Result (List ℕ) PesFault =
     cond (ltb (length b) 6) (Err fault.Truncated) (Ok (take 6 b)) in
-    let p = step_gave whole
-    (λ head. size_at head >>= λ size. cond (ltb (length b) size) (Err fault.Truncated)
-    (Ok (take (size - 6) (drop 6 b))) >>= λ body. value_at body >>= λ v. Ok
-    (v, drop size b)) (v, rest) e in
+    let p = step_gave whole _ (v, rest) e in
     let a = long_enough (ltb (length b) 6) (take 6 b) p.0 p.1 in
-    let q = step_gave (size_at p.0)
-    (λ size. cond (ltb (length b) size) (Err fault.Truncated) (Ok (take (size - 6) (drop 6 b)))
-    >>= λ body. value_at body >>= λ v. Ok (v, drop size b)) (v, rest) p.2 in
+    let q = step_gave (size_at p.0) _ (v, rest) p.2 in
     let r = step_gave
-    (cond (ltb (length b) q.0) (Err fault.Truncated) (Ok (take (q.0 - 6) (drop 6 b))))
-    (λ body. value_at body >>= λ v. Ok (v, drop q.0 b)) (v, rest) q.2 in
+    (cond (ltb (length b) q.0) (Err fault.Truncated) (Ok (take (q.0 - 6) (drop 6 b)))) _ (v, rest)
+    q.2 in
     let d = long_enough (ltb (length b) q.0) (take (q.0 - 6) (drop 6 b)) r.0 r.1 in
-    let s = step_gave (value_at r.0) (λ v. Ok (v, drop q.0 b)) (v, rest) r.2 in
+    let s = step_gave (value_at r.0) _ (v, rest) r.2 in
     let same = Ok-injective (s.0, drop q.0 b) (v, rest) s.2 in
     let long : 6 ≤ length b = ltb-false _ _ a.0 in
     let enough : q.0 ≤ length b = ltb-false _ _ d.0 in

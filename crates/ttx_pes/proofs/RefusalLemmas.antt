@@ -11,7 +11,7 @@ use Rattle.std.specs.List.{AllByRecursion}
 use Rattle.ttx_pes.specs.Reading.{has_markers}
 use Rattle.ttx_pes.specs.Refusal.{packet_questions, unit_questions}
 use Rattle.ttx_pes.proofs.PesHeaderLemmas.{tests_held, tests_hold}
-use Rattle.ttx_pes.proofs.UnitPlaceLemmas.{eqb_cases, test_cases}
+use Rattle.ttx_pes.proofs.UnitPlaceLemmas.{eqb_cases, step_refused, test_cases}
 use Rattle.sub_io.specs.Reading.{AreBytes}
 use Rattle.ttx_pes.specs.declared.fault.PesFault.{PesFault}
 use Rattle.ttx_pes.specs.declared.fault.PesFault.TheVariants as fault
@@ -157,13 +157,9 @@ body_fails : (n : ℕ) (b y : List ℕ) (f : PesFault)
 unfolding value_at
 body_fails n b y f g len fit byte e =
     let lo = g.size.0 in
-    elim (answer_cases (pts_at y)) [
-      | inr (h, bad) ↦
-          let told : value_at y ≡ Err h = after_err (pts_at y) _ h bad in
-          let is : h ≡ f = Err-injective {A = PesValue} h f (sym told ∙ e) in
-          header_fails n b y f g (λ i lt. byte i (omega arith))
-          (bad ∙ ap (λ (x : PesFault). Err x) is)
-      | inl (t, good) ↦
+    elim (step_refused (pts_at y) _ f e) [
+      | inl bad ↦ header_fails n b y f g (λ i lt. byte i (omega arith)) bad
+      | inr (t, good, rest) ↦
           let d = drop 40 y in
           let left : length d ≡ 46 * (4 * n - 1) = length-drop 40 y ∙ omega arith in
           let count : length d / 46 ≡ 4 * n - 1 = omega arith in
@@ -189,16 +185,9 @@ body_fails n b y f g len fit byte e =
                 sym (get_or-drop 40 y i 0 ∙ byte (40 + i) (omega arith)
                 ∙ ap (λ (x : ℕ). get_or b x 0) there);
           } in
-          elim (answer_cases (units_at (4 * n - 1) [] d)) [
-            | inl (us, read) ↦
-                let told : value_at y ≡ Ok (value_with t us) =
-                frame_made y t (4 * n - 1) us good count read in
-                absurd cc
-            | inr (h, bad) ↦
-                let told : value_at y ≡ Err h = rw (good, count, bad) refl in
-                let is : h ≡ f = Err-injective {A = PesValue} h f (sym told ∙ e) in
-                unit_fails n b d f headed
-                (units_split (4 * n - 1) [] d f (bad ∙ ap (λ (x : PesFault). Err x) is))
+          elim (step_refused (units_at (4 * n - 1) [] d) _ f (rw count at rest)) [
+            | inl bad ↦ unit_fails n b d f headed (units_split (4 * n - 1) [] d f bad)
+            | inr (_, _, told) ↦ absurd cc
           ]
     ]
 
@@ -210,13 +199,12 @@ refused_first : (b : List ℕ) (f : PesFault)
 refused_first b f fit e = elim (cases_lt (length b) 6) [
   | inl short ↦ (
     SixBytes,
-    Err-injective {A = PesValue × List ℕ} fault.Truncated f (sym (packet_short b short) ∙ e),
+    refused_as (packet_short b short) e,
     six_fails b short,
   )
   | inr long ↦ elim (answer_cases (size_at (take 6 b))) [
     | inr (g, bad) ↦
-        let is : g ≡ f =
-        Err-injective {A = PesValue × List ℕ} g f (sym (packet_size b g long bad) ∙ e) in
+        let is : g ≡ f = refused_as (packet_size b g long bad) e in
         size_fails b f long (bad ∙ ap (λ (x : PesFault). Err x) is)
     | inl (size, sized) ↦
         let h = head_sound (take 6 b) size (length-take 6 b ∙ omega arith) (AreBytes-take 6 b fit)
@@ -240,8 +228,7 @@ refused_first b f fit e = elim (cases_lt (length b) 6) [
         elim (cases_lt (length b) size) [
           | inl cut ↦ (
             AllBytes,
-            Err-injective {A = PesValue × List ℕ} fault.Truncated f
-                (sym (packet_cut b size long sized cut) ∙ e),
+            refused_as (packet_cut b size long sized cut) e,
             all_fails n b long (lo, hi) start told (omega arith),
           )
           | inr whole ↦
@@ -257,18 +244,10 @@ refused_first b f fit e = elim (cases_lt (length b) 6) [
               length-take (size - 6) (drop 6 b) ∙ omega (arith, length-drop 6 b) in
               let byte : (i : ℕ) → i < 184 * n - 6 → get_or y i 0 ≡ get_or b (6 + i) 0 = λ i lt.
               get_or-take (size - 6) (drop 6 b) i 0 (omega arith) ∙ get_or-drop 6 b i 0 in
-              elim (answer_cases (value_at y)) [
-                | inl (v, read) ↦
-                    let given : packet_at b ≡ Ok (v, drop size b) =
-                    packet_whole b size long sized whole ∙ rw read refl in
-                    absurd cc
-                | inr (g, bad) ↦
-                    let refused : packet_at b ≡ Err g =
-                    packet_whole b size long sized whole ∙ rw bad refl in
-                    let is : g ≡ f = refused_as refused e in
-                    body_fails n b y f begun len
-                    (AreBytes-take (size - 6) (drop 6 b) (AreBytes-drop 6 b fit)) byte
-                    (bad ∙ ap (λ (x : PesFault). Err x) is)
+              elim (step_refused (value_at y) _ f (sym (packet_whole b size long sized whole) ∙ e)) [
+                | inr (_, _, told) ↦ absurd cc
+                | inl bad ↦ body_fails n b y f begun len
+                    (AreBytes-take (size - 6) (drop 6 b) (AreBytes-drop 6 b fit)) byte bad
               ]
         ]
   ]

@@ -202,9 +202,8 @@ prefix_of n k us d lt len fit e =
     record {
       below = lt;
       long = len;
-      are_units =
-          subst (λ (x : List UnitValue). AreDataUnits k x (take (46 * k) d)) (sym r.1) r.2;
-      in_order = subst (λ (x : List UnitValue). AreInLineOrder 0 x) (sym r.1) r.3;
+      are_units = rw r.1 r.2;
+      in_order = rw r.1 r.3;
     }
 
 -- A byte of the first k data units.

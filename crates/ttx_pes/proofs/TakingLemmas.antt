@@ -242,7 +242,7 @@ answer_taken given bytes old new size room body r h is le fits ne same e =
     whole given bytes old new (take size room) r h is (omega arith) ne (ap value_at (sym same) ∙ e)
 
 -- The packet, by the value that was read of the body in the room. For each reader.
-pub packet_taken : (old new : Option (List ℕ)) (size : ℕ) (room body : List ℕ) (v : PesValue)
+abbrev pub packet_taken : (old new : Option (List ℕ)) (size : ℕ) (room body : List ℕ) (v : PesValue)
     → TakesSized old new (take size room)
     → 6 ≤ size
     → size ≤ length room
@@ -270,17 +270,10 @@ pub field_taken : (old new : Option (List ℕ)) (size : ℕ) (room body : List �
     → AreBytes body
     → field ≡ drop 39 body
     → TakesDataField old new v field
-field_taken old new size room body v field h le fits same e fit is =
-    let len = length-take-le size room fits in
-    record {
-      packet = record {
-        bytes = take size room;
-        is_packet = is_packet old new (take size room) v h (omega arith)
-            (ap value_at (sym same) ∙ e) (subst (λ (x : List ℕ). AreBytes x) same fit);
-        consumed = h.consumed;
-      };
-      field_is = is ∙ ap (drop 39) same ∙ drop-drop 39 6 (take size room);
-    }
+field_taken old new size room body v field h le fits same e fit is = record {
+  packet = packet_taken old new size room body v h le fits same e fit;
+  field_is = is ∙ ap (drop 39) same ∙ drop-drop 39 6 (take size room);
+}
 
 -- ---- the source failed
 

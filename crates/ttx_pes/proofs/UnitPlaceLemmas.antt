@@ -6,6 +6,7 @@ use Rattle.std.proofs.Common.{not, eqb, List, [], get_or, take, drop, Result, Ok
 use Rattle.std.proofs.Common.{ap, ◌∙◌, arith, inl, inr, ◌⊎◌}
 use Rattle.std.proofs.lemmas.Bool.{cases_Bool, cases_eq, eq-eqb, eqb-false, eqb-true, ne_eqb}
 use Rattle.std.proofs.lemmas.List.{get_or-take, get_or-drop}
+use Rattle.sub_io.proofs.ReadingLemmas.{step_gave}
 use Rattle.sub_io.specs.Reading.{◌>>=◌}
 use Rattle.ttx_pes.specs.declared.fault.PesFault.{PesFault}
 use Rattle.ttx_pes.specs.declared.fault.PesFault.TheVariants as fault
@@ -64,6 +65,14 @@ pub after_err : {A B : Type 0} (r : Result A PesFault) (f : A → Result B PesFa
     → (r >>= f) ≡ Err g
 after_err {A = A} r f g e = ap (λ (s : Result A PesFault). s >>= f) e
 
+-- A step and what follows it: one of them refused.
+pub step_refused : {A B : Type 0} (r : Result A PesFault) (g : A → Result B PesFault)
+    (f : PesFault)
+    → (r >>= g) ≡ Err f
+    → (r ≡ Err f) ⊎ ((x : A) × (r ≡ Ok x) × (g x ≡ Err f))
+step_refused (Ok x) g f e = inr (x, refl, e)
+step_refused (Err h) g f e = inl (cc)
+
 -- One step after another, by what follows.
 pub bind_same : {A B : Type 0} (r : Result A PesFault) (f g : A → Result B PesFault)
     → ((x : A) → f x ≡ g x)
@@ -92,10 +101,16 @@ place_at before b0 b1 b2 b3 =
     (Ok (cond (eqb (b2 % 32) 0) before (line_order_place (lined_unit b0 b2))))
     (Err fault.LineOrder))))
 
+-- The place after the data unit that begins at that byte.
+abbrev pub place_in : ℕ → ℕ → List ℕ → Result ℕ PesFault
+place_in before at d =
+    place_at before (get_or d (at + 0) 0) (get_or d (at + 1) 0) (get_or d (at + 2) 0)
+    (get_or d (at + 3) 0)
+
 -- What is read of a data unit, by its bytes 0 to 3.
 unit_place : (front : List UnitValue) (x : List ℕ)
     → with_value (last_place 0) (unit_at front x)
-    ≡ place_at (last_place 0 front) (get_or x 0 0) (get_or x 1 0) (get_or x 2 0) (get_or x 3 0)
+    ≡ place_in (last_place 0 front) 0 x
 unfolding unit_at teletext_at
 unit_place front x = elim (cases_Bool (eqb (get_or x 1 0) 44)) [
   | inr wrong ↦ rw wrong refl
@@ -118,43 +133,27 @@ pub place_refused : (before b0 b1 b2 b3 : ℕ) (f : PesFault)
     → ((b1 ≢ 44) × (f ≡ fault.UnitLength))
     ⊎ (((b1 ≡ 44) × (is_teletext b0 ≡ true) × (b3 ≢ 228) × (f ≡ fault.Framing))
     ⊎ ((b1 ≡ 44) × (is_teletext b0 ≡ true) × (b3 ≡ 228) × (f ≡ fault.LineOrder)))
-place_refused before b0 b1 b2 b3 f e = elim (cases_eq b1 44) [
-  | inr wrong ↦ let t : eqb b1 44 ≡ false = ne_eqb b1 44 wrong in
-      inl (wrong, Err-injective {A = ℕ} f fault.UnitLength (sym e ∙ rw t refl))
-  | inl one ↦
-      let t1 : eqb b1 44 ≡ true = eq-eqb b1 44 one in
-      elim (cases_Bool (is_teletext b0)) [
-        | inr wrong ↦
-            let passed : place_at before b0 b1 b2 b3 ≡ Ok before = rw (t1, wrong) refl in
-            absurd cc
-        | inl two ↦ elim (cases_eq b3 228) [
-          | inr wrong ↦ let t : eqb b3 228 ≡ false = ne_eqb b3 228 wrong in
-              inr (inl (
-                one,
-                two,
-                wrong,
-                Err-injective {A = ℕ} f fault.Framing
-                    (sym e ∙ rw (t1, two, t) refl),
-              ))
-          | inl three ↦
-              let t3 : eqb b3 228 ≡ true = eq-eqb b3 228 three in
-              elim (cases_Bool (stands_after before (lined_unit b0 b2))) [
-                | inl stands ↦
-                    let taken : place_at before b0 b1 b2 b3
-                    ≡ Ok (cond (eqb (b2 % 32) 0) before (line_order_place (lined_unit b0 b2))) =
-                    rw (t1, two, t3, stands) refl in
-                    absurd cc
-                | inr wrong ↦ inr (inr (
-                  one,
-                  two,
-                  three,
-                  Err-injective {A = ℕ} f fault.LineOrder
-                      (sym e ∙ rw (t1, two, t3, wrong) refl),
-                ))
-              ]
+place_refused before b0 b1 b2 b3 f e =
+    let after : Result ℕ PesFault =
+    Ok (cond (eqb (b2 % 32) 0) before (line_order_place (lined_unit b0 b2))) in
+    let r3 : Result ℕ PesFault =
+    cond (stands_after before (lined_unit b0 b2)) after (Err fault.LineOrder) in
+    let r2 : Result ℕ PesFault = cond (not (eqb b3 228)) (Err fault.Framing) r3 in
+    let r1 : Result ℕ PesFault = cond (not (is_teletext b0)) (Ok before) r2 in
+    elim (eqb_cases b1 44 fault.UnitLength f r1 e) [
+      | inl h ↦ inl (h.0, sym h.1)
+      | inr (one, e1) ↦ elim (cases_Bool (is_teletext b0)) [
+        | inr passed ↦ let told : r1 ≡ Ok before = rw passed refl in absurd cc
+        | inl two ↦ elim (eqb_cases b3 228 fault.Framing f r3 (rw two at e1)) [
+          | inl h ↦ inr (inl (one, two, h.0, sym h.1))
+          | inr (three, e3) ↦ elim (cases_Bool (stands_after before (lined_unit b0 b2))) [
+            | inl stands ↦ let told : r3 ≡ after = rw stands refl in absurd cc
+            | inr wrong ↦ let told : r3 ≡ Err fault.LineOrder = rw wrong refl in
+                inr (inr (one, two, three, Err-injective {A = ℕ} f fault.LineOrder (sym e3 ∙ told)))
+          ]
         ]
       ]
-]
+    ]
 
 -- What is known of a data unit that is taken.
 pub place_taken : (before b0 b1 b2 b3 after : ℕ)
@@ -185,7 +184,7 @@ place_taken before b0 b1 b2 b3 after e = elim (cases_eq b1 44) [
 abbrev pub places_at : ℕ → ℕ → List ℕ → Result ℕ PesFault
 places_at zero before d = Ok before
 places_at (suc n) before d =
-    place_at before (get_or d 0 0) (get_or d 1 0) (get_or d 2 0) (get_or d 3 0)
+    place_in before 0 d
     >>= λ after. places_at n after (drop 46 d)
 
 -- A byte of the first data unit.
@@ -195,7 +194,7 @@ first_byte d i lt = get_or-take 46 d i 0 lt
 -- What is read of the first data unit.
 pub first_place : (front : List UnitValue) (d : List ℕ)
     → with_value (last_place 0) (unit_at front (take 46 d))
-    ≡ place_at (last_place 0 front) (get_or d 0 0) (get_or d 1 0) (get_or d 2 0) (get_or d 3 0)
+    ≡ place_in (last_place 0 front) 0 d
 first_place front d =
     let e0 = first_byte d 0 (omega arith) in
     let e1 = first_byte d 1 (omega arith) in
@@ -210,12 +209,10 @@ unfolding units_at
 units_places zero front d = refl
 units_places (suc n) front d = elim (answer_cases (unit_at front (take 46 d))) [
   | inr (f, bad) ↦
-      let first : place_at (last_place 0 front) (get_or d 0 0) (get_or d 1 0) (get_or d 2 0)
-      (get_or d 3 0) ≡ Err f = sym (first_place front d) ∙ ap (with_value (last_place 0)) bad in
+      let first : place_in (last_place 0 front) 0 d ≡ Err f = sym (first_place front d) ∙ ap (with_value (last_place 0)) bad in
       rw (bad, first) refl
   | inl (more, good) ↦
-      let first : place_at (last_place 0 front) (get_or d 0 0) (get_or d 1 0) (get_or d 2 0)
-      (get_or d 3 0) ≡ Ok (last_place 0 more) =
+      let first : place_in (last_place 0 front) 0 d ≡ Ok (last_place 0 more) =
       sym (first_place front d) ∙ ap (with_value (last_place 0)) good in
       rw (good, first) (units_places n more (drop 46 d))
 ]
@@ -242,7 +239,7 @@ same_places (suc k) before d e h =
     let e3 : get_or d 3 0 ≡ get_or e 3 0 = h 0 3 (omega arith) (omega arith) in
     let rest : SameUnits k (drop 46 d) (drop 46 e) = λ j i lj li.
     byte_on d j i ∙ h (suc j) i (omega arith) li ∙ sym (byte_on e j i) in
-    bind_same (place_at before (get_or d 0 0) (get_or d 1 0) (get_or d 2 0) (get_or d 3 0))
+    bind_same (place_in before 0 d)
     (λ after. places_at k after (drop 46 d)) (λ after. places_at k after (drop 46 e))
     (λ after. same_places k after (drop 46 d) (drop 46 e) rest)
     ∙ rw (e0, e1, e2, e3) refl
@@ -253,8 +250,7 @@ pub record Refused (m : ℕ) (front : List UnitValue) (d : List ℕ) (f : PesFau
   pub us : List UnitValue
   pub below : k < m
   pub before : units_at k front d ≡ Ok us
-  pub bad : place_at (last_place 0 us) (get_or d (46 * k + 0) 0) (get_or d (46 * k + 1) 0)
-      (get_or d (46 * k + 2) 0) (get_or d (46 * k + 3) 0) ≡ Err f
+  pub bad : place_in (last_place 0 us) (46 * k) d ≡ Err f
 
 -- Where a fault is told of data units, it is told of one of them.
 pub units_split : (m : ℕ) (front : List UnitValue) (d : List ℕ) (f : PesFault)
@@ -264,8 +260,7 @@ unfolding units_at
 units_split zero front d f e = absurd cc
 units_split (suc m) front d f e = elim (answer_cases (unit_at front (take 46 d))) [
   | inr (g, bad) ↦
-      let first : place_at (last_place 0 front) (get_or d 0 0) (get_or d 1 0) (get_or d 2 0)
-      (get_or d 3 0) ≡ Err g = sym (first_place front d) ∙ ap (with_value (last_place 0)) bad in
+      let first : place_in (last_place 0 front) 0 d ≡ Err g = sym (first_place front d) ∙ ap (with_value (last_place 0)) bad in
       let told : units_at (suc m) front d ≡ Err g =
       after_err (unit_at front (take 46 d)) (λ more. units_at m more (drop 46 d)) g bad in
       let same : g ≡ f = Err-injective {A = List UnitValue} g f (sym told ∙ e) in
@@ -300,8 +295,7 @@ pub record Taken (before : ℕ) (k : ℕ) (e : List ℕ) : Type 0 where
   pub here : ℕ
   pub after : ℕ
   pub reached : places_at k before e ≡ Ok here
-  pub good : place_at here (get_or e (46 * k + 0) 0) (get_or e (46 * k + 1) 0)
-      (get_or e (46 * k + 2) 0) (get_or e (46 * k + 3) 0) ≡ Ok after
+  pub good : place_in here (46 * k) e ≡ Ok after
 
 -- Each data unit of those that are read is one.
 pub units_taken : (k m before last : ℕ) (e : List ℕ)
@@ -310,38 +304,19 @@ pub units_taken : (k m before last : ℕ) (e : List ℕ)
     → Taken before k e
 units_taken k zero before last e lt h = absurd (omega arith)
 units_taken zero (suc m) before last e lt h =
-    elim (answer_cases
-    (place_at before (get_or e 0 0) (get_or e 1 0) (get_or e 2 0) (get_or e 3 0))) [
-      | inr (f, bad) ↦
-          let told : places_at (suc m) before e ≡ Err f =
-          after_err (place_at before (get_or e 0 0) (get_or e 1 0) (get_or e 2 0) (get_or e 3 0))
-          (λ after. places_at m after (drop 46 e)) f bad in
-          absurd cc
-      | inl (after, good) ↦
-          record { here = before; after = after; reached = refl; good = good }
-    ]
+    let s = step_gave (place_in before 0 e) (λ after. places_at m after (drop 46 e)) last h in
+    record { here = before; after = s.0; reached = refl; good = s.1 }
 units_taken (suc k) (suc m) before last e lt h =
-    elim (answer_cases
-    (place_at before (get_or e 0 0) (get_or e 1 0) (get_or e 2 0) (get_or e 3 0))) [
-      | inr (f, bad) ↦
-          let told : places_at (suc m) before e ≡ Err f =
-          after_err (place_at before (get_or e 0 0) (get_or e 1 0) (get_or e 2 0) (get_or e 3 0))
-          (λ after. places_at m after (drop 46 e)) f bad in
-          absurd cc
-      | inl (next, good) ↦
-          let this =
-          place_at before (get_or e 0 0) (get_or e 1 0) (get_or e 2 0) (get_or e 3 0) in
-          let step = after_ok this (λ x. places_at m x (drop 46 e)) next good in
-          let rest : places_at m next (drop 46 e) ≡ Ok last = sym step ∙ h in
-          let r = units_taken k m next last (drop 46 e) (omega arith) rest in
-          let e0 = byte_on e k 0 in
-          let e1 = byte_on e k 1 in
-          let e2 = byte_on e k 2 in
-          let e3 = byte_on e k 3 in
-          record {
-            here = r.here;
-            after = r.after;
-            reached = after_ok this (λ x. places_at k x (drop 46 e)) next good ∙ r.reached;
-            good = rw (sym e0, sym e1, sym e2, sym e3) r.good;
-          }
-    ]
+    let s = step_gave (place_in before 0 e) (λ after. places_at m after (drop 46 e)) last h in
+    let r = units_taken k m s.0 last (drop 46 e) (omega arith) s.2 in
+    let e0 = byte_on e k 0 in
+    let e1 = byte_on e k 1 in
+    let e2 = byte_on e k 2 in
+    let e3 = byte_on e k 3 in
+    record {
+      here = r.here;
+      after = r.after;
+      reached =
+          after_ok (place_in before 0 e) (λ x. places_at k x (drop 46 e)) s.0 s.1 ∙ r.reached;
+      good = rw (sym e0, sym e1, sym e2, sym e3) r.good;
+    }

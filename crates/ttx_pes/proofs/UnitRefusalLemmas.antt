@@ -1,7 +1,7 @@
 -- Bytes that fail in a question of a data unit: no packet of the grammar agrees in it, and one does
 -- in all before. Main lemma: unit_fails.
 use Rattle.std.proofs.Common.{◌≡◌, ℕ, zero, suc, ◌+◌, ◌-◌, ◌*◌, ◌/◌, ◌<◌, true, List, [], ◌∷◌, ◌++◌}
-use Rattle.std.proofs.Common.{length, get_or, take, Ok, Err, refl, sym, ap, ◌∙◌, arith, inl, inr}
+use Rattle.std.proofs.Common.{length, get_or, take, Result, Ok, Err, refl, sym, ap, ◌∙◌, arith, inl, inr}
 use Rattle.sub_io.specs.Reading.{AreBytes}
 use Rattle.ttx_pes.specs.declared.fault.PesFault.{PesFault}
 use Rattle.ttx_pes.specs.DataUnit.{UnitValue, AreDataUnits, is_teletext}
@@ -20,8 +20,8 @@ use Rattle.ttx_pes.proofs.SampleLemmas.{unit_byte}
 use Rattle.ttx_pes.proofs.UnitPlaceLemmas.{Refused, SameUnits, place_at, place_refused, place_taken}
 use Rattle.ttx_pes.proofs.UnitPlaceLemmas.{places_at, same_places, units_places, units_taken}
 use Rattle.ttx_pes.proofs.UnitPlaceLemmas.{with_value}
-use Rattle.ttx_pes.proofs.PacketRefusalLemmas.{Begun, HasMarkers, agree_four, count_is, pts_told}
-use Rattle.ttx_pes.proofs.PacketRefusalLemmas.{time_agrees, told_again}
+use Rattle.ttx_pes.proofs.PacketRefusalLemmas.{Begun, HasMarkers, agree_nine, count_is, pts_told}
+use Rattle.ttx_pes.proofs.PacketRefusalLemmas.{told_again}
 
 -- The bytes agree with a packet in all questions before the data units, and these are d.
 pub record Headed (n : ℕ) (b d : List ℕ) : Type 0 where
@@ -63,7 +63,6 @@ made_agrees n k b d tail us vs g first are order =
     let p = made n b units in
     let v = value_with (pts_told b) vs in
     let h = made_is_packet n b d vs units g are order in
-    let a = agree_four n b p g.begun (fields_of v p h) in
     let below = first.below in
     let same : (j i : ℕ)
     → j < k
@@ -73,28 +72,8 @@ made_agrees n k b d tail us vs g first are order =
     g.byte (46 * j + i) (omega arith)
     ∙ sym (prefix_byte (4 * n - 1) k us d tail j i first lj li)
     ∙ sym (unit_byte v p h (46 * j + i)) in
-    let time : Agree b p Time =
-    time_agrees n (get_or b 6 0) (get_or b 7 0) (get_or b 45 0) b units g.begun.fit g.markers in
     record {
-      in_packet = (
-        a.0,
-        (
-          a.1.0,
-          (
-            a.1.1.0,
-            (
-              a.1.1.1.0,
-              (
-                λ _. refl,
-                (
-                  λ _. refl,
-                  (λ _. g.header_length, (time, (λ _. refl, tt))),
-                ),
-              ),
-            ),
-          ),
-        ),
-      );
+      in_packet = agree_nine n b units g.begun g.header_length g.markers (fields_of v p h);
       in_units = λ j lj. (
         λ _. same j 1 lj (omega arith),
         (
@@ -117,12 +96,20 @@ asked_byte k b q j (suc (suc zero)) a lj li lt = (a.in_units j lj).1.1.0 lt
 asked_byte k b q j (suc (suc (suc zero))) a lj li lt = (a.in_units j lj).1.0.1.0 lt
 asked_byte k b q j (suc (suc (suc (suc i)))) a lj li lt = absurd (omega arith)
 
+-- A byte of data unit k, and the place after that data unit.
+abbrev unit_byte_at : ℕ → ℕ → List ℕ → ℕ
+unit_byte_at k i b = get_or b (46 + (46 * k + i)) 0
+
+abbrev place_in_unit : ℕ → ℕ → List ℕ → Result ℕ PesFault
+place_in_unit place k b =
+    place_at place (unit_byte_at k 0 b) (unit_byte_at k 1 b) (unit_byte_at k 2 b)
+    (unit_byte_at k 3 b)
+
 -- A packet that agrees in all that is asked of the packet and of k data units: its next data unit
 -- is taken at the same place.
 record Faced (k place : ℕ) (q : List ℕ) : Type 0 where
   pub after : ℕ
-  pub good : place_at place (get_or q (46 + (46 * k + 0)) 0) (get_or q (46 + (46 * k + 1)) 0)
-      (get_or q (46 + (46 * k + 2)) 0) (get_or q (46 + (46 * k + 3)) 0) ≡ Ok after
+  pub good : place_in_unit place k q ≡ Ok after
   pub there : 46 + (46 * k + 3) < length q
 
 faced : (n k : ℕ) (b d : List ℕ) (us : List UnitValue) (v : PesValue) (q : List ℕ)
@@ -178,11 +165,10 @@ unit_fails n b d f g r =
     let e1 = g.byte (46 * k + 1) (omega arith) in
     let e2 = g.byte (46 * k + 2) (omega arith) in
     let e3 = g.byte (46 * k + 3) (omega arith) in
-    let bad : place_at place (get_or b (46 + (46 * k + 0)) 0) (get_or b (46 + (46 * k + 1)) 0)
-    (get_or b (46 + (46 * k + 2)) 0) (get_or b (46 + (46 * k + 3)) 0) ≡ Err f =
-    rw (e0, e1, e2, e3) r.bad in
-    elim (place_refused place (get_or b (46 + (46 * k + 0)) 0) (get_or b (46 + (46 * k + 1)) 0)
-    (get_or b (46 + (46 * k + 2)) 0) (get_or b (46 + (46 * k + 3)) 0) f bad) [
+    let bad : place_in_unit place k b ≡ Err f = rw (e0, e1, e2, e3) r.bad in
+    let b0 = unit_byte_at k 0 b in
+    elim (place_refused place b0 (unit_byte_at k 1 b) (unit_byte_at k 2 b) (unit_byte_at k 3 b) f
+    bad) [
       | inl (wrong, is) ↦
           let units = take (46 * k) d ++ stuffed (4 * n - 1) k in
           let are = stuffed_units (4 * n - 1) k us d first in (
@@ -197,23 +183,19 @@ unit_fails n b d f g r =
               none = λ v q h before same.
                   let z = faced n k b d us v q g below r.before h before in
                   let there = z.there in
-                  let taken = place_taken place (get_or q (46 + (46 * k + 0)) 0)
-                  (get_or q (46 + (46 * k + 1)) 0) (get_or q (46 + (46 * k + 2)) 0)
-                  (get_or q (46 + (46 * k + 3)) 0) z.after z.good in
+                  let taken = place_taken place (unit_byte_at k 0 q) (unit_byte_at k 1 q)
+                  (unit_byte_at k 2 q) (unit_byte_at k 3 q) z.after z.good in
                   wrong (same (omega arith) ∙ taken.0);
             },
           )
       | inr others ↦
-          let tele : is_teletext (get_or b (46 + (46 * k + 0)) 0) ≡ true =
-          elim others [ inl x ↦ x.1 | inr x ↦ x.1 ] in
-          let len : get_or b (46 + (46 * k + 1)) 0 ≡ 44 =
-          elim others [ inl x ↦ x.0 | inr x ↦ x.0 ] in
-          let id = get_or b (46 + (46 * k + 0)) 0 in
-          let tail = one_stuffed (4 * n - 1) k id in
+          let tele : is_teletext b0 ≡ true = elim others [ inl x ↦ x.1 | inr x ↦ x.1 ] in
+          let len : unit_byte_at k 1 b ≡ 44 = elim others [ inl x ↦ x.0 | inr x ↦ x.0 ] in
+          let tail = one_stuffed (4 * n - 1) k b0 in
           let units = take (46 * k) d ++ tail in
-          let vs = us ++ any_unit id ∷ [] in
-          let are = one_stuffed_units (4 * n - 1) k id us d first tele in
-          let order = one_in_order (4 * n - 1) k id us d first in
+          let vs = us ++ any_unit b0 ∷ [] in
+          let are = one_stuffed_units (4 * n - 1) k b0 us d first tele in
+          let order = one_in_order (4 * n - 1) k b0 us d first in
           let h = made_is_packet n b d vs units g are order in
           let v = value_with (pts_told b) vs in
           let p = made n b units in
@@ -233,9 +215,8 @@ unit_fails n b d f g r =
                 none = λ v q h before same.
                     let z = faced n k b d us v q g below r.before h before.0 in
                     let there = z.there in
-                    let taken = place_taken place (get_or q (46 + (46 * k + 0)) 0)
-                    (get_or q (46 + (46 * k + 1)) 0) (get_or q (46 + (46 * k + 2)) 0)
-                    (get_or q (46 + (46 * k + 3)) 0) z.after z.good in
+                    let taken = place_taken place (unit_byte_at k 0 q) (unit_byte_at k 1 q)
+                    (unit_byte_at k 2 q) (unit_byte_at k 3 q) z.after z.good in
                     let s0 = same.0 (omega arith) in
                     let s3 = same.1.0 (omega arith) in
                     wrong (s3 ∙ taken.1 (sym (ap is_teletext s0) ∙ tele));
@@ -256,9 +237,7 @@ unit_fails n b d f g r =
                     let s1 = before.1 (omega arith) in
                     let s2 = same (omega arith) in
                     let s3 = before.2.1.0 (omega arith) in
-                    let bad' : place_at place (get_or q (46 + (46 * k + 0)) 0)
-                    (get_or q (46 + (46 * k + 1)) 0) (get_or q (46 + (46 * k + 2)) 0)
-                    (get_or q (46 + (46 * k + 3)) 0) ≡ Err f =
+                    let bad' : place_in_unit place k q ≡ Err f =
                     rw (sym s0, sym s1, sym s2, sym s3) bad in
                     let good = z.good in
                     absurd cc;
