@@ -11,7 +11,6 @@ use Rattle.std.proofs.lemmas.List.{get_or-drop, get_or_past, append-nil, nil_fro
 use Rattle.std.specs.Option.{option_to_list}
 use Rattle.sub_io.specs.Reading.{AreBytes}
 use Rattle.ttx_packet.specs.BitOrder.{mirror}
-use Rattle.ttx_packet.specs.PacketAddress.{IsPacket}
 use Rattle.ttx_pes.specs.declared.fault.PesFault.{PesFault}
 use Rattle.ttx_pes.specs.declared.fault.PesFault.TheVariants as fault
 use Rattle.ttx_pes.specs.DataUnit.{UnitValue, is_teletext, IsDataUnit, AreDataUnits}
@@ -21,15 +20,7 @@ use Rattle.ttx_packet.proofs.BitOrderLemmas.{mirror-mirror}
 use Rattle.ttx_pes.proofs.LineOrderLemmas.{last_place-push}
 use Rattle.sub_io.proofs.ReadingLemmas.{test_held, step_gave, Ok-injective, given_as}
 
--- ---- packets and bytes
-
--- The bytes of a packet are bytes.
-pub packet_bytes : (p : List ℕ) → IsPacket p → AreBytes p
-packet_bytes p h = h.bytes
-
--- 42 bytes are a packet.
-pub bytes_packet : (p : List ℕ) → length p ≡ 42 → AreBytes p → IsPacket p
-bytes_packet p len fit = record { size = len; bytes = fit }
+-- ---- mirrored bytes
 
 -- A mirrored byte is a byte.
 pub mirror_fits : (b : ℕ) → b < 256 → mirror b < 256
@@ -133,8 +124,10 @@ unit_sound (b0 ∷ b1 ∷ b2 ∷ b3 ∷ p) u len fit e =
               id = is_teletext_id b0 held.0;
               field = (pos.1, pos.2);
               line = omega arith;
-              packet = bytes_packet (map mirror p) (length-map p mirror
-                  ∙ omega arith) (mirrored_fit p fits);
+              packet = record {
+                size = length-map p mirror ∙ omega arith;
+                bytes = mirrored_fit p fits;
+              };
             };
           })
     ]
@@ -184,7 +177,7 @@ unit_complete (Some u) b h =
     h.is_unit.line in omega arith in
     let same =
     unit_is u _ _ _ field-is line-is
-    (mirrored_twice u.packet (packet_bytes u.packet h.is_unit.packet)) in
+    (mirrored_twice u.packet h.is_unit.packet.bytes) in
     rw (h.bytes, id-is) (
       ap (λ (x : UnitValue). given_as PesFault (held_unit x)) same,
       ap (λ (n : ℕ). suc (suc (suc (suc n)))) (length-map u.packet mirror

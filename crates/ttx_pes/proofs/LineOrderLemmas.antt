@@ -104,34 +104,29 @@ record IsNumbered (i : ℕ) (p : List ℕ) : Type 0 where
   pub line : eqb (numbered_unit i p).line 0 ≡ false
   pub place : line_order_place (numbered_unit i p) ≡ numbered_place i
 
+-- A unit of subtitles on a line of a field.
+subtitles_on : (field line : ℕ) (p : List ℕ)
+    → (1 ≤ field) × (field ≤ 2)
+    → line < 32
+    → IsPacket p
+    → IsUnit (record { id = 3; field = field; line = line; packet = p })
+subtitles_on field line p of lt h =
+    record { id = (omega arith, omega arith); field = of; line = lt; packet = h }
+
 -- One numbered unit.
 numbered_one : (i : ℕ) (p : List ℕ) → i < 32 → IsPacket p → IsNumbered i p
 numbered_one i p lt h = elim (cases_lt i 16) [
   | inl low ↦
       let t : ltb i 16 ≡ true = lt-ltb i 16 low in
       record {
-        unit = rw t
-            (record {
-              id = (omega arith, omega arith);
-              field = (omega arith, omega arith);
-              line =
-                  omega arith;
-              packet = h;
-            });
+        unit = rw t (subtitles_on 1 (7 + i) p (omega arith, omega arith) (omega arith) h);
         line = rw t (ne_eqb (7 + i) 0 (λ z. omega arith));
         place = rw t (omega arith);
       }
   | inr high ↦
       let f : ltb i 16 ≡ false = le-ltb i 16 high in
       record {
-        unit = rw f
-            (record {
-              id = (omega arith, omega arith);
-              field = (omega arith, omega arith);
-              line =
-                  omega arith;
-              packet = h;
-            });
+        unit = rw f (subtitles_on 2 (i - 9) p (omega arith, omega arith) (omega arith) h);
         line = rw f (ne_eqb (i - 9) 0 (λ z. omega arith));
         place = rw f (omega arith);
       }

@@ -10,7 +10,7 @@ use Rattle.ttx_pes.specs.Refusal.{Agree, AgreeBefore, AgreeInFirst, FailFirst, Q
 use Rattle.ttx_pes.specs.Refusal.{PacketLength, Start, packet_questions}
 use Rattle.ttx_pes.specs.Refusal.{AllBytes, Scrambling, PtsFlags, HeaderLength, Time}
 use Rattle.ttx_pes.specs.Refusal.{DataIdentifier}
-use Rattle.ttx_pes.proofs.PesHeaderLemmas.{pts_bytes_of_read, pts_limit, value_with}
+use Rattle.ttx_pes.proofs.PesHeaderLemmas.{pts_bytes_of_read, value_with}
 use Rattle.ttx_pes.proofs.PesPacketLemmas.{stuffing_units}
 use Rattle.ttx_pes.proofs.SampleLemmas.{Fields, fields_of, sample, sample_is_packet}
 
@@ -275,12 +275,8 @@ pub told_again : (b : List ℕ)
     → (pts_bytes (pts_told b)
     ≡ get_or b 9 0 ∷ get_or b 10 0 ∷ get_or b 11 0 ∷ get_or b 12 0 ∷ get_or b 13 0 ∷ [])
     × (pts_told b < 2 ^ 33)
-told_again b fit h = (
-  pts_bytes_of_read (get_or b 9 0) (get_or b 10 0) (get_or b 11 0) (get_or b 12 0) (get_or b 13 0)
-      (fit 9) (fit 10) (fit 11) (fit 12) (fit 13) h.0 h.1 h.2 h.3,
-  pts_limit (get_or b 9 0) (get_or b 10 0) (get_or b 11 0) (get_or b 12 0) (get_or b 13 0)
-      (pts_told b) (fit 9) (fit 10) (fit 11) (fit 12) (fit 13) refl,
-)
+told_again b fit h =
+    pts_bytes_of_read _ _ _ _ _ (fit 9) (fit 10) (fit 11) (fit 12) (fit 13) h.0 h.1 h.2 h.3
 
 -- A packet of that PTS agrees in it.
 pub time_agrees : (n flags more identifier : ℕ) (b units : List ℕ)

@@ -40,7 +40,7 @@ marker_is_1 n = omega arith
 pub first_marker_is_1 : (n : ℕ) → (33 + 2 * n) % 2 ≡ 1
 first_marker_is_1 n = omega arith
 
--- The PTS, read and written.
+-- The PTS, read and written: it has 33 bits.
 pub pts_bytes_of_read : (a b c d e : ℕ)
     → a < 256
     → b < 256
@@ -51,9 +51,9 @@ pub pts_bytes_of_read : (a b c d e : ℕ)
     → a % 2 ≡ 1
     → c % 2 ≡ 1
     → e % 2 ≡ 1
-    → pts_bytes
-    ((a / 2) % 8 * 2 ^ 30 + b * 2 ^ 22 + c / 2 * 2 ^ 15 + d * 2 ^
-    7 + e / 2) ≡ a ∷ b ∷ c ∷ d ∷ e ∷ []
+    → (pts_bytes ((a / 2) % 8 * 2 ^ 30 + b * 2 ^ 22 + c / 2 * 2 ^ 15 + d * 2 ^ 7 + e / 2)
+    ≡ a ∷ b ∷ c ∷ d ∷ e ∷ [])
+    × ((a / 2) % 8 * 2 ^ 30 + b * 2 ^ 22 + c / 2 * 2 ^ 15 + d * 2 ^ 7 + e / 2 < 2 ^ 33)
 pts_bytes_of_read a b c d e la lb lc ld le p q r s =
     let t = (a / 2) % 8 * 2 ^ 30 + b * 2 ^ 22 + c / 2 * 2 ^ 15 + d * 2 ^ 7 + e / 2 in
     let ea : 33 + 2 * (t / 2 ^ 30) ≡ a = omega arith in
@@ -61,7 +61,7 @@ pts_bytes_of_read a b c d e la lb lc ld le p q r s =
     let ec : 1 + 2 * ((t / 2 ^ 15) % 128) ≡ c = omega arith in
     let ed : (t / 2 ^ 7) % 256 ≡ d = omega arith in
     let ee : 1 + 2 * (t % 128) ≡ e = omega arith in
-    rw (ea, eb, ec, ed, ee) refl
+    (rw (ea, eb, ec, ed, ee) refl, omega arith)
 
 -- ---- the first six bytes
 
@@ -187,28 +187,13 @@ body_bytes : (b : List ℕ) (t : ℕ)
     → b ≡ (get_or b 0 0 ∷ get_or b 1 0 ∷ 36 ∷ [])
     ++ (pts_bytes t ++ (take 31 (drop 8 b) ++ (get_or b 39 0 ∷ drop 40 b)))
 body_bytes b t len le pts-same =
-    let behind = take 31 (drop 8 b) ++ (get_or b 39 0 ∷ drop 40 b) in
-    list_of_bytes 8 0 b (omega arith)
-    ∙ ap (λ (x : ℕ). get_or b 0 0 ∷ get_or b 1 0 ∷ x ∷ get_or b 3 0 ∷ get_or b 4 0 ∷ get_or b 5
-    0 ∷ get_or b 6 0 ∷ get_or b 7 0 ∷ drop 8 b) len
-    ∙ ap (λ (x : List ℕ). get_or b 0 0 ∷ get_or b 1 0 ∷ 36 ∷ get_or b 3 0 ∷ get_or b 4 0 ∷ get_or b
-    5 0 ∷ get_or b 6 0 ∷ get_or b 7 0 ∷ x) (parted b le)
-    ∙ ap (λ (x : List ℕ). get_or b 0 0 ∷ get_or b 1 0 ∷ 36 ∷ (x ++ behind)) (sym pts-same)
+    let first = list_of_bytes 8 0 b (omega arith) in
+    let others = parted b le in
+    cc
 
 -- A value of its parts.
 abbrev pub value_with : ℕ → List UnitValue → PesValue
 value_with t us = record { pts = t; units = us }
-
--- A PTS that is read has 33 bits.
-pub pts_limit : (a b c d e t : ℕ)
-    → a < 256
-    → b < 256
-    → c < 256
-    → d < 256
-    → e < 256
-    → (a / 2) % 8 * 2 ^ 30 + b * 2 ^ 22 + c / 2 * 2 ^ 15 + d * 2 ^ 7 + e / 2 ≡ t
-    → t < 2 ^ 33
-pts_limit a b c d e t la lb lc ld le is = omega arith
 
 -- The packet of the grammar, from what was read of its body.
 body_from : (n t : ℕ) (b : List ℕ) (us : List UnitValue)
@@ -224,11 +209,10 @@ body_from n t b us lo hi len fit h e =
     let count : length (drop 40 b) / 46 ≡ 4 * n - 1 = omega arith in
     let u = units_sound (4 * n - 1) [] us (drop 40 b) left (AreBytes-drop 40 b fit) (rw count at e)
     in
-    let spelled =
-    pts_bytes_of_read (get_or b 3 0) (get_or b 4 0) (get_or b 5 0) (get_or b 6 0) (get_or b 7 0)
-    (fit 3) (fit 4) (fit 5) (fit 6) (fit 7) h.markers.0 h.markers.1 h.markers.2 h.markers.3 in
+    let spelled = pts_bytes_of_read _ _ _ _ _ (fit 3) (fit 4) (fit 5) (fit 6) (fit 7) h.markers.0
+    h.markers.1 h.markers.2 h.markers.3 in
     let pts-same : pts_bytes t ≡ get_or b 3 0 ∷ get_or b 4 0 ∷ get_or b 5 0 ∷ get_or b 6 0 ∷ get_or
-    b 7 0 ∷ [] = ap pts_bytes (sym h.value) ∙ spelled in
+    b 7 0 ∷ [] = ap pts_bytes (sym h.value) ∙ spelled.0 in
     record {
       n = n;
       flags = get_or b 0 0;
@@ -240,8 +224,7 @@ body_from n t b us lo hi len fit h e =
       size = (lo, hi);
       not_scrambled = h.flagged;
       pts_alone = h.pts_alone;
-      pts_fits = pts_limit (get_or b 3 0) (get_or b 4 0) (get_or b 5 0) (get_or b 6 0) (get_or b 7 0) t
-          (fit 3) (fit 4) (fit 5) (fit 6) (fit 7) h.value;
+      pts_fits = rw h.value at spelled.1;
       header_filled = length-take 31 (drop 8 b) ∙ omega (arith, length-drop 8 b);
       ebu_data = h.ebu;
       are_units = rw u.1 u.2;

@@ -69,11 +69,7 @@ canonical_is_packet v h =
       pts_fits = h.pts;
       header_filled = refl;
       ebu_data = refl;
-      are_units =
-          subst (λ (n : ℕ). AreDataUnits n v.units
-          (flat_map teletext_unit v.units
-          ++ repeated (4 * k - 1 - length v.units) stuffing_unit)) count
-          (written_units v.units (4 * k - 1 - length v.units) h.each);
+      are_units = rw count at (written_units v.units (4 * k - 1 - length v.units) h.each);
       in_order = h.in_order;
     }
 

@@ -91,9 +91,3 @@ byte_is_left given (x ∷ b) e = omega arith
 -- A reader has given one number of packets. For `next`.
 pub given_same : (p : Progress) (a b : ℕ) → p ≡ Reading a → p ≡ Reading b → a ≡ b
 given_same p a b e f = cc
-
--- Two answers that are equal give equal faults.
-pub Err-injective : (X : Type 0) (f g : PesFault)
-    → ◌≡◌ {A = Result X PesFault} (Err f) (Err g)
-    → f ≡ g
-Err-injective X f g e = cc

@@ -243,9 +243,7 @@ stuffed_units n k us d h =
     let count : k + (n - k) ≡ n = omega arith in
     let both = units_append k (n - k) us [] (take (46 * k) d) (stuffed n k) h.are_units
     (stuffing_units (n - k)) in
-    subst (λ (x : List UnitValue). AreDataUnits n x (take (46 * k) d ++ stuffed n k))
-    (append-nil us)
-    (subst (λ (m : ℕ). AreDataUnits m (us ++ []) (take (46 * k) d ++ stuffed n k)) count both)
+    rw (append-nil, count) at both
 
 -- A unit with that data_unit_id whose line is not defined, and stuffing units.
 abbrev pub any_unit : ℕ → UnitValue
@@ -282,8 +280,7 @@ one_stuffed_units n k id us d h is =
     let both = units_append k (1 + (n - suc k)) us (any_unit id ∷ []) (take (46 * k) d)
     (one_stuffed n k id) h.are_units
     (written_units (any_unit id ∷ []) (n - suc k) (unit, tt)) in
-    subst (λ (m : ℕ). AreDataUnits m (us ++ any_unit id ∷ [])
-    (take (46 * k) d ++ one_stuffed n k id)) count both
+    rw count at both
 
 -- It may stand after any others.
 pub one_in_order : (n k id : ℕ) (us : List UnitValue) (d : List ℕ)

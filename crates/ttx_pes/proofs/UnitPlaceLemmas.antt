@@ -6,7 +6,7 @@ use Rattle.std.proofs.Common.{not, eqb, List, [], get_or, take, drop, Result, Ok
 use Rattle.std.proofs.Common.{ap, ◌∙◌, arith, inl, inr, ◌⊎◌}
 use Rattle.std.proofs.lemmas.Bool.{cases_Bool, cases_eq, eq-eqb, eqb-false, eqb-true, ne_eqb}
 use Rattle.std.proofs.lemmas.List.{get_or-take, get_or-drop}
-use Rattle.sub_io.proofs.ReadingLemmas.{step_gave}
+use Rattle.sub_io.proofs.ReadingLemmas.{step_gave, test_held}
 use Rattle.sub_io.specs.Reading.{◌>>=◌}
 use Rattle.ttx_pes.specs.declared.fault.PesFault.{PesFault}
 use Rattle.ttx_pes.specs.declared.fault.PesFault.TheVariants as fault
@@ -159,24 +159,12 @@ place_refused before b0 b1 b2 b3 f e =
 pub place_taken : (before b0 b1 b2 b3 after : ℕ)
     → place_at before b0 b1 b2 b3 ≡ Ok after
     → (b1 ≡ 44) × (is_teletext b0 ≡ true → b3 ≡ 228)
-place_taken before b0 b1 b2 b3 after e = elim (cases_eq b1 44) [
-  | inr wrong ↦
-      let t : eqb b1 44 ≡ false = ne_eqb b1 44 wrong in
-      let refused : place_at before b0 b1 b2 b3 ≡ Err fault.UnitLength = rw t refl in
-      absurd cc
-  | inl one ↦
-      let t1 : eqb b1 44 ≡ true = eq-eqb b1 44 one in (
-        one,
-        λ two. elim (cases_eq b3 228) [
-          | inl three ↦ three
-          | inr wrong ↦
-              let t : eqb b3 228 ≡ false = ne_eqb b3 228 wrong in
-              let refused : place_at before b0 b1 b2 b3 ≡ Err fault.Framing =
-              rw (t1, two, t) refl in
-              absurd cc
-        ],
-      )
-]
+place_taken before b0 b1 b2 b3 after e =
+    let g = test_held (eqb b1 44) fault.UnitLength _ after e in (
+      eqb-true b1 44 g.0,
+      λ two. eqb-true b3 228
+          (test_held (eqb b3 228) fault.Framing _ after (rw two at g.1)).0,
+    )
 
 -- ---- data units one after another
 
@@ -258,37 +246,31 @@ pub units_split : (m : ℕ) (front : List UnitValue) (d : List ℕ) (f : PesFaul
     → Refused m front d f
 unfolding units_at
 units_split zero front d f e = absurd cc
-units_split (suc m) front d f e = elim (answer_cases (unit_at front (take 46 d))) [
-  | inr (g, bad) ↦
-      let first : place_in (last_place 0 front) 0 d ≡ Err g = sym (first_place front d) ∙ ap (with_value (last_place 0)) bad in
-      let told : units_at (suc m) front d ≡ Err g =
-      after_err (unit_at front (take 46 d)) (λ more. units_at m more (drop 46 d)) g bad in
-      let same : g ≡ f = Err-injective {A = List UnitValue} g f (sym told ∙ e) in
-      record {
+units_split (suc m) front d f e =
+    elim (step_refused (unit_at front (take 46 d)) (λ more. units_at m more (drop 46 d)) f e) [
+      | inl bad ↦ record {
         k = 0;
         us = front;
         below = omega arith;
         before = refl;
-        bad = first ∙ ap (λ (x : PesFault). Err x) same;
+        bad = sym (first_place front d) ∙ ap (with_value (last_place 0)) bad;
       }
-  | inl (more, good) ↦
-      let step = after_ok (unit_at front (take 46 d)) (λ x. units_at m x (drop 46 d)) more good in
-      let rest : units_at m more (drop 46 d) ≡ Err f = sym step ∙ e in
-      let r = units_split m more (drop 46 d) f rest in
-      let e0 = byte_on d r.k 0 in
-      let e1 = byte_on d r.k 1 in
-      let e2 = byte_on d r.k 2 in
-      let e3 = byte_on d r.k 3 in
-      record {
-        k = suc r.k;
-        us = r.us;
-        below = let l = r.below in omega arith;
-        before =
-            after_ok (unit_at front (take 46 d)) (λ x. units_at r.k x (drop 46 d)) more good
-            ∙ r.before;
-        bad = rw (sym e0, sym e1, sym e2, sym e3) r.bad;
-      }
-]
+      | inr (more, good, rest) ↦
+          let r = units_split m more (drop 46 d) f rest in
+          let e0 = byte_on d r.k 0 in
+          let e1 = byte_on d r.k 1 in
+          let e2 = byte_on d r.k 2 in
+          let e3 = byte_on d r.k 3 in
+          record {
+            k = suc r.k;
+            us = r.us;
+            below = let l = r.below in omega arith;
+            before =
+                after_ok (unit_at front (take 46 d)) (λ x. units_at r.k x (drop 46 d)) more good
+                ∙ r.before;
+            bad = rw (sym e0, sym e1, sym e2, sym e3) r.bad;
+          }
+    ]
 
 -- A data unit among those that are read.
 pub record Taken (before : ℕ) (k : ℕ) (e : List ℕ) : Type 0 where
