@@ -3,7 +3,7 @@
 use Rattle.std.proofs.Common.{◌≡◌, ℕ, Bool, true, false, cond, List, [], ◌∷◌, ◌++◌, length, refl}
 use Rattle.std.proofs.Common.{sym, ap, ◌∙◌, append_assoc, arith, length-append, Option, Some, None}
 use Rattle.std.proofs.Common.{Result, Ok, Err, subst, ◌+◌, ◌-◌, ◌<◌, ◌≤◌, is_ok}
-use Rattle.std.specs.Prelude.{filter, IfSome}
+use Rattle.std.specs.Prelude.{filter}
 use Rattle.std.specs.Io.KnownBytes.{Appends}
 use Rattle.std.proofs.lemmas.List.{append-nil}
 use Rattle.std.proofs.KnownBytes.{Appends-trans}
@@ -19,7 +19,7 @@ use Rattle.stl_file.specs.declared.progress.Progress.TheVariants.{Reading}
 use Rattle.stl_file.specs.Tti.{is_kept, most_blocks}
 use Rattle.stl_file.specs.SubtitleBlocks.{joined}
 use Rattle.stl_file.specs.Reader.{ReaderValue, outcome_from, outcome_left, Answers, outcome_with}
-use Rattle.stl_file.specs.Reader.{progress_after, HasPlace, TakesSubtitle}
+use Rattle.stl_file.specs.Reader.{given_subtitle, progress_after, HasPlace, TakesSubtitle}
 use Rattle.stl_file.specs.Subtitle.{SubtitleValue}
 use Rattle.stl_file.specs.NormalForm.{Judged, all_blocks, subtitles_of, full_pieces, blocks_of}
 use Rattle.stl_file.specs.NormalForm.{cons_all}
@@ -76,28 +76,9 @@ no_failure false e = refl
 abbrev Answer : Type 0
 Answer = Result (Option SubtitleValue) StlFault
 
--- an answer that is known to be a subtitle
-pub answers_some : (p r : ReaderValue) (rest : List ℕ) (now : Option (List ℕ))
-    (found : Option SubtitleValue) (s : SubtitleValue)
-    → found ≡ Some s → Answers p rest r now (Ok found) → Answers p rest r now (Ok (Some s))
-answers_some p r rest now found s is a =
-    subst (λ (x : Option SubtitleValue). Answers p rest r now (Ok x)) is a
-
--- what an answer that is known to be a subtitle took
-pub takes_some : (from to : ℕ) (old new : Option (List ℕ)) (found : Option SubtitleValue)
-    (s : SubtitleValue)
-    → found ≡ Some s → IfSome found (TakesSubtitle from to old new)
-    → TakesSubtitle from to old new s
-takes_some from to old new found s is t =
-    subst (λ (x : Option SubtitleValue). IfSome x (TakesSubtitle from to old new)) is t
-
--- how far the reader has come then
-pub goes_some : (p q : Progress) (found : Option SubtitleValue) (s : SubtitleValue)
-    → found ≡ Some s → q ≡ progress_after p (Ok found) → q ≡ p
-goes_some p q found s is e = e ∙ ap (λ (x : Option SubtitleValue). progress_after p (ok x)) is
-  where
-    ok : Option SubtitleValue → Answer
-    ok x = Ok x
+-- what `next_into` answers that does not fail
+abbrev pub answered : Bool → Result Bool StlFault
+answered t = Ok t
 
 -- what a subtitle takes of the blocks that may follow
 record Took (from to : ℕ) (s : SubtitleValue) : Type 0 where
@@ -235,37 +216,38 @@ pub record Turn (body next : List ℕ) (p r : ReaderValue) (done : List Subtitle
 
 -- a subtitle that was read, in the words of the answer
 pub pass_turn : (body rest next : List ℕ) (p r : ReaderValue) (done : List SubtitleValue)
-    (found : Option SubtitleValue) (s : SubtitleValue) (old new : Option (List ℕ))
+    (t : Bool) (s : SubtitleValue) (old new : Option (List ℕ))
     → Passes body p rest done
-    → found ≡ Some s
-    → Answers p rest r (Some next) (Ok found)
-    → (p.progress ≡ Reading → IfSome found (TakesSubtitle p.block r.block old new))
-    → r.progress ≡ progress_after p.progress (Ok found)
+    → t ≡ true
+    → Answers p rest r (Some next) (given_subtitle (Ok t) s)
+    → (p.progress ≡ Reading → answered t ≡ Ok true → TakesSubtitle p.block r.block old new s)
+    → r.progress ≡ progress_after p.progress (given_subtitle (Ok t) s)
     → HasPlace r.progress r.block
     → Turn body next p r done s
-pass_turn body rest next p r done found s old new h is x takes on place =
-    let a = answers_some p r rest (Some next) found s is x in
-    let t = takes_some p.block r.block old new found s is (takes h.reading) in
-    let more = pass_on body rest next p r done h s old new a t
-    (goes_some p.progress r.progress found s is on) place in
-    let m = pass_room body rest next p r done h s old new a t more.few in
+pass_turn body rest next p r done t s old new h is x takes on place =
+    let given = ap (λ (y : Bool). given_subtitle (Ok y) s) is in
+    let a = subst (Answers p rest r (Some next)) given x in
+    let k = takes h.reading (ap answered is) in
+    let more = pass_on body rest next p r done h s old new a k
+    (on ∙ ap (progress_after p.progress) given) place in
+    let m = pass_room body rest next p r done h s old new a k more.few in
     record {
       on = more;
       block_room = m.0;
       room = m.1;
-      stands = pass_stands body rest next p r done h s old new a t;
+      stands = pass_stands body rest next p r done h s old new a k;
     }
 
 -- the end of a pass
 pub pass_ends : (body rest next : List ℕ) (p r : ReaderValue) (done : List SubtitleValue)
-    (found : Option SubtitleValue)
+    (t : Bool) (s : SubtitleValue)
     → Passes body p rest done
-    → found ≡ None
-    → Answers p rest r (Some next) (Ok found)
+    → t ≡ false
+    → Answers p rest r (Some next) (given_subtitle (Ok t) s)
     → subtitles_of (outcome_from 0 body) ≡ Ok done
-pass_ends body rest next p r done found h is x =
+pass_ends body rest next p r done t s h is x =
     pass_end body rest next p r done h
-    (subst (λ (y : Option SubtitleValue). Answers p rest r (Some next) (Ok y)) is x)
+    (subst (Answers p rest r (Some next)) (ap (λ (y : Bool). given_subtitle (Ok y) s) is) x)
 
 -- equal counts make equal answers
 counts_same : (b t : ℕ) (c : Counts)

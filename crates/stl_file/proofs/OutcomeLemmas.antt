@@ -6,12 +6,10 @@ use Rattle.std.proofs.Common.{zero, suc, ◌+◌, ◌-◌, ◌<◌, ◌≤◌, �
 use Rattle.std.proofs.lemmas.List.{take_all, take-take, drop-take, take_at, drop_at}
 use Rattle.std.proofs.lemmas.Bool.{cases_lt, le-ltb, lt-ltb}
 use Rattle.stl_file.specs.declared.fault.StlFault.{StlFault}
-use Rattle.stl_file.specs.declared.step.Begun.{Begun}
-use Rattle.stl_file.specs.declared.step.Step.{Step}
-use Rattle.stl_file.specs.declared.step.Step.TheVariants.{More, Give}
 use Rattle.stl_file.specs.declared.fault.StlFault.TheVariants as fault
 use Rattle.stl_file.specs.Tti.{most_blocks}
 use Rattle.stl_file.specs.Reader.{NamesFrom}
+use Rattle.stl_file.specs.Reading.{Begun, Step, More, Give}
 use Rattle.stl_file.specs.Reading.{Outcome, gives, outcome_after, outcome_at, step_at, ends, fails}
 
 -- ---- the function by cases

@@ -12,9 +12,6 @@ use Rattle.std.proofs.lemmas.Option.{same_Some}
 use Rattle.sub_io.specs.Device.{Fills}
 use Rattle.sub_io.proofs.DeviceLemmas.{Told-from_fills}
 use Rattle.stl_file.specs.declared.fault.StlFault.{StlFault}
-use Rattle.stl_file.specs.declared.step.Begun.{Begun}
-use Rattle.stl_file.specs.declared.step.Step.{Step}
-use Rattle.stl_file.specs.declared.step.Step.TheVariants.{More, Give}
 use Rattle.stl_file.specs.declared.fault.StlFault.TheVariants as fault
 use Rattle.stl_file.specs.Tti.{is_kept, most_blocks}
 use Rattle.stl_file.specs.SubtitleBlocks.{IsBlock, joined, IsRest}
@@ -22,6 +19,7 @@ use Rattle.stl_file.specs.Reader.{outcome_from, Leads, TakesSubtitle, NamesFrom,
 use Rattle.stl_file.specs.Reader.{TakesPassed, Refuses, FailsReading}
 use Rattle.stl_file.specs.Subtitle.{SubtitleValue}
 use Rattle.stl_file.specs.NormalForm.{subtitles_of}
+use Rattle.stl_file.specs.Reading.{Begun, Step, More, Give}
 use Rattle.stl_file.specs.Reading.{gives, outcome_after, outcome_at, step_at, fails}
 use Rattle.stl_file.specs.Fault.{is_cut, is_of_block}
 use Rattle.stl_file.proofs.SubtitleBlocksLemmas.{blocks_push, filter_push, joined_push, ends_push}

@@ -8,14 +8,12 @@ use Rattle.std.specs.List.{AllByRecursion, flat_map}
 use Rattle.std.proofs.lemmas.List.{append-nil, take-append-drop, length-take-le}
 use Rattle.std.proofs.lemmas.Bool.{cases_lt, eq-eqb, ne_eqb, cases_Bool}
 use Rattle.stl_file.specs.declared.fault.StlFault.{StlFault}
-use Rattle.stl_file.specs.declared.step.Begun.{Begun}
-use Rattle.stl_file.specs.declared.step.Step.{Step}
-use Rattle.stl_file.specs.declared.step.Step.TheVariants.{More, Give}
 use Rattle.stl_file.specs.Tti.{is_kept, most_blocks, sgn, sn, ebn, text_of, is_passed}
 use Rattle.stl_file.specs.SubtitleBlocks.{IsBlock, joined, AreLinked, Begins, AreBlocksOf}
 use Rattle.stl_file.specs.SubtitleBlocks.{AreBlocksOfEach, IsRest}
 use Rattle.stl_file.specs.Subtitle.{SubtitleValue}
 use Rattle.stl_file.specs.NormalForm.{Judged, subtitles_of, cons_all}
+use Rattle.stl_file.specs.Reading.{Begun, Step, More, Give}
 use Rattle.stl_file.specs.Reading.{outcome_after, outcome_at, step_at, closed, kept_at}
 use Rattle.stl_file.proofs.SubtitleBlocksLemmas.{chain_head, cons_is, filter_passed, filter_kept}
 use Rattle.stl_file.proofs.StepLemmas.{first_complete, step_kept, step_passed, Represents}

@@ -12,13 +12,11 @@ use Rattle.std.proofs.lemmas.Bool.{leb-true, le-leb, lt-ltb, eqb-false, and_part
 use Rattle.sub_io.specs.Reading.{◌>>=◌}
 use Rattle.sub_io.proofs.ReadingLemmas.{test_held, test_failed, step_gave, Ok-injective, given_as}
 use Rattle.stl_file.specs.declared.fault.StlFault.{StlFault}
-use Rattle.stl_file.specs.declared.step.Begun.{Begun}
-use Rattle.stl_file.specs.declared.step.Step.{Step}
-use Rattle.stl_file.specs.declared.step.Step.TheVariants.{More, Give}
 use Rattle.stl_file.specs.declared.fault.StlFault.TheVariants as fault
 use Rattle.stl_file.specs.Tti.{is_kept, sgn, sn, ebn, cs, vp, jc, cf, text_of, is_passed}
 use Rattle.stl_file.specs.SubtitleBlocks.{IsTimeAt, BelongsTo, AreLinked, Begins, AreBlocksOf}
 use Rattle.stl_file.specs.Subtitle.{SubtitleValue}
+use Rattle.stl_file.specs.Reading.{Begun, Step, More, Give}
 use Rattle.stl_file.specs.Reading.{step_at, closed, time_at, first_at, kept_at}
 use Rattle.stl_file.proofs.TimeCodeLemmas.{through, time_sound, time_complete}
 use Rattle.stl_file.proofs.SubtitleBlocksLemmas.{kept_by_both, passed_by_ebn, passed_by_comment}

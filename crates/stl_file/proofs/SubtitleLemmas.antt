@@ -37,15 +37,6 @@ has_no_unused-append (x ∷ xs) ys h k =
     by_head (eqb x unused_space) (has_no_unused xs) (has_no_unused (xs ++ ys)) h
     (λ r. has_no_unused-append xs ys r k)
 
--- one byte more
-pub no_unused_pushed : (xs : List ℕ) (x : ℕ)
-    → (x ≡ unused_space → ⊥)
-    → has_no_unused xs ≡ true
-    → has_no_unused (xs ++ x ∷ []) ≡ true
-no_unused_pushed xs x ne h =
-    let no : eqb x unused_space ≡ false = ne_eqb _ _ ne in
-    has_no_unused-append xs (x ∷ []) h (rw no refl)
-
 -- no byte of a text is an unused space
 abbrev pub IsClean : List ℕ → Type 0
 IsClean xs = AllByRecursion (λ (b : ℕ). b ≡ unused_space → ⊥) xs

@@ -1,5 +1,6 @@
 -- A reader of a subtitle file, and what each of its calls takes and leaves.
-use Rattle.std.specs.Prelude.{◌≡◌, ⊤, ℕ, ◌+◌, ◌-◌, ◌/◌, ◌≤◌, true, nat_lt, if◌then◌else◌}
+use Rattle.std.specs.Prelude.{◌≡◌, ⊤, ℕ, ◌+◌, ◌-◌, ◌/◌, ◌≤◌, Bool, true, false, nat_lt}
+use Rattle.std.specs.Prelude.{if◌then◌else◌}
 use Rattle.std.specs.Prelude.{List, [], ◌∷◌, ◌++◌, length, take, drop, filter}
 use Rattle.std.specs.Prelude.{Option, Some, None, Result, Ok, Err}
 use Rattle.std.specs.Io.KnownBytes.{Consumes, IsAtEnd}
@@ -27,6 +28,13 @@ pub record ReaderValue : Type 0 where
 abbrev pub HasPlace : Progress → ℕ → Type 0
 HasPlace Broken block = block ≤ most_blocks + 1
 HasPlace _ block = block ≤ most_blocks
+
+-- What `next_into` answers together with the subtitle that it fills, as `next` answers it.
+abbrev pub given_subtitle :
+    Result Bool StlFault → SubtitleValue → Result (Option SubtitleValue) StlFault
+given_subtitle (Ok true) s = Ok (Some s)
+given_subtitle (Ok false) s = Ok None
+given_subtitle (Err f) s = Err f
 
 -- ---- what is left to be given
 

@@ -2,15 +2,13 @@
 --
 -- The suffix `_at` means: as read at the front of these bytes, or the first fault in the order of
 -- the lines below.
-use Rattle.std.specs.Prelude.{ℕ, zero, suc, ◌+◌, ◌-◌, ◌*◌, ◌≤◌, not, ◌==◌, ◌&&◌, nat_lt, nat_le}
+use Rattle.std.specs.Prelude.{ℕ, zero, suc, ◌+◌, ◌-◌, ◌*◌, ◌≤◌, Bool, true, false, not, ◌==◌}
+use Rattle.std.specs.Prelude.{◌&&◌, nat_lt, nat_le}
 use Rattle.std.specs.Prelude.{List, [], ◌∷◌, ◌++◌, length, take, drop, slice_index, if◌then◌else◌}
 use Rattle.std.specs.Prelude.{Option, Some, None, Result, Ok, Err}
 use Rattle.sub_io.specs.Reading.{◌>>=◌}
 use Rattle.stl_file.specs.declared.fault.StlFault.{StlFault}
 use Rattle.stl_file.specs.declared.fault.StlFault.TheVariants as fault
-use Rattle.stl_file.specs.declared.step.Begun.{Begun}
-use Rattle.stl_file.specs.declared.step.Step.{Step}
-use Rattle.stl_file.specs.declared.step.Step.TheVariants.{More, Give}
 use Rattle.stl_file.specs.TimeCode.{frame_of, is_time_code}
 use Rattle.stl_file.specs.Tti.{block_size, most_blocks, most_of_subtitle}
 use Rattle.stl_file.specs.Tti.{first_reserved, user_data, last_block, not_cumulative, is_comment}
@@ -18,6 +16,18 @@ use Rattle.stl_file.specs.Tti.{sgn, sn, ebn, cs, vp, jc, cf, text_of, tci_place,
 use Rattle.stl_file.specs.Subtitle.{SubtitleValue}
 
 -- ---- one block
+
+-- a subtitle whose last block was not read yet: its fields, the text so far, and its blocks so far,
+-- 1 to 9
+pub record Begun : Type 0 where
+  pub subtitle : SubtitleValue
+  pub blocks : ℕ
+
+-- what a block brings: the blocks go on, within a subtitle or between two, or the block was the
+-- last of this subtitle
+pub data Step : Type 0 where
+  More : Option Begun → Step
+  Give : SubtitleValue → Step
 
 -- the frame of the time code at a place
 unfoldable pub time_at : List ℕ → ℕ → Result ℕ StlFault
@@ -66,6 +76,18 @@ kept_at (Some begun) b =
     else if begun.blocks == most_of_subtitle then Err fault.TooLong
     else Ok (closed (ebn b)
     (record begun.subtitle { text = begun.subtitle.text ++ text_of b }) (begun.blocks + 1))
+
+-- What was begun, where a subtitle is read in place: so many of its blocks were read, 0 before the
+-- first.
+abbrev pub begun_in : SubtitleValue → ℕ → Option Begun
+begun_in s count = if count == 0 then None else Some (record { subtitle = s; blocks = count })
+
+-- What a block brings, by the subtitle and the count that it leaves and by whether the subtitle is
+-- whole.
+abbrev pub step_in : SubtitleValue → ℕ → Result Bool StlFault → Result Step StlFault
+step_in s count (Err f) = Err f
+step_in s count (Ok true) = Ok (Give s)
+step_in s count (Ok false) = Ok (More (begun_in s count))
 
 -- any block: user data and comments leave what was begun as it is
 unfoldable pub step_at : Option Begun → List ℕ → Result Step StlFault

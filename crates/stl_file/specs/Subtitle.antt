@@ -16,6 +16,10 @@ pub record SubtitleValue : Type 0 where
   pub jc : ℕ
   pub text : List ℕ
 
+-- a subtitle without text, in row 1 of the day's first frame (own)
+abbrev pub empty_subtitle : SubtitleValue
+empty_subtitle = record { sgn = 0; sn = 0; tci = 0; tco = 1; vp = 1; jc = 0; text = [] }
+
 -- bytes of text that nine blocks have room for
 abbrev pub most_text : ℕ
 most_text = 1008

@@ -20,7 +20,6 @@ mod laws;
 mod normal_form;
 mod progress;
 mod reader;
-mod step;
 mod subtitle;
 mod subtitle_blocks;
 mod time_code;

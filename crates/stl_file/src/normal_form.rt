@@ -55,14 +55,15 @@ fn judge(gsi: Gsi, body: &[u8]) -> Result<Counts, NormalFault>
 {
     let mut source = MemSource::new(body);
     let mut reader = StlReader::behind(gsi);
+    let mut subtitle = Subtitle::empty();
     let mut counts = Counts { tnb: 0, tns: 0 };
-    loop {
-        match reader.next(&mut source) {
-            Ok(Some(subtitle)) => {
+    'subtitles: loop {
+        match reader.next_into(&mut source, &mut subtitle) {
+            Ok(true) => {
                 counts.tnb += count_of(&subtitle);
                 counts.tns += 1;
             }
-            Ok(None) => return Ok(counts),
+            Ok(false) => return Ok(counts),
             Err(fault) => {
                 return Err(NormalFault::Refused {
                     fault,
@@ -90,12 +91,13 @@ fn put_subtitles<K: Sink>(gsi: Gsi, body: &[u8], sink: &mut K) -> Result<(), Fai
 {
     let mut source = MemSource::new(body);
     let mut reader = StlReader::behind(gsi);
-    loop {
-        match reader.next(&mut source) {
-            Ok(Some(subtitle)) => {
+    let mut subtitle = Subtitle::empty();
+    'subtitles: loop {
+        match reader.next_into(&mut source, &mut subtitle) {
+            Ok(true) => {
                 write_subtitle(&subtitle, sink)?;
             }
-            Ok(None) => return Ok(()),
+            Ok(false) => return Ok(()),
             // The first reading has refused no block.
             Err(_) => unreachable!(),
         }

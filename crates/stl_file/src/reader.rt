@@ -11,13 +11,12 @@ ghost use Rattle.stl_file.specs.Fault.{is_format, is_read};
 ghost use Rattle.stl_file.specs.Gsi.{IsGsi};
 ghost use Rattle.stl_file.specs.Reader.{Leads, block_after, opened_at, FailsReading, HasPlace};
 ghost use Rattle.stl_file.specs.Reader.{Answers, Refuses, RefusesOpening, TakesPassed};
-ghost use Rattle.stl_file.specs.Reader.{TakesSubtitle, progress_after};
+ghost use Rattle.stl_file.specs.Reader.{TakesSubtitle, given_subtitle, progress_after};
 ghost use Rattle.stl_file.specs.Tti.{most_blocks};
 
 use crate::fault::StlFault;
 use crate::gsi::Gsi;
 use crate::progress::Progress;
-use crate::step::{Begun, Step};
 use crate::subtitle::Subtitle;
 use crate::subtitle_blocks::take_block;
 use crate::tti::Tti;
@@ -162,19 +161,78 @@ impl StlReader {
             (self.new ≡ self.old) × (source.new ≡ source.old) }
         ensures count { CountsIf S.failure_count source.old (failed is_read result) source.new }
     {
+        let mut subtitle = Subtitle::empty();
+        match self.next_into(source, &mut subtitle) {
+            Ok(true) => Ok(Some(subtitle)),
+            Ok(false) => Ok(None),
+            Err(fault) => Err(fault),
+        }
+    }
+
+    /// Reads the next subtitle into one that the caller keeps: `true` where `next` gives a
+    /// subtitle, `false` where it gives `None`.
+    ///
+    /// The subtitle then is the one that `next` would give. Where it gives none, nothing is said of
+    /// what the subtitle holds.
+    ///
+    /// # Errors
+    ///
+    /// Those of `next`.
+    pub fn next_into<S: Source>(
+        &mut self,
+        source: &mut S,
+        subtitle: &mut Subtitle,
+    ) -> Result<bool, StlFault>
+        requires { CanFail (S.failure_count source.old) }
+        // Where the source tells its bytes and does not fail, they decide the answer, its block and
+        // what is left.
+        ensures exact { IfTold (S.remaining source.old) (λ bytes. failed is_read result ≡ false →
+            Answers self.old bytes self.new (S.remaining source.new)
+            (given_subtitle result subtitle.new)) }
+
+        // A subtitle is that of the blocks that were taken, with the passed blocks before and
+        // inside them.
+        ensures subtitle { self.old.progress ≡ Reading → result ≡ Ok true
+            → TakesSubtitle self.old.block self.new.block
+            (S.remaining source.old) (S.remaining source.new) subtitle.new }
+        // `false` comes where passed blocks alone are left.
+        ensures none { self.old.progress ≡ Reading → result ≡ Ok false
+            → TakesPassed self.old.block self.new.block
+            (S.remaining source.old) (S.remaining source.new) }
+        // A refusal is that of no file.
+        ensures refused { self.old.progress ≡ Reading → IfErr result (λ fault.
+            is_format fault ≡ true → Refuses self.old.block self.new.block
+            (S.remaining source.old) (S.remaining source.new) fault) }
+        // A source that failed failed at this block.
+        ensures failed { self.old.progress ≡ Reading → failed is_read result ≡ true →
+            FailsReading self.old.block self.new.block
+            (S.remaining source.old) (S.remaining source.new) }
+
+        ensures progress { self.new.progress ≡ progress_after self.old.progress
+            (given_subtitle result subtitle.new) }
+        ensures place { HasPlace self.new.progress self.new.block }
+        ensures gsi { self.new.gsi ≡ self.old.gsi }
+        // After the end and after a fault nothing is taken, and the reader stays as it is.
+        ensures at_end { self.old.progress ≡ AtEnd →
+            (result ≡ Ok false) × (self.new ≡ self.old) × (source.new ≡ source.old) }
+        ensures ended { (self.old.progress ≡ Broken) ↔ (result ≡ Err Ended) }
+        ensures stays { self.old.progress ≡ Broken →
+            (self.new ≡ self.old) × (source.new ≡ source.old) }
+        ensures count { CountsIf S.failure_count source.old (failed is_read result) source.new }
+    {
         let mut block = match self.progress {
             Progress::Reading => self.block,
-            Progress::AtEnd => return Ok(None),
+            Progress::AtEnd => return Ok(false),
             Progress::Broken => return Err(StlFault::Ended),
         };
-        let result = read_subtitle(&mut block, source);
+        let result = read_subtitle(&mut block, source, subtitle);
         self.block = match &result {
             Ok(_) => block,
             Err(fault) => block_of(block, fault),
         };
         self.progress = match &result {
-            Ok(Some(_)) => Progress::Reading,
-            Ok(None) => Progress::AtEnd,
+            Ok(true) => Progress::Reading,
+            Ok(false) => Progress::AtEnd,
             Err(_) => Progress::Broken,
         };
         result
@@ -182,15 +240,20 @@ impl StlReader {
 }
 
 // The next subtitle of a file of which `block` blocks were read.
-fn read_subtitle<S: Source>(block: &mut u32, source: &mut S) -> Result<Option<Subtitle>, StlFault>
+fn read_subtitle<S: Source>(
+    block: &mut u32,
+    source: &mut S,
+    subtitle: &mut Subtitle,
+) -> Result<bool, StlFault>
     requires few { block.old ≤ most_blocks }
     requires count { CanFail (S.failure_count source.old) }
     ensures exact { IfTold (S.remaining source.old) (λ bytes. failed is_read result ≡ false →
-        Leads block.old bytes block.new (S.remaining source.new) result) }
-    ensures subtitle { IfOk result (λ found. IfSome found (TakesSubtitle block.old block.new
-        (S.remaining source.old) (S.remaining source.new))) }
-    ensures none { IfOk result (λ found. IfNone found (TakesPassed block.old block.new
-        (S.remaining source.old) (S.remaining source.new))) }
+        Leads block.old bytes block.new (S.remaining source.new)
+        (given_subtitle result subtitle.new)) }
+    ensures subtitle { result ≡ Ok true → TakesSubtitle block.old block.new
+        (S.remaining source.old) (S.remaining source.new) subtitle.new }
+    ensures none { result ≡ Ok false → TakesPassed block.old block.new
+        (S.remaining source.old) (S.remaining source.new) }
     ensures refused { IfErr result (λ fault. is_format fault ≡ true →
         Refuses block.old (block_after block.new fault)
         (S.remaining source.old) (S.remaining source.new) fault) }
@@ -200,14 +263,15 @@ fn read_subtitle<S: Source>(block: &mut u32, source: &mut S) -> Result<Option<Su
     ensures few { block.new ≤ most_blocks }
     ensures count { CountsIf S.failure_count source.old (failed is_read result) source.new }
 {
-    let mut begun: Option<Begun> = None;
+    let mut count = 0;
     loop {
         let mut bytes = [0; 128];
         let got = fill(source, &mut bytes)?;
         if got == 0 {
-            return match begun {
-                None => Ok(None),
-                Some(_) => Err(StlFault::Unfinished),
+            return if count == 0 {
+                Ok(false)
+            } else {
+                Err(StlFault::Unfinished)
             };
         }
         if *block == 99999 {
@@ -217,9 +281,9 @@ fn read_subtitle<S: Source>(block: &mut u32, source: &mut S) -> Result<Option<Su
         if got < 128 {
             return Err(StlFault::Truncated);
         }
-        match take_block(begun, &Tti::read(&bytes))? {
-            Step::Give(subtitle) => return Ok(Some(subtitle)),
-            Step::More(next) => begun = next,
+        let is_whole = take_block(subtitle, &mut count, &Tti::read(&bytes))?;
+        if is_whole {
+            return Ok(true);
         }
     }
 }

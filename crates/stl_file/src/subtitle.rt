@@ -1,10 +1,12 @@
 //! Subtitles, with their text in the file's code (EBU Tech 3264).
 
-ghost use Rattle.std.specs.Prelude.{◌≡◌, ◌+◌, ◌≤◌, ◌++◌, length, true, ◌==◌, ◌&&◌, IfErr, IfOk};
+ghost use Rattle.std.specs.Prelude.{◌≡◌, ◌+◌, ◌≤◌, ◌++◌, length, take, true, ◌==◌, ◌&&◌};
+ghost use Rattle.std.specs.Prelude.{Err, IfErr, Ok, OnOk};
 ghost use Rattle.std.specs.Option.{SomeIff};
 ghost use Rattle.stl_file.specs.Fault.{is_format, is_of_block};
 ghost use Rattle.stl_file.specs.Reading.{first_at, time_at};
-ghost use Rattle.stl_file.specs.Subtitle.{IsSubtitle, SubtitleValue, has_no_unused};
+ghost use Rattle.stl_file.specs.Subtitle.{IsSubtitle, SubtitleValue, empty_subtitle};
+ghost use Rattle.stl_file.specs.Subtitle.{has_no_unused};
 ghost use Rattle.stl_file.specs.Tti.{before_unused, sgn, sn, tci_place, tco_place, text_of};
 
 use crate::fault::StlFault;
@@ -152,11 +154,27 @@ impl Subtitle {
         self.text.as_slice()
     }
 
-    // The subtitle that a first block begins, with the text of that block.
+    /// A subtitle without text, in row 1 of the day's first frame: one to read others into (own).
+    pub fn empty() -> Subtitle
+        ensures { result ≡ empty_subtitle }
+    {
+        Subtitle {
+            sgn: 0,
+            sn: 0,
+            tci: TimeCode::of_frame(0),
+            tco: TimeCode::of_frame(1),
+            vp: 1,
+            jc: 0,
+            text: ArrayVec::new(),
+        }
+    }
+
+    // Becomes the subtitle that a first block begins, with the text of that block.
     #[tactic(auto, unfolding(crate::specs::Reading::first_at))]
-    pub(crate) fn of_first(block: &Tti) -> Result<Subtitle, StlFault>
-        ensures exact { first_at block.now ≡ result }
-        ensures room { IfOk result (λ s. length s.text ≤ 112) }
+    pub(crate) fn begin(&mut self, block: &Tti) -> Result<(), StlFault>
+        ensures ok { OnOk result (first_at block.now ≡ Ok self.new) }
+        ensures err { IfErr result (λ fault. first_at block.now ≡ Err fault) }
+        ensures room { OnOk result (length self.new.text ≤ 112) }
         ensures kind { IfErr result (λ fault. is_format fault ≡ true) }
         ensures own { IfErr result (λ fault. is_of_block fault ≡ true) }
     {
@@ -176,17 +194,15 @@ impl Subtitle {
         if tci.frame() >= tco.frame() {
             return Err(StlFault::EmptyTime);
         }
-        let mut text = ArrayVec::new();
-        push_text(&mut text, block.tf());
-        Ok(Subtitle {
-            sgn: block.sgn(),
-            sn: block.sn(),
-            tci,
-            tco,
-            vp,
-            jc,
-            text,
-        })
+        self.sgn = block.sgn();
+        self.sn = block.sn();
+        self.tci = tci;
+        self.tco = tco;
+        self.vp = vp;
+        self.jc = jc;
+        self.text.clear();
+        push_text(&mut self.text, block.tf());
+        Ok(())
     }
 
     // Adds the text of a further block.
@@ -255,12 +271,21 @@ fn push_text(text: &mut ArrayVec<u8, 1008>, field: &[u8])
     ensures room { length text.new.items ≤ length text.old.items + length field.now }
     ensures clean { has_no_unused text.old.items ≡ true → has_no_unused text.new.items ≡ true }
 {
-    for byte in field {
-        if *byte == 0x8f {
-            return;
+    let (used, _) = field.split_at(used_of(field));
+    push_all(text, used);
+}
+
+// How many bytes of a text field stand before the first unused space.
+fn used_of(field: &[u8]) -> usize
+    ensures within { result ≤ length field.now }
+    ensures used { take result field.now ≡ before_unused field.now }
+{
+    for at in 0..field.len() {
+        if field[at] == 0x8f {
+            return at;
         }
-        text.push(*byte);
     }
+    field.len()
 }
 
 // Adds bytes to a text.

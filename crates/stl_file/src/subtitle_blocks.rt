@@ -1,31 +1,38 @@
 //! The blocks of one subtitle: what each next block of a file brings.
 
-ghost use Rattle.std.specs.Prelude.{◌≡◌, IfErr, IfOk, true};
+ghost use Rattle.std.specs.Prelude.{◌≡◌, IfErr, OnOk, None, Some, true};
 ghost use Rattle.stl_file.specs.Fault.{is_format, is_of_block};
-ghost use Rattle.stl_file.specs.Reading.{BegunFits, StepFits, closed, kept_at, step_at};
+ghost use Rattle.stl_file.specs.Reading.{BegunFits, begun_in, kept_at, step_at, step_in};
 
 use crate::fault::StlFault;
-use crate::step::{Begun, Step};
 use crate::subtitle::Subtitle;
 use crate::tti::Tti;
 
-/// What the next block of a file brings, where a subtitle was begun or not.
+/// What the next block of a file brings: `true` where it is the last of a subtitle.
+///
+/// The subtitle is read in place, since one is a kilobyte to be moved. Before its first block
+/// `count` is 0, and what the subtitle holds counts for nothing.
 ///
 /// # Errors
 ///
 /// `Extension`, `CommentFlag`; then of a block that is not passed over, within a subtitle
 /// `Sequence`, `TooLong`, else `Cumulative`, `Justify`, `Row`, `Time`, `EmptyTime`.
 #[tactic(auto, unfolding(crate::specs::Reading::step_at))]
-pub(crate) fn take_block(begun: Option<Begun>, block: &Tti) -> Result<Step, StlFault>
-    requires { BegunFits begun }
-    ensures exact { step_at begun block.now ≡ result }
-    ensures room { IfOk result StepFits }
+pub(crate) fn take_block(
+    subtitle: &mut Subtitle,
+    count: &mut u8,
+    block: &Tti,
+) -> Result<bool, StlFault>
+    requires { BegunFits (begun_in subtitle.old count.old) }
+    ensures exact { step_at (begun_in subtitle.old count.old) block.now
+        ≡ step_in subtitle.new count.new result }
+    ensures room { OnOk result (BegunFits (begun_in subtitle.new count.new)) }
     ensures kind { IfErr result (λ fault. is_format fault ≡ true) }
     ensures own { IfErr result (λ fault. is_of_block fault ≡ true) }
 {
     let ebn = block.ebn();
     if ebn == 0xfe {
-        return Ok(Step::More(begun));
+        return Ok(false);
     }
     if ebn >= 0xf0 && ebn != 0xff {
         return Err(StlFault::Extension);
@@ -35,45 +42,57 @@ pub(crate) fn take_block(begun: Option<Begun>, block: &Tti) -> Result<Step, StlF
         return Err(StlFault::CommentFlag);
     }
     if comment == 1 {
-        return Ok(Step::More(begun));
+        return Ok(false);
     }
-    take_kept(begun, block)
+    take_kept(subtitle, count, block)
 }
 
 // A block that is not passed over.
-#[tactic(auto, unfolding(crate::specs::Reading::kept_at))]
-fn take_kept(begun: Option<Begun>, block: &Tti) -> Result<Step, StlFault>
-    requires { BegunFits begun }
-    ensures exact { kept_at begun block.now ≡ result }
-    ensures room { IfOk result StepFits }
+fn take_kept(subtitle: &mut Subtitle, count: &mut u8, block: &Tti) -> Result<bool, StlFault>
+    requires { BegunFits (begun_in subtitle.old count.old) }
+    ensures exact { kept_at (begun_in subtitle.old count.old) block.now
+        ≡ step_in subtitle.new count.new result }
+    ensures room { OnOk result (BegunFits (begun_in subtitle.new count.new)) }
     ensures kind { IfErr result (λ fault. is_format fault ≡ true) }
     ensures own { IfErr result (λ fault. is_of_block fault ≡ true) }
 {
-    let Some(begun) = begun else {
-        let subtitle = Subtitle::of_first(block)?;
-        return Ok(close(block.ebn(), subtitle, 1));
-    };
-    let Begun {
-        mut subtitle,
-        blocks,
-    } = begun;
+    if *count == 0 {
+        take_first(subtitle, count, block)
+    } else {
+        take_further(subtitle, count, block)
+    }
+}
+
+// The first block of a subtitle.
+#[tactic(auto, unfolding(crate::specs::Reading::kept_at))]
+fn take_first(subtitle: &mut Subtitle, count: &mut u8, block: &Tti) -> Result<bool, StlFault>
+    ensures exact { kept_at None block.now ≡ step_in subtitle.new count.new result }
+    ensures room { OnOk result (BegunFits (begun_in subtitle.new count.new)) }
+    ensures kind { IfErr result (λ fault. is_format fault ≡ true) }
+    ensures own { IfErr result (λ fault. is_of_block fault ≡ true) }
+{
+    subtitle.begin(block)?;
+    *count = 1;
+    Ok(block.ebn() == 0xff)
+}
+
+// A further block of a subtitle.
+#[tactic(auto, unfolding(crate::specs::Reading::kept_at))]
+fn take_further(subtitle: &mut Subtitle, count: &mut u8, block: &Tti) -> Result<bool, StlFault>
+    requires { BegunFits (Some (record { subtitle = subtitle.old; blocks = count.old })) }
+    ensures exact { kept_at (Some (record { subtitle = subtitle.old; blocks = count.old }))
+        block.now ≡ step_in subtitle.new count.new result }
+    ensures room { OnOk result (BegunFits (begun_in subtitle.new count.new)) }
+    ensures kind { IfErr result (λ fault. is_format fault ≡ true) }
+    ensures own { IfErr result (λ fault. is_of_block fault ≡ true) }
+{
     if !subtitle.is_of(block) {
         return Err(StlFault::Sequence);
     }
-    if blocks == 9 {
+    if *count == 9 {
         return Err(StlFault::TooLong);
     }
     subtitle.extend(block);
-    Ok(close(block.ebn(), subtitle, blocks + 1))
-}
-
-// A subtitle is whole after EBN FF, and goes on after any other.
-fn close(ebn: u8, subtitle: Subtitle, blocks: u8) -> Step
-    ensures { closed ebn subtitle blocks ≡ result }
-{
-    if ebn == 0xff {
-        Step::Give(subtitle)
-    } else {
-        Step::More(Some(Begun { subtitle, blocks }))
-    }
+    *count += 1;
+    Ok(block.ebn() == 0xff)
 }

@@ -92,14 +92,15 @@ pub fn load_in<A: Allocator + Drop, S: Source>(
     };
     let mut subtitles = Vec::new(alloc);
     'subtitles: loop {
-        match reader.next(source) {
+        let mut subtitle = Subtitle::empty();
+        match reader.next_into(source, &mut subtitle) {
             Err(fault) => {
                 let block = reader.block();
                 let kind = LoadFaultKind::File(fault);
                 return Err(LoadFault { block, kind });
             }
-            Ok(None) => return Ok(subtitles),
-            Ok(Some(subtitle)) => {
+            Ok(false) => return Ok(subtitles),
+            Ok(true) => {
                 if let Err(kind) = put(national, &mut subtitles, subtitle) {
                     return Err(LoadFault {
                         block: reader.block(),

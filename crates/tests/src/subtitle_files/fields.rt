@@ -176,3 +176,39 @@ fn gives_the_fields_of_the_first_block_and_the_text_of_all(rt: HostRuntime) {
     assert!(rt; reader.next(&mut source).expect(&rt, "it is read").is_none());
     assert!(rt; Tti::read(&block(&ALONE, b"Hi")).sn() == second.sn());
 }
+
+#[test]
+fn reads_each_subtitle_into_one_that_is_kept(rt: HostRuntime) {
+    let file = a_file();
+    let mut source = MemSource::new(&file);
+    let mut reader = StlReader::open(&mut source).expect(&rt, "it is read");
+    let mut subtitle = Subtitle::empty();
+    assert_eq!(rt;
+        (
+            subtitle.tci().frame(),
+            subtitle.tco().frame(),
+            subtitle.vp()
+        ),
+        (0, 1, 1)
+    );
+    assert!(rt;
+        reader
+            .next_into(&mut source, &mut subtitle)
+            .expect(&rt, "it is read")
+    );
+    assert_eq!(rt;
+        (subtitle.sn(), subtitle.text().len(), reader.block()),
+        (0x0105, 224, 4)
+    );
+    assert!(rt;
+        reader
+            .next_into(&mut source, &mut subtitle)
+            .expect(&rt, "it is read")
+    );
+    assert!(rt; subtitle.sn() == 0x0106 && subtitle.text() == b"Hi".as_slice());
+    assert!(rt;
+        !reader
+            .next_into(&mut source, &mut subtitle)
+            .expect(&rt, "it is read")
+    );
+}

@@ -8,25 +8,25 @@ use Rattle.stl_file.proofs.normal_form.judge.Goals as goal
 
 pub overflow_add-counts : goal.overflow_add-counts
 overflow_add-counts c =
-    let i = c.loop-subtitle.invariant in
-    let s = c.in-Ok-Some.subtitle in
-    let t = pass_turn c.args.body.now c.loop-subtitle.source c.next.new.source
-    c.loop-subtitle.reader c.next.new.self i.done c.in-Ok-Some.field-0 s _ _ i.pass
-    c.in-Ok-Some.field-0-is (c.in-Ok-Some.ensures.exact c.loop-subtitle.source refl refl)
-    c.in-Ok-Some.ensures.subtitle c.in-Ok-Some.ensures.progress c.in-Ok-Some.ensures.place in
+    let i = c.subtitles.invariant in
+    let s = c.next_into.new.subtitle in
+    let t = pass_turn c.args.body.now c.subtitles.source c.next_into.new.source
+    c.subtitles.reader c.next_into.new.self i.done c.in-Ok-true.field-0 s _ _ i.pass
+    c.in-Ok-true.field-0-test (c.in-Ok-true.ensures.exact c.subtitles.source refl refl)
+    c.in-Ok-true.ensures.subtitle c.in-Ok-true.ensures.progress c.in-Ok-true.ensures.place in
     let a = t.block_room in
     let b = i.block_count in
     let n = c.count_of.ensures in
     omega arith
 
-pub loop-subtitle-preserved : goal.loop-subtitle-preserved
-loop-subtitle-preserved c =
-    let i = c.loop-subtitle.invariant in
-    let s = c.in-Ok-Some.subtitle in
-    let t = pass_turn c.args.body.now c.loop-subtitle.source c.next.new.source
-    c.loop-subtitle.reader c.next.new.self i.done c.in-Ok-Some.field-0 s _ _ i.pass
-    c.in-Ok-Some.field-0-is (c.in-Ok-Some.ensures.exact c.loop-subtitle.source refl refl)
-    c.in-Ok-Some.ensures.subtitle c.in-Ok-Some.ensures.progress c.in-Ok-Some.ensures.place in
+pub subtitles-preserved : goal.subtitles-preserved
+subtitles-preserved c =
+    let i = c.subtitles.invariant in
+    let s = c.next_into.new.subtitle in
+    let t = pass_turn c.args.body.now c.subtitles.source c.next_into.new.source
+    c.subtitles.reader c.next_into.new.self i.done c.in-Ok-true.field-0 s _ _ i.pass
+    c.in-Ok-true.field-0-test (c.in-Ok-true.ensures.exact c.subtitles.source refl refl)
+    c.in-Ok-true.ensures.subtitle c.in-Ok-true.ensures.progress c.in-Ok-true.ensures.place in
     let b = i.block_count in
     let n = c.count_of.ensures in
     let k = i.subtitle_count in
@@ -40,21 +40,22 @@ loop-subtitle-preserved c =
       subtitle_count = let l = length-append i.done (s ∷ []) in omega arith;
     }
 
-pub returns-in-Ok-None-clause-exact : goal.returns-in-Ok-None-clause-exact
-returns-in-Ok-None-clause-exact c =
-    let i = c.loop-subtitle.invariant in
+pub returns-in-Ok-false-clause-exact : goal.returns-in-Ok-false-clause-exact
+returns-in-Ok-false-clause-exact c =
+    let i = c.subtitles.invariant in
     counted_end _ i.done _
-    (pass_ends c.args.body.now c.loop-subtitle.source c.next.new.source c.loop-subtitle.reader
-    c.next.new.self i.done c.in-Ok-None.field-0 i.pass c.in-Ok-None.field-0-is
-    (c.in-Ok-None.ensures.exact c.loop-subtitle.source refl refl))
+    (pass_ends c.args.body.now c.subtitles.source c.next_into.new.source c.subtitles.reader
+    c.next_into.new.self i.done c.in-Ok-false.field-0 c.next_into.new.subtitle
+    i.pass c.in-Ok-false.field-0-test
+    (c.in-Ok-false.ensures.exact c.subtitles.source refl refl))
     i.block_count i.subtitle_count
 
 pub returns-in-Err-clause-exact : goal.returns-in-Err-clause-exact
 returns-in-Err-clause-exact c =
-    let i = c.loop-subtitle.invariant in
+    let i = c.subtitles.invariant in
     refused_same _ c.in-Err.fault _ _
-    (pass_refused c.args.body.now c.loop-subtitle.source c.next.new.source
-    c.loop-subtitle.reader c.next.new.self i.done i.pass c.in-Err.fault
-    (c.in-Err.ensures.exact c.loop-subtitle.source refl
+    (pass_refused c.args.body.now c.subtitles.source c.next_into.new.source
+    c.subtitles.reader c.next_into.new.self i.done i.pass c.in-Err.fault
+    (c.in-Err.ensures.exact c.subtitles.source refl
     (no_failure _ c.in-Err.ensures.count)))
     c.block.ensures.value

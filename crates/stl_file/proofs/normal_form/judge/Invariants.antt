@@ -6,13 +6,13 @@ use Rattle.stl_file.specs.Tti.{most_blocks}
 use Rattle.stl_file.proofs.NormalCountsLemmas.{Passes}
 use Rattle.stl_file.proofs.normal_form.judge.Given as goal
 
-abbrev pub invariant-loop-subtitle : goal.invariant-loop-subtitle
-invariant-loop-subtitle l = record {
+abbrev pub invariant-subtitles : goal.invariant-subtitles
+invariant-subtitles l = record {
   done : List SubtitleValue;
   pass : Passes l.body l.reader l.source done;
   block_count : l.counts.tnb ≡ length (all_blocks done);
   subtitle_count : l.counts.tns ≡ length done;
 }
 
-abbrev pub decreases-loop-subtitle : goal.decreases-loop-subtitle
-decreases-loop-subtitle l = most_blocks - l.reader.block
+abbrev pub decreases-subtitles : goal.decreases-subtitles
+decreases-subtitles l = most_blocks - l.reader.block

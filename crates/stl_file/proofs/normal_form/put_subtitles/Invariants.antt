@@ -8,8 +8,8 @@ use Rattle.stl_file.specs.Tti.{most_blocks}
 use Rattle.stl_file.proofs.NormalCountsLemmas.{Passes}
 use Rattle.stl_file.proofs.normal_form.put_subtitles.Given as goal
 
-abbrev pub invariant-loop-subtitle : goal.invariant-loop-subtitle
-invariant-loop-subtitle g l = record {
+abbrev pub invariant-subtitles : goal.invariant-subtitles
+invariant-subtitles g l = record {
   done : List SubtitleValue;
   pass : Passes l.body l.reader l.source done;
   wrote : Appends (g.K.Sink.contents l.initial.sink) (g.K.Sink.contents l.sink)
@@ -17,5 +17,5 @@ invariant-loop-subtitle g l = record {
   count : g.K.Sink.failure_count l.sink ≡ g.K.Sink.failure_count l.initial.sink;
 }
 
-abbrev pub decreases-loop-subtitle : goal.decreases-loop-subtitle
-decreases-loop-subtitle g l = most_blocks - l.reader.block
+abbrev pub decreases-subtitles : goal.decreases-subtitles
+decreases-subtitles g l = most_blocks - l.reader.block

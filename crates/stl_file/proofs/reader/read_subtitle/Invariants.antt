@@ -1,15 +1,15 @@
 -- What the loop keeps: the blocks that were read so far, and room for those that may follow.
 use Rattle.std.proofs.Common.{◌≡◌, ◌≤◌, ◌-◌}
-use Rattle.stl_file.specs.Reading.{BegunFits}
+use Rattle.stl_file.specs.Reading.{BegunFits, begun_in}
 use Rattle.stl_file.specs.Tti.{most_blocks}
 use Rattle.stl_file.proofs.ReaderLemmas.{HasRead}
 use Rattle.stl_file.proofs.reader.read_subtitle.Given as goal
 
 abbrev pub invariant-loop-got : goal.invariant-loop-got
 invariant-loop-got g l = record {
-  fits : BegunFits l.begun;
+  fits : BegunFits (begun_in l.subtitle l.count);
   read : HasRead l.initial.block (g.S.Source.remaining l.initial.source)
-      (g.S.Source.remaining l.source) l.block l.begun;
+      (g.S.Source.remaining l.source) l.block (begun_in l.subtitle l.count);
   few : l.block ≤ most_blocks;
   count : g.S.Source.failure_count l.source ≡ g.S.Source.failure_count l.initial.source;
 }

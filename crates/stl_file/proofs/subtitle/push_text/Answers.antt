@@ -1,17 +1,25 @@
--- One byte more goes to the text.
-use Rattle.std.proofs.Common.{arith, ◌∙◌}
-use Rattle.stl_file.proofs.SubtitleLemmas.{text_more, no_unused_pushed}
+-- The text gets what stands before the unused space, and that has none.
+use Rattle.std.proofs.Common.{◌≡◌, ℕ, List, [], ◌∷◌, Bool, true, false, cond, eqb, refl}
+use Rattle.stl_file.specs.Subtitle.{has_no_unused}
+use Rattle.stl_file.specs.Tti.{before_unused, unused_space}
+use Rattle.stl_file.proofs.SubtitleLemmas.{has_no_unused-append}
 use Rattle.stl_file.proofs.subtitle.push_text.Goals as goal
 
-pub loop-byte-preserved : goal.loop-byte-preserved
-loop-byte-preserved c = record {
-  room = omega (arith, c.push.ensures.len);
-  most = omega (arith, c.push.ensures.len);
-  same = rw c.push.ensures.items
-      (text_more c.loop-byte.text.items c.args.field.now c.loop-byte.byte-index
-      c.loop-byte-test.true c.if-byte.false
-      ∙ c.loop-byte.invariant.same);
-  clean = λ h.
-      rw c.push.ensures.items
-      (no_unused_pushed c.loop-byte.text.items _ c.if-byte.false (c.loop-byte.invariant.clean h));
-}
+-- a head that is unused space or not, and a tail without unused space
+by_head : (t : Bool) (x : ℕ) (xs : List ℕ)
+    → eqb x unused_space ≡ t
+    → has_no_unused xs ≡ true
+    → has_no_unused (cond t [] (x ∷ xs)) ≡ true
+by_head true x xs e h = refl
+by_head false x xs e h = rw e h
+
+-- what stands before the first unused space has none
+no_unused_before : (xs : List ℕ) → has_no_unused (before_unused xs) ≡ true
+no_unused_before [] = refl
+no_unused_before (x ∷ xs) =
+    by_head (eqb x unused_space) x (before_unused xs) refl (no_unused_before xs)
+
+pub returns-clause-clean : goal.returns-clause-clean
+returns-clause-clean c = λ h.
+    rw (c.push_all.ensures, c.split_at.ensures.front, c.used_of.ensures.used)
+    (has_no_unused-append c.args.text.now.items _ h (no_unused_before c.args.field.now))

@@ -1,8 +1,8 @@
 -- Each way out tells what the whole file gives: tells-opening, tells-next, tells-none,
 -- tells-refused.
 use Rattle.std.proofs.Common.{refl, rules, ap}
-use Rattle.std.specs.Prelude.{Ok, Option, Result}
-use Rattle.stl_file.specs.Subtitle.{SubtitleValue}
+use Rattle.std.specs.Prelude.{Bool, Ok, Result, Some}
+use Rattle.stl_file.specs.Reader.{given_subtitle}
 use Rattle.stl_file.specs.declared.fault.StlFault.{StlFault}
 use Rattle.stl_file.specs.Gsi.{gsi_size}
 use Rattle.std.proofs.Common.{drop}
@@ -39,58 +39,59 @@ subtitles-init g c = record {
       );
 }
 
-pub returns-in-Err-next-clause-fault : goal.returns-in-Err-next-clause-fault
-returns-in-Err-next-clause-fault g c = λ bytes e.
+pub returns-in-Err-next_into-clause-fault : goal.returns-in-Err-next_into-clause-fault
+returns-in-Err-next_into-clause-fault g c = λ bytes e.
     let i = c.subtitles.invariant.told bytes e in
     tells-next c.args.national bytes i.0 c.subtitles.subtitles.items c.subtitles.reader
-    c.next.new.self _ c.in-Err-next.fault c.block-block.result
-    i.2 c.block-block.ensures.value (λ ok. c.in-Err-next.ensures.exact i.0 i.1 ok)
+    c.next_into.new.self _ c.in-Err-next_into.fault c.block-block.result
+    i.2 c.block-block.ensures.value (λ ok. c.in-Err-next_into.ensures.exact i.0 i.1 ok)
 
-pub returns-in-Err-next-clause-read : goal.returns-in-Err-next-clause-read
-returns-in-Err-next-clause-read g c = λ is.
+pub returns-in-Err-next_into-clause-read : goal.returns-in-Err-next_into-clause-read
+returns-in-Err-next_into-clause-read g c = λ is.
     let i = c.subtitles.invariant in
     fails-next c.args.national _ _ _ c.subtitles.subtitles.items c.subtitles.reader
-    c.next.new.self.block c.block-block.result i.taken i.reading i.told
-    (c.in-Err-next.ensures.failed i.reading is)
+    c.next_into.new.self.block c.block-block.result i.taken i.reading i.told
+    (c.in-Err-next_into.ensures.failed i.reading is)
     c.block-block.ensures.value
 
-pub returns-in-Ok-None-clause-exact : goal.returns-in-Ok-None-clause-exact
-returns-in-Ok-None-clause-exact g c = λ bytes e.
+pub returns-in-Ok-false-clause-exact : goal.returns-in-Ok-false-clause-exact
+returns-in-Ok-false-clause-exact g c = λ bytes e.
     let i = c.subtitles.invariant.told bytes e in
     tells-none c.args.national bytes i.0 c.subtitles.subtitles.items c.subtitles.reader
-    c.next.new.self _ _
-    i.2 (ap (λ x. let r : Result (Option SubtitleValue) StlFault = Ok x in r)
-    c.in-Ok-None.field-0-is) (c.in-Ok-None.ensures.exact i.0 i.1 refl)
+    c.next_into.new.self _ _
+    i.2 (ap (λ (t : Bool). given_subtitle (Ok t) c.next_into.new.subtitle)
+    c.in-Ok-false.field-0-test) (c.in-Ok-false.ensures.exact i.0 i.1 refl)
 
 pub returns-in-Err-put-clause-fault : goal.returns-in-Err-put-clause-fault
 returns-in-Err-put-clause-fault g c = λ bytes e.
     let i = c.subtitles.invariant.told bytes e in
     tells-refused c.args.national bytes i.0 c.subtitles.subtitles.items c.subtitles.reader
-    c.next.new.self _ _ c.in-Ok-Some.subtitle c.block.result c.in-Err-put.kind
-    i.2 (ap (λ x. let r : Result (Option SubtitleValue) StlFault = Ok x in r)
-    c.in-Ok-Some.field-0-is) (c.in-Ok-Some.ensures.exact i.0 i.1 refl)
+    c.next_into.new.self _ _ c.next_into.new.subtitle c.block.result c.in-Err-put.kind
+    i.2 (ap (λ (t : Bool). given_subtitle (Ok t) c.next_into.new.subtitle)
+    c.in-Ok-true.field-0-test) (c.in-Ok-true.ensures.exact i.0 i.1 refl)
     c.block.ensures.value c.in-Err-put.ensures.fault
 
 pub subtitles-preserved : goal.subtitles-preserved
 subtitles-preserved g c = record {
   programme = search rules;
   reading =
-      still_reading _ _ _ c.in-Ok-Some.subtitle c.in-Ok-Some.ensures.progress
-      (ap (λ x. let r : Result (Option SubtitleValue) StlFault = Ok x in r)
-      c.in-Ok-Some.field-0-is) c.subtitles.invariant.reading;
+      still_reading _ _ _ c.next_into.new.subtitle c.in-Ok-true.ensures.progress
+      (ap (λ (t : Bool). given_subtitle (Ok t) c.next_into.new.subtitle)
+      c.in-Ok-true.field-0-test) c.subtitles.invariant.reading;
   count = search rules;
-  taken = has_taken-next _ _ _ _ _ _ c.in-Ok-Some.subtitle
-      (ap (λ x. let r : Result (Option SubtitleValue) StlFault = Ok x in r)
-      c.in-Ok-Some.field-0-is) (c.in-Ok-Some.ensures.subtitle c.subtitles.invariant.reading)
+  taken = has_taken-next _ _ _ _ _ (Ok (Some c.next_into.new.subtitle)) c.next_into.new.subtitle
+      refl
+      (c.in-Ok-true.ensures.subtitle c.subtitles.invariant.reading
+      (ap (λ (t : Bool). let r : Result Bool StlFault = Ok t in r) c.in-Ok-true.field-0-test))
       c.subtitles.invariant.taken;
   told = λ bytes e.
       let i = c.subtitles.invariant.told bytes e in
-      let a = c.in-Ok-Some.ensures.exact i.0 i.1 refl in (
+      let a = c.in-Ok-true.ensures.exact i.0 i.1 refl in (
         a.rest,
         a.rest_is,
         goes_on-put c.args.national bytes i.0 c.subtitles.subtitles.items _
-            c.subtitles.reader c.next.new.self _ _ c.in-Ok-Some.subtitle
-            i.2 (ap (λ x. let r : Result (Option SubtitleValue) StlFault = Ok x in r)
-            c.in-Ok-Some.field-0-is) a c.in_default.ensures.fault c.in_default.ensures.ok,
+            c.subtitles.reader c.next_into.new.self _ _ c.next_into.new.subtitle
+            i.2 (ap (λ (t : Bool). given_subtitle (Ok t) c.next_into.new.subtitle)
+            c.in-Ok-true.field-0-test) a c.in_default.ensures.fault c.in_default.ensures.ok,
       );
 }
