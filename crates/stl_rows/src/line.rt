@@ -11,9 +11,8 @@ fn append(line: &mut ArrayVec<u8, 40>, cells: &[u8])
     requires { length line.old.items + length cells.now ≤ 40 }
     ensures { line.new.items ≡ line.old.items ++ cells.now }
 {
-    for c in cells {
-        line.push(*c);
-    }
+    let added = line.try_extend_from_slice(cells);
+    prove!(added.is_ok());
 }
 
 // Whether the line has a start box of its own.
