@@ -8,3 +8,4 @@ pub mod EdgeLemmas
 pub mod PartLemmas
 pub mod ProgrammeLemmas
 pub mod ExampleHeaders
+pub mod LawLemmas

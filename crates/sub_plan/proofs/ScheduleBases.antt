@@ -2,7 +2,7 @@
 use Rattle.std.proofs.Math.Bool.{or-true}
 use Rattle.std.proofs.Common.{◌≡◌, ◌≢◌, ℕ, zero, suc, ◌+◌, ◌-◌, ◌%◌, ◌<◌, ◌≤◌, Bool, true, false}
 use Rattle.std.proofs.Common.{not, ◌||◌, eqb, List, ◌∷◌, ◌++◌, refl, sym, ap, subst, ◌∙◌, arith}
-use Rattle.std.proofs.Common.{◌⊎◌, inl, inr, Decides}
+use Rattle.std.proofs.Common.{inl, inr, Decides}
 use Rattle.std.proofs.Math.Nat.{mod-add-mod, mod_self, mod-lt, mod-eq_of_lt}
 use Rattle.std.proofs.lemmas.Bool.{cases_lt, false≢true}
 use Rattle.std.proofs.lemmas.Bool.Decides.{nat_tests, Decides-eqb}
@@ -88,34 +88,21 @@ pub record IsFound (due : ℕ → Rows) (first f b : ℕ) : Type 0 where
   pub is : is_base due first b ≡ true
   pub none : (k : ℕ) → b < k → k ≤ f → is_base due first k ≡ false
 
+-- At the first frame it is that.
+found_first : (due : ℕ → Rows) (first f : ℕ) → f ≡ first → IsFound due first f first
+found_first due first f e = record {
+  low = omega arith;
+  high = omega arith;
+  is = is_base-first due first;
+  none = λ k a c. absurd (omega arith);
+}
+
 -- From the first frame on there is one.
 pub find_base : (due : ℕ → Rows) (first f : ℕ) → first ≤ f → (b : ℕ) × IsFound due first f b
-find_base due first zero low =
-    let e : first ≡ zero = omega arith in (
-      zero,
-      record {
-        low = low;
-        high = omega arith;
-        is =
-            subst (λ (x : ℕ). is_base due x zero ≡ true) (sym e) (is_base-first due zero);
-        none =
-            λ k a c. absurd (omega arith);
-      },
-    )
+find_base due first zero low = (first, found_first due first zero (omega arith))
 find_base due first (suc f) low =
     elim (cases_lt f first) [
-      | inl here ↦
-          let e : suc f ≡ first = omega arith in (
-            suc f,
-            record {
-              low = low;
-              high = omega arith;
-              is =
-                  subst (λ (x : ℕ). is_base due x (suc f) ≡ true) e (is_base-first due (suc f));
-              none =
-                  λ k a c. absurd (omega arith);
-            },
-          )
+      | inl here ↦ (first, found_first due first (suc f) (omega arith))
       | inr before ↦ next (is_base due first (suc f)) refl (find_base due first f before)
     ]
   where
@@ -143,29 +130,6 @@ find_base due first (suc f) low =
 -- It is the one that the definition gives.
 pub base-found : (due : ℕ → Rows) (first f b : ℕ) → IsFound due first f b → base due first f ≡ b
 base-found due first f b s = base_stays due first b f s.is s.high s.none
-
--- Within n frames there is a base, or there is none.
-search_base : (due : ℕ → Rows) (first g n : ℕ)
-    → ((k : ℕ) × (g < k) × (k ≤ g + n) × (is_base due first k ≡ true))
-    ⊎ ((k : ℕ) → g < k → k ≤ g + n → is_base due first k ≡ false)
-search_base due first g zero = inr (λ k a c. absurd (omega arith))
-search_base due first g (suc n) =
-    decide (is_base due first (g + suc n)) refl (search_base due first g n)
-  where
-    decide : (b : Bool) → is_base due first (g + suc n) ≡ b
-        → ((k : ℕ) × (g < k) × (k ≤ g + n) × (is_base due first k ≡ true))
-        ⊎ ((k : ℕ) → g < k → k ≤ g + n → is_base due first k ≡ false)
-        → ((k : ℕ) × (g < k) × (k ≤ g + suc n) × (is_base due first k ≡ true))
-        ⊎ ((k : ℕ) → g < k → k ≤ g + suc n → is_base due first k ≡ false)
-    decide true e h = inl (g + suc n, omega arith, omega arith, e)
-    decide false e (inl s) = inl (s.0, s.1, omega (arith, s.2), s.3)
-    decide false e (inr none) =
-        inr (λ k a c.
-        elim (cases_lt k (g + suc n)) [
-          | inl before ↦ none k a (omega arith)
-          | inr last ↦ let z : g + suc n ≡ k = omega arith in
-              subst (λ (x : ℕ). is_base due first x ≡ false) z e
-        ])
 
 -- ---- frames that send
 
@@ -213,38 +177,27 @@ same_from_base due first f e =
     go false true h = refl
     go false false h = cc
 
+-- At the first frame the last sending is that frame's.
+sent_first : (due : ℕ → Rows) (every first last f : ℕ)
+    → 1 ≤ every
+    → f ≡ first
+    → IsLastSending due every first last f first
+sent_first due every first last f some e = record {
+  low = omega arith;
+  high = omega arith;
+  sends = sends-first due every first last some;
+  none_after = λ k a c. absurd (omega arith);
+  same = ap due (sym e);
+}
+
 -- The last sending up to a frame, made from the page that is still due there.
 pub last_sending : (due : ℕ → Rows) (every first last f : ℕ) → 1 ≤ every → first ≤ f → (g : ℕ)
     × IsLastSending due every first last f g
 last_sending due every first last zero some low =
-    let e : first ≡ zero = omega arith in (
-      zero,
-      record {
-        low = low;
-        high = omega arith;
-        sends =
-            subst (λ (x : ℕ). is_sending due every first last x ≡ true) e
-            (sends-first due every first last some);
-        none_after = λ k a c. absurd (omega arith);
-        same =
-            refl;
-      },
-    )
+    (first, sent_first due every first last zero some (omega arith))
 last_sending due every first last (suc f) some low =
     elim (cases_lt f first) [
-      | inl here ↦
-          let e : first ≡ suc f = omega arith in (
-            suc f,
-            record {
-              low = low;
-              high = omega arith;
-              sends =
-                  subst (λ (x : ℕ). is_sending due every first last x ≡ true) e
-                  (sends-first due every first last some);
-              none_after = λ k a c. absurd (omega arith);
-              same = refl;
-            },
-          )
+      | inl here ↦ (first, sent_first due every first last (suc f) some (omega arith))
       | inr before ↦ next (is_sending due every first last (suc f)) refl
           (is_base due first (suc f)) refl (last_sending due every first last f some before)
     ]
@@ -309,43 +262,41 @@ sending_in_gap due every first last g some low room =
       | inl more ↦
           let n : ℕ = every - r in
           let t : ℕ = g + n in
-          elim (search_base due first g n) [
-            | inl s ↦
-                let k : ℕ = s.0 in
-                let at_k : IsFound due first k k =
-                record {
-                  low = omega (arith, s.1, low);
+          let next = find_base due first t (omega arith) in
+          let k : ℕ = next.0 in
+          let last_base : IsFound due first t k = next.1 in
+          elim (cases_lt g k) [
+            | inl later ↦
+                let at_k : IsFound due first k k = record {
+                  low = last_base.low;
                   high = omega arith;
-                  is = s.3;
-                  none =
-                      λ j a c. absurd (omega arith);
+                  is = last_base.is;
+                  none = λ j a c. absurd (omega arith);
                 } in (
                   k,
-                  omega (arith, s.1),
-                  omega (arith, s.2, more),
-                  sends due every first last k k
-                      (omega (arith, s.2, more, room)) at_k (aligned-start k every some),
+                  omega arith,
+                  omega (arith, last_base.high, more),
+                  sends due every first last k k (omega (arith, last_base.high, more, room)) at_k
+                      (aligned-start k every some),
                 )
-            | inr none ↦
+            | inr old ↦
                 let e : t - b ≡ g - b + n = omega (arith, found.high) in
                 let whole : (t - b) % every ≡ 0 = ap (λ (y : ℕ). y % every) e
                 ∙ next_whole (g - b) every r n some refl (omega (arith, small)) in
-                let at_t : IsFound due first t b =
-                record {
+                let at_t : IsFound due first t b = record {
                   low = found.low;
                   high = omega (arith, found.high);
                   is = found.is;
-                  none = λ k a c.
-                      elim (cases_lt g k) [
-                        | inl later ↦ none k later c
-                        | inr old ↦ found.none k a old
+                  none = λ j a c.
+                      elim (cases_lt g j) [
+                        | inl after ↦ last_base.none j (omega arith) c
+                        | inr within ↦ found.none j a within
                       ];
                 } in (
                   t,
                   omega arith,
                   omega (arith, more),
-                  sends due every first last t b
-                      (omega (arith, more, room)) at_t whole,
+                  sends due every first last t b (omega (arith, more, room)) at_t whole,
                 )
           ]
     ]

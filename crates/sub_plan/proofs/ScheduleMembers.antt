@@ -1,10 +1,10 @@
 -- The frames with a sending, without the way in which they are found: law_of_sendings, law_of_gaps.
 use Rattle.std.proofs.Math.Bool.{or-true}
-use Rattle.std.proofs.Common.{◌≡◌, ◌≢◌, ℕ, zero, suc, ◌+◌, ◌-◌, ◌%◌, ◌<◌, ◌≤◌, Bool, true, false}
+use Rattle.std.proofs.Common.{◌≡◌, ℕ, zero, suc, ◌+◌, ◌-◌, ◌%◌, ◌<◌, ◌≤◌, Bool, true, false}
 use Rattle.std.proofs.Common.{not, ◌||◌, cond, eqb, List, ◌∷◌, length, get_or, refl, sym, ap, subst}
 use Rattle.std.proofs.Common.{◌∙◌, arith, inl, inr, filter}
-use Rattle.std.proofs.lemmas.Bool.{cases_lt, false≢true}
-use Rattle.std.proofs.lemmas.Bool.Decides.{nat_tests, Decides-eqb}
+use Rattle.std.proofs.lemmas.Bool.{cases_Bool, cases_lt, false≢true}
+use Rattle.std.proofs.lemmas.Bool.Decides.{Decides-eqb}
 use Rattle.std.specs.List.{range_with_len, Contains}
 use Rattle.ttx_page.specs.Page.{Rows}
 use Rattle.sub_plan.specs.Laws.{IsBase, IsSending, LawOfGaps, LawOfSendings}
@@ -62,23 +62,15 @@ contains p a (suc n) x low high h =
 -- A base by the test is one by the words.
 base-is : (due : ℕ → Rows) (first k : ℕ) → is_base due first k ≡ true → IsBase due first k
 unfolding is_base
-base-is due first k h =
-    elim (cases_lt k first) [
-      | inl below ↦ inr (differ (let e : eqb k first ≡ false = grind (arith, nat_tests) in e))
-      | inr above ↦
-          elim (cases_lt first k) [
-            | inl after ↦ inr (differ (let e : eqb k first ≡ false = grind (arith, nat_tests) in e))
-            | inr same ↦ inl (omega arith)
-          ]
-    ]
+base-is due first k h = go (eqb k first) refl
   where
-    differ : eqb k first ≡ false → due k ≢ due (k - 1)
-    differ e same =
-        let s : is_same_page (due k) (due (k - 1)) ≡ true =
-        (same_page-Decides (due k) (due (k - 1))).1 same in
+    go : (b : Bool) → eqb k first ≡ b → IsBase due first k
+    go true e = inl ((Decides-eqb k first).0 e)
+    go false e = inr (λ same.
+        let s = (same_page-Decides (due k) (due (k - 1))).1 same in
         let f : (eqb k first || not (is_same_page (due k) (due (k - 1)))) ≡ false =
         rw (e, s) refl in
-        false≢true (sym f ∙ h)
+        false≢true (sym f ∙ h))
 
 -- And the other way round.
 is-base : (due : ℕ → Rows) (first k : ℕ) → IsBase due first k → is_base due first k ≡ true
@@ -127,17 +119,14 @@ is-sending due every first last f (inl e) = let t : eqb f last ≡ true = (Decid
 is-sending due every first last f (inr s) =
     let b : base due first f ≡ s.0 =
     base_stays due first s.0 f (is-base due first s.0 s.1.is_base) s.1.high
-    (λ k a c. no_base_at k a c) in
+    (λ k a c.
+    elim (cases_Bool (is_base due first k)) [
+      | inl e ↦ absurd (s.1.none_after k a c (base-is due first k e))
+      | inr e ↦ e
+    ]) in
     let t : eqb ((f - s.0) % every) 0 ≡ true = (Decides-eqb ((f - s.0) % every) 0).1 s.2 in
     let z : eqb ((f - base due first f) % every) 0 ≡ true = rw b t in
     rw z (or-true (eqb f last))
-  where
-    no_base_at : (k : ℕ) → s.0 < k → k ≤ f → is_base due first k ≡ false
-    no_base_at k a c = decide (is_base due first k) refl
-      where
-        decide : (b : Bool) → is_base due first k ≡ b → is_base due first k ≡ false
-        decide true e = absurd (s.1.none_after k a c (base-is due first k e))
-        decide false e = e
 
 -- The frames with a sending are those of the words.
 pub law_of_sendings : LawOfSendings

@@ -4,7 +4,7 @@ use Rattle.std.proofs.Common.{◌≡◌, ℕ, ◌+◌, ◌-◌, ◌*◌, ◌^◌
 use Rattle.std.proofs.Common.{Bool, true, false, cond, List, [], ◌∷◌, ◌++◌}
 use Rattle.std.proofs.Common.{length, map, filter}
 use Rattle.std.proofs.Common.{All, refl}
-use Rattle.std.proofs.Common.{sym, ap, ◌∙◌, subst, arith, lit<}
+use Rattle.std.proofs.Common.{sym, ap, ◌∙◌, arith, lit<}
 use Rattle.std.proofs.Common.{append-nil}
 use Rattle.std.specs.List.{range_with_len}
 use Rattle.std.proofs.Math.Nat.{mod-lt}
@@ -115,25 +115,32 @@ law_of_pes_values o national serial page frame ok shape =
 -- ---- for a loop that makes it row by row
 
 -- One row more, sent or not.
-pub rows_more : (magazine : ℕ) (page : Rows) (n : ℕ) (b : Bool)
-    → is_sent_row (row_at page (1 + n)) ≡ b
-    → rows_from magazine page 1 (n + 1) ≡ rows_from magazine page 1 n
-    ++ cond b (row_packet magazine (1 + n) (row_at page (1 + n)) ∷ []) []
-rows_more magazine page n b e =
+rows_more : (magazine : ℕ) (page : Rows) (row : ℕ) (b : Bool)
+    → 1 ≤ row
+    → is_sent_row (row_at page row) ≡ b
+    → rows_from magazine page 1 (row + 1 - 1) ≡ rows_from magazine page 1 (row - 1)
+    ++ cond b (row_packet magazine row (row_at page row) ∷ []) []
+rows_more magazine page row b one e =
     let test : ℕ → Bool = λ row. is_sent_row (row_at page row) in
     let pack : ℕ → List ℕ = λ row. row_packet magazine row (row_at page row) in
-    ap (λ xs. map pack (filter test xs)) (range_split 1 n 1)
-    ∙ ap (map pack) (filter-append test (range_with_len 1 n) (range_with_len (1 + n) 1))
-    ∙ map-append pack (filter test (range_with_len 1 n)) (filter test (range_with_len (1 + n) 1))
-    ∙ ap (λ t. rows_from magazine page 1 n ++ map pack (cond t ((1 + n) ∷ []) [])) e
-    ∙ one b
+    let n : ℕ = row - 1 in
+    let f : row + 1 - 1 ≡ n + 1 = omega arith in
+    let g : 1 + n ≡ row = omega arith in
+    let split : range_with_len 1 (n + 1) ≡ range_with_len 1 n ++ row ∷ [] =
+    range_split 1 n 1 ∙ ap (λ (k : ℕ). range_with_len 1 n ++ k ∷ []) g in
+    ap (rows_from magazine page 1) f
+    ∙ ap (λ xs. map pack (filter test xs)) split
+    ∙ ap (map pack) (filter-append test (range_with_len 1 n) (row ∷ []))
+    ∙ map-append pack (filter test (range_with_len 1 n)) (filter test (row ∷ []))
+    ∙ ap (λ t. rows_from magazine page 1 n ++ map pack (cond t (row ∷ []) [])) e
+    ∙ made b
   where
-    one : (t : Bool) → rows_from magazine page 1 n
-        ++ map (λ row. row_packet magazine row (row_at page row))
-        (cond t ((1 + n) ∷ []) []) ≡ rows_from magazine page 1 n
-        ++ cond t (row_packet magazine (1 + n) (row_at page (1 + n)) ∷ []) []
-    one true = refl
-    one false = refl
+    made : (t : Bool) → rows_from magazine page 1 (row - 1)
+        ++ map (λ row. row_packet magazine row (row_at page row)) (cond t (row ∷ []) [])
+        ≡ rows_from magazine page 1 (row - 1)
+        ++ cond t (row_packet magazine row (row_at page row) ∷ []) []
+    made true = refl
+    made false = refl
 
 -- The row of a loop at `row`, whether it is sent or not.
 pub rows_sent : (magazine : ℕ) (page : Rows) (row : ℕ) (h : List ℕ) (old new : List (List ℕ))
@@ -142,15 +149,8 @@ pub rows_sent : (magazine : ℕ) (page : Rows) (row : ℕ) (h : List ℕ) (old n
     → new ≡ old ++ row_packet magazine row (row_at page row) ∷ []
     → new ≡ h ∷ rows_from magazine page 1 (row + 1 - 1)
 rows_sent magazine page row h old new one shown so_far is =
-    let n : ℕ = row - 1 in
-    let e : row ≡ 1 + n = omega arith in
-    let f : row + 1 - 1 ≡ n + 1 = omega arith in
-    let more = rows_more magazine page n true
-    (subst (λ r. is_sent_row (row_at page r) ≡ true) e shown) in
     is ∙ ap (λ xs. xs ++ row_packet magazine row (row_at page row) ∷ []) so_far
-    ∙ ap (λ r. (h ∷ rows_from magazine page 1 n) ++ row_packet magazine r (row_at page r) ∷ []) e
-    ∙ ap (λ xs. h ∷ xs) (sym more)
-    ∙ ap (λ m. h ∷ rows_from magazine page 1 m) (sym f)
+    ∙ ap (λ xs. h ∷ xs) (sym (rows_more magazine page row true one shown))
 
 -- The row of a loop at `row`, where it is not sent.
 pub rows_passed : (magazine : ℕ) (page : Rows) (row : ℕ) (h : List ℕ) (old : List (List ℕ))
@@ -158,13 +158,8 @@ pub rows_passed : (magazine : ℕ) (page : Rows) (row : ℕ) (h : List ℕ) (old
     → old ≡ h ∷ rows_from magazine page 1 (row - 1)
     → old ≡ h ∷ rows_from magazine page 1 (row + 1 - 1)
 rows_passed magazine page row h old one empty so_far =
-    let n : ℕ = row - 1 in
-    let e : row ≡ 1 + n = omega arith in
-    let f : row + 1 - 1 ≡ n + 1 = omega arith in
-    let more = rows_more magazine page n false
-    (subst (λ r. is_sent_row (row_at page r) ≡ false) e empty) in
-    so_far ∙ ap (λ xs. h ∷ xs) (sym (more ∙ append-nil (rows_from magazine page 1 n)))
-    ∙ ap (λ m. h ∷ rows_from magazine page 1 m) (sym f)
+    so_far ∙ ap (λ xs. h ∷ xs) (sym (rows_more magazine page row false one empty
+    ∙ append-nil (rows_from magazine page 1 (row - 1))))
 
 -- A list that had room has one packet more.
 pub short_pushed : (old new : List (List ℕ)) (packet : List ℕ) (row : ℕ)

@@ -1,7 +1,7 @@
 -- From base to base: sendings-step splits off the sendings of a stretch, steps-more the first of
 -- them.
 use Rattle.std.proofs.Common.{◌≡◌, ◌≢◌, ℕ, zero, suc, ◌+◌, ◌-◌, ◌*◌, ◌%◌, ◌<◌, ◌≤◌, Bool, true}
-use Rattle.std.proofs.Common.{false, cond, eqb, List, [], ◌∷◌, ◌++◌, length, refl, sym, ap, subst}
+use Rattle.std.proofs.Common.{false, eqb, List, [], ◌∷◌, ◌++◌, length, refl, sym, ap, subst}
 use Rattle.std.proofs.Common.{◌∙◌, arith, length-append, filter}
 use Rattle.std.proofs.Math.Nat.{mod-add-mod, mod-eq_of_lt, add-mul-mod_self_right}
 use Rattle.std.proofs.lemmas.Bool.Decides.{nat_tests}
@@ -64,25 +64,17 @@ pub steps-more : (every b from end : ℕ) → 1 ≤ every → b ≤ from → (fr
 unfolding steps
 steps-more every b from end some low aligned inside =
     let p : ℕ → Bool = λ f. eqb ((f - b) % every) 0 in
-    let here : p from ≡ true = rw aligned refl in
     let n : ℕ = end - from - 1 in
+    let here : p from ≡ true = rw aligned refl in
     let e : end - from ≡ suc n = omega arith in
-    let skip : filter p (range_with_len (from + 1) n) ≡ filter p
-    (range_with_len (from + 1 + (every - 1)) (n - (every - 1))) =
-    filter_skip p (every - 1) (from + 1) n
-    (λ j a c. off_step every b from j low aligned (omega arith) (omega arith)) in
     let f : from + 1 + (every - 1) ≡ from + every = omega arith in
     let g : n - (every - 1) ≡ end - (from + every) = omega arith in
     let tail : filter p (range_with_len (from + 1) n) ≡ filter p
-    (range_with_len (from + every) (end - (from + every))) = skip
-    ∙ (let q : (x y u v : ℕ) → x ≡ u → y ≡ v
-    → filter p (range_with_len x y) ≡ filter p (range_with_len u v) =
-    λ x y u v h k. rw (h, k) refl in q _ _ _ _ f g) in
-    let head : filter p (range_with_len from (end - from)) ≡ cond (p from)
-    (from ∷ filter p (range_with_len (from + 1) n)) (filter p (range_with_len (from + 1) n)) =
-    ap (λ (x : ℕ). filter p (range_with_len from x)) e in
-    head ∙ ap (λ (x : Bool). cond x (from ∷ filter p (range_with_len (from + 1) n))
-    (filter p (range_with_len (from + 1) n))) here ∙ ap (λ (xs : List ℕ). from ∷ xs) tail
+    (range_with_len (from + every) (end - (from + every))) =
+    rw (f, g) at
+    (filter_skip p (every - 1) (from + 1) n
+    (λ j a c. off_step every b from j low aligned (omega arith) (omega arith))) in
+    rw (e, here) (ap (λ (xs : List ℕ). from ∷ xs) tail)
 
 -- The next step is aligned too.
 pub aligned-next : (b from every : ℕ) → 1 ≤ every → b ≤ from → (from - b) % every ≡ 0

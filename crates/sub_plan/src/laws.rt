@@ -1,4 +1,6 @@
 //! Laws of sendings and schedules, for callers and readers. None does anything.
+#![tactic(auto, using(crate::proofs::LawLemmas::laws))]
+
 ghost use Rattle.sub_plan.specs.Examples.{ExampleOfClosingHeaders, ExampleOfWatchedHeaders};
 ghost use Rattle.sub_plan.specs.Laws.{LawOfDueSize};
 ghost use Rattle.sub_plan.specs.Laws.{LawOfCutSendings, LawOfDay, LawOfEqualPages, LawOfGaps};

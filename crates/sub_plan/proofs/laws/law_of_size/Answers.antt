@@ -1,6 +1,0 @@
--- The law, by the lemma of its name.
-use Rattle.sub_plan.proofs.SendingSize.{law_of_size}
-use Rattle.sub_plan.proofs.laws.law_of_size.Goals as goal
-
-pub returns : goal.returns
-returns c = law_of_size
