@@ -1,9 +1,9 @@
 -- What the steps show of the whole file decides the answer of `check`, `checked_from`; and what is
 -- told of both files that of `check_files`, `files_accepted`, `files_refused`.
+use Rattle.std.proofs.lemmas.Slice.Zip.{AllZip-long}
 use Rattle.std.proofs.Common.{◌≡◌, ◌≢◌, ◌↔◌, ℕ, suc, List, [], ◌∷◌, Bool, Option, None, Result, Ok}
 use Rattle.std.proofs.Common.{Err, All, IsOk, IfOk, IsTrue, false, MatchResult, refl, sym, ap, ◌∙◌}
-use Rattle.std.proofs.Common.{subst}
-use Rattle.std.proofs.Common.{arith, length, append-nil}
+use Rattle.std.proofs.Common.{subst, arith, length, append-nil}
 use Rattle.std.proofs.lemmas.List.Elements.{All-from_recursion}
 use Rattle.std.specs.List.{AllZip, concat}
 use Rattle.std.specs.Prelude.{IfErr}
@@ -18,7 +18,6 @@ use Rattle.stl_rows.specs.declared.fault.LoadFaultKind.{LoadFaultKind}
 use Rattle.stl_rows.specs.declared.fault.LoadFaultKind.TheVariants.{File, Memory}
 use Rattle.stl_rows.specs.declared.national.National.{National}
 use Rattle.ttx_pes.specs.PesPacket.{IsPesPacket}
-use Rattle.ttx_pes.specs.declared.fault.PesFault.TheVariants as Pes
 use Rattle.sub_plan.specs.Options.{OptionsValue, IsOptions}
 use Rattle.sub_plan.specs.Schedule.{plan}
 use Rattle.sub_check.specs.CheckedFiles.{AreAccepted, IsChecked, Mean}
@@ -37,21 +36,20 @@ use Rattle.sub_check.specs.Robust.{Robust}
 use Rattle.sub_check.specs.Transmission.{SentFrame, Transmission}
 use Rattle.sub_check.specs.declared.checker.Accepted.{Accepted}
 use Rattle.sub_check.specs.declared.fault.CheckFault.{CheckFault}
-use Rattle.sub_check.specs.declared.fault.CheckFault.TheVariants as fault
 use Rattle.sub_check.proofs.CompleteLemmas.{complete_from}
 use Rattle.sub_check.proofs.ContentLemmas.{wrong_everywhere}
 use Rattle.sub_check.proofs.GoodByPlace.{GoodFrames}
-use Rattle.sub_check.proofs.GoodLemmas.{Good-from_frames, whole-is}
+use Rattle.sub_check.proofs.GoodLemmas.{Good-from_frames, whole-is, GoodFrames-from_good}
 use Rattle.sub_check.proofs.PrefixLemmas.{first-same, last-same}
 use Rattle.sub_check.proofs.PesFileLemmas.{carried_is_read}
-use Rattle.sub_check.proofs.PlacesOfGood.{GoodFrames-from_good}
 use Rattle.sub_check.proofs.PlaceLemmas.{Good-from_holds, refuted}
 use Rattle.sub_check.proofs.OnScreenLemmas.{law_of_good_and_complete}
-use Rattle.sub_check.proofs.PlanLemmas.{law_of_complete_plan, law_of_plan}
-use Rattle.sub_check.proofs.PlanReading.{law_of_plan_read}
+use Rattle.sub_check.proofs.PlanLemmas.{law_of_complete_plan, law_of_plan, law_of_plan_read}
 use Rattle.sub_check.proofs.RecoveryLemmas.{law_of_good_and_recovery}
 use Rattle.sub_check.proofs.RobustLemmas.{law_of_good, law_of_good_and_marked_loss}
 use Rattle.sub_check.specs.Fault.{is_failure, is_failure_kind, is_pes_read, is_subtitle_fault}
+use Rattle.ttx_pes.specs.declared.fault.PesFault.TheVariants as Pes
+use Rattle.sub_check.specs.declared.fault.CheckFault.TheVariants as fault
 
 -- What the steps show of a file that is read as frames, up to this.
 abbrev Decides : ProgrammeValue → OptionsValue → List ℕ → Result Accepted CheckFault → Type 0
@@ -61,16 +59,6 @@ Decides programme options bytes result =
     → MatchResult result
     (Accepts (task_of programme options unread) options.origin bytes frames)
     (NamesFirst (task_of programme options unread) frames)
-
--- Two lists that agree place by place are of one length.
-zip_length :
-    {A B : Type 0} (R : A → B → Type 0) (xs : List A) (ys : List B)
-    → AllZip R xs ys
-    → length xs ≡ length ys
-zip_length R [] [] h = refl
-zip_length R [] (y ∷ ys) h = elim h [ ]
-zip_length R (x ∷ xs) [] h = elim h [ ]
-zip_length R (x ∷ xs) (y ∷ ys) h = ap suc (zip_length R xs ys h.1)
 
 module _ (programme : ProgrammeValue) (options : OptionsValue) (is : IsOptions options) where
   -- What is accepted is good, of complete pages where these are asked for, and was read: its bytes
@@ -94,8 +82,8 @@ module _ (programme : ProgrammeValue) (options : OptionsValue) (is : IsOptions o
     carried_from =
         let taken = accepts.taken in
         let few = accepts.few in
-        let sizes = zip_length IsPesPacket taken.values taken.packets taken.each in
-        let sent = zip_length (IsSentAs options.origin) taken.values frames taken.sent in
+        let sizes = AllZip-long IsPesPacket taken.values taken.packets taken.each in
+        let sent = AllZip-long (IsSentAs options.origin) taken.values frames taken.sent in
         record {
           values = taken.values;
           file = record {

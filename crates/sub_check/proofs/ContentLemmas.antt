@@ -220,16 +220,10 @@ module _ (programme : ProgrammeValue) (options : OptionsValue) (unread : Option 
     where
       before_here : (j q : ℕ) (rest : List ℕ) → j ≤ i → q < 3
           → IsBefore (0 ∷ j ∷ q ∷ rest) (0 ∷ i ∷ 3 ∷ 1 ∷ row ∷ column ∷ [])
-      before_here j q rest l m = elim (cases_eq j i) [
-        | inl e ↦ inr (refl, inr (e, inl m))
-        | inr less ↦ inr (refl, inl (omega arith))
-      ]
+      before_here j q rest l m = grind arith
 
       first_before : IsBefore (0 ∷ 0 ∷ 3 ∷ 0 ∷ []) (0 ∷ i ∷ 3 ∷ 1 ∷ row ∷ column ∷ [])
-      first_before = elim (cases_eq 0 i) [
-        | inl e ↦ inr (refl, inr (e, inr (refl, inl (omega arith))))
-        | inr less ↦ inr (refl, inl (omega arith))
-      ]
+      first_before = grind arith
 
   -- At the end of a frame before frame i of the list.
   wrong_gap_cell :

@@ -23,8 +23,8 @@ use Rattle.sub_check.specs.Checking.{Accepts, AreTaken, AreWhole, IsFrameOf, Tel
 use Rattle.sub_check.specs.Checking.{IsRuleFault, TellsFrame}
 use Rattle.sub_check.specs.FirstBroken.{IsReadUpTo, NamesFirst, unread_fault}
 use Rattle.sub_check.specs.Following.{AreOk, Follows, IsSentFrame}
-use Rattle.sub_check.specs.FrameRules.{Unread, task_of, frame_at, packets_of_frame, end_frame}
-use Rattle.sub_check.specs.FrameRules.{packets_before}
+use Rattle.sub_check.specs.FrameRules.{Task, Unread, task_of, frame_at, packets_of_frame}
+use Rattle.sub_check.specs.FrameRules.{end_frame, packets_before}
 use Rattle.sub_check.specs.PacketRules.{header_count, packets_of_units}
 use Rattle.sub_check.specs.PesFrames.{IsSentAs}
 use Rattle.sub_check.specs.PesReading.{ReadsAs}
@@ -36,7 +36,7 @@ use Rattle.sub_check.proofs.OrderLemmas.{first_late, first_nothing, first_unread
 use Rattle.sub_check.proofs.OrderLemmas.{holds_but_end}
 use Rattle.sub_check.proofs.PacketLists.{Each-push}
 use Rattle.sub_check.proofs.PesFileLemmas.{no_bytes}
-use Rattle.sub_check.proofs.PesReadingLemmas.{reads_next, reads_end, reads_fault}
+use Rattle.sub_check.proofs.PesReadingLemmas.{reads_next, reads_end}
 use Rattle.sub_check.proofs.PesReadingLemmas.{reads-below}
 use Rattle.sub_check.specs.Fault.{is_pes_read}
 
@@ -115,12 +115,8 @@ taken_more origin bytes rest frames n v frame old new taken was is takes sent of
             packets = packets;
           }));
       joined =
-          taken.joined
-          ∙ ap (λ r. concat taken.packets ++ r) parts
-          ∙ sym (append_assoc (concat taken.packets) takes.bytes (rest_after rest))
-          ∙ ap (λ r. r ++ rest_after rest)
-          (sym (concat-append taken.packets (takes.bytes ∷ [])
-          ∙ ap (λ r. concat taken.packets ++ r) (append-nil takes.bytes)));
+          simp (concat-append, append_assoc, append-nil)
+          (taken.joined ∙ ap (λ r. concat taken.packets ++ r) parts);
     }
 
 -- The answer is that the source failed at a PES packet.
@@ -164,25 +160,25 @@ again_is frames (suc n) frame ps kept is before same = before (omega arith) ∙ 
 
 -- After n PES packets, n frames of the list are read, and the others are left.
 pub record Reads
-    (origin : ℕ) (bytes : List ℕ) (frames : Transmission) (unread : Option Unread)
-    (remaining : Option (List ℕ)) (n : ℕ)
+    (programme : ProgrammeValue) (options : OptionsValue) (bytes : List ℕ) (frames : Transmission)
+    (unread : Option Unread) (remaining : Option (List ℕ)) (n : ℕ)
     : Type 0 where
   pub few : n ≤ most_packets
   pub within : n ≤ length frames
   pub rest : List ℕ
   pub rest_is : remaining ≡ Some rest
-  pub taken : AreTaken origin bytes (take n frames) rest
-  pub left : ReadsAs origin n rest (drop n frames) unread
+  pub taken : AreTaken options.origin bytes (take n frames) rest
+  pub left : ReadsAs options.origin n rest (drop n frames) unread
   pub whole : AreWhole (take n frames)
 
 -- Before the first of them.
 pub Reads-none :
-    (origin : ℕ) (bytes : List ℕ) (frames : Transmission) (unread : Option Unread)
-    (remaining : Option (List ℕ))
+    (programme : ProgrammeValue) (options : OptionsValue) (bytes : List ℕ) (frames : Transmission)
+    (unread : Option Unread) (remaining : Option (List ℕ))
     → remaining ≡ Some bytes
-    → ReadsAs origin 0 bytes frames unread
-    → Reads origin bytes frames unread remaining 0
-Reads-none origin bytes frames unread remaining told reads = record {
+    → ReadsAs options.origin 0 bytes frames unread
+    → Reads programme options bytes frames unread remaining 0
+Reads-none programme options bytes frames unread remaining told reads = record {
   few = omega arith;
   within = omega arith;
   rest = bytes;
@@ -193,10 +189,14 @@ Reads-none origin bytes frames unread remaining told reads = record {
 }
 
 module _
-    (programme : ProgrammeValue) (options : OptionsValue)
-    (frames : Transmission) (unread : Option Unread) (bytes : List ℕ) (n : ℕ)
-    (before : Option (List ℕ)) (reads : Reads options.origin bytes frames unread before n)
+    {programme : ProgrammeValue} {options : OptionsValue} {bytes : List ℕ} {frames : Transmission}
+    {unread : Option Unread} {before : Option (List ℕ)} {n : ℕ}
+    (reads : Reads programme options bytes frames unread before n)
   where
+    -- What the transmission is checked against.
+    abbrev g : Task
+    g = task_of programme options unread
+
     -- The next PES packet is the next frame of the list.
     pub next_sent :
         (v : PesValue) (frame : ℕ)
@@ -213,7 +213,7 @@ module _
         → remaining ≡ Some (rest_after reads.rest)
         → TakesPesPacket before remaining v
         → IsPesValue v
-        → Reads options.origin bytes frames unread remaining (n + 1)
+        → Reads programme options bytes frames unread remaining (n + 1)
     next_read v frame remaining (is, of) left takes value =
         let next =
         reads_next options.origin n reads.rest frames unread v frame reads.few reads.left is of in
@@ -232,53 +232,50 @@ module _
         }
 
     -- Where all that is asked of the frames so far holds.
-    module _ (past : AreOk (task_of programme options unread) frames n) where
+    module _ (past : AreOk g frames n) where
       -- What keeps the file from being read on is the first that is broken.
       pub next_refusal :
           (v : PesValue) (f : CheckFault)
           → TellsFrame options.origin n reads.rest v (Err f)
-          → NamesFirst (task_of programme options unread) frames f
+          → NamesFirst g frames f
       next_refusal v f (u, told, ends) =
           let within = reads.within in
           let at =
-          reads_fault options.origin n reads.rest frames unread u reads.few reads.left ends in
+          reads_end options.origin n reads.rest frames unread (Some u) reads.few reads.left ends in
           let all : length frames ≡ n = omega (arith, at.0) in
-          subst (NamesFirst (task_of programme options unread) frames)
-          (ap (λ m. unread_fault m (Some u)) all ∙ sym told)
-          (first_unread (task_of programme options unread) frames
-          (λ j l. past j (omega (arith, at.0))) u at.1)
+          subst (NamesFirst g frames) (ap (λ m. unread_fault m (Some u)) all ∙ sym told)
+          (first_unread g frames (λ j l. past j (omega (arith, at.0))) u at.1)
 
       -- That the source failed is told at the PES packet that could not be read.
       pub source_failed :
           (pes : ℕ) (f : CheckFault)
           → (is_pes_read f ≡ true → f ≡ fault.Pes n Read)
           → IsFailureAt (Err f) pes
-          → IsReadUpTo (task_of programme options unread) frames pes
+          → IsReadUpTo g frames pes
       source_failed pes f place e =
           let is : f ≡ fault.Pes pes Read = cc in
           let named : fault.Pes pes Read ≡ fault.Pes n Read =
           sym is ∙ place (ap is_pes_read is) in
           let same : n ≡ pes = cc in
-          subst (IsReadUpTo (task_of programme options unread) frames) same (record {
+          subst (IsReadUpTo g frames) same (record {
             within = reads.within;
-            holds = holds_before (task_of programme options unread) frames n past;
+            holds = holds_before g frames n past;
           })
 
     -- A file with no PES packet.
     pub empty_refusal :
         n ≡ 0
         → answer_at n reads.rest ≡ Ok None
-        → NamesFirst (task_of programme options unread) frames fault.Empty
+        → NamesFirst g frames fault.Empty
     empty_refusal none is =
-        let at = reads_end options.origin n reads.rest frames unread reads.few reads.left is in
-        first_nothing (task_of programme options unread) frames (λ j l. absurd (omega (arith, at.0)))
-        at.1 (omega (arith, at.0))
+        let at = reads_end options.origin n reads.rest frames unread None reads.few reads.left is in
+        first_nothing g frames (λ j l. absurd (omega (arith, at.0))) at.1 (omega (arith, at.0))
 
     -- The end of any other.
-    module _ (c : CheckerValue) (follows : Follows (task_of programme options unread) frames n c)
-        (some : 0 < n) (is : answer_at n reads.rest ≡ Ok None) where
+    module _ {c : CheckerValue} (follows : Follows g frames n c) (some : 0 < n)
+        (is : answer_at n reads.rest ≡ Ok None) where
       ended : (length frames ≤ n) × (unread ≡ None)
-      ended = reads_end options.origin n reads.rest frames unread reads.few reads.left is
+      ended = reads_end options.origin n reads.rest frames unread None reads.few reads.left is
 
       all : n ≡ length frames
       all = let within = reads.within in omega (arith, ended.0)
@@ -286,16 +283,14 @@ module _
       last : c.frame ≡ end_frame frames
       last = follows.frame_is some ∙ ap (λ m. frame_at frames (m - 1)) all
 
-      past : AreOk (task_of programme options unread) frames (length frames)
+      past : AreOk g frames (length frames)
       past = λ j l. follows.past j (omega (arith, all))
 
       -- What is told there.
       pub end_told :
           (r : Result Accepted CheckFault)
           → TellsEnd (last_out c.programme.records) c.first c.frame c.headers r
-          → MatchResult r
-          (Accepts (task_of programme options unread) options.origin bytes frames)
-          (NamesFirst (task_of programme options unread) frames)
+          → MatchResult r (Accepts g options.origin bytes frames) (NamesFirst g frames)
       end_told (Ok a) (over, count, headers) =
           let first_is = follows.first_is some in
           let few = reads.few in
@@ -307,8 +302,7 @@ module _
                 (subst (AreTaken options.origin bytes (take n frames)) (no_bytes n reads.rest is)
                 reads.taken);
             holds =
-                holds_but_end (task_of programme options unread) frames past ended.1
-                (omega (arith, all, some))
+                holds_but_end g frames past ended.1 (omega (arith, all, some))
                 (λ t l e.
                 let m = over l (sym follows.remembers.task_is.last_is ∙ e) in
                 omega (arith, last));
@@ -320,10 +314,8 @@ module _
                 ∙ ap (λ m. header_count options.page (packets_before frames m)) all;
           }
       end_told (Err f) (not_over, told) =
-          subst (NamesFirst (task_of programme options unread) frames)
-          (ap fault.Late (sym last) ∙ sym told)
-          (first_late (task_of programme options unread) frames past ended.1
-          (omega (arith, all, some))
+          subst (NamesFirst g frames) (ap fault.Late (sym last) ∙ sym told)
+          (first_late g frames past ended.1 (omega (arith, all, some))
           (λ h. not_over
           (λ l e.
           let m = h l (follows.remembers.task_is.last_is ∙ e) in omega (arith, last))))

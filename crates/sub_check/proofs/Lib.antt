@@ -1,6 +1,5 @@
 pub mod TransmissionLemmas
 pub mod RobustLemmas
-pub mod AllKept
 pub mod DroppedLemmas
 pub mod RecoveryLemmas
 pub mod OnScreenLemmas
@@ -15,7 +14,6 @@ pub mod NotRobust
 pub mod GoodExample
 pub mod ScreenTests
 pub mod CodesLemmas
-pub mod PushLemmas
 pub mod PacketLists
 pub mod PacketRuleLemmas
 pub mod SentAgainLemmas
@@ -23,19 +21,16 @@ pub mod ListeningLemmas
 pub mod ShownLemmas
 pub mod OrderLemmas
 pub mod TakingLemmas
-pub mod GapLemmas
 pub mod GoodByPlace
 pub mod PrefixLemmas
 pub mod PlaceLemmas
 pub mod GoodLemmas
 pub mod CompleteLemmas
-pub mod PlacesOfGood
 pub mod PesReadingLemmas
 pub mod JudgeLemmas
 pub mod CheckLemmas
 pub mod FrameLemmas
 pub mod PlanLemmas
-pub mod PlanReading
 pub mod PesFileLemmas
 pub mod ContentLemmas
 pub mod HeardAgainLemmas

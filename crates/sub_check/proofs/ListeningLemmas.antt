@@ -1,4 +1,7 @@
 -- What is kept of the packets, one packet on.
+use Rattle.std.proofs.Common.{eqb}
+use Rattle.std.proofs.lemmas.Bool.Decides.{nat_tests}
+use Rattle.std.proofs.lemmas.Grind.{get_or-set_at}
 use Rattle.std.proofs.Common.{◌≡◌, ◌≢◌, ℕ, ◌-◌, ◌≤◌, ◌⊎◌, inl, inr, Bool, true, false, not, cond}
 use Rattle.std.proofs.Common.{◌&&◌, ◌||◌, List, [], ◌∷◌, ◌++◌, Option, Some, None, option_map}
 use Rattle.std.proofs.Common.{length, get_or, set, replicate, refl, sym, ap, ◌∙◌, subst, arith}
@@ -18,10 +21,9 @@ use Rattle.ttx_page.specs.declared.packet_kind.PacketKind.TheVariants.{Other}
 use Rattle.ttx_page.specs.PacketKind.{kind, is_row, is_this_page, ends_page}
 use Rattle.ttx_page.specs.Page.{blank_row, blank, space}
 use Rattle.ttx_page.specs.Span.{span, is_open_after, before_end}
-use Rattle.ttx_page.proofs.SpanPush.{span-other, open-this, open-other, list_any-push}
-use Rattle.sub_check.proofs.PushLemmas.{first_header-push}
+use Rattle.ttx_page.proofs.SpanPush.{span-push, open-this, open-other, list_any-push}
+use Rattle.sub_check.proofs.PacketLists.{first_header-push, Each-push, Each-map}
 use Rattle.sub_check.specs.Listening.{HoldsRows, IsSoundRow}
-use Rattle.sub_check.proofs.PacketLists.{Each-push, Each-map}
 
 -- C11 of a header, if there is one.
 abbrev c11_of : Option Header → Option Bool
@@ -71,38 +73,23 @@ module _ (w : Watched) (heard : List (List ℕ)) (p : List ℕ) where
   -- The span stays where the page is not open, or ends.
   pub span_shut : is_this_page (kind w.page p) ≡ false → is_open_after (kind w.page) heard ≡ false
       → span (kind w.page) (heard ++ p ∷ []) ≡ span (kind w.page) heard
-  span_shut this shut = span-other (kind w.page) heard p this
-      ∙ cond-false (is_open_after (kind w.page) heard)
-      (span (kind w.page) heard ++ before_end (kind w.page) (p ∷ []))
-      (span (kind w.page) heard) shut
+  span_shut this shut = rw (span-push (kind w.page) heard p, this, shut)
 
   -- A header that ends the page is not in its span.
   pub span_ends : kind w.page p ≡ EndsPage
       → span (kind w.page) (heard ++ p ∷ []) ≡ span (kind w.page) heard
-  span_ends k = span-other (kind w.page) heard p (ap is_this_page k)
-      ∙ both (is_open_after (kind w.page) heard)
-    where
-      nothing : before_end (kind w.page) (p ∷ []) ≡ []
-      nothing = cond-true (ends_page (kind w.page p)) [] (p ∷ []) (ap ends_page k)
-
-      both : (b : Bool)
-          → cond b (span (kind w.page) heard ++ before_end (kind w.page) (p ∷ []))
-          (span (kind w.page) heard) ≡ span (kind w.page) heard
-      both true = ap (λ ys. span (kind w.page) heard ++ ys) nothing
-          ∙ append-nil (span (kind w.page) heard)
-      both false = refl
+  span_ends k =
+      rw (
+        span-push (kind w.page) heard p,
+        k,
+        and_right (is_open_after (kind w.page) heard) false refl,
+      )
 
   -- While the page is open a packet that is no such header is in its span.
   pub span_open : is_this_page (kind w.page p) ≡ false → ends_page (kind w.page p) ≡ false
       → is_open_after (kind w.page) heard ≡ true
       → span (kind w.page) (heard ++ p ∷ []) ≡ span (kind w.page) heard ++ p ∷ []
-  span_open this ends opened =
-      span-other (kind w.page) heard p this
-      ∙ cond-true (is_open_after (kind w.page) heard)
-      (span (kind w.page) heard ++ before_end (kind w.page) (p ∷ []))
-      (span (kind w.page) heard) opened
-      ∙ ap (λ ys. span (kind w.page) heard ++ ys)
-      (cond-false (ends_page (kind w.page p)) [] (p ∷ []) ends)
+  span_open this ends opened = rw (span-push (kind w.page) heard p, this, opened, ends)
 
 -- ---- the rows of the span
 
@@ -156,24 +143,22 @@ module _ (w : Watched) (packets : List (List ℕ)) (sent : List Bool) (page : Li
       (set page (y - 1) (codes_of p))
   HoldsRows-row y low high long tall k sound equal = record {
     sound = Each-push (IsSoundRow w) packets p h.sound sound;
-    marks = λ row a b. marks row a b (cases_eq row y)
+    marks = λ row a b. marks row a b
         ∙ sym (list_any-push (kind w.page) (λ q. is_row row (kind w.page q)) packets p);
     same = λ row a b. same row a b (cases_eq row y);
-    blank = λ row a b. blank row a b (cases_eq row y);
+    blank = blank;
   }
     where
-      marks : (row : ℕ) → 1 ≤ row → row ≤ 24 → (row ≡ y) ⊎ (row ≡ y → ⊥)
+      is : (row : ℕ) → is_row row (kind w.page p) ≡ eqb y row
+      is row = ap (is_row row) k
+
+      marks : (row : ℕ) → 1 ≤ row → row ≤ 24
           → get_or (set sent (y - 1) true) (row - 1) false ≡
           (list_any (λ q. is_row row (kind w.page q)) packets || is_row row (kind w.page p))
-      marks row a b (inl e) =
-          ap (λ n. get_or (set sent (y - 1) true) (n - 1) false) e
-          ∙ get_or-set_same sent (y - 1) true false (omega arith)
-          ∙ sym (or_right (list_any (λ q. is_row row (kind w.page q)) packets)
-          (is_row row (kind w.page p)) (ap (is_row row) k ∙ eq-eqb y row (sym e)))
-      marks row a b (inr e) =
-          let other : row - 1 ≢ y - 1 = omega arith in
-          get_or-set_other sent (y - 1) (row - 1) true false other ∙ h.marks row a b
-          ∙ or-false _ _ (ap (is_row row) k ∙ ne_eqb y row (λ s. e (sym s)))
+      marks row a b =
+          let before = h.marks row a b in
+          let here = is row in
+          grind (arith, nat_tests, get_or-set_at, get_or-set_other)
 
       same : (row : ℕ) → 1 ≤ row → row ≤ 24 → (row ≡ y) ⊎ (row ≡ y → ⊥)
           → AllByRecursion
@@ -205,17 +190,11 @@ module _ (w : Watched) (packets : List (List ℕ)) (sent : List Bool) (page : Li
           (λ q c f. c f ∙ sym there) packets (h.same row a b))
           (λ f. absurd (e (let s : Row row ≡ Row y = sym f ∙ k in cc)))
 
-      blank : (row : ℕ) → 1 ≤ row → row ≤ 24 → (row ≡ y) ⊎ (row ≡ y → ⊥)
+      blank : (row : ℕ) → 1 ≤ row → row ≤ 24
           → get_or (set sent (y - 1) true) (row - 1) false ≡ false
           → get_or (set page (y - 1) (codes_of p)) (row - 1) [] ≡ replicate 40 space
-      blank row a b (inl e) f =
-          absurd (true≢false
-          (sym (ap (λ n. get_or (set sent (y - 1) true) (n - 1) false) e
-          ∙ get_or-set_same sent (y - 1) true false (omega arith)) ∙ f))
-      blank row a b (inr e) f =
-          let other : row - 1 ≢ y - 1 = omega arith in
-          get_or-set_other page (y - 1) (row - 1) (codes_of p) [] other
-          ∙ h.blank row a b (sym (get_or-set_other sent (y - 1) (row - 1) true false other) ∙ f)
+      blank row a b f =
+          let before = h.blank row a b in grind (arith, get_or-set_at, get_or-set_other)
 
 -- A packet that is nothing to the page.
 pub HoldsRows-passes : (w : Watched) (heard : List (List ℕ)) (p : List ℕ) (sent : List Bool)

@@ -29,7 +29,7 @@ use Rattle.sub_check.specs.PesReading.{ReadsAs}
 use Rattle.sub_check.specs.Transmission.{Transmission}
 use Rattle.sub_check.specs.declared.fault.CheckFault.{CheckFault}
 use Rattle.sub_check.specs.declared.fault.CheckFault.TheVariants as check
-use Rattle.sub_check.proofs.PesReadingLemmas.{ReadsNext, reads-below, reads_end, reads_fault}
+use Rattle.sub_check.proofs.PesReadingLemmas.{ReadsNext, reads-below, reads_end}
 use Rattle.sub_check.proofs.PesReadingLemmas.{reads_next}
 use Rattle.sub_check.proofs.ShownLemmas.{joined_more}
 use Rattle.sub_check.specs.ListeningRun.{AreHeard, FailsListening, IsHeard, RefusesAfter, Runs}
@@ -326,7 +326,8 @@ module _
             → Runs l frames unread w old now (Ok tt)
         ends_at_end v told =
             let at =
-            reads_end l.options.origin n reached.rest frames unread reached.few reached.left told in
+            reads_end l.options.origin n reached.rest frames unread None reached.few reached.left told
+            in
             let within = reached.within in
             record {
               n = n;
@@ -341,7 +342,7 @@ module _
             → Runs l frames unread w old now (Err (fault.File f))
         ends_unread v f (u, is, ends) =
             let at =
-            reads_fault l.options.origin n reached.rest frames unread u reached.few reached.left
+            reads_end l.options.origin n reached.rest frames unread (Some u) reached.few reached.left
             ends in
             let within = reached.within in
             let all : n ≡ length frames = omega (arith, at.0) in

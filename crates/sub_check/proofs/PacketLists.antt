@@ -1,18 +1,24 @@
--- Facts of each packet of a list.
+-- Facts of each packet of a list; the first header of a list that goes on: `first_header-push`,
+-- `first_header-append`.
+use Rattle.std.proofs.lemmas.Bool.Decides.{nat_tests}
 use Rattle.std.proofs.Common.{◌≡◌, ℕ, Bool, true, false, ◌||◌, List, [], ◌∷◌, ◌++◌, refl, sym, ap}
-use Rattle.std.proofs.Common.{◌∙◌, subst, arith, inl, inr, cond, find, filter, nat_lt}
-use Rattle.std.proofs.Common.{length, take, get_or, ◌+◌, ◌<◌, Some, None}
+use Rattle.std.proofs.Common.{◌∙◌, subst, arith, inl, inr, cond, find, filter, nat_lt, length, take}
+use Rattle.std.proofs.Common.{get_or, ◌+◌, ◌<◌, Some, None, Option}
 use Rattle.std.specs.List.{AllByRecursion, list_any}
 use Rattle.std.proofs.lemmas.Bool.{or_parts, eq-eqb, both_ways, cond-false, cases_eq, lt-ltb}
-use Rattle.std.proofs.lemmas.List.{take_more, get_or-map, length-map}
+use Rattle.std.proofs.lemmas.List.{take_more, get_or-map, length-append, length-map}
+use Rattle.std.proofs.lemmas.List.Elements.{filter-append}
 use Rattle.ttx_packet.specs.PageId.{PageIdValue}
 use Rattle.ttx_page.specs.Span.{holds_header}
 use Rattle.ttx_pes.specs.DataUnit.{UnitValue}
 use Rattle.sub_check.specs.PacketRules.{IsClean, AreClean, header_count, packets_of_units}
+use Rattle.sub_check.specs.PacketRules.{first_header}
 use Rattle.sub_check.specs.declared.packet_rules.Watched.{Watched}
 use Rattle.ttx_page.specs.declared.packet_kind.PacketKind.{PacketKind}
 use Rattle.ttx_page.specs.declared.packet_kind.PacketKind.TheVariants.{Row}
 use Rattle.ttx_page.specs.PacketKind.{is_row, is_this_page, kind}
+use Rattle.std.specs.Option.{option_or}
+use Rattle.ttx_packet.specs.PageHeader.{header}
 
 module _ {X : Type 0} where
   -- What holds of each item and of one more.
@@ -96,72 +102,58 @@ units_more units k u l e =
     take_more (packets_of_units units) k [] within
     ∙ ap (λ x. take k (packets_of_units units) ++ x ∷ []) (unit_at units k u l e)
 
--- The headers of the page, one packet on.
+-- The headers of the page in two lists, joined.
+pub header_count-append :
+    (page : PageIdValue) (ps qs : List (List ℕ))
+    → header_count page (ps ++ qs) ≡ header_count page ps + header_count page qs
+header_count-append page ps qs =
+    let f : List ℕ → Bool = λ p. is_this_page (kind page p) in
+    ap length (filter-append f ps qs) ∙ length-append (filter f ps) (filter f qs)
+
+-- And one packet on.
 pub header_count-push :
     (page : PageIdValue) (ps : List (List ℕ)) (p : List ℕ)
     → header_count page (ps ++ p ∷ []) ≡ header_count page ps + cond (is_this_page (kind page p)) 1
     0
-header_count-push page [] p = last (is_this_page (kind page p))
+header_count-push page ps p =
+    header_count-append page ps (p ∷ [])
+    ∙ ap (λ n. header_count page ps + n) (one (is_this_page (kind page p)))
   where
-    last : (b : Bool) → length (cond b (p ∷ []) []) ≡ 0 + cond b 1 0
-    last true = refl
-    last false = refl
-header_count-push page (q ∷ qs) p =
-    step (is_this_page (kind page q)) (header_count-push page qs p)
-  where
-    step :
-        (b : Bool)
-        → header_count page (qs ++ p ∷ [])
-        ≡ header_count page qs + cond (is_this_page (kind page p)) 1 0
-        → length (cond b (q ∷ filter (λ x. is_this_page (kind page x)) (qs ++ p ∷ []))
-        (filter (λ x. is_this_page (kind page x)) (qs ++ p ∷ [])))
-        ≡ length (cond b (q ∷ filter (λ x. is_this_page (kind page x)) qs)
-        (filter (λ x. is_this_page (kind page x)) qs)) + cond (is_this_page (kind page p)) 1 0
-    step true h = omega (arith, h)
-    step false h = h
-
--- Clean packets, one more.
-pub AreClean-more :
-    (w : Watched) (heard ps : List (List ℕ)) (k : ℕ)
-    → AreClean w heard ps k
-    → IsClean w (heard ++ take k ps) (get_or ps k [])
-    → AreClean w heard ps (k + 1)
-AreClean-more w heard ps k before here j l = elim (cases_eq j k) [
-  | inl e ↦ subst (λ n. IsClean w (heard ++ take n ps) (get_or ps n [])) (sym e) here
-  | inr other ↦ before j (omega arith)
-]
+    one : (b : Bool) → length (cond b (p ∷ []) []) ≡ cond b 1 0
+    one true = refl
+    one false = refl
 
 -- There is a header of the page exactly where their count is not 0.
 pub holds-count :
     (page : PageIdValue) (ps : List (List ℕ))
     → holds_header (kind page) ps ≡ nat_lt 0 (header_count page ps)
 holds-count page [] = refl
-holds-count page (q ∷ qs) = go (is_this_page (kind page q)) (holds-count page qs)
-  where
-    go :
-        (b : Bool)
-        → holds_header (kind page) qs ≡ nat_lt 0 (header_count page qs)
-        → (b || holds_header (kind page) qs)
-        ≡ nat_lt 0
-        (length (cond b (q ∷ filter (λ x. is_this_page (kind page x)) qs)
-        (filter (λ x. is_this_page (kind page x)) qs)))
-    go true h = sym (lt-ltb 0 _ (omega arith))
-    go false h = h
+holds-count page (q ∷ qs) = let ih = holds-count page qs in grind (arith, nat_tests)
 
--- The headers of the page in two lists, joined.
-pub header_count-append :
-    (page : PageIdValue) (ps qs : List (List ℕ))
-    → header_count page (ps ++ qs) ≡ header_count page ps + header_count page qs
-header_count-append page [] qs = omega arith
-header_count-append page (p ∷ ps) qs =
-    go (is_this_page (kind page p)) (header_count-append page ps qs)
-  where
-    go :
-        (b : Bool)
-        → header_count page (ps ++ qs) ≡ header_count page ps + header_count page qs
-        → length (cond b (p ∷ filter (λ x. is_this_page (kind page x)) (ps ++ qs))
-        (filter (λ x. is_this_page (kind page x)) (ps ++ qs)))
-        ≡ length (cond b (p ∷ filter (λ x. is_this_page (kind page x)) ps)
-        (filter (λ x. is_this_page (kind page x)) ps)) + header_count page qs
-    go true h = omega (arith, h)
-    go false h = h
+-- ---- the first header
+
+-- The first of three options, in either way.
+or_assoc : {A : Type 0} (a b c : Option A)
+    → option_or a (option_or b c) ≡ option_or (option_or a b) c
+or_assoc None b c = refl
+or_assoc (Some x) b c = refl
+
+-- With none nothing changes.
+or-none : {A : Type 0} (a : Option A) → option_or a None ≡ a
+or-none None = refl
+or-none (Some x) = refl
+
+-- The first header of two lists, joined.
+pub first_header-append :
+    (xs ys : List (List ℕ))
+    → first_header (xs ++ ys) ≡ option_or (first_header xs) (first_header ys)
+first_header-append [] ys = refl
+first_header-append (x ∷ xs) ys =
+    ap (λ o. option_or (header x) o) (first_header-append xs ys)
+    ∙ or_assoc (header x) (first_header xs) (first_header ys)
+
+-- The first header of a list that goes on by one packet.
+pub first_header-push : (xs : List (List ℕ)) (x : List ℕ)
+    → first_header (xs ++ x ∷ []) ≡ option_or (first_header xs) (header x)
+first_header-push xs x =
+    first_header-append xs (x ∷ []) ∙ ap (option_or (first_header xs)) (or-none (header x))

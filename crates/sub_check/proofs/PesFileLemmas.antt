@@ -1,5 +1,6 @@
 -- What is read packet by packet is what the grammar says of the whole file: `law_of_pes_files`,
 -- `carried_is_read`.
+use Rattle.std.proofs.lemmas.Bool.Decides.{nat_tests}
 use Rattle.std.proofs.Common.{◌≡◌, ℕ, zero, suc, ◌+◌, ◌≤◌, Bool, true, false, cond, ◌==◌, List, []}
 use Rattle.std.proofs.Common.{◌∷◌, ◌++◌, length, Option, Some, None, Result, Ok, Err, refl, sym, ap}
 use Rattle.std.proofs.Common.{◌∙◌, subst, arith, drop}
@@ -27,15 +28,7 @@ use Rattle.ttx_pes.proofs.ReaderLemmas.{nothing}
 pub no_bytes : (given : ℕ) (bytes : List ℕ) → answer_at given bytes ≡ Ok None → bytes ≡ []
 unfolding answer_at
 no_bytes given [] e = refl
-no_bytes given (x ∷ b) e = absurd (go (given == most_packets) (packet_at (x ∷ b)) e)
-  where
-    go :
-        (t : Bool) (r : Result (PesValue × List ℕ) PesFault)
-        → cond t (Err fault.TooMany) (r >>= (λ p. Ok (Some p.0))) ≡ Ok None
-        → ⊥
-    go true r d = cc
-    go false (Ok p) d = cc
-    go false (Err f) d = cc
+no_bytes given (x ∷ b) e = grind (arith, nat_tests)
 
 -- Where a value is read, a packet of it begins the bytes. For `sent_of`.
 packet_of :
@@ -65,6 +58,24 @@ record AreSent (origin given : ℕ) (bytes : List ℕ) (frames : Transmission) :
   pub few : given + length packets ≤ most_packets
   pub joined : bytes ≡ concat packets
   pub sent : AllZip (IsSentAs origin) values frames
+
+-- Where nothing is read, no packet is sent. For `sent_of`.
+nothing_sent :
+    (origin given : ℕ) (bytes : List ℕ) (frames : Transmission)
+    → given ≤ most_packets
+    → answer_at given bytes ≡ Ok None
+    → file_by origin (Ok None) (record { frames = []; unread = None })
+    ≡ record { frames = frames; unread = None }
+    → AreSent origin given bytes frames
+nothing_sent origin given bytes frames few at e =
+    subst (AreSent origin given bytes) (ap (λ (x : PesFileValue). x.frames) e) (record {
+      values = [];
+      packets = [];
+      each = tt;
+      few = omega arith;
+      joined = no_bytes given bytes at;
+      sent = tt;
+    })
 
 -- What a packet that is read and the others are together. For `sent_of`.
 with_packet :
@@ -112,14 +123,9 @@ sent_of origin zero given bytes frames fit all reads =
         → AreSent origin given bytes frames
     go (Err f) at e = let same = ap (λ (x : PesFileValue). x.unread) e in cc
     go (Ok None) at e =
-        subst (AreSent origin given bytes) (ap (λ (x : PesFileValue). x.frames) e) (record {
-          values = [];
-          packets = [];
-          each = tt;
-          few = omega arith;
-          joined = no_bytes most_packets bytes at;
-          sent = tt;
-        })
+        let is : given ≡ most_packets = omega arith in
+        nothing_sent origin given bytes frames (omega arith)
+        (ap (λ n. answer_at n bytes) is ∙ at) e
     go (Ok (Some v)) at e = absurd (reads-below most_packets bytes v at refl)
 sent_of origin (suc m) given bytes frames fit all reads =
     go (answer_at given bytes) refl (sym (step origin m given bytes all) ∙ reads)
@@ -160,15 +166,7 @@ sent_of origin (suc m) given bytes frames fit all reads =
         (file_at origin m (rest_after bytes)).frames)
         → AreSent origin given bytes frames
     go (Err f) at e others = let same = ap (λ (x : PesFileValue). x.unread) e in cc
-    go (Ok None) at e others =
-        subst (AreSent origin given bytes) (ap (λ (x : PesFileValue). x.frames) e) (record {
-          values = [];
-          packets = [];
-          each = tt;
-          few = omega arith;
-          joined = no_bytes given bytes at;
-          sent = tt;
-        })
+    go (Ok None) at e others = nothing_sent origin given bytes frames (omega arith) at e
     go (Ok (Some v)) at e others = found v (frame_of_pts origin v.pts) at refl e others
 
 -- PES packets that are sent as frames are read as these.

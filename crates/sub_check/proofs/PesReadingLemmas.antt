@@ -1,5 +1,6 @@
--- One PES packet read, in terms of the value of the whole file: `reads_next`, `reads_end`,
--- `reads_fault`; and put together, `reads_more`, `reads_ended`.
+-- One PES packet read, in terms of the value of the whole file: `reads_next`, `reads_end`; and put
+-- together, `reads_more`, `reads_ended`.
+use Rattle.std.proofs.lemmas.Bool.Decides.{nat_tests}
 use Rattle.std.proofs.Common.{Bool, true, false, cond, ◌==◌, ◌≡◌, ◌≢◌, ℕ, zero, suc, ◌+◌, ◌-◌, ◌<◌}
 use Rattle.std.proofs.Common.{◌≤◌, inl, inr, List, [], ◌∷◌, length, drop, get_or, MatchOption}
 use Rattle.std.proofs.Common.{Option, Some, None, Ok, Err, refl, sym, ap, ◌∙◌, subst, arith}
@@ -58,40 +59,10 @@ pub found_below :
 unfolding frame_below
 found_below origin pts zero (Some f) e = cc
 found_below origin pts zero None e = λ f l. absurd (omega arith)
-found_below origin pts (suc n) r e =
-    go (pts_of origin n == pts) (eqb-true (pts_of origin n) pts) (eqb-false (pts_of origin n) pts)
-    r e (found_below origin pts n r)
-  where
-    go :
-        (b : Bool)
-        → (b ≡ true → pts_of origin n ≡ pts)
-        → (b ≡ false → pts_of origin n ≢ pts)
-        → (x : Option ℕ)
-        → cond b (Some n) (frame_below origin pts n) ≡ x
-        → (frame_below origin pts n ≡ x
-        → MatchOption x ((f : ℕ) → f < n → pts_of origin f ≢ pts)
-        (λ f. (f < n) × (pts_of origin f ≡ pts)))
-        → MatchOption x ((f : ℕ) → f < suc n → pts_of origin f ≢ pts)
-        (λ f. (f < suc n) × (pts_of origin f ≡ pts))
-    go true same other None q ih = cc
-    go true same other (Some f) q ih =
-        let is : n ≡ f = cc in (omega arith, ap (pts_of origin) (sym is) ∙ same refl)
-    go false same other (Some f) q ih = let h = ih q in let l = h.0 in (omega arith, h.1)
-    go false same other None q ih = λ f l.
-        elim (cases_lt f n) [
-          | inl before ↦ ih q f before
-          | inr here ↦ let is : n ≡ f = omega arith in
-              subst (λ (k : ℕ). pts_of origin k ≢ pts) is (other refl)
-        ]
-
--- Two frames of the day have one PTS only where they are one.
-same_frame :
-    (origin a b : ℕ)
-    → a < day
-    → b < day
-    → pts_of origin a ≡ pts_of origin b
-    → a ≡ b
-same_frame origin a b l m e = omega arith
+found_below origin pts (suc n) (Some f) e =
+    let ih = found_below origin pts n (Some f) in grind (arith, nat_tests)
+found_below origin pts (suc n) None e =
+    let ih = found_below origin pts n None in grind (arith, nat_tests)
 
 -- The frame of the day that has a PTS is found.
 frame_found :
@@ -109,7 +80,8 @@ frame_found origin pts frame in_day e =
         (λ f. (f < day) × (pts_of origin f ≡ pts))
         → r ≡ Some frame
     go None none = absurd (none frame in_day e)
-    go (Some f) (l, is) = ap Some (same_frame origin f frame l in_day (is ∙ sym e))
+    go (Some f) (l, is) =
+        let same : pts_of origin f ≡ pts_of origin frame = is ∙ sym e in ap Some (omega arith)
 
 -- Where no frame of the day has a PTS, none is found.
 no_frame_found :
@@ -211,15 +183,7 @@ pub reads-below :
     → given ≢ most_packets
 unfolding answer_at
 reads-below given [] v e at = cc
-reads-below given (x ∷ b) v e at = go (given == most_packets) (eq-eqb given most_packets at) e
-  where
-    go :
-        (t : Bool)
-        → t ≡ true
-        → cond t (Err fault.TooMany) (packet_at (x ∷ b) >>= (λ p. Ok (Some p.0))) ≡ Ok (Some v)
-        → ⊥
-    go true q d = cc
-    go false q d = cc
+reads-below given (x ∷ b) v e at = grind (arith, nat_tests)
 
 -- A file that begins with a PES packet of a frame: that frame, and then the others.
 begins :
@@ -290,37 +254,17 @@ reads_next origin n bytes frames unread v frame few reads is of =
     }
 
 -- Where no frame is read of the bytes, the list is at its end.
-at_end :
+pub reads_end :
     (origin n : ℕ) (bytes : List ℕ) (frames : Transmission) (unread u : Option Unread)
     → n ≤ most_packets
     → ReadsAs origin n bytes (drop n frames) unread
     → EndsReading origin n bytes u
     → (length frames ≤ n) × (unread ≡ u)
-at_end origin n bytes frames unread u few reads ends =
+reads_end origin n bytes frames unread u few reads ends =
     let whole = sym reads ∙ reads_ended origin n bytes u few ends in
     let none : drop n frames ≡ [] = ap (λ (f : PesFileValue). f.frames) whole in
     let size : length (drop n frames) ≡ 0 = ap length none in
     (omega (arith, length-drop n frames), ap (λ (f : PesFileValue). f.unread) whole)
-
--- Where the bytes are at their end, so is the list.
-pub reads_end :
-    (origin n : ℕ) (bytes : List ℕ) (frames : Transmission) (unread : Option Unread)
-    → n ≤ most_packets
-    → ReadsAs origin n bytes (drop n frames) unread
-    → answer_at n bytes ≡ Ok None
-    → (length frames ≤ n) × (unread ≡ None)
-reads_end origin n bytes frames unread few reads is =
-    at_end origin n bytes frames unread None few reads is
-
--- Where something keeps them from being read on, so is the list.
-pub reads_fault :
-    (origin n : ℕ) (bytes : List ℕ) (frames : Transmission) (unread : Option Unread) (u : Unread)
-    → n ≤ most_packets
-    → ReadsAs origin n bytes (drop n frames) unread
-    → EndsReading origin n bytes (Some u)
-    → (length frames ≤ n) × (unread ≡ Some u)
-reads_fault origin n bytes frames unread u few reads ends =
-    at_end origin n bytes frames unread (Some u) few reads ends
 
 -- The fault of a source that failed is that one. For `next_sending`.
 pub read_place :

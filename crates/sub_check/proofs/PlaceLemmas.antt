@@ -1,7 +1,6 @@
 -- A transmission is good exactly where what is asked holds at each place.
-use Rattle.std.proofs.Common.{◌≡◌, ℕ, ◌+◌, ◌-◌, ◌<◌, ◌≤◌, inl, inr, true, false, List, []}
-use Rattle.std.proofs.Common.{◌∷◌, ◌++◌, Option, Some, None, length, refl, sym, ap, ◌∙◌, subst}
-use Rattle.std.proofs.Common.{arith}
+use Rattle.std.proofs.Common.{◌≡◌, ℕ, ◌+◌, ◌-◌, ◌<◌, ◌≤◌, inl, inr, true, false, List, [], ◌∷◌}
+use Rattle.std.proofs.Common.{◌++◌, Option, Some, None, length, refl, sym, ap, ◌∙◌, subst, arith}
 use Rattle.std.specs.Option.{option_or}
 use Rattle.std.specs.List.{AllByRecursion}
 use Rattle.std.proofs.lemmas.List.Elements.{All-from_recursion, recursion_from_All}
@@ -16,21 +15,19 @@ use Rattle.ttx_page.specs.Page.{cell, IsCell}
 use Rattle.ttx_page.specs.Span.{span, is_open_after}
 use Rattle.ttx_page.specs.Shown.{shown}
 use Rattle.sub_check.specs.PacketRules.{first_header, KeepsRule, IsClean}
-use Rattle.sub_check.proofs.PushLemmas.{first_header-push}
+use Rattle.sub_check.proofs.PacketLists.{first_header-push, Each-push, Each-map}
 use Rattle.sub_check.specs.Transmission.{EachPacket, Transmission, first_frame, last_frame}
 use Rattle.sub_check.specs.Transmission.{on_air_until}
 use Rattle.sub_check.specs.Good.{IsCleanSpan, IsControlled, IsInOneMode}
 use Rattle.sub_check.specs.StepByStep.{MayFollow}
-use Rattle.sub_check.specs.FrameRules.{Task, frame_at, packets_of_frame, end_frame}
-use Rattle.sub_check.specs.FrameRules.{HasHeader, ShowsDue, IsCovered}
+use Rattle.sub_check.specs.FrameRules.{Task, frame_at, packets_of_frame, end_frame, HasHeader}
+use Rattle.sub_check.specs.FrameRules.{ShowsDue, IsCovered}
 use Rattle.sub_check.specs.declared.fault.CheckFault.{CheckFault}
 use Rattle.sub_check.specs.FirstBroken.{HoldsEverywhere, NamesFirst}
 use Rattle.sub_check.specs.FirstBroken.Place.{AtOrder, AtStart, AtGapCell, AtGap, AtPacket, AtFirst}
-use Rattle.sub_check.specs.FirstBroken.Place.{AtCell, AtFrame, AtOpen, AtUnread, AtNothing}
-use Rattle.sub_check.specs.FirstBroken.Place.{AtEnd}
+use Rattle.sub_check.specs.FirstBroken.Place.{AtCell, AtFrame, AtOpen, AtUnread, AtNothing, AtEnd}
 use Rattle.sub_check.proofs.GoodByPlace.{GoodFrames, whole}
 use Rattle.sub_check.proofs.GoodLemmas.{each_packet}
-use Rattle.sub_check.proofs.PacketLists.{Each-push, Each-map}
 use Rattle.sub_check.proofs.ListeningLemmas.{span_open}
 use Rattle.sub_check.proofs.PacketRuleLemmas.{kind-enhancement}
 use Rattle.sub_check.proofs.PrefixLemmas.{before, packet_at, at_start, at_packet, each_at}

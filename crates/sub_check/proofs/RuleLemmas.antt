@@ -14,20 +14,12 @@ keeps_each :
     → Good programme transmission options
     → (rule : Rule)
     → IsKept rule programme transmission options
-keeps_each programme transmission options good Frames =
-    record {
-      not_empty = good.not_empty;
-      rising = good.rising;
-      whole = good.whole;
-      starts = good.starts;
-      lasts = good.lasts;
-    }
+keeps_each programme transmission options good Frames = assumption
 keeps_each programme transmission options good ExactWords = good.exact
 keeps_each programme transmission options good OneMode = good.serial
 keeps_each programme transmission options good SubtitleControl = good.control
 keeps_each programme transmission options good CleanSpans = good.spans
-keeps_each programme transmission options good RepeatBound =
-    record { opens = good.opens; repeats = good.repeats }
+keeps_each programme transmission options good RepeatBound = assumption
 keeps_each programme transmission options good DuePages = good.content
 
 -- And one that keeps each rule is good.
@@ -36,20 +28,15 @@ good_from_rules :
     → ((rule : Rule) → IsKept rule programme transmission options)
     → Good programme transmission options
 good_from_rules programme transmission options kept =
-    record {
-      not_empty = (kept Frames).not_empty;
-      rising = (kept Frames).rising;
-      whole = (kept Frames).whole;
-      starts = (kept Frames).starts;
-      lasts = (kept Frames).lasts;
-      exact = kept ExactWords;
-      serial = kept OneMode;
-      control = kept SubtitleControl;
-      spans = kept CleanSpans;
-      opens = (kept RepeatBound).opens;
-      repeats = (kept RepeatBound).repeats;
-      content = kept DuePages;
-    }
+    assumption (
+      kept Frames,
+      kept ExactWords,
+      kept OneMode,
+      kept SubtitleControl,
+      kept CleanSpans,
+      kept RepeatBound,
+      kept DuePages,
+    )
 
 -- Good is each rule.
 pub law_of_rules : LawOfRules

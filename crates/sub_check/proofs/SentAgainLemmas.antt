@@ -1,9 +1,9 @@
 -- Packets that are sent again keep the rules again, and what is kept stays: `law_of_sent_again`,
 -- `heard_again`, `kept_last`.
-use Rattle.std.proofs.Common.{◌≡◌, ℕ, zero, suc, ◌<◌, Bool, true, false, ◌==◌, cond, List, []}
-use Rattle.std.proofs.Common.{◌∷◌, ◌++◌, Option, Some, None, not, ◌&&◌, nat_le, length}
-use Rattle.std.proofs.Common.{take, get_or, option_map, refl, sym, ap, ap₂, ◌∙◌, subst, arith}
-use Rattle.std.proofs.Common.{append-nil, ◌+◌, eqb-true}
+use Rattle.std.proofs.Common.{◌≡◌, ℕ, zero, suc, ◌<◌, Bool, true, false, ◌==◌, cond, List, [], ◌∷◌}
+use Rattle.std.proofs.Common.{◌++◌, Option, Some, None, not, ◌&&◌, nat_le, length, take, get_or}
+use Rattle.std.proofs.Common.{option_map, refl, sym, ap, ap₂, ◌∙◌, subst, arith, append-nil, ◌+◌}
+use Rattle.std.proofs.Common.{eqb-true}
 use Rattle.std.specs.List.{AllByRecursion, list_any}
 use Rattle.std.specs.Option.{option_or}
 use Rattle.std.proofs.lemmas.Bool.{or_left}
@@ -19,12 +19,12 @@ use Rattle.sub_check.specs.Listening.{HoldsRows, Knows, KnowsLast, WereJudged}
 use Rattle.sub_check.specs.PacketRules.{AreClean, IsClean, first_header, header_count}
 use Rattle.sub_check.specs.SentAgain.{BeginsWithHeader, LawOfSentAgain, LookAlike}
 use Rattle.sub_check.specs.declared.listener.Listener.{Listener}
-use Rattle.sub_check.specs.declared.packet_rules.PacketRule.TheVariants as rule
 use Rattle.sub_check.specs.declared.packet_rules.Watched.{Watched}
 use Rattle.sub_check.proofs.PacketRuleLemmas.{clean_from, parity_free, changed_free}
 use Rattle.sub_check.proofs.PacketRuleLemmas.{enhancement_free}
-use Rattle.sub_check.proofs.PushLemmas.{first_header-append}
+use Rattle.sub_check.proofs.PacketLists.{first_header-append}
 use Rattle.ttx_page.proofs.SpanLists.{after-append, holds-append_right}
+use Rattle.sub_check.specs.declared.packet_rules.PacketRule.TheVariants as rule
 
 -- ---- a header of the page
 

@@ -1,5 +1,6 @@
 -- What the page shows, and how long ago a header was.
-use Rattle.std.proofs.Common.{Option, Some, None, ◌≡◌, ℕ, ◌+◌, ◌-◌, ◌<◌, ◌≤◌, inl, inr, Bool, true}
+use borrow.Author.Count.{below_more}
+use Rattle.std.proofs.Common.{Option, Some, None, ◌≡◌, ◌≢◌, ℕ, ◌+◌, ◌-◌, ◌<◌, ◌≤◌, inl, inr, Bool, true}
 use Rattle.std.proofs.Common.{false, List, [], ◌∷◌, ◌++◌, find, option_map, unwrap_or, length}
 use Rattle.std.proofs.Common.{get_or, take, refl, sym, ap, ◌∙◌, subst, arith, ◌&&◌, true≢false}
 use Rattle.std.specs.List.{list_any, flat_map}
@@ -76,16 +77,7 @@ pub KnowsLast-drawn :
     (heard last : List (List ℕ)) (s : Listener) (due : Rows)
     → KnowsLast heard last s
     → KnowsLast heard last (record s { comparison = record s.comparison { due = due } })
-KnowsLast-drawn heard last s due k =
-    let known = k.knows in
-    record {
-      knows = record {
-        serial_is = known.serial_is;
-        open_is = known.open_is;
-        rows_are = known.rows_are;
-      };
-      last_is = k.last_is;
-    }
+KnowsLast-drawn heard last s due k = assumption
 
 -- ---- headers
 
@@ -94,11 +86,9 @@ pub HeaderIs-none : (g : Task) (frames : Transmission) (n at : ℕ) → HeaderIs
     → (HasHeader g frames n → ⊥) → HeaderIs g frames (n + 1) at
 HeaderIs-none g frames n at h none = record {
   found = (h.found.0, omega (arith, h.found.1), h.found.2, h.found.3);
-  last = λ j l head. elim (cases_eq j n) [
-    | inl e ↦ absurd (none (subst (HasHeader g frames) e head))
-    | inr other ↦ h.last j
-        (omega arith) head
-  ];
+  last =
+      below_more (λ j. HasHeader g frames j → frame_at frames j ≤ at) n h.last
+      (λ head. absurd (none head));
   begins = h.begins;
 }
 
@@ -272,10 +262,8 @@ same_edge records frame (Some edge) tells other =
       is_edge = tells.is_edge;
       after =
           let m = tells.after in
-          elim (cases_eq edge (frame + 1)) [
-            | inl e ↦ absurd (other (ap Some e))
-            | inr ne ↦ omega arith
-          ];
+          let no : edge ≢ frame + 1 = λ e. other (ap Some e) in
+          omega arith;
       least = λ e is l. tells.least e is (omega arith);
     }
 

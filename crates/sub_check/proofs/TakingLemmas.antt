@@ -1,9 +1,10 @@
 -- What is kept, one frame of the list on, and what is told at its end: `Remembers-moved`,
--- `names_packet`, `names_missing`, `took`, `names_cell`, `names_gap`, `names_open`, `follows`.
+-- `names_packet`, `names_missing`, `took`, `names_cell`, `names_gap`, `names_open`, `follows`; and
+-- at the frames of the day before it: `gap_names_cell`, `gap_names_gap`, `gap_cells`, `gap_covered`.
+use borrow.Author.Count.{below_more}
 use Rattle.std.proofs.Common.{◌≡◌, ℕ, zero, suc, ◌+◌, ◌-◌, ◌<◌, ◌≤◌, nat_lt, inl, inr, Bool, true}
-use Rattle.std.proofs.Common.{false, ◌&&◌, cond, List, [], ◌++◌, length, refl, sym}
-use Rattle.std.proofs.Common.{MatchResult, Option, Some, Result, Ok, Err, ap, ap₂, ◌∙◌, subst}
-use Rattle.std.proofs.Common.{arith}
+use Rattle.std.proofs.Common.{false, ◌&&◌, cond, List, [], ◌++◌, length, refl, sym, MatchResult}
+use Rattle.std.proofs.Common.{Option, Some, Result, Ok, Err, ap, ap₂, ◌∙◌, subst, arith}
 use Rattle.std.specs.Prelude.{OnOk}
 use Rattle.std.proofs.lemmas.Bool.{cases_eq, cases_lt, lt-ltb, true≢false}
 use Rattle.stl_rows.specs.Programme.{ProgrammeValue}
@@ -15,25 +16,26 @@ use Rattle.ttx_page.specs.Span.{holds_header}
 use Rattle.sub_plan.specs.Options.{OptionsValue}
 use Rattle.sub_plan.specs.Schedule.{due_in}
 use Rattle.sub_check.specs.Checker.{CheckerValue, at_first, at_frame, most_headers}
-use Rattle.sub_check.specs.FirstBroken.{NamesFirst, packet_fault}
+use Rattle.sub_check.specs.FirstBroken.{NamesFirst, packet_fault, IsInGap}
 use Rattle.sub_check.specs.Following.{AreOk, Arrives, Follows, FrameOk, GapOk, HeaderIs, IsTaskOf}
-use Rattle.sub_check.specs.Following.{OrderOk, PacketsOk, Remembers}
+use Rattle.sub_check.specs.Following.{OrderOk, PacketsOk, Remembers, Keeps}
 use Rattle.sub_check.specs.FrameRules.{HasHeader, IsCovered, ShowsDue, Task, Unread, frame_at}
 use Rattle.sub_check.specs.FrameRules.{packets_before, packets_of_frame, task_of, watched_of}
 use Rattle.sub_check.specs.Listening.{KnowsLast}
 use Rattle.sub_check.specs.PacketRules.{AreClean, BreaksFirstAt, header_count}
 use Rattle.sub_check.specs.Transmission.{Transmission}
 use Rattle.sub_check.specs.declared.fault.CheckFault.{CheckFault}
-use Rattle.sub_check.specs.declared.fault.CheckFault.TheVariants as fault
 use Rattle.sub_check.specs.declared.listener.Listener.{Listener}
 use Rattle.sub_check.specs.declared.packet_rules.PacketRule.{PacketRule}
 use Rattle.sub_check.specs.declared.packet_rules.Watched.{Watched}
 use Rattle.sub_check.proofs.OrderLemmas.{first_cell, first_frame, first_header_missing, first_open}
-use Rattle.sub_check.proofs.OrderLemmas.{first_packet, gap_of_none}
+use Rattle.sub_check.proofs.OrderLemmas.{first_packet, gap_of_none, first_gap, first_gap_cell}
 use Rattle.sub_check.proofs.PacketLists.{header_count-append, holds-count}
 use Rattle.sub_check.proofs.ShownLemmas.{AreSameCells, HeaderIs-none, HeaderIs-some}
 use Rattle.sub_check.proofs.ShownLemmas.{KnowsLast-drawn, WrongFirst, covered, ended, joined_more}
 use Rattle.sub_check.proofs.ShownLemmas.{not_ended, shows_all, uncovered, wrong_first}
+use Rattle.sub_check.specs.FirstBroken.Place.{AtGap, AtGapCell}
+use Rattle.sub_check.specs.declared.fault.CheckFault.TheVariants as fault
 
 -- Headers among the packets of the first n frames are those of some frame.
 some_before : (g : Task) (frames : Transmission) (n headers : ℕ)
@@ -56,22 +58,6 @@ HeaderIs-more g frames n at frame true h f e rising some =
     (λ j l. subst (λ x. frame_at frames j ≤ x) (sym f) (rising j l)))
 HeaderIs-more g frames n at frame false h f e rising some =
     HeaderIs-none g frames n at (h (some refl)) (λ head. true≢false (sym head ∙ e))
-
--- The frames rise, one frame on.
-rising_more : (frames : Transmission) (n frame : ℕ)
-    → ((j : ℕ) → j < n → frame_at frames j ≤ frame) → frame_at frames n ≡ frame
-    → (j : ℕ) → j < n + 1 → frame_at frames j ≤ frame
-rising_more frames n frame rising is j l = elim (cases_eq j n) [
-  | inl e ↦ let s : frame_at frames j ≡ frame_at frames n = ap (frame_at frames) e in omega arith
-  | inr other ↦ rising j (omega arith)
-]
-
--- All that is asked of the frames so far, one frame on.
-past_more : (g : Task) (frames : Transmission) (n : ℕ) → AreOk g frames n → FrameOk g frames n
-    → AreOk g frames (n + 1)
-past_more g frames n past here j l =
-    elim (cases_eq j n)
-    [ inl e ↦ subst (FrameOk g frames) (sym e) here | inr other ↦ past j (omega arith) ]
 
 -- What is kept is so at a later frame too.
 pub Remembers-moved :
@@ -242,22 +228,17 @@ module _ (g : Task) (frames : Transmission) (n : ℕ) (b : CheckerValue) (ps : L
         -- No header of the page, in the first frame.
         pub names_missing : total ≡ 0 → NamesFirst g frames (fault.NoFirstHeader b.frame)
         names_missing none =
-            subst (λ x. NamesFirst g frames (fault.NoFirstHeader x)) here (go n refl)
-          where
-            without : HasHeader g frames n → ⊥
-            without head =
-                let no : headers ≡ 0 = omega (arith, none, total_is) in
-                true≢false (sym head ∙ has_header ∙ found_is ∙ ap (nat_lt 0) no)
-
-            go : (i : ℕ) → n ≡ i → NamesFirst g frames (fault.NoFirstHeader (frame_at frames n))
-            go zero e =
-                subst (λ j. NamesFirst g frames (fault.NoFirstHeader (frame_at frames j))) (sym e)
-                (first_header_missing g frames (omega (arith, there))
-                (subst (OrderOk g frames) e arrived.order) (subst (PacketsOk g frames) e packets_ok)
-                (subst (λ j. HasHeader g frames j → ⊥) e without))
-            go (suc i) e =
-                absurd
-                (let some = known.begun (omega (arith, e)) in omega (arith, some, none, total_is))
+            let e : n ≡ 0 = grind (arith, known.begun, none, total_is) in
+            let no : headers ≡ 0 = omega (arith, none, total_is) in
+            subst (λ x. NamesFirst g frames (fault.NoFirstHeader x))
+            (ap (frame_at frames) (sym e) ∙ here)
+            (first_header_missing g frames (omega (arith, there))
+            (subst (OrderOk g frames) e arrived.order) (subst (PacketsOk g frames) e packets_ok)
+            (λ head. true≢false
+            (sym (subst (HasHeader g frames) (sym e) head)
+            ∙ has_header
+            ∙ found_is
+            ∙ ap (nat_lt 0) no)))
 
         -- What is kept after them.
         pub took : (at : ℕ) → (total ≡ 0 → ⊥) → at ≡ cond found b.frame b.header_at
@@ -299,7 +280,8 @@ module _ (g : Task) (frames : Transmission) (n : ℕ) (b : CheckerValue) (ps : L
             more = elim (cases_lt 0 total) [ inl l ↦ l | inr l ↦ absurd (some (omega arith)) ]
 
             rising : (j : ℕ) → j < n + 1 → frame_at frames j ≤ b.frame
-            rising = rising_more frames n b.frame known.rising here
+            rising =
+                below_more (λ j. frame_at frames j ≤ b.frame) n known.rising (omega (arith, here))
 
             without : found ≡ false → 0 < b.headers
             without e =
@@ -371,7 +353,7 @@ module _ (g : Task) (frames : Transmission) (n : ℕ) (c : CheckerValue) (t : To
     remembers = t.known;
     first_is = λ some. t.first_is;
     frame_is = λ some. sym t.frame_is ∙ ap (frame_at frames) (omega arith);
-    past = past_more g frames n t.past (record {
+    past = below_more (FrameOk g frames) n t.past (record {
       order = t.order;
       gap = t.gap;
       packets = t.packets;
@@ -406,3 +388,73 @@ watched_is p options page national complete e f h =
     λ x y z. record { page = x; national = y; complete = z } in
     ap₂ (λ x y. made x y options.asks_complete) (sym e) (sym f)
     ∙ ap (made page national) (sym h)
+
+-- ---- the frames of the day before a frame of the list
+
+module _ (g : Task) (frames : Transmission) (n f : ℕ) (v b : CheckerValue)
+    (moved : b ≡ at_frame f v) (follows : Follows g frames n v) (begun : 0 < n) (later : v.frame < f)
+  where
+    -- What is kept there.
+    known_there : Remembers g frames n b
+    known_there =
+        subst (Remembers g frames n) (sym moved)
+        (Remembers-moved g frames n f v follows.remembers (omega (arith, later)))
+
+    due_there : b.listener.comparison.due ≡ due_in b.programme b.frame
+    due_there =
+        subst (λ (c : CheckerValue). c.listener.comparison.due ≡ due_in c.programme c.frame)
+        (sym moved) refl
+
+    frame_is : b.frame ≡ f
+    frame_is = ap (λ (c : CheckerValue). c.frame) moved
+
+    shown_in_gap : AreSameCells b.listener → (row column : ℕ) → IsCell row column
+        → ShowsDue g frames n f row column
+    shown_in_gap cells row column is =
+        subst (λ x. ShowsDue g frames n x row column) frame_is
+        (shows_all g frames n b known_there due_there cells row column is)
+
+    covered_in_gap : f - b.header_at < b.every → IsCovered g frames n f
+    covered_in_gap l =
+        subst (IsCovered g frames n) frame_is
+        (covered g frames n b known_there begun (omega (arith, l, frame_is)))
+
+    -- The frames of the day before this one hold, and so does this one.
+    pub gap_cells : AreSameCells b.listener
+        → ((d row column : ℕ) → d < f → Keeps g frames (AtGapCell n d row column))
+        → (d row column : ℕ) → d < f + 1 → Keeps g frames (AtGapCell n d row column)
+    gap_cells cells before d row column l =
+        below_more (λ e. (r c : ℕ) → Keeps g frames (AtGapCell n e r c)) f
+        (λ e m r c. before e r c m) (λ r c t. shown_in_gap cells r c t.1) d l row column
+
+    pub gap_covered : f - b.header_at < b.every
+        → ((d : ℕ) → d < f → Keeps g frames (AtGap n d))
+        → (d : ℕ) → d < f + 1 → Keeps g frames (AtGap n d)
+    gap_covered near before =
+        below_more (λ d. Keeps g frames (AtGap n d)) f before (λ t. covered_in_gap near)
+
+    module _ (there : n < length frames) (earlier : f < frame_at frames n)
+        (order : OrderOk g frames n)
+        (cells : (d row column : ℕ) → d < f → Keeps g frames (AtGapCell n d row column))
+        (gaps : (d : ℕ) → d < f → Keeps g frames (AtGap n d)) where
+      in_gap : IsInGap frames n f
+      in_gap =
+          let e = follows.frame_is begun in
+          (begun, there, omega (arith, e, later), earlier)
+
+      -- A cell that differs.
+      pub gap_names_cell : (row column : ℕ)
+          → DiffersFirst b.listener.comparison.page b.listener.comparison.due row column
+          → NamesFirst g frames (fault.Content f row column)
+      gap_names_cell row column d =
+          first_gap_cell g frames n follows.past f order cells gaps in_gap row column
+          (subst (λ x. WrongFirst g frames n x row column) frame_is
+          (wrong_first g frames n b known_there due_there row column d))
+
+      -- A header too long ago.
+      pub gap_names_gap : AreSameCells b.listener → b.every ≤ f - b.header_at
+          → NamesFirst g frames (fault.Gap f)
+      gap_names_gap same_cells l =
+          first_gap g frames n follows.past f order cells gaps in_gap (shown_in_gap same_cells)
+          (λ is. uncovered g frames n b known_there begun (omega (arith, l, frame_is))
+          (subst (IsCovered g frames n) (sym frame_is) is))

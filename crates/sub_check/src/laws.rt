@@ -11,12 +11,14 @@ ghost use Rattle.sub_check.specs.StepByStep.{LawOfCleanSpans, LawOfRepeats, LawO
 ghost use Rattle.sub_check.specs.Sufficient.{LawOfSufficientParts};
 
 /// A start at any packet of a good transmission meets a header of the page within the repeat bound.
+#[tactic(auto, using(crate::proofs::RobustLemmas::law_of_window))]
 pub fn law_of_window()
     ensures { LawOfWindow }
 {}
 
 /// A good transmission is robust: for every start, every old page, every receiver, and at most one
 /// wrong bit in each byte, each cell holds the due page's code or, where its byte was hit, a space.
+#[tactic(auto, using(crate::proofs::RobustLemmas::law_of_good))]
 pub fn law_of_good()
     ensures { LawOfGood }
 {}
@@ -30,11 +32,13 @@ pub fn law_of_sufficient_parts()
 
 /// A good transmission is robust where packets are lost too, any but page headers: a cell of a lost
 /// row counts as hit.
+#[tactic(auto, using(crate::proofs::RobustLemmas::law_of_good_and_loss))]
 pub fn law_of_good_and_loss()
     ensures { LawOfGoodAndLoss }
 {}
 
 /// A good transmission is robust where packets are lost, with a mark beside each: kept or lost.
+#[tactic(auto, using(crate::proofs::RobustLemmas::law_of_good_and_marked_loss))]
 pub fn law_of_good_and_marked_loss()
     ensures { LawOfGoodAndMarkedLoss }
 {}
@@ -84,6 +88,7 @@ pub fn law_of_plan()
 {}
 
 /// The bytes of a schedule are read to their end as that transmission, frame by frame.
+#[tactic(auto, using(crate::proofs::PlanLemmas::law_of_plan_read))]
 pub fn law_of_plan_read()
     ensures { LawOfPlanRead }
 {}

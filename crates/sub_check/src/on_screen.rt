@@ -8,6 +8,7 @@ ghost use Rattle.sub_check.specs.OnScreen.{LawOfGoodDroppingAndComplete};
 /// Whatever a receiver held and showed before, at every frame's end from the next header of its
 /// page on the page that is due is on its screen, but for spaces where a byte was hit or a row
 /// lost.
+#[tactic(auto, using(crate::proofs::OnScreenLemmas::law_of_good_and_complete))]
 pub fn law_of_good_and_complete()
     ensures { LawOfGoodAndComplete }
 {}
@@ -19,6 +20,7 @@ pub fn law_of_good_dropping_and_complete()
 {}
 
 /// The schedule of a programme that has a subtitle is one of complete pages, in both modes.
+#[tactic(auto, using(crate::proofs::PlanLemmas::law_of_complete_plan))]
 pub fn law_of_complete_plan()
     ensures { LawOfCompletePlan }
 {}

@@ -23,7 +23,7 @@ packets-init g c = record {
   taken = takes-none _;
   failures = refl;
   told = λ frames unread bytes told reads. (
-    Reads-none c.args.options.now.origin bytes frames unread _ told reads,
+    Reads-none c.args.programme.now c.args.options.now bytes frames unread _ told reads,
     c.new-checker.ensures (task_of c.args.programme.now c.args.options.now unread) frames
         (task_is c.args.programme.now c.args.options.now unread _ c.every-every.ensures.value)
         (watched_is c.args.programme.now c.args.options.now _ _ _ c.page.ensures.value
@@ -38,22 +38,19 @@ returns-in_err-more-clause-exact g c = λ frames unread bytes told reads fine.
     let known = rw (p.1, p.2) at fine in
     let i = c.packets.invariant.told frames unread bytes told reads in
     rw (p.1, p.2)
-    (next_refusal c.args.programme.now c.args.options.now frames unread bytes c.packets.pes _ i.0
-    i.1.past c.next_sending.new.reader.frame _
+    (next_refusal i.0 i.1.past c.next_sending.new.reader.frame _
     (c.in_err-more.ensures.exact i.0.rest i.0.rest_is known))
 
 pub returns-then-pes-eq0-clause-exact : goal.returns-then-pes-eq0-clause-exact
 returns-then-pes-eq0-clause-exact g c = λ frames unread bytes told reads fine.
     let i = c.packets.invariant.told frames unread bytes told reads in
-    empty_refusal c.args.programme.now c.args.options.now frames unread bytes c.packets.pes _ i.0
-    c.if-pes-eq0.true
+    empty_refusal i.0 c.if-pes-eq0.true
     (rw c.in_default.is at (c.in_ok-more.ensures.exact i.0.rest i.0.rest_is refl))
 
 pub returns-in_default-clause-exact : goal.returns-in_default-clause-exact
 returns-in_default-clause-exact g c = λ frames unread bytes told reads fine.
     let i = c.packets.invariant.told frames unread bytes told reads in
-    end_told c.args.programme.now c.args.options.now frames unread bytes c.packets.pes _ i.0
-    c.packets.checker i.1 (omega arith)
+    end_told i.0 i.1 (omega arith)
     (rw c.in_default.is at (c.in_ok-more.ensures.exact i.0.rest i.0.rest_is refl)) c.finish.result
     c.finish.ensures.end
 
@@ -67,8 +64,7 @@ returns-in_err-go_on-clause-exact g c = λ frames unread bytes told reads fine.
     let sent =
     subst (λ (us : List UnitValue). IsSentFrame frames c.packets.pes c.in-Some.sending.frame
     (packets_of_units us)) (sym c.units_of-units.ensures.value)
-    (next_sent c.args.programme.now c.args.options.now frames unread bytes c.packets.pes _ i.0
-    c.next_sending.new.reader.frame c.in-Some.sending.frame at) in
+    (next_sent i.0 c.next_sending.new.reader.frame c.in-Some.sending.frame at) in
     rw (p.1, p.2)
     (c.in_err-go_on.ensures.exact (task_of c.args.programme.now c.args.options.now unread) frames
     i.1 sent
@@ -104,13 +100,11 @@ packets-preserved g c =
           let i = c.packets.invariant.told frames unread bytes told reads in
           let at = rw c.in-Some.is at (c.in_ok-more.ensures.exact i.0.rest i.0.rest_is refl) in
           let first =
-          next_sent c.args.programme.now c.args.options.now frames unread bytes c.packets.pes _ i.0
-          c.next_sending.new.reader.frame c.in-Some.sending.frame at in
+          next_sent i.0 c.next_sending.new.reader.frame c.in-Some.sending.frame at in
           let sent =
           subst (λ (us : List UnitValue). IsSentFrame frames c.packets.pes c.in-Some.sending.frame
           (packets_of_units us)) (sym c.units_of-units.ensures.value) first in (
-            next_read c.args.programme.now c.args.options.now frames unread bytes c.packets.pes _
-                i.0 c.next_sending.new.reader.frame c.in-Some.sending.frame _ at
+            next_read i.0 c.next_sending.new.reader.frame c.in-Some.sending.frame _ at
                 (c.in_ok-more.ensures.left i.0.rest i.0.rest_is) takes
                 c.units_of-units.ensures.frame,
             c.in_ok-go_on.ensures.exact (task_of c.args.programme.now c.args.options.now unread)
@@ -127,8 +121,7 @@ pub returns-in_err-more-clause-failed : goal.returns-in_err-more-clause-failed
 returns-in_err-more-clause-failed g c = λ frames unread pes bytes told reads is.
     let p = err_from_is_err_and c.from_residual.result c.from_residual.ensures.1 in
     let i = c.packets.invariant.told frames unread bytes told reads in
-    source_failed c.args.programme.now c.args.options.now frames unread bytes c.packets.pes _ i.0
-    i.1.past pes _ c.in_err-more.ensures.place (rw (p.1, p.2) at is)
+    source_failed i.0 i.1.past pes _ c.in_err-more.ensures.place (rw (p.1, p.2) at is)
 
 pub returns-in_default-clause-failed : goal.returns-in_default-clause-failed
 returns-in_default-clause-failed g c = λ frames unread pes bytes told reads is.

@@ -21,7 +21,7 @@ invariant-packets g l = record {
       (frames : Transmission) (unread : Option Unread) (bytes : List ℕ)
       → g.S.Source.remaining l.fn.source ≡ Some bytes
       → ReadsAs l.options.origin 0 bytes frames unread
-      → Reads l.options.origin bytes frames unread (g.S.Source.remaining l.source) l.pes
+      → Reads l.programme l.options bytes frames unread (g.S.Source.remaining l.source) l.pes
       × Follows (task_of l.programme l.options unread) frames l.pes l.checker
       × (0 < l.pes
       → packets_of_frame frames (l.pes - 1) ≡ packets_of_units l.reader.frame.units);

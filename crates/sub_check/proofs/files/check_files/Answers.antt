@@ -20,18 +20,7 @@ pub returns-in-Err-clause-checked : goal.returns-in-Err-clause-checked
 returns-in-Err-clause-checked g c = λ file told. record {
   subtitles = c.in-Err.ensures.fault file told;
   refused = λ none. refl;
-  checked = λ programme loads bytes heard. record {
-    accepted = λ looked fine. cc;
-    robust = λ transmission carries ok. cc;
-    robust_to_loss = λ transmission carries ok. cc;
-    recovers = λ transmission carries ok. cc;
-    shown = λ transmission carries ok asks. cc;
-    counts = λ transmission carries. tt;
-    first = λ looked fine. cc;
-    read = λ pes is. cc;
-    content = λ frame row column is. cc;
-    schedule = λ serial planned some looked fine. cc;
-  };
+  checked = λ programme loads bytes heard. search rules;
 }
 
 pub returns-in-Ok-clause-accepted : goal.returns-in-Ok-clause-accepted

@@ -1,7 +1,7 @@
 -- The frames between two PES packets: by GapLemmas.
 use Rattle.std.proofs.Common.{ap, ◌∙◌, arith}
 use Rattle.sub_check.specs.Checker.{at_frame}
-use Rattle.sub_check.proofs.GapLemmas.{gap_cells, gap_covered, gap_names_cell, gap_names_gap}
+use Rattle.sub_check.proofs.TakingLemmas.{gap_cells, gap_covered, gap_names_cell, gap_names_gap}
 use Rattle.sub_check.proofs.frame_rules.Checker.cross_gap.Goals as goal
 
 pub returns-in-Some-clause-exact : goal.returns-in-Some-clause-exact

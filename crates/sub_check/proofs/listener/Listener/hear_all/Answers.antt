@@ -1,4 +1,5 @@
 -- One packet on, and the first that breaks a rule.
+use borrow.Author.Count.{below_more}
 use Rattle.std.proofs.Common.{◌≡◌, ℕ, ◌+◌, ◌<◌, ◌++◌, List, [], ◌∷◌, length, take, get_or, cond}
 use Rattle.std.proofs.lemmas.List.{length-map, take_all}
 use Rattle.ttx_pes.specs.DataUnit.{UnitValue}
@@ -7,7 +8,7 @@ use Rattle.ttx_page.specs.PacketKind.{is_this_page, kind}
 use Rattle.sub_check.specs.Listening.{Knows, KnowsLast}
 use Rattle.sub_check.specs.PacketRules.{AreClean, IsClean, header_count, packets_of_units}
 use Rattle.sub_check.proofs.SentAgainLemmas.{begins_on, kept_last}
-use Rattle.sub_check.proofs.PacketLists.{units_more, unit_at, header_count-push, AreClean-more}
+use Rattle.sub_check.proofs.PacketLists.{units_more, unit_at, header_count-push}
 use Rattle.sub_check.proofs.listener.Listener.hear_all.Goals as goal
 
 pub loop-k-preserved : goal.loop-k-preserved
@@ -47,7 +48,7 @@ loop-k-preserved c =
           let moved : IsClean w (heard ++ take k ps) p =
           subst (λ v. IsClean v (heard ++ take k ps) p) i.same clean in
           let new = c.hear-is_header.ensures.knows (heard ++ take k ps) before.1 clean in (
-            AreClean-more w heard ps k before.0
+            below_more (λ j. IsClean w (heard ++ take j ps) (get_or ps j [])) k before.0
                 (subst (IsClean w (heard ++ take k ps)) (sym at) moved),
             subst (λ xs. Knows xs c.hear-is_header.new.self)
                 (append_assoc heard (take k ps) (p ∷ []) ∙ ap (λ xs. heard ++ xs) (sym more)) new,
