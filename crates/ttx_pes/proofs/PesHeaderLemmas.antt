@@ -107,13 +107,12 @@ head_sound b size len fit e =
     let none = nil_from_length (drop 6 b) (length-drop 6 b ∙ omega arith) in
     let parts = list_of_bytes 6 0 b (omega arith) in
     let total = 256 * get_or b 4 0 + get_or b 5 0 + 6 in
-    let g = test_held (is_start b) fault.Start
-    (cond (not (eqb (total % 184) 0 && leb total 1656)) (Err fault.Length) (Ok total)) size e in
+    let g = test_held (is_start b) fault.Start _ size e in
     let g2 = test_held (eqb (total % 184) 0 && leb total 1656) fault.Length (Ok total) size g.1 in
     let same = Ok-injective total size g2.1 in
     let start : (get_or b 0 0 ≡ 0) × (get_or b 1 0 ≡ 0) × (get_or b 2 0 ≡ 1)
     × (get_or b 3 0 ≡ 189) =
-    tests_held (get_or b 0 0) 0 (get_or b 1 0) 0 (get_or b 2 0) 1 (get_or b 3 0) 189 g.0 in
+    tests_held _ _ _ _ _ _ _ _ g.0 in
     let s = and_parts (eqb (total % 184) 0) (leb total 1656) g2.0 in
     let whole : total % 184 ≡ 0 = eqb-true _ _ s.0 in
     let low : total ≤ 1656 = leb-true _ _ s.1 in
@@ -165,8 +164,7 @@ header_sound b t e =
       flagged = eqb-true _ _ g0.0;
       pts_alone = eqb-true _ _ g1.0;
       len = eqb-true _ _ g2.0;
-      markers = tests_held (get_or b 3 0 / 16) 2 (get_or b 3 0 % 2) 1 (get_or b 5 0 % 2) 1
-          (get_or b 7 0 % 2) 1 g3.0;
+      markers = tests_held _ _ _ _ _ _ _ _ g3.0;
       ebu = eqb-true _ _ g4.0;
       value = Ok-injective (pts_bits b) t g4.1;
     }

@@ -56,9 +56,7 @@ size_fails b f long e =
     let e4 : get_or x 4 0 ≡ get_or b 4 0 = get_or-take 6 b 4 0 (omega arith) in
     let e5 : get_or x 5 0 ≡ get_or b 5 0 = get_or-take 6 b 5 0 (omega arith) in
     let total = told_size x in
-    let r : Result ℕ PesFault =
-    cond (not (eqb (total % 184) 0 && leb total 1656)) (Err fault.Length) (Ok total) in
-    elim (test_cases (is_start x) fault.Start f r e) [
+    elim (test_cases (is_start x) fault.Start f _ e) [
       | inl (wrong, is) ↦ (
         Start,
         is,
@@ -103,25 +101,20 @@ header_fails n b y f g byte e =
     let e11 : get_or y 5 0 ≡ get_or b 11 0 = byte 5 (omega arith) in
     let e13 : get_or y 7 0 ≡ get_or b 13 0 = byte 7 (omega arith) in
     let e45 : get_or y 39 0 ≡ get_or b 45 0 = byte 39 (omega arith) in
-    let r5 : Result ℕ PesFault = Ok (pts_bits y) in
-    let r4 : Result ℕ PesFault = cond (not (eqb (get_or y 39 0 / 16) 1)) (Err fault.DataId) r5 in
-    let r3 : Result ℕ PesFault = cond (not (has_markers y)) (Err fault.Time) r4 in
-    let r2 : Result ℕ PesFault = cond (not (eqb (get_or y 2 0) 36)) (Err fault.HeaderLength) r3 in
-    let r1 : Result ℕ PesFault = cond (not (eqb (get_or y 1 0 / 64) 2)) (Err fault.NoTime) r2 in
-    elim (eqb_cases (get_or y 0 0 / 16) 8 fault.Flags f r1 e) [
+    elim (eqb_cases (get_or y 0 0 / 16) 8 fault.Flags f _ e) [
       | inl (bad, is) ↦ (Scrambling, is, scrambling_fails n b g (λ h. bad (rw e6 h)))
       | inr (t6, d6) ↦
           let h6 : get_or b 6 0 / 16 ≡ 8 = rw (sym e6) t6 in
-          elim (eqb_cases (get_or y 1 0 / 64) 2 fault.NoTime f r2 d6) [
+          elim (eqb_cases (get_or y 1 0 / 64) 2 fault.NoTime f _ d6) [
             | inl (bad, is) ↦ (PtsFlags, is, pts_flags_fails n b g h6 (λ h. bad (rw e7 h)))
             | inr (t7, d7) ↦
                 let h7 : get_or b 7 0 / 64 ≡ 2 = rw (sym e7) t7 in
-                elim (eqb_cases (get_or y 2 0) 36 fault.HeaderLength f r3 d7) [
+                elim (eqb_cases (get_or y 2 0) 36 fault.HeaderLength f _ d7) [
                   | inl (bad, is) ↦
                       (HeaderLength, is, header_length_fails n b g h6 h7 (λ h. bad (e8 ∙ h)))
                   | inr (t8, d8) ↦
                       let h8 : get_or b 8 0 ≡ 36 = sym e8 ∙ t8 in
-                      elim (test_cases (has_markers y) fault.Time f r4 d8) [
+                      elim (test_cases (has_markers y) fault.Time f _ d8) [
                         | inl (wrong, is) ↦ (
                           Time,
                           is,
@@ -133,7 +126,7 @@ header_fails n b y f g byte e =
                         | inr (right, d9) ↦
                             let marks : HasMarkers b =
                             rw (sym e9, sym e11, sym e13) (tests_held _ _ _ _ _ _ _ _ right) in
-                            elim (eqb_cases (get_or y 39 0 / 16) 1 fault.DataId f r5 d9) [
+                            elim (eqb_cases (get_or y 39 0 / 16) 1 fault.DataId f _ d9) [
                               | inl (bad, is) ↦ (
                                 DataIdentifier,
                                 is,

@@ -194,26 +194,6 @@ is_packet old new taken v h le e fit =
     let s = read_is_packet v taken [] all reads in
     subst (λ (x : List ℕ). IsPesPacket v x) (sym (s.2 ∙ append-nil s.0)) s.1
 
--- A fault was read: the bytes that were taken are refused for it, also where they are not told. For
--- each reader.
-pub packet_refused : (old new : Option (List ℕ)) (size : ℕ) (room body : List ℕ) (f : PesFault)
-    → TakesSized old new (take size room)
-    → 6 ≤ size
-    → size ≤ length room
-    → body ≡ drop 6 (take size room)
-    → value_at body ≡ Err f
-    → TakesRefused old new f
-packet_refused old new size room body f h le fits same e =
-    let taken = take size room in
-    let len = length-take-le size room fits in
-    let refused : value_at (drop 6 taken) ≡ Err f = ap value_at (sym same) ∙ e in
-    record {
-      bytes = taken;
-      consumed = h.consumed;
-      refused = ap packet_at (sym (append-nil taken)) ∙ packet_of_bytes taken [] (omega arith) h.sized
-          ∙ rw refused refl;
-    }
-
 -- The first six bytes stay where more were taken after them. For `take_packet`.
 pub head_kept : (got n : ℕ) (old new : List ℕ)
     → 6 ≤ got
@@ -226,54 +206,58 @@ head_kept got n old new le more kept =
     ∙ ap (take 6) kept
     ∙ take-take 6 got old le
 
--- The answer, by what was read of the body in the room. For each reader.
-pub answer_taken : (given : ℕ) (bytes : List ℕ) (old new : Option (List ℕ)) (size : ℕ)
-    (room body : List ℕ) (r : Result PesValue PesFault)
-    → TakesSized old new (take size room)
-    → old ≡ Some bytes
-    → 6 ≤ size
-    → size ≤ length room
-    → (given ≡ 2160000 → ⊥)
-    → body ≡ drop 6 (take size room)
-    → value_at body ≡ r
-    → answer_at given bytes ≡ (r >>= λ v. Ok (Some v))
-answer_taken given bytes old new size room body r h is le fits ne same e =
-    let len = length-take-le size room fits in
-    whole given bytes old new (take size room) r h is (omega arith) ne (ap value_at (sym same) ∙ e)
+-- Where the packet in the room was taken, of which that is the body: what each reader knows.
+module _ (old new : Option (List ℕ)) (size : ℕ) (room body : List ℕ)
+    (h : TakesSized old new (take size room)) (le : 6 ≤ size) (fits : size ≤ length room)
+    (same : body ≡ drop 6 (take size room)) where
+  -- There are the first six bytes.
+  pub has_six : 6 ≤ length (take size room)
+  has_six = let len = length-take-le size room fits in omega arith
 
--- The packet, by the value that was read of the body in the room. For each reader.
-abbrev pub packet_taken : (old new : Option (List ℕ)) (size : ℕ) (room body : List ℕ) (v : PesValue)
-    → TakesSized old new (take size room)
-    → 6 ≤ size
-    → size ≤ length room
-    → body ≡ drop 6 (take size room)
-    → value_at body ≡ Ok v
-    → AreBytes body
-    → TakesPesPacket old new v
-packet_taken old new size room body v h le fits same e fit =
-    let len = length-take-le size room fits in
-    record {
-      bytes = take size room;
-      is_packet = is_packet old new (take size room) v h (omega arith) (ap value_at (sym same) ∙ e)
-          (subst (λ (x : List ℕ). AreBytes x) same fit);
-      consumed = h.consumed;
-    }
+  -- The answer, by what was read of the body.
+  pub answer_taken : (given : ℕ) (bytes : List ℕ) (r : Result PesValue PesFault)
+      → old ≡ Some bytes
+      → (given ≡ 2160000 → ⊥)
+      → value_at body ≡ r
+      → answer_at given bytes ≡ (r >>= λ v. Ok (Some v))
+  answer_taken given bytes r is ne e =
+      whole given bytes old new (take size room) r h is has_six ne (ap value_at (sym same) ∙ e)
 
--- The same with its data field. For `read_compared`.
-pub field_taken : (old new : Option (List ℕ)) (size : ℕ) (room body : List ℕ) (v : PesValue)
-    (field : List ℕ)
-    → TakesSized old new (take size room)
-    → 6 ≤ size
-    → size ≤ length room
-    → body ≡ drop 6 (take size room)
-    → value_at body ≡ Ok v
-    → AreBytes body
-    → field ≡ drop 39 body
-    → TakesDataField old new v field
-field_taken old new size room body v field h le fits same e fit is = record {
-  packet = packet_taken old new size room body v h le fits same e fit;
-  field_is = is ∙ ap (drop 39) same ∙ drop-drop 39 6 (take size room);
-}
+  -- The packet, by the value that was read of the body.
+  abbrev pub packet_taken : (v : PesValue)
+      → value_at body ≡ Ok v
+      → AreBytes body
+      → TakesPesPacket old new v
+  packet_taken v e fit = record {
+    bytes = take size room;
+    is_packet = is_packet old new (take size room) v h has_six (ap value_at (sym same) ∙ e)
+        (subst (λ (x : List ℕ). AreBytes x) same fit);
+    consumed = h.consumed;
+  }
+
+  -- The same with its data field. For `read_compared`.
+  pub field_taken : (v : PesValue) (field : List ℕ)
+      → value_at body ≡ Ok v
+      → AreBytes body
+      → field ≡ drop 39 body
+      → TakesDataField old new v field
+  field_taken v field e fit is = record {
+    packet = packet_taken v e fit;
+    field_is = is ∙ ap (drop 39) same ∙ drop-drop 39 6 (take size room);
+  }
+
+  -- A fault was read: the bytes that were taken are refused for it, also where they are not told.
+  pub packet_refused : (f : PesFault) → value_at body ≡ Err f → TakesRefused old new f
+  packet_refused f e =
+      let taken = take size room in
+      let refused : value_at (drop 6 taken) ≡ Err f = ap value_at (sym same) ∙ e in
+      record {
+        bytes = taken;
+        consumed = h.consumed;
+        refused = ap packet_at (sym (append-nil taken))
+            ∙ packet_of_bytes taken [] has_six h.sized
+            ∙ rw refused refl;
+      }
 
 -- ---- the source failed
 

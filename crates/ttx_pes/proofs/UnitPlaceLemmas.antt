@@ -211,6 +211,16 @@ pub byte_on : (d : List ℕ) (j i : ℕ)
 byte_on d j i = let e : 46 + (46 * j + i) ≡ 46 * suc j + i = omega arith in
     get_or-drop 46 d (46 * j + i) 0 ∙ ap (λ (n : ℕ). get_or d n 0) e
 
+-- The place after a data unit, from the next one on.
+place_on : (before k : ℕ) (d : List ℕ)
+    → place_in before (46 * k) (drop 46 d) ≡ place_in before (46 * suc k) d
+place_on before k d =
+    let e0 = byte_on d k 0 in
+    let e1 = byte_on d k 1 in
+    let e2 = byte_on d k 2 in
+    let e3 = byte_on d k 3 in
+    rw (e0, e1, e2, e3) refl
+
 -- The bytes of k data units that are asked for are the same.
 abbrev pub SameUnits : ℕ → List ℕ → List ℕ → Type 0
 SameUnits k d e = (j i : ℕ) → j < k → i < 4 → get_or d (46 * j + i) 0 ≡ get_or e (46 * j + i) 0
@@ -257,10 +267,6 @@ units_split (suc m) front d f e =
       }
       | inr (more, good, rest) ↦
           let r = units_split m more (drop 46 d) f rest in
-          let e0 = byte_on d r.k 0 in
-          let e1 = byte_on d r.k 1 in
-          let e2 = byte_on d r.k 2 in
-          let e3 = byte_on d r.k 3 in
           record {
             k = suc r.k;
             us = r.us;
@@ -268,7 +274,7 @@ units_split (suc m) front d f e =
             before =
                 after_ok (unit_at front (take 46 d)) (λ x. units_at r.k x (drop 46 d)) more good
                 ∙ r.before;
-            bad = rw (sym e0, sym e1, sym e2, sym e3) r.bad;
+            bad = sym (place_on (last_place 0 r.us) r.k d) ∙ r.bad;
           }
     ]
 
@@ -291,14 +297,10 @@ units_taken zero (suc m) before last e lt h =
 units_taken (suc k) (suc m) before last e lt h =
     let s = step_gave (place_in before 0 e) (λ after. places_at m after (drop 46 e)) last h in
     let r = units_taken k m s.0 last (drop 46 e) (omega arith) s.2 in
-    let e0 = byte_on e k 0 in
-    let e1 = byte_on e k 1 in
-    let e2 = byte_on e k 2 in
-    let e3 = byte_on e k 3 in
     record {
       here = r.here;
       after = r.after;
       reached =
           after_ok (place_in before 0 e) (λ x. places_at k x (drop 46 e)) s.0 s.1 ∙ r.reached;
-      good = rw (sym e0, sym e1, sym e2, sym e3) r.good;
+      good = sym (place_on r.here k e) ∙ r.good;
     }

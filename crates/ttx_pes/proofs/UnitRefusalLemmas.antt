@@ -110,6 +110,8 @@ place_in_unit place k b =
 record Faced (k place : ℕ) (q : List ℕ) : Type 0 where
   pub after : ℕ
   pub good : place_in_unit place k q ≡ Ok after
+  pub taken : (unit_byte_at k 1 q ≡ 44)
+      × (is_teletext (unit_byte_at k 0 q) ≡ true → unit_byte_at k 3 q ≡ 228)
   pub there : 46 + (46 * k + 3) < length q
 
 faced : (n k : ℕ) (b d : List ℕ) (us : List UnitValue) (v : PesValue) (q : List ℕ)
@@ -140,9 +142,13 @@ faced n k b d us v q g below read h a =
     let e1 = unit_byte v q h (46 * k + 1) in
     let e2 = unit_byte v q h (46 * k + 2) in
     let e3 = unit_byte v q h (46 * k + 3) in
+    let good : place_in_unit (last_place 0 us) k q ≡ Ok r.after =
+    rw (place, e0, e1, e2, e3) r.good in
     record {
       after = r.after;
-      good = rw (place, e0, e1, e2, e3) r.good;
+      good = good;
+      taken = place_taken (last_place 0 us) (unit_byte_at k 0 q) (unit_byte_at k 1 q)
+          (unit_byte_at k 2 q) (unit_byte_at k 3 q) r.after good;
       there = omega (arith, f.all);
     }
 
@@ -183,9 +189,7 @@ unit_fails n b d f g r =
               none = λ v q h before same.
                   let z = faced n k b d us v q g below r.before h before in
                   let there = z.there in
-                  let taken = place_taken place (unit_byte_at k 0 q) (unit_byte_at k 1 q)
-                  (unit_byte_at k 2 q) (unit_byte_at k 3 q) z.after z.good in
-                  wrong (same (omega arith) ∙ taken.0);
+                  wrong (same (omega arith) ∙ z.taken.0);
             },
           )
       | inr others ↦
@@ -215,11 +219,9 @@ unit_fails n b d f g r =
                 none = λ v q h before same.
                     let z = faced n k b d us v q g below r.before h before.0 in
                     let there = z.there in
-                    let taken = place_taken place (unit_byte_at k 0 q) (unit_byte_at k 1 q)
-                    (unit_byte_at k 2 q) (unit_byte_at k 3 q) z.after z.good in
                     let s0 = same.0 (omega arith) in
                     let s3 = same.1.0 (omega arith) in
-                    wrong (s3 ∙ taken.1 (sym (ap is_teletext s0) ∙ tele));
+                    wrong (s3 ∙ z.taken.1 (sym (ap is_teletext s0) ∙ tele));
               },
             )
             | inr (_, _, framing, is) ↦ (

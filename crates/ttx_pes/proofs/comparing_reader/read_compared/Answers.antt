@@ -20,8 +20,8 @@ returns-in_err-take-clause-exact g c =
     let range = rw c.in-Some.is at c.in_ok-size.ensures.range in
     let few = rw c.in-Some.is at c.in_ok-size.ensures.below in
     λ bytes is _. rw (p.1, p.2)
-    (answer_taken c.args.given bytes _ _ c.in-Some.size c.take_packet.new.room _ _ sized is
-    (omega arith) (omega arith) (few refl) c.body_of.ensures c.in_err-take.ensures.err)
+    (answer_taken _ _ c.in-Some.size c.take_packet.new.room _ sized (omega arith) (omega arith)
+    c.body_of.ensures c.args.given bytes _ is (few refl) c.in_err-take.ensures.err)
 
 pub returns-in_err-take-clause-shown : goal.returns-in_err-take-clause-shown
 returns-in_err-take-clause-shown g c =
@@ -29,8 +29,8 @@ returns-in_err-take-clause-shown g c =
     c.from_residual-in_err-take.ensures.1 in
     let sized = rw c.in-Some.is at c.in_ok-size.ensures.taken in
     let range = rw c.in-Some.is at c.in_ok-size.ensures.range in
-    rw (p.1, p.2) (λ _. packet_refused _ _ c.in-Some.size c.take_packet.new.room _ _ sized
-    (omega arith) (omega arith) c.body_of.ensures c.in_err-take.ensures.err)
+    rw (p.1, p.2) (λ _. packet_refused _ _ c.in-Some.size c.take_packet.new.room _ sized
+    (omega arith) (omega arith) c.body_of.ensures _ c.in_err-take.ensures.err)
 
 pub returns-then-branch-clause-exact : goal.returns-then-branch-clause-exact
 returns-then-branch-clause-exact g c =
@@ -38,15 +38,15 @@ returns-then-branch-clause-exact g c =
     let range = rw c.in-Some.is at c.in_ok-size.ensures.range in
     let few = rw c.in-Some.is at c.in_ok-size.ensures.below in
     λ bytes is _.
-    answer_taken c.args.given bytes _ _ c.in-Some.size c.take_packet.new.room _ _ sized is
-    (omega arith) (omega arith) (few refl) c.body_of.ensures c.in_ok-take.ensures.value
+    answer_taken _ _ c.in-Some.size c.take_packet.new.room _ sized (omega arith) (omega arith)
+    c.body_of.ensures c.args.given bytes _ is (few refl) c.in_ok-take.ensures.value
 
 pub returns-then-branch-clause-taken : goal.returns-then-branch-clause-taken
 returns-then-branch-clause-taken g c =
     let sized = rw c.in-Some.is at c.in_ok-size.ensures.taken in
     let range = rw c.in-Some.is at c.in_ok-size.ensures.range in
-    λ _. field_taken _ _ c.in-Some.size c.take_packet.new.room _ _ _ sized (omega arith)
-    (omega arith) c.body_of.ensures c.in_ok-take.ensures.value c.take.ensures.bytes
+    λ _. field_taken _ _ c.in-Some.size c.take_packet.new.room _ sized (omega arith)
+    (omega arith) c.body_of.ensures _ _ c.in_ok-take.ensures.value c.take.ensures.bytes
     c.in_ok-take.ensures.field
 
 pub returns-else-branch-clause-exact : goal.returns-else-branch-clause-exact
@@ -55,13 +55,13 @@ returns-else-branch-clause-exact g c =
     let range = rw c.in-Some.is at c.in_ok-size.ensures.range in
     let few = rw c.in-Some.is at c.in_ok-size.ensures.below in
     λ bytes is _.
-    answer_taken c.args.given bytes _ _ c.in-Some.size c.take_packet.new.room _ _ sized is
-    (omega arith) (omega arith) (few refl) c.body_of.ensures c.in_ok-take.ensures.value
+    answer_taken _ _ c.in-Some.size c.take_packet.new.room _ sized (omega arith) (omega arith)
+    c.body_of.ensures c.args.given bytes _ is (few refl) c.in_ok-take.ensures.value
 
 pub returns-else-branch-clause-taken : goal.returns-else-branch-clause-taken
 returns-else-branch-clause-taken g c =
     let sized = rw c.in-Some.is at c.in_ok-size.ensures.taken in
     let range = rw c.in-Some.is at c.in_ok-size.ensures.range in
-    λ _. field_taken _ _ c.in-Some.size c.take_packet.new.room _ _ _ sized (omega arith)
-    (omega arith) c.body_of.ensures c.in_ok-take.ensures.value c.take.ensures.bytes
+    λ _. field_taken _ _ c.in-Some.size c.take_packet.new.room _ sized (omega arith)
+    (omega arith) c.body_of.ensures _ _ c.in_ok-take.ensures.value c.take.ensures.bytes
     c.in_ok-take.ensures.field

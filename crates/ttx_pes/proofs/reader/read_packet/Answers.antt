@@ -20,8 +20,8 @@ returns-in_err-read_value-clause-exact g c =
     let range = rw c.in-Some.is at c.in_ok-size.ensures.range in
     let few = rw c.in-Some.is at c.in_ok-size.ensures.below in
     λ bytes is _. rw (p.1, p.2)
-    (answer_taken c.args.given bytes _ _ c.in-Some.size c.take_packet.new.room _ _ sized is
-    (omega arith) (omega arith) (few refl) c.body_of.ensures c.in_err-read_value.ensures.err)
+    (answer_taken _ _ c.in-Some.size c.take_packet.new.room _ sized (omega arith) (omega arith)
+    c.body_of.ensures c.args.given bytes _ is (few refl) c.in_err-read_value.ensures.err)
 
 pub returns-in_err-read_value-clause-shown : goal.returns-in_err-read_value-clause-shown
 returns-in_err-read_value-clause-shown g c =
@@ -29,8 +29,8 @@ returns-in_err-read_value-clause-shown g c =
     c.from_residual-in_err-read_value.ensures.1 in
     let sized = rw c.in-Some.is at c.in_ok-size.ensures.taken in
     let range = rw c.in-Some.is at c.in_ok-size.ensures.range in
-    rw (p.1, p.2) (λ _. packet_refused _ _ c.in-Some.size c.take_packet.new.room _ _ sized
-    (omega arith) (omega arith) c.body_of.ensures c.in_err-read_value.ensures.err)
+    rw (p.1, p.2) (λ _. packet_refused _ _ c.in-Some.size c.take_packet.new.room _ sized
+    (omega arith) (omega arith) c.body_of.ensures _ c.in_err-read_value.ensures.err)
 
 pub returns-clause-exact : goal.returns-clause-exact
 returns-clause-exact g c =
@@ -38,12 +38,12 @@ returns-clause-exact g c =
     let range = rw c.in-Some.is at c.in_ok-size.ensures.range in
     let few = rw c.in-Some.is at c.in_ok-size.ensures.below in
     λ bytes is _.
-    answer_taken c.args.given bytes _ _ c.in-Some.size c.take_packet.new.room _ _ sized is
-    (omega arith) (omega arith) (few refl) c.body_of.ensures c.in_ok-read_value.ensures.ok
+    answer_taken _ _ c.in-Some.size c.take_packet.new.room _ sized (omega arith) (omega arith)
+    c.body_of.ensures c.args.given bytes _ is (few refl) c.in_ok-read_value.ensures.ok
 
 pub returns-clause-frame : goal.returns-clause-frame
 returns-clause-frame g c =
     let sized = rw c.in-Some.is at c.in_ok-size.ensures.taken in
     let range = rw c.in-Some.is at c.in_ok-size.ensures.range in
-    λ _. packet_taken _ _ c.in-Some.size c.take_packet.new.room _ _ sized (omega arith)
-    (omega arith) c.body_of.ensures c.in_ok-read_value.ensures.ok c.read_value.ensures.bytes
+    λ _. packet_taken _ _ c.in-Some.size c.take_packet.new.room _ sized (omega arith)
+    (omega arith) c.body_of.ensures _ c.in_ok-read_value.ensures.ok c.read_value.ensures.bytes
