@@ -1,11 +1,11 @@
 -- What the steps show of the whole file decides the answer of `check`, `checked_from`; and what is
 -- told of both files that of `check_files`, `files_accepted`, `files_refused`.
 use Rattle.std.proofs.lemmas.Slice.Zip.{AllZip-long}
-use Rattle.std.proofs.Common.{◌≡◌, ◌≢◌, ◌↔◌, ℕ, suc, List, [], ◌∷◌, Bool, Option, None, Result, Ok}
+use Rattle.std.proofs.Common.{◌≡◌, ◌≢◌, ◌↔◌, ℕ, List, [], Bool, Option, None, Result, Ok}
 use Rattle.std.proofs.Common.{Err, All, IsOk, IfOk, IsTrue, false, MatchResult, refl, sym, ap, ◌∙◌}
 use Rattle.std.proofs.Common.{subst, arith, length, append-nil}
 use Rattle.std.proofs.lemmas.List.Elements.{All-from_recursion}
-use Rattle.std.specs.List.{AllZip, concat}
+use Rattle.std.specs.List.{concat}
 use Rattle.std.specs.Prelude.{IfErr}
 use Rattle.sub_io.specs.Device.{failed}
 use Rattle.stl_file.specs.Reader.{outcome_of}

@@ -1,10 +1,8 @@
 -- Where content is refused, every receiver shows another code than is due: `wrong_everywhere`.
-use Rattle.std.proofs.Common.{slice_index, suc}
-use Rattle.std.proofs.Common.{◌≡◌, ℕ, ◌+◌, ◌-◌, ◌<◌, ◌≤◌, ◌⊎◌, inl, inr, true, List, [], ◌∷◌}
-use Rattle.std.proofs.Common.{Option, Some, None, length, take, map}
-use Rattle.std.proofs.Common.{IsFalse, refl, sym, ap, ◌∙◌, subst, arith, length-take}
+use Rattle.std.proofs.Common.{slice_index, suc, ◌≡◌, ℕ, ◌+◌, ◌-◌, ◌<◌, ◌≤◌, ◌⊎◌, inl, inr, true}
+use Rattle.std.proofs.Common.{List, [], ◌∷◌, Option, Some, None, length, take, map, IsFalse, refl}
+use Rattle.std.proofs.Common.{sym, ap, ◌∙◌, subst, arith, length-take}
 use Rattle.std.specs.List.{AllByRecursion, flat_map}
-use Rattle.std.proofs.lemmas.Bool.{cases_eq}
 use Rattle.std.proofs.lemmas.List.{get_or-take, take-map}
 use Rattle.std.proofs.lemmas.List.Elements.{All-from_recursion}
 use Rattle.ttx_packet.specs.PageHeader.{HasExactWords}
@@ -17,20 +15,17 @@ use Rattle.ttx_page.specs.Span.{holds_header, span}
 use Rattle.ttx_page.proofs.NoiseLaws.{AreNear-themselves, law_of_noise, law_of_quiet}
 use Rattle.stl_rows.specs.Programme.{ProgrammeValue}
 use Rattle.sub_plan.specs.Options.{OptionsValue}
-use Rattle.sub_check.specs.FirstBroken.{IsFirst, NamesFirst, Place, unread_fault}
-use Rattle.sub_check.specs.FirstBroken.Place.{AtOrder, AtGapCell, AtPacket, AtFirst}
-use Rattle.sub_check.specs.FirstBroken.Place.{AtCell, AtUnread}
-use Rattle.sub_check.specs.FirstBroken.{IsBefore, fault_at}
+use Rattle.sub_check.specs.FirstBroken.{IsFirst, NamesFirst, Place, unread_fault, IsBefore}
+use Rattle.sub_check.specs.FirstBroken.{fault_at}
+use Rattle.sub_check.specs.FirstBroken.Place.{AtOrder, AtGapCell, AtPacket, AtFirst, AtCell}
+use Rattle.sub_check.specs.FirstBroken.Place.{AtUnread}
 use Rattle.sub_check.specs.FrameRules.{HasHeader, ShowsDue, Task, Unread, frame_at, packets_before}
-use Rattle.sub_check.specs.FrameRules.{packets_of_frame}
-use Rattle.sub_check.specs.FrameRules.{task_of}
+use Rattle.sub_check.specs.FrameRules.{packets_of_frame, task_of}
 use Rattle.sub_check.specs.FrameRules.Unread.{BadPacket, NoFrame}
 use Rattle.sub_check.specs.PacketRules.{IsClean, rank}
 use Rattle.sub_check.specs.Transmission.{IsRising, SentFrame, Transmission, last_frame}
 use Rattle.sub_check.specs.Transmission.{on_air_until}
 use Rattle.sub_check.specs.WrongContent.{IsWrongEverywhere}
-use Rattle.sub_check.specs.declared.fault.CheckFault.TheVariants as fault
-use Rattle.sub_check.specs.declared.packet_rules.PacketRule.TheVariants as rule
 use Rattle.sub_check.specs.declared.packet_rules.Watched.{Watched}
 use Rattle.sub_check.proofs.GoodLemmas.{number_at, whole-is}
 use Rattle.sub_check.proofs.PacketLists.{Each-push}
@@ -40,6 +35,8 @@ use Rattle.sub_check.proofs.PrefixLemmas.{rises_strictly}
 use Rattle.sub_check.proofs.StepByStepLemmas.{clean_nil}
 use Rattle.sub_check.specs.Good.{IsCleanSpan}
 use Rattle.ttx_page.proofs.SpanLists.{holds-append_left}
+use Rattle.sub_check.specs.declared.fault.CheckFault.TheVariants as fault
+use Rattle.sub_check.specs.declared.packet_rules.PacketRule.TheVariants as rule
 
 -- ---- packets that keep the rules
 

@@ -1,16 +1,15 @@
 -- The frames of a range that pass a test, as a transmission: sent_at, sent_none, rises.
-use Rattle.std.proofs.Common.{◌≡◌, ℕ, zero, suc, ◌+◌, ◌<◌, ◌≤◌, inl, inr, Bool, true, false}
-use Rattle.std.proofs.Common.{◌&&◌, nat_le, nat_lt, cond, List, [], ◌∷◌, ◌++◌, map, filter}
-use Rattle.std.proofs.Common.{flat_map, slice_index_or, All, refl, ap, ap₂, ◌∙◌}
-use Rattle.std.proofs.Common.{arith, append-nil}
+use Rattle.std.proofs.Common.{◌≡◌, ℕ, zero, suc, ◌+◌, ◌<◌, ◌≤◌, inl, inr, Bool, true, false, ◌&&◌}
+use Rattle.std.proofs.Common.{nat_le, nat_lt, cond, List, [], ◌∷◌, ◌++◌, map, filter, flat_map}
+use Rattle.std.proofs.Common.{slice_index_or, All, refl, ap, ap₂, ◌∙◌, arith, append-nil}
 use Rattle.std.specs.List.{range_with_len, AllByRecursion}
 use Rattle.std.proofs.lemmas.Bool.{cases_lt}
 use Rattle.std.proofs.lemmas.Bool.Decides.{nat_tests}
 use Rattle.std.proofs.lemmas.List.{map-append}
 use Rattle.std.proofs.lemmas.List.Elements.{All-map, All-from_recursion, filter-append}
 use Rattle.sub_plan.proofs.ScheduleBases.{range_split}
-use Rattle.sub_check.specs.Transmission.{SentFrame, Transmission, EachPacket, IsRising}
-use Rattle.sub_check.specs.Transmission.{last_frame, packets_between}
+use Rattle.sub_check.specs.Transmission.{SentFrame, Transmission, EachPacket, IsRising, last_frame}
+use Rattle.sub_check.specs.Transmission.{packets_between}
 use Rattle.sub_check.proofs.TransmissionLemmas.{packets_between-none}
 
 -- ---- the frames of a filtered range

@@ -1,7 +1,6 @@
 -- When a transmission is good: seven rules that look back over whole lists of packets, and know
 -- nothing of an order of tests.
-use Rattle.std.specs.Prelude.{None, ◌≡◌, ℕ, ◌+◌, ◌-◌, ◌<◌, ◌≤◌, ◌++◌, List, Some}
-use Rattle.std.specs.Prelude.{take, length}
+use Rattle.std.specs.Prelude.{None, ◌≡◌, ℕ, ◌+◌, ◌-◌, ◌<◌, ◌≤◌, ◌++◌, List, Some, take, length}
 use Rattle.ttx_packet.specs.PageHeader.{HasExactWords}
 use Rattle.ttx_page.specs.PacketKind.{kind}
 use Rattle.ttx_page.specs.Span.{span}
@@ -11,8 +10,7 @@ use Rattle.sub_check.specs.Transmission.{EachPacket, Transmission, first_frame, 
 use Rattle.sub_check.specs.Transmission.{on_air_until}
 use Rattle.sub_check.specs.Good.{IsCleanSpan, IsControlled, IsInOneMode}
 use Rattle.sub_check.specs.FrameRules.{Task, frame_at, packets_of_frame, packets_before, end_frame}
-use Rattle.sub_check.specs.FrameRules.{HasHeader}
-use Rattle.sub_check.specs.FrameRules.{IsEnded}
+use Rattle.sub_check.specs.FrameRules.{HasHeader, IsEnded}
 
 -- All packets.
 abbrev pub whole : Transmission → List (List ℕ)

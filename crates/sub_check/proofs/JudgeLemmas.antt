@@ -1,9 +1,8 @@
 -- What each way out of the checker's loop shows of the whole file: `next_refusal`, `next_read`,
 -- `empty_refusal`, `end_told`, `source_failed`.
 use Rattle.std.proofs.Common.{zero, suc, ◌≡◌, ℕ, ◌+◌, ◌-◌, ◌<◌, ◌≤◌, List, [], ◌∷◌, ◌++◌, length}
-use Rattle.std.proofs.Common.{drop, take, get_or}
-use Rattle.std.proofs.Common.{Option, Some, None, Result, MatchResult, Ok, Err, All, sym, ap, refl}
-use Rattle.std.proofs.Common.{◌∙◌, subst, arith, append_assoc, append-nil}
+use Rattle.std.proofs.Common.{drop, take, get_or, Option, Some, None, Result, MatchResult, Ok, Err}
+use Rattle.std.proofs.Common.{All, sym, ap, refl, ◌∙◌, subst, arith, append_assoc, append-nil}
 use Rattle.std.specs.List.{AllByRecursion, AllZip, concat}
 use Rattle.std.specs.Prelude.{IfErr, true}
 use Rattle.std.proofs.lemmas.List.Folds.{concat-append}
@@ -19,26 +18,25 @@ use Rattle.stl_file.specs.TimeCode.{day}
 use Rattle.sub_plan.specs.FrameTime.{pts_of}
 use Rattle.sub_plan.specs.Options.{OptionsValue}
 use Rattle.sub_check.specs.Checker.{CheckerValue}
-use Rattle.sub_check.specs.Checking.{Accepts, AreTaken, AreWhole, IsFrameOf, TellsEnd}
-use Rattle.sub_check.specs.Checking.{IsRuleFault, TellsFrame}
+use Rattle.sub_check.specs.Checking.{Accepts, AreTaken, AreWhole, IsFrameOf, TellsEnd, IsRuleFault}
+use Rattle.sub_check.specs.Checking.{TellsFrame}
 use Rattle.sub_check.specs.FirstBroken.{IsReadUpTo, NamesFirst, unread_fault}
 use Rattle.sub_check.specs.Following.{AreOk, Follows, IsSentFrame}
-use Rattle.sub_check.specs.FrameRules.{Task, Unread, task_of, frame_at, packets_of_frame}
-use Rattle.sub_check.specs.FrameRules.{end_frame, packets_before}
+use Rattle.sub_check.specs.FrameRules.{Task, Unread, task_of, frame_at, packets_of_frame, end_frame}
+use Rattle.sub_check.specs.FrameRules.{packets_before}
 use Rattle.sub_check.specs.PacketRules.{header_count, packets_of_units}
 use Rattle.sub_check.specs.PesFrames.{IsSentAs}
 use Rattle.sub_check.specs.PesReading.{ReadsAs}
 use Rattle.sub_check.specs.Transmission.{SentFrame, Transmission}
 use Rattle.sub_check.specs.declared.checker.Accepted.{Accepted}
 use Rattle.sub_check.specs.declared.fault.CheckFault.{CheckFault}
-use Rattle.sub_check.specs.declared.fault.CheckFault.TheVariants as fault
 use Rattle.sub_check.proofs.OrderLemmas.{first_late, first_nothing, first_unread, holds_before}
 use Rattle.sub_check.proofs.OrderLemmas.{holds_but_end}
 use Rattle.sub_check.proofs.PacketLists.{Each-push}
 use Rattle.sub_check.proofs.PesFileLemmas.{no_bytes}
-use Rattle.sub_check.proofs.PesReadingLemmas.{reads_next, reads_end}
-use Rattle.sub_check.proofs.PesReadingLemmas.{reads-below}
+use Rattle.sub_check.proofs.PesReadingLemmas.{reads_next, reads_end, reads-below}
 use Rattle.sub_check.specs.Fault.{is_pes_read}
+use Rattle.sub_check.specs.declared.fault.CheckFault.TheVariants as fault
 
 -- ---- packets of 42 bytes
 

@@ -1,16 +1,15 @@
 -- What is kept of the packets, one packet on.
-use Rattle.std.proofs.Common.{eqb}
-use Rattle.std.proofs.lemmas.Bool.Decides.{nat_tests}
-use Rattle.std.proofs.lemmas.Grind.{get_or-set_at}
-use Rattle.std.proofs.Common.{◌≡◌, ◌≢◌, ℕ, ◌-◌, ◌≤◌, ◌⊎◌, inl, inr, Bool, true, false, not, cond}
+use Rattle.std.proofs.Common.{eqb, ◌≡◌, ◌≢◌, ℕ, ◌-◌, ◌≤◌, ◌⊎◌, inl, inr, Bool, true, false, not}
 use Rattle.std.proofs.Common.{◌&&◌, ◌||◌, List, [], ◌∷◌, ◌++◌, Option, Some, None, option_map}
 use Rattle.std.proofs.Common.{length, get_or, set, replicate, refl, sym, ap, ◌∙◌, subst, arith}
-use Rattle.std.proofs.Common.{append-nil, get_or-set_same, get_or-set_other}
+use Rattle.std.proofs.Common.{get_or-set_same, get_or-set_other}
+use Rattle.std.proofs.lemmas.Bool.Decides.{nat_tests}
+use Rattle.std.proofs.lemmas.Grind.{get_or-set_at}
 use Rattle.std.specs.Option.{option_or}
 use Rattle.std.specs.List.{AllByRecursion, list_any}
 use Rattle.std.proofs.lemmas.List.{get_or-replicate}
-use Rattle.std.proofs.lemmas.Bool.{cases_eq, or_right, true≢false, cond-true, cond-false, eq-eqb}
-use Rattle.std.proofs.lemmas.Bool.{ne_eqb, and_right}
+use Rattle.std.proofs.lemmas.Bool.{cases_eq}
+use Rattle.std.proofs.lemmas.Bool.{and_right}
 use Rattle.sub_check.specs.PacketRules.{codes_of, first_header}
 use Rattle.ttx_packet.specs.PageHeader.{header, c11}
 use Rattle.ttx_packet.specs.declared.header.Header.{Header}
@@ -20,7 +19,7 @@ use Rattle.ttx_page.specs.declared.packet_kind.PacketKind.TheVariants.{ThisPage,
 use Rattle.ttx_page.specs.declared.packet_kind.PacketKind.TheVariants.{Other}
 use Rattle.ttx_page.specs.PacketKind.{kind, is_row, is_this_page, ends_page}
 use Rattle.ttx_page.specs.Page.{blank_row, blank, space}
-use Rattle.ttx_page.specs.Span.{span, is_open_after, before_end}
+use Rattle.ttx_page.specs.Span.{span, is_open_after}
 use Rattle.ttx_page.proofs.SpanPush.{span-push, open-this, open-other, list_any-push}
 use Rattle.sub_check.proofs.PacketLists.{first_header-push, Each-push, Each-map}
 use Rattle.sub_check.specs.Listening.{HoldsRows, IsSoundRow}

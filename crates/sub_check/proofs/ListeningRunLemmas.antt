@@ -1,13 +1,11 @@
 -- What each way out of the loop of `listen` shows of the whole file.
-use Rattle.std.proofs.Common.{◌≡◌, ◌∙◌, ap, refl, sym, subst, arith, ℕ, suc, ◌+◌, ◌<◌, ◌≤◌}
-use Rattle.std.proofs.Common.{inl, inr, Bool, true, false, ◌&&◌, not, List, [], ◌∷◌, ◌++◌}
-use Rattle.std.proofs.Common.{length, drop, get_or, Option, Some, None, option_map, Ok, Err}
-use Rattle.std.proofs.Common.{cond, if◌then◌else◌}
+use Rattle.std.proofs.Common.{◌≡◌, ◌∙◌, ap, refl, sym, subst, arith, ℕ, suc, ◌+◌, ◌<◌, ◌≤◌, inl}
+use Rattle.std.proofs.Common.{inr, Bool, true, false, ◌&&◌, not, List, [], ◌∷◌, ◌++◌, length, drop}
+use Rattle.std.proofs.Common.{get_or, Option, Some, None, option_map, Ok, Err, cond, if◌then◌else◌}
 use Rattle.std.specs.List.{filter, list_any}
 use Rattle.std.specs.Prelude.{◌==◌, nat_le}
-use Rattle.std.proofs.lemmas.List.{at_drop_more}
+use Rattle.std.proofs.lemmas.List.{at_drop_more, length-append, length-map}
 use Rattle.std.proofs.lemmas.List.Elements.{filter-append}
-use Rattle.std.proofs.lemmas.List.{length-append, length-map}
 use Rattle.std.proofs.lemmas.Bool.{and_right, cases_lt}
 use Rattle.sub_io.specs.Reading.{IfTold}
 use Rattle.ttx_packet.specs.PageId.{PageIdValue}
@@ -18,7 +16,6 @@ use Rattle.ttx_pes.specs.DataUnit.{UnitValue}
 use Rattle.ttx_pes.specs.PesPacket.{PesValue}
 use Rattle.ttx_pes.specs.Reader.{FailsWithin, TakesPackets}
 use Rattle.ttx_pes.specs.Reading.{most_packets, rest_after}
-use Rattle.ttx_pes.specs.declared.fault.PesFault.TheVariants as pes
 use Rattle.sub_check.specs.Checking.{TellsFrame}
 use Rattle.sub_check.specs.Fault.{is_pes_read}
 use Rattle.sub_check.specs.FirstBroken.{unread_fault}
@@ -28,18 +25,17 @@ use Rattle.sub_check.specs.PacketRules.{packets_of_units}
 use Rattle.sub_check.specs.PesReading.{ReadsAs}
 use Rattle.sub_check.specs.Transmission.{Transmission}
 use Rattle.sub_check.specs.declared.fault.CheckFault.{CheckFault}
-use Rattle.sub_check.specs.declared.fault.CheckFault.TheVariants as check
-use Rattle.sub_check.proofs.PesReadingLemmas.{ReadsNext, reads-below, reads_end}
-use Rattle.sub_check.proofs.PesReadingLemmas.{reads_next}
+use Rattle.sub_check.proofs.PesReadingLemmas.{ReadsNext, reads-below, reads_end, reads_next}
 use Rattle.sub_check.proofs.ShownLemmas.{joined_more}
 use Rattle.sub_check.specs.ListeningRun.{AreHeard, FailsListening, IsHeard, RefusesAfter, Runs}
 use Rattle.sub_check.specs.ListeningRun.{least_frame}
 use Rattle.sub_check.specs.Reception.{Reception, RunsThrough, as_heard, as_received}
-use Rattle.sub_check.specs.Reception.{first_lost_header}
-use Rattle.sub_check.specs.Reception.{is_heard, is_lost, is_taken, may_be_lost_at, reception_of}
-use Rattle.sub_check.specs.Reception.{with_flips}
-use Rattle.sub_check.specs.declared.listening_run.ListenFault.TheVariants as fault
+use Rattle.sub_check.specs.Reception.{first_lost_header, is_heard, is_lost, is_taken}
+use Rattle.sub_check.specs.Reception.{may_be_lost_at, reception_of, with_flips}
 use Rattle.sub_check.specs.declared.listening.Listening.{Listening}
+use Rattle.ttx_pes.specs.declared.fault.PesFault.TheVariants as pes
+use Rattle.sub_check.specs.declared.fault.CheckFault.TheVariants as check
+use Rattle.sub_check.specs.declared.listening_run.ListenFault.TheVariants as fault
 
 -- ---- lists of packets
 

@@ -1,14 +1,11 @@
 -- A good transmission of complete pages is shown: `law_of_good_and_complete`.
-use Rattle.std.proofs.Common.{◌≡◌, ℕ, Bool, true, false, List, not, sym, ap, ◌∙◌, subst}
-use Rattle.std.proofs.Common.{le_trans}
+use Rattle.std.proofs.Common.{◌≡◌, ℕ, Bool, true, false, List, not, sym, ap, ◌∙◌, subst, le_trans}
 use Rattle.std.specs.List.{list_any, AllZip, items_where_true}
 use Rattle.std.proofs.lemmas.List.Elements.{recursion_from_All}
 use Rattle.ttx_packet.specs.OneBit.{AreNear}
 use Rattle.ttx_page.specs.LostRows.{MayBeMarked, arrivals_of}
 use Rattle.ttx_page.specs.PacketKind.{kind, ends_page}
 use Rattle.ttx_page.specs.Span.{holds_header, is_unended}
-use Rattle.ttx_page.proofs.NoiseLaws as noise
-use Rattle.ttx_page.proofs.ScreenLaws as screens
 use Rattle.stl_rows.specs.Programme.{ProgrammeValue}
 use Rattle.sub_plan.specs.Options.{OptionsValue}
 use Rattle.sub_check.specs.Transmission.{Transmission, on_air}
@@ -19,6 +16,8 @@ use Rattle.sub_check.proofs.RecoveryLemmas.{law_of_good_and_recovery}
 use Rattle.sub_check.proofs.RecoveryLemmas.{law_of_good_dropping_and_recovery}
 use Rattle.sub_check.proofs.RobustLemmas.{on_air_until-split, sound, suffices}
 use Rattle.ttx_page.proofs.SpanLists.{holds-append_right, after-append}
+use Rattle.ttx_page.proofs.NoiseLaws as noise
+use Rattle.ttx_page.proofs.ScreenLaws as screens
 
 -- A start at packet j of frame g of a good transmission of complete pages, and a stop at the end of
 -- frame f, with a header of the page between.

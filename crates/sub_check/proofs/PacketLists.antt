@@ -2,18 +2,17 @@
 -- `first_header-append`.
 use Rattle.std.proofs.lemmas.Bool.Decides.{nat_tests}
 use Rattle.std.proofs.Common.{◌≡◌, ℕ, Bool, true, false, ◌||◌, List, [], ◌∷◌, ◌++◌, refl, sym, ap}
-use Rattle.std.proofs.Common.{◌∙◌, subst, arith, inl, inr, cond, find, filter, nat_lt, length, take}
+use Rattle.std.proofs.Common.{◌∙◌, arith, cond, find, filter, nat_lt, length, take}
 use Rattle.std.proofs.Common.{get_or, ◌+◌, ◌<◌, Some, None, Option}
 use Rattle.std.specs.List.{AllByRecursion, list_any}
-use Rattle.std.proofs.lemmas.Bool.{or_parts, eq-eqb, both_ways, cond-false, cases_eq, lt-ltb}
+use Rattle.std.proofs.lemmas.Bool.{or_parts, eq-eqb, both_ways, cond-false}
 use Rattle.std.proofs.lemmas.List.{take_more, get_or-map, length-append, length-map}
 use Rattle.std.proofs.lemmas.List.Elements.{filter-append}
 use Rattle.ttx_packet.specs.PageId.{PageIdValue}
 use Rattle.ttx_page.specs.Span.{holds_header}
 use Rattle.ttx_pes.specs.DataUnit.{UnitValue}
-use Rattle.sub_check.specs.PacketRules.{IsClean, AreClean, header_count, packets_of_units}
+use Rattle.sub_check.specs.PacketRules.{header_count, packets_of_units}
 use Rattle.sub_check.specs.PacketRules.{first_header}
-use Rattle.sub_check.specs.declared.packet_rules.Watched.{Watched}
 use Rattle.ttx_page.specs.declared.packet_kind.PacketKind.{PacketKind}
 use Rattle.ttx_page.specs.declared.packet_kind.PacketKind.TheVariants.{Row}
 use Rattle.ttx_page.specs.PacketKind.{is_row, is_this_page, kind}

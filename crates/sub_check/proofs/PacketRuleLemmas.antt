@@ -1,31 +1,29 @@
 -- The flaws of a packet that comes after others, by what is kept of them.
-use Rattle.std.proofs.Common.{◌≡◌, ℕ, ◌<◌, ◌≤◌, ◌-◌, Bool, true, false, cond, ◌==◌, nat_le}
-use Rattle.std.proofs.Common.{List, [], Option, Some, None, option_map, IsTrue, get_or, refl, sym}
-use Rattle.std.proofs.Common.{ap, ◌∙◌, arith, ne_eqb, eqb-true, option_and_then}
+use Rattle.std.proofs.Common.{◌≡◌, ℕ, ◌<◌, ◌≤◌, ◌-◌, Bool, true, false, ◌==◌, nat_le, List}
+use Rattle.std.proofs.Common.{[], Option, Some, None, option_map, IsTrue, get_or, refl, sym, ap}
+use Rattle.std.proofs.Common.{◌∙◌, arith, ne_eqb}
 use Rattle.std.specs.List.{AllByRecursion}
 use Rattle.std.proofs.lemmas.Bool.{and_right, lt-leb, true≢false}
 use Rattle.std.proofs.lemmas.Bool.Decides.{nat_tests}
 use Rattle.std.proofs.lemmas.Option.{none-some, same_Some}
 use Rattle.ttx_packet.specs.PacketAddress.{HasExactAddress, IsPacket, address, PacketAddress}
 use Rattle.ttx_packet.specs.RowPacket.{HasOddText}
-use Rattle.ttx_packet.specs.PageHeader.{coded_header, header, c11}
+use Rattle.ttx_packet.specs.PageHeader.{header, c11}
 use Rattle.sub_check.specs.PacketRules.{codes_of, first_header, KeepsRule, IsClean, BreaksFirst}
 use Rattle.sub_check.specs.PacketRules.{rank}
 use Rattle.ttx_packet.specs.declared.header.Header.{Header}
 use Rattle.sub_check.proofs.CodesLemmas.{same_packet}
 use Rattle.sub_check.specs.declared.packet_rules.Watched.{Watched}
 use Rattle.ttx_page.specs.declared.packet_kind.PacketKind.{PacketKind}
-use Rattle.ttx_page.specs.declared.packet_kind.PacketKind.TheVariants.{ThisPage, Row}
-use Rattle.ttx_page.specs.declared.packet_kind.PacketKind.TheVariants.{Other}
+use Rattle.ttx_page.specs.declared.packet_kind.PacketKind.TheVariants.{ThisPage, Row, Other}
 use Rattle.ttx_page.specs.PacketKind.{kind, is_row}
 use Rattle.ttx_page.specs.Span.{is_open_after}
 use Rattle.sub_check.specs.declared.packet_rules.PacketRule.{PacketRule}
 use Rattle.sub_check.specs.Good.{IsEnhancement}
 use Rattle.sub_check.specs.Listening.{HoldsRows, IsSoundRow}
-use Rattle.sub_check.proofs.PacketLists.{Each-map, Each-join, Each-none, Each-pick}
-use Rattle.sub_check.proofs.PacketLists.{no_row}
-use Rattle.sub_check.specs.declared.packet_rules.PacketRule.TheVariants as rule
+use Rattle.sub_check.proofs.PacketLists.{Each-map, Each-join, Each-none, Each-pick, no_row}
 use Rattle.ttx_page.proofs.NoiseSteps.{row_from_test}
+use Rattle.sub_check.specs.declared.packet_rules.PacketRule.TheVariants as rule
 
 -- A row has an address of the magazine with its number.
 pub address-row : (w : Watched) (p : List ℕ) (row : ℕ) → kind w.page p ≡ Row row
@@ -172,17 +170,4 @@ mode_broken serial read w before p same is free k first e f =
 pub header_is_zero : (p : List ℕ) (h : Header) → header p ≡ Some h
     → (a : PacketAddress) × (address p ≡ Some a) × (a.packet_number ≡ 0)
 unfolding header
-header_is_zero p h e = go (address p) refl e
-  where
-    zero_or : (a : PacketAddress) (b : Bool) → (a.packet_number == 0) ≡ b
-        → cond b (coded_header p) None ≡ Some h → a.packet_number ≡ 0
-    zero_or a true t f = eqb-true a.packet_number 0 t
-    zero_or a false t f = absurd (none-some h f)
-
-    go : (o : Option PacketAddress) → address p ≡ o
-        → option_and_then
-        (λ (a : PacketAddress). cond (a.packet_number == 0) (coded_header p) None) o
-        ≡ Some h
-        → (a : PacketAddress) × (address p ≡ Some a) × (a.packet_number ≡ 0)
-    go None q f = absurd (none-some h f)
-    go (Some a) q f = (a, q, zero_or a (a.packet_number == 0) refl f)
+header_is_zero p h e = grind (arith, nat_tests)

@@ -1,18 +1,15 @@
 -- One PES packet read, in terms of the value of the whole file: `reads_next`, `reads_end`; and put
 -- together, `reads_more`, `reads_ended`.
 use Rattle.std.proofs.lemmas.Bool.Decides.{nat_tests}
-use Rattle.std.proofs.Common.{Bool, true, false, cond, ◌==◌, ◌≡◌, ◌≢◌, ℕ, zero, suc, ◌+◌, ◌-◌, ◌<◌}
+use Rattle.std.proofs.Common.{true, false, ◌≡◌, ◌≢◌, ℕ, zero, suc, ◌+◌, ◌-◌, ◌<◌}
 use Rattle.std.proofs.Common.{◌≤◌, inl, inr, List, [], ◌∷◌, length, drop, get_or, MatchOption}
-use Rattle.std.proofs.Common.{Option, Some, None, Ok, Err, refl, sym, ap, ◌∙◌, subst, arith}
+use Rattle.std.proofs.Common.{Option, Some, None, Ok, refl, sym, ap, ◌∙◌, arith}
 use Rattle.std.proofs.lemmas.List.{get_or-map, get_or-drop, length-drop, drop-drop}
-use Rattle.std.proofs.lemmas.Bool.{eq-eqb, eqb-true, eqb-false, cases_lt}
+use Rattle.std.proofs.lemmas.Bool.{cases_lt}
 use Rattle.ttx_pes.specs.PesPacket.{PesValue}
-use Rattle.sub_io.specs.Reading.{◌>>=◌}
-use Rattle.ttx_pes.specs.Reading.{answer_at, rest_after, most_packets, packet_at}
-use Rattle.ttx_pes.specs.declared.fault.PesFault.TheVariants as fault
+use Rattle.ttx_pes.specs.Reading.{answer_at, rest_after, most_packets}
 use Rattle.ttx_pes.specs.declared.fault.PesFault.{PesFault}
 use Rattle.sub_check.specs.Checking.{IsFrameOf}
-use Rattle.sub_check.specs.declared.fault.CheckFault.TheVariants as check_fault
 use Rattle.sub_check.specs.Following.{IsSentFrame}
 use Rattle.sub_check.specs.FrameRules.{Unread}
 use Rattle.sub_check.specs.FrameRules.Unread.{BadPacket, NoFrame}
@@ -22,9 +19,10 @@ use Rattle.sub_plan.specs.FrameTime.{pts_of}
 use Rattle.sub_check.specs.Fault.{is_pes_read, is_pes_write}
 use Rattle.sub_check.specs.PesFrames.{IsSentAs}
 use Rattle.sub_check.specs.PesReading.{EndsReading, PesFileValue, ReadsAs, file_at, file_by}
-use Rattle.sub_check.specs.PesReading.{file_with}
-use Rattle.sub_check.specs.PesReading.{frame_below, frame_of_pts}
+use Rattle.sub_check.specs.PesReading.{file_with, frame_below, frame_of_pts}
 use Rattle.sub_check.specs.Transmission.{SentFrame, Transmission}
+use Rattle.ttx_pes.specs.declared.fault.PesFault.TheVariants as fault
+use Rattle.sub_check.specs.declared.fault.CheckFault.TheVariants as check_fault
 
 -- A frame of the list, from what stands after those before it.
 is_sent :

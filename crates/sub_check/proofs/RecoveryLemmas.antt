@@ -5,16 +5,15 @@ use Rattle.ttx_page.specs.PacketKind.{kind}
 use Rattle.ttx_page.specs.Receiver.{State, HearsDropping}
 use Rattle.ttx_page.specs.Recovery.{EndsAfresh}
 use Rattle.ttx_page.specs.Span.{holds_header}
-use Rattle.ttx_page.proofs.NoiseLaws as noise
-use Rattle.ttx_page.proofs.DropLaws as drops
 use Rattle.stl_rows.specs.Programme.{ProgrammeValue}
 use Rattle.sub_plan.specs.Options.{OptionsValue}
 use Rattle.sub_check.specs.Transmission.{Transmission, on_air}
 use Rattle.sub_check.specs.Good.{Good}
 use Rattle.sub_check.specs.Robust.{IsListening}
-use Rattle.sub_check.specs.Recovery.{IsRestored, LawOfGoodAndRecovery}
-use Rattle.sub_check.specs.Recovery.{LawOfGoodDroppingAndRecovery}
+use Rattle.sub_check.specs.Recovery.{IsRestored, LawOfGoodAndRecovery, LawOfGoodDroppingAndRecovery}
 use Rattle.sub_check.proofs.RobustLemmas.{shows_due, sound, suffices, window}
+use Rattle.ttx_page.proofs.NoiseLaws as noise
+use Rattle.ttx_page.proofs.DropLaws as drops
 
 -- Who ends afresh wherever a header is sent is restored.
 restored :

@@ -1,8 +1,7 @@
 -- A receiver as a function that computes, and by it: a transmission is not robust (refuted).
-use Rattle.std.proofs.Common.{◌≡◌, ℕ, ◌+◌, ◌-◌, inl, inr, ◌==◌, Bool, true}
-use Rattle.std.proofs.Common.{false, not, ◌&&◌, ◌||◌, nat_le, cond, List, [], ◌∷◌, length, map}
-use Rattle.std.proofs.Common.{replicate, get_or, MatchBool, refl, sym, ap, ◌∙◌, arith}
-use Rattle.std.proofs.Common.{eq-eqb, ne_eqb}
+use Rattle.std.proofs.Common.{◌≡◌, ℕ, ◌+◌, ◌-◌, inl, inr, ◌==◌, Bool, true, false, not, ◌&&◌, ◌||◌}
+use Rattle.std.proofs.Common.{nat_le, cond, List, [], ◌∷◌, length, map, replicate, get_or}
+use Rattle.std.proofs.Common.{MatchBool, refl, sym, ap, ◌∙◌, arith, eq-eqb, ne_eqb}
 use Rattle.std.specs.List.{range_with_len, AllZip}
 use Rattle.std.proofs.lemmas.Bool.{and_parts, or_cases, not-true, leb-true, cond-true, cond-false}
 use Rattle.std.proofs.lemmas.List.FromFn.{get_or-map-range_with_len}

@@ -18,8 +18,7 @@ use Rattle.ttx_page.specs.Screen.{Display, ShowsAt}
 use Rattle.ttx_page.specs.Span.{holds_header, is_unended}
 use Rattle.ttx_page.proofs.NoiseLaws.{AreNear-themselves}
 use Rattle.sub_plan.specs.Examples.{page_888}
-use Rattle.sub_check.specs.Examples.{header_888, row_22, closing, one_frame, each}
-use Rattle.sub_check.specs.Examples.{no_subtitles}
+use Rattle.sub_check.specs.Examples.{header_888, row_22, closing, one_frame, each, no_subtitles}
 use Rattle.sub_check.specs.Good.{Good}
 use Rattle.stl_rows.specs.DuePage.{due}
 use Rattle.ttx_packet.specs.declared.header.Header.{Header}

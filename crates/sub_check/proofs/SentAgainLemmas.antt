@@ -1,19 +1,18 @@
 -- Packets that are sent again keep the rules again, and what is kept stays: `law_of_sent_again`,
 -- `heard_again`, `kept_last`.
+use Rattle.std.proofs.lemmas.Bool.Decides.{nat_tests}
 use Rattle.std.proofs.Common.{◌≡◌, ℕ, zero, suc, ◌<◌, Bool, true, false, ◌==◌, cond, List, [], ◌∷◌}
-use Rattle.std.proofs.Common.{◌++◌, Option, Some, None, not, ◌&&◌, nat_le, length, take, get_or}
+use Rattle.std.proofs.Common.{◌++◌, Option, Some, None, not, ◌&&◌, length, take, get_or}
 use Rattle.std.proofs.Common.{option_map, refl, sym, ap, ap₂, ◌∙◌, subst, arith, append-nil, ◌+◌}
 use Rattle.std.proofs.Common.{eqb-true}
 use Rattle.std.specs.List.{AllByRecursion, list_any}
 use Rattle.std.specs.Option.{option_or}
 use Rattle.std.proofs.lemmas.Bool.{or_left}
 use Rattle.std.proofs.lemmas.Option.{same_Some}
-use Rattle.ttx_packet.specs.PacketAddress.{PacketAddress, address}
 use Rattle.ttx_packet.specs.PageHeader.{c11, header}
 use Rattle.ttx_packet.specs.declared.header.Header.{Header}
-use Rattle.ttx_page.specs.declared.packet_kind.PacketKind.TheVariants.{ThisPage, EndsPage, Row}
-use Rattle.ttx_page.specs.declared.packet_kind.PacketKind.TheVariants.{Other}
-use Rattle.ttx_page.specs.PacketKind.{kind, kind_at, kind_of_header, is_this_page, ends_page}
+use Rattle.ttx_page.specs.declared.packet_kind.PacketKind.TheVariants.{ThisPage, Row}
+use Rattle.ttx_page.specs.PacketKind.{kind, is_this_page, ends_page}
 use Rattle.ttx_page.specs.Span.{before_end}
 use Rattle.sub_check.specs.Listening.{HoldsRows, Knows, KnowsLast, WereJudged}
 use Rattle.sub_check.specs.PacketRules.{AreClean, IsClean, first_header, header_count}
@@ -34,54 +33,7 @@ header_of :
     → is_this_page (kind w.page p) ≡ true
     → (h : Header) × (header p ≡ Some h) × (kind w.page p ≡ ThisPage h)
 unfolding kind
-header_of w p e = go (address p) (header p) refl e
-  where
-    coded :
-        (m : ℕ) (o : Option Header)
-        → is_this_page (kind_of_header w.page m o) ≡ true
-        → (h : Header) × (o ≡ Some h) × (kind_of_header w.page m o ≡ ThisPage h)
-    coded m None e = cc
-    coded m (Some h) e = deep (m == w.page.magazine) (h.page == w.page.page) (c11 h) e
-      where
-        deep :
-            (b c d : Bool)
-            → is_this_page (cond b (cond c (ThisPage h) EndsPage) (cond d EndsPage Other)) ≡ true
-            → (k : Header)
-            × (Some h ≡ Some k)
-            × (cond b (cond c (ThisPage h) EndsPage) (cond d EndsPage Other) ≡ ThisPage k)
-        deep true true d e = (h, refl, refl)
-        deep true false d e = cc
-        deep false c true e = cc
-        deep false c false e = cc
-
-    row : (b : Bool) (y : ℕ) → is_this_page (cond b (Row y) Other) ≡ true → ⊥
-    row true y e = cc
-    row false y e = cc
-
-    go :
-        (a : Option PacketAddress) (o : Option Header)
-        → header p ≡ o
-        → is_this_page (kind_at w.page a o) ≡ true
-        → (h : Header) × (header p ≡ Some h) × (kind_at w.page a o ≡ ThisPage h)
-    go None o q e = cc
-    go (Some a) o q e = zero_or (a.packet_number == 0) e
-      where
-        zero_or :
-            (b : Bool)
-            → is_this_page
-            (cond b (kind_of_header w.page a.magazine o)
-            (cond ((a.magazine == w.page.magazine) && nat_le a.packet_number 24)
-            (Row a.packet_number) Other))
-            ≡ true
-            → (h : Header)
-            × (header p ≡ Some h)
-            × (cond b (kind_of_header w.page a.magazine o)
-            (cond ((a.magazine == w.page.magazine) && nat_le a.packet_number 24)
-            (Row a.packet_number) Other)
-            ≡ ThisPage h)
-        zero_or true e = let r = coded a.magazine o e in (r.0, q ∙ r.1, r.2)
-        zero_or false e =
-            absurd (row ((a.magazine == w.page.magazine) && nat_le a.packet_number 24) _ e)
+header_of w p e = grind (arith, nat_tests)
 
 -- ---- what a rule looks back to
 

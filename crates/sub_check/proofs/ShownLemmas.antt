@@ -1,11 +1,11 @@
 -- What the page shows, and how long ago a header was.
 use borrow.Author.Count.{below_more}
-use Rattle.std.proofs.Common.{Option, Some, None, ◌≡◌, ◌≢◌, ℕ, ◌+◌, ◌-◌, ◌<◌, ◌≤◌, inl, inr, Bool, true}
-use Rattle.std.proofs.Common.{false, List, [], ◌∷◌, ◌++◌, find, option_map, unwrap_or, length}
+use Rattle.std.proofs.Common.{Option, Some, None, ◌≡◌, ◌≢◌, ℕ, ◌+◌, ◌-◌, ◌<◌, ◌≤◌, inl, inr, Bool}
+use Rattle.std.proofs.Common.{true, false, List, [], ◌∷◌, ◌++◌, find, option_map, unwrap_or, length}
 use Rattle.std.proofs.Common.{get_or, take, refl, sym, ap, ◌∙◌, subst, arith, ◌&&◌, true≢false}
 use Rattle.std.specs.List.{list_any, flat_map}
 use Rattle.std.proofs.lemmas.List.{get_or-replicate, flat_map_more, take_more, get_or-map}
-use Rattle.std.proofs.lemmas.Bool.{cases_eq, and_parts}
+use Rattle.std.proofs.lemmas.Bool.{and_parts}
 use Rattle.ttx_packet.specs.Parity.{code_of}
 use Rattle.ttx_packet.specs.PacketAddress.{IsPacket}
 use Rattle.stl_file.specs.Subtitle.{SubtitleValue}
@@ -26,8 +26,7 @@ use Rattle.sub_check.specs.declared.listener.Listener.{Listener}
 use Rattle.stl_rows.specs.Programme.{ProgrammeValue}
 use Rattle.sub_check.specs.Listening.{KnowsLast, HoldsRows, IsSoundRow}
 use Rattle.sub_check.specs.FrameRules.{Task, frame_at, packets_of_frame, packets_before, HasHeader}
-use Rattle.sub_check.specs.FrameRules.{ShowsDue}
-use Rattle.sub_check.specs.FrameRules.{IsCovered, IsEnded}
+use Rattle.sub_check.specs.FrameRules.{ShowsDue, IsCovered, IsEnded}
 use Rattle.sub_plan.specs.Schedule.{due_in}
 use Rattle.sub_check.specs.Checker.{CheckerValue, IsAtFrame, at_frame}
 use Rattle.sub_check.specs.Following.{HeaderIs, Remembers}

@@ -1,8 +1,7 @@
 -- The rules of the span and of the repeats, packet by packet and frame by frame.
 use Rattle.std.proofs.Common.{◌≡◌, ℕ, zero, suc, ◌+◌, ◌-◌, ◌<◌, ◌≤◌, inl, inr, Bool, true, false}
-use Rattle.std.proofs.Common.{not}
-use Rattle.std.proofs.Common.{◌&&◌, cond, List, [], ◌∷◌, ◌++◌, length, take, slice_index_or, All}
-use Rattle.std.proofs.Common.{refl, sym, ap, ◌∙◌, subst, arith, add-one, le_refl}
+use Rattle.std.proofs.Common.{not, ◌&&◌, cond, List, [], ◌∷◌, ◌++◌, length, take, slice_index_or}
+use Rattle.std.proofs.Common.{All, refl, sym, ap, ◌∙◌, subst, arith, add-one, le_refl}
 use Rattle.std.proofs.lemmas.Bool.{cases_lt, cond-true, cond-false, and_from}
 use Rattle.std.proofs.lemmas.List.{take_more, take_all, take-take, length-take, length_push}
 use Rattle.std.proofs.lemmas.List.{get_or_append_left, get_or_at}
@@ -17,8 +16,7 @@ use Rattle.sub_check.specs.Transmission.{Transmission, IsRising, first_frame, la
 use Rattle.sub_check.specs.Transmission.{packets_between, on_air_until}
 use Rattle.sub_check.specs.Good.{IsEnhancement, IsCleanSpan, HasCleanSpans, Repeats}
 use Rattle.sub_check.specs.StepByStep.{MayFollow, EachMayFollow, LawOfCleanSpans}
-use Rattle.sub_check.specs.StepByStep.{LawOfSpansByPacket}
-use Rattle.sub_check.specs.StepByStep.{IsNeverLate, LawOfRepeats}
+use Rattle.sub_check.specs.StepByStep.{LawOfSpansByPacket, IsNeverLate, LawOfRepeats}
 use Rattle.sub_check.proofs.TransmissionLemmas.{packets_between-split, packets_between-void}
 
 -- ---- one packet more

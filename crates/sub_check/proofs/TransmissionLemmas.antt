@@ -1,9 +1,8 @@
 -- The packets of frames, split and joined: `packets_between-split`, and `after-append` for what
 -- stands before a list with a header.
 use Rattle.std.proofs.Common.{◌≡◌, ℕ, suc, ◌<◌, ◌≤◌, inl, inr, Bool, true, false, ◌&&◌, nat_lt}
-use Rattle.std.proofs.Common.{nat_le, cond, List, [], ◌∷◌, ◌++◌, slice_index_or}
-use Rattle.std.proofs.Common.{All, refl}
-use Rattle.std.proofs.Common.{sym, ap, ap₂, ◌∙◌, arith, append_assoc}
+use Rattle.std.proofs.Common.{nat_le, cond, List, [], ◌∷◌, ◌++◌, slice_index_or, All, refl, sym, ap}
+use Rattle.std.proofs.Common.{ap₂, ◌∙◌, arith, append_assoc}
 use Rattle.std.specs.List.{AllByRecursion}
 use Rattle.std.proofs.lemmas.Bool.{cases_lt, le-ltb, and_right}
 use Rattle.std.proofs.lemmas.Bool.Decides.{nat_tests}

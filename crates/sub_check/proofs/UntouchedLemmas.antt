@@ -1,17 +1,14 @@
 -- What is received of packets that are untouched, and what becomes of a receiver that heard them
 -- before: `heard_now`, `heard_again`.
-use Rattle.std.proofs.Common.{◌≡◌, ◌∙◌, ap, ap₂, refl, sym, arith, ℕ, ◌+◌, ◌<◌, ◌≤◌, true}
-use Rattle.std.proofs.Common.{false, ◌&&◌, not, ◌==◌, nat_le, List, [], ◌∷◌, length}
-use Rattle.std.proofs.Common.{filter, is_some, subst}
+use Rattle.std.proofs.Common.{◌≡◌, ◌∙◌, ap, ap₂, refl, sym, arith, ℕ, ◌+◌, ◌<◌, ◌≤◌, true, false}
+use Rattle.std.proofs.Common.{◌&&◌, not, ◌==◌, nat_le, List, [], ◌∷◌, length, filter, is_some}
+use Rattle.std.proofs.Common.{subst}
 use Rattle.std.specs.List.{list_any}
-use Rattle.std.proofs.lemmas.Bool.{and_from, and_left, and_parts, cond-false, cond-true}
-use Rattle.std.proofs.lemmas.Bool.{le-leb, leb-true, lt-ltb, ne_eqb, not-true, or_parts, true≢false}
-use Rattle.sub_check.specs.Reception.{Reception, RunsThrough, as_received, is_flip_of}
-use Rattle.sub_check.specs.Reception.{is_heard, is_taken, as_heard}
-use Rattle.sub_check.specs.Reception.{reception_of}
-use Rattle.sub_check.specs.Untouched.{ErasesPageAt, HeardLast, is_untouched}
-use Rattle.sub_check.specs.Untouched.{is_in_range}
-use Rattle.sub_check.specs.Reception.{with_flip, with_flips}
+use Rattle.std.proofs.lemmas.Bool.{and_from, and_left, and_parts, cond-false, cond-true, le-leb}
+use Rattle.std.proofs.lemmas.Bool.{leb-true, lt-ltb, ne_eqb, not-true, or_parts, true≢false}
+use Rattle.sub_check.specs.Reception.{Reception, RunsThrough, as_received, is_flip_of, is_heard}
+use Rattle.sub_check.specs.Reception.{is_taken, as_heard, reception_of, with_flip, with_flips}
+use Rattle.sub_check.specs.Untouched.{ErasesPageAt, HeardLast, is_untouched, is_in_range}
 use Rattle.ttx_packet.specs.PageId.{PageIdValue}
 use Rattle.ttx_packet.specs.RowPacket.{first_even_byte}
 use Rattle.ttx_page.specs.PacketKind.{is_some_row}

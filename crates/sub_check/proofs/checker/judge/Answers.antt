@@ -1,6 +1,5 @@
 -- Each way out tells what the whole file is: by JudgeLemmas.
-use Rattle.std.proofs.Common.{◌∙◌, List, Option, Result, Ok, sym, refl, ap, subst}
-use Rattle.std.proofs.Common.{arith}
+use Rattle.std.proofs.Common.{◌∙◌, List, Option, Result, Ok, sym, refl, ap, subst, arith}
 use Rattle.std.proofs.lemmas.Result.{err_from_is_err_and}
 use Rattle.ttx_pes.proofs.TakenPackets.{takes-more, takes-none}
 use Rattle.ttx_pes.specs.Comparing.{ComparingValue}
