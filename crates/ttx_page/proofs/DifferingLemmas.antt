@@ -20,11 +20,10 @@ one_le x y = cond_both (x == y) 0 1 (λ n. n ≤ 1) (λ e. omega arith) (λ e. o
 
 -- Nothing is added where they are equal.
 one_zero : (x y : ℕ) → one x y ≡ 0 → x ≡ y
-one_zero x y = go (x == y) refl
-  where
-    go : (b : Bool) → (x == y) ≡ b → bit b ≡ 0 → x ≡ y
-    go true p e = eqb-true x y p
-    go false p e = absurd (omega arith)
+one_zero x y e = elim (cases_eq x y) [
+  | inl same ↦ same
+  | inr other ↦ let p = ne_eqb x y other in let f = rw p at e in absurd (omega arith)
+]
 
 -- Equal codes add nothing.
 one_same : (x y : ℕ) → x ≡ y → one x y ≡ 0

@@ -6,7 +6,10 @@ use Rattle.std.proofs.Common.{List, map, length, get_or, refl, sym, ap, ap₂, �
 use Rattle.std.proofs.Common.{subst, cond, nat_eq, ◌-◌, w8, w16, eqb-true, eq-eqb, take_all, inl}
 use Rattle.std.proofs.Common.{inr}
 use Rattle.std.proofs.Common.{zero, suc, take}
-use Rattle.std.proofs.lemmas.Bool.{cases_eq, ne_eqb}
+use Rattle.std.proofs.lemmas.Bool.{cases_eq, eqb-false, ne_eqb, not-false, not-true}
+use Rattle.std.specs.Simd.{first_chunks}
+use Rattle.ttx_packet.proofs.BlockLemmas.{block_at}
+use Rattle.std.proofs.Common.{[], ◌*◌, ◌/◌}
 use Rattle.std.proofs.lemmas.List.Sums.{count_by_more_no, count_by_more_yes}
 use Rattle.std.proofs.lemmas.Nat.Bits.{bit_at-trailing_zeros}
 use Rattle.std.proofs.lemmas.Simd.{length-zip2, get_or-zip2, length-chunk, get_or-chunk}
@@ -104,15 +107,22 @@ columns_in_chunk xs ys a n (suc k) l =
 
 -- What does not differ is equal, and the other way round.
 same_from_not_differ : (x y : ℕ) → differ x y ≡ false → x ≡ y
-same_from_not_differ x y e = go (nat_eq x y) refl e
-  where
-    go : (t : Bool) → nat_eq x y ≡ t → not t ≡ false → x ≡ y
-    go true p e = eqb-true x y p
-    go false p e = absurd cc
+same_from_not_differ x y e = eqb-true x y (not-false _ e)
 
 other_from_differ : (x y : ℕ) → differ x y ≡ true → x ≢ y
-other_from_differ x y e same = let t : nat_eq x y ≡ true = eq-eqb x y same in
-    absurd (cc)
+other_from_differ x y e = eqb-false x y (not-true _ e)
+
+-- What is told of block i of two rows is told of its bytes. For the loops over blocks.
+pub of_blocks : {X : Type 0} (f : List ℕ → List ℕ → X) (ms ns : List (List ℕ)) (xs ys : List ℕ)
+    (i : ℕ)
+    → ms ≡ first_chunks 16 (length xs / 16) xs
+    → ns ≡ first_chunks 16 (length ys / 16) ys
+    → i < length xs / 16
+    → i < length ys / 16
+    → f (get_or ms i []) (get_or ns i []) ≡ f (chunk (16 * i) 16 xs) (chunk (16 * i) 16 ys)
+of_blocks f ms ns xs ys i first second p q =
+    ap₂ f (ap (λ l. get_or l i []) first ∙ block_at 16 (length xs / 16) xs i p)
+    (ap (λ l. get_or l i []) second ∙ block_at 16 (length ys / 16) ys i q)
 
 -- A list is its whole chunk.
 chunk_whole : (v : List Bool) → length v ≡ 16 → chunk 0 16 v ≡ v

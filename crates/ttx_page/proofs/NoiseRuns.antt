@@ -102,44 +102,16 @@ CellEnds w row column code items was is =
     (is ≡ code)
     ⊎ (((is ≡ space) × Somewhere (HitAt w row column) items) ⊎ (no_row w row items × (is ≡ was)))
 
--- An item that is no packet of the row, before others.
-CellEnds-skip :
+-- One item more in front of others, by what becomes of a cell that they leave as it was.
+CellEnds-more :
     (w : PageIdValue) (row column code : ℕ) (item : Item) (items : List Item) (was mid is : ℕ)
-    → is_row row (kind w item.0) ≡ false
-    → mid ≡ was
+    → (no_row w row items × (is ≡ mid) → CellEnds w row column code (item ∷ items) was is)
     → CellEnds w row column code items mid is
     → CellEnds w row column code (item ∷ items) was is
-CellEnds-skip w row column code item items was mid is e m (inl coded) = inl coded
-CellEnds-skip w row column code item items was mid is e m (inr (inl hit)) =
+CellEnds-more w row column code item items was mid is left (inl coded) = inl coded
+CellEnds-more w row column code item items was mid is left (inr (inl hit)) =
     inr (inl (hit.0, inr hit.1))
-CellEnds-skip w row column code item items was mid is e m (inr (inr none)) =
-    inr (inr (or_from _ _ e none.0, none.1 ∙ m))
-
--- A packet of the row whose code is stored, before others.
-CellEnds-store :
-    (w : PageIdValue) (row column code : ℕ) (item : Item) (items : List Item) (was mid is : ℕ)
-    → mid ≡ code
-    → CellEnds w row column code items mid is
-    → CellEnds w row column code (item ∷ items) was is
-CellEnds-store w row column code item items was mid is m (inl coded) = inl coded
-CellEnds-store w row column code item items was mid is m (inr (inl hit)) =
-    inr (inl (hit.0, inr hit.1))
-CellEnds-store w row column code item items was mid is m (inr (inr none)) = inl (none.1 ∙ m)
-
--- A packet of the row that loses a byte, before others.
-CellEnds-lost_byte :
-    (w : PageIdValue) (row column code : ℕ) (item : Item) (items : List Item) (was mid is : ℕ)
-    → HitAt w row column item
-    → (mid ≡ code) ⊎ (mid ≡ space)
-    → CellEnds w row column code items mid is
-    → CellEnds w row column code (item ∷ items) was is
-CellEnds-lost_byte w row column code item items was mid is h at (inl coded) = inl coded
-CellEnds-lost_byte w row column code item items was mid is h at (inr (inl hit)) =
-    inr (inl (hit.0, inr hit.1))
-CellEnds-lost_byte w row column code item items was mid is h (inl m) (inr (inr none)) =
-    inl (none.1 ∙ m)
-CellEnds-lost_byte w row column code item items was mid is h (inr m) (inr (inr none)) =
-    inr (inl (none.1 ∙ m, inl h))
+CellEnds-more w row column code item items was mid is left (inr (inr none)) = left none
 
 -- A cell that is the code or a space, and is kept, is the code or a space.
 kept_at :
@@ -236,15 +208,20 @@ cell_over w row column code (item ∷ items) old new named fair e up targets at 
           | inl stays ↦ absurd (true≢false (sym stays.0 ∙ going))
           | inr here ↦ elim here.1 [
             | inl other ↦
-                CellEnds-skip w row column code item _ _ _ _ other.0 other.1
+                CellEnds-more w row column code item _ _ _ _
+                (λ none. inr (inr (or_from _ _ other.0 none.0, none.1 ∙ other.1)))
                 (ih still targets'.1 (kept_at _ _ code (inl other.1) at))
             | inr in_row ↦ elim in_row.1 [
               | inl stored ↦
                   let c : cell goes.0.page row column ≡ code = stored ∙ (targets'.0 in_row.0).1 in
-                  CellEnds-store w row column code item _ _ _ _ c (ih still targets'.1 (inl c))
+                  CellEnds-more w row column code item _ _ _ _ (λ none. inl (none.1 ∙ c))
+                  (ih still targets'.1 (inl c))
               | inr lost_byte ↦ let a = kept_at _ _ code lost_byte.1 at in
-                  CellEnds-lost_byte w row column code item _ _ _ _ (in_row.0, lost_byte.0) a
-                  (ih still targets'.1 a)
+                  CellEnds-more w row column code item _ _ _ _
+                  (λ none. elim a [
+                    | inl m ↦ inl (none.1 ∙ m)
+                    | inr m ↦ inr (inl (none.1 ∙ m, inl (in_row.0, lost_byte.0)))
+                  ]) (ih still targets'.1 a)
             ]
           ]
         ])

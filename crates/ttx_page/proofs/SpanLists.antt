@@ -7,7 +7,7 @@ use Rattle.std.specs.List.{list_any, position_or_len, AllByRecursion}
 use Rattle.std.proofs.lemmas.Option.{get_or_from_slice_get, slice_get_within}
 use Rattle.std.proofs.lemmas.List.Folds.{find_at, list_any-append}
 use Rattle.std.proofs.lemmas.List.Sums.{passes_at_first}
-use Rattle.std.proofs.lemmas.Bool.{cond-true, cond-false, or_parts, or_left, or_right}
+use Rattle.std.proofs.lemmas.Bool.{cases_Bool, cond-true, cond-false, or_parts, or_left, or_right}
 use Rattle.ttx_page.specs.declared.packet_kind.PacketKind.{PacketKind}
 use Rattle.ttx_page.specs.PacketKind.{is_this_page, ends_page}
 use Rattle.ttx_page.specs.Span.{holds_header, after_last_header, before_end, span}
@@ -72,15 +72,9 @@ find_is test xs z e =
 pub find_none :
     {X : Type 0} (test : X → Bool) (xs : List X) → list_any test xs ≡ false → find test xs ≡ None
 find_none test [] e = refl
-find_none test (x ∷ xs) e = go (test x) e (find_none test xs)
-  where
-    go :
-        (b : Bool)
-        → (b || list_any test xs) ≡ false
-        → (list_any test xs ≡ false → find test xs ≡ None)
-        → cond b (Some x) (find test xs) ≡ None
-    go true h ih = cc
-    go false h ih = ih h
+find_none test (x ∷ xs) e =
+    let parts = or_parts (test x) (list_any test xs) e in
+    cond-false (test x) (Some x) (find test xs) parts.0 ∙ find_none test xs parts.1
 
 -- Where `find` gives nothing, no element passes.
 pub none_pass :
@@ -88,16 +82,15 @@ pub none_pass :
     → find test xs ≡ None
     → AllByRecursion (λ x. test x ≡ false) xs
 none_pass test [] e = tt
-none_pass test (x ∷ xs) e = go (test x) refl e (none_pass test xs)
-  where
-    go :
-        (b : Bool)
-        → test x ≡ b
-        → cond b (Some x) (find test xs) ≡ None
-        → (find test xs ≡ None → AllByRecursion (λ x. test x ≡ false) xs)
-        → (test x ≡ false) × AllByRecursion (λ x. test x ≡ false) xs
-    go true p h ih = cc
-    go false p h ih = (p, ih h)
+none_pass test (x ∷ xs) e = elim (cases_Bool (test x)) [
+  | inl passes ↦
+      let found : Some x ≡ None = sym (cond-true (test x) (Some x) (find test xs) passes) ∙ e in
+      absurd cc
+  | inr passes ↦ (
+    passes,
+    none_pass test xs (sym (cond-false (test x) (Some x) (find test xs) passes) ∙ e),
+  )
+]
 
 -- ---- what holds of each element of a list that is mapped
 

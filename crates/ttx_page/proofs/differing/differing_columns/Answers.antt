@@ -3,10 +3,9 @@ use Rattle.std.proofs.Common.{◌≡◌, ◌+◌, ◌*◌, ◌/◌, [], length, 
 use Rattle.std.proofs.Common.{sym, ap, ap₂, ◌∙◌}
 use Rattle.std.proofs.lemmas.List.{length-drop}
 use lib.Lanes.{chunk}
-use Rattle.ttx_packet.proofs.BlockLemmas.{block_at}
 use Rattle.ttx_page.specs.Differing.{columns_differing}
 use Rattle.ttx_page.proofs.DifferingLemmas.{columns_le, columns_none}
-use Rattle.ttx_page.proofs.LaneLemmas.{columns_in_chunk}
+use Rattle.ttx_page.proofs.LaneLemmas.{columns_in_chunk, of_blocks}
 use Rattle.ttx_page.proofs.differing.differing_columns.Goals as goal
 
 pub loop-i-init : goal.loop-i-init
@@ -20,11 +19,8 @@ loop-i-preserved c =
     let block : c.differing_of_16-count.result
     ≡ columns_differing 16 (chunk (16 * i) 16 xs) (chunk (16 * i) 16 ys) =
     c.differing_of_16-count.ensures.value
-    ∙ ap₂ (columns_differing 16)
-    (ap (λ l. get_or l i []) c.as_chunks.ensures.front
-    ∙ block_at 16 (length xs / 16) xs i (omega arith))
-    (ap (λ l. get_or l i []) c.as_chunks-2.ensures.front
-    ∙ block_at 16 (length ys / 16) ys i (omega arith)) in
+    ∙ of_blocks (columns_differing 16) _ _ xs ys i c.as_chunks.ensures.front
+    c.as_chunks-2.ensures.front (omega arith) (omega arith) in
     let next : 16 * i + 16 ≡ 16 * (i + 1) = omega arith in
     let more = columns_in_chunk xs ys (16 * i) 16 16 (omega arith) in (
       omega arith,

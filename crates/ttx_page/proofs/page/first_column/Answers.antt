@@ -3,9 +3,8 @@ use Rattle.std.proofs.Common.{◌∙◌, ap, ap₂, inl, inr, subst}
 use Rattle.std.proofs.lemmas.Bool.{cases_lt}
 use Rattle.std.proofs.lemmas.List.{ext_get_or}
 use lib.Lanes.{chunk}
-use Rattle.ttx_packet.proofs.BlockLemmas.{block_at}
 use Rattle.ttx_page.specs.Lanes.{differing_mask}
-use Rattle.ttx_page.proofs.LaneLemmas.{blocks_same, first_of_blocks}
+use Rattle.ttx_page.proofs.LaneLemmas.{blocks_same, first_of_blocks, of_blocks}
 use Rattle.ttx_page.proofs.page.first_column.Goals as goal
 
 pub returns-then-mask-ne0 : goal.returns-then-mask-ne0
@@ -16,11 +15,8 @@ returns-then-mask-ne0 c =
     let mask : c.differing-mask.result
     ≡ differing_mask (chunk (16 * i) 16 xs) (chunk (16 * i) 16 ys) =
     c.differing-mask.ensures
-    ∙ ap₂ differing_mask
-    (ap (λ l. get_or l i []) c.as_chunks.ensures.front
-    ∙ block_at 16 (length xs / 16) xs i (omega arith))
-    (ap (λ l. get_or l i []) c.as_chunks-2.ensures.front
-    ∙ block_at 16 (length ys / 16) ys i (omega arith)) in
+    ∙ of_blocks differing_mask _ _ xs ys i c.as_chunks.ensures.front c.as_chunks-2.ensures.front
+    (omega arith) (omega arith) in
     let found = first_of_blocks xs ys (16 * i) c.differing-mask.result (omega arith) (omega arith)
     mask c.if-mask-ne0.true in (
       omega (arith, found.within),
@@ -42,11 +38,8 @@ loop-i-preserved c k l =
     let mask : c.differing-mask.result
     ≡ differing_mask (chunk (16 * i) 16 xs) (chunk (16 * i) 16 ys) =
     c.differing-mask.ensures
-    ∙ ap₂ differing_mask
-    (ap (λ l. get_or l i []) c.as_chunks.ensures.front
-    ∙ block_at 16 (length xs / 16) xs i (omega arith))
-    (ap (λ l. get_or l i []) c.as_chunks-2.ensures.front
-    ∙ block_at 16 (length ys / 16) ys i (omega arith)) in
+    ∙ of_blocks differing_mask _ _ xs ys i c.as_chunks.ensures.front c.as_chunks-2.ensures.front
+    (omega arith) (omega arith) in
     elim (cases_lt k (16 * i)) [
       | inl before ↦ c.loop-i.invariant k before
       | inr from ↦
