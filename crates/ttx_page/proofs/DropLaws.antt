@@ -4,7 +4,8 @@ use Rattle.std.proofs.Common.{◌≡◌, ℕ, ◌<◌, Bool, true, false, not, �
 use Rattle.std.proofs.Common.{List, [], ◌∷◌, ◌++◌, map, zip, Option, Some, None, is_some, All, Any}
 use Rattle.std.proofs.Common.{MatchBool, inl, inr, refl, sym, ap, ◌∙◌, subst, true≢false, eq-eqb}
 use Rattle.std.specs.List.{AllByRecursion, AllZip}
-use Rattle.std.proofs.lemmas.Bool.{and_parts}
+use Rattle.std.proofs.lemmas.Bool.{MatchBool-at_false, MatchBool-at_true, and_parts, cases_Bool}
+use Rattle.std.proofs.lemmas.Bool.{not-true}
 use Rattle.std.proofs.lemmas.List.Elements.{recursion_from_All, All-from_recursion, All-contains}
 use Rattle.ttx_packet.specs.declared.header.Header.{Header}
 use Rattle.ttx_packet.specs.PageHeader.{header, c11, HasExactWords}
@@ -36,18 +37,14 @@ left_out :
     → HearsDropping w old packets new
     → Hears w old (without_dropped w packets) new
 left_out w [] old new run = run
-left_out w (p ∷ ps) old new run = go (is_dropped w p) run.1 (left_out w ps run.0 new run.2)
-  where
-    rest : List (List ℕ)
-    rest = without_dropped w ps
-
-    go :
-        (b : Bool)
-        → MatchBool b (run.0 ≡ old) (Step w old p run.0)
-        → Hears w run.0 rest new
-        → Hears w old (cond (not b) (p ∷ rest) rest) new
-    go true same on = subst (λ s. Hears w s rest new) same on
-    go false step on = (run.0, step, on)
+left_out w (p ∷ ps) old new run =
+    let on = left_out w ps run.0 new run.2 in
+    elim (cases_Bool (is_dropped w p)) [
+      | inl drops ↦
+          let same : run.0 ≡ old = MatchBool-at_true _ (Step w old p run.0) drops run.1 in
+          rw drops (subst (λ s. Hears w s (without_dropped w ps) new) same on)
+      | inr drops ↦ rw drops (run.0, MatchBool-at_false (run.0 ≡ old) _ drops run.1, on)
+    ]
 
 -- A run without the rows that are dropped is a run that drops rows.
 put_back :
@@ -55,20 +52,12 @@ put_back :
     → Hears w old (without_dropped w packets) new
     → HearsDropping w old packets new
 put_back w [] old new run = run
-put_back w (p ∷ ps) old new run = go (is_dropped w p) run (λ s. put_back w ps s new)
-  where
-    rest : List (List ℕ)
-    rest = without_dropped w ps
-
-    go :
-        (b : Bool)
-        → Hears w old (cond (not b) (p ∷ rest) rest) new
-        → ((s : State) → Hears w s rest new → HearsDropping w s ps new)
-        → (mid : State)
-        × MatchBool b (mid ≡ old) (Step w old p mid)
-        × HearsDropping w mid ps new
-    go true on ih = (old, refl, ih old on)
-    go false on ih = (on.0, on.1, ih on.0 on.2)
+put_back w (p ∷ ps) old new run = elim (cases_Bool (is_dropped w p)) [
+  | inl drops ↦ rw drops (old, refl, put_back w ps old new (rw drops at run))
+  | inr drops ↦
+      let on = rw drops at run in
+      rw drops (on.0, on.1, put_back w ps on.0 new on.2)
+]
 
 -- The law of dropping.
 pub law_of_dropping : LawOfDropping
@@ -98,15 +87,12 @@ arrived-map_arrival_of :
     → arrived (map (arrival_of w) arrivals) ≡ without_dropped w (arrived arrivals)
 arrived-map_arrival_of w [] = refl
 arrived-map_arrival_of w (None ∷ os) = arrived-map_arrival_of w os
-arrived-map_arrival_of w (Some got ∷ os) = go (is_dropped w got) (arrived-map_arrival_of w os)
-  where
-    go :
-        (b : Bool)
-        → arrived (map (arrival_of w) os) ≡ without_dropped w (arrived os)
-        → arrived (cond b None (Some got) ∷ map (arrival_of w) os)
-        ≡ cond (not b) (got ∷ without_dropped w (arrived os)) (without_dropped w (arrived os))
-    go true e = e
-    go false e = ap (λ ps. got ∷ ps) e
+arrived-map_arrival_of w (Some got ∷ os) =
+    let rest = arrived-map_arrival_of w os in
+    elim (cases_Bool (is_dropped w got)) [
+      | inl drops ↦ rw drops rest
+      | inr drops ↦ rw drops (ap (λ ps. got ∷ ps) rest)
+    ]
 
 -- A run that drops rows is one over what arrives by these arrivals.
 pub hears_arrived :
@@ -184,10 +170,6 @@ even_byte_of :
 unfolding first_even_byte
 even_byte_of packet some = go (first_even_byte packet) refl some
   where
-    not_true : (b : Bool) → not b ≡ true → b ≡ false
-    not_true true e = sym e
-    not_true false e = refl
-
     go :
         (o : Option ℕ)
         → first_even_byte packet ≡ o
@@ -196,7 +178,7 @@ even_byte_of packet some = go (first_even_byte packet) refl some
     go None e h = absurd (true≢false (sym h))
     go (Some column) e h =
         let found = first_below_is 40 (λ column. not (is_odd (text_byte packet column))) column e in
-        (column, found.0, not_true _ found.1)
+        (column, found.0, not-true _ found.1)
 
 -- An item where rows are dropped.
 abbrev dropped_item : PageIdValue → Item → Item
