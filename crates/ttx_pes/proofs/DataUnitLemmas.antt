@@ -101,7 +101,7 @@ unit_sound (b0 ∷ b1 ∷ b2 ∷ b3 ∷ p) u len fit e =
     in
     let is-44 : b1 ≡ 44 = eqb-true _ _ g.0 in
     elim (if_not_cases (is_teletext b0) (Ok None) whole (Ok u) g.1) [
-      | inl passed ↦ subst (λ (x : Option UnitValue). IsDataUnit x b) (Ok-injective None u passed.1)
+      | inl passed ↦ rw (← Ok-injective None u passed.1)
           (record {
             id = b0;
             rest = b2 ∷ b3 ∷ p;
@@ -115,7 +115,7 @@ unit_sound (b0 ∷ b1 ∷ b2 ∷ b3 ∷ p) u len fit e =
           let is-228 : b3 ≡ 228 = eqb-true _ _ f.0 in
           let pos = field_bit b2 (fit 2) in
           let fits : AreBytes p = λ i. fit (suc (suc (suc (suc i)))) in
-          subst (λ (x : Option UnitValue). IsDataUnit x b) (Ok-injective (Some (unit_of b)) u f.1)
+          rw (← Ok-injective (Some (unit_of b)) u f.1)
           (record {
             reserved = b2 / 64;
             two_bits = let l = fit 2 in omega arith;

@@ -7,9 +7,8 @@ use Rattle.sub_io.specs.Reading.{AreBytes}
 use Rattle.ttx_pes.specs.DataUnit.{stuffing_unit}
 use Rattle.ttx_pes.specs.PesPacket.{IsPesPacket, pts_bytes, repeated}
 use Rattle.ttx_pes.specs.Refusal.{Agree, AgreeBefore, AgreeInFirst, FailFirst, Question, SixBytes}
-use Rattle.ttx_pes.specs.Refusal.{PacketLength, Start, packet_questions}
-use Rattle.ttx_pes.specs.Refusal.{AllBytes, Scrambling, PtsFlags, HeaderLength, Time}
-use Rattle.ttx_pes.specs.Refusal.{DataIdentifier}
+use Rattle.ttx_pes.specs.Refusal.{PacketLength, Start, packet_questions, AllBytes, Scrambling}
+use Rattle.ttx_pes.specs.Refusal.{PtsFlags, HeaderLength, Time, DataIdentifier}
 use Rattle.ttx_pes.proofs.PesHeaderLemmas.{pts_bytes_of_read, value_with}
 use Rattle.ttx_pes.proofs.PesPacketLemmas.{stuffing_units}
 use Rattle.ttx_pes.proofs.SampleLemmas.{Fields, fields_of, sample, sample_is_packet}

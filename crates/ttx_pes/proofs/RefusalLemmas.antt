@@ -3,31 +3,29 @@
 use Rattle.std.proofs.Common.{◌≡◌, ℕ, ◌+◌, ◌-◌, ◌*◌, ◌/◌, ◌%◌, ◌<◌, ◌≤◌, ◌++◌, true, false, List}
 use Rattle.std.proofs.Common.{[], length, get_or, take, drop, Result, Ok, Err, refl, sym, ap, ◌∙◌}
 use Rattle.std.proofs.Common.{arith, inl, inr, length-append, length-take, length-drop, eqb, leb}
+use Rattle.std.proofs.Common.{◌∷◌, cond, not}
 use Rattle.std.proofs.lemmas.Bool.{cases_Bool, cases_eq, cases_lt, eq-eqb, eqb-true, le-leb, ne_eqb}
 use Rattle.std.proofs.lemmas.List.{get_or-drop, get_or-take, get_or_append_left}
 use Rattle.std.specs.Prelude.{◌&&◌}
-use Rattle.std.proofs.Common.{◌∷◌, cond, not}
 use Rattle.std.specs.List.{AllByRecursion}
-use Rattle.ttx_pes.specs.Reading.{has_markers}
-use Rattle.ttx_pes.specs.Refusal.{packet_questions, unit_questions}
-use Rattle.ttx_pes.proofs.PesHeaderLemmas.{tests_held, tests_hold}
-use Rattle.ttx_pes.proofs.UnitPlaceLemmas.{eqb_cases, step_refused, test_cases}
+use Rattle.ttx_pes.specs.Reading.{has_markers, is_start, packet_at, pts_at, pts_bits, size_at}
+use Rattle.ttx_pes.specs.Reading.{told_size, units_at, value_at}
+use Rattle.ttx_pes.specs.Refusal.{packet_questions, unit_questions, FailFirst, Question, told_fault}
+use Rattle.ttx_pes.specs.Refusal.{SixBytes, Start, PacketLength, AllBytes, Scrambling, PtsFlags}
+use Rattle.ttx_pes.specs.Refusal.{HeaderLength, Time, Agree, AgreeBefore, AgreeUpTo, DataIdentifier}
+use Rattle.ttx_pes.specs.Refusal.{FramingCode, Line, UnitLength, unit_place}
+use Rattle.ttx_pes.proofs.PesHeaderLemmas.{six_of, tests_held, tests_hold, frame_made, head_sound}
+use Rattle.ttx_pes.proofs.PesHeaderLemmas.{header_sound, value_with}
+use Rattle.ttx_pes.proofs.UnitPlaceLemmas.{eqb_cases, step_refused, test_cases, Err-injective}
+use Rattle.ttx_pes.proofs.UnitPlaceLemmas.{after_err, answer_cases, units_split}
 use Rattle.sub_io.specs.Reading.{AreBytes}
 use Rattle.ttx_pes.specs.declared.fault.PesFault.{PesFault}
 use Rattle.ttx_pes.specs.declared.fault.PesFault.TheVariants as fault
 use Rattle.ttx_pes.specs.PesPacket.{IsPesPacket, PesValue}
-use Rattle.ttx_pes.specs.Reading.{is_start, packet_at, pts_at, pts_bits, size_at, told_size}
-use Rattle.ttx_pes.specs.Reading.{units_at, value_at}
-use Rattle.ttx_pes.specs.Refusal.{FailFirst, Question, told_fault, SixBytes, Start, PacketLength}
-use Rattle.ttx_pes.specs.Refusal.{AllBytes, Scrambling, PtsFlags, HeaderLength, Time, Agree}
-use Rattle.ttx_pes.specs.Refusal.{AgreeBefore, AgreeUpTo, DataIdentifier, FramingCode, Line}
-use Rattle.ttx_pes.specs.Refusal.{UnitLength, unit_place}
 use Rattle.ttx_pes.proofs.DataUnitLemmas.{AreBytes-drop, AreBytes-take}
-use Rattle.ttx_pes.proofs.PesHeaderLemmas.{frame_made, head_sound, header_sound, value_with}
 use Rattle.ttx_pes.proofs.ReadingLemmas.{packet_cut, packet_short, packet_size, packet_whole}
 use Rattle.ttx_pes.proofs.ReadingLemmas.{read_is_packet}
 use Rattle.ttx_pes.proofs.SampleLemmas.{fields_of}
-use Rattle.ttx_pes.proofs.UnitPlaceLemmas.{Err-injective, after_err, answer_cases, units_split}
 use Rattle.ttx_pes.proofs.PacketRefusalLemmas.{Begun, HasMarkers, IsStart, IsTold, all_fails}
 use Rattle.ttx_pes.proofs.PacketRefusalLemmas.{header_length_fails, identifier_fails, length_fails}
 use Rattle.ttx_pes.proofs.PacketRefusalLemmas.{pts_flags_fails, scrambling_fails, six_fails}
@@ -206,18 +204,11 @@ refused_first b f fit e = elim (cases_lt (length b) 6) [
         let lo = h.1 in
         let hi = h.2 in
         let size-is = h.3 in
-        let at : (i : ℕ) → i < 6 → get_or b i 0 ≡ get_or (take 6 b) i 0 = λ i lt.
-        sym (get_or-take 6 b i 0 lt) in
-        let start : IsStart b = (
-          at 0 (omega arith) ∙ ap (λ (x : List ℕ). get_or x 0 0) h.4,
-          at 1 (omega arith) ∙ ap (λ (x : List ℕ). get_or x 1 0) h.4,
-          at 2 (omega arith) ∙ ap (λ (x : List ℕ). get_or x 2 0) h.4,
-          at 3 (omega arith) ∙ ap (λ (x : List ℕ). get_or x 3 0) h.4,
-        ) in
-        let told : IsTold n b = (
-          at 4 (omega arith) ∙ ap (λ (x : List ℕ). get_or x 4 0) h.4,
-          at 5 (omega arith) ∙ ap (λ (x : List ℕ). get_or x 5 0) h.4,
-        ) in
+        let at : (i : ℕ) → i < 6 → get_or b i 0 ≡ get_or (six_of n) i 0 = λ i lt.
+        sym (get_or-take 6 b i 0 lt) ∙ ap (λ (x : List ℕ). get_or x i 0) h.4 in
+        let start : IsStart b =
+        (at 0 (omega arith), at 1 (omega arith), at 2 (omega arith), at 3 (omega arith)) in
+        let told : IsTold n b = (at 4 (omega arith), at 5 (omega arith)) in
         elim (cases_lt (length b) size) [
           | inl cut ↦ (
             AllBytes,

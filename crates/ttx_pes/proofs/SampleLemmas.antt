@@ -61,31 +61,26 @@ packet_size v p h =
 -- The fields of a packet of the grammar.
 pub fields_of : (v : PesValue) (p : List ℕ) (h : IsPesPacket v p) → Fields h.n p
 fields_of v p h =
+    let rest = pts_bytes v.pts ++ (h.header_stuffing ++ (h.data_identifier ∷ h.data_units)) in
+    let at : (i : ℕ) → get_or p i 0 ≡ get_or (packet_start
+    ++ (bytes_high_first 2 (packet_length h.n)
+    ++ ((h.flags ∷ h.pts_dts_flags ∷ header_data_length ∷ []) ++ rest))) i 0 =
+    λ i. ap (λ (x : List ℕ). get_or x i 0) h.bytes in
     let identifier : get_or p 45 0 ≡ h.data_identifier =
-    ap (λ (x : List ℕ). get_or x 45 0) h.bytes
-    ∙ get_or_at h.header_stuffing h.data_identifier h.data_units 0 31 h.header_filled in
+    at 45 ∙ get_or_at h.header_stuffing h.data_identifier h.data_units 0 31 h.header_filled in
     record {
       size = h.size;
-      start = (
-        ap (λ (x : List ℕ). get_or x 0 0) h.bytes,
-        ap (λ (x : List ℕ). get_or x 1 0) h.bytes,
-        ap (λ (x : List ℕ). get_or x 2 0) h.bytes,
-        ap (λ (x : List ℕ). get_or x 3 0) h.bytes,
-      );
-      told = (
-        ap (λ (x : List ℕ). get_or x 4 0) h.bytes,
-        ap (λ (x : List ℕ). get_or x 5 0) h.bytes,
-      );
+      start = (at 0, at 1, at 2, at 3);
+      told = (at 4, at 5);
       all = packet_size v p h;
-      scrambling = ap (λ (x : List ℕ). get_or x 6 0 / 16) h.bytes ∙ h.not_scrambled;
-      pts_flags = ap (λ (x : List ℕ). get_or x 7 0 / 64) h.bytes ∙ h.pts_alone;
-      header_length = ap (λ (x : List ℕ). get_or x 8 0) h.bytes;
-      prefix =
-          ap (λ (x : List ℕ). get_or x 9 0 / 16) h.bytes ∙ pts_prefix v.pts h.pts_fits;
+      scrambling = ap (λ (x : ℕ). x / 16) (at 6) ∙ h.not_scrambled;
+      pts_flags = ap (λ (x : ℕ). x / 64) (at 7) ∙ h.pts_alone;
+      header_length = at 8;
+      prefix = ap (λ (x : ℕ). x / 16) (at 9) ∙ pts_prefix v.pts h.pts_fits;
       markers = (
-        ap (λ (x : List ℕ). get_or x 9 0 % 2) h.bytes ∙ first_marker_is_1 (v.pts / 2 ^ 30),
-        ap (λ (x : List ℕ). get_or x 11 0 % 2) h.bytes ∙ marker_is_1 ((v.pts / 2 ^ 15) % 0x80),
-        ap (λ (x : List ℕ). get_or x 13 0 % 2) h.bytes ∙ marker_is_1 (v.pts % 0x80),
+        ap (λ (x : ℕ). x % 2) (at 9) ∙ first_marker_is_1 (v.pts / 2 ^ 30),
+        ap (λ (x : ℕ). x % 2) (at 11) ∙ marker_is_1 ((v.pts / 2 ^ 15) % 0x80),
+        ap (λ (x : ℕ). x % 2) (at 13) ∙ marker_is_1 (v.pts % 0x80),
       );
       identifier = ap (λ (x : ℕ). x / 16) identifier ∙ h.ebu_data;
     }

@@ -1,9 +1,8 @@
 -- Data units by the bytes that are asked of them: what is read of them depends on four bytes of
 -- each alone. Main lemmas: units_places, units_split.
-use Rattle.std.proofs.Common.{Bool}
-use Rattle.std.proofs.Common.{◌≡◌, ◌≢◌, ℕ, zero, suc, ◌+◌, ◌*◌, ◌%◌, ◌/◌, ◌<◌, true, false, cond}
-use Rattle.std.proofs.Common.{not, eqb, List, [], get_or, take, drop, Result, Ok, Err, refl, sym}
-use Rattle.std.proofs.Common.{ap, ◌∙◌, arith, inl, inr, ◌⊎◌}
+use Rattle.std.proofs.Common.{Bool, ◌≡◌, ◌≢◌, ℕ, zero, suc, ◌+◌, ◌*◌, ◌%◌, ◌/◌, ◌<◌, true, false}
+use Rattle.std.proofs.Common.{cond, not, eqb, List, [], get_or, take, drop, Result, Ok, Err, refl}
+use Rattle.std.proofs.Common.{sym, ap, ◌∙◌, arith, inl, inr, ◌⊎◌}
 use Rattle.std.proofs.lemmas.Bool.{cases_Bool, cases_eq, eq-eqb, eqb-false, eqb-true, ne_eqb}
 use Rattle.std.proofs.lemmas.List.{get_or-take, get_or-drop}
 use Rattle.sub_io.proofs.ReadingLemmas.{step_gave, test_held}

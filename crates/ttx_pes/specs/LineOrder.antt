@@ -4,9 +4,8 @@
 -- The units that name a line rise strictly: those of the first field before those of the second, in
 -- each field by line_offset. In EN 300 472 line_offset 0 means that the line is not defined, so a
 -- unit with it may stand anywhere.
-use Rattle.std.specs.Prelude.{◌≡◌, ◌≢◌, ◌<◌}
-use Rattle.std.specs.Prelude.{true, ℕ, ◌+◌, ◌-◌, ◌*◌, Bool, ◌==◌, ◌||◌, nat_lt, if◌then◌else◌}
-use Rattle.std.specs.Prelude.{List, [], ◌∷◌}
+use Rattle.std.specs.Prelude.{◌≡◌, ◌≢◌, ◌<◌, true, ℕ, ◌+◌, ◌-◌, ◌*◌, Bool, ◌==◌, ◌||◌, nat_lt}
+use Rattle.std.specs.Prelude.{if◌then◌else◌, List, [], ◌∷◌}
 use Rattle.ttx_pes.specs.DataUnit.{UnitValue, subtitle_id}
 
 -- The place of a unit that names a line: 1 to 31 in the first field, 33 to 63 in the second.

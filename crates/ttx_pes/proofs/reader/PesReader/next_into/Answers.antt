@@ -1,8 +1,7 @@
 -- What is left, and what a fault says in the words of the grammar: by ReaderLemmas.
 use Rattle.std.proofs.Common.{◌≡◌, ◌∙◌, Bool, ap, refl, Err}
 use Rattle.ttx_pes.specs.declared.fault.PesFault.TheVariants.{TooMany}
-use Rattle.ttx_pes.proofs.ReaderLemmas.{byte_is_left, excluded, format_not_read}
-use Rattle.ttx_pes.proofs.ReaderLemmas.{packet_left}
+use Rattle.ttx_pes.proofs.ReaderLemmas.{byte_is_left, excluded, format_not_read, packet_left}
 use Rattle.ttx_pes.proofs.reader.PesReader.next_into.Goals as goal
 
 pub returns-in-Ok-true-clause-left : goal.returns-in-Ok-true-clause-left
