@@ -27,12 +27,8 @@ module _ (made : ℕ → SentFrame) (numbered : (f : ℕ) → (made f).frame ≡
   -- Frames from one on are that or later.
   later : (a n b : ℕ) → b ≤ a → AllByRecursion (λ (frame : SentFrame). b ≤ frame.frame) (frames a n)
   later a zero b l = tt
-  later a (suc n) b l = go (p a) (later (a + 1) n b (omega arith))
-    where
-      go : (t : Bool) → AllByRecursion (λ (frame : SentFrame). b ≤ frame.frame) (frames (a + 1) n)
-          → AllByRecursion (λ (frame : SentFrame). b ≤ frame.frame) (passing t a n)
-      go true ih = (omega (arith, numbered a), ih)
-      go false ih = ih
+  later a (suc n) b l =
+      let ih = later (a + 1) n b (omega arith) in let is = numbered a in grind arith
 
   -- A frame before later ones.
   rising_cons : (frame : SentFrame) (rest : Transmission)
@@ -64,16 +60,11 @@ module _ (made : ℕ → SentFrame) (numbered : (f : ℕ) → (made f).frame ≡
   pub sent_none : (from end a n : ℕ) → ((j : ℕ) → from ≤ j → j < end → p j ≡ false)
       → packets_between (frames a n) from end ≡ []
   sent_none from end a zero none = refl
-  sent_none from end a (suc n) none = go (p a) refl (sent_none from end (a + 1) n none)
-    where
-      outside : p a ≡ true → piece from end (made a) ≡ []
-      outside h =
-          let is = numbered a in let off = none a in grind (arith, nat_tests)
-
-      go : (t : Bool) → p a ≡ t → packets_between (frames (a + 1) n) from end ≡ []
-          → packets_between (passing t a n) from end ≡ []
-      go true h ih = ap₂ ◌++◌ (outside h) ih
-      go false h ih = ih
+  sent_none from end a (suc n) none =
+      let ih = sent_none from end (a + 1) n none in
+      let is = numbered a in
+      let off = none a in
+      grind (arith, nat_tests)
 
   -- What is sent in one frame.
   pub sent_at : (g a n : ℕ) → p g ≡ true → a ≤ g → g < a + n
@@ -81,18 +72,13 @@ module _ (made : ℕ → SentFrame) (numbered : (f : ℕ) → (made f).frame ≡
   sent_at g a zero h low high = absurd (omega arith)
   sent_at g a (suc n) h low high =
       elim (cases_lt a g) [
-        | inl before ↦ past (p a) before (sent_at g (a + 1) n h (omega arith) (omega arith))
+        | inl before ↦
+            let ih = sent_at g (a + 1) n h (omega arith) (omega arith) in
+            let is = numbered a in
+            grind (arith, nat_tests)
         | inr here ↦ let e : a ≡ g = omega arith in at (p a) (ap p e ∙ h) e
       ]
     where
-      past : (t : Bool) → a < g → packets_between (frames (a + 1) n) g (g + 1) ≡ (made g).packets
-          → packets_between (passing t a n) g (g + 1) ≡ (made g).packets
-      past true before ih =
-          let is = numbered a in
-          let none : piece g (g + 1) (made a) ≡ [] = grind (arith, nat_tests) in
-          ap₂ ◌++◌ none ih
-      past false before ih = ih
-
       at : (t : Bool) → t ≡ true → a ≡ g
           → packets_between (passing t a n) g (g + 1) ≡ (made g).packets
       at true h e =

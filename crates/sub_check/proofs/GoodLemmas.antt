@@ -1,14 +1,13 @@
 -- A transmission is good by places exactly where it is good: `Good-from_frames`,
 -- `GoodFrames-from_good`.
-use Rattle.std.proofs.Common.{◌≡◌, ℕ, zero, suc, ◌+◌, ◌-◌, ◌<◌, ◌≤◌, inl, inr, Bool, true, false}
+use Rattle.std.proofs.Common.{◌≡◌, ℕ, zero, suc, ◌+◌, ◌-◌, ◌<◌, ◌≤◌, inl, inr, Bool, true}
 use Rattle.std.proofs.Common.{cond, ◌&&◌, nat_le, nat_lt, List, [], ◌∷◌, ◌++◌, Option, Some}
 use Rattle.std.proofs.Common.{None, length, take, get_or, All, refl, sym, ap, ◌∙◌, subst, arith}
 use Rattle.std.proofs.Common.{IsTrue, IfSome, ◌⊎◌}
 use Rattle.std.specs.List.{AllByRecursion, flat_map, list_any}
 use Rattle.std.proofs.lemmas.List.{take_all, take-append-le}
 use Rattle.std.proofs.lemmas.List.Elements.{All-from_recursion}
-use Rattle.std.proofs.lemmas.Bool.{cases_lt, cases_eq, and_parts}
-use Rattle.std.proofs.lemmas.Bool.{leb-true, ltb-true}
+use Rattle.std.proofs.lemmas.Bool.{cases_lt, cases_eq}
 use Rattle.sub_check.specs.FrameRules.{Unread, task_of, watched_of, frame_at, packets_of_frame}
 use Rattle.sub_check.specs.FrameRules.{packets_before, end_frame, HasHeader}
 use Rattle.sub_check.specs.declared.packet_rules.Watched.{Watched}
@@ -211,30 +210,15 @@ sent_any : (w : Watched) (t : Transmission) (n : ℕ)
     (holds_header (kind w.page) (packets_of_frame t j) ≡ true)
 sent_any w [] n e = cc
 sent_any w (s ∷ ss) n e =
-    let later : (holds_header (kind w.page) (packets_of ss n) ≡ true)
-    → (j : ℕ) × (j < length (s ∷ ss)) × (frame_at (s ∷ ss) j ≡ n) ×
-    (holds_header (kind w.page) (packets_of_frame (s ∷ ss) j) ≡ true) =
-    λ d. (let r = sent_any w ss n d in (suc r.0, omega (arith, r.1), r.2, r.3)) in
-    go (nat_le n s.frame && nat_lt s.frame (n + 1)) refl e later
-  where
-    go : (b : Bool) → (nat_le n s.frame && nat_lt s.frame (n + 1)) ≡ b
-        → list_any (λ x. is_this_page (kind w.page x)) (cond b s.packets [] ++ packets_of ss n) ≡
-        true
-        → (holds_header (kind w.page) (packets_of ss n) ≡ true
-        → (j : ℕ) × (j < length (s ∷ ss)) × (frame_at (s ∷ ss) j ≡ n) ×
-        (holds_header (kind w.page) (packets_of_frame (s ∷ ss) j) ≡ true))
-        → (j : ℕ) × (j < length (s ∷ ss)) × (frame_at (s ∷ ss) j ≡ n) ×
-        (holds_header (kind w.page) (packets_of_frame (s ∷ ss) j) ≡ true)
-    go true p d later =
-        elim (any-split (λ x. is_this_page (kind w.page x)) s.packets (packets_of ss n) d) [
-          | inl here ↦
-              let parts = and_parts (nat_le n s.frame) (nat_lt s.frame (n + 1)) p in
-              let low = leb-true n s.frame parts.0 in
-              let high = ltb-true s.frame (n + 1) parts.1 in
-              (0, omega arith, omega arith, here)
-          | inr there ↦ later there
-        ]
-    go false p d later = later d
+    let later = sent_any w ss n in
+    elim (any-split (λ x. is_this_page (kind w.page x))
+    (cond (nat_le n s.frame && nat_lt s.frame (n + 1)) s.packets []) (packets_of ss n) e) [
+      | inl here ↦
+          let both : (s.frame ≡ n) × (holds_header (kind w.page) s.packets ≡ true) =
+          grind (arith, nat_tests) in
+          (0, omega arith, both.0, both.1)
+      | inr there ↦ let r = later there in (suc r.0, omega (arith, r.1), r.2, r.3)
+    ]
 
 -- The same of the value of an option, the other way round.
 some_if : (o : Option ℕ) (P : ℕ → Type 0) → IfSome o P → (x : ℕ) → o ≡ Some x → P x

@@ -1,4 +1,5 @@
 -- What is kept of the packets, one packet on.
+use Rattle.std.proofs.lemmas.Bool.{cases_Bool}
 use Rattle.std.proofs.Common.{eqb, ◌≡◌, ◌≢◌, ℕ, ◌-◌, ◌≤◌, ◌⊎◌, inl, inr, Bool, true, false, not}
 use Rattle.std.proofs.Common.{◌&&◌, ◌||◌, List, [], ◌∷◌, ◌++◌, Option, Some, None, option_map}
 use Rattle.std.proofs.Common.{length, get_or, set, replicate, refl, sym, ap, ◌∙◌, subst, arith}
@@ -200,15 +201,14 @@ pub HoldsRows-passes : (w : Watched) (heard : List (List ℕ)) (p : List ℕ) (s
     (page : List (List ℕ)) → kind w.page p ≡ Other
     → HoldsRows w (span (kind w.page) heard) sent page
     → HoldsRows w (span (kind w.page) (heard ++ p ∷ [])) sent page
-HoldsRows-passes w heard p sent page k h = go (is_open_after (kind w.page) heard) refl
-  where
-    go : (b : Bool) → is_open_after (kind w.page) heard ≡ b
-        → HoldsRows w (span (kind w.page) (heard ++ p ∷ [])) sent page
-    go true e =
-        subst (λ rows. HoldsRows w rows sent page)
-        (sym (span_open w heard p (ap is_this_page k) (ap ends_page k) e))
-        (HoldsRows-other w (span (kind w.page) heard) sent page p h
-        (λ y f. let s : Other ≡ Row y = sym k ∙ f in cc))
-    go false e =
-        subst (λ rows. HoldsRows w rows sent page)
-        (sym (span_shut w heard p (ap is_this_page k) e)) h
+HoldsRows-passes w heard p sent page k h =
+    elim (cases_Bool (is_open_after (kind w.page) heard)) [
+      | inl e ↦
+          subst (λ rows. HoldsRows w rows sent page)
+          (sym (span_open w heard p (ap is_this_page k) (ap ends_page k) e))
+          (HoldsRows-other w (span (kind w.page) heard) sent page p h
+          (λ y f. let s : Other ≡ Row y = sym k ∙ f in cc))
+      | inr e ↦
+          subst (λ rows. HoldsRows w rows sent page)
+          (sym (span_shut w heard p (ap is_this_page k) e)) h
+    ]

@@ -1,11 +1,10 @@
 -- The flaws of a packet that comes after others, by what is kept of them.
 use Rattle.std.proofs.Common.{◌≡◌, ℕ, ◌<◌, ◌≤◌, ◌-◌, Bool, true, false, ◌==◌, nat_le, List}
-use Rattle.std.proofs.Common.{[], Option, Some, None, option_map, IsTrue, get_or, refl, sym, ap}
+use Rattle.std.proofs.Common.{[], Option, Some, option_map, IsTrue, get_or, refl, sym, ap}
 use Rattle.std.proofs.Common.{◌∙◌, arith, ne_eqb}
 use Rattle.std.specs.List.{AllByRecursion}
 use Rattle.std.proofs.lemmas.Bool.{and_right, lt-leb, true≢false}
 use Rattle.std.proofs.lemmas.Bool.Decides.{nat_tests}
-use Rattle.std.proofs.lemmas.Option.{none-some, same_Some}
 use Rattle.ttx_packet.specs.PacketAddress.{HasExactAddress, IsPacket, address, PacketAddress}
 use Rattle.ttx_packet.specs.RowPacket.{HasOddText}
 use Rattle.ttx_packet.specs.PageHeader.{header, c11}
@@ -158,13 +157,7 @@ pub mode_broken : (serial : Option Bool) (read : Option Header) (w : Watched)
     → serial ≡ option_map (λ (h : Header). (c11 h)) (first_header before)
     → KeepsRule rule.Mode w before p → (h : Header) (first : Bool) → read ≡ Some h
     → serial ≡ Some first → (c11 h) ≡ first
-mode_broken serial read w before p same is free k first e f =
-    go (first_header before) refl (sym is ∙ f)
-  where
-    go : (o : Option Header) → first_header before ≡ o
-        → option_map (λ (x : Header). (c11 x)) o ≡ Some first → (c11 k) ≡ first
-    go None q g = absurd (none-some first g)
-    go (Some z) q g = free k z (sym same ∙ e) q ∙ same_Some _ _ g
+mode_broken serial read w before p same is free k first e f = grind (arith, free)
 
 -- A packet with a page header is X/0.
 pub header_is_zero : (p : List ℕ) (h : Header) → header p ≡ Some h

@@ -87,16 +87,7 @@ no_frame_found :
     → ((frame : ℕ) → frame < day → pts_of origin frame ≢ pts)
     → frame_of_pts origin pts ≡ None
 no_frame_found origin pts none =
-    go (frame_of_pts origin pts)
-    (found_below origin pts day (frame_of_pts origin pts) refl)
-  where
-    go :
-        (r : Option ℕ)
-        → MatchOption r ((f : ℕ) → f < day → pts_of origin f ≢ pts)
-        (λ f. (f < day) × (pts_of origin f ≡ pts))
-        → r ≡ None
-    go None none = refl
-    go (Some f) (l, is) = absurd (none f l is)
+    let all = found_below origin pts day (frame_of_pts origin pts) refl in grind arith
 
 -- ---- the value of a file, one PES packet on
 

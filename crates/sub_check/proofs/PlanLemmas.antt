@@ -34,7 +34,7 @@ use Rattle.sub_plan.proofs.SendingLemmas.{shown_after}
 use Rattle.sub_plan.proofs.ProgrammeLemmas.{none_in, plan_frames-is, span-rises, some_out}
 use Rattle.sub_plan.proofs.ProgrammeLemmas.{law_of_day}
 use Rattle.sub_check.specs.Transmission.{SentFrame, Transmission, EachPacket, IsRising, first_frame}
-use Rattle.sub_check.specs.Transmission.{last_frame, packets_between, packets_of, on_air}
+use Rattle.sub_check.specs.Transmission.{last_frame, packets_between, packets_of, on_air_until}
 use Rattle.sub_check.specs.Good.{Good, IsCleanSpan, IsControlled, IsEnhancement, IsSubtitleHeader}
 use Rattle.sub_check.specs.OnScreen.{Complete, LawOfCompletePlan}
 use Rattle.sub_check.specs.Planned.{LawOfPlan, planned, planned_at, LawOfPlanRead}
@@ -200,11 +200,17 @@ module _
   holds_at g h low high = ap (holds_header (kind w)) (sent_in_is g h low high)
       ∙ sending_holds w programme.national serial (due g) ok.page (shape g)
 
+  -- What is on air up to a frame is what stands from the first TCI on.
+  until : (f : ℕ) → on_air_until T f ≡ packets_between T first (f + 1)
+  until f = ap (λ start. packets_between T start (f + 1)) first_is
+
   -- So far: something, and then the sending of the page that is due.
-  so_far : (f : ℕ) → first ≤ f → f ≤ last → (before : List (List ℕ)) × (page : Rows)
-      × (page ≡ due f) × IsPage page
-      × (on_air T first 0 f ≡ before ++ sending w programme.national serial page)
-  so_far f low high =
+  so_far : (f : ℕ) → first_frame T ≤ f → f ≤ last_frame T → (before : List (List ℕ))
+      × (page : Rows) × (page ≡ due f) × IsPage page
+      × (on_air_until T f ≡ before ++ sending w programme.national serial page)
+  so_far f from to =
+      let low : first ≤ f = omega (arith, first_is, from) in
+      let high : f ≤ last = omega (arith, last_is, to) in
       let found = last_sending due o.every first last f ok.least low in
       let g : ℕ = found.0 in
       let is : IsLastSending due o.every first last f g = found.1 in
@@ -225,13 +231,12 @@ module _
         due g,
         is.same,
         shape g,
-        split_g
-            ∙ ap (λ ps. packets_between T first g ++ ps) here,
+        until f ∙ split_g ∙ ap (λ ps. packets_between T first g ++ ps) here,
       )
 
   -- So what is shown is what is due.
-  content : (f row column : ℕ) → first ≤ f → f ≤ last → IsCell row column
-      → shown w (on_air T first 0 f) row column ≡ cell (due f) row column
+  content : (f row column : ℕ) → first_frame T ≤ f → f ≤ last_frame T → IsCell row column
+      → shown w (on_air_until T f) row column ≡ cell (due f) row column
   content f row column low high named =
       let (before, page, same, good, is) = so_far f low high in
       ap (λ ps. shown w ps row column) is
@@ -239,12 +244,12 @@ module _
       ∙ ap (λ q. cell q row column) same
 
   -- Cut anywhere, the span is clean.
-  spans : (f n : ℕ) → IsCleanSpan w (span (kind w) (take n (on_air T first 0 f)))
+  spans : (f n : ℕ) → IsCleanSpan w (span (kind w) (take n (on_air_until T f)))
   spans f n =
       let some_of = sent_some mk num p first (f + 1)
       (filter p (range_with_len first (last + 1 - first))) in
-      let is : on_air T first 0 f ≡ flat_map (λ g. (mk g).packets) some_of.0 =
-      ap (λ frames. packets_between frames first (f + 1)) plan_is ∙ some_of.1 in
+      let is : on_air_until T f ≡ flat_map (λ g. (mk g).packets) some_of.0 =
+      until f ∙ ap (λ frames. packets_between frames first (f + 1)) plan_is ∙ some_of.1 in
       subst (λ ps. IsCleanSpan w (span (kind w) (take n ps))) (sym is)
       (clean_rows w ok.page _
       (law_of_cut_sendings w programme.national serial due some_of.0 n ok.page shape))
@@ -269,9 +274,7 @@ module _
         control = each_sent (IsControlled programme.national w)
             (λ packet is h e. subst (IsSubtitleHeader programme.national) (sym (is.page_header h e))
             (subtitle_header w programme.national serial));
-        spans = λ f n l. subst
-            (λ start. IsCleanSpan w (span (kind w) (take n (on_air T start 0 f)))) (sym first_is)
-            (spans f n);
+        spans = λ f n l. spans f n;
         opens = subst (λ g. IsTrue (holds_header (kind w) (packets_of T g))) (sym first_is)
             (holds_at first first_sends (omega arith) order);
         repeats = λ start low high.
@@ -283,20 +286,15 @@ module _
               holds_at found.0 found.3
                   (omega (arith, found.1, first_is, low)) (omega (arith, found.2, last_is, high)),
             );
-        content = λ f row column low high named.
-            subst (λ start. shown w (on_air T start 0 f) row column ≡ cell (due f) row column)
-            (sym first_is) (content f row column (omega (arith, first_is, low))
-            (omega (arith, last_is, high)) named);
+        content = content;
       }
 
   -- At each frame's end the page is ended.
   complete : Complete T o
   complete f low high holds =
-      let (before, page, same, shaped, is) =
-      so_far f (omega (arith, first_is, low)) (omega (arith, last_is, high)) in
-      subst (λ start. is_unended (kind w) (on_air T start 0 f) ≡ false) (sym first_is)
-      (ap (is_unended (kind w)) is
-      ∙ ended_after w programme.national serial page ok.page shaped before)
+      let (before, page, same, shaped, is) = so_far f low high in
+      ap (is_unended (kind w)) is
+      ∙ ended_after w programme.national serial page ok.page shaped before
 
 -- By cases of the first TCI and the last TCO: with a subtitle there are both.
 plan_between : (programme : ProgrammeValue) (o : OptionsValue) (serial : Bool) (a b : Option ℕ)

@@ -140,23 +140,7 @@ subtitles_decided :
     → Decides (is_subtitles national h) (IsSubtitleHeader national h)
 subtitles_decided national h =
     Decides-like (is_subtitles national h)
-    (λ a. record {
-      erases = a.0;
-      no_newsflash = a.1.0;
-      subtitle = a.1.1.0;
-      suppressed = a.1.1.1.0;
-      displayed = a.1.1.1.1.0;
-      option_1 = a.1.1.1.1.1.0;
-      option_2 = a.1.1.1.1.1.1.0;
-      option_3 = a.1.1.1.1.1.1.1;
-    })
-    (λ r. (
-      r.erases,
-      (
-        r.no_newsflash,
-        (r.subtitle, (r.suppressed, (r.displayed, (r.option_1, (r.option_2, r.option_3))))),
-      ),
-    ))
+    (λ a. assumption) (λ r. assumption)
     (Decides-and _ _ (holds (c4 h))
     (Decides-and _ _ (fails (c5 h))
     (Decides-and _ _ (holds (c6 h))
@@ -409,14 +393,7 @@ pub rule_decided :
     → Decides (passes rule programme frames o) (IsKept rule programme frames o)
 rule_decided Frames programme frames o =
     Decides-like (are_frames programme frames)
-    (λ a. record {
-      not_empty = a.0;
-      rising = a.1.0;
-      whole = a.1.1.0;
-      starts = a.1.1.1.0;
-      lasts = a.1.1.1.1;
-    })
-    (λ r. (r.not_empty, (r.rising, (r.whole, (r.starts, r.lasts)))))
+    (λ a. assumption) (λ r. assumption)
     (Decides-and _ _ (Decides-ltb 0 (length frames))
     (Decides-and _ _ (rising_decided frames)
     (Decides-and _ _

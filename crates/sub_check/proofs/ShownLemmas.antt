@@ -1,4 +1,5 @@
 -- What the page shows, and how long ago a header was.
+use Rattle.std.proofs.lemmas.Bool.{cases_Bool}
 use borrow.Author.Count.{below_more}
 use Rattle.std.proofs.Common.{Option, Some, None, ◌≡◌, ◌≢◌, ℕ, ◌+◌, ◌-◌, ◌<◌, ◌≤◌, inl, inr, Bool}
 use Rattle.std.proofs.Common.{true, false, List, [], ◌∷◌, ◌++◌, find, option_map, unwrap_or, length}
@@ -40,36 +41,28 @@ pub shown_is : (w : Watched) (packets : List (List ℕ)) (sent : List Bool) (pag
     (option_map (λ p. code_of (text_byte p column))
     (find (λ p. is_row row (kind w.page p)) packets)) space
 shown_is w packets sent page h row column is =
-    go (list_any (λ p. is_row row (kind w.page p)) packets) refl
-  where
-    low : 1 ≤ row
-    low = is.0
-
-    high : row ≤ 24
-    high = is.1
-
-    go : (b : Bool) → list_any (λ p. is_row row (kind w.page p)) packets ≡ b
-        → cell page row column ≡ unwrap_or
-        (option_map (λ p. code_of (text_byte p column))
-        (find (λ p. is_row row (kind w.page p)) packets)) space
-    go true e =
-        let q = Each-find (λ p. is_row row (kind w.page p))
-        (λ p. (kind w.page p ≡ Row row → IsPacket p) ×
-        (kind w.page p ≡ Row row → codes_of p ≡ get_or page (row - 1) [])) packets e
-        (Each-join (IsSoundRow w)
-        (λ p. kind w.page p ≡ Row row → codes_of p ≡ get_or page (row - 1) [])
-        (λ p. (kind w.page p ≡ Row row → IsPacket p) ×
-        (kind w.page p ≡ Row row → codes_of p ≡ get_or page (row - 1) []))
-        (λ p s c. (s.whole row, c)) packets h.sound (h.same row low high)) in
-        let k = row_from_test row (kind w.page q.0) q.2 in
-        let size = (q.3.0 k).size in
-        ap (λ r. get_or r column 0) (sym (q.3.1 k)) ∙ code_at q.0 column size is.2
-        ∙ sym (ap (λ o. unwrap_or (option_map (λ p. code_of (text_byte p column)) o) space) q.1)
-    go false e =
-        ap (λ r. get_or r column 0) (h.blank row low high (h.marks row low high ∙ e))
-        ∙ get_or-replicate 40 column space 0 is.2
-        ∙ sym (ap (λ o. unwrap_or (option_map (λ p. code_of (text_byte p column)) o) space)
-        (find_none (λ p. is_row row (kind w.page p)) packets e))
+    let test : List ℕ → Bool = λ p. is_row row (kind w.page p) in
+    let code : Option (List ℕ) → ℕ =
+    λ o. unwrap_or (option_map (λ p. code_of (text_byte p column)) o) space in
+    elim (cases_Bool (list_any test packets)) [
+      | inl e ↦
+          let q = Each-find test
+          (λ p. (kind w.page p ≡ Row row → IsPacket p) ×
+          (kind w.page p ≡ Row row → codes_of p ≡ get_or page (row - 1) [])) packets e
+          (Each-join (IsSoundRow w)
+          (λ p. kind w.page p ≡ Row row → codes_of p ≡ get_or page (row - 1) [])
+          (λ p. (kind w.page p ≡ Row row → IsPacket p) ×
+          (kind w.page p ≡ Row row → codes_of p ≡ get_or page (row - 1) []))
+          (λ p s c. (s.whole row, c)) packets h.sound (h.same row is.0 is.1)) in
+          let k = row_from_test row (kind w.page q.0) q.2 in
+          ap (λ r. get_or r column 0) (sym (q.3.1 k))
+          ∙ code_at q.0 column (q.3.0 k).size is.2
+          ∙ sym (ap code q.1)
+      | inr e ↦
+          ap (λ r. get_or r column 0) (h.blank row is.0 is.1 (h.marks row is.0 is.1 ∙ e))
+          ∙ get_or-replicate 40 column space 0 is.2
+          ∙ sym (ap code (find_none test packets e))
+    ]
 
 -- What is known of the packets stays where another page is due.
 pub KnowsLast-drawn :

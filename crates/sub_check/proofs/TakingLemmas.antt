@@ -1,12 +1,13 @@
 -- What is kept, one frame of the list on, and what is told at its end: `Remembers-moved`,
 -- `names_packet`, `names_missing`, `took`, `names_cell`, `names_gap`, `names_open`, `follows`; and
 -- at the frames of the day before it: `gap_names_cell`, `gap_names_gap`, `gap_cells`, `gap_covered`.
+use Rattle.std.proofs.lemmas.Bool.Decides.{nat_tests}
 use borrow.Author.Count.{below_more}
 use Rattle.std.proofs.Common.{◌≡◌, ℕ, zero, suc, ◌+◌, ◌-◌, ◌<◌, ◌≤◌, nat_lt, inl, inr, Bool, true}
 use Rattle.std.proofs.Common.{false, ◌&&◌, cond, List, [], ◌++◌, length, refl, sym, MatchResult}
 use Rattle.std.proofs.Common.{Option, Some, Result, Ok, Err, ap, ap₂, ◌∙◌, subst, arith}
 use Rattle.std.specs.Prelude.{OnOk}
-use Rattle.std.proofs.lemmas.Bool.{cases_lt, lt-ltb, true≢false}
+use Rattle.std.proofs.lemmas.Bool.{cases_lt, true≢false}
 use Rattle.stl_rows.specs.Programme.{ProgrammeValue}
 use Rattle.stl_rows.specs.declared.national.National.{National}
 use Rattle.ttx_packet.specs.PageId.{PageIdValue}
@@ -284,11 +285,7 @@ module _ (g : Task) (frames : Transmission) (n : ℕ) (b : CheckerValue) (ps : L
                 below_more (λ j. frame_at frames j ≤ b.frame) n known.rising (omega (arith, here))
 
             without : found ≡ false → 0 < b.headers
-            without e =
-                elim (cases_lt 0 headers) [
-                  | inl l ↦ absurd (true≢false (sym (lt-ltb 0 headers l) ∙ sym found_is ∙ e))
-                  | inr l ↦ omega (arith, more, total_is)
-                ]
+            without e = grind (arith, nat_tests, more)
 
 -- ---- the end of a frame
 
