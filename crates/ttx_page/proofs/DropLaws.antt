@@ -1,7 +1,7 @@
 -- The laws of receivers that drop rows: `law_of_dropping`, and from the law of lost rows
 -- `law_of_dropped_rows`.
-use Rattle.std.proofs.Common.{◌≡◌, ℕ, ◌<◌, Bool, true, false, not, ◌&&◌, ◌==◌, nat_le, cond}
-use Rattle.std.proofs.Common.{List, [], ◌∷◌, ◌++◌, map, zip, Option, Some, None, is_some, All, Any}
+use Rattle.std.proofs.Common.{◌≡◌, ℕ, ◌<◌, Bool, true, false, not, ◌&&◌, ◌==◌, nat_le, cond, List}
+use Rattle.std.proofs.Common.{[], ◌∷◌, ◌++◌, map, zip, Option, Some, None, is_some, All, Any}
 use Rattle.std.proofs.Common.{MatchBool, inl, inr, refl, sym, ap, ◌∙◌, subst, true≢false, eq-eqb}
 use Rattle.std.specs.List.{AllByRecursion, AllZip}
 use Rattle.std.proofs.lemmas.Bool.{MatchBool-at_false, MatchBool-at_true, and_parts, cases_Bool}
@@ -26,8 +26,7 @@ use Rattle.ttx_page.specs.Recovery.{LawOfDroppingRecovery}
 use Rattle.ttx_page.proofs.SpanLists.{Any-map, AllByRecursion-map, span-map}
 use Rattle.ttx_page.proofs.NoiseSteps.{Item, kind_of_item, Fair-from_arrives}
 use Rattle.ttx_page.proofs.NoiseRuns.{HitAt}
-use Rattle.ttx_page.proofs.NoiseLaws.{sent_of, span-items, law_of_lost_rows}
-use Rattle.ttx_page.proofs.NoiseLaws.{law_of_recovery}
+use Rattle.ttx_page.proofs.NoiseLaws.{sent_of, span-items, law_of_lost_rows, law_of_recovery}
 
 -- ---- a run that drops rows is one without them
 

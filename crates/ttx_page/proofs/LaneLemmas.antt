@@ -1,21 +1,18 @@
 -- Rows compared in blocks: mask_compared, blocks_same, first_of_blocks; and how many cells of a
 -- block differ: ones_compared, columns_in_chunk.
 use Rattle.std.proofs.lemmas.List.{map-id}
-use Rattle.std.proofs.Common.{◌≡◌, ◌≢◌, ℕ, ◌+◌, ◌<◌, ◌≤◌, ◌^◌, ◌%◌, Bool, true, false, not}
-use Rattle.std.proofs.Common.{List, map, length, get_or, refl, sym, ap, ap₂, ◌∙◌, arith}
-use Rattle.std.proofs.Common.{subst, cond, nat_eq, ◌-◌, w8, w16, eqb-true, eq-eqb, take_all, inl}
-use Rattle.std.proofs.Common.{inr}
-use Rattle.std.proofs.Common.{zero, suc, take}
+use Rattle.std.proofs.Common.{◌≡◌, ◌≢◌, ℕ, ◌+◌, ◌<◌, ◌≤◌, ◌^◌, ◌%◌, Bool, true, false, not, List}
+use Rattle.std.proofs.Common.{map, length, get_or, refl, sym, ap, ap₂, ◌∙◌, arith, subst, cond}
+use Rattle.std.proofs.Common.{nat_eq, ◌-◌, w8, w16, eqb-true, eq-eqb, take_all, inl, inr, zero, suc}
+use Rattle.std.proofs.Common.{take, [], ◌*◌, ◌/◌}
 use Rattle.std.proofs.lemmas.Bool.{cases_eq, eqb-false, ne_eqb, not-false, not-true}
 use Rattle.std.specs.Simd.{first_chunks}
 use Rattle.ttx_packet.proofs.BlockLemmas.{block_at}
-use Rattle.std.proofs.Common.{[], ◌*◌, ◌/◌}
 use Rattle.std.proofs.lemmas.List.Sums.{count_by_more_no, count_by_more_yes}
 use Rattle.std.proofs.lemmas.Nat.Bits.{bit_at-trailing_zeros}
-use Rattle.std.proofs.lemmas.Simd.{length-zip2, get_or-zip2, length-chunk, get_or-chunk}
-use Rattle.std.proofs.lemmas.Simd.{mask_l-lt, mask_l-mod, tops_compared, trailing_mask_l}
-use Rattle.std.proofs.lemmas.Simd.{ones-mask_l, none_from_empty_mask, run_in_chunk_stops}
-use Rattle.std.proofs.lemmas.Simd.{run_in_chunk_fails}
+use Rattle.std.proofs.lemmas.Simd.{length-zip2, get_or-zip2, length-chunk, get_or-chunk, mask_l-lt}
+use Rattle.std.proofs.lemmas.Simd.{mask_l-mod, tops_compared, trailing_mask_l, ones-mask_l}
+use Rattle.std.proofs.lemmas.Simd.{none_from_empty_mask, run_in_chunk_stops, run_in_chunk_fails}
 use Rattle.std.specs.List.{prefix_len, count_by}
 use Rattle.std.specs.Int.RustNames.{count_ones}
 use lib.Count.{count_trailing_zeros}

@@ -28,8 +28,7 @@ use Rattle.ttx_page.proofs.SpanLists.{none_pass, AllByRecursion-map, list_any-ma
 use Rattle.ttx_page.proofs.SpanLists.{span-map}
 use Rattle.ttx_page.proofs.NoiseSteps.{Item, kind_of_item, Fair-from_arrives, row_from_test}
 use Rattle.ttx_page.proofs.NoiseRuns.{GoesOn, AllFair, holds_end, Targets, HitAt, no_row}
-use Rattle.ttx_page.proofs.NoiseRuns.{flags_over}
-use Rattle.ttx_page.proofs.NoiseRuns.{ends_by_last_header}
+use Rattle.ttx_page.proofs.NoiseRuns.{flags_over, ends_by_last_header}
 
 -- ---- the items of what is sent and what is got
 

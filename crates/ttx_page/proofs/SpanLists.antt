@@ -1,8 +1,7 @@
 -- Lists, searches, and the span of a mapped list: `span-map`.
 use Rattle.std.proofs.Common.{◌≡◌, zero, suc, ◌<◌, ◌⊎◌, inl, inr, Bool, true, false, ◌||◌, cond}
 use Rattle.std.proofs.Common.{List, [], ◌∷◌, length, Some, None, map, find, Any, Contains, refl}
-use Rattle.std.proofs.Common.{sym, ap, ◌∙◌, subst, arith, ◌++◌}
-use Rattle.std.proofs.Common.{get_or, slice_get}
+use Rattle.std.proofs.Common.{sym, ap, ◌∙◌, subst, arith, ◌++◌, get_or, slice_get}
 use Rattle.std.specs.List.{list_any, position_or_len, AllByRecursion}
 use Rattle.std.proofs.lemmas.Option.{get_or_from_slice_get, slice_get_within}
 use Rattle.std.proofs.lemmas.List.Folds.{find_at, list_any-append}

@@ -10,8 +10,7 @@ use Rattle.ttx_page.proofs.SpanLists.{after-none}
 use Rattle.ttx_page.specs.declared.packet_kind.PacketKind.{PacketKind}
 use Rattle.ttx_page.specs.PacketKind.{is_this_page, ends_page}
 use Rattle.ttx_page.specs.Span.{holds_header, after_last_header, before_end, is_open_after}
-use Rattle.ttx_page.specs.Span.{is_unended}
-use Rattle.ttx_page.specs.Span.{span}
+use Rattle.ttx_page.specs.Span.{is_unended, span}
 
 -- The cases of `after-push`.
 after_pieces :
