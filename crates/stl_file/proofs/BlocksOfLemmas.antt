@@ -3,6 +3,7 @@
 use Rattle.std.proofs.Common.{◌≡◌, ◌*◌, ℕ, List, [], ◌∷◌, ◌++◌, length, refl, sym, ap, ◌∙◌}
 use Rattle.std.proofs.Common.{append_assoc, arith, length-append, take, drop, zero, suc, ◌+◌, ◌-◌}
 use Rattle.std.proofs.Common.{◌<◌, ◌≤◌, replicate, length-take}
+use Rattle.std.proofs.lemmas.Grind.{flat_map-append}
 use Rattle.std.specs.List.{flat_map}
 use Rattle.std.proofs.lemmas.List.{append-nil, take-append-drop, length-replicate, length-drop}
 use Rattle.std.proofs.lemmas.List.{drop-replicate}
@@ -248,9 +249,7 @@ blocks_again s g h =
 -- the blocks of two lists of subtitles
 pub all_append : (ss ts : List SubtitleValue)
     → all_blocks (ss ++ ts) ≡ all_blocks ss ++ all_blocks ts
-all_append [] ts = refl
-all_append (s ∷ ss) ts = ap (λ (x : List (List ℕ)). blocks_of s ++ x) (all_append ss ts)
-    ∙ sym (append_assoc (blocks_of s) (all_blocks ss) (all_blocks ts))
+all_append ss ts = flat_map-append blocks_of ss ts
 
 -- the blocks with those of one subtitle more
 pub all_push : (ss : List SubtitleValue) (s : SubtitleValue)

@@ -2,7 +2,7 @@
 -- pass_turn, pass_ends, counted_end, all_prefix.
 use Rattle.std.proofs.Common.{◌≡◌, ℕ, Bool, true, false, cond, List, [], ◌∷◌, ◌++◌, length, refl}
 use Rattle.std.proofs.Common.{sym, ap, ◌∙◌, append_assoc, arith, length-append, Option, Some, None}
-use Rattle.std.proofs.Common.{Result, Ok, Err, subst, ◌+◌, ◌-◌, ◌<◌, ◌≤◌, is_ok}
+use Rattle.std.proofs.Common.{Result, Ok, Err, subst, ◌+◌, ◌≤◌, is_ok}
 use Rattle.std.specs.Prelude.{filter}
 use Rattle.std.specs.Io.KnownBytes.{Appends}
 use Rattle.std.proofs.lemmas.List.{append-nil}
@@ -35,20 +35,11 @@ abbrev pub prepend : List SubtitleValue → Judged → Judged
 prepend ts (Ok ss) = Ok (ts ++ ss)
 prepend ts (Err f) = Err f
 
--- all subtitles, without a fault
-abbrev fine : List SubtitleValue → Judged
-fine x = Ok x
-
 -- one subtitle goes from those that are left to those so far
 prepend_cons : (ts : List SubtitleValue) (s : SubtitleValue) (j : Judged)
     → prepend ts (cons_all s j) ≡ prepend (ts ++ s ∷ []) j
-prepend_cons ts s (Ok ss) =
-    ap (λ (x : List SubtitleValue). fine x) (sym (append_assoc ts (s ∷ []) ss))
+prepend_cons ts s (Ok ss) = rw append_assoc refl
 prepend_cons ts s (Err f) = refl
-
--- all subtitles, without a fault
-abbrev judged : List SubtitleValue → Judged
-judged x = Ok x
 
 -- a subtitle that was given is one of all
 stands : (body : List ℕ) (done : List SubtitleValue) (s : SubtitleValue) (j : Judged)
@@ -104,6 +95,15 @@ left_is : (p r : ReaderValue) (rest next : List ℕ) (a : Answer)
 left_is p r rest next a h =
     h.outcome ∙ ap (λ (x : List ℕ). outcome_with r x a) (sym (same_Some next h.rest h.rest_is))
 
+-- what a subtitle that was read says of the pass
+pub record Turn (body next : List ℕ) (p r : ReaderValue) (done : List SubtitleValue)
+    (s : SubtitleValue) : Type 0 where
+  pub on : Passes body r next (done ++ s ∷ [])
+  pub block_room : length (all_blocks done) + length (blocks_of s) ≤ most_blocks
+  pub room : length done + 1 ≤ most_blocks
+  pub stands : is_ok (subtitles_of (outcome_from 0 body)) ≡ true
+      → (ss : List SubtitleValue) × (given (subtitles_of (outcome_from 0 body)) ≡ done ++ s ∷ ss)
+
 module _ (body rest next : List ℕ) (p r : ReaderValue) (done : List SubtitleValue)
     (h : Passes body p rest done) where
   -- all subtitles, by the answer
@@ -112,59 +112,41 @@ module _ (body rest next : List ℕ) (p r : ReaderValue) (done : List SubtitleVa
       → subtitles_of (outcome_from 0 body) ≡ prepend done (subtitles_of (outcome_with r next a))
   goes a x = h.all ∙ ap (λ (o : Outcome). prepend done (subtitles_of o)) (left_is p r rest next a x)
 
-  module _ (s : SubtitleValue) (old new : Option (List ℕ))
-      (x : Answers p rest r (Some next) (Ok (Some s)))
-      (takes : TakesSubtitle p.block r.block old new s) where
-    -- the pass after a subtitle
-    pub pass_on : r.progress ≡ p.progress
-        → HasPlace r.progress r.block
-        → Passes body r next (done ++ s ∷ [])
-    pass_on on place =
-        let t = took p.block r.block old new s takes in
-        let less = t.less in
-        let some = t.some in
-        let b = h.blocks in
-        let c = h.subtitles in
-        let reading : r.progress ≡ Reading = on ∙ h.reading in
-        record {
-          all = goes (Ok (Some s)) x ∙ prepend_cons done s (subtitles_of (outcome_left r next));
+  -- the pass after a subtitle: it goes on, the counts fit, and the subtitle stands in the list
+  pass_on : (s : SubtitleValue) (old new : Option (List ℕ))
+      → Answers p rest r (Some next) (Ok (Some s))
+      → TakesSubtitle p.block r.block old new s
+      → r.progress ≡ p.progress
+      → HasPlace r.progress r.block
+      → Turn body next p r done s
+  pass_on s old new x takes on place =
+      let t = took p.block r.block old new s takes in
+      let less = t.less in
+      let some = t.some in
+      let b = h.blocks in
+      let c = h.subtitles in
+      let reading : r.progress ≡ Reading = on ∙ h.reading in
+      let few : r.block ≤ most_blocks =
+      subst (λ (q : Progress). HasPlace q r.block) reading place in
+      let all = goes (Ok (Some s)) x in
+      record {
+        on = record {
+          all = all ∙ prepend_cons done s (subtitles_of (outcome_left r next));
           reading = reading;
-          few = subst (λ (q : Progress). HasPlace q r.block) reading place;
+          few = few;
           blocks = let l = ap length (all_push done s) in let m =
               length-append (all_blocks done) (blocks_of s) in omega arith;
           subtitles = let m = length-append done (s ∷ []) in omega arith;
-        }
-
-    -- the measure falls
-    pub pass_less : r.block ≤ most_blocks → most_blocks - r.block < most_blocks - p.block
-    pass_less le =
-        let t = took p.block r.block old new s takes in
-        let less = t.less in
-        let some = t.some in
-        omega arith
-
-    -- the counts fit
-    pub pass_room : r.block ≤ most_blocks
-        → (length (all_blocks done) + length (blocks_of s) ≤ most_blocks)
-        × (length done + 1 ≤ most_blocks)
-    pass_room le =
-        let t = took p.block r.block old new s takes in
-        let less = t.less in
-        let some = t.some in
-        let b = h.blocks in
-        let c = h.subtitles in
-        (omega arith, omega arith)
-
-    -- the subtitle that is given stands in the list
-    pub pass_stands : is_ok (subtitles_of (outcome_from 0 body)) ≡ true
-        → (ss : List SubtitleValue) × (given (subtitles_of (outcome_from 0 body)) ≡ done ++ s ∷ ss)
-    pass_stands ok = stands body done s (subtitles_of (outcome_left r next)) ok
-        (goes (Ok (Some s)) x)
+        };
+        block_room = omega arith;
+        room = omega arith;
+        stands = λ ok. stands body done s (subtitles_of (outcome_left r next)) ok all;
+      }
 
   -- the pass at its end
   pub pass_end : Answers p rest r (Some next) (Ok None)
       → subtitles_of (outcome_from 0 body) ≡ Ok done
-  pass_end x = goes (Ok None) x ∙ ap (λ (y : List SubtitleValue). judged y) (append-nil done)
+  pass_end x = rw append-nil at (goes (Ok None) x)
 
   -- the pass at a fault
   pub pass_refused : (f : StlFault)
@@ -193,26 +175,18 @@ pub all_prefix : (done ss all : List SubtitleValue) (s : SubtitleValue) (u v w :
 all_prefix done ss all s u v w e x y =
     let parts : joined (all_blocks all) ≡ joined (all_blocks done)
     ++ (joined (blocks_of s) ++ joined (all_blocks ss)) =
-    ap (λ (t : List SubtitleValue). joined (all_blocks t)) e
-    ∙ ap joined (all_append done (s ∷ ss))
-    ∙ joined_append (all_blocks done) (blocks_of s ++ all_blocks ss)
-    ∙ ap (λ (t : List ℕ). joined (all_blocks done) ++ t)
-    (joined_append (blocks_of s) (all_blocks ss)) in
+    rw (
+      e,
+      all_append done (s ∷ ss),
+      joined_append (all_blocks done) (blocks_of s ++ all_blocks ss),
+      joined_append (blocks_of s) (all_blocks ss),
+    ) refl in
     subst (AppendsPrefix u w) (sym parts)
     (AppendsPrefix-second u v w (joined (all_blocks done))
     (joined (blocks_of s) ++ joined (all_blocks ss)) x
     (AppendsPrefix-first v w (joined (blocks_of s)) (joined (all_blocks ss)) y))
 
 -- ---- one turn of a pass
-
--- what a subtitle that was read says of the pass
-pub record Turn (body next : List ℕ) (p r : ReaderValue) (done : List SubtitleValue)
-    (s : SubtitleValue) : Type 0 where
-  pub on : Passes body r next (done ++ s ∷ [])
-  pub block_room : length (all_blocks done) + length (blocks_of s) ≤ most_blocks
-  pub room : length done + 1 ≤ most_blocks
-  pub stands : is_ok (subtitles_of (outcome_from 0 body)) ≡ true
-      → (ss : List SubtitleValue) × (given (subtitles_of (outcome_from 0 body)) ≡ done ++ s ∷ ss)
 
 -- a subtitle that was read, in the words of the answer
 pub pass_turn : (body rest next : List ℕ) (p r : ReaderValue) (done : List SubtitleValue)
@@ -227,16 +201,8 @@ pub pass_turn : (body rest next : List ℕ) (p r : ReaderValue) (done : List Sub
 pass_turn body rest next p r done t s old new h is x takes on place =
     let given = ap (λ (y : Bool). given_subtitle (Ok y) s) is in
     let a = subst (Answers p rest r (Some next)) given x in
-    let k = takes h.reading (ap answered is) in
-    let more = pass_on body rest next p r done h s old new a k
-    (on ∙ ap (progress_after p.progress) given) place in
-    let m = pass_room body rest next p r done h s old new a k more.few in
-    record {
-      on = more;
-      block_room = m.0;
-      room = m.1;
-      stands = pass_stands body rest next p r done h s old new a k;
-    }
+    pass_on body rest next p r done h s old new a (takes h.reading (ap answered is))
+    (on ∙ ap (progress_after p.progress) given) place
 
 -- the end of a pass
 pub pass_ends : (body rest next : List ℕ) (p r : ReaderValue) (done : List SubtitleValue)
@@ -249,21 +215,13 @@ pass_ends body rest next p r done t s h is x =
     pass_end body rest next p r done h
     (subst (Answers p rest r (Some next)) (ap (λ (y : Bool). given_subtitle (Ok y) s) is) x)
 
--- equal counts make equal answers
-counts_same : (b t : ℕ) (c : Counts)
-    → c.tnb ≡ b
-    → c.tns ≡ t
-    → ◌≡◌ {A = Result Counts NormalFault} (Ok (record { tnb = b; tns = t })) (Ok c)
-counts_same b t c e f = rw (← e, ← f) refl
-
 -- the counts at the end of a pass
 pub counted_end : (j : Judged) (done : List SubtitleValue) (c : Counts)
     → j ≡ Ok done
     → c.tnb ≡ length (all_blocks done)
     → c.tns ≡ length done
     → counted j ≡ Ok c
-counted_end j done c e b t =
-    ap counted e ∙ counts_same (length (all_blocks done)) (length done) c b t
+counted_end j done c e b t = rw (e, ← b, ← t) refl
 
 -- a pass that was accepted meets no fault
 pub no_fault : (j : Judged) (f : NormalFault) → is_ok j ≡ true → j ≡ Err f → ⊥
@@ -274,7 +232,4 @@ pub refused_same : (j : Judged) (f : StlFault) (a b : ℕ)
     → j ≡ Err (Refused f a)
     → b ≡ a
     → counted j ≡ Err (Refused f b)
-refused_same j f a b e same = ap counted e ∙ ap (λ (k : ℕ). bad f k) (sym same)
-  where
-    bad : StlFault → ℕ → Result Counts NormalFault
-    bad f k = Err (Refused f k)
+refused_same j f a b e same = rw (e, same) refl

@@ -6,7 +6,7 @@ use Rattle.std.proofs.Common.{Ok, Err, subst, suc, ◌+◌, ◌-◌, ◌<◌, �
 use Rattle.std.specs.Prelude.{filter}
 use Rattle.std.specs.List.{AllByRecursion}
 use Rattle.std.specs.Io.KnownBytes.{Consumes}
-use Rattle.std.proofs.lemmas.List.{append-nil, take_all, nil_from_length}
+use Rattle.std.proofs.lemmas.List.{take_all, nil_from_length}
 use Rattle.std.proofs.KnownBytes.{Consumes-trans}
 use Rattle.std.proofs.lemmas.Option.{same_Some}
 use Rattle.sub_io.specs.Device.{Fills}
@@ -15,8 +15,8 @@ use Rattle.stl_file.specs.declared.fault.StlFault.{StlFault}
 use Rattle.stl_file.specs.declared.fault.StlFault.TheVariants as fault
 use Rattle.stl_file.specs.Tti.{is_kept, most_blocks}
 use Rattle.stl_file.specs.SubtitleBlocks.{IsBlock, joined, IsRest}
-use Rattle.stl_file.specs.Reader.{outcome_from, Leads, TakesSubtitle, NamesFrom, block_after}
-use Rattle.stl_file.specs.Reader.{TakesPassed, Refuses, FailsReading}
+use Rattle.stl_file.specs.Reader.{outcome_by, outcome_from, Leads, TakesSubtitle, NamesFrom, block_after}
+use Rattle.stl_file.specs.Reader.{Refuses, FailsReading}
 use Rattle.stl_file.specs.Subtitle.{SubtitleValue}
 use Rattle.stl_file.specs.NormalForm.{subtitles_of}
 use Rattle.stl_file.specs.Reading.{Begun, Step, More, Give}
@@ -136,13 +136,24 @@ module _ (from : ℕ) (old mid new : Option (List ℕ)) (n block : ℕ) (begun :
       → Given bytes (joined h.blocks) (take n buffer) n new
   told_all bytes e = given_by old mid new n (joined h.blocks) buffer bytes size h.consumed f e
 
-  -- what the source's bytes give
-  told_goes : (bytes : List ℕ) (e : old ≡ Some bytes)
-      → outcome_from from bytes
-      ≡ outcome_at (most_blocks - block) begun (take n buffer ++ (told_all bytes e).rest)
-  told_goes bytes e =
+  -- an answer, by what the bytes of this turn give with those that are left
+  leads : (to : ℕ) (r : Result (Option SubtitleValue) StlFault)
+      → ((rest : List ℕ)
+      → (n < 128 → rest ≡ [])
+      → outcome_at (most_blocks - block) begun (take n buffer ++ rest) ≡ outcome_by to rest r)
+      → (bytes : List ℕ)
+      → old ≡ Some bytes
+      → Leads from bytes to new r
+  leads to r gives_it bytes e =
       let g = told_all bytes e in
-      ap (outcome_from from) g.parts ∙ h.goes (take n buffer ++ g.rest)
+      record {
+        rest = g.rest;
+        rest_is = g.rest_is;
+        outcome =
+            ap (outcome_from from) g.parts
+            ∙ h.goes (take n buffer ++ g.rest)
+            ∙ gives_it g.rest g.ended;
+      }
 
   -- a fault that no bytes after it could cure
   refuses : (x : StlFault) (to place : ℕ)
@@ -168,34 +179,19 @@ module _ (from : ℕ) (old mid new : Option (List ℕ)) (n block : ℕ) (begun :
     empty = nil_from_length (take n buffer) (length_front ∙ z)
 
     -- what no bytes give
-    at_end : (bytes : List ℕ)
-        → old ≡ Some bytes
-        → (rest : List ℕ) × (new ≡ Some rest)
-        × (outcome_from from bytes ≡ outcome_nil (most_blocks - block) begun)
-    at_end bytes e =
-        let g = told_all bytes e in
-        let none : g.rest ≡ [] = g.ended (omega arith) in (
-          g.rest,
-          g.rest_is,
-          told_goes bytes e
-              ∙ ap (λ (x : List ℕ). outcome_at (most_blocks - block) begun (x ++ g.rest)) empty
-              ∙ ap (outcome_at (most_blocks - block) begun) none
-              ∙ outcome_end (most_blocks - block) begun,
-        )
+    at_end : (rest : List ℕ)
+        → (n < 128 → rest ≡ [])
+        → outcome_at (most_blocks - block) begun (take n buffer ++ rest)
+        ≡ outcome_nil (most_blocks - block) begun
+    at_end rest ended = rw (empty, ended (omega arith)) (outcome_end (most_blocks - block) begun)
 
     -- the end of the file
     pub leads_none : begun ≡ None
         → (bytes : List ℕ)
         → old ≡ Some bytes
         → Leads from bytes block new (Ok None)
-    leads_none is bytes e =
-        let a = at_end bytes e in
-        record {
-          rest = a.0;
-          rest_is = a.1;
-          outcome =
-              a.2 ∙ ap (outcome_nil (most_blocks - block)) is;
-        }
+    leads_none is = leads block (Ok None)
+        (λ rest ended. at_end rest ended ∙ ap (outcome_nil (most_blocks - block)) is)
 
     -- the end of the file within a subtitle
     pub leads_unfinished : (o : Begun)
@@ -204,15 +200,11 @@ module _ (from : ℕ) (old mid new : Option (List ℕ)) (n block : ℕ) (begun :
         → (bytes : List ℕ)
         → old ≡ Some bytes
         → Leads from bytes block new (Err fault.Unfinished)
-    leads_unfinished o le is bytes e =
-        let a = at_end bytes e in
+    leads_unfinished o le is =
         let at : most_blocks - (most_blocks - block) ≡ block = omega arith in
-        record {
-          rest = a.0;
-          rest_is = a.1;
-          outcome = a.2 ∙ ap (outcome_nil (most_blocks - block)) is
-              ∙ ap (fails fault.Unfinished) at;
-        }
+        leads block (Err fault.Unfinished)
+        (λ rest ended. at_end rest ended ∙ ap (outcome_nil (most_blocks - block)) is
+        ∙ ap (fails fault.Unfinished) at)
 
     -- no file ends so
     pub refuses_unfinished : (o : Begun)
@@ -222,20 +214,6 @@ module _ (from : ℕ) (old mid new : Option (List ℕ)) (n block : ℕ) (begun :
         refuses fault.Unfinished block (most_blocks - (most_blocks - block)) (let c = h.counted in
         omega arith)
         (λ more cut. rw (cut refl, empty, is) (outcome_end (most_blocks - block) (Some o)))
-
-    -- passed blocks alone were left
-    pub takes_passed : begun ≡ None → TakesPassed from block old new
-    takes_passed is = record {
-      blocks = h.blocks;
-      counted = h.counted;
-      each = h.each;
-      passed = subst (λ (x : Option Begun). Represents x (filter is_kept h.blocks)) is h.kept;
-      consumed =
-          subst (Consumes old new) (ap (λ (x : List ℕ). joined h.blocks ++ x) empty
-          ∙ append-nil (joined h.blocks))
-          with_bytes;
-      ended = f.end (omega arith);
-    }
 
   -- ---- a byte is left, and no block may follow
 
@@ -253,14 +231,9 @@ module _ (from : ℕ) (old mid new : Option (List ℕ)) (n block : ℕ) (begun :
     pub leads_too_many : (bytes : List ℕ)
         → old ≡ Some bytes
         → Leads from bytes block new (Err fault.TooManyBlocks)
-    leads_too_many bytes e =
-        let g = told_all bytes e in
-        record {
-          rest = g.rest;
-          rest_is = g.rest_is;
-          outcome = told_goes bytes e ∙ no_room g.rest
-              ∙ ap (λ (k : ℕ). fails fault.TooManyBlocks (k + 1)) (sym full);
-        }
+    leads_too_many = leads block (Err fault.TooManyBlocks)
+        (λ rest ended. no_room rest
+        ∙ ap (λ (k : ℕ). fails fault.TooManyBlocks (k + 1)) (sym full))
 
     -- no file has a block more
     pub refuses_too_many : Refuses from (block + 1) old new fault.TooManyBlocks
@@ -296,14 +269,8 @@ module _ (from : ℕ) (old mid new : Option (List ℕ)) (n block : ℕ) (begun :
     -- a block that is cut
     pub leads_truncated : (n ≡ 0 → ⊥) → n < 128 → (bytes : List ℕ) → old ≡ Some bytes
         → Leads from bytes (block + 1) new (Err fault.Truncated)
-    leads_truncated some lt bytes e =
-        let g = told_all bytes e in
-        record {
-          rest = g.rest;
-          rest_is = g.rest_is;
-          outcome =
-              told_goes bytes e ∙ cut_block g.rest some lt (g.ended lt);
-        }
+    leads_truncated some lt = leads (block + 1) (Err fault.Truncated)
+        (λ rest ended. cut_block rest some lt (ended lt))
 
     -- no file ends so
     pub refuses_truncated : (n ≡ 0 → ⊥) → n < 128 → Refuses from (block + 1) old new fault.Truncated
@@ -342,14 +309,9 @@ module _ (from : ℕ) (old mid new : Option (List ℕ)) (n block : ℕ) (begun :
           → (bytes : List ℕ)
           → old ≡ Some bytes
           → Leads from bytes (block + 1) new (Err x)
-      leads_refused x own step bytes e =
-          let g = told_all bytes e in
-          record {
-            rest = g.rest;
-            rest_is = g.rest_is;
-            outcome = told_goes bytes e ∙ bad_block x g.rest step
-                ∙ ap (fails x) (sym (own_block (block + 1) x own));
-          }
+      leads_refused x own step = leads (block + 1) (Err x)
+          (λ rest _. bad_block x rest step
+          ∙ ap (fails x) (sym (own_block (block + 1) x own)))
 
       -- no file goes on with it
       pub refuses_block : (x : StlFault)
@@ -365,17 +327,9 @@ module _ (from : ℕ) (old mid new : Option (List ℕ)) (n block : ℕ) (begun :
           → (bytes : List ℕ)
           → old ≡ Some bytes
           → Leads from bytes (block + 1) new (Ok (Some s))
-      leads_given s step bytes e =
-          let g = told_all bytes e in
-          record {
-            rest = g.rest;
-            rest_is = g.rest_is;
-            outcome =
-                told_goes bytes e
-                ∙ one_block (Ok (Give s)) g.rest step
-                ∙ ap (λ (k : ℕ). gives s k (outcome_from (block + 1) g.rest))
-                (room_back block le ne);
-          }
+      leads_given s step = leads (block + 1) (Ok (Some s))
+          (λ rest _. one_block (Ok (Give s)) rest step
+          ∙ ap (λ (k : ℕ). gives s k (outcome_from (block + 1) rest)) (room_back block le ne))
 
       -- the bytes with the block
       with_block : Consumes old new (joined (h.blocks ++ buffer ∷ []))

@@ -9,7 +9,7 @@ use Rattle.std.proofs.lemmas.List.{append-nil, take-append-drop, length-take-le}
 use Rattle.std.proofs.lemmas.Bool.{cases_lt, eq-eqb, ne_eqb, cases_Bool}
 use Rattle.stl_file.specs.declared.fault.StlFault.{StlFault}
 use Rattle.stl_file.specs.Tti.{is_kept, most_blocks, sgn, sn, ebn, text_of, is_passed}
-use Rattle.stl_file.specs.SubtitleBlocks.{IsBlock, joined, AreLinked, Begins, AreBlocksOf}
+use Rattle.stl_file.specs.SubtitleBlocks.{IsBlock, joined, AreLinked, AreBlocksOf}
 use Rattle.stl_file.specs.SubtitleBlocks.{AreBlocksOfEach, IsRest}
 use Rattle.stl_file.specs.Subtitle.{SubtitleValue}
 use Rattle.stl_file.specs.NormalForm.{Judged, subtitles_of, cons_all}
@@ -23,12 +23,16 @@ use Rattle.stl_file.proofs.OutcomeLemmas.{outcome_short, outcome_block}
 
 -- ---- completeness: the blocks of a file give its subtitles
 
+-- lists of blocks, joined
+abbrev pub groups_of : List (List (List ℕ)) → List (List ℕ)
+groups_of gs = flat_map (λ (g : List (List ℕ)). g) gs
+
 -- a subtitle that was begun, the rest of its blocks, and what they give
 pub record GoesTo (o : Begun) (kept : List (List ℕ)) (out : List SubtitleValue) : Type 0 where
   pub tail : List (List ℕ)
   pub ss : List SubtitleValue
   pub gs : List (List (List ℕ))
-  pub kept_is : kept ≡ tail ++ flat_map (λ (g : List (List ℕ)). g) gs
+  pub kept_is : kept ≡ tail ++ groups_of gs
   pub linked : AreLinked o.subtitle.sgn o.subtitle.sn tail
   pub few : o.blocks + length tail ≤ 9
   pub groups : AreBlocksOfEach ss gs
@@ -37,7 +41,7 @@ pub record GoesTo (o : Begun) (kept : List (List ℕ)) (out : List SubtitleValue
 -- blocks from where a subtitle may begin, and what they give
 pub record StartsTo (kept : List (List ℕ)) (out : List SubtitleValue) : Type 0 where
   pub gs : List (List (List ℕ))
-  pub kept_is : kept ≡ flat_map (λ (g : List (List ℕ)). g) gs
+  pub kept_is : kept ≡ groups_of gs
   pub groups : AreBlocksOfEach out gs
 
 -- what kept blocks give, where a subtitle was begun or not
@@ -54,190 +58,98 @@ pub record GivesTurn (begun : Option Begun) (b : List ℕ) (rest : List (List �
   pub next : ((ebn b ≡ 255) × ((ss : List SubtitleValue) × (out ≡ s ∷ ss) × StartsTo rest ss))
       ⊎ ((ebn b < 240) × GoesTo (record { subtitle = s; blocks = count }) rest out)
 
--- nothing in front
-head_is : (ts us : List (List ℕ)) → ts ≡ [] → ts ++ us ≡ us
-head_is ts us e = rw e refl
-
--- the first block of a subtitle, and what follows it
-first_gives : (s : SubtitleValue) (b : List ℕ) (others rest : List (List ℕ))
-    (ss : List SubtitleValue) (gs : List (List (List ℕ)))
-    → Begins s b
-    → AreLinked s.sgn s.sn (b ∷ others)
-    → length (b ∷ others) ≤ 9
-    → s.text ≡ flat_map text_of (b ∷ others)
-    → rest ≡ others ++ flat_map (λ (g : List (List ℕ)). g) gs → AreBlocksOfEach ss gs
-    → GivesTurn None b rest (s ∷ ss)
-unfolding kept_at
-first_gives s b others rest ss gs h chain few text e gs-are =
-    let head = chain_head s.sgn s.sn b others chain in
-    let t : SubtitleValue = record s { text = text_of b } in
-    let one : kept_at None b ≡ Ok (closed (ebn b) t 1) = rw (first_complete b s h) refl in
-    let step : ((ebn b < 240) ⊎ (ebn b ≡ 255)) → step_at None b ≡ Ok (closed (ebn b) t 1) =
-    λ which. step_kept None b which head.0.is_subtitle ∙ one in
-    let whole : s ≡ record s { text = text_of b ++ flat_map text_of others } =
-    ap (λ (x : List ℕ). record s { text = x }) text in
+-- a block of a chain that was taken in, and what follows it
+turn : (begun : Option Begun) (s : SubtitleValue) (count : ℕ) (b : List ℕ)
+    (tail rest : List (List ℕ)) (ss out : List SubtitleValue) (gs : List (List (List ℕ)))
+    → AreLinked s.sgn s.sn (b ∷ tail)
+    → count + length tail ≤ 9
+    → rest ≡ tail ++ groups_of gs
+    → AreBlocksOfEach ss gs
+    → out ≡ (record s { text = s.text ++ flat_map text_of tail }) ∷ ss
+    → kept_at begun b ≡ Ok (closed (ebn b) s count)
+    → GivesTurn begun b rest out
+turn begun s count b tail rest ss out gs chain few e gs-are is kept =
+    let head = chain_head s.sgn s.sn b tail chain in
+    let step = λ (which : (ebn b < 240) ⊎ (ebn b ≡ 255)).
+    step_kept begun b which head.0.is_subtitle ∙ kept in
     elim head.1 [
-      | inl last ↦
-          let alone : text_of b ++ flat_map text_of others ≡ text_of b =
-          ap (λ (x : List (List ℕ)). text_of b ++ flat_map text_of x) last.0
-          ∙ append-nil (text_of b) in
+      | inl last ↦ record {
+        s = s;
+        count = count;
+        step = step (inr last.1);
+        next = inl (
+          last.1,
+          (
+            ss,
+            rw (last.0, append-nil) at is,
+            record { gs = gs; kept_is = rw last.0 at e; groups = gs-are },
+          ),
+        );
+      }
+      | inr more ↦ record {
+        s = s;
+        count = count;
+        step = step (inl more.0);
+        next = inr (
+          more.0,
           record {
-            s = t;
-            count = 1;
-            step = step (inr last.1);
-            next =
-                inl (
-                  last.1,
-                  (
-                    ss,
-                    ap (λ (x : SubtitleValue). x ∷ ss)
-                        (whole ∙ ap (λ (x : List ℕ). record s { text = x }) alone),
-                    record {
-                      gs =
-                          gs;
-                      kept_is = e ∙ head_is others (flat_map (λ (g : List (List ℕ)). g) gs) last.0;
-                      groups = gs-are;
-                    },
-                  ),
-                );
-          }
-      | inr more ↦
-          record {
-            s = t;
-            count = 1;
-            step = step (inl more.0);
-            next =
-                inr (
-                  more.0,
-                  record {
-                    tail = others;
-                    ss = ss;
-                    gs = gs;
-                    kept_is = e;
-                    linked =
-                        more.1;
-                    few = omega arith;
-                    groups = gs-are;
-                    out_is =
-                        ap (λ (x : SubtitleValue). x ∷ ss) whole;
-                  },
-                );
-          }
-    ]
-
--- a further block, and what follows it
-next_gives : (o : Begun) (b : List ℕ) (tail rest : List (List ℕ)) (ss out : List SubtitleValue)
-    (gs : List (List (List ℕ)))
-    → AreLinked o.subtitle.sgn o.subtitle.sn (b ∷ tail)
-    → o.blocks + length (b ∷ tail) ≤ 9
-    → rest ≡ tail ++ flat_map (λ (g : List (List ℕ)). g) gs → AreBlocksOfEach ss gs
-    → out ≡ (record o.subtitle {
-      text =
-          o.subtitle.text ++ (text_of b ++ flat_map text_of tail);
-    }) ∷ ss
-    → GivesTurn (Some o) b rest out
-unfolding kept_at
-next_gives o b tail rest ss out gs chain few e gs-are is =
-    let head = chain_head o.subtitle.sgn o.subtitle.sn b tail chain in
-    let t : SubtitleValue = record o.subtitle { text = o.subtitle.text ++ text_of b } in
-    let nine : eqb o.blocks 9 ≡ false = ne_eqb _ _ (λ x. omega arith) in
-    let same_group : eqb (sgn b) o.subtitle.sgn ≡ true = eq-eqb _ _ head.0.same_sgn in
-    let same_number : eqb (sn b) o.subtitle.sn ≡ true = eq-eqb _ _ head.0.same_sn in
-    let one : kept_at (Some o) b ≡ Ok (closed (ebn b) t (o.blocks + 1)) =
-    rw (same_group, same_number, nine) refl in
-    let step : ((ebn b < 240) ⊎ (ebn b ≡ 255))
-    → step_at (Some o) b ≡ Ok (closed (ebn b) t (o.blocks + 1)) =
-    λ which. step_kept (Some o) b which head.0.is_subtitle ∙ one in
-    let texts : o.subtitle.text ++ (text_of b ++ flat_map text_of tail)
-    ≡ (o.subtitle.text ++ text_of b) ++ flat_map text_of tail =
-    sym (append_assoc o.subtitle.text (text_of b) (flat_map text_of tail)) in
-    elim head.1 [
-      | inl last ↦
-          let alone : o.subtitle.text ++ (text_of b ++ flat_map text_of tail) ≡ o.subtitle.text
-          ++ text_of b = ap (λ (x : List (List ℕ)).
-          o.subtitle.text ++ (text_of b ++ flat_map text_of x)) last.0
-          ∙ ap (λ (x : List ℕ). o.subtitle.text ++ x) (append-nil (text_of b)) in
-          record {
-            s = t;
-            count = o.blocks + 1;
-            step = step (inr last.1);
-            next =
-                inl (
-                  last.1,
-                  (
-                    ss,
-                    is
-                        ∙ ap (λ (x : List ℕ). (record o.subtitle { text = x }) ∷ ss) alone,
-                    record {
-                      gs =
-                          gs;
-                      kept_is = e ∙ head_is tail (flat_map (λ (g : List (List ℕ)). g) gs) last.0;
-                      groups = gs-are;
-                    },
-                  ),
-                );
-          }
-      | inr more ↦
-          record {
-            s = t;
-            count = o.blocks + 1;
-            step = step (inl more.0);
-            next =
-                inr (
-                  more.0,
-                  record {
-                    tail = tail;
-                    ss = ss;
-                    gs = gs;
-                    kept_is = e;
-                    linked =
-                        more.1;
-                    few = omega arith;
-                    groups = gs-are;
-                    out_is =
-                        is ∙ ap (λ (x : List ℕ). (record o.subtitle { text = x }) ∷ ss) texts;
-                  },
-                );
-          }
+            tail = tail;
+            ss = ss;
+            gs = gs;
+            kept_is = e;
+            linked = more.1;
+            few = few;
+            groups = gs-are;
+            out_is = is;
+          },
+        );
+      }
     ]
 
 -- the next block where none was begun
 start_turn : (b : List ℕ) (rest : List (List ℕ)) (out : List SubtitleValue)
     (gs : List (List (List ℕ)))
-    → b ∷ rest ≡ flat_map (λ (g : List (List ℕ)). g) gs
+    → b ∷ rest ≡ groups_of gs
     → AreBlocksOfEach out gs
     → GivesTurn None b rest out
+unfolding kept_at
 start_turn b rest out [] e h = absurd cc
 start_turn b rest [] (g ∷ gs) e h = absurd h
 start_turn b rest (s ∷ ss) (g ∷ gs) e h =
     let i = h.0 in
-    let parts : b ∷ rest ≡ i.first ∷ (i.others ++ flat_map (λ (x : List (List ℕ)). x) gs) =
-    e ∙ ap (λ (x : List (List ℕ)). x ++ flat_map (λ (y : List (List ℕ)). y) gs) i.blocks in
-    let c = cons_is b i.first rest (i.others ++ flat_map (λ (x : List (List ℕ)). x) gs) parts in
-    let same : g ≡ b ∷ i.others = i.blocks ∙ ap (λ (x : List ℕ). x ∷ i.others) (sym c.0) in
-    let few : length (b ∷ i.others) ≤ 9 = let n = i.few in let l = ap length i.blocks in
-    omega arith in
-    first_gives s b i.others rest ss gs (subst (λ (x : List ℕ). Begins s x) (sym c.0) i.begins)
-    (subst (λ (x : List (List ℕ)). AreLinked s.sgn s.sn x) same i.linked) few
-    (i.text_is ∙ ap (λ (x : List (List ℕ)). flat_map text_of x) same) c.1 h.1
+    let c = cons_is b i.first rest (i.others ++ groups_of gs) (rw i.blocks at e) in
+    let same : g ≡ b ∷ i.others = rw c.0 i.blocks in
+    let few : length (b ∷ i.others) ≤ 9 = rw same at i.few in
+    turn None (record s { text = text_of b }) 1 b i.others rest ss (s ∷ ss) gs
+    (rw same at i.linked) (omega arith) c.1 h.1
+    (ap (λ (x : List ℕ). (record s { text = x }) ∷ ss) (rw same at i.text_is))
+    (rw (first_complete b s (rw c.0 i.begins)) refl)
 
 -- the next block where one was begun
 goes_turn_on : (o : Begun) (b : List ℕ) (rest : List (List ℕ)) (out : List SubtitleValue)
     (tail : List (List ℕ)) (ss : List SubtitleValue) (gs : List (List (List ℕ)))
-    → b ∷ rest ≡ tail ++ flat_map (λ (g : List (List ℕ)). g) gs
+    → b ∷ rest ≡ tail ++ groups_of gs
     → AreLinked o.subtitle.sgn o.subtitle.sn tail
     → o.blocks + length tail ≤ 9
     → AreBlocksOfEach ss gs
     → out ≡ (record o.subtitle { text = o.subtitle.text ++ flat_map text_of tail }) ∷ ss
     → GivesTurn (Some o) b rest out
+unfolding kept_at
 goes_turn_on o b rest out [] ss gs e chain few h is = absurd chain
 goes_turn_on o b rest out (t ∷ tail) ss gs e chain few h is =
-    let c = cons_is b t rest (tail ++ flat_map (λ (x : List (List ℕ)). x) gs) e in
-    next_gives o b tail rest ss out gs
-    (subst (λ (x : List ℕ). AreLinked o.subtitle.sgn o.subtitle.sn (x ∷ tail)) (sym c.0) chain)
-    few c.1 h (is ∙ ap (λ (x : List ℕ).
-    (record o.subtitle { text = o.subtitle.text ++ (text_of x ++ flat_map text_of tail) }) ∷ ss)
-    (sym c.0))
+    let c = cons_is b t rest (tail ++ groups_of gs) e in
+    let linked =
+    subst (λ (x : List ℕ). AreLinked o.subtitle.sgn o.subtitle.sn (x ∷ tail)) (sym c.0) chain in
+    let own = (chain_head o.subtitle.sgn o.subtitle.sn b tail linked).0 in
+    let nine : eqb o.blocks 9 ≡ false = ne_eqb _ _ (λ x. omega arith) in
+    let same_group : eqb (sgn b) o.subtitle.sgn ≡ true = eq-eqb _ _ own.same_sgn in
+    let same_number : eqb (sn b) o.subtitle.sn ≡ true = eq-eqb _ _ own.same_sn in
+    turn (Some o) (record o.subtitle { text = o.subtitle.text ++ text_of b }) (o.blocks + 1) b tail
+    rest ss out gs linked (omega arith) c.1 h
+    (is ∙ ap (λ (x : List ℕ). (record o.subtitle { text = x }) ∷ ss)
+    (ap (λ (x : List ℕ). o.subtitle.text ++ (text_of x ++ flat_map text_of tail)) (sym c.0)
+    ∙ sym (append_assoc o.subtitle.text (text_of b) (flat_map text_of tail))))
+    (rw (same_group, same_number, nine) refl)
 
 -- the next kept block, and what follows it
 gives_turn : (begun : Option Begun) (b : List ℕ) (rest : List (List ℕ)) (out : List SubtitleValue)
@@ -249,24 +161,16 @@ gives_turn (Some o) b rest out h =
 
 -- no block is left
 no_blocks : (out : List SubtitleValue) (gs : List (List (List ℕ)))
-    → [] ≡ flat_map (λ (g : List (List ℕ)). g) gs
+    → [] ≡ groups_of gs
     → AreBlocksOfEach out gs
     → out ≡ []
 no_blocks [] gs e h = refl
 no_blocks (s ∷ ss) [] e h = absurd h
-no_blocks (s ∷ ss) (g ∷ gs) e h = let b = h.0.blocks in
-    absurd (none_first g gs h.0.first h.0.others b e)
-  where
-    none_first : (g : List (List ℕ)) (gs : List (List (List ℕ))) (b : List ℕ) (bs : List (List ℕ))
-        → g ≡ b ∷ bs
-        → [] ≡ g ++ flat_map (λ (x : List (List ℕ)). x) gs
-        → ⊥
-    none_first g gs b bs e f = let no : [] ≡ b ∷ (bs ++ flat_map (λ (x : List (List ℕ)). x) gs) =
-        f ∙ ap (λ (x : List (List ℕ)). x ++ flat_map (λ (x : List (List ℕ)). x) gs) e in cc
+no_blocks (s ∷ ss) (g ∷ gs) e h = let no = rw h.0.blocks at e in absurd cc
 
 -- a subtitle that was begun does not end without a block
 open_ends : (o : Begun) (tail : List (List ℕ)) (gs : List (List (List ℕ)))
-    → [] ≡ tail ++ flat_map (λ (g : List (List ℕ)). g) gs
+    → [] ≡ tail ++ groups_of gs
     → AreLinked o.subtitle.sgn o.subtitle.sn tail
     → ⊥
 open_ends o [] gs e c = c
@@ -295,10 +199,9 @@ outcome_complete (b ∷ bs) begun (suc room) out h le g =
           ap subtitles_of (outcome_block room begun b rest (Ok (More begun)) h.0
           (step_passed begun b passed))
           ∙ outcome_complete bs begun room out h.1 (omega arith)
-          (subst (λ (k : List (List ℕ)). Gives begun k out) (filter_passed b bs passed) g)
+          (rw (filter_passed b bs passed) at g)
       | inr kept ↦
-          let t = gives_turn begun b (filter is_kept bs) out
-          (subst (λ (k : List (List ℕ)). Gives begun k out) (filter_kept b bs kept) g) in
+          let t = gives_turn begun b (filter is_kept bs) out (rw (filter_kept b bs kept) at g) in
           let one = ap subtitles_of
           (outcome_block room begun b rest (Ok (closed (ebn b) t.s t.count)) h.0 t.step) in
           elim t.next [
@@ -313,10 +216,6 @@ outcome_complete (b ∷ bs) begun (suc room) out h le g =
     ]
 
 -- ---- soundness: bytes that give subtitles are the blocks of them
-
--- lists of blocks, joined
-abbrev groups_of : List (List (List ℕ)) → List (List ℕ)
-groups_of gs = flat_map (λ (g : List (List ℕ)). g) gs
 
 -- the blocks that were read, where some of a subtitle were read before
 pub record Reads (room : ℕ) (before : List (List ℕ)) (b : List ℕ) (ss : List SubtitleValue) : Type 0
@@ -359,28 +258,21 @@ reads_more room before b ss le r =
       are_groups = r.are_groups;
     }
 
--- a block that ends a subtitle
-reads_group : (room : ℕ) (before : List (List ℕ)) (b : List ℕ) (s : SubtitleValue)
+-- the blocks of a subtitle, and those that follow it
+reads_group : (room : ℕ) (own : List (List ℕ)) (b : List ℕ) (s : SubtitleValue)
     (ss : List SubtitleValue)
-    → 128 ≤ length b
-    → AreBlocksOf s (before ++ cond (is_kept (take 128 b)) (take 128 b ∷ []) [])
-    → Reads room [] (drop 128 b) ss
-    → Reads (suc room) before b (s ∷ ss)
-reads_group room before b s ss le g r =
-    let block = take 128 b in
-    let own = before ++ cond (is_kept block) (block ∷ []) [] in
-    record {
-      blocks = block ∷ r.blocks;
-      each = (length-take-le 128 b le, r.each);
-      few = let f = r.few in omega arith;
-      bytes = sym (take-append-drop 128 b) ∙ ap (λ (x : List ℕ). block ++ x) r.bytes;
-      groups = own ∷ r.groups;
-      kept = ap (λ (x : List (List ℕ)). before ++ x)
-          (split_filter (is_kept block) block (filter is_kept r.blocks))
-          ∙ sym (append_assoc before (cond (is_kept block) (block ∷ []) [])
-          (filter is_kept r.blocks)) ∙ ap (λ (x : List (List ℕ)). own ++ x) r.kept;
-      are_groups = (g, r.are_groups);
-    }
+    → AreBlocksOf s own
+    → Reads room [] b ss
+    → Reads room own b (s ∷ ss)
+reads_group room own b s ss g r = record {
+  blocks = r.blocks;
+  each = r.each;
+  few = r.few;
+  bytes = r.bytes;
+  groups = own ∷ r.groups;
+  kept = ap (λ (x : List (List ℕ)). own ++ x) r.kept;
+  are_groups = (g, r.are_groups);
+}
 
 -- all subtitles, without a fault
 abbrev pub fine : List SubtitleValue → Judged
@@ -416,7 +308,8 @@ mutual_step room begun before b ss (Ok (Give s)) le rep e go all =
     let t = step_sound begun before (take 128 b) (Give s) (length-take-le 128 b le) rep e in
     let c = cons_ok s (subtitles_of (outcome_at room None (drop 128 b))) ss all in
     subst (λ (x : List SubtitleValue). Reads (suc room) before b x) (sym c.2)
-    (reads_group room before b s c.0 le t.reaches (go None [] c.0 refl c.1))
+    (reads_more room before b (s ∷ c.0) le
+    (reads_group room _ (drop 128 b) s c.0 t.reaches (go None [] c.0 refl c.1)))
 
 -- bytes that give subtitles and no fault are blocks of them
 pub outcome_sound : (room : ℕ) (begun : Option Begun) (before : List (List ℕ)) (b : List ℕ)

@@ -1,11 +1,12 @@
 -- `step_at`: the blocks that are read without a fault are those of subtitles; main lemmas:
 -- step_sound, first_complete, step_kept, step_passed.
 use Rattle.std.proofs.Common.{◌≡◌, ℕ, Bool, true, false, cond, List, [], ◌∷◌, ◌++◌, length, refl}
-use Rattle.std.proofs.Common.{sym, ap, ◌∙◌, append_assoc, arith, length-append, Option, Some, None}
+use Rattle.std.proofs.Common.{sym, ap, ◌∙◌, arith, length-append, Option, Some, None}
 use Rattle.std.proofs.Common.{Result, Ok, Err, subst, ◌+◌, ◌<◌, ◌≤◌, ◌⊎◌, inl, inr, not, eqb, leb}
-use Rattle.std.proofs.Common.{ltb}
+use Rattle.std.proofs.Common.{ltb, rules}
 use Rattle.std.specs.Prelude.{◌&&◌, ◌||◌}
 use Rattle.std.specs.List.{AllByRecursion, flat_map}
+use Rattle.std.proofs.lemmas.Grind.{flat_map-append}
 use Rattle.std.proofs.lemmas.List.{append-nil}
 use Rattle.std.proofs.lemmas.Bool.{cases_lt, le-ltb, eqb-true, eq-eqb, ne_eqb, ltb-true, ltb-false}
 use Rattle.std.proofs.lemmas.Bool.{leb-true, le-leb, lt-ltb, eqb-false, and_parts, lt-leb, or_cases}
@@ -46,18 +47,7 @@ heads_made : (b : List ℕ) (tci tco : ℕ)
     → IsTimeAt b 9 tco
     → tci < tco
     → Begins (made b tci tco) b
-heads_made b tci tco c j v w p q lt = record {
-  cumulative = c;
-  sgn_is = refl;
-  sn_is = refl;
-  vp_is = refl;
-  jc_is = refl;
-  tci = p;
-  tco = q;
-  times = lt;
-  vp_range = (v, w);
-  jc_range = j;
-}
+heads_made b tci tco c j v w p q lt = search rules
 
 -- a first block that was read begins the subtitle that was read
 pub first_sound : (b : List ℕ) (s : SubtitleValue)
@@ -79,7 +69,7 @@ first_sound b s e =
     let q = step_gave (time_at b 9) (λ tco. last p.0 tco) s p.2 in
     let t = through (ltb p.0 q.0) fault.EmptyTime (made b p.0 q.0) s q.2 in
     let v = and_parts (leb 1 (vp b)) (leb (vp b) 23) g2.0 in
-    subst (λ (x : SubtitleValue). Begins x b × (x.text ≡ text_of b)) t.1 (
+    subst (λ (x : SubtitleValue). Begins x b × (x.text ≡ text_of b)) {x = made b p.0 q.0} t.1 (
       heads_made b p.0 q.0 (eqb-true _ _ g0.0) (ltb-false _ _ g1.0) (leb-true _ _ v.0)
           (leb-true _ _ v.1) (time_sound b 5 p.0 p.1) (time_sound b 9 q.0 q.1) (ltb-true _ _ t.0),
       refl,
@@ -160,105 +150,49 @@ chain_push sgn_is sn_is (x ∷ y ∷ g) b h w e =
 -- the joined text with the text of one block more
 text_push : (g : List (List ℕ)) (b : List ℕ)
     → flat_map text_of (g ++ b ∷ []) ≡ flat_map text_of g ++ text_of b
-text_push [] b = append-nil (text_of b)
-text_push (x ∷ g) b = ap (λ (t : List ℕ). text_of x ++ t) (text_push g b)
-    ∙ sym (append_assoc (text_of x) (flat_map text_of g) (text_of b))
+text_push g b = flat_map-append text_of g (b ∷ [])
+    ∙ ap (λ (x : List ℕ). flat_map text_of g ++ x) (append-nil (text_of b))
 
 -- another text leaves what the first block says
 heads_keep : (s : SubtitleValue) (b t : List ℕ) → Begins s b → Begins (record s { text = t }) b
-heads_keep s b t h = record {
-  cumulative = h.cumulative;
-  sgn_is = h.sgn_is;
-  sn_is = h.sn_is;
-  vp_is = h.vp_is;
-  jc_is = h.jc_is;
-  tci = h.tci;
-  tco = h.tco;
-  times = h.times;
-  vp_range = h.vp_range;
-  jc_range = h.jc_range;
-}
+heads_keep s b t h = search rules
 
--- a first block, the only one so far
-first_reaches : (b : List ℕ) (s : SubtitleValue)
-    → length b ≡ 128
-    → cf b ≡ 0
+-- the blocks so far and one more: the subtitle goes on, or is whole
+reaches : (s : SubtitleValue) (kept : List (List ℕ)) (b first : List ℕ) (others : List (List ℕ))
+    (count : ℕ)
+    → kept ++ b ∷ [] ≡ first ∷ others
+    → Begins s first
+    → AllByRecursion (Within s.sgn s.sn) kept
+    → BelongsTo s.sgn s.sn b
+    → s.text ≡ flat_map text_of (kept ++ b ∷ [])
+    → length kept + 1 ≡ count
+    → count ≤ 9
     → (ebn b < 240) ⊎ (ebn b ≡ 255)
-    → Begins s b
-    → s.text ≡ text_of b
-    → Reaches (b ∷ []) (closed (ebn b) s 1)
-first_reaches b s size none (inl low) h t =
+    → Reaches (kept ++ b ∷ []) (closed (ebn b) s count)
+reaches s kept b first others count blocks begins each own text is few (inl low) =
     let no : eqb (ebn b) 255 ≡ false = ne_eqb _ _ (λ e. omega arith) in
     rw no (
       record {
-        first = b;
-        others = [];
-        blocks = refl;
-        begins = h;
-        each = (
-          (record { size = size; is_subtitle = none; same_sgn = h.sgn_is; same_sn = h.sn_is }, low),
-          tt,
-        );
-        text_is = t ∙ sym (append-nil (text_of b));
+        first = first;
+        others = others;
+        blocks = blocks;
+        begins = begins;
+        each = all_push s.sgn s.sn kept b each (own, low);
+        text_is = text;
       },
-      refl,
-      omega arith,
+      length-append kept (b ∷ []) ∙ is,
+      few,
     )
-first_reaches b s size none (inr last) h t =
+reaches s kept b first others count blocks begins each own text is few (inr last) =
     let yes : eqb (ebn b) 255 ≡ true = eq-eqb _ _ last in
     rw yes (record {
-      first = b;
-      others = [];
-      blocks = refl;
-      few = omega arith;
-      begins = h;
-      linked = (
-        record { size = size; is_subtitle = none; same_sgn = h.sgn_is; same_sn = h.sn_is },
-        last,
-      );
-      text_is = t ∙ sym (append-nil (text_of b));
-    })
-
--- a further block
-next_reaches : (o : Begun) (kept : List (List ℕ)) (b : List ℕ)
-    → length b ≡ 128
-    → cf b ≡ 0
-    → (ebn b < 240) ⊎ (ebn b ≡ 255)
-    → IsOpen o.subtitle kept
-    → length kept ≡ o.blocks
-    → o.blocks < 9
-    → sgn b ≡ o.subtitle.sgn
-    → sn b ≡ o.subtitle.sn
-    → Reaches (kept ++ b ∷ [])
-    (closed (ebn b) (record o.subtitle { text = o.subtitle.text ++ text_of b }) (o.blocks + 1))
-next_reaches o kept b size none (inl low) h len few p q =
-    let no : eqb (ebn b) 255 ≡ false = ne_eqb _ _ (λ e. omega arith) in
-    let w : Within o.subtitle.sgn o.subtitle.sn b =
-    (record { size = size; is_subtitle = none; same_sgn = p; same_sn = q }, low) in
-    rw no (
-      record {
-        first = h.first;
-        others = h.others ++ b ∷ [];
-        blocks = ap (λ (x : List (List ℕ)). x ++ b ∷ []) h.blocks;
-        begins = heads_keep o.subtitle h.first (o.subtitle.text ++ text_of b) h.begins;
-        each = all_push o.subtitle.sgn o.subtitle.sn kept b h.each w;
-        text_is = ap (λ (x : List ℕ). x ++ text_of b) h.text_is ∙ sym (text_push kept b);
-      },
-      length-append kept (b ∷ []) ∙ omega arith,
-      omega arith,
-    )
-next_reaches o kept b size none (inr last) h len few p q =
-    let yes : eqb (ebn b) 255 ≡ true = eq-eqb _ _ last in
-    let w : BelongsTo o.subtitle.sgn o.subtitle.sn b =
-    record { size = size; is_subtitle = none; same_sgn = p; same_sn = q } in
-    rw yes (record {
-      first = h.first;
-      others = h.others ++ b ∷ [];
-      blocks = ap (λ (x : List (List ℕ)). x ++ b ∷ []) h.blocks;
+      first = first;
+      others = others;
+      blocks = blocks;
       few = omega (arith, length-append kept (b ∷ []));
-      begins = heads_keep o.subtitle h.first (o.subtitle.text ++ text_of b) h.begins;
-      linked = chain_push o.subtitle.sgn o.subtitle.sn kept b h.each w last;
-      text_is = ap (λ (x : List ℕ). x ++ text_of b) h.text_is ∙ sym (text_push kept b);
+      begins = begins;
+      linked = chain_push s.sgn s.sn kept b each own last;
+      text_is = text;
     })
 
 -- a kept block that was read belongs to the subtitle
@@ -273,10 +207,12 @@ unfolding kept_at
 kept_sound None kept b r size none e h k =
     let p = step_gave (first_at b) (λ s. Ok (closed (ebn b) s 1)) r k in
     let f = first_sound b p.0 p.1 in
-    let reached = first_reaches b p.0 size none e f.0 f.1 in
+    let own : BelongsTo p.0.sgn p.0.sn b =
+    record { size = size; is_subtitle = none; same_sgn = f.0.sgn_is; same_sn = f.0.sn_is } in
     subst (λ (x : Step). Reaches (kept ++ b ∷ []) x) (Ok-injective _ r p.2)
     (subst (λ (x : List (List ℕ)). Reaches (x ++ b ∷ []) (closed (ebn b) p.0 1)) (sym h)
-    reached)
+    (reaches p.0 [] b b [] 1 refl f.0 tt own (f.1 ∙ sym (append-nil (text_of b))) refl
+    (omega arith) e))
 kept_sound (Some o) kept b r size none e h k =
     let to : Step = closed (ebn b) (record o.subtitle { text = o.subtitle.text ++ text_of b })
     (o.blocks + 1) in
@@ -288,10 +224,20 @@ kept_sound (Some o) kept b r size none e h k =
     let not-nine : o.blocks ≡ 9 → ⊥ = eqb-false _ _ m.0 in
     let le = h.2 in
     let room : o.blocks < 9 = omega arith in
+    let own : BelongsTo o.subtitle.sgn o.subtitle.sn b = record {
+      size = size;
+      is_subtitle = none;
+      same_sgn = eqb-true _ _ both.0;
+      same_sn = eqb-true _ _ both.1;
+    } in
+    let text : List ℕ = o.subtitle.text ++ text_of b in
+    let i = h.0 in
     subst (λ (x : Step). Reaches (kept ++ b ∷ []) x) (Ok-injective to r m.1)
-    (next_reaches o kept b size none e h.0 h.1 room (eqb-true _ _ both.0) (eqb-true _ _ both.1))
-
--- ---- any block
+    (reaches (record o.subtitle { text = text }) kept b i.first (i.others ++ b ∷ []) (o.blocks + 1)
+    (ap (λ (x : List (List ℕ)). x ++ b ∷ []) i.blocks)
+    (heads_keep o.subtitle i.first text i.begins) i.each own
+    (ap (λ (x : List ℕ). x ++ text_of b) i.text_is ∙ sym (text_push kept b))
+    (ap (λ (n : ℕ). n + 1) h.1) (omega arith) e)
 
 -- what one block does to the blocks that are kept
 pub record Steps (kept : List (List ℕ)) (b : List ℕ) (begun : Option Begun) (r : Step) : Type 0

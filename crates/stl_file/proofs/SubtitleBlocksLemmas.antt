@@ -1,8 +1,11 @@
 -- The blocks of a subtitle, and lists of blocks; main lemmas: joined_push, chain_head,
 -- kept_by_both, blocks_subtitle.
-use Rattle.std.proofs.Common.{◌≡◌, ◌*◌, ℕ, Bool, true, false, cond, List, [], ◌∷◌, ◌++◌, length}
-use Rattle.std.proofs.Common.{refl, sym, ap, ◌∙◌, append_assoc, arith, length-append, subst, suc}
+use Rattle.std.proofs.Common.{◌≡◌, ◌*◌, ℕ, true, false, cond, List, [], ◌∷◌, ◌++◌, length}
+use Rattle.std.proofs.Common.{refl, sym, ap, ◌∙◌, arith, length-append, subst}
 use Rattle.std.proofs.Common.{◌<◌, ◌≤◌, ◌⊎◌, inl, inr, eqb, ltb}
+use Rattle.std.proofs.lemmas.Grind.{flat_map-append}
+use Rattle.std.proofs.lemmas.List.Elements.{filter-append}
+use Rattle.std.proofs.lemmas.List.Sums.{count_by-le-length, length-filter}
 use Rattle.std.specs.Prelude.{filter, ◌||◌}
 use Rattle.std.specs.List.{AllByRecursion, flat_map}
 use Rattle.std.proofs.lemmas.List.{append-nil}
@@ -24,30 +27,16 @@ pub blocks_push : (bs : List (List ℕ)) (b : List ℕ)
 blocks_push [] b h e = (e, tt)
 blocks_push (x ∷ bs) b h e = (h.0, blocks_push bs b h.1 e)
 
--- a block or none
-choice : (t : Bool) (b : List ℕ) → cond t (b ∷ []) [] ≡ [] ++ cond t (b ∷ []) []
-choice t b = refl
-
--- one block in front of a choice
-put : (t : Bool) (x : List ℕ) (a b c : List (List ℕ))
-    → a ≡ b ++ c
-    → cond t (x ∷ a) a ≡ cond t (x ∷ b) b ++ c
-put true x a b c e = ap (λ (y : List (List ℕ)). x ∷ y) e
-put false x a b c e = e
-
 -- the kept blocks with one more
 pub filter_push : (bs : List (List ℕ)) (b : List ℕ)
     → filter is_kept (bs ++ b ∷ []) ≡ filter is_kept bs ++ cond (is_kept b) (b ∷ []) []
-filter_push [] b = choice (is_kept b) b
-filter_push (x ∷ bs) b =
-    put (is_kept x) x (filter is_kept (bs ++ b ∷ [])) (filter is_kept bs)
-    (cond (is_kept b) (b ∷ []) []) (filter_push bs b)
+filter_push bs b = filter-append is_kept bs (b ∷ [])
 
 -- the bytes of blocks with one more
 pub joined_push : (bs : List (List ℕ)) (b : List ℕ) → joined (bs ++ b ∷ []) ≡ joined bs ++ b
-joined_push [] b = append-nil b
-joined_push (x ∷ bs) b =
-    ap (λ (t : List ℕ). x ++ t) (joined_push bs b) ∙ sym (append_assoc x (joined bs) b)
+joined_push bs b =
+    flat_map-append (λ (x : List ℕ). x) bs (b ∷ [])
+    ∙ ap (λ (x : List ℕ). joined bs ++ x) (append-nil b)
 
 -- blocks end with the one that was added
 pub ends_push : (bs : List (List ℕ)) (b : List ℕ) → is_kept b ≡ true → EndsKept (bs ++ b ∷ [])
@@ -68,21 +57,11 @@ length-joined (x ∷ bs) h =
 
 -- the bytes of two lists of blocks
 pub joined_append : (xs bs : List (List ℕ)) → joined (xs ++ bs) ≡ joined xs ++ joined bs
-joined_append [] bs = refl
-joined_append (a ∷ xs) bs = ap (λ (x : List ℕ). a ++ x) (joined_append xs bs)
-    ∙ sym (append_assoc a (joined xs) (joined bs))
-
--- one block more or the same
-choice_len : (t : Bool) (x : List ℕ) (a : List (List ℕ)) (n : ℕ)
-    → length a ≤ n
-    → length (cond t (x ∷ a) a) ≤ suc n
-choice_len true x a n le = omega arith
-choice_len false x a n le = omega arith
+joined_append xs bs = flat_map-append (λ (x : List ℕ). x) xs bs
 
 -- no more blocks are kept than there are
 pub kept_few : (bs : List (List ℕ)) → length (filter is_kept bs) ≤ length bs
-kept_few [] = omega arith
-kept_few (b ∷ bs) = choice_len (is_kept b) b (filter is_kept bs) (length bs) (kept_few bs)
+kept_few bs = omega (arith, length-filter is_kept bs, count_by-le-length is_kept bs)
 
 -- ---- user data and comments
 
