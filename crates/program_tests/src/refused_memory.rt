@@ -7,7 +7,7 @@ use sub_words::{parse_flips, parse_numbers};
 
 #[test]
 fn tells_each_growth_that_is_refused(rt: HostRuntime) -> Result<(), Fail> {
-    // Read in rooms of 65,536, 131,072 and 262,144 bytes.
+    // Read in pieces into a vector whose room doubles: 131,072 and then 262,144 bytes at the end.
     let mut input = Vec::new(rt.alloc());
     for _ in 0..1200 {
         input.extend_from_slice(&[0x20; 128])?;

@@ -1,20 +1,14 @@
 -- What is told of a fault of a run, and what is printed of one.
 use Rattle.std.specs.Prelude.{IfOk}
-use Rattle.std.proofs.Common.{◌≡◌, ◌≢◌, ap, refl, subst, arith, ℕ, ◌+◌}
-use Rattle.std.proofs.Common.{Bool, true, false}
-use Rattle.std.proofs.Common.{Option, Result}
-use Rattle.std.proofs.Common.{if◌then◌else◌}
+use Rattle.std.proofs.Common.{◌≡◌, ◌≢◌, ap, refl, subst, Bool, true, false, Option, Result}
 use Rattle.ttx_packet.specs.PageId.{PageIdValue}
 use Rattle.ttx_page.specs.Screen.{Display}
 use Rattle.ttx_pes.specs.declared.fault.PesFault.TheVariants as pes
 use Rattle.sub_check.specs.FrameRules.{Unread}
 use Rattle.sub_check.specs.Transmission.{Transmission}
 use Rattle.sub_check.specs.declared.fault.CheckFault.TheVariants as check
-use Rattle.sub_check.specs.ListeningRun.{Runs}
-use Rattle.sub_check.specs.ListeningRun.{is_of_subtitles}
-use Rattle.sub_answer.specs.ListenListing.{IsOldPage, Listens, listen_told, listing_of}
-use Rattle.sub_check.specs.ListeningRun.{is_read}
-use Rattle.sub_answer.specs.ListenListing.{tuned_with}
+use Rattle.sub_check.specs.ListeningRun.{Runs, is_of_subtitles, is_read}
+use Rattle.sub_answer.specs.ListenListing.{IsOldPage, Listens, listen_told, listing_of, tuned_with}
 use Rattle.sub_answer.specs.StateText.{IsSeenWhole}
 use Rattle.sub_answer.specs.Told.{status_of}
 use Rattle.ttx_page.specs.Page.{Rows}
@@ -38,22 +32,6 @@ pub listen_told-source : (f : ListenFault)
     → status_of (listen_told f).kind ≡ Fault
 listen_told-source (fault.File (check.Pes index pes.Read)) failed = refl
 listen_told-source f failed = cc
-
--- a count that did not rise
-pub did_not_rise : (b : Bool) (old new : ℕ)
-    → new ≡ old + (if b then 1 else 0)
-    → new ≡ old
-    → b ≡ false
-did_not_rise true old new counted same = absurd (omega (arith, counted, same))
-did_not_rise false old new counted same = refl
-
--- a count that rose
-pub did_rise : (b : Bool) (old new : ℕ)
-    → new ≡ old + (if b then 1 else 0)
-    → new ≢ old
-    → b ≡ true
-did_rise true old new counted other = refl
-did_rise false old new counted other = absurd (other (omega (arith, counted)))
 
 -- what is printed of a run of a receiver that was tuned. For `listen`.
 pub listens_from : (l : Listening) (frames : Transmission) (unread : Option Unread)

@@ -6,7 +6,7 @@ use Rattle.std.proofs.Common.{List, [], ◌∷◌, ◌++◌, append_assoc, drop,
 use Rattle.std.proofs.Common.{Bool, true, Option, Some, None, Ok, Err}
 use Rattle.std.specs.Io.KnownBytes.{Appends}
 use Rattle.std.proofs.KnownBytes.{Appends-nil, Appends-trans}
-use Rattle.sub_io.specs.Device.{AppendsPrefix}
+use Rattle.sub_io.specs.Device.{AppendsPrefix, RisesIf}
 use Rattle.sub_io.specs.Reading.{IfTold}
 use Rattle.sub_io.proofs.DeviceLemmas.{AppendsPrefix-first, AppendsPrefix-second}
 use Rattle.ttx_pes.specs.Fault as pes_fault
@@ -22,7 +22,8 @@ use Rattle.stl_file.specs.Subtitle.{SubtitleValue}
 use Rattle.stl_file.specs.declared.fault.StlFault.{StlFault}
 use Rattle.stl_file.specs.declared.fault.StlFault.TheVariants as stl
 use Rattle.sub_answer.specs.Faults.{pes_kind, stl_kind}
-use Rattle.sub_answer.specs.Listing.{Extent, Gives, Listing, Lists, PrintsOrFails, ends_in_fault}
+use Rattle.sub_answer.specs.DeviceCall.{SinkCall, SourceCall}
+use Rattle.sub_answer.specs.Listing.{Extent, Gives, Listing, Lists, PrintsListing, ends_in_fault}
 use Rattle.sub_answer.specs.Listing.{extent_of, followed, has_failed, to_cut}
 use Rattle.sub_answer.specs.PacketsListing.{answer_then, packets_from}
 use Rattle.sub_answer.specs.ShowListing.{ReadsSubtitles}
@@ -79,17 +80,6 @@ front-more Before At After told left rest old now new text i gives p = record {
       (i.listed end extent (followed text more) (gives.0 end extent more is));
 }
 
--- A listing that was printed, or of which a sink that failed has a prefix.
-pub record IsPrinted
-    (Before : Option (List ℕ) → Option (List ℕ) → Extent → Listing → Type 0)
-    (told rest : Option (List ℕ)) (extent : Extent) (n n' : ℕ) (old new : Option (List ℕ))
-    (status : Status)
-    : Type 0 where
-  pub listing : Listing
-  pub is_listed : Before told rest extent listing
-  pub cut : extent ≡ to_cut → n' ≢ n
-  pub printed : PrintsOrFails n old n' new listing status
-
 -- What ends a listing is no cut. For `list` and `list_subtitles`.
 pub never-cut : (status : Status) → extent_of (Some status) ≢ to_cut
 never-cut Fault e = cc
@@ -97,51 +87,60 @@ never-cut status e = cc
 
 -- The last lines were printed. For `list`.
 pub front-end :
-    (Before At After : Option (List ℕ) → Option (List ℕ) → Extent → Listing → Type 0)
-    (told left rest old now new : Option (List ℕ)) (text : List ℕ) (status : Status) (n n' : ℕ)
-    → IsFront Before At told left old now
-    → Gives At After left rest text (Some status)
-    → Appends now new text
-    → n' ≡ n
-    → IsPrinted Before told rest (extent_of (Some status)) n n' old new status
-front-end Before At After told left rest old now new text status n n' i gives p same = record {
+    {S : Type 0} (Before At After : Option (List ℕ) → Option (List ℕ) → Extent → Listing → Type 0)
+    (source : SourceCall S) (out : SinkCall) (left now : Option (List ℕ)) (text : List ℕ)
+    (status : Status)
+    → IsFront Before At source.told left out.old now
+    → Gives At After left source.left text (Some status)
+    → Appends now out.new text
+    → out.new_count ≡ out.old_count
+    → RisesIf source.old_count (ends_in_fault (Some status)) source.new_count
+    → PrintsListing Before source out status
+front-end Before At After source out left now text status i gives p same counted = record {
+  extent = extent_of (Some status);
   listing = followed i.text (record { text = text; status = status });
-  is_listed = i.listed rest (extent_of (Some status)) (record { text = text; status = status })
-      gives;
+  is_listed = i.listed source.left (extent_of (Some status))
+      (record { text = text; status = status }) gives;
+  source_count = counted;
   cut = λ e. absurd (never-cut status e);
-  printed = inl (same, Appends-trans old now new i.text text i.printed p, refl);
+  printed = inl (same, Appends-trans out.old now out.new i.text text i.printed p, refl);
 }
 
 -- The sink failed at these lines, whatever should follow them. For `list`.
 pub front-cut :
-    (Before At After : Option (List ℕ) → Option (List ℕ) → Extent → Listing → Type 0)
-    (told left rest old now new : Option (List ℕ)) (text : List ℕ) (end : Option Status) (n n' : ℕ)
-    → IsFront Before At told left old now
-    → Gives At After left rest text end
-    → AppendsPrefix now new text
-    → n' ≡ n + 1
-    → IsPrinted Before told rest (extent_of end) n n' old new Fault
-front-cut Before At After told left rest old now new text None n n' i gives p risen =
+    {S : Type 0} (Before At After : Option (List ℕ) → Option (List ℕ) → Extent → Listing → Type 0)
+    (source : SourceCall S) (out : SinkCall) (left now : Option (List ℕ)) (text : List ℕ)
+    (end : Option Status)
+    → IsFront Before At source.told left out.old now
+    → Gives At After left source.left text end
+    → AppendsPrefix now out.new text
+    → out.new_count ≡ out.old_count + 1
+    → RisesIf source.old_count (ends_in_fault end) source.new_count
+    → PrintsListing Before source out Fault
+front-cut Before At After source out left now text None i gives p risen counted =
     let more = gives.1 in record {
+      extent = to_cut;
       listing = followed i.text (followed text more.0);
-      is_listed = i.listed rest to_cut (followed text more.0)
-          (gives.0 rest to_cut more.0 more.1);
+      is_listed = i.listed source.left to_cut (followed text more.0)
+          (gives.0 source.left to_cut more.0 more.1);
+      source_count = counted;
       cut = λ e same. omega (arith, risen, same);
       printed = inr (
         risen,
-        AppendsPrefix-second old now new i.text (text ++ more.0.text) i.printed
-            (AppendsPrefix-first now new text more.0.text p),
+        AppendsPrefix-second out.old now out.new i.text (text ++ more.0.text) i.printed
+            (AppendsPrefix-first now out.new text more.0.text p),
         refl,
       );
     }
-front-cut Before At After told left rest old now new text (Some status) n n' i gives p risen =
-    record {
-      listing = followed i.text (record { text = text; status = status });
-      is_listed = i.listed rest (extent_of (Some status))
-          (record { text = text; status = status }) gives;
-      cut = λ e same. omega (arith, risen, same);
-      printed = inr (risen, AppendsPrefix-second old now new i.text text i.printed p, refl);
-    }
+front-cut Before At After source out left now text (Some status) i gives p risen counted = record {
+  extent = extent_of (Some status);
+  listing = followed i.text (record { text = text; status = status });
+  is_listed = i.listed source.left (extent_of (Some status))
+      (record { text = text; status = status }) gives;
+  source_count = counted;
+  cut = λ e same. omega (arith, risen, same);
+  printed = inr (risen, AppendsPrefix-second out.old now out.new i.text text i.printed p, refl);
+}
 
 -- Something is listed where a sink failed.
 lists-some :

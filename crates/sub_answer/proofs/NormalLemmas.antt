@@ -1,13 +1,11 @@
 -- What `normal` writes, prints and reads; main lemmas: works-written, taken-at_end.
-use Rattle.std.proofs.Common.{◌≡◌, ℕ, zero, suc, ◌+◌, ◌≤◌, List, [], ◌∷◌, ◌++◌, length, take}
-use Rattle.std.proofs.Common.{drop, Option, Some, None, Ok, Err, refl, sym, ap, ◌∙◌, subst}
-use Rattle.std.proofs.Common.{arith, length-take-le}
+use Rattle.std.proofs.Common.{◌≡◌, ℕ, ◌≤◌, List, ◌++◌, length, take, arith, refl, sym, ap, ◌∙◌}
+use Rattle.std.proofs.Common.{Option, Some, None, Ok, Err, subst}
 use Rattle.std.specs.Prelude.{◌↔◌, codes}
 use Rattle.std.specs.Io.KnownBytes.{Consumes, IsAtEnd, Keeps}
 use Rattle.std.proofs.KnownBytes.{Appends-kept, Consumes-kept, Consumes-trans}
 use Rattle.std.proofs.lemmas.List.{append-nil, take_all, take_at, take-take}
 use Rattle.std.proofs.lemmas.Option.{same_Some}
-use lib.Seq.{take-add}
 use Rattle.sub_io.specs.Device.{AppendsPrefix}
 use Rattle.sub_io.specs.Reading.{IfTold}
 use Rattle.sub_io.proofs.DeviceLemmas.{AppendsPrefix-whole}
@@ -88,37 +86,43 @@ written-flushed s old mid new n w kept = record {
 
 -- ---- reading the input
 
--- the next piece that went after those before it
-pub Consumes-behind : (x y z : Option (List ℕ)) (a n : ℕ) (xs ys : List ℕ)
-    → take a ys ≡ take a xs
-    → Consumes x y (take a xs)
-    → Consumes y z (take n (drop a ys))
-    → Consumes x z (take (a + n) ys)
-Consumes-behind x y z a n xs ys same p q =
-    subst (Consumes x z) (sym (take-add a n ys ∙ ap (λ l. l ++ take n (drop a ys)) same))
-    (Consumes-trans x y z _ _ p q)
-
--- the first n of a list are at most n
-take-few : (n : ℕ) (xs : List ℕ) → length (take n xs) ≤ n
-take-few zero xs = omega arith
-take-few (suc n) [] = omega arith
-take-few (suc n) (x ∷ xs) = omega (arith, take-few n xs)
-
--- the bytes that were taken of a source that is at its end
-taken-to_end : (x y : Option (List ℕ)) (xs : List ℕ)
+-- the next piece goes after those before it
+pub Consumes-next : (x y z : Option (List ℕ)) (n : ℕ) (xs ps vs : List ℕ)
+    → vs ≡ xs ++ take n ps
     → Consumes x y xs
-    → IsAtEnd y
+    → Consumes y z (take n ps)
+    → Consumes x z vs
+Consumes-next x y z n xs ps vs is p q =
+    subst (Consumes x z) (sym is) (Consumes-trans x y z _ _ p q)
+
+-- the last pull gave nothing
+pub taken-at_end : (x y z : Option (List ℕ)) (n : ℕ) (xs ps : List ℕ)
+    → n ≡ 0
+    → Consumes x y xs
+    → Consumes y z (take n ps)
+    → IsAtEnd z
     → length xs ≤ most_read
     → IfTold x (λ bytes. xs ≡ take most_read bytes)
-taken-to_end None y xs p end few bytes e = absurd cc
-taken-to_end (Some b) None xs p end few bytes e = absurd p
-taken-to_end (Some b) (Some ys) xs p end few bytes e =
-    let all : bytes ≡ xs =
-    sym (same_Some b bytes e) ∙ p ∙ ap (λ l. xs ++ l) end ∙ append-nil xs in
-    sym (ap (take most_read) all ∙ take_all most_read xs few)
+taken-at_end x y z n xs ps none p q end few =
+    taken-to_end x z xs (Consumes-next x y z n xs ps xs same p q) end few
+  where
+    same : xs ≡ xs ++ take n ps
+    same = rw none (sym (append-nil xs))
+
+    taken-to_end : (x y : Option (List ℕ)) (xs : List ℕ)
+        → Consumes x y xs
+        → IsAtEnd y
+        → length xs ≤ most_read
+        → IfTold x (λ bytes. xs ≡ take most_read bytes)
+    taken-to_end None y xs p end few bytes e = absurd cc
+    taken-to_end (Some b) None xs p end few bytes e = absurd p
+    taken-to_end (Some b) (Some ys) xs p end few bytes e =
+        let all : bytes ≡ xs =
+        sym (same_Some b bytes e) ∙ p ∙ ap (λ l. xs ++ l) end ∙ append-nil xs in
+        sym (ap (take most_read) all ∙ take_all most_read xs few)
 
 -- the bytes that were taken, where no more are read
-taken-to_most : (x y : Option (List ℕ)) (xs : List ℕ)
+pub taken-to_most : (x y : Option (List ℕ)) (xs : List ℕ)
     → Consumes x y xs
     → length xs ≡ most_read
     → IfTold x (λ bytes. xs ≡ take most_read bytes)
@@ -128,46 +132,13 @@ taken-to_most (Some b) (Some ys) xs p size bytes e =
     let all : bytes ≡ xs ++ ys = sym (same_Some b bytes e) ∙ p in
     sym (ap (take most_read) all ∙ take_at xs ys most_read size)
 
--- the last pull gave nothing
-pub taken-at_end : (x y z : Option (List ℕ)) (a n : ℕ) (xs ys vs : List ℕ)
-    → n ≡ 0
-    → take a ys ≡ take a xs
-    → Consumes x y (take a xs)
-    → Consumes y z (take n (drop a ys))
-    → IsAtEnd z
-    → a ≤ most_read
-    → vs ≡ take a ys
-    → IfTold x (λ bytes. vs ≡ take most_read bytes)
-taken-at_end x y z a n xs ys vs none same p q end few is =
-    let sum : a + n ≡ a = omega (arith, none) in
-    let all : Consumes x z (take a ys) =
-    subst (λ (k : ℕ). Consumes x z (take k ys)) sum
-    (Consumes-behind x y z a n xs ys same p q) in
-    let size : length (take a ys) ≤ most_read = omega (arith, take-few a ys, few) in
-    λ bytes e. is ∙ taken-to_end x z (take a ys) all end size bytes e
-
--- no more are read
-pub taken-at_most : (x y : Option (List ℕ)) (a : ℕ) (xs vs : List ℕ)
-    → Consumes x y (take a xs)
-    → a ≤ length xs
-    → a ≡ most_read
-    → vs ≡ take a xs
-    → IfTold x (λ bytes. vs ≡ take most_read bytes)
-taken-at_most x y a xs vs p fits most is =
-    λ bytes e. is ∙ taken-to_most x y (take a xs) p (length-take-le a xs fits ∙ most) bytes e
-
 -- the block of a byte that could not be read
-pub block-at : (x y z : Option (List ℕ)) (a block : ℕ) (xs : List ℕ)
-    → Consumes x y (take a xs)
+pub block-at : (x y z : Option (List ℕ)) (block : ℕ) (xs : List ℕ)
+    → Consumes x y xs
     → Keeps y z
-    → a ≤ length xs
-    → block ≡ block_of_byte a
+    → block ≡ block_of_byte (length xs)
     → TellsRead x z (input.Read block)
-block-at x y z a block xs p kept fits is = (
-  take a xs,
-  Consumes-kept x y z _ p kept,
-  is ∙ ap block_of_byte (sym (length-take-le a xs fits)),
-)
+block-at x y z block xs p kept is = (xs, Consumes-kept x y z _ p kept, is)
 
 -- the GSI block of the normal form is the file's
 normal_of-front : (s t : List ℕ) (j : Judged)

@@ -1,7 +1,7 @@
 -- The answer of a check by the clause of `check_files`, `answered`; where the files are accepted,
 -- `done-exactly`; where memory was refused, `memory-printed`. All serve `print_verdict`.
-use Rattle.std.proofs.Common.{◌≡◌, ◌≢◌, ◌↔◌, ℕ, List, Option, Some, Result, Ok, Err, IsOk, Bool}
-use Rattle.std.proofs.Common.{true, false, refl, arith, ◌+◌, if◌then◌else◌, ap}
+use Rattle.std.proofs.Common.{◌≡◌, ◌≢◌, ◌↔◌, ℕ, List, Option, Some, Result, Ok, Err, IsOk}
+use Rattle.std.proofs.Common.{true, false, refl, ◌+◌, if◌then◌else◌, ap}
 use Rattle.std.specs.Io.KnownBytes.{Appends}
 use Rattle.sub_io.specs.Device.{failed}
 use Rattle.sub_io.specs.Reading.{IfTold}
@@ -32,6 +32,7 @@ use Rattle.sub_answer.specs.Writing.{PrintsMemory}
 use Rattle.sub_answer.specs.declared.status.Status.TheVariants.{Done, Fault}
 use Rattle.sub_answer.specs.declared.told.Kind.{Kind}
 use Rattle.sub_answer.specs.declared.told.Kind.TheVariants as kind
+use Rattle.sub_answer.proofs.WritingLemmas.{did_not_rise}
 
 -- A file whose PES file was looked at gives a programme. For `answered`.
 has_programme :
@@ -206,15 +207,6 @@ pes_read-status (Ok a) is = cc
 pes_read-status (Err (fault.Pes pes pes_fault.Read)) is = refl
 pes_read-status (Err f) is = cc
 
--- What was counted where the count stays. For `memory-printed`.
-not-counted :
-    (b : Bool) (old new : ℕ)
-    → new ≡ old + (if b then 1 else 0)
-    → new ≡ old
-    → b ≡ false
-not-counted true old new counted same = absurd (omega (arith, counted, same))
-not-counted false old new counted same = refl
-
 -- A fault of a subtitle file with the status `Fault` and no failed source is want of memory. For
 -- `fault-printed`.
 kind-printed :
@@ -257,6 +249,6 @@ pub memory-printed :
 memory-printed national told old new (Ok a) so sn po pn is sc ss pc ps tells line = cc
 memory-printed national told old new (Err f) so sn po pn is sc ss pc ps tells line =
     fault-printed national told old new f is
-    (not-counted (is_stl_read f) so sn sc ss)
-    (not-counted (is_pes_read f) po pn pc ps)
+    (did_not_rise (is_stl_read f) so sn sc ss)
+    (did_not_rise (is_pes_read f) po pn pc ps)
     tells line

@@ -1,5 +1,5 @@
 -- What is printed where a device or memory failed, and the status that goes with an end.
-use Rattle.std.proofs.Common.{◌≡◌, ℕ, ◌+◌, List, Option, arith, refl, Bool, true, false}
+use Rattle.std.proofs.Common.{◌≡◌, ◌≢◌, ℕ, ◌+◌, List, Option, arith, refl, Bool, true, false}
 use Rattle.std.proofs.Common.{if◌then◌else◌}
 use Rattle.sub_io.specs.Reading.{IfTold}
 use Rattle.stl_file.specs.Reader.{outcome_of}
@@ -25,26 +25,15 @@ written-of_done end.Written done = refl
 written-of_done ending done = absurd cc
 
 -- A fault of loading: a refusal has no such line.
-fault_line-kind : (national : National) (told left : Option (List ℕ)) (line : List ℕ) (block : ℕ)
-    (kind : LoadFaultKind)
+pub fault_line-loading : (national : National) (told left : Option (List ℕ)) (line : List ℕ)
+    (block : ℕ) (kind : LoadFaultKind)
     → line ≡ line_of (load_told kind block)
     → IfTold told (λ bytes. TellsFault national (outcome_of bytes) block kind)
     → (is_read_kind kind ≡ true → FailsLoading national told left block)
     → HasScheduleFaultLine national told left line (load_end kind)
-fault_line-kind national told left line block (File Read) is t place = (block, is, place refl)
-fault_line-kind national told left line block Memory is t place = (block, is, t)
-fault_line-kind national told left line block kind is t place = tt
-
--- The same of the end that goes with the fault.
-pub fault_line-loading : (national : National) (told left : Option (List ℕ)) (line : List ℕ)
-    (block : ℕ) (kind : LoadFaultKind) (ending : End)
-    → ending ≡ load_end kind
-    → line ≡ line_of (load_told kind block)
-    → IfTold told (λ bytes. TellsFault national (outcome_of bytes) block kind)
-    → (is_read_kind kind ≡ true → FailsLoading national told left block)
-    → HasScheduleFaultLine national told left line ending
-fault_line-loading national told left line block kind ending end_is is t place =
-    rw end_is (fault_line-kind national told left line block kind is t place)
+fault_line-loading national told left line block (File Read) is t place = (block, is, place refl)
+fault_line-loading national told left line block Memory is t place = (block, is, t)
+fault_line-loading national told left line block kind is t place = tt
 
 -- Where the input failed, or the file, the status of the work is `Fault`. For `write`.
 pub read_end-status : (ending : End) → is_read_end ending ≡ true → end_status ending ≡ Fault
@@ -70,3 +59,19 @@ counted false m m' status e is = record {
   risen = omega (arith, e);
   once = omega (arith, e);
 }
+
+-- A count that did not rise. For `print_listening` and `memory-printed`.
+pub did_not_rise : (b : Bool) (old new : ℕ)
+    → new ≡ old + (if b then 1 else 0)
+    → new ≡ old
+    → b ≡ false
+did_not_rise true old new counted same = absurd (omega (arith, counted, same))
+did_not_rise false old new counted same = refl
+
+-- A count that rose. For `print_listening`.
+pub did_rise : (b : Bool) (old new : ℕ)
+    → new ≡ old + (if b then 1 else 0)
+    → new ≢ old
+    → b ≡ true
+did_rise true old new counted other = refl
+did_rise false old new counted other = absurd (other (omega (arith, counted)))

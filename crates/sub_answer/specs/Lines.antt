@@ -26,10 +26,6 @@ hex_digit n = slice_index (codes "0123456789ABCDEF") n
 unfoldable pub hex_two : ℕ → List ℕ
 hex_two n = hex_digit (n / 16) ∷ hex_digit (n % 16) ∷ []
 
--- Four upper case hexadecimal digits.
-abbrev pub hex_four : ℕ → List ℕ
-hex_four n = hex_two (n / 256) ++ hex_two (n % 256)
-
 -- Magazines are shown as 1 to 8: number 0 is magazine 8.
 abbrev pub shown_magazine : ℕ → ℕ
 shown_magazine magazine = if magazine == 0 then 8 else magazine
@@ -56,14 +52,11 @@ abbrev pub control_list : Header → List ℕ
 control_list h =
     if length (control_names h) == 0 then codes " none" else control_names h
 
--- Page number and subcode in hexadecimal.
-abbrev pub page_and_subcode : Header → List ℕ
-page_and_subcode h = codes "page " ++ hex_two h.page ++ codes " subcode "
-    ++ hex_four h.subcode
-
--- What a page header says.
+-- What a page header says: page number and subcode in hexadecimal, and the control bits.
 abbrev pub header_line : Header → List ℕ
-header_line h = page_and_subcode h ++ codes " control" ++ control_list h ++ codes "\n"
+header_line h = codes "page " ++ hex_two h.page ++ codes " subcode "
+    ++ hex_two (h.subcode / 256) ++ hex_two (h.subcode % 256)
+    ++ codes " control" ++ control_list h ++ codes "\n"
 
 -- Text bytes between bars.
 abbrev pub text_line : List ℕ → List ℕ

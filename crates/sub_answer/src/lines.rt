@@ -13,6 +13,7 @@ use crate::hex_digits::digits_of_block;
 use crate::told::{Kind, Place, Told};
 use arrayvec::ArrayVec;
 use stl_file::TimeCode;
+use ttx_pes::MOST_PACKETS;
 
 /// Room for a number in decimal.
 pub const NUMBER_ROOM: usize = 20;
@@ -29,8 +30,8 @@ pub const LINE_ROOM: usize = 128;
 /// One line.
 pub type Line = ArrayVec<u8, LINE_ROOM>;
 
-/// Frames of a day at 25 a second.
-const FRAMES_OF_DAY: u32 = 2_160_000;
+/// Frames of a day at 25 a second, of which each has one PES packet at most.
+const FRAMES_OF_DAY: u32 = MOST_PACKETS;
 
 /// Appends a text for which there is room.
 pub fn push_text<const N: usize>(line: &mut ArrayVec<u8, N>, text: &[u8])

@@ -2,7 +2,7 @@
 ghost use Rattle.std.specs.Prelude.{◌≡◌, []};
 ghost use Rattle.sub_io.specs.Device.{CanFail};
 ghost use Rattle.sub_answer.specs.Answering.{AnswersCheck};
-ghost use Rattle.sub_answer.specs.CheckLines.{accepted_line, verdict};
+ghost use Rattle.sub_answer.specs.CheckLines.{verdict};
 ghost use Rattle.sub_answer.specs.DeviceCall.{sink_call, source_call};
 ghost use Rattle.sub_answer.specs.Listing.{CountsFault};
 
@@ -55,7 +55,11 @@ fn push_verdict(line: &mut Line, answer: Result<Accepted, CheckFault>) -> Status
 {
     match answer {
         Ok(accepted) => {
-            push_accepted(line, accepted);
+            push_text(line, b"accepted ");
+            push_decimal(line, accepted.frames);
+            push_text(line, b" frames ");
+            push_decimal(line, accepted.transmissions);
+            push_text(line, b" transmissions\n");
             Status::Done
         }
         Err(fault) => {
@@ -64,16 +68,4 @@ fn push_verdict(line: &mut Line, answer: Result<Accepted, CheckFault>) -> Status
             told.status()
         }
     }
-}
-
-// Makes the line of what is accepted.
-fn push_accepted(line: &mut Line, accepted: Accepted)
-    requires { line.old.items ≡ [] }
-    ensures { line.new.items ≡ accepted_line accepted }
-{
-    push_text(line, b"accepted ");
-    push_decimal(line, accepted.frames);
-    push_text(line, b" frames ");
-    push_decimal(line, accepted.transmissions);
-    push_text(line, b" transmissions\n");
 }

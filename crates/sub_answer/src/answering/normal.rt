@@ -1,8 +1,6 @@
 //! `normal IN OUT`: writes the normal form of a subtitle file.
-ghost use Rattle.std.specs.Prelude.{◌≡◌, ◌≢◌, ◌+◌, ◌<◌, ◌≤◌, [], IfErr, IfOk, OnErr, OnOk};
-ghost use Rattle.std.specs.Prelude.{drop, false, take, vec_len};
-ghost use Rattle.std.specs.Io.KnownBytes.{Consumes, IsAtEnd, Keeps};
-ghost use Rattle.sub_io.specs.Device.{CanFail, CountsFailure, CountsIf, failed};
+ghost use Rattle.std.specs.Prelude.{◌≡◌, ◌≢◌, ◌<◌, [], IfErr, IfOk, OnOk, false, take};
+ghost use Rattle.sub_io.specs.Device.{CanFail, CountsIf, failed};
 ghost use Rattle.sub_io.specs.Reading.{IfTold};
 ghost use Rattle.stl_file.specs.Fault.{is_write};
 ghost use Rattle.stl_file.specs.NormalForm.{NormalAnswers};
@@ -18,16 +16,16 @@ use crate::faults::{told_of_normal, told_of_stl, told_of_usage};
 use crate::lines::{Line, push_told};
 use crate::request::UsageFault;
 use crate::writing::{End, Work, push_written};
-use std::alloc::{AllocError, Allocator, Global};
+use std::alloc::{Allocator, Global};
 use stl_file::{NormalFault, StlFault, law_of_files, normal};
-use sub_io::{Failed, Flush, Source};
+use sub_io::{Flush, Source};
 
 /// One byte more than the longest subtitle file has: a GSI block and 99,999 TTI blocks. No byte
 /// after it can change the answer.
 const MOST_READ: usize = 12_800_897;
 
-/// The least room in which the input is read.
-const LEAST_ROOM: usize = 65_536;
+/// Bytes that one pull asks for at most.
+const PIECE: usize = 4096;
 
 /// Why the input was not read.
 #[derive(Clone, Copy, Debug, PartialEq, Eq)]
@@ -131,25 +129,22 @@ pub fn read_input<A: Allocator + Drop, S: Source>(
     ensures count { CountsIf S.failure_count input.old (failed is_read result) input.new }
 {
     let mut bytes = Vec::new(alloc);
-    let mut len = 0;
-    while len < MOST_READ {
-        let Ok(()) = make_room(&mut bytes, len) else {
-            return Err(InputFault::Memory);
-        };
-        match pull_behind(input, &mut bytes, len) {
-            Ok(0) => {
-                bytes.truncate(len);
-                return Ok(bytes);
+    let mut room = [0; PIECE];
+    'pieces: while bytes.len() < MOST_READ {
+        let piece = &mut room[..PIECE.min(MOST_READ - bytes.len())];
+        match input.pull(piece) {
+            Ok(0) => return Ok(bytes),
+            Ok(len) => {
+                let Ok(()) = bytes.extend_from_slice(&piece[..len]) else {
+                    return Err(InputFault::Memory);
+                };
             }
-            Ok(n) => len += n,
             Err(_) => {
-                return Err(InputFault::Read {
-                    block: block_of_byte(len),
-                });
+                let block = block_of_byte(bytes.len());
+                return Err(InputFault::Read { block });
             }
         }
     }
-    bytes.truncate(len);
     Ok(bytes)
 }
 
@@ -163,42 +158,4 @@ fn block_of_byte(len: usize) -> u32
     } else {
         ((len - 1024) / 128) as u32 + 1
     }
-}
-
-// Makes room after `len` bytes of a vector: where there is none, it is made twice as long,
-// within the least and the most room.
-fn make_room<A: Allocator>(bytes: &mut Vec<u8, A>, len: usize) -> Result<(), AllocError>
-    requires within { len ≤ vec_len bytes.old }
-    requires most { vec_len bytes.old ≤ most_read }
-    requires wanted { len < most_read }
-    ensures more { OnOk result (len < vec_len bytes.new) }
-    ensures most { OnOk result (vec_len bytes.new ≤ most_read) }
-    ensures front { OnOk result (take len bytes.new.items ≡ take len bytes.old.items) }
-{
-    if len < bytes.len() {
-        return Ok(());
-    }
-    let room = (2 * len).max(LEAST_ROOM).min(MOST_READ);
-    bytes.resize(room, 0)
-}
-
-// Pulls once, into the places of a vector after `len` bytes.
-fn pull_behind<A: Allocator, S: Source>(
-    input: &mut S,
-    bytes: &mut Vec<u8, A>,
-    len: usize,
-) -> Result<usize, Failed>
-    requires within { len < vec_len bytes.old }
-    requires count { CanFail (S.failure_count input.old) }
-    ensures len { vec_len bytes.new ≡ vec_len bytes.old }
-    ensures bound { IfOk result (λ n. len + n ≤ vec_len bytes.new) }
-    ensures front { take len bytes.new.items ≡ take len bytes.old.items }
-    ensures taken { IfOk result (λ n.
-        Consumes (S.remaining input.old) (S.remaining input.new)
-        (take n (drop len bytes.new.items))) }
-    ensures end { IfOk result (λ n. n ≡ 0 → IsAtEnd (S.remaining input.new)) }
-    ensures kept { OnErr result (Keeps (S.remaining input.old) (S.remaining input.new)) }
-    ensures count { CountsFailure (S.failure_count input.old) result (S.failure_count input.new) }
-{
-    input.pull(&mut bytes[len..])
 }

@@ -3,11 +3,10 @@ ghost use Rattle.std.specs.Prelude.{◌≡◌, ◌≢◌, ◌+◌, ◌≤◌, �
 ghost use Rattle.sub_io.specs.Device.{CanFail};
 ghost use Rattle.arrayvec.specs.ArrayVec.{array_vec_len};
 ghost use Rattle.ttx_packet.specs.PageHeader.{header};
-ghost use Rattle.sub_answer.specs.Lines.{address_line, control_list, control_names, header_line};
-ghost use Rattle.sub_answer.specs.Lines.{hex_four, hex_two, marked, page_and_subcode, text_glyph};
-ghost use Rattle.sub_answer.specs.Lines.{text_line};
-ghost use Rattle.sub_answer.specs.Listing.{CountsFault, PrintsOrFails, packet_listing};
-ghost use Rattle.sub_answer.specs.Listing.{header_listing, row_listing};
+ghost use Rattle.sub_answer.specs.Lines.{address_line, control_list, header_line, hex_two, marked};
+ghost use Rattle.sub_answer.specs.Lines.{text_glyph, text_line};
+ghost use Rattle.sub_answer.specs.Listing.{CountsFault, PrintsOrFails, header_listing};
+ghost use Rattle.sub_answer.specs.Listing.{packet_listing, row_listing};
 
 use crate::lines::{glyph, push_decimal, push_text, push_told};
 use crate::printing::print;
@@ -128,22 +127,14 @@ fn push_header(line: &mut Text, header: &Header)
     ensures items { line.new.items ≡ line.old.items ++ header_line header.now }
     ensures len { array_vec_len line.new ≤ array_vec_len line.old + HEADER_ROOM }
 {
-    push_page(line, header);
-    push_text(line, b" control");
-    push_control(line, header);
-    push_text(line, b"\n");
-}
-
-// Appends the page number and the subcode.
-fn push_page(line: &mut Text, header: &Header)
-    requires { array_vec_len line.old + 20 ≤ PACKET_ROOM }
-    ensures items { line.new.items ≡ line.old.items ++ page_and_subcode header.now }
-    ensures len { array_vec_len line.new ≤ array_vec_len line.old + 20 }
-{
     push_text(line, b"page ");
     push_hex(line, header.page);
     push_text(line, b" subcode ");
-    push_long_hex(line, header.subcode);
+    push_hex(line, (header.subcode / 256) as u8);
+    push_hex(line, (header.subcode % 256) as u8);
+    push_text(line, b" control");
+    push_control(line, header);
+    push_text(line, b"\n");
 }
 
 // Appends a byte as two upper case hexadecimal digits.
@@ -157,36 +148,14 @@ fn push_hex(line: &mut Text, byte: u8)
     line.push(HEX_DIGITS[(byte % 16) as usize]);
 }
 
-// Appends a number as four upper case hexadecimal digits.
-fn push_long_hex(line: &mut Text, number: u16)
-    requires { array_vec_len line.old + 4 ≤ PACKET_ROOM }
-    ensures items { line.new.items ≡ line.old.items ++ hex_four number }
-    ensures len { array_vec_len line.new ≡ array_vec_len line.old + 4 }
-{
-    push_hex(line, (number / 256) as u8);
-    push_hex(line, (number % 256) as u8);
-}
-
 // Appends the control bits that are set, or ` none`.
 fn push_control(line: &mut Text, header: &Header)
     requires { array_vec_len line.old + CONTROL_ROOM ≤ PACKET_ROOM }
     ensures items { line.new.items ≡ line.old.items ++ control_list header.now }
     ensures len { array_vec_len line.new ≤ array_vec_len line.old + CONTROL_ROOM }
 {
-    let names = control_names(header);
-    if names.is_empty() {
-        push_text(line, b" none");
-    } else {
-        push_text(line, names.as_slice());
-    }
-}
-
-// The control bits that are set, rising, each after a space.
-fn control_names(header: &Header) -> ArrayVec<u8, CONTROL_ROOM>
-    ensures { result.items ≡ control_names header.now }
-{
     let control = header.control;
-    let mut names = ArrayVec::new();
+    let mut names = ArrayVec::<u8, CONTROL_ROOM>::new();
     push_name(&mut names, control.contains(Control::C4), b" C4");
     push_name(&mut names, control.contains(Control::C5), b" C5");
     push_name(&mut names, control.contains(Control::C6), b" C6");
@@ -198,7 +167,11 @@ fn control_names(header: &Header) -> ArrayVec<u8, CONTROL_ROOM>
     push_name(&mut names, control.contains(Control::C12), b" C12");
     push_name(&mut names, control.contains(Control::C13), b" C13");
     push_name(&mut names, control.contains(Control::C14), b" C14");
-    names
+    if names.is_empty() {
+        push_text(line, b" none");
+    } else {
+        push_text(line, names.as_slice());
+    }
 }
 
 // Appends the name of a bit that is set.
@@ -219,7 +192,9 @@ fn push_text_line(line: &mut Text, bytes: &[u8])
     ensures { line.new.items ≡ line.old.items ++ text_line bytes.now }
 {
     push_text(line, b"text |");
-    push_shown(line, bytes);
+    for byte in bytes {
+        line.push(text_glyph(*byte));
+    }
     push_text(line, b"|\n");
 }
 
@@ -231,16 +206,5 @@ fn text_glyph(byte: u8) -> u8
         glyph(byte % 128)
     } else {
         b'?'
-    }
-}
-
-// Appends the characters of text bytes.
-fn push_shown(line: &mut Text, bytes: &[u8])
-    requires { array_vec_len line.old + length bytes.now ≤ PACKET_ROOM }
-    ensures items { line.new.items ≡ line.old.items ++ map text_glyph bytes.now }
-    ensures len { array_vec_len line.new ≡ array_vec_len line.old + length bytes.now }
-{
-    for byte in bytes {
-        line.push(text_glyph(*byte));
     }
 }

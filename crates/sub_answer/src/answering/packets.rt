@@ -13,7 +13,7 @@ use crate::lines::{push_decimal, push_lower_hex, push_text, push_told};
 use crate::listing::{Lister, PIECE, Text};
 use crate::status::Status;
 use sub_io::Source;
-use ttx_pes::{PesFrame, PesReader, Unit};
+use ttx_pes::{MOST_UNITS, PesFrame, PesReader, Unit};
 
 /// Lists the PES packets of a file (EN 300 472).
 #[derive(Drop)]
@@ -72,8 +72,8 @@ const PES_LINE: usize = 64;
 // Room for the line of a Teletext unit.
 const UNIT_LINE: usize = 192;
 
-// A piece has room for the lines of a PES packet and of its 35 units.
-const _: () = prove!(PES_LINE + 35 * UNIT_LINE <= PIECE);
+// A piece has room for the lines of a PES packet and of all its units.
+const _: () = prove!(PES_LINE + MOST_UNITS * UNIT_LINE <= PIECE);
 
 // Appends the lines of a PES packet and of its Teletext units.
 fn push_frame(text: &mut Text, index: u32, frame: &PesFrame)

@@ -8,7 +8,7 @@ ghost use Rattle.sub_answer.specs.Lines.{glyph};
 ghost use Rattle.sub_answer.specs.Listing.{CountsFault, PrintsOrFails, done};
 ghost use Rattle.ttx_page.specs.Screen.{display};
 ghost use Rattle.sub_answer.specs.StateText.{IsSeenWhole, display_text, open_line, page_text};
-ghost use Rattle.sub_answer.specs.StateText.{row_line, row_text, rows_text, seen_page, seen_text};
+ghost use Rattle.sub_answer.specs.StateText.{row_text, rows_text, seen_page, seen_text};
 
 use crate::lines::{LINE_ROOM, glyph, push_text, push_two_digits};
 use crate::printing::print;
@@ -134,21 +134,15 @@ fn push_row(rows: &mut Rows, row: u8, cells: &[u8; 40])
     ensures items { rows.new.items ≡ rows.old.items ++ row_text row cells.now }
     ensures len { array_vec_len rows.new ≤ array_vec_len rows.old + ROW_ROOM }
 {
-    if !is_blank(cells) {
-        push_row_line(rows, row, cells);
+    if is_blank(cells) {
+        return;
     }
-}
-
-// Appends the line of a row.
-fn push_row_line(rows: &mut Rows, row: u8, cells: &[u8; 40])
-    requires { array_vec_len rows.old + ROW_ROOM ≤ ROWS_ROOM }
-    ensures items { rows.new.items ≡ rows.old.items ++ row_line row cells.now }
-    ensures len { array_vec_len rows.new ≡ array_vec_len rows.old + ROW_ROOM }
-{
     push_text(rows, b"row ");
     push_two_digits(rows, row);
     push_text(rows, b" |");
-    push_glyphs(rows, cells);
+    for cell in cells {
+        rows.push(glyph(*cell));
+    }
     push_text(rows, b"|\n");
 }
 
@@ -162,15 +156,4 @@ fn is_blank(cells: &[u8; 40]) -> bool
         }
     }
     true
-}
-
-// Appends the characters of cells.
-fn push_glyphs(rows: &mut Rows, cells: &[u8])
-    requires { array_vec_len rows.old + length cells.now ≤ ROWS_ROOM }
-    ensures items { rows.new.items ≡ rows.old.items ++ map glyph cells.now }
-    ensures len { array_vec_len rows.new ≡ array_vec_len rows.old + length cells.now }
-{
-    for cell in cells {
-        rows.push(glyph(*cell));
-    }
 }

@@ -1,15 +1,9 @@
 -- What a command's body says of its answer, said of the request.
 use Rattle.sub_answer.proofs.answering.answer.Goals as goal
 
-pub returns-in-Packet-clause-answers : goal.returns-in-Packet-clause-answers
-returns-in-Packet-clause-answers g c = rw c.in-Packet.is c.show_packet.ensures.printed
-
 pub returns-in-Packets-clause-answers : goal.returns-in-Packets-clause-answers
 returns-in-Packets-clause-answers g c =
     rw c.in-Packets.is (rw c.new.ensures.start at c.list.ensures.listing)
-
-pub returns-in-Show-clause-answers : goal.returns-in-Show-clause-answers
-returns-in-Show-clause-answers g c = rw c.in-Show.is c.list_subtitles.ensures.listing
 
 pub returns-in-Normal-clause-answers : goal.returns-in-Normal-clause-answers
 returns-in-Normal-clause-answers g c = rw c.in-Normal.is c.write-in-Normal.ensures.work

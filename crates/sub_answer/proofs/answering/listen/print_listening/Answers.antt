@@ -3,7 +3,8 @@ use Rattle.std.proofs.Common.{None, refl, ◌∙◌, ap, arith, Ok, Err}
 use Rattle.ttx_page.specs.Screen.{display}
 use Rattle.sub_check.specs.ListeningRun.{is_read}
 use Rattle.sub_answer.specs.ListenListing.{listing_of}
-use Rattle.sub_answer.proofs.ListenListingLemmas.{did_not_rise, did_rise, listens_from}
+use Rattle.sub_answer.proofs.ListenListingLemmas.{listens_from}
+use Rattle.sub_answer.proofs.WritingLemmas.{did_not_rise, did_rise}
 use Rattle.sub_answer.proofs.answering.listen.print_listening.Goals as goal
 
 pub returns-in-Ok-clause-exact : goal.returns-in-Ok-clause-exact

@@ -1,19 +1,17 @@
--- The bytes that were taken stand in front, and no pull has failed.
-use Rattle.std.proofs.Common.{◌≡◌, ◌≤◌, ◌-◌, take}
+-- The bytes are those that were taken, and no pull has failed.
+use Rattle.std.proofs.Common.{◌≡◌, ◌≤◌, ◌-◌}
 use Rattle.std.specs.Prelude.{vec_len}
 use Rattle.std.specs.Io.KnownBytes.{Consumes}
 use Rattle.sub_answer.specs.NormalWriting.{most_read}
 use Rattle.sub_answer.proofs.answering.normal.read_input.Given as goal
 
-abbrev pub invariant-loop-len : goal.invariant-loop-len
-invariant-loop-len g l = record {
-  within : l.len ≤ vec_len l.bytes;
+abbrev pub invariant-pieces : goal.invariant-pieces
+invariant-pieces g l = record {
   most : vec_len l.bytes ≤ most_read;
   taken : Consumes
-      (g.S.Source.remaining l.initial.input) (g.S.Source.remaining l.input)
-      (take l.len l.bytes.items);
+      (g.S.Source.remaining l.initial.input) (g.S.Source.remaining l.input) l.bytes.items;
   count : g.S.Source.failure_count l.input ≡ g.S.Source.failure_count l.initial.input;
 }
 
-abbrev pub decreases-loop-len : goal.decreases-loop-len
-decreases-loop-len g l = most_read - l.len
+abbrev pub decreases-pieces : goal.decreases-pieces
+decreases-pieces g l = most_read - vec_len l.bytes

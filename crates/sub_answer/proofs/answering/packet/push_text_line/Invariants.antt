@@ -2,7 +2,7 @@
 use Rattle.std.proofs.Common.{◌≡◌, ◌++◌, ◌+◌, map, take}
 use Rattle.arrayvec.specs.ArrayVec.{array_vec_len}
 use Rattle.sub_answer.specs.Lines.{text_glyph}
-use Rattle.sub_answer.proofs.answering.packet.push_shown.Given as goal
+use Rattle.sub_answer.proofs.answering.packet.push_text_line.Given as goal
 
 abbrev pub invariant-loop-byte : goal.invariant-loop-byte
 invariant-loop-byte l =

@@ -2,7 +2,7 @@
 use Rattle.std.proofs.Common.{◌≡◌, ◌++◌, ◌+◌, map, take}
 use Rattle.arrayvec.specs.ArrayVec.{array_vec_len}
 use Rattle.sub_answer.specs.Lines.{glyph}
-use Rattle.sub_answer.proofs.answering.state.push_glyphs.Given as goal
+use Rattle.sub_answer.proofs.answering.state.push_row.Given as goal
 
 abbrev pub invariant-loop-cell : goal.invariant-loop-cell
 invariant-loop-cell l =
