@@ -32,26 +32,19 @@ impl Item for Flip {
 
     ghost same = { is_same_byte };
 
+    #[tactic(auto, unfolding(crate::specs::Texts::flip_of_text))]
     fn read(text: &str) -> Option<Flip> {
-        parse_flip(text)
+        let packet = field_of(text, 0)?;
+        let byte = field_of(text, 1)?;
+        let bit = field_of(text, 2)?;
+        match field_of(text, 3) {
+            Some(_) => None,
+            None => flip_of_fields(packet, byte, bit),
+        }
     }
 
     fn is_same(&self, other: &Flip) -> bool {
         self.packet == other.packet && self.byte == other.byte
-    }
-}
-
-// The flip that a text is.
-#[tactic(auto, unfolding(crate::specs::Texts::flip_of_text))]
-fn parse_flip(text: &str) -> Option<Flip>
-    ensures { result ≡ flip_of_text text.now }
-{
-    let packet = field_of(text, 0)?;
-    let byte = field_of(text, 1)?;
-    let bit = field_of(text, 2)?;
-    match field_of(text, 3) {
-        Some(_) => None,
-        None => flip_of_fields(packet, byte, bit),
     }
 }
 

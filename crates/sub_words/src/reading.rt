@@ -1,5 +1,5 @@
 //! The arguments of each command, read as a request.
-ghost use Rattle.std.specs.Prelude.{◌≡◌, IfErr, IfOk, IsOk, codes};
+ghost use Rattle.std.specs.Prelude.{◌≡◌, IfErr, IfOk, codes};
 ghost use Rattle.clap.specs.Words.{found_of, rows_of};
 ghost use Rattle.sub_words.specs.Commands.{command_names};
 ghost use Rattle.sub_words.specs.Requests.{IsFaultBy, IsFaultOrMemory, IsOneOf, IsRequestBy};
@@ -28,9 +28,11 @@ pub fn read_command<'a>(
     if name == "packet" {
         read_packet(matches)
     } else if name == "packets" {
-        read_packets(matches)
+        let pes = text_at(matches, "pes");
+        Ok(Request::Packets { pes })
     } else if name == "show" {
-        read_show(matches)
+        let stl = text_at(matches, "stl");
+        Ok(Request::Show { stl })
     } else if name == "normal" {
         read_normal(matches)
     } else if name == "schedule" {
@@ -38,7 +40,9 @@ pub fn read_command<'a>(
     } else if name == "check" {
         read_check(matches)
     } else {
-        read_listen(alloc, matches)
+        let listening = listening_at(alloc, matches)?;
+        let pes = text_at(matches, "pes");
+        Ok(Request::Listen { pes, listening })
     }
 }
 
@@ -52,26 +56,6 @@ fn read_packet<'a>(matches: &ArgMatches<'a>) -> Result<Request<'a>, UsageFault>
         Ok(()) => Ok(Request::Packet { bytes }),
         Err(_) => Err(UsageFault::BadHex),
     }
-}
-
-// `packets PES`
-fn read_packets<'a>(matches: &ArgMatches<'a>) -> Result<Request<'a>, UsageFault>
-    ensures ok { IsOk result }
-    ensures request { IfOk result (IsRequestBy (codes "packets") (rows_of (found_of matches.now))) }
-{
-    Ok(Request::Packets {
-        pes: text_at(matches, "pes"),
-    })
-}
-
-// `show STL`
-fn read_show<'a>(matches: &ArgMatches<'a>) -> Result<Request<'a>, UsageFault>
-    ensures ok { IsOk result }
-    ensures request { IfOk result (IsRequestBy (codes "show") (rows_of (found_of matches.now))) }
-{
-    Ok(Request::Show {
-        stl: text_at(matches, "stl"),
-    })
 }
 
 // `normal IN OUT`
@@ -122,19 +106,5 @@ fn read_check<'a>(matches: &ArgMatches<'a>) -> Result<Request<'a>, UsageFault>
         pes: text_at(matches, "pes"),
         options,
         national,
-    })
-}
-
-// `listen PES [--page P] [--origin T] --at TIME [--skip N] [--flip F] [--lose L] [--receiver R]
-// [--complete]`
-fn read_listen<'a>(alloc: Global, matches: &ArgMatches<'a>) -> Result<Request<'a>, UsageFault>
-    ensures request { IfOk result (IsRequestBy (codes "listen") (rows_of (found_of matches.now))) }
-    ensures fault { IfErr result
-        (IsFaultOrMemory (codes "listen") (rows_of (found_of matches.now))) }
-{
-    let listening = listening_at(alloc, matches)?;
-    Ok(Request::Listen {
-        pes: text_at(matches, "pes"),
-        listening,
     })
 }
