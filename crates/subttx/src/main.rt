@@ -90,14 +90,34 @@ fn open_and_answer<R: AllocGlobal + Files, K: Sink>(
     requires { failures_and_refused (K.failure_count out.old.device) out.old.refused ≡ 0 }
     ensures { IfErr result (λ _. out.new ≡ out.old) }
 {
+    let alloc = rt.alloc();
+    let mut nothing = MemSource::new(&[]);
     match request.files() {
         FileNames::None => {
-            let (mut no_first, mut no_second) = (MemSource::new(&[]), MemSource::new(&[]));
-            Ok(answer_inputs(rt.alloc(), request, &mut no_first, &mut no_second, out))
+            Ok(answer_inputs(alloc, request, &mut MemSource::new(&[]), &mut nothing, out))
         }
-        FileNames::Read(input) => answer_file(rt, request, &input, out),
-        FileNames::ReadBoth(first, second) => answer_pair(rt, request, &first, &second, out),
-        FileNames::Write(input, output) => answer_into(rt, request, &input, &output, out),
+        FileNames::Read(input) => {
+            let mut room = room(alloc)?;
+            let mut first = open_input(rt, &input, room.as_mut_slice())?;
+            Ok(answer_inputs(alloc, request, &mut first, &mut nothing, out))
+        }
+        FileNames::ReadBoth(first, second) => {
+            let mut first_room = room(alloc)?;
+            let mut first = open_input(rt, &first, first_room.as_mut_slice())?;
+            let mut second_room = room(alloc)?;
+            let mut second = open_input(rt, &second, second_room.as_mut_slice())?;
+            Ok(answer_inputs(alloc, request, &mut first, &mut second, out))
+        }
+        FileNames::Write(input, output) => {
+            let mut first_room = room(alloc)?;
+            let mut first = open_input(rt, &input, first_room.as_mut_slice())?;
+            if !is_apart(rt, &input, &output) {
+                return Err(UsageFault::Open);
+            }
+            let mut file_room = room(alloc)?;
+            let mut file = create_output(rt, &output, file_room.as_mut_slice())?;
+            Ok(answer_and_hand_on(alloc, request, &mut first, &mut nothing, &mut file, out))
+        }
     }
 }
 
@@ -143,69 +163,6 @@ fn create_output<'a, R: Files>(
         Ok(file) => Ok(BufferedSink::new(IntoFile::new(file), room)),
         Err(_) => Err(UsageFault::Open),
     }
-}
-
-// Answers a request with the one file that it reads.
-fn answer_file<R: AllocGlobal + Files, K: Sink>(
-    rt: &R,
-    request: &Request<'_>,
-    input: &Input<'_>,
-    out: &mut BufferedSink<'_, K>,
-) -> Result<Status, UsageFault>
-    requires { failures_and_refused (K.failure_count out.old.device) out.old.refused ≡ 0 }
-    ensures { IfErr result (λ _. out.new ≡ out.old) }
-{
-    let mut room = room(rt.alloc())?;
-    let mut first = open_input(rt, input, room.as_mut_slice())?;
-    let mut no_second = MemSource::new(&[]);
-    Ok(answer_inputs(rt.alloc(), request, &mut first, &mut no_second, out))
-}
-
-// Answers a request with the two files that it reads.
-fn answer_pair<R: AllocGlobal + Files, K: Sink>(
-    rt: &R,
-    request: &Request<'_>,
-    first_input: &Input<'_>,
-    second_input: &Input<'_>,
-    out: &mut BufferedSink<'_, K>,
-) -> Result<Status, UsageFault>
-    requires { failures_and_refused (K.failure_count out.old.device) out.old.refused ≡ 0 }
-    ensures { IfErr result (λ _. out.new ≡ out.old) }
-{
-    let mut first_room = room(rt.alloc())?;
-    let mut first = open_input(rt, first_input, first_room.as_mut_slice())?;
-    let mut second_room = room(rt.alloc())?;
-    let mut second = open_input(rt, second_input, second_room.as_mut_slice())?;
-    Ok(answer_inputs(rt.alloc(), request, &mut first, &mut second, out))
-}
-
-// Answers a request with the file that it reads and the one that it writes.
-fn answer_into<R: AllocGlobal + Files, K: Sink>(
-    rt: &R,
-    request: &Request<'_>,
-    input: &Input<'_>,
-    output: &Output<'_>,
-    out: &mut BufferedSink<'_, K>,
-) -> Result<Status, UsageFault>
-    requires { failures_and_refused (K.failure_count out.old.device) out.old.refused ≡ 0 }
-    ensures { IfErr result (λ _. out.new ≡ out.old) }
-{
-    let mut first_room = room(rt.alloc())?;
-    let mut first = open_input(rt, input, first_room.as_mut_slice())?;
-    if !is_apart(rt, input, output) {
-        return Err(UsageFault::Open);
-    }
-    let mut file_room = room(rt.alloc())?;
-    let mut file = create_output(rt, output, file_room.as_mut_slice())?;
-    let mut no_second = MemSource::new(&[]);
-    Ok(answer_and_hand_on(
-        rt.alloc(),
-        request,
-        &mut first,
-        &mut no_second,
-        &mut file,
-        out,
-    ))
 }
 
 // Answers a request that writes no file. For a device that it does not name, an empty one is
