@@ -34,17 +34,7 @@ odd_same :
     → is_odd c ≡ true
     → b % 128 ≡ c % 128
     → b ≡ c
-odd_same b c lb lc ob oc e =
-    elim (cases_lt b 128) [
-      | inl bl ↦ elim (cases_lt c 128) [
-        | inl cl ↦ omega arith
-        | inr ch ↦ absurd (one_odd b c bl (omega arith) ob oc)
-      ]
-      | inr bh ↦ elim (cases_lt c 128) [
-        | inl cl ↦ absurd (one_odd c b cl (omega arith) oc ob)
-        | inr ch ↦ omega arith
-      ]
-    ]
+odd_same b c lb lc ob oc e = grind (arith, one_odd)
 
 -- The address of code words. For `same_address`.
 address_is :

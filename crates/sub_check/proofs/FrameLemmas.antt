@@ -1,4 +1,5 @@
 -- The frames of a range that pass a test, as a transmission: sent_at, sent_none, rises.
+use Rattle.std.proofs.lemmas.List.Kept.{AllPairs-cons}
 use Rattle.std.proofs.Common.{◌≡◌, ℕ, zero, suc, ◌+◌, ◌<◌, ◌≤◌, inl, inr, Bool, true, false, ◌&&◌}
 use Rattle.std.proofs.Common.{nat_le, nat_lt, cond, List, [], ◌∷◌, ◌++◌, map, filter, flat_map}
 use Rattle.std.proofs.Common.{slice_index_or, All, refl, ap, ap₂, ◌∙◌, arith, append-nil}
@@ -30,26 +31,16 @@ module _ (made : ℕ → SentFrame) (numbered : (f : ℕ) → (made f).frame ≡
   later a (suc n) b l =
       let ih = later (a + 1) n b (omega arith) in let is = numbered a in grind arith
 
-  -- A frame before later ones.
-  rising_cons : (frame : SentFrame) (rest : Transmission)
-      → AllByRecursion (λ (other : SentFrame). suc frame.frame ≤ other.frame) rest → IsRising rest
-      → IsRising (frame ∷ rest)
-  rising_cons frame rest after rises zero zero d l m = absurd (omega arith)
-  rising_cons frame rest after rises zero (suc j) d l m =
-      let x : suc frame.frame ≤ (slice_index_or rest j d).frame =
-      All-from_recursion (λ (other : SentFrame). suc frame.frame ≤ other.frame) rest after j d
-      (omega arith) in omega arith
-  rising_cons frame rest after rises (suc i) zero d l m = absurd (omega arith)
-  rising_cons frame rest after rises (suc i) (suc j) d l m = rises i j d (omega arith) (omega arith)
-
   -- The frames rise.
   pub rises : (a n : ℕ) → IsRising (frames a n)
   rises a zero = λ i j d l m. absurd (omega arith)
   rises a (suc n) = go (p a) (rises (a + 1) n)
     where
       go : (t : Bool) → IsRising (frames (a + 1) n) → IsRising (passing t a n)
-      go true ih = rising_cons (made a) (frames (a + 1) n)
-          (later (a + 1) n (suc (made a).frame) (omega (arith, numbered a))) ih
+      go true ih =
+          AllPairs-cons (λ (s u : SentFrame). s.frame < u.frame) (made a) (frames (a + 1) n)
+          (All-from_recursion (λ (s : SentFrame). suc (made a).frame ≤ s.frame) (frames (a + 1) n)
+          (later (a + 1) n (suc (made a).frame) (omega (arith, numbered a)))) ih
       go false ih = ih
 
   -- What one frame gives.

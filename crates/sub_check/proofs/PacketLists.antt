@@ -44,17 +44,6 @@ module _ {X : Type 0} where
   Each-none f [] e = tt
   Each-none f (y ∷ ys) e = let p = or_parts (f y) (list_any f ys) e in (p.0, Each-none f ys p.1)
 
-  -- An element that passes the test, with what holds of each.
-  pub Each-pick : (f : X → Bool) (P : X → Type 0) (xs : List X) → list_any f xs ≡ true
-      → AllByRecursion P xs → (x : X) × (f x ≡ true) × P x
-  Each-pick f P [] e h = cc
-  Each-pick f P (y ∷ ys) e h = go (f y) refl e (λ d. Each-pick f P ys d h.1)
-    where
-      go : (b : Bool) → f y ≡ b → (b || list_any f ys) ≡ true
-          → (list_any f ys ≡ true → (x : X) × (f x ≡ true) × P x) → (x : X) × (f x ≡ true) × P x
-      go true p d ih = (y, p, h.0)
-      go false p d ih = ih d
-
   -- The first element that passes the test, with what holds of each.
   pub Each-find : (f : X → Bool) (P : X → Type 0) (xs : List X) → list_any f xs ≡ true
       → AllByRecursion P xs → (x : X) × (find f xs ≡ Some x) × (f x ≡ true) × P x
@@ -67,11 +56,10 @@ module _ {X : Type 0} where
       go true p d ih = (y, refl, p, h.0)
       go false p d ih = ih d
 
-  -- Where no item passes a test, none is found.
-  pub find_none : (f : X → Bool) (xs : List X) → list_any f xs ≡ false → find f xs ≡ None
-  find_none f [] e = refl
-  find_none f (y ∷ ys) e = let p = or_parts (f y) (list_any f ys) e in
-      cond-false (f y) (Some y) (find f ys) p.0 ∙ find_none f ys p.1
+  -- An element that passes the test, with what holds of each.
+  pub Each-pick : (f : X → Bool) (P : X → Type 0) (xs : List X) → list_any f xs ≡ true
+      → AllByRecursion P xs → (x : X) × (f x ≡ true) × P x
+  Each-pick f P xs e h = let found = Each-find f P xs e h in (found.0, found.2, found.3)
 
 -- One that fails it is not.
 pub no_row : (row : ℕ) (k : PacketKind) → is_row row k ≡ false → k ≡ Row row → ⊥

@@ -31,7 +31,8 @@ use Rattle.sub_check.specs.FrameRules.{ShowsDue, IsCovered, IsEnded}
 use Rattle.sub_plan.specs.Schedule.{due_in}
 use Rattle.sub_check.specs.Checker.{CheckerValue, IsAtFrame, at_frame}
 use Rattle.sub_check.specs.Following.{HeaderIs, Remembers}
-use Rattle.sub_check.proofs.PacketLists.{Each-find, Each-join, find_none}
+use Rattle.sub_check.proofs.PacketLists.{Each-find, Each-join}
+use Rattle.ttx_page.proofs.SpanLists.{find_none}
 use Rattle.ttx_page.proofs.NoiseSteps.{row_from_test}
 
 -- A cell of the page that is kept is what the packets show.

@@ -1,6 +1,9 @@
 -- What is kept, one frame of the list on, and what is told at its end: `Remembers-moved`,
 -- `names_packet`, `names_missing`, `took`, `names_cell`, `names_gap`, `names_open`, `follows`; and
 -- at the frames of the day before it: `gap_names_cell`, `gap_names_gap`, `gap_cells`, `gap_covered`.
+use Rattle.sub_check.specs.PacketRules.{packets_of_units}
+use Rattle.ttx_pes.specs.DataUnit.{UnitValue}
+use Rattle.std.proofs.lemmas.List.{length-map}
 use Rattle.std.proofs.lemmas.Bool.Decides.{nat_tests}
 use borrow.Author.Count.{below_more}
 use Rattle.std.proofs.Common.{◌≡◌, ℕ, zero, suc, ◌+◌, ◌-◌, ◌<◌, ◌≤◌, nat_lt, inl, inr, Bool, true}
@@ -66,15 +69,12 @@ pub Remembers-moved :
     → Remembers g frames n c
     → c.frame ≤ f
     → Remembers g frames n (at_frame f c)
-Remembers-moved g frames n f c known later = record {
-  task_is = known.task_is;
-  watched_is = known.watched_is;
-  knows = KnowsLast-drawn (packets_before frames n) _ c.listener _ known.knows;
-  rising = λ j l. let before = known.rising j l in omega arith;
-  begun = known.begun;
-  header = known.header;
-  count = known.count;
-}
+Remembers-moved g frames n f c known later =
+    let knows = KnowsLast-drawn (packets_before frames n) (packets_of_frame frames (n - 1))
+    c.listener (due_in c.programme f) known.knows in
+    let rising : (j : ℕ) → j < n → frame_at frames j ≤ f =
+    λ j l. let before = known.rising j l in omega arith in
+    assumption
 
 -- Before the first frame nothing is kept. For `new`.
 pub Follows-none :
@@ -177,10 +177,14 @@ pub record Took (g : Task) (frames : Transmission) (n : ℕ) (c : CheckerValue) 
   pub known : Remembers g frames (n + 1) c
   pub due_is : c.listener.comparison.due ≡ due_in c.programme c.frame
 
-module _ (g : Task) (frames : Transmission) (n : ℕ) (b : CheckerValue) (ps : List (List ℕ))
+module _ (g : Task) (frames : Transmission) (n : ℕ) (b : CheckerValue) (units : List UnitValue)
     (arrived : Arrives g frames n b) (there : n < length frames)
-    (packets_are : packets_of_frame frames n ≡ ps)
+    (packets_are : packets_of_frame frames n ≡ packets_of_units units)
   where
+    -- The packets.
+    abbrev ps : List (List ℕ)
+    ps = packets_of_units units
+
     -- What was kept before.
     known : Remembers g frames n b
     known = arrived.remembers
@@ -197,10 +201,10 @@ module _ (g : Task) (frames : Transmission) (n : ℕ) (b : CheckerValue) (ps : L
         (first_packet g frames n arrived.past k rule there arrived.order arrived.gap
         (rw (packets_are, ← known.watched_is) broken))
 
-    module _ (s : Listener) (m headers total : ℕ) (found : Bool)
-        (kept : s.watched ≡ b.listener.watched) (long : length ps ≡ m)
+    module _ (s : Listener) (headers total : ℕ) (found : Bool)
+        (kept : s.watched ≡ b.listener.watched)
         (heard :
-        AreClean b.listener.watched (packets_before frames n) ps m
+        AreClean b.listener.watched (packets_before frames n) ps (length units)
         × KnowsLast (packets_before frames n ++ ps) ps s
         × (headers ≡ header_count b.listener.watched.page ps))
         (found_is : found ≡ nat_lt 0 headers) (total_is : total ≡ b.headers + headers)
@@ -210,6 +214,7 @@ module _ (g : Task) (frames : Transmission) (n : ℕ) (b : CheckerValue) (ps : L
         packets_ok = record {
           each = λ k rule t.
               let within : k < length ps = subst (λ xs. k < length xs) packets_are t.1 in
+              let long = length-map units (λ (u : UnitValue). u.packet) in
               rw (packets_are, ← known.watched_is) (heard.0 k (omega (arith, within, long)) rule);
         }
 
