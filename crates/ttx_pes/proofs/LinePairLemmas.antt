@@ -1,12 +1,12 @@
 -- The order of lines as a fact of pairs. Main lemma: line_order.
-use Rattle.std.proofs.Common.{◌≡◌, ◌≢◌, ◌↔◌, ℕ, zero, suc, ◌<◌, true, false, eqb, ltb, List, []}
+use Rattle.std.proofs.Common.{◌≡◌, ◌≢◌, ◌↔◌, ℕ, suc, ◌<◌, true, false, eqb, ltb, List, []}
 use Rattle.std.proofs.Common.{◌∷◌, refl, arith, inl, inr, eq-eqb}
 use Rattle.std.proofs.lemmas.Bool.{cases_eq, ne_eqb, lt-ltb, ltb-true}
 use Rattle.std.proofs.lemmas.List.Elements.{All-cons}
 use Rattle.std.proofs.lemmas.List.Kept.{AllPairs-cons}
 use Rattle.std.specs.List.{All, AllPairs}
 use Rattle.ttx_pes.specs.DataUnit.{UnitValue}
-use Rattle.ttx_pes.specs.LineOrder.{line_order_place, stands_after, AreInLineOrder, RisesTo}
+use Rattle.ttx_pes.specs.LineOrder.{line_order_place, AreInLineOrder, RisesTo}
 
 -- A unit that names a line stands after that place.
 abbrev IsPast : ℕ → UnitValue → Type 0

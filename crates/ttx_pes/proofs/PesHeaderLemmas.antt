@@ -1,8 +1,8 @@
 -- The fields of a header that are read are those of the grammar, and the other way round. Main
 -- lemmas: body_sound, body_complete.
-use Rattle.std.proofs.Common.{zero, suc, ◌≡◌, ℕ, ◌+◌, ◌-◌, ◌*◌, ◌/◌, ◌%◌, ◌^◌, ◌<◌, ◌≤◌, cond, not}
-use Rattle.std.proofs.Common.{eqb, leb, List, [], ◌∷◌, ◌++◌, length, get_or, take, drop, Result, Ok}
-use Rattle.std.proofs.Common.{Err, refl, sym, ap, subst, ◌∙◌, append_assoc, arith, true}
+use Rattle.std.proofs.Common.{zero, suc, ◌≡◌, ℕ, ◌+◌, ◌-◌, ◌*◌, ◌/◌, ◌%◌, ◌^◌, ◌<◌, ◌≤◌}
+use Rattle.std.proofs.Common.{eqb, leb, List, [], ◌∷◌, ◌++◌, length, get_or, take, drop, Ok}
+use Rattle.std.proofs.Common.{refl, sym, ap, ◌∙◌, append_assoc, arith, true}
 use Rattle.std.proofs.Common.{length-append, length-take, length-drop}
 use Rattle.std.proofs.lemmas.Bool.{eqb-true, eq-eqb, leb-true, le-leb, and_parts}
 use Rattle.std.proofs.Math.Seq.{drop-cons}
@@ -10,11 +10,10 @@ use Rattle.std.proofs.lemmas.List.{drop_at, take-append-drop, drop_more, drop-dr
 use Rattle.std.proofs.lemmas.List.{nil_from_length}
 use Rattle.std.specs.Int.{bytes_high_first}
 use Rattle.std.specs.Prelude.{◌&&◌}
-use Rattle.sub_io.specs.Reading.{◌>>=◌, AreBytes}
+use Rattle.sub_io.specs.Reading.{AreBytes}
 use Rattle.ttx_pes.specs.declared.fault.PesFault.{PesFault}
 use Rattle.ttx_pes.specs.declared.fault.PesFault.TheVariants as fault
-use Rattle.ttx_pes.specs.DataUnit.{UnitValue, AreDataUnits}
-use Rattle.ttx_pes.specs.LineOrder.{AreInLineOrder}
+use Rattle.ttx_pes.specs.DataUnit.{UnitValue}
 use Rattle.ttx_pes.specs.PesPacket.{IsPesPacket, PesValue, packet_length, packet_start, pts_bytes}
 use Rattle.ttx_pes.specs.Reading.{has_markers, is_start, pts_bits, pts_at, units_at, value_at}
 use Rattle.ttx_pes.specs.Reading.{size_at}

@@ -1,23 +1,22 @@
 -- Which refusal bytes get: that of the first question in which they fail. Main lemma:
 -- refusal_by_questions.
-use Rattle.std.proofs.Common.{◌≡◌, ℕ, ◌+◌, ◌-◌, ◌*◌, ◌/◌, ◌%◌, ◌<◌, ◌≤◌, ◌++◌, true, false, List}
-use Rattle.std.proofs.Common.{[], length, get_or, take, drop, Result, Ok, Err, refl, sym, ap, ◌∙◌}
+use Rattle.std.proofs.Common.{◌≡◌, ℕ, ◌+◌, ◌-◌, ◌*◌, ◌/◌, ◌%◌, ◌<◌, ◌≤◌, ◌++◌, true, List, []}
+use Rattle.std.proofs.Common.{length, get_or, take, drop, Result, Ok, Err, refl, sym, ap, ◌∙◌}
 use Rattle.std.proofs.Common.{arith, inl, inr, length-append, length-take, length-drop, eqb, leb}
-use Rattle.std.proofs.Common.{◌∷◌, cond, not}
-use Rattle.std.proofs.lemmas.Bool.{cases_Bool, cases_eq, cases_lt, eq-eqb, eqb-true, le-leb, ne_eqb}
+use Rattle.std.proofs.Common.{◌∷◌}
+use Rattle.std.proofs.lemmas.Bool.{cases_lt, eq-eqb, le-leb}
 use Rattle.std.proofs.lemmas.List.{get_or-drop, get_or-take, get_or_append_left}
 use Rattle.std.specs.Prelude.{◌&&◌}
 use Rattle.std.specs.List.{AllByRecursion}
-use Rattle.ttx_pes.specs.Reading.{has_markers, is_start, packet_at, pts_at, pts_bits, size_at}
-use Rattle.ttx_pes.specs.Reading.{told_size, units_at, value_at}
+use Rattle.ttx_pes.specs.Reading.{has_markers, is_start, packet_at, pts_at, size_at, told_size}
+use Rattle.ttx_pes.specs.Reading.{units_at, value_at}
 use Rattle.ttx_pes.specs.Refusal.{packet_questions, unit_questions, FailFirst, Question, told_fault}
 use Rattle.ttx_pes.specs.Refusal.{SixBytes, Start, PacketLength, AllBytes, Scrambling, PtsFlags}
 use Rattle.ttx_pes.specs.Refusal.{HeaderLength, Time, Agree, AgreeBefore, AgreeUpTo, DataIdentifier}
 use Rattle.ttx_pes.specs.Refusal.{FramingCode, Line, UnitLength, unit_place}
-use Rattle.ttx_pes.proofs.PesHeaderLemmas.{six_of, tests_held, tests_hold, frame_made, head_sound}
-use Rattle.ttx_pes.proofs.PesHeaderLemmas.{header_sound, value_with}
+use Rattle.ttx_pes.proofs.PesHeaderLemmas.{six_of, tests_held, tests_hold, head_sound, header_sound}
 use Rattle.ttx_pes.proofs.UnitPlaceLemmas.{eqb_cases, step_refused, test_cases, Err-injective}
-use Rattle.ttx_pes.proofs.UnitPlaceLemmas.{after_err, answer_cases, units_split}
+use Rattle.ttx_pes.proofs.UnitPlaceLemmas.{answer_cases, units_split}
 use Rattle.sub_io.specs.Reading.{AreBytes}
 use Rattle.ttx_pes.specs.declared.fault.PesFault.{PesFault}
 use Rattle.ttx_pes.specs.declared.fault.PesFault.TheVariants as fault

@@ -44,91 +44,75 @@ Left-from_consumed (Some xs) (Some ys) bytes taken h e =
       ended = λ end. end;
     }
 
--- How many bytes there are.
-length_parts : (bytes : List ℕ) (new : Option (List ℕ)) (taken : List ℕ)
-    → (t : Left bytes new taken)
-    → length bytes ≡ length taken + length t.rest
-length_parts bytes new taken t = ap length t.parts ∙ length-append taken t.rest
+-- Where these bytes were taken of a source that tells all of them.
+module _ (old new : Option (List ℕ)) (bytes taken : List ℕ)
+    (h : Consumes old new taken) (told : old ≡ Some bytes) where
+  -- What is left.
+  left : Left bytes new taken
+  left = Left-from_consumed old new bytes taken h told
 
--- The end of the source, where no byte was taken.
-pub none_taken : (bytes : List ℕ) (n : ℕ) (new : Option (List ℕ)) (room : List ℕ)
-    → Left bytes new (take n room)
-    → n ≡ 0
-    → IsAtEnd new
-    → bytes ≡ []
-none_taken bytes n new room t z end =
-    let empty : take n room ≡ [] = ap (λ k. take k room) z in
-    t.parts ∙ rw (empty, t.ended end) refl
+  -- How many bytes there are.
+  length_parts : length bytes ≡ length taken + length left.rest
+  length_parts = ap length left.parts ∙ length-append taken left.rest
 
--- What is left there.
-pub none_left : (bytes : List ℕ) (n : ℕ) (new : Option (List ℕ)) (room : List ℕ)
-    → Left bytes new (take n room)
-    → n ≡ 0
-    → IsAtEnd new
-    → new ≡ Some (rest_after bytes)
-unfolding rest_after packet_at
-none_left bytes n new room t z end =
-    let none = none_taken bytes n new room t z end in
-    rw none (t.new_is ∙ ap (λ (x : List ℕ). Some x) (t.ended end))
+  -- The end of the source, where no byte was taken.
+  pub none_taken : taken ≡ [] → IsAtEnd new → (bytes ≡ []) × (new ≡ Some (rest_after bytes))
+  unfolding rest_after packet_at
+  none_taken z end =
+      let none : bytes ≡ [] =
+      left.parts ∙ ap (λ (x : List ℕ). x ++ left.rest) z ∙ left.ended end in
+      (none, rw none (left.new_is ∙ ap (λ (x : List ℕ). Some x) (left.ended end)))
 
--- A byte after the most packets.
-pub too_many : (given : ℕ) (bytes : List ℕ) (new : Option (List ℕ)) (taken : List ℕ)
-    → Left bytes new taken
-    → 0 < length taken
-    → given ≡ 2160000
-    → answer_at given bytes ≡ Err fault.TooMany
-too_many given bytes new taken t some full =
-    let len = length_parts bytes new taken t in
-    rw full (answer_full bytes (omega arith))
+  -- A byte after the most packets.
+  pub too_many : (given : ℕ)
+      → 0 < length taken
+      → given ≡ 2160000
+      → answer_at given bytes ≡ Err fault.TooMany
+  too_many given some full =
+      let len = length_parts in
+      rw full (answer_full bytes (omega arith))
 
--- Fewer than six bytes.
-pub first_short : (given : ℕ) (bytes : List ℕ) (new : Option (List ℕ)) (taken : List ℕ)
-    → Left bytes new taken
-    → IsAtEnd new
-    → 0 < length taken
-    → length taken < 6
-    → (given ≡ 2160000 → ⊥)
-    → answer_at given bytes ≡ Err fault.Truncated
-first_short given bytes new taken t end some lt ne =
-    let none : length t.rest ≡ 0 = ap length (t.ended end) in
-    let len = length_parts bytes new taken t in
-    answer_packet given bytes (Err fault.Truncated) (omega arith) ne
-    (packet_short bytes (omega arith))
+  -- Fewer than six bytes.
+  pub first_short : (given : ℕ)
+      → IsAtEnd new
+      → 0 < length taken
+      → length taken < 6
+      → (given ≡ 2160000 → ⊥)
+      → answer_at given bytes ≡ Err fault.Truncated
+  first_short given end some lt ne =
+      let none : length left.rest ≡ 0 = ap length (left.ended end) in
+      let len = length_parts in
+      answer_packet given bytes (Err fault.Truncated) (omega arith) ne
+      (packet_short bytes (omega arith))
 
--- The first six bytes are those that were taken.
-six_bytes : (bytes : List ℕ) (new : Option (List ℕ)) (taken : List ℕ)
-    → Left bytes new taken
-    → 6 ≤ length taken
-    → take 6 bytes ≡ take 6 taken
-six_bytes bytes new taken t le = ap (take 6) t.parts ∙ take-append-le 6 taken t.rest le
+  -- The first six bytes are those that were taken.
+  six_bytes : 6 ≤ length taken → take 6 bytes ≡ take 6 taken
+  six_bytes le = ap (take 6) left.parts ∙ take-append-le 6 taken left.rest le
 
--- The first four bytes or the length are wrong.
-pub bad_size : (given : ℕ) (bytes : List ℕ) (new : Option (List ℕ)) (taken : List ℕ) (x : PesFault)
-    → Left bytes new taken
-    → 6 ≤ length taken
-    → (given ≡ 2160000 → ⊥)
-    → size_at (take 6 taken) ≡ Err x
-    → answer_at given bytes ≡ Err x
-bad_size given bytes new taken x t le ne bad =
-    let len = length_parts bytes new taken t in
-    answer_packet given bytes (Err x) (omega arith) ne
-    (packet_size bytes x (omega arith) (ap size_at (six_bytes bytes new taken t le) ∙ bad))
+  -- The first four bytes or the length are wrong.
+  pub bad_size : (given : ℕ) (x : PesFault)
+      → 6 ≤ length taken
+      → (given ≡ 2160000 → ⊥)
+      → size_at (take 6 taken) ≡ Err x
+      → answer_at given bytes ≡ Err x
+  bad_size given x le ne bad =
+      let len = length_parts in
+      answer_packet given bytes (Err x) (omega arith) ne
+      (packet_size bytes x (omega arith) (ap size_at (six_bytes le) ∙ bad))
 
--- The bytes end within the packet.
-pub second_short : (given : ℕ) (bytes : List ℕ) (size : ℕ) (new : Option (List ℕ)) (taken : List ℕ)
-    → Left bytes new taken
-    → IsAtEnd new
-    → 6 ≤ length taken
-    → length taken < size
-    → (given ≡ 2160000 → ⊥)
-    → size_at (take 6 taken) ≡ Ok size
-    → answer_at given bytes ≡ Err fault.Truncated
-second_short given bytes size new taken t end le lt ne good =
-    let none : length t.rest ≡ 0 = ap length (t.ended end) in
-    let len = length_parts bytes new taken t in
-    answer_packet given bytes (Err fault.Truncated) (omega arith) ne
-    (packet_cut bytes size (omega arith) (ap size_at (six_bytes bytes new taken t le) ∙ good)
-    (omega arith))
+  -- The bytes end within the packet.
+  pub second_short : (given size : ℕ)
+      → IsAtEnd new
+      → 6 ≤ length taken
+      → length taken < size
+      → (given ≡ 2160000 → ⊥)
+      → size_at (take 6 taken) ≡ Ok size
+      → answer_at given bytes ≡ Err fault.Truncated
+  second_short given size end le lt ne good =
+      let none : length left.rest ≡ 0 = ap length (left.ended end) in
+      let len = length_parts in
+      answer_packet given bytes (Err fault.Truncated) (omega arith) ne
+      (packet_cut bytes size (omega arith) (ap size_at (six_bytes le) ∙ good) (omega arith))
 
 -- A value and the bytes after it.
 abbrev with_rest : List ℕ → PesValue → Result (PesValue × List ℕ) PesFault
@@ -166,8 +150,8 @@ pub whole : (given : ℕ) (bytes : List ℕ) (old new : Option (List ℕ)) (take
     → value_at (drop 6 taken) ≡ r
     → answer_at given bytes ≡ (r >>= λ v. Ok (Some v))
 whole given bytes old new taken r h is le ne e =
-    let t = Left-from_consumed old new bytes taken h.consumed is in
-    let len = length_parts bytes new taken t in
+    let t = left old new bytes taken h.consumed is in
+    let len = length_parts old new bytes taken h.consumed is in
     answer_packet given bytes (value_at (drop 6 taken) >>= λ v. Ok (v, t.rest)) (omega arith) ne
     (ap packet_at t.parts ∙ packet_of_bytes taken t.rest le h.sized)
     ∙ answered r (value_at (drop 6 taken)) t.rest e
@@ -205,6 +189,17 @@ head_kept got n old new le more kept =
     ∙ sym (take-take 6 got new le)
     ∙ ap (take 6) kept
     ∙ take-take 6 got old le
+
+-- What the first six bytes tell stays where more were taken after them. For `take_packet`.
+pub size_kept : (got n : ℕ) (old new six : List ℕ) (r : Result ℕ PesFault)
+    → 6 ≤ got
+    → got ≤ n
+    → take got new ≡ take got old
+    → six ≡ take 6 old
+    → size_at six ≡ r
+    → size_at (take 6 (take n new)) ≡ r
+size_kept got n old new six r le more kept is told =
+    ap size_at (head_kept got n old new le more kept ∙ sym is) ∙ told
 
 -- Where the packet in the room was taken, of which that is the body: what each reader knows.
 module _ (old new : Option (List ℕ)) (size : ℕ) (room body : List ℕ)

@@ -1,7 +1,7 @@
 -- Bytes that fail in a question of a data unit: no packet of the grammar agrees in it, and one does
 -- in all before. Main lemma: unit_fails.
 use Rattle.std.proofs.Common.{◌≡◌, ℕ, zero, suc, ◌+◌, ◌-◌, ◌*◌, ◌/◌, ◌<◌, true, List, [], ◌∷◌, ◌++◌}
-use Rattle.std.proofs.Common.{length, get_or, take, Result, Ok, Err, refl, sym, ap, ◌∙◌, arith, inl, inr}
+use Rattle.std.proofs.Common.{length, get_or, take, Result, Ok, Err, sym, ap, ◌∙◌, arith, inl, inr}
 use Rattle.sub_io.specs.Reading.{AreBytes}
 use Rattle.ttx_pes.specs.declared.fault.PesFault.{PesFault}
 use Rattle.ttx_pes.specs.DataUnit.{UnitValue, AreDataUnits, is_teletext}
@@ -9,7 +9,7 @@ use Rattle.ttx_pes.specs.LineOrder.{AreInLineOrder, last_place}
 use Rattle.ttx_pes.specs.PesPacket.{PesValue, IsPesPacket}
 use Rattle.ttx_pes.specs.Reading.{units_at}
 use Rattle.ttx_pes.specs.Refusal.{Agree, AgreeUpTo, FailFirst, Question, told_fault, UnitLength}
-use Rattle.ttx_pes.specs.Refusal.{FramingCode, Line, Time}
+use Rattle.ttx_pes.specs.Refusal.{FramingCode, Line}
 use Rattle.ttx_pes.proofs.DataUnitLemmas.{units_complete}
 use Rattle.ttx_pes.proofs.PesHeaderLemmas.{value_with}
 use Rattle.sub_io.proofs.ReadingLemmas.{Ok-injective}

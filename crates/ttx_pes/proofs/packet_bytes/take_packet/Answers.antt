@@ -1,75 +1,38 @@
 -- What the bytes of the source decide at each return: by TakingLemmas.
-use Rattle.std.proofs.Common.{◌≡◌, ℕ, ◌∙◌, List, length, take, Ok, sym, ap, subst, arith, rules}
-use Rattle.std.proofs.lemmas.List.{take-take, length-take-le}
+use Rattle.std.proofs.Common.{◌≡◌, ℕ, ◌∙◌, List, length, take, Ok, refl, sym, ap, subst, arith}
+use Rattle.std.proofs.Common.{rules}
+use Rattle.std.proofs.lemmas.List.{length-take-le}
 use Rattle.std.proofs.lemmas.Result.{err_from_is_err_and}
 use Rattle.std.proofs.KnownBytes.{Consumes-nil}
 use Rattle.std.specs.Io.KnownBytes.{Consumes}
 use Rattle.sub_io.specs.Reading.{AreBytes}
 use Rattle.ttx_pes.specs.Reading.{size_at}
 use Rattle.ttx_pes.proofs.ReadingLemmas.{packet_cut, packet_short, packet_size}
-use Rattle.ttx_pes.proofs.TakingLemmas.{Left-from_consumed, none_taken, none_left, too_many}
-use Rattle.ttx_pes.proofs.TakingLemmas.{first_short, bad_size, second_short, head_kept}
-use Rattle.ttx_pes.proofs.TakingLemmas.{failed_first, failed_second}
+use Rattle.ttx_pes.proofs.TakingLemmas.{bad_size, failed_first, failed_second, first_short}
+use Rattle.ttx_pes.proofs.TakingLemmas.{head_kept, none_taken, second_short, size_kept, too_many}
 use Rattle.ttx_pes.proofs.packet_bytes.take_packet.Goals as goal
 
 pub returns-then-got-eq0-clause-end : goal.returns-then-got-eq0-clause-end
 returns-then-got-eq0-clause-end g c = λ _ bytes is.
-    let t = Left-from_consumed _ _ bytes (take c.in_ok-got.got c.fill_on.new.room)
-    (c.in_ok-got.ensures.bytes _ (Consumes-nil _)) is in
-    let end = c.in_ok-got.ensures.end (omega arith) in (
-      none_taken bytes c.in_ok-got.got _ c.fill_on.new.room t c.if-got-eq0.true end,
-      none_left bytes c.in_ok-got.got _ c.fill_on.new.room t c.if-got-eq0.true end,
-    )
+    none_taken _ _ bytes (take c.in_ok-got.got c.fill_on.new.room)
+    (c.in_ok-got.ensures.bytes _ (Consumes-nil _)) is
+    (ap (λ k. take k c.fill_on.new.room) c.if-got-eq0.true) (c.in_ok-got.ensures.end (omega arith))
 
 pub returns-then-given-eq-MOST_PACKETS-2-clause-refused :
     goal.returns-then-given-eq-MOST_PACKETS-2-clause-refused
 returns-then-given-eq-MOST_PACKETS-2-clause-refused g c = λ bytes is _.
-    let t = Left-from_consumed _ _ bytes (take c.in_ok-got.got c.fill_on.new.room)
-    (c.in_ok-got.ensures.bytes _ (Consumes-nil _)) is in
     let len = length-take-le c.in_ok-got.got c.fill_on.new.room c.in_ok-got.ensures.room in
-    too_many c.args.given bytes _ (take c.in_ok-got.got c.fill_on.new.room) t
-    (omega arith) c.if-given-eq-MOST_PACKETS-2.true
+    too_many _ _ bytes (take c.in_ok-got.got c.fill_on.new.room)
+    (c.in_ok-got.ensures.bytes _ (Consumes-nil _)) is c.args.given (omega arith)
+    c.if-given-eq-MOST_PACKETS-2.true
 
 pub returns-then-got-lt-HEAD-clause-refused : goal.returns-then-got-lt-HEAD-clause-refused
 returns-then-got-lt-HEAD-clause-refused g c = λ bytes is _.
-    let t = Left-from_consumed _ _ bytes (take c.in_ok-got.got c.fill_on.new.room)
-    (c.in_ok-got.ensures.bytes _ (Consumes-nil _)) is in
     let len = length-take-le c.in_ok-got.got c.fill_on.new.room c.in_ok-got.ensures.room in
-    first_short c.args.given bytes _ (take c.in_ok-got.got c.fill_on.new.room) t
+    first_short _ _ bytes (take c.in_ok-got.got c.fill_on.new.room)
+    (c.in_ok-got.ensures.bytes _ (Consumes-nil _)) is c.args.given
     (c.in_ok-got.ensures.end (omega arith)) (omega arith) (omega arith)
     c.if-given-eq-MOST_PACKETS-2.false
-
-pub returns-in_err-size-clause-refused : goal.returns-in_err-size-clause-refused
-returns-in_err-size-clause-refused g c =
-    let p = err_from_is_err_and c.from_residual-in_err-size.result
-    c.from_residual-in_err-size.ensures.1 in
-    let same : c.unwrap.result.now ≡ take 6 c.fill_on.new.room = search rules in
-    let head : take 6 (take c.in_ok-got.got c.fill_on.new.room) ≡ take 6 c.fill_on.new.room =
-    take-take 6 c.in_ok-got.got c.fill_on.new.room (omega arith) in
-    let bad = ap size_at (head ∙ sym same) ∙ c.in_err-size.ensures.exact in
-    let len = length-take-le c.in_ok-got.got c.fill_on.new.room c.in_ok-got.ensures.room in
-    rw (p.1, p.2) (λ bytes is _. bad_size c.args.given bytes _
-    (take c.in_ok-got.got c.fill_on.new.room) c.in_err-size.field-0.0
-    (Left-from_consumed _ _ bytes (take c.in_ok-got.got c.fill_on.new.room)
-    (c.in_ok-got.ensures.bytes _ (Consumes-nil _)) is)
-    (omega arith) c.if-given-eq-MOST_PACKETS-2.false bad)
-
-pub returns-then-branch-size-clause-refused : goal.returns-then-branch-size-clause-refused
-returns-then-branch-size-clause-refused g c = λ bytes is _.
-    let n = c.in_ok-fill_on.field-0 in
-    let room = c.fill_on-2.new.room in
-    let t = Left-from_consumed _ _ bytes (take n room)
-    (c.in_ok-fill_on.ensures.bytes _ (c.in_ok-got.ensures.bytes _ (Consumes-nil _))) is in
-    let len = length-take-le n room c.in_ok-fill_on.ensures.room in
-    let same : c.unwrap.result.now ≡ take 6 c.fill_on.new.room = search rules in
-    let head : take 6 (take n room) ≡ take 6 c.fill_on.new.room =
-    head_kept c.in_ok-got.got n c.fill_on.new.room room (omega arith) c.in_ok-fill_on.ensures.from
-    c.in_ok-fill_on.ensures.kept in
-    second_short c.args.given bytes c.in_ok-size.size _ (take n room) t
-    (c.in_ok-fill_on.ensures.end (omega arith))
-    (omega (arith, c.in_ok-fill_on.ensures.from)) (omega arith)
-    c.if-given-eq-MOST_PACKETS-2.false
-    (ap size_at (head ∙ sym same) ∙ c.in_ok-size.ensures.exact)
 
 pub returns-then-got-lt-HEAD-clause-shown : goal.returns-then-got-lt-HEAD-clause-shown
 returns-then-got-lt-HEAD-clause-shown g c = λ _.
@@ -81,21 +44,46 @@ returns-then-got-lt-HEAD-clause-shown g c = λ _.
       refused = packet_short taken (omega arith);
     }
 
+pub returns-in_err-size-clause-refused : goal.returns-in_err-size-clause-refused
+returns-in_err-size-clause-refused g c =
+    let p = err_from_is_err_and c.from_residual-in_err-size.result
+    c.from_residual-in_err-size.ensures.1 in
+    let len = length-take-le c.in_ok-got.got c.fill_on.new.room c.in_ok-got.ensures.room in
+    let bad = size_kept c.in_ok-got.got c.in_ok-got.got c.fill_on.new.room c.fill_on.new.room
+    c.unwrap.result.now _ (omega arith) (omega arith) refl (search rules)
+    c.in_err-size.ensures.exact in
+    rw (p.1, p.2) (λ bytes is _. bad_size _ _ bytes (take c.in_ok-got.got c.fill_on.new.room)
+    (c.in_ok-got.ensures.bytes _ (Consumes-nil _)) is c.args.given c.in_err-size.field-0.0
+    (omega arith) c.if-given-eq-MOST_PACKETS-2.false bad)
+
 pub returns-in_err-size-clause-shown : goal.returns-in_err-size-clause-shown
 returns-in_err-size-clause-shown g c =
     let p = err_from_is_err_and c.from_residual-in_err-size.result
     c.from_residual-in_err-size.ensures.1 in
     let taken = take c.in_ok-got.got c.fill_on.new.room in
-    let same : c.unwrap.result.now ≡ take 6 c.fill_on.new.room = search rules in
-    let head : take 6 taken ≡ take 6 c.fill_on.new.room =
-    take-take 6 c.in_ok-got.got c.fill_on.new.room (omega arith) in
     let len = length-take-le c.in_ok-got.got c.fill_on.new.room c.in_ok-got.ensures.room in
+    let bad = size_kept c.in_ok-got.got c.in_ok-got.got c.fill_on.new.room c.fill_on.new.room
+    c.unwrap.result.now _ (omega arith) (omega arith) refl (search rules)
+    c.in_err-size.ensures.exact in
     rw (p.1, p.2) (λ _. record {
       bytes = taken;
       consumed = c.in_ok-got.ensures.bytes _ (Consumes-nil _);
-      refused = packet_size taken c.in_err-size.field-0.0 (omega arith)
-          (ap size_at (head ∙ sym same) ∙ c.in_err-size.ensures.exact);
+      refused = packet_size taken c.in_err-size.field-0.0 (omega arith) bad;
     })
+
+pub returns-then-branch-size-clause-refused : goal.returns-then-branch-size-clause-refused
+returns-then-branch-size-clause-refused g c = λ bytes is _.
+    let n = c.in_ok-fill_on.field-0 in
+    let room = c.fill_on-2.new.room in
+    let len = length-take-le n room c.in_ok-fill_on.ensures.room in
+    let sized = size_kept c.in_ok-got.got n c.fill_on.new.room room c.unwrap.result.now _
+    (omega arith) c.in_ok-fill_on.ensures.from c.in_ok-fill_on.ensures.kept (search rules)
+    c.in_ok-size.ensures.exact in
+    second_short _ _ bytes (take n room)
+    (c.in_ok-fill_on.ensures.bytes _ (c.in_ok-got.ensures.bytes _ (Consumes-nil _))) is
+    c.args.given c.in_ok-size.size (c.in_ok-fill_on.ensures.end (omega arith))
+    (omega (arith, c.in_ok-fill_on.ensures.from)) (omega arith)
+    c.if-given-eq-MOST_PACKETS-2.false sized
 
 pub returns-then-branch-size-clause-shown : goal.returns-then-branch-size-clause-shown
 returns-then-branch-size-clause-shown g c = λ _.
@@ -103,15 +91,14 @@ returns-then-branch-size-clause-shown g c = λ _.
     let room = c.fill_on-2.new.room in
     let taken = take n room in
     let len = length-take-le n room c.in_ok-fill_on.ensures.room in
-    let same : c.unwrap.result.now ≡ take 6 c.fill_on.new.room = search rules in
-    let head : take 6 taken ≡ take 6 c.fill_on.new.room =
-    head_kept c.in_ok-got.got n c.fill_on.new.room room (omega arith) c.in_ok-fill_on.ensures.from
-    c.in_ok-fill_on.ensures.kept in
+    let sized = size_kept c.in_ok-got.got n c.fill_on.new.room room c.unwrap.result.now _
+    (omega arith) c.in_ok-fill_on.ensures.from c.in_ok-fill_on.ensures.kept (search rules)
+    c.in_ok-size.ensures.exact in
     record {
       bytes = taken;
       consumed = c.in_ok-fill_on.ensures.bytes _ (c.in_ok-got.ensures.bytes _ (Consumes-nil _));
       refused = packet_cut taken c.in_ok-size.size (omega (arith, c.in_ok-fill_on.ensures.from))
-          (ap size_at (head ∙ sym same) ∙ c.in_ok-size.ensures.exact) (omega arith);
+          sized (omega arith);
     }
 
 pub returns-clause-taken : goal.returns-clause-taken

@@ -1,4 +1,4 @@
-use Rattle.std.proofs.Common.{◌≡◌, ◌≤◌, ◌∙◌, ap, arith, length, sym}
+use Rattle.std.proofs.Common.{◌≡◌, ◌∙◌, ap, arith, length, sym}
 use Rattle.ttx_pes.specs.PesPacket.{canonical_packet}
 use Rattle.ttx_pes.proofs.PesPacketLemmas.{canonical_packet-has_pts, canonical_packet-set_pts}
 use Rattle.ttx_pes.proofs.repeated_packet.RepeatedPacket.set_pts.Goals as goal
