@@ -61,8 +61,7 @@ block_belongs s e piece le =
       size = block_size s e piece le;
       is_subtitle = refl;
       same_sgn = refl;
-      same_sn =
-          omega arith;
+      same_sn = omega arith;
     }
 
 -- its EBN is the one that was given
@@ -201,17 +200,14 @@ blocks_begin s zero e text h =
       first = block_of s 255 text;
       others = [];
       is = refl;
-      begins =
-          block_heads s 255 text h;
+      begins = block_heads s 255 text h;
     }
 blocks_begin s (suc full) e text h =
     record {
       first = block_of s e (take 112 text);
-      others =
-          blocks_from s full (e + 1) (drop 112 text);
+      others = blocks_from s full (e + 1) (drop 112 text);
       is = refl;
-      begins =
-          block_heads s e (take 112 text) h;
+      begins = block_heads s e (take 112 text) h;
     }
 
 -- the blocks of a subtitle are blocks of it

@@ -18,7 +18,7 @@ use Rattle.stl_file.specs.File.{IsFile}
 use Rattle.stl_file.specs.NormalForm.{subtitles_of}
 use Rattle.stl_file.specs.Reading.{outcome_at}
 use Rattle.stl_file.proofs.OutcomeLemmas.{outcome_at-first}
-use Rattle.stl_file.proofs.RestLemmas.{outcome_complete, fine, outcome_sound, rest_of}
+use Rattle.stl_file.proofs.RestLemmas.{outcome_complete, fine, outcome_sound}
 use Rattle.stl_file.proofs.GsiLemmas.{gsi_complete}
 use Rattle.stl_file.proofs.OpeningLemmas.{good, opened_sound, opened-whole}
 
@@ -36,12 +36,18 @@ pub body_sound : (s : List ℕ) (ts : List SubtitleValue)
     → subtitles_of (outcome_at most_blocks None (drop 1024 s)) ≡ fine ts
     → IsFile s (take 1024 s) ts
 body_sound s ts le g e =
-    let r = rest_of (drop 1024 s) ts (outcome_sound most_blocks None [] (drop 1024 s) ts refl e) in
+    let r = outcome_sound most_blocks None [] (drop 1024 s) ts refl e in
     record {
       gsi = g;
-      blocks = r.0;
-      bytes = sym (take-append-drop 1024 s) ∙ ap (λ (x : List ℕ). take 1024 s ++ x) r.1;
-      rest = r.2;
+      blocks = r.blocks;
+      bytes = sym (take-append-drop 1024 s) ∙ ap (λ (x : List ℕ). take 1024 s ++ x) r.bytes;
+      rest = record {
+        each = r.each;
+        few = r.few;
+        parts = r.groups;
+        kept = r.kept;
+        are_of = r.are_groups;
+      };
     }
 
 -- bytes that are read without a fault are a file

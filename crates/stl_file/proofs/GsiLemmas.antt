@@ -128,11 +128,7 @@ pub counts_twice : (tnb tns : ℕ) (g : List ℕ)
     → length g ≡ 1024
     → with_counts tnb tns (with_counts tnb tns g) ≡ with_counts tnb tns g
 counts_twice tnb tns g size =
-    ap (λ (x : List ℕ). x
-    ++ (five_digits tnb ++ (five_digits tns ++ drop 248 (with_counts tnb tns g))))
-    (counts_front tnb tns g size)
-    ∙ ap (λ (x : List ℕ). take 238 g ++ (five_digits tnb ++ (five_digits tns ++ x)))
-    (counts_back tnb tns g size)
+    rw (counts_front tnb tns g size, counts_back tnb tns g size) refl
 
 -- a field that lies in front of place 238 is one of the bytes there
 field_front : (at len : ℕ) (x : List ℕ)

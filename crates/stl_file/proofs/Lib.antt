@@ -7,7 +7,6 @@ pub mod RestLemmas
 pub mod GsiLemmas
 pub mod OpeningLemmas
 pub mod FileLemmas
-pub mod AnswersLemmas
 pub mod ReaderLemmas
 pub mod BlocksOfLemmas
 pub mod NormalCountsLemmas

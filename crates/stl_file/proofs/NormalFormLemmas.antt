@@ -167,10 +167,7 @@ file_body s r e =
 -- a pass that was refused has that fault
 counted_err : (j : Judged) (f : NormalFault) → counted j ≡ Err f → j ≡ Err f
 counted_err (Ok ts) f e = absurd cc
-counted_err (Err g) f e = let same : g ≡ f = cc in ap (λ (x : NormalFault). bad x) same
-  where
-    bad : NormalFault → Judged
-    bad x = Err x
+counted_err (Err g) f e = let same : g ≡ f = cc in rw same refl
 
 -- the answer of `normal` at a fault of the file
 answer_err : (s : List ℕ) (f : NormalFault) (old : Option (List ℕ))
@@ -213,8 +210,7 @@ summed (Ok ts) c e =
       ts = ts;
       is = refl;
       blocks = sym (ap (λ (x : Counts). x.tnb) same);
-      subtitles =
-          sym (ap (λ (x : Counts). x.tns) same);
+      subtitles = sym (ap (λ (x : Counts). x.tns) same);
     }
 summed (Err f) c e = absurd cc
 
@@ -253,8 +249,7 @@ module _ (s : List ℕ) (r : ReaderValue) (c : Counts) (g : List ℕ) (opened : 
   prefix_is u w f = record {
     subtitles = all.ts;
     is_file = file;
-    wrote =
-        subst (AppendsPrefix u w) form_is f;
+    wrote = subst (AppendsPrefix u w) form_is f;
   }
 
   -- the sink failed within the GSI block
@@ -268,10 +263,8 @@ module _ (s : List ℕ) (r : ReaderValue) (c : Counts) (g : List ℕ) (opened : 
       (all_blocks (given (subtitles_of (outcome_from 0 (drop 1024 s))))))
       → WritesPrefix s u w
   prefix_body u v w x y =
-      let b = joined (all_blocks all.ts) in
-      let is : joined (all_blocks (given (subtitles_of (outcome_from 0 (drop 1024 s))))) ≡ b =
-      ap (λ (t : List SubtitleValue). joined (all_blocks t)) given_is in
-      prefix_is u w (AppendsPrefix-second u v w g b x (subst (AppendsPrefix v w) is y))
+      prefix_is u w (AppendsPrefix-second u v w g (joined (all_blocks all.ts)) x
+      (subst (λ (t : List SubtitleValue). AppendsPrefix v w (joined (all_blocks t))) given_is y))
 
   -- all was written
   pub whole_written : (u v w : Option (List ℕ))
@@ -279,15 +272,11 @@ module _ (s : List ℕ) (r : ReaderValue) (c : Counts) (g : List ℕ) (opened : 
       → Appends v w (joined (all_blocks (given (subtitles_of (outcome_from 0 (drop 1024 s))))))
       → WritesNormal s u w c.tns
   whole_written u v w x y =
-      let is : joined (all_blocks (given (subtitles_of (outcome_from 0 (drop 1024 s)))))
-      ≡ joined (all_blocks all.ts) =
-      ap (λ (t : List SubtitleValue). joined (all_blocks t)) given_is in
       let both = Appends-trans u v w g (joined (all_blocks all.ts)) x
-      (subst (λ (t : List ℕ). Appends v w t) is y) in
+      (subst (λ (t : List SubtitleValue). Appends v w (joined (all_blocks t))) given_is y) in
       record {
         subtitles = all.ts;
         is_file = file;
         count = all.subtitles;
-        wrote =
-            subst (λ (t : List ℕ). Appends u w t) form_is both;
+        wrote = subst (λ (t : List ℕ). Appends u w t) form_is both;
       }

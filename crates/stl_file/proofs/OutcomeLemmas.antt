@@ -9,8 +9,8 @@ use Rattle.stl_file.specs.declared.fault.StlFault.{StlFault}
 use Rattle.stl_file.specs.declared.fault.StlFault.TheVariants as fault
 use Rattle.stl_file.specs.Tti.{most_blocks}
 use Rattle.stl_file.specs.Reader.{NamesFrom}
-use Rattle.stl_file.specs.Reading.{Begun, Step, More, Give}
-use Rattle.stl_file.specs.Reading.{Outcome, gives, outcome_after, outcome_at, step_at, ends, fails}
+use Rattle.stl_file.specs.Reading.{Begun, Step, More, Give, Outcome, gives, outcome_after}
+use Rattle.stl_file.specs.Reading.{outcome_at, step_at, ends, fails}
 
 -- ---- the function by cases
 

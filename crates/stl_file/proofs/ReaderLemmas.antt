@@ -1,4 +1,4 @@
--- What a call of a reader takes, and what it leads to; main lemmas: reads_on, gives_subtitle,
+-- What a call of a reader takes and answers; main lemmas: answers, reads_on, gives_subtitle,
 -- refuses_block.
 use Rattle.std.proofs.Common.{◌≡◌, ◌*◌, ℕ, true, List, [], ◌∷◌, ◌++◌, length, refl, sym, ap, ◌∙◌}
 use Rattle.std.proofs.Common.{append_assoc, arith, length-append, take, Option, Some, None, Result}
@@ -15,12 +15,13 @@ use Rattle.stl_file.specs.declared.fault.StlFault.{StlFault}
 use Rattle.stl_file.specs.declared.fault.StlFault.TheVariants as fault
 use Rattle.stl_file.specs.Tti.{is_kept, most_blocks}
 use Rattle.stl_file.specs.SubtitleBlocks.{IsBlock, joined, IsRest}
-use Rattle.stl_file.specs.Reader.{outcome_by, outcome_from, Leads, TakesSubtitle, NamesFrom, block_after}
-use Rattle.stl_file.specs.Reader.{Refuses, FailsReading}
+use Rattle.stl_file.specs.Reader.{outcome_by, outcome_from, Leads, TakesSubtitle, NamesFrom}
+use Rattle.stl_file.specs.Reader.{block_after, Refuses, FailsReading, ReaderValue, outcome_left}
+use Rattle.stl_file.specs.Reader.{Answers, outcome_in, outcome_with, block_by, progress_after}
 use Rattle.stl_file.specs.Subtitle.{SubtitleValue}
 use Rattle.stl_file.specs.NormalForm.{subtitles_of}
-use Rattle.stl_file.specs.Reading.{Begun, Step, More, Give}
-use Rattle.stl_file.specs.Reading.{gives, outcome_after, outcome_at, step_at, fails}
+use Rattle.stl_file.specs.Reading.{Begun, Step, More, Give, gives, outcome_after, outcome_at}
+use Rattle.stl_file.specs.Reading.{step_at, fails}
 use Rattle.stl_file.specs.Fault.{is_cut, is_of_block}
 use Rattle.stl_file.proofs.SubtitleBlocksLemmas.{blocks_push, filter_push, joined_push, ends_push}
 use Rattle.stl_file.proofs.SubtitleBlocksLemmas.{length-joined}
@@ -28,6 +29,58 @@ use Rattle.stl_file.proofs.StepLemmas.{Represents, step_sound}
 use Rattle.stl_file.proofs.OutcomeLemmas.{outcome_full, outcome_end, outcome_nil, outcome_short}
 use Rattle.stl_file.proofs.OutcomeLemmas.{outcome_block, names_from}
 use Rattle.stl_file.proofs.RestLemmas.{outcome_complete}
+use Rattle.stl_file.specs.declared.progress.Progress.{Progress}
+use Rattle.stl_file.specs.declared.progress.Progress.TheVariants.{Reading}
+
+-- ---- an answer, by what was read within the call
+
+-- a reader after an answer
+abbrev pub after : List ℕ → ℕ → Result (Option SubtitleValue) StlFault → ReaderValue
+after gsi block r = record {
+  gsi = gsi;
+  block = block_by block r;
+  progress = progress_after Reading r;
+}
+
+-- what an answer says of all that was left, by the reader that is left
+by_answer : (gsi rest : List ℕ) (block : ℕ) (r : Result (Option SubtitleValue) StlFault)
+    → outcome_by block rest r ≡ outcome_with (after gsi block r) rest r
+by_answer gsi rest block (Err f) = refl
+by_answer gsi rest block (Ok None) = refl
+by_answer gsi rest block (Ok (Some s)) = refl
+
+-- the fields of a reader after an answer
+same_after : (gsi : List ℕ) (block to : ℕ) (q : Progress)
+    (r : Result (Option SubtitleValue) StlFault)
+    → to ≡ block_by block r
+    → q ≡ progress_after Reading r
+    → ◌≡◌ {A = ReaderValue} (record { gsi = gsi; block = to; progress = q }) (after gsi block r)
+same_after gsi block to q r at on = rw (at, on) refl
+
+-- the answer of a reader whose fields are known
+pub answers : (old : ReaderValue) (gsi bytes : List ℕ) (from block to : ℕ) (p q : Progress)
+    (now : Option (List ℕ)) (r : Result (Option SubtitleValue) StlFault)
+    → record { gsi = gsi; block = from; progress = p } ≡ old
+    → p ≡ Reading
+    → to ≡ block_by block r
+    → q ≡ progress_after old.progress r
+    → Leads from bytes block now r
+    → Answers old bytes (record { gsi = gsi; block = to; progress = q }) now r
+answers old gsi bytes from block to p q now r is reading at on l =
+    let begins : old.progress ≡ Reading = ap (λ (x : ReaderValue). x.progress) (sym is) ∙ reading in
+    let goes : q ≡ progress_after Reading r =
+    on ∙ ap (λ (x : Progress). progress_after x r) begins in
+    record {
+      rest = l.rest;
+      rest_is = l.rest_is;
+      outcome =
+          ap (λ (x : ReaderValue). outcome_left x bytes) (sym is)
+          ∙ ap (λ (x : Progress). outcome_in x from bytes) reading
+          ∙ l.outcome
+          ∙ by_answer gsi l.rest block r
+          ∙ ap (λ (x : ReaderValue). outcome_with x l.rest r)
+          (sym (same_after gsi block to q r at goes));
+    }
 
 -- ---- what was read so far
 

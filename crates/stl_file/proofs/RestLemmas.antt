@@ -9,12 +9,12 @@ use Rattle.std.proofs.lemmas.List.{append-nil, take-append-drop, length-take-le}
 use Rattle.std.proofs.lemmas.Bool.{cases_lt, eq-eqb, ne_eqb, cases_Bool}
 use Rattle.stl_file.specs.declared.fault.StlFault.{StlFault}
 use Rattle.stl_file.specs.Tti.{is_kept, most_blocks, sgn, sn, ebn, text_of, is_passed}
-use Rattle.stl_file.specs.SubtitleBlocks.{IsBlock, joined, AreLinked, AreBlocksOf}
-use Rattle.stl_file.specs.SubtitleBlocks.{AreBlocksOfEach, IsRest}
+use Rattle.stl_file.specs.SubtitleBlocks.{IsBlock, joined, AreLinked, AreBlocksOf, AreBlocksOfEach}
+use Rattle.stl_file.specs.SubtitleBlocks.{IsRest}
 use Rattle.stl_file.specs.Subtitle.{SubtitleValue}
 use Rattle.stl_file.specs.NormalForm.{Judged, subtitles_of, cons_all}
-use Rattle.stl_file.specs.Reading.{Begun, Step, More, Give}
-use Rattle.stl_file.specs.Reading.{outcome_after, outcome_at, step_at, closed, kept_at}
+use Rattle.stl_file.specs.Reading.{Begun, Step, More, Give, outcome_after, outcome_at, step_at}
+use Rattle.stl_file.specs.Reading.{closed, kept_at}
 use Rattle.stl_file.proofs.SubtitleBlocksLemmas.{chain_head, cons_is, filter_passed, filter_kept}
 use Rattle.stl_file.proofs.StepLemmas.{first_complete, step_kept, step_passed, Represents}
 use Rattle.stl_file.proofs.StepLemmas.{step_sound}
@@ -325,8 +325,7 @@ outcome_sound room None before [] ss rep e =
       few = omega arith;
       bytes = refl;
       groups = [];
-      kept =
-          append-nil before ∙ rep;
+      kept = append-nil before ∙ rep;
       are_groups = rw n tt;
     }
 outcome_sound room (Some o) before [] ss rep e =
@@ -346,20 +345,3 @@ outcome_sound (suc room) begun before (x ∷ b) ss rep e =
           (λ g k ts. outcome_sound room g k (drop 128 (x ∷ b)) ts)
           (sym (ap subtitles_of (outcome_step room begun (x ∷ b) le)) ∙ e)
     ]
-
--- the same from the first block of a file on
-pub rest_of : (b : List ℕ) (ss : List SubtitleValue)
-    → Reads most_blocks [] b ss
-    → (bs : List (List ℕ)) × (b ≡ joined bs) × IsRest most_blocks bs ss
-rest_of b ss r = (
-  r.blocks,
-  r.bytes,
-  record {
-    each = r.each;
-    few = r.few;
-    parts = r.groups;
-    kept =
-        r.kept;
-    are_of = r.are_groups;
-  },
-)

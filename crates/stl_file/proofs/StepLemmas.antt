@@ -1,9 +1,8 @@
 -- `step_at`: the blocks that are read without a fault are those of subtitles; main lemmas:
 -- step_sound, first_complete, step_kept, step_passed.
 use Rattle.std.proofs.Common.{◌≡◌, ℕ, Bool, true, false, cond, List, [], ◌∷◌, ◌++◌, length, refl}
-use Rattle.std.proofs.Common.{sym, ap, ◌∙◌, arith, length-append, Option, Some, None}
-use Rattle.std.proofs.Common.{Result, Ok, Err, subst, ◌+◌, ◌<◌, ◌≤◌, ◌⊎◌, inl, inr, not, eqb, leb}
-use Rattle.std.proofs.Common.{ltb, rules}
+use Rattle.std.proofs.Common.{sym, ap, ◌∙◌, arith, length-append, Option, Some, None, Result, Ok}
+use Rattle.std.proofs.Common.{Err, subst, ◌+◌, ◌<◌, ◌≤◌, ◌⊎◌, inl, inr, not, eqb, leb, ltb, rules}
 use Rattle.std.specs.Prelude.{◌&&◌, ◌||◌}
 use Rattle.std.specs.List.{AllByRecursion, flat_map}
 use Rattle.std.proofs.lemmas.Grind.{flat_map-append}
@@ -17,8 +16,8 @@ use Rattle.stl_file.specs.declared.fault.StlFault.TheVariants as fault
 use Rattle.stl_file.specs.Tti.{is_kept, sgn, sn, ebn, cs, vp, jc, cf, text_of, is_passed}
 use Rattle.stl_file.specs.SubtitleBlocks.{IsTimeAt, BelongsTo, AreLinked, Begins, AreBlocksOf}
 use Rattle.stl_file.specs.Subtitle.{SubtitleValue}
-use Rattle.stl_file.specs.Reading.{Begun, Step, More, Give}
-use Rattle.stl_file.specs.Reading.{step_at, closed, time_at, first_at, kept_at}
+use Rattle.stl_file.specs.Reading.{Begun, Step, More, Give, step_at, closed, time_at, first_at}
+use Rattle.stl_file.specs.Reading.{kept_at}
 use Rattle.stl_file.proofs.TimeCodeLemmas.{through, time_sound, time_complete}
 use Rattle.stl_file.proofs.SubtitleBlocksLemmas.{kept_by_both, passed_by_ebn, passed_by_comment}
 
@@ -33,8 +32,7 @@ made b tci tco = record {
   tco = tco;
   vp = vp b;
   jc = jc b;
-  text =
-      text_of b;
+  text = text_of b;
 }
 
 -- a first block begins the subtitle that it makes

@@ -1,8 +1,8 @@
 -- The blocks of a subtitle, and lists of blocks; main lemmas: joined_push, chain_head,
 -- kept_by_both, blocks_subtitle.
-use Rattle.std.proofs.Common.{◌≡◌, ◌*◌, ℕ, true, false, cond, List, [], ◌∷◌, ◌++◌, length}
-use Rattle.std.proofs.Common.{refl, sym, ap, ◌∙◌, arith, length-append, subst}
-use Rattle.std.proofs.Common.{◌<◌, ◌≤◌, ◌⊎◌, inl, inr, eqb, ltb}
+use Rattle.std.proofs.Common.{◌≡◌, ◌*◌, ℕ, true, false, cond, List, [], ◌∷◌, ◌++◌, length, refl}
+use Rattle.std.proofs.Common.{sym, ap, ◌∙◌, arith, length-append, subst, ◌<◌, ◌≤◌, ◌⊎◌, inl, inr}
+use Rattle.std.proofs.Common.{eqb, ltb}
 use Rattle.std.proofs.lemmas.Grind.{flat_map-append}
 use Rattle.std.proofs.lemmas.List.Elements.{filter-append}
 use Rattle.std.proofs.lemmas.List.Sums.{count_by-le-length, length-filter}

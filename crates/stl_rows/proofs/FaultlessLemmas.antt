@@ -1,13 +1,11 @@
 -- Lines without a fault: each fits its row (fits_row), none goes under row 23 (no_cells), and with
 -- cells before the first there are at most 40 of these (few_cells).
-use Rattle.std.proofs.Common.{◌≡◌, ℕ, suc, ◌+◌, ◌<◌, ◌≤◌, Bool, true, false}
-use Rattle.std.proofs.Common.{List}
-use Rattle.std.proofs.Common.{[], ◌∷◌, ◌++◌, length, map, refl, sym, ap, ◌∙◌, arith, inl, inr}
-use Rattle.std.proofs.Common.{ltb-false, length-append}
+use Rattle.std.proofs.Common.{◌≡◌, ℕ, suc, ◌+◌, ◌<◌, ◌≤◌, Bool, true, false, List, [], ◌∷◌, ◌++◌}
+use Rattle.std.proofs.Common.{length, map, refl, sym, ap, ◌∙◌, arith, inl, inr, ltb-false}
+use Rattle.std.proofs.Common.{length-append, drop, get_or, lit<, subst, zero}
 use Rattle.std.proofs.lemmas.Bool.{cases_lt, lt-ltb, true≢false}
 use Rattle.stl_rows.specs.declared.fault.RowFaultKind.{RowFaultKind}
-use Rattle.stl_rows.specs.declared.fault.RowFaultKind.TheVariants.{PastBottom}
-use Rattle.stl_rows.specs.declared.fault.RowFaultKind.TheVariants.{RowTooLong}
+use Rattle.stl_rows.specs.declared.fault.RowFaultKind.TheVariants.{PastBottom, RowTooLong}
 use Rattle.stl_rows.specs.DrawnPage.{last_row, line_fault_kinds, line_faults, when}
 use Rattle.stl_rows.specs.Line.{is_double, prepared}
 use Rattle.stl_rows.specs.LineByLine.{onto, prepared_lines}
@@ -15,7 +13,6 @@ use Rattle.stl_rows.specs.TextCode.{HasSevenBits, fault_of, lines_of, text_codes
 use Rattle.stl_rows.specs.declared.national.National.{National}
 use Rattle.stl_rows.specs.declared.text_code.TextCode.{TextCode}
 use Rattle.stl_rows.specs.declared.text_code.TextCode.TheVariants.{Cell, NewLine}
-use Rattle.std.proofs.Common.{drop, get_or, lit<, subst, zero}
 use Rattle.stl_rows.proofs.LineByLineLemmas.{prepared_longer, prepared_lines-cell}
 use Rattle.stl_rows.proofs.LineByLineLemmas.{prepared_lines-line_end, prepared_lines-end}
 

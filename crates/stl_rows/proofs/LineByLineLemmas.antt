@@ -1,8 +1,8 @@
 -- The lines of a text as its text codes are read one by one: what each code does to them, as
 -- prepared_lines-cell; and how the page that is drawn goes on with a line, put_lines-line.
 use Rattle.std.proofs.Common.{◌≡◌, ℕ, ◌-◌, ◌<◌, ◌≤◌, Bool, true, false, cond, List, [], ◌∷◌, ◌++◌}
-use Rattle.std.proofs.Common.{map}
-use Rattle.std.proofs.Common.{length, drop, refl, sym, ap, ◌∙◌, arith, append-nil, length-append}
+use Rattle.std.proofs.Common.{map, length, drop, refl, sym, ap, ◌∙◌, arith, append-nil}
+use Rattle.std.proofs.Common.{length-append}
 use Rattle.std.proofs.lemmas.Bool.Decides.{nat_tests}
 use Rattle.std.specs.List.{onto_first}
 use Rattle.std.specs.Prelude.{slice_set}

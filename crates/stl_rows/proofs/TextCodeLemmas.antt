@@ -1,11 +1,10 @@
 -- Two bytes of a text that are one text code: text_codes-pair.
-use Rattle.std.proofs.Common.{◌≡◌, ℕ, ◌+◌, ◌<◌, List, ◌∷◌, Some, length, get_or, drop, refl}
-use Rattle.std.proofs.Common.{ap, ◌∙◌, arith, add-one, drop-cons}
+use Rattle.std.proofs.Common.{◌≡◌, ℕ, ◌+◌, ◌<◌, List, ◌∷◌, Some, length, get_or, drop, refl, ap}
+use Rattle.std.proofs.Common.{◌∙◌, arith, add-one, drop-cons}
 use Rattle.stl_rows.specs.declared.national.National.{National}
 use Rattle.stl_rows.specs.declared.text_code.TextCode.{TextCode}
 use Rattle.stl_rows.specs.declared.text_code.TextCode.TheVariants.{Cell}
-use Rattle.stl_rows.specs.TextCode.{cell_of_pair, codes_after, first_of}
-use Rattle.stl_rows.specs.TextCode.{text_codes}
+use Rattle.stl_rows.specs.TextCode.{cell_of_pair, codes_after, first_of, text_codes}
 
 -- a text from a place on begins with the byte there
 cut_at : (text : List ℕ) (at : ℕ)

@@ -69,8 +69,7 @@ span-rises national (t ∷ ts) a b ok h k =
           record {
             rises = omega
                 (arith, f, g, ap (λ (r : SubtitleValue). r.tco) same, each_first.times);
-            in_day =
-                omega (arith, f, each_last.in_day);
+            in_day = omega (arith, f, each_last.in_day);
           }
     ]
 

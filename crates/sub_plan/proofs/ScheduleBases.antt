@@ -211,8 +211,7 @@ last_sending due every first last (suc f) some low =
         low = low;
         high = omega arith;
         sends = h;
-        none_after =
-            λ k a c. absurd (omega arith);
+        none_after = λ k a c. absurd (omega arith);
         same = refl;
       },
     )

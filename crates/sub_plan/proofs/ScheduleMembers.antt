@@ -1,15 +1,14 @@
 -- The frames with a sending, without the way in which they are found: law_of_sendings, law_of_gaps.
 use Rattle.std.proofs.Math.Bool.{or-true}
-use Rattle.std.proofs.Common.{◌≡◌, ℕ, zero, suc, ◌+◌, ◌-◌, ◌%◌, ◌<◌, ◌≤◌, Bool, true, false}
-use Rattle.std.proofs.Common.{not, ◌||◌, cond, eqb, List, ◌∷◌, length, get_or, refl, sym, ap, subst}
-use Rattle.std.proofs.Common.{◌∙◌, arith, inl, inr, filter}
+use Rattle.std.proofs.Common.{◌≡◌, ℕ, zero, suc, ◌+◌, ◌-◌, ◌%◌, ◌<◌, ◌≤◌, Bool, true, false, not}
+use Rattle.std.proofs.Common.{◌||◌, cond, eqb, List, ◌∷◌, length, get_or, refl, sym, ap, subst, ◌∙◌}
+use Rattle.std.proofs.Common.{arith, inl, inr, filter}
 use Rattle.std.proofs.lemmas.Bool.{cases_Bool, cases_lt, false≢true}
 use Rattle.std.proofs.lemmas.Bool.Decides.{Decides-eqb}
 use Rattle.std.specs.List.{range_with_len, Contains}
 use Rattle.ttx_page.specs.Page.{Rows}
 use Rattle.sub_plan.specs.Laws.{IsBase, IsSending, LawOfGaps, LawOfSendings}
-use Rattle.sub_plan.specs.Schedule.{base, is_base, is_same_page, is_sending}
-use Rattle.sub_plan.specs.Schedule.{sendings_from}
+use Rattle.sub_plan.specs.Schedule.{base, is_base, is_same_page, is_sending, sendings_from}
 use Rattle.sub_plan.proofs.ScheduleBases.{same_page-Decides, is_base-first, is_base-from_change}
 use Rattle.sub_plan.proofs.ScheduleBases.{base_stays, IsFound, find_base, base-found}
 use Rattle.sub_plan.proofs.ScheduleBases.{sending_in_gap}

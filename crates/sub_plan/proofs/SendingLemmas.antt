@@ -1,20 +1,17 @@
 -- What a sending holds and shows: law_of_sending, law_of_sent_packets, law_of_cut_sendings.
-use Rattle.std.proofs.Common.{◌≡◌, ℕ, zero, suc, ◌+◌, ◌-◌, ◌<◌, ◌≤◌, inl, inr}
-use Rattle.std.proofs.Common.{Bool, true, false, not, ◌==◌, cond, List, [], ◌∷◌, ◌++◌}
-use Rattle.std.proofs.Common.{length, map, filter, take, find, flat_map, option_map, unwrap_or}
-use Rattle.std.proofs.Common.{None, slice_index, All, refl}
-use Rattle.std.proofs.Common.{sym, ap, ◌∙◌, subst, arith, lit≤, eq-eqb, eqb-true, ne_eqb}
-use Rattle.std.proofs.Common.{append-nil}
+use Rattle.std.proofs.Common.{◌≡◌, ℕ, zero, suc, ◌+◌, ◌-◌, ◌<◌, ◌≤◌, inl, inr, Bool, true, false}
+use Rattle.std.proofs.Common.{not, ◌==◌, cond, List, [], ◌∷◌, ◌++◌, length, map, filter, take, find}
+use Rattle.std.proofs.Common.{flat_map, option_map, unwrap_or, None, slice_index, All, refl, sym}
+use Rattle.std.proofs.Common.{ap, ◌∙◌, subst, arith, lit≤, eq-eqb, eqb-true, ne_eqb, append-nil}
+use Rattle.std.proofs.Common.{◌↔◌, replicate, true≢false}
 use Rattle.std.specs.List.{list_any, range_with_len, AllByRecursion}
 use Rattle.std.proofs.Math.Seq.{take-append-add}
-use Rattle.std.proofs.Common.{◌↔◌, replicate, true≢false}
 use Rattle.std.proofs.lemmas.Bool.{cases_Bool, cases_eq, cases_lt, or_parts, or_left, or_right}
 use Rattle.std.proofs.lemmas.List.{take_all, take-append-le, length_push, ext_get_or}
 use Rattle.std.proofs.lemmas.List.{get_or-replicate, length-replicate}
 use Rattle.std.proofs.lemmas.List.Folds.{list_any-append}
-use Rattle.std.proofs.lemmas.List.Elements.{All-nil, All-cons, All-push}
-use Rattle.std.proofs.lemmas.List.Elements.{All-map, All-filter, All-take, All-weaker}
-use Rattle.std.proofs.lemmas.List.Elements.{recursion_from_All}
+use Rattle.std.proofs.lemmas.List.Elements.{All-nil, All-cons, All-push, All-map, All-filter}
+use Rattle.std.proofs.lemmas.List.Elements.{All-take, All-weaker, recursion_from_All}
 use Rattle.std.proofs.lemmas.Option.{none-some, same_Some}
 use Rattle.ttx_packet.specs.PageHeader.{c11}
 use Rattle.ttx_packet.specs.PageId.{PageIdValue}

@@ -1,17 +1,13 @@
 -- How long a sending is, as a value and row by row: law_of_size, law_of_pes_values, sending_made.
 use Rattle.std.proofs.lemmas.List.Sums.{count_by-le-length, length-filter}
-use Rattle.std.proofs.Common.{◌≡◌, ℕ, ◌+◌, ◌-◌, ◌*◌, ◌^◌, ◌<◌, ◌≤◌}
-use Rattle.std.proofs.Common.{Bool, true, false, cond, List, [], ◌∷◌, ◌++◌}
-use Rattle.std.proofs.Common.{length, map, filter}
-use Rattle.std.proofs.Common.{All, refl}
-use Rattle.std.proofs.Common.{sym, ap, ◌∙◌, arith, lit<}
-use Rattle.std.proofs.Common.{append-nil}
+use Rattle.std.proofs.Common.{◌≡◌, ℕ, ◌+◌, ◌-◌, ◌*◌, ◌^◌, ◌<◌, ◌≤◌, Bool, true, false, cond, List}
+use Rattle.std.proofs.Common.{[], ◌∷◌, ◌++◌, length, map, filter, All, refl, sym, ap, ◌∙◌, arith}
+use Rattle.std.proofs.Common.{lit<, append-nil}
 use Rattle.std.specs.List.{range_with_len}
 use Rattle.std.proofs.Math.Nat.{mod-lt}
 use Rattle.std.proofs.lemmas.List.{length_push, length-map, map-append}
 use Rattle.std.proofs.lemmas.List.FromFn.{length-range_with_len}
-use Rattle.std.proofs.lemmas.List.Elements.{All-weaker}
-use Rattle.std.proofs.lemmas.List.Elements.{recursion_from_All, filter-append}
+use Rattle.std.proofs.lemmas.List.Elements.{All-weaker, recursion_from_All, filter-append}
 use Rattle.ttx_packet.specs.PacketAddress.{IsPacket}
 use Rattle.ttx_packet.specs.PageHeader.{header_packet}
 use Rattle.ttx_packet.specs.PageId.{PageIdValue}
@@ -23,8 +19,7 @@ use Rattle.ttx_pes.proofs.LineOrderLemmas.{numbered_is_value}
 use Rattle.sub_plan.specs.FrameTime.{pts_of}
 use Rattle.sub_plan.specs.Sending.{is_sent_row, watched_header, closing_header, rows_from}
 use Rattle.sub_plan.specs.Sending.{sent_rows, sending}
-use Rattle.sub_plan.specs.Laws.{IsSentPacket}
-use Rattle.sub_plan.specs.Laws.{LawOfDueSize, LawOfPesValues, LawOfSize}
+use Rattle.sub_plan.specs.Laws.{IsSentPacket, LawOfDueSize, LawOfPesValues, LawOfSize}
 use Rattle.sub_plan.specs.Schedule.{due_in}
 use Rattle.stl_rows.proofs.LastRowLemmas.{last_row_blank}
 use Rattle.sub_plan.proofs.ScheduleBases.{range_split}

@@ -1,21 +1,17 @@
 -- The packets of a sending, one by one: what is read of them, made_row, and their kinds, kind_row.
-use Rattle.std.proofs.Common.{◌≡◌, ℕ, zero, suc, ◌+◌, ◌-◌, ◌*◌, ◌/◌, ◌%◌, ◌<◌, ◌≤◌}
-use Rattle.std.proofs.Common.{Bool, true, false, ◌==◌, nat_le, cond, List, [], ◌∷◌, ◌++◌}
-use Rattle.std.proofs.Common.{length, map}
-use Rattle.std.proofs.Common.{replicate, slice_index_or, Option, slice_index, All, refl}
-use Rattle.std.proofs.Common.{◌∙◌, arith, lit<, eq-eqb, ne_eqb}
+use Rattle.std.proofs.Common.{◌≡◌, ℕ, zero, suc, ◌+◌, ◌-◌, ◌*◌, ◌/◌, ◌%◌, ◌<◌, ◌≤◌, Bool, true}
+use Rattle.std.proofs.Common.{false, ◌==◌, nat_le, cond, List, [], ◌∷◌, ◌++◌, length, map}
+use Rattle.std.proofs.Common.{replicate, slice_index_or, Option, slice_index, All, refl, ◌∙◌, arith}
+use Rattle.std.proofs.Common.{lit<, eq-eqb, ne_eqb}
 use Rattle.std.specs.List.{list_all, AllByRecursion}
-use Rattle.std.proofs.lemmas.Bool.{and_parts, ltb-true}
+use Rattle.std.proofs.lemmas.Bool.{and_parts, ltb-true, le-leb}
 use Rattle.std.specs.Prelude.{nat_lt}
-use Rattle.std.proofs.lemmas.Bool.{le-leb}
-use Rattle.std.proofs.lemmas.List.Elements.{All-nil, All-cons, All-append, All-replicate}
-use Rattle.std.proofs.lemmas.List.Elements.{All-map, All-weaker}
-use Rattle.std.proofs.lemmas.List.Elements.{All-from_get_or, recursion_from_All}
+use Rattle.std.proofs.lemmas.List.Elements.{All-nil, All-cons, All-append, All-replicate, All-map}
+use Rattle.std.proofs.lemmas.List.Elements.{All-weaker, All-from_get_or, recursion_from_All}
 use Rattle.ttx_packet.specs.declared.header.Header.{Header}
 use Rattle.ttx_packet.specs.Hamming84.{code_word, code_words}
 use Rattle.ttx_packet.specs.PacketAddress.{PacketAddress, IsPacket, address, address_words}
-use Rattle.ttx_packet.specs.PageHeader.{header, header_numbers, header_packet}
-use Rattle.ttx_packet.specs.PageHeader.{IsHeader}
+use Rattle.ttx_packet.specs.PageHeader.{header, header_numbers, header_packet, IsHeader}
 use Rattle.ttx_packet.specs.PageId.{PageIdValue}
 use Rattle.ttx_packet.specs.Parity.{is_odd, odd_byte}
 use Rattle.ttx_packet.specs.RowPacket.{row_packet}
@@ -117,8 +113,7 @@ closing_is serial =
       page = lit< tt;
       subcode = lit< tt;
       no_bit_8 = refl;
-      control =
-          omega (arith, bit_small serial);
+      control = omega (arith, bit_small serial);
     }
 
 -- The header of the page as a packet.

@@ -1,6 +1,6 @@
 -- Each return of the loop over blocks, and one block more.
-use Rattle.std.proofs.Common.{◌≡◌, ℕ, Bool, false, None, Ok, Some, eqb, refl, rules, sym, ap, ◌∙◌, ◌+◌}
-use Rattle.std.proofs.Common.{arith}
+use Rattle.std.proofs.Common.{◌≡◌, ℕ, Bool, false, None, Ok, Some, eqb, refl, rules, sym, ap, ◌∙◌}
+use Rattle.std.proofs.Common.{◌+◌, arith}
 use Rattle.std.proofs.lemmas.Bool.{ne_eqb}
 use Rattle.std.proofs.lemmas.Result.{err_from_is_err_and}
 use Rattle.stl_file.specs.Reading.{begun_in, step_at, step_in}

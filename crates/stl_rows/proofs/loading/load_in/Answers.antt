@@ -1,11 +1,10 @@
 -- Each way out tells what the whole file gives: tells-opening, tells-next, tells-none,
 -- tells-refused.
-use Rattle.std.proofs.Common.{refl, rules, ap}
+use Rattle.std.proofs.Common.{refl, rules, ap, drop}
 use Rattle.std.specs.Prelude.{Bool, Ok, Result, Some}
 use Rattle.stl_file.specs.Reader.{given_subtitle}
 use Rattle.stl_file.specs.declared.fault.StlFault.{StlFault}
 use Rattle.stl_file.specs.Gsi.{gsi_size}
-use Rattle.std.proofs.Common.{drop}
 use Rattle.stl_rows.proofs.FailedReadLemmas.{fails-next, fails-opening, has_taken-next}
 use Rattle.stl_rows.proofs.FailedReadLemmas.{has_taken-opened}
 use Rattle.stl_rows.proofs.LoadingLemmas.{goes_on-opened, goes_on-put, still_reading, tells-opening}

@@ -1,10 +1,11 @@
 -- The answer of `next_into` is the first thing that was left to be given.
-use Rattle.std.proofs.Common.{◌≡◌, ℕ, Bool, true, false, Result, Ok, refl, rules, arith, sym, ap, ◌∙◌}
+use Rattle.std.proofs.Common.{◌≡◌, ℕ, Bool, true, false, Result, Ok, refl, rules, arith, sym, ap}
+use Rattle.std.proofs.Common.{◌∙◌}
 use Rattle.std.proofs.lemmas.Grind.{common_steps}
 use Rattle.stl_file.specs.declared.fault.StlFault.{StlFault}
 use Rattle.stl_file.specs.Reader.{block_by, given_subtitle, progress_after}
 use Rattle.stl_file.specs.Subtitle.{SubtitleValue}
-use Rattle.stl_file.proofs.AnswersLemmas.{answers}
+use Rattle.stl_file.proofs.ReaderLemmas.{answers}
 use Rattle.stl_file.proofs.reader.StlReader.next_into.Goals.{in-Ok, in-Err}
 use Rattle.stl_file.proofs.reader.StlReader.next_into.Goals as goal
 
