@@ -118,10 +118,10 @@ fn first_column(a: &[u8; 40], b: &[u8; 40]) -> Option<u8>
             return Some((16 * i + mask.trailing_zeros() as usize) as u8);
         }
     }
-    for column in 32..40usize {
-        if a[column] != b[column] {
-            return Some(column as u8);
-        }
+    // The last block takes in columns of the one before it, so that none is left over.
+    let last = differing(a.last_chunk().unwrap(), b.last_chunk().unwrap());
+    if last != 0 {
+        return Some((24 + last.trailing_zeros() as usize) as u8);
     }
     None
 }
