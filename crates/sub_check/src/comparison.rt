@@ -1,9 +1,11 @@
 //! The page that is shown beside the page that is due, and in how many cells they differ.
-ghost use Rattle.std.specs.Prelude.{◌≡◌, ℕ, ◌-◌, ◌≤◌, ◌↔◌, IsTrue, MatchOption, slice_set};
+ghost use Rattle.std.specs.Prelude.{◌≡◌, ℕ, ◌-◌, ◌≤◌, ◌↔◌, IfSome, IsTrue, MatchOption, Some};
+ghost use Rattle.std.specs.Prelude.{slice_set};
 ghost use Rattle.ttx_packet.specs.PacketAddress.{IsPacket};
 ghost use Rattle.ttx_page.specs.Differing.{row_differing};
 ghost use Rattle.ttx_page.specs.Page.{AreCodes, DiffersFirst, IsCell, IsPage, IsRow, blank, cell};
 ghost use Rattle.ttx_page.specs.Page.{row_at};
+ghost use Rattle.sub_check.specs.Comparison.{recounted};
 ghost use Rattle.sub_check.specs.PacketRules.{codes_of};
 
 use crate::packet_rules::text_codes;
@@ -13,14 +15,15 @@ use ttx_page::{Page, differing_columns};
 
 /// The page that is shown, and the page that is due.
 ///
-/// The pages are compared where another page is due. From then on the number of cells in which they
-/// differ is kept: a row that is shown changes it by the cells of the row.
+/// The number of cells in which they differ is kept from the first header on that follows where
+/// another page is due: a row that is shown changes it by the cells of the row.
 #[derive(Drop)]
 pub(crate) struct Comparison {
     page: Page,
     due: Page,
-    // In how many cells the two differ.
-    wrong: u16,
+    // In how many cells the two differ. `None` from where another page is due up to the next
+    // header, which most often comes before anybody asks.
+    wrong: Option<u16>,
     // In how many the blank page differs from the due one: what `wrong` is after a header.
     blank_wrong: u16,
 }
@@ -45,7 +48,7 @@ impl Comparison {
         Comparison {
             page,
             due,
-            wrong,
+            wrong: Some(wrong),
             blank_wrong: wrong,
         }
     }
@@ -54,7 +57,7 @@ impl Comparison {
     pub fn draw(&mut self, due: Page)
         ensures { self.new ≡ record self.old { due = due } }
     {
-        self.wrong = self.page.differing_cells(&due);
+        self.wrong = None;
         self.blank_wrong = Page::blank().differing_cells(&due);
         self.due = due;
     }
@@ -64,7 +67,7 @@ impl Comparison {
         ensures { self.new ≡ record self.old { page = blank } }
     {
         self.page = Page::blank();
-        self.wrong = self.blank_wrong;
+        self.wrong = Some(self.blank_wrong);
     }
 
     /// A row is shown.
@@ -79,7 +82,7 @@ impl Comparison {
         let before = row_wrong(&self.page, &self.due, row);
         let after = differing_columns(codes, self.due.row(row));
         self.page.set_row(row, codes);
-        self.wrong = self.wrong - before + after;
+        self.wrong = recounted(self.wrong, before, after);
     }
 
     /// Whether a row that is shown holds the codes of a packet.
@@ -91,18 +94,40 @@ impl Comparison {
         is_same_row(self.page.row(row), &text_codes(packet))
     }
 
-    /// The first cell that differs from the due page, found by the count.
+    /// The first cell that differs from the due page, found by the count where there is one.
     pub fn first_wrong(&self) -> Option<(u8, u8)>
         ensures { MatchOption result
             ((row column : ℕ) → IsCell row column
             → cell self.now.page row column ≡ cell self.now.due row column)
             (λ place. DiffersFirst self.now.page self.now.due place.0 place.1) }
     {
-        if self.wrong == 0 {
+        if is_zero(self.wrong) {
             None
         } else {
             self.page.first_difference(&self.due)
         }
+    }
+}
+
+// A count after a row with `before` cells that differ gave place to one with `after`.
+fn recounted(wrong: Option<u16>, before: u16, after: u16) -> Option<u16>
+    requires wrong { IfSome wrong (λ n. (before ≤ n) × (n ≤ 960)) }
+    requires after { after ≤ 40 }
+    ensures { result ≡ recounted wrong before after }
+{
+    match wrong {
+        Some(count) => Some(count - before + after),
+        None => None,
+    }
+}
+
+// Whether there is a count, and it is 0.
+fn is_zero(count: Option<u16>) -> bool
+    ensures { IsTrue result → count ≡ Some 0 }
+{
+    match count {
+        Some(count) => count == 0,
+        None => false,
     }
 }
 
