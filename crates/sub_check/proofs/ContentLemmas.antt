@@ -1,10 +1,11 @@
 -- Where content is refused, every receiver shows another code than is due: `wrong_everywhere`.
+use Rattle.std.proofs.Common.{All}
+use Rattle.std.proofs.lemmas.List.Elements.{All-nil, All-push}
 use Rattle.std.proofs.Common.{slice_index, suc, ◌≡◌, ℕ, ◌+◌, ◌-◌, ◌<◌, ◌≤◌, ◌⊎◌, inl, inr, true}
 use Rattle.std.proofs.Common.{List, [], ◌∷◌, Option, Some, None, length, take, map, IsFalse, refl}
 use Rattle.std.proofs.Common.{sym, ap, ◌∙◌, subst, arith, length-take}
-use Rattle.std.specs.List.{AllByRecursion, flat_map}
+use Rattle.std.specs.List.{flat_map}
 use Rattle.std.proofs.lemmas.List.{get_or-take, take-map}
-use Rattle.std.proofs.lemmas.List.Elements.{All-from_recursion}
 use Rattle.ttx_packet.specs.PageHeader.{HasExactWords}
 use Rattle.ttx_page.specs.Noise.{ErasesPage, IsSound}
 use Rattle.ttx_page.specs.Page.{IsCell, cell}
@@ -28,7 +29,6 @@ use Rattle.sub_check.specs.Transmission.{on_air_until}
 use Rattle.sub_check.specs.WrongContent.{IsWrongEverywhere}
 use Rattle.sub_check.specs.declared.packet_rules.Watched.{Watched}
 use Rattle.sub_check.proofs.GoodLemmas.{number_at, whole-is}
-use Rattle.sub_check.proofs.PacketLists.{Each-push}
 use Rattle.sub_check.proofs.PlaceLemmas.{fair_step}
 use Rattle.sub_check.proofs.PrefixLemmas.{at_start, before, last-same, on_air_is, packet_at}
 use Rattle.sub_check.proofs.PrefixLemmas.{rises_strictly}
@@ -44,17 +44,17 @@ module _ (w : Watched) (frames : Transmission) (n : ℕ) (fits : n ≤ length fr
     (clean : (i k : ℕ) → i < n → k < length (packets_of_frame frames i)
     → IsClean w (before frames i k) (packet_at frames i k)) where
   -- Their addresses and headers are code words.
-  exact : AllByRecursion HasExactWords (packets_before frames n)
+  exact : All HasExactWords (packets_before frames n)
   exact =
-      at_start frames n fits (AllByRecursion HasExactWords) tt
-      (λ i k l m ih. Each-push HasExactWords (before frames i k) (packet_at frames i k) ih
+      at_start frames n fits (All HasExactWords) (All-nil _)
+      (λ i k l m ih. All-push HasExactWords (before frames i k) (packet_at frames i k) ih
       (clean i k l m rule.Address, clean i k l m rule.HeaderCode)) n (omega arith)
 
   -- Each header of the page erases it.
-  erases : AllByRecursion (ErasesPage w.page) (packets_before frames n)
+  erases : All (ErasesPage w.page) (packets_before frames n)
   erases =
-      at_start frames n fits (AllByRecursion (ErasesPage w.page)) tt
-      (λ i k l m ih. Each-push (ErasesPage w.page) (before frames i k) (packet_at frames i k) ih
+      at_start frames n fits (All (ErasesPage w.page)) (All-nil _)
+      (λ i k l m ih. All-push (ErasesPage w.page) (before frames i k) (packet_at frames i k) ih
       (λ h e. (clean i k l m rule.Control h e).erases)) n (omega arith)
 
   -- Their span is clean.
@@ -67,8 +67,8 @@ module _ (w : Watched) (frames : Transmission) (n : ℕ) (fits : n ≤ length fr
   -- So they are what is asked for the law of quiet.
   sound : IsSound w.page (packets_before frames n)
   sound = record {
-    exact = All-from_recursion HasExactWords (packets_before frames n) exact;
-    erases = All-from_recursion (ErasesPage w.page) (packets_before frames n) erases;
+    exact = exact;
+    erases = erases;
     odd = clean_span.odd;
     same = clean_span.same;
   }

@@ -1,5 +1,6 @@
 -- A transmission is good by places exactly where it is good: `Good-from_frames`,
 -- `GoodFrames-from_good`.
+use Rattle.std.proofs.Math.Seq.{take-append-add}
 use Rattle.std.proofs.Common.{◌≡◌, ℕ, zero, suc, ◌+◌, ◌-◌, ◌<◌, ◌≤◌, inl, inr, Bool, true}
 use Rattle.std.proofs.Common.{cond, ◌&&◌, nat_le, nat_lt, List, [], ◌∷◌, ◌++◌, Option, Some}
 use Rattle.std.proofs.Common.{None, length, take, get_or, All, refl, sym, ap, ◌∙◌, subst, arith}
@@ -80,10 +81,9 @@ any_sent w (s ∷ ss) (suc j) n l e h =
 -- A list joined to another, cut after its end.
 pub take-over : (xs ys : List (List ℕ)) (n : ℕ) → length xs ≤ n
     → take n (xs ++ ys) ≡ xs ++ take (n - length xs) ys
-take-over [] ys n h = ap (λ k. take k ys) (omega arith)
-take-over (x ∷ xs) ys zero h = absurd (omega arith)
-take-over (x ∷ xs) ys (suc n) h = let e : suc n - suc (length xs) ≡ n - length xs = omega arith in
-    ap (λ zs. x ∷ zs) (take-over xs ys n (omega arith)) ∙ ap (λ k. x ∷ (xs ++ take k ys)) (sym e)
+take-over xs ys n h =
+    let e : n ≡ length xs + (n - length xs) = omega arith in
+    ap (λ k. take k (xs ++ ys)) e ∙ take-append-add xs ys (n - length xs)
 
 -- The number of a frame of the list.
 pub number_at : (t : Transmission) (i : ℕ) (d : SentFrame) → i < length t
@@ -106,28 +106,24 @@ module _ (programme : ProgrammeValue) (options : OptionsValue) (unread : Option 
   cut_fair zero l zero = clean_nil options.page
   cut_fair zero l (suc n) = clean_nil options.page
   cut_fair (suc m) l n =
+      let P : List (List ℕ) → Type 0 = λ xs. IsCleanSpan options.page (span (kind options.page) xs)
+      in
+      let so_far = packets_before t m in
+      let ps = packets_of_frame t m in
       let e : m + 1 ≡ suc m = omega arith in
-      let more : packets_before t (suc m) ≡ packets_before t m ++ packets_of_frame t m =
-      ap (packets_before t) (sym e)
-      ∙ joined_more t m (omega arith) in
-      subst (λ xs. IsCleanSpan options.page (span (kind options.page) (take n xs)))
-      (sym more) (elim (cases_lt n (length (packets_before t m))) [
-        | inl short ↦ subst
-            (λ xs. IsCleanSpan options.page (span (kind options.page) xs))
-            (sym (take-append-le n (packets_before t m) (packets_of_frame t m) (omega arith)))
-            (cut_fair m (omega arith) n)
-        | inr long ↦ subst
-            (λ xs. IsCleanSpan options.page (span (kind options.page) xs))
-            (sym (take-over (packets_before t m) (packets_of_frame t m) n long))
-            (elim (cases_lt (length (packets_of_frame t m)) (n - length (packets_before t m))) [
-              | inl past ↦ subst
-                  (λ xs. IsCleanSpan options.page
-                  (span (kind options.page) (packets_before t m ++ xs)))
-                  (take_all (length (packets_of_frame t m)) (packets_of_frame t m) (omega arith)
-                  ∙ sym (take_all (n - length (packets_before t m)) (packets_of_frame t m)
-                  (omega arith)))
-                  (h.fair m (length (packets_of_frame t m)) (omega arith) (omega arith))
-              | inr within ↦ h.fair m (n - length (packets_before t m)) (omega arith) within
+      let more : packets_before t (suc m) ≡ so_far ++ ps =
+      ap (packets_before t) (sym e) ∙ joined_more t m (omega arith) in
+      subst (λ xs. P (take n xs)) (sym more) (elim (cases_lt n (length so_far)) [
+        | inl short ↦
+            subst P (sym (take-append-le n so_far ps (omega arith))) (cut_fair m (omega arith) n)
+        | inr long ↦
+            subst P (sym (take-over so_far ps n long))
+            (elim (cases_lt (length ps) (n - length so_far)) [
+              | inl past ↦ subst (λ xs. P (so_far ++ xs))
+                  (take_all (length ps) ps (omega arith)
+                  ∙ sym (take_all (n - length so_far) ps (omega arith)))
+                  (h.fair m (length ps) (omega arith) (omega arith))
+              | inr within ↦ h.fair m (n - length so_far) (omega arith) within
             ])
       ])
 

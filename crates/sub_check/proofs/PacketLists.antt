@@ -5,7 +5,7 @@ use Rattle.std.proofs.Common.{◌≡◌, ℕ, Bool, true, false, ◌||◌, List,
 use Rattle.std.proofs.Common.{◌∙◌, arith, cond, find, filter, nat_lt, length, take}
 use Rattle.std.proofs.Common.{get_or, ◌+◌, ◌<◌, Some, None, Option}
 use Rattle.std.specs.List.{AllByRecursion, list_any}
-use Rattle.std.proofs.lemmas.Bool.{or_parts, eq-eqb, both_ways, cond-false}
+use Rattle.std.proofs.lemmas.Bool.{or_parts, eq-eqb, both_ways}
 use Rattle.std.proofs.lemmas.List.{take_more, get_or-map, length-append, length-map}
 use Rattle.std.proofs.lemmas.List.Elements.{filter-append}
 use Rattle.ttx_packet.specs.PageId.{PageIdValue}

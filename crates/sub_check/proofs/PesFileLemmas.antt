@@ -133,17 +133,21 @@ sent_of origin (suc m) given bytes frames fit all reads =
     sent_of origin m (given + 1) (rest_after bytes) (file_at origin m (rest_after bytes)).frames
     fits (omega arith) e)
   where
+    Others : Type 0
+    Others =
+        AreBytes (rest_after bytes)
+        → file_at origin m (rest_after bytes)
+        ≡ record { frames = (file_at origin m (rest_after bytes)).frames; unread = None }
+        → AreSent origin (given + 1) (rest_after bytes)
+        (file_at origin m (rest_after bytes)).frames
+
     found :
         (v : PesValue) (o : Option ℕ)
         → answer_at given bytes ≡ Ok (Some v)
         → frame_of_pts origin v.pts ≡ o
         → file_with o (packets_of_units v.units) (file_at origin m (rest_after bytes))
         ≡ record { frames = frames; unread = None }
-        → (AreBytes (rest_after bytes)
-        → file_at origin m (rest_after bytes)
-        ≡ record { frames = (file_at origin m (rest_after bytes)).frames; unread = None }
-        → AreSent origin (given + 1) (rest_after bytes)
-        (file_at origin m (rest_after bytes)).frames)
+        → Others
         → AreSent origin given bytes frames
     found v None at is e others = let same = ap (λ (x : PesFileValue). x.unread) e in cc
     found v (Some frame) at is e others =
@@ -159,11 +163,7 @@ sent_of origin (suc m) given bytes frames fit all reads =
         → answer_at given bytes ≡ r
         → file_by origin r (file_at origin m (rest_after bytes))
         ≡ record { frames = frames; unread = None }
-        → (AreBytes (rest_after bytes)
-        → file_at origin m (rest_after bytes)
-        ≡ record { frames = (file_at origin m (rest_after bytes)).frames; unread = None }
-        → AreSent origin (given + 1) (rest_after bytes)
-        (file_at origin m (rest_after bytes)).frames)
+        → Others
         → AreSent origin given bytes frames
     go (Err f) at e others = let same = ap (λ (x : PesFileValue). x.unread) e in cc
     go (Ok None) at e others = nothing_sent origin given bytes frames (omega arith) at e

@@ -1,7 +1,5 @@
 -- The packets of a frame and its end: by TakingLemmas.
 use Rattle.std.proofs.Common.{◌+◌, sym, ap, ◌∙◌, subst}
-use Rattle.std.proofs.lemmas.List.{length-map}
-use Rattle.ttx_pes.specs.DataUnit.{UnitValue}
 use Rattle.sub_check.specs.FirstBroken.{NamesFirst}
 use Rattle.sub_check.specs.Following.{Arrives}
 use Rattle.sub_check.proofs.TakingLemmas.{follows, names_cell, names_gap, names_missing, names_open}
