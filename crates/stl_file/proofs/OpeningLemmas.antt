@@ -91,10 +91,6 @@ bad_opening old new bytes f c size bad = record {
       cc;
 }
 
--- one return of `open`
-abbrev Opened : Type 0
-Opened = Result ReaderValue StlFault
-
 module _ (bytes : List ℕ) (n : ℕ) (new : Option (List ℕ)) (block : List ℕ)
     (t : Told bytes n new block) (bound : n ≤ length block) (size : length block ≡ 1024) where
   -- n bytes were taken, and the rest is left
@@ -133,7 +129,4 @@ module _ (bytes : List ℕ) (n : ℕ) (new : Option (List ℕ)) (block : List �
   open_rest le =
       let back : drop 1024 bytes ≡ t.rest =
       ap (drop 1024) (parts_of le) ∙ drop_at block t.rest 1024 size in
-      t.new_is ∙ ap (λ (x : List ℕ). some x) (sym back)
-    where
-      some : List ℕ → Option (List ℕ)
-      some x = Some x
+      rw back t.new_is

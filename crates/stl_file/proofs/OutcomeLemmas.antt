@@ -2,7 +2,7 @@
 -- outcome_step, names_from, outcome_at-first.
 use Rattle.std.proofs.Common.{◌≡◌, ◌*◌, ℕ, List, [], ◌∷◌, ◌++◌, length, refl, sym, ap, ◌∙◌, arith}
 use Rattle.std.proofs.Common.{length-append, take, drop, Option, Some, None, Result, Ok, Err, subst}
-use Rattle.std.proofs.Common.{zero, suc, ◌+◌, ◌-◌, ◌<◌, ◌≤◌, ◌⊎◌, inl, inr, length-take-le}
+use Rattle.std.proofs.Common.{zero, suc, ◌+◌, ◌-◌, ◌<◌, ◌≤◌, ◌⊎◌, inl, inr, length-take}
 use Rattle.std.proofs.lemmas.List.{take_all, take-take, drop-take, take_at, drop_at}
 use Rattle.std.proofs.lemmas.Bool.{cases_lt, le-ltb, lt-ltb}
 use Rattle.stl_file.specs.declared.fault.StlFault.{StlFault}
@@ -134,17 +134,6 @@ names_from (suc room) block begun (x ∷ b) e =
 
 -- ---- the bytes that decide
 
--- the first m bytes of a list with a whole block have one too
-long-take : (m : ℕ) (b : List ℕ)
-    → ((length b < m) ⊎ (m ≤ length b))
-    → 128 ≤ m
-    → 128 ≤ length b
-    → 128 ≤ length (take m b)
-long-take m b (inl short) most long = rw (take_all m b (omega arith)) long
-long-take m b (inr fits) most long =
-    let size : length (take m b) ≡ m = length-take-le m b fits in
-    omega (arith, size)
-
 -- what comes of a block goes by what the bytes after it give
 after-same : (room : ℕ) (f g : Option Begun → Outcome) (r : Result Step StlFault)
     → ((next : Option Begun) → f next ≡ g next)
@@ -161,7 +150,7 @@ outcome_at-step : (room : ℕ) (begun : Option Begun) (b : List ℕ)
     → outcome_at (suc room) begun (take (128 + (128 * room + 1)) b) ≡ outcome_at (suc room) begun b
 outcome_at-step room begun b fewer long =
     let m : ℕ = 128 + (128 * room + 1) in
-    let size : 128 ≤ length (take m b) = long-take m b (cases_lt (length b) m) (omega arith) long in
+    let size : 128 ≤ length (take m b) = omega (arith, length-take m b) in
     let front : take 128 (take m b) ≡ take 128 b = take-take 128 m b (omega arith) in
     let back : drop 128 (take m b) ≡ take (128 * room + 1) (drop 128 b) =
     drop-take 128 (128 * room + 1) b in
