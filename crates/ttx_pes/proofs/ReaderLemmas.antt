@@ -2,8 +2,10 @@
 -- packet_left, excluded.
 use Rattle.std.proofs.Common.{◌≡◌, ℕ, ◌<◌, Bool, true, false, cond, eqb, List, [], ◌∷◌, ◌++◌}
 use Rattle.std.proofs.Common.{length, Option, Some, None, Result, Ok, Err, refl, sym, ap, subst}
-use Rattle.std.proofs.Common.{◌∙◌, arith}
+use Rattle.std.proofs.Common.{◌∙◌, arith, inl, inr, true≢false}
+use Rattle.std.proofs.lemmas.Bool.{cases_Bool}
 use Rattle.std.proofs.lemmas.Option.{same_Some}
+use Rattle.ttx_pes.proofs.UnitPlaceLemmas.{Err-injective, step_refused}
 use Rattle.sub_io.specs.Device.{failed}
 use Rattle.sub_io.specs.Reading.{◌>>=◌}
 use Rattle.ttx_pes.specs.declared.fault.PesFault.{PesFault}
@@ -46,24 +48,6 @@ pub format_not_read : (X : Type 0) (f : PesFault)
 format_not_read X fault.Read e = absurd cc
 format_not_read X _ e = refl
 
--- A fault in the answer is a fault of the packet.
-packed_err : (r : Result (PesValue × List ℕ) PesFault) (f : PesFault)
-    → (r >>= value_in) ≡ Err f
-    → r ≡ Err f
-packed_err (Ok p) f e = absurd cc
-packed_err (Err d) f e = cc
-
--- A fault of the format is not that of too many packets.
-full_or : (b : Bool) (r : Result (PesValue × List ℕ) PesFault) (f : PesFault)
-    → is_format_fault f ≡ true
-    → cond b (Err fault.TooMany) (r >>= value_in) ≡ Err f
-    → r ≡ Err f
-full_or true r f k e =
-    let same : fault.TooMany ≡ f = cc in
-    let no : false ≡ true = subst (λ (x : PesFault). is_format_fault x ≡ true) (sym same) k in
-    absurd cc
-full_or false r f k e = packed_err r f e
-
 -- A fault of the format is met in the packet.
 answer_err : (given : ℕ) (b : List ℕ) (f : PesFault)
     → is_format_fault f ≡ true
@@ -71,7 +55,17 @@ answer_err : (given : ℕ) (b : List ℕ) (f : PesFault)
     → packet_at b ≡ Err f
 unfolding answer_at
 answer_err given [] f k e = absurd cc
-answer_err given (x ∷ b) f k e = full_or (eqb given 2160000) (packet_at (x ∷ b)) f k e
+answer_err given (x ∷ b) f k e = elim (cases_Bool (eqb given 2160000)) [
+  | inl full ↦
+      let told : answer_at given (x ∷ b) ≡ Err fault.TooMany = rw full refl in
+      let same : f ≡ fault.TooMany =
+      Err-injective {A = Option PesValue} f fault.TooMany (sym e ∙ told) in
+      absurd (true≢false (sym k ∙ ap is_format_fault same))
+  | inr more ↦ elim (step_refused (packet_at (x ∷ b)) value_in f (rw more at e)) [
+    | inl bad ↦ bad
+    | inr (_, _, told) ↦ absurd cc
+  ]
+]
 
 -- A fault of the format: no packet begins the bytes.
 pub excluded : (given : ℕ) (bytes : List ℕ) (f : PesFault)

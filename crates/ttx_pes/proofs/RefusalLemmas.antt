@@ -227,7 +227,8 @@ refused_first b f fit e = elim (cases_lt (length b) 6) [
               length-take (size - 6) (drop 6 b) ∙ omega (arith, length-drop 6 b) in
               let byte : (i : ℕ) → i < 184 * n - 6 → get_or y i 0 ≡ get_or b (6 + i) 0 = λ i lt.
               get_or-take (size - 6) (drop 6 b) i 0 (omega arith) ∙ get_or-drop 6 b i 0 in
-              elim (step_refused (value_at y) _ f (sym (packet_whole b size long sized whole) ∙ e)) [
+              let read = packet_whole b size long sized whole in
+              elim (step_refused (value_at y) _ f (sym read ∙ e)) [
                 | inr (_, _, told) ↦ absurd cc
                 | inl bad ↦ body_fails n b y f begun len
                     (AreBytes-take (size - 6) (drop 6 b) (AreBytes-drop 6 b fit)) byte bad

@@ -53,16 +53,11 @@ eqb_cases m n x f r e = elim (test_cases (eqb m n) x f r e) [
   | inr h ↦ inr (eqb-true m n h.0, h.1)
 ]
 
--- The step after one that gave a value, and after one that refused.
+-- The step after one that gave a value.
 pub after_ok : {A B : Type 0} (r : Result A PesFault) (f : A → Result B PesFault) (x : A)
     → r ≡ Ok x
     → (r >>= f) ≡ f x
 after_ok {A = A} r f x e = ap (λ (s : Result A PesFault). s >>= f) e
-
-pub after_err : {A B : Type 0} (r : Result A PesFault) (f : A → Result B PesFault) (g : PesFault)
-    → r ≡ Err g
-    → (r >>= f) ≡ Err g
-after_err {A = A} r f g e = ap (λ (s : Result A PesFault). s >>= f) e
 
 -- A step and what follows it: one of them refused.
 pub step_refused : {A B : Type 0} (r : Result A PesFault) (g : A → Result B PesFault)
@@ -130,8 +125,8 @@ unit_place front x = elim (cases_Bool (eqb (get_or x 1 0) 44)) [
 pub place_refused : (before b0 b1 b2 b3 : ℕ) (f : PesFault)
     → place_at before b0 b1 b2 b3 ≡ Err f
     → ((b1 ≢ 44) × (f ≡ fault.UnitLength))
-    ⊎ (((b1 ≡ 44) × (is_teletext b0 ≡ true) × (b3 ≢ 228) × (f ≡ fault.Framing))
-    ⊎ ((b1 ≡ 44) × (is_teletext b0 ≡ true) × (b3 ≡ 228) × (f ≡ fault.LineOrder)))
+    ⊎ ((b1 ≡ 44) × (is_teletext b0 ≡ true)
+    × (((b3 ≢ 228) × (f ≡ fault.Framing)) ⊎ ((b3 ≡ 228) × (f ≡ fault.LineOrder))))
 place_refused before b0 b1 b2 b3 f e =
     let after : Result ℕ PesFault =
     Ok (cond (eqb (b2 % 32) 0) before (line_order_place (lined_unit b0 b2))) in
@@ -144,11 +139,13 @@ place_refused before b0 b1 b2 b3 f e =
       | inr (one, e1) ↦ elim (cases_Bool (is_teletext b0)) [
         | inr passed ↦ let told : r1 ≡ Ok before = rw passed refl in absurd cc
         | inl two ↦ elim (eqb_cases b3 228 fault.Framing f r3 (rw two at e1)) [
-          | inl h ↦ inr (inl (one, two, h.0, sym h.1))
+          | inl h ↦ inr (one, two, inl (h.0, sym h.1))
           | inr (three, e3) ↦ elim (cases_Bool (stands_after before (lined_unit b0 b2))) [
             | inl stands ↦ let told : r3 ≡ after = rw stands refl in absurd cc
             | inr wrong ↦ let told : r3 ≡ Err fault.LineOrder = rw wrong refl in
-                inr (inr (one, two, three, Err-injective {A = ℕ} f fault.LineOrder (sym e3 ∙ told)))
+                let is : f ≡ fault.LineOrder =
+                Err-injective {A = ℕ} f fault.LineOrder (sym e3 ∙ told) in
+                inr (one, two, inr (three, is))
           ]
         ]
       ]
@@ -196,7 +193,8 @@ unfolding units_at
 units_places zero front d = refl
 units_places (suc n) front d = elim (answer_cases (unit_at front (take 46 d))) [
   | inr (f, bad) ↦
-      let first : place_in (last_place 0 front) 0 d ≡ Err f = sym (first_place front d) ∙ ap (with_value (last_place 0)) bad in
+      let first : place_in (last_place 0 front) 0 d ≡ Err f =
+      sym (first_place front d) ∙ ap (with_value (last_place 0)) bad in
       rw (bad, first) refl
   | inl (more, good) ↦
       let first : place_in (last_place 0 front) 0 d ≡ Ok (last_place 0 more) =

@@ -192,9 +192,7 @@ unit_fails n b d f g r =
                   wrong (same (omega arith) ∙ z.taken.0);
             },
           )
-      | inr others ↦
-          let tele : is_teletext b0 ≡ true = elim others [ inl x ↦ x.1 | inr x ↦ x.1 ] in
-          let len : unit_byte_at k 1 b ≡ 44 = elim others [ inl x ↦ x.0 | inr x ↦ x.0 ] in
+      | inr (len, tele, others) ↦
           let tail = one_stuffed (4 * n - 1) k b0 in
           let units = take (46 * k) d ++ tail in
           let vs = us ++ any_unit b0 ∷ [] in
@@ -208,7 +206,7 @@ unit_fails n b d f g r =
           unit_byte v p h (46 * k + i) ∙ tail_byte (4 * n - 1) k us d tail i first in
           let long : Agree b p (UnitLength k) = λ _. len ∙ sym (byte 1) in
           elim others [
-            | inl (_, _, wrong, is) ↦ (
+            | inl (wrong, is) ↦ (
               FramingCode k,
               sym is,
               record {
@@ -224,7 +222,7 @@ unit_fails n b d f g r =
                     wrong (s3 ∙ z.taken.1 (sym (ap is_teletext s0) ∙ tele));
               },
             )
-            | inr (_, _, framing, is) ↦ (
+            | inr (framing, is) ↦ (
               Line k,
               sym is,
               record {
