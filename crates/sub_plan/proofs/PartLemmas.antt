@@ -65,19 +65,15 @@ pub prefix-more :
     → AppendsPrefix u w (flat_map bytes_of all)
 prefix-more u v w bytes_of more left left' all e part p =
     let s : List ℕ → List ℕ = flat_map bytes_of in
-    let whole : s all ≡ s part.done ++ (s more ++ s left') =
-    ap s (sym part.whole) ∙ ap (λ (xs : List ℕ). s (part.done ++ xs)) e
-    ∙ flat_map-append bytes_of part.done (more ++ left')
-    ∙ ap (λ (xs : List ℕ). s part.done ++ xs) (flat_map-append bytes_of more left') in
-    subst (AppendsPrefix u w) (sym whole)
-    (AppendsPrefix-second u v w (s part.done) (s more ++ s left') part.bytes
+    rw (
+      ← part.whole,
+      e,
+      flat_map-append bytes_of part.done (more ++ left'),
+      flat_map-append bytes_of more left',
+    ) (AppendsPrefix-second u v w (s part.done) (s more ++ s left') part.bytes
     (AppendsPrefix-first v w (s more) (s left') p))
 
 -- ---- one frame
-
--- The bytes of one frame.
-bytes-one : (bytes_of : ℕ → List ℕ) (f : ℕ) → flat_map bytes_of (f ∷ []) ≡ bytes_of f
-bytes-one bytes_of f = append-nil (bytes_of f)
 
 -- One frame more is done.
 pub part-one :
@@ -88,7 +84,7 @@ pub part-one :
     → IsPartDone u w bytes_of left' all
 part-one u v w bytes_of f left left' all e part goes =
     part-more u v w bytes_of (f ∷ []) left left' all e part
-    (subst (Appends v w) (sym (bytes-one bytes_of f)) goes)
+    (subst (Appends v w) (sym (append-nil (bytes_of f))) goes)
 
 -- A prefix of the next frame's bytes was put.
 pub prefix-one :
@@ -99,7 +95,7 @@ pub prefix-one :
     → AppendsPrefix u w (flat_map bytes_of all)
 prefix-one u v w bytes_of f left left' all e part p =
     prefix-more u v w bytes_of (f ∷ []) left left' all e part
-    (subst (AppendsPrefix v w) (sym (bytes-one bytes_of f)) p)
+    (subst (AppendsPrefix v w) (sym (append-nil (bytes_of f))) p)
 
 -- ---- the steps of one stretch
 

@@ -2,7 +2,6 @@
 use Rattle.std.proofs.Common.{arith, refl, rules, ◌≡◌}
 use Rattle.std.proofs.lemmas.Result.{err_from_is_err_and}
 use Rattle.sub_plan.specs.Schedule.{due_in}
-use Rattle.sub_plan.specs.Sending.{sending}
 use Rattle.sub_plan.proofs.ScheduleBases.{is_base-first}
 use Rattle.sub_plan.proofs.StepLemmas.{is_base-next, stretch-counted, last-counted, IsStretch}
 use Rattle.sub_plan.proofs.PartLemmas.{part-last, part-start, part-stretch, prefix-last}
@@ -29,22 +28,12 @@ returns-in_err-count-clause-bytes g c =
     let o = c.args.options.now in
     let n = c.next_change-end.ensures in
     let s : IsStretch (due_in p) c.args.first c.loop-frame.frame c.next_change-end.result.0
-    c.args.last =
-    record {
-      low = i.low;
-      some = n.after;
-      high = n.within;
-      starts = i.starts c.loop-frame-test.true;
-      same = n.same;
-    } in
-    let made : c.of_page-sending.result
-    ≡ sending o.page p.national c.args.serial c.loop-frame.page =
-    search rules in
+    c.args.last = search rules in
     let e = err_from_is_err_and c.from_residual.result c.from_residual.ensures.1 in
     rw (e.1)
     (prefix-stretch (due_in p) o p.national c.args.serial _ _ _ c.args.first c.loop-frame.frame
-    c.next_change-end.result.0 c.args.last c.loop-frame.page c.of_page-sending.result _ s made
-    i.page i.part (search rules))
+    c.next_change-end.result.0 c.args.last c.loop-frame.page c.of_page-sending.result _ s
+    (search rules) i.page i.part (search rules))
 
 pub loop-frame-preserved : goal.loop-frame-preserved
 loop-frame-preserved g c =
@@ -53,18 +42,8 @@ loop-frame-preserved g c =
     let o = c.args.options.now in
     let n = c.next_change-end.ensures in
     let s : IsStretch (due_in p) c.args.first c.loop-frame.frame c.next_change-end.result.0
-    c.args.last =
-    record {
-      low = i.low;
-      some = n.after;
-      high = n.within;
-      starts = i.starts c.loop-frame-test.true;
-      same = n.same;
-    } in
+    c.args.last = search rules in
     let e = c.in_ok-count.ensures in
-    let made : c.of_page-sending.result
-    ≡ sending o.page p.national c.args.serial c.loop-frame.page =
-    search rules in
     record {
       low = omega (arith, i.low, n.after);
       high = n.within;
@@ -78,7 +57,7 @@ loop-frame-preserved g c =
       failures = search rules;
       part = part-stretch (due_in p) o p.national c.args.serial _ _ _ c.args.first
           c.loop-frame.frame c.next_change-end.result.0 c.args.last c.loop-frame.page
-          c.of_page-sending.result _ s made i.page i.part (search rules);
+          c.of_page-sending.result _ s (search rules) i.page i.part (search rules);
     }
 
 pub returns-clause-number : goal.returns-clause-number
@@ -93,26 +72,18 @@ returns-clause-bytes g c =
     let i = c.loop-frame.invariant in
     let p = c.args.programme.now in
     let o = c.args.options.now in
-    let at_end : c.loop-frame.frame ≡ c.args.last = omega arith in
-    let made : c.of_page-sending-2.result
-    ≡ sending o.page p.national c.args.serial c.loop-frame.page =
-    search rules in
     part-last (due_in p) o p.national c.args.serial _ _ _ c.args.first c.loop-frame.frame
-    c.args.last c.loop-frame.page c.of_page-sending-2.result _ at_end made i.page i.part
-    (search rules)
+    c.args.last c.loop-frame.page c.of_page-sending-2.result _ (omega arith) (search rules) i.page
+    i.part (search rules)
 
 pub returns-in_err-put_at-clause-bytes : goal.returns-in_err-put_at-clause-bytes
 returns-in_err-put_at-clause-bytes g c =
     let i = c.loop-frame.invariant in
     let p = c.args.programme.now in
     let o = c.args.options.now in
-    let at_end : c.loop-frame.frame ≡ c.args.last = omega arith in
-    let made : c.of_page-sending-2.result
-    ≡ sending o.page p.national c.args.serial c.loop-frame.page =
-    search rules in
     let e = err_from_is_err_and c.from_residual-in_err-put_at.result
     c.from_residual-in_err-put_at.ensures.1 in
     rw (e.1)
     (prefix-last (due_in p) o p.national c.args.serial _ _ _ c.args.first c.loop-frame.frame
-    c.args.last c.loop-frame.page c.of_page-sending-2.result _ at_end made i.page i.part
-    (search rules))
+    c.args.last c.loop-frame.page c.of_page-sending-2.result _ (omega arith) (search rules) i.page
+    i.part (search rules))
