@@ -3,7 +3,7 @@ use crate::status::Status;
 use std::marker::Model;
 
 /// What a line about a fault begins with.
-#[derive(Clone, Copy, Debug, PartialEq, Eq)]
+#[derive(Clone, Copy)]
 pub enum Kind {
     /// The input is refused.
     Refused,
@@ -14,7 +14,7 @@ pub enum Kind {
 }
 
 /// Where an input is refused.
-#[derive(Clone, Copy, Debug, PartialEq, Eq)]
+#[derive(Clone, Copy)]
 pub enum Place {
     /// No place is told.
     Nowhere,

@@ -15,7 +15,7 @@ use std::alloc::Global;
 use sub_io::{Flush, Sink, Source};
 
 /// How the work of a command ended, before its line is printed.
-#[derive(Clone, Copy, Debug, PartialEq, Eq)]
+#[derive(Clone, Copy)]
 pub enum End {
     /// The file was written whole.
     Written,

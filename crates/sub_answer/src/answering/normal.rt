@@ -1,9 +1,7 @@
 //! `normal IN OUT`: writes the normal form of a subtitle file.
-ghost use Rattle.std.specs.Prelude.{◌≡◌, ◌≢◌, ◌<◌, [], IfErr, IfOk, OnOk, false, take};
+ghost use Rattle.std.specs.Prelude.{◌≡◌, ◌≢◌, ◌<◌, [], IfErr, IfOk, false, take};
 ghost use Rattle.sub_io.specs.Device.{CanFail, CountsIf, failed};
 ghost use Rattle.sub_io.specs.Reading.{IfTold};
-ghost use Rattle.stl_file.specs.Fault.{is_write};
-ghost use Rattle.stl_file.specs.NormalForm.{NormalAnswers};
 ghost use Rattle.stl_file.specs.Reader.{block_of_byte};
 ghost use Rattle.stl_file.specs.declared.fault.NormalFault.TheVariants.{Write};
 ghost use Rattle.sub_answer.specs.Faults.{normal_told};
@@ -69,7 +67,7 @@ impl Work for NormalWork {
     }
 }
 
-// Writes the normal form of the bytes of a file, and makes the line.
+// Writes the normal form of the bytes of a file, flushes it, and makes the line.
 fn make_of_bytes<F: Flush>(bytes: &[u8], file: &mut F, line: &mut Line) -> End
     requires file { CanFail (F.failure_count file.old) }
     requires line { line.old.items ≡ [] }
@@ -82,11 +80,17 @@ fn make_of_bytes<F: Flush>(bytes: &[u8], file: &mut F, line: &mut Line) -> End
     ensures held { result ≡ End.Written → F.held file.new ≡ 0 }
 {
     law_of_files();
-    match put_normal(bytes, file) {
-        Ok(count) => {
-            push_written(line, count, b" subtitles\n");
-            End::Written
-        }
+    match normal(bytes, file) {
+        Ok(count) => match file.flush() {
+            Ok(()) => {
+                push_written(line, count, b" subtitles\n");
+                End::Written
+            }
+            Err(_) => {
+                push_told(line, &told_of_normal(NormalFault::Write));
+                End::WriteFailed
+            }
+        },
         Err(NormalFault::Refused { fault, block }) => {
             push_told(line, &told_of_stl(fault, block));
             End::Refused
@@ -95,20 +99,6 @@ fn make_of_bytes<F: Flush>(bytes: &[u8], file: &mut F, line: &mut Line) -> End
             push_told(line, &told_of_normal(NormalFault::Write));
             End::WriteFailed
         }
-    }
-}
-
-// Writes the normal form of the bytes of a file, and flushes it.
-fn put_normal<F: Flush>(bytes: &[u8], file: &mut F) -> Result<u32, NormalFault>
-    requires { CanFail (F.failure_count file.old) }
-    ensures answer { NormalAnswers bytes.now (F.contents file.old) (F.contents file.new) result }
-    ensures count { CountsIf F.failure_count file.old (failed is_write result) file.new }
-    ensures held { OnOk result (F.held file.new ≡ 0) }
-{
-    let count = normal(bytes, file)?;
-    match file.flush() {
-        Ok(()) => Ok(count),
-        Err(_) => Err(NormalFault::Write),
     }
 }
 

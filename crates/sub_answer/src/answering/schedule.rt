@@ -1,11 +1,7 @@
 //! `schedule STL PES`: writes the schedule of a subtitle file.
-ghost use Rattle.std.specs.Prelude.{◌≡◌, ◌≢◌, ◌↔◌, ◌+◌, ◌<◌, [], Err, IfOk, OnOk, length};
-ghost use Rattle.std.specs.Prelude.{false};
-ghost use Rattle.std.specs.Io.KnownBytes.{Keeps};
-ghost use Rattle.sub_io.specs.Device.{CanFail, CountsIf, Writes, failed};
-ghost use Rattle.sub_plan.specs.Fault.{is_write};
-ghost use Rattle.sub_plan.specs.Schedule.{plan, plan_frames};
-ghost use Rattle.sub_plan.specs.declared.fault.PlanFault.TheVariants.{NoSubtitles, Write};
+ghost use Rattle.std.specs.Prelude.{◌≡◌, ◌≢◌, [], false};
+ghost use Rattle.sub_io.specs.Device.{CanFail, CountsIf};
+ghost use Rattle.sub_plan.specs.declared.fault.PlanFault.TheVariants.{Write};
 ghost use Rattle.sub_answer.specs.Faults.{plan_told};
 ghost use Rattle.sub_answer.specs.Told.{line_of};
 ghost use Rattle.sub_answer.specs.Writing.{HasScheduleFaultLine, Works, is_read_end, is_write_end};
@@ -65,7 +61,7 @@ fn load_end(fault: LoadFault) -> End
     }
 }
 
-// Writes the schedule of a programme, and makes the line.
+// Writes the schedule of a programme, flushes it, and makes the line.
 fn make_of_programme<F: Flush>(
     programme: &Programme,
     options: &Options,
@@ -83,11 +79,17 @@ fn make_of_programme<F: Flush>(
     ensures file_count { CountsIf F.failure_count file.old (is_write_end result) file.new }
     ensures held { result ≡ End.Written → F.held file.new ≡ 0 }
 {
-    match put_schedule(programme, options, serial, file) {
-        Ok(count) => {
-            push_written(line, count, b" transmissions\n");
-            End::Written
-        }
+    match schedule(programme, options, serial, file) {
+        Ok(count) => match file.flush() {
+            Ok(()) => {
+                push_written(line, count, b" transmissions\n");
+                End::Written
+            }
+            Err(_) => {
+                push_told(line, &told_of_plan(PlanFault::Write));
+                End::WriteFailed
+            }
+        },
         Err(PlanFault::NoSubtitles) => {
             push_told(line, &told_of_plan(PlanFault::NoSubtitles));
             End::Refused
@@ -96,29 +98,5 @@ fn make_of_programme<F: Flush>(
             push_told(line, &told_of_plan(PlanFault::Write));
             End::WriteFailed
         }
-    }
-}
-
-// Writes the schedule of a programme, and flushes it.
-fn put_schedule<F: Flush>(
-    programme: &Programme,
-    options: &Options,
-    serial: bool,
-    file: &mut F,
-) -> Result<u32, PlanFault>
-    requires { CanFail (F.failure_count file.old) }
-    ensures bytes { Writes (F.contents file.old) (F.contents file.new)
-        (plan programme.now options.now serial) result }
-    ensures number { IfOk result
-        (λ n. n ≡ length (plan_frames programme.now options.now.every)) }
-    ensures empty { (result ≡ Err NoSubtitles) ↔ (programme.now.records ≡ []) }
-    ensures nothing { result ≡ Err NoSubtitles → Keeps (F.contents file.old) (F.contents file.new) }
-    ensures count { CountsIf F.failure_count file.old (failed is_write result) file.new }
-    ensures held { OnOk result (F.held file.new ≡ 0) }
-{
-    let count = schedule(programme, options, serial, file)?;
-    match file.flush() {
-        Ok(()) => Ok(count),
-        Err(_) => Err(PlanFault::Write),
     }
 }
