@@ -1,7 +1,7 @@
 //! What the program answers to words, over devices in memory.
 ghost use Rattle.sub_io.specs.Device.{CanFail};
 
-use fixtures::Watched;
+use fixtures::{Watched, assert_same_in};
 use std::alloc::Global;
 use std::process::Abort;
 use std::test::Fail;
@@ -72,8 +72,8 @@ pub fn assert_prints<'a, S: Source, T: Source>(
     let status = answer_words(rt.alloc(), words, first, second, &mut file, &mut out);
     let text = out.written();
     assert!(rt; text.starts_with(front) && text.ends_with(end), "{words:?}");
-    assert_eq!(rt; text.len(), front.len() + end.len(), "{words:?}");
-    assert_eq!(rt; status, status_of(end), "{words:?}");
+    assert_same_in(rt, &text.len(), &(front.len() + end.len()), &words);
+    assert_same_in(rt, &status, &status_of(end), &words);
 }
 
 /// Asserts what is printed for words over two files in memory, and the status that it tells.
@@ -112,7 +112,7 @@ pub fn assert_fills<'a>(
             &mut file,
             &mut out,
         );
-        assert_eq!(rt; (status, out.late_calls), (Status::Fault, 0), "{words:?}");
+        assert_same_in(rt, &(status, out.late_calls), &(Status::Fault, 0), &words);
         assert!(rt;
             out.inner.written() == &text[..len],
             "{words:?}, {len} bytes"
@@ -134,7 +134,7 @@ pub fn schedule_of<'a>(
     let mut out = MemSink::new(&mut line_room);
     let (mut stl, mut none) = (MemSource::new(stl), MemSource::new(&[]));
     let status = answer_words(rt.alloc(), words, &mut stl, &mut none, &mut file, &mut out);
-    assert_eq!(rt; status, Status::Done, "{words:?}");
+    assert_same_in(rt, &status, &Status::Done, &words);
     assert!(rt; out.written() == line.as_bytes(), "not {line} of {words:?}");
     let mut pes = Vec::new(rt.alloc());
     pes.extend_from_slice(file.written())?;

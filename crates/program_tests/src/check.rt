@@ -1,8 +1,8 @@
 //! `check`: verdicts on transmissions of `Hi` with one thing changed.
 use crate::answers::{CHECK, assert_fills, assert_tells};
 use fixtures::{
-    CLOSING, FIRST, HEADER, ROW, SECOND, TEN, file_of_hi, gsi, in_serial_mode, packet_of, push_pes,
-    schedule_of_hi,
+    CLOSING, FIRST, HEADER, ROW, SECOND, TEN, assert_same_in, file_of_hi, gsi, in_serial_mode,
+    packet_of, push_pes, schedule_of_hi,
 };
 use std::alloc::Global;
 use std::process::Abort;
@@ -104,7 +104,7 @@ fn judges_a_byte_that_is_changed(rt: HostRuntime) {
     for (at, from, to, want) in CHANGES {
         let mut pes = schedule_of_hi();
         assert!(rt; at < 368);
-        assert_eq!(rt; pes[at], from, "at {at}");
+        assert_same_in(&rt, &pes[at], &from, &at);
         pes[at] = to;
         assert_judges(&rt, &pes, want);
     }

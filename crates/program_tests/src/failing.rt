@@ -1,6 +1,8 @@
 //! `check` where a source fails, gives a byte at a time, or never ends.
 use crate::answers::{CHECK, assert_prints};
-use fixtures::{Counting, Drip, Endless, FIRST, file_of_hi, gsi, schedule_of_hi};
+use fixtures::{
+    Counting, Drip, Endless, FIRST, assert_same, assert_same_in, file_of_hi, gsi, schedule_of_hi,
+};
 use std::alloc::Global;
 use std::process::Abort;
 use sub_io::{FailAt, MemSource, Source};
@@ -35,7 +37,7 @@ fn tells_the_pes_packet_of_a_failing_pull(rt: HostRuntime) {
             // 1152 pulls of the subtitle source give a byte each, and one the end.
             let counts = assert_fails(&rt, 1153, k, want);
             let fails = u64::from(k < 369);
-            assert_eq!(rt; counts, (1153, 0, (k + 1).min(369), fails), "pull {k}");
+            assert_same_in(&rt, &counts, &(1153, 0, (k + 1).min(369), fails), &k);
         }
     }
 }
@@ -51,7 +53,7 @@ fn tells_the_block_of_a_failing_pull(rt: HostRuntime) {
         for k in begin..end {
             // The PES source would fail too.
             let counts = assert_fails(&rt, k, 0, want);
-            assert_eq!(rt; counts, (k + 1, 1, 0, 0), "pull {k}");
+            assert_same_in(&rt, &counts, &(k + 1, 1, 0, 0), &k);
         }
     }
 }
@@ -72,7 +74,7 @@ fn ends_on_sources_that_do_not(rt: HostRuntime) {
         let inner = MemSource::new(&[]);
         let mut pes = Counting { inner, pulls: 0 };
         assert_prints(&rt, &CHECK, &mut stl, &mut pes, &[], want);
-        assert_eq!(rt; pes.pulls, 0);
+        assert_same(&rt, &pes.pulls, &0);
     }
     // the bytes of the PES source without end, and line
     let packets: [(&[u8], &[u8]); 2] = [

@@ -1,6 +1,6 @@
 //! `normal`: what is printed of subtitle files, whole and refused.
 use crate::answers::{answer_words, assert_prints};
-use fixtures::{Drip, Endless, HEAD, block, file_of_two, gsi};
+use fixtures::{Drip, Endless, HEAD, assert_same_in, block, file_of_two, gsi};
 use sub_answer::Status;
 use sub_io::{FailAt, MemSink, MemSource, Sink};
 
@@ -87,8 +87,8 @@ fn answers_files_of_each_length(rt: HostRuntime) {
             let alloc = rt.alloc();
             let status = answer_words(alloc, &NORMAL, &mut input, &mut none, &mut file, &mut out);
             assert!(rt; out.written() == line, "{len} bytes");
-            assert_eq!(rt; file.written().len(), written, "{len} bytes");
-            assert_eq!(rt; status == Status::Done, written > 0, "{len} bytes");
+            assert_same_in(&rt, &file.written().len(), &written, &len);
+            assert_same_in(&rt, &(status == Status::Done), &(written > 0), &len);
         }
     }
 }

@@ -1,7 +1,7 @@
 //! The requests that words are read as.
 use crate::answers::SCHEDULE;
 use crate::normal::NORMAL;
-use fixtures::options;
+use fixtures::{assert_same, options};
 use std::alloc::Global;
 use std::process::Abort;
 use std::test::Fail;
@@ -27,9 +27,9 @@ fn assert_schedules(
             serial,
             national,
         } => {
-            assert_eq!(rt; (*stl, *pes), ("a", "b"));
-            assert_eq!(rt; *options, *want);
-            assert_eq!(rt; *serial, is_serial);
+            assert_same(rt, &(*stl, *pes), &("a", "b"));
+            assert_same(rt, options, want);
+            assert_same(rt, serial, &is_serial);
             assert!(rt; *national == option);
         }
         _ => panic!(rt; "no schedule"),
@@ -41,7 +41,7 @@ fn reads_the_words_of_files(rt: HostRuntime) -> Result<(), Fail> {
     let Ok(Request::Normal { input, output }) = Request::parse(rt.alloc(), &NORMAL) else {
         return Err("normal".into());
     };
-    assert_eq!(rt; (input, output), ("a", "b"));
+    assert_same(&rt, &(input, output), &("a", "b"));
     Ok(())
 }
 
@@ -79,13 +79,13 @@ fn assert_listens<'a>(
 ) {
     match Request::parse(rt.alloc(), words) {
         Ok(Request::Listen { pes, listening }) => {
-            assert_eq!(rt; pes, "a");
-            assert_eq!(rt; listening.options.page(), want.page());
-            assert_eq!(rt; listening.options.origin(), want.origin());
-            assert_eq!(rt; (listening.at, listening.skip), (at, skip));
+            assert_same(rt, &pes, &"a");
+            assert_same(rt, &listening.options.page(), &want.page());
+            assert_same(rt, &listening.options.origin(), &want.origin());
+            assert_same(rt, &(listening.at, listening.skip), &(at, skip));
             assert!(rt; listening.flips.as_slice() == flips);
             assert!(rt; listening.lost.as_slice() == lost);
-            assert_eq!(rt; listening.receiver, receiver);
+            assert_same(rt, &listening.receiver, &receiver);
         }
         _ => panic!(rt; "no listening"),
     }
@@ -121,12 +121,12 @@ fn names_what_is_read_and_what_is_written(rt: HostRuntime) {
     };
     match request.files() {
         FileNames::Write(input, output) => {
-            assert_eq!(rt; (input.name(), output.name()), ("a", "b"))
+            assert_same(&rt, &(input.name(), output.name()), &("a", "b"))
         }
         _ => panic!(rt; "no file is written"),
     }
     match (Request::Show { stl: "a" }).files() {
-        FileNames::Read(input) => assert_eq!(rt; input.name(), "a"),
+        FileNames::Read(input) => assert_same(&rt, &input.name(), &"a"),
         _ => panic!(rt; "no file is read"),
     }
 }

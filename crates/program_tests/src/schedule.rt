@@ -1,6 +1,9 @@
 //! `schedule`: what is written and printed of subtitle files, and that `check` accepts it.
 use crate::answers::{CHECK, SCHEDULE, assert_tells, schedule_of};
-use fixtures::{HEAD, HI, TEN, block, file_of, file_of_hi, file_of_two, gsi, head, schedule_of_hi};
+use fixtures::{
+    HEAD, HI, TEN, assert_same, assert_same_in, block, file_of, file_of_hi, file_of_two, gsi, head,
+    schedule_of_hi,
+};
 use std::alloc::Global;
 use std::process::Abort;
 use std::test::Fail;
@@ -16,7 +19,7 @@ fn assert_schedules<'a>(
     want: &str,
 ) -> Result<(), Fail> {
     let pes = schedule_of(rt, words, stl, line)?;
-    assert_eq!(rt; pes.len(), len, "of {want}");
+    assert_same_in(rt, &pes.len(), &len, &want);
     let check = ["subttx", "check", "a", "b", "--every", every];
     assert_tells(rt, &check, stl, pes.as_slice(), want);
     Ok(())
@@ -109,7 +112,7 @@ fn schedules_by_the_national_option(rt: HostRuntime) -> Result<(), Fail> {
     let hi = file_of_hi();
     let words = ["subttx", "schedule", "a", "b", "--option", "german"];
     let german = schedule_of(&rt, &words, &hi, WRITTEN)?;
-    assert_eq!(rt; german.len(), 368);
+    assert_same(&rt, &german.len(), &368);
     let words = ["subttx", "check", "a", "b", "--option", "german"];
     let refused = "refused 67 Control frame 10:00:00:00 packet 0\n";
     assert_tells(&rt, &words, &hi, german.as_slice(), ACCEPTED);

@@ -1,4 +1,5 @@
 //! Numbers, flips and lists of both, times and receivers, as people write them.
+use fixtures::{assert_same, assert_same_in};
 use std::alloc::AllocError;
 use sub_check::ReceiverKind;
 use sub_words::{parse_flips, parse_number, parse_numbers, parse_receiver, parse_time};
@@ -24,7 +25,7 @@ fn reads_numbers(rt: HostRuntime) {
         ("1 ", None),
         ("1x", None),
     ] {
-        assert_eq!(rt; parse_number(text), want, "of {text:?}");
+        assert_same_in(&rt, &parse_number(text), &want, &text);
     }
 }
 
@@ -45,7 +46,7 @@ fn reads_lists_of_numbers(rt: HostRuntime) -> Result<(), AllocError> {
     ] {
         let got = parse_numbers(rt.alloc(), text)?;
         let got = got.map(|list| (list.len(), list.last().copied().unwrap_or(0)));
-        assert_eq!(rt; got, want, "of {text:?}");
+        assert_same_in(&rt, &got, &want, &text);
     }
     let more = format!(in rt.alloc(); "{NUMBERS},64")?;
     assert!(rt; parse_numbers(rt.alloc(), more.as_str())?.is_none());
@@ -88,7 +89,7 @@ fn reads_flips(rt: HostRuntime) -> Result<(), AllocError> {
             Some(flip) => (list.len(), flip.packet, flip.byte, flip.bit),
             None => (0, 0, 0, 0),
         });
-        assert_eq!(rt; got, want, "of {text:?}");
+        assert_same_in(&rt, &got, &want, &text);
     }
     let more = format!(in rt.alloc(); "{FLIPS},64:0:1")?;
     assert!(rt; parse_flips(rt.alloc(), more.as_str())?.is_none());
@@ -113,16 +114,16 @@ fn reads_times(rt: HostRuntime) {
         ("10:00:0x:10", None),
         ("", None),
     ] {
-        assert_eq!(rt; parse_time(text), want, "of {text:?}");
+        assert_same_in(&rt, &parse_time(text), &want, &text);
     }
 }
 
 #[test]
 fn reads_receivers(rt: HostRuntime) {
-    assert_eq!(rt; parse_receiver("blank"), Some(ReceiverKind::Blank));
-    assert_eq!(rt; parse_receiver("keep"), Some(ReceiverKind::Keep));
-    assert_eq!(rt; parse_receiver("drop"), Some(ReceiverKind::DropRow));
-    assert_eq!(rt; parse_receiver("Drop"), None);
-    assert_eq!(rt; parse_receiver("all"), None);
-    assert_eq!(rt; parse_receiver("Keep"), None);
+    assert_same(&rt, &parse_receiver("blank"), &Some(ReceiverKind::Blank));
+    assert_same(&rt, &parse_receiver("keep"), &Some(ReceiverKind::Keep));
+    assert_same(&rt, &parse_receiver("drop"), &Some(ReceiverKind::DropRow));
+    assert_same(&rt, &parse_receiver("Drop"), &None);
+    assert_same(&rt, &parse_receiver("all"), &None);
+    assert_same(&rt, &parse_receiver("Keep"), &None);
 }

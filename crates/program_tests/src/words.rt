@@ -1,5 +1,6 @@
 //! Words that are refused before anything is read.
 use crate::answers::{assert_fills, assert_tells};
+use fixtures::assert_same_in;
 use std::alloc::Global;
 use std::process::Abort;
 use sub_answer::Request;
@@ -208,7 +209,7 @@ fn reads_dashes_as_clap_does(rt: HostRuntime) {
     for words in taken {
         match Request::parse(rt.alloc(), words) {
             Ok(Request::Check { stl, pes, .. }) => {
-                assert_eq!(rt; (stl, pes), ("-a", "-"), "of {words:?}");
+                assert_same_in(&rt, &(stl, pes), &("-a", "-"), &words);
             }
             _ => panic!(rt; "{words:?} is no check"),
         }

@@ -4,7 +4,7 @@ ghost use Rattle.sub_io.specs.Device.{CanFail};
 
 use crate::answers::{SCHEDULE, answer_words, assert_fills};
 use crate::normal::{NORMAL, commented, normal_form};
-use fixtures::{Watched, file_of_hi, schedule_of_hi};
+use fixtures::{Watched, assert_same, assert_same_in, file_of_hi, schedule_of_hi};
 use std::alloc::Global;
 use std::process::Abort;
 use sub_answer::Status;
@@ -41,7 +41,7 @@ fn assert_writes<F: Flush>(
         file,
         &mut out,
     );
-    assert_eq!(rt; status, want);
+    assert_same(rt, &status, &want);
     assert!(rt; out.written() == line);
 }
 
@@ -57,13 +57,13 @@ fn assert_devices(rt: &(impl Abort + Alloc<A = Global>), writing: Writing<'_>) {
             file.inner.written() == &writing.written[..len],
             "{len} bytes"
         );
-        assert_eq!(rt; file.late_calls, 0, "{len} bytes");
+        assert_same_in(rt, &file.late_calls, &0, &len);
     }
     for call in 0..3 {
         let mut room = [0; 1280];
         let mut file = Watched::new(FailAt::new(MemSink::new(&mut room), call));
         assert_writes(rt, writing, &mut file, writing.fault, Status::Fault);
-        assert_eq!(rt; file.late_calls, 0, "call {call}");
+        assert_same_in(rt, &file.late_calls, &0, &call);
     }
     let mut room = [0; 1280];
     let mut file = MemSink::new(&mut room);

@@ -1,6 +1,6 @@
 //! The checker: what it accepts, and what it says of files without a PES packet. All other verdicts
 //! are tested by the lines that the program prints.
-use fixtures::{every, file_of_hi, gsi, schedule_of_hi};
+use fixtures::{assert_same, every, file_of_hi, gsi, schedule_of_hi};
 use std::test::Fail;
 use stl_rows::{National, load};
 use sub_check::{Accepted, CheckFault, check, check_files};
@@ -21,7 +21,7 @@ fn accepts_a_schedule(rt: HostRuntime) -> Result<(), Fail> {
         frames,
         transmissions,
     };
-    assert_eq!(rt; answer, Ok(accepted));
+    assert_same(&rt, &answer, &Ok(accepted));
     Ok(())
 }
 
@@ -30,9 +30,9 @@ fn refuses_empty_and_cut_files(rt: HostRuntime) -> Result<(), Fail> {
     let programme = load(rt.alloc(), &mut MemSource::new(&gsi()), National::English)?;
     let options = every(250)?;
     let empty = check(&programme, &mut MemSource::new(&[]), &options);
-    assert_eq!(rt; empty, Err(CheckFault::Empty));
+    assert_same(&rt, &empty, &Err(CheckFault::Empty));
     let cut = check(&programme, &mut MemSource::new(&[0, 0, 1]), &options);
     let fault = PesFault::Truncated;
-    assert_eq!(rt; cut, Err(CheckFault::Pes { pes: 0, fault }));
+    assert_same(&rt, &cut, &Err(CheckFault::Pes { pes: 0, fault }));
     Ok(())
 }

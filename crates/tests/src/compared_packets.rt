@@ -1,5 +1,5 @@
 //! PES packets that are sent again: what a reader that compares them answers.
-use fixtures::Drip;
+use fixtures::{Drip, assert_same};
 use std::process::Abort;
 use std::test::*;
 use sub_io::{FailAt, MemSink, MemSource};
@@ -21,16 +21,20 @@ fn tells_a_data_field_that_is_sent_again(rt: HostRuntime) -> Result<(), Fail> {
     let file = twice()?;
     let mut source = MemSource::new(&file);
     let mut reader = ComparingReader::new();
-    assert_eq!(rt; reader.next(&mut source)?, Compared::Other);
-    assert_eq!(rt; reader.frame().pts(), 0);
-    assert_eq!(rt; reader.frame().units().len(), 1);
-    assert_eq!(rt; reader.next(&mut source)?, Compared::Same);
-    assert_eq!(rt; reader.frame().pts(), 3600);
-    assert_eq!(rt; reader.frame().units().len(), 1);
-    assert_eq!(rt; reader.frame().units()[0].packet().bytes(), &[0x20; 42]);
-    assert_eq!(rt; reader.next(&mut source)?, Compared::End);
-    assert_eq!(rt; reader.frame().units().len(), 0);
-    assert_eq!(rt; reader.next(&mut source)?, Compared::End);
+    assert_same(&rt, &reader.next(&mut source)?, &Compared::Other);
+    assert_same(&rt, &reader.frame().pts(), &0);
+    assert_same(&rt, &reader.frame().units().len(), &1);
+    assert_same(&rt, &reader.next(&mut source)?, &Compared::Same);
+    assert_same(&rt, &reader.frame().pts(), &3600);
+    assert!(rt; reader.frame().units().len() == 1);
+    assert_same(
+        &rt,
+        reader.frame().units()[0].packet(),
+        &Packet::new([0x20; 42]),
+    );
+    assert_same(&rt, &reader.next(&mut source)?, &Compared::End);
+    assert_same(&rt, &reader.frame().units().len(), &0);
+    assert_same(&rt, &reader.next(&mut source)?, &Compared::End);
     Ok(())
 }
 
@@ -41,10 +45,10 @@ fn second_answer(rt: &impl Abort, place: usize) -> Result<Compared, PesFault> {
     file[184 + place] ^= 1;
     let mut source = MemSource::new(&file);
     let mut reader = ComparingReader::new();
-    assert_eq!(rt; reader.next(&mut source)?, Compared::Other);
+    assert_same(rt, &reader.next(&mut source)?, &Compared::Other);
     let answer = reader.next(&mut source);
     if answer.is_err() {
-        assert_eq!(rt; reader.next(&mut source), Err(PesFault::Ended));
+        assert_same(rt, &reader.next(&mut source), &Err(PesFault::Ended));
     }
     answer
 }
@@ -53,13 +57,13 @@ fn second_answer(rt: &impl Abort, place: usize) -> Result<Compared, PesFault> {
 fn compares_bytes_45_to_the_end(rt: HostRuntime) {
     let same = Ok(Compared::Same);
     let other = Ok(Compared::Other);
-    assert_eq!(rt; second_answer(&rt, 6), same); // a flag that is not looked at
-    assert_eq!(rt; second_answer(&rt, 13), Err(PesFault::Time)); // a marker bit
-    assert_eq!(rt; second_answer(&rt, 44), same); // header stuffing
-    assert_eq!(rt; second_answer(&rt, 45), other); // data_identifier
-    assert_eq!(rt; second_answer(&rt, 50), other); // the row packet
-    assert_eq!(rt; second_answer(&rt, 93), Err(PesFault::UnitLength));
-    assert_eq!(rt; second_answer(&rt, 183), other); // the last byte, of stuffing
+    assert_same(&rt, &second_answer(&rt, 6), &same); // a flag that is not looked at
+    assert_same(&rt, &second_answer(&rt, 13), &Err(PesFault::Time)); // a marker bit
+    assert_same(&rt, &second_answer(&rt, 44), &same); // header stuffing
+    assert_same(&rt, &second_answer(&rt, 45), &other); // data_identifier
+    assert_same(&rt, &second_answer(&rt, 50), &other); // the row packet
+    assert_same(&rt, &second_answer(&rt, 93), &Err(PesFault::UnitLength));
+    assert_same(&rt, &second_answer(&rt, 183), &other); // the last byte, of stuffing
 }
 
 /// The fault of a first packet with another byte, where the pull after that many bytes fails.
@@ -73,9 +77,9 @@ fn fault_before(rt: &impl Abort, place: usize, bytes: u64) -> Result<Compared, P
 
 #[test]
 fn a_fault_is_told_before_the_pull_that_fails_after_it(rt: HostRuntime) {
-    assert_eq!(rt; fault_before(&rt, 3, 6), Err(PesFault::Start));
-    assert_eq!(rt; fault_before(&rt, 5, 6), Err(PesFault::Length));
-    assert_eq!(rt; fault_before(&rt, 3, 5), Err(PesFault::Read));
-    assert_eq!(rt; fault_before(&rt, 6, 183), Err(PesFault::Read));
-    assert_eq!(rt; fault_before(&rt, 6, 184), Err(PesFault::Flags));
+    assert_same(&rt, &fault_before(&rt, 3, 6), &Err(PesFault::Start));
+    assert_same(&rt, &fault_before(&rt, 5, 6), &Err(PesFault::Length));
+    assert_same(&rt, &fault_before(&rt, 3, 5), &Err(PesFault::Read));
+    assert_same(&rt, &fault_before(&rt, 6, 183), &Err(PesFault::Read));
+    assert_same(&rt, &fault_before(&rt, 6, 184), &Err(PesFault::Flags));
 }

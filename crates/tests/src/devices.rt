@@ -1,4 +1,5 @@
 //! Devices in memory, over std, and failing ones.
+use fixtures::{assert_same, assert_same_in};
 use std::io::{self, Cursor, Read, Write};
 use sub_io::{
     FailAt, Failed, Flush, FromRead, IntoWrite, MemSink, MemSource, Sink, Source, fill, put_all,
@@ -8,12 +9,12 @@ use sub_io::{
 fn gives_its_bytes_and_then_ends(rt: HostRuntime) {
     let mut source = MemSource::new(b"abcde");
     let mut to = *b"---";
-    assert_eq!(rt; fill(&mut source, &mut to), Ok(3));
-    assert_eq!(rt; to, *b"abc");
-    assert_eq!(rt; fill(&mut source, &mut to), Ok(2));
-    assert_eq!(rt; to, *b"dec");
-    assert_eq!(rt; fill(&mut source, &mut to), Ok(0));
-    assert_eq!(rt; source.failures(), 0);
+    assert_same(&rt, &fill(&mut source, &mut to), &Ok(3));
+    assert_same(&rt, &to, b"abc");
+    assert_same(&rt, &fill(&mut source, &mut to), &Ok(2));
+    assert_same(&rt, &to, b"dec");
+    assert_same(&rt, &fill(&mut source, &mut to), &Ok(0));
+    assert_same(&rt, &source.failures(), &0);
 }
 
 #[test]
@@ -31,9 +32,9 @@ fn takes_bytes_until_it_is_full(rt: HostRuntime) {
         assert!(rt; sink.failures() < 9);
         let answer = put_all(&mut sink, text);
         assert!(rt; held <= 6);
-        assert_eq!(rt; sink.written(), &b"subttx"[..held]);
-        assert_eq!(rt; answer.is_err(), failures > 0);
-        assert_eq!(rt; sink.failures(), failures);
+        assert!(rt; sink.written() == &b"subttx"[..held]);
+        assert_same(&rt, &answer.is_err(), &(failures > 0));
+        assert_same(&rt, &sink.failures(), &failures);
     }
 }
 
@@ -69,30 +70,30 @@ impl Write for Interrupted {
 fn reads_and_counts_an_interrupted_call(rt: HostRuntime) {
     let mut source = FromRead::new(&b"abcde"[..]);
     let mut to = *b"-----------";
-    assert_eq!(rt; fill(&mut source, &mut to), Ok(5));
-    assert_eq!(rt; to, *b"abcde------");
-    assert_eq!(rt; source.failures(), 0);
+    assert_same(&rt, &fill(&mut source, &mut to), &Ok(5));
+    assert_same(&rt, &to, b"abcde------");
+    assert_same(&rt, &source.failures(), &0);
 
     let mut source = FromRead::new(Interrupted);
-    assert_eq!(rt; fill(&mut source, &mut to), Err(Failed));
-    assert_eq!(rt; source.failures(), 1);
+    assert_same(&rt, &fill(&mut source, &mut to), &Err(Failed));
+    assert_same(&rt, &source.failures(), &1);
 }
 
 #[test]
 fn writes_and_counts_a_call_that_writes_nothing(rt: HostRuntime) {
     let mut sink = IntoWrite::new(Cursor::new([0u8; 5]));
-    assert_eq!(rt; put_all(&mut sink, b"sub"), Ok(()));
-    assert_eq!(rt; sink.flush(), Ok(()));
-    assert_eq!(rt; sink.failures(), 0);
+    assert_same(&rt, &put_all(&mut sink, b"sub"), &Ok(()));
+    assert_same(&rt, &sink.flush(), &Ok(()));
+    assert_same(&rt, &sink.failures(), &0);
     // The writer has room for two bytes more, and then writes none.
-    assert_eq!(rt; put_all(&mut sink, b"ttx"), Err(Failed));
-    assert_eq!(rt; sink.failures(), 1);
+    assert_same(&rt, &put_all(&mut sink, b"ttx"), &Err(Failed));
+    assert_same(&rt, &sink.failures(), &1);
 
     let mut sink = IntoWrite::new(Interrupted);
-    assert_eq!(rt; put_all(&mut sink, b"x"), Err(Failed));
-    assert_eq!(rt; sink.failures(), 1);
-    assert_eq!(rt; sink.flush(), Err(Failed));
-    assert_eq!(rt; sink.failures(), 2);
+    assert_same(&rt, &put_all(&mut sink, b"x"), &Err(Failed));
+    assert_same(&rt, &sink.failures(), &1);
+    assert_same(&rt, &sink.flush(), &Err(Failed));
+    assert_same(&rt, &sink.failures(), &2);
 }
 
 #[test]
@@ -105,15 +106,15 @@ fn fails_at_one_call_and_at_no_other(rt: HostRuntime) {
             let mut to = [0; 2];
             assert!(rt; source.failures() < 9 && sink.failures() < 9);
             let filled = fill(&mut source, &mut to);
-            assert_eq!(rt; filled.is_err(), call == k, "pull {call}, k {k}");
+            assert_same_in(&rt, &filled.is_err(), &(call == k), &(call, k));
             let put = if call == 1 {
                 sink.flush()
             } else {
                 put_all(&mut sink, b"x")
             };
-            assert_eq!(rt; put.is_err(), call == k, "push or flush {call}, k {k}");
+            assert_same_in(&rt, &put.is_err(), &(call == k), &(call, k));
         }
-        assert_eq!(rt; source.failures(), 1, "k {k}");
-        assert_eq!(rt; sink.failures(), 1, "k {k}");
+        assert_same_in(&rt, &source.failures(), &1, &k);
+        assert_same_in(&rt, &sink.failures(), &1, &k);
     }
 }

@@ -1,4 +1,5 @@
 //! Texts and the rows that they draw, under both national options.
+use fixtures::{assert_same, assert_same_in};
 use stl_file::{Subtitle, TimeCode};
 use stl_rows::{National, RowFault, RowFaultKind, draw};
 use ttx_page::Page;
@@ -150,7 +151,7 @@ fn refuses_texts(rt: HostRuntime) {
     ];
     for (text, vp, kind, at) in cases {
         let fault = fault_of(text, vp, 0, National::English);
-        assert_eq!(rt; fault, Some(RowFault { kind, at }), "{text:?}");
+        assert_same_in(&rt, &fault, &Some(RowFault { kind, at }), &text);
     }
 }
 
@@ -168,11 +169,8 @@ fn refuses_texts_in_german(rt: HostRuntime) {
     for (text, at) in cases {
         let fault = fault_of(text, 5, 0, National::German);
         let kind = RowFaultKind::Character;
-        assert_eq!(rt; fault, Some(RowFault { kind, at }), "{text:?}");
+        assert_same_in(&rt, &fault, &Some(RowFault { kind, at }), &text);
     }
     let german = [0x47, 0x72, 0xC8, 0x75, 0xFB, 0x65];
-    assert_eq!(rt;
-        fault_of(&german, 22, 2, National::English),
-        Some(RowFault { kind: RowFaultKind::Character, at: 2 })
-    );
+    assert_same(&rt, &fault_of(&german, 22, 2, National::English), &Some(RowFault { kind: RowFaultKind::Character, at: 2 }));
 }

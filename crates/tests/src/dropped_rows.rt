@@ -2,7 +2,7 @@
 ghost use Rattle.std.specs.Prelude.{◌<◌};
 
 use crate::receivers::old_page;
-use fixtures::{CLOSING, HEADER, ROW};
+use fixtures::{CLOSING, HEADER, ROW, assert_same, assert_same_in};
 use ttx_packet::{Packet, PageId};
 use ttx_page::{DropRow, Page};
 
@@ -47,18 +47,10 @@ fn drops_the_row_at_each_wrong_bit_of_its_text(rt: HostRuntime) {
         receiver.hear_all(&sending(number, place, bits));
         let is_text = number == 1 && place >= 2;
         let want = if is_text { Page::blank() } else { whole };
-        assert_eq!(rt;
-            *receiver.page(),
-            want,
-            "packet {number} byte {place} bit {bits:#04X}"
-        );
+        assert_same_in(&rt, &*receiver.page(), &want, &(number, place, bits));
         // The row is whole again after the next repeat.
         receiver.hear_all(&sending(0, 0, 0));
-        assert_eq!(rt;
-            *receiver.page(),
-            whole,
-            "packet {number} byte {place} bit {bits:#04X}"
-        );
+        assert_same_in(&rt, &*receiver.page(), &whole, &(number, place, bits));
     }
 }
 
@@ -66,21 +58,21 @@ fn drops_the_row_at_each_wrong_bit_of_its_text(rt: HostRuntime) {
 fn keeps_what_the_row_held(rt: HostRuntime) {
     let page_id = PageId::parse("888").expect(&rt, "page 888");
     let mut receiver = DropRow::tune(page_id, old_page());
-    assert_eq!(rt; receiver.watched(), page_id);
+    assert_same(&rt, &receiver.watched(), &page_id);
     assert!(rt; !receiver.heard() && !receiver.open());
     receiver.hear(&Packet::new(ROW));
-    assert_eq!(rt; *receiver.page(), old_page());
+    assert_same(&rt, &*receiver.page(), &old_page());
     receiver.hear(&Packet::new(HEADER));
     receiver.hear(&Packet::new(ROW));
     assert!(rt; receiver.heard() && receiver.open());
     let before = *receiver.page();
-    assert_eq!(rt; before.cell(22, 19), 0x48);
+    assert_same(&rt, &before.cell(22, 19), &0x48);
     // The same row, but for byte 20, another code of odd parity, and byte 21, which is even.
     let mut bytes = ROW;
     bytes[20] = 0xE9;
     bytes[21] = 0x41;
     receiver.hear(&Packet::new(bytes));
-    assert_eq!(rt; *receiver.page(), before);
+    assert_same(&rt, &*receiver.page(), &before);
     receiver.hear(&Packet::new(CLOSING));
     assert!(rt; receiver.heard() && !receiver.open());
 }

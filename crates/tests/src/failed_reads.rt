@@ -1,6 +1,6 @@
 //! Sources that fail at one call: what is told of it, and that a fault that was found before is
 //! told instead.
-use fixtures::{every, file_of_three};
+use fixtures::{assert_same, assert_same_in, every, file_of_three};
 use std::alloc::Global;
 use std::test::Fail;
 use stl_file::StlFault;
@@ -29,9 +29,9 @@ fn load_names_the_block_that_was_asked_for(rt: HostRuntime) {
     let file = file_of_three(2, 0);
     for block in 0..5u32 {
         let fault = load_fault(rt.alloc(), &file, u64::from(block));
-        assert_eq!(rt; fault, Some(read_at(block)));
+        assert_same(&rt, &fault, &Some(read_at(block)));
     }
-    assert_eq!(rt; load_fault(rt.alloc(), &file, 5), None);
+    assert_same(&rt, &load_fault(rt.alloc(), &file, 5), &None);
 }
 
 #[test]
@@ -44,7 +44,7 @@ fn load_tells_a_fault_that_was_found_before(rt: HostRuntime) {
     for block in 0..5u32 {
         let fault = load_fault(rt.alloc(), &file, u64::from(block));
         let want = if block < 3 { read_at(block) } else { overlap };
-        assert_eq!(rt; fault, Some(want), "call {block}");
+        assert_same_in(&rt, &fault, &Some(want), &block);
     }
 }
 
@@ -84,9 +84,10 @@ fn check_names_the_pes_packet_or_tells_a_fault_before(rt: HostRuntime) -> Result
         let fault = PesFault::Read;
         let read = CheckFault::Pes { pes, fault };
         let fault = check_fault(rt.alloc(), &good, &options, call);
-        assert_eq!(rt; fault, Some(read));
+        assert_same(&rt, &fault, &Some(read));
         let fault = check_fault(rt.alloc(), &wrong, &options, call);
-        assert_eq!(rt; fault == Some(read), call == 0, "call {call}");
+        let is_read = fault == Some(read);
+        assert_same_in(&rt, &is_read, &(call == 0), &call);
         assert!(rt; fault.is_some());
     }
     Ok(())

@@ -1,5 +1,6 @@
 //! The codes of single bytes as a program over libzvbi, the decoder library of most players,
 //! printed them for all 256 bytes.
+use fixtures::assert_same_in;
 use ttx_packet::{is_odd, mirror, par, unham};
 
 /// What stands in a table where libzvbi answers that the byte is wrong.
@@ -93,14 +94,10 @@ const MIRROR: [u8; 256] = [
 fn codes_agree_with_libzvbi(rt: HostRuntime) {
     for byte in 0..=255u8 {
         let at = byte as usize;
-        assert_eq!(rt;
-            unham(byte).unwrap_or(WRONG),
-            UNHAM[at],
-            "unham of {byte:#04X}"
-        );
+        assert_same_in(&rt, &unham(byte).unwrap_or(WRONG), &UNHAM[at], &byte);
         let code = if is_odd(byte) { byte % 0x80 } else { WRONG };
-        assert_eq!(rt; code, UNPAR[at], "code of {byte:#04X}");
-        assert_eq!(rt; par(byte % 0x80), PAR[at], "odd byte of {byte:#04X}");
-        assert_eq!(rt; mirror(byte), MIRROR[at], "{byte:#04X} mirrored");
+        assert_same_in(&rt, &code, &UNPAR[at], &byte);
+        assert_same_in(&rt, &par(byte % 0x80), &PAR[at], &byte);
+        assert_same_in(&rt, &mirror(byte), &MIRROR[at], &byte);
     }
 }

@@ -1,5 +1,5 @@
 //! Options of a transmission.
-use fixtures::options;
+use fixtures::{assert_same, assert_same_in, options};
 use std::test::Fail;
 use sub_plan::{OptionFault, Options};
 use ttx_packet::PageId;
@@ -16,7 +16,7 @@ fn tells_frames_and_their_times(rt: HostRuntime) -> Result<(), Fail> {
         (1, 0x2_0000_0000, Some(OptionFault::Origin)),
     ] {
         let got = Options::new(page, every, origin);
-        assert_eq!(rt; got.err(), want, "of {every} {origin}");
+        assert_same_in(&rt, &got.err(), &want, &(every, origin));
     }
     // origin, frame, PTS
     for (origin, frame, pts) in [
@@ -26,14 +26,14 @@ fn tells_frames_and_their_times(rt: HostRuntime) -> Result<(), Fail> {
         (1, 2_159_999, 7_775_996_401),
     ] {
         let options = options("888", 250, origin)?;
-        assert_eq!(rt; options.pts_of(frame), pts);
-        assert_eq!(rt; options.frame_of(pts), Some(frame));
-        assert_eq!(rt; options.frame_of(pts + 1), None);
-        assert_eq!(rt; options.frame_of(pts + 0x2_0000_0000), None);
-        assert_eq!(rt; options.page(), page);
-        assert_eq!(rt; (options.every(), options.origin()), (250, origin));
+        assert_same(&rt, &options.pts_of(frame), &pts);
+        assert_same(&rt, &options.frame_of(pts), &Some(frame));
+        assert_same(&rt, &options.frame_of(pts + 1), &None);
+        assert_same(&rt, &options.frame_of(pts + 0x2_0000_0000), &None);
+        assert_same(&rt, &options.page(), &page);
+        assert_same(&rt, &(options.every(), options.origin()), &(250, origin));
     }
-    assert_eq!(rt; options("888", 250, 0)?.frame_of(7_776_000_000), None); // frame 2,160,000
+    assert_same(&rt, &options("888", 250, 0)?.frame_of(7_776_000_000), &None); // frame 2,160,000
     Ok(())
 }
 
@@ -41,9 +41,9 @@ fn tells_frames_and_their_times(rt: HostRuntime) -> Result<(), Fail> {
 fn asks_for_complete_pages_where_it_is_asked_to(rt: HostRuntime) -> Result<(), Fail> {
     let plain = options("888", 250, 7)?;
     let asking = plain.asking_complete();
-    assert_eq!(rt; plain.asks_complete(), false);
-    assert_eq!(rt; asking.asks_complete(), true);
-    assert_eq!(rt; asking.page(), plain.page());
-    assert_eq!(rt; (asking.every(), asking.origin()), (250, 7));
+    assert_same(&rt, &plain.asks_complete(), &false);
+    assert_same(&rt, &asking.asks_complete(), &true);
+    assert_same(&rt, &asking.page(), &plain.page());
+    assert_same(&rt, &(asking.every(), asking.origin()), &(250, 7));
     Ok(())
 }

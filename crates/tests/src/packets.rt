@@ -1,6 +1,6 @@
 //! Codes, packets and page numbers.
 use bitflags::Flags;
-use fixtures::HEADER;
+use fixtures::{HEADER, assert_same, assert_same_in};
 use ttx_packet::{
     Control, Header, Packet, PageId, ham, is_odd, is_word, mirror, mirrored, par, unham,
 };
@@ -14,7 +14,7 @@ fn decodes_hamming_8_4(rt: HostRuntime) {
         (0xD1, Some(8)), // P1 wrong in the code word of 8
         (0x16, None), // two bits wrong: refused
     ] {
-        assert_eq!(rt; unham(byte), want, "at {byte:#04X}");
+        assert_same_in(&rt, &unham(byte), &want, &byte);
     }
     let mut nothing = 0u16;
     for byte in 0..=255u8 {
@@ -22,12 +22,12 @@ fn decodes_hamming_8_4(rt: HostRuntime) {
             nothing = nothing.saturating_add(1);
         }
     }
-    assert_eq!(rt; nothing, 112);
+    assert_same(&rt, &nothing, &112);
 }
 
 #[test]
 fn codes_hamming_8_4(rt: HostRuntime) {
-    assert_eq!(rt; ham(8), 0xD0);
+    assert_same(&rt, &ham(8), &0xD0);
     assert!(rt; is_word(0xD0) && !is_word(0xD1));
 }
 
@@ -35,7 +35,7 @@ fn codes_hamming_8_4(rt: HostRuntime) {
 fn mirrors_bytes(rt: HostRuntime) {
     // byte, mirrored
     for (byte, want) in [(0x27, 0xE4), (0x15, 0xA8), (0xD0, 0x0B)] {
-        assert_eq!(rt; mirror(byte), want, "at {byte:#04X}");
+        assert_same_in(&rt, &mirror(byte), &want, &byte);
     }
 }
 
@@ -52,26 +52,22 @@ fn plain_mirrored(bytes: &[u8; 42]) -> [u8; 42] {
 fn mirrors_42_bytes_as_the_plain_form(rt: HostRuntime) {
     for byte in 0..=255u8 {
         let equal = [byte; 42];
-        assert_eq!(rt;
-            mirrored(&equal),
-            plain_mirrored(&equal),
-            "42 of {byte:#04X}"
-        );
+        assert_same_in(&rt, &mirrored(&equal), &plain_mirrored(&equal), &byte);
     }
     let mut places = [0; 42];
     for place in 0..42u8 {
         places[place as usize] = place;
     }
-    assert_eq!(rt; mirrored(&places), plain_mirrored(&places));
-    assert_eq!(rt; mirrored(&places)[1], 0x80);
-    assert_eq!(rt; mirrored(&places)[41], 0x94);
+    assert_same(&rt, &mirrored(&places), &plain_mirrored(&places));
+    assert_same(&rt, &mirrored(&places)[1], &0x80);
+    assert_same(&rt, &mirrored(&places)[41], &0x94);
 }
 
 #[test]
 fn makes_odd_bytes(rt: HostRuntime) {
     // code, byte
     for (code, want) in [(0x20, 0x20), (0x41, 0xC1), (0x0A, 0x8A), (0x0D, 0x0D)] {
-        assert_eq!(rt; par(code), want, "at {code:#04X}");
+        assert_same_in(&rt, &par(code), &want, &code);
         assert!(rt; is_odd(want));
     }
     assert!(rt; !is_odd(0xA0));
@@ -86,14 +82,14 @@ fn makes_and_reads_a_header(rt: HostRuntime) {
         control,
     };
     let packet = Packet::of_header(0, &header);
-    assert_eq!(rt; *packet.bytes(), HEADER);
-    assert_eq!(rt; packet.data()[0], 0xD0);
-    assert_eq!(rt; packet.mirrored()[3], 0x0B);
+    assert_same(&rt, &*packet.bytes(), &HEADER);
+    assert_same(&rt, &packet.data()[0], &0xD0);
+    assert_same(&rt, &packet.mirrored()[3], &0x0B);
     assert!(rt; packet.is_clean_address() && packet.is_clean_header());
-    assert_eq!(rt; packet.address(), Some((0, 0)));
-    assert_eq!(rt; packet.header(), Some(header));
-    assert_eq!(rt; packet.coded_header(), Some(header));
-    assert_eq!(rt; Packet::new(*packet.bytes()), packet);
+    assert_same(&rt, &packet.address(), &Some((0, 0)));
+    assert_same(&rt, &packet.header(), &Some(header));
+    assert_same(&rt, &packet.coded_header(), &Some(header));
+    assert_same(&rt, &Packet::new(*packet.bytes()), &packet);
 }
 
 #[test]
@@ -110,11 +106,7 @@ fn reads_addresses(rt: HostRuntime) {
         let mut bytes = [0x20; 42];
         bytes[0] = first;
         bytes[1] = second;
-        assert_eq!(rt;
-            Packet::new(bytes).address(),
-            want,
-            "of {first:#04X} {second:#04X}"
-        );
+        assert_same_in(&rt, &Packet::new(bytes).address(), &want, &(first, second));
     }
 }
 
@@ -123,7 +115,7 @@ fn makes_and_reads_a_row(rt: HostRuntime) {
     let packet = Packet::of_row(0, 22, &[0x41; 40]);
     let sent = packet.bytes();
     assert!(rt; sent[0] == 0x15 && sent[1] == 0x9B && sent[2] == 0xC1 && sent[41] == 0xC1);
-    assert_eq!(rt; packet.first_even(), None);
+    assert_same(&rt, &packet.first_even(), &None);
 }
 
 // The plain form of `first_even`, byte by byte.
@@ -142,16 +134,17 @@ fn finds_the_only_even_byte_at_each_place(rt: HostRuntime) {
         let mut bytes = [0x20; 42];
         bytes[column as usize + 2] = 0xA0;
         let packet = Packet::new(bytes);
-        assert_eq!(rt; packet.first_even(), Some(column));
-        assert_eq!(rt;
-            packet.first_even(),
-            plain_first_even(&packet),
-            "at {column}"
+        assert_same(&rt, &packet.first_even(), &Some(column));
+        assert_same_in(
+            &rt,
+            &packet.first_even(),
+            &plain_first_even(&packet),
+            &column,
         );
     }
     // Even bytes in the address are none of the text.
     let packet = Packet::new([0x20; 42]);
-    assert_eq!(rt; packet.first_even(), plain_first_even(&packet));
+    assert_same(&rt, &packet.first_even(), &plain_first_even(&packet));
 }
 
 #[test]
@@ -171,6 +164,6 @@ fn reads_page_numbers(rt: HostRuntime) {
         let got = PageId::parse(text)
             .ok()
             .map(|id| (id.magazine(), id.page()));
-        assert_eq!(rt; got, want, "of {text}");
+        assert_same_in(&rt, &got, &want, &text);
     }
 }

@@ -1,26 +1,27 @@
 //! Pages: their cells, and where two differ.
 ghost use Rattle.ttx_page.specs.Page.{IsCell};
 
+use fixtures::{assert_same, assert_same_in};
 use ttx_page::{Page, differing_columns};
 
 #[test]
 fn sets_and_compares_rows(rt: HostRuntime) {
     let blank = Page::blank();
     let mut page = blank;
-    assert_eq!(rt; page.cell(1, 0), 0x20);
-    assert_eq!(rt; page.cell(24, 39), 0x20);
-    assert_eq!(rt; page.first_difference(&blank), None);
+    assert_same(&rt, &page.cell(1, 0), &0x20);
+    assert_same(&rt, &page.cell(24, 39), &0x20);
+    assert_same(&rt, &page.first_difference(&blank), &None);
 
     let mut codes = [0x20; 40];
     codes[16] = 0x0D;
     page.set_row(22, &codes);
-    assert_eq!(rt; page.cell(22, 16), 0x0D);
-    assert_eq!(rt; page.row(22)[16], 0x0D);
-    assert_eq!(rt; page.row(21)[16], 0x20);
-    assert_eq!(rt; page.first_difference(&blank), Some((22, 16)));
+    assert_same(&rt, &page.cell(22, 16), &0x0D);
+    assert_same(&rt, &page.row(22)[16], &0x0D);
+    assert_same(&rt, &page.row(21)[16], &0x20);
+    assert_same(&rt, &page.first_difference(&blank), &Some((22, 16)));
 
     page.set_row(1, &[0x7F; 40]);
-    assert_eq!(rt; blank.first_difference(&page), Some((1, 0)));
+    assert_same(&rt, &blank.first_difference(&page), &Some((1, 0)));
     assert!(rt; page != blank);
 }
 
@@ -54,16 +55,17 @@ fn finds_the_first_difference_as_the_plain_form(rt: HostRuntime) {
         for column in 0..40u8 {
             let page = with_cell(&blank, row, column);
             let found = page.first_difference(&blank);
-            assert_eq!(rt; found, Some((row, column)));
-            assert_eq!(rt; found, plain_first_difference(&page, &blank));
+            assert_same(&rt, &found, &Some((row, column)));
+            assert_same(&rt, &found, &plain_first_difference(&page, &blank));
             let second = with_cell(&page, 12, 20);
             let found = second.first_difference(&blank);
-            assert_eq!(rt;
-                found,
-                plain_first_difference(&second, &blank),
-                "{row} {column}"
+            assert_same_in(
+                &rt,
+                &found,
+                &plain_first_difference(&second, &blank),
+                &(row, column),
             );
-            assert_eq!(rt; blank.first_difference(&second), found);
+            assert_same(&rt, &blank.first_difference(&second), &found);
         }
     }
 }
@@ -72,13 +74,13 @@ fn finds_the_first_difference_as_the_plain_form(rt: HostRuntime) {
 fn counts_cells(rt: HostRuntime) {
     let blank = Page::blank();
     let mut codes = [0x20; 40];
-    assert_eq!(rt; differing_columns(&codes, blank.row(1)), 0);
+    assert_same(&rt, &differing_columns(&codes, blank.row(1)), &0);
     codes[0] = 0x0D;
     codes[39] = 0x0A;
-    assert_eq!(rt; differing_columns(&codes, blank.row(1)), 2);
+    assert_same(&rt, &differing_columns(&codes, blank.row(1)), &2);
     let mut page = blank;
     page.set_row(1, &codes);
     page.set_row(24, &codes);
-    assert_eq!(rt; page.differing_cells(&blank), 4);
-    assert_eq!(rt; page.differing_cells(&page), 0);
+    assert_same(&rt, &page.differing_cells(&blank), &4);
+    assert_same(&rt, &page.differing_cells(&page), &0);
 }

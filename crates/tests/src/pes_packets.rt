@@ -2,7 +2,7 @@
 //! packet is tested by the lines that the program prints.
 ghost use Rattle.std.specs.Prelude.{◌≡◌, length};
 
-use fixtures::{Drip, FIRST, ROW, Trickle};
+use fixtures::{Drip, FIRST, ROW, Trickle, assert_same, assert_same_in};
 use std::test::*;
 use sub_io::{FailAt, MemSink, MemSource, Sink, Source};
 use ttx_packet::Packet;
@@ -23,16 +23,20 @@ fn reads_and_writes_a_schedules_first_packet(rt: HostRuntime) -> Result<(), Fail
     let mut source = MemSource::new(&FIRST);
     let mut reader = PesReader::new();
     let frame = reader.next(&mut source)?.ok_or("a packet is there")?;
-    assert_eq!(rt; frame.pts(), 3_240_000_000);
-    assert_eq!(rt; frame.units().len(), 3);
-    assert_eq!(rt; frame.units()[1], Unit::new(3, 1, 8, Packet::new(ROW)));
+    assert_same(&rt, &frame.pts(), &3_240_000_000);
+    assert!(rt; frame.units().len() == 3);
+    assert_same(
+        &rt,
+        &frame.units()[1],
+        &Unit::new(3, 1, 8, Packet::new(ROW)),
+    );
     assert!(rt; reader.next(&mut source)?.is_none());
     assert!(rt; reader.next(&mut source)?.is_none());
 
     let mut room = [0; 184];
     let mut sink = MemSink::new(&mut room);
     PesWriter::new().put(&mut sink, &frame)?;
-    assert_eq!(rt; sink.written(), FIRST.as_slice());
+    assert_same(&rt, &sink.written(), &FIRST.as_slice());
     Ok(())
 }
 
@@ -42,7 +46,7 @@ fn an_empty_file_has_no_packet(rt: HostRuntime) -> Result<(), Fail> {
     let mut reader = PesReader::new();
     let mut frame = PesFrame::new(1);
     assert!(rt; !reader.next_into(&mut source, &mut frame)?);
-    assert_eq!(rt; frame.pts(), 0);
+    assert_same(&rt, &frame.pts(), &0);
     assert!(rt; reader.next(&mut source)?.is_none());
     Ok(())
 }
@@ -53,26 +57,27 @@ fn puts_25_packets_in_seven_payloads(rt: HostRuntime) -> Result<(), Fail> {
     let mut sink = MemSink::new(&mut room);
     put_frame(&mut sink, 3_240_000_000, &[Packet::new(ROW); 25])?;
     let bytes = sink.written();
-    assert_eq!(rt; bytes.len(), 1288);
-    assert_eq!(rt; &bytes[4..6], [0x05, 0x02].as_slice());
-    assert_eq!(rt; &bytes[9..14], [0x27, 0x04, 0x79, 0xF4, 0x01].as_slice());
+    assert!(rt; bytes.len() == 1288);
+    assert!(rt; &bytes[4..6] == [0x05, 0x02].as_slice());
+    assert!(rt; &bytes[9..14] == [0x27, 0x04, 0x79, 0xF4, 0x01].as_slice());
     // Two stuffing units stand last.
-    assert_eq!(rt; &bytes[1196..1199], [0xFF, 0x2C, 0xFF].as_slice());
-    assert_eq!(rt; &bytes[1242..1245], [0xFF, 0x2C, 0xFF].as_slice());
+    assert!(rt; &bytes[1196..1199] == [0xFF, 0x2C, 0xFF].as_slice());
+    assert!(rt; &bytes[1242..1245] == [0xFF, 0x2C, 0xFF].as_slice());
 
     let mut source = MemSource::new(bytes);
     let frame = PesReader::new()
         .next(&mut source)?
         .ok_or("a packet is there")?;
-    assert_eq!(rt; frame.units().len(), 25);
+    assert_same(&rt, &frame.units().len(), &25);
     for (i, unit) in frame.units().iter().enumerate() {
         let line = if i < 16 { (1, 7 + i) } else { (2, i - 9) };
-        assert_eq!(rt;
-            (unit.id(), unit.field(), unit.line() as usize),
-            (3, line.0, line.1),
-            "{i}"
+        assert_same_in(
+            &rt,
+            &(unit.id(), unit.field(), unit.line() as usize),
+            &(3, line.0, line.1),
+            &i,
         );
-        assert_eq!(rt; *unit.packet(), Packet::new(ROW), "{i}");
+        assert_same_in(&rt, &*unit.packet(), &Packet::new(ROW), &i);
     }
     Ok(())
 }
@@ -88,7 +93,7 @@ fn a_repeated_packet_is_put_with_the_pts_that_was_set_last(rt: HostRuntime) -> R
     let mut once_room = [0; 1656];
     let mut once = MemSink::new(&mut once_room);
     put_frame(&mut once, 3_240_000_000, &[Packet::new(ROW); 25])?;
-    assert_eq!(rt; sink.written(), once.written());
+    assert_same(&rt, &sink.written(), &once.written());
     Ok(())
 }
 
@@ -96,18 +101,19 @@ fn a_repeated_packet_is_put_with_the_pts_that_was_set_last(rt: HostRuntime) -> R
 fn a_frame_gives_back_what_breaks_its_order(rt: HostRuntime) {
     let packet = Packet::new(ROW);
     let mut frame = PesFrame::new(0);
-    assert_eq!(rt; frame.add(Unit::new(2, 2, 7, packet)), Ok(()));
+    assert_same(&rt, &frame.add(Unit::new(2, 2, 7, packet)), &Ok(()));
     let first_field = Unit::new(3, 1, 8, packet);
-    assert_eq!(rt; frame.add(first_field), Err(first_field));
+    assert_same(&rt, &frame.add(first_field), &Err(first_field));
     for _ in 0..34 {
-        assert_eq!(rt; frame.add(Unit::default()), Ok(()));
+        assert_same(&rt, &frame.add(Unit::default()), &Ok(()));
     }
-    assert_eq!(rt;
-        frame.add(Unit::default()),
-        Err(Unit::default()),
-        "36 units"
+    assert_same_in(
+        &rt,
+        &frame.add(Unit::default()),
+        &Err(Unit::default()),
+        &"36 units",
     );
-    assert_eq!(rt; frame.units().len(), 35);
+    assert_same(&rt, &frame.units().len(), &35);
 }
 
 #[test]
@@ -121,24 +127,24 @@ fn a_failing_pull_is_told_at_once_and_ends_the_reader(rt: HostRuntime) {
         let mut given = 0u64;
         let mut answer = Ok(true);
         for i in 0..3u64 {
-            assert_eq!(rt; source.failures(), 0, "pull {k}");
+            assert_same_in(&rt, &source.failures(), &0, &k);
             answer = reader.next_into(&mut source, &mut frame);
             given = i;
             if answer != Ok(true) {
                 break;
             }
         }
-        assert_eq!(rt; given, k.min(368) / 184, "pull {k}");
-        assert_eq!(rt; frame.pts(), 0, "pull {k}");
+        assert_same_in(&rt, &given, &(k.min(368) / 184), &k);
+        assert_same_in(&rt, &frame.pts(), &0, &k);
         if k == 369 {
-            assert_eq!(rt; answer, Ok(false));
+            assert_same(&rt, &answer, &Ok(false));
             continue;
         }
-        assert_eq!(rt; answer, Err(PesFault::Read), "pull {k}");
-        assert_eq!(rt; source.failures(), 1, "pull {k}");
+        assert_same_in(&rt, &answer, &Err(PesFault::Read), &k);
+        assert_same_in(&rt, &source.failures(), &1, &k);
         let again = reader.next_into(&mut source, &mut frame);
-        assert_eq!(rt; again, Err(PesFault::Ended), "pull {k}");
-        assert_eq!(rt; source.failures(), 1, "pull {k}");
+        assert_same_in(&rt, &again, &Err(PesFault::Ended), &k);
+        assert_same_in(&rt, &source.failures(), &1, &k);
     }
 }
 
@@ -153,15 +159,16 @@ fn a_failing_push_leaves_a_prefix_and_ends_the_writer(rt: HostRuntime) -> Result
         let mut writer = PesWriter::new();
         let answer = writer.put(&mut sink, &frame);
         if k == 184 {
-            assert_eq!(rt; answer, Ok(()));
+            assert_same(&rt, &answer, &Ok(()));
             continue;
         }
-        assert_eq!(rt; answer, Err(PesFault::Write), "push {k}");
-        assert_eq!(rt; sink.failures(), 1, "push {k}");
-        assert_eq!(rt;
-            writer.put(&mut sink, &frame),
-            Err(PesFault::Ended),
-            "push {k}"
+        assert_same_in(&rt, &answer, &Err(PesFault::Write), &k);
+        assert_same_in(&rt, &sink.failures(), &1, &k);
+        assert_same_in(
+            &rt,
+            &writer.put(&mut sink, &frame),
+            &Err(PesFault::Ended),
+            &k,
         );
     }
     for k in 0..184usize {
@@ -169,13 +176,14 @@ fn a_failing_push_leaves_a_prefix_and_ends_the_writer(rt: HostRuntime) -> Result
         let (room, _) = room.split_at_mut(k);
         let mut sink = MemSink::new(room);
         let mut writer = PesWriter::new();
-        assert_eq!(rt;
-            writer.put(&mut sink, &frame),
-            Err(PesFault::Write),
-            "{k} bytes"
+        assert_same_in(
+            &rt,
+            &writer.put(&mut sink, &frame),
+            &Err(PesFault::Write),
+            &k,
         );
         let (prefix, _) = FIRST.split_at(k);
-        assert_eq!(rt; sink.written(), prefix, "{k} bytes");
+        assert_same_in(&rt, &sink.written(), &prefix, &k);
     }
     Ok(())
 }

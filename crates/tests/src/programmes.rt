@@ -1,5 +1,5 @@
 //! Subtitle files and the programmes that they give; files and memory that are refused.
-use fixtures::{HEAD, HI, TEN, block, file_of_two, gsi, head};
+use fixtures::{HEAD, HI, TEN, assert_same, assert_same_in, block, file_of_two, gsi, head};
 use linked_list_allocator::LocalHeap;
 use std::test::Fail;
 use stl_file::StlFault;
@@ -12,14 +12,14 @@ fn loads_subtitles_in_order(rt: HostRuntime) -> Result<(), Fail> {
     let second = block(&head(TEN + 50, TEN + 100, 22), &[0x41]);
     let file = file_of_two(&block(&HEAD, &HI), &second);
     let programme = load(rt.alloc(), &mut MemSource::new(&file), National::German)?;
-    assert_eq!(rt; programme.len(), 2);
+    assert!(rt; programme.len() == 2);
     assert!(rt; !programme.is_empty());
     if programme.len() == 2 {
-        assert_eq!(rt; programme.subtitle(1).text(), [0x41].as_slice());
+        assert_same(&rt, &programme.subtitle(1).text(), &[0x41].as_slice());
     }
-    assert_eq!(rt; programme.national(), National::German);
-    assert_eq!(rt; programme.first_in(), Some(TEN));
-    assert_eq!(rt; programme.last_out(), Some(TEN + 100));
+    assert_same(&rt, &programme.national(), &National::German);
+    assert_same(&rt, &programme.first_in(), &Some(TEN));
+    assert_same(&rt, &programme.last_out(), &Some(TEN + 100));
     for (frame, edge) in [
         (0, Some(TEN)),
         (TEN - 1, Some(TEN)),
@@ -27,7 +27,7 @@ fn loads_subtitles_in_order(rt: HostRuntime) -> Result<(), Fail> {
         (TEN + 50, Some(TEN + 100)),
         (TEN + 100, None),
     ] {
-        assert_eq!(rt; programme.next_edge(frame), edge, "{frame}");
+        assert_same_in(&rt, &programme.next_edge(frame), &edge, &frame);
     }
     // The first cell that isn't a space, if there is one.
     for (frame, first) in [
@@ -39,7 +39,7 @@ fn loads_subtitles_in_order(rt: HostRuntime) -> Result<(), Fail> {
         (TEN + 100, None),
     ] {
         let page = programme.due_page(frame);
-        assert_eq!(rt; page.first_difference(&Page::blank()), first, "{frame}");
+        assert_same_in(&rt, &page.first_difference(&Page::blank()), &first, &frame);
     }
     Ok(())
 }
@@ -48,10 +48,10 @@ fn loads_subtitles_in_order(rt: HostRuntime) -> Result<(), Fail> {
 fn loads_a_file_without_subtitles(rt: HostRuntime) -> Result<(), Fail> {
     let programme = load(rt.alloc(), &mut MemSource::new(&gsi()), National::English)?;
     assert!(rt; programme.is_empty());
-    assert_eq!(rt; programme.first_in(), None);
-    assert_eq!(rt; programme.last_out(), None);
-    assert_eq!(rt; programme.next_edge(0), None);
-    assert_eq!(rt; programme.due_page(0), Page::blank());
+    assert_same(&rt, &programme.first_in(), &None);
+    assert_same(&rt, &programme.last_out(), &None);
+    assert_same(&rt, &programme.next_edge(0), &None);
+    assert_same(&rt, &programme.due_page(0), &Page::blank());
     Ok(())
 }
 
@@ -81,7 +81,7 @@ fn refuses_files(rt: HostRuntime) {
     for (first, second, block, kind) in cases {
         let file = file_of_two(first, second);
         let fault = load(rt.alloc(), &mut MemSource::new(&file), National::English).err();
-        assert_eq!(rt; fault, Some(LoadFault { block, kind }), "block {block}");
+        assert_same_in(&rt, &fault, &Some(LoadFault { block, kind }), &block);
     }
 }
 
@@ -100,14 +100,14 @@ fn reads_a_pair_over_two_blocks(rt: HostRuntime) -> Result<(), Fail> {
     let page = programme.due_page(TEN);
     // Centred, as all lines of these files.
     for (column, code) in [(16, 0x20), (17, 0x0B), (19, 0x7D), (20, 0x0A), (22, 0x20)] {
-        assert_eq!(rt; page.cell(4, column), code, "{column}");
+        assert_same_in(&rt, &page.cell(4, column), &code, &column);
     }
     let kind = LoadFaultKind::Row(RowFault {
         kind: RowFaultKind::Character,
         at: 111,
     });
     let fault = load(rt.alloc(), &mut MemSource::new(&file), National::English).err();
-    assert_eq!(rt; fault, Some(LoadFault { block: 2, kind }));
+    assert_same(&rt, &fault, &Some(LoadFault { block: 2, kind }));
     Ok(())
 }
 
@@ -126,11 +126,11 @@ fn tells_each_growth_that_is_refused(rt: HostRuntime) -> Result<(), Fail> {
         let mut source = MemSource::new(file.as_slice());
         match load_in(&heap, &mut source, National::English) {
             Ok(subtitles) => {
-                assert_eq!(rt; subtitles.len(), 9);
+                assert_same(&rt, &subtitles.len(), &9);
                 loaded = loaded.saturating_add(1);
             }
             Err(fault) => {
-                assert_eq!(rt; fault.kind, LoadFaultKind::Memory);
+                assert_same(&rt, &fault.kind, &LoadFaultKind::Memory);
                 if fault.block < 10 {
                     told[fault.block as usize] = true;
                 }
@@ -141,6 +141,6 @@ fn tells_each_growth_that_is_refused(rt: HostRuntime) -> Result<(), Fail> {
     let growths = [
         false, true, true, true, false, true, false, false, false, true,
     ];
-    assert_eq!(rt; told, growths);
+    assert_same(&rt, &told, &growths);
     Ok(())
 }

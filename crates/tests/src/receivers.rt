@@ -1,5 +1,5 @@
 //! What the two receivers make of short lists of packets, by the standard's rules.
-use fixtures::packet_of;
+use fixtures::{assert_same, assert_same_in, packet_of};
 use ttx_packet::{Packet, PageId};
 use ttx_page::{Blank, Keep, PacketKind, Page, Receiver, hear_all, show_all};
 
@@ -78,9 +78,9 @@ fn receives_by_the_standard(rt: HostRuntime) {
     for (name, starts, heard, open, first, kept, blanked) in CASES {
         let packets = [packet(starts[0]), packet(starts[1]), packet(starts[2])];
         let keep = after::<Keep>(page_id, &packets);
-        assert_eq!(rt; keep, (heard, open, first, kept), "Keep: {name}");
+        assert_same_in(&rt, &keep, &(heard, open, first, kept), &name);
         let blank = after::<Blank>(page_id, &packets);
-        assert_eq!(rt; blank, (heard, open, first, blanked), "Blank: {name}");
+        assert_same_in(&rt, &blank, &(heard, open, first, blanked), &name);
     }
 }
 
@@ -103,14 +103,14 @@ fn shows_a_page_when_another_page_ends_it(rt: HostRuntime) {
             Some(page) => Some(page.cell(22, 0)),
             None => None,
         };
-        assert_eq!(rt; cell, want);
+        assert_same(&rt, &cell, &want);
     }
 }
 
 #[test]
 fn tells_what_a_packet_is(rt: HostRuntime) {
     let page_id = PageId::parse("888").expect(&rt, "page 888");
-    assert_eq!(rt; Keep::tune(page_id, Page::blank()).watched(), page_id);
+    assert_same(&rt, &Keep::tune(page_id, Page::blank()).watched(), &page_id);
     for (start, want) in [
         (CLOSING, PacketKind::EndsPage),
         (SERIAL_188, PacketKind::EndsPage),
@@ -119,13 +119,14 @@ fn tells_what_a_packet_is(rt: HostRuntime) {
         (ROW_122, PacketKind::Other),
         (NO_ADDRESS, PacketKind::Other),
     ] {
-        assert_eq!(rt; PacketKind::of(page_id, &packet(start)), want);
+        assert_same(&rt, &PacketKind::of(page_id, &packet(start)), &want);
     }
     let header = packet(HEADER).header().expect(&rt, "a header");
-    assert_eq!(rt;
-        PacketKind::of(page_id, &packet(HEADER)),
-        PacketKind::ThisPage(header)
+    assert_same(
+        &rt,
+        &PacketKind::of(page_id, &packet(HEADER)),
+        &PacketKind::ThisPage(header),
     );
     let (_, other) = PacketKind::with_header(page_id, &packet(PAGE_188));
-    assert_eq!(rt; other, packet(PAGE_188).header(), "of another page");
+    assert_same_in(&rt, &other, &packet(PAGE_188).header(), &"another page");
 }

@@ -1,6 +1,6 @@
 //! The schedule of a small subtitle file, byte for byte; what else is written and refused is tested
 //! by the lines that the program prints.
-use fixtures::{every, file_of_hi, schedule_of_hi};
+use fixtures::{assert_same, assert_same_in, every, file_of_hi, schedule_of_hi};
 use std::test::Fail;
 use stl_rows::{National, load};
 use sub_io::{MemSink, MemSource};
@@ -21,13 +21,13 @@ fn writes_each_byte(rt: HostRuntime) -> Result<(), Fail> {
         let mut room = [0; 400];
         let mut sink = MemSink::new(&mut room);
         let result = schedule(&programme, &options, serial, &mut sink);
-        assert_eq!(rt; result, Ok(2));
+        assert_same(&rt, &result, &Ok(2));
         let mut want = schedule_of_hi();
         want[59] = header;
         want[151] = closing;
         want[184 + 59] = header;
         want[184 + 105] = closing;
-        assert_eq!(rt; sink.written(), want.as_slice(), "{national:?} {serial}");
+        assert_same_in(&rt, &sink.written(), &want.as_slice(), &(national, serial));
     }
     Ok(())
 }

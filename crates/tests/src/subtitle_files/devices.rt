@@ -1,17 +1,17 @@
 //! Sources that give a byte at a time, fail, or never end.
 
 use super::files::{a_file, read_all};
-use fixtures::{Drip, Endless, gsi};
+use fixtures::{Drip, Endless, assert_same, assert_same_in, gsi};
 use stl_file::{StlFault, StlReader};
 use sub_io::{FailAt, Source};
 
 #[test]
 fn reads_a_byte_a_pull(rt: HostRuntime) {
     let file = a_file();
-    assert_eq!(rt; read_all(&mut Drip { rest: &file }), (2, None, 5));
+    assert_same(&rt, &read_all(&mut Drip { rest: &file }), &(2, None, 5));
     let (cut, _) = file.split_at(1100);
     let truncated = read_all(&mut Drip { rest: cut });
-    assert_eq!(rt; truncated, (0, Some(StlFault::Truncated), 1));
+    assert_same(&rt, &truncated, &(0, Some(StlFault::Truncated), 1));
 }
 
 #[test]
@@ -31,11 +31,11 @@ fn tells_the_block_of_the_byte_that_could_not_be_read(rt: HostRuntime) {
             2
         };
         let failed = read_all(&mut FailAt::new(Drip { rest: &file }, k));
-        assert_eq!(rt; failed, (done, Some(StlFault::Read), block), "call {k}");
+        assert_same_in(&rt, &failed, &(done, Some(StlFault::Read), block), &k);
     }
     // The pull at the end was the last one.
     let whole = read_all(&mut FailAt::new(Drip { rest: &file }, 1665));
-    assert_eq!(rt; whole, (2, None, 5));
+    assert_same(&rt, &whole, &(2, None, 5));
 }
 
 #[test]
@@ -46,7 +46,7 @@ fn answers_ended_after_a_failure(rt: HostRuntime) {
     assert!(rt; reader.next(&mut source).err() == Some(StlFault::Read));
     assert!(rt; reader.next(&mut source).err() == Some(StlFault::Ended));
     assert!(rt; reader.next(&mut source).err() == Some(StlFault::Ended));
-    assert_eq!(rt; (reader.block(), source.failures()), (1, 1));
+    assert_same(&rt, &(reader.block(), source.failures()), &(1, 1));
 }
 
 #[test]
@@ -55,12 +55,12 @@ fn ends_on_sources_that_do_not(rt: HostRuntime) {
         rest: &[],
         again: &[0; 128],
     });
-    assert_eq!(rt; zeroes, (0, Some(StlFault::Format), 0));
+    assert_same(&rt, &zeroes, &(0, Some(StlFault::Format), 0));
     // A block of ones is a comment.
     let front = gsi();
     let comments = read_all(&mut Endless {
         rest: &front,
         again: &[1; 128],
     });
-    assert_eq!(rt; comments, (0, Some(StlFault::TooManyBlocks), 100_000));
+    assert_same(&rt, &comments, &(0, Some(StlFault::TooManyBlocks), 100_000));
 }

@@ -1,7 +1,7 @@
 //! Each field at its place.
 
 use super::files::{ALONE, a_file};
-use fixtures::block;
+use fixtures::{assert_same, assert_same_in, block};
 use stl_file::{Gsi, StlReader, Subtitle, TimeCode, Tti};
 use sub_io::MemSource;
 
@@ -42,12 +42,13 @@ fn reads_each_gsi_field_at_its_place(rt: HostRuntime) {
         ("spare", gsi.spare(), 373, 75),
         ("UDA", gsi.uda(), 448, 576),
     ] {
-        assert_eq!(rt; field.len(), len, "{name}");
+        assert_same_in(&rt, &field.len(), &len, &name);
         for i in 0..field.len() {
-            assert_eq!(rt;
-                field[i] as usize,
-                (at % 251 + i % 251) % 251,
-                "{name} at {i}"
+            assert_same_in(
+                &rt,
+                &(field[i] as usize),
+                &((at % 251 + i % 251) % 251),
+                &(name, i),
             );
         }
     }
@@ -57,7 +58,7 @@ fn reads_each_gsi_field_at_its_place(rt: HostRuntime) {
         ("TND", gsi.tnd(), 272),
         ("DSN", gsi.dsn(), 273),
     ] {
-        assert_eq!(rt; field as usize, at % 251, "{name}");
+        assert_same_in(&rt, &(field as usize), &(at % 251), &name);
     }
     assert!(rt; gsi.bytes().as_slice() == bytes.as_slice());
 }
@@ -79,11 +80,12 @@ fn reads_each_tti_field_at_its_place(rt: HostRuntime) {
     }
     let tti = Tti::read(&bytes);
     // SGN, SN low byte first, EBN, CS, VP, JC, CF
-    assert_eq!(rt;
-        (tti.sgn(), tti.sn(), tti.ebn(), tti.cs()),
-        (0, 0x0201, 3, 4)
+    assert_same(
+        &rt,
+        &(tti.sgn(), tti.sn(), tti.ebn(), tti.cs()),
+        &(0, 0x0201, 3, 4),
     );
-    assert_eq!(rt; (tti.vp(), tti.jc(), tti.cf()), (13, 14, 15));
+    assert_same(&rt, &(tti.vp(), tti.jc(), tti.cf()), &(13, 14, 15));
     assert!(rt; tti.tci() == [5, 6, 7, 8] && tti.tco() == [9, 10, 11, 12]);
     assert!(rt; tti.tf().len() == 112 && tti.tf()[0] == 16);
     assert!(rt; tti.write().as_slice() == bytes.as_slice());
@@ -101,10 +103,11 @@ fn counts_frames_of_the_day(rt: HostRuntime) {
         (0, 0, 60, 0, None),
     ] {
         let time = TimeCode::new(hours, minutes, seconds, frames);
-        assert_eq!(rt;
-            time.map(|t| t.frame()),
-            want,
-            "{hours}:{minutes}:{seconds}:{frames}"
+        assert_same_in(
+            &rt,
+            &time.map(|t| t.frame()),
+            &want,
+            &(hours, minutes, seconds, frames),
         );
     }
     assert!(rt; TimeCode::of_frame(2_159_999).to_bytes() == [23, 59, 59, 24]);
@@ -128,7 +131,7 @@ fn takes_what_a_subtitle_can_be(rt: HostRuntime) {
         let tco = TimeCode::of_frame(tco);
         let (text, _) = text.split_at(len);
         let made = Subtitle::new(1, 2, tci, tco, vp, jc, text);
-        assert_eq!(rt; made.is_some(), want, "row {vp} of {len} bytes");
+        assert_same_in(&rt, &made.is_some(), &want, &(vp, len));
     }
     let unused = Subtitle::new(
         1,
@@ -152,26 +155,28 @@ fn gives_the_fields_of_the_first_block_and_the_text_of_all(rt: HostRuntime) {
         .next(&mut source)
         .expect(&rt, "it is read")
         .expect(&rt, "it is read");
-    assert_eq!(rt;
-        (first.sgn(), first.sn(), first.vp(), first.jc()),
-        (7, 0x0105, 20, 2)
+    assert_same(
+        &rt,
+        &(first.sgn(), first.sn(), first.vp(), first.jc()),
+        &(7, 0x0105, 20, 2),
     );
-    assert_eq!(rt; (first.tci().frame(), first.tco().frame()), (25, 50));
+    assert_same(&rt, &(first.tci().frame(), first.tco().frame()), &(25, 50));
     let text = first.text();
     assert!(rt; text.len() == 224);
     let (a, b) = text.split_at(112);
     assert!(rt; a == [b'A'; 112].as_slice() && b == [b'B'; 112].as_slice());
-    assert_eq!(rt; reader.block(), 4);
+    assert_same(&rt, &reader.block(), &4);
     let second = reader
         .next(&mut source)
         .expect(&rt, "it is read")
         .expect(&rt, "it is read");
-    assert_eq!(rt;
-        (second.sgn(), second.sn(), second.vp(), second.jc()),
-        (7, 0x0106, 1, 0)
+    assert_same(
+        &rt,
+        &(second.sgn(), second.sn(), second.vp(), second.jc()),
+        &(7, 0x0106, 1, 0),
     );
     assert!(rt; second.text() == b"Hi".as_slice());
-    assert_eq!(rt; reader.block(), 5);
+    assert_same(&rt, &reader.block(), &5);
     assert!(rt; reader.next(&mut source).expect(&rt, "it is read").is_none());
     assert!(rt; reader.next(&mut source).expect(&rt, "it is read").is_none());
     assert!(rt; Tti::read(&block(&ALONE, b"Hi")).sn() == second.sn());
@@ -183,22 +188,24 @@ fn reads_each_subtitle_into_one_that_is_kept(rt: HostRuntime) {
     let mut source = MemSource::new(&file);
     let mut reader = StlReader::open(&mut source).expect(&rt, "it is read");
     let mut subtitle = Subtitle::empty();
-    assert_eq!(rt;
-        (
+    assert_same(
+        &rt,
+        &(
             subtitle.tci().frame(),
             subtitle.tco().frame(),
-            subtitle.vp()
+            subtitle.vp(),
         ),
-        (0, 1, 1)
+        &(0, 1, 1),
     );
     assert!(rt;
         reader
             .next_into(&mut source, &mut subtitle)
             .expect(&rt, "it is read")
     );
-    assert_eq!(rt;
-        (subtitle.sn(), subtitle.text().len(), reader.block()),
-        (0x0105, 224, 4)
+    assert_same(
+        &rt,
+        &(subtitle.sn(), subtitle.text().len(), reader.block()),
+        &(0x0105, 224, 4),
     );
     assert!(rt;
         reader

@@ -3,7 +3,7 @@
 //! `normal`.
 
 use super::files::{ALONE, FIRST, LAST, a_file, put};
-use fixtures::{block, gsi};
+use fixtures::{assert_same, block, gsi};
 use stl_file::{StlReader, normal, write_subtitle};
 use sub_io::{MemSink, MemSource};
 
@@ -23,11 +23,11 @@ fn writes_the_normal_form_and_that_again(rt: HostRuntime) {
     let want = wanted();
     let mut room = [0; 2000];
     let mut sink = MemSink::new(&mut room);
-    assert_eq!(rt; normal(&a_file(), &mut sink), Ok(2));
+    assert_same(&rt, &normal(&a_file(), &mut sink), &Ok(2));
     assert!(rt; sink.written() == want.as_slice());
     let mut again = [0; 2000];
     let mut second = MemSink::new(&mut again);
-    assert_eq!(rt; normal(&want, &mut second), Ok(2));
+    assert_same(&rt, &normal(&want, &mut second), &Ok(2));
     assert!(rt; second.written() == want.as_slice());
 }
 

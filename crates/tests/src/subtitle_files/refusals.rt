@@ -1,7 +1,7 @@
 //! Every refusal at its block.
 
 use super::files::{FIRST, LAST, a_file, put, read_all, set};
-use fixtures::{block, gsi};
+use fixtures::{assert_same, assert_same_in, block, gsi};
 use stl_file::StlFault;
 use sub_io::MemSource;
 
@@ -17,21 +17,23 @@ fn refuses_a_gsi_block(rt: HostRuntime) {
     ] {
         let mut file = a_file();
         set(&mut file, at, byte);
-        assert_eq!(rt;
-            read_all(&mut MemSource::new(&file)),
-            (0, Some(want), 0),
-            "byte {at}"
+        assert_same_in(
+            &rt,
+            &read_all(&mut MemSource::new(&file)),
+            &(0, Some(want), 0),
+            &at,
         );
     }
     let mut file = a_file();
     put(&mut file, 3, b"STL30.01".as_slice());
-    assert_eq!(rt;
-        read_all(&mut MemSource::new(&file)),
-        (0, Some(StlFault::Rate), 0)
+    assert_same(
+        &rt,
+        &read_all(&mut MemSource::new(&file)),
+        &(0, Some(StlFault::Rate), 0),
     );
     let mut level_2 = a_file();
     level_2[11] = b'2';
-    assert_eq!(rt; read_all(&mut MemSource::new(&level_2)), (2, None, 5));
+    assert_same(&rt, &read_all(&mut MemSource::new(&level_2)), &(2, None, 5));
 }
 
 #[test]
@@ -53,17 +55,19 @@ fn refuses_a_first_block_of_the_first_subtitle_and_of_a_later_one(rt: HostRuntim
     ] {
         let mut file = a_file();
         set(&mut file, 1152 + at as usize, byte);
-        assert_eq!(rt;
-            read_all(&mut MemSource::new(&file)),
-            (0, Some(want), 2),
-            "byte {at}"
+        assert_same_in(
+            &rt,
+            &read_all(&mut MemSource::new(&file)),
+            &(0, Some(want), 2),
+            &at,
         );
         let mut later = a_file();
         set(&mut later, 1536 + at as usize, byte);
-        assert_eq!(rt;
-            read_all(&mut MemSource::new(&later)),
-            (1, Some(want), 5),
-            "byte {at}"
+        assert_same_in(
+            &rt,
+            &read_all(&mut MemSource::new(&later)),
+            &(1, Some(want), 5),
+            &at,
         );
     }
 }
@@ -79,20 +83,22 @@ fn refuses_a_further_block(rt: HostRuntime) {
     ] {
         let mut file = a_file();
         set(&mut file, 1408 + at, byte);
-        assert_eq!(rt;
-            read_all(&mut MemSource::new(&file)),
-            (0, Some(want), 4),
-            "byte {at}"
+        assert_same_in(
+            &rt,
+            &read_all(&mut MemSource::new(&file)),
+            &(0, Some(want), 4),
+            &at,
         );
     }
     // CS, times, VP and JC of a further block are not looked at.
     for at in [4, 5, 9, 13, 14] {
         let mut file = a_file();
         set(&mut file, 1408 + at, 99);
-        assert_eq!(rt;
-            read_all(&mut MemSource::new(&file)),
-            (2, None, 5),
-            "byte {at}"
+        assert_same_in(
+            &rt,
+            &read_all(&mut MemSource::new(&file)),
+            &(2, None, 5),
+            &at,
         );
     }
 }
@@ -122,14 +128,15 @@ fn tells_the_first_fault_of_a_block(rt: HostRuntime) {
         (8, 0, StlFault::Time),
         (11, 2, StlFault::EmptyTime),
     ] {
-        assert_eq!(rt;
-            read_all(&mut MemSource::new(&file)),
-            (0, Some(want), 2),
-            "byte {at}"
+        assert_same_in(
+            &rt,
+            &read_all(&mut MemSource::new(&file)),
+            &(0, Some(want), 2),
+            &at,
         );
         set(&mut file, 1152 + at, byte);
     }
-    assert_eq!(rt; read_all(&mut MemSource::new(&file)), (2, None, 5));
+    assert_same(&rt, &read_all(&mut MemSource::new(&file)), &(2, None, 5));
 }
 
 #[test]
@@ -155,7 +162,7 @@ fn reads_each_cut_of_a_file(rt: HostRuntime) {
         } else {
             (done, None, whole as u32)
         };
-        assert_eq!(rt; read_all(&mut MemSource::new(front)), want, "{len} bytes");
+        assert_same_in(&rt, &read_all(&mut MemSource::new(front)), &want, &len);
     }
 }
 
@@ -168,8 +175,8 @@ fn takes_nine_blocks_and_no_tenth(rt: HostRuntime) {
         put(&mut file, 1024 + 128 * i, &block(head, &[b'A'; 112]));
     }
     let (nine, _) = file.split_at(1024 + 9 * 128);
-    assert_eq!(rt; read_all(&mut MemSource::new(nine)), (1, None, 9));
+    assert_same(&rt, &read_all(&mut MemSource::new(nine)), &(1, None, 9));
     file[1024 + 8 * 128 + 3] = 0xef;
     let ten = read_all(&mut MemSource::new(&file));
-    assert_eq!(rt; ten, (0, Some(StlFault::TooLong), 10));
+    assert_same(&rt, &ten, &(0, Some(StlFault::TooLong), 10));
 }
