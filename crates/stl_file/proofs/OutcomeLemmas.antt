@@ -9,7 +9,7 @@ use Rattle.stl_file.specs.declared.fault.StlFault.{StlFault}
 use Rattle.stl_file.specs.declared.fault.StlFault.TheVariants as fault
 use Rattle.stl_file.specs.Tti.{most_blocks}
 use Rattle.stl_file.specs.Reader.{NamesFrom}
-use Rattle.stl_file.specs.Reading.{Begun, Step, More, Give, Outcome, gives, outcome_after}
+use Rattle.stl_file.specs.Reading.{Begun, BlockStep, More, Give, Outcome, gives, outcome_after}
 use Rattle.stl_file.specs.Reading.{outcome_at, step_at, ends, fails}
 
 -- ---- the function by cases
@@ -59,7 +59,8 @@ outcome_step room None (x ∷ b) le = rw (le-ltb (length (x ∷ b)) 128 le) refl
 outcome_step room (Some g) (x ∷ b) le = rw (le-ltb (length (x ∷ b)) 128 le) refl
 
 -- a block in front of other bytes
-pub outcome_block : (room : ℕ) (begun : Option Begun) (b rest : List ℕ) (r : Result Step StlFault)
+pub outcome_block : (room : ℕ) (begun : Option Begun) (b rest : List ℕ)
+    (r : Result BlockStep StlFault)
     → length b ≡ 128
     → step_at begun b ≡ r
     → outcome_at (suc room) begun (b ++ rest)
@@ -86,7 +87,7 @@ names-before block (gives s at o) h =
     let le : block + 1 ≤ at = h.0 in (omega arith, names-before block o h.1)
 
 -- what comes of a block, where all after it names no block before
-names-after : (room block : ℕ) (next : Option Begun → Outcome) (r : Result Step StlFault)
+names-after : (room block : ℕ) (next : Option Begun → Outcome) (r : Result BlockStep StlFault)
     → block ≤ most_blocks - room
     → ((begun : Option Begun) → NamesFrom block (next begun))
     → NamesFrom block (outcome_after room next r)
@@ -135,7 +136,7 @@ names_from (suc room) block begun (x ∷ b) e =
 -- ---- the bytes that decide
 
 -- what comes of a block goes by what the bytes after it give
-after-same : (room : ℕ) (f g : Option Begun → Outcome) (r : Result Step StlFault)
+after-same : (room : ℕ) (f g : Option Begun → Outcome) (r : Result BlockStep StlFault)
     → ((next : Option Begun) → f next ≡ g next)
     → outcome_after room f r ≡ outcome_after room g r
 after-same room f g (Err e) same = refl

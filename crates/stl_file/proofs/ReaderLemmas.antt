@@ -20,7 +20,7 @@ use Rattle.stl_file.specs.Reader.{block_after, Refuses, FailsReading, ReaderValu
 use Rattle.stl_file.specs.Reader.{Answers, outcome_in, outcome_with, block_by, progress_after}
 use Rattle.stl_file.specs.Subtitle.{SubtitleValue}
 use Rattle.stl_file.specs.NormalForm.{subtitles_of}
-use Rattle.stl_file.specs.Reading.{Begun, Step, More, Give, gives, outcome_after, outcome_at}
+use Rattle.stl_file.specs.Reading.{Begun, BlockStep, More, Give, gives, outcome_after, outcome_at}
 use Rattle.stl_file.specs.Reading.{step_at, fails}
 use Rattle.stl_file.specs.Fault.{is_cut, is_of_block}
 use Rattle.stl_file.proofs.SubtitleBlocksLemmas.{blocks_push, filter_push, joined_push, ends_push}
@@ -339,7 +339,7 @@ module _ (from : ℕ) (old mid new : Option (List ℕ)) (n block : ℕ) (begun :
       whole = take_all n buffer (omega arith)
 
       -- what a whole block gives
-      one_block : (r : Result Step StlFault) (more : List ℕ)
+      one_block : (r : Result BlockStep StlFault) (more : List ℕ)
           → step_at begun buffer ≡ r
           → outcome_at (most_blocks - block) begun (take n buffer ++ more)
           ≡ outcome_after (most_blocks - (block + 1))

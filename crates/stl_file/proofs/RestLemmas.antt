@@ -13,7 +13,7 @@ use Rattle.stl_file.specs.SubtitleBlocks.{IsBlock, joined, AreLinked, AreBlocksO
 use Rattle.stl_file.specs.SubtitleBlocks.{IsRest}
 use Rattle.stl_file.specs.Subtitle.{SubtitleValue}
 use Rattle.stl_file.specs.NormalForm.{Judged, subtitles_of, cons_all}
-use Rattle.stl_file.specs.Reading.{Begun, Step, More, Give, outcome_after, outcome_at, step_at}
+use Rattle.stl_file.specs.Reading.{Begun, BlockStep, More, Give, outcome_after, outcome_at, step_at}
 use Rattle.stl_file.specs.Reading.{closed, kept_at}
 use Rattle.stl_file.proofs.SubtitleBlocksLemmas.{chain_head, cons_is, filter_passed, filter_kept}
 use Rattle.stl_file.proofs.StepLemmas.{first_complete, step_kept, step_passed, Represents}
@@ -291,7 +291,7 @@ long_or_short n = cases_lt n 128
 
 -- one block that was read, and what follows
 mutual_step : (room : ℕ) (begun : Option Begun) (before : List (List ℕ)) (b : List ℕ)
-    (ss : List SubtitleValue) (r : Result Step StlFault)
+    (ss : List SubtitleValue) (r : Result BlockStep StlFault)
     → 128 ≤ length b
     → Represents begun before
     → step_at begun (take 128 b) ≡ r

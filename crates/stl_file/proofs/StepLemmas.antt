@@ -16,7 +16,7 @@ use Rattle.stl_file.specs.declared.fault.StlFault.TheVariants as fault
 use Rattle.stl_file.specs.Tti.{is_kept, sgn, sn, ebn, cs, vp, jc, cf, text_of, is_passed}
 use Rattle.stl_file.specs.SubtitleBlocks.{IsTimeAt, BelongsTo, AreLinked, Begins, AreBlocksOf}
 use Rattle.stl_file.specs.Subtitle.{SubtitleValue}
-use Rattle.stl_file.specs.Reading.{Begun, Step, More, Give, step_at, closed, time_at, first_at}
+use Rattle.stl_file.specs.Reading.{Begun, BlockStep, More, Give, step_at, closed, time_at, first_at}
 use Rattle.stl_file.specs.Reading.{kept_at}
 use Rattle.stl_file.proofs.TimeCodeLemmas.{through, time_sound, time_complete}
 use Rattle.stl_file.proofs.SubtitleBlocksLemmas.{kept_by_both, passed_by_ebn, passed_by_comment}
@@ -122,7 +122,7 @@ Represents None kept = kept ≡ []
 Represents (Some o) kept = IsOpen o.subtitle kept × (length kept ≡ o.blocks) × (o.blocks ≤ 9)
 
 -- what a step makes of the kept blocks
-abbrev pub Reaches : List (List ℕ) → Step → Type 0
+abbrev pub Reaches : List (List ℕ) → BlockStep → Type 0
 Reaches kept (More begun) = Represents begun kept
 Reaches kept (Give s) = AreBlocksOf s kept
 
@@ -194,7 +194,7 @@ reaches s kept b first others count blocks begins each own text is few (inr last
     })
 
 -- a kept block that was read belongs to the subtitle
-kept_sound : (begun : Option Begun) (kept : List (List ℕ)) (b : List ℕ) (r : Step)
+kept_sound : (begun : Option Begun) (kept : List (List ℕ)) (b : List ℕ) (r : BlockStep)
     → length b ≡ 128
     → cf b ≡ 0
     → (ebn b < 240) ⊎ (ebn b ≡ 255)
@@ -207,14 +207,14 @@ kept_sound None kept b r size none e h k =
     let f = first_sound b p.0 p.1 in
     let own : BelongsTo p.0.sgn p.0.sn b =
     record { size = size; is_subtitle = none; same_sgn = f.0.sgn_is; same_sn = f.0.sn_is } in
-    subst (λ (x : Step). Reaches (kept ++ b ∷ []) x) (Ok-injective _ r p.2)
+    subst (λ (x : BlockStep). Reaches (kept ++ b ∷ []) x) (Ok-injective _ r p.2)
     (subst (λ (x : List (List ℕ)). Reaches (x ++ b ∷ []) (closed (ebn b) p.0 1)) (sym h)
     (reaches p.0 [] b b [] 1 refl f.0 tt own (f.1 ∙ sym (append-nil (text_of b))) refl
     (omega arith) e))
 kept_sound (Some o) kept b r size none e h k =
-    let to : Step = closed (ebn b) (record o.subtitle { text = o.subtitle.text ++ text_of b })
+    let to : BlockStep = closed (ebn b) (record o.subtitle { text = o.subtitle.text ++ text_of b })
     (o.blocks + 1) in
-    let rest : Result Step StlFault = cond (eqb o.blocks 9) (Err fault.TooLong) (Ok to) in
+    let rest : Result BlockStep StlFault = cond (eqb o.blocks 9) (Err fault.TooLong) (Ok to) in
     let g = test_held (eqb (sgn b) o.subtitle.sgn && eqb (sn b) o.subtitle.sn) fault.Sequence rest r
     k in
     let m = test_failed (eqb o.blocks 9) fault.TooLong (Ok to) r g.1 in
@@ -230,7 +230,7 @@ kept_sound (Some o) kept b r size none e h k =
     } in
     let text : List ℕ = o.subtitle.text ++ text_of b in
     let i = h.0 in
-    subst (λ (x : Step). Reaches (kept ++ b ∷ []) x) (Ok-injective to r m.1)
+    subst (λ (x : BlockStep). Reaches (kept ++ b ∷ []) x) (Ok-injective to r m.1)
     (reaches (record o.subtitle { text = text }) kept b i.first (i.others ++ b ∷ []) (o.blocks + 1)
     (ap (λ (x : List (List ℕ)). x ++ b ∷ []) i.blocks)
     (heads_keep o.subtitle i.first text i.begins) i.each own
@@ -238,22 +238,22 @@ kept_sound (Some o) kept b r size none e h k =
     (ap (λ (n : ℕ). n + 1) h.1) (omega arith) e)
 
 -- what one block does to the blocks that are kept
-pub record Steps (kept : List (List ℕ)) (b : List ℕ) (begun : Option Begun) (r : Step) : Type 0
+pub record Steps (kept : List (List ℕ)) (b : List ℕ) (begun : Option Begun) (r : BlockStep) : Type 0
   where
     pub reaches : Reaches (kept ++ cond (is_kept b) (b ∷ []) []) r
     pub gives : (s : SubtitleValue) → r ≡ Give s → is_kept b ≡ true
 
 -- a step that passes over a block
-passed_steps : (kept : List (List ℕ)) (b : List ℕ) (begun : Option Begun) (r : Step)
+passed_steps : (kept : List (List ℕ)) (b : List ℕ) (begun : Option Begun) (r : BlockStep)
     → is_passed b ≡ true
     → Represents begun kept
     → More begun ≡ r
     → Steps kept b begun r
-passed_steps kept b begun r p h e = subst (λ (x : Step). Steps kept b begun x) e
+passed_steps kept b begun r p h e = subst (λ (x : BlockStep). Steps kept b begun x) e
     (record { reaches = rw (p, append-nil kept) h; gives = λ s no. absurd cc })
 
 -- a step that keeps its block
-kept_steps : (kept : List (List ℕ)) (b : List ℕ) (begun : Option Begun) (r : Step)
+kept_steps : (kept : List (List ℕ)) (b : List ℕ) (begun : Option Begun) (r : BlockStep)
     → is_passed b ≡ false
     → Reaches (kept ++ b ∷ []) r
     → Steps kept b begun r
@@ -281,16 +281,16 @@ chose true x y z e = inl (refl, e)
 chose false x y z e = inr (refl, e)
 
 -- a block that was read without a fault goes with the kept ones, or is passed over
-pub step_sound : (begun : Option Begun) (kept : List (List ℕ)) (b : List ℕ) (r : Step)
+pub step_sound : (begun : Option Begun) (kept : List (List ℕ)) (b : List ℕ) (r : BlockStep)
     → length b ≡ 128
     → Represents begun kept
     → step_at begun b ≡ Ok r
     → Steps kept b begun r
 unfolding step_at
 step_sound begun kept b r size h e =
-    let r3 : Result Step StlFault = cond (eqb (cf b) 1) (Ok (More begun)) (kept_at begun b) in
-    let r2 : Result Step StlFault = cond (ltb 1 (cf b)) (Err fault.CommentFlag) r3 in
-    let r1 : Result Step StlFault =
+    let r3 : Result BlockStep StlFault = cond (eqb (cf b) 1) (Ok (More begun)) (kept_at begun b) in
+    let r2 : Result BlockStep StlFault = cond (ltb 1 (cf b)) (Err fault.CommentFlag) r3 in
+    let r1 : Result BlockStep StlFault =
     cond (leb 240 (ebn b) && not (eqb (ebn b) 255)) (Err fault.Extension) r2 in
     elim (chose (eqb (ebn b) 254) (Ok (More begun)) r1 (Ok r) e) [
       | inl user ↦ passed_steps kept b begun r (passed_by_ebn b (eqb-true _ _ user.0)) h

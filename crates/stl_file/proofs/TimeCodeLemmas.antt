@@ -46,7 +46,8 @@ through true d x y e = (refl, cc)
 through false d x y e = absurd cc
 
 -- a time code that was read stands there
-pub time_sound : (b : List ℕ) (place frame : ℕ) → time_at b place ≡ Ok frame → IsTimeAt b place frame
+pub time_sound : (b : List ℕ) (place frame : ℕ) → time_at b place ≡ Ok frame
+    → IsTimeAt b place frame
 unfolding time_at
 time_sound b place frame e =
     let t =
@@ -57,7 +58,8 @@ time_sound b place frame e =
     record { in_range = t.0; is = sym t.1 }
 
 -- a time code that stands there is read
-pub time_complete : (b : List ℕ) (place frame : ℕ) → IsTimeAt b place frame → time_at b place ≡ Ok frame
+pub time_complete : (b : List ℕ) (place frame : ℕ) → IsTimeAt b place frame
+    → time_at b place ≡ Ok frame
 unfolding time_at
 time_complete b place frame h = rw h.in_range (ap (λ (n : ℕ). Ok n) (sym h.is))
 

@@ -25,9 +25,9 @@ pub record Begun : Type 0 where
 
 -- what a block brings: the blocks go on, within a subtitle or between two, or the block was the
 -- last of this subtitle
-pub data Step : Type 0 where
-  More : Option Begun → Step
-  Give : SubtitleValue → Step
+pub data BlockStep : Type 0 where
+  More : Option Begun → BlockStep
+  Give : SubtitleValue → BlockStep
 
 -- the frame of the time code at a place
 unfoldable pub time_at : List ℕ → ℕ → Result ℕ StlFault
@@ -62,12 +62,12 @@ first_at b =
           else Err fault.EmptyTime)
 
 -- EBN FF ends a subtitle, any other that is kept goes on
-abbrev pub closed : ℕ → SubtitleValue → ℕ → Step
+abbrev pub closed : ℕ → SubtitleValue → ℕ → BlockStep
 closed n s blocks =
     if n == last_block then Give s else More (Some (record { subtitle = s; blocks = blocks }))
 
 -- a block of a subtitle: its first, or a further one of the subtitle that was begun
-unfoldable pub kept_at : Option Begun → List ℕ → Result Step StlFault
+unfoldable pub kept_at : Option Begun → List ℕ → Result BlockStep StlFault
 kept_at None b = do
   s ← first_at b
   Ok (closed (ebn b) s 1)
@@ -84,13 +84,13 @@ begun_in s count = if count == 0 then None else Some (record { subtitle = s; blo
 
 -- What a block brings, by the subtitle and the count that it leaves and by whether the subtitle is
 -- whole.
-abbrev pub step_in : SubtitleValue → ℕ → Result Bool StlFault → Result Step StlFault
+abbrev pub step_in : SubtitleValue → ℕ → Result Bool StlFault → Result BlockStep StlFault
 step_in s count (Err f) = Err f
 step_in s count (Ok true) = Ok (Give s)
 step_in s count (Ok false) = Ok (More (begun_in s count))
 
 -- any block: user data and comments leave what was begun as it is
-unfoldable pub step_at : Option Begun → List ℕ → Result Step StlFault
+unfoldable pub step_at : Option Begun → List ℕ → Result BlockStep StlFault
 step_at begun b =
     if ebn b == user_data then Ok (More begun)
     else if nat_le first_reserved (ebn b) && not (ebn b == last_block) then Err fault.Extension
@@ -108,7 +108,7 @@ pub data Outcome : Type 0 where
   gives : SubtitleValue → ℕ → Outcome → Outcome
 
 -- what comes of a block after which `room` blocks may still follow
-abbrev pub outcome_after : ℕ → (Option Begun → Outcome) → Result Step StlFault → Outcome
+abbrev pub outcome_after : ℕ → (Option Begun → Outcome) → Result BlockStep StlFault → Outcome
 outcome_after room next (Err f) = fails f (most_blocks - room)
 outcome_after room next (Ok (Give s)) = gives s (most_blocks - room) (next None)
 outcome_after room next (Ok (More begun)) = next begun
@@ -134,6 +134,6 @@ BegunFits (Some begun) =
     (length begun.subtitle.text ≤ 112 * begun.blocks) × (begun.blocks ≤ most_of_subtitle)
 
 -- what was begun, if the step leaves something begun, keeps that after a block too
-abbrev pub StepFits : Step → Type 0
+abbrev pub StepFits : BlockStep → Type 0
 StepFits (Give s) = Unit {0}
 StepFits (More begun) = BegunFits begun

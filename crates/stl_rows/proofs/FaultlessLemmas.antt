@@ -40,7 +40,8 @@ pub no_cells :
 unfolding line_fault_kinds
 no_cells row under [] l e = refl
 no_cells row under (c ∷ cells) l e =
-    let past = not_when _ PastBottom (empty_parts _ _ (empty_parts _ _ (empty_parts _ _ e).0).0).1 in
+    let past =
+    not_when _ PastBottom (empty_parts _ _ (empty_parts _ _ (empty_parts _ _ e).0).0).1 in
     absurd (true≢false (sym (lt-ltb last_row row l) ∙ past))
 
 -- A line without a fault has at most 40 cells.

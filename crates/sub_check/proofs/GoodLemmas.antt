@@ -53,7 +53,8 @@ pub whole-is : (t : Transmission) → whole t ≡ flat_map (λ (s : SentFrame). 
 whole-is t = ap (flat_map (λ (s : SentFrame). s.packets)) (take_all (length t) t (omega arith))
 
 -- What holds of all packets holds of each packet of the transmission.
-pub each_packet : (P : List ℕ → Type 0) (t : Transmission) → AllByRecursion P (whole t) → EachPacket P t
+pub each_packet : (P : List ℕ → Type 0) (t : Transmission) → AllByRecursion P (whole t)
+    → EachPacket P t
 each_packet P t h =
     (All-from_recursion (λ (s : SentFrame). All P s.packets) t
     (Each-parts P t (subst (AllByRecursion P) (whole-is t) h)))
@@ -251,7 +252,8 @@ module _ (programme : ProgrammeValue) (options : OptionsValue) (t : Transmission
       take-over (packets_before t i) (packets_of_frame t i) n (omega arith)
       ∙ ap (λ x. packets_before t i ++ take x (packets_of_frame t i)) (omega arith) in
       subst (λ xs. IsCleanSpan options.page (span (kind options.page) xs))
-      (ap (take n) (on_air_at t rising_back i l ∙ joined_more t i l) ∙ cut) (h.spans f n (omega arith))
+      (ap (take n) (on_air_at t rising_back i l ∙ joined_more t i l) ∙ cut)
+      (h.spans f n (omega arith))
 
   -- The first frame has a header of the page.
   starts_back : HasHeader (task_of programme options None) t 0

@@ -322,8 +322,8 @@ module _
             → Runs l frames unread w old now (Ok tt)
         ends_at_end v told =
             let at =
-            reads_end l.options.origin n reached.rest frames unread None reached.few reached.left told
-            in
+            reads_end l.options.origin n reached.rest frames unread None reached.few reached.left
+            told in
             let within = reached.within in
             record {
               n = n;
@@ -338,8 +338,8 @@ module _
             → Runs l frames unread w old now (Err (fault.File f))
         ends_unread v f (u, is, ends) =
             let at =
-            reads_end l.options.origin n reached.rest frames unread (Some u) reached.few reached.left
-            ends in
+            reads_end l.options.origin n reached.rest frames unread (Some u) reached.few
+            reached.left ends in
             let within = reached.within in
             let all : n ≡ length frames = omega (arith, at.0) in
             record {

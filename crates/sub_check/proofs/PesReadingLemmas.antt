@@ -189,7 +189,8 @@ begins origin given bytes v frame few is in_day pts =
     let rest = file_at origin (most_packets - (given + 1)) (rest_after bytes) in
     step_after origin given bytes (omega (arith, below))
     ∙ ap (λ r. file_by origin r rest) is
-    ∙ ap (λ o. file_with o (packets_of_units v.units) rest) (frame_found origin v.pts frame in_day pts)
+    ∙ ap (λ o. file_with o (packets_of_units v.units) rest)
+    (frame_found origin v.pts frame in_day pts)
 
 -- A PES packet that is sent as a frame comes before the others.
 pub reads_more :

@@ -1,6 +1,7 @@
 -- What is kept, one frame of the list on, and what is told at its end: `Remembers-moved`,
 -- `names_packet`, `names_missing`, `took`, `names_cell`, `names_gap`, `names_open`, `follows`; and
--- at the frames of the day before it: `gap_names_cell`, `gap_names_gap`, `gap_cells`, `gap_covered`.
+-- at the frames of the day before it: `gap_names_cell`, `gap_names_gap`, `gap_cells`,
+-- `gap_covered`.
 use Rattle.sub_check.specs.PacketRules.{packets_of_units}
 use Rattle.ttx_pes.specs.DataUnit.{UnitValue}
 use Rattle.std.proofs.lemmas.List.{length-map}
@@ -394,7 +395,8 @@ watched_is p options page national complete e f h =
 -- ---- the frames of the day before a frame of the list
 
 module _ (g : Task) (frames : Transmission) (n f : ℕ) (v b : CheckerValue)
-    (moved : b ≡ at_frame f v) (follows : Follows g frames n v) (begun : 0 < n) (later : v.frame < f)
+    (moved : b ≡ at_frame f v) (follows : Follows g frames n v) (begun : 0 < n)
+    (later : v.frame < f)
   where
     -- What is kept there.
     known_there : Remembers g frames n b

@@ -172,5 +172,7 @@ fn refuses_texts_in_german(rt: HostRuntime) {
         assert_same_in(&rt, &fault, &Some(RowFault { kind, at }), &text);
     }
     let german = [0x47, 0x72, 0xC8, 0x75, 0xFB, 0x65];
-    assert_same(&rt, &fault_of(&german, 22, 2, National::English), &Some(RowFault { kind: RowFaultKind::Character, at: 2 }));
+    let kind = RowFaultKind::Character;
+    let refused = Some(RowFault { kind, at: 2 });
+    assert_same(&rt, &fault_of(&german, 22, 2, National::English), &refused);
 }
