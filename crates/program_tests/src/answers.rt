@@ -1,7 +1,8 @@
 //! What the program answers to words, over devices in memory.
 ghost use Rattle.sub_io.specs.Device.{CanFail};
 
-use fixtures::{Watched, assert_same_in};
+use crate::asserting::assert_same_in;
+use fixtures::Watched;
 use std::alloc::Global;
 use std::process::Abort;
 use std::test::Fail;

@@ -1,8 +1,9 @@
 //! `check`: verdicts on transmissions of `Hi` with one thing changed.
 use crate::answers::{CHECK, assert_fills, assert_tells};
+use crate::asserting::assert_same_in;
 use fixtures::{
-    CLOSING, FIRST, HEADER, ROW, SECOND, TEN, assert_same_in, file_of_hi, gsi, in_serial_mode,
-    packet_of, push_pes, schedule_of_hi,
+    CLOSING, FIRST, HEADER, ROW, SECOND, TEN, file_of_hi, gsi, in_serial_mode, packet_of, push_pes,
+    schedule_of_hi,
 };
 use std::alloc::Global;
 use std::process::Abort;

@@ -1,7 +1,8 @@
 //! Sources that fail at one call, for each command that reads: the line names the block or the PES
 //! packet of the byte that was asked for, and a fault that was found before is told instead.
 use crate::answers::{SCHEDULE, answer_words};
-use fixtures::{FIRST, SECOND, assert_same_in, file_of_three};
+use crate::asserting::assert_same_in;
+use fixtures::{FIRST, SECOND, file_of_three};
 use std::alloc::Global;
 use std::process::Abort;
 use sub_answer::Status;

@@ -1,8 +1,7 @@
 //! `check` where a source fails, gives a byte at a time, or never ends.
 use crate::answers::{CHECK, assert_prints};
-use fixtures::{
-    Counting, Drip, Endless, FIRST, assert_same, assert_same_in, file_of_hi, gsi, schedule_of_hi,
-};
+use crate::asserting::{assert_same, assert_same_in};
+use fixtures::{Counting, Drip, Endless, FIRST, file_of_hi, gsi, schedule_of_hi};
 use std::alloc::Global;
 use std::process::Abort;
 use sub_io::{FailAt, MemSource, Source};

@@ -8,6 +8,8 @@
 #[cfg(test)]
 mod answers;
 #[cfg(test)]
+mod asserting;
+#[cfg(test)]
 mod check;
 #[cfg(test)]
 mod complete;

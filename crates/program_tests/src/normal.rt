@@ -1,6 +1,7 @@
 //! `normal`: what is printed of subtitle files, whole and refused.
 use crate::answers::{answer_words, assert_prints};
-use fixtures::{Drip, Endless, HEAD, assert_same_in, block, file_of_two, gsi};
+use crate::asserting::assert_same_in;
+use fixtures::{Drip, Endless, HEAD, block, file_of_two, gsi};
 use sub_answer::Status;
 use sub_io::{FailAt, MemSink, MemSource, Sink};
 

@@ -1,7 +1,8 @@
 //! The requests that words are read as.
 use crate::answers::SCHEDULE;
+use crate::asserting::assert_same;
 use crate::normal::NORMAL;
-use fixtures::{assert_same, options};
+use fixtures::options;
 use std::alloc::Global;
 use std::process::Abort;
 use std::test::Fail;

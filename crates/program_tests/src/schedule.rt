@@ -1,9 +1,7 @@
 //! `schedule`: what is written and printed of subtitle files, and that `check` accepts it.
 use crate::answers::{CHECK, SCHEDULE, assert_tells, schedule_of};
-use fixtures::{
-    HEAD, HI, TEN, assert_same, assert_same_in, block, file_of, file_of_hi, file_of_two, gsi, head,
-    schedule_of_hi,
-};
+use crate::asserting::{assert_same, assert_same_in};
+use fixtures::{HEAD, HI, TEN, block, file_of, file_of_hi, file_of_two, gsi, head, schedule_of_hi};
 use std::alloc::Global;
 use std::process::Abort;
 use std::test::Fail;

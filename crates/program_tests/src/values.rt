@@ -1,5 +1,5 @@
 //! Numbers, flips and lists of both, times and receivers, as people write them.
-use fixtures::{assert_same, assert_same_in};
+use crate::asserting::{assert_same, assert_same_in};
 use std::alloc::AllocError;
 use sub_check::ReceiverKind;
 use sub_words::{parse_flips, parse_number, parse_numbers, parse_receiver, parse_time};

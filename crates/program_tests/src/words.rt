@@ -1,6 +1,6 @@
 //! Words that are refused before anything is read.
 use crate::answers::{assert_fills, assert_tells};
-use fixtures::assert_same_in;
+use crate::asserting::assert_same_in;
 use std::alloc::Global;
 use std::process::Abort;
 use sub_answer::Request;

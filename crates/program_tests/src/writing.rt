@@ -3,8 +3,9 @@ ghost use Rattle.std.specs.Prelude.{◌<◌};
 ghost use Rattle.sub_io.specs.Device.{CanFail};
 
 use crate::answers::{SCHEDULE, answer_words, assert_fills};
+use crate::asserting::{assert_same, assert_same_in};
 use crate::normal::{NORMAL, commented, normal_form};
-use fixtures::{Watched, assert_same, assert_same_in, file_of_hi, schedule_of_hi};
+use fixtures::{Watched, file_of_hi, schedule_of_hi};
 use std::alloc::Global;
 use std::process::Abort;
 use sub_answer::Status;

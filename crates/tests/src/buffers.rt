@@ -3,7 +3,7 @@ ghost use Rattle.std.specs.Prelude.{◌≡◌, ◌+◌, ◌<◌, ◌≤◌, IfOk
 ghost use Rattle.std.specs.Io.{ReadsAtMost};
 ghost use Rattle.sub_io.specs.Device.{CountsFailure, Pulls, Pushes};
 
-use fixtures::assert_same;
+use crate::asserting::assert_same;
 use std::io::{self, Read, Write};
 use sub_io::{
     BufferedSink, BufferedSource, FailAt, Failed, Flush, FromRead, IntoWrite, MemSink, MemSource,

@@ -1,6 +1,7 @@
 //! The checker: what it accepts, and what it says of files without a PES packet. All other verdicts
 //! are tested by the lines that the program prints.
-use fixtures::{assert_same, every, file_of_hi, gsi, schedule_of_hi};
+use crate::asserting::assert_same;
+use fixtures::{every, file_of_hi, gsi, schedule_of_hi};
 use std::test::Fail;
 use stl_rows::{National, load};
 use sub_check::{Accepted, CheckFault, check, check_files};

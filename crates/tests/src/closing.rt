@@ -1,5 +1,5 @@
 //! Sinks that are closed before their value ends.
-use fixtures::assert_same;
+use crate::asserting::assert_same;
 use std::io::Cursor;
 use sub_io::{BufferedSink, Close, Failed, Flush, IntoFile, Sink, put_all};
 

@@ -1,5 +1,6 @@
 //! PES packets that are sent again: what a reader that compares them answers.
-use fixtures::{Drip, assert_same};
+use crate::asserting::assert_same;
+use fixtures::Drip;
 use std::process::Abort;
 use std::test::*;
 use sub_io::{FailAt, MemSink, MemSource};

@@ -1,5 +1,5 @@
 //! Devices in memory, over std, and failing ones.
-use fixtures::{assert_same, assert_same_in};
+use crate::asserting::{assert_same, assert_same_in};
 use std::io::{self, Cursor, Read, Write};
 use sub_io::{
     FailAt, Failed, Flush, FromRead, IntoWrite, MemSink, MemSource, Sink, Source, fill, put_all,

@@ -1,5 +1,5 @@
 //! Texts and the rows that they draw, under both national options.
-use fixtures::{assert_same, assert_same_in};
+use crate::asserting::{assert_same, assert_same_in};
 use stl_file::{Subtitle, TimeCode};
 use stl_rows::{National, RowFault, RowFaultKind, draw};
 use ttx_page::Page;

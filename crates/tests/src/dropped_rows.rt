@@ -1,8 +1,9 @@
 //! A receiver that drops rows, at each single wrong bit of a subtitle's first sending.
 ghost use Rattle.std.specs.Prelude.{◌<◌};
 
+use crate::asserting::{assert_same, assert_same_in};
 use crate::receivers::old_page;
-use fixtures::{CLOSING, HEADER, ROW, assert_same, assert_same_in};
+use fixtures::{CLOSING, HEADER, ROW};
 use ttx_packet::{Packet, PageId};
 use ttx_page::{DropRow, Page};
 

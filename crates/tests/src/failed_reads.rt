@@ -1,6 +1,7 @@
 //! Sources that fail at one call: what is told of it, and that a fault that was found before is
 //! told instead.
-use fixtures::{assert_same, assert_same_in, every, file_of_three};
+use crate::asserting::{assert_same, assert_same_in};
+use fixtures::{every, file_of_three};
 use std::alloc::Global;
 use std::test::Fail;
 use stl_file::StlFault;

@@ -1,6 +1,6 @@
 //! The codes of single bytes as a program over libzvbi, the decoder library of most players,
 //! printed them for all 256 bytes.
-use fixtures::assert_same_in;
+use crate::asserting::assert_same_in;
 use ttx_packet::{is_odd, mirror, par, unham};
 
 /// What stands in a table where libzvbi answers that the byte is wrong.

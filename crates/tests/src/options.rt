@@ -1,5 +1,6 @@
 //! Options of a transmission.
-use fixtures::{assert_same, assert_same_in, options};
+use crate::asserting::{assert_same, assert_same_in};
+use fixtures::options;
 use std::test::Fail;
 use sub_plan::{OptionFault, Options};
 use ttx_packet::PageId;

@@ -1,6 +1,7 @@
 //! Codes, packets and page numbers.
+use crate::asserting::{assert_same, assert_same_in};
 use bitflags::Flags;
-use fixtures::{HEADER, assert_same, assert_same_in};
+use fixtures::HEADER;
 use ttx_packet::{
     Control, Header, Packet, PageId, ham, is_odd, is_word, mirror, mirrored, par, unham,
 };

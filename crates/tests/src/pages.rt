@@ -1,7 +1,7 @@
 //! Pages: their cells, and where two differ.
 ghost use Rattle.ttx_page.specs.Page.{IsCell};
 
-use fixtures::{assert_same, assert_same_in};
+use crate::asserting::{assert_same, assert_same_in};
 use ttx_page::{Page, differing_columns};
 
 #[test]

@@ -2,7 +2,8 @@
 //! packet is tested by the lines that the program prints.
 ghost use Rattle.std.specs.Prelude.{◌≡◌, length};
 
-use fixtures::{Drip, FIRST, ROW, Trickle, assert_same, assert_same_in};
+use crate::asserting::{assert_same, assert_same_in};
+use fixtures::{Drip, FIRST, ROW, Trickle};
 use std::test::*;
 use sub_io::{FailAt, MemSink, MemSource, Sink, Source};
 use ttx_packet::Packet;

@@ -1,5 +1,6 @@
 //! Subtitle files and the programmes that they give; files and memory that are refused.
-use fixtures::{HEAD, HI, TEN, assert_same, assert_same_in, block, file_of_two, gsi, head};
+use crate::asserting::{assert_same, assert_same_in};
+use fixtures::{HEAD, HI, TEN, block, file_of_two, gsi, head};
 use linked_list_allocator::LocalHeap;
 use std::test::Fail;
 use stl_file::StlFault;

@@ -1,5 +1,6 @@
 //! What the two receivers make of short lists of packets, by the standard's rules.
-use fixtures::{assert_same, assert_same_in, packet_of};
+use crate::asserting::{assert_same, assert_same_in};
+use fixtures::packet_of;
 use ttx_packet::{Packet, PageId};
 use ttx_page::{Blank, Keep, PacketKind, Page, Receiver, hear_all, show_all};
 

@@ -1,6 +1,7 @@
 //! The schedule of a small subtitle file, byte for byte; what else is written and refused is tested
 //! by the lines that the program prints.
-use fixtures::{assert_same, assert_same_in, every, file_of_hi, schedule_of_hi};
+use crate::asserting::{assert_same, assert_same_in};
+use fixtures::{every, file_of_hi, schedule_of_hi};
 use std::test::Fail;
 use stl_rows::{National, load};
 use sub_io::{MemSink, MemSource};

@@ -1,7 +1,8 @@
 //! Sources that give a byte at a time, fail, or never end.
 
 use super::files::{a_file, read_all};
-use fixtures::{Drip, Endless, assert_same, assert_same_in, gsi};
+use crate::asserting::{assert_same, assert_same_in};
+use fixtures::{Drip, Endless, gsi};
 use stl_file::{StlFault, StlReader};
 use sub_io::{FailAt, Source};
 

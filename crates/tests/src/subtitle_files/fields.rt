@@ -1,7 +1,8 @@
 //! Each field at its place.
 
 use super::files::{ALONE, a_file};
-use fixtures::{assert_same, assert_same_in, block};
+use crate::asserting::{assert_same, assert_same_in};
+use fixtures::block;
 use stl_file::{Gsi, StlReader, Subtitle, TimeCode, Tti};
 use sub_io::MemSource;
 

@@ -3,7 +3,8 @@
 //! `normal`.
 
 use super::files::{ALONE, FIRST, LAST, a_file, put};
-use fixtures::{assert_same, block, gsi};
+use crate::asserting::assert_same;
+use fixtures::{block, gsi};
 use stl_file::{StlReader, normal, write_subtitle};
 use sub_io::{MemSink, MemSource};
 

@@ -1,7 +1,8 @@
 //! Every refusal at its block.
 
 use super::files::{FIRST, LAST, a_file, put, read_all, set};
-use fixtures::{assert_same, assert_same_in, block, gsi};
+use crate::asserting::{assert_same, assert_same_in};
+use fixtures::{block, gsi};
 use stl_file::StlFault;
 use sub_io::MemSource;
 
