@@ -1,149 +1,179 @@
--- Lines put on the blank page one after another give the drawn page (drawn-page), where no fault
--- comes first (drawn-first).
-use Rattle.std.proofs.Common.{◌≡◌, ◌≢◌, ℕ, suc, ◌+◌, ◌-◌, ◌<◌, ◌≤◌, true, false, ltb, List, [], ◌∷◌}
-use Rattle.std.proofs.Common.{◌++◌, Option, Some, None, Result, Ok, Err, length, get_or, replicate}
-use Rattle.std.proofs.Common.{refl, sym, ap, ◌∙◌, arith, inl, inr, get_or-set_same}
-use Rattle.std.proofs.Common.{get_or-set_other, rules}
-use Rattle.std.proofs.lemmas.Bool.{cases_lt}
+-- Lines put on the blank page one after another give the page that shows them: is_drawn-start,
+-- is_drawn-next. And what faults tell of the drawn page: drawn-first.
+use Rattle.std.proofs.Common.{◌≡◌, ◌≢◌, ℕ, zero, suc, ◌+◌, ◌-◌, ◌<◌, ◌≤◌, false, nat_lt, List, []}
+use Rattle.std.proofs.Common.{◌∷◌, ◌++◌, Ok, Err, length, map, get_or, refl, sym, ap, ◌∙◌, arith}
+use Rattle.std.proofs.Common.{inl, inr, cond, rules, get_or-set_other, length-append, append_assoc, append-nil}
+use Rattle.std.proofs.lemmas.Bool.{cases_eq, cond_both, lt-ltb}
 use Rattle.std.proofs.lemmas.Bool.Decides.{nat_tests}
-use Rattle.std.proofs.lemmas.List.{ext_get_or, get_or-replicate, length-replicate, length-set}
-use Rattle.std.proofs.lemmas.List.FromFn.{fill_by_all, get_or-map-range_with_len}
-use Rattle.std.proofs.lemmas.List.FromFn.{length-map-range_with_len}
-use Rattle.ttx_page.specs.Page.{Rows, blank, blank_row, space}
-use Rattle.stl_rows.specs.declared.fault.RowFault.{RowFault}
-use Rattle.stl_rows.specs.DrawnPage.{drawn, faults, line_faults, line_on, lines, page_of_lines}
-use Rattle.stl_rows.specs.DrawnPage.{unless}
-use Rattle.std.specs.Prelude.{IsOk, MatchOption}
-use Rattle.stl_rows.specs.Line.{code_in_column, row_of, start_column}
-use Rattle.stl_rows.specs.LineByLine.{prepared_lines, put_line, put_lines}
-use Rattle.stl_rows.specs.TextCode.{first_of, refusals, text_codes}
+use Rattle.std.proofs.lemmas.Grind.{get_or-set_at}
+use Rattle.std.proofs.lemmas.List.{ext_get_or, get_or-append-add, get_or_append_left}
+use Rattle.std.proofs.lemmas.List.{get_or_past, get_or_push, length-set}
+use Rattle.std.proofs.lemmas.List.FromFn.{get_or-map-range_with_len, length-map-range_with_len}
+use Rattle.std.specs.List.{range_with_len}
+use Rattle.std.specs.Prelude.{IsOk, MatchOption, slice_set}
+use Rattle.ttx_page.specs.Page.{Rows, blank, blank_row}
 use Rattle.stl_file.specs.Subtitle.{SubtitleValue}
+use Rattle.stl_rows.specs.declared.fault.RowFault.{RowFault}
 use Rattle.stl_rows.specs.declared.national.National.{National}
-use Rattle.stl_rows.proofs.LineLemmas.{spaces_at}
-use Rattle.stl_rows.proofs.LineByLineLemmas.{prepared_lines-whole}
-use Rattle.stl_rows.proofs.FaultlessLemmas.{empty_parts}
+use Rattle.stl_rows.specs.DrawnPage.{drawn, faults, line_faults, line_on, lines}
+use Rattle.stl_rows.specs.DrawnPage.{page_of_lines, unless}
+use Rattle.stl_rows.specs.Line.{code_in_column, prepared, row_of, start_column}
+use Rattle.stl_rows.specs.LineByLine.{FitsRow, put_line}
+use Rattle.stl_rows.specs.TextCode.{first_of, refusals, text_codes}
+use Rattle.stl_rows.proofs.LineByLineLemmas.{prepared_longer}
+use Rattle.stl_rows.proofs.FaultlessLemmas.{IsOnPage, empty_parts, on_page}
 
 -- ---- the rows of the page
 
 -- an empty line shows spaces. For row_of-none
-code_in_column-none : (start k : ℕ) → code_in_column start [] k ≡ 32
+code_in_column-none : (start k : ℕ) → 32 ≡ code_in_column start [] k
 code_in_column-none start k = grind (arith, nat_tests)
 
 -- the row of an empty line is blank
 pub row_of-none : (jc : ℕ) → blank_row ≡ row_of jc []
 unfolding blank_row row_of
-row_of-none jc =
-    fill_by_all (code_in_column (start_column jc 0) []) (replicate 40 space) 40 0
-    (length-replicate 40 space)
-    (λ k h. spaces_at k h ∙ sym (code_in_column-none (start_column jc 0) k))
+row_of-none jc = λ i. map (λ k. code_in_column-none (start_column jc 0) k i) (range_with_len 0 40)
 
--- a line changes no number of rows
-length-put_line : (jc row : ℕ) (line : List ℕ) (page : Rows)
-    → length (put_line jc row line page) ≡ length page
-length-put_line jc row [] page = refl
-length-put_line jc row (c ∷ cells) page = length-set page (row - 1) (row_of jc (c ∷ cells))
+-- the page of no lines is blank
+page_of_none : (jc vp : ℕ) → blank ≡ page_of_lines jc vp []
+unfolding blank page_of_lines
+page_of_none jc vp =
+    λ i. map (λ row. cond_both (nat_lt row vp) [] [] (λ line. blank_row ≡ row_of jc line)
+    (λ _. row_of-none jc) (λ _. row_of-none jc) i) (range_with_len 1 24)
 
--- a blank row, once its line is put, is the row of the line
-put_line-at : (jc row : ℕ) (line : List ℕ) (page : Rows)
-    → row - 1 < length page
-    → get_or page (row - 1) [] ≡ blank_row
-    → get_or (put_line jc row line page) (row - 1) [] ≡ row_of jc line
-put_line-at jc row [] page h e = e ∙ row_of-none jc
-put_line-at jc row (c ∷ cells) page h e =
-    get_or-set_same page (row - 1) (row_of jc (c ∷ cells)) [] h
+-- an empty line after others changes no line
+get_or_push-none : (ls : List (List ℕ)) (k : ℕ) → get_or ls k [] ≡ get_or (ls ++ [] ∷ []) k []
+get_or_push-none [] zero = refl
+get_or_push-none [] (suc k) = refl
+get_or_push-none (l ∷ ls) zero = refl
+get_or_push-none (l ∷ ls) (suc k) = get_or_push-none ls k
 
--- the other rows stay as they were
-put_line-other : (jc row q : ℕ) (line : List ℕ) (page : Rows)
-    → q ≢ row - 1
-    → get_or (put_line jc row line page) q [] ≡ get_or page q []
-put_line-other jc row q [] page h = refl
-put_line-other jc row q (c ∷ cells) page h =
-    get_or-set_other page (row - 1) q (row_of jc (c ∷ cells)) [] h
+-- the row after those of lines is that of one more
+line_on-last : (vp row : ℕ) (done : List (List ℕ)) (line : List ℕ)
+    → row ≡ vp + length done
+    → line_on vp (done ++ line ∷ []) row ≡ line
+line_on-last vp row done line e = grind (arith, nat_tests, get_or_push done line [] (row - vp))
 
--- lines change no number of rows
-length-put_lines : (jc row : ℕ) (page : Rows) (ls : List (List ℕ))
-    → length (put_lines jc row page ls) ≡ length page
-length-put_lines jc row page [] = refl
-length-put_lines jc row page (line ∷ ls) =
-    length-put_lines jc (row + 1) (put_line jc row line page) ls ∙ length-put_line jc row line page
+-- the others stay
+line_on-other : (vp row : ℕ) (done : List (List ℕ)) (line : List ℕ)
+    → row ≢ vp + length done
+    → line_on vp (done ++ line ∷ []) row ≡ line_on vp done row
+line_on-other vp row done line e =
+    grind (
+      arith,
+      nat_tests,
+      length-append done (line ∷ []),
+      get_or_append_left done (line ∷ []) [] (row - vp),
+      get_or_past (done ++ line ∷ []) (row - vp) [],
+      get_or_past done (row - vp) [],
+    )
 
--- a row above the first line stays; k is its index
-put_lines-above : (jc row k : ℕ) (page : Rows) (ls : List (List ℕ))
-    → k + 1 < row
-    → get_or (put_lines jc row page ls) k [] ≡ get_or page k []
-put_lines-above jc row k page [] h = refl
-put_lines-above jc row k page (line ∷ ls) h =
-    put_lines-above jc (row + 1) k (put_line jc row line page) ls (omega arith)
-    ∙ put_line-other jc row k line page (omega arith)
+-- no cells are no line
+prepared_none : prepared [] ≡ []
+unfolding prepared
+prepared_none = refl
 
--- a row from there on holds its line
-put_lines-from : (jc row k : ℕ) (page : Rows) (ls : List (List ℕ))
-    → 1 ≤ row → length page ≡ 24 → ((q : ℕ) → row ≤ q + 1 → q < 24 → get_or page q [] ≡ blank_row)
-    → row ≤ k + 1
-    → k < 24
-    → get_or (put_lines jc row page ls) k [] ≡ row_of jc (get_or ls (k + 1 - row) [])
-put_lines-from jc row k page [] first size blanks low high = blanks k low high ∙ row_of-none jc
-put_lines-from jc row k page (line ∷ ls) first size blanks low high =
-    elim (cases_lt (k + 1) (row + 1)) [
-      | inl here ↦
-          let e : k ≡ row - 1 = omega arith in
-          let z : k + 1 - row ≡ 0 = omega arith in
-          let own : get_or (put_line jc row line page) k [] ≡ row_of jc line =
-          rw e (put_line-at jc row line page (omega arith)
-          (blanks (row - 1) (omega arith) (omega arith))) in
-          rw z (put_lines-above jc (row + 1) k (put_line jc row line page) ls here ∙ own)
-      | inr below ↦
-          let z : k + 1 - row ≡ suc (k + 1 - (row + 1)) = omega arith in
-          rw z (put_lines-from jc (row + 1) k (put_line jc row line page) ls (omega arith)
-          (length-put_line jc row line page ∙ size)
-          (λ q a b. put_line-other jc row q line page (omega arith) ∙ blanks q (omega arith) b)
-          below high)
-    ]
-
--- each row of the blank page is blank
-pub blank_at : (k : ℕ) → k < 24 → get_or blank k [] ≡ blank_row
-unfolding blank
-blank_at k h = get_or-replicate 24 k blank_row [] h
-
--- the blank page has 24 rows
-length_blank : length blank ≡ 24
-unfolding blank
-length_blank = length-replicate 24 blank_row
-
--- a row of the page with all lines is the row of the line that goes to it
-page_row : (jc vp k : ℕ) (ls : List (List ℕ))
-    → 1 ≤ vp
-    → k < 24
-    → get_or (put_lines jc vp blank ls) k [] ≡ row_of jc (line_on vp ls (k + 1))
-page_row jc vp k ls first h =
-    elim (cases_lt (k + 1) vp) [
-      | inl above ↦
-          let e : ltb (k + 1) vp ≡ true = grind (arith, nat_tests) in
-          rw e (put_lines-above jc vp k blank ls above ∙ blank_at k h ∙ row_of-none jc)
-      | inr from ↦
-          let e : ltb (k + 1) vp ≡ false = grind (arith, nat_tests) in
-          rw e (put_lines-from jc vp k blank ls first length_blank (λ q a b. blank_at q b) from h)
-    ]
-
--- the page with all lines put one after another is the page that shows them
-pub put_lines-page : (jc vp : ℕ) (ls : List (List ℕ))
-    → 1 ≤ vp
-    → put_lines jc vp blank ls ≡ page_of_lines jc vp ls
+-- a line after others is put on the row after theirs
+put_line-page : (jc vp : ℕ) (done : List (List ℕ)) (cells : List ℕ)
+    → FitsRow (vp + length done) cells
+    → put_line jc (vp + length done) cells (page_of_lines jc vp done)
+    ≡ page_of_lines jc vp (done ++ prepared cells ∷ [])
 unfolding page_of_lines
-put_lines-page jc vp ls first =
-    let f : ℕ → List ℕ = λ row. row_of jc (line_on vp ls row) in
-    ext_get_or [] (put_lines jc vp blank ls) _
-    (length-put_lines jc vp blank ls ∙ length_blank ∙ sym (length-map-range_with_len f 1 24))
-    (λ k h. let inside : k < 24 = omega (arith, length-put_lines jc vp blank ls, length_blank) in
-    page_row jc vp k ls first inside
-    ∙ sym (get_or-map-range_with_len f 1 24 k (k + 1) [] inside (omega arith)))
+put_line-page jc vp done [] fits =
+    rw prepared_none
+    (λ i. map (λ row. row_of jc (cond (nat_lt row vp) [] (get_or_push-none done (row - vp) i)))
+    (range_with_len 1 24))
+put_line-page jc vp done (c ∷ cs) fits =
+    let line : List ℕ = prepared (c ∷ cs) in
+    let at : ℕ = vp + length done - 1 in
+    let old : ℕ → List ℕ = λ row. row_of jc (line_on vp done row) in
+    let new : ℕ → List ℕ = λ row. row_of jc (line_on vp (done ++ line ∷ []) row) in
+    let size = length-map-range_with_len old 1 24 in
+    let long = length-set (map old (range_with_len 1 24)) at (row_of jc line) ∙ size in
+    let first = fits.first in
+    let low = fits.last (omega arith) in
+    rw (lt-ltb 0 (suc (length cs)) (omega arith))
+    (ext_get_or [] (slice_set (map old (range_with_len 1 24)) at (row_of jc line))
+    (map new (range_with_len 1 24)) (long ∙ sym (length-map-range_with_len new 1 24)) (λ k h.
+    let inside : k < 24 = omega (arith, h, long) in
+    elim (cases_eq k at) [
+      | inl here ↦
+          get_or-set_at (map old (range_with_len 1 24)) at k (row_of jc line) [] here
+          (omega (arith, size, first, low))
+          ∙ ap (row_of jc) (sym (line_on-last vp (k + 1) done line (omega (arith, here, first))))
+          ∙ sym (get_or-map-range_with_len new 1 24 k (k + 1) [] inside (omega arith))
+      | inr other ↦
+          get_or-set_other (map old (range_with_len 1 24)) at k (row_of jc line) [] other
+          ∙ get_or-map-range_with_len old 1 24 k (k + 1) [] inside (omega arith)
+          ∙ ap (row_of jc) (sym (line_on-other vp (k + 1) done line
+          (λ e. other (omega (arith, e)))))
+          ∙ sym (get_or-map-range_with_len new 1 24 k (k + 1) [] inside (omega arith))
+    ]))
+
+-- ---- drawing
+
+-- Some of all lines are on the page, and these are left.
+pub record IsDrawn (jc vp row : ℕ) (page : Rows) (all left : List (List ℕ)) : Type 0 where
+  pub done : List (List ℕ)
+  pub shown : page ≡ page_of_lines jc vp done
+  pub next : row ≡ vp + length done
+  pub all_are : all ≡ done ++ left
+
+-- the blank page has none of them
+pub is_drawn-start : (jc vp : ℕ) (all : List (List ℕ)) → IsDrawn jc vp vp blank all all
+is_drawn-start jc vp all = record {
+  done = [];
+  shown = page_of_none jc vp;
+  next = omega arith;
+  all_are = refl;
+}
+
+-- where no line has a fault the next is on the page
+pub is_drawn-on_page : (jc vp row : ℕ) (page : Rows) (all left : List (List ℕ))
+    → IsDrawn jc vp row page all left
+    → line_faults 0 vp false all ≡ []
+    → IsOnPage row (get_or left 0 [])
+is_drawn-on_page jc vp row page all left h none =
+    rw (h.all_are, get_or-append-add h.done left 0 [])
+    at (on_page 0 vp row false all (length h.done + 0) (omega (arith, h.next)) none)
+
+-- so it fits its row
+pub is_drawn-fits : (jc vp row : ℕ) (page : Rows) (all left : List (List ℕ)) (cells : List ℕ)
+    → 1 ≤ vp
+    → IsDrawn jc vp row page all (prepared cells ∷ left)
+    → line_faults 0 vp false all ≡ []
+    → FitsRow row cells
+is_drawn-fits jc vp row page all left cells first h none =
+    let on = is_drawn-on_page jc vp row page all (prepared cells ∷ left) h none in
+    record {
+      first = omega (arith, first, h.next);
+      last = λ some. on.last (omega (arith, some, prepared_longer cells));
+      few = on.few;
+    }
+
+-- it is put
+pub is_drawn-next : (jc vp row : ℕ) (page : Rows) (all left : List (List ℕ)) (cells : List ℕ)
+    → 1 ≤ vp
+    → IsDrawn jc vp row page all (prepared cells ∷ left)
+    → line_faults 0 vp false all ≡ []
+    → IsDrawn jc vp (row + 1) (put_line jc row cells page) all left
+is_drawn-next jc vp row page all left cells first h none =
+    let fits = is_drawn-fits jc vp row page all left cells first h none in
+    record {
+      done = h.done ++ prepared cells ∷ [];
+      shown =
+          rw (h.next, h.shown) (put_line-page jc vp h.done cells (rw h.next at fits));
+      next = omega (arith, h.next, length-append h.done (prepared cells ∷ []));
+      all_are = h.all_are ∙ sym (append_assoc h.done (prepared cells ∷ []) left);
+    }
+
+-- where none is left the page shows all
+pub is_drawn-end : (jc vp row : ℕ) (page : Rows) (all : List (List ℕ))
+    → IsDrawn jc vp row page all []
+    → page_of_lines jc vp all ≡ page
+is_drawn-end jc vp row page all h = rw (h.all_are, append-nil) (sym h.shown)
 
 -- ---- faults
-
--- the lines of a subtitle's text
-lines_are : (n : National) (t : SubtitleValue)
-    → prepared_lines [] (text_codes n 0 t.text) ≡ lines n t
-lines_are n t = prepared_lines-whole (text_codes n 0 t.text)
 
 -- a subtitle that draws a page has no fault
 no_faults : (n : National) (t : SubtitleValue) → IsOk (drawn n t) → faults n t ≡ []
@@ -157,34 +187,24 @@ no_faults n t ok = go (faults n t) ok
 -- nor have its lines. For `drawn_page`
 pub no_line_faults : (n : National) (t : SubtitleValue)
     → IsOk (drawn n t)
-    → line_faults 0 t.vp false (prepared_lines [] (text_codes n 0 t.text)) ≡ []
-no_line_faults n t ok =
-    rw (lines_are n t) (empty_parts (refusals (text_codes n 0 t.text)) _ (no_faults n t ok)).1
+    → line_faults 0 t.vp false (lines n t) ≡ []
+no_line_faults n t ok = (empty_parts (refusals (text_codes n 0 t.text)) _ (no_faults n t ok)).1
 
--- its lines put on the blank page are its page. For `drawn_page`
+-- it draws the page of its lines. For `drawn_page`
 pub drawn-page : (n : National) (t : SubtitleValue)
     → IsOk (drawn n t)
-    → 1 ≤ t.vp
-    → drawn n t ≡ Ok (put_lines t.jc t.vp blank (prepared_lines [] (text_codes n 0 t.text)))
+    → drawn n t ≡ Ok (page_of_lines t.jc t.vp (lines n t))
 unfolding drawn
-drawn-page n t ok first =
-    rw (no_faults n t ok, lines_are n t, put_lines-page t.jc t.vp (lines n t) first) refl
+drawn-page n t ok = rw (no_faults n t ok) refl
 
 -- the first of all faults is told. For `first_fault`
-pub drawn-first : (n : National) (t : SubtitleValue) (o : Option RowFault)
-    → o ≡ first_of (refusals (text_codes n 0 t.text)
-    ++ line_faults 0 t.vp false (prepared_lines [] (text_codes n 0 t.text)))
-    → MatchOption o (IsOk (drawn n t)) (λ f. drawn n t ≡ Err f)
+pub drawn-first : (n : National) (t : SubtitleValue)
+    → MatchOption (first_of (faults n t)) (IsOk (drawn n t)) (λ f. drawn n t ≡ Err f)
 unfolding drawn
-drawn-first n t o is = go (faults n t) o (rw (lines_are n t) at is)
+drawn-first n t = go (faults n t)
   where
-    go : (fs : List RowFault) (o : Option RowFault)
-        → o ≡ first_of fs
-        → MatchOption o (IsOk (unless fs (page_of_lines t.jc t.vp (lines n t))))
+    go : (fs : List RowFault)
+        → MatchOption (first_of fs) (IsOk (unless fs (page_of_lines t.jc t.vp (lines n t))))
         (λ f. unless fs (page_of_lines t.jc t.vp (lines n t)) ≡ Err f)
-    go [] None h = search rules
-    go [] (Some f) h = cc
-    go (x ∷ fs) None h = cc
-    go (x ∷ fs) (Some f) h =
-        let same : x ≡ f = cc in
-        ap (λ (y : RowFault). let r : Result Rows RowFault = Err y in r) same
+    go [] = search rules
+    go (f ∷ fs) = refl

@@ -1,7 +1,7 @@
 -- What is due, and the next edge, by the first subtitle whose TCO is after a frame: due_is_shown,
 -- none_is_blank and next_edge-tci.
-use Rattle.std.proofs.Common.{◌≡◌, ℕ, suc, ◌-◌, ◌<◌, ◌≤◌, Bool, false, List, [], ◌∷◌, Some, None}
-use Rattle.std.proofs.Common.{length, get_or, refl, sym, ap, ◌∙◌, arith, ◌⊎◌, inl, inr}
+use Rattle.std.proofs.Common.{◌≡◌, ℕ, suc, ◌-◌, ◌<◌, ◌≤◌, Bool, false, List, [], ◌∷◌, Option, Some}
+use Rattle.std.proofs.Common.{None, length, get_or, refl, sym, ap, ◌∙◌, arith, ◌⊎◌, inl, inr}
 use Rattle.std.proofs.lemmas.Bool.{cases_lt}
 use Rattle.std.proofs.lemmas.Bool.Decides.{nat_tests}
 use Rattle.std.proofs.lemmas.List.{get_or_default, get_or_read}
@@ -10,8 +10,12 @@ use Rattle.std.proofs.lemmas.List.Recursion.{found_at, found_nowhere}
 use Rattle.std.specs.List.{find}
 use Rattle.std.specs.List.Sorted.{IsNonDecreasingBy}
 use Rattle.std.specs.Prelude.{Contains}
+use Rattle.std.specs.Result.{result_unwrap_or}
+use Rattle.ttx_page.specs.Page.{Rows, blank}
 use Rattle.stl_file.specs.Subtitle.{SubtitleValue, IsSubtitle, empty_subtitle}
+use Rattle.stl_rows.specs.declared.fault.RowFault.{RowFault}
 use Rattle.stl_rows.specs.declared.national.National.{National}
+use Rattle.stl_rows.specs.DrawnPage.{drawn, faults, lines, page_of_lines, unless}
 use Rattle.stl_rows.specs.DuePage.{IsEdge, IsNextEdge, LawOfBlankPages, LawOfDueSubtitles}
 use Rattle.stl_rows.specs.DuePage.{LawOfEdges, drawn_or_blank, due, is_due}
 use Rattle.stl_rows.specs.Programme.{IsProgramme}
@@ -62,6 +66,24 @@ edges_alone n ts f first none =
     let edge : (f ≡ x.tci) ⊎ (f ≡ x.tco) → ⊥ =
     λ p. none (k, x, b, get_or_default ts k x d b, p) in
     grind (arith, nat_tests, edge)))
+
+-- what holds of the blank page, and of that of each subtitle without a fault, holds of each due page
+pub due_has : (P : Rows → Type 0) (n : National) (ts : List SubtitleValue) (f : ℕ)
+    → P blank
+    → ((t : SubtitleValue) → faults n t ≡ [] → P (page_of_lines t.jc t.vp (lines n t)))
+    → P (due n ts f)
+unfolding due drawn
+due_has P n ts f none some = shown (find (is_due f) ts)
+  where
+    of_faults : (t : SubtitleValue) (fs : List RowFault)
+        → faults n t ≡ fs
+        → P (result_unwrap_or (unless fs (page_of_lines t.jc t.vp (lines n t))) blank)
+    of_faults t [] e = some t e
+    of_faults t (fault ∷ fs) e = none
+
+    shown : (o : Option SubtitleValue) → P (drawn_or_blank n o)
+    shown None = none
+    shown (Some t) = of_faults t (faults n t) refl
 
 -- ---- the first subtitle after a frame
 

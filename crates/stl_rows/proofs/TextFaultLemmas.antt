@@ -4,7 +4,8 @@ use Rattle.std.proofs.Common.{◌≡◌, ℕ, suc, ◌+◌, ◌≤◌, Bool, tru
 use Rattle.std.proofs.Common.{List, [], ◌∷◌, ◌++◌, Option, Some, None, map, length, drop, refl, sym}
 use Rattle.std.proofs.Common.{ap, ◌∙◌, arith, length-append}
 use Rattle.std.proofs.Math.Bool.{or-false}
-use Rattle.std.proofs.lemmas.Bool.{lt-ltb}
+use Rattle.std.proofs.lemmas.Bool.{cond_both, lt-ltb}
+use Rattle.std.proofs.lemmas.List.{at_drop_all}
 use Rattle.std.proofs.lemmas.List.Folds.{list_any-append}
 use Rattle.std.specs.List.{list_any}
 use Rattle.stl_rows.specs.declared.fault.RowFault.{RowFault}
@@ -15,8 +16,8 @@ use Rattle.stl_rows.specs.DrawnPage.{line_fault_kinds, line_faults}
 use Rattle.stl_rows.specs.Line.{double_height, has_cells, is_boxed, is_double, prepared, start_box}
 use Rattle.stl_rows.specs.LineByLine.{HasShape, prepared_lines, shape_fault_kinds, told_first}
 use Rattle.stl_rows.specs.TextCode.{fault_of, first_of, refusals, text_codes}
-use Rattle.stl_rows.proofs.LineByLineLemmas.{either, prepared_lines-cell, prepared_lines-end}
-use Rattle.stl_rows.proofs.LineByLineLemmas.{prepared_lines-line_end, text_codes-end}
+use Rattle.stl_rows.proofs.LineByLineLemmas.{prepared_lines-cell, prepared_lines-end}
+use Rattle.stl_rows.proofs.LineByLineLemmas.{prepared_lines-line_end}
 
 -- ---- shapes
 
@@ -47,9 +48,10 @@ shape-push cells code len boxed double h = record {
 double_prepared : (cells : List ℕ) → is_double (prepared cells) ≡ is_double cells
 unfolding prepared is_double
 double_prepared cells =
-    either (λ line. list_any (λ c. c == double_height) line ≡ is_double cells)
-    (has_cells cells && not (is_boxed cells)) _ cells
-    (list_any-append (λ c. c == double_height) cells (0x0A ∷ 0x0A ∷ []) ∙ or-false _) refl
+    cond_both (has_cells cells && not (is_boxed cells)) _ cells
+    (λ line. list_any (λ c. c == double_height) line ≡ is_double cells)
+    (λ _. list_any-append (λ c. c == double_height) cells (0x0A ∷ 0x0A ∷ []) ∙ or-false _)
+    (λ _. refl)
 
 -- how long a line with cells is
 length_prepared : (c : ℕ) (cs : List ℕ)
@@ -67,7 +69,8 @@ length_prepared c cs = go (is_boxed (c ∷ cs))
 cells_prepared : (c : ℕ) (cs : List ℕ) → has_cells (prepared (c ∷ cs)) ≡ true
 unfolding prepared
 cells_prepared c cs =
-    either (λ line. has_cells line ≡ true) (not (is_boxed (c ∷ cs))) _ (c ∷ cs) refl refl
+    cond_both (not (is_boxed (c ∷ cs))) _ (c ∷ cs) (λ line. has_cells line ≡ true) (λ _. refl)
+    (λ _. refl)
 
 -- the faults of a line without cells
 kinds_of_none : (row : ℕ) (under : Bool)
@@ -210,4 +213,4 @@ pub refused-end : (n : National) (o : Option RowFault) (at : ℕ) (text : List �
     → length text ≤ at
     → o ≡ None
 refused-end n o at text h past =
-    h ∙ ap (λ ss. first_of (refusals ss)) (text_codes-end n at text past)
+    h ∙ at_drop_all (λ bytes. first_of (refusals (text_codes n at bytes))) text at past

@@ -1,7 +1,8 @@
 -- Lines put on a page one after another, as the code draws them, and what of a line its faults
 -- depend on. No public clause cites this.
-use Rattle.std.specs.Prelude.{◌≡◌, ℕ, ◌+◌, ◌-◌, Bool, ◌&&◌, List, [], ◌∷◌, ◌++◌, Option, Some, None}
+use Rattle.std.specs.Prelude.{◌≡◌, ℕ, ◌+◌, ◌-◌, ◌<◌, ◌≤◌, Bool, ◌&&◌, List, [], ◌∷◌, ◌++◌, Option, Some, None}
 use Rattle.std.specs.Prelude.{◌==◌, nat_lt, if◌then◌else◌, length, map, slice_set}
+use Rattle.std.specs.List.{onto_first}
 use Rattle.ttx_page.specs.Page.{Rows}
 use Rattle.stl_rows.specs.declared.fault.RowFault.{RowFault}
 use Rattle.stl_rows.specs.declared.fault.RowFaultKind.{RowFaultKind}
@@ -16,24 +17,23 @@ use Rattle.stl_rows.specs.DrawnPage.{last_row, when}
 
 -- Lines with some cells before the first.
 abbrev pub onto : List ℕ → List (List ℕ) → List (List ℕ)
-onto cells [] = cells ∷ []
-onto cells (line ∷ lines) = (cells ++ line) ∷ lines
+onto [] lines = lines
+onto (c ∷ cells) lines = onto_first c (onto cells lines)
 
 -- The prepared lines of text codes, with some cells before the first.
 abbrev pub prepared_lines : List ℕ → List (ℕ × TextCode) → List (List ℕ)
 prepared_lines cells codes = map prepared (onto cells (lines_of codes))
 
--- ---- drawing
-
--- A page with a prepared line on a row; an empty line leaves it.
+-- A page with a line, which is prepared, on a row; an empty line leaves it.
 abbrev pub put_line : ℕ → ℕ → List ℕ → Rows → Rows
-put_line jc row [] page = page
-put_line jc row (c ∷ cells) page = slice_set page (row - 1) (row_of jc (c ∷ cells))
+put_line jc row cells page =
+    if nat_lt 0 (length cells) then slice_set page (row - 1) (row_of jc (prepared cells)) else page
 
--- A page with these prepared lines, the first of which goes to a row.
-abbrev pub put_lines : ℕ → ℕ → Rows → List (List ℕ) → Rows
-put_lines jc row page [] = page
-put_lines jc row page (line ∷ lines) = put_lines jc (row + 1) (put_line jc row line page) lines
+-- A line fits a row: prepared it has at most 40 cells, and it has none under the last row.
+pub record FitsRow (row : ℕ) (cells : List ℕ) : Type 0 where
+  pub first : 1 ≤ row
+  pub last : 0 < length cells → row ≤ last_row
+  pub few : length (prepared cells) ≤ columns
 
 -- ---- faults
 

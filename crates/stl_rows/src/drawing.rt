@@ -2,9 +2,8 @@
 
 ghost use Rattle.std.specs.Prelude.{◌≡◌, ◌<◌, ◌≤◌, ◌++◌, [], ◌∷◌, false, Ok, IsOk, length};
 ghost use Rattle.ttx_page.specs.Page.{AreCodes};
-ghost use Rattle.stl_rows.specs.DrawnPage.{drawn, line_faults};
-ghost use Rattle.stl_rows.specs.Line.{prepared};
-ghost use Rattle.stl_rows.specs.LineByLine.{put_line, put_lines, prepared_lines};
+ghost use Rattle.stl_rows.specs.DrawnPage.{drawn, line_faults, page_of_lines};
+ghost use Rattle.stl_rows.specs.LineByLine.{FitsRow, put_line, prepared_lines};
 ghost use Rattle.stl_rows.specs.TextCode.{text_codes};
 
 use crate::fault::RowFault;
@@ -27,12 +26,11 @@ fn push_cell(cells: &mut ArrayVec<u8, 40>, cell: u8)
 }
 
 // Puts a line of cells on a row of the page.
+#[tactic(auto, using(std::proofs::lemmas::Bool::Decides::nat_tests))]
 fn put_line(jc: u8, row: u16, cells: &[u8], page: &mut Page)
-    requires first { 1 ≤ row }
-    requires last { 0 < length cells.now → row ≤ 23 }
-    requires few { length (prepared cells.now) ≤ 40 }
+    requires fits { FitsRow row cells.now }
     requires codes { AreCodes cells.now }
-    ensures { page.new ≡ put_line jc row (prepared cells.now) page.old }
+    ensures { page.new ≡ put_line jc row cells.now page.old }
 {
     if cells.is_empty() {
         return;
@@ -41,16 +39,16 @@ fn put_line(jc: u8, row: u16, cells: &[u8], page: &mut Page)
     page.set_row(row as u8, &row_codes(jc, line.as_slice()));
 }
 
-// Puts the lines of a text without faults on a page, the first on row VP.
-fn put_text(national: National, jc: u8, vp: u8, text: &[u8], page: &mut Page)
+// Draws the lines of a text without faults, the first on row VP.
+fn page_of_text(national: National, jc: u8, vp: u8, text: &[u8]) -> Page
     requires first { 1 ≤ vp }
     requires last { vp ≤ 23 }
     requires short { length text.now ≤ 1008 }
     requires whole { line_faults 0 vp false (prepared_lines [] (text_codes national 0 text.now))
         ≡ [] }
-    ensures { page.new
-        ≡ put_lines jc vp page.old (prepared_lines [] (text_codes national 0 text.now)) }
+    ensures { page_of_lines jc vp (prepared_lines [] (text_codes national 0 text.now)) ≡ result }
 {
+    let mut page = Page::blank();
     let mut row = u16::from(vp);
     let mut cells = ArrayVec::<u8, 40>::new();
     let mut at = 0;
@@ -59,7 +57,7 @@ fn put_text(national: National, jc: u8, vp: u8, text: &[u8], page: &mut Page)
         match code {
             TextCode::Cell(cell) => push_cell(&mut cells, cell),
             TextCode::NewLine => {
-                put_line(jc, row, cells.as_slice(), page);
+                put_line(jc, row, cells.as_slice(), &mut page);
                 row += 1;
                 cells.clear();
             }
@@ -67,7 +65,8 @@ fn put_text(national: National, jc: u8, vp: u8, text: &[u8], page: &mut Page)
         }
         at = next;
     }
-    put_line(jc, row, cells.as_slice(), page);
+    put_line(jc, row, cells.as_slice(), &mut page);
+    page
 }
 
 /// The page that a subtitle draws which has no fault.
@@ -75,15 +74,7 @@ pub(crate) fn drawn_page(subtitle: &Subtitle, national: National) -> Page
     requires { IsOk (drawn national subtitle.now) }
     ensures { drawn national subtitle.now ≡ Ok result }
 {
-    let mut page = Page::blank();
-    put_text(
-        national,
-        subtitle.jc(),
-        subtitle.vp(),
-        subtitle.text(),
-        &mut page,
-    );
-    page
+    page_of_text(national, subtitle.jc(), subtitle.vp(), subtitle.text())
 }
 
 /// Draws a subtitle's text on a page by the table of a national option (EBU Tech 3264, TTI block,
