@@ -14,11 +14,10 @@ use Rattle.sub_answer.specs.declared.request.UsageFault.{UsageFault}
 use Rattle.sub_answer.specs.declared.request.UsageFault.TheVariants as usage
 use Rattle.sub_answer.specs.declared.told.Kind.{Kind}
 use Rattle.sub_answer.specs.declared.told.Kind.TheVariants as kind
-use Rattle.sub_answer.specs.declared.told.Place.{Place}
-use Rattle.sub_answer.specs.declared.told.Place.TheVariants as place
-use Rattle.sub_check.specs.Fault as check_number
+use Rattle.sub_check.specs.Fault as check_fault
 use Rattle.sub_check.specs.declared.fault.CheckFault.{CheckFault}
 use Rattle.sub_check.specs.declared.fault.CheckFault.TheVariants as check
+use Rattle.sub_check.specs.declared.fault_place.FaultPlace.TheVariants as place
 use Rattle.sub_plan.specs.Fault as plan_number
 use Rattle.sub_plan.specs.declared.fault.PlanFault.{PlanFault}
 use Rattle.sub_plan.specs.declared.fault.PlanFault.TheVariants as plan
@@ -62,14 +61,10 @@ load_kind (load.File f) = stl_kind f
 load_kind load.Memory = kind.Fault
 load_kind _ = kind.Refused
 
--- A fault of the text names its place in it too.
-abbrev pub load_place : LoadFaultKind → ℕ → Place
-load_place (load.Row f) block = place.Text block f.at
-load_place _ block = place.Block block
-
--- A fault at a TTI block.
+-- A fault at a TTI block. One of a text names its place in it too.
 abbrev pub load_told : LoadFaultKind → ℕ → ToldValue
-load_told f block = told_as (load_kind f) (load_number.number_and_name f) (load_place f block)
+load_told f block =
+    told_as (load_kind f) (load_number.number_and_name f) (check_fault.load_place f block)
 
 -- A fault of its schedule: that there is none, or that of the file.
 abbrev pub plan_told : PlanFault → ToldValue
@@ -85,30 +80,9 @@ check_kind (check.Subtitles f) = load_kind f.kind
 check_kind (check.Pes index f) = pes_kind f
 check_kind _ = kind.Refused
 
--- Where the fault is: as in the file that it is of, or at a frame, a packet or a cell.
-abbrev pub check_place : CheckFault → Place
-check_place (check.Subtitles f) = load_place f.kind f.block
-check_place (check.Pes index f) = place.Pes index
-check_place check.Empty = place.Nowhere
-check_place (check.OffFrame index) = place.Pes index
-check_place (check.Order index) = place.Pes index
-check_place (check.Early frame) = place.Frame frame
-check_place (check.Address frame packet) = place.Packet frame packet
-check_place (check.HeaderCode frame packet) = place.Packet frame packet
-check_place (check.Mode frame packet) = place.Packet frame packet
-check_place (check.Control frame packet) = place.Packet frame packet
-check_place (check.Parity frame packet) = place.Packet frame packet
-check_place (check.RowChanged frame packet) = place.Packet frame packet
-check_place (check.Enhancement frame packet) = place.Packet frame packet
-check_place (check.NoFirstHeader frame) = place.Frame frame
-check_place (check.Content frame row column) = place.Cell frame row column
-check_place (check.Gap frame) = place.Frame frame
-check_place (check.Incomplete frame) = place.Frame frame
-check_place (check.Late frame) = place.Frame frame
-
 -- A fault of a pair of files.
 abbrev pub check_told : CheckFault → ToldValue
-check_told f = told_as (check_kind f) (check_number.number_and_name f) (check_place f)
+check_told f = told_as (check_kind f) (check_fault.number_and_name f) (check_fault.place_of f)
 
 -- ---- words
 

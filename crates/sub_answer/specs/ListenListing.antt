@@ -13,7 +13,7 @@ use Rattle.sub_check.specs.declared.listening_run.ListenFault.{ListenFault}
 use Rattle.sub_check.specs.declared.listening_run.ListenFault.TheVariants as fault
 use Rattle.sub_check.specs.declared.listening.Listening.{Listening}
 use Rattle.sub_answer.specs.declared.told.Kind.TheVariants.{Refused}
-use Rattle.sub_answer.specs.declared.told.Place.TheVariants.{Packet}
+use Rattle.sub_check.specs.declared.fault_place.FaultPlace.TheVariants.{Packet}
 use Rattle.sub_check.specs.ListeningRun.{Runs}
 
 -- What is told of a fault (own).

@@ -14,7 +14,7 @@ use Rattle.sub_answer.specs.Told.{ToldValue, line_of, status_of, told_as}
 use Rattle.sub_answer.specs.declared.status.Status.{Status}
 use Rattle.sub_answer.specs.declared.status.Status.TheVariants.{Done, Refused, Fault}
 use Rattle.sub_answer.specs.declared.told.Kind.TheVariants as kind
-use Rattle.sub_answer.specs.declared.told.Place.TheVariants.{Nowhere}
+use Rattle.sub_check.specs.declared.fault_place.FaultPlace.TheVariants.{Nowhere}
 
 -- A text and the status that goes with it where all of it was printed.
 pub record Listing : Type 0 where

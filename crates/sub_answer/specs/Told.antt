@@ -8,18 +8,18 @@ use Rattle.sub_answer.specs.declared.status.Status.{Status}
 use Rattle.sub_answer.specs.declared.status.Status.TheVariants as status
 use Rattle.sub_answer.specs.declared.told.Kind.{Kind}
 use Rattle.sub_answer.specs.declared.told.Kind.TheVariants as kind
-use Rattle.sub_answer.specs.declared.told.Place.{Place}
-use Rattle.sub_answer.specs.declared.told.Place.TheVariants as place
+use Rattle.sub_check.specs.declared.fault_place.FaultPlace.{FaultPlace}
+use Rattle.sub_check.specs.declared.fault_place.FaultPlace.TheVariants as place
 
 -- What is told of a fault: its kind, its number and its name, and its place.
 pub record ToldValue : Type 0 where
   pub kind : Kind
   pub number : ℕ
   pub name : List ℕ
-  pub place : Place
+  pub place : FaultPlace
 
 -- A fault of this number and name.
-abbrev pub told_as : Kind → ℕ × List ℕ → Place → ToldValue
+abbrev pub told_as : Kind → ℕ × List ℕ → FaultPlace → ToldValue
 told_as k n p = record { kind = k; number = n.0; name = n.1; place = p }
 
 -- What the line begins with.
@@ -33,7 +33,7 @@ abbrev pub frame_text : ℕ → List ℕ
 frame_text frame = codes " frame " ++ time_text (frame % day)
 
 -- The place.
-abbrev pub place_text : Place → List ℕ
+abbrev pub place_text : FaultPlace → List ℕ
 place_text place.Nowhere = []
 place_text (place.Pes pes) = codes " pes " ++ decimal pes
 place_text (place.Block block) = codes " block " ++ decimal block

@@ -2,15 +2,12 @@
 ghost use Rattle.std.specs.Prelude.{◌≡◌};
 ghost use Rattle.sub_answer.specs.Faults.{check_told, load_told, normal_told, pes_told, plan_told};
 ghost use Rattle.sub_answer.specs.Faults.{stl_told, usage_told};
-ghost use Rattle.sub_answer.specs.Told.{told_as};
-ghost use Rattle.sub_check.specs.Fault.{number_and_name};
-ghost use Rattle.sub_answer.specs.declared.told.Kind.TheVariants.{Refused};
 
 use crate::request::UsageFault;
-use crate::told::{Kind, Place, Told};
+use crate::told::{Kind, Told};
 use stl_file::{NormalFault, StlFault};
 use stl_rows::{LoadFault, LoadFaultKind};
-use sub_check::CheckFault;
+use sub_check::{CheckFault, FaultPlace};
 use sub_plan::PlanFault;
 use ttx_pes::PesFault;
 
@@ -23,7 +20,7 @@ pub fn told_of_pes(fault: PesFault, pes: u32) -> Told
         PesFault::Read => Kind::Fault,
         _ => Kind::Refused,
     };
-    Told::new(kind, fault.number(), fault.name(), Place::Pes { pes })
+    Told::new(kind, fault.number(), fault.name(), FaultPlace::Pes { pes })
 }
 
 /// A fault of a subtitle file that is read, with the TTI block that it names.
@@ -34,7 +31,12 @@ pub fn told_of_stl(fault: StlFault, block: u32) -> Told
         StlFault::Read => Kind::Fault,
         _ => Kind::Refused,
     };
-    Told::new(kind, fault.number(), fault.name(), Place::Block { block })
+    Told::new(
+        kind,
+        fault.number(),
+        fault.name(),
+        FaultPlace::Block { block },
+    )
 }
 
 /// A fault of a normal form that is not written.
@@ -44,7 +46,12 @@ pub fn told_of_normal(fault: NormalFault) -> Told
     match fault {
         NormalFault::Refused { fault, block } => told_of_stl(fault, block),
         NormalFault::Write => {
-            Told::new(Kind::Fault, fault.number(), fault.name(), Place::Nowhere)
+            Told::new(
+                Kind::Fault,
+                fault.number(),
+                fault.name(),
+                FaultPlace::Nowhere,
+            )
         }
     }
 }
@@ -54,13 +61,11 @@ pub fn told_of_normal(fault: NormalFault) -> Told
 pub fn told_of_load(fault: LoadFault) -> Told
     ensures { result ≡ load_told fault.kind fault.block }
 {
-    let block = fault.block;
-    let (kind, place) = match fault.kind {
-        LoadFaultKind::File(fault) => return told_of_stl(fault, block),
-        LoadFaultKind::Row(row) => (Kind::Refused, Place::Text { block, at: row.at }),
-        LoadFaultKind::Memory => (Kind::Fault, Place::Block { block }),
-        _ => (Kind::Refused, Place::Block { block }),
+    let kind = match fault.kind {
+        LoadFaultKind::File(StlFault::Read) | LoadFaultKind::Memory => Kind::Fault,
+        _ => Kind::Refused,
     };
+    let place = CheckFault::Subtitles(fault).place();
     Told::new(kind, fault.kind.number(), fault.kind.name(), place)
 }
 
@@ -72,7 +77,7 @@ pub fn told_of_plan(fault: PlanFault) -> Told
         PlanFault::NoSubtitles => Kind::Refused,
         PlanFault::Write => Kind::Fault,
     };
-    Told::new(kind, fault.number(), fault.name(), Place::Nowhere)
+    Told::new(kind, fault.number(), fault.name(), FaultPlace::Nowhere)
 }
 
 /// A fault of a pair of files: that of one of them, or a refusal.
@@ -82,35 +87,8 @@ pub fn told_of_check(fault: CheckFault) -> Told
     match fault {
         CheckFault::Subtitles(fault) => told_of_load(fault),
         CheckFault::Pes { fault, pes } => told_of_pes(fault, pes),
-        CheckFault::Empty => refused(fault, Place::Nowhere),
-        CheckFault::OffFrame { pes } | CheckFault::Order { pes } => {
-            refused(fault, Place::Pes { pes })
-        }
-        CheckFault::Early { frame }
-        | CheckFault::NoFirstHeader { frame }
-        | CheckFault::Gap { frame }
-        | CheckFault::Incomplete { frame }
-        | CheckFault::Late { frame } => refused(fault, Place::Frame { frame }),
-        CheckFault::Address { frame, packet }
-        | CheckFault::HeaderCode { frame, packet }
-        | CheckFault::Mode { frame, packet }
-        | CheckFault::Control { frame, packet }
-        | CheckFault::Parity { frame, packet }
-        | CheckFault::RowChanged { frame, packet }
-        | CheckFault::Enhancement { frame, packet } => {
-            refused(fault, Place::Packet { frame, packet })
-        }
-        CheckFault::Content { frame, row, column } => {
-            refused(fault, Place::Cell { frame, row, column })
-        }
+        _ => Told::new(Kind::Refused, fault.number(), fault.name(), fault.place()),
     }
-}
-
-// A refusal of a pair of files, at this place.
-fn refused(fault: CheckFault, place: Place) -> Told
-    ensures { result ≡ told_as Refused (number_and_name fault) place }
-{
-    Told::new(Kind::Refused, fault.number(), fault.name(), place)
 }
 
 /// A fault of the words, or of the program itself.
@@ -121,5 +99,5 @@ pub fn told_of_usage(fault: &UsageFault) -> Told
         UsageFault::Open | UsageFault::Memory => Kind::Fault,
         _ => Kind::Usage,
     };
-    Told::new(kind, fault.number(), fault.name(), Place::Nowhere)
+    Told::new(kind, fault.number(), fault.name(), FaultPlace::Nowhere)
 }

@@ -10,9 +10,10 @@ ghost use Rattle.sub_answer.specs.Lines.{glyph, text_digits, time_text, two_digi
 ghost use Rattle.sub_answer.specs.Told.{frame_text, kind_text, line_of, place_text};
 
 use crate::hex_digits::digits_of_block;
-use crate::told::{Kind, Place, Told};
+use crate::told::{Kind, Told};
 use arrayvec::ArrayVec;
 use stl_file::TimeCode;
+use sub_check::FaultPlace;
 use ttx_pes::MOST_PACKETS;
 
 /// Room for a number in decimal.
@@ -146,25 +147,25 @@ fn text_of_kind(kind: Kind) -> &'static [u8]
 }
 
 // Appends the place of a fault.
-fn push_place<const N: usize>(line: &mut ArrayVec<u8, N>, place: Place)
+fn push_place<const N: usize>(line: &mut ArrayVec<u8, N>, place: FaultPlace)
     requires { array_vec_len line.old + PLACE_ROOM ≤ N }
     ensures items { line.new.items ≡ line.old.items ++ place_text place }
     ensures len { array_vec_len line.new ≤ array_vec_len line.old + PLACE_ROOM }
 {
     match place {
-        Place::Nowhere => (),
-        Place::Pes { pes } => push_number(line, b" pes ", pes),
-        Place::Block { block } => push_number(line, b" block ", block),
-        Place::Text { block, at } => {
+        FaultPlace::Nowhere => (),
+        FaultPlace::Pes { pes } => push_number(line, b" pes ", pes),
+        FaultPlace::Block { block } => push_number(line, b" block ", block),
+        FaultPlace::Text { block, at } => {
             push_number(line, b" block ", block);
             push_number(line, b" at ", u32::from(at));
         }
-        Place::Frame { frame } => push_frame(line, frame),
-        Place::Packet { frame, packet } => {
+        FaultPlace::Frame { frame } => push_frame(line, frame),
+        FaultPlace::Packet { frame, packet } => {
             push_frame(line, frame);
             push_number(line, b" packet ", packet);
         }
-        Place::Cell { frame, row, column } => {
+        FaultPlace::Cell { frame, row, column } => {
             push_frame(line, frame);
             push_number(line, b" row ", u32::from(row));
             push_number(line, b" column ", u32::from(column));

@@ -1,11 +1,13 @@
--- The number and the name by which a fault of a pair of files is told (own), and which faults are
--- those of a device, of memory or of the one file.
+-- The number and the name by which a fault of a pair of files is told (own), where it is, and which
+-- faults are those of a device, of memory or of the one file.
 use Rattle.std.specs.Prelude.{ℕ, Bool, true, false, List, codes}
 use Rattle.stl_rows.specs.Fault as load
 use Rattle.stl_rows.specs.declared.fault.LoadFaultKind.{LoadFaultKind}
-use Rattle.stl_rows.specs.declared.fault.LoadFaultKind.TheVariants.{Memory}
+use Rattle.stl_rows.specs.declared.fault.LoadFaultKind.TheVariants.{Memory, Row}
 use Rattle.sub_check.specs.declared.fault.CheckFault.{CheckFault}
 use Rattle.sub_check.specs.declared.fault.CheckFault.TheVariants as fault
+use Rattle.sub_check.specs.declared.fault_place.FaultPlace.{FaultPlace}
+use Rattle.sub_check.specs.declared.fault_place.FaultPlace.TheVariants as place
 use Rattle.ttx_pes.specs.Fault as pes
 
 -- The number and the name that a fault is told by.
@@ -28,6 +30,32 @@ number_and_name (fault.Content frame row column) = (72, codes "Content")
 number_and_name (fault.Gap frame) = (73, codes "Gap")
 number_and_name (fault.Incomplete frame) = (77, codes "Incomplete")
 number_and_name (fault.Late frame) = (74, codes "Late")
+
+-- Where a fault of loading is: at a TTI block, and one of a text at its place in it too.
+abbrev pub load_place : LoadFaultKind → ℕ → FaultPlace
+load_place (Row f) block = place.Text block f.at
+load_place _ block = place.Block block
+
+-- Where the fault is: as in the file that it is of, or at a frame, a packet or a cell.
+abbrev pub place_of : CheckFault → FaultPlace
+place_of (fault.Subtitles f) = load_place f.kind f.block
+place_of (fault.Pes index f) = place.Pes index
+place_of fault.Empty = place.Nowhere
+place_of (fault.OffFrame index) = place.Pes index
+place_of (fault.Order index) = place.Pes index
+place_of (fault.Early frame) = place.Frame frame
+place_of (fault.Address frame packet) = place.Packet frame packet
+place_of (fault.HeaderCode frame packet) = place.Packet frame packet
+place_of (fault.Mode frame packet) = place.Packet frame packet
+place_of (fault.Control frame packet) = place.Packet frame packet
+place_of (fault.Parity frame packet) = place.Packet frame packet
+place_of (fault.RowChanged frame packet) = place.Packet frame packet
+place_of (fault.Enhancement frame packet) = place.Packet frame packet
+place_of (fault.NoFirstHeader frame) = place.Frame frame
+place_of (fault.Content frame row column) = place.Cell frame row column
+place_of (fault.Gap frame) = place.Frame frame
+place_of (fault.Incomplete frame) = place.Frame frame
+place_of (fault.Late frame) = place.Frame frame
 
 -- The source of the PES file failed.
 abbrev pub is_pes_read : CheckFault → Bool

@@ -1,7 +1,8 @@
 //! Why a pair of files is refused, and where.
 ghost use Rattle.std.specs.Prelude.{◌≡◌, ◌≤◌, length};
 
-use stl_rows::LoadFault;
+use crate::fault_place::FaultPlace;
+use stl_rows::{LoadFault, LoadFaultKind};
 use ttx_pes::PesFault;
 
 /// Why a pair of files is refused, and where, in the order of the manual's table of refusals.
@@ -119,7 +120,7 @@ pub enum CheckFault {
 }
 
 impl CheckFault {
-    ghost use Rattle.sub_check.specs.Fault.{number_and_name};
+    ghost use Rattle.sub_check.specs.Fault.{number_and_name, place_of};
 
     /// The number by which the fault is told (own).
     pub fn number(self) -> u8
@@ -161,6 +162,37 @@ impl CheckFault {
             CheckFault::Gap { .. } => (73, "Gap"),
             CheckFault::Incomplete { .. } => (77, "Incomplete"),
             CheckFault::Late { .. } => (74, "Late"),
+        }
+    }
+    /// Where the fault is: at the PES packet or the TTI block of the file that it is of, and one of a
+    /// text at its place in it too; at a frame, a packet or a cell of the transmission.
+    pub fn place(self) -> FaultPlace
+        ensures { result ≡ place_of self }
+    {
+        match self {
+            CheckFault::Subtitles(LoadFault { kind, block }) => match kind {
+                LoadFaultKind::Row(row) => FaultPlace::Text { block, at: row.at },
+                _ => FaultPlace::Block { block },
+            },
+            CheckFault::Empty => FaultPlace::Nowhere,
+            CheckFault::Pes { pes, .. }
+            | CheckFault::OffFrame { pes }
+            | CheckFault::Order { pes } => FaultPlace::Pes { pes },
+            CheckFault::Early { frame }
+            | CheckFault::NoFirstHeader { frame }
+            | CheckFault::Gap { frame }
+            | CheckFault::Incomplete { frame }
+            | CheckFault::Late { frame } => FaultPlace::Frame { frame },
+            CheckFault::Address { frame, packet }
+            | CheckFault::HeaderCode { frame, packet }
+            | CheckFault::Mode { frame, packet }
+            | CheckFault::Control { frame, packet }
+            | CheckFault::Parity { frame, packet }
+            | CheckFault::RowChanged { frame, packet }
+            | CheckFault::Enhancement { frame, packet } => FaultPlace::Packet { frame, packet },
+            CheckFault::Content { frame, row, column } => {
+                FaultPlace::Cell { frame, row, column }
+            }
         }
     }
 }

@@ -17,6 +17,7 @@ mod comparison;
 mod dropping;
 mod examples;
 mod fault;
+mod fault_place;
 mod files;
 mod frame_rules;
 mod hearing;
@@ -35,6 +36,7 @@ pub use checker::{Accepted, check};
 pub use dropping::{law_of_good_and_dropping, law_of_good_dropping_and_loss};
 pub use examples::{example_of_good, examples_of_broken_rules, examples_of_no_robustness};
 pub use fault::CheckFault;
+pub use fault_place::FaultPlace;
 pub use files::check_files;
 pub use laws::{
     law_of_all_kept, law_of_clean_spans, law_of_good, law_of_good_and_loss,

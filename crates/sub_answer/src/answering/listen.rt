@@ -16,8 +16,8 @@ use crate::faults::told_of_check;
 use crate::lines::{Line, push_told};
 use crate::printing::print;
 use crate::status::Status;
-use crate::told::{Kind, Place, Told};
-use sub_check::{ListenFault, Listening, listen};
+use crate::told::{Kind, Told};
+use sub_check::{FaultPlace, ListenFault, Listening, listen};
 use sub_io::{Sink, Source};
 use ttx_page::{Page, Receiver};
 
@@ -106,7 +106,7 @@ fn told_of_listen(fault: &ListenFault) -> Told
     match fault {
         ListenFault::File(fault) => told_of_check(*fault),
         ListenFault::LostHeader { frame, packet } => {
-            let place = Place::Packet {
+            let place = FaultPlace::Packet {
                 frame: *frame,
                 packet: *packet,
             };

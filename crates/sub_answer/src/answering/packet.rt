@@ -11,9 +11,10 @@ ghost use Rattle.sub_answer.specs.Listing.{packet_listing, row_listing};
 use crate::lines::{glyph, push_decimal, push_text, push_told};
 use crate::printing::print;
 use crate::status::Status;
-use crate::told::{Kind, Place, Told};
+use crate::told::{Kind, Told};
 use arrayvec::ArrayVec;
 use bitflags::Flags;
+use sub_check::FaultPlace;
 use sub_io::Sink;
 use ttx_packet::{Control, Header, Packet, is_odd};
 
@@ -64,7 +65,7 @@ fn push_packet(text: &mut Text, packet: &Packet) -> Status
         None => {
             push_told(
                 text,
-                &Told::new(Kind::Refused, 3, "BadAddress", Place::Nowhere),
+                &Told::new(Kind::Refused, 3, "BadAddress", FaultPlace::Nowhere),
             );
             Status::Refused
         }
@@ -83,7 +84,7 @@ fn push_page_header(text: &mut Text, packet: &Packet, magazine: u8) -> Status
     let Some(header) = packet.header() else {
         push_told(
             text,
-            &Told::new(Kind::Refused, 4, "BadHeader", Place::Nowhere),
+            &Told::new(Kind::Refused, 4, "BadHeader", FaultPlace::Nowhere),
         );
         return Status::Refused;
     };

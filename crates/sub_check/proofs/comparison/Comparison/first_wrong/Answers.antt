@@ -1,5 +1,5 @@
 -- A count of 0 is that of equal pages.
-use Rattle.std.proofs.Common.{◌≡◌, ℕ, IfSome, Option, Some, arith, subst, sym}
+use Rattle.std.proofs.Common.{◌≡◌, ℕ, IfSome, Option, subst, sym}
 use Rattle.ttx_page.specs.Differing.{differing}
 use Rattle.ttx_page.proofs.DifferingLemmas.{cells_same}
 use Rattle.sub_check.proofs.comparison.Comparison.first_wrong.Goals as goal
