@@ -1,64 +1,53 @@
 -- A file is loaded exactly where it is a file whose subtitles are in order, disjoint and drawable:
 -- loading_is.
-use Rattle.std.proofs.Common.{◌≡◌, ℕ, suc, ◌+◌, ◌-◌, ◌<◌, ◌≤◌, List, [], ◌∷◌, ◌++◌, Some, Result}
-use Rattle.std.proofs.Common.{Ok, Err, length, get_or, take, refl, sym, ap, subst, arith, rules}
-use Rattle.std.proofs.Common.{append_assoc, append-nil, length-append}
+use Rattle.std.proofs.Common.{◌≡◌, ℕ, suc, ◌-◌, ◌<◌, ◌≤◌, List, [], ◌∷◌, ◌++◌, Some, Result, Ok}
+use Rattle.std.proofs.Common.{Err, length, get_or, take, refl, sym, ap, arith, rules, append_assoc}
+use Rattle.std.proofs.Common.{append-nil, length-append}
 use Rattle.std.proofs.lemmas.Bool.Decides.{nat_tests}
 use Rattle.std.proofs.lemmas.List.{get_or_append_left}
 use Rattle.std.proofs.lemmas.List.Elements.{All-cons, All-nil}
 use Rattle.std.proofs.lemmas.Option.{slice_get-get_or}
 use Rattle.std.proofs.Math.Seq.{get_or-append_seam}
-use Rattle.std.specs.Prelude.{◌↔◌, All, IsOk, slice_get}
+use Rattle.std.specs.Prelude.{◌↔◌, All, IsOk}
 use Rattle.ttx_page.specs.Page.{Rows}
 use Rattle.stl_file.specs.File.{IsFile}
 use Rattle.stl_file.specs.NormalForm.{Judged, cons_all, subtitles_of}
 use Rattle.stl_file.specs.Reader.{outcome_of}
 use Rattle.stl_file.specs.Reading.{Outcome, ends, fails, gives}
-use Rattle.stl_file.specs.Subtitle.{SubtitleValue}
+use Rattle.stl_file.specs.Subtitle.{IsSubtitle, SubtitleValue}
 use Rattle.stl_file.specs.SubtitleBlocks.{AreBlocksOfEach}
+use Rattle.stl_file.proofs.SubtitleBlocksLemmas.{blocks_subtitle}
 use Rattle.stl_rows.specs.declared.fault.LoadFault.{LoadFault}
 use Rattle.stl_rows.specs.declared.fault.LoadFaultKind.{LoadFaultKind}
 use Rattle.stl_rows.specs.declared.fault.RowFault.{RowFault}
 use Rattle.stl_rows.specs.declared.national.National.{National}
 use Rattle.stl_rows.specs.DrawnPage.{drawn}
 use Rattle.stl_rows.specs.Loading.{LawOfLoading, loaded_behind, unless_told}
-use Rattle.stl_rows.specs.Programme.{AreInOrder, ProgrammeValue, follow_faults, last_of}
-use Rattle.stl_rows.specs.Programme.{order_faults, row_faults}
-use Rattle.stl_rows.proofs.ProgrammeLemmas.{AreShown, AreShown-push}
-
--- a subtitle begins before it ends
-abbrev IsTimed : SubtitleValue → Type 0
-IsTimed t = t.tci < t.tco
-
--- each subtitle may follow those before it
-abbrev Follow : National → List SubtitleValue → List SubtitleValue → Type 0
-Follow n records [] = Unit {0}
-Follow n records (t ∷ ts) = (follow_faults n records t ≡ []) × Follow n (records ++ t ∷ []) ts
+use Rattle.stl_rows.specs.Programme.{AreInOrder, IsProgramme, ProgrammeValue, follow_faults}
+use Rattle.stl_rows.specs.Programme.{last_of, order_faults, row_faults}
+use Rattle.stl_rows.proofs.ProgrammeLemmas.{IsProgramme-none, IsProgramme-push}
 
 -- a programme of these records
 abbrev programme_of : National → List SubtitleValue → Result ProgrammeValue LoadFault
 programme_of n records = Ok (record { national = n; records = records })
 
--- what is loaded of the subtitles that are left: them, and each may follow
+-- ---- what is loaded is in order and drawable
+
+-- what is loaded of the subtitles that are left: them, and with those before they are a programme
 record IsLoaded (n : National) (records : List SubtitleValue) (o : Outcome) (p : ProgrammeValue)
     : Type 0 where
   given : List SubtitleValue
   all : subtitles_of o ≡ Ok given
   is : p ≡ record { national = n; records = records ++ given }
-  follow : Follow n records given
+  programme : IsProgramme n records → All IsSubtitle given → IsProgramme n (records ++ given)
 
--- the next subtitle was loaded, with what came after it. For loaded_given
-loaded_next : (n : National) (records : List SubtitleValue) (t : SubtitleValue) (block : ℕ)
-    (o : Outcome) (p : ProgrammeValue)
-    → follow_faults n records t ≡ []
-    → IsLoaded n (records ++ t ∷ []) o p
-    → IsLoaded n records (gives t block o) p
-loaded_next n records t block o p none rest = record {
-  given = t ∷ rest.given;
-  all = ap (cons_all t) rest.all;
-  is = rw append_assoc at rest.is;
-  follow = (none, rest.follow);
-}
+-- where something was loaded no fault was told
+none_told : (faults : List LoadFaultKind) (block : ℕ) (next : Result ProgrammeValue LoadFault)
+    (p : ProgrammeValue)
+    → unless_told faults block next ≡ Ok p
+    → (faults ≡ []) × (next ≡ Ok p)
+none_told [] block next p h = (refl, h)
+none_told (kind ∷ kinds) block next p h = cc
 
 -- what was loaded are the subtitles of the file, and each may follow those before it
 loaded_given : (n : National) (records : List SubtitleValue) (o : Outcome) (p : ProgrammeValue)
@@ -70,56 +59,24 @@ loaded_given n records ends p h =
       given = [];
       all = refl;
       is = rw append-nil (sym same);
-      follow = tt;
+      programme = λ before each. rw append-nil before;
     }
 loaded_given n records (fails f block) p h = cc
 loaded_given n records (gives t block o) p h =
-    go (follow_faults n records t) refl h (loaded_given n (records ++ t ∷ []) o p)
-  where
-    go : (faults : List LoadFaultKind)
-        → follow_faults n records t ≡ faults
-        → unless_told faults block (loaded_behind n (records ++ t ∷ []) o) ≡ Ok p
-        → (loaded_behind n (records ++ t ∷ []) o ≡ Ok p → IsLoaded n (records ++ t ∷ []) o p)
-        → IsLoaded n records (gives t block o) p
-    go [] none k rest = loaded_next n records t block o p none (rest k)
-    go (kind ∷ kinds) none k rest = cc
+    let told = none_told (follow_faults n records t) block _ p h in
+    let rest = loaded_given n (records ++ t ∷ []) o p told.1 in
+    record {
+      given = t ∷ rest.given;
+      all = ap (cons_all t) rest.all;
+      is = rw append_assoc at rest.is;
+      programme = λ before each.
+          rw append_assoc
+          at (rest.programme
+          (IsProgramme-push n records t before (each 0 t (omega arith)) told.0)
+          (λ k d h. each (suc k) d (omega arith)));
+    }
 
--- subtitles that may follow one another are loaded
-given_loaded : (n : National) (records : List SubtitleValue) (o : Outcome) (ts : List SubtitleValue)
-    → subtitles_of o ≡ Ok ts
-    → Follow n records ts
-    → loaded_behind n records o ≡ programme_of n (records ++ ts)
-given_loaded n records ends ts h follow =
-    let none : ts ≡ [] = cc in
-    rw (none, append-nil) refl
-given_loaded n records (fails f block) ts h follow = cc
-given_loaded n records (gives t block o) ts h follow =
-    go (subtitles_of o) refl h (given_loaded n (records ++ t ∷ []) o)
-  where
-    go : (r : Judged)
-        → subtitles_of o ≡ r
-        → cons_all t r ≡ Ok ts
-        → ((us : List SubtitleValue) → subtitles_of o ≡ Ok us → Follow n (records ++ t ∷ []) us
-        → loaded_behind n (records ++ t ∷ []) o ≡ programme_of n ((records ++ t ∷ []) ++ us))
-        → loaded_behind n records (gives t block o) ≡ programme_of n (records ++ ts)
-    go (Err f) e k rest = cc
-    go (Ok us) e k rest =
-        let same : ts ≡ t ∷ us = cc in
-        let f : Follow n records (t ∷ us) = subst (Follow n records) same follow in
-        rw (same, f.0) (rw append_assoc at (rest us e f.1))
-
--- subtitles with no fault are in order and drawable
-follow_shown : (n : National) (records ts : List SubtitleValue)
-    → AreShown n records
-    → All IsTimed ts
-    → Follow n records ts
-    → AreShown n (records ++ ts)
-follow_shown n records [] shown times follow = rw append-nil shown
-follow_shown n records (t ∷ ts) shown times follow =
-    let next : AreShown n (records ++ t ∷ []) =
-    AreShown-push n records t shown (times 0 t (omega arith)) follow.0 in
-    rw append_assoc at
-    (follow_shown n (records ++ t ∷ []) ts next (λ k d h. times (suc k) d (omega arith)) follow.1)
+-- ---- what is in order and drawable is loaded
 
 -- a drawable subtitle has no fault of its rows
 no_row_fault : (r : Result Rows RowFault) → IsOk r → row_faults r ≡ []
@@ -131,55 +88,63 @@ no_order_fault : (before t : SubtitleValue) → before.tci < before.tco → befo
     → order_faults (Some before) t ≡ []
 no_order_fault before t times order = grind (arith, nat_tests)
 
--- the times of a subtitle against those of the last before it
+-- a subtitle of a programme has no fault of its times against the one before it
 times_follow : (n : National) (records ts : List SubtitleValue) (t : SubtitleValue)
-    → AreShown n (records ++ t ∷ ts)
+    → IsProgramme n (records ++ t ∷ ts)
     → order_faults (last_of records) t ≡ []
-times_follow n [] ts t shown = refl
-times_follow n (r ∷ rs) ts t shown =
+times_follow n [] ts t ok = refl
+times_follow n (r ∷ rs) ts t ok =
     let records : List SubtitleValue = r ∷ rs in
-    let all : List SubtitleValue = records ++ t ∷ ts in
-    let size : length all ≡ length records + length (t ∷ ts) = length-append records (t ∷ ts) in
     let at : ℕ = length records - 1 in
-    let before : SubtitleValue = get_or records at t in
-    let is : slice_get records at ≡ Some before = slice_get-get_or records at t (omega arith) in
-    let old : get_or all at t ≡ before = get_or_append_left records (t ∷ ts) t at (omega arith) in
-    let new : get_or all (length records) t ≡ t = get_or-append_seam records t ts t in
-    let order : (get_or all at t).tco ≤ (get_or all (length records) t).tci =
-    shown.in_order at (length records) t (omega arith) (omega (arith, size)) in
-    let times : (get_or all at t).tci < (get_or all at t).tco =
-    shown.times at t (omega (arith, size)) in
-    rw is (no_order_fault before t (rw old at times) (rw (old, new) at order))
+    let size = length-append records (t ∷ ts) in
+    let old = get_or_append_left records (t ∷ ts) t at (omega arith) in
+    let new = get_or-append_seam records t ts t in
+    rw (slice_get-get_or records at t (omega arith))
+    (no_order_fault (get_or records at t) t (rw old at (ok.each at t (omega (arith, size))).times)
+    (rw (old, new) at (ok.in_order at (length records) t (omega arith) (omega (arith, size)))))
 
--- subtitles in order that are drawable have no fault
-shown_follow : (n : National) (records ts : List SubtitleValue)
-    → AreShown n (records ++ ts)
-    → Follow n records ts
-shown_follow n records [] shown = tt
-shown_follow n records (t ∷ ts) shown =
+-- it has none at all
+none_follow : (n : National) (records ts : List SubtitleValue) (t : SubtitleValue)
+    → IsProgramme n (records ++ t ∷ ts)
+    → follow_faults n records t ≡ []
+none_follow n records ts t ok =
     let size = length-append records (t ∷ ts) in
     let drawable : IsOk (drawn n t) =
-    rw (get_or-append_seam records t ts t)
-    at (shown.drawable (length records) t (omega arith)) in (
-      rw (times_follow n records ts t shown, no_row_fault (drawn n t) drawable) refl,
-      shown_follow n (records ++ t ∷ []) ts (rw append_assoc shown),
-    )
+    rw (get_or-append_seam records t ts t) at (ok.drawable (length records) t (omega arith)) in
+    rw (times_follow n records ts t ok, no_row_fault (drawn n t) drawable) refl
 
--- each subtitle of a file begins before it ends
-all_times : (ts : List SubtitleValue) (gs : List (List (List ℕ)))
+-- the first of all subtitles, and the others
+first_given : (t : SubtitleValue) (r : Judged) (ts : List SubtitleValue)
+    → cons_all t r ≡ Ok ts
+    → (us : List SubtitleValue) × (r ≡ Ok us) × (ts ≡ t ∷ us)
+first_given t (Err f) ts h = cc
+first_given t (Ok us) ts h = (us, refl, cc)
+
+-- subtitles that are a programme are loaded
+given_loaded : (n : National) (records : List SubtitleValue) (o : Outcome) (ts : List SubtitleValue)
+    → subtitles_of o ≡ Ok ts
+    → IsProgramme n (records ++ ts)
+    → loaded_behind n records o ≡ programme_of n (records ++ ts)
+given_loaded n records ends ts h ok =
+    let none : ts ≡ [] = cc in
+    rw (none, append-nil) refl
+given_loaded n records (fails f block) ts h ok = cc
+given_loaded n records (gives t block o) ts h ok =
+    let rest = first_given t (subtitles_of o) ts h in
+    let all : IsProgramme n (records ++ t ∷ rest.0) = rw rest.2 at ok in
+    rw (rest.2, none_follow n records rest.0 t all)
+    (rw append_assoc at (given_loaded n (records ++ t ∷ []) o rest.0 rest.1 (rw append_assoc all)))
+
+-- ---- the law
+
+-- each subtitle of a file is one
+all_subtitles : (ts : List SubtitleValue) (gs : List (List (List ℕ)))
     → AreBlocksOfEach ts gs
-    → All IsTimed ts
-all_times [] gs e = All-nil IsTimed
-all_times (t ∷ ts) [] e = λ k d h. absurd e
-all_times (t ∷ ts) (g ∷ gs) e = All-cons IsTimed t ts e.0.begins.times (all_times ts gs e.1)
-
--- no subtitles are in order
-none_shown : (n : National) → AreShown n []
-none_shown n = record {
-  times = λ k d h. absurd (omega arith);
-  in_order = λ i j d below inside. absurd (omega arith);
-  drawable = λ k d h. absurd (omega arith);
-}
+    → All IsSubtitle ts
+all_subtitles [] gs e = All-nil IsSubtitle
+all_subtitles (t ∷ ts) [] e = λ k d h. absurd e
+all_subtitles (t ∷ ts) (g ∷ gs) e =
+    All-cons IsSubtitle t ts (blocks_subtitle t g e.0) (all_subtitles ts gs e.1)
 
 -- the law, from what a file is: for `law_of_loading`
 pub loading_is :
@@ -189,25 +154,21 @@ pub loading_is :
 loading_is file n s ts = (there, back)
   where
     there : loaded_behind n [] (outcome_of s) ≡ programme_of n ts
-        → (g : List ℕ) × IsFile s g ts × AreInOrder ts × All
-        (λ (t : SubtitleValue). IsOk (drawn n t)) ts
+        → (g : List ℕ) × IsFile s g ts × AreInOrder ts × All (λ t. IsOk (drawn n t)) ts
     there h =
         let l = loaded_given n [] (outcome_of s) (record { national = n; records = ts }) h in
         let same : ts ≡ l.given = ap (λ (p : ProgrammeValue). p.records) l.is in
-        let all : subtitles_of (outcome_of s) ≡ Ok ts = rw same l.all in
-        let is : IsFile s (take 1024 s) ts = (file s (take 1024 s) ts).1 (refl, all) in
-        let shown : AreShown n ts =
-        follow_shown n [] ts (none_shown n) (all_times ts is.rest.parts is.rest.are_of)
-        (rw same l.follow) in
-        (take 1024 s, is, shown.in_order, shown.drawable)
+        let is = (file s (take 1024 s) ts).1 (refl, rw same l.all) in
+        let each = all_subtitles ts is.rest.parts is.rest.are_of in
+        let ok : IsProgramme n ts =
+        rw same (l.programme (IsProgramme-none n) (rw same at each)) in
+        (take 1024 s, is, ok.in_order, ok.drawable)
 
-    back : (g : List ℕ) × IsFile s g ts × AreInOrder ts × All
-        (λ (t : SubtitleValue). IsOk (drawn n t)) ts
+    back : (g : List ℕ) × IsFile s g ts × AreInOrder ts × All (λ t. IsOk (drawn n t)) ts
         → loaded_behind n [] (outcome_of s) ≡ programme_of n ts
     back h =
-        let shown : AreShown n ts = record {
-          times = all_times ts h.1.rest.parts h.1.rest.are_of;
+        given_loaded n [] (outcome_of s) ts ((file s h.0 ts).0 h.1).1 (record {
+          each = all_subtitles ts h.1.rest.parts h.1.rest.are_of;
           in_order = h.2;
           drawable = h.3;
-        } in
-        given_loaded n [] (outcome_of s) ts ((file s h.0 ts).0 h.1).1 (shown_follow n [] ts shown)
+        })

@@ -23,7 +23,7 @@ returns-in-Err-clause-read g c = λ is.
 
 pub subtitles-init : goal.subtitles-init
 subtitles-init g c = record {
-  programme = IsProgramme-none c.args.national _ c.new-subtitles.ensures.items;
+  programme = rw c.new-subtitles.ensures.items (IsProgramme-none c.args.national);
   reading = search rules;
   count = search rules;
   taken = has_taken-opened _ _ c.in-Ok.reader.gsi c.in-Ok.reader.block (search rules)
