@@ -4,11 +4,9 @@ pub mod DataUnitLemmas
 pub mod PesHeaderLemmas
 pub mod PesPacketLemmas
 pub mod ReadingLemmas
-pub mod UnitPlaceLemmas
-pub mod SampleLemmas
-pub mod PacketRefusalLemmas
-pub mod UnitRefusalLemmas
+pub mod QuestionLemmas
 pub mod RefusalLemmas
+
 pub mod TakingLemmas
 pub mod KeptFrameLemmas
 pub mod ReaderLemmas

@@ -85,17 +85,6 @@ tests_held a i b j c k d l h =
     let r = and_parts (eqb a i) (eqb b j) q.0 in
     (eqb-true a i r.0, eqb-true b j r.1, eqb-true c k q.1, eqb-true d l p.1)
 
--- And such that hold.
-pub tests_hold : (a i b j c k d l : ℕ)
-    → (a ≡ i) × (b ≡ j) × (c ≡ k) × (d ≡ l)
-    → (eqb a i && eqb b j && eqb c k && eqb d l) ≡ true
-tests_hold a i b j c k d l h =
-    let ta : eqb a i ≡ true = eq-eqb a i h.0 in
-    let tb : eqb b j ≡ true = eq-eqb b j h.1 in
-    let tc : eqb c k ≡ true = eq-eqb c k h.2 in
-    let td : eqb d l ≡ true = eq-eqb d l h.3 in
-    rw (ta, tb, tc, td) refl
-
 -- Six bytes whose size is read are those of the grammar.
 pub head_sound : (b : List ℕ) (size : ℕ) → length b ≡ 6 → AreBytes b → size_at b ≡ Ok size
     → (n : ℕ) × (1 ≤ n) × (n ≤ 9) × (size ≡ 184 * n)

@@ -1,13 +1,12 @@
 -- What a reader that was given a packet or a fault knows of the bytes of its source. Main lemmas:
 -- packet_left, excluded.
-use Rattle.std.proofs.Common.{◌≡◌, ℕ, ◌<◌, Bool, true, false, cond, eqb, List, [], ◌∷◌, ◌++◌}
-use Rattle.std.proofs.Common.{length, Option, Some, None, Result, Ok, Err, refl, sym, ap, subst}
-use Rattle.std.proofs.Common.{◌∙◌, arith, inl, inr, true≢false}
+use Rattle.std.proofs.Common.{◌≡◌, ℕ, ◌<◌, true, false, eqb, List, [], ◌∷◌, ◌++◌}
+use Rattle.std.proofs.Common.{length, Option, Some, None, Result, Ok, Err, refl, sym, ap}
+use Rattle.std.proofs.Common.{◌∙◌, arith, inl, inr}
 use Rattle.std.proofs.lemmas.Bool.{cases_Bool}
 use Rattle.std.proofs.lemmas.Option.{same_Some}
-use Rattle.ttx_pes.proofs.UnitPlaceLemmas.{Err-injective, step_refused}
+use Rattle.ttx_pes.proofs.RefusalLemmas.{answer_cases}
 use Rattle.sub_io.specs.Device.{failed}
-use Rattle.sub_io.specs.Reading.{◌>>=◌}
 use Rattle.ttx_pes.specs.declared.fault.PesFault.{PesFault}
 use Rattle.ttx_pes.specs.declared.fault.PesFault.TheVariants as fault
 use Rattle.ttx_pes.specs.declared.progress.Progress.{Progress}
@@ -56,14 +55,11 @@ answer_err : (given : ℕ) (b : List ℕ) (f : PesFault)
 unfolding answer_at
 answer_err given [] f k e = absurd cc
 answer_err given (x ∷ b) f k e = elim (cases_Bool (eqb given 2160000)) [
-  | inl full ↦
-      let told : answer_at given (x ∷ b) ≡ Err fault.TooMany = rw full refl in
-      let same : f ≡ fault.TooMany =
-      Err-injective {A = Option PesValue} f fault.TooMany (sym e ∙ told) in
-      absurd (true≢false (sym k ∙ ap is_format_fault same))
-  | inr more ↦ elim (step_refused (packet_at (x ∷ b)) value_in f (rw more at e)) [
-    | inl bad ↦ bad
-    | inr (_, _, told) ↦ absurd cc
+  | inl full ↦ let many : f ≡ fault.TooMany = let told = rw full at e in cc in
+      let format = rw many at k in absurd cc
+  | inr more ↦ elim (answer_cases (packet_at (x ∷ b))) [
+    | inl (p, read) ↦ let told = rw (more, read) at e in absurd cc
+    | inr (g, bad) ↦ let told = rw (more, bad) at e in cc
   ]
 ]
 

@@ -1,328 +1,413 @@
 -- Which refusal bytes get: that of the first question in which they fail. Main lemma:
 -- refusal_by_questions.
-use Rattle.std.proofs.Common.{◌≡◌, ℕ, ◌+◌, ◌-◌, ◌*◌, ◌/◌, ◌%◌, ◌<◌, ◌≤◌, ◌++◌, true, List, []}
-use Rattle.std.proofs.Common.{length, get_or, take, drop, Result, Ok, Err, refl, sym, ap, ◌∙◌}
-use Rattle.std.proofs.Common.{arith, inl, inr, length-append, length-take, length-drop, eqb, leb}
-use Rattle.std.proofs.Common.{◌∷◌}
-use Rattle.std.proofs.lemmas.Bool.{cases_lt, eq-eqb, le-leb}
-use Rattle.std.proofs.lemmas.List.{get_or-drop, get_or-take, get_or_append_left}
-use Rattle.std.specs.Prelude.{◌&&◌}
-use Rattle.std.specs.List.{AllByRecursion}
-use Rattle.ttx_pes.specs.Reading.{has_markers, is_start, packet_at, pts_at, size_at, told_size}
-use Rattle.ttx_pes.specs.Reading.{units_at, value_at}
-use Rattle.ttx_pes.specs.Refusal.{packet_questions, unit_questions, FailFirst, Question, told_fault}
-use Rattle.ttx_pes.specs.Refusal.{SixBytes, Start, PacketLength, AllBytes, Scrambling, PtsFlags}
-use Rattle.ttx_pes.specs.Refusal.{HeaderLength, Time, Agree, AgreeBefore, AgreeUpTo, DataIdentifier}
-use Rattle.ttx_pes.specs.Refusal.{FramingCode, Line, UnitLength, unit_place}
-use Rattle.ttx_pes.proofs.PesHeaderLemmas.{six_of, tests_held, tests_hold, head_sound, header_sound}
-use Rattle.ttx_pes.proofs.UnitPlaceLemmas.{eqb_cases, step_refused, test_cases, Err-injective}
-use Rattle.ttx_pes.proofs.UnitPlaceLemmas.{answer_cases, units_split}
+use Rattle.std.proofs.Common.{◌≡◌, ℕ, zero, suc, ◌+◌, ◌-◌, ◌*◌, ◌/◌, ◌%◌, ◌<◌, ◌≤◌, true}
+use Rattle.std.proofs.Common.{false, cond, not, ltb, List, [], ◌∷◌, ◌++◌, length, get_or, map}
+use Rattle.std.proofs.Common.{Some, None, Result, Ok, Err, refl, sym, ap, ◌∙◌, arith, inl, inr, ◌⊎◌}
+use Rattle.std.proofs.Common.{length-append}
+use Rattle.std.proofs.Math.Bool.{or-true}
+use Rattle.std.proofs.lemmas.Bool.{cases_lt, and_parts, eq-eqb, eqb-true, le-leb, leb-true, le-ltb}
+use Rattle.std.proofs.lemmas.Bool.{lt-ltb}
+use Rattle.std.proofs.lemmas.Bool.Decides.{nat_tests}
+use Rattle.std.proofs.lemmas.List.{append-nil, get_or_append_left, get_or_past}
+use Rattle.std.proofs.lemmas.List.FromFn.{get_or-map-range_with_len, length-map-range_with_len}
+use Rattle.std.proofs.lemmas.Option.{same_Some}
+use Rattle.std.specs.Int.{bytes_high_first}
+use Rattle.std.specs.List.{range_with_len}
 use Rattle.sub_io.specs.Reading.{AreBytes}
 use Rattle.ttx_pes.specs.declared.fault.PesFault.{PesFault}
-use Rattle.ttx_pes.specs.declared.fault.PesFault.TheVariants as fault
-use Rattle.ttx_pes.specs.PesPacket.{IsPesPacket, PesValue}
-use Rattle.ttx_pes.proofs.DataUnitLemmas.{AreBytes-drop, AreBytes-take}
-use Rattle.ttx_pes.proofs.ReadingLemmas.{packet_cut, packet_short, packet_size, packet_whole}
-use Rattle.ttx_pes.proofs.ReadingLemmas.{read_is_packet}
-use Rattle.ttx_pes.proofs.SampleLemmas.{fields_of}
-use Rattle.ttx_pes.proofs.PacketRefusalLemmas.{Begun, HasMarkers, IsStart, IsTold, all_fails}
-use Rattle.ttx_pes.proofs.PacketRefusalLemmas.{header_length_fails, identifier_fails, length_fails}
-use Rattle.ttx_pes.proofs.PacketRefusalLemmas.{pts_flags_fails, scrambling_fails, six_fails}
-use Rattle.ttx_pes.proofs.PacketRefusalLemmas.{start_fails, time_fails}
-use Rattle.ttx_pes.proofs.UnitRefusalLemmas.{Found, Headed, unit_fails}
+use Rattle.ttx_pes.specs.PesPacket.{IsPesPacket, PesValue, packet_length, packet_start, pts_bytes}
+use Rattle.ttx_pes.specs.Reading.{packet_at, told_size}
+use Rattle.ttx_pes.specs.Refusal.{Agree, AgreeBefore, FailFirst, HaveSameByte, Question}
+use Rattle.ttx_pes.specs.Refusal.{SixBytes, Start, PacketLength, AllBytes, Scrambling, PtsFlags}
+use Rattle.ttx_pes.specs.Refusal.{HeaderLength, Time, DataIdentifier, UnitLength, FramingCode, Line}
+use Rattle.ttx_pes.specs.Refusal.{question_number, told_fault, unit_place}
+use Rattle.ttx_pes.proofs.QuestionLemmas.{RightBelow, asked_in_order, first_wrong, packet_asked}
+use Rattle.ttx_pes.proofs.QuestionLemmas.{place_before, questions, refusal, right, unit_byte}
+use Rattle.ttx_pes.proofs.ReadingLemmas.{packet_is_read, read_is_packet}
 
--- An answer refuses for one fault alone.
-refused_as : {A : Type 0} {r : Result A PesFault} {g f : PesFault}
-    → r ≡ Err g
-    → r ≡ Err f
-    → g ≡ f
-refused_as {A = A} {g = g} {f = f} told e = Err-injective {A = A} g f (sym told ∙ e)
+-- ---- bytes that agree are right in the same questions
 
--- A wrong start or length.
-size_fails : (b : List ℕ) (f : PesFault)
-    → 6 ≤ length b
-    → size_at (take 6 b) ≡ Err f
-    → Found f b
-unfolding size_at
-size_fails b f long e =
-    let x = take 6 b in
-    let e0 : get_or x 0 0 ≡ get_or b 0 0 = get_or-take 6 b 0 0 (omega arith) in
-    let e1 : get_or x 1 0 ≡ get_or b 1 0 = get_or-take 6 b 1 0 (omega arith) in
-    let e2 : get_or x 2 0 ≡ get_or b 2 0 = get_or-take 6 b 2 0 (omega arith) in
-    let e3 : get_or x 3 0 ≡ get_or b 3 0 = get_or-take 6 b 3 0 (omega arith) in
-    let e4 : get_or x 4 0 ≡ get_or b 4 0 = get_or-take 6 b 4 0 (omega arith) in
-    let e5 : get_or x 5 0 ≡ get_or b 5 0 = get_or-take 6 b 5 0 (omega arith) in
-    let total = told_size x in
-    elim (test_cases (is_start x) fault.Start f _ e) [
-      | inl (wrong, is) ↦ (
-        Start,
-        is,
-        start_fails b long (λ h.
-            let held : is_start x ≡ true =
-            rw (e0, e1, e2, e3) (tests_hold _ _ _ _ _ _ _ _ h) in
-            absurd cc),
-      )
-      | inr (right, d) ↦
-          let start : IsStart b =
-          rw (sym e0, sym e1, sym e2, sym e3) (tests_held _ _ _ _ _ _ _ _ right) in
-          elim (test_cases (eqb (total % 184) 0 && leb total 1656) fault.Length f (Ok total) d) [
-            | inr (_, told) ↦ absurd cc
-            | inl (wrong, is) ↦ (
-              PacketLength,
-              is,
-              length_fails b long start (λ n lo hi h4 h5.
-                  let z4 : get_or x 4 0 ≡ ((184 * n - 6) / 256) % 256 = e4 ∙ h4 in
-                  let z5 : get_or x 5 0 ≡ (184 * n - 6) % 256 = e5 ∙ h5 in
-                  let size : total ≡ 184 * n = omega arith in
-                  let whole : eqb ((184 * n) % 184) 0 ≡ true = eq-eqb _ _ (omega arith) in
-                  let low : leb (184 * n) 1656 ≡ true = le-leb _ _ (omega arith) in
-                  let fits : (eqb (total % 184) 0 && leb total 1656) ≡ true =
-                  rw (size, whole, low) refl in
-                  absurd cc),
-            )
-          ]
+-- A test that held: the first number is not below the other.
+not_below : (m n : ℕ) → not (ltb m n) ≡ true → n ≤ m
+not_below m n h = grind (arith, nat_tests)
+
+-- The bytes tell the size of a packet.
+told_count : (b : List ℕ)
+    → right b PacketLength ≡ true
+    → (n : ℕ) × (1 ≤ n) × (n ≤ 9) × (told_size b ≡ 184 * n)
+told_count b h =
+    let parts = and_parts _ _ h in
+    let whole : told_size b % 184 ≡ 0 = eqb-true _ _ parts.0 in
+    let low : told_size b ≤ 1656 = leb-true _ _ parts.1 in
+    (told_size b / 184, omega arith, omega arith, omega arith)
+
+-- The place before a data unit is the same where the bytes agree before it.
+same_place : (k m : ℕ) (b c : List ℕ)
+    → ((r : Question) → question_number r < 9 + 3 * k → Agree b c r)
+    → k ≤ m
+    → 46 + 46 * m ≤ length c
+    → place_before k b ≡ place_before k c
+same_place zero m b c agree le long = refl
+same_place (suc k) m b c agree le long =
+    let rest = same_place k m b c (λ r lt. agree r (omega arith)) (omega arith) long in
+    let e0 : unit_byte b k 0 ≡ unit_byte c k 0 =
+    (agree (FramingCode k) (omega arith)).0 (omega arith) in
+    let e2 : unit_byte b k 2 ≡ unit_byte c k 2 = agree (Line k) (omega arith) (omega arith) in
+    rw (e0, e2, rest) refl
+
+-- What agrees up to a question is right in it where the other is, a packet of m data units.
+same_right : (q : Question) (m : ℕ) (b c : List ℕ)
+    → AgreeBefore q b c
+    → Agree b c q
+    → question_number q < 9 + 3 * m
+    → 1 ≤ m
+    → 46 + 46 * m ≤ length c
+    → told_size c ≤ length c
+    → right b q ≡ right c q
+same_right SixBytes m b c before same lt one long all =
+    rw (le-ltb (length b) 6 same, le-ltb (length c) 6 (omega arith)) refl
+same_right Start m b c before same lt one long all = rw (
+  same.0 (omega arith),
+  same.1.0 (omega arith),
+  same.1.1.0 (omega arith),
+  same.1.1.1.0 (omega arith),
+) refl
+same_right PacketLength m b c before same lt one long all =
+    rw (same.0 (omega arith), same.1.0 (omega arith)) refl
+same_right AllBytes m b c before same lt one long all =
+    let size = before PacketLength (omega arith) in
+    let told : told_size b ≡ told_size c =
+    rw (size.0 (omega arith), size.1.0 (omega arith)) refl in
+    rw (le-ltb (length b) (told_size b) (omega arith), le-ltb (length c) (told_size c) all) refl
+same_right Scrambling m b c before same lt one long all = rw (same (omega arith)) refl
+same_right PtsFlags m b c before same lt one long all = rw (same (omega arith)) refl
+same_right HeaderLength m b c before same lt one long all = rw (same (omega arith)) refl
+same_right Time m b c before same lt one long all =
+    rw (same.0 (omega arith), same.1.1.0 (omega arith), same.1.1.1.1.0 (omega arith)) refl
+same_right DataIdentifier m b c before same lt one long all = rw (same (omega arith)) refl
+same_right (UnitLength k) m b c before same lt one long all = rw (same (omega arith)) refl
+same_right (FramingCode k) m b c before same lt one long all =
+    rw (same.0 (omega arith), same.1.0 (omega arith)) refl
+same_right (Line k) m b c before same lt one long all =
+    let place = same_place k m b c (λ r less. before r (omega arith)) (omega arith) long in
+    let e0 : unit_byte b k 0 ≡ unit_byte c k 0 =
+    (before (FramingCode k) (omega arith)).0 (omega arith) in
+    rw (place, e0, same (omega arith)) refl
+
+-- ---- which question asks for a byte
+
+-- The number of the question that asks for the byte at a place.
+abbrev header_askers : List ℕ
+header_askers = 1 ∷ 1 ∷ 1 ∷ 1 ∷ 2 ∷ 2 ∷ 4 ∷ 5 ∷ 6 ∷ 7 ∷ 7 ∷ 7 ∷ 7 ∷ 7 ∷ []
+
+abbrev asker : ℕ → ℕ
+asker i =
+    get_or header_askers i
+    (cond (ltb i 46) 8 (get_or (10 ∷ 9 ∷ 11 ∷ 10 ∷ []) ((i - 46) % 46) 0 + 3 * ((i - 46) / 46)))
+
+-- That of a byte of data unit k.
+unit_asker : (k i : ℕ) → i < 4
+    → asker (unit_place k i) ≡ get_or (10 ∷ 9 ∷ 11 ∷ 10 ∷ []) i 0 + 3 * k
+unit_asker k i lt =
+    let place = unit_place k i in
+    let within : ltb place 46 ≡ false = le-ltb place 46 (omega arith) in
+    let rest : (place - 46) % 46 ≡ i = omega arith in
+    let unit : (place - 46) / 46 ≡ k = omega arith in
+    get_or_past header_askers place _ (omega arith) ∙ rw (within, rest, unit) refl
+
+-- Where the bytes that a question asks for are the same, they agree in it.
+agree_where : (b c : List ℕ) (r : Question)
+    → (question_number r ≡ 0 → 6 ≤ length b)
+    → (question_number r ≡ 3 → length c ≤ length b)
+    → ((i : ℕ) → asker i ≡ question_number r → HaveSameByte b c i)
+    → Agree b c r
+agree_where b c SixBytes six all same = six refl
+agree_where b c Start six all same =
+    (same 0 refl, (same 1 refl, (same 2 refl, (same 3 refl, tt))))
+agree_where b c PacketLength six all same = (same 4 refl, (same 5 refl, tt))
+agree_where b c AllBytes six all same = all refl
+agree_where b c Scrambling six all same = same 6 refl
+agree_where b c PtsFlags six all same = same 7 refl
+agree_where b c HeaderLength six all same = same 8 refl
+agree_where b c Time six all same =
+    (same 9 refl, (same 10 refl, (same 11 refl, (same 12 refl, (same 13 refl, tt)))))
+agree_where b c DataIdentifier six all same = same 45 refl
+agree_where b c (UnitLength k) six all same =
+    same (unit_place k 1) (unit_asker k 1 (omega arith))
+agree_where b c (FramingCode k) six all same = (
+  same (unit_place k 0) (unit_asker k 0 (omega arith)),
+  (same (unit_place k 3) (unit_asker k 3 (omega arith)), tt),
+)
+agree_where b c (Line k) six all same = same (unit_place k 2) (unit_asker k 2 (omega arith))
+
+-- ---- what is right is read
+
+-- What an answer is.
+pub answer_cases : {A : Type 0} (r : Result A PesFault)
+    → ((x : A) × (r ≡ Ok x)) ⊎ ((e : PesFault) × (r ≡ Err e))
+answer_cases (Ok x) = inl (x, refl)
+answer_cases (Err e) = inr (e, refl)
+
+-- Bytes that are right in all their questions are read, and those that are read are right in them.
+read_if_right : (b : List ℕ) (n : ℕ)
+    → told_size b / 46 - 1 ≡ n
+    → RightBelow (right b) (9 + 3 * n)
+    → (r : PesValue × List ℕ) × (packet_at b ≡ Ok r)
+read_if_right b n count all =
+    let asked = packet_asked b in
+    elim (asked_in_order (right b) n) [
+      | inr found ↦
+          let held = all found.q found.below in
+          let wrong = found.wrong in
+          absurd cc
+      | inl none ↦ elim (answer_cases (packet_at b)) [
+        | inl read ↦ read
+        | inr (f, bad) ↦
+            let no = rw count at asked in
+            let told : refusal (packet_at b) ≡ Some f = ap refusal bad in
+            let nothing = none.1 in
+            absurd cc
+      ]
     ]
 
--- A wrong header, of which y is what follows its first six bytes.
-header_fails : (n : ℕ) (b y : List ℕ) (f : PesFault)
-    → Begun n b
-    → ((i : ℕ) → i < 40 → get_or y i 0 ≡ get_or b (6 + i) 0)
-    → pts_at y ≡ Err f
-    → Found f b
-unfolding pts_at
-header_fails n b y f g byte e =
-    let e6 : get_or y 0 0 ≡ get_or b 6 0 = byte 0 (omega arith) in
-    let e7 : get_or y 1 0 ≡ get_or b 7 0 = byte 1 (omega arith) in
-    let e8 : get_or y 2 0 ≡ get_or b 8 0 = byte 2 (omega arith) in
-    let e9 : get_or y 3 0 ≡ get_or b 9 0 = byte 3 (omega arith) in
-    let e11 : get_or y 5 0 ≡ get_or b 11 0 = byte 5 (omega arith) in
-    let e13 : get_or y 7 0 ≡ get_or b 13 0 = byte 7 (omega arith) in
-    let e45 : get_or y 39 0 ≡ get_or b 45 0 = byte 39 (omega arith) in
-    elim (eqb_cases (get_or y 0 0 / 16) 8 fault.Flags f _ e) [
-      | inl (bad, is) ↦ (Scrambling, is, scrambling_fails n b g (λ h. bad (rw e6 h)))
-      | inr (t6, d6) ↦
-          let h6 : get_or b 6 0 / 16 ≡ 8 = rw (sym e6) t6 in
-          elim (eqb_cases (get_or y 1 0 / 64) 2 fault.NoTime f _ d6) [
-            | inl (bad, is) ↦ (PtsFlags, is, pts_flags_fails n b g h6 (λ h. bad (rw e7 h)))
-            | inr (t7, d7) ↦
-                let h7 : get_or b 7 0 / 64 ≡ 2 = rw (sym e7) t7 in
-                elim (eqb_cases (get_or y 2 0) 36 fault.HeaderLength f _ d7) [
-                  | inl (bad, is) ↦
-                      (HeaderLength, is, header_length_fails n b g h6 h7 (λ h. bad (e8 ∙ h)))
-                  | inr (t8, d8) ↦
-                      let h8 : get_or b 8 0 ≡ 36 = sym e8 ∙ t8 in
-                      elim (test_cases (has_markers y) fault.Time f _ d8) [
-                        | inl (wrong, is) ↦ (
-                          Time,
-                          is,
-                          time_fails n b g h6 h7 h8 (λ h.
-                              let held : has_markers y ≡ true =
-                              rw (e9, e11, e13) (tests_hold _ _ _ _ _ _ _ _ h) in
-                              absurd cc),
-                        )
-                        | inr (right, d9) ↦
-                            let marks : HasMarkers b =
-                            rw (sym e9, sym e11, sym e13) (tests_held _ _ _ _ _ _ _ _ right) in
-                            elim (eqb_cases (get_or y 39 0 / 16) 1 fault.DataId f _ d9) [
-                              | inl (bad, is) ↦ (
-                                DataIdentifier,
-                                is,
-                                identifier_fails n b g h6 h7 h8 marks (λ h. bad (rw e45 h)),
-                              )
-                              | inr (_, d45) ↦ absurd cc
-                            ]
-                      ]
-                ]
-          ]
+-- The other way round.
+right_if_read : (b : List ℕ) (r : PesValue × List ℕ)
+    → packet_at b ≡ Ok r
+    → RightBelow (right b) (9 + 3 * (told_size b / 46 - 1))
+right_if_read b r read =
+    let asked = packet_asked b in
+    elim (asked_in_order (right b) (told_size b / 46 - 1)) [
+      | inl all ↦ all.0
+      | inr found ↦
+          let none : refusal (packet_at b) ≡ None = ap refusal read in
+          let told = found.told in
+          absurd cc
     ]
 
--- A wrong body, from byte 6 on.
-body_fails : (n : ℕ) (b y : List ℕ) (f : PesFault)
-    → Begun n b
-    → length y ≡ 184 * n - 6
-    → AreBytes y
-    → ((i : ℕ) → i < 184 * n - 6 → get_or y i 0 ≡ get_or b (6 + i) 0)
-    → value_at y ≡ Err f
-    → Found f b
-unfolding value_at
-body_fails n b y f g len fit byte e =
-    let lo = g.size.0 in
-    elim (step_refused (pts_at y) _ f e) [
-      | inl bad ↦ header_fails n b y f g (λ i lt. byte i (omega arith)) bad
-      | inr (t, good, rest) ↦
-          let d = drop 40 y in
-          let left : length d ≡ 46 * (4 * n - 1) = length-drop 40 y ∙ omega arith in
-          let count : length d / 46 ≡ 4 * n - 1 = omega arith in
-          let s = header_sound y t good in
-          let e6 : get_or y 0 0 ≡ get_or b 6 0 = byte 0 (omega arith) in
-          let e7 : get_or y 1 0 ≡ get_or b 7 0 = byte 1 (omega arith) in
-          let e8 : get_or y 2 0 ≡ get_or b 8 0 = byte 2 (omega arith) in
-          let e9 : get_or y 3 0 ≡ get_or b 9 0 = byte 3 (omega arith) in
-          let e11 : get_or y 5 0 ≡ get_or b 11 0 = byte 5 (omega arith) in
-          let e13 : get_or y 7 0 ≡ get_or b 13 0 = byte 7 (omega arith) in
-          let e45 : get_or y 39 0 ≡ get_or b 45 0 = byte 39 (omega arith) in
-          let headed : Headed n b d = record {
-            begun = g;
-            scrambling = rw (sym e6) s.flagged;
-            pts_flags = rw (sym e7) s.pts_alone;
-            header_length = sym e8 ∙ s.len;
-            markers = rw (sym e9, sym e11, sym e13) s.markers;
-            identifier = rw (sym e45) s.ebu;
-            long = left;
-            fit = AreBytes-drop 40 y fit;
-            byte = λ i lt.
-                let there : 6 + (40 + i) ≡ 46 + i = omega arith in
-                sym (get_or-drop 40 y i 0 ∙ byte (40 + i) (omega arith)
-                ∙ ap (λ (x : ℕ). get_or b x 0) there);
-          } in
-          elim (step_refused (units_at (4 * n - 1) [] d) _ f (rw count at rest)) [
-            | inl bad ↦ unit_fails n b d f headed (units_split (4 * n - 1) [] d f bad)
-            | inr (_, _, told) ↦ absurd cc
-          ]
-    ]
+-- ---- a packet that agrees before a question
+
+-- A byte of a packet of n payloads that holds nothing: its data units are no Teletext.
+abbrev blank_header : ℕ → List ℕ
+blank_header n =
+    packet_start ++ (bytes_high_first 2 (packet_length n) ++ (0x80 ∷ 0x80 ∷ 0x24 ∷ pts_bytes 0))
+
+abbrev blank : ℕ → ℕ → ℕ
+blank n i = get_or (blank_header n) i (get_or (0x10 ∷ 0x2C ∷ []) ((i - 46) % 46) 0)
+
+-- In a data unit.
+blank_unit : (n k i : ℕ) → i < 4 → blank n (unit_place k i) ≡ get_or (0x10 ∷ 0x2C ∷ []) i 0
+blank_unit n k i lt =
+    let place = unit_place k i in
+    let rest : (place - 46) % 46 ≡ i = omega arith in
+    get_or_past (blank_header n) place _ (omega arith) ∙ rw rest refl
+
+-- The bytes that are asked for before a question, and those of the blank packet.
+abbrev mixed : ℕ → Question → List ℕ → ℕ → ℕ
+mixed n q b i = cond (ltb (asker i) (question_number q)) (get_or b i 0) (blank n i) % 256
+
+-- Where these bytes are right before a question, and tell n payloads if that was asked.
+module _ (b : List ℕ) (fit : AreBytes b) (q : Question) (n : ℕ) (lo : 1 ≤ n) (hi : n ≤ 9)
+    (told : 2 < question_number q → told_size b ≡ 184 * n)
+    (held : RightBelow (right b) (question_number q)) where
+  -- The packet.
+  abbrev made : List ℕ
+  made = map (mixed n q b) (range_with_len 0 (184 * n))
+
+  length-made : length made ≡ 184 * n
+  length-made = length-map-range_with_len (mixed n q b) 0 (184 * n)
+
+  made_byte : (i : ℕ) → i < 184 * n → get_or made i 0 ≡ mixed n q b i
+  made_byte i lt = get_or-map-range_with_len (mixed n q b) 0 (184 * n) i i 0 lt (omega arith)
+
+  made_fits : AreBytes made
+  made_fits i = elim (cases_lt i (184 * n)) [
+    | inl lt ↦ rw (made_byte i lt) (omega arith)
+    | inr le ↦ rw (get_or_past made i 0 (omega (arith, length-made))) (omega arith)
+  ]
+
+  -- A byte that is asked for before.
+  kept_byte : (i : ℕ) → asker i < question_number q → i < 184 * n → get_or made i 0 ≡ get_or b i 0
+  kept_byte i less lt =
+      let f = fit i in
+      made_byte i lt ∙ rw (lt-ltb (asker i) (question_number q) less) (omega arith)
+
+  -- One that is not.
+  blank_byte : (i : ℕ)
+      → question_number q ≤ asker i
+      → i < 184 * n
+      → get_or made i 0 ≡ blank n i % 256
+  blank_byte i le lt = made_byte i lt ∙ rw (le-ltb (asker i) (question_number q) le) refl
+
+  -- Packets that begin it agree with the bytes before the question.
+  made_agrees : (c rest : List ℕ) → made ≡ c ++ rest → AgreeBefore q b c
+  made_agrees c rest parts r less =
+      let len : 184 * n ≡ length c + length rest =
+      sym length-made ∙ ap length parts ∙ length-append c rest in
+      agree_where b c r
+      (λ e. not_below (length b) 6 (held SixBytes (omega arith)))
+      (λ e. let all = not_below (length b) (told_size b) (held AllBytes (omega arith)) in
+          let size = told (omega arith) in omega arith)
+      (λ i asked lt. sym (kept_byte i (omega arith) (omega arith))
+          ∙ ap (λ (x : List ℕ). get_or x i 0) parts ∙ get_or_append_left c rest 0 i lt)
+
+  -- It tells its size.
+  told-made : told_size made ≡ 184 * n
+  told-made = elim (cases_lt 2 (question_number q)) [
+    | inl more ↦ rw (kept_byte 4 more (omega arith), kept_byte 5 more (omega arith)) (told more)
+    | inr le ↦ rw (blank_byte 4 le (omega arith), blank_byte 5 le (omega arith)) (omega arith)
+  ]
+
+  -- Its other bytes are right.
+  blank_right : (r : Question)
+      → question_number q ≤ question_number r
+      → question_number r < 9 + 3 * (4 * n - 1)
+      → right made r ≡ true
+  blank_right SixBytes le lt = rw (le-ltb (length made) 6 (omega (arith, length-made))) refl
+  blank_right Start le lt = rw (
+    blank_byte 0 le (omega arith),
+    blank_byte 1 le (omega arith),
+    blank_byte 2 le (omega arith),
+    blank_byte 3 le (omega arith),
+  ) refl
+  blank_right PacketLength le lt =
+      let size = told-made in
+      rw (eq-eqb (told_size made % 184) 0 (omega arith), le-leb (told_size made) 1656 (omega arith))
+      refl
+  blank_right AllBytes le lt =
+      let size = told-made in
+      let len = length-made in
+      rw (le-ltb (length made) (told_size made) (omega arith)) refl
+  blank_right Scrambling le lt = rw (blank_byte 6 le (omega arith)) refl
+  blank_right PtsFlags le lt = rw (blank_byte 7 le (omega arith)) refl
+  blank_right HeaderLength le lt = rw (blank_byte 8 le (omega arith)) refl
+  blank_right Time le lt = rw (
+    blank_byte 9 le (omega arith),
+    blank_byte 11 le (omega arith),
+    blank_byte 13 le (omega arith),
+  ) refl
+  blank_right DataIdentifier le lt = rw (blank_byte 45 le (omega arith)) refl
+  blank_right (UnitLength k) le lt =
+      let asked = unit_asker k 1 (omega arith) in
+      rw (blank_byte (unit_place k 1) (omega arith) (omega arith), blank_unit n k 1 (omega arith))
+      refl
+  blank_right (FramingCode k) le lt =
+      let asked = unit_asker k 0 (omega arith) in
+      rw (blank_byte (unit_place k 0) (omega arith) (omega arith), blank_unit n k 0 (omega arith))
+      refl
+  blank_right (Line k) le lt =
+      let asked = unit_asker k 2 (omega arith) in
+      rw (
+        blank_byte (unit_place k 2) (omega arith) (omega arith),
+        blank_unit n k 2 (omega arith),
+        or-true,
+      ) refl
+
+  -- All are.
+  made_right : RightBelow (right made) (9 + 3 * (4 * n - 1))
+  made_right r lt = elim (cases_lt (question_number r) (question_number q)) [
+    | inr from ↦ blank_right r from lt
+    | inl less ↦
+        let agree = made_agrees made [] (sym (append-nil made)) in
+        let len = length-made in
+        let size = told-made in
+        sym (same_right r (4 * n - 1) b made (λ s before. agree s (omega arith)) (agree r less) lt
+        (omega arith) (omega arith) (omega arith))
+        ∙ held r less
+  ]
+
+  -- Such a packet of the grammar.
+  abbrev Agreeing : Type 0
+  Agreeing = (v : PesValue) × (p : List ℕ) × IsPesPacket v p × AgreeBefore q b p
+
+  agreeing : Agreeing
+  agreeing =
+      let size = told-made in
+      let read = read_if_right made (4 * n - 1) (omega arith) made_right in
+      let found = read_is_packet read.0.0 made read.0.1 made_fits read.1 in
+      (read.0.0, found.0, found.1, made_agrees found.0 read.0.1 found.2)
+
+-- How many payloads such a packet has.
+payloads : (b : List ℕ) (q : Question)
+    → RightBelow (right b) (question_number q)
+    → (n : ℕ) × (1 ≤ n) × (n ≤ 9) × (2 < question_number q → told_size b ≡ 184 * n)
+payloads b q held = elim (cases_lt 2 (question_number q)) [
+  | inr le ↦ (1, omega arith, omega arith, λ more. absurd (omega arith))
+  | inl more ↦
+      let t = told_count b (held PacketLength more) in (t.0, t.1, t.2, λ _. t.3)
+]
+
+-- A packet that agrees with the bytes up to a question in which they are wrong: there is none.
+none_agrees : (b : List ℕ) (q : Question) (v : PesValue) (p : List ℕ)
+    → question_number q < 9 + 3 * (told_size b / 46 - 1)
+    → right b q ≡ false
+    → IsPesPacket v p
+    → AgreeBefore q b p
+    → Agree b p q
+    → ⊥
+none_agrees b q v p below wrong h before same =
+    let m = told_size p / 46 - 1 in
+    let read : packet_at p ≡ Ok (v, []) =
+    ap packet_at (sym (append-nil p)) ∙ packet_is_read v p [] h in
+    let all = right_if_read p (v, []) read in
+    let t = told_count p (all PacketLength (omega arith)) in
+    let lo = t.1 in
+    let size = t.3 in
+    let full = not_below (length p) (told_size p) (all AllBytes (omega arith)) in
+    let few : question_number q < 9 + 3 * m = elim (cases_lt (question_number q) 9) [
+      | inl less ↦ omega arith
+      | inr more ↦
+          let length_same = before PacketLength (omega arith) in
+          let told : told_size b ≡ told_size p =
+          rw (length_same.0 (omega arith), length_same.1.0 (omega arith)) refl in
+          omega arith
+    ] in
+    let yes = all q few in
+    let alike =
+    same_right q m b p before same few (omega arith) (omega arith) full in
+    absurd cc
 
 -- Where no packet is read, the fault is that of the first question in which the bytes fail.
 refused_first : (b : List ℕ) (f : PesFault)
     → AreBytes b
     → packet_at b ≡ Err f
     → (q : Question) × (told_fault q ≡ f) × FailFirst q b
-refused_first b f fit e = elim (cases_lt (length b) 6) [
-  | inl short ↦ (
-    SixBytes,
-    refused_as (packet_short b short) e,
-    six_fails b short,
-  )
-  | inr long ↦ elim (answer_cases (size_at (take 6 b))) [
-    | inr (g, bad) ↦
-        let is : g ≡ f = refused_as (packet_size b g long bad) e in
-        size_fails b f long (bad ∙ ap (λ (x : PesFault). Err x) is)
-    | inl (size, sized) ↦
-        let h = head_sound (take 6 b) size (length-take 6 b ∙ omega arith) (AreBytes-take 6 b fit)
-        sized in
-        let n = h.0 in
-        let lo = h.1 in
-        let hi = h.2 in
-        let size-is = h.3 in
-        let at : (i : ℕ) → i < 6 → get_or b i 0 ≡ get_or (six_of n) i 0 = λ i lt.
-        sym (get_or-take 6 b i 0 lt) ∙ ap (λ (x : List ℕ). get_or x i 0) h.4 in
-        let start : IsStart b =
-        (at 0 (omega arith), at 1 (omega arith), at 2 (omega arith), at 3 (omega arith)) in
-        let told : IsTold n b = (at 4 (omega arith), at 5 (omega arith)) in
-        elim (cases_lt (length b) size) [
-          | inl cut ↦ (
-            AllBytes,
-            refused_as (packet_cut b size long sized cut) e,
-            all_fails n b long (lo, hi) start told (omega arith),
+refused_first b f fit e =
+    let asked : first_wrong (right b) (questions (told_size b / 46 - 1)) ≡ Some f =
+    sym (packet_asked b) ∙ ap refusal e in
+    elim (asked_in_order (right b) (told_size b / 46 - 1)) [
+      | inl all ↦ let none = all.1 in absurd cc
+      | inr found ↦
+          let n = payloads b found.q found.right in
+          let a = agreeing b fit found.q n.0 n.1 n.2 n.3 found.right in (
+            found.q,
+            same_Some _ _ (sym found.told ∙ asked),
+            record {
+              value = a.0;
+              packet = a.1;
+              is_packet = a.2;
+              before = a.3;
+              none = λ v p. none_agrees b found.q v p found.below found.wrong;
+            },
           )
-          | inr whole ↦
-              let y = take (size - 6) (drop 6 b) in
-              let begun : Begun n b = record {
-                fit = fit;
-                size = (lo, hi);
-                start = start;
-                told = told;
-                all = omega arith;
-              } in
-              let len : length y ≡ 184 * n - 6 =
-              length-take (size - 6) (drop 6 b) ∙ omega (arith, length-drop 6 b) in
-              let byte : (i : ℕ) → i < 184 * n - 6 → get_or y i 0 ≡ get_or b (6 + i) 0 = λ i lt.
-              get_or-take (size - 6) (drop 6 b) i 0 (omega arith) ∙ get_or-drop 6 b i 0 in
-              let read = packet_whole b size long sized whole in
-              elim (step_refused (value_at y) _ f (sym read ∙ e)) [
-                | inr (_, _, told) ↦ absurd cc
-                | inl bad ↦ body_fails n b y f begun len
-                    (AreBytes-take (size - 6) (drop 6 b) (AreBytes-drop 6 b fit)) byte bad
-              ]
-        ]
-  ]
-]
+    ]
 
 -- ---- the other way round
 
--- What has the same bytes agrees in each question.
-agree_in_each : (b c : List ℕ)
-    → 6 ≤ length b
-    → length c ≤ length b
-    → ((i : ℕ) → i < length c → get_or b i 0 ≡ get_or c i 0)
-    → (q : Question)
-    → Agree b c q
-agree_in_each b c long all same SixBytes = long
-agree_in_each b c long all same Start = (same 0, (same 1, (same 2, (same 3, tt))))
-agree_in_each b c long all same PacketLength = (same 4, (same 5, tt))
-agree_in_each b c long all same AllBytes = all
-agree_in_each b c long all same Scrambling = same 6
-agree_in_each b c long all same PtsFlags = same 7
-agree_in_each b c long all same HeaderLength = same 8
-agree_in_each b c long all same Time =
-    (same 9, (same 10, (same 11, (same 12, (same 13, tt)))))
-agree_in_each b c long all same DataIdentifier = same 45
-agree_in_each b c long all same (UnitLength k) = same (unit_place k 1)
-agree_in_each b c long all same (FramingCode k) =
-    (same (unit_place k 0), (same (unit_place k 3), tt))
-agree_in_each b c long all same (Line k) = same (unit_place k 2)
-
--- A packet that begins the bytes agrees with them in each question.
-prefix_agrees : (b c rest : List ℕ) (v : PesValue)
-    → b ≡ c ++ rest
-    → IsPesPacket v c
-    → (q : Question)
-    → Agree b c q
-prefix_agrees b c rest v e h q =
-    let f = fields_of v c h in
-    let total : length b ≡ length c + length rest = ap length e ∙ length-append c rest in
-    let long : 6 ≤ length b = omega (arith, total, f.all, f.size.0) in
-    let all : length c ≤ length b = omega (arith, total) in
-    let same : (i : ℕ) → i < length c → get_or b i 0 ≡ get_or c i 0 = λ i lt.
-    ap (λ (x : List ℕ). get_or x i 0) e ∙ get_or_append_left c rest 0 i lt in
-    agree_in_each b c long all same q
-
--- What holds of each question holds of those of a list.
-all_of : (P : Question → Type 0) → ((q : Question) → P q) → (qs : List Question)
-    → AllByRecursion P qs
-all_of P a [] = tt
-all_of P a (q ∷ qs) = (a q, all_of P a qs)
-
--- What agrees in each question agrees up to any data unit.
-agree_up_to : (b c : List ℕ) → ((q : Question) → Agree b c q) → (k : ℕ) → AgreeUpTo k b c
-agree_up_to b c a k = record {
-  in_packet = all_of (Agree b c) a packet_questions;
-  in_units = λ j _. all_of (Agree b c) a (unit_questions j);
-}
-
--- And in all that is asked before any question.
-agree_before : (b c : List ℕ) → ((q : Question) → Agree b c q) → (q : Question) → AgreeBefore q b c
-agree_before b c a SixBytes = tt
-agree_before b c a Start = all_of (Agree b c) a (take 1 packet_questions)
-agree_before b c a PacketLength = all_of (Agree b c) a (take 2 packet_questions)
-agree_before b c a AllBytes = all_of (Agree b c) a (take 3 packet_questions)
-agree_before b c a Scrambling = all_of (Agree b c) a (take 4 packet_questions)
-agree_before b c a PtsFlags = all_of (Agree b c) a (take 5 packet_questions)
-agree_before b c a HeaderLength = all_of (Agree b c) a (take 6 packet_questions)
-agree_before b c a Time = all_of (Agree b c) a (take 7 packet_questions)
-agree_before b c a DataIdentifier = all_of (Agree b c) a (take 8 packet_questions)
-agree_before b c a (UnitLength k) = agree_up_to b c a k
-agree_before b c a (FramingCode k) = (agree_up_to b c a k, a (UnitLength k))
-agree_before b c a (Line k) = (agree_up_to b c a k, a (UnitLength k), a (FramingCode k))
-
--- Where a question fails first no packet is read: it would agree.
-none_is_read : (b : List ℕ) (q : Question) (r : PesValue × List ℕ)
-    → AreBytes b
-    → FailFirst q b
-    → packet_at b ≡ Ok r
-    → ⊥
-none_is_read b q (v, rest) fit h read =
-    let s = read_is_packet v b rest fit read in
-    let a = prefix_agrees b s.0 rest v s.2 s.1 in
-    h.none v s.0 s.1 (agree_before b s.0 a q) (a q)
-
--- So it is refused.
-is_refused_there : (b : List ℕ) (q : Question)
+-- Where a question fails first no packet is read, since it would agree: so it is refused.
+refused_there : (b : List ℕ) (q : Question)
     → AreBytes b
     → FailFirst q b
     → (f : PesFault) × (packet_at b ≡ Err f)
-is_refused_there b q fit h = elim (answer_cases (packet_at b)) [
-  | inr (f, bad) ↦ (f, bad)
-  | inl (r, read) ↦ absurd (none_is_read b q r fit h read)
+refused_there b q fit h = elim (answer_cases (packet_at b)) [
+  | inr refused ↦ refused
+  | inl ((v, rest), read) ↦
+      let (c, packet, parts) = read_is_packet v b rest fit read in
+      let len = ap length parts ∙ length-append c rest in
+      let long : 6 ≤ length c = rw packet.bytes (omega arith) in
+      let agrees : (r : Question) → Agree b c r = λ r.
+      agree_where b c r (λ _. omega arith) (λ _. omega arith)
+      (λ i _ lt. ap (λ (x : List ℕ). get_or x i 0) parts ∙ get_or_append_left c rest 0 i lt) in
+      absurd (h.none v c packet (λ r _. agrees r) (agrees q))
 ]
 
 -- Both: the law.
@@ -330,4 +415,4 @@ pub refusal_by_questions : (b : List ℕ)
     → AreBytes b
     → ((f : PesFault) → packet_at b ≡ Err f → (q : Question) × (told_fault q ≡ f) × FailFirst q b)
     × ((q : Question) → FailFirst q b → (f : PesFault) × (packet_at b ≡ Err f))
-refusal_by_questions b fit = (λ f e. refused_first b f fit e, λ q h. is_refused_there b q fit h)
+refusal_by_questions b fit = (λ f e. refused_first b f fit e, λ q h. refused_there b q fit h)

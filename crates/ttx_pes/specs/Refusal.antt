@@ -1,7 +1,7 @@
 -- Which refusal the bytes of a PES packet deserve, by the grammar alone: what is asked of them, in
 -- order, and the first question in which no packet of the grammar agrees with them (EN 300 472; the
 -- order of the questions is (own)).
-use Rattle.std.specs.Prelude.{◌≡◌, ℕ, ◌+◌, ◌*◌, ◌<◌, ◌≤◌, List, [], ◌∷◌, take, length, slice_index}
+use Rattle.std.specs.Prelude.{◌≡◌, ℕ, ◌+◌, ◌*◌, ◌<◌, ◌≤◌, List, [], ◌∷◌, length, slice_index}
 use Rattle.std.specs.List.{AllByRecursion}
 use Rattle.ttx_pes.specs.declared.fault.PesFault.{PesFault}
 use Rattle.ttx_pes.specs.declared.fault.PesFault.TheVariants as fault
@@ -77,44 +77,25 @@ Agree bytes packet (FramingCode k) =
     AllByRecursion (HaveSameByte bytes packet) (unit_place k 0 ∷ unit_place k 3 ∷ [])
 Agree bytes packet (Line k) = HaveSameByte bytes packet (unit_place k 2)
 
--- The questions of the packet in their order, and those of a data unit.
-abbrev pub packet_questions : List Question
-packet_questions =
-    SixBytes ∷ Start ∷ PacketLength ∷ AllBytes ∷ Scrambling ∷ PtsFlags ∷ HeaderLength ∷ Time
-    ∷ DataIdentifier ∷ []
-
--- What is asked of the data unit of this number, from 0, in order.
-abbrev pub unit_questions : ℕ → List Question
-unit_questions k = UnitLength k ∷ FramingCode k ∷ Line k ∷ []
-
--- They agree in all that is asked of the packet and of its first k data units.
-pub record AgreeUpTo (k : ℕ) (bytes packet : List ℕ) : Type 0 where
-  pub in_packet : AllByRecursion (Agree bytes packet) packet_questions
-  pub in_units : (j : ℕ) → j < k → AllByRecursion (Agree bytes packet) (unit_questions j)
-
--- They agree in the first `count` questions of the packet.
-abbrev pub AgreeInFirst : ℕ → List ℕ → List ℕ → Type 0
-AgreeInFirst count bytes packet =
-    AllByRecursion (Agree bytes packet) (take count packet_questions)
+-- The number of a question in the order in which they are asked, from 0.
+abbrev pub question_number : Question → ℕ
+question_number SixBytes = 0
+question_number Start = 1
+question_number PacketLength = 2
+question_number AllBytes = 3
+question_number Scrambling = 4
+question_number PtsFlags = 5
+question_number HeaderLength = 6
+question_number Time = 7
+question_number DataIdentifier = 8
+question_number (UnitLength k) = 9 + 3 * k
+question_number (FramingCode k) = 10 + 3 * k
+question_number (Line k) = 11 + 3 * k
 
 -- They agree in all that is asked before a question.
 abbrev pub AgreeBefore : Question → List ℕ → List ℕ → Type 0
-AgreeBefore SixBytes bytes packet = AgreeInFirst 0 bytes packet
-AgreeBefore Start bytes packet = AgreeInFirst 1 bytes packet
-AgreeBefore PacketLength bytes packet = AgreeInFirst 2 bytes packet
-AgreeBefore AllBytes bytes packet = AgreeInFirst 3 bytes packet
-AgreeBefore Scrambling bytes packet = AgreeInFirst 4 bytes packet
-AgreeBefore PtsFlags bytes packet = AgreeInFirst 5 bytes packet
-AgreeBefore HeaderLength bytes packet = AgreeInFirst 6 bytes packet
-AgreeBefore Time bytes packet = AgreeInFirst 7 bytes packet
-AgreeBefore DataIdentifier bytes packet = AgreeInFirst 8 bytes packet
-AgreeBefore (UnitLength k) bytes packet = AgreeUpTo k bytes packet
-AgreeBefore (FramingCode k) bytes packet =
-    AgreeUpTo k bytes packet × Agree bytes packet (UnitLength k)
-AgreeBefore (Line k) bytes packet =
-    AgreeUpTo k bytes packet
-    × Agree bytes packet (UnitLength k)
-    × Agree bytes packet (FramingCode k)
+AgreeBefore q bytes packet =
+    (r : Question) → question_number r < question_number q → Agree bytes packet r
 
 -- A question is the first in which the bytes fail: some packet of the grammar agrees with them in
 -- all that is asked before, and none that does agrees in what is asked there.
