@@ -1,13 +1,13 @@
 -- The commands of the program, as `clap` sees them.
 use Rattle.std.specs.Prelude.{ℕ, Bool, true, List, [], ◌∷◌, Option, Some, codes, map}
 use Rattle.std.specs.Borrow.{Bor}
+use Rattle.std.specs.List.{fold}
 use Rattle.clap.specs.Kinds.{Kinds}
 use Rattle.clap.specs.Words.{App, Row, Rule, Text, fault_of, new_app, new_rule, subcommand_of}
 use Rattle.clap.specs.Words.{takes, with_rule, with_subcommand}
 use Rattle.clap.specs.declared.builder.action.ArgAction.TheVariants.{SetTrue}
 use Rattle.sub_words.specs.declared.command.Argument.{Argument}
 use Rattle.sub_words.specs.declared.command.Argument.TheVariants as argument
-use Rattle.sub_words.specs.declared.command.CommandTable.{CommandTable}
 
 -- An argument that has to be there.
 abbrev pub required_rule : Text → Rule
@@ -29,18 +29,21 @@ required_option_rule id = record (new_rule id) { long = Some id; required = true
 abbrev pub flag_rule : Text → Rule
 flag_rule id = record (new_rule id) { long = Some id; action = Some SetTrue }
 
--- The rule of an argument.
-abbrev pub rule_of : Argument → Rule
-rule_of (argument.Required id) = required_rule id.now
-rule_of (argument.RequiredOption id) = required_option_rule id.now
-rule_of (argument.Option id value) = option_rule id.now value.now
-rule_of (argument.BareOption id) = bare_option_rule id.now
-rule_of (argument.Flag id) = flag_rule id.now
+-- The rule of an argument in the program's table.
+abbrev pub clap_rule : Argument → Rule
+clap_rule (argument.Required id) = required_rule id.now
+clap_rule (argument.RequiredOption id) = required_option_rule id.now
+clap_rule (argument.Option id value) = option_rule id.now value.now
+clap_rule (argument.BareOption id) = bare_option_rule id.now
+clap_rule (argument.Flag id) = flag_rule id.now
 
--- A command with these rules after those that it has.
-abbrev pub with_rules : App → List Rule → App
-with_rules app [] = app
-with_rules app (rule ∷ rules) = with_rules (with_rule app rule) rules
+-- The arguments of a schedule that is written or checked, of which the last is a flag.
+abbrev pub pair_rules : Text → List Rule
+pair_rules flag =
+    required_rule (codes "stl") ∷ required_rule (codes "pes")
+    ∷ option_rule (codes "page") (codes "888") ∷ option_rule (codes "origin") (codes "0")
+    ∷ option_rule (codes "every") (codes "250") ∷ option_rule (codes "option") (codes "english")
+    ∷ flag_rule flag ∷ []
 
 -- The commands, each with the rules of its arguments.
 abbrev pub commands : List (Text × List Rule)
@@ -54,23 +57,9 @@ commands =
     -- normal IN OUT
     ∷ (codes "normal", required_rule (codes "in") ∷ required_rule (codes "out") ∷ [])
     -- schedule STL PES [--page P] [--origin T] [--every N] [--option O] [--serial]
-    ∷ (
-      codes "schedule",
-      required_rule (codes "stl") ∷ required_rule (codes "pes")
-          ∷ option_rule (codes "page") (codes "888") ∷ option_rule (codes "origin") (codes "0")
-          ∷ option_rule (codes "every") (codes "250")
-          ∷ option_rule (codes "option") (codes "english")
-          ∷ flag_rule (codes "serial") ∷ [],
-    )
+    ∷ (codes "schedule", pair_rules (codes "serial"))
     -- check STL PES [--page P] [--origin T] [--every N] [--option O] [--complete]
-    ∷ (
-      codes "check",
-      required_rule (codes "stl") ∷ required_rule (codes "pes")
-          ∷ option_rule (codes "page") (codes "888") ∷ option_rule (codes "origin") (codes "0")
-          ∷ option_rule (codes "every") (codes "250")
-          ∷ option_rule (codes "option") (codes "english")
-          ∷ flag_rule (codes "complete") ∷ [],
-    )
+    ∷ (codes "check", pair_rules (codes "complete"))
     -- listen PES [--page P] [--origin T] --at TIME [--skip N] [--flip F] [--lose L] [--receiver R]
     -- [--complete]
     ∷ (
@@ -84,29 +73,24 @@ commands =
     ∷ []
 
 -- What the program's table says of a command.
-abbrev pub table_of : CommandTable → Text × List Rule
-table_of command = (command.name.now, map rule_of command.arguments.now)
+abbrev pub table_of : Bor Text × Bor (List Argument) → Text × List Rule
+table_of command = (command.0.now, map clap_rule command.1.now)
 
--- A program with these commands after those that it has.
-abbrev pub with_commands : App → List (Text × List Rule) → App
-with_commands app [] = app
-with_commands app (command ∷ commands) =
-    with_commands (with_subcommand app (with_rules (new_app command.0) command.1).top) commands
+-- A program with one more command.
+abbrev pub with_command : App → Text × List Rule → App
+with_command app command =
+    with_subcommand app (fold with_rule (new_app command.0) command.1).top
 
--- The program before its commands: it offers neither help nor a version, and wants a command.
-abbrev pub bare_app : App
-bare_app = let plain = new_app (codes "subttx") in record plain {
+-- The program and its commands. It offers neither help nor a version, and wants a command.
+unfoldable pub subttx_app : App
+subttx_app = let plain = new_app (codes "subttx") in fold with_command (record plain {
   top = record plain.top {
     disable_help_flag = true;
     disable_help_subcommand = true;
     disable_version_flag = true;
     subcommand_required = true;
   };
-}
-
--- The program and its commands.
-unfoldable pub subttx_app : App
-subttx_app = with_commands bare_app commands
+}) commands
 
 -- What `clap`'s contract says of words, as functions of them. The kinds of its refusal: none where
 -- it takes the words.

@@ -1,12 +1,12 @@
 //! The arguments of a command, read one by one.
-ghost use Rattle.std.specs.Prelude.{◌≡◌, codes, option_map};
+ghost use Rattle.std.specs.Prelude.{◌≡◌, IfErr, IfOk, option_map};
 ghost use Rattle.clap.specs.Words.{first_of, found_of, rows_of};
-ghost use Rattle.sub_words.specs.Arguments.{asking_of, checking_of, is_given, national_of};
-ghost use Rattle.sub_words.specs.Arguments.{options_of, options_with, page_of, argument};
+ghost use Rattle.sub_words.specs.Arguments.{argument, is_given, listed_of, options_of};
 
+use crate::lists::{Item, parse_list};
 use crate::numbers::parse_number;
 use clap::ArgMatches;
-use stl_rows::National;
+use std::alloc::Global;
 use sub_answer::UsageFault;
 use sub_plan::{OptionFault, Options};
 use ttx_packet::PageId;
@@ -23,10 +23,7 @@ pub fn given_at<'a>(matches: &ArgMatches<'a>, id: &str) -> Option<&'a str>
 pub fn text_at<'a>(matches: &ArgMatches<'a>, id: &str) -> &'a str
     ensures { result.now ≡ argument id.now (rows_of (found_of matches.now)) }
 {
-    match given_at(matches, id) {
-        Some(text) => text,
-        None => "",
-    }
+    given_at(matches, id).unwrap_or("")
 }
 
 /// Whether a flag is set. `clap` keeps the text `true` or `false` for it.
@@ -36,84 +33,44 @@ pub fn flag_at<'a>(matches: &ArgMatches<'a>, id: &str) -> bool
     text_at(matches, id) == "true"
 }
 
-/// The page, the repeat bound and the PTS of frame 0.
+/// The options of a repeat bound: with the page, the PTS of frame 0, and whether complete pages are
+/// asked for. A number that is missing stands for one that is out of range.
 ///
 /// # Errors
 ///
 /// `BadPage`, then `Every`, then `Origin`.
-pub fn options_at<'a>(matches: &ArgMatches<'a>) -> Result<Options, UsageFault>
-    ensures { result ≡ options_of (rows_of (found_of matches.now)) }
+pub fn options_at<'a>(matches: &ArgMatches<'a>, every: Option<u64>) -> Result<Options, UsageFault>
+    ensures { result ≡ options_of every (rows_of (found_of matches.now)) }
 {
-    let page = page_at(matches)?;
-    let every = parse_number(text_at(matches, "every"));
+    let Ok(page) = PageId::parse(text_at(matches, "page")) else {
+        return Err(UsageFault::BadPage);
+    };
     let origin = parse_number(text_at(matches, "origin"));
-    options_with(page, every, origin)
-}
-
-/// The page, the repeat bound and the PTS of frame 0, and whether complete pages are asked for.
-///
-/// # Errors
-///
-/// `BadPage`, then `Every`, then `Origin`.
-pub fn checking_at<'a>(matches: &ArgMatches<'a>) -> Result<Options, UsageFault>
-    ensures { result ≡ checking_of (rows_of (found_of matches.now)) }
-{
-    let options = options_at(matches)?;
-    Ok(asking_at(matches, options))
-}
-
-/// The options, which also ask for complete pages where the flag for it is set.
-pub fn asking_at<'a>(matches: &ArgMatches<'a>, options: Options) -> Options
-    ensures { result ≡ asking_of (rows_of (found_of matches.now)) options }
-{
-    if flag_at(matches, "complete") {
-        options.asking_complete()
-    } else {
-        options
-    }
-}
-
-/// The page.
-///
-/// # Errors
-///
-/// `BadPage` alone.
-pub fn page_at<'a>(matches: &ArgMatches<'a>) -> Result<PageId, UsageFault>
-    ensures { result ≡ page_of (rows_of (found_of matches.now)) }
-{
-    match PageId::parse(text_at(matches, "page")) {
-        Ok(page) => Ok(page),
-        Err(_) => Err(UsageFault::BadPage),
-    }
-}
-
-/// The options of a page and of numbers, of which each may be missing: then a number that is out of
-/// range stands for it.
-///
-/// # Errors
-///
-/// `Every`, then `Origin`.
-pub fn options_with(
-    page: PageId,
-    every: Option<u64>,
-    origin: Option<u64>,
-) -> Result<Options, UsageFault>
-    ensures { result ≡ options_with page every origin }
-{
     match Options::new(page, every.unwrap_or(0), origin.unwrap_or(u64::MAX)) {
+        Ok(options) if flag_at(matches, "complete") => Ok(options.asking_complete()),
         Ok(options) => Ok(options),
         Err(OptionFault::Every) => Err(UsageFault::Every),
         Err(OptionFault::Origin) => Err(UsageFault::Origin),
     }
 }
 
-/// The national option.
+/// The items of an option's list, which is empty where the option is left out. `None` where its
+/// text is no such list.
 ///
 /// # Errors
 ///
-/// `BadOption` alone.
-pub fn national_at<'a>(matches: &ArgMatches<'a>) -> Result<National, UsageFault>
-    ensures { result ≡ national_of (rows_of (found_of matches.now)) }
+/// `Memory` alone.
+pub fn list_at<'a, T: Item + Drop>(
+    alloc: Global,
+    matches: &ArgMatches<'a>,
+    id: &str,
+) -> Result<Option<Vec<T>>, UsageFault>
+    ensures value { IfOk result (λ list. option_map (λ v. v.items) list
+        ≡ listed_of T.said T.same id.now (rows_of (found_of matches.now))) }
+    ensures memory { IfErr result (λ fault. fault ≡ UsageFault.Memory) }
 {
-    National::parse(text_at(matches, "option")).ok_or(UsageFault::BadOption)
+    match given_at(matches, id) {
+        Some(text) => parse_list(alloc, text).map_err(|_| UsageFault::Memory),
+        None => Ok(Some(Vec::new(alloc))),
+    }
 }

@@ -2,60 +2,42 @@
 //!
 //! The commands are a table here and in specs/Commands. Help and versions are not offered: `clap`
 //! refuses the words for them.
-ghost use Rattle.std.specs.Prelude.{◌≡◌, [], ◌∷◌, IfOk, false, map};
-ghost use Rattle.clap.specs.Words.{app_of, new_app, with_rule};
+ghost use Rattle.std.specs.Prelude.{◌≡◌, IfOk, false, map};
+ghost use Rattle.std.specs.List.{fold};
+ghost use Rattle.clap.specs.Words.{app_of, new_app, rule_of, with_rule};
 ghost use Rattle.clap.specs.declared.builder.command.Command.TheViews.{out-Command};
-ghost use Rattle.sub_words.specs.Commands.{rule_of, subttx_app, table_of, with_commands};
-ghost use Rattle.sub_words.specs.Commands.{with_rules};
+ghost use Rattle.sub_words.specs.Commands.{clap_rule, subttx_app, table_of, with_command};
 
 use clap::{Arg, ArgAction, Command};
 use std::alloc::{AllocError, Global};
 
 /// An argument of a command, by its name.
 #[derive(Clone, Copy)]
-pub enum Argument<'a> {
+pub enum Argument {
     /// It has to be there.
-    Required(&'a str),
+    Required(&'static str),
     /// An option that has to be there.
-    RequiredOption(&'a str),
+    RequiredOption(&'static str),
     /// An option, and the text that it has where it is left out.
-    Option(&'a str, &'a str),
+    Option(&'static str, &'static str),
     /// An option that may be left out and then has no text.
-    BareOption(&'a str),
+    BareOption(&'static str),
     /// A flag.
-    Flag(&'a str),
+    Flag(&'static str),
 }
 
-/// A command, by its name.
-#[derive(Clone, Copy)]
-pub struct CommandTable<'a> {
-    /// The word for it.
-    pub name: &'a str,
-    /// What stands after that word.
-    pub arguments: &'a [Argument<'a>],
-}
-
-// The commands, each with its arguments.
-const COMMANDS: [CommandTable<'static>; 7] = [
-    CommandTable {
-        name: "packet",
-        arguments: &[Argument::Required("hex")],
-    },
-    CommandTable {
-        name: "packets",
-        arguments: &[Argument::Required("pes")],
-    },
-    CommandTable {
-        name: "show",
-        arguments: &[Argument::Required("stl")],
-    },
-    CommandTable {
-        name: "normal",
-        arguments: &[Argument::Required("in"), Argument::Required("out")],
-    },
-    CommandTable {
-        name: "schedule",
-        arguments: &[
+// The commands, each with what stands after its name.
+const COMMANDS: [(&str, &[Argument]); 7] = [
+    ("packet", &[Argument::Required("hex")]),
+    ("packets", &[Argument::Required("pes")]),
+    ("show", &[Argument::Required("stl")]),
+    (
+        "normal",
+        &[Argument::Required("in"), Argument::Required("out")],
+    ),
+    (
+        "schedule",
+        &[
             Argument::Required("stl"),
             Argument::Required("pes"),
             Argument::Option("page", "888"),
@@ -64,10 +46,10 @@ const COMMANDS: [CommandTable<'static>; 7] = [
             Argument::Option("option", "english"),
             Argument::Flag("serial"),
         ],
-    },
-    CommandTable {
-        name: "check",
-        arguments: &[
+    ),
+    (
+        "check",
+        &[
             Argument::Required("stl"),
             Argument::Required("pes"),
             Argument::Option("page", "888"),
@@ -76,10 +58,10 @@ const COMMANDS: [CommandTable<'static>; 7] = [
             Argument::Option("option", "english"),
             Argument::Flag("complete"),
         ],
-    },
-    CommandTable {
-        name: "listen",
-        arguments: &[
+    ),
+    (
+        "listen",
+        &[
             Argument::Required("pes"),
             Argument::Option("page", "888"),
             Argument::Option("origin", "0"),
@@ -90,80 +72,8 @@ const COMMANDS: [CommandTable<'static>; 7] = [
             Argument::Option("receiver", "blank"),
             Argument::Flag("complete"),
         ],
-    },
+    ),
 ];
-
-// Adds an argument.
-fn with_argument<'a>(
-    command: Command<'a>,
-    alloc: Global,
-    argument: Argument<'a>,
-) -> Result<Command<'a>, AllocError>
-    ensures app { IfOk result (λ c.
-        app_of c ≡ with_rule (app_of command.entry) (rule_of argument.entry)) }
-    ensures local { (out-Command command.entry).has_globals ≡ false
-        → IfOk result (λ c. (out-Command c).has_globals ≡ false) }
-{
-    match argument {
-        Argument::Required(id) => command.arg(Arg::new(alloc, id).required(true)),
-        Argument::RequiredOption(id) => command.arg(Arg::new(alloc, id).long(id).required(true)),
-        Argument::Option(id, value) => {
-            command.arg(Arg::new(alloc, id).long(id).default_value(value))
-        }
-        Argument::BareOption(id) => command.arg(Arg::new(alloc, id).long(id)),
-        Argument::Flag(id) => command.arg(Arg::new(alloc, id).long(id).action(ArgAction::SetTrue)),
-    }
-}
-
-// A command by the table of its arguments.
-fn command_with<'a>(
-    alloc: Global,
-    name: &'a str,
-    arguments: &[Argument<'a>],
-) -> Result<Command<'a>, AllocError>
-    ensures app { IfOk result (λ c.
-        app_of c ≡ with_rules (new_app name.entry.now) (map rule_of arguments.now)) }
-    ensures local { IfOk result (λ c. (out-Command c).has_globals ≡ false) }
-{
-    let mut command = Command::new(alloc, name);
-    for argument in arguments {
-        command = with_argument(command, alloc, *argument)?;
-    }
-    Ok(command)
-}
-
-// Adds a command by the table of its arguments.
-fn with_command<'a>(
-    program: Command<'a>,
-    alloc: Global,
-    command: CommandTable<'a>,
-) -> Result<Command<'a>, AllocError>
-    requires { (out-Command program).has_globals ≡ false }
-    ensures app { IfOk result (λ c.
-        app_of c ≡ with_commands (app_of program.entry) (table_of command.entry ∷ [])) }
-    ensures local { IfOk result (λ c. (out-Command c).has_globals ≡ false) }
-{
-    let command = command_with(alloc, command.name, command.arguments)?;
-    program.subcommand(command)
-}
-
-// Adds commands.
-fn with_commands<'a>(
-    program: Command<'a>,
-    alloc: Global,
-    commands: &[CommandTable<'a>],
-) -> Result<Command<'a>, AllocError>
-    requires { (out-Command program).has_globals ≡ false }
-    ensures app { IfOk result (λ c.
-        app_of c ≡ with_commands (app_of program.entry) (map table_of commands.now)) }
-    ensures local { IfOk result (λ c. (out-Command c).has_globals ≡ false) }
-{
-    let mut program = program;
-    for command in commands {
-        program = with_command(program, alloc, *command)?;
-    }
-    Ok(program)
-}
 
 /// The program and its commands.
 ///
@@ -172,13 +82,59 @@ fn with_commands<'a>(
 /// Want of memory alone.
 #[tactic(auto, unfolding(crate::specs::Commands::subttx_app))]
 pub fn subttx_command<'a>(alloc: Global) -> Result<Command<'a>, AllocError>
-    ensures app { IfOk result (λ c. app_of c ≡ subttx_app) }
-    ensures local { IfOk result (λ c. (out-Command c).has_globals ≡ false) }
+    ensures { IfOk result (λ c. app_of c ≡ subttx_app) }
 {
     let program = Command::new(alloc, "subttx")
         .disable_help_flag(true)
         .disable_help_subcommand(true)
         .disable_version_flag(true)
         .subcommand_required(true);
-    with_commands(program, alloc, &COMMANDS)
+    with_commands(alloc, program, &COMMANDS)
+}
+
+// Adds commands, each with what stands after its name.
+fn with_commands<'a>(
+    alloc: Global,
+    program: Command<'a>,
+    commands: &[(&'static str, &[Argument])],
+) -> Result<Command<'a>, AllocError>
+    ensures { IfOk result (λ c.
+        app_of c ≡ fold with_command (app_of program.entry) (map table_of commands.now)) }
+{
+    let mut program = program;
+    for command in commands {
+        program = program.subcommand(command_with(alloc, command.0, command.1)?)?;
+    }
+    Ok(program)
+}
+
+// A command with these arguments.
+fn command_with<'a>(
+    alloc: Global,
+    name: &'a str,
+    arguments: &[Argument],
+) -> Result<Command<'a>, AllocError>
+    ensures app { IfOk result (λ c.
+        app_of c ≡ fold with_rule (new_app name.entry.now) (map clap_rule arguments.now)) }
+    ensures local { IfOk result (λ c. (out-Command c).has_globals ≡ false) }
+{
+    let mut command = Command::new(alloc, name);
+    for argument in arguments {
+        command = command.arg(clap_argument(alloc, *argument))?;
+    }
+    Ok(command)
+}
+
+// An argument as `clap` has it.
+fn clap_argument<'a>(alloc: Global, argument: Argument) -> Arg<'a>
+    ensures rule { rule_of result ≡ clap_rule argument }
+    ensures local { result.global ≡ false }
+{
+    match argument {
+        Argument::Required(id) => Arg::new(alloc, id).required(true),
+        Argument::RequiredOption(id) => Arg::new(alloc, id).long(id).required(true),
+        Argument::Option(id, value) => Arg::new(alloc, id).long(id).default_value(value),
+        Argument::BareOption(id) => Arg::new(alloc, id).long(id),
+        Argument::Flag(id) => Arg::new(alloc, id).long(id).action(ArgAction::SetTrue),
+    }
 }

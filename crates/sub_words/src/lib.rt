@@ -11,7 +11,6 @@
 mod arguments;
 mod command;
 mod flips;
-mod hearing;
 mod laws;
 mod lists;
 mod numbers;

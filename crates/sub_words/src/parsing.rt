@@ -1,6 +1,6 @@
 //! The words of the command line, read as a request.
-ghost use Rattle.std.specs.Prelude.{◌≡◌, [], IfErr, IfOk, OnOk};
-ghost use Rattle.clap.specs.Words.{subcommand_rows_of};
+ghost use Rattle.std.specs.Prelude.{◌≡◌, [], IfErr, IfOk, OnOk, true};
+ghost use Rattle.clap.specs.Words.{has_subcommand, subcommand_rows_of};
 ghost use Rattle.sub_words.specs.Commands.{command_in, clap_refusals, texts_of};
 ghost use Rattle.sub_words.specs.Requests.{AsksFor, IsFaultOf};
 
@@ -44,6 +44,7 @@ impl<'a> ParseWords<'a> for Request<'a> {
 // The matches that `clap` gives for the words.
 fn matches_of<'a>(alloc: Global, words: &'a [&'a str]) -> Result<ArgMatches<'a>, UsageFault>
     ensures command { IfOk result (λ m. subcommand_rows_of m ≡ command_in (texts_of words.now)) }
+    ensures there { IfOk result (λ m. has_subcommand m ≡ true) }
     ensures taken { OnOk result (clap_refusals (texts_of words.now) ≡ []) }
     ensures fault { IfErr result (IsFaultOf (texts_of words.now)) }
 {

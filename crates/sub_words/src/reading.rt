@@ -1,16 +1,18 @@
 //! The arguments of each command, read as a request.
-ghost use Rattle.std.specs.Prelude.{◌≡◌, IfErr, IfOk, codes};
 ghost use Rattle.clap.specs.Words.{found_of, rows_of};
-ghost use Rattle.sub_words.specs.Commands.{command_names};
-ghost use Rattle.sub_words.specs.Requests.{IsFaultBy, IsFaultOrMemory, IsOneOf, IsRequestBy};
+ghost use Rattle.sub_words.specs.Requests.{IsReadAs, asked_in, check_asked, listen_asked};
+ghost use Rattle.sub_words.specs.Requests.{normal_asked, packet_asked, schedule_asked};
 
-use crate::arguments::{checking_at, flag_at, national_at, options_at, text_at};
-use crate::hearing::listening_at;
+use crate::arguments::{flag_at, list_at, options_at, text_at};
+use crate::numbers::parse_number;
+use crate::times::{parse_receiver, parse_time};
 use clap::ArgMatches;
 use std::alloc::Global;
+use stl_rows::National;
 use sub_answer::{Request, UsageFault};
+use sub_check::Listening;
 
-/// Reads the arguments of a command, whose name must be one of the program's commands.
+/// Reads the arguments of a command by its name.
 ///
 /// # Errors
 ///
@@ -21,35 +23,26 @@ pub fn read_command<'a>(
     name: &str,
     matches: &ArgMatches<'a>,
 ) -> Result<Request<'a>, UsageFault>
-    requires { IsOneOf command_names name.now }
-    ensures request { IfOk result (IsRequestBy name.now (rows_of (found_of matches.now))) }
-    ensures fault { IfErr result (IsFaultOrMemory name.now (rows_of (found_of matches.now))) }
+    ensures { IsReadAs (asked_in name.now (rows_of (found_of matches.now))) result }
 {
-    if name == "packet" {
-        read_packet(matches)
-    } else if name == "packets" {
-        let pes = text_at(matches, "pes");
-        Ok(Request::Packets { pes })
-    } else if name == "show" {
-        let stl = text_at(matches, "stl");
-        Ok(Request::Show { stl })
-    } else if name == "normal" {
-        read_normal(matches)
-    } else if name == "schedule" {
-        read_schedule(matches)
-    } else if name == "check" {
-        read_check(matches)
-    } else {
-        let listening = listening_at(alloc, matches)?;
-        let pes = text_at(matches, "pes");
-        Ok(Request::Listen { pes, listening })
+    match name {
+        "packet" => read_packet(matches),
+        "packets" => Ok(Request::Packets {
+            pes: text_at(matches, "pes"),
+        }),
+        "show" => Ok(Request::Show {
+            stl: text_at(matches, "stl"),
+        }),
+        "normal" => read_normal(matches),
+        "schedule" => read_schedule(matches),
+        "check" => read_check(matches),
+        _ => read_listen(alloc, matches),
     }
 }
 
 // `packet HEX`
 fn read_packet<'a>(matches: &ArgMatches<'a>) -> Result<Request<'a>, UsageFault>
-    ensures request { IfOk result (IsRequestBy (codes "packet") (rows_of (found_of matches.now))) }
-    ensures fault { IfErr result (IsFaultBy (codes "packet") (rows_of (found_of matches.now))) }
+    ensures { IsReadAs (packet_asked (rows_of (found_of matches.now))) result }
 {
     let mut bytes = [0u8; 42];
     match hex::decode_to_slice(text_at(matches, "hex"), &mut bytes) {
@@ -60,8 +53,7 @@ fn read_packet<'a>(matches: &ArgMatches<'a>) -> Result<Request<'a>, UsageFault>
 
 // `normal IN OUT`
 fn read_normal<'a>(matches: &ArgMatches<'a>) -> Result<Request<'a>, UsageFault>
-    ensures request { IfOk result (IsRequestBy (codes "normal") (rows_of (found_of matches.now))) }
-    ensures fault { IfErr result (IsFaultBy (codes "normal") (rows_of (found_of matches.now))) }
+    ensures { IsReadAs (normal_asked (rows_of (found_of matches.now))) result }
 {
     let input = text_at(matches, "in");
     let output = text_at(matches, "out");
@@ -71,40 +63,50 @@ fn read_normal<'a>(matches: &ArgMatches<'a>) -> Result<Request<'a>, UsageFault>
     Ok(Request::Normal { input, output })
 }
 
-// `schedule STL PES [--page P] [--every N] [--origin T] [--serial] [--option O]`
+// `schedule STL PES [--page P] [--every N] [--origin T] [--option O] [--serial]`
 fn read_schedule<'a>(matches: &ArgMatches<'a>) -> Result<Request<'a>, UsageFault>
-    ensures request { IfOk result
-        (IsRequestBy (codes "schedule") (rows_of (found_of matches.now))) }
-    ensures fault { IfErr result (IsFaultBy (codes "schedule") (rows_of (found_of matches.now))) }
+    ensures { IsReadAs (schedule_asked (rows_of (found_of matches.now))) result }
 {
     let stl = text_at(matches, "stl");
     let pes = text_at(matches, "pes");
     if stl == pes {
         return Err(UsageFault::SameFile);
     }
-    let options = options_at(matches)?;
-    let national = national_at(matches)?;
-    let serial = flag_at(matches, "serial");
     Ok(Request::Schedule {
         stl,
         pes,
-        options,
-        serial,
-        national,
+        options: options_at(matches, parse_number(text_at(matches, "every")))?,
+        national: National::parse(text_at(matches, "option")).ok_or(UsageFault::BadOption)?,
+        serial: flag_at(matches, "serial"),
     })
 }
 
 // `check STL PES [--page P] [--every N] [--origin T] [--option O] [--complete]`
 fn read_check<'a>(matches: &ArgMatches<'a>) -> Result<Request<'a>, UsageFault>
-    ensures request { IfOk result (IsRequestBy (codes "check") (rows_of (found_of matches.now))) }
-    ensures fault { IfErr result (IsFaultBy (codes "check") (rows_of (found_of matches.now))) }
+    ensures { IsReadAs (check_asked (rows_of (found_of matches.now))) result }
 {
-    let options = checking_at(matches)?;
-    let national = national_at(matches)?;
     Ok(Request::Check {
         stl: text_at(matches, "stl"),
         pes: text_at(matches, "pes"),
-        options,
-        national,
+        options: options_at(matches, parse_number(text_at(matches, "every")))?,
+        national: National::parse(text_at(matches, "option")).ok_or(UsageFault::BadOption)?,
     })
+}
+
+// `listen PES [--page P] [--origin T] [--complete] --at TIME [--skip N] [--flip F] [--lose L]
+// [--receiver R]`
+fn read_listen<'a>(alloc: Global, matches: &ArgMatches<'a>) -> Result<Request<'a>, UsageFault>
+    ensures { IsReadAs (listen_asked (rows_of (found_of matches.now))) result }
+{
+    let listening = Listening {
+        // The repeat bound is not looked at.
+        options: options_at(matches, Some(1))?,
+        at: parse_time(text_at(matches, "at")).ok_or(UsageFault::BadTime)?,
+        skip: parse_number(text_at(matches, "skip")).ok_or(UsageFault::BadSkip)?,
+        flips: list_at(alloc, matches, "flip")?.ok_or(UsageFault::BadFlip)?,
+        lost: list_at(alloc, matches, "lose")?.ok_or(UsageFault::BadLose)?,
+        receiver: parse_receiver(text_at(matches, "receiver")).ok_or(UsageFault::BadReceiver)?,
+    };
+    let pes = text_at(matches, "pes");
+    Ok(Request::Listen { pes, listening })
 }
