@@ -5,7 +5,7 @@
 //! in a `Status`.
 #![tactic(auto)]
 
-ghost use Rattle.std.specs.Prelude.{◌≡◌, ◌+◌, ◌<◌, [], IfErr, IfOk, length, vec_len};
+ghost use Rattle.std.specs.Prelude.{◌≡◌, ◌<◌, [], IfErr, IfOk, length, vec_len};
 ghost use Rattle.sub_io.specs.Buffered.{HandsOn, failures_and_refused};
 ghost use Rattle.sub_io.specs.Device.{CanFail};
 
@@ -37,10 +37,7 @@ fn run<R: AllocGlobal + Env + Files + Print>(rt: &R) -> Status {
     let mut out = BufferedSink::new(standard_output, room.as_mut_slice());
     match answer_words(rt, &mut out) {
         Ok(status) => status,
-        Err(fault) => {
-            let status = say(&fault, &mut out);
-            hand_on(status, &mut out)
-        }
+        Err(fault) => hand_on(say(&fault, &mut out), &mut out),
     }
 }
 
@@ -48,13 +45,10 @@ fn run<R: AllocGlobal + Env + Files + Print>(rt: &R) -> Status {
 fn room(alloc: Global) -> Result<Vec<u8>, UsageFault>
     ensures { IfOk result (λ room. 0 < vec_len room) }
 {
-    match vec![in alloc; 0; BUFFER] {
-        Ok(room) => Ok(room),
-        Err(_) => Err(UsageFault::Memory),
-    }
+    vec![in alloc; 0; BUFFER].map_err(|_| UsageFault::Memory)
 }
 
-// Answers the words of the command line.
+// Answers the words of the command line. A word that is no text is no word of a command.
 fn answer_words<R: AllocGlobal + Env + Files, K: Sink>(
     rt: &R,
     out: &mut BufferedSink<'_, K>,
@@ -62,22 +56,16 @@ fn answer_words<R: AllocGlobal + Env + Files, K: Sink>(
     requires { failures_and_refused (K.failure_count out.old.device) out.old.refused ≡ 0 }
     ensures { IfErr result (λ _. out.new ≡ out.old) }
 {
-    let words = words_of(rt)?;
-    let texts = words.iter().map(|word| word.as_str());
-    let texts = texts
-        .collect::<Vec<&str>>(rt.alloc())
-        .map_err(|_| UsageFault::Memory)?;
-    let request = Request::parse(rt.alloc(), texts.as_slice())?;
-    open_and_answer(rt, &request, out)
-}
-
-// The words of the command line. A word that is no text is no word of a command.
-fn words_of<R: AllocGlobal + Env>(rt: &R) -> Result<Vec<String>, UsageFault> {
-    let args = env::args(rt).map_err(|error| match error.kind() {
+    let alloc = rt.alloc();
+    let words = env::args(rt).map_err(|error| match error.kind() {
         io::ErrorKind::OutOfMemory => UsageFault::Memory,
         _ => UsageFault::Words,
     })?;
-    args.collect(rt.alloc()).map_err(|_| UsageFault::Memory)
+    let words: Vec<String> = words.collect(alloc).map_err(|_| UsageFault::Memory)?;
+    let words = words.iter().map(|word| word.as_str());
+    let words: Vec<&str> = words.collect(alloc).map_err(|_| UsageFault::Memory)?;
+    let request = Request::parse(alloc, words.as_slice())?;
+    open_and_answer(rt, &request, out)
 }
 
 // Opens the files that the request names, in the order of the words, and creates the one that it
@@ -91,22 +79,25 @@ fn open_and_answer<R: AllocGlobal + Files, K: Sink>(
     ensures { IfErr result (λ _. out.new ≡ out.old) }
 {
     let alloc = rt.alloc();
-    let mut nothing = MemSource::new(&[]);
-    match request.files() {
+    // For a device that the request does not name, an empty one is handed in.
+    let (mut nothing, mut nowhere, mut no_room) = (MemSource::new(&[]), [0; 0], [0; 1]);
+    let mut no_file = BufferedSink::new(MemSink::new(&mut nowhere), &mut no_room);
+    Ok(match request.files() {
         FileNames::None => {
-            Ok(answer_inputs(alloc, request, &mut MemSource::new(&[]), &mut nothing, out))
+            let mut first = MemSource::new(&[]);
+            answer_and_hand_on(alloc, request, &mut first, &mut nothing, &mut no_file, out)
         }
         FileNames::Read(input) => {
             let mut room = room(alloc)?;
             let mut first = open_input(rt, &input, room.as_mut_slice())?;
-            Ok(answer_inputs(alloc, request, &mut first, &mut nothing, out))
+            answer_and_hand_on(alloc, request, &mut first, &mut nothing, &mut no_file, out)
         }
         FileNames::ReadBoth(first, second) => {
             let mut first_room = room(alloc)?;
             let mut first = open_input(rt, &first, first_room.as_mut_slice())?;
             let mut second_room = room(alloc)?;
             let mut second = open_input(rt, &second, second_room.as_mut_slice())?;
-            Ok(answer_inputs(alloc, request, &mut first, &mut second, out))
+            answer_and_hand_on(alloc, request, &mut first, &mut second, &mut no_file, out)
         }
         FileNames::Write(input, output) => {
             let mut first_room = room(alloc)?;
@@ -115,10 +106,11 @@ fn open_and_answer<R: AllocGlobal + Files, K: Sink>(
                 return Err(UsageFault::Open);
             }
             let mut file_room = room(alloc)?;
-            let mut file = create_output(rt, &output, file_room.as_mut_slice())?;
-            Ok(answer_and_hand_on(alloc, request, &mut first, &mut nothing, &mut file, out))
+            let file = fs::create(rt, output.name()).map_err(|_| UsageFault::Open)?;
+            let mut file = BufferedSink::new(IntoFile::new(file), file_room.as_mut_slice());
+            answer_and_hand_on(alloc, request, &mut first, &mut nothing, &mut file, out)
         }
-    }
+    })
 }
 
 // Opens a file to be read, behind a buffer of this room.
@@ -130,10 +122,8 @@ fn open_input<'a, R: Files>(
     requires { 0 < length room.old }
     ensures { IfOk result (λ source. source.device.failure_count ≡ 0) }
 {
-    match fs::open(rt, input.name()) {
-        Ok(file) => Ok(BufferedSource::new(FromRead::new(file), room)),
-        Err(_) => Err(UsageFault::Open),
-    }
+    let file = fs::open(rt, input.name()).map_err(|_| UsageFault::Open)?;
+    Ok(BufferedSource::new(FromRead::new(file), room))
 }
 
 // Whether creating the output can't empty the input: it is not there, or is another file, not the
@@ -146,41 +136,6 @@ fn is_apart<R: Files>(rt: &R, input: &Input<'_>, output: &Output<'_>) -> bool {
             Err(_) => false,
         },
     }
-}
-
-// Creates a file to be written, behind a buffer of this room.
-fn create_output<'a, R: Files>(
-    rt: &R,
-    output: &Output<'_>,
-    room: &'a mut [u8],
-) -> Result<BufferedSink<'a, IntoFile<R::File>>, UsageFault>
-    requires { 0 < length room.old }
-    ensures held { IfOk result (λ sink. sink.held ≡ []) }
-    ensures count { IfOk result (λ sink.
-        (sink.device.failure_count ≡ 0) × (sink.refused ≡ 0)) }
-{
-    match fs::create(rt, output.name()) {
-        Ok(file) => Ok(BufferedSink::new(IntoFile::new(file), room)),
-        Err(_) => Err(UsageFault::Open),
-    }
-}
-
-// Answers a request that writes no file. For a device that it does not name, an empty one is
-// handed in.
-fn answer_inputs<S: Source, T: Source, K: Sink>(
-    alloc: Global,
-    request: &Request<'_>,
-    first: &mut S,
-    second: &mut T,
-    out: &mut BufferedSink<'_, K>,
-) -> Status
-    requires first { CanFail (S.failure_count first.old) }
-    requires second { CanFail (T.failure_count second.old) }
-    requires out { failures_and_refused (K.failure_count out.old.device) out.old.refused ≡ 0 }
-{
-    let (mut nowhere, mut room) = ([0; 0], [0; 1]);
-    let mut no_file = BufferedSink::new(MemSink::new(&mut nowhere), &mut room);
-    answer_and_hand_on(alloc, request, first, second, &mut no_file, out)
 }
 
 // Answers a request over these devices, closes the file, and then hands on the lines.
