@@ -12,7 +12,7 @@ use Rattle.stl_file.specs.SubtitleBlocks.{joined, BelongsTo, AreLinked, Begins, 
 use Rattle.stl_file.specs.Subtitle.{SubtitleValue, IsSubtitle}
 use Rattle.stl_file.specs.NormalForm.{all_blocks, block_of, blocks_from, full_pieces, blocks_of}
 use Rattle.stl_file.specs.NormalForm.{block_head, text_field}
-use Rattle.stl_file.proofs.TimeCodeLemmas.{time_in_range, time_is}
+use Rattle.stl_file.proofs.TimeCodeLemmas.{time_in_range}
 use Rattle.stl_file.proofs.SubtitleLemmas.{IsClean, before_clean, clean_take, clean_drop, clean_of}
 use Rattle.stl_file.proofs.SubtitleBlocksLemmas.{chain_cons, chain_text, blocks_subtitle}
 
@@ -82,8 +82,8 @@ block_heads s e piece h =
       sn_is = omega arith;
       vp_is = refl;
       jc_is = refl;
-      tci = record { in_range = time_in_range s.tci early; is = time_is s.tci early };
-      tco = record { in_range = time_in_range s.tco h.in_day; is = time_is s.tco h.in_day };
+      tci = record { in_range = time_in_range s.tci early; is = omega arith };
+      tco = record { in_range = time_in_range s.tco h.in_day; is = omega arith };
       times = h.times;
       vp_range = h.vp;
       jc_range = h.jc;

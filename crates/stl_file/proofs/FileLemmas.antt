@@ -18,14 +18,14 @@ use Rattle.stl_file.specs.File.{IsFile}
 use Rattle.stl_file.specs.NormalForm.{subtitles_of}
 use Rattle.stl_file.specs.Reading.{outcome_at}
 use Rattle.stl_file.proofs.OutcomeLemmas.{outcome_at-first}
-use Rattle.stl_file.proofs.RestLemmas.{outcome_complete, fine, outcome_sound}
+use Rattle.stl_file.proofs.RestLemmas.{outcome_complete, outcome_sound}
 use Rattle.stl_file.proofs.GsiLemmas.{gsi_complete}
 use Rattle.stl_file.proofs.OpeningLemmas.{good, opened_sound, opened-whole}
 
 -- a file that was read was opened
 judged_ok : (b : List ℕ) (o : Result ReaderValue StlFault) (ts : List SubtitleValue)
-    → subtitles_of (outcome_opened b o) ≡ fine ts
-    → (r : ReaderValue) × (o ≡ good r) × (subtitles_of (outcome_left r b) ≡ fine ts)
+    → subtitles_of (outcome_opened b o) ≡ Ok ts
+    → (r : ReaderValue) × (o ≡ good r) × (subtitles_of (outcome_left r b) ≡ Ok ts)
 judged_ok b (Ok r) ts e = (r, refl, e)
 judged_ok b (Err f) ts e = absurd cc
 
@@ -33,7 +33,7 @@ judged_ok b (Err f) ts e = absurd cc
 pub body_sound : (s : List ℕ) (ts : List SubtitleValue)
     → 1024 ≤ length s
     → IsGsi (take 1024 s)
-    → subtitles_of (outcome_at most_blocks None (drop 1024 s)) ≡ fine ts
+    → subtitles_of (outcome_at most_blocks None (drop 1024 s)) ≡ Ok ts
     → IsFile s (take 1024 s) ts
 body_sound s ts le g e =
     let r = outcome_sound most_blocks None [] (drop 1024 s) ts refl e in
@@ -52,7 +52,7 @@ body_sound s ts le g e =
 
 -- bytes that are read without a fault are a file
 pub file_sound : (s : List ℕ) (ts : List SubtitleValue)
-    → subtitles_of (outcome_of s) ≡ fine ts
+    → subtitles_of (outcome_of s) ≡ Ok ts
     → IsFile s (take 1024 s) ts
 unfolding outcome_of
 file_sound s ts e =
@@ -64,7 +64,7 @@ file_sound s ts e =
 -- a file is read without a fault
 pub file_complete : (s g : List ℕ) (ts : List SubtitleValue)
     → IsFile s g ts
-    → (take 1024 s ≡ g) × (subtitles_of (outcome_of s) ≡ fine ts)
+    → (take 1024 s ≡ g) × (subtitles_of (outcome_of s) ≡ Ok ts)
 unfolding outcome_of opened_at
 file_complete s g ts h =
     let size = h.gsi.size in
@@ -73,10 +73,11 @@ file_complete s g ts h =
     let front : take 1024 s ≡ g = ap (take 1024) h.bytes ∙ take_at g (joined h.blocks) 1024 size in
     let back : drop 1024 s ≡ joined h.blocks =
     ap (drop 1024) h.bytes ∙ drop_at g (joined h.blocks) 1024 size in
-    let long : ltb (length s) 1024 ≡ false = le-ltb _ _ (omega arith) in
-    let all = outcome_complete h.blocks None most_blocks ts h.rest.each h.rest.few
-    (record { gs = h.rest.parts; kept_is = h.rest.kept; groups = h.rest.are_of }) in
-    (front, rw (long, front, back, gsi_complete g h.gsi) all)
+    let long : ltb (length s) 1024 ≡ false = le-ltb _ _ (omega arith) in (
+      front,
+      rw (long, front, back, gsi_complete g h.gsi)
+          (outcome_complete h.blocks most_blocks ts h.rest),
+    )
 
 -- a file is what is read
 pub file_read : (s g : List ℕ) (ts : List SubtitleValue)
@@ -86,10 +87,6 @@ file_read s g ts = (
   λ h. subst (λ (x : List ℕ). IsFile s x ts) (sym h.0) (file_sound s ts h.1),
 )
 
--- equal answers have equal subtitles
-same_list : (x y : List SubtitleValue) → fine x ≡ fine y → x ≡ y
-same_list x y e = cc
-
 -- a file has one GSI block and one list of subtitles
 pub one_file : (s g h : List ℕ) (ts us : List SubtitleValue)
     → IsFile s g ts
@@ -98,7 +95,7 @@ pub one_file : (s g h : List ℕ) (ts us : List SubtitleValue)
 one_file s g h ts us a b =
     let x = file_complete s g ts a in
     let y = file_complete s h us b in
-    (sym x.0 ∙ y.0, same_list ts us (sym x.1 ∙ y.1))
+    (cc, cc)
 
 -- ---- the first bytes
 

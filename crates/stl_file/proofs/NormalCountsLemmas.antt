@@ -6,6 +6,7 @@ use Rattle.std.proofs.Common.{Result, Ok, Err, subst, ◌+◌, ◌≤◌, is_ok}
 use Rattle.std.specs.Prelude.{filter}
 use Rattle.std.specs.Io.KnownBytes.{Appends}
 use Rattle.std.proofs.lemmas.List.{append-nil}
+use Rattle.std.proofs.lemmas.Grind.{flat_map-append}
 use Rattle.std.proofs.KnownBytes.{Appends-trans}
 use Rattle.std.proofs.lemmas.Option.{same_Some}
 use Rattle.sub_io.specs.Device.{AppendsPrefix}
@@ -25,7 +26,7 @@ use Rattle.stl_file.specs.NormalForm.{Judged, all_blocks, subtitles_of, full_pie
 use Rattle.stl_file.specs.NormalForm.{cons_all}
 use Rattle.stl_file.specs.NormalCounts.{counted, given}
 use Rattle.stl_file.specs.Reading.{Outcome}
-use Rattle.stl_file.proofs.SubtitleBlocksLemmas.{kept_few, joined_append}
+use Rattle.stl_file.proofs.SubtitleBlocksLemmas.{kept_few}
 use Rattle.stl_file.proofs.BlocksOfLemmas.{blocks_count, blocks_again, all_push, all_append}
 
 -- ---- the subtitles so far, and those that are left
@@ -163,7 +164,7 @@ pub all_wrote : (ss : List SubtitleValue) (s : SubtitleValue) (u v w : Option (L
     → Appends u w (joined (all_blocks (ss ++ s ∷ [])))
 all_wrote ss s u v w x y =
     subst (Appends u w) (sym
-    (ap joined (all_push ss s) ∙ joined_append (all_blocks ss) (blocks_of s)))
+    (ap joined (all_push ss s) ∙ flat_map-append _ (all_blocks ss) (blocks_of s)))
     (Appends-trans u v w (joined (all_blocks ss)) (joined (blocks_of s)) x y)
 
 -- a prefix of all, where the subtitles so far were written and then a prefix of one
@@ -178,8 +179,8 @@ all_prefix done ss all s u v w e x y =
     rw (
       e,
       all_append done (s ∷ ss),
-      joined_append (all_blocks done) (blocks_of s ++ all_blocks ss),
-      joined_append (blocks_of s) (all_blocks ss),
+      flat_map-append (λ (b : List ℕ). b) (all_blocks done) (blocks_of s ++ all_blocks ss),
+      flat_map-append (λ (b : List ℕ). b) (blocks_of s) (all_blocks ss),
     ) refl in
     subst (AppendsPrefix u w) (sym parts)
     (AppendsPrefix-second u v w (joined (all_blocks done))

@@ -2,11 +2,12 @@
 -- normal_is_file, normal_twice, refused_body, whole_written.
 use Rattle.std.proofs.Common.{◌≡◌, ℕ, false, List, [], ◌∷◌, ◌++◌, length, refl, sym, ap, ◌∙◌, arith}
 use Rattle.std.proofs.Common.{length-append, take, drop, Option, Some, None, Result, Ok, Err, subst}
-use Rattle.std.proofs.Common.{◌≤◌, inl, inr}
+use Rattle.std.proofs.Common.{◌≤◌}
 use Rattle.std.specs.Prelude.{filter}
 use Rattle.std.specs.List.{AllByRecursion, flat_map}
 use Rattle.std.specs.Io.KnownBytes.{Appends, Keeps}
 use Rattle.std.proofs.KnownBytes.{Appends-trans}
+use Rattle.std.proofs.lemmas.Bool.Decides.{nat_tests}
 use Rattle.sub_io.specs.Device.{AppendsPrefix}
 use Rattle.sub_io.proofs.DeviceLemmas.{AppendsPrefix-first, AppendsPrefix-second}
 use Rattle.stl_file.specs.declared.counts.Counts.{Counts}
@@ -23,7 +24,7 @@ use Rattle.stl_file.specs.File.{IsFile}
 use Rattle.stl_file.specs.NormalForm.{Judged, all_blocks, counted_gsi, normal_form, subtitles_of}
 use Rattle.stl_file.specs.NormalForm.{WritesNormal, WritesPrefix, NormalAnswers, blocks_of}
 use Rattle.stl_file.specs.NormalCounts.{counted, given}
-use Rattle.stl_file.proofs.SubtitleBlocksLemmas.{kept_by_both, kept_few}
+use Rattle.stl_file.proofs.SubtitleBlocksLemmas.{kept_few}
 use Rattle.stl_file.proofs.GsiLemmas.{counted_is_gsi, counts_twice}
 use Rattle.stl_file.proofs.OpeningLemmas.{good, opened_sound}
 use Rattle.stl_file.proofs.FileLemmas.{body_sound, one_file}
@@ -38,9 +39,9 @@ AllKept bs = AllByRecursion (λ (b : List ℕ). (length b ≡ 128) × (is_passed
 -- linked blocks are no comments and no user data
 chain_kept : (sgn_is sn_is : ℕ) (g : List (List ℕ)) → AreLinked sgn_is sn_is g → AllKept g
 chain_kept sgn_is sn_is [] c = absurd c
-chain_kept sgn_is sn_is (b ∷ []) c = ((c.0.size, kept_by_both b (inr c.1) c.0.is_subtitle), tt)
+chain_kept sgn_is sn_is (b ∷ []) c = ((c.0.size, grind (arith, nat_tests)), tt)
 chain_kept sgn_is sn_is (b ∷ x ∷ g) c =
-    ((c.0.size, kept_by_both b (inl c.1) c.0.is_subtitle), chain_kept sgn_is sn_is (x ∷ g) c.2)
+    ((c.0.size, grind (arith, nat_tests)), chain_kept sgn_is sn_is (x ∷ g) c.2)
 
 -- kept blocks, one after the other
 kept_append : (xs ys : List (List ℕ)) → AllKept xs → AllKept ys → AllKept (xs ++ ys)

@@ -48,12 +48,18 @@ abbrev pub is_write : NormalFault → Bool
 is_write Write = true
 is_write _ = false
 
--- a block's own bytes or its place among the blocks of its subtitle are at fault, and not that it
--- is one block too many
+-- a block's own bytes or its place among the blocks of its subtitle are at fault
 abbrev pub is_of_block : StlFault → Bool
-is_of_block fault.TooManyBlocks = false
-is_of_block fault.Read = false
-is_of_block _ = true
+is_of_block fault.Extension = true
+is_of_block fault.Cumulative = true
+is_of_block fault.CommentFlag = true
+is_of_block fault.Justify = true
+is_of_block fault.Row = true
+is_of_block fault.Time = true
+is_of_block fault.EmptyTime = true
+is_of_block fault.Sequence = true
+is_of_block fault.TooLong = true
+is_of_block _ = false
 
 -- the file ends too early: only its end is at fault, and more bytes might cure it
 abbrev pub is_cut : StlFault → Bool

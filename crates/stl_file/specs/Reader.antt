@@ -66,7 +66,7 @@ pub record Answers (old : ReaderValue) (bytes : List ℕ) (new : ReaderValue) (n
   pub rest_is : now ≡ Some rest
   pub outcome : outcome_left old bytes ≡ outcome_with new rest result
 
--- ---- the same within one call, by the last block that was read
+-- ---- the same within one call
 
 -- the block that a fault names: one block too many and the block of a byte that could not be read
 -- come after the last block
@@ -75,23 +75,42 @@ block_after block fault.TooManyBlocks = block + 1
 block_after block fault.Read = block + 1
 block_after block _ = block
 
--- the block after an answer
+-- the block that an answer names, where this is the last block that was read or begun
 abbrev pub block_by : ℕ → Result (Option SubtitleValue) StlFault → ℕ
 block_by block (Err f) = block_after block f
 block_by block (Ok found) = block
 
--- what an answer says of all that was left, where `rest` is left after `block` blocks
+-- what an answer that names this block says of all that was left, where `rest` is left after it
 abbrev pub outcome_by : ℕ → List ℕ → Result (Option SubtitleValue) StlFault → Outcome
-outcome_by block rest (Err f) = fails f (block_after block f)
+outcome_by block rest (Err f) = fails f block
 outcome_by block rest (Ok None) = ends
 outcome_by block rest (Ok (Some s)) = gives s block (outcome_from block rest)
 
--- the answer is the first thing that was left to be given
-pub record Leads (from : ℕ) (bytes : List ℕ) (block : ℕ) (now : Option (List ℕ))
+-- the answer is told of the end of the file, and more bytes might change it
+abbrev pub tells_end : Result (Option SubtitleValue) StlFault → Bool
+tells_end (Err f) = is_cut f
+tells_end (Ok None) = true
+tells_end (Ok (Some s)) = false
+
+-- the last block of these bytes is no passed block
+abbrev pub LastIsKept : List ℕ → Type 0
+LastIsKept bytes =
+    (front last : List ℕ) → bytes ≡ front ++ last → IsBlock last → is_kept last ≡ true
+
+-- The bytes that were taken after `from` blocks lead to the answer, which names the block `to`,
+-- whatever comes after them; where it tells the end, nothing does. A subtitle is given at a block
+-- that is not passed over.
+pub record Leads (from to : ℕ) (old new : Option (List ℕ))
     (result : Result (Option SubtitleValue) StlFault) : Type 0 where
-  pub rest : List ℕ
-  pub rest_is : now ≡ Some rest
-  pub outcome : outcome_from from bytes ≡ outcome_by block rest result
+  pub bytes : List ℕ
+  pub consumed : Consumes old new bytes
+  pub block : to ≡ from + (length bytes + 127) / 128
+  pub outcome :
+      (more : List ℕ)
+      → (tells_end result ≡ true → more ≡ [])
+      → outcome_from from (bytes ++ more) ≡ outcome_by to more result
+  pub ended : tells_end result ≡ true → IsAtEnd new
+  pub kept : (s : SubtitleValue) → result ≡ Ok (Some s) → LastIsKept bytes
 
 -- ---- what a call takes
 

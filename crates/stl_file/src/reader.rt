@@ -9,7 +9,7 @@ ghost use Rattle.sub_io.specs.Reading.{IfTold};
 ghost use Rattle.stl_file.specs.declared.fault.StlFault.TheVariants.{Ended};
 ghost use Rattle.stl_file.specs.Fault.{is_format, is_read};
 ghost use Rattle.stl_file.specs.Gsi.{IsGsi};
-ghost use Rattle.stl_file.specs.Reader.{Leads, block_after, opened_at, FailsReading, HasPlace};
+ghost use Rattle.stl_file.specs.Reader.{Leads, block_after, block_by, opened_at, FailsReading, HasPlace};
 ghost use Rattle.stl_file.specs.Reader.{Answers, Refuses, RefusesOpening, TakesPassed};
 ghost use Rattle.stl_file.specs.Reader.{TakesSubtitle, given_subtitle, progress_after};
 ghost use Rattle.stl_file.specs.Tti.{most_blocks};
@@ -178,6 +178,7 @@ impl StlReader {
     /// # Errors
     ///
     /// Those of `next`.
+    #[tactic(auto, using(crate::proofs::ReaderLemmas::led))]
     pub fn next_into<S: Source>(
         &mut self,
         source: &mut S,
@@ -225,17 +226,22 @@ impl StlReader {
             Progress::AtEnd => return Ok(false),
             Progress::Broken => return Err(StlFault::Ended),
         };
-        let result = read_subtitle(&mut block, source, subtitle);
-        self.block = match &result {
-            Ok(_) => block,
-            Err(fault) => block_of(block, fault),
-        };
-        self.progress = match &result {
-            Ok(true) => Progress::Reading,
-            Ok(false) => Progress::AtEnd,
-            Err(_) => Progress::Broken,
-        };
-        result
+        match read_subtitle(&mut block, source, subtitle) {
+            Ok(true) => {
+                self.block = block;
+                Ok(true)
+            }
+            Ok(false) => {
+                self.block = block;
+                self.progress = Progress::AtEnd;
+                Ok(false)
+            }
+            Err(fault) => {
+                self.block = block_of(block, &fault);
+                self.progress = Progress::Broken;
+                Err(fault)
+            }
+        }
     }
 }
 
@@ -247,16 +253,9 @@ fn read_subtitle<S: Source>(
 ) -> Result<bool, StlFault>
     requires few { block.old ≤ most_blocks }
     requires count { CanFail (S.failure_count source.old) }
-    ensures exact { IfTold (S.remaining source.old) (λ bytes. failed is_read result ≡ false →
-        Leads block.old bytes block.new (S.remaining source.new)
-        (given_subtitle result subtitle.new)) }
-    ensures subtitle { result ≡ Ok true → TakesSubtitle block.old block.new
-        (S.remaining source.old) (S.remaining source.new) subtitle.new }
-    ensures none { result ≡ Ok false → TakesPassed block.old block.new
-        (S.remaining source.old) (S.remaining source.new) }
-    ensures refused { IfErr result (λ fault. is_format fault ≡ true →
-        Refuses block.old (block_after block.new fault)
-        (S.remaining source.old) (S.remaining source.new) fault) }
+    ensures leads { failed is_read result ≡ false →
+        Leads block.old (block_by block.new (given_subtitle result subtitle.new))
+        (S.remaining source.old) (S.remaining source.new) (given_subtitle result subtitle.new) }
     ensures failed { failed is_read result ≡ true →
         FailsReading block.old (block.new + 1) (S.remaining source.old) (S.remaining source.new) }
     ensures never { IfErr result (λ fault. fault ≢ Ended) }

@@ -3,7 +3,7 @@
 ghost use Rattle.std.specs.Prelude.{◌≡◌, ◌+◌, ◌≤◌, ◌++◌, length, take, true, ◌==◌, ◌&&◌};
 ghost use Rattle.std.specs.Prelude.{Err, IfErr, Ok, OnOk};
 ghost use Rattle.std.specs.Option.{SomeIff};
-ghost use Rattle.stl_file.specs.Fault.{is_format, is_of_block};
+ghost use Rattle.stl_file.specs.Fault.{is_of_block};
 ghost use Rattle.stl_file.specs.Reading.{first_at, time_at};
 ghost use Rattle.stl_file.specs.Subtitle.{IsSubtitle, SubtitleValue, empty_subtitle};
 ghost use Rattle.stl_file.specs.Subtitle.{has_no_unused};
@@ -175,7 +175,6 @@ impl Subtitle {
         ensures ok { OnOk result (first_at block.now ≡ Ok self.new) }
         ensures err { IfErr result (λ fault. first_at block.now ≡ Err fault) }
         ensures room { OnOk result (length self.new.text ≤ 112) }
-        ensures kind { IfErr result (λ fault. is_format fault ≡ true) }
         ensures own { IfErr result (λ fault. is_of_block fault ≡ true) }
     {
         if block.cs() != 0 {
@@ -223,18 +222,18 @@ impl Subtitle {
 }
 
 // TCI as a time code.
+#[tactic(auto, using(crate::proofs::TimeCodeLemmas::time_at_field))]
 fn time_in(block: &Tti) -> Result<TimeCode, StlFault>
     ensures exact { time_at block.now tci_place ≡ result }
-    ensures kind { IfErr result (λ fault. is_format fault ≡ true) }
     ensures own { IfErr result (λ fault. is_of_block fault ≡ true) }
 {
     time_of(block.tci())
 }
 
 // TCO as a time code.
+#[tactic(auto, using(crate::proofs::TimeCodeLemmas::time_at_field))]
 fn time_out(block: &Tti) -> Result<TimeCode, StlFault>
     ensures exact { time_at block.now tco_place ≡ result }
-    ensures kind { IfErr result (λ fault. is_format fault ≡ true) }
     ensures own { IfErr result (λ fault. is_of_block fault ≡ true) }
 {
     time_of(block.tco())
@@ -244,7 +243,6 @@ fn time_out(block: &Tti) -> Result<TimeCode, StlFault>
 #[tactic(auto, unfolding(crate::specs::Reading::time_at))]
 fn time_of(bytes: [u8; 4]) -> Result<TimeCode, StlFault>
     ensures exact { time_at bytes 0 ≡ result }
-    ensures kind { IfErr result (λ fault. is_format fault ≡ true) }
     ensures own { IfErr result (λ fault. is_of_block fault ≡ true) }
 {
     let [hours, minutes, seconds, frames] = bytes;

@@ -1,7 +1,7 @@
 //! The blocks of one subtitle: what each next block of a file brings.
 
 ghost use Rattle.std.specs.Prelude.{◌≡◌, IfErr, OnOk, None, Some, true};
-ghost use Rattle.stl_file.specs.Fault.{is_format, is_of_block};
+ghost use Rattle.stl_file.specs.Fault.{is_of_block};
 ghost use Rattle.stl_file.specs.Reading.{BegunFits, begun_in, kept_at, step_at, step_in};
 
 use crate::fault::StlFault;
@@ -27,7 +27,6 @@ pub(crate) fn take_block(
     ensures exact { step_at (begun_in subtitle.old count.old) block.now
         ≡ step_in subtitle.new count.new result }
     ensures room { OnOk result (BegunFits (begun_in subtitle.new count.new)) }
-    ensures kind { IfErr result (λ fault. is_format fault ≡ true) }
     ensures own { IfErr result (λ fault. is_of_block fault ≡ true) }
 {
     let ebn = block.ebn();
@@ -53,7 +52,6 @@ fn take_kept(subtitle: &mut Subtitle, count: &mut u8, block: &Tti) -> Result<boo
     ensures exact { kept_at (begun_in subtitle.old count.old) block.now
         ≡ step_in subtitle.new count.new result }
     ensures room { OnOk result (BegunFits (begun_in subtitle.new count.new)) }
-    ensures kind { IfErr result (λ fault. is_format fault ≡ true) }
     ensures own { IfErr result (λ fault. is_of_block fault ≡ true) }
 {
     if *count == 0 {
@@ -68,7 +66,6 @@ fn take_kept(subtitle: &mut Subtitle, count: &mut u8, block: &Tti) -> Result<boo
 fn take_first(subtitle: &mut Subtitle, count: &mut u8, block: &Tti) -> Result<bool, StlFault>
     ensures exact { kept_at None block.now ≡ step_in subtitle.new count.new result }
     ensures room { OnOk result (BegunFits (begun_in subtitle.new count.new)) }
-    ensures kind { IfErr result (λ fault. is_format fault ≡ true) }
     ensures own { IfErr result (λ fault. is_of_block fault ≡ true) }
 {
     subtitle.begin(block)?;
@@ -83,7 +80,6 @@ fn take_further(subtitle: &mut Subtitle, count: &mut u8, block: &Tti) -> Result<
     ensures exact { kept_at (Some (record { subtitle = subtitle.old; blocks = count.old }))
         block.now ≡ step_in subtitle.new count.new result }
     ensures room { OnOk result (BegunFits (begun_in subtitle.new count.new)) }
-    ensures kind { IfErr result (λ fault. is_format fault ≡ true) }
     ensures own { IfErr result (λ fault. is_of_block fault ≡ true) }
 {
     if !subtitle.is_of(block) {
