@@ -5,7 +5,8 @@ use Rattle.std.proofs.Common.{false, cond, not, eqb, List, [], ◌∷◌, ◌++�
 use Rattle.std.proofs.Common.{drop, map, Option, Some, None, Result, Ok, Err, refl, sym, ap, subst}
 use Rattle.std.proofs.Common.{◌∙◌, append_assoc, arith, inl, inr, ◌⊎◌, length-append, length-take}
 use Rattle.std.proofs.Common.{length-drop}
-use Rattle.std.proofs.lemmas.Bool.{eqb-true, eq-eqb, ne_eqb, cases_eq, cases_lt}
+use Rattle.std.proofs.lemmas.Bool.{eqb-true, cases_lt}
+use Rattle.std.proofs.lemmas.Bool.Decides.{nat_tests}
 use Rattle.std.proofs.lemmas.List.{length-map, take_at, drop_at, take-append-drop, get_or-take}
 use Rattle.std.proofs.lemmas.List.{get_or-drop, get_or_past, append-nil, nil_from_length}
 use Rattle.std.specs.Option.{option_to_list}
@@ -52,24 +53,14 @@ if_not_cases false x y z e = inl (refl, e)
 
 -- The two numbers of data units with Teletext.
 pub is_teletext_id : (id : ℕ) → is_teletext id ≡ true → (2 ≤ id) × (id ≤ 3)
-is_teletext_id id e = elim (cases_eq id 2) [
-  | inl two ↦ (omega arith, omega arith)
-  | inr other ↦
-      let no : eqb id 2 ≡ false = ne_eqb id 2 other in
-      let three : id ≡ 3 = eqb-true id 3 (rw no at e) in (omega arith, omega arith)
-]
+is_teletext_id id e = grind (arith, nat_tests)
 
 -- The third byte of a unit, made again of its parts.
 field_bit : (b : ℕ)
     → b < 256
     → (64 * (b / 64) + 32 * (2 - cond (eqb ((b / 32) % 2) 1) 1 2) + b % 32 ≡ b)
     × (1 ≤ cond (eqb ((b / 32) % 2) 1) 1 2) × (cond (eqb ((b / 32) % 2) 1) 1 2 ≤ 2)
-field_bit b lt = elim (cases_eq ((b / 32) % 2) 1) [
-  | inl one ↦ let t : eqb ((b / 32) % 2) 1 ≡ true = eq-eqb _ _ one in
-      rw t (omega arith, omega arith, omega arith)
-  | inr other ↦ let f : eqb ((b / 32) % 2) 1 ≡ false = ne_eqb _ _ other in
-      rw f (omega arith, omega arith, omega arith)
-]
+field_bit b lt = grind (arith, nat_tests)
 
 -- A test that lets a value through.
 if_ok_held : (b : Bool) (x y : List UnitValue)
@@ -134,10 +125,7 @@ unit_sound (b0 ∷ b1 ∷ b2 ∷ b3 ∷ p) u len fit e =
 
 -- Units with those numbers are read.
 teletext_id_is : (id : ℕ) → 2 ≤ id → id ≤ 3 → is_teletext id ≡ true
-teletext_id_is id lo hi = elim (cases_eq id 2) [
-  | inl two ↦ rw two refl
-  | inr other ↦ let three : id ≡ 3 = omega arith in rw three refl
-]
+teletext_id_is id lo hi = grind (arith, nat_tests)
 
 -- The field, read from the third byte.
 field_back : (reserved field line : ℕ)
@@ -145,15 +133,7 @@ field_back : (reserved field line : ℕ)
     → field ≤ 2
     → line < 32
     → cond (eqb (((64 * reserved + 32 * (2 - field) + line) / 32) % 2) 1) 1 2 ≡ field
-field_back reserved field line lo hi lt = elim (cases_eq field 1) [
-  | inl one ↦
-      let t : ((64 * reserved + 32 * (2 - field) + line) / 32) % 2 ≡ 1 = omega arith in
-      rw t (sym one)
-  | inr other ↦
-      let two : field ≡ 2 = omega arith in
-      let t : ((64 * reserved + 32 * (2 - field) + line) / 32) % 2 ≡ 0 = omega arith in
-      rw t (sym two)
-]
+field_back reserved field line lo hi lt = grind (arith, nat_tests)
 
 -- Equal fields make equal units.
 unit_is : (u : UnitValue) (field line : ℕ) (packet : List ℕ)
@@ -287,8 +267,7 @@ pub units_more : (count i : ℕ) (front units : List UnitValue) (b : List ℕ)
     → units_at (count - i) front b ≡ units_at (count - (i + 1)) units (drop 46 b)
 unfolding units_at
 units_more count i front units b lt e =
-    let k : count - i ≡ suc (count - (i + 1)) = omega arith in
-    rw (k, e) refl
+    grind (arith, nat_tests)
 
 -- A fault in a data unit ends the loop.
 pub units_stop : (count i : ℕ) (front : List UnitValue) (b : List ℕ) (f : PesFault)

@@ -1,17 +1,17 @@
 -- The order of lines, one unit on, and that numbered packets keep it. Main lemma:
 -- numbered_is_value.
-use Rattle.std.proofs.Common.{◌≡◌, ℕ, ◌+◌, ◌-◌, ◌^◌, ◌<◌, ◌≤◌, true, false, cond, eqb}
+use Rattle.std.proofs.Common.{◌≡◌, ℕ, ◌+◌, ◌<◌, ◌≤◌, true, false, cond, eqb}
 use Rattle.std.proofs.Common.{ltb, List, [], ◌∷◌, ◌++◌, length, get_or, take, map, refl, ap}
-use Rattle.std.proofs.Common.{◌∙◌, arith, inl, inr}
-use Rattle.std.proofs.lemmas.Bool.{cases_Bool, lt-ltb, le-ltb, ne_eqb, cases_lt}
+use Rattle.std.proofs.Common.{◌∙◌, arith}
+use Rattle.std.proofs.lemmas.Bool.{lt-ltb}
 use Rattle.std.proofs.lemmas.Bool.Decides.{nat_tests}
 use Rattle.std.proofs.lemmas.List.{take_more, length-take-le}
 use Rattle.std.specs.List.{AllByRecursion}
 use Rattle.ttx_packet.specs.PacketAddress.{IsPacket}
 use Rattle.ttx_pes.specs.DataUnit.{UnitValue, IsUnit}
+use Rattle.ttx_pes.specs.Laws.{LawOfNumberedFrame}
 use Rattle.ttx_pes.specs.LineOrder.{line_order_place, last_place, stands_after, AreInLineOrder}
 use Rattle.ttx_pes.specs.LineOrder.{numbered_units, numbered_unit, numbered_place}
-use Rattle.ttx_pes.specs.PesPacket.{IsPesValue, numbered_frame}
 
 -- The last place after one more unit.
 pub last_place-push : (last : ℕ) (us : List UnitValue) (u : UnitValue)
@@ -89,7 +89,7 @@ packets-numbered_units : (i : ℕ) (ps : List (List ℕ))
 packets-numbered_units i [] = refl
 packets-numbered_units i (p ∷ ps) =
     let rest = packets-numbered_units (i + 1) ps in
-    elim (cases_Bool (ltb i 16)) [ inl low ↦ rw (low, rest) refl | inr high ↦ rw (high, rest) refl ]
+    grind (arith, nat_tests)
 
 -- As many units as packets.
 length-numbered_units : (i : ℕ) (ps : List (List ℕ)) → length (numbered_units i ps) ≡ length ps
@@ -115,22 +115,16 @@ subtitles_on field line p of lt h =
 
 -- One numbered unit.
 numbered_one : (i : ℕ) (p : List ℕ) → i < 32 → IsPacket p → IsNumbered i p
-numbered_one i p lt h = elim (cases_lt i 16) [
-  | inl low ↦
-      let t : ltb i 16 ≡ true = lt-ltb i 16 low in
-      record {
-        unit = rw t (subtitles_on 1 (7 + i) p (omega arith, omega arith) (omega arith) h);
-        line = rw t (ne_eqb (7 + i) 0 (λ z. omega arith));
-        place = rw t (omega arith);
-      }
-  | inr high ↦
-      let f : ltb i 16 ≡ false = le-ltb i 16 high in
-      record {
-        unit = rw f (subtitles_on 2 (i - 9) p (omega arith, omega arith) (omega arith) h);
-        line = rw f (ne_eqb (i - 9) 0 (λ z. omega arith));
-        place = rw f (omega arith);
-      }
-]
+numbered_one i p lt h = record {
+  unit = record {
+    id = grind (arith, nat_tests);
+    field = grind (arith, nat_tests);
+    line = grind (arith, nat_tests);
+    packet = grind (arith, nat_tests);
+  };
+  line = grind (arith, nat_tests);
+  place = grind (arith, nat_tests);
+}
 
 -- All numbered units are units.
 numbered_each : (i : ℕ) (ps : List (List ℕ)) → i + length ps ≤ 32 → AllByRecursion IsPacket ps
@@ -156,12 +150,7 @@ numbered_order i last (p ∷ ps) few h lt =
     (refl, numbered_order (i + 1) (line_order_place (numbered_unit i p)) ps next h.1 rises)
 
 -- Packets that are sent as one frame make a value that a frame can hold: the law.
-pub numbered_is_value : (pts : ℕ) (ps : List (List ℕ))
-    → pts < 2 ^ 33
-    → length ps ≤ 32
-    → AllByRecursion IsPacket ps
-    → IsPesValue (numbered_frame pts ps)
-    × (map (λ (u : UnitValue). u.packet) (numbered_units 0 ps) ≡ ps)
+pub numbered_is_value : LawOfNumberedFrame
 numbered_is_value pts ps lt few h = let all : 0 + length ps ≤ 32 = omega arith in (
   record {
     pts = lt;

@@ -1,11 +1,12 @@
 -- The order of lines as a fact of pairs. Main lemma: line_order.
-use Rattle.std.proofs.Common.{◌≡◌, ◌≢◌, ◌↔◌, ℕ, suc, ◌<◌, true, false, eqb, ltb, List, []}
+use Rattle.std.proofs.Common.{◌≡◌, ◌≢◌, ℕ, suc, ◌<◌, true, false, eqb, ltb, List, []}
 use Rattle.std.proofs.Common.{◌∷◌, refl, arith, inl, inr, eq-eqb}
 use Rattle.std.proofs.lemmas.Bool.{cases_eq, ne_eqb, lt-ltb, ltb-true}
 use Rattle.std.proofs.lemmas.List.Elements.{All-cons}
 use Rattle.std.proofs.lemmas.List.Kept.{AllPairs-cons}
 use Rattle.std.specs.List.{All, AllPairs}
 use Rattle.ttx_pes.specs.DataUnit.{UnitValue}
+use Rattle.ttx_pes.specs.Laws.{LawOfLineOrder}
 use Rattle.ttx_pes.specs.LineOrder.{line_order_place, AreInLineOrder, RisesTo}
 
 -- A unit that names a line stands after that place.
@@ -61,7 +62,7 @@ order_from_pairs before (u ∷ us) all pairs = elim (cases_eq u.line 0) [
 ]
 
 -- Units in order: the law.
-pub line_order : (us : List UnitValue) → AreInLineOrder 0 us ↔ AllPairs RisesTo us
+pub line_order : LawOfLineOrder
 line_order us = (
   λ h. (pairs_from_order 0 us h).1,
   λ pairs. order_from_pairs 0 us (λ k d l some. omega arith) pairs,

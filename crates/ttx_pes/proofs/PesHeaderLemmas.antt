@@ -4,8 +4,9 @@ use Rattle.std.proofs.Common.{zero, suc, ◌≡◌, ℕ, ◌+◌, ◌-◌, ◌*�
 use Rattle.std.proofs.Common.{eqb, leb, List, [], ◌∷◌, ◌++◌, length, get_or, take, drop, Ok}
 use Rattle.std.proofs.Common.{refl, sym, ap, ◌∙◌, append_assoc, arith, true}
 use Rattle.std.proofs.Common.{length-append, length-take, length-drop}
-use Rattle.std.proofs.lemmas.Bool.{eqb-true, eq-eqb, leb-true, le-leb, and_parts}
+use Rattle.std.proofs.lemmas.Bool.{eqb-true, leb-true, and_parts}
 use Rattle.std.proofs.Math.Seq.{drop-cons}
+use Rattle.std.proofs.lemmas.Bool.Decides.{nat_tests}
 use Rattle.std.proofs.lemmas.List.{drop_at, take-append-drop, drop_more, drop-drop, get_or_at}
 use Rattle.std.proofs.lemmas.List.{nil_from_length}
 use Rattle.std.specs.Int.{bytes_high_first}
@@ -15,7 +16,7 @@ use Rattle.ttx_pes.specs.declared.fault.PesFault.{PesFault}
 use Rattle.ttx_pes.specs.declared.fault.PesFault.TheVariants as fault
 use Rattle.ttx_pes.specs.DataUnit.{UnitValue}
 use Rattle.ttx_pes.specs.PesPacket.{IsPesPacket, PesValue, packet_length, packet_start, pts_bytes}
-use Rattle.ttx_pes.specs.Reading.{has_markers, is_start, pts_bits, pts_at, units_at, value_at}
+use Rattle.ttx_pes.specs.Reading.{is_start, pts_bits, pts_at, units_at, value_at}
 use Rattle.ttx_pes.specs.Reading.{size_at}
 use Rattle.ttx_pes.proofs.DataUnitLemmas.{AreBytes-drop, units_sound, units_complete}
 use Rattle.sub_io.proofs.ReadingLemmas.{test_held, step_gave, Ok-injective, given_as}
@@ -79,11 +80,7 @@ list_of_bytes (suc n) i b le =
 pub tests_held : (a i b j c k d l : ℕ)
     → (eqb a i && eqb b j && eqb c k && eqb d l) ≡ true
     → (a ≡ i) × (b ≡ j) × (c ≡ k) × (d ≡ l)
-tests_held a i b j c k d l h =
-    let p = and_parts (eqb a i && eqb b j && eqb c k) (eqb d l) h in
-    let q = and_parts (eqb a i && eqb b j) (eqb c k) p.0 in
-    let r = and_parts (eqb a i) (eqb b j) q.0 in
-    (eqb-true a i r.0, eqb-true b j r.1, eqb-true c k q.1, eqb-true d l p.1)
+tests_held a i b j c k d l h = grind (arith, nat_tests)
 
 -- Six bytes whose size is read are those of the grammar.
 pub head_sound : (b : List ℕ) (size : ℕ) → length b ≡ 6 → AreBytes b → size_at b ≡ Ok size
@@ -118,9 +115,7 @@ unfolding size_at
 head_complete n lo hi =
     let total : 256 * (((184 * n - 6) / 256) % 256) + (184 * n - 6) % 256 + 6 ≡ 184 * n =
     omega arith in
-    let whole : eqb ((184 * n) % 184) 0 ≡ true = eq-eqb _ _ (omega arith) in
-    let low : leb (184 * n) 1656 ≡ true = le-leb _ _ (omega arith) in
-    rw (total, whole, low) refl
+    rw total (grind (arith, nat_tests))
 
 -- ---- the bytes after them
 
@@ -142,18 +137,13 @@ pub record Header (b : List ℕ) (t : ℕ) : Type 0 where
 pub header_sound : (b : List ℕ) (t : ℕ) → pts_at b ≡ Ok t → Header b t
 unfolding pts_at
 header_sound b t e =
-    let g0 = test_held (eqb (get_or b 0 0 / 16) 8) fault.Flags _ t e in
-    let g1 = test_held (eqb (get_or b 1 0 / 64) 2) fault.NoTime _ t g0.1 in
-    let g2 = test_held (eqb (get_or b 2 0) 36) fault.HeaderLength _ t g1.1 in
-    let g3 = test_held (has_markers b) fault.Time _ t g2.1 in
-    let g4 = test_held (eqb (get_or b 39 0 / 16) 1) fault.DataId _ t g3.1 in
     record {
-      flagged = eqb-true _ _ g0.0;
-      pts_alone = eqb-true _ _ g1.0;
-      len = eqb-true _ _ g2.0;
-      markers = tests_held _ _ _ _ _ _ _ _ g3.0;
-      ebu = eqb-true _ _ g4.0;
-      value = Ok-injective (pts_bits b) t g4.1;
+      flagged = grind (arith, nat_tests);
+      pts_alone = grind (arith, nat_tests);
+      len = grind (arith, nat_tests);
+      markers = grind (arith, nat_tests);
+      ebu = grind (arith, nat_tests);
+      value = grind (arith, nat_tests);
     }
 
 -- A list in its parts, where 31 bytes are passed over.

@@ -8,7 +8,8 @@ use Rattle.std.proofs.lemmas.List.{append-nil, take_all, take-append-le}
 use Rattle.std.specs.List.{flat_map, refill, AllByRecursion}
 use Rattle.ttx_pes.specs.DataUnit.{UnitValue, IsUnit, IsPassedUnit, AreDataUnits, teletext_unit}
 use Rattle.ttx_pes.specs.DataUnit.{stuffing, stuffing_unit}
-use Rattle.ttx_pes.specs.PesPacket.{PesValue, IsPesPacket, IsPesValue, canonical_packet}
+use Rattle.ttx_pes.specs.Laws.{LawOfCanonicalPacket, LawOfPacketValue}
+use Rattle.ttx_pes.specs.PesPacket.{PesValue, canonical_packet}
 use Rattle.ttx_pes.specs.PesPacket.{pes_packet_header, payloads_for, pts_bytes, repeated}
 
 -- A stuffing unit is passed over.
@@ -46,7 +47,7 @@ written_units (u ∷ us) n h =
     (flat_map teletext_unit (u ∷ us) ++ repeated n stuffing_unit)) more one
 
 -- The canonical packet is a packet of its value: the law.
-pub canonical_is_packet : (v : PesValue) → IsPesValue v → IsPesPacket v (canonical_packet v)
+pub canonical_is_packet : LawOfCanonicalPacket
 unfolding canonical_packet payloads_for pes_packet_header
 canonical_is_packet v h =
     let few = h.few in
@@ -169,7 +170,7 @@ units_hold (suc n) units b (Some u, others, first, rest, held, after, same, part
     rw same (record { few = let f = r.few in omega arith; each = (held.is_unit, r.each) })
 
 -- The value of a packet is one that a frame can hold: the law.
-pub value_of_packet : (v : PesValue) (b : List ℕ) → IsPesPacket v b → IsPesValue v
+pub value_of_packet : LawOfPacketValue
 value_of_packet v b h =
     let u = units_hold (4 * h.n - 1) v.units h.data_units h.are_units in
     let hi = h.size.1 in

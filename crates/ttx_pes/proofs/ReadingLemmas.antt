@@ -10,7 +10,8 @@ use Rattle.std.proofs.lemmas.List.{drop_at}
 use Rattle.sub_io.specs.Reading.{◌>>=◌, AreBytes}
 use Rattle.ttx_pes.specs.declared.fault.PesFault.{PesFault}
 use Rattle.ttx_pes.specs.declared.fault.PesFault.TheVariants as fault
-use Rattle.ttx_pes.specs.PesPacket.{PesValue, IsPesPacket, IsPesValue, canonical_packet}
+use Rattle.ttx_pes.specs.Laws.{LawOfGrammar, LawOfOneValue, LawOfReading, LawOfReadingBack}
+use Rattle.ttx_pes.specs.PesPacket.{PesValue, IsPesPacket, canonical_packet}
 use Rattle.ttx_pes.specs.Reading.{size_at, value_at, packet_at, answer_at, rest_after}
 use Rattle.ttx_pes.proofs.DataUnitLemmas.{AreBytes-take, AreBytes-drop}
 use Rattle.ttx_pes.proofs.PesHeaderLemmas.{body_complete, body_of, body_sound, head_complete}
@@ -108,9 +109,7 @@ answer_of_packet given [] v rest ne e = absurd cc
 answer_of_packet given (x ∷ b) v rest ne e = answer_open given (x ∷ b) (omega arith) ne ∙ rw e refl
 
 -- A packet of the grammar is read, whatever follows: the law.
-pub packet_is_read : (v : PesValue) (b rest : List ℕ)
-    → IsPesPacket v b
-    → packet_at (b ++ rest) ≡ Ok (v, rest)
+pub packet_is_read : LawOfReading
 packet_is_read v b rest h =
     let body = body_of v b h in
     let c = body_complete v b h in
@@ -167,10 +166,7 @@ sound_from b size v fit long e le ev =
     )
 
 -- What is read is a packet of the grammar: the law.
-pub read_is_packet : (v : PesValue) (b rest : List ℕ)
-    → AreBytes b
-    → packet_at b ≡ Ok (v, rest)
-    → (c : List ℕ) × IsPesPacket v c × (b ≡ c ++ rest)
+pub read_is_packet : LawOfGrammar
 unfolding packet_at
 read_is_packet v b rest fit e =
     let whole : Result (List ℕ) PesFault =
@@ -193,11 +189,7 @@ read_is_packet v b rest fit e =
 -- ---- the laws
 
 -- Two packets that begin one list are one: the law.
-pub one_value : (a b x y : List ℕ) (v w : PesValue)
-    → IsPesPacket v a
-    → IsPesPacket w b
-    → a ++ x ≡ b ++ y
-    → (a ≡ b) × (v ≡ w)
+pub one_value : LawOfOneValue
 one_value a b x y v w p q e =
     let same =
     Ok-injective (v, x) (w, y) (sym (packet_is_read v a x p) ∙ ap packet_at e
@@ -227,11 +219,7 @@ unfolding rest_after
 rest_after-packet v b rest e = rw e refl
 
 -- The canonical packet and more bytes are read as the value, and the more bytes are left: the law.
-pub written_is_read : (given : ℕ) (v : PesValue) (rest : List ℕ)
-    → given ≢ 2160000
-    → IsPesValue v
-    → (answer_at given (canonical_packet v ++ rest) ≡ Ok (Some v))
-    × (rest_after (canonical_packet v ++ rest) ≡ rest)
+pub written_is_read : LawOfReadingBack
 written_is_read given v rest ne h =
     let b = canonical_packet v ++ rest in
     let e = packet_is_read v (canonical_packet v) rest (canonical_is_packet v h) in

@@ -15,6 +15,7 @@ use Rattle.std.specs.Int.{bytes_high_first}
 use Rattle.std.specs.List.{range_with_len}
 use Rattle.sub_io.specs.Reading.{AreBytes}
 use Rattle.ttx_pes.specs.declared.fault.PesFault.{PesFault}
+use Rattle.ttx_pes.specs.Laws.{LawOfRefusal}
 use Rattle.ttx_pes.specs.PesPacket.{IsPesPacket, PesValue, packet_length, packet_start, pts_bytes}
 use Rattle.ttx_pes.specs.Reading.{packet_at, told_size}
 use Rattle.ttx_pes.specs.Refusal.{Agree, AgreeBefore, FailFirst, HaveSameByte, Question}
@@ -411,8 +412,5 @@ refused_there b q fit h = elim (answer_cases (packet_at b)) [
 ]
 
 -- Both: the law.
-pub refusal_by_questions : (b : List ℕ)
-    → AreBytes b
-    → ((f : PesFault) → packet_at b ≡ Err f → (q : Question) × (told_fault q ≡ f) × FailFirst q b)
-    × ((q : Question) → FailFirst q b → (f : PesFault) × (packet_at b ≡ Err f))
+pub refusal_by_questions : LawOfRefusal
 refusal_by_questions b fit = (λ f e. refused_first b f fit e, λ q h. refused_there b q fit h)

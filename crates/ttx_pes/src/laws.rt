@@ -15,6 +15,7 @@ pub fn law_of_packet_value()
 {}
 
 /// The canonical packet of each value that a `PesFrame` can hold is a packet of that value.
+#[tactic(auto, using(crate::proofs::PesPacketLemmas::canonical_is_packet))]
 pub fn law_of_canonical_packet()
     ensures { LawOfCanonicalPacket }
 {}
@@ -27,6 +28,7 @@ pub fn law_of_reading()
 
 /// What is read as a value is a packet of that value: a reader accepts nothing that the grammar
 /// does not have.
+#[tactic(auto, using(crate::proofs::ReadingLemmas::read_is_packet))]
 pub fn law_of_grammar()
     ensures { LawOfGrammar }
 {}
