@@ -5,7 +5,7 @@ use Rattle.std.proofs.Common.{false, cond, not, eqb, List, [], ◌∷◌, ◌++�
 use Rattle.std.proofs.Common.{drop, map, Option, Some, None, Result, Ok, Err, refl, sym, ap, subst}
 use Rattle.std.proofs.Common.{◌∙◌, append_assoc, arith, inl, inr, ◌⊎◌, length-append, length-take}
 use Rattle.std.proofs.Common.{length-drop}
-use Rattle.std.proofs.lemmas.Bool.{eqb-true, cases_lt}
+use Rattle.std.proofs.lemmas.Bool.{cases_Bool, eqb-true, cases_lt}
 use Rattle.std.proofs.lemmas.Bool.Decides.{nat_tests}
 use Rattle.std.proofs.lemmas.List.{length-map, take_at, drop_at, take-append-drop, get_or-take}
 use Rattle.std.proofs.lemmas.List.{get_or-drop, get_or_past, append-nil, nil_from_length}
@@ -44,13 +44,6 @@ mirrored_fit (x ∷ p) h (suc i) = mirrored_fit p (λ k. h (suc k)) i
 
 -- ---- a data unit
 
--- Which way a test went.
-if_not_cases : {A : Type 0} (b : Bool) (x y z : A)
-    → cond (not b) x y ≡ z
-    → ((b ≡ false) × (x ≡ z)) ⊎ ((b ≡ true) × (y ≡ z))
-if_not_cases true x y z e = inr (refl, e)
-if_not_cases false x y z e = inl (refl, e)
-
 -- The two numbers of data units with Teletext.
 pub is_teletext_id : (id : ℕ) → is_teletext id ≡ true → (2 ≤ id) × (id ≤ 3)
 is_teletext_id id e = grind (arith, nat_tests)
@@ -61,13 +54,6 @@ field_bit : (b : ℕ)
     → (64 * (b / 64) + 32 * (2 - cond (eqb ((b / 32) % 2) 1) 1 2) + b % 32 ≡ b)
     × (1 ≤ cond (eqb ((b / 32) % 2) 1) 1 2) × (cond (eqb ((b / 32) % 2) 1) 1 2 ≤ 2)
 field_bit b lt = grind (arith, nat_tests)
-
--- A test that lets a value through.
-if_ok_held : (b : Bool) (x y : List UnitValue)
-    → cond b (Ok x) (Err fault.LineOrder) ≡ Ok y
-    → (b ≡ true) × (x ≡ y)
-if_ok_held true x y e = (refl, cc)
-if_ok_held false x y e = absurd cc
 
 -- A unit that a data unit holds.
 abbrev held_unit : UnitValue → Option UnitValue
@@ -91,18 +77,17 @@ unit_sound (b0 ∷ b1 ∷ b2 ∷ b3 ∷ p) u len fit e =
     let g = test_held (eqb b1 44) fault.UnitLength (cond (not (is_teletext b0)) (Ok None) whole) u e
     in
     let is-44 : b1 ≡ 44 = eqb-true _ _ g.0 in
-    elim (if_not_cases (is_teletext b0) (Ok None) whole (Ok u) g.1) [
-      | inl passed ↦ rw (← Ok-injective None u passed.1)
+    elim (cases_Bool (is_teletext b0)) [
+      | inr passed ↦ rw (← Ok-injective None u (rw passed at g.1))
           (record {
             id = b0;
             rest = b2 ∷ b3 ∷ p;
             bytes = rw is-44 refl;
-            other = passed.0;
-            size =
-                omega arith;
+            other = passed;
+            size = omega arith;
           })
-      | inr held ↦
-          let f = test_held (eqb b3 228) fault.Framing (Ok (Some (unit_of b))) u held.1 in
+      | inl held ↦
+          let f = test_held (eqb b3 228) fault.Framing (Ok (Some (unit_of b))) u (rw held at g.1) in
           let is-228 : b3 ≡ 228 = eqb-true _ _ f.0 in
           let pos = field_bit b2 (fit 2) in
           let fits : AreBytes p = λ i. fit (suc (suc (suc (suc i)))) in
@@ -112,7 +97,7 @@ unit_sound (b0 ∷ b1 ∷ b2 ∷ b3 ∷ p) u len fit e =
             two_bits = let l = fit 2 in omega arith;
             bytes = rw (is-44, is-228, pos.0, mirrored_twice p fits) refl;
             is_unit = record {
-              id = is_teletext_id b0 held.0;
+              id = is_teletext_id b0 held;
               field = (pos.1, pos.2);
               line = omega arith;
               packet = record {
@@ -191,7 +176,8 @@ with_unit_adds front us None e =
     subst (λ (x : List UnitValue). Adds front x None) (Ok-injective front us e)
     (record { is = sym (append-nil front); rises = λ more r. r })
 with_unit_adds front us (Some u) e =
-    let g = if_ok_held (stands_after (last_place 0 front) u) (front ++ u ∷ []) us e in
+    let g : (stands_after (last_place 0 front) u ≡ true) × (front ++ u ∷ [] ≡ us) =
+    grind (arith, nat_tests) in
     subst (λ (x : List UnitValue). Adds front x (Some u)) g.1
     (record {
       is = refl;
@@ -276,8 +262,7 @@ pub units_stop : (count i : ℕ) (front : List UnitValue) (b : List ℕ) (f : Pe
     → units_at (count - i) front b ≡ Err f
 unfolding units_at
 units_stop count i front b f lt e =
-    let k : count - i ≡ suc (count - (i + 1)) = omega arith in
-    rw (k, e) refl
+    grind (arith, nat_tests)
 
 -- The loop is done.
 pub units_done : (count i : ℕ) (front : List UnitValue) (b : List ℕ)
@@ -285,5 +270,4 @@ pub units_done : (count i : ℕ) (front : List UnitValue) (b : List ℕ)
     → units_at (count - i) front b ≡ Ok front
 unfolding units_at
 units_done count i front b le =
-    let k : count - i ≡ 0 = omega arith in
-    rw k refl
+    grind (arith, nat_tests)

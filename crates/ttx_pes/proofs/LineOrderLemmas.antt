@@ -104,15 +104,6 @@ record IsNumbered (i : ℕ) (p : List ℕ) : Type 0 where
   pub line : eqb (numbered_unit i p).line 0 ≡ false
   pub place : line_order_place (numbered_unit i p) ≡ numbered_place i
 
--- A unit of subtitles on a line of a field.
-subtitles_on : (field line : ℕ) (p : List ℕ)
-    → (1 ≤ field) × (field ≤ 2)
-    → line < 32
-    → IsPacket p
-    → IsUnit (record { id = 3; field = field; line = line; packet = p })
-subtitles_on field line p of lt h =
-    record { id = (omega arith, omega arith); field = of; line = lt; packet = h }
-
 -- One numbered unit.
 numbered_one : (i : ℕ) (p : List ℕ) → i < 32 → IsPacket p → IsNumbered i p
 numbered_one i p lt h = record {

@@ -5,7 +5,7 @@ use Rattle.std.proofs.Common.{length, Option, Some, None, Result, Ok, Err, refl,
 use Rattle.std.proofs.Common.{◌∙◌, arith, inl, inr}
 use Rattle.std.proofs.lemmas.Bool.{cases_Bool}
 use Rattle.std.proofs.lemmas.Option.{same_Some}
-use Rattle.ttx_pes.proofs.RefusalLemmas.{answer_cases}
+use Rattle.ttx_pes.proofs.ReadingLemmas.{answer_cases}
 use Rattle.sub_io.specs.Device.{failed}
 use Rattle.ttx_pes.specs.declared.fault.PesFault.{PesFault}
 use Rattle.ttx_pes.specs.declared.fault.PesFault.TheVariants as fault

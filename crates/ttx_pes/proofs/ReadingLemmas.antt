@@ -3,8 +3,10 @@ use Rattle.std.proofs.Common.{◌≡◌, ◌≢◌, ℕ, ◌-◌, ◌+◌, ◌*�
 use Rattle.std.proofs.Common.{cond, List, [], ◌∷◌, ◌++◌, length, take, drop, Some}
 use Rattle.std.proofs.Common.{Result, Ok, Err, refl, sym, ap, subst, ◌∙◌, append_assoc, arith}
 use Rattle.std.proofs.Common.{length-append, length-take, length-drop}
-use Rattle.std.proofs.lemmas.Bool.{le-ltb, lt-ltb, ltb-false}
+use Rattle.std.proofs.lemmas.Bool.{cases_lt, le-ltb, lt-ltb, ltb-false}
 use Rattle.std.proofs.lemmas.Bool.Decides.{nat_tests}
+use Rattle.std.proofs.Math.Seq.{take-add}
+use Rattle.std.proofs.Common.{inl, inr, ◌⊎◌}
 use Rattle.std.proofs.lemmas.List.{take-append-drop, append_cancel_right, drop-drop, take_at}
 use Rattle.std.proofs.lemmas.List.{drop_at}
 use Rattle.sub_io.specs.Reading.{◌>>=◌, AreBytes}
@@ -18,6 +20,12 @@ use Rattle.ttx_pes.proofs.PesHeaderLemmas.{body_complete, body_of, body_sound, h
 use Rattle.ttx_pes.proofs.PesHeaderLemmas.{head_sound, packet_of_body, six_of}
 use Rattle.ttx_pes.proofs.PesPacketLemmas.{canonical_is_packet}
 use Rattle.sub_io.proofs.ReadingLemmas.{step_gave, Ok-injective}
+
+-- What an answer is.
+pub answer_cases : {A : Type 0} (r : Result A PesFault)
+    → ((x : A) × (r ≡ Ok x)) ⊎ ((e : PesFault) × (r ≡ Err e))
+answer_cases (Ok x) = inl (x, refl)
+answer_cases (Err e) = inr (e, refl)
 
 -- ---- what is answered
 
@@ -121,70 +129,51 @@ packet_is_read v b rest h =
     (let lo = h.size.0 in omega arith) c.1
     ∙ rw c.0 refl
 
--- A test that let a list through.
-long_enough : (b : Bool) (x y : List ℕ)
-    → cond b (Err fault.Truncated) (Ok x) ≡ Ok y
-    → (b ≡ false) × (x ≡ y)
-long_enough true x y e = absurd cc
-long_enough false x y e = (refl, cc)
-
 -- What is read of a packet.
 abbrev ValueAndRest : Type 0
 ValueAndRest = PesValue × List ℕ
 
--- A whole list in its first bytes and the rest.
-split_at_size : (b : List ℕ) (size : ℕ)
-    → 6 ≤ size
-    → (take 6 b ++ take (size - 6) (drop 6 b)) ++ drop size b ≡ b
-split_at_size b size le =
-    let far : drop (size - 6) (drop 6 b) ≡ drop size b =
-    drop-drop (size - 6) 6 b ∙ ap (λ (n : ℕ). drop n b) (omega arith) in
-    append_assoc (take 6 b) (take (size - 6) (drop 6 b)) (drop size b)
-    ∙ ap (λ (x : List ℕ). take 6 b ++ x)
-    (ap (λ (x : List ℕ). take (size - 6) (drop 6 b) ++ x) (sym far)
-    ∙ take-append-drop (size - 6) (drop 6 b))
-    ∙ take-append-drop 6 b
-
 -- A packet of the grammar, from the pieces that were read.
 sound_from : (b : List ℕ) (size : ℕ) (v : PesValue)
     → AreBytes b
-    → 6 ≤ length b
     → size_at (take 6 b) ≡ Ok size
+    → 6 ≤ length b
     → size ≤ length b
     → value_at (take (size - 6) (drop 6 b)) ≡ Ok v
-    → (c : List ℕ) × IsPesPacket v c × (b ≡ c ++ drop size b)
-sound_from b size v fit long e le ev =
+    → IsPesPacket v (take size b)
+sound_from b size v fit e long le ev =
     let h = head_sound (take 6 b) size (length-take 6 b ∙ omega arith) (AreBytes-take 6 b fit) e in
-    let len : length (take (size - 6) (drop 6 b)) ≡ 184 * h.0 - 6 =
-    length-take (size - 6) (drop 6 b) ∙ omega (arith, length-drop 6 b, h.3) in
-    let pes =
-    body_sound h.0 (take (size - 6) (drop 6 b)) v h.1 h.2 len
-    (AreBytes-take (size - 6) (drop 6 b) (AreBytes-drop 6 b fit)) ev in (
-      take 6 b ++ take (size - 6) (drop 6 b),
-      subst (λ (x : List ℕ). IsPesPacket v (x ++ take (size - 6) (drop 6 b))) (sym h.4) pes,
-      sym (split_at_size b size (omega (arith, h.1, h.3))),
-    )
+    let lo = h.1 in
+    let is = h.3 in
+    let body = take (size - 6) (drop 6 b) in
+    let len : length body ≡ 184 * h.0 - 6 =
+    length-take (size - 6) (drop 6 b) ∙ omega (arith, length-drop 6 b) in
+    let parts : take size b ≡ take 6 b ++ body =
+    ap (λ (n : ℕ). take n b) (omega arith) ∙ take-add 6 (size - 6) b in
+    rw (parts, h.4) (body_sound h.0 body v h.1 h.2 len
+    (AreBytes-take (size - 6) (drop 6 b) (AreBytes-drop 6 b fit)) ev)
 
 -- What is read is a packet of the grammar: the law.
 pub read_is_packet : LawOfGrammar
-unfolding packet_at
-read_is_packet v b rest fit e =
-    let whole : Result (List ℕ) PesFault =
-    cond (ltb (length b) 6) (Err fault.Truncated) (Ok (take 6 b)) in
-    let p = step_gave whole _ (v, rest) e in
-    let a = long_enough (ltb (length b) 6) (take 6 b) p.0 p.1 in
-    let q = step_gave (size_at p.0) _ (v, rest) p.2 in
-    let r = step_gave
-    (cond (ltb (length b) q.0) (Err fault.Truncated) (Ok (take (q.0 - 6) (drop 6 b)))) _ (v, rest)
-    q.2 in
-    let d = long_enough (ltb (length b) q.0) (take (q.0 - 6) (drop 6 b)) r.0 r.1 in
-    let s = step_gave (value_at r.0) _ (v, rest) r.2 in
-    let same = Ok-injective (s.0, drop q.0 b) (v, rest) s.2 in
-    let long : 6 ≤ length b = ltb-false _ _ a.0 in
-    let enough : q.0 ≤ length b = ltb-false _ _ d.0 in
-    let made =
-    sound_from b q.0 s.0 fit long (ap size_at a.1 ∙ q.1) enough (ap value_at d.1 ∙ s.1) in
-    subst (λ (x : ValueAndRest). (c : List ℕ) × IsPesPacket x.0 c × (b ≡ c ++ x.1)) same made
+read_is_packet v b rest fit e = elim (cases_lt (length b) 6) [
+  | inl short ↦ let told = packet_short b short in absurd cc
+  | inr long ↦ elim (answer_cases (size_at (take 6 b))) [
+    | inr (f, bad) ↦ let told = packet_size b f long bad in absurd cc
+    | inl (size, sized) ↦ elim (cases_lt (length b) size) [
+      | inl cut ↦ let told = packet_cut b size long sized cut in absurd cc
+      | inr all ↦
+          let s = step_gave (value_at (take (size - 6) (drop 6 b))) _ (v, rest)
+          (sym (packet_whole b size long sized all) ∙ e) in
+          let made : (c : List ℕ) × IsPesPacket s.0 c × (b ≡ c ++ drop size b) = (
+            take size b,
+            sound_from b size s.0 fit sized long all s.1,
+            sym (take-append-drop size b),
+          ) in
+          subst (λ (x : ValueAndRest). (c : List ℕ) × IsPesPacket x.0 c × (b ≡ c ++ x.1))
+          (Ok-injective (s.0, drop size b) (v, rest) s.2) made
+    ]
+  ]
+]
 
 -- ---- the laws
 

@@ -24,7 +24,7 @@ use Rattle.ttx_pes.specs.Refusal.{HeaderLength, Time, DataIdentifier, UnitLength
 use Rattle.ttx_pes.specs.Refusal.{question_number, told_fault, unit_place}
 use Rattle.ttx_pes.proofs.QuestionLemmas.{RightBelow, asked_in_order, first_wrong, packet_asked}
 use Rattle.ttx_pes.proofs.QuestionLemmas.{place_before, questions, refusal, right, unit_byte}
-use Rattle.ttx_pes.proofs.ReadingLemmas.{packet_is_read, read_is_packet}
+use Rattle.ttx_pes.proofs.ReadingLemmas.{answer_cases, packet_is_read, read_is_packet}
 
 -- ---- bytes that agree are right in the same questions
 
@@ -142,12 +142,6 @@ agree_where b c (FramingCode k) six all same = (
 agree_where b c (Line k) six all same = same (unit_place k 2) (unit_asker k 2 (omega arith))
 
 -- ---- what is right is read
-
--- What an answer is.
-pub answer_cases : {A : Type 0} (r : Result A PesFault)
-    → ((x : A) × (r ≡ Ok x)) ⊎ ((e : PesFault) × (r ≡ Err e))
-answer_cases (Ok x) = inl (x, refl)
-answer_cases (Err e) = inr (e, refl)
 
 -- Bytes that are right in all their questions are read, and those that are read are right in them.
 read_if_right : (b : List ℕ) (n : ℕ)
