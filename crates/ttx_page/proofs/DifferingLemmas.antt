@@ -1,7 +1,7 @@
 -- The count of differing cells: `rows-set`, how a row that is set changes it, and `cells_same`.
-use Rattle.std.proofs.Common.{◌≡◌, ◌≢◌, ℕ, zero, suc, ◌+◌, ◌*◌, ◌-◌, ◌<◌, ◌≤◌, inl, inr, Bool, true}
-use Rattle.std.proofs.Common.{false, cond, ◌==◌, List, [], length, get_or, set, refl, ap, ap₂, ◌∙◌}
-use Rattle.std.proofs.Common.{subst, arith, eqb-true, get_or-set_same, get_or-set_other, add-one}
+use Rattle.std.proofs.Common.{◌≡◌, ◌≢◌, ℕ, zero, suc, ◌+◌, ◌*◌, ◌-◌, ◌<◌, ◌≤◌, inl, inr, Bool}
+use Rattle.std.proofs.Common.{cond, ◌==◌, List, [], length, get_or, set, refl, ap, ap₂, ◌∙◌}
+use Rattle.std.proofs.Common.{subst, arith, get_or-set_same, get_or-set_other, add-one}
 use Rattle.std.proofs.lemmas.Bool.{cases_eq, eq-eqb, ne_eqb, cond_both}
 use Rattle.ttx_page.specs.Differing.{columns_differing, row_differing, rows_differing, differing}
 use Rattle.ttx_page.specs.Page.{cell, IsCell}

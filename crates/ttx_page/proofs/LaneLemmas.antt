@@ -2,8 +2,8 @@
 -- block differ: ones_compared, columns_in_chunk.
 use Rattle.std.proofs.lemmas.List.{map-id}
 use Rattle.std.proofs.Common.{◌≡◌, ◌≢◌, ℕ, ◌+◌, ◌<◌, ◌≤◌, ◌^◌, ◌%◌, Bool, true, false, not, List}
-use Rattle.std.proofs.Common.{map, length, get_or, refl, sym, ap, ap₂, ◌∙◌, arith, subst, cond}
-use Rattle.std.proofs.Common.{nat_eq, ◌-◌, w8, w16, eqb-true, eq-eqb, take_all, inl, inr, zero, suc}
+use Rattle.std.proofs.Common.{map, length, get_or, sym, ap, ap₂, ◌∙◌, arith, subst, cond}
+use Rattle.std.proofs.Common.{◌-◌, w8, w16, eqb-true, eq-eqb, take_all, inl, inr, zero, suc}
 use Rattle.std.proofs.Common.{take, [], ◌*◌, ◌/◌}
 use Rattle.std.proofs.lemmas.Bool.{cases_eq, eqb-false, ne_eqb, not-false, not-true}
 use Rattle.std.specs.Simd.{first_chunks}

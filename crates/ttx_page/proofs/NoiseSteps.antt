@@ -1,30 +1,34 @@
--- One step of a receiver at a packet that is sent, and got with wrong bits or lost: `cell_of` says
--- what becomes of one cell, `opens_blank` what a header of the page does.
-use Rattle.std.proofs.Math.Bool.{and-true}
-use Rattle.std.proofs.Common.{◌≡◌, ◌≢◌, ℕ, ◌+◌, ◌-◌, ◌<◌, ◌⊎◌, inl, inr, Bool, true, false, not}
-use Rattle.std.proofs.Common.{◌&&◌, ◌==◌, nat_le, cond, List, [], slice_index, replicate, Option}
-use Rattle.std.proofs.Common.{Some, None, MatchBool, IsTrue, IsFalse, refl, sym, ap, ◌∙◌, subst}
-use Rattle.std.proofs.Common.{arith, eqb-true, ne_eqb, true≢false}
-use Rattle.std.proofs.lemmas.Bool.{cases_eq, cases_Bool, and_right, cond-true, MatchBool-at_true}
-use Rattle.std.proofs.lemmas.Bool.{MatchBool-at_false}
-use Rattle.std.proofs.lemmas.List.{get_or-replicate}
+-- What becomes of a receiver by packets that are sent, each got with wrong bits or lost: at one
+-- packet, `at_item`, and by a run over many, `over`.
+use Rattle.std.proofs.Common.{◌≡◌, ℕ, ◌+◌, ◌-◌, ◌<◌, ◌⊎◌, inl, inr, true, false, not, ◌&&◌, ◌||◌}
+use Rattle.std.proofs.Common.{List, [], ◌∷◌, ◌++◌, zip, slice_index, replicate, Option, Some, None}
+use Rattle.std.proofs.Common.{Contains, IsTrue, refl, ap, ◌∙◌, arith}
+use Rattle.std.specs.List.{list_any, AllByRecursion, AllZip}
+use Rattle.std.proofs.lemmas.Bool.{cases_Bool}
+use Rattle.std.proofs.lemmas.Bool.Decides.{nat_tests}
+use Rattle.std.proofs.lemmas.List.{append-nil, append_assoc, get_or-replicate}
+use Rattle.std.proofs.lemmas.List.Elements.{Contains-append_left, Contains-push}
+use Rattle.std.proofs.lemmas.List.Folds.{list_any-append}
 use Rattle.ttx_packet.specs.OneBit.{AreNear}
 use Rattle.ttx_packet.specs.Parity.{code_of, is_odd}
-use Rattle.ttx_packet.specs.PacketAddress.{PacketAddress, address}
-use Rattle.ttx_packet.specs.declared.header.Header.{Header}
-use Rattle.ttx_packet.specs.PageHeader.{header, HasExactWords}
-use Rattle.ttx_packet.proofs.ParityLemmas.{even_from_changed}
-use Rattle.ttx_packet.proofs.NearPackets.{address-near, header-near, near_at}
+use Rattle.ttx_packet.specs.PageHeader.{HasExactWords}
 use Rattle.ttx_packet.specs.PageId.{PageIdValue}
 use Rattle.ttx_packet.specs.RowPacket.{text_byte}
+use Rattle.ttx_packet.proofs.ParityLemmas.{even_from_changed}
+use Rattle.ttx_packet.proofs.NearPackets.{address-near, header-near, near_at}
 use Rattle.ttx_page.specs.Page.{space, blank, blank_row, cell, IsCell}
 use Rattle.ttx_page.specs.declared.packet_kind.PacketKind.{PacketKind}
-use Rattle.ttx_page.specs.PacketKind.{kind, kind_at, is_this_page, ends_page, is_row}
-use Rattle.ttx_page.specs.Receiver.{State, StoresRow, StepAt, Step}
-use Rattle.ttx_page.specs.declared.packet_kind.PacketKind.TheVariants.{ThisPage, EndsPage, Row}
-use Rattle.ttx_page.specs.declared.packet_kind.PacketKind.TheVariants.{Other}
+use Rattle.ttx_page.specs.declared.packet_kind.PacketKind.TheVariants.{Row}
+use Rattle.ttx_page.specs.PacketKind.{kind, is_this_page, ends_page, is_row}
+use Rattle.ttx_page.specs.Receiver.{State, Step, Hears}
 use Rattle.ttx_page.specs.Noise.{ErasesPage}
-use Rattle.ttx_page.specs.LostRows.{Arrives, LosesByte}
+use Rattle.ttx_page.specs.LostRows.{MayBeLost, Arrives, arrived, LosesByte}
+use Rattle.ttx_page.specs.Span.{holds_header, is_open_after, span}
+use Rattle.ttx_page.proofs.SpanPush.{holds-push, span-push, open-this, open-other}
+
+-- A packet that passes the test for a row is one. For the rules of a checker.
+pub row_from_test : (row : ℕ) (k : PacketKind) → is_row row k ≡ true → k ≡ Row row
+row_from_test row k passes = grind (arith, nat_tests)
 
 -- A packet that is sent, and what is got of it.
 abbrev pub Item : Type 0
@@ -34,20 +38,16 @@ Item = List ℕ × Option (List ℕ)
 abbrev pub kind_of_item : PageIdValue → Item → PacketKind
 kind_of_item w item = kind w item.0
 
--- What is got has the kind of what is sent, and where that has an odd byte of text, it has the
--- same byte or an even one. What is lost is no header. All that the proofs ask of an item.
-abbrev pub Fair : PageIdValue → List ℕ → Option (List ℕ) → Type 0
-Fair w sent (Some got) =
-    (kind w got ≡ kind w sent)
-    × ((column : ℕ)
-    → IsTrue (is_odd (text_byte sent column))
-    → (text_byte got column ≡ text_byte sent column)
-    ⊎ (IsFalse (is_odd (text_byte got column))
-    × (text_byte got column ≢ text_byte sent column)))
-Fair w sent None = (is_this_page (kind w sent) ≡ false) × (ends_page (kind w sent) ≡ false)
+-- A packet that may be lost is no header.
+pub lost_is_no_header :
+    (w : PageIdValue) (packet : List ℕ)
+    → MayBeLost packet
+    → (is_this_page (kind w packet) ≡ false) × (ends_page (kind w packet) ≡ false)
+unfolding kind
+lost_is_no_header w packet may = grind (arith, nat_tests)
 
 -- One wrong bit in each byte leaves the kind of a packet of code words as it was.
-kind-near :
+pub kind-near :
     (w : PageIdValue) (sent got : List ℕ)
     → HasExactWords sent
     → AreNear sent got
@@ -56,277 +56,163 @@ unfolding kind
 kind-near w sent got exact near =
     rw (address-near sent got exact.0 near, header-near sent got exact near)
 
--- A packet that may be lost is no header.
-Fair-from_lost :
-    (w : PageIdValue) (sent : List ℕ)
-    → ((a : PacketAddress) → address sent ≡ Some a → a.packet_number ≢ 0)
-    → Fair w sent None
-unfolding kind
-Fair-from_lost w sent h = go (address sent) refl (header sent)
-  where
-    row_or_other :
-        (b : Bool) (y : ℕ)
-        → (is_this_page (cond b (Row y) Other) ≡ false) × (ends_page (cond b (Row y) Other) ≡ false)
-    row_or_other true y = (refl, refl)
-    row_or_other false y = (refl, refl)
-
-    go :
-        (o : Option PacketAddress)
-        → address sent ≡ o
-        → (head : Option Header)
-        → (is_this_page (kind_at w o head) ≡ false) × (ends_page (kind_at w o head) ≡ false)
-    go None p head = (refl, refl)
-    go (Some a) p head =
-        rw (ne_eqb a.packet_number 0 (h a p))
-        (row_or_other ((a.magazine == w.magazine) && nat_le a.packet_number 24) a.packet_number)
-
--- What arrives is fair. For `fair_from`.
-pub Fair-from_arrives :
-    (w : PageIdValue) (sent : List ℕ) (arrival : Option (List ℕ))
-    → HasExactWords sent
-    → Arrives sent arrival
-    → Fair w sent arrival
-Fair-from_arrives w sent None exact h = Fair-from_lost w sent h
-Fair-from_arrives w sent (Some got) exact near = (
-  kind-near w sent got exact near,
-  λ column odd.
-      elim (cases_eq (text_byte got column) (text_byte sent column)) [
-        | inl same ↦ inl same
-        | inr other ↦
-            inr (even_from_changed _ _ odd (near_at sent got (column + 2) near) other, other)
-      ],
-)
-
 -- ---- one step
 
 -- A receiver goes on at an item: by a step where something is got, and else it stays.
-abbrev pub Goes : PageIdValue → Option (List ℕ) → State → State → Type 0
-Goes w (Some got) old mid = Step w old got mid
-Goes w None old mid = mid ≡ old
+abbrev Goes : PageIdValue → Option (List ℕ) → State → State → Type 0
+Goes w (Some got) old new = Step w old got new
+Goes w None old new = new ≡ old
 
--- The two flags after a packet of a kind, a header of the page left out. For `flags_of`.
-flags_at :
-    (k : PacketKind) (got : List ℕ) (old mid : State)
-    → is_this_page k ≡ false
-    → StepAt k got old mid
-    → (mid.heard ≡ old.heard) × (mid.is_open ≡ (old.is_open && not (ends_page k)))
-flags_at (ThisPage h) got old mid e step = absurd (true≢false e)
-flags_at EndsPage got old mid e step = (
-  ap (λ (s : State). s.heard) step,
-  ap (λ (s : State). s.is_open) step ∙ sym (and_right old.is_open false refl),
-)
-flags_at (Row y) got old mid e step = go old.is_open step
-  where
-    go :
-        (b : Bool)
-        → MatchBool b
-        ((mid.heard ≡ old.heard)
-        × (mid.is_open ≡ old.is_open)
-        × StoresRow got y old.page mid.page) (mid ≡ old)
-        → (mid.heard ≡ old.heard) × (mid.is_open ≡ (old.is_open && true))
-    go true h = (h.0, h.1 ∙ sym (and-true old.is_open))
-    go false h = (
-      ap (λ (s : State). s.heard) h,
-      ap (λ (s : State). s.is_open) h ∙ sym (and-true old.is_open),
-    )
-flags_at Other got old mid e step = (
-  ap (λ (s : State). s.heard) step,
-  ap (λ (s : State). s.is_open) step ∙ sym (and-true old.is_open),
-)
+-- What becomes of a receiver, and of one cell of its page, at an item.
+record AtItem
+    (w : PageIdValue) (row column : ℕ) (sent : List ℕ) (arrival : Option (List ℕ))
+    (old new : State)
+    : Type 0 where
+  heard : new.heard ≡ (is_this_page (kind w sent) || old.heard)
+  is_open :
+      new.is_open
+      ≡ (is_this_page (kind w sent) || (old.is_open && not (ends_page (kind w sent))))
+  -- A header of the page erases it.
+  erased : is_this_page (kind w sent) ≡ true → new.page ≡ blank
+  -- The cell stays but at packets of its row while the page is open.
+  stays :
+      is_this_page (kind w sent) ≡ false
+      → (old.is_open && is_row row (kind w sent)) ≡ false
+      → cell new.page row column ≡ cell old.page row column
+  -- There it gets the code that was sent, or the packet loses its byte, and it stays or becomes a
+  -- space.
+  stores :
+      kind w sent ≡ Row row
+      → old.is_open ≡ true
+      → IsTrue (is_odd (text_byte sent column))
+      → (cell new.page row column ≡ code_of (text_byte sent column))
+      ⊎ (LosesByte sent arrival column
+      × ((cell new.page row column ≡ cell old.page row column)
+      ⊎ (cell new.page row column ≡ space)))
 
--- The two flags after an item that is no header of the page. For `flags_over`.
-pub flags_of :
-    (w : PageIdValue) (sent : List ℕ) (arrival : Option (List ℕ)) (old mid : State)
-    → Fair w sent arrival
-    → is_this_page (kind w sent) ≡ false
-    → Goes w arrival old mid
-    → (mid.heard ≡ old.heard) × (mid.is_open ≡ (old.is_open && not (ends_page (kind w sent))))
-flags_of w sent (Some got) old mid fair e step =
-    flags_at (kind w sent) got old mid e (subst (λ k. StepAt k got old mid) fair.0 step)
-flags_of w sent None old mid fair e stay = (
-  ap (λ (s : State). s.heard) stay,
-  ap (λ (s : State). s.is_open) stay
-      ∙ sym (and-true old.is_open)
-      ∙ ap (λ b. old.is_open && not b) (sym fair.1),
-)
-
--- A page that is not open stays as it is, at a packet of a kind. For `page_of`.
-page_at :
-    (k : PacketKind) (got : List ℕ) (old mid : State)
-    → is_this_page k ≡ false
-    → old.is_open ≡ false
-    → StepAt k got old mid
-    → mid.page ≡ old.page
-page_at (ThisPage h) got old mid e shut step = absurd (true≢false e)
-page_at EndsPage got old mid e shut step = ap (λ (s : State). s.page) step
-page_at (Row y) got old mid e shut step =
-    ap (λ (s : State). s.page) (MatchBool-at_false _ (mid ≡ old) shut step)
-page_at Other got old mid e shut step = ap (λ (s : State). s.page) step
-
--- A page that is not open stays as it is, at an item. For `page_over`.
-pub page_of :
-    (w : PageIdValue) (sent : List ℕ) (arrival : Option (List ℕ)) (old mid : State)
-    → Fair w sent arrival
-    → is_this_page (kind w sent) ≡ false
-    → old.is_open ≡ false
-    → Goes w arrival old mid
-    → mid.page ≡ old.page
-page_of w sent (Some got) old mid fair e shut step =
-    page_at (kind w sent) got old mid e shut (subst (λ k. StepAt k got old mid) fair.0 step)
-page_of w sent None old mid fair e shut stay = ap (λ (s : State). s.page) stay
-
--- A packet that passes the test for a row is one.
-pub row_from_test : (row : ℕ) (k : PacketKind) → is_row row k ≡ true → k ≡ Row row
-row_from_test row (ThisPage h) e = cc
-row_from_test row EndsPage e = cc
-row_from_test row Other e = cc
-row_from_test row (Row y) e = ap Row (eqb-true y row e)
-
--- ---- one cell, while the page is open
-
--- The cell keeps its code, or becomes a space.
-abbrev pub Kept : ℕ → ℕ → State → State → Type 0
-Kept row column old mid =
-    (cell mid.page row column ≡ cell old.page row column) ⊎ (cell mid.page row column ≡ space)
-
--- At a packet of the cell's row: the cell gets the code of an odd byte, and is kept at an even
--- one.
-abbrev RowAt : ℕ → ℕ → List ℕ → State → State → Type 0
-RowAt row column got old mid =
-    (IsTrue (is_odd (text_byte got column))
-    × (cell mid.page row column ≡ code_of (text_byte got column)))
-    ⊎ (IsFalse (is_odd (text_byte got column)) × Kept row column old mid)
-
--- What becomes of a cell at a packet of a kind, while the page is open: the page ends; or the
--- packet is none of its row, and the cell stays; or it is one.
-abbrev CellAt : ℕ → ℕ → PacketKind → List ℕ → State → State → Type 0
-CellAt row column k got old mid =
-    ((ends_page k ≡ true) × (mid.page ≡ old.page))
-    ⊎ ((ends_page k ≡ false)
-    × (((is_row row k ≡ false) × (cell mid.page row column ≡ cell old.page row column))
-    ⊎ ((k ≡ Row row) × RowAt row column got old mid)))
-
--- One cell at one packet. For `cell_of`.
-cell_at :
-    (row column : ℕ) (k : PacketKind) (got : List ℕ) (old mid : State)
+-- It is so of each item that arrives.
+at_item :
+    (w : PageIdValue) (row column : ℕ) (sent : List ℕ) (arrival : Option (List ℕ))
+    (old new : State)
     → IsCell row column
-    → is_this_page k ≡ false
-    → old.is_open ≡ true
-    → StepAt k got old mid
-    → CellAt row column k got old mid
-cell_at row column (ThisPage h) got old mid named e up step = absurd (true≢false e)
-cell_at row column EndsPage got old mid named e up step =
-    inl (refl, ap (λ (s : State). s.page) step)
-cell_at row column Other got old mid named e up step =
-    inr (refl, inl (refl, ap (λ (s : State). cell s.page row column) step))
-cell_at row column (Row y) got old mid named e up step =
-    let stored =
-    MatchBool-at_true
-    ((mid.heard ≡ old.heard)
-    × (mid.is_open ≡ old.is_open)
-    × StoresRow got y old.page mid.page) _ up step in
-    let here = stored.2 row column named in
-    elim (cases_eq y row) [
-      | inl same ↦ inr (
-        refl,
-        inr (
-          ap Row same,
-          elim (cases_Bool (is_odd (text_byte got column))) [
-            | inl odd ↦ inl (odd, (here.0 (sym same)).0 odd)
-            | inr even ↦ inr (even, (here.0 (sym same)).1 even)
-          ],
-        ),
-      )
-      | inr other ↦ inr (refl, inl (ne_eqb y row other, here.1 (λ same. other (sym same))))
-    ]
-
--- What becomes of a cell at an item, while the page is open: the page ends; or the item is none of
--- its row, and the cell stays; or it is one, and the cell gets the code that was sent, or the
--- packet loses its byte there and the cell is kept.
-abbrev pub CellOf : PageIdValue → ℕ → ℕ → List ℕ → Option (List ℕ) → State → State → Type 0
-CellOf w row column sent arrival old mid =
-    ((ends_page (kind w sent) ≡ true) × (mid.page ≡ old.page))
-    ⊎ ((ends_page (kind w sent) ≡ false)
-    × (((is_row row (kind w sent) ≡ false) × (cell mid.page row column ≡ cell old.page row column))
-    ⊎ ((kind w sent ≡ Row row)
-    × ((cell mid.page row column ≡ code_of (text_byte sent column))
-    ⊎ (LosesByte sent arrival column × Kept row column old mid)))))
-
--- One cell at one item. For `cell_over`.
-pub cell_of :
-    (w : PageIdValue) (row column : ℕ) (sent : List ℕ) (arrival : Option (List ℕ)) (old mid : State)
-    → IsCell row column
-    → Fair w sent arrival
-    → (kind w sent ≡ Row row → IsTrue (is_odd (text_byte sent column)))
-    → is_this_page (kind w sent) ≡ false
-    → old.is_open ≡ true
-    → Goes w arrival old mid
-    → CellOf w row column sent arrival old mid
-cell_of w row column sent None old mid named fair odd e up stay =
-    let same = ap (λ (s : State). cell s.page row column) stay in
-    elim (cases_Bool (is_row row (kind w sent))) [
-      | inl in_row ↦ inr (fair.1, inr (row_from_test row (kind w sent) in_row, inr (tt, inl same)))
-      | inr other ↦ inr (fair.1, inl (other, same))
-    ]
-cell_of w row column sent (Some got) old mid named fair odd e up step =
-    let same_step = subst (λ k. StepAt k got old mid) fair.0 step in
-    elim (cell_at row column (kind w sent) got old mid named e up same_step) [
-      | inl ended ↦ inl ended
-      | inr goes ↦ inr (
-        goes.0,
-        elim goes.1 [
-          | inl other ↦ inl other
-          | inr here ↦ inr (here.0, at_row (odd here.0) (fair.1 column (odd here.0)) here.1)
-        ],
-      )
-    ]
-  where
-    at_row :
-        IsTrue (is_odd (text_byte sent column))
-        → (text_byte got column ≡ text_byte sent column)
-        ⊎ (IsFalse (is_odd (text_byte got column))
-        × (text_byte got column ≢ text_byte sent column))
-        → RowAt row column got old mid
-        → (cell mid.page row column ≡ code_of (text_byte sent column))
-        ⊎ (LosesByte sent (Some got) column × Kept row column old mid)
-    at_row o (inl same) (inl stored) = inl (stored.1 ∙ ap code_of same)
-    at_row o (inl same) (inr kept) = absurd (true≢false (sym o ∙ sym (ap is_odd same) ∙ kept.0))
-    at_row o (inr other) (inl stored) = absurd (true≢false (sym stored.0 ∙ other.0))
-    at_row o (inr other) (inr kept) = inr (other.1, kept.1)
-
--- ---- a header of the page
-
--- The header of a packet of the kind.
-this_page : (k : PacketKind) → is_this_page k ≡ true → (h : Header) × (k ≡ ThisPage h)
-this_page (ThisPage h) e = (h, refl)
-this_page EndsPage e = absurd (true≢false (sym e))
-this_page (Row y) e = absurd (true≢false (sym e))
-this_page Other e = absurd (true≢false (sym e))
-
--- A header that erases is got, and opens a blank page. For `ends_by_last_header`.
-pub opens_blank :
-    (w : PageIdValue) (sent : List ℕ) (arrival : Option (List ℕ)) (old mid : State)
-    → Fair w sent arrival
+    → HasExactWords sent
     → ErasesPage w sent
-    → is_this_page (kind w sent) ≡ true
-    → Goes w arrival old mid
-    → (mid.heard ≡ true) × (mid.is_open ≡ true) × (mid.page ≡ blank)
-opens_blank w sent None old mid fair erases e goes = absurd (true≢false (sym e ∙ fair.0))
-opens_blank w sent (Some got) old mid fair erases e step =
-    let is = this_page (kind w sent) e in
-    let opened : StepAt (ThisPage is.0) got old mid =
-    subst (λ k. StepAt k got old mid) (fair.0 ∙ is.1) step in
-    let page_is = ap (λ (s : State). s.page) opened in (
-      ap (λ (s : State). s.heard) opened,
-      ap (λ (s : State). s.is_open) opened,
-      page_is ∙ cond-true _ _ _ (erases is.0 is.1),
-    )
+    → Arrives sent arrival
+    → Goes w arrival old new
+    → AtItem w row column sent arrival old new
+at_item w row column sent None old new named exact erases near goes =
+    let no_header = lost_is_no_header w sent near in grind (arith, nat_tests)
+at_item w row column sent (Some got) old new named exact erases near goes =
+    let same = kind-near w sent got exact near in
+    let near_byte = near_at sent got (column + 2) near in
+    let even = even_from_changed (text_byte sent column) (text_byte got column) in
+    grind (arith, nat_tests)
 
 -- Each cell of the blank page is a space.
-pub cell-blank : (row column : ℕ) → IsCell row column → cell blank row column ≡ space
+cell-blank : (row column : ℕ) → IsCell row column → cell blank row column ≡ space
 unfolding blank blank_row
 cell-blank row column named =
-    let in_rows : row - 1 < 24 = omega (arith, named.0, named.1) in
+    let in_rows : row - 1 < 24 = omega (arith, named) in
     ap (λ (cells : List ℕ). slice_index cells column)
     (get_or-replicate 24 (row - 1) (replicate 40 space) [] in_rows)
     ∙ get_or-replicate 40 column space 0 named.2
+
+-- ---- a run
+
+-- One cell of the page, the code that it is to show, and what excuses a space in its place.
+module _ (w : PageIdValue) (row column code : ℕ) (Excuse : Type 0) where
+  -- Each packet of the row is odd at the column, has the code there, and gives an excuse where it
+  -- loses its byte.
+  abbrev pub AreTargets : List Item → Type 0
+  AreTargets items =
+      (item : Item)
+      → Contains items item
+      → kind w item.0 ≡ Row row
+      → IsTrue (is_odd (text_byte item.0 column))
+      × (code_of (text_byte item.0 column) ≡ code)
+      × (LosesByte item.0 item.1 column → Excuse)
+
+  -- What has become of a receiver by these items.
+  pub record Becomes (start : State) (items : List Item) (now : State) : Type 0 where
+    pub heard : now.heard ≡ (holds_header (kind_of_item w) items || start.heard)
+    pub is_open :
+        (holds_header (kind_of_item w) items || not start.is_open) ≡ true
+        → now.is_open ≡ is_open_after (kind_of_item w) items
+    -- After a header of the page, the cell is the code, or a space: excused, or since the span has
+    -- no packet of the row.
+    pub cell_is :
+        holds_header (kind_of_item w) items ≡ true
+        → AreTargets (span (kind_of_item w) items)
+        → (cell now.page row column ≡ code)
+        ⊎ ((cell now.page row column ≡ space)
+        × (Excuse
+        ⊎ (list_any (λ (item : Item). is_row row (kind w item.0)) (span (kind_of_item w) items)
+        ≡ false)))
+
+  -- One item more.
+  Becomes-push :
+      (start : State) (items : List Item) (sent : List ℕ) (arrival : Option (List ℕ))
+      (old new : State)
+      → IsCell row column
+      → AtItem w row column sent arrival old new
+      → Becomes start items old
+      → Becomes start (items ++ (sent, arrival) ∷ []) new
+  Becomes-push start items sent arrival old new named at was =
+      let item : Item = (sent, arrival) in
+      let K = kind_of_item w in
+      let old_span = span K items in
+      let held_header = holds-push K items item in
+      let spanned = span-push K items item in
+      let this = open-this K items item in
+      let other = open-other K items item in
+      let blanks = cell-blank row column named in
+      record {
+        heard = grind (arith, nat_tests);
+        is_open = grind (arith, nat_tests);
+        cell_is = λ holds targets. elim (cases_Bool (is_this_page (kind w sent))) [
+          | inl header ↦ rw spanned (grind (arith, nat_tests))
+          | inr packet ↦
+              elim (cases_Bool (is_open_after K items && not (ends_page (kind w sent)))) [
+                | inl on ↦
+                    let more : span K (items ++ item ∷ []) ≡ old_span ++ item ∷ [] =
+                    grind (arith, nat_tests) in
+                    let among = rw more at targets in
+                    let here = among item (Contains-push old_span item) in
+                    let cell_was = was.cell_is (grind (arith, nat_tests))
+                    (λ x within. among x (Contains-append_left old_span (item ∷ []) x within)) in
+                    let rows =
+                    list_any-append (λ (x : Item). is_row row (kind w x.0)) old_span (item ∷ []) in
+                    rw more (grind (arith, nat_tests))
+                | inr off ↦
+                    let same : span K (items ++ item ∷ []) ≡ old_span = grind (arith, nat_tests) in
+                    let cell_was = was.cell_is (grind (arith, nat_tests)) (rw same at targets) in
+                    rw same (grind (arith, nat_tests))
+              ]
+        ];
+      }
+
+  -- What arrives more: by induction from the front, after any items.
+  pub over :
+      (start : State) (items : List Item) (sent : List (List ℕ))
+      (arrivals : List (Option (List ℕ))) (old new : State)
+      → IsCell row column
+      → AllByRecursion HasExactWords sent
+      → AllByRecursion (ErasesPage w) sent
+      → AllZip Arrives sent arrivals
+      → Hears w old (arrived arrivals) new
+      → Becomes start items old
+      → Becomes start (items ++ zip sent arrivals) new
+  over start items [] [] old new named exact erases near hears was =
+      rw (append-nil, hears) was
+  over start items [] (o ∷ os) old new named exact erases near hears was = elim near [ ]
+  over start items (p ∷ ps) [] old new named exact erases near hears was = elim near [ ]
+  over start items (p ∷ ps) (None ∷ os) old new named exact erases near hears was =
+      rw (← append_assoc items ((p, None) ∷ []) (zip ps os))
+      (over start _ ps os old new named exact.1 erases.1 near.1 hears
+      (Becomes-push start items p None old old named
+      (at_item w row column p None old old named exact.0 erases.0 near.0 refl) was))
+  over start items (p ∷ ps) (Some got ∷ os) old new named exact erases near hears was =
+      rw (← append_assoc items ((p, Some got) ∷ []) (zip ps os))
+      (over start _ ps os hears.0 new named exact.1 erases.1 near.1 hears.2
+      (Becomes-push start items p (Some got) old hears.0 named
+      (at_item w row column p (Some got) old hears.0 named exact.0 erases.0 near.0 hears.1) was))

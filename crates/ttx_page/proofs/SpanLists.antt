@@ -1,56 +1,42 @@
 -- Lists, searches, and the span of a mapped list: `span-map`.
-use Rattle.std.proofs.Common.{◌≡◌, zero, suc, ◌<◌, ◌⊎◌, inl, inr, Bool, true, false, ◌||◌, cond}
-use Rattle.std.proofs.Common.{List, [], ◌∷◌, length, Some, None, map, find, Any, Contains, refl}
-use Rattle.std.proofs.Common.{sym, ap, ◌∙◌, subst, arith, ◌++◌, get_or, slice_get}
-use Rattle.std.specs.List.{list_any, position_or_len, AllByRecursion}
-use Rattle.std.proofs.lemmas.Option.{get_or_from_slice_get, slice_get_within}
-use Rattle.std.proofs.lemmas.List.Folds.{find_at, list_any-append}
-use Rattle.std.proofs.lemmas.List.Sums.{passes_at_first}
+use Rattle.std.proofs.Common.{◌≡◌, zero, suc, inl, inr, Bool, true, false, ◌||◌, cond, List, []}
+use Rattle.std.proofs.Common.{◌∷◌, ◌++◌, Some, None, map, zip, find, Any, Contains, refl, ap, ◌∙◌}
+use Rattle.std.proofs.Common.{arith}
+use Rattle.std.specs.List.{list_any, AllByRecursion}
+use Rattle.std.proofs.lemmas.List.{length-map, get_or-map}
+use Rattle.std.proofs.lemmas.List.Folds.{list_any-append}
 use Rattle.std.proofs.lemmas.Bool.{cases_Bool, cond-true, cond-false, or_parts, or_left, or_right}
+use Rattle.std.proofs.lemmas.Bool.Decides.{nat_tests}
 use Rattle.ttx_page.specs.declared.packet_kind.PacketKind.{PacketKind}
 use Rattle.ttx_page.specs.PacketKind.{is_this_page, ends_page}
 use Rattle.ttx_page.specs.Span.{holds_header, after_last_header, before_end, span}
-
--- P holds of some element, by recursion: `Any` for inductions.
-abbrev pub Somewhere : {X : Type 0} → (X → Type 0) → List X → Type 0
-Somewhere P [] = ⊥
-Somewhere P (x ∷ xs) = P x ⊎ Somewhere P xs
-
--- `Any`, from the recursion.
-pub Any-from_somewhere : {X : Type 0} (P : X → Type 0) (xs : List X) → Somewhere P xs → Any P xs
-Any-from_somewhere P [] h = absurd h
-Any-from_somewhere P (x ∷ xs) (inl here) = (0, x, omega arith, refl, here)
-Any-from_somewhere P (x ∷ xs) (inr there) =
-    let r = Any-from_somewhere P xs there in
-    let below : suc r.0 < suc (length xs) = omega (arith, r.2) in
-    (suc r.0, r.1, below, r.3, r.4)
 
 -- What holds of some element of a mapped list holds, through the map, of some element of the list.
 pub Any-map :
     {A B : Type 0} (P : B → Type 0) (f : A → B) (xs : List A)
     → Any P (map f xs)
     → Any (λ x. P (f x)) xs
-Any-map P f [] h = absurd (omega (arith, h.2))
-Any-map P f (x ∷ xs) (zero, y, l, e, p) = (0, x, omega arith, refl, subst P (sym e) p)
+Any-map P f [] h = grind arith
+Any-map P f (x ∷ xs) (zero, y, l, e, p) = (0, x, omega arith, refl, rw e p)
 Any-map P f (x ∷ xs) (suc k, y, l, e, p) =
-    let below : k < length (map f xs) = omega arith in
-    let r = Any-map P f xs (k, y, below, e, p) in
-    let more : suc r.0 < suc (length xs) = omega (arith, r.2) in
-    (suc r.0, r.1, more, r.3, r.4)
+    let r = Any-map P f xs (k, y, omega arith, e, p) in
+    (suc r.0, r.1, omega (arith, r.2), r.3, r.4)
 
 -- What holds, through the map, of some element of a list holds of some element mapped.
 pub map-Any :
     {A B : Type 0} (P : B → Type 0) (f : A → B) (xs : List A)
     → Any (λ x. P (f x)) xs
     → Any P (map f xs)
-map-Any P f [] h = absurd (omega arith)
-map-Any P f (x ∷ xs) (zero, y, l, e, p) =
-    (0, f x, omega arith, refl, subst (λ z. P (f z)) (sym e) p)
-map-Any P f (x ∷ xs) (suc k, y, l, e, p) =
-    let below : k < length xs = omega arith in
-    let r = map-Any P f xs (k, y, below, e, p) in
-    let more : suc r.0 < suc (length (map f xs)) = omega (arith, r.2) in
-    (suc r.0, r.1, more, r.3, r.4)
+map-Any P f xs (k, x, l, e, p) =
+    (k, f x, simp length-map l, get_or-map f xs k x (f x) l ∙ ap f e, p)
+
+-- A list beside a mapped one.
+pub zip-map :
+    {A B C : Type 0} (f : B → C) (xs : List A) (ys : List B)
+    → zip xs (map f ys) ≡ map (λ (pair : A × B). (pair.0, f pair.1)) (zip xs ys)
+zip-map f [] ys = refl
+zip-map f (x ∷ xs) [] = refl
+zip-map f (x ∷ xs) (y ∷ ys) = ap (λ ps. (x, f y) ∷ ps) (zip-map f xs ys)
 
 -- ---- searches
 
@@ -59,21 +45,20 @@ pub find_is :
     {X : Type 0} (test : X → Bool) (xs : List X) (z : X)
     → find test xs ≡ Some z
     → (test z ≡ true) × Contains xs z
-find_is test xs z e =
-    let at : slice_get xs (position_or_len test xs) ≡ Some z = sym (find_at test xs) ∙ e in
-    let within = slice_get_within xs (position_or_len test xs) z at in
-    let is : get_or xs (position_or_len test xs) z ≡ z = get_or_from_slice_get xs _ z z at in (
-      subst (λ y. test y ≡ true) is (passes_at_first test xs z within),
-      (position_or_len test xs, within, is),
-    )
+find_is test [] z e = grind arith
+find_is test (x ∷ xs) z e = elim (cases_Bool (test x)) [
+  | inl passes ↦
+      let is : x ≡ z = grind (arith, nat_tests) in rw (← is) (passes, (0, omega arith, refl))
+  | inr fails ↦
+      let rest = find_is test xs z (grind (arith, nat_tests)) in
+      (rest.0, (suc rest.1.0, omega (arith, rest.1.1), rest.1.2))
+]
 
 -- Where no element passes, `find` gives nothing.
 pub find_none :
     {X : Type 0} (test : X → Bool) (xs : List X) → list_any test xs ≡ false → find test xs ≡ None
 find_none test [] e = refl
-find_none test (x ∷ xs) e =
-    let parts = or_parts (test x) (list_any test xs) e in
-    cond-false (test x) (Some x) (find test xs) parts.0 ∙ find_none test xs parts.1
+find_none test (x ∷ xs) e = let rest = find_none test xs in grind (arith, nat_tests)
 
 -- Where `find` gives nothing, no element passes.
 pub none_pass :
@@ -81,15 +66,7 @@ pub none_pass :
     → find test xs ≡ None
     → AllByRecursion (λ x. test x ≡ false) xs
 none_pass test [] e = tt
-none_pass test (x ∷ xs) e = elim (cases_Bool (test x)) [
-  | inl passes ↦
-      let found : Some x ≡ None = sym (cond-true (test x) (Some x) (find test xs) passes) ∙ e in
-      absurd cc
-  | inr passes ↦ (
-    passes,
-    none_pass test xs (sym (cond-false (test x) (Some x) (find test xs) passes) ∙ e),
-  )
-]
+none_pass test (x ∷ xs) e = let rest = none_pass test xs in grind (arith, nat_tests)
 
 -- ---- what holds of each element of a list that is mapped
 

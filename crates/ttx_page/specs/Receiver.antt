@@ -59,11 +59,15 @@ StepAt Other packet old new = new ≡ old
 abbrev pub Step : PageIdValue → State → List ℕ → State → Type 0
 Step w old packet new = StepAt (kind w packet) packet old new
 
--- It may go from one state to the other by hearing these packets, one step after another.
+-- A run goes from one state to the other by these packets, one step after another.
+abbrev pub RunsBy : {S : Type 0} → (S → List ℕ → S → Type 0) → S → List (List ℕ) → S → Type 0
+RunsBy StepsBy old [] new = new ≡ old
+RunsBy {S} StepsBy old (packet ∷ packets) new =
+    (mid : S) × StepsBy old packet mid × RunsBy StepsBy mid packets new
+
+-- A receiver of page w that hears these packets may go from one state to the other.
 abbrev pub Hears : PageIdValue → State → List (List ℕ) → State → Type 0
-Hears w old [] new = new ≡ old
-Hears w old (packet ∷ packets) new =
-    (mid : State) × Step w old packet mid × Hears w mid packets new
+Hears w old packets new = RunsBy (Step w) old packets new
 
 -- What becomes of each cell of a row that is stored, where the row's byte is even: the old code,
 -- the new code.
@@ -96,8 +100,6 @@ is_dropped w packet = is_some_row (kind w packet) && is_some (first_even_byte pa
 abbrev pub StepDropping : PageIdValue → State → List ℕ → State → Type 0
 StepDropping w old packet new = MatchBool (is_dropped w packet) (new ≡ old) (Step w old packet new)
 
--- It may go from one state to the other by hearing these packets, one step after another.
+-- It may go from one state to the other by hearing these packets.
 abbrev pub HearsDropping : PageIdValue → State → List (List ℕ) → State → Type 0
-HearsDropping w old [] new = new ≡ old
-HearsDropping w old (packet ∷ packets) new =
-    (mid : State) × StepDropping w old packet mid × HearsDropping w mid packets new
+HearsDropping w old packets new = RunsBy (StepDropping w) old packets new

@@ -1,5 +1,5 @@
 -- A block more, and the last: columns_in_chunk.
-use Rattle.std.proofs.Common.{◌≡◌, ◌+◌, ◌*◌, ◌/◌, [], length, get_or, drop, take_all, arith, rules}
+use Rattle.std.proofs.Common.{◌≡◌, ◌+◌, ◌*◌, drop, take_all, arith, rules}
 use Rattle.std.proofs.Common.{sym, ap, ap₂, ◌∙◌}
 use Rattle.std.proofs.lemmas.List.{length-drop}
 use lib.Lanes.{chunk}
