@@ -1,5 +1,5 @@
 -- The laws of receivers with a screen, `law_of_screen`, and their steps.
-use Rattle.std.proofs.Common.{◌≡◌, ℕ, true, false, List, [], ◌∷◌, Option, Some, None, IsFalse}
+use Rattle.std.proofs.Common.{◌≡◌, ℕ, true, false, List, [], ◌∷◌, ◌++◌, Option, Some, None, IsFalse}
 use Rattle.std.proofs.Common.{refl, ap, arith}
 use Rattle.std.specs.List.{AllByRecursion, AllZip}
 use Rattle.std.proofs.lemmas.Bool.Decides.{nat_tests}
@@ -8,9 +8,9 @@ use Rattle.ttx_packet.specs.PageId.{PageIdValue}
 use Rattle.ttx_page.specs.LostRows.{Arrives, arrived}
 use Rattle.ttx_page.specs.declared.packet_kind.PacketKind.{PacketKind}
 use Rattle.ttx_page.specs.PacketKind.{kind, is_this_page}
-use Rattle.ttx_page.specs.Receiver.{State, StepAt, Step, StepDropping, RunsBy, Hears, HearsDropping}
+use Rattle.ttx_page.specs.Receiver.{State, StepAt, Step, StepDropping, Hears, HearsDropping}
 use Rattle.ttx_page.specs.Span.{holds_header}
-use Rattle.ttx_page.specs.Screen.{Display, ShowsBy, Shows, ShowsDropping, LawOfScreen}
+use Rattle.ttx_page.specs.Screen.{Display, ShowsAt, ShowsBy, Shows, ShowsDropping, LawOfScreen}
 use Rattle.ttx_page.specs.Screen.{LawOfDroppingScreen}
 use Rattle.ttx_page.proofs.NoiseSteps.{lost_is_no_header, kind-near}
 
@@ -54,14 +54,14 @@ module _
     -- A header of the page settles the screen, and it stays settled.
     settles :
         (w : PageIdValue) (packets : List (List ℕ)) (old new : Display)
-        → RunsBy (ShowsBy StepsBy w) old packets new
+        → ShowsBy StepsBy w old packets new
         → (holds_header (kind w) packets ≡ false → IsSettled old)
         → IsSettled new
     settles w [] old new run was = rw run (was refl)
     settles w (p ∷ ps) old new run was =
-        let left = leaves w p old.held run.0.held run.1.0 in
-        let shows = run.1.1 in
-        settles w ps run.0 new run.2 (λ none shut. grind (arith, nat_tests))
+        let left = leaves w p old.held run.0.held run.1 in
+        let shows = run.2 in
+        settles w ps run.0 new run.3 (λ none shut. grind (arith, nat_tests))
 
 -- The law of the screen.
 pub law_of_screen : LawOfScreen
@@ -75,6 +75,19 @@ law_of_dropping_screen w packets old new run holds shut =
     settles StepDropping leaves_dropping w packets old new run (λ none. grind (arith, nat_tests))
     shut
 
+-- ---- one packet more
+
+-- A run goes on by one packet. For `show_all`.
+pub Shows-push :
+    (w : PageIdValue) (packets : List (List ℕ)) (packet : List ℕ) (old mid new : Display)
+    → Shows w old packets mid
+    → Step w mid.held packet new.held
+    → ShowsAt w mid packet new
+    → Shows w old (packets ++ packet ∷ []) new
+Shows-push w [] packet old mid new run step shows = (new, rw run at step, rw run at shows, refl)
+Shows-push w (p ∷ ps) packet old mid new run step shows =
+    (run.0, run.1, run.2, Shows-push w ps packet run.0 mid new run.3 step shows)
+
 -- ---- for a checker's laws
 
 -- What is held goes by the receiver relation.
@@ -83,7 +96,7 @@ pub held_by :
     → Shows w old packets new
     → Hears w old.held packets new.held
 held_by w [] old new run = ap (λ (d : Display). d.held) run
-held_by w (p ∷ ps) old new run = (run.0.held, run.1.0, held_by w ps run.0 new run.2)
+held_by w (p ∷ ps) old new run = (run.0.held, run.1, held_by w ps run.0 new run.3)
 
 -- Or by that of receivers that drop rows.
 pub held_by_dropping :
@@ -92,7 +105,7 @@ pub held_by_dropping :
     → HearsDropping w old.held packets new.held
 held_by_dropping w [] old new run = ap (λ (d : Display). d.held) run
 held_by_dropping w (p ∷ ps) old new run =
-    (run.0.held, run.1.0, held_by_dropping w ps run.0 new run.2)
+    (run.0.held, run.1, held_by_dropping w ps run.0 new run.3)
 
 -- Where a header of the page is sent, one arrives.
 pub header_arrives :

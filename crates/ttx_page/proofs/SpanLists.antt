@@ -68,15 +68,7 @@ pub none_pass :
 none_pass test [] e = tt
 none_pass test (x ∷ xs) e = let rest = none_pass test xs in grind (arith, nat_tests)
 
--- ---- what holds of each element of a list that is mapped
-
--- What holds of each element of a mapped list.
-pub AllByRecursion-map :
-    {A B : Type 0} (P : B → Type 0) (f : A → B) (xs : List A)
-    → AllByRecursion P (map f xs)
-    → AllByRecursion (λ x. P (f x)) xs
-AllByRecursion-map P f [] h = tt
-AllByRecursion-map P f (x ∷ xs) h = (h.0, AllByRecursion-map P f xs h.1)
+-- ---- the span of a mapped list
 
 -- Whether some element of a mapped list passes.
 pub list_any-map :
@@ -86,16 +78,11 @@ list_any-map f test [] = refl
 list_any-map f test (x ∷ xs) = ap (λ b. test (f x) || b) (list_any-map f test xs)
 
 -- A choice between mapped lists.
-cond-map :
-    {A B : Type 0} (f : A → B) (b c : Bool) (xs ys : List B) (us vs : List A)
-    → b ≡ c
-    → xs ≡ map f us
-    → ys ≡ map f vs
-    → cond b xs ys ≡ map f (cond c us vs)
-cond-map f true true xs ys us vs e p q = p
-cond-map f false false xs ys us vs e p q = q
-cond-map f true false xs ys us vs e p q = cc
-cond-map f false true xs ys us vs e p q = cc
+map-cond :
+    {A B : Type 0} (f : A → B) (b : Bool) (xs ys : List A)
+    → map f (cond b xs ys) ≡ cond b (map f xs) (map f ys)
+map-cond f true xs ys = refl
+map-cond f false xs ys = refl
 
 module _ {A B : Type 0} (kind_of : B → PacketKind) (f : A → B) where
   -- What stands after the last header of a mapped list.
@@ -104,16 +91,14 @@ module _ {A B : Type 0} (kind_of : B → PacketKind) (f : A → B) where
       → after_last_header kind_of (map f xs) ≡ map f (after_last_header (λ x. kind_of (f x)) xs)
   after-map [] = refl
   after-map (x ∷ xs) =
-      cond-map f _ _ _ _ _ _ (list_any-map f (λ y. is_this_page (kind_of y)) xs) (after-map xs)
-      (cond-map f (is_this_page (kind_of (f x))) _ (map f xs) [] xs [] refl refl refl)
+      rw (list_any-map f (λ y. is_this_page (kind_of y)) xs, after-map xs)
+      (simp map-cond)
 
   -- What stands before the end of a mapped list.
-  pub before-map :
+  before-map :
       (xs : List A) → before_end kind_of (map f xs) ≡ map f (before_end (λ x. kind_of (f x)) xs)
   before-map [] = refl
-  before-map (x ∷ xs) =
-      cond-map f (ends_page (kind_of (f x))) _ [] _ [] _ refl refl
-      (ap (λ ys. f x ∷ ys) (before-map xs))
+  before-map (x ∷ xs) = rw (before-map xs) (simp map-cond)
 
   -- The span of a mapped list is that of the list, mapped. So one span serves packets and pairs.
   pub span-map : (xs : List A) → span kind_of (map f xs) ≡ map f (span (λ x. kind_of (f x)) xs)
@@ -128,7 +113,7 @@ pub after-later :
     {A : Type 0} (kind_of : A → PacketKind) (x : A) (xs : List A)
     → holds_header kind_of xs ≡ true
     → after_last_header kind_of (x ∷ xs) ≡ after_last_header kind_of xs
-after-later kind_of x xs e = cond-true _ _ _ e
+after-later kind_of x xs e = rw e
 
 -- A header of the page in front, where none follows.
 pub after-here :
@@ -136,7 +121,7 @@ pub after-here :
     → holds_header kind_of xs ≡ false
     → is_this_page (kind_of x) ≡ true
     → after_last_header kind_of (x ∷ xs) ≡ xs
-after-here kind_of x xs e h = cond-false _ _ _ e ∙ cond-true _ _ _ h
+after-here kind_of x xs e h = rw (e, h)
 
 -- Nothing stands after the last header, where there is none.
 pub after-none :
@@ -144,9 +129,7 @@ pub after-none :
     → holds_header kind_of xs ≡ false
     → after_last_header kind_of xs ≡ []
 after-none kind_of [] e = refl
-after-none kind_of (x ∷ xs) e =
-    let parts = or_parts (is_this_page (kind_of x)) (holds_header kind_of xs) e in
-    cond-false _ _ _ parts.1 ∙ cond-false (is_this_page (kind_of x)) xs [] parts.0
+after-none kind_of (x ∷ xs) e = grind (arith, nat_tests)
 
 -- ---- headers in joined lists
 
@@ -155,17 +138,14 @@ pub holds-append_right :
     {A : Type 0} (kind_of : A → PacketKind) (xs ys : List A)
     → holds_header kind_of ys ≡ true
     → holds_header kind_of (xs ++ ys) ≡ true
-holds-append_right kind_of xs ys e =
-    list_any-append (λ x. is_this_page (kind_of x)) xs ys
-    ∙ or_right (holds_header kind_of xs) _ e
+holds-append_right kind_of xs ys e = rw (list_any-append, e) (or_right _ _ refl)
 
 -- And one in the first.
 pub holds-append_left :
     {A : Type 0} (kind_of : A → PacketKind) (xs ys : List A)
     → holds_header kind_of xs ≡ true
     → holds_header kind_of (xs ++ ys) ≡ true
-holds-append_left kind_of xs ys e =
-    list_any-append (λ x. is_this_page (kind_of x)) xs ys ∙ or_left _ (holds_header kind_of ys) e
+holds-append_left kind_of xs ys e = rw (list_any-append, e)
 
 -- What stands before a list with a header of the page does not matter.
 pub after-append :
@@ -174,5 +154,4 @@ pub after-append :
     → after_last_header kind_of (xs ++ ys) ≡ after_last_header kind_of ys
 after-append kind_of [] ys e = refl
 after-append kind_of (x ∷ xs) ys e =
-    after-later kind_of x (xs ++ ys) (holds-append_right kind_of xs ys e)
-    ∙ after-append kind_of xs ys e
+    rw (holds-append_right kind_of xs ys e) (after-append kind_of xs ys e)

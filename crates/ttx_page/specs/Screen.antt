@@ -1,10 +1,11 @@
 -- A receiver with a screen (own). Of the receivers of `Receiver` it counts what page one holds.
 -- Decoders of the field show a page when it is complete: when a later header has ended it.
-use Rattle.std.specs.Prelude.{◌≡◌, ℕ, ◌⊎◌, Bool, ◌&&◌, not, List, Option, Some, IsTrue, IsFalse}
+use Rattle.std.specs.Prelude.{◌≡◌, ℕ, ◌⊎◌, Bool, ◌&&◌, not, List, [], ◌∷◌, Option, Some, IsTrue}
+use Rattle.std.specs.Prelude.{IsFalse}
 use Rattle.ttx_packet.specs.PageId.{PageIdValue}
 use Rattle.ttx_page.specs.Page.{Rows}
 use Rattle.ttx_page.specs.PacketKind.{kind, is_this_page}
-use Rattle.ttx_page.specs.Receiver.{State, Step, StepDropping, RunsBy}
+use Rattle.ttx_page.specs.Receiver.{State, Step, StepDropping}
 use Rattle.ttx_page.specs.Span.{holds_header}
 
 -- What a receiver holds, and what is on its screen: nothing yet, or a page.
@@ -41,21 +42,25 @@ pub record ShowsAt (w : PageIdValue) (old : Display) (packet : List ℕ) (new : 
         → IsFalse (begins_again w old.held packet)
         → new.screen ≡ old.screen
 
--- A receiver of page w with a screen that hears the packet may go from one display to the other:
--- what it holds goes by a step of the relation, and the screen follows.
+-- A receiver of page w with a screen that hears these packets may go from one display to the other:
+-- what it holds goes by steps of the relation, and the screen follows.
 abbrev pub ShowsBy :
     (PageIdValue → State → List ℕ → State → Type 0)
-    → PageIdValue → Display → List ℕ → Display → Type 0
-ShowsBy StepsBy w old packet new =
-    StepsBy w old.held packet new.held × ShowsAt w old packet new
+    → PageIdValue → Display → List (List ℕ) → Display → Type 0
+ShowsBy StepsBy w old [] new = new ≡ old
+ShowsBy StepsBy w old (packet ∷ packets) new =
+    (mid : Display)
+    × StepsBy w old.held packet mid.held
+    × ShowsAt w old packet mid
+    × ShowsBy StepsBy w mid packets new
 
 -- A receiver of the relation, with a screen.
 abbrev pub Shows : PageIdValue → Display → List (List ℕ) → Display → Type 0
-Shows w old packets new = RunsBy (ShowsBy Step w) old packets new
+Shows w old packets new = ShowsBy Step w old packets new
 
 -- A receiver that drops rows, with a screen.
 abbrev pub ShowsDropping : PageIdValue → Display → List (List ℕ) → Display → Type 0
-ShowsDropping w old packets new = RunsBy (ShowsBy StepDropping w) old packets new
+ShowsDropping w old packets new = ShowsBy StepDropping w old packets new
 
 -- Whatever a receiver held and showed before: where it has heard a header of its page, and the page
 -- is not open, the page that it holds is on the screen.

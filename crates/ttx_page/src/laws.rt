@@ -14,28 +14,33 @@ ghost use Rattle.ttx_page.specs.Span.{LawOfSpan};
 /// later header that ends the page, or to the end of the list: each item of it, in its order.
 ///
 /// The items `T` are packets, or packets with something beside each.
+#[tactic(auto, using(crate::proofs::SpanPlaces::law_of_span))]
 pub fn law_of_span<T>()
     ensures { LawOfSpan T }
 {}
 
 /// With at most one wrong bit in each byte, a receiver that heard a header of the page holds in
 /// each cell what was sent, or a space where the cell's byte was hit.
+#[tactic(auto, using(crate::proofs::NoiseLaws::law_of_noise))]
 pub fn law_of_noise()
     ensures { LawOfNoise }
 {}
 
 /// With no wrong bit it holds what was sent, whatever it held before.
+#[tactic(auto, using(crate::proofs::NoiseLaws::law_of_quiet))]
 pub fn law_of_quiet()
     ensures { LawOfQuiet }
 {}
 
 /// The law of noise where any packets but page headers are lost: a cell of a lost row counts as
 /// hit.
+#[tactic(auto, using(crate::proofs::NoiseLaws::law_of_lost_rows))]
 pub fn law_of_lost_rows()
     ensures { LawOfLostRows }
 {}
 
 /// The law of lost rows with a mark beside each packet: kept or lost.
+#[tactic(auto, using(crate::proofs::NoiseLaws::law_of_marked_loss))]
 pub fn law_of_marked_loss()
     ensures { LawOfMarkedLoss }
 {}
@@ -47,40 +52,47 @@ pub fn law_of_nothing_lost()
 
 /// What a receiver that drops rows holds is what a receiver of the relation holds of the same list
 /// with the dropped rows left out.
+#[tactic(auto, using(crate::proofs::DropLaws::law_of_dropping))]
 pub fn law_of_dropping()
     ensures { LawOfDropping }
 {}
 
 /// So the law of lost rows covers receivers that drop rows: a cell counts as hit where any byte of
 /// its row was hit, or the row was lost.
+#[tactic(auto, using(crate::proofs::DropLaws::law_of_dropped_rows))]
 pub fn law_of_dropped_rows()
     ensures { LawOfDroppedRows }
 {}
 
 /// The law of lost rows for any state before: whatever a receiver held, once a header of its page
 /// was sent, each cell holds what was sent, or a space where the cell's byte was hit or lost.
+#[tactic(auto, using(crate::proofs::NoiseLaws::law_of_recovery))]
 pub fn law_of_recovery()
     ensures { LawOfRecovery }
 {}
 
 /// The law of recovery with a mark beside each packet: kept or lost.
+#[tactic(auto, using(crate::proofs::NoiseLaws::law_of_marked_recovery))]
 pub fn law_of_marked_recovery()
     ensures { LawOfMarkedRecovery }
 {}
 
 /// The law of recovery for receivers that drop rows: a cell counts as hit where any byte of its row
 /// was hit, or the row was lost.
+#[tactic(auto, using(crate::proofs::DropLaws::law_of_dropping_recovery))]
 pub fn law_of_dropping_recovery()
     ensures { LawOfDroppingRecovery }
 {}
 
 /// Whatever a receiver held and showed before: where it has heard a header of its page, and the
 /// page is not open, the page that it holds is on its screen.
+#[tactic(auto, using(crate::proofs::ScreenLaws::law_of_screen))]
 pub fn law_of_screen()
     ensures { LawOfScreen }
 {}
 
 /// The law of the screen for receivers that drop rows.
+#[tactic(auto, using(crate::proofs::ScreenLaws::law_of_dropping_screen))]
 pub fn law_of_dropping_screen()
     ensures { LawOfDroppingScreen }
 {}

@@ -1,14 +1,16 @@
+-- One packet more: Shows-push.
 use Rattle.std.proofs.Common.{◌∙◌, arith}
-use Rattle.ttx_page.specs.Receiver.{Step}
-use Rattle.ttx_page.specs.Screen.{ShowsBy}
-use Rattle.ttx_page.proofs.RunLemmas.{run_more}
+use Rattle.std.proofs.lemmas.List.{take_more}
+use Rattle.ttx_page.proofs.ScreenLaws.{Shows-push}
 use Rattle.ttx_page.proofs.screen.show_all.Goals as goal
 
 pub loop-packet-preserved : goal.loop-packet-preserved
-loop-packet-preserved g c = (
-  run_more (ShowsBy Step _) _ _ _ _ _ _ (omega arith) c.packet-item.is c.loop-packet.invariant.0 (
-    rw c.loop-packet.invariant.1 at c.show.ensures.step,
-    rw c.loop-packet.invariant.1 at c.show.ensures.shows,
-  ),
-  c.show.ensures.tuned ∙ c.loop-packet.invariant.1,
-)
+loop-packet-preserved g c =
+    let more =
+    take_more c.args.packets.now c.loop-packet.packet-index c.packet-item.result (omega arith) in (
+      rw (more, ← c.packet-item.is)
+          (Shows-push _ _ _ _ _ _ c.loop-packet.invariant.0
+          (rw c.loop-packet.invariant.1 at c.show.ensures.step)
+          (rw c.loop-packet.invariant.1 at c.show.ensures.shows)),
+      c.show.ensures.tuned ∙ c.loop-packet.invariant.1,
+    )

@@ -1,5 +1,0 @@
-use Rattle.ttx_page.proofs.NoiseLaws.{law_of_marked_loss}
-use Rattle.ttx_page.proofs.laws.law_of_marked_loss.Goals as goal
-
-pub returns : goal.returns
-returns c = law_of_marked_loss

@@ -1,5 +1,0 @@
-use Rattle.ttx_page.proofs.ScreenLaws.{law_of_screen}
-use Rattle.ttx_page.proofs.laws.law_of_screen.Goals as goal
-
-pub returns : goal.returns
-returns c = law_of_screen
