@@ -8,7 +8,8 @@ use Rattle.std.proofs.Common.{take, [], ◌*◌, ◌/◌}
 use Rattle.std.proofs.lemmas.Bool.{cases_eq, eqb-false, ne_eqb, not-false, not-true}
 use Rattle.std.specs.Simd.{first_chunks}
 use Rattle.ttx_packet.proofs.BlockLemmas.{block_at}
-use Rattle.std.proofs.lemmas.List.Sums.{count_by_more_no, count_by_more_yes}
+use Rattle.std.proofs.lemmas.List.Sums.{sum_by_more}
+use Rattle.std.proofs.lemmas.Bool.Decides.{nat_tests}
 use Rattle.std.proofs.lemmas.Nat.Bits.{bit_at-trailing_zeros}
 use Rattle.std.proofs.lemmas.Simd.{length-zip2, get_or-zip2, length-chunk, get_or-chunk, mask_l-lt}
 use Rattle.std.proofs.lemmas.Simd.{mask_l-mod, tops_compared, trailing_mask_l, ones-mask_l}
@@ -19,8 +20,8 @@ use lib.Count.{count_trailing_zeros}
 use lib.Lanes.{zip2, mask_l, top, chunk}
 use Rattle.ttx_page.specs.Lanes.{differ, differing_mask}
 use Rattle.ttx_page.specs.Differing.{columns_differing}
-use Rattle.ttx_page.proofs.DifferingLemmas.{columns_none, columns_more, columns_same_more}
-use Rattle.ttx_page.proofs.DifferingLemmas.{columns_other_more, one}
+use Rattle.ttx_page.proofs.DifferingLemmas.{columns_none, columns_more}
+use Rattle.std.proofs.Common.{add-one}
 
 -- The mask that the comparison of the lanes gives. For `differing`.
 pub mask_compared : (a b : List ℕ) (n : ℕ)
@@ -41,26 +42,12 @@ tests_counted : (a b : List ℕ) (k : ℕ)
     → count_by (λ x. x) (take k (zip2 differ a b)) ≡ columns_differing k a b
 tests_counted a b zero l e = sym (columns_none a b)
 tests_counted a b (suc k) l e =
-    let ms = zip2 differ a b in
-    let x = get_or a k 0 in
-    let y = get_or b k 0 in
     let before = tests_counted a b k (omega arith) e in
-    let within : k < length ms = omega (arith, length-zip2 differ a b e) in
-    let test : get_or ms k false ≡ differ x y =
-    get_or-zip2 differ a b k 0 0 false (omega arith) (omega arith) in
-    let next : k + 1 ≡ suc k = omega arith in
-    subst (λ n. count_by (λ x. x) (take n ms) ≡ columns_differing n a b) next (elim (cases_eq x y) [
-      | inl same ↦
-          count_by_more_no (λ x. x) ms k false within
-          (test ∙ ap not (eq-eqb x y same))
-          ∙ before
-          ∙ sym (columns_same_more k a b same)
-      | inr other ↦
-          count_by_more_yes (λ x. x) ms k false within
-          (test ∙ ap not (ne_eqb x y other))
-          ∙ ap (λ n. n + 1) before
-          ∙ sym (columns_other_more k a b other)
-    ])
+    let within : k < length (zip2 differ a b) = omega (arith, length-zip2 differ a b e) in
+    let test = get_or-zip2 differ a b k 0 0 false (omega arith) (omega arith) in
+    let counted = sum_by_more (λ x. cond x 1 0) (zip2 differ a b) k false within in
+    let more = columns_more k a b in
+    rw (← add-one) (grind (arith, nat_tests))
 
 -- The ones of that mask are as many as the cells that differ. For `differing_of_16`.
 pub ones_compared : (a b : List ℕ) (n : ℕ)
@@ -85,22 +72,15 @@ pub columns_in_chunk : (xs ys : List ℕ) (a n k : ℕ)
     → columns_differing (a + k) xs ys
     ≡ columns_differing a xs ys + columns_differing k (chunk a n xs) (chunk a n ys)
 columns_in_chunk xs ys a n zero l =
-    let none = columns_none (chunk a n xs) (chunk a n ys) in
-    let here : a + 0 ≡ a = omega arith in
-    ap (λ m. columns_differing m xs ys) here ∙ omega (arith, none)
+    let none = columns_none (chunk a n xs) (chunk a n ys) in grind arith
 columns_in_chunk xs ys a n (suc k) l =
     let before = columns_in_chunk xs ys a n k (omega arith) in
-    let step : a + suc k ≡ a + k + 1 = omega arith in
-    let next : k + 1 ≡ suc k = omega arith in
     let whole = columns_more (a + k) xs ys in
-    let part = subst (λ m. columns_differing m (chunk a n xs) (chunk a n ys)
-    ≡ columns_differing k (chunk a n xs) (chunk a n ys)
-    + one (get_or (chunk a n xs) k 0) (get_or (chunk a n ys) k 0)) next
-    (columns_more k (chunk a n xs) (chunk a n ys)) in
-    let cells : one (get_or (chunk a n xs) k 0) (get_or (chunk a n ys) k 0)
-    ≡ one (get_or xs (a + k) 0) (get_or ys (a + k) 0) =
-    ap₂ one (get_or-chunk a n xs k 0 (omega arith)) (get_or-chunk a n ys k 0 (omega arith)) in
-    ap (λ m. columns_differing m xs ys) step ∙ omega (arith, before, whole, part, cells)
+    let part = columns_more k (chunk a n xs) (chunk a n ys) in
+    let first = get_or-chunk a n xs k 0 (omega arith) in
+    let second = get_or-chunk a n ys k 0 (omega arith) in
+    let next : a + suc k ≡ a + k + 1 = omega arith in
+    rw (next, ← add-one) (grind (arith, nat_tests))
 
 -- What does not differ is equal, and the other way round.
 same_from_not_differ : (x y : ℕ) → differ x y ≡ false → x ≡ y

@@ -26,33 +26,17 @@ pub stored_more :
     → value < 128
     → IsStoredTo even packet was i codes
     → IsStoredTo even packet was (i + 1) (slice_set codes i value)
-stored_more even packet was i codes value in_row is small to = record {
-  size = length-set codes i value ∙ to.size;
-  done = λ k l. elim (cases_eq k i) [
-    | inl same ↦
-        let here : slice_index (slice_set codes i value) i ≡ value =
-        get_or-set_same codes i value 0 (omega (arith, to.size)) in
-        let old : slice_index codes i ≡ slice_index was i = to.left i (omega arith) in
-        subst
-        (λ n.
-        slice_index (slice_set codes i value) n
-        ≡ code_after even (slice_index packet (n + 2)) (slice_index was n)) (sym same)
-        (here ∙ is ∙ ap (code_after even (slice_index packet (i + 2))) old)
-    | inr other ↦ get_or-set_other codes i k value 0 other ∙ to.done k (omega arith)
-  ];
-  left =
-      λ k l.
-      let other : k ≢ i = omega arith in
-      get_or-set_other codes i k value 0 other ∙ to.left k (omega arith);
-  codes_are = λ k. elim (cases_eq k i) [
-    | inl same ↦
-        subst (λ n. slice_index (slice_set codes i value) n < 128) (sym same)
-        (let here : slice_index (slice_set codes i value) i ≡ value =
-        get_or-set_same codes i value 0 (omega (arith, to.size)) in
-        omega arith)
-    | inr other ↦
-        let same : slice_index (slice_set codes i value) k ≡ slice_index codes k =
-        get_or-set_other codes i k value 0 other in
-        let old = to.codes_are k in omega arith
-  ];
-}
+stored_more even packet was i codes value in_row is small to =
+    let here : slice_index (slice_set codes i value) i ≡ value =
+    get_or-set_same codes i value 0 (omega (arith, to.size)) in
+    let beside = λ (k : ℕ). get_or-set_other codes i k value 0 in
+    record {
+      size = length-set codes i value ∙ to.size;
+      done = λ k l.
+          let before = to.done k in
+          let left = to.left i in
+          let other = beside k in
+          grind arith;
+      left = λ k l. let other = beside k in let left = to.left k in grind arith;
+      codes_are = λ k. let other = beside k in let old = to.codes_are k in grind arith;
+    }

@@ -6,7 +6,8 @@ use Rattle.std.proofs.Common.{Contains, refl, sym, ap, ◌∙◌, arith}
 use Rattle.std.specs.List.{list_any, AllZip, items_where_true}
 use Rattle.std.proofs.lemmas.Bool.Decides.{nat_tests}
 use Rattle.std.proofs.lemmas.List.{length-map, get_or-map}
-use Rattle.std.proofs.lemmas.List.Elements.{recursion_from_All, All-from_recursion, All-contains}
+use Rattle.std.proofs.lemmas.List.Elements.{recursion_from_All, All-contains}
+use Rattle.std.proofs.lemmas.List.Folds.{list_any_at}
 use Rattle.std.proofs.lemmas.Slice.Zip.{firsts-zip, AllZip-long}
 use Rattle.ttx_packet.specs.OneBit.{AreNear}
 use Rattle.ttx_packet.specs.Parity.{code_of}
@@ -100,9 +101,8 @@ module _ (w : PageIdValue) (sent : List (List ℕ)) (arrivals : List (Option (Li
           → code_of (text_byte packet column)
           ≡ unwrap_or (option_map (λ p. code_of (text_byte p column)) o) space
       go None e =
-          let fails =
-          All-contains (λ p. test p ≡ false) spanned packet
-          (All-from_recursion _ spanned (none_pass test spanned e)) within in
+          let none = none_pass test spanned e in
+          let some = list_any_at test spanned within.0 packet within.1 in
           grind (arith, nat_tests)
       go (Some first) e =
           let found = find_is test spanned first e in

@@ -7,26 +7,15 @@ use Rattle.std.specs.List.{list_all}
 use Rattle.std.proofs.lemmas.List.Sums.{AllPass-from_list_all}
 use Rattle.ttx_page.specs.Page.{Rows, blank, blank_row, AreCodes, IsPage, space}
 
--- Each code of a row of spaces is one. For `is_page_blank`.
-codes_of_row : (m c : ℕ) → get_or (replicate m space) c 0 < 128
-codes_of_row m c =
-    elim (cases_lt c m) [
-      | inl h ↦ rw (get_or-replicate m c space 0 h) (lit< tt)
-      | inr h ↦
-          let past : length (replicate m space) ≤ c = rw (length-replicate m space) h in
-          rw (get_or_past (replicate m space) c 0 past) (lit< tt)
-    ]
-
 -- Each code of rows of spaces is one. For `is_page_blank`.
 codes_of_rows : (n m r c : ℕ) → get_or (get_or (replicate n (replicate m space)) r []) c 0 < 128
 codes_of_rows n m r c =
-    elim (cases_lt r n) [
-      | inl h ↦ rw (get_or-replicate n r (replicate m space) [] h) (codes_of_row m c)
-      | inr h ↦
-          let rows = replicate n (replicate m space) in
-          let past : length rows ≤ r = rw (length-replicate n (replicate m space)) h in
-          rw (get_or_past rows r [] past) (lit< tt)
-    ]
+    let row = replicate m space in
+    let in_rows = get_or-replicate n r row [] in
+    let past_rows = get_or_past (replicate n row) r [] in
+    let in_row = get_or-replicate m c space 0 in
+    let past_row = get_or_past row c 0 in
+    grind (arith, length-replicate)
 
 -- The blank page has the shape of a page. For `Page::blank`.
 pub is_page_blank : IsPage blank

@@ -62,10 +62,8 @@ find_none test (x ∷ xs) e = let rest = find_none test xs in grind (arith, nat_
 
 -- Where `find` gives nothing, no element passes.
 pub none_pass :
-    {X : Type 0} (test : X → Bool) (xs : List X)
-    → find test xs ≡ None
-    → AllByRecursion (λ x. test x ≡ false) xs
-none_pass test [] e = tt
+    {X : Type 0} (test : X → Bool) (xs : List X) → find test xs ≡ None → list_any test xs ≡ false
+none_pass test [] e = refl
 none_pass test (x ∷ xs) e = let rest = none_pass test xs in grind (arith, nat_tests)
 
 -- ---- the span of a mapped list

@@ -91,7 +91,7 @@ impl Page {
     }
 
     /// How many of the 960 cells of two pages differ.
-    #[tactic(auto, using(crate::proofs::DifferingLemmas::rows))]
+    #[tactic(auto, unfolding(crate::specs::Differing::rows_differing))]
     pub fn differing_cells(&self, other: &Page) -> u16
         ensures value { result ≡ differing self.now other.now }
         ensures range { result ≤ 960 }
