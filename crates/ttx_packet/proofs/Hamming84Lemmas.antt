@@ -1,10 +1,10 @@
 -- Hamming 8/4: the definition by nearness, the function, and what one wrong bit leaves
 -- (decoded-near).
 use Rattle.std.proofs.Common.{◌≡◌, ℕ, ◌^◌, ◌<◌, inl, inr, Bool, true, false, not, cond, ◌==◌, ◌||◌}
-use Rattle.std.proofs.Common.{Option, Some, None, bit_xor, ◌∙◌, ◌%◌, refl, sym, ap, subst, get_or}
-use Rattle.std.proofs.Common.{nat_eq, nat_lt, eqb-true}
-use Rattle.std.proofs.lemmas.Bool.{agree_below, agree_below_at, or_cases, ltb-true, lt-ltb}
-use Rattle.std.proofs.lemmas.Bool.{not-true, true≢false}
+use Rattle.std.proofs.Common.{Option, Some, None, bit_xor, ◌∙◌, ◌%◌, refl, sym, get_or, arith}
+use Rattle.std.proofs.Common.{nat_eq, nat_lt}
+use Rattle.std.proofs.lemmas.Bool.{agree_below, agree_below_at, ltb-true}
+use Rattle.std.proofs.lemmas.Bool.Decides.{nat_tests}
 use Rattle.ttx_packet.specs.OneBit.{IsNear, is_near}
 use Rattle.ttx_packet.specs.Hamming84.{IsCodeWord, Decodes, code_word, decoded}
 use Rattle.ttx_packet.specs.declared.hamming.TheConstants.{DECODED}
@@ -19,8 +19,7 @@ is_number (Some m) n = m == n
 
 -- What the test says.
 is_number_true : (o : Option ℕ) (n : ℕ) → is_number o n ≡ true → o ≡ Some n
-is_number_true None n e = cc
-is_number_true (Some m) n e = ap Some (eqb-true m n e)
+is_number_true o n e = grind (arith, nat_tests)
 
 -- Each code word decodes to its number: 16 cases, computed.
 code_words_decode : agree_below (λ n. is_number (decoded (code_word n)) n) (λ n. true) 16 ≡ true
@@ -37,8 +36,8 @@ changed_code_words_decode = refl
 -- A byte within one bit of a code word decodes to the word's number.
 pub decoded_from : (g n : ℕ) → Decodes g n → decoded g ≡ Some n
 decoded_from g n (l, inl same) =
-    is_number_true _ n
-    (subst (λ b. is_number (decoded b) n ≡ true) (sym same)
+    rw same
+    (is_number_true _ n
     (agree_below_at (λ n. is_number (decoded (code_word n)) n) (λ n. true) 16 n
     code_words_decode l))
 decoded_from g n (l, inr changed) =
@@ -46,9 +45,10 @@ decoded_from g n (l, inr changed) =
     agree_below_at
     (λ n. agree_below (λ bit. is_number (decoded (bit_xor (code_word n) (2 ^ bit))) n)
     (λ bit. true) 8) (λ n. true) 16 n changed_code_words_decode l in
-    let at = agree_below_at (λ bit. is_number (decoded (bit_xor (code_word n) (2 ^ bit))) n)
-    (λ bit. true) 8 changed.0 row changed.1 in
-    is_number_true _ n (subst (λ b. is_number (decoded b) n ≡ true) (sym changed.2) at)
+    rw changed.2
+    (is_number_true _ n
+    (agree_below_at (λ bit. is_number (decoded (bit_xor (code_word n) (2 ^ bit))) n) (λ bit. true)
+    8 changed.0 row changed.1))
 
 -- A byte that decodes to a number is within one bit of its code word.
 pub decodes_from : (g n : ℕ) → decoded g ≡ Some n → Decodes g n
@@ -58,11 +58,8 @@ decodes_from g n e = let r = first_below_is 16 (λ n. is_near (code_word n) g) n
 
 -- A byte near a code word decodes to what the code word does.
 pub decoded-near : (sent got : ℕ) → IsCodeWord sent → IsNear sent got → decoded got ≡ decoded sent
-decoded-near sent got exact near =
-    let near_code_word : IsNear (code_word exact.0) got = subst (λ b. IsNear b got) exact.2 near in
-    let itself : IsNear (code_word exact.0) sent = inl exact.2 in
-    decoded_from got exact.0 (exact.1, near_code_word)
-    ∙ sym (decoded_from sent exact.0 (exact.1, itself))
+decoded-near sent got (n, l, is) near =
+    decoded_from got n (l, rw is at near) ∙ sym (decoded_from sent n (l, inl is))
 
 -- ---- code words
 
@@ -89,10 +86,7 @@ same_answer (Some x) (Some y) = nat_eq x y
 
 -- What the test says.
 same_answer-true : (a b : Option ℕ) → same_answer a b ≡ true → a ≡ b
-same_answer-true None None e = refl
-same_answer-true None (Some y) e = cc
-same_answer-true (Some x) None e = cc
-same_answer-true (Some x) (Some y) e = ap Some (eqb-true x y e)
+same_answer-true a b e = grind (arith, nat_tests)
 
 -- Each entry is what the definition gives: 256 cases, computed.
 pub decoded-by_table : (b : ℕ) → b < 0x100 → decoded b ≡ entry b
@@ -104,18 +98,14 @@ decoded-by_table b l =
 -- An entry below 16 is the number of the code word at its place: 256 cases, computed.
 pub word_from_entry : (b : ℕ) → b < 0x100 → get_or DECODED b 0 < 16 → IsCodeWord b
 word_from_entry b l small =
-    let n = get_or DECODED b 0 in
     let test : ℕ → Bool = λ b. not (nat_lt (get_or DECODED b 0) 16)
     || nat_eq b (code_word (get_or DECODED b 0)) in
-    elim (or_cases _ _ (agree_below_at test (λ b. true) 0x100 b refl l)) [
-      | inl large ↦ absurd (true≢false (sym (lt-ltb n 16 small) ∙ not-true (nat_lt n 16) large))
-      | inr same ↦ (n, small, eqb-true _ _ same)
-    ]
+    let passes = agree_below_at test (λ b. true) 0x100 b refl l in
+    (get_or DECODED b 0, small, grind (arith, nat_tests))
 
 -- The entry of a code word is below 16: 16 cases, computed.
 pub entry_from_word : (b : ℕ) → IsCodeWord b → get_or DECODED b 0 < 16
-entry_from_word b word =
-    ltb-true _ _
-    (subst (λ b. nat_lt (get_or DECODED b 0) 16 ≡ true) (sym word.2)
-    (agree_below_at (λ n. nat_lt (get_or DECODED (code_word n) 0) 16) (λ n. true) 16 word.0 refl
-    word.1))
+entry_from_word b (n, l, is) =
+    rw is
+    (ltb-true _ _
+    (agree_below_at (λ n. nat_lt (get_or DECODED (code_word n) 0) 16) (λ n. true) 16 n refl l))

@@ -2,14 +2,15 @@
 -- even parity that a mask tells: first_of_block.
 use Rattle.std.proofs.lemmas.List.{map-id}
 use Rattle.std.proofs.lemmas.Bool.{not-false, not-true}
-use Rattle.std.proofs.Common.{◌≡◌, ℕ, zero, suc, ◌+◌, ◌*◌, ◌/◌, ◌%◌, ◌^◌, ◌-◌, ◌<◌, ◌≤◌, Bool, true}
+use Rattle.std.proofs.Common.{◌≡◌, ℕ, zero, suc, ◌+◌, ◌*◌, ◌/◌, ◌%◌, ◌^◌, ◌-◌, ◌<◌, ◌≤◌, true}
 use Rattle.std.proofs.Common.{false, not, cond}
-use Rattle.std.proofs.Common.{List, [], ◌∷◌, map, length, get_or, replicate, refl, sym, ap, ◌∙◌}
+use Rattle.std.proofs.Common.{List, [], ◌∷◌, map, length, get_or, replicate, refl, sym, ap, ap₂}
+use Rattle.std.proofs.Common.{◌∙◌}
 use Rattle.std.proofs.Common.{arith, w8, w16, Fits, nat_eq, eqb-true, subst}
 use Rattle.std.specs.Prelude.{bit_xor, bit_and, bit_or}
 use Rattle.std.specs.Int.RustNames.{count_ones}
 use Rattle.std.proofs.lemmas.Bool.{agree_below_at}
-use Rattle.std.proofs.lemmas.List.{length-map, get_or-map, ext_get_or}
+use Rattle.std.proofs.lemmas.List.{length-map}
 use Rattle.std.proofs.lemmas.Simd.{zip2_splat, zip2_of_maps, bitmask_splat, map-map}
 use Rattle.std.proofs.lemmas.Simd.{length-chunk, mask_l-lt, trailing_mask_l, none_from_empty_mask}
 use Rattle.std.proofs.lemmas.Simd.{run_in_chunk_stops, run_in_chunk_fails}
@@ -36,16 +37,13 @@ lane_below (x ∷ xs) h zero = h.0.fits
 lane_below (x ∷ xs) h (suc i) = lane_below xs h.1 i
 
 -- Two functions that agree on bytes agree on lanes of bytes.
-same_lanes : (f g : ℕ → ℕ) (v : List ℕ) (n : ℕ)
+same_lanes : {X : Type 0} (f g : ℕ → X) (v : List ℕ) (n : ℕ)
     → ((x : ℕ) → x < n → f x ≡ g x)
     → ((i : ℕ) → get_or v i 0 < n)
     → map f v ≡ map g v
-same_lanes f g v n same below =
-    ext_get_or 0 (map f v) (map g v) (length-map v f ∙ sym (length-map v g)) (λ i h.
-    let within : i < length v = omega (arith, length-map v f) in
-    get_or-map f v i 0 0 within
-    ∙ same (get_or v i 0) (below i)
-    ∙ sym (get_or-map g v i 0 0 within))
+same_lanes f g [] n same below = refl
+same_lanes f g (x ∷ xs) n same below =
+    ap₂ (λ y ys. y ∷ ys) (same x (below 0)) (same_lanes f g xs n same (λ i. below (suc i)))
 
 -- ---- the bits in the other order
 
@@ -124,18 +122,6 @@ last_bit_is : (x : ℕ) → x < 0x100 → nat_eq (last_bit x) 0 ≡ is_even x
 unfolding is_odd count_ones ones_in
 last_bit_is x l = agree_below_at (λ x. nat_eq (last_bit x) 0) is_even 0x100 x refl l
 
--- The lanes that are told even are those of even bytes.
-tested_lanes : (v : List ℕ) → ((i : ℕ) → get_or v i 0 < 0x100)
-    → map (λ x. nat_eq (last_bit x) 0) v ≡ map is_even v
-tested_lanes v fits =
-    let tested : ℕ → Bool = λ x. nat_eq (last_bit x) 0 in
-    ext_get_or false (map tested v) (map is_even v)
-    (length-map v tested ∙ sym (length-map v is_even)) (λ i h.
-    let within : i < length v = omega (arith, length-map v tested) in
-    get_or-map tested v i 0 false within
-    ∙ last_bit_is (get_or v i 0) (fits i)
-    ∙ sym (get_or-map is_even v i 0 false within))
-
 -- The mask that the comparison of the lanes gives.
 pub even_lanes : (v a b c : List ℕ)
     → length v ≡ 16
@@ -158,7 +144,7 @@ even_lanes v a b c long fits ea eb ec =
     ∙ ap mask_l
     (ap (map (λ x. nat_eq x 0)) bits
     ∙ map-map (λ x. nat_eq x 0) last_bit v
-    ∙ tested_lanes v fits)
+    ∙ same_lanes (λ x. nat_eq (last_bit x) 0) is_even v 0x100 last_bit_is fits)
 
 -- An empty mask of a block: its bytes are odd. For `Packet::first_even`.
 pub odd_block_of_empty_mask : (xs : List ℕ) (i : ℕ)

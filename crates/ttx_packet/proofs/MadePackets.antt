@@ -1,19 +1,19 @@
 -- What is read of the packets that are made: law_of_header_packet, law_of_row_packet.
-use Rattle.std.proofs.Common.{◌≡◌, ℕ, [], zero, suc, ◌+◌, ◌*◌, ◌/◌, ◌%◌, ◌<◌, ◌≤◌, Bool, true}
-use Rattle.std.proofs.Common.{false, ◌==◌, List, ◌∷◌, ◌++◌, length, map, replicate, Option, Some}
-use Rattle.std.proofs.Common.{None, slice_index, refl, sym, ap, ◌∙◌, subst, arith, eq-eqb, ne_eqb}
-use Rattle.std.proofs.Common.{IsTrue, ◌-◌, ◌^◌, bit_and, div-add-mod'}
+use Rattle.std.proofs.Common.{◌≡◌, ℕ, [], zero, suc, ◌+◌, ◌*◌, ◌/◌, ◌%◌, ◌<◌, ◌≤◌, Bool, true, ◌==◌}
+use Rattle.std.proofs.Common.{List, ◌∷◌, ◌++◌, map, replicate, Some, slice_index, refl, sym}
+use Rattle.std.proofs.Common.{ap, ◌∙◌, subst, arith, ◌-◌, ◌^◌, bit_and, div-add-mod', All}
 use Rattle.std.specs.Int.{bit_at}
 use Rattle.std.specs.Int.RustNames.{count_ones}
 use lib.Count.{ones_in}
+use Rattle.std.proofs.lemmas.Bool.Decides.{nat_tests}
 use Rattle.std.proofs.lemmas.Nat.Bits.{and_pow, bit_at_cat_low}
 use Rattle.std.proofs.lemmas.List.{append-nil, get_or-drop, get_or-map, get_or-replicate}
-use Rattle.std.proofs.lemmas.List.{length-map}
-use Rattle.std.proofs.lemmas.Option.{same_Some}
+use Rattle.std.proofs.lemmas.List.{length-map, get_or_append_left}
+use Rattle.std.proofs.lemmas.List.Elements.{All-from_recursion}
 use Rattle.ttx_packet.specs.declared.header.Header.{Header}
 use Rattle.ttx_packet.specs.Hamming84.{IsCodeWord, code_word}
-use Rattle.ttx_packet.specs.Parity.{is_odd, code_of, odd_byte}
-use Rattle.ttx_packet.specs.PacketAddress.{PacketAddress, address, address_words}
+use Rattle.ttx_packet.specs.Parity.{is_odd, odd_byte}
+use Rattle.ttx_packet.specs.PacketAddress.{address, address_words}
 use Rattle.ttx_packet.specs.PageHeader.{bit, nibble, coded_header, header, header_numbers}
 use Rattle.ttx_packet.specs.PageHeader.{header_packet, IsHeader, c4, c5, c6, c7, c8, c9, c10, c11}
 use Rattle.ttx_packet.specs.PageHeader.{c12, c13, c14, placed, HasOddHeaderText}
@@ -24,6 +24,17 @@ use Rattle.ttx_packet.proofs.ParityLemmas.{odd_of_code, code_of_odd}
 use Rattle.ttx_packet.proofs.ControlLemmas.{bit_small, nibble_small, control_is}
 
 -- ---- the header
+
+-- The eight numbers of a header are below 16.
+numbers_small : (h : Header) → IsHeader h → All (λ n. n < 16) (header_numbers h)
+numbers_small h is =
+    let c7_c10 = nibble_small (c7 h) (c8 h) (c9 h) (c10 h) in
+    let c11_c14 = nibble_small (c11 h) (c12 h) (c13 h) (c14 h) in
+    let c4_small = bit_small (c4 h) in
+    let c5_small = bit_small (c5 h) in
+    let c6_small = bit_small (c6 h) in
+    let page = is.page in
+    All-from_recursion (λ n. n < 16) (header_numbers h) (grind arith)
 
 -- The sub-code, put together from its four numbers.
 subcode_is : (n : ℕ) (b c d : Bool) → n < 0x4000 → n / 128 % 2 ≡ 0
@@ -45,18 +56,15 @@ coded_is : (magazine : ℕ) (h : Header) → IsHeader h
     → coded_header (header_packet magazine h) ≡ Some h
 unfolding coded_header header_packet
 coded_is magazine h is =
-    let e2 = decoded-code_word (h.page % 16) (omega arith) in
-    let e3 = decoded-code_word (h.page / 16) (omega (arith, is.page)) in
-    let e4 = decoded-code_word (h.subcode % 16) (omega arith) in
-    let e5 = decoded-code_word (h.subcode / 16 % 8 + 8 * bit (c4 h))
-    (omega (arith, bit_small (c4 h))) in
-    let e6 = decoded-code_word (h.subcode / 256 % 16) (omega arith) in
-    let e7 = decoded-code_word (h.subcode / 4096 % 4 + 4 * bit (c5 h) + 8 * bit (c6 h))
-    (omega (arith, bit_small (c5 h), bit_small (c6 h))) in
-    let e8 = decoded-code_word (nibble (c7 h) (c8 h) (c9 h) (c10 h))
-    (nibble_small (c7 h) (c8 h) (c9 h) (c10 h)) in
-    let e9 = decoded-code_word (nibble (c11 h) (c12 h) (c13 h) (c14 h))
-    (nibble_small (c11 h) (c12 h) (c13 h) (c14 h)) in
+    let small = λ (k : ℕ). numbers_small h is k 0 in
+    let e2 = decoded-code_word _ (small 0 (omega arith)) in
+    let e3 = decoded-code_word _ (small 1 (omega arith)) in
+    let e4 = decoded-code_word _ (small 2 (omega arith)) in
+    let e5 = decoded-code_word _ (small 3 (omega arith)) in
+    let e6 = decoded-code_word _ (small 4 (omega arith)) in
+    let e7 = decoded-code_word _ (small 5 (omega arith)) in
+    let e8 = decoded-code_word _ (small 6 (omega arith)) in
+    let e9 = decoded-code_word _ (small 7 (omega arith)) in
     let page : h.page % 16 + 16 * (h.page / 16) ≡ h.page = omega arith in
     let subcode = subcode_is h.subcode (c4 h) (c5 h) (c6 h) is.subcode is.no_bit_8 in
     let low =
@@ -64,6 +72,20 @@ coded_is magazine h is =
     (omega arith) (omega arith) in
     let control = control_is h.control.0 is.control in
     rw (e2, e3, e4, e5, e6, e7, e8, e9, page, subcode, low, control) refl
+
+-- The eight coded bytes of a header packet are code words.
+coded_exact : (magazine : ℕ) (h : Header) → IsHeader h → (k : ℕ) → 2 ≤ k → k < 10
+    → IsCodeWord (slice_index (header_packet magazine h) k)
+unfolding header_packet
+coded_exact magazine h is zero a b = absurd (omega arith)
+coded_exact magazine h is (suc zero) a b = absurd (omega arith)
+coded_exact magazine h is (suc (suc k)) a b =
+    let words = map code_word (header_numbers h) in
+    rw (
+      get_or_append_left words (replicate 32 0x20) 0 k (omega arith),
+      get_or-map code_word (header_numbers h) k 0 0 (omega arith),
+    )
+    (code_word_is_exact _ (numbers_small h is k 0 (omega arith)))
 
 -- ---- the address
 
@@ -89,58 +111,7 @@ address_exact magazine y rest m l (suc zero) b =
     code_word_is_exact ((magazine + 8 * y) / 16) (omega arith)
 address_exact magazine y rest m l (suc (suc k)) b = absurd (omega arith)
 
--- The eight coded bytes of a header packet are code words.
-coded_exact : (magazine : ℕ) (h : Header) → IsHeader h → (k : ℕ) → 2 ≤ k → k < 10
-    → IsCodeWord (slice_index (header_packet magazine h) k)
-unfolding header_packet
-coded_exact magazine h is zero a b = absurd (omega arith)
-coded_exact magazine h is (suc zero) a b = absurd (omega arith)
-coded_exact magazine h is (suc (suc zero)) a b = code_word_is_exact _ (omega arith)
-coded_exact magazine h is (suc (suc (suc zero))) a b = code_word_is_exact _ (omega (arith, is.page))
-coded_exact magazine h is (suc (suc (suc (suc zero)))) a b = code_word_is_exact _ (omega arith)
-coded_exact magazine h is (suc (suc (suc (suc (suc zero))))) a b =
-    code_word_is_exact (h.subcode / 16 % 8 + 8 * bit (c4 h)) (omega (arith, bit_small (c4 h)))
-coded_exact magazine h is (suc (suc (suc (suc (suc (suc zero)))))) a b =
-    code_word_is_exact _ (omega arith)
-coded_exact magazine h is (suc (suc (suc (suc (suc (suc (suc zero))))))) a b =
-    code_word_is_exact (h.subcode / 4096 % 4 + 4 * bit (c5 h) + 8 * bit (c6 h))
-    (omega (arith, bit_small (c5 h), bit_small (c6 h)))
-coded_exact magazine h is (suc (suc (suc (suc (suc (suc (suc (suc zero)))))))) a b =
-    code_word_is_exact (nibble (c7 h) (c8 h) (c9 h) (c10 h))
-    (nibble_small (c7 h) (c8 h) (c9 h) (c10 h))
-coded_exact magazine h is (suc (suc (suc (suc (suc (suc (suc (suc (suc zero))))))))) a b =
-    code_word_is_exact (nibble (c11 h) (c12 h) (c13 h) (c14 h))
-    (nibble_small (c11 h) (c12 h) (c13 h) (c14 h))
-coded_exact magazine h is (suc (suc (suc (suc (suc (suc (suc (suc (suc (suc k)))))))))) a b =
-    absurd (omega arith)
-
 -- ---- the two laws
-
--- A header packet has 42 bytes.
-header_whole : (magazine : ℕ) (h : Header) → length (header_packet magazine h) ≡ 42
-unfolding header_packet
-header_whole magazine h = refl
-
--- A header packet has packet number 0.
-header_address : (magazine : ℕ) (h : Header) → magazine < 8
-    → address (header_packet magazine h) ≡ Some (record { magazine = magazine; packet_number = 0 })
-unfolding header_packet
-header_address magazine h m =
-    address_is magazine 0 (map code_word (header_numbers h) ++ replicate 32 0x20) m (omega arith)
-
--- The header of a packet 0 is what its coded bytes say.
-header_from : (packet : List ℕ) (a : PacketAddress) (h : Option Header) → address packet ≡ Some a
-    → a.packet_number ≡ 0 → coded_header packet ≡ h → header packet ≡ h
-unfolding header
-header_from packet a h e z c = let t : (a.packet_number == 0) ≡ true =
-    eq-eqb a.packet_number 0 z in rw (e, t) c
-
--- The address of a header packet is of code words.
-header_exact : (magazine : ℕ) (h : Header) → magazine < 8 → (k : ℕ) → k < 2
-    → IsCodeWord (slice_index (header_packet magazine h) k)
-unfolding header_packet
-header_exact magazine h m =
-    address_exact magazine 0 (map code_word (header_numbers h) ++ replicate 32 0x20) m (omega arith)
 
 -- A space is odd.
 space_odd : is_odd 0x20 ≡ true
@@ -156,19 +127,22 @@ header_text magazine h place from below =
     ap (slice_index (header_packet magazine h)) ten
     ∙ sym (get_or-drop 10 (header_packet magazine h) (place - 10) 0)
     ∙ get_or-replicate 32 (place - 10) 0x20 0 (omega arith) in
-    subst (λ b. is_odd b ≡ true) (sym at) space_odd
+    rw at space_odd
 
 -- A header packet says the header that it was made from.
 pub law_of_header_packet : LawOfHeaderPacket
+unfolding header_packet header
 law_of_header_packet magazine h m is =
-    let at = header_address magazine h m in
+    let rest = map code_word (header_numbers h) ++ replicate 32 0x20 in
+    let at = address_is magazine 0 rest m (omega arith) in
     record {
-      whole = header_whole magazine h;
+      whole = refl;
       address = at;
-      header = header_from (header_packet magazine h)
-          (record { magazine = magazine; packet_number = 0 }) (Some h) at refl
-          (coded_is magazine h is);
-      exact = (header_exact magazine h m, λ a e z. coded_exact magazine h is);
+      header = rw at (coded_is magazine h is);
+      exact = (
+        address_exact magazine 0 rest m (omega arith),
+        λ a e z. coded_exact magazine h is,
+      );
       odd = header_text magazine h;
     }
 
@@ -227,66 +201,26 @@ made_placed magazine h m page =
       control = omega arith;
     }))
 
--- A row packet has the address of its row.
-row_address : (magazine y : ℕ) (codes : List ℕ) → magazine < 8 → y < 32
-    → address (row_packet magazine y codes) ≡ Some
-    (record { magazine = magazine; packet_number = y })
-unfolding row_packet
-row_address magazine y codes m l = address_is magazine y (map odd_byte codes) m l
-
--- Its address is of code words.
-row_exact : (magazine y : ℕ) (codes : List ℕ) → magazine < 8 → y < 32 → (k : ℕ) → k < 2
-    → IsCodeWord (slice_index (row_packet magazine y codes) k)
-unfolding row_packet
-row_exact magazine y codes m l = address_exact magazine y (map odd_byte codes) m l
-
--- It has 42 bytes.
-row_whole : (magazine y : ℕ) (codes : List ℕ) → length codes ≡ 40
-    → length (row_packet magazine y codes) ≡ 42
-unfolding row_packet
-row_whole magazine y codes e = ap (λ n. suc (suc n)) (length-map codes odd_byte ∙ e)
-
--- Its text is the odd bytes of its codes.
-row_text : (magazine y : ℕ) (codes : List ℕ) (column : ℕ) → length codes ≡ 40 → column < 40
-    → slice_index (row_packet magazine y codes) (column + 2) ≡ odd_byte (slice_index codes column)
-unfolding row_packet
-row_text magazine y codes column e l =
-    let two : column + 2 ≡ suc (suc column) = omega arith in
-    ap (λ n. slice_index (address_words magazine y ++ map odd_byte codes) n) two
-    ∙ get_or-map odd_byte codes column 0 0 (omega (arith, e))
-
--- A packet with another packet number than 0 has no header.
-header_none : (packet : List ℕ) (a : PacketAddress) → address packet ≡ Some a → 1 ≤ a.packet_number
-    → header packet ≡ None
-unfolding header
-header_none packet a e l = let t : (a.packet_number == 0) ≡ false =
-    ne_eqb a.packet_number 0 (λ z. absurd (omega arith)) in rw (e, t) refl
-
 -- A row packet says the row and the codes that it was made from.
 pub law_of_row_packet : LawOfRowPacket
+unfolding row_packet header
 law_of_row_packet magazine y codes m one small forty all =
-    let at = row_address magazine y codes m small in
+    let text = map odd_byte codes in
+    let at = address_is magazine y text m small in
+    let byte : (column : ℕ) → column < 40
+    → slice_index (row_packet magazine y codes) (column + 2) ≡ odd_byte
+    (slice_index codes column) = λ column l.
+    let two : column + 2 ≡ suc (suc column) = omega arith in
+    rw two (get_or-map odd_byte codes column 0 0 (omega (arith, forty))) in
     let code : (column : ℕ) → column < 40
     → slice_index codes column < 128 = λ column l. all column 0 (omega (arith, forty)) in
-    let text : (column : ℕ) → column < 40
-    → slice_index (row_packet magazine y codes) (column + 2) ≡ odd_byte
-    (slice_index codes column) = λ column l. row_text magazine y codes column forty l in
     record {
-      whole = row_whole magazine y codes forty;
+      whole = simp length-map (omega (arith, forty));
       address = at;
-      header = header_none (row_packet magazine y codes)
-          (record { magazine = magazine; packet_number = y }) at one;
-      exact = (
-        row_exact magazine y codes m small,
-        λ a e z. absurd
-            (let same : y ≡ a.packet_number =
-            ap (λ (x : PacketAddress). x.packet_number) (same_Some _ a (sym at ∙ e)) in
-            omega (arith, same)),
-      );
-      text = λ column l. ap code_of (text column l)
-          ∙ code_of_odd (slice_index codes column) (code column l);
-      odd = λ column l. subst (λ b. IsTrue (is_odd b)) (sym (text column l))
-          (odd_of_code (slice_index codes column) (code column l));
+      header = rw at (grind (arith, nat_tests));
+      exact = (address_exact magazine y text m small, λ a e z. grind arith);
+      text = λ column l. rw (byte column l) (code_of_odd _ (code column l));
+      odd = λ column l. rw (byte column l) (odd_of_code _ (code column l));
     }
 
 -- ---- a header that was made byte by byte

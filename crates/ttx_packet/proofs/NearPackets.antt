@@ -1,7 +1,7 @@
 -- A packet's address and header under one wrong bit in each byte: address-near, header-near.
-use Rattle.std.proofs.Common.{◌≡◌, ℕ, zero, suc, inl, ◌==◌, cond, Bool, true, false, List, [], ◌∷◌}
+use Rattle.std.proofs.Common.{◌≡◌, ℕ, zero, suc, inl, ◌==◌, cond, List, [], ◌∷◌}
 use Rattle.std.proofs.Common.{slice_index, Option, Some, None, refl, arith, option_and_then}
-use Rattle.std.proofs.Common.{eqb-true}
+use Rattle.std.proofs.lemmas.Bool.Decides.{nat_tests}
 use Rattle.ttx_packet.specs.OneBit.{IsNear, AreNear}
 use Rattle.ttx_packet.specs.Hamming84.{IsCodeWord}
 use Rattle.ttx_packet.specs.PacketAddress.{decoded_at, address, PacketAddress, HasExactAddress}
@@ -46,11 +46,6 @@ coded_header-near sent got exact near =
     let e9 = decoded_at-near sent got 9 near (exact 9 (omega arith) (omega arith)) in
     rw (e2, e3, e4, e5, e6, e7, e8, e9)
 
--- Two choices agree where they agree in the case that is taken.
-cond_same : {A : Type 0} (b : Bool) (x y z : A) → (b ≡ true → x ≡ y) → cond b x z ≡ cond b y z
-cond_same true x y z h = h refl
-cond_same false x y z h = refl
-
 -- A near packet has the header of a packet with exact words.
 pub header-near : (sent got : List ℕ) → HasExactWords sent → AreNear sent got
     → header got ≡ header sent
@@ -62,6 +57,5 @@ header-near sent got exact near = rw (address-near sent got exact.0 near) (go (a
         option_and_then (λ a. cond (a.packet_number == 0) (coded_header sent) None) o
     go None p = refl
     go (Some a) p =
-        cond_same (a.packet_number == 0) _ _ None
-        (λ zero_number. coded_header-near sent got
-        (exact.1 a p (eqb-true a.packet_number 0 zero_number)) near)
+        let coded = λ (z : a.packet_number ≡ 0). coded_header-near sent got (exact.1 a p z) near in
+        grind (arith, nat_tests)

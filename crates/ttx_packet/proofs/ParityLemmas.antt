@@ -1,11 +1,12 @@
 -- Odd parity: one changed bit makes the count of ones even (even_from_changed), and what odd_byte
 -- gives.
-use Rattle.std.proofs.Common.{◌≡◌, ◌≢◌, ℕ, zero, suc, ◌+◌, ◌*◌, ◌/◌, ◌%◌, ◌^◌, ◌<◌, inl, inr, Bool}
-use Rattle.std.proofs.Common.{true, false, cond, bit_xor}
-use Rattle.std.proofs.Common.{refl, sym, subst, arith, eqb-true, ne_eqb, IsTrue, IsFalse}
+use Rattle.std.proofs.Common.{◌≡◌, ◌≢◌, ℕ, zero, suc, ◌+◌, ◌*◌, ◌/◌, ◌%◌, ◌^◌, ◌<◌, inl, inr}
+use Rattle.std.proofs.Common.{true, bit_xor}
+use Rattle.std.proofs.Common.{refl, subst, arith, IsTrue, IsFalse}
 use Rattle.std.proofs.Common.{div-add-mod', pow-suc}
 use Rattle.std.specs.Int.RustNames.{count_ones}
 use Rattle.std.proofs.lemmas.Bool.{agree_below, agree_below_at}
+use Rattle.std.proofs.lemmas.Bool.Decides.{nat_tests}
 use Rattle.std.proofs.lemmas.Nat.{xor_block, ones_cat, ones_le_self}
 use lib.Count.{ones_step, ones_in}
 use lib.Bits.{xor_zero_r}
@@ -59,20 +60,15 @@ flip (suc k) b =
     let P : ℕ → ℕ → Type 0 = λ n m. (count_ones (bit_xor n m) + count_ones n) % 2 ≡ 1 in
     let h : P (b / 2 * 2 ^ 1 + b % 2) (2 ^ k * 2 ^ 1 + 0) =
     flip_higher (b / 2) (b % 2) (2 ^ k) (omega arith) (flip k (b / 2)) in
-    let h' : P b (2 ^ k * 2 ^ 1 + 0) = subst (λ n. P n (2 ^ k * 2 ^ 1 + 0)) (div-add-mod' b 2) h in
-    subst (P b) power h'
+    rw (div-add-mod' b 2, power) at h
 
 -- A byte of odd parity with one bit changed has even parity.
 pub even_from_changed : (sent got : ℕ) → IsTrue (is_odd sent) → IsNear sent got → got ≢ sent
     → IsFalse (is_odd got)
 unfolding is_odd
 even_from_changed sent got odd (inl same) other = absurd (other same)
-even_from_changed sent got odd (inr changed) other =
-    let was : count_ones sent % 2 ≡ 1 = eqb-true _ _ odd in
-    let both : (count_ones got + count_ones sent) % 2 ≡ 1 =
-    subst (λ g. (count_ones g + count_ones sent) % 2 ≡ 1) (sym changed.2) (flip changed.0 sent)
-    in
-    ne_eqb (count_ones got % 2) 1 (λ e. absurd (omega arith))
+even_from_changed sent got odd (inr (bit, below, changed)) other =
+    let both = flip bit sent in rw changed (grind (arith, nat_tests))
 
 -- ---- odd bytes
 
@@ -87,8 +83,4 @@ odd_of_code c l = agree_below_at (λ c. is_odd (odd_byte c)) (λ c. true) 128 c 
 
 -- The odd byte of a code has that code.
 pub code_of_odd : (c : ℕ) → c < 128 → code_of (odd_byte c) ≡ c
-code_of_odd c l = go (is_odd c)
-  where
-    go : (b : Bool) → cond b c (c + 0x80) % 128 ≡ c
-    go true = omega arith
-    go false = omega arith
+code_of_odd c l = grind (arith, nat_tests)

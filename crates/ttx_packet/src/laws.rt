@@ -19,6 +19,7 @@ pub fn law_of_header()
 {}
 
 /// A byte of odd parity with one bit changed has even parity.
+#[tactic(auto, using(crate::proofs::ParityLemmas::even_from_changed))]
 pub fn law_of_parity()
     ensures { LawOfParity }
 {}

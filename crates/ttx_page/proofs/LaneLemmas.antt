@@ -3,9 +3,9 @@
 use Rattle.std.proofs.lemmas.List.{map-id}
 use Rattle.std.proofs.Common.{◌≡◌, ◌≢◌, ℕ, ◌+◌, ◌<◌, ◌≤◌, ◌^◌, ◌%◌, Bool, true, false, not, List}
 use Rattle.std.proofs.Common.{map, length, get_or, sym, ap, ap₂, ◌∙◌, arith, subst, cond}
-use Rattle.std.proofs.Common.{◌-◌, w8, w16, eqb-true, eq-eqb, take_all, inl, inr, zero, suc}
+use Rattle.std.proofs.Common.{◌-◌, w8, w16, eqb-true, take_all, zero, suc}
 use Rattle.std.proofs.Common.{take, [], ◌*◌, ◌/◌}
-use Rattle.std.proofs.lemmas.Bool.{cases_eq, eqb-false, ne_eqb, not-false, not-true}
+use Rattle.std.proofs.lemmas.Bool.{eqb-false, not-false, not-true}
 use Rattle.std.specs.Simd.{first_chunks}
 use Rattle.ttx_packet.proofs.BlockLemmas.{block_at}
 use Rattle.std.proofs.lemmas.List.Sums.{sum_by_more}

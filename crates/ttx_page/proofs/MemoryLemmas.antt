@@ -1,8 +1,7 @@
 -- A row as the receivers of this crate store it, column by column: `stored_more`.
-use Rattle.std.proofs.Common.{◌≡◌, ◌≢◌, ℕ, ◌+◌, ◌<◌, ◌≤◌, inl, inr, List, length, slice_index}
-use Rattle.std.proofs.Common.{slice_set, arith, sym, ap, ◌∙◌, subst, get_or-set_same}
+use Rattle.std.proofs.Common.{◌≡◌, ℕ, ◌+◌, ◌<◌, ◌≤◌, List, length, slice_index}
+use Rattle.std.proofs.Common.{slice_set, arith, ◌∙◌, get_or-set_same}
 use Rattle.std.proofs.Common.{get_or-set_other, length-set}
-use Rattle.std.proofs.lemmas.Bool.{cases_eq}
 use Rattle.ttx_page.specs.declared.memory.EvenByte.{EvenByte}
 use Rattle.ttx_page.specs.Page.{AreCodes}
 use Rattle.ttx_page.specs.Memory.{code_after}

@@ -2,13 +2,13 @@
 use Rattle.std.proofs.Common.{◌≡◌, zero, suc, inl, inr, Bool, true, false, ◌||◌, cond, List, []}
 use Rattle.std.proofs.Common.{◌∷◌, ◌++◌, Some, None, map, zip, find, Any, Contains, refl, ap, ◌∙◌}
 use Rattle.std.proofs.Common.{arith}
-use Rattle.std.specs.List.{list_any, AllByRecursion}
+use Rattle.std.specs.List.{list_any}
 use Rattle.std.proofs.lemmas.List.{length-map, get_or-map}
 use Rattle.std.proofs.lemmas.List.Folds.{list_any-append}
-use Rattle.std.proofs.lemmas.Bool.{cases_Bool, cond-true, cond-false, or_parts, or_left, or_right}
+use Rattle.std.proofs.lemmas.Bool.{cases_Bool, or_right}
 use Rattle.std.proofs.lemmas.Bool.Decides.{nat_tests}
 use Rattle.ttx_page.specs.declared.packet_kind.PacketKind.{PacketKind}
-use Rattle.ttx_page.specs.PacketKind.{is_this_page, ends_page}
+use Rattle.ttx_page.specs.PacketKind.{is_this_page}
 use Rattle.ttx_page.specs.Span.{holds_header, after_last_header, before_end, span}
 
 -- What holds of some element of a mapped list holds, through the map, of some element of the list.
@@ -105,13 +105,6 @@ module _ {A B : Type 0} (kind_of : B → PacketKind) (f : A → B) where
       ∙ before-map (after_last_header (λ x. kind_of (f x)) xs)
 
 -- ---- after the last header, one packet on
-
--- One item more in front, where a header of the page follows.
-pub after-later :
-    {A : Type 0} (kind_of : A → PacketKind) (x : A) (xs : List A)
-    → holds_header kind_of xs ≡ true
-    → after_last_header kind_of (x ∷ xs) ≡ after_last_header kind_of xs
-after-later kind_of x xs e = rw e
 
 -- A header of the page in front, where none follows.
 pub after-here :

@@ -1,7 +1,9 @@
 -- The span by places: `law_of_span`.
-use Rattle.std.proofs.Common.{◌≡◌, ℕ, suc, ◌+◌, ◌-◌, ◌<◌, ◌≤◌, inl, inr, Bool, true, false, not, List}
-use Rattle.std.proofs.Common.{[], ◌∷◌, length, drop, take, get_or, slice_range, HoldsAt, IsTrue, All}
-use Rattle.std.proofs.Common.{IsFalse, refl, sym, ap, ◌∙◌, arith}
+use Rattle.std.proofs.Common.{◌≡◌, ℕ, suc, ◌+◌, ◌-◌, ◌<◌, ◌≤◌, inl, inr, Bool, true, false, not}
+use Rattle.std.proofs.Common.{List}
+use Rattle.std.proofs.Common.{[], ◌∷◌, length, drop, take, get_or, slice_range, HoldsAt, IsTrue}
+use Rattle.std.proofs.Common.{All}
+use Rattle.std.proofs.Common.{refl, ap, arith}
 use Rattle.std.specs.List.{list_any, position_or_len}
 use Rattle.std.proofs.lemmas.Bool.{cases_Bool, cases_eq}
 use Rattle.std.proofs.lemmas.Bool.Decides.{nat_tests}

@@ -3,13 +3,12 @@ use Rattle.std.proofs.Common.{◌≡◌, Bool, true, false, not, ◌&&◌, ◌||
 use Rattle.std.proofs.Common.{refl, arith}
 use Rattle.std.specs.List.{list_any}
 use Rattle.std.proofs.lemmas.Bool.Decides.{nat_tests}
-use Rattle.std.proofs.lemmas.List.{append-nil}
 use Rattle.std.proofs.lemmas.List.Folds.{list_any-append}
 use Rattle.ttx_page.proofs.SpanLists.{after-none}
 use Rattle.ttx_page.specs.declared.packet_kind.PacketKind.{PacketKind}
 use Rattle.ttx_page.specs.PacketKind.{is_this_page, ends_page}
 use Rattle.ttx_page.specs.Span.{holds_header, after_last_header, before_end, is_open_after}
-use Rattle.ttx_page.specs.Span.{is_unended, span}
+use Rattle.ttx_page.specs.Span.{span}
 
 module _ {A : Type 0} (kind_of : A → PacketKind) where
   -- Whether some item passes a test, one item on.
