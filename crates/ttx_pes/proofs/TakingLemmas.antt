@@ -1,9 +1,8 @@
--- What the bytes that were taken of a packet decide: first_short, bad_size, second_short, whole for
--- a source that tells its bytes, is_packet for each.
-use Rattle.std.proofs.Common.{◌≡◌, ℕ, ◌+◌, ◌<◌, ◌≤◌, List, [], ◌++◌, length, take, drop, Option}
+-- What the bytes that were taken of a packet settle, NAME_settles, and what is known by that:
+-- settled_NAME.
+use Rattle.std.proofs.Common.{◌≡◌, ℕ, ◌<◌, ◌≤◌, List, [], ◌++◌, length, take, drop, Option}
 use Rattle.std.proofs.Common.{Some, None, Result, Ok, Err, refl, sym, ap, subst, ◌∙◌, append_assoc}
-use Rattle.std.proofs.Common.{arith, inl, inr, length-append, length-take, length-drop, zero, suc}
-use Rattle.std.proofs.Common.{◌∷◌}
+use Rattle.std.proofs.Common.{arith, inl, inr, length-append, length-take, length-drop}
 use Rattle.std.proofs.lemmas.List.{take-append-drop, append-nil, take-take, drop-drop}
 use Rattle.std.proofs.lemmas.List.{length-take-le}
 use Rattle.std.proofs.KnownBytes.{Consumes-nil}
@@ -17,166 +16,175 @@ use Rattle.ttx_pes.specs.PesPacket.{PesValue, IsPesPacket}
 use Rattle.ttx_pes.specs.Reading.{size_at, value_at, packet_at, answer_at, rest_after}
 use Rattle.ttx_pes.specs.Reader.{FailsWithin, TakesPesPacket, TakesRefused}
 use Rattle.ttx_pes.specs.Comparing.{TakesDataField}
-use Rattle.ttx_pes.specs.Taking.{StopsBelow, TakesSized}
+use Rattle.ttx_pes.specs.Taking.{Settles, StopsBelow}
 use Rattle.ttx_pes.proofs.ReadingLemmas.{answer_full, answer_packet, packet_short, packet_size}
 use Rattle.ttx_pes.proofs.ReadingLemmas.{packet_cut, packet_parts, read_is_packet}
 use Rattle.ttx_pes.proofs.ReaderLemmas.{value_in}
 
 -- What is left of the bytes of a source that tells them, after some were taken.
-pub record Left (bytes : List ℕ) (new : Option (List ℕ)) (taken : List ℕ) : Type 0 where
-  pub rest : List ℕ
-  pub parts : bytes ≡ taken ++ rest
-  pub new_is : new ≡ Some rest
-  pub ended : IsAtEnd new → rest ≡ []
-
--- It follows from what was consumed.
-pub Left-from_consumed : (old new : Option (List ℕ)) (bytes taken : List ℕ)
+pub left : (old new : Option (List ℕ)) (bytes taken : List ℕ)
     → Consumes old new taken
     → old ≡ Some bytes
-    → Left bytes new taken
-Left-from_consumed None new bytes taken h e = absurd cc
-Left-from_consumed (Some xs) None bytes taken h e = absurd h
-Left-from_consumed (Some xs) (Some ys) bytes taken h e =
-    record {
-      rest = ys;
-      parts = sym (same_Some xs bytes e) ∙ h;
-      new_is = refl;
-      ended = λ end. end;
-    }
+    → (rest : List ℕ) × (bytes ≡ taken ++ rest) × (new ≡ Some rest)
+left None new bytes taken h e = absurd cc
+left (Some xs) None bytes taken h e = absurd h
+left (Some xs) (Some ys) bytes taken h e = (ys, sym (same_Some xs bytes e) ∙ h, refl)
 
--- Where these bytes were taken of a source that tells all of them.
-module _ (old new : Option (List ℕ)) (bytes taken : List ℕ)
-    (h : Consumes old new taken) (told : old ≡ Some bytes) where
-  -- What is left.
-  left : Left bytes new taken
-  left = Left-from_consumed old new bytes taken h told
+-- ---- where no packet is taken, for `take_packet`
 
-  -- How many bytes there are.
-  length_parts : length bytes ≡ length taken + length left.rest
-  length_parts = ap length left.parts ∙ length-append taken left.rest
+-- The end of the source, where no byte was taken.
+pub none_taken : (old new : Option (List ℕ)) (bytes taken : List ℕ)
+    → Consumes old new taken
+    → old ≡ Some bytes
+    → taken ≡ []
+    → IsAtEnd new
+    → (bytes ≡ []) × (new ≡ Some (rest_after bytes))
+unfolding rest_after packet_at
+none_taken old new bytes taken h told none end =
+    let (rest, parts, new_is) = left old new bytes taken h told in
+    let ends : rest ≡ [] = subst IsAtEnd new_is end in
+    let all : bytes ≡ [] = cc in
+    (all, rw all (new_is ∙ ap (λ (x : List ℕ). Some x) ends))
 
-  -- The end of the source, where no byte was taken.
-  pub none_taken : taken ≡ [] → IsAtEnd new → (bytes ≡ []) × (new ≡ Some (rest_after bytes))
-  unfolding rest_after packet_at
-  none_taken z end =
-      let none : bytes ≡ [] =
-      left.parts ∙ ap (λ (x : List ℕ). x ++ left.rest) z ∙ left.ended end in
-      (none, rw none (left.new_is ∙ ap (λ (x : List ℕ). Some x) (left.ended end)))
+-- A byte after the most packets.
+pub too_many : (given : ℕ) (old new : Option (List ℕ)) (bytes taken : List ℕ)
+    → Consumes old new taken
+    → old ≡ Some bytes
+    → 0 < length taken
+    → given ≡ 2160000
+    → answer_at given bytes ≡ Err fault.TooMany
+too_many given old new bytes taken h told some full =
+    let (rest, parts, _) = left old new bytes taken h told in
+    rw full (answer_full bytes (omega (arith, ap length parts, length-append taken rest)))
 
-  -- A byte after the most packets.
-  pub too_many : (given : ℕ)
-      → 0 < length taken
-      → given ≡ 2160000
-      → answer_at given bytes ≡ Err fault.TooMany
-  too_many given some full =
-      let len = length_parts in
-      rw full (answer_full bytes (omega arith))
+-- ---- what the bytes that were taken settle
 
-  -- Fewer than six bytes.
-  pub first_short : (given : ℕ)
-      → IsAtEnd new
-      → 0 < length taken
-      → length taken < 6
-      → (given ≡ 2160000 → ⊥)
-      → answer_at given bytes ≡ Err fault.Truncated
-  first_short given end some lt ne =
-      let none : length left.rest ≡ 0 = ap length (left.ended end) in
-      let len = length_parts in
-      answer_packet given bytes (Err fault.Truncated) (omega arith) ne
-      (packet_short bytes (omega arith))
+-- Fewer than six bytes.
+pub short_settles : (old new : Option (List ℕ)) (taken : List ℕ)
+    → Consumes old new taken
+    → IsAtEnd new
+    → 0 < length taken
+    → length taken < 6
+    → Settles old new taken (Err fault.Truncated)
+short_settles old new taken h end some few = record {
+  consumed = h;
+  some = some;
+  answer = λ rest ends. rw (ends end, append-nil taken) (packet_short taken few);
+}
 
-  -- The first six bytes are those that were taken.
-  six_bytes : 6 ≤ length taken → take 6 bytes ≡ take 6 taken
-  six_bytes le = ap (take 6) left.parts ∙ take-append-le 6 taken left.rest le
-
-  -- The first four bytes or the length are wrong.
-  pub bad_size : (given : ℕ) (x : PesFault)
-      → 6 ≤ length taken
-      → (given ≡ 2160000 → ⊥)
-      → size_at (take 6 taken) ≡ Err x
-      → answer_at given bytes ≡ Err x
-  bad_size given x le ne bad =
-      let len = length_parts in
-      answer_packet given bytes (Err x) (omega arith) ne
-      (packet_size bytes x (omega arith) (ap size_at (six_bytes le) ∙ bad))
-
-  -- The bytes end within the packet.
-  pub second_short : (given size : ℕ)
-      → IsAtEnd new
-      → 6 ≤ length taken
-      → length taken < size
-      → (given ≡ 2160000 → ⊥)
-      → size_at (take 6 taken) ≡ Ok size
-      → answer_at given bytes ≡ Err fault.Truncated
-  second_short given size end le lt ne good =
-      let none : length left.rest ≡ 0 = ap length (left.ended end) in
-      let len = length_parts in
-      answer_packet given bytes (Err fault.Truncated) (omega arith) ne
-      (packet_cut bytes size (omega arith) (ap size_at (six_bytes le) ∙ good) (omega arith))
-
--- A value and the bytes after it.
-abbrev with_rest : List ℕ → PesValue → Result (PesValue × List ℕ) PesFault
-with_rest rest v = Ok (v, rest)
-
--- The answer, by what was read of the body.
-answered : (r q : Result PesValue PesFault) (rest : List ℕ)
-    → q ≡ r
-    → ((q >>= with_rest rest) >>= value_in) ≡ (r >>= λ v. Ok (Some v))
-answered (Ok v) q rest e = rw e refl
-answered (Err f) q rest e = rw e refl
-
--- What is read of the bytes of a packet, whatever follows them.
-packet_of_bytes : (taken rest : List ℕ)
+-- The first four bytes or the length are wrong.
+pub size_settles : (old new : Option (List ℕ)) (taken : List ℕ) (f : PesFault)
+    → Consumes old new taken
     → 6 ≤ length taken
-    → size_at (take 6 taken) ≡ Ok (length taken)
-    → packet_at (taken ++ rest) ≡ (value_at (drop 6 taken) >>= λ v. Ok (v, rest))
-packet_of_bytes taken rest le sized =
-    let head = take 6 taken in
-    let body = drop 6 taken in
-    let parts : taken ++ rest ≡ head ++ (body ++ rest) =
-    ap (λ (x : List ℕ). x ++ rest) (sym (take-append-drop 6 taken))
-    ∙ append_assoc head body rest in
-    ap packet_at parts
-    ∙ packet_parts head body rest (length taken) (length-take 6 taken ∙ omega arith) sized le
-    (length-drop 6 taken)
+    → size_at (take 6 taken) ≡ Err f
+    → Settles old new taken (Err f)
+size_settles old new taken f h le bad = record {
+  consumed = h;
+  some = omega arith;
+  answer = λ rest _. packet_size (taken ++ rest) f (omega (arith, length-append taken rest))
+      (ap size_at (take-append-le 6 taken rest le) ∙ bad);
+}
+
+-- The bytes end within the packet.
+pub cut_settles : (old new : Option (List ℕ)) (taken : List ℕ) (size : ℕ)
+    → Consumes old new taken
+    → IsAtEnd new
+    → 6 ≤ length taken
+    → length taken < size
+    → size_at (take 6 taken) ≡ Ok size
+    → Settles old new taken (Err fault.Truncated)
+cut_settles old new taken size h end le lt sized = record {
+  consumed = h;
+  some = omega arith;
+  answer = λ rest ends.
+      rw (ends end, append-nil taken) (packet_cut taken size le sized lt);
+}
 
 -- The whole packet is there: its value, or its first fault.
-pub whole : (given : ℕ) (bytes : List ℕ) (old new : Option (List ℕ)) (taken : List ℕ)
+pub whole_settles : (old new : Option (List ℕ)) (taken : List ℕ)
+    → Consumes old new taken
+    → 6 ≤ length taken
+    → size_at (take 6 taken) ≡ Ok (length taken)
+    → Settles old new taken (value_at (drop 6 taken))
+whole_settles old new taken h le sized = record {
+  consumed = h;
+  some = omega arith;
+  answer = λ rest _.
+      let parts : taken ++ rest ≡ take 6 taken ++ (drop 6 taken ++ rest) =
+      ap (λ (x : List ℕ). x ++ rest) (sym (take-append-drop 6 taken))
+      ∙ append_assoc (take 6 taken) (drop 6 taken) rest in
+      ap packet_at parts
+      ∙ packet_parts (take 6 taken) (drop 6 taken) rest (length taken)
+      (length-take 6 taken ∙ omega arith) sized le (length-drop 6 taken);
+}
+
+-- The same by what was read of the packet's bytes from byte 6 on.
+pub settles_as : (old new : Option (List ℕ)) (taken body : List ℕ) (r : Result PesValue PesFault)
+    → Settles old new taken (value_at (drop 6 taken))
+    → body ≡ drop 6 taken
+    → value_at body ≡ r
+    → Settles old new taken r
+settles_as old new taken body r h same e =
+    subst (Settles old new taken) (ap value_at (sym same) ∙ e) h
+
+-- ---- what is known by it
+
+-- The answer, by what was read of the packet.
+answered : (r : Result PesValue PesFault) (rest : List ℕ)
+    → ((r >>= λ v. Ok (v, rest)) >>= value_in) ≡ (r >>= λ v. Ok (Some v))
+answered (Ok v) rest = refl
+answered (Err f) rest = refl
+
+-- The answer of a source that tells its bytes.
+pub settled_answer : (given : ℕ) (old new : Option (List ℕ)) (taken bytes : List ℕ)
     (r : Result PesValue PesFault)
-    → TakesSized old new taken
-    → old ≡ Some bytes
-    → 6 ≤ length taken
+    → Settles old new taken r
     → (given ≡ 2160000 → ⊥)
-    → value_at (drop 6 taken) ≡ r
+    → old ≡ Some bytes
     → answer_at given bytes ≡ (r >>= λ v. Ok (Some v))
-whole given bytes old new taken r h is le ne e =
-    let t = left old new bytes taken h.consumed is in
-    let len = length_parts old new bytes taken h.consumed is in
-    answer_packet given bytes (value_at (drop 6 taken) >>= λ v. Ok (v, t.rest)) (omega arith) ne
-    (ap packet_at t.parts ∙ packet_of_bytes taken t.rest le h.sized)
-    ∙ answered r (value_at (drop 6 taken)) t.rest e
+settled_answer given old new taken bytes r h ne told =
+    let (rest, parts, new_is) = left old new bytes taken h.consumed told in
+    let some = h.some in
+    answer_packet given bytes (r >>= λ v. Ok (v, rest))
+    (omega (arith, ap length parts, length-append taken rest)) ne
+    (ap packet_at parts ∙ h.answer rest (λ end. subst IsAtEnd new_is end))
+    ∙ answered r rest
 
--- Bytes after bytes.
-joined_fit : (a b : List ℕ) → AreBytes a → AreBytes b → AreBytes (a ++ b)
-joined_fit [] b p q i = q i
-joined_fit (x ∷ a) b p q zero = p 0
-joined_fit (x ∷ a) b p q (suc i) = joined_fit a b (λ k. p (suc k)) q i
+-- A fault: the bytes that were taken are refused for it, also where they are not told.
+pub settled_refusal : (old new : Option (List ℕ)) (taken : List ℕ) (f : PesFault)
+    → Settles old new taken (Err f)
+    → TakesRefused old new f
+settled_refusal old new taken f h = record {
+  bytes = taken;
+  consumed = h.consumed;
+  refused = ap packet_at (sym (append-nil taken)) ∙ h.answer [] (λ _. refl);
+}
 
--- A value was read: the bytes that were taken are a packet of it, also where they are not told.
-pub is_packet : (old new : Option (List ℕ)) (taken : List ℕ) (v : PesValue)
-    → TakesSized old new taken
-    → 6 ≤ length taken
-    → value_at (drop 6 taken) ≡ Ok v
-    → AreBytes (drop 6 taken)
-    → IsPesPacket v taken
-is_packet old new taken v h le e fit =
-    let reads : packet_at taken ≡ Ok (v, []) =
-    ap packet_at (sym (append-nil taken)) ∙ packet_of_bytes taken [] le h.sized ∙ rw e refl in
-    let all : AreBytes taken =
-    subst (λ (x : List ℕ). AreBytes x) (take-append-drop 6 taken)
-    (joined_fit (take 6 taken) (drop 6 taken) h.fit fit) in
-    let s = read_is_packet v taken [] all reads in
-    subst (λ (x : List ℕ). IsPesPacket v x) (sym (s.2 ∙ append-nil s.0)) s.1
+-- A value: the bytes that were taken are a packet of it.
+abbrev pub settled_packet : (old new : Option (List ℕ)) (taken : List ℕ) (v : PesValue)
+    → Settles old new taken (Ok v)
+    → AreBytes taken
+    → TakesPesPacket old new v
+settled_packet old new taken v h fit =
+    let s = read_is_packet v taken [] fit
+    (ap packet_at (sym (append-nil taken)) ∙ h.answer [] (λ _. refl)) in
+    record {
+      bytes = taken;
+      is_packet = subst (IsPesPacket v) (sym (s.2 ∙ append-nil s.0)) s.1;
+      consumed = h.consumed;
+    }
+
+-- The same with its data field, bytes 39 on of the body. For `read_compared`.
+pub settled_field : (old new : Option (List ℕ)) (taken body field : List ℕ) (v : PesValue)
+    → Settles old new taken (Ok v)
+    → AreBytes taken
+    → body ≡ drop 6 taken
+    → field ≡ drop 39 body
+    → TakesDataField old new v field
+settled_field old new taken body field v h fit same is = record {
+  packet = settled_packet old new taken v h fit;
+  field_is = is ∙ ap (drop 39) same ∙ drop-drop 39 6 taken;
+}
 
 -- The first six bytes stay where more were taken after them. For `take_packet`.
 pub head_kept : (got n : ℕ) (old new : List ℕ)
@@ -200,59 +208,6 @@ pub size_kept : (got n : ℕ) (old new six : List ℕ) (r : Result ℕ PesFault)
     → size_at (take 6 (take n new)) ≡ r
 size_kept got n old new six r le more kept is told =
     ap size_at (head_kept got n old new le more kept ∙ sym is) ∙ told
-
--- Where the packet in the room was taken, of which that is the body: what each reader knows.
-module _ (old new : Option (List ℕ)) (size : ℕ) (room body : List ℕ)
-    (h : TakesSized old new (take size room)) (le : 6 ≤ size) (fits : size ≤ length room)
-    (same : body ≡ drop 6 (take size room)) where
-  -- There are the first six bytes.
-  pub has_six : 6 ≤ length (take size room)
-  has_six = let len = length-take-le size room fits in omega arith
-
-  -- The answer, by what was read of the body.
-  pub answer_taken : (given : ℕ) (bytes : List ℕ) (r : Result PesValue PesFault)
-      → old ≡ Some bytes
-      → (given ≡ 2160000 → ⊥)
-      → value_at body ≡ r
-      → answer_at given bytes ≡ (r >>= λ v. Ok (Some v))
-  answer_taken given bytes r is ne e =
-      whole given bytes old new (take size room) r h is has_six ne (ap value_at (sym same) ∙ e)
-
-  -- The packet, by the value that was read of the body.
-  abbrev pub packet_taken : (v : PesValue)
-      → value_at body ≡ Ok v
-      → AreBytes body
-      → TakesPesPacket old new v
-  packet_taken v e fit = record {
-    bytes = take size room;
-    is_packet = is_packet old new (take size room) v h has_six (ap value_at (sym same) ∙ e)
-        (subst (λ (x : List ℕ). AreBytes x) same fit);
-    consumed = h.consumed;
-  }
-
-  -- The same with its data field. For `read_compared`.
-  pub field_taken : (v : PesValue) (field : List ℕ)
-      → value_at body ≡ Ok v
-      → AreBytes body
-      → field ≡ drop 39 body
-      → TakesDataField old new v field
-  field_taken v field e fit is = record {
-    packet = packet_taken v e fit;
-    field_is = is ∙ ap (drop 39) same ∙ drop-drop 39 6 (take size room);
-  }
-
-  -- A fault was read: the bytes that were taken are refused for it, also where they are not told.
-  pub packet_refused : (f : PesFault) → value_at body ≡ Err f → TakesRefused old new f
-  packet_refused f e =
-      let taken = take size room in
-      let refused : value_at (drop 6 taken) ≡ Err f = ap value_at (sym same) ∙ e in
-      record {
-        bytes = taken;
-        consumed = h.consumed;
-        refused = ap packet_at (sym (append-nil taken))
-            ∙ packet_of_bytes taken [] has_six h.sized
-            ∙ rw refused refl;
-      }
 
 -- ---- the source failed
 

@@ -3,7 +3,6 @@
 ghost use Rattle.std.specs.Prelude.{◌≡◌, ◌+◌, ◌%◌, ◌≤◌, ◌↔◌, true, Ok, Err, OnOk, IfOk, IfErr};
 ghost use Rattle.std.specs.Prelude.{length};
 ghost use Rattle.std.specs.Prelude.{drop, []};
-ghost use Rattle.sub_io.specs.Reading.{AreBytes};
 ghost use Rattle.ttx_pes.specs.PesPacket.{empty_value, longest_packet, payload_size};
 ghost use Rattle.ttx_pes.specs.Reading.{value_at, is_format_fault};
 
@@ -87,7 +86,6 @@ impl KeptFrame {
         ensures units { result ≡ Ok true → self.new.frame.units ≡ self.old.frame.units }
         ensures err { IfErr result (λ fault. value_at body.now ≡ Err fault) }
         ensures kind { IfErr result (λ fault. is_format_fault fault ≡ true) }
-        ensures bytes { AreBytes body.now }
     {
         let pts = pts_of(body)?;
         let (_, field) = body.split_at(39);

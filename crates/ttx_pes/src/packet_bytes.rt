@@ -9,8 +9,9 @@ ghost use Rattle.ttx_pes.specs.Fault.{is_read};
 ghost use Rattle.ttx_pes.specs.declared.fault.PesFault.TheVariants.{Ended, Read, TooMany, Write};
 ghost use Rattle.ttx_pes.specs.PesPacket.{longest_packet, payload_size};
 ghost use Rattle.ttx_pes.specs.Reading.{answer_at, is_format_fault, most_packets, rest_after};
+ghost use Rattle.ttx_pes.specs.Reading.{value_at};
 ghost use Rattle.ttx_pes.specs.Reader.{FailsWithin, TakesRefused};
-ghost use Rattle.ttx_pes.specs.Taking.{StopsBelow, TakesOn, TakesSized};
+ghost use Rattle.ttx_pes.specs.Taking.{Settles, StopsBelow, TakesOn};
 
 use crate::fault::PesFault;
 use crate::pes_header::{LONGEST_PACKET, PAYLOAD, size_of};
@@ -76,7 +77,8 @@ pub(crate) fn take_packet<S: Source>(
     ensures end { result ≡ Ok None → IfTold (S.remaining source.old) (λ bytes.
         (bytes ≡ []) × (S.remaining source.new ≡ Some (rest_after bytes))) }
     ensures taken { IfOk result (λ taken. IfSome taken (λ size.
-        TakesSized (S.remaining source.old) (S.remaining source.new) (take size room.new))) }
+        Settles (S.remaining source.old) (S.remaining source.new) (take size room.new)
+            (value_at (drop 6 (take size room.new))))) }
     ensures range { IfOk result (λ taken. IfSome taken (λ size.
         (payload_size ≤ size) × (size ≤ longest_packet) × (size % payload_size ≡ 0))) }
     ensures failed { failed is_read result ≡ true
@@ -108,7 +110,8 @@ pub(crate) fn take_packet<S: Source>(
 // The bytes from byte 6 on of the packet of that many bytes.
 pub(crate) fn body_of(room: &Room, size: usize) -> &[u8]
     requires { (6 ≤ size) × (size ≤ longest_packet) }
-    ensures { result.now ≡ drop 6 (take size room.now) }
+    ensures value { result.now ≡ drop 6 (take size room.now) }
+    ensures bytes { AreBytes room.now }
 {
     let (packet, _) = room.split_at(size);
     let (_, body) = packet.split_at(6);

@@ -3,7 +3,6 @@
 ghost use Rattle.std.specs.Prelude.{◌≡◌, ◌+◌, ◌*◌, ◌/◌, ◌%◌, ◌^◌, ◌<◌, ◌≤◌, false, true, length};
 ghost use Rattle.std.specs.Prelude.{slice_index, IfOk, IfErr};
 ghost use Rattle.sub_io.specs.Device.{failed};
-ghost use Rattle.sub_io.specs.Reading.{AreBytes};
 ghost use Rattle.ttx_pes.specs.Fault.{is_read};
 ghost use Rattle.ttx_pes.specs.PesPacket.{header_size, longest_packet, payload_size};
 ghost use Rattle.ttx_pes.specs.PesPacket.{pes_packet_header, pts_bytes};
@@ -24,7 +23,6 @@ pub(crate) const LONGEST_PACKET: usize = 9 * PAYLOAD;
 #[tactic(auto, unfolding(crate::specs::Reading::size_at))]
 pub(crate) fn size_of(head: &[u8; 6]) -> Result<usize, PesFault>
     ensures exact { size_at head.now ≡ result }
-    ensures bytes { AreBytes head.now }
     ensures read { failed is_read result ≡ false }
     ensures kind { IfErr result (λ fault. is_format_fault fault ≡ true) }
     ensures range { IfOk result (λ size.

@@ -3,7 +3,7 @@ ghost use Rattle.std.specs.Prelude.{◌≡◌, ℕ, ◌+◌, ◌%◌, ◌<◌, �
 ghost use Rattle.std.specs.Prelude.{if◌then◌else◌, length, Some, None, Ok, Err, IfOk, OnOk, IfErr};
 ghost use Rattle.std.specs.Prelude.{IfSome, OnSome};
 ghost use Rattle.sub_io.specs.Device.{CanFail, CountsIf, failed};
-ghost use Rattle.sub_io.specs.Reading.{AreBytes, IfTold};
+ghost use Rattle.sub_io.specs.Reading.{IfTold};
 ghost use Rattle.ttx_pes.specs.Fault.{is_read};
 ghost use Rattle.ttx_pes.specs.declared.fault.PesFault.TheVariants.{Ended, TooMany, Write};
 ghost use Rattle.ttx_pes.specs.declared.progress.Progress.TheVariants.{Reading, AtEnd, Broken};
@@ -49,7 +49,6 @@ fn read_value(body: &[u8], frame: &mut PesFrame) -> Result<(), PesFault>
     requires whole { (length body.now + 6) % payload_size ≡ 0 }
     ensures ok { OnOk result (value_at body.now ≡ Ok frame.new) }
     ensures err { IfErr result (λ fault. value_at body.now ≡ Err fault) }
-    ensures bytes { AreBytes body.now }
     ensures read { failed is_read result ≡ false }
     ensures kind { IfErr result (λ fault. is_format_fault fault ≡ true) }
 {

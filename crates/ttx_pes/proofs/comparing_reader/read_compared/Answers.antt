@@ -1,7 +1,9 @@
 -- Each return answers what the bytes that were taken decide: by TakingLemmas.
-use Rattle.std.proofs.Common.{arith, refl}
+use Rattle.std.proofs.Common.{refl}
 use Rattle.std.proofs.lemmas.Result.{err_from_is_err_and}
-use Rattle.ttx_pes.proofs.TakingLemmas.{answer_taken, field_taken, packet_refused}
+use Rattle.ttx_pes.proofs.DataUnitLemmas.{AreBytes-take}
+use Rattle.ttx_pes.proofs.TakingLemmas.{settled_answer, settled_field, settled_refusal}
+use Rattle.ttx_pes.proofs.TakingLemmas.{settles_as}
 use Rattle.ttx_pes.proofs.ReaderLemmas.{nothing}
 use Rattle.ttx_pes.proofs.comparing_reader.read_compared.Goals as goal
 
@@ -16,52 +18,46 @@ pub returns-in_err-take-clause-exact : goal.returns-in_err-take-clause-exact
 returns-in_err-take-clause-exact g c =
     let p = err_from_is_err_and c.from_residual-in_err-take.result
     c.from_residual-in_err-take.ensures.1 in
-    let sized = rw c.in-Some.is at c.in_ok-size.ensures.taken in
-    let range = rw c.in-Some.is at c.in_ok-size.ensures.range in
+    let whole = rw c.in-Some.is at c.in_ok-size.ensures.taken in
     let few = rw c.in-Some.is at c.in_ok-size.ensures.below in
-    λ bytes is _. rw (p.1, p.2)
-    (answer_taken _ _ c.in-Some.size c.take_packet.new.room _ sized (omega arith) (omega arith)
-    c.body_of.ensures c.args.given bytes _ is (few refl) c.in_err-take.ensures.err)
+    λ bytes is _. rw (p.1, p.2) (settled_answer c.args.given _ _ _ bytes _
+    (settles_as _ _ _ _ _ whole c.body_of.ensures.value c.in_err-take.ensures.err)
+    (few refl) is)
 
 pub returns-in_err-take-clause-shown : goal.returns-in_err-take-clause-shown
 returns-in_err-take-clause-shown g c =
     let p = err_from_is_err_and c.from_residual-in_err-take.result
     c.from_residual-in_err-take.ensures.1 in
-    let sized = rw c.in-Some.is at c.in_ok-size.ensures.taken in
-    let range = rw c.in-Some.is at c.in_ok-size.ensures.range in
-    rw (p.1, p.2) (λ _. packet_refused _ _ c.in-Some.size c.take_packet.new.room _ sized
-    (omega arith) (omega arith) c.body_of.ensures _ c.in_err-take.ensures.err)
+    let whole = rw c.in-Some.is at c.in_ok-size.ensures.taken in
+    rw (p.1, p.2) (λ _. settled_refusal _ _ _ _
+    (settles_as _ _ _ _ _ whole c.body_of.ensures.value c.in_err-take.ensures.err))
 
 pub returns-then-branch-clause-exact : goal.returns-then-branch-clause-exact
 returns-then-branch-clause-exact g c =
-    let sized = rw c.in-Some.is at c.in_ok-size.ensures.taken in
-    let range = rw c.in-Some.is at c.in_ok-size.ensures.range in
+    let whole = rw c.in-Some.is at c.in_ok-size.ensures.taken in
     let few = rw c.in-Some.is at c.in_ok-size.ensures.below in
-    λ bytes is _.
-    answer_taken _ _ c.in-Some.size c.take_packet.new.room _ sized (omega arith) (omega arith)
-    c.body_of.ensures c.args.given bytes _ is (few refl) c.in_ok-take.ensures.value
+    λ bytes is _. settled_answer c.args.given _ _ _ bytes _
+    (settles_as _ _ _ _ _ whole c.body_of.ensures.value c.in_ok-take.ensures.value)
+    (few refl) is
 
 pub returns-then-branch-clause-taken : goal.returns-then-branch-clause-taken
 returns-then-branch-clause-taken g c =
-    let sized = rw c.in-Some.is at c.in_ok-size.ensures.taken in
-    let range = rw c.in-Some.is at c.in_ok-size.ensures.range in
-    λ _. field_taken _ _ c.in-Some.size c.take_packet.new.room _ sized (omega arith)
-    (omega arith) c.body_of.ensures _ _ c.in_ok-take.ensures.value c.take.ensures.bytes
-    c.in_ok-take.ensures.field
+    let whole = rw c.in-Some.is at c.in_ok-size.ensures.taken in
+    λ _. settled_field _ _ _ _ _ _
+    (settles_as _ _ _ _ _ whole c.body_of.ensures.value c.in_ok-take.ensures.value)
+    (AreBytes-take _ _ c.body_of.ensures.bytes) c.body_of.ensures.value c.in_ok-take.ensures.field
 
 pub returns-else-branch-clause-exact : goal.returns-else-branch-clause-exact
 returns-else-branch-clause-exact g c =
-    let sized = rw c.in-Some.is at c.in_ok-size.ensures.taken in
-    let range = rw c.in-Some.is at c.in_ok-size.ensures.range in
+    let whole = rw c.in-Some.is at c.in_ok-size.ensures.taken in
     let few = rw c.in-Some.is at c.in_ok-size.ensures.below in
-    λ bytes is _.
-    answer_taken _ _ c.in-Some.size c.take_packet.new.room _ sized (omega arith) (omega arith)
-    c.body_of.ensures c.args.given bytes _ is (few refl) c.in_ok-take.ensures.value
+    λ bytes is _. settled_answer c.args.given _ _ _ bytes _
+    (settles_as _ _ _ _ _ whole c.body_of.ensures.value c.in_ok-take.ensures.value)
+    (few refl) is
 
 pub returns-else-branch-clause-taken : goal.returns-else-branch-clause-taken
 returns-else-branch-clause-taken g c =
-    let sized = rw c.in-Some.is at c.in_ok-size.ensures.taken in
-    let range = rw c.in-Some.is at c.in_ok-size.ensures.range in
-    λ _. field_taken _ _ c.in-Some.size c.take_packet.new.room _ sized (omega arith)
-    (omega arith) c.body_of.ensures _ _ c.in_ok-take.ensures.value c.take.ensures.bytes
-    c.in_ok-take.ensures.field
+    let whole = rw c.in-Some.is at c.in_ok-size.ensures.taken in
+    λ _. settled_field _ _ _ _ _ _
+    (settles_as _ _ _ _ _ whole c.body_of.ensures.value c.in_ok-take.ensures.value)
+    (AreBytes-take _ _ c.body_of.ensures.bytes) c.body_of.ensures.value c.in_ok-take.ensures.field

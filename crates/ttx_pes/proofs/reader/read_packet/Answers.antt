@@ -1,7 +1,9 @@
 -- Each return answers what the bytes that were taken decide: by TakingLemmas.
-use Rattle.std.proofs.Common.{arith, refl}
+use Rattle.std.proofs.Common.{refl}
 use Rattle.std.proofs.lemmas.Result.{err_from_is_err_and}
-use Rattle.ttx_pes.proofs.TakingLemmas.{answer_taken, packet_refused, packet_taken}
+use Rattle.ttx_pes.proofs.DataUnitLemmas.{AreBytes-take}
+use Rattle.ttx_pes.proofs.TakingLemmas.{settled_answer, settled_packet, settled_refusal}
+use Rattle.ttx_pes.proofs.TakingLemmas.{settles_as}
 use Rattle.ttx_pes.proofs.ReaderLemmas.{nothing}
 use Rattle.ttx_pes.proofs.reader.read_packet.Goals as goal
 
@@ -16,34 +18,31 @@ pub returns-in_err-read_value-clause-exact : goal.returns-in_err-read_value-clau
 returns-in_err-read_value-clause-exact g c =
     let p = err_from_is_err_and c.from_residual-in_err-read_value.result
     c.from_residual-in_err-read_value.ensures.1 in
-    let sized = rw c.in-Some.is at c.in_ok-size.ensures.taken in
-    let range = rw c.in-Some.is at c.in_ok-size.ensures.range in
+    let whole = rw c.in-Some.is at c.in_ok-size.ensures.taken in
     let few = rw c.in-Some.is at c.in_ok-size.ensures.below in
-    λ bytes is _. rw (p.1, p.2)
-    (answer_taken _ _ c.in-Some.size c.take_packet.new.room _ sized (omega arith) (omega arith)
-    c.body_of.ensures c.args.given bytes _ is (few refl) c.in_err-read_value.ensures.err)
+    λ bytes is _. rw (p.1, p.2) (settled_answer c.args.given _ _ _ bytes _
+    (settles_as _ _ _ _ _ whole c.body_of.ensures.value c.in_err-read_value.ensures.err)
+    (few refl) is)
 
 pub returns-in_err-read_value-clause-shown : goal.returns-in_err-read_value-clause-shown
 returns-in_err-read_value-clause-shown g c =
     let p = err_from_is_err_and c.from_residual-in_err-read_value.result
     c.from_residual-in_err-read_value.ensures.1 in
-    let sized = rw c.in-Some.is at c.in_ok-size.ensures.taken in
-    let range = rw c.in-Some.is at c.in_ok-size.ensures.range in
-    rw (p.1, p.2) (λ _. packet_refused _ _ c.in-Some.size c.take_packet.new.room _ sized
-    (omega arith) (omega arith) c.body_of.ensures _ c.in_err-read_value.ensures.err)
+    let whole = rw c.in-Some.is at c.in_ok-size.ensures.taken in
+    rw (p.1, p.2) (λ _. settled_refusal _ _ _ _
+    (settles_as _ _ _ _ _ whole c.body_of.ensures.value c.in_err-read_value.ensures.err))
 
 pub returns-clause-exact : goal.returns-clause-exact
 returns-clause-exact g c =
-    let sized = rw c.in-Some.is at c.in_ok-size.ensures.taken in
-    let range = rw c.in-Some.is at c.in_ok-size.ensures.range in
+    let whole = rw c.in-Some.is at c.in_ok-size.ensures.taken in
     let few = rw c.in-Some.is at c.in_ok-size.ensures.below in
-    λ bytes is _.
-    answer_taken _ _ c.in-Some.size c.take_packet.new.room _ sized (omega arith) (omega arith)
-    c.body_of.ensures c.args.given bytes _ is (few refl) c.in_ok-read_value.ensures.ok
+    λ bytes is _. settled_answer c.args.given _ _ _ bytes _
+    (settles_as _ _ _ _ _ whole c.body_of.ensures.value c.in_ok-read_value.ensures.ok)
+    (few refl) is
 
 pub returns-clause-frame : goal.returns-clause-frame
 returns-clause-frame g c =
-    let sized = rw c.in-Some.is at c.in_ok-size.ensures.taken in
-    let range = rw c.in-Some.is at c.in_ok-size.ensures.range in
-    λ _. packet_taken _ _ c.in-Some.size c.take_packet.new.room _ sized (omega arith)
-    (omega arith) c.body_of.ensures _ c.in_ok-read_value.ensures.ok c.read_value.ensures.bytes
+    let whole = rw c.in-Some.is at c.in_ok-size.ensures.taken in
+    λ _. settled_packet _ _ _ _
+    (settles_as _ _ _ _ _ whole c.body_of.ensures.value c.in_ok-read_value.ensures.ok)
+    (AreBytes-take _ _ c.body_of.ensures.bytes)
