@@ -2,7 +2,7 @@
 -- canonical_is_packet, spelled.
 use Rattle.std.proofs.Common.{List, None, Some, [], ap, append_assoc, arith, drop, length, lit<}
 use Rattle.std.proofs.Common.{refl, subst, suc, sym, take, zero, ℕ, ◌*◌, ◌++◌, ◌+◌, ◌-◌, ◌/◌, ◌∙◌}
-use Rattle.std.proofs.Common.{◌∷◌, ◌≡◌, ◌≤◌}
+use Rattle.std.proofs.Common.{◌∷◌, ◌≡◌, ◌≤◌, ◌<◌}
 use Rattle.std.specs.Prelude.{replicate}
 use Rattle.std.proofs.lemmas.List.{append-nil, take_all, take-append-le}
 use Rattle.std.specs.List.{flat_map, refill, AllByRecursion}
@@ -72,39 +72,33 @@ canonical_is_packet v h =
       in_order = h.in_order;
     }
 
--- One more at the end, by recursion.
-repeated_push : (n : ℕ) (b : List ℕ) → repeated n b ++ b ≡ repeated (suc n) b
-repeated_push zero b = sym (append-nil b)
-repeated_push (suc n) b =
-    append_assoc b (repeated n b) b ∙ ap (λ (x : List ℕ). b ++ x) (repeated_push n b)
-
--- One more at the end.
-pub repeated_more : (n : ℕ) (b : List ℕ) → repeated n b ++ b ≡ repeated (n + 1) b
-repeated_more n b = let one : suc n ≡ n + 1 = omega arith in
-    repeated_push n b ∙ ap (λ (k : ℕ). repeated k b) one
-
--- The loop over stuffing units, one on.
-pub stuffed_more : (out base new : List ℕ) (n : ℕ)
-    → out ≡ base ++ repeated n stuffing_unit
-    → new ≡ out ++ stuffing_unit
-    → new ≡ base ++ repeated (n + 1) stuffing_unit
-stuffed_more out base new n e f =
-    f ∙ ap (λ (x : List ℕ). x ++ stuffing_unit) e
-    ∙ append_assoc base (repeated n stuffing_unit) stuffing_unit
-    ∙ ap (λ (x : List ℕ). base ++ x) (repeated_more n stuffing_unit)
+-- The loop over stuffing units, one on: those that are left come after it.
+pub stuffed_more : (count i : ℕ) (out all : List ℕ)
+    → i < count
+    → out ++ repeated (count - i) stuffing_unit ≡ all
+    → (out ++ stuffing_unit) ++ repeated (count - (i + 1)) stuffing_unit ≡ all
+stuffed_more count i out all lt e =
+    let next : count - i ≡ suc (count - (i + 1)) = omega arith in
+    append_assoc out stuffing_unit (repeated (count - (i + 1)) stuffing_unit)
+    ∙ rw next at e
 
 -- What packet_of has made is the canonical packet.
-pub spelled : (v : PesValue) (us : List UnitValue) (pts : ℕ) (out base head : List ℕ) (n i : ℕ)
+pub spelled : (v : PesValue) (us : List UnitValue) (pts : ℕ) (out base head : List ℕ) (n i j : ℕ)
     → us ≡ v.units
     → pts ≡ v.pts
-    → out ≡ base ++ repeated n stuffing_unit
+    → out ++ repeated (n - j) stuffing_unit ≡ base ++ repeated n stuffing_unit
     → base ≡ head ++ flat_map teletext_unit (take i us)
     → length us ≤ i
-    → head ≡ pes_packet_header (length us / 4 + 1) pts → n ≡ 4 * (length us / 4 + 1) - 1 - length us
+    → head ≡ pes_packet_header (length us / 4 + 1) pts
+    → n ≡ 4 * (length us / 4 + 1) - 1 - length us
+    → n ≤ j
     → out ≡ canonical_packet v
 unfolding canonical_packet payloads_for
-spelled v us pts out base head n i same pts-same e f le h k =
+spelled v us pts out base head n i j same pts-same e f le h k done =
     let all : take i us ≡ us = take_all i us le in
+    let none : n - j ≡ 0 = omega arith in
+    let last : out ≡ base ++ repeated n stuffing_unit =
+    sym (append-nil out) ∙ rw none at e in
     let joined = append_assoc head (flat_map teletext_unit us) (repeated n stuffing_unit) in
     let made : out ≡ pes_packet_header (length v.units / 4 + 1) v.pts
     ++ (flat_map teletext_unit v.units

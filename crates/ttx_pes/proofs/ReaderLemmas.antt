@@ -5,12 +5,11 @@ use Rattle.std.proofs.Common.{length, Option, Some, None, Result, Ok, Err, refl,
 use Rattle.std.proofs.Common.{◌∙◌, arith, inl, inr}
 use Rattle.std.proofs.lemmas.Bool.{cases_Bool}
 use Rattle.std.proofs.lemmas.Option.{same_Some}
+use Rattle.std.specs.Io.KnownBytes.{Consumes}
 use Rattle.ttx_pes.proofs.ReadingLemmas.{answer_cases}
 use Rattle.sub_io.specs.Device.{failed}
 use Rattle.ttx_pes.specs.declared.fault.PesFault.{PesFault}
 use Rattle.ttx_pes.specs.declared.fault.PesFault.TheVariants as fault
-use Rattle.ttx_pes.specs.declared.progress.Progress.{Progress}
-use Rattle.ttx_pes.specs.declared.progress.Progress.TheVariants.{Reading}
 use Rattle.ttx_pes.specs.PesPacket.{PesValue}
 use Rattle.ttx_pes.specs.Reading.{packet_at, answer_at, rest_after, is_format_fault}
 use Rattle.ttx_pes.specs.Reader.{TakesPesPacket, BeginsNone}
@@ -26,17 +25,25 @@ pub nothing : (given : ℕ) (bytes : List ℕ) → bytes ≡ [] → answer_at gi
 unfolding answer_at
 nothing given bytes e = rw e refl
 
+-- What is left of the bytes of a source that tells them, after some were taken.
+pub left : (old new : Option (List ℕ)) (bytes taken : List ℕ)
+    → Consumes old new taken
+    → old ≡ Some bytes
+    → (rest : List ℕ) × (bytes ≡ taken ++ rest) × (new ≡ Some rest)
+left None new bytes taken h e = absurd cc
+left (Some xs) None bytes taken h e = absurd h
+left (Some xs) (Some ys) bytes taken h e = (ys, sym (same_Some xs bytes e) ∙ h, refl)
+
 -- What is left after a packet that was taken.
 pub packet_left : (old new : Option (List ℕ)) (v : PesValue) (bytes : List ℕ)
     → TakesPesPacket old new v
     → old ≡ Some bytes
     → new ≡ Some (rest_after bytes)
-packet_left None new v bytes h e = absurd cc
-packet_left (Some xs) None v bytes h e = absurd h.consumed
-packet_left (Some xs) (Some ys) v bytes h e =
-    let parts : bytes ≡ h.bytes ++ ys = sym (same_Some xs bytes e) ∙ h.consumed in
-    let read = packet_is_read v h.bytes ys h.is_packet in
-    ap (λ (x : List ℕ). Some x) (sym (rest_after-packet v bytes ys (ap packet_at parts ∙ read)))
+packet_left old new v bytes h e =
+    let (rest, parts, new_is) = left old new bytes h.bytes h.consumed e in
+    let read = packet_is_read v h.bytes rest h.is_packet in
+    new_is ∙ ap (λ (x : List ℕ). Some x)
+    (sym (rest_after-packet v bytes rest (ap packet_at parts ∙ read)))
 
 -- ---- faults in the words of the grammar
 
@@ -77,7 +84,3 @@ pub byte_is_left : (given : ℕ) (bytes : List ℕ)
 unfolding answer_at
 byte_is_left given [] e = absurd cc
 byte_is_left given (x ∷ b) e = omega arith
-
--- A reader has given one number of packets. For `next`.
-pub given_same : (p : Progress) (a b : ℕ) → p ≡ Reading a → p ≡ Reading b → a ≡ b
-given_same p a b e f = cc

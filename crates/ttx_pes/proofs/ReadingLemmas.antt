@@ -1,12 +1,11 @@
 -- Reading agrees with the grammar. Main lemmas: packet_is_read, read_is_packet.
-use Rattle.std.proofs.Common.{◌≡◌, ◌≢◌, ℕ, ◌-◌, ◌+◌, ◌*◌, ◌<◌, ◌≤◌, false, eqb}
+use Rattle.std.proofs.Common.{◌≡◌, ◌≢◌, ℕ, ◌-◌, ◌+◌, ◌*◌, ◌<◌, ◌≤◌}
 use Rattle.std.proofs.Common.{List, [], ◌∷◌, ◌++◌, length, take, drop, Some}
 use Rattle.std.proofs.Common.{Result, Ok, Err, refl, sym, ap, subst, ◌∙◌, append_assoc, arith}
-use Rattle.std.proofs.Common.{length-append, length-take, length-drop}
+use Rattle.std.proofs.Common.{inl, inr, ◌⊎◌, length-append, length-take, length-drop}
 use Rattle.std.proofs.lemmas.Bool.{cases_lt, le-ltb, lt-ltb}
 use Rattle.std.proofs.lemmas.Bool.Decides.{nat_tests}
 use Rattle.std.proofs.Math.Seq.{take-add}
-use Rattle.std.proofs.Common.{inl, inr, ◌⊎◌}
 use Rattle.std.proofs.lemmas.List.{take-append-drop, append_cancel_right, take_at}
 use Rattle.std.proofs.lemmas.List.{drop_at}
 use Rattle.sub_io.specs.Reading.{◌>>=◌, AreBytes}
@@ -35,15 +34,15 @@ unfolding answer_at
 answer_full [] h = absurd (omega arith)
 answer_full (x ∷ b) h = refl
 
--- The answer before them is the packet that is read.
-pub answer_open : (given : ℕ) (b : List ℕ)
+-- The answer before them is what is read of the packet.
+pub answer_packet : (given : ℕ) (b : List ℕ) (r : Result (PesValue × List ℕ) PesFault)
     → 0 < length b
     → given ≢ 2160000
-    → answer_at given b ≡ (packet_at b >>= λ p. Ok (Some p.0))
+    → packet_at b ≡ r
+    → answer_at given b ≡ (r >>= λ p. Ok (Some p.0))
 unfolding answer_at
-answer_open given [] h ne = absurd (omega arith)
-answer_open given (x ∷ b) h ne = let no : eqb given 2160000 ≡ false = grind (arith, nat_tests) in
-    rw no refl
+answer_packet given [] r h ne e = absurd (omega arith)
+answer_packet given (x ∷ b) r h ne e = rw (← e) (grind (arith, nat_tests))
 
 -- Fewer than six bytes.
 pub packet_short : (b : List ℕ) → length b < 6 → packet_at b ≡ Err fault.Truncated
@@ -97,24 +96,15 @@ packet_parts head body rest size six e le len =
     packet_whole all size (omega arith) (ap size_at front ∙ e) (omega arith)
     ∙ rw (back, middle, after) refl
 
--- The answer for a packet.
-pub answer_packet : (given : ℕ) (b : List ℕ) (r : Result (PesValue × List ℕ) PesFault)
-    → 0 < length b
-    → (given ≡ 2160000 → ⊥)
-    → packet_at b ≡ r
-    → answer_at given b ≡ (r >>= λ p. Ok (Some p.0))
-answer_packet given b r h ne e =
-    answer_open given b h ne
-    ∙ ap (λ (x : Result (PesValue × List ℕ) PesFault). x >>= λ p. Ok (Some p.0)) e
-
 -- The answer where a packet is read.
 pub answer_of_packet : (given : ℕ) (b : List ℕ) (v : PesValue) (rest : List ℕ)
     → given ≢ 2160000
     → packet_at b ≡ Ok (v, rest)
     → answer_at given b ≡ Ok (Some v)
-unfolding answer_at packet_at
+unfolding packet_at
 answer_of_packet given [] v rest ne e = absurd cc
-answer_of_packet given (x ∷ b) v rest ne e = answer_open given (x ∷ b) (omega arith) ne ∙ rw e refl
+answer_of_packet given (x ∷ b) v rest ne e =
+    answer_packet given (x ∷ b) (Ok (v, rest)) (omega arith) ne e
 
 -- A packet of the grammar is read, whatever follows: the law.
 pub packet_is_read : LawOfReading

@@ -1,13 +1,12 @@
 -- What the bytes that were taken of a packet settle, NAME_settles, and what is known by that:
 -- settled_NAME.
 use Rattle.std.proofs.Common.{◌≡◌, ℕ, ◌<◌, ◌≤◌, List, [], ◌++◌, length, take, drop, Option}
-use Rattle.std.proofs.Common.{Some, None, Result, Ok, Err, refl, sym, ap, subst, ◌∙◌, append_assoc}
+use Rattle.std.proofs.Common.{Some, Result, Ok, Err, refl, sym, ap, subst, ◌∙◌, append_assoc}
 use Rattle.std.proofs.Common.{arith, inl, inr, length-append, length-take, length-drop}
 use Rattle.std.proofs.lemmas.List.{take-append-drop, append-nil, take-take, drop-drop}
 use Rattle.std.proofs.lemmas.List.{length-take-le}
 use Rattle.std.proofs.KnownBytes.{Consumes-nil}
 use Rattle.std.specs.Io.KnownBytes.{Consumes, IsAtEnd}
-use Rattle.std.proofs.lemmas.Option.{same_Some}
 use lib.Seq.{take-append-le}
 use Rattle.sub_io.specs.Reading.{◌>>=◌, AreBytes}
 use Rattle.ttx_pes.specs.declared.fault.PesFault.{PesFault}
@@ -19,16 +18,7 @@ use Rattle.ttx_pes.specs.Comparing.{TakesDataField}
 use Rattle.ttx_pes.specs.Taking.{Settles, StopsBelow}
 use Rattle.ttx_pes.proofs.ReadingLemmas.{answer_full, answer_packet, packet_short, packet_size}
 use Rattle.ttx_pes.proofs.ReadingLemmas.{packet_cut, packet_parts, read_is_packet}
-use Rattle.ttx_pes.proofs.ReaderLemmas.{value_in}
-
--- What is left of the bytes of a source that tells them, after some were taken.
-pub left : (old new : Option (List ℕ)) (bytes taken : List ℕ)
-    → Consumes old new taken
-    → old ≡ Some bytes
-    → (rest : List ℕ) × (bytes ≡ taken ++ rest) × (new ≡ Some rest)
-left None new bytes taken h e = absurd cc
-left (Some xs) None bytes taken h e = absurd h
-left (Some xs) (Some ys) bytes taken h e = (ys, sym (same_Some xs bytes e) ∙ h, refl)
+use Rattle.ttx_pes.proofs.ReaderLemmas.{left, value_in}
 
 -- ---- where no packet is taken, for `take_packet`
 

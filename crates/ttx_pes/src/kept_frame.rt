@@ -76,6 +76,7 @@ impl KeptFrame {
 
     // Makes it the value of a packet's bytes from byte 6 on, with their data field, and answers
     // whether that is the one kept before.
+    #[tactic(auto, unfolding(crate::specs::Reading::value_at))]
     pub(crate) fn take(&mut self, body: &[u8]) -> Result<bool, PesFault>
         requires short { length body.now + 6 ≤ longest_packet }
         requires whole { (length body.now + 6) % payload_size ≡ 0 }
@@ -95,7 +96,7 @@ impl KeptFrame {
         }
         self.count = 0;
         self.frame.restart(pts);
-        let (_, blocks) = field.split_at(1);
+        let (_, blocks) = body.split_at(40);
         take_units(&mut self.frame, blocks.len() / DATA_UNIT, blocks)?;
         self.field[..field.len()].copy_from_slice(field);
         self.count = field.len();

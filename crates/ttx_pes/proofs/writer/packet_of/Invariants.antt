@@ -1,4 +1,4 @@
-use Rattle.std.proofs.Common.{◌≡◌, ◌+◌, ◌*◌, ◌++◌, length, take}
+use Rattle.std.proofs.Common.{◌≡◌, ◌+◌, ◌*◌, ◌++◌, ◌-◌, length, take}
 use Rattle.std.specs.List.{flat_map}
 use Rattle.ttx_pes.specs.DataUnit.{teletext_unit, stuffing_unit}
 use Rattle.ttx_pes.specs.PesPacket.{repeated}
@@ -13,5 +13,6 @@ invariant-loop-unit l = record {
 abbrev pub invariant-loop : goal.invariant-loop
 invariant-loop l = record {
   len : length l.out.items ≡ length l.initial.out.items + 46 * l.counter;
-  items : l.out.items ≡ l.initial.out.items ++ repeated l.counter stuffing_unit;
+  items : l.out.items ++ repeated (l.end - l.counter) stuffing_unit
+      ≡ l.initial.out.items ++ repeated l.end stuffing_unit;
 }

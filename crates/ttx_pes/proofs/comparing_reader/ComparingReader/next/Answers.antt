@@ -4,7 +4,6 @@ use Rattle.ttx_pes.specs.Comparing.{ComparingValue, as_given}
 use Rattle.ttx_pes.specs.declared.comparing_reader.Compared.{Compared}
 use Rattle.ttx_pes.specs.declared.fault.PesFault.TheVariants.{TooMany}
 use Rattle.ttx_pes.proofs.ReaderLemmas.{byte_is_left, excluded, format_not_read, packet_left}
-use Rattle.ttx_pes.proofs.ReaderLemmas.{given_same}
 use Rattle.ttx_pes.proofs.comparing_reader.ComparingReader.next.Goals as goal
 
 pub returns-in-Ok-End-clause-none : goal.returns-in-Ok-End-clause-none
@@ -34,16 +33,14 @@ returns-in-Ok-Other-clause-left g c = λ given is bytes told.
 pub returns-in-Err-clause-excluded : goal.returns-in-Err-clause-excluded
 returns-in-Err-clause-excluded g c = λ given is bytes told k.
     let same : given ≡ c.in-Reading.given =
-    given_same c.self.inside.progress given c.in-Reading.given
-    (ap (λ (v : ComparingValue). v.progress) c.self.view_is ∙ is) c.in-Reading.is in
+    cc (ap (λ (v : ComparingValue). v.progress) c.self.view_is) in
     excluded given bytes c.in-Err.fault k
     (rw same (c.in-Err.ensures.exact bytes told (format_not_read Compared c.in-Err.fault k)))
 
 pub returns-in-Err-clause-byte_left : goal.returns-in-Err-clause-byte_left
 returns-in-Err-clause-byte_left g c = λ given is bytes told e.
     let same : given ≡ c.in-Reading.given =
-    given_same c.self.inside.progress given c.in-Reading.given
-    (ap (λ (v : ComparingValue). v.progress) c.self.view_is ∙ is) c.in-Reading.is in
+    cc (ap (λ (v : ComparingValue). v.progress) c.self.view_is) in
     let many : c.in-Err.fault ≡ TooMany = cc in
     byte_is_left given bytes
     (rw same (c.in-Err.ensures.exact bytes told (rw many refl)) ∙ ap (λ f. Err f) many)
