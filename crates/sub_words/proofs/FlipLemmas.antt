@@ -1,20 +1,19 @@
 -- The flips of a text change no byte twice, and so at most one bit of each: `law_of_flips`.
-use Rattle.std.proofs.Common.{◌≡◌, ◌≢◌, ◌∙◌, ap, refl, sym, subst, arith, ℕ, zero, suc, ◌-◌, ◌<◌}
-use Rattle.std.proofs.Common.{◌^◌, ◌==◌, eqb-true, inl, inr, Bool, true, false, not, cond}
-use Rattle.std.proofs.Common.{List, [], ◌∷◌, length, slice_index, Option, Some, None}
-use Rattle.std.specs.Prelude.{⊤, bit_xor, if◌then◌else◌, nat_le, slice_set}
+use Rattle.std.proofs.Common.{◌≡◌, ◌∙◌, ap, refl, sym, subst, arith, ℕ, zero, suc, ◌<◌}
+use Rattle.std.proofs.Common.{◌^◌, ◌==◌, inl, inr, Bool, true, false, List, []}
+use Rattle.std.proofs.Common.{◌∷◌, ◌++◌, slice_index, Option, Some, None}
+use Rattle.std.specs.Prelude.{bit_xor, if◌then◌else◌, slice_set}
 use Rattle.std.specs.List.{list_any, slice_split}
-use Rattle.std.proofs.lemmas.Bool.{and_from, and_parts, eq-eqb, leb-true, not-true, or_parts}
-use Rattle.std.proofs.lemmas.Bool.{true≢false}
+use Rattle.std.proofs.lemmas.Bool.{or_parts}
+use Rattle.std.proofs.lemmas.Bool.Decides.{nat_tests}
 use Rattle.std.proofs.lemmas.List.{get_or-set_other}
-use Rattle.std.proofs.lemmas.Option.{same_Some}
+use Rattle.std.proofs.lemmas.List.Folds.{list_any-append}
+use Rattle.std.proofs.lemmas.Option.{option_and_then_some, same_Some}
 use Rattle.ttx_packet.specs.OneBit.{AreNear}
-use Rattle.ttx_packet.specs.PacketAddress.{◌>>=◌}
-use Rattle.sub_check.specs.Reception.{is_flip_of, with_flip, with_flips}
+use Rattle.sub_check.specs.Reception.{with_flip, with_flips}
 use Rattle.sub_check.specs.declared.listening.Flip.{Flip}
 use Rattle.sub_words.specs.Laws.{LawOfFlips}
-use Rattle.sub_words.specs.Texts.{apart, are_apart, comma, flip_of_text, flips_of_text}
-use Rattle.sub_words.specs.Texts.{is_same_byte, said_by_all}
+use Rattle.sub_words.specs.Texts.{comma, flip_of_text, flips_of_text, is_same_byte, items_after}
 
 -- ---- near lists
 
@@ -39,117 +38,83 @@ near-set (c ∷ cs) (g ∷ gs) (suc k) bit near same below =
 
 -- ---- a packet on its way through the flips
 
--- The bytes that these flips change are as they were sent.
-abbrev AreAsSent : List ℕ → List ℕ → ℕ → List Flip → Type 0
-AreAsSent sent got number [] = ⊤
-AreAsSent sent got number (f ∷ flips) =
-    (f.packet ≡ number → slice_index got f.byte ≡ slice_index sent f.byte)
-    × AreAsSent sent got number flips
-
--- At first all are.
-AreAsSent-itself : (sent : List ℕ) (number : ℕ) (flips : List Flip)
-    → AreAsSent sent sent number flips
-AreAsSent-itself sent number [] = tt
-AreAsSent-itself sent number (f ∷ flips) = (λ is. refl, AreAsSent-itself sent number flips)
-
--- Flips of one packet and one byte are the same by the test.
-same_byte : (a b : Flip) → a.packet ≡ b.packet → a.byte ≡ b.byte → is_same_byte a b ≡ true
-same_byte a b packet byte =
-    and_from _ _ (eq-eqb a.packet b.packet packet) (eq-eqb a.byte b.byte byte)
-
--- After a flip, those that are in other bytes still are.
-AreAsSent-with_flip : (f : Flip) (number : ℕ) (sent got : List ℕ) (flips : List Flip)
-    → list_any (λ (g : Flip). is_same_byte g f) flips ≡ false
-    → AreAsSent sent got number flips
-    → AreAsSent sent (with_flip f number got) number flips
-AreAsSent-with_flip f number sent got [] other as_sent = tt
-AreAsSent-with_flip f number sent got (g ∷ flips) other as_sent =
-    let parts =
-    or_parts (is_same_byte g f) (list_any (λ (g : Flip). is_same_byte g f) flips) other in (
-      λ is. go (is_flip_of f number) refl is parts.0,
-      AreAsSent-with_flip f number sent got flips parts.1 as_sent.1,
-    )
-  where
-    go :
-        (b : Bool)
-        → is_flip_of f number ≡ b
-        → g.packet ≡ number
-        → is_same_byte g f ≡ false
-        → slice_index
-        (cond b (slice_set got f.byte (bit_xor (slice_index got f.byte) (2 ^ (f.bit - 1)))) got)
-        g.byte
-        ≡ slice_index sent g.byte
-    go false e is apart = as_sent.0 is
-    go true e is apart =
-        let a = and_parts _ (nat_le f.bit 8) e in
-        let b = and_parts _ (nat_le 1 f.bit) a.0 in
-        let c = and_parts _ (nat_le f.byte 41) b.0 in
-        let mine : f.packet ≡ number = eqb-true f.packet number c.0 in
-        let other_byte : g.byte ≢ f.byte =
-        λ same. true≢false (sym (same_byte g f (is ∙ sym mine) same) ∙ apart) in
-        get_or-set_other got f.byte g.byte _ 0 other_byte ∙ as_sent.0 is
-
 -- A flip of a byte that is as it was sent leaves a near packet near.
 with_flip-near : (f : Flip) (number : ℕ) (sent got : List ℕ)
     → AreNear sent got
     → (f.packet ≡ number → slice_index got f.byte ≡ slice_index sent f.byte)
     → AreNear sent (with_flip f number got)
-with_flip-near f number sent got near as_sent = go (is_flip_of f number) refl
-  where
-    go :
-        (b : Bool)
-        → is_flip_of f number ≡ b
-        → AreNear sent
-        (cond b (slice_set got f.byte (bit_xor (slice_index got f.byte) (2 ^ (f.bit - 1)))) got)
-    go false e = near
-    go true e =
-        let a = and_parts _ (nat_le f.bit 8) e in
-        let b = and_parts _ (nat_le 1 f.bit) a.0 in
-        let c = and_parts _ (nat_le f.byte 41) b.0 in
-        let high = leb-true f.bit 8 a.1 in
-        let low = leb-true 1 f.bit b.1 in
-        near-set sent got f.byte (f.bit - 1) near (as_sent (eqb-true f.packet number c.0))
-        (omega (arith, high, low))
+with_flip-near f number sent got near as_sent = grind (arith, nat_tests, near-set)
 
--- The flips change no byte twice: what they leave is near.
-with_flips-near : (flips : List Flip) (number : ℕ) (sent got : List ℕ)
-    → are_apart is_same_byte flips ≡ true
-    → AreNear sent got
-    → AreAsSent sent got number flips
-    → AreNear sent (with_flips flips number got)
-with_flips-near [] number sent got apart near as_sent = near
-with_flips-near (f ∷ flips) number sent got apart near as_sent =
-    let parts = and_parts (not (list_any (λ (g : Flip). is_same_byte g f) flips)) _ apart in
-    with_flips-near flips number sent (with_flip f number got) parts.1
-    (with_flip-near f number sent got near as_sent.0)
-    (AreAsSent-with_flip f number sent got flips (not-true _ parts.0) as_sent.1)
+-- A flip changes no other byte.
+with_flip-other : (f g : Flip) (number : ℕ) (got : List ℕ)
+    → g.packet ≡ number
+    → is_same_byte g f ≡ false
+    → slice_index (with_flip f number got) g.byte ≡ slice_index got g.byte
+with_flip-other f g number got is other = grind (arith, nat_tests, get_or-set_other)
+
+-- One flip more comes last.
+with_flips-more : (flips : List Flip) (f : Flip) (number : ℕ) (packet : List ℕ)
+    → with_flips (flips ++ f ∷ []) number packet ≡ with_flip f number (with_flips flips number packet)
+with_flips-more [] f number packet = refl
+with_flips-more (first ∷ flips) f number packet =
+    with_flips-more flips f number (with_flip first number packet)
+
+-- Flips leave a packet near, and as it was sent where they change nothing.
+record IsNoise (sent : List ℕ) (number : ℕ) (flips : List Flip) : Type 0 where
+  near : AreNear sent (with_flips flips number sent)
+  as_sent : (f : Flip)
+      → f.packet ≡ number
+      → list_any (is_same_byte f) flips ≡ false
+      → slice_index (with_flips flips number sent) f.byte ≡ slice_index sent f.byte
+
+-- So do they and one more, in another byte.
+IsNoise-more : (sent : List ℕ) (number : ℕ) (flips : List Flip) (f : Flip)
+    → IsNoise sent number flips
+    → list_any (is_same_byte f) flips ≡ false
+    → IsNoise sent number (flips ++ f ∷ [])
+IsNoise-more sent number flips f noise other =
+    let got = with_flips flips number sent in
+    record {
+      near = rw with_flips-more
+          (with_flip-near f number sent got noise.near (λ is. noise.as_sent f is other));
+      as_sent = λ g is apart.
+          let parts = or_parts (list_any (is_same_byte g) flips) _
+          (sym (list_any-append (is_same_byte g) flips (f ∷ [])) ∙ apart) in
+          rw with_flips-more (with_flip-other f g number got is (or_parts _ false parts.1).0
+          ∙ noise.as_sent g is parts.0);
+    }
 
 -- ---- the flips of a text
 
--- The items of a list are apart.
-are_apart-listed : {A : Type 0} (same : A → A → Bool) (few : Bool) (said : Option (List A))
-    → (xs : List A)
-    → (if few then (said >>= apart same) else None) ≡ Some xs
-    → are_apart same xs ≡ true
-are_apart-listed same false said xs e = cc
-are_apart-listed same true None xs e = cc
-are_apart-listed same true (Some ys) xs e = go (are_apart same ys) refl e
-  where
-    go :
-        (b : Bool)
-        → are_apart same ys ≡ b
-        → (if b then Some ys else None) ≡ Some xs
-        → are_apart same xs ≡ true
-    go true is found = subst (λ zs. are_apart same zs ≡ true) (same_Some ys xs found) is
-    go false is found = cc
+-- What is given where a test fails.
+given_if_not : {A : Type 0} (b : Bool) (o : Option A) (x : A)
+    → (if b then None else o) ≡ Some x
+    → (b ≡ false) × (o ≡ Some x)
+given_if_not true o x e = cc
+given_if_not false o x e = (refl, e)
+
+-- What an item more keeps, where none before it is the same, holds of all the items of a list.
+items_after-keeps : {A : Type 0} (said : List ℕ → Option A) (same : A → A → Bool)
+    → (P : List A → Type 0)
+    → ((items : List A) (x : A) → P items → list_any (same x) items ≡ false → P (items ++ x ∷ []))
+    → (items : List A) (texts : List (List ℕ)) (all : List A)
+    → P items
+    → items_after said same items texts ≡ Some all
+    → P all
+items_after-keeps said same P more items [] all holds e = subst P (same_Some items all e) holds
+items_after-keeps said same P more items (text ∷ texts) all holds e =
+    option_and_then_some _ (said text) all e (λ x is found.
+    let parts = given_if_not (list_any (same x) items) _ all found in
+    items_after-keeps said same P more (items ++ x ∷ []) texts all (more items x holds parts.0)
+    parts.1)
 
 -- The law.
 pub law_of_flips : LawOfFlips
 unfolding flips_of_text
 law_of_flips text flips number packet is =
-    let items = slice_split (λ c. c == comma) text in
-    let apart =
-    are_apart-listed is_same_byte (nat_le (length items) 64) (said_by_all flip_of_text items) flips
-    is in
-    with_flips-near flips number packet packet apart (near_itself packet)
-    (AreAsSent-itself packet number flips)
+    let texts = slice_split (λ c. c == comma) text in
+    let read : items_after flip_of_text is_same_byte [] texts ≡ Some flips =
+    grind (arith, nat_tests) in
+    (items_after-keeps flip_of_text is_same_byte (IsNoise packet number)
+    (IsNoise-more packet number) [] texts flips
+    (record { near = near_itself packet; as_sent = λ f is apart. refl }) read).near

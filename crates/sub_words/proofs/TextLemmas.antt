@@ -1,65 +1,11 @@
--- Lists of texts read one after the other, for the parsers of lists. Main lemmas: said_by_all-none
--- and said_by_all-more.
-use Rattle.std.proofs.Common.{◌≡◌, ◌∙◌, ap, refl, sym, ℕ, suc, ◌+◌, ◌-◌, ◌*◌, ◌^◌, ◌<◌, List, []}
-use Rattle.std.proofs.Common.{◌∷◌, ◌++◌, drop, length, map, Option, Some, None, option_map, get_or}
+-- Digits read one after the other, for the parser of numbers. Main lemma: digits_value-step.
+use Rattle.std.proofs.Common.{◌≡◌, ◌∙◌, ap, sym, ℕ, suc, ◌+◌, ◌-◌, ◌*◌, ◌^◌, ◌<◌, List}
+use Rattle.std.proofs.Common.{length, get_or}
 use Rattle.std.proofs.Common.{take, true, arith, rules, subst}
 use Rattle.std.proofs.Math.Nat.{pow-suc}
 use Rattle.std.specs.Char.{is_ascii_digit, digit_value}
 use Rattle.std.specs.Str.Parse.{digits_value}
 use Rattle.std.proofs.lemmas.Int.Digits.{digits_value_more}
-use Rattle.std.proofs.lemmas.List.{append_assoc, at_drop_more}
-use Rattle.ttx_packet.specs.PacketAddress.{◌>>=◌}
-use Rattle.sub_words.specs.Texts.{said_by_all}
-
--- what the texts from a place on say, where the first of them says nothing
-said_nothing : {A : Type 0} (so_far : List A) (first : Option A) (others : Option (List A))
-    → first ≡ None
-    → option_map (λ rest. so_far ++ rest) (first >>= λ x. others >>= λ xs. Some (x ∷ xs)) ≡ None
-said_nothing so_far None others e = refl
-said_nothing so_far (Some x) others e = cc
-
--- the same, where it says something
-said_first : {A : Type 0} (so_far : List A) (x : A) (first : Option A) (others : Option (List A))
-    → first ≡ Some x
-    → option_map (λ rest. so_far ++ rest) (first >>= λ y. others >>= λ xs. Some (y ∷ xs))
-    ≡ option_map (λ rest. (so_far ++ x ∷ []) ++ rest) others
-said_first so_far x None others e = cc
-said_first so_far x (Some y) None e = refl
-said_first so_far x (Some y) (Some xs) e =
-    let same : y ≡ x = cc in
-    ap (λ z. Some (so_far ++ z ∷ xs)) same ∙ ap Some (sym (append_assoc so_far (x ∷ []) xs))
-
--- a text that says nothing: so do all
-pub said_by_all-none : {A X : Type 0} (said : List ℕ → Option A) (text : X → List ℕ)
-    → (texts : List X) (so_far : List A) (i : ℕ) (d : X) (all : Option (List A))
-    → all ≡ option_map (λ rest. so_far ++ rest) (said_by_all said (map text (drop i texts)))
-    → i < length texts
-    → said (text (get_or texts i d)) ≡ None
-    → all ≡ None
-said_by_all-none said text texts so_far i d all e within nothing =
-    e
-    ∙ ap (option_map (λ rest. so_far ++ rest))
-    (at_drop_more (λ xs. said_by_all said (map text xs)) texts i d within)
-    ∙ said_nothing so_far (said (text (get_or texts i d)))
-    (said_by_all said (map text (drop (i + 1) texts))) nothing
-
--- a text that says something stands after what was said so far
-pub said_by_all-more : {A X : Type 0} (said : List ℕ → Option A) (text : X → List ℕ)
-    → (texts : List X) (so_far : List A) (i : ℕ) (d : X) (x : A) (all : Option (List A))
-    → all ≡ option_map (λ rest. so_far ++ rest) (said_by_all said (map text (drop i texts)))
-    → i < length texts
-    → said (text (get_or texts i d)) ≡ Some x
-    → all
-    ≡ option_map (λ rest. (so_far ++ x ∷ []) ++ rest)
-    (said_by_all said (map text (drop (i + 1) texts)))
-said_by_all-more said text texts so_far i d x all e within something =
-    e
-    ∙ ap (option_map (λ rest. so_far ++ rest))
-    (at_drop_more (λ xs. said_by_all said (map text xs)) texts i d within)
-    ∙ said_first so_far x (said (text (get_or texts i d)))
-    (said_by_all said (map text (drop (i + 1) texts))) something
-
--- ---- digits
 
 -- ten times a number below a power of ten, and a digit more, are below the next power
 below_power : (n d i : ℕ) → n < 10 ^ i → d < 10 → 10 * n + d < 10 ^ (i + 1)

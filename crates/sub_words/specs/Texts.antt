@@ -1,6 +1,6 @@
 -- What the words of `listen` ask for: how numbers, lists of numbers, flips, TIME and the receiver
 -- are written (own).
-use Rattle.std.specs.Prelude.{ℕ, ◌+◌, ◌-◌, ◌*◌, Bool, true, not, ◌&&◌, List, [], ◌∷◌, length}
+use Rattle.std.specs.Prelude.{ℕ, ◌+◌, ◌-◌, ◌*◌, Bool, ◌&&◌, List, [], ◌∷◌, ◌++◌, length}
 use Rattle.std.specs.Prelude.{Option, Some, None, codes, slice_index, if◌then◌else◌, ◌==◌, nat_le}
 use Rattle.std.specs.Char.{is_ascii_digit}
 use Rattle.std.specs.List.{list_all, list_any, slice_split}
@@ -33,29 +33,22 @@ comma = 0x2C
 abbrev pub colon : ℕ
 colon = 0x3A
 
--- What texts say, where each of them says something.
-abbrev pub said_by_all : {A : Type 0} → (List ℕ → Option A) → List (List ℕ) → Option (List A)
-said_by_all said [] = Some []
-said_by_all said (text ∷ texts) = do
+-- The items of a list: those so far, and those that more texts say. None where a text says none, or
+-- one that is the same, by a test, as an item before it.
+abbrev pub items_after :
+    {A : Type 0} → (List ℕ → Option A) → (A → A → Bool) → List A → List (List ℕ)
+    → Option (List A)
+items_after said same items [] = Some items
+items_after said same items (text ∷ texts) = do
   x ← said text
-  xs ← said_by_all said texts
-  Some (x ∷ xs)
-
--- No two items are the same by this test.
-abbrev pub are_apart : {A : Type 0} → (A → A → Bool) → List A → Bool
-are_apart same [] = true
-are_apart same (x ∷ xs) = not (list_any (λ y. same y x) xs) && are_apart same xs
-
--- The items, where no two are the same.
-abbrev pub apart : {A : Type 0} → (A → A → Bool) → List A → Option (List A)
-apart same xs = if are_apart same xs then Some xs else None
+  if list_any (same x) items then None else items_after said same (items ++ x ∷ []) texts
 
 -- A list of 1 to 64 items joined by commas, no two of them the same.
 abbrev pub list_of_text :
     {A : Type 0} → (List ℕ → Option A) → (A → A → Bool) → List ℕ → Option (List A)
 list_of_text said same text =
-    let items = slice_split (λ c. c == comma) text in
-    if nat_le (length items) 64 then (said_by_all said items >>= apart same) else None
+    let texts = slice_split (λ c. c == comma) text in
+    if nat_le (length texts) 64 then items_after said same [] texts else None
 
 -- Numbers joined by commas, none twice by value: those of the packets that are lost.
 unfoldable pub numbers_of_text : List ℕ → Option (List ℕ)
@@ -63,20 +56,15 @@ numbers_of_text text = list_of_text number_of_text (λ a b. a == b) text
 
 -- ---- flips
 
--- A flip of a bit, 1 to 8, of a byte, 0 to 41, of a packet.
-abbrev pub flip_of_numbers : ℕ → ℕ → ℕ → Option Flip
-flip_of_numbers packet byte bit =
-    if nat_le byte 41 && nat_le 1 bit && nat_le bit 8
-    then Some (record { packet = packet; byte = byte; bit = bit })
-    else None
-
--- The same of the texts of the three.
+-- A flip of a bit, 1 to 8, of a byte, 0 to 41, of a packet, each as a text.
 abbrev pub flip_of_fields : List (List ℕ) → Option Flip
-flip_of_fields (packet_text ∷ byte_text ∷ bit_text ∷ []) = do
-  packet ← number_of_text packet_text
-  byte ← number_of_text byte_text
-  bit ← number_of_text bit_text
-  flip_of_numbers packet byte bit
+flip_of_fields (packet ∷ byte ∷ bit ∷ []) = do
+  packet ← number_of_text packet
+  byte ← number_of_text byte
+  bit ← number_of_text bit
+  if nat_le byte 41 && nat_le 1 bit && nat_le bit 8
+      then Some (record { packet = packet; byte = byte; bit = bit })
+      else None
 flip_of_fields _ = None
 
 -- Three numbers joined by colons: packet, byte and bit.
@@ -110,21 +98,16 @@ has_colons text =
     && (slice_index text 5 == colon)
     && (slice_index text 8 == colon)
 
--- The frame of a time code (EBU Tech 3264, TCI and TCO).
-abbrev pub frame_of_numbers : ℕ → ℕ → ℕ → ℕ → Option ℕ
-frame_of_numbers hours minutes seconds frames =
-    if is_time_code hours minutes seconds frames
-    then Some (frame_of hours minutes seconds frames)
-    else None
-
--- The same of four pairs of digits, where they stand in the text.
+-- The frame of a time code (EBU Tech 3264, TCI and TCO) whose four pairs of digits stand in a text.
 abbrev pub frame_of_digits : List ℕ → Option ℕ
 frame_of_digits text = do
   hours ← two_digits_at text 0
   minutes ← two_digits_at text 3
   seconds ← two_digits_at text 6
   frames ← two_digits_at text 9
-  frame_of_numbers hours minutes seconds frames
+  if is_time_code hours minutes seconds frames
+      then Some (frame_of hours minutes seconds frames)
+      else None
 
 -- The frame of the day that `HH:MM:SS:FF` names, two digits each.
 unfoldable pub frame_of_text : List ℕ → Option ℕ

@@ -1,8 +1,8 @@
 //! Flips of bits as people write them.
 ghost use Rattle.std.specs.Prelude.{◌≡◌, ◌==◌, [], ◌∷◌, IfOk, option_map, slice_get};
 ghost use Rattle.std.specs.List.{slice_split};
-ghost use Rattle.sub_words.specs.Texts.{colon, flip_of_fields, flip_of_text};
-ghost use Rattle.sub_words.specs.Texts.{flips_of_text, is_same_byte};
+ghost use Rattle.sub_words.specs.Texts.{colon, flip_of_text, flips_of_text};
+ghost use Rattle.sub_words.specs.Texts.{is_same_byte};
 
 use crate::lists::{Item, parse_list};
 use crate::numbers::parse_number;
@@ -34,35 +34,22 @@ impl Item for Flip {
 
     #[tactic(auto, unfolding(crate::specs::Texts::flip_of_text))]
     fn read(text: &str) -> Option<Flip> {
-        let packet = field_of(text, 0)?;
-        let byte = field_of(text, 1)?;
-        let bit = field_of(text, 2)?;
-        match field_of(text, 3) {
-            Some(_) => None,
-            None => flip_of_fields(packet, byte, bit),
+        let packet = parse_number(field_of(text, 0)?)?;
+        let byte = parse_number(field_of(text, 1)?)?;
+        let bit = parse_number(field_of(text, 2)?)?;
+        if field_of(text, 3).is_some() || byte > 41 || bit < 1 || bit > 8 {
+            return None;
         }
+        Some(Flip {
+            packet,
+            byte: byte as u8,
+            bit: bit as u8,
+        })
     }
 
     fn is_same(&self, other: &Flip) -> bool {
         self.packet == other.packet && self.byte == other.byte
     }
-}
-
-// The flip that three texts are.
-fn flip_of_fields(packet: &str, byte: &str, bit: &str) -> Option<Flip>
-    ensures { result ≡ flip_of_fields (packet.now ∷ byte.now ∷ bit.now ∷ []) }
-{
-    let packet = parse_number(packet)?;
-    let byte = parse_number(byte)?;
-    let bit = parse_number(bit)?;
-    if byte > 41 || bit < 1 || bit > 8 {
-        return None;
-    }
-    Some(Flip {
-        packet,
-        byte: byte as u8,
-        bit: bit as u8,
-    })
 }
 
 // The text between two colons of a text, by its number from 0.

@@ -1,5 +1,6 @@
 //! TIME and the receiver of `listen` as people write them.
 ghost use Rattle.std.specs.Prelude.{◌≡◌, ◌+◌, ◌<◌, ◌≤◌, IfSome, length};
+ghost use Rattle.stl_file.specs.TimeCode.{day};
 ghost use Rattle.sub_words.specs.Texts.{frame_of_text, receiver_of_text, two_digits_at};
 
 use stl_file::TimeCode;
@@ -27,7 +28,7 @@ pub fn parse_receiver(text: &str) -> Option<ReceiverKind>
 #[tactic(auto, unfolding(crate::specs::Texts::frame_of_text))]
 pub fn parse_time(text: &str) -> Option<u32>
     ensures value { result ≡ frame_of_text text.now }
-    ensures day { IfSome result (λ frame. frame < 2160000) }
+    ensures day { IfSome result (λ frame. frame < day) }
 {
     let text = text.as_bytes();
     if text.len() != 11 || text[2] != b':' || text[5] != b':' || text[8] != b':' {

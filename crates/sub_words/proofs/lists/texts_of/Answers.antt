@@ -2,7 +2,7 @@
 use Rattle.std.proofs.Common.{lit<}
 use Rattle.std.proofs.lemmas.Iterator.Consumers.{map_from_collect}
 use Rattle.std.proofs.lemmas.Iterator.Splits.{YieldsList-from_str_split}
-use Rattle.sub_words.proofs.lists.items_of.Goals as goal
+use Rattle.sub_words.proofs.lists.texts_of.Goals as goal
 
 pub returns : goal.returns
 returns g c =
