@@ -105,10 +105,6 @@ command_in words = subcommand_of subttx_app words
 unfoldable pub are_sound : List Text → Bool
 are_sound words = takes subttx_app words
 
--- The names of the commands.
-abbrev pub command_names : List Text
-command_names = map (λ command. command.0) commands
-
 -- The words of the command line as texts.
 abbrev pub texts_of : List (Bor (List ℕ)) → List Text
 texts_of = map (λ word. word.now)

@@ -14,14 +14,13 @@ use Rattle.sub_check.specs.declared.listening.ReceiverKind.TheVariants.{Keep, Bl
 
 -- ---- numbers
 
--- One to ten decimal digits, and nothing else; the first ones may be zeros.
-abbrev pub is_number : List ℕ → Bool
-is_number text =
-    nat_le 1 (length text) && nat_le (length text) 10 && list_all is_ascii_digit text
-
--- The number that a text is.
+-- The number that a text is: one to ten decimal digits, and nothing else; the first ones may be
+-- zeros.
 unfoldable pub number_of_text : List ℕ → Option ℕ
-number_of_text text = if is_number text then Some (digits_value 10 text) else None
+number_of_text text =
+    if nat_le 1 (length text) && nat_le (length text) 10 && list_all is_ascii_digit text
+    then Some (digits_value 10 text)
+    else None
 
 -- ---- lists
 

@@ -1,8 +1,7 @@
 //! Flips of bits as people write them.
 ghost use Rattle.std.specs.Prelude.{◌≡◌, ◌==◌, [], ◌∷◌, IfOk, option_map, slice_get};
 ghost use Rattle.std.specs.List.{slice_split};
-ghost use Rattle.sub_words.specs.Texts.{colon, flip_of_text, flips_of_text};
-ghost use Rattle.sub_words.specs.Texts.{is_same_byte};
+ghost use Rattle.sub_words.specs.Texts.{colon, flip_of_text, flips_of_text, is_same_byte};
 
 use crate::lists::{Item, parse_list};
 use crate::numbers::parse_number;

@@ -1,5 +1,7 @@
 //! Numbers and lists of numbers as people write them.
 ghost use Rattle.std.specs.Prelude.{◌≡◌, ◌<◌, ◌^◌, ◌==◌, IfOk, IfSome, option_map};
+ghost use Rattle.std.specs.Char.{is_ascii_digit};
+ghost use Rattle.std.specs.List.{list_all};
 ghost use Rattle.sub_words.specs.Texts.{number_of_text, numbers_of_text};
 
 use crate::lists::{Item, parse_list};
@@ -14,17 +16,17 @@ pub fn parse_number(text: &str) -> Option<u64>
     ensures small { IfSome result (λ n. n < 10 ^ 10) }
 {
     let digits = text.as_bytes();
-    if digits.len() < 1 || digits.len() > 10 {
+    if digits.len() < 1 || digits.len() > 10 || !are_digits(digits) {
         return None;
     }
-    let mut number = 0;
-    for digit in digits {
-        if !digit.is_ascii_digit() {
-            return None;
-        }
-        number = 10 * number + u64::from(digit - b'0');
-    }
-    Some(number)
+    text.parse().ok()
+}
+
+// Whether all bytes are decimal digits.
+fn are_digits(bytes: &[u8]) -> bool
+    ensures { result ≡ list_all is_ascii_digit bytes.now }
+{
+    bytes.iter().all(|byte| byte.is_ascii_digit())
 }
 
 /// The numbers of a list: 1 to 64 of them joined by commas, none twice. `None` for any other text.

@@ -11,14 +11,11 @@ use sub_check::ReceiverKind;
 pub fn parse_receiver(text: &str) -> Option<ReceiverKind>
     ensures { result ≡ receiver_of_text text.now }
 {
-    if text == "blank" {
-        Some(ReceiverKind::Blank)
-    } else if text == "keep" {
-        Some(ReceiverKind::Keep)
-    } else if text == "drop" {
-        Some(ReceiverKind::DropRow)
-    } else {
-        None
+    match text {
+        "blank" => Some(ReceiverKind::Blank),
+        "keep" => Some(ReceiverKind::Keep),
+        "drop" => Some(ReceiverKind::DropRow),
+        _ => None,
     }
 }
 
