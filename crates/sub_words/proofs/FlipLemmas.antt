@@ -54,7 +54,8 @@ with_flip-other f g number got is other = grind (arith, nat_tests, get_or-set_ot
 
 -- One flip more comes last.
 with_flips-more : (flips : List Flip) (f : Flip) (number : ℕ) (packet : List ℕ)
-    → with_flips (flips ++ f ∷ []) number packet ≡ with_flip f number (with_flips flips number packet)
+    → with_flips (flips ++ f ∷ []) number packet
+    ≡ with_flip f number (with_flips flips number packet)
 with_flips-more [] f number packet = refl
 with_flips-more (first ∷ flips) f number packet =
     with_flips-more flips f number (with_flip first number packet)

@@ -1,6 +1,6 @@
 -- What `parse` reads of digits, for the parser of numbers. Main lemma: parse-digits.
-use Rattle.std.proofs.Common.{◌≡◌, ℕ, ◌^◌, ◌<◌, ◌≤◌, ◌∙◌, sym, ap, refl, List, [], ◌∷◌, ◌&&◌, length}
-use Rattle.std.proofs.Common.{Ok, true, arith}
+use Rattle.std.proofs.Common.{◌≡◌, ℕ, ◌^◌, ◌<◌, ◌≤◌, ◌∙◌, sym, ap, refl, List, [], ◌∷◌, ◌&&◌}
+use Rattle.std.proofs.Common.{length, Ok, true, arith}
 use Rattle.std.specs.Prelude.{Result}
 use Rattle.std.specs.Char.{is_ascii_digit}
 use Rattle.std.specs.List.{list_all}

@@ -35,17 +35,8 @@ options_of every rows = do
   every ← ok_or (within 1 1500 every) fault.Every
   origin ← ok_or (within 0 (2 ^ 33 - 1) (number_of_text (argument (codes "origin") rows)))
       fault.Origin
-  Ok
-      (record {
-        page = page;
-        every = every;
-        origin = origin;
-        asks_complete = is_given (codes "complete") rows;
-      })
-
--- `[--every N]`
-abbrev pub every_of : List Row → Option ℕ
-every_of rows = number_of_text (argument (codes "every") rows)
+  let asked = is_given (codes "complete") rows in
+      Ok (record { page = page; every = every; origin = origin; asks_complete = asked })
 
 -- The national option of a name.
 abbrev pub national_of_text : Text → Option National

@@ -9,8 +9,7 @@ use Rattle.hex.specs.Hex.{decode_sized}
 use Rattle.sub_io.specs.Reading.{◌>>=◌}
 use Rattle.stl_rows.specs.declared.national.National.{National}
 use Rattle.sub_plan.specs.Options.{OptionsValue}
-use Rattle.sub_words.specs.Arguments.{argument, every_of, is_given, listed_of, national_of}
-use Rattle.sub_words.specs.Arguments.{options_of}
+use Rattle.sub_words.specs.Arguments.{argument, is_given, listed_of, national_of, options_of}
 use Rattle.sub_words.specs.Commands.{are_sound, command_in, clap_refusals}
 use Rattle.sub_words.specs.Texts.{flip_of_text, frame_of_text, is_same_byte, number_of_text}
 use Rattle.sub_words.specs.Texts.{receiver_of_text}
@@ -66,14 +65,14 @@ normal_asked rows = do
 abbrev pub schedule_asked : List Row → Result Asked UsageFault
 schedule_asked rows = do
   names ← unlike (argument (codes "stl") rows) (argument (codes "pes") rows)
-  options ← options_of (every_of rows) rows
+  options ← options_of (number_of_text (argument (codes "every") rows)) rows
   national ← national_of rows
   Ok (Schedule names.0 names.1 options (is_given (codes "serial") rows) national)
 
 -- `check STL PES [--page P] [--every N] [--origin T] [--option O] [--complete]`
 abbrev pub check_asked : List Row → Result Asked UsageFault
 check_asked rows = do
-  options ← options_of (every_of rows) rows
+  options ← options_of (number_of_text (argument (codes "every") rows)) rows
   national ← national_of rows
   Ok (Check (argument (codes "stl") rows) (argument (codes "pes") rows) options national)
 

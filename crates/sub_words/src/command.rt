@@ -6,7 +6,7 @@ ghost use Rattle.std.specs.Prelude.{◌≡◌, IfOk, false, map};
 ghost use Rattle.std.specs.List.{fold};
 ghost use Rattle.clap.specs.Words.{app_of, new_app, rule_of, with_rule};
 ghost use Rattle.clap.specs.declared.builder.command.Command.TheViews.{out-Command};
-ghost use Rattle.sub_words.specs.Commands.{clap_rule, subttx_app, table_of, with_command};
+ghost use Rattle.sub_words.specs.Commands.{clap_rule, subttx_app};
 
 use clap::{Arg, ArgAction, Command};
 use std::alloc::{AllocError, Global};
@@ -80,29 +80,15 @@ const COMMANDS: [(&str, &[Argument]); 7] = [
 /// # Errors
 ///
 /// Want of memory alone.
-#[tactic(auto, unfolding(crate::specs::Commands::subttx_app))]
 pub fn subttx_command<'a>(alloc: Global) -> Result<Command<'a>, AllocError>
     ensures { IfOk result (λ c. app_of c ≡ subttx_app) }
 {
-    let program = Command::new(alloc, "subttx")
+    let mut program = Command::new(alloc, "subttx")
         .disable_help_flag(true)
         .disable_help_subcommand(true)
         .disable_version_flag(true)
         .subcommand_required(true);
-    with_commands(alloc, program, &COMMANDS)
-}
-
-// Adds commands, each with what stands after its name.
-fn with_commands<'a>(
-    alloc: Global,
-    program: Command<'a>,
-    commands: &[(&'static str, &[Argument])],
-) -> Result<Command<'a>, AllocError>
-    ensures { IfOk result (λ c.
-        app_of c ≡ fold with_command (app_of program.entry) (map table_of commands.now)) }
-{
-    let mut program = program;
-    for command in commands {
+    for command in &COMMANDS {
         program = program.subcommand(command_with(alloc, command.0, command.1)?)?;
     }
     Ok(program)

@@ -39,11 +39,8 @@ impl Item for Flip {
         if field_of(text, 3).is_some() || byte > 41 || bit < 1 || bit > 8 {
             return None;
         }
-        Some(Flip {
-            packet,
-            byte: byte as u8,
-            bit: bit as u8,
-        })
+        let (byte, bit) = (byte as u8, bit as u8);
+        Some(Flip { packet, byte, bit })
     }
 
     fn is_same(&self, other: &Flip) -> bool {

@@ -1,0 +1,11 @@
+-- The program with the commands that are left is the whole program.
+use Rattle.std.proofs.Common.{◌≡◌, drop, map}
+use Rattle.std.specs.List.{fold}
+use Rattle.clap.specs.Words.{app_of}
+use Rattle.sub_words.specs.Commands.{subttx_app, table_of, with_command}
+use Rattle.sub_words.proofs.command.subttx_command.Given as goal
+
+abbrev pub invariant-loop-command : goal.invariant-loop-command
+invariant-loop-command l =
+    fold with_command (app_of l.program) (map table_of (drop l.command-index l.command-items))
+    ≡ subttx_app
