@@ -1,5 +1,5 @@
--- Lines without a fault: each is on the page (on_page), and where text codes are left to be read the
--- cells before them are at most 40 (few_cells).
+-- Lines without a fault: each is on the page (on_page), and where text codes are left to be read
+-- the cells before them are at most 40 (few_cells).
 use Rattle.std.proofs.Common.{◌≡◌, ℕ, zero, suc, ◌+◌, ◌<◌, ◌≤◌, Bool, List, [], ◌∷◌, ◌++◌, length}
 use Rattle.std.proofs.Common.{map, get_or, refl, arith}
 use Rattle.std.proofs.lemmas.Bool.Decides.{nat_tests}

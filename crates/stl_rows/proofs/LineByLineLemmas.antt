@@ -16,12 +16,12 @@ use Rattle.stl_rows.specs.declared.national.National.{National}
 -- ---- cells before the first line
 
 -- a new line ends the cells before it
-onto_line_end : (cells : List ℕ) (lines : List (List ℕ)) → onto cells ([] ∷ lines) ≡ cells ∷ lines
+pub onto_line_end : (cells : List ℕ) (lines : List (List ℕ)) → onto cells ([] ∷ lines) ≡ cells ∷ lines
 onto_line_end [] lines = refl
 onto_line_end (c ∷ cells) lines = ap (onto_first c) (onto_line_end cells lines)
 
 -- a cell before the first line is one of the cells before it
-onto_code : (cells : List ℕ) (code : ℕ) (lines : List (List ℕ))
+pub onto_code : (cells : List ℕ) (code : ℕ) (lines : List (List ℕ))
     → onto cells (onto_first code lines) ≡ onto (cells ++ code ∷ []) lines
 onto_code [] code lines = refl
 onto_code (c ∷ cells) code lines = ap (onto_first c) (onto_code cells code lines)

@@ -1,5 +1,5 @@
--- Loading goes on as it began, and each way out of it tells what the whole file gives: goes_on-next,
--- tells-file, tells-put.
+-- Loading goes on as it began, and each way out of it tells what the whole file gives:
+-- goes_on-next, tells-file, tells-put.
 use Rattle.std.proofs.Common.{◌≡◌, ℕ, false, List, [], ◌∷◌, ◌++◌, drop, Some, Result, Err, refl}
 use Rattle.std.proofs.Common.{sym, ap, ◌∙◌, inl, inr}
 use Rattle.stl_file.specs.declared.fault.StlFault.{StlFault}

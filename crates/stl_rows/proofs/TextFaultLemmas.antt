@@ -1,42 +1,39 @@
--- What the shape of a line tells of its faults: shape_kinds. And the first fault of a text whose
--- codes are read one by one: one step for each kind of code, as told-line_end.
-use Rattle.std.proofs.Common.{◌≡◌, ℕ, suc, ◌+◌, ◌≤◌, Bool, true, false, ◌&&◌, ◌||◌, ◌==◌, not, cond}
-use Rattle.std.proofs.Common.{List, [], ◌∷◌, ◌++◌, Option, Some, None, map, length, drop, refl, sym}
-use Rattle.std.proofs.Common.{ap, ◌∙◌, arith, length-append}
+-- The first fault of a text whose codes are read one by one, by the shape of each line:
+-- told-faults.
+use Rattle.std.proofs.Common.{◌≡◌, ℕ, suc, ◌+◌, Bool, true, false, ◌&&◌, ◌==◌, not, cond, List, []}
+use Rattle.std.proofs.Common.{◌∷◌, ◌++◌, Option, Some, None, map, length, refl, sym, ap, ◌∙◌, arith}
+use Rattle.std.proofs.Common.{length-append, append-nil}
 use Rattle.std.proofs.Math.Bool.{or-false}
 use Rattle.std.proofs.lemmas.Bool.{cond_both, lt-ltb}
-use Rattle.std.proofs.lemmas.List.{at_drop_all}
 use Rattle.std.proofs.lemmas.List.Folds.{list_any-append}
 use Rattle.std.specs.List.{list_any}
+use Rattle.std.specs.Option.{option_or}
+use Rattle.stl_file.specs.Subtitle.{SubtitleValue}
 use Rattle.stl_rows.specs.declared.fault.RowFault.{RowFault}
 use Rattle.stl_rows.specs.declared.national.National.{National}
 use Rattle.stl_rows.specs.declared.text_code.TextCode.{TextCode}
-use Rattle.stl_rows.specs.declared.text_code.TextCode.TheVariants.{Cell, NewLine}
-use Rattle.stl_rows.specs.DrawnPage.{line_fault_kinds, line_faults}
-use Rattle.stl_rows.specs.Line.{double_height, has_cells, is_boxed, is_double, prepared, start_box}
-use Rattle.stl_rows.specs.LineByLine.{HasShape, prepared_lines, shape_fault_kinds, told_first}
-use Rattle.stl_rows.specs.TextCode.{fault_of, first_of, refusals, text_codes}
-use Rattle.stl_rows.proofs.LineByLineLemmas.{prepared_lines-cell, prepared_lines-end}
-use Rattle.stl_rows.proofs.LineByLineLemmas.{prepared_lines-line_end}
+use Rattle.stl_rows.specs.declared.text_code.TextCode.TheVariants.{Cell, NoCell, NewLine, Refused}
+use Rattle.stl_rows.specs.declared.text_faults.OpenLine.{OpenLine}
+use Rattle.stl_rows.specs.DrawnPage.{faults, line_fault_kinds, line_faults}
+use Rattle.stl_rows.specs.Line.{double_height, has_cells, is_boxed, is_double, prepared}
+use Rattle.stl_rows.specs.LineByLine.{HasShape, empty_line, line_under, prepared_lines}
+use Rattle.stl_rows.specs.LineByLine.{shape_fault_kinds, told, told_first, with_cell}
+use Rattle.stl_rows.specs.TextCode.{fault_of, first_of, lines_of, refusals, text_codes}
+use Rattle.stl_rows.proofs.LineByLineLemmas.{onto_code, onto_line_end}
 
 -- ---- shapes
 
 -- no cells
-pub shape-none : HasShape [] 0 false false
+shape-none : (number row : ℕ) (under : Bool) → HasShape [] (empty_line number row under)
 unfolding is_boxed is_double
-shape-none = record {
-  count = refl;
-  box = refl;
-  height = refl;
-}
+shape-none number row under = record { count = refl; box = refl; height = refl }
 
 -- a cell more
-pub shape-push : (cells : List ℕ) (code len : ℕ) (boxed double : Bool)
-    → HasShape cells len boxed double
-    → HasShape (cells ++ code ∷ []) (len + 1) (boxed || (code == start_box))
-    (double || (code == double_height))
+shape-push : (cells : List ℕ) (code : ℕ) (line : OpenLine)
+    → HasShape cells line
+    → HasShape (cells ++ code ∷ []) (with_cell line code)
 unfolding is_boxed is_double
-shape-push cells code len boxed double h = record {
+shape-push cells code line h = record {
   count = omega (arith, length-append cells (code ∷ []), h.count);
   box = simp (list_any-append, or-false, h.box);
   height = simp (list_any-append, or-false, h.height);
@@ -72,145 +69,91 @@ cells_prepared c cs =
     cond_both (not (is_boxed (c ∷ cs))) _ (c ∷ cs) (λ line. has_cells line ≡ true) (λ _. refl)
     (λ _. refl)
 
--- the faults of a line without cells
-kinds_of_none : (row : ℕ) (under : Bool)
-    → line_fault_kinds row under (prepared [])
-    ≡ shape_fault_kinds row under 0 (is_boxed []) (is_double [])
+-- a line without cells has no double height, nor a box
+kinds_of_none : (line : OpenLine)
+    → HasShape [] line
+    → line_fault_kinds line.row line.is_under_double (prepared []) ≡ shape_fault_kinds line
 unfolding line_fault_kinds shape_fault_kinds prepared is_boxed is_double
-kinds_of_none row under = refl
+kinds_of_none line h = rw (← h.count, ← h.box, ← h.height) refl
 
--- the faults of a line by its cells
-kinds_of_cells : (row : ℕ) (under : Bool) (cells : List ℕ)
-    → line_fault_kinds row under (prepared cells)
-    ≡ shape_fault_kinds row under (length cells) (is_boxed cells) (is_double cells)
+-- the faults of a line by its shape
+shape_kinds : (cells : List ℕ) (line : OpenLine)
+    → HasShape cells line
+    → line_fault_kinds line.row line.is_under_double (prepared cells) ≡ shape_fault_kinds line
 unfolding line_fault_kinds shape_fault_kinds
-kinds_of_cells row under [] = kinds_of_none row under
-kinds_of_cells row under (c ∷ cs) =
+shape_kinds [] line h = kinds_of_none line h
+shape_kinds (c ∷ cs) line h =
     rw (
+      ← h.count,
+      ← h.box,
+      ← h.height,
       length_prepared c cs,
       cells_prepared c cs,
       double_prepared (c ∷ cs),
       lt-ltb 0 (suc (length cs)) (omega arith),
     ) refl
 
--- the faults of a line by its shape
-shape_kinds : (row : ℕ) (under : Bool) (cells : List ℕ) (len : ℕ) (boxed double : Bool)
-    → HasShape cells len boxed double
-    → line_fault_kinds row under (prepared cells) ≡ shape_fault_kinds row under len boxed double
-shape_kinds row under cells len boxed double h =
-    kinds_of_cells row under cells
-    ∙ (λ i. shape_fault_kinds row under (h.count i) (h.box i) (h.height i))
-
 -- ---- the first fault of the lines
 
--- the faults of the first line come first
-told_append : (f g : Option RowFault) (xs ys : List RowFault)
-    → g ≡ told_first f xs
-    → told_first f (xs ++ ys) ≡ told_first g ys
-told_append None g [] ys e = rw e refl
-told_append None g (x ∷ xs) ys e = rw e refl
-told_append (Some h) g xs ys e = rw e refl
+-- the first of two lists
+first_of-append : {A : Type 0} (xs ys : List A)
+    → first_of (xs ++ ys) ≡ option_or (first_of xs) (first_of ys)
+first_of-append [] ys = refl
+first_of-append (x ∷ xs) ys = refl
 
--- The first fault w of all lines is the one that was found before, or else the first of the lines
--- that are left, where the open line has some cells of this shape.
-pub record IsToldBehind (w fault : Option RowFault) (number row : ℕ) (under : Bool) (len : ℕ)
-    (boxed double : Bool) (ss : List (ℕ × TextCode)) : Type 0 where
-  pub cells : List ℕ
-  pub shape : HasShape cells len boxed double
-  pub told : w ≡ told_first fault (line_faults number row under (prepared_lines cells ss))
+-- one of three
+option_or_assoc : {A : Type 0} (a b c : Option A)
+    → option_or (option_or a b) c ≡ option_or a (option_or b c)
+option_or_assoc None b c = refl
+option_or_assoc (Some x) b c = refl
 
--- the text begins
-pub told-start : (vp : ℕ) (ss : List (ℕ × TextCode))
-    → IsToldBehind (first_of (line_faults 0 vp false (prepared_lines [] ss))) None 0 vp false 0
-    false false ss
-told-start vp ss = record {
-  cells = [];
-  shape = shape-none;
-  told = refl;
-}
+-- the faults of the open line come before those of the lines under it
+told_line : (before : Option RowFault) (cells : List ℕ) (line : OpenLine) (ls : List (List ℕ))
+    → HasShape cells line
+    → option_or (told_first before line)
+    (first_of (line_faults (line.number + 1) (line.row + 1) line.is_double ls))
+    ≡ option_or before
+    (first_of (line_faults line.number line.row line.is_under_double (prepared cells ∷ ls)))
+told_line before cells line ls h =
+    rw (
+      shape_kinds cells line h,
+      double_prepared cells,
+      h.height,
+      first_of-append (map (fault_of line.number) (shape_fault_kinds line)) _,
+    ) (option_or_assoc before _ _)
 
--- a cell
-pub told-cell : (w f : Option RowFault) (number row : ℕ) (under : Bool) (len : ℕ)
-    (boxed double : Bool) (ss rest : List (ℕ × TextCode)) (at code : ℕ) (s : TextCode)
-    → IsToldBehind w f number row under len boxed double ss
-    → ss ≡ (at, s) ∷ rest
-    → s ≡ Cell code
-    → IsToldBehind w f number row under (len + 1) (boxed || (code == start_box))
-    (double || (code == double_height)) rest
-told-cell w f number row under len boxed double ss rest at code s h step is = record {
-  cells = h.cells ++ code ∷ [];
-  shape = shape-push h.cells code len boxed double h.shape;
-  told =
-      h.told
-      ∙ ap (λ ls. told_first f (line_faults number row under ls))
-      (prepared_lines-cell h.cells at code s ss rest step is);
-}
+-- What is told: a refused code, or else a fault that was found before, or else the first of the
+-- lines that are left, where the open line has some cells of its shape.
+abbrev IsTold : List (ℕ × TextCode) → Type 0
+IsTold ss =
+    (before : Option RowFault) (cells : List ℕ) (line : OpenLine)
+    → HasShape cells line
+    → told before line ss
+    ≡ option_or (first_of (refusals ss)) (option_or before (first_of
+    (line_faults line.number line.row line.is_under_double (prepared_lines cells ss))))
 
--- the faults of the open line by its shape, as told
-told_line : (f g : Option RowFault) (number row : ℕ) (under : Bool) (cells : List ℕ) (len : ℕ)
-    (boxed double : Bool) (lines : List (List ℕ))
-    → HasShape cells len boxed double
-    → g ≡ told_first f (map (fault_of number) (shape_fault_kinds row under len boxed double))
-    → told_first f (line_faults number row under (prepared cells ∷ lines))
-    ≡ told_first g (line_faults (number + 1) (row + 1) double lines)
-told_line f g number row under cells len boxed double lines h is =
-    told_append f g (map (fault_of number) (line_fault_kinds row under (prepared cells)))
-    (line_faults (number + 1) (row + 1) (is_double (prepared cells)) lines)
-    (is ∙ ap (λ kinds. told_first f (map (fault_of number) kinds))
-    (sym (shape_kinds row under cells len boxed double h)))
-    ∙ ap (λ d. told_first g (line_faults (number + 1) (row + 1) d lines))
-    (double_prepared cells ∙ h.height)
+-- of one text code and those after it
+told-code : (at : ℕ) (s : TextCode) (ss : List (ℕ × TextCode)) → IsTold ss → IsTold ((at, s) ∷ ss)
+told-code at (Cell code) ss after before cells line h =
+    rw (onto_code cells code (lines_of ss))
+    (after before (cells ++ code ∷ []) (with_cell line code) (shape-push cells code line h))
+told-code at NoCell ss after before cells line h = after before cells line h
+told-code at NewLine ss after before cells line h =
+    rw (onto_line_end cells (lines_of ss))
+    (after (told_first before line) [] (line_under line) (shape-none _ _ _)
+    ∙ ap (option_or (first_of (refusals ss)))
+    (told_line before cells line (prepared_lines [] ss) h))
+told-code at (Refused kind) ss after before cells line h = refl
 
--- the end of a line
-pub told-line_end : (w f g : Option RowFault) (number row : ℕ) (under : Bool) (len : ℕ)
-    (boxed double : Bool) (ss rest : List (ℕ × TextCode)) (at : ℕ) (s : TextCode)
-    → IsToldBehind w f number row under len boxed double ss
-    → ss ≡ (at, s) ∷ rest
-    → s ≡ NewLine
-    → g ≡ told_first f (map (fault_of number) (shape_fault_kinds row under len boxed double))
-    → IsToldBehind w g (number + 1) (row + 1) double 0 false false rest
-told-line_end w f g number row under len boxed double ss rest at s h step is e = record {
-  cells = [];
-  shape = shape-none;
-  told =
-      h.told
-      ∙ ap (λ ls. told_first f (line_faults number row under ls))
-      (prepared_lines-line_end h.cells at s ss rest step is)
-      ∙ told_line f g number row under h.cells len boxed double (prepared_lines [] rest) h.shape e;
-}
+-- of all
+told-is : (ss : List (ℕ × TextCode)) → IsTold ss
+told-is [] before cells line h =
+    rw (onto_line_end cells [], shape_kinds cells line h, append-nil) refl
+told-is (c ∷ ss) before cells line h = told-code c.0 c.1 ss (told-is ss) before cells line h
 
--- a fault of no lines is the one before
-told_no_more : (g : Option RowFault) → told_first g [] ≡ g
-told_no_more None = refl
-told_no_more (Some f) = refl
-
--- the end of the text, in which no code is refused
-pub told-end : (n : National) (w f g : Option RowFault) (number row : ℕ) (under : Bool) (len : ℕ)
-    (boxed double : Bool) (at : ℕ) (text : List ℕ)
-    → IsToldBehind w f number row under len boxed double (text_codes n at (drop at text))
-    → length text ≤ at
-    → g ≡ told_first f (map (fault_of number) (shape_fault_kinds row under len boxed double))
-    → g ≡ w
-told-end n w f g number row under len boxed double at text h past e =
-    sym (h.told
-    ∙ ap (λ ls. told_first f (line_faults number row under ls))
-    (prepared_lines-end n h.cells at text past)
-    ∙ told_line f g number row under h.cells len boxed double [] h.shape e
-    ∙ told_no_more g)
-
--- ---- refused codes come first
-
-pub refused-none : (rs fs : List RowFault) (g : Option RowFault)
-    → first_of rs ≡ None
-    → g ≡ first_of fs
-    → g ≡ first_of (rs ++ fs)
-refused-none [] fs g h e = e
-refused-none (r ∷ rs) fs g h e = cc
-
--- nothing is refused after the end of the text
-pub refused-end : (n : National) (o : Option RowFault) (at : ℕ) (text : List ℕ)
-    → o ≡ first_of (refusals (text_codes n at (drop at text)))
-    → length text ≤ at
-    → o ≡ None
-refused-end n o at text h past =
-    h ∙ at_drop_all (λ bytes. first_of (refusals (text_codes n at bytes))) text at past
+-- the first fault of a subtitle. For `first_fault`
+pub told-faults : (n : National) (t : SubtitleValue)
+    → told None (empty_line 0 t.vp false) (text_codes n 0 t.text) ≡ first_of (faults n t)
+told-faults n t =
+    told-is (text_codes n 0 t.text) None [] (empty_line 0 t.vp false) (shape-none 0 t.vp false)
+    ∙ sym (first_of-append (refusals (text_codes n 0 t.text)) _)

@@ -1,7 +1,9 @@
 -- Lines put on a page one after another, as the code draws them, and what of a line its faults
 -- depend on. No public clause cites this.
-use Rattle.std.specs.Prelude.{◌≡◌, ℕ, ◌+◌, ◌-◌, ◌<◌, ◌≤◌, Bool, ◌&&◌, List, [], ◌∷◌, ◌++◌, Option, Some, None}
-use Rattle.std.specs.Prelude.{◌==◌, nat_lt, if◌then◌else◌, length, map, slice_set}
+use Rattle.std.specs.Prelude.{◌≡◌, ℕ, ◌+◌, ◌-◌, ◌<◌, ◌≤◌, Bool, false, ◌&&◌, ◌||◌, List, [], ◌∷◌}
+use Rattle.std.specs.Prelude.{◌++◌, Option, Some, ◌==◌, nat_lt, if◌then◌else◌, length, map}
+use Rattle.std.specs.Prelude.{slice_set}
+use Rattle.std.specs.Option.{option_or}
 use Rattle.std.specs.List.{onto_first}
 use Rattle.ttx_page.specs.Page.{Rows}
 use Rattle.stl_rows.specs.declared.fault.RowFault.{RowFault}
@@ -9,8 +11,11 @@ use Rattle.stl_rows.specs.declared.fault.RowFaultKind.{RowFaultKind}
 use Rattle.stl_rows.specs.declared.fault.RowFaultKind.TheVariants.{RowTooLong, PastBottom}
 use Rattle.stl_rows.specs.declared.fault.RowFaultKind.TheVariants.{DoubleRow, Hidden}
 use Rattle.stl_rows.specs.declared.text_code.TextCode.{TextCode}
-use Rattle.stl_rows.specs.TextCode.{first_of, lines_of}
-use Rattle.stl_rows.specs.Line.{columns, is_boxed, is_double, prepared, row_of}
+use Rattle.stl_rows.specs.declared.text_code.TextCode.TheVariants.{Cell, NoCell, NewLine, Refused}
+use Rattle.stl_rows.specs.declared.text_faults.OpenLine.{OpenLine}
+use Rattle.stl_rows.specs.TextCode.{fault_of, first_of, lines_of}
+use Rattle.stl_rows.specs.Line.{columns, double_height, is_boxed, is_double, prepared, row_of}
+use Rattle.stl_rows.specs.Line.{start_box}
 use Rattle.stl_rows.specs.DrawnPage.{last_row, when}
 
 -- ---- lines
@@ -37,22 +42,60 @@ pub record FitsRow (row : ℕ) (cells : List ℕ) : Type 0 where
 
 -- ---- faults
 
--- What of the cells of a line its faults depend on.
-pub record HasShape (cells : List ℕ) (len : ℕ) (boxed double : Bool) : Type 0 where
-  pub count : length cells ≡ len
-  pub box : is_boxed cells ≡ boxed
-  pub height : is_double cells ≡ double
+-- What of the cells of a line its faults depend on is as the open line has it.
+pub record HasShape (cells : List ℕ) (line : OpenLine) : Type 0 where
+  pub count : length cells ≡ line.len
+  pub box : is_boxed cells ≡ line.is_boxed
+  pub height : is_double cells ≡ line.is_double
 
--- What is wrong with a line of `len` cells, in order: the line gets two codes on each side where
--- it has no start box of its own.
-unfoldable pub shape_fault_kinds : ℕ → Bool → ℕ → Bool → Bool → List RowFaultKind
-shape_fault_kinds row is_under_double len boxed double =
-    when (nat_lt columns (if boxed then len else len + 4)) RowTooLong
-    ++ when (nat_lt 0 len && nat_lt last_row row) PastBottom
-    ++ when (double && (row == last_row)) DoubleRow
-    ++ when (nat_lt 0 len && is_under_double) Hidden
+-- The line with a cell more.
+abbrev pub with_cell : OpenLine → ℕ → OpenLine
+with_cell line code =
+    record line {
+      len = line.len + 1;
+      is_boxed = line.is_boxed || (code == start_box);
+      is_double = line.is_double || (code == double_height);
+    }
 
--- A fault that was found before, or else the first of these.
-abbrev pub told_first : Option RowFault → List RowFault → Option RowFault
-told_first None faults = first_of faults
-told_first (Some fault) faults = Some fault
+-- A line without cells yet.
+abbrev pub empty_line : ℕ → ℕ → Bool → OpenLine
+empty_line number row is_under_double =
+    record {
+      number = number;
+      row = row;
+      is_under_double = is_under_double;
+      len = 0;
+      is_boxed = false;
+      is_double = false;
+    }
+
+-- The line under it.
+abbrev pub line_under : OpenLine → OpenLine
+line_under line = empty_line (line.number + 1) (line.row + 1) line.is_double
+
+-- What is wrong with a line, in order: it gets two codes on each side where it has no start box of
+-- its own.
+unfoldable pub shape_fault_kinds : OpenLine → List RowFaultKind
+shape_fault_kinds line =
+    when (nat_lt columns (if line.is_boxed then line.len else line.len + 4)) RowTooLong
+    ++ when (nat_lt 0 line.len && nat_lt last_row line.row) PastBottom
+    ++ when (line.is_double && (line.row == last_row)) DoubleRow
+    ++ when (nat_lt 0 line.len && line.is_under_double) Hidden
+
+-- A fault that was found before, or else the first of the line.
+abbrev pub told_first : Option RowFault → OpenLine → Option RowFault
+told_first before line =
+    option_or before (first_of (map (fault_of line.number) (shape_fault_kinds line)))
+
+-- What is told of a text code, and of those after it.
+abbrev pub told_of_code : ℕ → TextCode → Option RowFault → OpenLine
+    → (Option RowFault → OpenLine → Option RowFault) → Option RowFault
+told_of_code at (Cell code) before line next = next before (with_cell line code)
+told_of_code at NoCell before line next = next before line
+told_of_code at NewLine before line next = next (told_first before line) (line_under line)
+told_of_code at (Refused kind) before line next = Some (fault_of at kind)
+
+-- What is told of text codes, where a fault was found before or not and a line is open.
+abbrev pub told : Option RowFault → OpenLine → List (ℕ × TextCode) → Option RowFault
+told before line [] = told_first before line
+told before line (c ∷ codes) = told_of_code c.0 c.1 before line (λ f l. told f l codes)

@@ -1,11 +1,10 @@
 //! What keeps a subtitle from being drawn, found in one reading of its text.
 
-ghost use Rattle.std.specs.Prelude.{◌≡◌, ◌+◌, ◌<◌, ◌≤◌, ◌++◌, ◌||◌, ◌==◌, length, map};
-ghost use Rattle.std.specs.Prelude.{[], IsOk, MatchOption, Err, false};
-ghost use Rattle.stl_rows.specs.DrawnPage.{drawn, line_faults};
-ghost use Rattle.stl_rows.specs.Line.{double_height, start_box};
-ghost use Rattle.stl_rows.specs.LineByLine.{prepared_lines, shape_fault_kinds, told_first};
-ghost use Rattle.stl_rows.specs.TextCode.{fault_of, first_of, refusals, text_codes};
+ghost use Rattle.std.specs.Prelude.{◌≡◌, ◌<◌, ◌≤◌, length, IsOk, MatchOption, Err, None, false};
+ghost use Rattle.stl_rows.specs.DrawnPage.{drawn};
+ghost use Rattle.stl_rows.specs.LineByLine.{empty_line, line_under, shape_fault_kinds, told};
+ghost use Rattle.stl_rows.specs.LineByLine.{told_first, with_cell};
+ghost use Rattle.stl_rows.specs.TextCode.{first_of, text_codes};
 
 use crate::fault::{RowFault, RowFaultKind};
 use crate::national::National;
@@ -27,14 +26,7 @@ struct OpenLine {
 impl OpenLine {
     // The first line, which goes to row VP.
     fn first(vp: u8) -> OpenLine
-        ensures { result ≡ record {
-          number = 0;
-          row = vp;
-          is_under_double = false;
-          len = 0;
-          is_boxed = false;
-          is_double = false;
-        } }
+        ensures { result ≡ empty_line 0 vp false }
     {
         OpenLine {
             number: 0,
@@ -49,11 +41,7 @@ impl OpenLine {
     // Adds a cell.
     fn push(&mut self, cell: u8)
         requires { self.old.len < 1008 }
-        ensures { self.new ≡ record self.old {
-          len = self.old.len + 1;
-          is_boxed = self.old.is_boxed || (cell == start_box);
-          is_double = self.old.is_double || (cell == double_height);
-        } }
+        ensures { self.new ≡ with_cell self.old cell }
     {
         self.len += 1;
         self.is_boxed = self.is_boxed || cell == 0x0B;
@@ -64,14 +52,7 @@ impl OpenLine {
     fn end(&mut self)
         requires number { self.old.number ≤ 1008 }
         requires row { self.old.row ≤ 1031 }
-        ensures { self.new ≡ record {
-          number = self.old.number + 1;
-          row = self.old.row + 1;
-          is_under_double = self.old.is_double;
-          len = 0;
-          is_boxed = false;
-          is_double = false;
-        } }
+        ensures { self.new ≡ line_under self.old }
     {
         *self = OpenLine {
             number: self.number + 1,
@@ -87,8 +68,7 @@ impl OpenLine {
     #[tactic(auto, unfolding(crate::specs::LineByLine::shape_fault_kinds))]
     fn fault_kind(&self) -> Option<RowFaultKind>
         requires { self.now.len ≤ 1008 }
-        ensures { result ≡ first_of (shape_fault_kinds self.now.row self.now.is_under_double
-            self.now.len self.now.is_boxed self.now.is_double) }
+        ensures { result ≡ first_of (shape_fault_kinds self.now) }
     {
         let room = if self.is_boxed { 40 } else { 36 };
         if self.len > room {
@@ -109,9 +89,7 @@ impl OpenLine {
     // The fault that was found before the line, or else the first of the line.
     fn first_fault(&self, before: Option<RowFault>) -> Option<RowFault>
         requires { self.now.len ≤ 1008 }
-        ensures { result ≡ told_first before (map (fault_of self.now.number) (shape_fault_kinds
-            self.now.row self.now.is_under_double self.now.len self.now.is_boxed
-            self.now.is_double)) }
+        ensures { result ≡ told_first before self.now }
     {
         if before.is_some() {
             return before;
@@ -131,8 +109,7 @@ impl OpenLine {
 fn fault_of_text(national: National, vp: u8, text: &[u8]) -> Option<RowFault>
     requires last { vp ≤ 23 }
     requires short { length text.now ≤ 1008 }
-    ensures { result ≡ first_of (refusals (text_codes national 0 text.now)
-        ++ line_faults 0 vp false (prepared_lines [] (text_codes national 0 text.now))) }
+    ensures { result ≡ told None (empty_line 0 vp false) (text_codes national 0 text.now) }
 {
     let mut fault = None;
     let mut line = OpenLine::first(vp);
