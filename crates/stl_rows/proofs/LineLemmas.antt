@@ -1,50 +1,77 @@
--- What a row with a line holds: row_of-from_codes.
-use Rattle.std.proofs.Common.{◌≡◌, ℕ, ◌+◌, ◌-◌, ◌<◌, ◌≤◌, List, length, get_or, replicate, arith}
-use Rattle.std.proofs.Common.{inl, inr, lit<}
-use Rattle.std.proofs.lemmas.List.{get_or-replicate, get_or_past, length-replicate}
-use Rattle.std.proofs.lemmas.List.FromFn.{fill_by_all}
-use Rattle.std.proofs.lemmas.Bool.{cases_lt}
+-- The row that shows a line: row_of-put says what it holds, row_small that it holds codes alone.
+use Rattle.std.proofs.Common.{◌≡◌, ℕ, zero, suc, ◌+◌, ◌-◌, ◌<◌, ◌≤◌, nat_le, List, [], ◌∷◌, ◌++◌, length}
+use Rattle.std.proofs.Common.{map, get_or, take, drop, replicate, arith, lit<, ap, ◌∙◌}
+use Rattle.std.proofs.lemmas.Bool.{cond_both}
 use Rattle.std.proofs.lemmas.Bool.Decides.{nat_tests}
-use Rattle.ttx_page.specs.Page.{space}
+use Rattle.std.proofs.lemmas.List.{get_or-replicate, get_or_past, length-replicate, places}
+use Rattle.std.proofs.lemmas.List.Elements.{All-from_get_or, recursion_from_All}
+use Rattle.std.proofs.lemmas.List.FromFn.{fill_by_all, length-map-range_with_len}
+use Rattle.std.specs.List.{range_with_len, AllByRecursion}
+use Rattle.ttx_page.specs.Page.{AreCodes, space}
 use Rattle.stl_rows.specs.Line.{code_in_column, row_of, start_column}
 
--- the codes of a row, from what is known at each column
-pub row_of-from_codes : (jc start : ℕ) (line codes : List ℕ)
+-- a line that is put on a row of spaces: for `row_codes`
+pub row_of-put : (jc start : ℕ) (line row : List ℕ)
     → start ≡ start_column jc (length line)
-    → length codes ≡ 40
-    → ((k : ℕ) → k < start → get_or codes k 0 ≡ 32)
-    → ((k : ℕ) → start ≤ k → k < start + length line → get_or codes k 0 ≡ get_or line (k - start)
-    32)
-    → ((k : ℕ) → start + length line ≤ k → k < 40 → get_or codes k 0 ≡ 32)
-    → codes ≡ row_of jc line
+    → start + length line ≤ 40
+    → row ≡ replicate 40 space
+    → take start row ++ (line ++ drop (start + length line - start) (drop start row))
+    ≡ row_of jc line
 unfolding row_of
-row_of-from_codes jc start line codes e size before done after =
-    fill_by_all (code_in_column (start_column jc (length line)) line) codes 40 0 size
-    (λ k h. rw (← e)
-    (elim (cases_lt k start) [
-      | inl low ↦ grind (arith, nat_tests, before k low)
-      | inr high ↦
-          elim (cases_lt k (start + length line)) [
-            | inl inside ↦ grind (arith, nat_tests, done k high inside)
-            | inr past ↦ grind (
-              arith,
-              nat_tests,
-              after k past h,
-              get_or_past line (k - start) 32
-                  (omega arith),
-            )
-          ]
-    ]))
+row_of-put jc start line row e room is =
+    let long : length row ≡ 40 = ap length is ∙ length-replicate 40 space in
+    let blank : (k : ℕ) → k < 40 → get_or row k 0 ≡ space =
+    λ k l. rw is (get_or-replicate 40 k space 0 l) in
+    rw (← e)
+    (fill_by_all (code_in_column start line) _ 40 0 (grind (arith, places))
+    (λ k h. grind (arith, nat_tests, places, blank, get_or_past line (k - start) space)))
 
--- an empty row of codes
-pub spaces_at : (k : ℕ) → k < 40 → get_or (replicate 40 space) k 0 ≡ 32
-spaces_at k h = get_or-replicate 40 k space 0 h
+-- each cell is a code
+abbrev pub Small : List ℕ → Type 0
+Small codes = AllByRecursion (λ (c : ℕ). c < 128) codes
 
--- a space is a code
-pub small_spaces : (k : ℕ) → get_or (replicate 40 space) k 0 < 128
-small_spaces k =
-    elim (cases_lt k 40) [
-      | inl h ↦ rw (get_or-replicate 40 k space 0 h) (lit< tt)
-      | inr h ↦ rw (get_or_past (replicate 40 space) k 0 (rw (length-replicate 40 space) h))
-          (lit< tt)
-    ]
+-- what holds of each of a list, and of the value for none, holds of what is at a place
+pub holds_at : {X : Type 0} (P : X → Type 0) (xs : List X) (k : ℕ) (d : X)
+    → P d
+    → AllByRecursion P xs
+    → P (get_or xs k d)
+holds_at P [] k d none h = none
+holds_at P (x ∷ xs) zero d none h = h.0
+holds_at P (x ∷ xs) (suc k) d none h = holds_at P xs k d none h.1
+
+-- what holds of all that a function gives holds of each of a list that is made by it
+pub holds_map : {X Y : Type 0} (P : Y → Type 0) (f : X → Y) (xs : List X)
+    → ((x : X) → P (f x))
+    → AllByRecursion P (map f xs)
+holds_map P f [] h = tt
+holds_map P f (x ∷ xs) h = (h x, holds_map P f xs h)
+
+-- what a column shows of a line of codes is a code
+cell_small : (start column : ℕ) (line : List ℕ)
+    → Small line
+    → code_in_column start line column < 128
+cell_small start column line h =
+    cond_both (nat_le start column) _ space (λ c. c < 128)
+    (λ _. holds_at (λ c. c < 128) line (column - start) space (lit< tt) h) (λ _. lit< tt)
+
+-- a row has 40 cells
+pub row_length : (jc : ℕ) (line : List ℕ) → length (row_of jc line) ≡ 40
+unfolding row_of
+row_length jc line =
+    length-map-range_with_len (code_in_column (start_column jc (length line)) line) 0 40
+
+-- a row that shows a line of codes holds codes alone
+pub row_small : (jc : ℕ) (line : List ℕ) → Small line → Small (row_of jc line)
+unfolding row_of
+row_small jc line h =
+    let start : ℕ = start_column jc (length line) in
+    holds_map (λ c. c < 128) (code_in_column start line) (range_with_len 0 40)
+    (λ column. cell_small start column line h)
+
+-- so it does where each column of the line does: for `row_codes`
+pub row_of-codes : (jc : ℕ) (line : List ℕ) → AreCodes line → AreCodes (row_of jc line)
+row_of-codes jc line codes column =
+    holds_at (λ c. c < 128) (row_of jc line) column 0 (lit< tt)
+    (row_small jc line
+    (recursion_from_All (λ c. c < 128) line
+    (All-from_get_or (λ c. c < 128) line 0 (λ k l. codes k))))

@@ -1,20 +1,20 @@
 -- Each due page is a page, 24 rows of 40 codes below 128: due_is_page.
-use Rattle.std.proofs.Common.{◌≡◌, ℕ, zero, suc, ◌+◌, ◌-◌, ◌<◌, not, ◌&&◌, ◌==◌, nat_le, nat_lt}
-use Rattle.std.proofs.Common.{List, [], ◌∷◌, ◌++◌, length, map, get_or, Option, Some, None, refl, arith}
+use Rattle.std.proofs.Common.{ℕ, zero, suc, ◌+◌, ◌-◌, ◌<◌, not, ◌&&◌, ◌==◌, nat_le, nat_lt}
+use Rattle.std.proofs.Common.{List, [], ◌∷◌, ◌++◌, map, get_or, Option, Some, None, refl, arith}
 use Rattle.std.proofs.Common.{lit<}
 use Rattle.std.specs.List.{range_with_len, onto_first, AllByRecursion}
 use Rattle.std.specs.Prelude.{⊤}
 use Rattle.std.proofs.lemmas.Bool.{cond_both}
 use Rattle.std.proofs.lemmas.Bool.Decides.{nat_tests}
 use Rattle.std.proofs.lemmas.List.FromFn.{get_or-map-range_with_len, length-map-range_with_len}
-use Rattle.ttx_page.specs.Page.{space, IsPage}
+use Rattle.ttx_page.specs.Page.{IsPage}
 use Rattle.ttx_page.proofs.PageLemmas.{is_page_blank}
 use Rattle.stl_file.specs.Subtitle.{SubtitleValue}
 use Rattle.stl_rows.specs.declared.text_code.TextCode.{TextCode}
 use Rattle.stl_rows.specs.declared.text_code.TextCode.TheVariants.{Cell, NoCell, NewLine, Refused}
 use Rattle.stl_rows.specs.DrawnPage.{line_on, lines, page_of_lines}
 use Rattle.stl_rows.specs.DuePage.{due}
-use Rattle.stl_rows.specs.Line.{code_in_column, has_cells, is_boxed, prepared, row_of, start_column}
+use Rattle.stl_rows.specs.Line.{has_cells, is_boxed, prepared, row_of}
 use Rattle.stl_rows.specs.TextCode.{CellEntry, HasSevenBits, cell_in, cell_of, cell_of_letter}
 use Rattle.stl_rows.specs.TextCode.{cell_of_pair, cell_or_other, cells, code_before, text_code}
 use Rattle.stl_rows.specs.TextCode.{code_of_other, codes_after, diaeresis, diaeresis_cells}
@@ -23,10 +23,7 @@ use Rattle.stl_rows.specs.TextCode.{pair_or_single, text_codes, with_code}
 use Rattle.stl_rows.specs.declared.national.National.{National}
 use Rattle.stl_rows.specs.declared.national.National.TheVariants.{English, German}
 use Rattle.stl_rows.proofs.DuePageLemmas.{due_has}
-
--- each cell is a code
-abbrev Small : List ℕ → Type 0
-Small codes = AllByRecursion (λ (c : ℕ). c < 128) codes
+use Rattle.stl_rows.proofs.LineLemmas.{Small, holds_at, holds_map, row_length, row_small}
 
 -- ---- the cells of a text
 
@@ -142,44 +139,6 @@ all_prepared [] h = tt
 all_prepared (l ∷ ls) h = (prepared_small l h.0, all_prepared ls h.1)
 
 -- ---- the rows of a page
-
--- what holds of each of a list, and of the value for none, holds of what is at a place
-holds_at : {X : Type 0} (P : X → Type 0) (xs : List X) (k : ℕ) (d : X)
-    → P d
-    → AllByRecursion P xs
-    → P (get_or xs k d)
-holds_at P [] k d none h = none
-holds_at P (x ∷ xs) zero d none h = h.0
-holds_at P (x ∷ xs) (suc k) d none h = holds_at P xs k d none h.1
-
--- what holds of all that a function gives holds of each of a list that is made by it
-holds_map : {X Y : Type 0} (P : Y → Type 0) (f : X → Y) (xs : List X)
-    → ((x : X) → P (f x))
-    → AllByRecursion P (map f xs)
-holds_map P f [] h = tt
-holds_map P f (x ∷ xs) h = (h x, holds_map P f xs h)
-
--- what a column shows of a line of codes is a code
-cell_small : (start column : ℕ) (line : List ℕ)
-    → Small line
-    → code_in_column start line column < 128
-cell_small start column line h =
-    cond_both (nat_le start column) _ space (λ c. c < 128)
-    (λ _. holds_at (λ c. c < 128) line (column - start) space (lit< tt) h) (λ _. lit< tt)
-
--- a row has 40 cells
-row_length : (jc : ℕ) (line : List ℕ) → length (row_of jc line) ≡ 40
-unfolding row_of
-row_length jc line =
-    length-map-range_with_len (code_in_column (start_column jc (length line)) line) 0 40
-
--- a row that shows a line of codes holds codes alone
-row_small : (jc : ℕ) (line : List ℕ) → Small line → Small (row_of jc line)
-unfolding row_of
-row_small jc line h =
-    let start : ℕ = start_column jc (length line) in
-    holds_map (λ c. c < 128) (code_in_column start line) (range_with_len 0 40)
-    (λ column. cell_small start column line h)
 
 -- the page that shows lines of codes is a page
 page_is :

@@ -64,8 +64,6 @@ pub(crate) fn row_codes(jc: u8, line: &[u8]) -> [u8; 40]
 {
     let start = start_of(jc, line.len());
     let mut codes = [0x20; 40];
-    for column in start..start + line.len() {
-        codes[column] = line[column - start];
-    }
+    codes[start..start + line.len()].copy_from_slice(line);
     codes
 }

@@ -1,19 +1,14 @@
--- The codes are those of the row: row_of-from_codes.
-use Rattle.std.proofs.Common.{arith, rules}
-use Rattle.stl_rows.proofs.LineLemmas.{row_of-from_codes, spaces_at, small_spaces}
+-- The line is put on a row of spaces: row_of-put, row_of-codes.
+use Rattle.std.proofs.Common.{refl}
+use Rattle.stl_rows.proofs.LineLemmas.{row_of-codes, row_of-put}
 use Rattle.stl_rows.proofs.line.row_codes.Goals as goal
 
-pub returns-clause-value : goal.returns-clause-value
-returns-clause-value c =
-    let i = c.loop-column.invariant in
-    row_of-from_codes _ _ _ _ c.start_of-start.ensures.value i.size i.before
-    (λ k low high. i.done k low (omega arith)) (λ k low high. i.after k (omega arith) high)
-
-pub loop-column-init : goal.loop-column-init
-loop-column-init c = record {
-  size = search rules;
-  before = λ k h. spaces_at k (omega arith);
-  done = λ k low high. absurd (omega arith);
-  after = λ k low high. spaces_at k high;
-  codes = small_spaces;
-}
+pub returns : goal.returns
+returns c =
+    let value =
+    row_of-put c.args.jc c.start_of-start.result c.args.line.now _ c.start_of-start.ensures.value
+    c.start_of-start.ensures.within refl in
+    rw c.copy_from_slice.ensures.after (record {
+      value = value;
+      codes = rw value (row_of-codes c.args.jc c.args.line.now c.requires.codes);
+    })
