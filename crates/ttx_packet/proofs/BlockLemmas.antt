@@ -1,18 +1,19 @@
--- Lists gone over in blocks: block_at, what a store of a block leaves (store_block) and of a byte
--- (store_byte), and the whole list at the end (stored_whole).
-use Rattle.std.proofs.Common.{◌≡◌, ℕ, zero, suc, ◌+◌, ◌*◌, ◌<◌, ◌≤◌, List, [], ◌∷◌, ◌++◌, map}
-use Rattle.std.proofs.Common.{length}
-use Rattle.std.proofs.Common.{get_or, take, drop, sym, ap, ap₂, ◌∙◌, take_all, arith, subst, inl}
-use Rattle.std.proofs.Common.{inr}
-use Rattle.std.proofs.lemmas.List.{map-append, take_more, take_more_set, drop-drop, get_or_past}
-use Rattle.std.proofs.lemmas.Bool.{cases_lt}
-use Rattle.std.proofs.lemmas.Simd.{length-chunk, get_or-chunk}
+-- Lists gone over in blocks: block_of, what a store of a block leaves (block_more), and the first
+-- item that passes a test, by the masks of blocks (first_so_far).
+use Rattle.std.proofs.Common.{◌≡◌, ℕ, zero, suc, ◌+◌, ◌*◌, ◌/◌, ◌^◌, ◌<◌, ◌≤◌, Bool, true, false, not}
+use Rattle.std.proofs.Common.{List, [], ◌∷◌, ◌++◌, map, length, get_or, take, drop, sym, ap, ap₂, ◌∙◌}
+use Rattle.std.proofs.Common.{take_all, arith, w16}
+use Rattle.std.proofs.lemmas.List.{map-append, drop-drop, get_or_past, length-map}
+use Rattle.std.proofs.lemmas.Nat.Bits.{bit_at-trailing_zeros}
+use Rattle.std.proofs.lemmas.Simd.{length-chunk, get_or-chunk, mask_l-lt, trailing_mask_l}
+use Rattle.std.proofs.lemmas.Simd.{none_from_empty_mask, run_in_chunk_stops, run_in_chunk_fails}
 use Rattle.std.proofs.lemmas.Slice.{take-put_mid}
-use Rattle.std.proofs.Math.ListN.{set}
+use Rattle.std.specs.List.{prefix_len}
 use Rattle.std.specs.Simd.{first_chunks}
-use borrow.Rule.Slice.PartMut.{put_mid}
+use borrow.Rule.Slice.PartMut.{mid_of, put_mid, same_len_mid}
+use lib.Count.{count_trailing_zeros}
 use lib.Seq.{take-add}
-use lib.Lanes.{chunk}
+use lib.Lanes.{chunk, mask_l}
 
 -- A block of a list is the chunk at its place.
 pub block_at : (n k : ℕ) (xs : List ℕ) (i : ℕ) → i < k
@@ -24,6 +25,13 @@ block_at n (suc k) xs (suc i) l =
     block_at n k (drop n xs) i (omega arith)
     ∙ ap (take n) (drop-drop (n * i) n xs ∙ ap (λ m. drop m xs) e)
 
+-- The same, of the blocks that `as_chunks` gives.
+pub block_of : (blocks : List (List ℕ)) (n : ℕ) (xs : List ℕ) (i : ℕ)
+    → blocks ≡ first_chunks n (length xs / n) xs
+    → i < length xs / n
+    → get_or blocks i [] ≡ chunk (n * i) n xs
+block_of blocks n xs i e l = rw e (block_at n (length xs / n) xs i l)
+
 -- What is so of all bytes of a list, and of 0, is so of those of a block.
 pub below_in_chunk : (b a n : ℕ) (xs : List ℕ)
     → a + n ≤ length xs
@@ -31,48 +39,96 @@ pub below_in_chunk : (b a n : ℕ) (xs : List ℕ)
     → (k : ℕ)
     → get_or (chunk a n xs) k 0 < b
 below_in_chunk b a n xs room below k =
-    elim (cases_lt k n) [
-      | inl within ↦ subst (λ (x : ℕ). x < b) (sym (get_or-chunk a n xs k 0 within)) (below (a + k))
-      | inr past ↦
-          let size : length (chunk a n xs) ≤ k = omega (arith, length-chunk a n xs room) in
-          subst (λ (x : ℕ). x < b) (sym (get_or_past (chunk a n xs) k 0 size))
-          (omega (arith, below (length xs)))
-    ]
+    let inside = get_or-chunk a n xs k 0 in
+    let past = get_or_past (chunk a n xs) k 0 in
+    let size = length-chunk a n xs room in
+    let here = below (a + k) in
+    grind arith
 
--- Where the first a bytes are f of those of xs, a block of f of its next w makes them more.
-pub store_block : (f : ℕ → ℕ) (xs out ys : List ℕ) (a w k m : ℕ)
+-- ---- lists that are made block by block
+
+-- The first bytes of a list of n are f of those of another.
+pub record IsMadeTo (f : ℕ → ℕ) (xs : List ℕ) (n to : ℕ) (out : List ℕ) : Type 0 where
+  pub size : length out ≡ n
+  pub done : take to out ≡ map f (take to xs)
+
+-- A block of f of the next bytes makes them more.
+pub block_more : (f : ℕ → ℕ) (xs out ys : List ℕ) (n a w k m : ℕ)
     → m ≡ a + w
-    → take a out ≡ map f (take a xs)
+    → k ≡ w
+    → length xs ≡ n
+    → m ≤ n
     → ys ≡ map f (chunk a w xs)
-    → length ys ≡ w
-    → a ≤ length out
-    → take m (put_mid a k out ys) ≡ map f (take m xs)
-store_block f xs out ys a w k m e front block long within =
-    take-put_mid a k out ys m (e ∙ ap (λ n. a + n) (sym long)) within
-    ∙ ap₂ (λ x y. x ++ y) front block
-    ∙ sym (map-append f (take a xs) (chunk a w xs))
-    ∙ ap (map f) (sym (take-add a w xs) ∙ ap (λ n. take n xs) (sym e))
+    → IsMadeTo f xs n a out
+    → IsMadeTo f xs n m (put_mid a k out ys)
+block_more f xs out ys n a w k m e width size room block to =
+    let long : length ys ≡ w =
+    ap length block ∙ length-map (chunk a w xs) f ∙ length-chunk a w xs (omega arith) in
+    let middle : length (mid_of a k out) ≡ k = length-chunk a k out (omega (arith, to.size)) in
+    record {
+      size = same_len_mid a k out ys (long ∙ sym (middle ∙ width)) ∙ to.size;
+      done = take-put_mid a k out ys m (e ∙ ap (λ n. a + n) (sym long)) (omega (arith, to.size))
+          ∙ ap₂ (λ x y. x ++ y) to.done block
+          ∙ sym (map-append f (take a xs) (chunk a w xs))
+          ∙ ap (map f) (sym (take-add a w xs) ∙ ap (λ n. take n xs) (sym e));
+    }
 
--- Where the first a bytes are f of those of xs, f of the next byte makes them one more.
-pub store_byte : (f : ℕ → ℕ) (xs out : List ℕ) (a m y : ℕ)
-    → m ≡ a + 1
-    → take a out ≡ map f (take a xs)
-    → y ≡ f (get_or xs a 0)
-    → a < length xs
-    → a < length out
-    → take m (set out a y) ≡ map f (take m xs)
-store_byte f xs out a m y e front byte in_xs in_out =
-    ap (λ n. take n (set out a y)) e
-    ∙ take_more_set out a y in_out
-    ∙ ap₂ (λ x z. x ++ z ∷ []) front byte
-    ∙ sym (map-append f (take a xs) (get_or xs a 0 ∷ []))
-    ∙ ap (map f) (sym (take_more xs a 0 in_xs) ∙ ap (λ n. take n xs) (sym e))
-
--- Where all bytes are f of those of xs, the list is f mapped over xs.
-pub stored_whole : (f : ℕ → ℕ) (xs out : List ℕ) (n : ℕ)
-    → length out ≤ n
-    → length xs ≤ n
-    → take n out ≡ map f (take n xs)
+-- Where all bytes are made, the list is f mapped over the other.
+pub made_whole : (f : ℕ → ℕ) (xs out : List ℕ) (n : ℕ)
+    → length xs ≡ n
+    → IsMadeTo f xs n n out
     → out ≡ map f xs
-stored_whole f xs out n lo lx e =
-    sym (take_all n out lo) ∙ e ∙ ap (map f) (take_all n xs lx)
+made_whole f xs out n size to =
+    sym (take_all n out (omega (arith, to.size)))
+    ∙ to.done
+    ∙ ap (map f) (take_all n xs (omega (arith, size)))
+
+-- ---- the first item that passes a test, by the masks of blocks of 16
+
+-- An empty mask: none up to the end of the block passes, where none did before it.
+pub none_so_far : {X : Type 0} (p : X → Bool) (xs : List X) (a m : ℕ) (d : X)
+    → a + 16 ≤ length xs
+    → m ≡ mask_l (map p (chunk a 16 xs))
+    → m ≡ 0
+    → ((k : ℕ) → k < a → p (get_or xs k d) ≡ false)
+    → (k : ℕ)
+    → k < a + 16
+    → p (get_or xs k d) ≡ false
+none_so_far p xs a m d room e zeroes before k l =
+    let earlier = before k in
+    let here = none_from_empty_mask p xs a 16 d room (sym e ∙ zeroes) k in
+    grind arith
+
+-- The item at a place passes, and none before it does.
+pub record IsFirst {X : Type 0} (p : X → Bool) (xs : List X) (place : ℕ) (d : X) : Type 0 where
+  pub passes : p (get_or xs place d) ≡ true
+  pub before : (k : ℕ) → k < place → p (get_or xs k d) ≡ false
+
+-- Another mask: its lowest bit tells the first item that passes, in the block.
+pub first_so_far : {X : Type 0} (p : X → Bool) (xs : List X) (a m : ℕ) (d : X)
+    → a + 16 ≤ length xs
+    → m ≡ mask_l (map p (chunk a 16 xs))
+    → (m ≡ 0 → ⊥)
+    → ((k : ℕ) → k < a → p (get_or xs k d) ≡ false)
+    → (count_trailing_zeros 64 m < 16) × IsFirst p xs (a + count_trailing_zeros 64 m) d
+first_so_far p xs a m d room e some before =
+    let block = chunk a 16 xs in
+    let size : length (map p block) ≡ 16 = length-map block p ∙ length-chunk a 16 xs room in
+    let mask = mask_l (map p block) in
+    let positive : 0 < mask = omega (arith, some, e) in
+    let short : length block ≤ 16 = omega (arith, length-chunk a 16 xs room) in
+    let counted : count_trailing_zeros 64 m ≡ prefix_len (λ x. not (p x)) block =
+    ap (count_trailing_zeros 64) e ∙ trailing_mask_l p 64 block (omega arith) positive in
+    let narrow = trailing_mask_l p 16 block short positive in
+    let small : mask < 2 ^ 16 = rw size at (mask_l-lt (map p block)) in
+    let lowest = (bit_at-trailing_zeros w16 mask positive small).0 in
+    let within : count_trailing_zeros 64 m < 16 = omega (arith, lowest, narrow, counted) in (
+      within,
+      record {
+        passes = run_in_chunk_stops p xs a 16 (count_trailing_zeros 64 m) d room counted within;
+        before = λ k l.
+            let earlier = before k in
+            let here = run_in_chunk_fails p xs a 16 (count_trailing_zeros 64 m) d room counted k in
+            grind arith;
+      },
+    )

@@ -1,5 +1,4 @@
--- The kernels on lanes, byte by byte: mirror_lanes, even_lanes, odd_lanes; and the first byte of
--- even parity that a mask tells: first_of_block.
+-- The kernels on lanes, byte by byte: mirror_lanes, even_lanes, odd_lanes.
 use Rattle.std.proofs.lemmas.List.{map-id}
 use Rattle.std.proofs.lemmas.Bool.{not-false, not-true}
 use Rattle.std.proofs.Common.{◌≡◌, ℕ, zero, suc, ◌+◌, ◌*◌, ◌/◌, ◌%◌, ◌^◌, ◌-◌, ◌<◌, ◌≤◌, true}
@@ -145,53 +144,6 @@ even_lanes v a b c long fits ea eb ec =
     (ap (map (λ x. nat_eq x 0)) bits
     ∙ map-map (λ x. nat_eq x 0) last_bit v
     ∙ same_lanes (λ x. nat_eq (last_bit x) 0) is_even v 0x100 last_bit_is fits)
-
--- An empty mask of a block: its bytes are odd. For `Packet::first_even`.
-pub odd_block_of_empty_mask : (xs : List ℕ) (i : ℕ)
-    → i + 16 ≤ length xs
-    → evens_mask (chunk i 16 xs) ≡ 0
-    → (k : ℕ)
-    → i ≤ k
-    → k < i + 16
-    → is_odd (get_or xs k 0) ≡ true
-odd_block_of_empty_mask xs i room none k from below =
-    not-false _ (none_from_empty_mask is_even xs i 16 0 room none k from below)
-
--- The lowest bit of the mask of a block: its byte is even, and those of the block before it odd.
--- For `Packet::first_even`.
-pub record IsFirstOfBlock (xs : List ℕ) (i place : ℕ) : Type 0 where
-  pub within : place < i + 16
-  pub even : is_odd (get_or xs place 0) ≡ false
-  pub before : (k : ℕ) → i ≤ k → k < place → is_odd (get_or xs k 0) ≡ true
-
-pub first_of_block : (xs : List ℕ) (i m : ℕ)
-    → i + 16 ≤ length xs
-    → m ≡ evens_mask (chunk i 16 xs)
-    → (m ≡ 0 → ⊥)
-    → IsFirstOfBlock xs i (i + count_trailing_zeros 64 m)
-first_of_block xs i m room e some =
-    let block = chunk i 16 xs in
-    let size : length block ≡ 16 = length-chunk i 16 xs room in
-    let positive : 0 < mask_l (map is_even block) = subst (λ (x : ℕ). 0 < x) e (omega arith) in
-    let counted : count_trailing_zeros 64 m ≡ prefix_len (λ x. not (is_even x)) block =
-    ap (count_trailing_zeros 64) e ∙ trailing_mask_l is_even 64 block (omega arith) positive in
-    let narrow : count_trailing_zeros 16 (mask_l (map is_even block))
-    ≡ prefix_len (λ x. not (is_even x)) block =
-    trailing_mask_l is_even 16 block (omega arith) positive in
-    let below : mask_l (map is_even block) < 2 ^ length (map is_even block) =
-    mask_l-lt (map is_even block) in
-    let small : mask_l (map is_even block) < 2 ^ 16 =
-    rw (length-map block is_even ∙ size) at below in
-    let lowest : count_trailing_zeros 16 (mask_l (map is_even block)) < 16 =
-    (bit_at-trailing_zeros w16 (mask_l (map is_even block)) positive small).0 in
-    let within : count_trailing_zeros 64 m < 16 = omega arith in
-    record {
-      within = omega arith;
-      even = not-true _
-          (run_in_chunk_stops is_even xs i 16 (count_trailing_zeros 64 m) 0 room counted within);
-      before = λ k from l. not-false _
-          (run_in_chunk_fails is_even xs i 16 (count_trailing_zeros 64 m) 0 room counted k from l);
-    }
 
 -- A code with bit 8 set where the count of ones is even.
 abbrev odd_code : ℕ → ℕ
