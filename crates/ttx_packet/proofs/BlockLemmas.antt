@@ -1,9 +1,9 @@
 -- Lists gone over in blocks: block_of, what a store of a block leaves (block_more), and the first
 -- item that passes a test, by the masks of blocks (first_so_far).
 use Rattle.std.proofs.Common.{◌≡◌, ℕ, zero, suc, ◌+◌, ◌*◌, ◌/◌, ◌^◌, ◌<◌, ◌≤◌, Bool, true, false, not}
-use Rattle.std.proofs.Common.{List, [], ◌∷◌, ◌++◌, map, length, get_or, take, drop, sym, ap, ap₂, ◌∙◌}
+use Rattle.std.proofs.Common.{List, [], ◌++◌, map, length, get_or, take, drop, sym, ap, ap₂, ◌∙◌}
 use Rattle.std.proofs.Common.{take_all, arith, w16}
-use Rattle.std.proofs.lemmas.List.{map-append, drop-drop, get_or_past, length-map}
+use Rattle.std.proofs.lemmas.List.{map-append, drop-drop, get_or_past, length-map, length-drop}
 use Rattle.std.proofs.lemmas.Nat.Bits.{bit_at-trailing_zeros}
 use Rattle.std.proofs.lemmas.Simd.{length-chunk, get_or-chunk, mask_l-lt, trailing_mask_l}
 use Rattle.std.proofs.lemmas.Simd.{none_from_empty_mask, run_in_chunk_stops, run_in_chunk_fails}
@@ -31,6 +31,14 @@ pub block_of : (blocks : List (List ℕ)) (n : ℕ) (xs : List ℕ) (i : ℕ)
     → i < length xs / n
     → get_or blocks i [] ≡ chunk (n * i) n xs
 block_of blocks n xs i e l = rw e (block_at n (length xs / n) xs i l)
+
+-- The last block of a list.
+pub last_block : (a n : ℕ) (xs ys : List ℕ)
+    → length xs ≡ a + n
+    → ys ≡ drop a xs
+    → ys ≡ chunk a n xs
+last_block a n xs ys size e =
+    e ∙ sym (take_all n (drop a xs) (omega (arith, length-drop a xs)))
 
 -- What is so of all bytes of a list, and of 0, is so of those of a block.
 pub below_in_chunk : (b a n : ℕ) (xs : List ℕ)

@@ -1,22 +1,17 @@
 -- The kernels on lanes, byte by byte: mirror_lanes, even_lanes, odd_lanes.
 use Rattle.std.proofs.lemmas.List.{map-id}
-use Rattle.std.proofs.lemmas.Bool.{not-false, not-true}
-use Rattle.std.proofs.Common.{◌≡◌, ℕ, zero, suc, ◌+◌, ◌*◌, ◌/◌, ◌%◌, ◌^◌, ◌-◌, ◌<◌, ◌≤◌, true}
-use Rattle.std.proofs.Common.{false, not, cond}
+use Rattle.std.proofs.Common.{◌≡◌, ℕ, zero, suc, ◌*◌, ◌/◌, ◌%◌, ◌^◌, ◌-◌, ◌<◌, true}
+use Rattle.std.proofs.Common.{cond}
 use Rattle.std.proofs.Common.{List, [], ◌∷◌, map, length, get_or, replicate, refl, sym, ap, ap₂}
 use Rattle.std.proofs.Common.{◌∙◌}
-use Rattle.std.proofs.Common.{arith, w8, w16, Fits, nat_eq, eqb-true, subst}
+use Rattle.std.proofs.Common.{arith, w8, Fits, nat_eq, eqb-true}
 use Rattle.std.specs.Prelude.{bit_xor, bit_and, bit_or}
 use Rattle.std.specs.Int.RustNames.{count_ones}
 use Rattle.std.proofs.lemmas.Bool.{agree_below_at}
 use Rattle.std.proofs.lemmas.List.{length-map}
 use Rattle.std.proofs.lemmas.Simd.{zip2_splat, zip2_of_maps, bitmask_splat, map-map}
-use Rattle.std.proofs.lemmas.Simd.{length-chunk, mask_l-lt, trailing_mask_l, none_from_empty_mask}
-use Rattle.std.proofs.lemmas.Simd.{run_in_chunk_stops, run_in_chunk_fails}
-use Rattle.std.proofs.lemmas.Nat.Bits.{bit_at-trailing_zeros}
-use Rattle.std.specs.List.{prefix_len}
-use lib.Lanes.{zip2, mask_l, top, chunk, Each1}
-use lib.Count.{ones_in, count_trailing_zeros}
+use lib.Lanes.{zip2, mask_l, top, Each1}
+use lib.Count.{ones_in}
 use Rattle.ttx_packet.specs.BitOrder.{mirror}
 use Rattle.ttx_packet.specs.Lanes.{swapped, folded, is_even, evens_mask}
 use Rattle.ttx_packet.specs.Parity.{is_odd, odd_byte}

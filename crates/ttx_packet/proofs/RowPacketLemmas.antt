@@ -1,11 +1,10 @@
 -- The first byte of even parity, of a packet's data bytes, as Packet::first_even goes over them:
 -- first_even-at, first_even-none.
 use Rattle.std.proofs.Common.{◌≡◌, ℕ, ◌+◌, ◌<◌, List, Option, Some, None, IsNone, ◌↔◌, true, false}
-use Rattle.std.proofs.Common.{not, slice_index, get_or, sym, refl, arith, drop}
+use Rattle.std.proofs.Common.{get_or, sym, refl, arith, drop}
 use Rattle.std.proofs.lemmas.Bool.Decides.{nat_tests}
 use Rattle.std.proofs.lemmas.List.{get_or-drop}
 use Rattle.ttx_packet.specs.Lanes.{is_even}
-use Rattle.ttx_packet.specs.Parity.{is_odd}
 use Rattle.ttx_packet.specs.RowPacket.{text_byte, first_even_byte, HasOddText}
 use Rattle.ttx_packet.proofs.BlockLemmas.{IsFirst}
 use Rattle.ttx_packet.proofs.OneBitLemmas.{first_below-at, first_below-none}

@@ -1,11 +1,11 @@
 -- A block more, and the last: columns_in_chunk.
-use Rattle.std.proofs.Common.{◌≡◌, ◌+◌, ◌*◌, drop, take_all, arith, rules}
+use Rattle.std.proofs.Common.{◌≡◌, ◌+◌, ◌*◌, drop, arith, rules}
 use Rattle.std.proofs.Common.{sym, ap, ap₂, ◌∙◌}
-use Rattle.std.proofs.lemmas.List.{length-drop}
 use lib.Lanes.{chunk}
 use Rattle.ttx_page.specs.Differing.{columns_differing}
 use Rattle.ttx_page.proofs.DifferingLemmas.{columns_le, columns_none}
-use Rattle.ttx_page.proofs.LaneLemmas.{columns_in_chunk, of_blocks}
+use Rattle.ttx_page.proofs.LaneLemmas.{columns_in_chunk}
+use Rattle.ttx_packet.proofs.BlockLemmas.{block_of, last_block}
 use Rattle.ttx_page.proofs.differing.differing_columns.Goals as goal
 
 pub loop-i-init : goal.loop-i-init
@@ -19,8 +19,8 @@ loop-i-preserved c =
     let block : c.differing_of_16-count.result
     ≡ columns_differing 16 (chunk (16 * i) 16 xs) (chunk (16 * i) 16 ys) =
     c.differing_of_16-count.ensures.value
-    ∙ of_blocks (columns_differing 16) _ _ xs ys i c.as_chunks.ensures.front
-    c.as_chunks-2.ensures.front (omega arith) (omega arith) in
+    ∙ ap₂ (columns_differing 16) (block_of _ 16 xs i c.as_chunks.ensures.front (omega arith))
+    (block_of _ 16 ys i c.as_chunks-2.ensures.front (omega arith)) in
     let next : 16 * i + 16 ≡ 16 * (i + 1) = omega arith in
     let more = columns_in_chunk xs ys (16 * i) 16 16 (omega arith) in (
       omega arith,
@@ -32,19 +32,14 @@ pub returns : goal.returns
 returns c =
     let xs = c.args.a.now in
     let ys = c.args.b.now in
-    let last : c.unwrap.result.now ≡ drop 32 xs = search rules in
-    let last-2 : c.unwrap-2.result.now ≡ drop 32 ys = search rules in
-    let all : chunk 32 8 xs ≡ drop 32 xs =
-    take_all 8 (drop 32 xs) (omega (arith, length-drop 32 xs)) in
-    let all-2 : chunk 32 8 ys ≡ drop 32 ys =
-    take_all 8 (drop 32 ys) (omega (arith, length-drop 32 ys)) in
-    let value : c.loop-i.count + c.differing_of_8.result ≡ columns_differing 40 xs ys =
+    let back : c.unwrap.result.now ≡ drop 32 xs = search rules in
+    let back-2 : c.unwrap-2.result.now ≡ drop 32 ys = search rules in
+    let last =
+    c.differing_of_8.ensures.value
+    ∙ ap₂ (columns_differing 8) (last_block 32 8 xs _ c.told-a back)
+    (last_block 32 8 ys _ c.told-b back-2) in
     let blocks : 16 * c.loop-i.i ≡ 32 = omega arith in
-    omega (
-      arith,
-      c.loop-i.invariant.1 ∙ ap (λ n. columns_differing n xs ys) blocks,
-      columns_in_chunk xs ys 32 8 8 (omega arith),
-      c.differing_of_8.ensures.value
-          ∙ ap₂ (columns_differing 8) (last ∙ sym all) (last-2 ∙ sym all-2),
-    ) in
+    let before = rw blocks at c.loop-i.invariant.1 in
+    let value : c.loop-i.count + c.differing_of_8.result ≡ columns_differing 40 xs ys =
+    omega (arith, before, last, columns_in_chunk xs ys 32 8 8 (omega arith)) in
     record { value = value; range = omega (arith, value, columns_le 40 xs ys) }

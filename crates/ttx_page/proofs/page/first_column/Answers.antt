@@ -1,59 +1,42 @@
-use Rattle.std.proofs.Common.{◌≡◌, ◌+◌, ◌-◌, ◌*◌, ℕ, List, drop, length, get_or, arith}
-use Rattle.std.proofs.Common.{sym}
-use Rattle.std.proofs.Common.{◌∙◌, ap₂, inl, inr, rules, subst, take_all}
-use Rattle.std.proofs.lemmas.Bool.{cases_lt}
-use Rattle.std.proofs.lemmas.List.{ext_get_or, length-drop}
-use lib.Lanes.{chunk}
-use Rattle.ttx_page.specs.Lanes.{differing_mask}
-use Rattle.ttx_page.proofs.LaneLemmas.{blocks_same, first_of_blocks, of_blocks}
+-- The masks of blocks tell the first column: none_so_far, first_so_far.
+use Rattle.std.proofs.Common.{◌≡◌, ◌*◌, false, drop, ap₂, ◌∙◌, arith}
+use Rattle.std.proofs.Common.{rules}
+use Rattle.std.proofs.lemmas.Simd.{length-zip2}
+use lib.Lanes.{zip2}
+use Rattle.ttx_packet.proofs.BlockLemmas.{block_of, last_block, none_so_far, first_so_far}
+use Rattle.ttx_page.specs.Lanes.{differ, differing_mask}
+use Rattle.ttx_page.proofs.LaneLemmas.{mask_of_block, column_of_test, rows_of_tests}
 use Rattle.ttx_page.proofs.page.first_column.Goals as goal
-
-pub returns-then-mask-ne0 : goal.returns-then-mask-ne0
-returns-then-mask-ne0 c =
-    let xs = c.args.a.now in
-    let ys = c.args.b.now in
-    let i = c.loop-i.i in
-    let mask : c.differing-mask.result
-    ≡ differing_mask (chunk (16 * i) 16 xs) (chunk (16 * i) 16 ys) =
-    c.differing-mask.ensures
-    ∙ of_blocks differing_mask _ _ xs ys i c.as_chunks.ensures.front c.as_chunks-2.ensures.front
-    (omega arith) (omega arith) in
-    let found = first_of_blocks xs ys (16 * i) c.differing-mask.result (omega arith) (omega arith)
-    mask c.if-mask-ne0.true in (
-      omega (arith, found.within),
-      found.other,
-      λ k l. elim (cases_lt k (16 * i)) [
-        | inl before ↦ c.loop-i.invariant k before
-        | inr from ↦
-            let e : 16 * i + (k - 16 * i) ≡ k = omega arith in
-            subst (λ (n : ℕ). get_or xs n 0 ≡ get_or ys n 0) e
-            (found.before (k - 16 * i) (omega arith))
-      ],
-    )
 
 pub loop-i-preserved : goal.loop-i-preserved
 loop-i-preserved c k l =
     let xs = c.args.a.now in
     let ys = c.args.b.now in
     let i = c.loop-i.i in
-    let mask : c.differing-mask.result
-    ≡ differing_mask (chunk (16 * i) 16 xs) (chunk (16 * i) 16 ys) =
+    let mask =
     c.differing-mask.ensures
-    ∙ of_blocks differing_mask _ _ xs ys i c.as_chunks.ensures.front c.as_chunks-2.ensures.front
-    (omega arith) (omega arith) in
-    elim (cases_lt k (16 * i)) [
-      | inl before ↦ c.loop-i.invariant k before
-      | inr from ↦
-          let e : 16 * i + (k - 16 * i) ≡ k = omega arith in
-          subst (λ (n : ℕ). get_or xs n 0 ≡ get_or ys n 0) e
-          (blocks_same xs ys (16 * i) (omega arith) (omega arith) (sym mask ∙ c.if-mask-ne0.false)
-          (k - 16 * i) (omega arith))
-    ]
+    ∙ ap₂ differing_mask (block_of _ 16 xs i c.as_chunks.ensures.front (omega arith))
+    (block_of _ 16 ys i c.as_chunks-2.ensures.front (omega arith))
+    ∙ mask_of_block xs ys (16 * i) (omega arith) (omega arith) in
+    none_so_far (λ x. x) (zip2 differ xs ys) (16 * i) c.differing-mask.result false
+    (omega (arith, length-zip2 differ xs ys (omega arith))) mask c.if-mask-ne0.false
+    c.loop-i.invariant k (omega arith)
 
--- the last block is that of the columns from 24 on
-last_block : (xs zs : List ℕ) → length xs ≡ 40 → zs ≡ drop 24 xs → zs ≡ chunk 24 16 xs
-last_block xs zs size e =
-    e ∙ sym (take_all 16 (drop 24 xs) (omega (arith, length-drop 24 xs)))
+pub returns-then-mask-ne0 : goal.returns-then-mask-ne0
+returns-then-mask-ne0 c =
+    let xs = c.args.a.now in
+    let ys = c.args.b.now in
+    let i = c.loop-i.i in
+    let mask =
+    c.differing-mask.ensures
+    ∙ ap₂ differing_mask (block_of _ 16 xs i c.as_chunks.ensures.front (omega arith))
+    (block_of _ 16 ys i c.as_chunks-2.ensures.front (omega arith))
+    ∙ mask_of_block xs ys (16 * i) (omega arith) (omega arith) in
+    let found =
+    first_so_far (λ x. x) (zip2 differ xs ys) (16 * i) c.differing-mask.result false
+    (omega (arith, length-zip2 differ xs ys (omega arith))) mask c.if-mask-ne0.true
+    c.loop-i.invariant in
+    column_of_test xs ys _ c.told-a c.told-b (omega (arith, found.0)) found.1
 
 pub returns-then-last-ne0 : goal.returns-then-last-ne0
 returns-then-last-ne0 c =
@@ -61,22 +44,15 @@ returns-then-last-ne0 c =
     let ys = c.args.b.now in
     let back : c.unwrap.result.now ≡ drop 24 xs = search rules in
     let back-2 : c.unwrap-2.result.now ≡ drop 24 ys = search rules in
-    let mask : c.differing-last.result
-    ≡ differing_mask (chunk 24 16 xs) (chunk 24 16 ys) =
+    let mask =
     c.differing-last.ensures
-    ∙ ap₂ differing_mask (last_block xs _ c.told-a back) (last_block ys _ c.told-b back-2) in
-    let found = first_of_blocks xs ys 24 c.differing-last.result (omega arith) (omega arith)
-    mask c.if-last-ne0.true in (
-      omega (arith, found.within),
-      found.other,
-      λ k l. elim (cases_lt k 24) [
-        | inl before ↦ c.loop-i.invariant k (omega arith)
-        | inr from ↦
-            let e : 24 + (k - 24) ≡ k = omega arith in
-            subst (λ (n : ℕ). get_or xs n 0 ≡ get_or ys n 0) e
-            (found.before (k - 24) (omega arith))
-      ],
-    )
+    ∙ ap₂ differing_mask (last_block 24 16 xs _ c.told-a back) (last_block 24 16 ys _ c.told-b back-2)
+    ∙ mask_of_block xs ys 24 (omega arith) (omega arith) in
+    let found =
+    first_so_far (λ x. x) (zip2 differ xs ys) 24 c.differing-last.result false
+    (omega (arith, length-zip2 differ xs ys (omega arith))) mask c.if-last-ne0.true
+    (λ k l. c.loop-i.invariant k (omega arith)) in
+    column_of_test xs ys _ c.told-a c.told-b (omega (arith, found.0)) found.1
 
 pub returns : goal.returns
 returns c =
@@ -84,16 +60,12 @@ returns c =
     let ys = c.args.b.now in
     let back : c.unwrap.result.now ≡ drop 24 xs = search rules in
     let back-2 : c.unwrap-2.result.now ≡ drop 24 ys = search rules in
-    let mask : c.differing-last.result
-    ≡ differing_mask (chunk 24 16 xs) (chunk 24 16 ys) =
+    let mask =
     c.differing-last.ensures
-    ∙ ap₂ differing_mask (last_block xs _ c.told-a back) (last_block ys _ c.told-b back-2) in
-    ext_get_or 0 xs ys (c.told-a ∙ sym c.told-b)
-    (λ k l. elim (cases_lt k 24) [
-      | inl before ↦ c.loop-i.invariant k (omega arith)
-      | inr from ↦
-          let e : 24 + (k - 24) ≡ k = omega arith in
-          subst (λ (n : ℕ). get_or xs n 0 ≡ get_or ys n 0) e
-          (blocks_same xs ys 24 (omega arith) (omega arith) (sym mask ∙ c.if-last-ne0.false)
-          (k - 24) (omega arith))
-    ])
+    ∙ ap₂ differing_mask (last_block 24 16 xs _ c.told-a back) (last_block 24 16 ys _ c.told-b back-2)
+    ∙ mask_of_block xs ys 24 (omega arith) (omega arith) in
+    rows_of_tests xs ys (omega arith)
+    (λ k l.
+    none_so_far (λ x. x) (zip2 differ xs ys) 24 c.differing-last.result false
+    (omega (arith, length-zip2 differ xs ys (omega arith))) mask c.if-last-ne0.false
+    (λ k l. c.loop-i.invariant k (omega arith)) k (omega arith))

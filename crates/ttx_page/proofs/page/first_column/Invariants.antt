@@ -1,6 +1,8 @@
-use Rattle.std.proofs.Common.{◌≡◌, ℕ, ◌*◌, ◌<◌, slice_index}
+use Rattle.std.proofs.Common.{◌≡◌, ℕ, ◌*◌, ◌<◌, false, get_or}
+use lib.Lanes.{zip2}
+use Rattle.ttx_page.specs.Lanes.{differ}
 use Rattle.ttx_page.proofs.page.first_column.Given as goal
 
--- The codes of the blocks to the left are equal.
+-- No codes of the blocks to the left differ.
 abbrev pub invariant-loop-i : goal.invariant-loop-i
-invariant-loop-i l = (k : ℕ) → k < 16 * l.i → slice_index l.a k ≡ slice_index l.b k
+invariant-loop-i l = (k : ℕ) → k < 16 * l.i → get_or (zip2 differ l.a l.b) k false ≡ false

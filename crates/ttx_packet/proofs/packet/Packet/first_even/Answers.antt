@@ -1,10 +1,8 @@
 -- The masks of blocks tell the first: none_so_far, first_so_far.
-use Rattle.std.proofs.Common.{◌≡◌, ◌+◌, ◌*◌, ◌/◌, ◌<◌, ℕ, List, [], length, get_or, drop, take_all, arith}
-use Rattle.std.proofs.Common.{rules, ◌∙◌, ap, sym}
-use Rattle.std.proofs.lemmas.List.{length-drop}
-use lib.Lanes.{chunk}
+use Rattle.std.proofs.Common.{◌≡◌, ◌*◌, ◌/◌, ◌<◌, length, drop, arith}
+use Rattle.std.proofs.Common.{rules, ◌∙◌, ap}
 use Rattle.ttx_packet.specs.Lanes.{is_even, evens_mask}
-use Rattle.ttx_packet.proofs.BlockLemmas.{block_of, none_so_far, first_so_far}
+use Rattle.ttx_packet.proofs.BlockLemmas.{block_of, last_block, none_so_far, first_so_far}
 use Rattle.ttx_packet.proofs.RowPacketLemmas.{first_even-at, first_even-none}
 use Rattle.ttx_packet.proofs.packet.Packet.first_even.Goals as goal
 
@@ -31,18 +29,13 @@ returns-then-mask-ne0 c =
     let first = first_even-at c.args.self.now _ (omega (arith, found.0)) found.1 in
     record { value = first.value; odd = first.odd }
 
--- The last block is that of the columns from 24 on.
-last_block : (xs zs : List ℕ) → length xs ≡ 40 → zs ≡ drop 24 xs → zs ≡ chunk 24 16 xs
-last_block xs zs size e =
-    e ∙ sym (take_all 16 (drop 24 xs) (omega (arith, length-drop 24 xs)))
-
 pub returns-then-last-ne0 : goal.returns-then-last-ne0
 returns-then-last-ne0 c =
     let bytes = c.data-data.result.now in
     let back : c.unwrap.result.now ≡ drop 24 bytes = search rules in
     let size : length bytes ≡ 40 = omega arith in
     let xs = drop 2 c.args.self.now in
-    let block = rw c.data-data.ensures at (last_block bytes _ size back) in
+    let block = rw c.data-data.ensures at (last_block 24 16 bytes _ size back) in
     let long = rw c.data-data.ensures at size in
     let found =
     first_so_far is_even xs 24 c.evens-last.result 0 (omega (arith, long))
@@ -57,7 +50,7 @@ returns c =
     let back : c.unwrap.result.now ≡ drop 24 bytes = search rules in
     let size : length bytes ≡ 40 = omega arith in
     let xs = drop 2 c.args.self.now in
-    let block = rw c.data-data.ensures at (last_block bytes _ size back) in
+    let block = rw c.data-data.ensures at (last_block 24 16 bytes _ size back) in
     let long = rw c.data-data.ensures at size in
     let first =
     first_even-none c.args.self.now
