@@ -14,7 +14,7 @@ use Rattle.stl_file.specs.TimeCode.{day}
 use Rattle.sub_plan.specs.Schedule.{due_in, is_sending, plan_frames, sendings, sendings_between}
 use Rattle.sub_plan.specs.Schedule.{sendings_from}
 use Rattle.sub_plan.specs.Laws.{LawOfDay}
-use Rattle.sub_plan.proofs.SendingLemmas.{range_all}
+use Rattle.sub_plan.proofs.ScheduleBases.{range_all}
 
 -- No first TCI, no subtitles.
 pub none_in : (ts : List SubtitleValue) → None ≡ first_in ts → ts ≡ []
@@ -50,28 +50,24 @@ span-rises national (t ∷ ts) a b ok h k =
     let g : a ≡ t.tci = same_Some a t.tci h in
     let each_last = ok.each n t (omega arith) in
     let each_first = ok.each 0 t (omega arith) in
-    elim (cases_lt 0 n) [
-      | inl more ↦
-          record {
-            rises = omega (
+    record {
+      rises = elim (cases_lt 0 n) [
+        | inl more ↦
+            omega (
               arith,
               f,
               g,
               ok.in_order 0 n t more (omega arith),
               each_last.times,
               each_first.times,
-            );
-            in_day = omega (arith, f, each_last.in_day);
-          }
-      | inr one ↦
-          let z : n ≡ 0 = omega arith in
-          let same : last ≡ t = ap (λ (i : ℕ). get_or (t ∷ ts) i t) z in
-          record {
-            rises = omega
-                (arith, f, g, ap (λ (r : SubtitleValue). r.tco) same, each_first.times);
-            in_day = omega (arith, f, each_last.in_day);
-          }
-    ]
+            )
+        | inr one ↦
+            let z : n ≡ 0 = omega arith in
+            let same = ap (λ (i : ℕ). (get_or (t ∷ ts) i t).tco) z in
+            omega (arith, f, g, same, each_first.times)
+      ];
+      in_day = omega (arith, f, each_last.in_day);
+    }
 
 -- The frames of the schedule, where the first TCI and the last TCO are these.
 pub plan_frames-is : (programme : ProgrammeValue) (every a b : ℕ)

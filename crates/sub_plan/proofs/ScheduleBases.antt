@@ -1,67 +1,20 @@
--- Bases of a schedule and the sendings that they make: find_base, last_sending, sending_in_gap.
+-- Bases of a schedule and the sendings that they make: last_base, last_sending, sending_in_gap.
 use Rattle.std.proofs.Math.Bool.{or-true}
-use Rattle.std.proofs.Common.{◌≡◌, ◌≢◌, ℕ, zero, suc, ◌+◌, ◌-◌, ◌%◌, ◌<◌, ◌≤◌, Bool, true, false}
-use Rattle.std.proofs.Common.{not, ◌||◌, eqb, List, ◌∷◌, ◌++◌, refl, sym, ap, subst, ◌∙◌, arith}
-use Rattle.std.proofs.Common.{inl, inr, Decides}
-use Rattle.std.proofs.Math.Nat.{mod-add-mod, mod_self, mod-lt, mod-eq_of_lt}
-use Rattle.std.proofs.lemmas.Bool.{cases_lt, false≢true}
-use Rattle.std.proofs.lemmas.Bool.Decides.{nat_tests, Decides-eqb}
+use Rattle.std.proofs.Common.{◌≡◌, ℕ, zero, suc, ◌+◌, ◌-◌, ◌%◌, ◌<◌, ◌≤◌, ◌==◌, Bool, true, false}
+use Rattle.std.proofs.Common.{not, cond, List, ◌∷◌, ◌++◌, refl, sym, ap, subst, ◌∙◌, arith, inl}
+use Rattle.std.proofs.Common.{inr, All, Decides}
+use Rattle.std.proofs.Math.Nat.{add-mod_right, mod-eq_of_lt}
+use Rattle.std.proofs.lemmas.Bool.{cases_Bool, cases_lt, false≢true, false_from_ne_true, or_left}
+use Rattle.std.proofs.lemmas.Bool.Decides.{nat_tests, Decides-eqb, Decides-not, Decides-or}
+use Rattle.std.proofs.lemmas.List.Elements.{All-cons, All-nil}
 use Rattle.std.proofs.lemmas.Slice.Eq.{slice_eq-Decides}
 use Rattle.std.specs.List.{range_with_len}
 use Rattle.ttx_page.specs.Page.{Rows}
-use Rattle.sub_plan.specs.Laws.{IsLastSending, LawOfEqualPages, LawOfLastSending}
+use Rattle.sub_plan.specs.Laws.{IsBase, IsLastBase, IsLastSending, LawOfEqualPages}
+use Rattle.sub_plan.specs.Laws.{LawOfLastSending}
 use Rattle.sub_plan.specs.Schedule.{base, is_base, is_same_page, is_sending}
 
--- The test of equal pages decides it.
-pub same_page-Decides : (a b : Rows) → Decides (is_same_page a b) (a ≡ b)
-same_page-Decides a b =
-    slice_eq-Decides (λ x y. slice_eq-Decides (λ m n. Decides-eqb m n) x y _ refl) a b _ refl
-
--- The first frame is a base.
-pub is_base-first : (due : ℕ → Rows) (f : ℕ) → is_base due f f ≡ true
-unfolding is_base
-is_base-first due f = grind (arith, nat_tests)
-
--- A later frame with the page of the frame before it is none.
-pub no_base : (due : ℕ → Rows) (first k : ℕ) → first < k → due k ≡ due (k - 1)
-    → is_base due first k ≡ false
-unfolding is_base
-no_base due first k after same =
-    let a : eqb k first ≡ false = grind (arith, nat_tests) in
-    let b : is_same_page (due k) (due (k - 1)) ≡ true =
-    (same_page-Decides (due k) (due (k - 1))).1 same in
-    rw (a, b) refl
-
--- A frame with another page than the frame before it is a base.
-pub is_base-from_change : (due : ℕ → Rows) (first k : ℕ) → due k ≢ due (k - 1)
-    → is_base due first k ≡ true
-unfolding is_base
-is_base-from_change due first k change = go (is_same_page (due k) (due (k - 1))) refl
-  where
-    go : (b : Bool) → is_same_page (due k) (due (k - 1)) ≡ b
-        → (eqb k first || not (is_same_page (due k) (due (k - 1)))) ≡ true
-    go true e = absurd (change ((same_page-Decides (due k) (due (k - 1))).0 e))
-    go false e = rw e (or-true (eqb k first))
-
--- At a base the last base is the base itself.
-pub base-at : (due : ℕ → Rows) (first b : ℕ) → is_base due first b ≡ true → base due first b ≡ b
-unfolding base
-base-at due first zero h = refl
-base-at due first (suc b) h = rw h refl
-
--- Up to the next base the last base stays.
-pub base_stays : (due : ℕ → Rows) (first b f : ℕ) → is_base due first b ≡ true → b ≤ f
-    → ((k : ℕ) → b < k → k ≤ f → is_base due first k ≡ false) → base due first f ≡ b
-unfolding base
-base_stays due first b zero h low none = let e : b ≡ zero = omega arith in sym e
-base_stays due first b (suc f) h low none =
-    elim (cases_lt f b) [
-      | inl here ↦ let e : suc f ≡ b = omega arith in
-          subst (λ (x : ℕ). base due first x ≡ b) (sym e) (base-at due first b h)
-      | inr before ↦
-          let e : is_base due first (suc f) ≡ false = none (suc f) (omega arith) (omega arith) in
-          rw e (base_stays due first b f h before (λ k a c. none k a (omega arith)))
-    ]
+-- ---- ranges
 
 -- A range in two parts.
 pub range_split : (a m n : ℕ) → range_with_len a (m + n) ≡ range_with_len a m
@@ -71,142 +24,169 @@ range_split a zero n = let e : 0 + n ≡ n = omega arith in let f : a + 0 ≡ a 
 range_split a (suc m) n =
     let e : suc m + n ≡ suc (m + n) = omega arith in
     let f : a + 1 + m ≡ a + suc m = omega arith in
-    let rest : range_with_len (a + 1) (m + n) ≡ range_with_len (a + 1) m
-    ++ range_with_len (a + suc m) n =
-    subst (λ (x : ℕ). range_with_len (a + 1) (m + n) ≡ range_with_len (a + 1) m
-    ++ range_with_len x n) f (range_split (a + 1) m n) in
-    rw e (ap (λ (xs : List ℕ). a ∷ xs) rest)
+    rw e (ap (λ (xs : List ℕ). a ∷ xs) (rw f at (range_split (a + 1) m n)))
+
+-- What holds in a range holds of each number of the list.
+pub range_all : (P : ℕ → Type 0) (a n : ℕ) → ((j : ℕ) → a ≤ j → j < a + n → P j)
+    → All P (range_with_len a n)
+range_all P a zero h = All-nil P
+range_all P a (suc n) h =
+    All-cons P a (range_with_len (a + 1) n) (h a (omega arith) (omega arith))
+    (range_all P (a + 1) n (λ j b c. h j (omega arith) (omega arith)))
+
+-- What holds up to a number and at the next holds up to that.
+up_to_next : (P : ℕ → Type 0) (b f : ℕ) → ((k : ℕ) → b < k → k ≤ f → P k) → P (suc f) → (k : ℕ)
+    → b < k → k ≤ suc f → P k
+up_to_next P b f before last k low high =
+    elim (cases_lt f k) [
+      | inl here ↦ let e : suc f ≡ k = omega arith in subst P e last
+      | inr old ↦ before k low old
+    ]
+
+-- ---- bases
+
+-- The test of equal pages decides it.
+same_page-Decides : (a b : Rows) → Decides (is_same_page a b) (a ≡ b)
+same_page-Decides a b =
+    slice_eq-Decides (λ x y. slice_eq-Decides (λ m n. Decides-eqb m n) x y _ refl) a b _ refl
+
+-- The test of a base decides it.
+is_base-Decides : (due : ℕ → Rows) (first f : ℕ) → Decides (is_base due first f)
+    (IsBase due first f)
+unfolding is_base
+is_base-Decides due first f =
+    Decides-or (f == first) (not (is_same_page (due f) (due (f - 1)))) (Decides-eqb f first)
+    (Decides-not (is_same_page (due f) (due (f - 1))) (same_page-Decides (due f) (due (f - 1))))
+
+-- A frame that is no base does not pass the test.
+no_base : (due : ℕ → Rows) (first f : ℕ) → (IsBase due first f → ⊥) → is_base due first f ≡ false
+no_base due first f none =
+    false_from_ne_true (is_base due first f) (λ b. none ((is_base-Decides due first f).0 b))
+
+-- It has the page of the frame before it.
+same_unless_base : (due : ℕ → Rows) (first f : ℕ) → (IsBase due first f → ⊥) → due f ≡ due (f - 1)
+same_unless_base due first f none =
+    elim (cases_Bool (is_same_page (due f) (due (f - 1)))) [
+      | inl same ↦ (same_page-Decides (due f) (due (f - 1))).0 same
+      | inr other ↦ absurd (none (inr (λ e. false≢true
+          (sym other ∙ (same_page-Decides (due f) (due (f - 1))).1 e))))
+    ]
+
+-- At a base the last base is the base itself.
+base-at : (due : ℕ → Rows) (first b : ℕ) → IsBase due first b → base due first b ≡ b
+unfolding base
+base-at due first zero h = refl
+base-at due first (suc b) h = rw ((is_base-Decides due first (suc b)).1 h) refl
+
+-- Up to the next base the last base stays.
+base_stays : (due : ℕ → Rows) (first s f : ℕ) → s ≤ f
+    → ((k : ℕ) → s < k → k ≤ f → IsBase due first k → ⊥) → base due first f ≡ base due first s
+unfolding base
+base_stays due first s zero low none =
+    let e : zero ≡ s = omega arith in
+    ap (base due first) e
+base_stays due first s (suc f) low none =
+    elim (cases_lt f s) [
+      | inl here ↦ let e : suc f ≡ s = omega arith in ap (base due first) e
+      | inr before ↦
+          rw (no_base due first (suc f) (none (suc f) (omega arith) (omega arith)))
+          (base_stays due first s f before (λ k a c. none k a (omega arith)))
+    ]
+
+-- The last base up to a frame is the one that the definition gives.
+pub base-last : (due : ℕ → Rows) (first f b : ℕ) → IsLastBase due first f b → base due first f ≡ b
+base-last due first f b last =
+    base_stays due first b f last.high last.none_after ∙ base-at due first b last.is_base
+
+-- From the first frame on there is one.
+pub last_base : (due : ℕ → Rows) (first f : ℕ) → first ≤ f
+    → IsLastBase due first f (base due first f)
+unfolding base
+last_base due first zero low = record {
+  low = low;
+  high = omega arith;
+  is_base = inl (omega arith);
+  none_after = λ k a c. absurd (omega arith);
+}
+last_base due first (suc f) low = go (is_base due first (suc f)) refl (last_base due first f)
+  where
+    go : (b : Bool) → is_base due first (suc f) ≡ b
+        → (first ≤ f → IsLastBase due first f (base due first f))
+        → IsLastBase due first (suc f) (cond b (suc f) (base due first f))
+    go true h before = record {
+      low = low;
+      high = omega arith;
+      is_base = (is_base-Decides due first (suc f)).0 h;
+      none_after = λ k a c. absurd (omega arith);
+    }
+    go false h before =
+        let none : IsBase due first (suc f) → ⊥ =
+        λ b. false≢true (sym h ∙ (is_base-Decides due first (suc f)).1 b) in
+        let last = before
+        (elim (cases_lt f first) [
+          | inl here ↦ absurd (none (inl (omega arith)))
+          | inr later ↦ later
+        ]) in
+        record {
+          low = last.low;
+          high = omega (arith, last.high);
+          is_base = last.is_base;
+          none_after =
+              up_to_next (λ k. IsBase due first k → ⊥) (base due first f) f last.none_after none;
+        }
+
+-- ---- frames that send
 
 -- A base is aligned with itself.
 pub aligned-start : (b every : ℕ) → 1 ≤ every → (b - b) % every ≡ 0
 aligned-start b every some = let e : b - b ≡ 0 = omega arith in rw e (mod-eq_of_lt (omega arith))
 
--- The last base up to a frame, by the test.
-pub record IsFound (due : ℕ → Rows) (first f b : ℕ) : Type 0 where
-  pub low : first ≤ b
-  pub high : b ≤ f
-  pub is : is_base due first b ≡ true
-  pub none : (k : ℕ) → b < k → k ≤ f → is_base due first k ≡ false
-
--- At the first frame it is that.
-found_first : (due : ℕ → Rows) (first f : ℕ) → f ≡ first → IsFound due first f first
-found_first due first f e = record {
-  low = omega arith;
-  high = omega arith;
-  is = is_base-first due first;
-  none = λ k a c. absurd (omega arith);
-}
-
--- From the first frame on there is one.
-pub find_base : (due : ℕ → Rows) (first f : ℕ) → first ≤ f → (b : ℕ) × IsFound due first f b
-find_base due first zero low = (first, found_first due first zero (omega arith))
-find_base due first (suc f) low =
-    elim (cases_lt f first) [
-      | inl here ↦ (first, found_first due first (suc f) (omega arith))
-      | inr before ↦ next (is_base due first (suc f)) refl (find_base due first f before)
-    ]
-  where
-    next : (b : Bool) → is_base due first (suc f) ≡ b → (c : ℕ) × IsFound due first f c → (c : ℕ)
-        × IsFound due first (suc f) c
-    next true h found = (
-      suc f,
-      record { low = low; high = omega arith; is = h; none = λ k a c. absurd (omega arith) },
-    )
-    next false h found = (
-      found.0,
-      record {
-        low = found.1.low;
-        high = omega (arith, found.1.high);
-        is = found.1.is;
-        none = λ k a c.
-            elim (cases_lt f k) [
-              | inl last ↦ let e : suc f ≡ k = omega arith in
-                  subst (λ (x : ℕ). is_base due first x ≡ false) e h
-              | inr old ↦ found.1.none k a old
-            ];
-      },
-    )
-
--- It is the one that the definition gives.
-pub base-found : (due : ℕ → Rows) (first f b : ℕ) → IsFound due first f b → base due first f ≡ b
-base-found due first f b s = base_stays due first b f s.is s.high s.none
-
--- ---- frames that send
-
 -- A whole number of steps after the last base.
-sends : (due : ℕ → Rows) (every first last f b : ℕ) → f ≤ last → IsFound due first f b
+sends : (due : ℕ → Rows) (every first last f b : ℕ) → base due first f ≡ b
     → (f - b) % every ≡ 0 → is_sending due every first last f ≡ true
 unfolding is_sending
-sends due every first last f b high found whole =
-    let e : base due first f ≡ b = base-found due first f b found in
-    let t : eqb ((f - b) % every) 0 ≡ true = (Decides-eqb ((f - b) % every) 0).1 whole in
-    rw (e, t) (or-true (eqb f last))
+sends due every first last f b e whole = rw (e, whole) (or-true (f == last))
 
 -- At each base something is sent.
-pub sends-base : (due : ℕ → Rows) (every first last f : ℕ) → 1 ≤ every → is_base due first f ≡ true
+sends-base : (due : ℕ → Rows) (every first last f : ℕ) → 1 ≤ every → IsBase due first f
     → is_sending due every first last f ≡ true
-unfolding is_sending
 sends-base due every first last f some is =
-    let e : base due first f ≡ f = base-at due first f is in
-    let t : eqb ((f - f) % every) 0 ≡ true =
-    (Decides-eqb ((f - f) % every) 0).1 (aligned-start f every some) in
-    rw (e, t) (or-true (eqb f last))
+    sends due every first last f f (base-at due first f is) (aligned-start f every some)
 
 -- So it is at the first frame.
 pub sends-first : (due : ℕ → Rows) (every first last : ℕ) → 1 ≤ every
     → is_sending due every first last first ≡ true
-sends-first due every first last some =
-    sends-base due every first last first some (is_base-first due first)
+sends-first due every first last some = sends-base due every first last first some (inl refl)
 
 -- At the last frame something is sent.
 pub sends-last : (due : ℕ → Rows) (every first last : ℕ)
     → is_sending due every first last last ≡ true
 unfolding is_sending
-sends-last due every first last = let t : eqb last last ≡ true = (Decides-eqb last last).1 refl in
-    rw t refl
+sends-last due every first last = or_left _ _ ((Decides-eqb last last).1 refl)
 
--- A frame that is no base has the page of the frame before it.
-same_from_base : (due : ℕ → Rows) (first f : ℕ) → is_base due first f ≡ false → due f ≡ due (f - 1)
-unfolding is_base
-same_from_base due first f e =
-    (same_page-Decides (due f) (due (f - 1))).0
-    (go (eqb f first) (is_same_page (due f) (due (f - 1))) e)
-  where
-    go : (a b : Bool) → (a || not b) ≡ false → b ≡ true
-    go true b h = cc
-    go false true h = refl
-    go false false h = cc
-
--- At the first frame the last sending is that frame's.
-sent_first : (due : ℕ → Rows) (every first last f : ℕ)
-    → 1 ≤ every
-    → f ≡ first
-    → IsLastSending due every first last f first
-sent_first due every first last f some e = record {
-  low = omega arith;
-  high = omega arith;
-  sends = sends-first due every first last some;
-  none_after = λ k a c. absurd (omega arith);
-  same = ap due (sym e);
-}
+-- `every` frames after a frame with a sending something is sent, where no base is between.
+sends-again : (due : ℕ → Rows) (every first last s : ℕ) → first ≤ s → s < last
+    → is_sending due every first last s ≡ true
+    → ((k : ℕ) → s < k → k ≤ s + every → IsBase due first k → ⊥)
+    → is_sending due every first last (s + every) ≡ true
+unfolding is_sending
+sends-again due every first last s low high sent none =
+    let b : ℕ = base due first s in
+    let whole : (s - b) % every ≡ 0 = grind (arith, nat_tests) in
+    let e : s + every - b ≡ s - b + every = omega (arith, (last_base due first s low).high) in
+    sends due every first last (s + every) b (base_stays due first s (s + every) (omega arith) none)
+    (rw e (add-mod_right (s - b) every ∙ whole))
 
 -- The last sending up to a frame, made from the page that is still due there.
 pub last_sending : (due : ℕ → Rows) (every first last f : ℕ) → 1 ≤ every → first ≤ f → (g : ℕ)
     × IsLastSending due every first last f g
-last_sending due every first last zero some low =
-    (first, sent_first due every first last zero some (omega arith))
-last_sending due every first last (suc f) some low =
-    elim (cases_lt f first) [
-      | inl here ↦ (first, sent_first due every first last (suc f) some (omega arith))
-      | inr before ↦ next (is_sending due every first last (suc f)) refl
-          (is_base due first (suc f)) refl (last_sending due every first last f some before)
-    ]
+last_sending due every first last f some low =
+    go f (is_sending due every first last f) refl low
   where
-    next : (b : Bool) → is_sending due every first last (suc f) ≡ b → (c : Bool)
-        → is_base due first (suc f) ≡ c → (g : ℕ) × IsLastSending due every first last f g → (g : ℕ)
-        × IsLastSending due every first last (suc f) g
-    next true h c i found = (
-      suc f,
+    now : (f : ℕ) → first ≤ f → is_sending due every first last f ≡ true → (g : ℕ)
+        × IsLastSending due every first last f g
+    now f low h = (
+      f,
       record {
         low = low;
         high = omega arith;
@@ -215,102 +195,64 @@ last_sending due every first last (suc f) some low =
         same = refl;
       },
     )
-    next false h true i found =
-        absurd (false≢true (sym h ∙ sends-base due every first last (suc f) some i))
-    next false h false i found =
+
+    go : (f : ℕ) (b : Bool) → is_sending due every first last f ≡ b → first ≤ f → (g : ℕ)
+        × IsLastSending due every first last f g
+    go f true h low = now f low h
+    go zero false h low =
+        now zero low (sends-base due every first last zero some (inl (omega arith)))
+    go (suc f) false h low =
+        let none : IsBase due first (suc f) → ⊥ =
+        λ b. false≢true (sym h ∙ sends-base due every first last (suc f) some b) in
+        let later : first ≤ f =
+        elim (cases_lt f first) [
+          | inl here ↦ absurd (none (inl (omega arith)))
+          | inr before ↦ before
+        ] in
+        let found = go f (is_sending due every first last f) refl later in
         let back : suc f - 1 ≡ f = omega arith in (
           found.0,
           record {
             low = found.1.low;
             high = omega (arith, found.1.high);
             sends = found.1.sends;
-            none_after = λ k a c.
-                elim (cases_lt f k) [
-                  | inl last_k ↦ let e : suc f ≡ k = omega arith in
-                      subst (λ (x : ℕ). is_sending due every first last x ≡ false) e h
-                  | inr old ↦ found.1.none_after k a old
-                ];
-            same = found.1.same ∙ sym (same_from_base due first (suc f) i ∙ ap due back);
+            none_after = up_to_next (λ k. is_sending due every first last k ≡ false) found.0 f
+                found.1.none_after h;
+            same = found.1.same ∙ sym (same_unless_base due first (suc f) none ∙ ap due back);
           },
         )
 
--- ---- the law of gaps
+-- ---- the laws
 
--- What is left of `every` makes the distance whole.
-next_whole : (x every r n : ℕ) → 1 ≤ every → x % every ≡ r → r + n ≡ every → (x + n) % every ≡ 0
-next_whole x every r n some e f =
-    sym (mod-add-mod x every n) ∙ ap (λ (y : ℕ). (y + n) % every) e ∙ ap (λ (y : ℕ). y % every) f
-    ∙ mod_self every
-
--- Among `every` frames there is one that sends.
+-- Among `every` frames there is one that sends: the last sending up to the last of them, since else
+-- another would follow it.
 pub sending_in_gap : (due : ℕ → Rows) (every first last g : ℕ)
     → 1 ≤ every
     → first ≤ g
     → g + every ≤ last + 1
     → (f : ℕ) × (g ≤ f) × (f < g + every) × (is_sending due every first last f ≡ true)
 sending_in_gap due every first last g some low room =
-    let start = find_base due first g low in
-    let b : ℕ = start.0 in
-    let found : IsFound due first g b = start.1 in
-    let r : ℕ = (g - b) % every in
-    let small : r < every = mod-lt (g - b) (omega arith) in
-    elim (cases_lt 0 r) [
-      | inr zero_r ↦
-          let whole : (g - b) % every ≡ 0 = omega (arith, zero_r) in
-          (g, omega arith, omega arith, sends due every first last g b (omega arith) found whole)
-      | inl more ↦
-          let n : ℕ = every - r in
-          let t : ℕ = g + n in
-          let next = find_base due first t (omega arith) in
-          let k : ℕ = next.0 in
-          let last_base : IsFound due first t k = next.1 in
-          elim (cases_lt g k) [
-            | inl later ↦
-                let at_k : IsFound due first k k = record {
-                  low = last_base.low;
-                  high = omega arith;
-                  is = last_base.is;
-                  none = λ j a c. absurd (omega arith);
-                } in (
-                  k,
-                  omega arith,
-                  omega (arith, last_base.high, more),
-                  sends due every first last k k (omega (arith, last_base.high, more, room)) at_k
-                      (aligned-start k every some),
-                )
-            | inr old ↦
-                let e : t - b ≡ g - b + n = omega (arith, found.high) in
-                let whole : (t - b) % every ≡ 0 = ap (λ (y : ℕ). y % every) e
-                ∙ next_whole (g - b) every r n some refl (omega (arith, small)) in
-                let at_t : IsFound due first t b = record {
-                  low = found.low;
-                  high = omega (arith, found.high);
-                  is = found.is;
-                  none = λ j a c.
-                      elim (cases_lt g j) [
-                        | inl after ↦ last_base.none j (omega arith) c
-                        | inr within ↦ found.none j a within
-                      ];
-                } in (
-                  t,
-                  omega arith,
-                  omega (arith, more),
-                  sends due every first last t b (omega (arith, more, room)) at_t whole,
-                )
-          ]
+    let found = last_sending due every first last (g + every - 1) some (omega arith) in
+    let s : ℕ = found.0 in
+    let sent = found.1 in
+    elim (cases_lt s g) [
+      | inr late ↦ (s, late, omega (arith, sent.high), sent.sends)
+      | inl early ↦
+          absurd (false≢true (sym (sent.none_after (s + every) (omega arith) (omega arith))
+          ∙ sends-again due every first last s sent.low (omega arith) sent.sends
+          (λ k a c b. false≢true (sym (sent.none_after k a (omega arith))
+          ∙ sends-base due every first last k some b))))
     ]
 
 -- What was sent last is the page that is due.
 pub law_of_last_sending : LawOfLastSending
 law_of_last_sending = last_sending
 
--- ---- the law of equal pages
-
 -- A frame with the page of the frame before it is no base.
 pub law_of_equal_pages : LawOfEqualPages
-unfolding base
-law_of_equal_pages due first zero after same = absurd (omega arith)
-law_of_equal_pages due first (suc f) after same =
-    let e : is_base due first (suc f) ≡ false = no_base due first (suc f) after same in
-    let back : suc f - 1 ≡ f = omega arith in
-    rw (e, back) refl
+law_of_equal_pages due first f after same =
+    base_stays due first (f - 1) f (omega arith)
+    (λ k a c b. let e : k ≡ f = omega arith in elim (subst (IsBase due first) e b) [
+      | inl here ↦ absurd (omega (arith, here))
+      | inr other ↦ other same
+    ])

@@ -1,15 +1,18 @@
 -- What a sending holds and shows: law_of_sending, law_of_sent_packets, law_of_cut_sendings.
 use Rattle.std.proofs.Common.{◌≡◌, ℕ, zero, suc, ◌+◌, ◌-◌, ◌<◌, ◌≤◌, inl, inr, Bool, true, false}
 use Rattle.std.proofs.Common.{not, ◌==◌, cond, List, [], ◌∷◌, ◌++◌, length, map, filter, take, find}
-use Rattle.std.proofs.Common.{flat_map, option_map, unwrap_or, None, slice_index, All, refl, sym}
-use Rattle.std.proofs.Common.{ap, ◌∙◌, subst, arith, lit≤, eq-eqb, eqb-true, ne_eqb, append-nil}
-use Rattle.std.proofs.Common.{◌↔◌, replicate, true≢false}
-use Rattle.std.specs.List.{list_any, range_with_len, AllByRecursion}
+use Rattle.std.proofs.Common.{flat_map, option_map, unwrap_or, slice_index, All, refl, sym, ap, ◌∙◌}
+use Rattle.std.proofs.Common.{subst, arith, lit≤, eq-eqb, ne_eqb, append-nil, ◌↔◌, replicate}
+use Rattle.std.proofs.Common.{nat_le, nat_lt, ◌&&◌}
+use Rattle.std.specs.List.{range_with_len, AllByRecursion}
 use Rattle.std.proofs.Math.Seq.{take-append-add}
-use Rattle.std.proofs.lemmas.Bool.{cases_Bool, cases_eq, cases_lt, or_parts, or_left, or_right}
+use Rattle.std.proofs.lemmas.Bool.{cases_eq, cases_lt, or_parts, or_left, false≢true}
+use Rattle.std.proofs.lemmas.Bool.{true_from_ne_false}
 use Rattle.std.proofs.lemmas.List.{take_all, take-append-le, length_push, ext_get_or}
 use Rattle.std.proofs.lemmas.List.{get_or-replicate, length-replicate}
-use Rattle.std.proofs.lemmas.List.Folds.{list_any-append}
+use Rattle.std.proofs.lemmas.Bool.Decides.{nat_tests}
+use Rattle.std.proofs.Math.Bool.{or-true}
+use Rattle.std.proofs.lemmas.List.Folds.{list_any-append, list_any_none}
 use Rattle.std.proofs.lemmas.List.Elements.{All-nil, All-cons, All-push, All-map, All-filter}
 use Rattle.std.proofs.lemmas.List.Elements.{All-take, All-weaker, recursion_from_All}
 use Rattle.std.proofs.lemmas.Option.{none-some, same_Some}
@@ -21,7 +24,7 @@ use Rattle.ttx_page.specs.declared.packet_kind.PacketKind.{PacketKind}
 use Rattle.ttx_page.specs.declared.packet_kind.PacketKind.TheVariants.{ThisPage, EndsPage, Row}
 use Rattle.ttx_page.specs.Page.{Rows, space, cell, row_at, IsCell, IsPage}
 use Rattle.ttx_page.specs.PacketKind.{kind, is_this_page, ends_page, is_row}
-use Rattle.ttx_page.specs.Span.{holds_header, is_unended, before_end, span}
+use Rattle.ttx_page.specs.Span.{after_last_header, before_end, holds_header, is_unended, span}
 use Rattle.ttx_page.specs.Shown.{shown}
 use Rattle.ttx_page.proofs.SpanLists.{after-here, after-append}
 use Rattle.stl_rows.specs.declared.national.National.{National}
@@ -31,36 +34,23 @@ use Rattle.sub_plan.specs.Sending.{is_sent_row, watched_header, closing_header, 
 use Rattle.sub_plan.specs.Sending.{sent_rows, sending}
 use Rattle.sub_plan.specs.Laws.{AreRowsOfOnePage, IsRowOf, IsSentPacket, LawOfCutSendings}
 use Rattle.sub_plan.specs.Laws.{LawOfSending, LawOfSentPackets}
+use Rattle.sub_plan.proofs.ScheduleBases.{range_all}
 use Rattle.sub_plan.proofs.SentPackets.{opener, closer, made_opener, made_closer, packet_of_header}
 use Rattle.sub_plan.proofs.SentPackets.{packet_of_codes, row_of, row_length, row_codes, made_row}
 use Rattle.sub_plan.proofs.SentPackets.{kind_opener, kind_closer, kind_row}
 
 -- ---- the rows of a page
 
--- What holds in a range holds of each number of the list.
-pub range_all : (P : ℕ → Type 0) (a n : ℕ) → ((j : ℕ) → a ≤ j → j < a + n → P j)
-    → All P (range_with_len a n)
-range_all P a zero h = All-nil P
-range_all P a (suc n) h =
-    All-cons P a (range_with_len (a + 1) n) (h a (omega arith) (omega arith))
-    (range_all P (a + 1) n (λ j b c. h j (omega arith) (omega arith)))
-
--- The rows that are sent are rows of the page: of some rows.
-rows_are : (w : PageIdValue) (page : Rows) (a n : ℕ) → 1 ≤ a → a + n ≤ 25
-    → All (IsRowOf w page) (rows_from w.magazine page a n)
-rows_are w page a n one high =
-    All-map (IsRowOf w page) (row_of w page)
-    (filter (λ row. is_sent_row (row_at page row)) (range_with_len a n))
-    (All-filter (λ row. is_sent_row (row_at page row)) (λ row. IsRowOf w page (row_of w page row))
-    (range_with_len a n)
-    (range_all (λ row. IsRowOf w page (row_of w page row)) a n
-    (λ j b c. record { row = j; low = omega arith; high = omega arith; is = refl })))
-
--- And of all rows.
+-- The rows that are sent are rows of the page.
 pub sent_rows_are : (w : PageIdValue) (page : Rows)
     → All (IsRowOf w page) (sent_rows w.magazine page)
 unfolding sent_rows
-sent_rows_are w page = rows_are w page 1 24 (lit≤ tt) (lit≤ tt)
+sent_rows_are w page =
+    let test : ℕ → Bool = λ row. is_sent_row (row_at page row) in
+    All-map (IsRowOf w page) (row_of w page) (filter test (range_with_len 1 24))
+    (All-filter test (λ row. IsRowOf w page (row_of w page row)) (range_with_len 1 24)
+    (range_all (λ row. IsRowOf w page (row_of w page row)) 1 24
+    (λ j b c. record { row = j; low = b; high = omega arith; is = refl })))
 
 -- What a packet list shows in a cell, where it is the span.
 abbrev in_cell : PageIdValue → ℕ → ℕ → List (List ℕ) → ℕ
@@ -72,14 +62,9 @@ in_cell w row column packets =
 empty_cell : (codes : List ℕ) (column : ℕ) → is_sent_row codes ≡ false → column < length codes
     → slice_index codes column ≡ space
 empty_cell [] column e l = absurd (omega arith)
-empty_cell (c ∷ cs) zero e l = let parts = or_parts (not (c == space)) (is_sent_row cs) e in
-    eqb-true c space (double (c == space) parts.0)
-  where
-    double : (b : Bool) → not b ≡ false → b ≡ true
-    double true h = refl
-    double false h = cc
-empty_cell (c ∷ cs) (suc column) e l = let parts = or_parts (not (c == space)) (is_sent_row cs) e in
-    empty_cell cs column parts.1 (omega arith)
+empty_cell (c ∷ cs) zero e l = grind (arith, nat_tests)
+empty_cell (c ∷ cs) (suc column) e l =
+    empty_cell cs column (or_parts (not (c == space)) (is_sent_row cs) e).1 (omega arith)
 
 -- A row is sent where it is not blank. For `is_sent_row`.
 pub sent_by_blank : (b : Bool) (codes : List ℕ)
@@ -88,116 +73,85 @@ pub sent_by_blank : (b : Bool) (codes : List ℕ)
     → not b ≡ is_sent_row codes
 sent_by_blank true codes long h = sym (ap is_sent_row (h.0 refl))
 sent_by_blank false codes long h =
-    elim (cases_Bool (is_sent_row codes)) [
-      | inl sent ↦ sym sent
-      | inr none ↦
-          absurd (true≢false (sym (h.1 (ext_get_or 0 codes (replicate 40 space)
-          (long ∙ sym (length-replicate 40 space))
-          (λ i l. empty_cell codes i none l
-          ∙ sym (get_or-replicate 40 i space 0 (omega (arith, long))))))))
-    ]
+    sym (true_from_ne_false (is_sent_row codes) (λ none.
+    false≢true (h.1 (ext_get_or 0 codes (replicate 40 space)
+    (long ∙ sym (length-replicate 40 space))
+    (λ i l. empty_cell codes i none l
+    ∙ sym (get_or-replicate 40 i space 0 (omega (arith, long))))))))
 
 module _ (w : PageIdValue) (page : Rows) (ok : IsWatchable w) (shape : IsPage page) where
-  -- Which row a row packet is.
-  is_row_at : (row a : ℕ) → 1 ≤ a → a ≤ 24 → is_row row (kind w (row_of w page a)) ≡ (a == row)
-  is_row_at row a one high = ap (is_row row) (kind_row w page a ok shape one high)
-
-  -- No row before the first is found.
-  none_found : (row a n : ℕ) → 1 ≤ a → a + n ≤ 25 → row < a
-      → find (λ p. is_row row (kind w p)) (rows_from w.magazine page a n) ≡ None
-  none_found row a zero one high before = refl
-  none_found row a (suc n) one high before =
-      go (is_sent_row (row_at page a))
-      (none_found row (a + 1) n (omega arith) (omega arith) (omega arith))
+  -- Each cell of some rows that are sent is that of the page; a row that is not among them shows
+  -- spaces.
+  cell_found : (row column a n : ℕ) → 1 ≤ a → a + n ≤ 25 → column < 40
+      → in_cell w row column (rows_from w.magazine page a n)
+      ≡ cond (nat_le a row && nat_lt row (a + n)) (cell page row column) space
+  cell_found row column a zero one high in_row = grind (arith, nat_tests)
+  cell_found row column a (suc n) one high in_row =
+      rest (is_sent_row (row_at page a)) refl
+      (cell_found row column (a + 1) n (omega arith) (omega arith) in_row)
     where
-      go : (b : Bool) → find (λ p. is_row row (kind w p))
-          (rows_from w.magazine page (a + 1) n) ≡ None
-          → find (λ p. is_row row (kind w p))
-          (map (row_of w page) (cond b
-          (a ∷ filter (λ row. is_sent_row (row_at page row)) (range_with_len (a + 1) n))
-          (filter (λ row. is_sent_row (row_at page row)) (range_with_len (a + 1) n)))) ≡ None
-      go true ih = let t : is_row row (kind w (row_of w page a)) ≡ false =
-          is_row_at row a one (omega arith) ∙ ne_eqb a row (λ e. absurd (omega arith)) in rw t ih
-      go false ih = ih
+      later : List ℕ
+      later = filter (λ row. is_sent_row (row_at page row)) (range_with_len (a + 1) n)
 
-  -- Each cell of the rows is that of the page.
-  cell_found : (row column a n : ℕ) → 1 ≤ a → a + n ≤ 25 → a ≤ row → row < a + n → column < 40
-      → in_cell w row column (rows_from w.magazine page a n) ≡ cell page row column
-  cell_found row column a zero one high low below in_row = absurd (omega arith)
-  cell_found row column a (suc n) one high low below in_row =
-      elim (cases_eq a row) [
-        | inl here ↦ at_row (is_sent_row (row_at page a)) refl here
-        | inr other ↦ past (is_sent_row (row_at page a)) (λ e. other e)
-            (cell_found row column (a + 1) n (omega arith) (omega arith) (omega (arith, other))
-            (omega arith) in_row)
-      ]
-    where
-      rest : List ℕ
-      rest = filter (λ row. is_sent_row (row_at page row)) (range_with_len (a + 1) n)
+      is_row_at : is_row row (kind w (row_of w page a)) ≡ (a == row)
+      is_row_at = ap (is_row row) (kind_row w page a ok shape one (omega arith))
 
-      at_row : (b : Bool) → is_sent_row (row_at page a) ≡ b → a ≡ row
-          → in_cell w row column
-          (map (row_of w page) (cond b (a ∷ rest) rest)) ≡ cell page row column
-      at_row true h here =
-          let t : is_row row (kind w (row_of w page a)) ≡ true = is_row_at row a one (omega arith)
-          ∙ eq-eqb a row here in
-          rw t ((made_row w page a ok shape one (omega arith)).text column in_row
-          ∙ ap (λ (r : ℕ). cell page r column) here)
-      at_row false h here =
-          let f : find (λ p. is_row row (kind w p)) (map (row_of w page) rest) ≡ None =
-          none_found row (a + 1) n (omega arith) (omega arith) (omega arith) in
-          rw f (sym (empty_cell (row_at page a) column h
-          (omega (arith, row_length page a shape one (omega arith))))
-          ∙ ap (λ (r : ℕ). cell page r column) here)
-
-      past : (b : Bool) → (a ≡ row → ⊥)
-          → in_cell w row column (map (row_of w page) rest) ≡ cell page row column
-          → in_cell w row column
-          (map (row_of w page) (cond b (a ∷ rest) rest)) ≡ cell page row column
-      past true other ih = let t : is_row row (kind w (row_of w page a)) ≡ false =
-          is_row_at row a one (omega arith) ∙ ne_eqb a row other in rw t ih
-      past false other ih = ih
+      rest : (b : Bool) → is_sent_row (row_at page a) ≡ b
+          → in_cell w row column (map (row_of w page) later)
+          ≡ cond (nat_le (a + 1) row && nat_lt row (a + 1 + n)) (cell page row column) space
+          → in_cell w row column (map (row_of w page) (cond b (a ∷ later) later))
+          ≡ cond (nat_le a row && nat_lt row (a + suc n)) (cell page row column) space
+      rest true sent ih =
+          elim (cases_eq a row) [
+            | inl here ↦
+                rw (is_row_at ∙ eq-eqb a row here)
+                ((made_row w page a ok shape one (omega arith)).text column in_row
+                ∙ ap (λ (r : ℕ). cell page r column) here ∙ grind (arith, nat_tests, here))
+            | inr other ↦
+                rw (is_row_at ∙ ne_eqb a row other) (ih ∙ grind (arith, nat_tests, other))
+          ]
+      rest false sent ih =
+          elim (cases_eq a row) [
+            | inl here ↦
+                let long = row_length page a shape one (omega arith) in
+                let blank : cell page row column ≡ space =
+                rw here at (empty_cell (row_at page a) column sent (omega (arith, long))) in
+                ih ∙ grind (arith, nat_tests, here, blank)
+            | inr other ↦ ih ∙ grind (arith, nat_tests, other)
+          ]
 
   -- Each cell of the page is that of the rows that are sent.
   page_found : (row column : ℕ) → IsCell row column
       → in_cell w row column (sent_rows w.magazine page) ≡ cell page row column
   unfolding sent_rows
   page_found row column named =
-      cell_found row column 1 24 (lit≤ tt) (lit≤ tt) named.0 (omega (arith, named.1)) named.2
+      cell_found row column 1 24 (lit≤ tt) (lit≤ tt) named.2
+      ∙ grind (arith, nat_tests, named.0, named.1)
 
 -- ---- the span of a sending
 
--- A row or another packet that neither opens nor ends the page.
-abbrev IsPlain : {A : Type 0} → (A → PacketKind) → A → Type 0
-IsPlain kind_of x = (is_this_page (kind_of x) ≡ false) × (ends_page (kind_of x) ≡ false)
-
--- A row neither opens nor ends the page.
-plain_row : (w : PageIdValue) (page : Rows) (packet : List ℕ) → IsWatchable w → IsPage page
-    → IsRowOf w page packet → IsPlain (kind w) packet
-plain_row w page packet ok shape row =
-    let k : kind w packet ≡ Row row.row = ap (kind w) row.is
-    ∙ kind_row w page row.row ok shape row.low row.high in
-    (ap is_this_page k, ap ends_page k)
-
--- Rows and a packet that is no header of the page hold none.
-no_header : {A : Type 0} (kind_of : A → PacketKind) (rows : List A) (c : A) (m : ℕ)
-    → AllByRecursion (IsPlain kind_of) rows → is_this_page (kind_of c) ≡ false
-    → holds_header kind_of (take m (rows ++ c ∷ [])) ≡ false
-no_header kind_of [] c zero plain e = refl
-no_header kind_of [] c (suc zero) plain e = rw e refl
-no_header kind_of [] c (suc (suc m)) plain e = rw e refl
-no_header kind_of (r ∷ rows) c zero plain e = refl
-no_header kind_of (r ∷ rows) c (suc m) plain e = rw plain.0.0 (no_header kind_of rows c m plain.1 e)
-
--- Rows and a packet that ends the page, cut: the rows that are left.
+-- Items and one that ends the page, cut: the items that are left, where none of them ends it.
 cut_end : {A : Type 0} (kind_of : A → PacketKind) (rows : List A) (c : A) (m : ℕ)
-    → AllByRecursion (IsPlain kind_of) rows → ends_page (kind_of c) ≡ true
+    → AllByRecursion (λ x. ends_page (kind_of x) ≡ false) rows → ends_page (kind_of c) ≡ true
     → before_end kind_of (take m (rows ++ c ∷ [])) ≡ take m rows
-cut_end kind_of [] c zero plain e = refl
-cut_end kind_of [] c (suc m) plain e = rw e refl
-cut_end kind_of (r ∷ rows) c zero plain e = refl
-cut_end kind_of (r ∷ rows) c (suc m) plain e =
-    rw plain.0.1 (ap (λ ps. r ∷ ps) (cut_end kind_of rows c m plain.1 e))
+cut_end kind_of [] c zero go e = refl
+cut_end kind_of [] c (suc m) go e = rw e refl
+cut_end kind_of (r ∷ rows) c zero go e = refl
+cut_end kind_of (r ∷ rows) c (suc m) go e =
+    rw go.0 (ap (λ ps. r ∷ ps) (cut_end kind_of rows c m go.1 e))
+
+-- C11 of each header is that of the mode.
+mode_opener : (w : PageIdValue) (national : National) (serial : Bool)
+    → c11 (watched_header w national serial) ≡ serial
+mode_opener w English true = refl
+mode_opener w English false = refl
+mode_opener w German true = refl
+mode_opener w German false = refl
+
+-- So it is of the closing header.
+mode_closer : (serial : Bool) → c11 (closing_header serial) ≡ serial
+mode_closer true = refl
+mode_closer false = refl
 
 module _ (w : PageIdValue) (national : National) (serial : Bool) (page : Rows) (ok : IsWatchable w)
     (shape : IsPage page) where
@@ -205,11 +159,16 @@ module _ (w : PageIdValue) (national : National) (serial : Bool) (page : Rows) (
   abbrev rows : List (List ℕ)
   rows = sent_rows w.magazine page
 
-  -- They neither open nor end the page.
-  plain_rows : AllByRecursion (IsPlain (kind w)) rows
-  plain_rows = recursion_from_All (IsPlain (kind w)) rows
-      (All-weaker (IsRowOf w page) (IsPlain (kind w))
-      (λ p row. plain_row w page p ok shape row) rows (sent_rows_are w page))
+  -- The packets after the first.
+  abbrev rest : List (List ℕ)
+  rest = rows ++ closer w serial ∷ []
+
+  -- What the kind of a row says holds of all rows.
+  of_rows : (P : PacketKind → Type 0) → ((row : ℕ) → P (Row row)) → All (λ p. P (kind w p)) rows
+  of_rows P h =
+      All-weaker (IsRowOf w page) (λ p. P (kind w p))
+      (λ p row. rw (row.is, kind_row w page row.row ok shape row.low row.high) (h row.row))
+      rows (sent_rows_are w page)
 
   -- The first packet is a header of the page.
   opens : is_this_page (kind w (opener w national serial)) ≡ true
@@ -219,29 +178,28 @@ module _ (w : PageIdValue) (national : National) (serial : Bool) (page : Rows) (
   closes : ends_page (kind w (closer w serial)) ≡ true
   closes = ap ends_page (kind_closer w serial ok)
 
-  -- The last packet is no header of the page.
-  closer_is_no_header : is_this_page (kind w (closer w serial)) ≡ false
-  closer_is_no_header = ap is_this_page (kind_closer w serial ok)
+  -- None after the first is a header of the page, however it is cut.
+  no_header : (m : ℕ) → holds_header (kind w) (take m rest) ≡ false
+  no_header m =
+      let P : List ℕ → Type 0 = λ p. is_this_page (kind w p) ≡ false in
+      list_any_none (λ p. is_this_page (kind w p)) (take m rest)
+      (All-take P m rest
+      (All-push P rows (closer w serial) (of_rows (λ k. is_this_page k ≡ false) (λ row. refl))
+      (ap is_this_page (kind_closer w serial ok))))
+
+  -- What stands before the closing header, cut.
+  rows_before_end : (m : ℕ) → before_end (kind w) (take m rest) ≡ take m rows
+  rows_before_end m =
+      cut_end (kind w) rows (closer w serial) m
+      (recursion_from_All (λ p. ends_page (kind w p) ≡ false) rows
+      (of_rows (λ k. ends_page k ≡ false) (λ row. refl))) closes
 
   -- A sending cut short, but not of its header.
-  cut_span : (m : ℕ) → span (kind w)
-      (opener w national serial ∷ take m (rows ++ closer w serial ∷ [])) ≡ take m rows
+  cut_span : (m : ℕ) → span (kind w) (opener w national serial ∷ take m rest) ≡ take m rows
   cut_span m =
       ap (before_end (kind w))
-      (after-here (kind w) (opener w national serial) (take m (rows ++ closer w serial ∷ []))
-      (no_header (kind w) rows (closer w serial) m plain_rows closer_is_no_header) opens)
-      ∙ cut_end (kind w) rows (closer w serial) m plain_rows closes
-
-  -- The span of a whole sending is its rows.
-  whole_span : span (kind w) (sending w national serial page) ≡ rows
-  unfolding sending
-  whole_span =
-      let n : ℕ = suc (length rows) in
-      let long : length (rows ++ closer w serial ∷ []) ≤ n =
-      omega (arith, length_push rows (closer w serial)) in
-      subst (λ ps. span (kind w) (opener w national serial ∷ ps) ≡ rows)
-      (take_all n (rows ++ closer w serial ∷ []) long)
-      (cut_span n ∙ take_all n rows (omega arith))
+      (after-here (kind w) (opener w national serial) (take m rest) (no_header m) opens)
+      ∙ rows_before_end m
 
   -- A sending holds a header of the page.
   pub sending_holds : holds_header (kind w) (sending w national serial page) ≡ true
@@ -249,16 +207,28 @@ module _ (w : PageIdValue) (national : National) (serial : Bool) (page : Rows) (
   sending_holds = or_left _ _ opens
 
   -- Also when it is cut short, and with what follows it.
-  pub opens_cut : (m : ℕ) (rest : List (List ℕ))
-      → holds_header (kind w) (take (suc m) (sending w national serial page ++ rest)) ≡ true
+  pub opens_cut : (m : ℕ) (more : List (List ℕ))
+      → holds_header (kind w) (take (suc m) (sending w national serial page ++ more)) ≡ true
   unfolding sending
-  opens_cut m rest = or_left _ _ opens
+  opens_cut m more = or_left _ _ opens
 
-  -- Whatever came before, the span is its rows.
+  -- Whatever came before, its other packets stand after the last header.
+  after_sending : (before : List (List ℕ))
+      → after_last_header (kind w) (before ++ sending w national serial page) ≡ rest
+  unfolding sending
+  after_sending before =
+      after-append (kind w) before (opener w national serial ∷ rest) sending_holds
+      ∙ after-here (kind w) (opener w national serial) rest
+      (rw (take_all (length rest) rest (omega arith)) at (no_header (length rest))) opens
+
+  -- So the span is its rows.
   pub span_after : (before : List (List ℕ))
       → span (kind w) (before ++ sending w national serial page) ≡ rows
-  span_after before = ap (before_end (kind w))
-      (after-append (kind w) before (sending w national serial page) sending_holds) ∙ whole_span
+  span_after before =
+      let n : ℕ = length rest in
+      let short = length_push rows (closer w serial) in
+      ap (before_end (kind w)) (after_sending before)
+      ∙ rw (take_all n rest (omega arith), take_all n rows (omega arith)) at (rows_before_end n)
 
   -- So each cell that is shown is that of the page.
   pub shown_after : (before : List (List ℕ)) (row column : ℕ) → IsCell row column
@@ -269,20 +239,13 @@ module _ (w : PageIdValue) (national : National) (serial : Bool) (page : Rows) (
   -- And the closing header ends the page.
   pub ended_after : (before : List (List ℕ))
       → is_unended (kind w) (before ++ sending w national serial page) ≡ false
-  unfolding sending
   ended_after before =
-      let rest : List (List ℕ) = rows ++ closer w serial ∷ [] in
-      let n : ℕ = suc (length rows) in
-      let long : length rest ≤ n = omega (arith, length_push rows (closer w serial)) in
-      let none : holds_header (kind w) rest ≡ false =
-      subst (λ ps. holds_header (kind w) ps ≡ false) (take_all n rest long)
-      (no_header (kind w) rows (closer w serial) n plain_rows closer_is_no_header) in
-      ap (λ ps. not (list_any (λ p. ends_page (kind w p)) ps))
-      (after-append (kind w) before (opener w national serial ∷ rest) sending_holds
-      ∙ after-here (kind w) (opener w national serial) rest none opens)
-      ∙ ap not
-      (list_any-append (λ p. ends_page (kind w p)) rows (closer w serial ∷ [])
-      ∙ or_right _ _ (or_left _ _ closes))
+      rw (
+        after_sending before,
+        list_any-append (λ p. ends_page (kind w p)) rows (closer w serial ∷ []),
+        closes,
+        or-true,
+      ) refl
 
   -- ---- also cut short
 
@@ -313,24 +276,6 @@ module _ (w : PageIdValue) (national : National) (serial : Bool) (page : Rows) (
       (λ p is. subst P (sym is.is) (each is.row is.low is.high)) rows
       (sent_rows_are w page)) last)
 
-  -- C11 of each header is that of the mode.
-  mode_opener : c11 (watched_header w national serial) ≡ serial
-  mode_opener = mode_of_page serial national
-    where
-      mode_of_page : (b : Bool) (option : National) → c11 (watched_header w option b) ≡ b
-      mode_of_page true English = refl
-      mode_of_page true German = refl
-      mode_of_page false English = refl
-      mode_of_page false German = refl
-
-  -- So it is of the closing header.
-  mode_closer : c11 (closing_header serial) ≡ serial
-  mode_closer = mode_of_closing serial
-    where
-      mode_of_closing : (b : Bool) → c11 (closing_header b) ≡ b
-      mode_of_closing true = refl
-      mode_of_closing false = refl
-
   -- Each packet is as the law says.
   pub all_sent : All (IsSentPacket w national serial) (sending w national serial page)
   all_sent = each_packet (IsSentPacket w national serial) first last each
@@ -340,7 +285,8 @@ module _ (w : PageIdValue) (national : National) (serial : Bool) (page : Rows) (
           record {
             whole = packet_of_header w.magazine (watched_header w national serial) made.whole;
             exact = made.exact;
-            mode = λ h e. ap c11 (same_Some h _ (sym e ∙ made.header)) ∙ mode_opener;
+            mode = λ h e. ap c11 (same_Some h _ (sym e ∙ made.header))
+                ∙ mode_opener w national serial;
             page_header = λ h e. let f : ThisPage (watched_header w national serial) ≡ ThisPage h =
                 sym (kind_opener w national serial ok) ∙ e in cc;
           }
@@ -350,7 +296,7 @@ module _ (w : PageIdValue) (national : National) (serial : Bool) (page : Rows) (
           record {
             whole = packet_of_header w.magazine (closing_header serial) made.whole;
             exact = made.exact;
-            mode = λ h e. ap c11 (same_Some h _ (sym e ∙ made.header)) ∙ mode_closer;
+            mode = λ h e. ap c11 (same_Some h _ (sym e ∙ made.header)) ∙ mode_closer serial;
             page_header = λ h e. absurd
                 (let f : EndsPage ≡ ThisPage h = sym (kind_closer w serial ok) ∙ e in cc);
           }
@@ -375,10 +321,9 @@ law_of_sent_packets w national serial page ok shape = all_sent w national serial
 
 -- By the number of sendings: what stands before the last header does not matter.
 pub law_of_cut_sendings : LawOfCutSendings
-law_of_cut_sendings w national serial due [] zero ok shape =
-    record { page = due 0; shape = shape 0; rows = All-nil (IsRowOf w (due 0)) }
-law_of_cut_sendings w national serial due [] (suc n) ok shape =
-    record { page = due 0; shape = shape 0; rows = All-nil (IsRowOf w (due 0)) }
+law_of_cut_sendings w national serial due [] n ok shape =
+    rw (take_all {A = List ℕ} n [] (omega arith))
+    (record { page = due 0; shape = shape 0; rows = All-nil (IsRowOf w (due 0)) })
 law_of_cut_sendings w national serial due (f ∷ []) n ok shape =
     let one : List (List ℕ) = sending w national serial (due f) in
     subst (λ ps. AreRowsOfOnePage w (span (kind w) (take n ps))) (sym (append-nil one))

@@ -1,11 +1,11 @@
 -- How long a sending is, as a value and row by row: law_of_size, law_of_pes_values, sending_made.
 use Rattle.std.proofs.lemmas.List.Sums.{count_by-le-length, length-filter}
-use Rattle.std.proofs.Common.{◌≡◌, ℕ, ◌+◌, ◌-◌, ◌*◌, ◌^◌, ◌<◌, ◌≤◌, Bool, true, false, cond, List}
-use Rattle.std.proofs.Common.{[], ◌∷◌, ◌++◌, length, map, filter, All, refl, sym, ap, ◌∙◌, arith}
+use Rattle.std.proofs.Common.{◌≡◌, ℕ, suc, ◌+◌, ◌-◌, ◌*◌, ◌^◌, ◌<◌, ◌≤◌, Bool, true, false, cond}
+use Rattle.std.proofs.Common.{List, [], ◌∷◌, ◌++◌, length, map, filter, All, refl, ap, ◌∙◌, arith}
 use Rattle.std.proofs.Common.{lit<, append-nil}
 use Rattle.std.specs.List.{range_with_len}
 use Rattle.std.proofs.Math.Nat.{mod-lt}
-use Rattle.std.proofs.lemmas.List.{length_push, length-map, map-append}
+use Rattle.std.proofs.lemmas.List.{length_push, length-map}
 use Rattle.std.proofs.lemmas.List.FromFn.{length-range_with_len}
 use Rattle.std.proofs.lemmas.List.Elements.{All-weaker, recursion_from_All, filter-append}
 use Rattle.ttx_packet.specs.PacketAddress.{IsPacket}
@@ -13,7 +13,6 @@ use Rattle.ttx_packet.specs.PageHeader.{header_packet}
 use Rattle.ttx_packet.specs.PageId.{PageIdValue}
 use Rattle.ttx_packet.specs.RowPacket.{row_packet}
 use Rattle.ttx_page.specs.Page.{Rows, blank_row, row_at}
-use Rattle.ttx_page.specs.Shown.{shown}
 use Rattle.stl_rows.specs.declared.national.National.{National}
 use Rattle.ttx_pes.proofs.LineOrderLemmas.{numbered_is_value}
 use Rattle.sub_plan.specs.FrameTime.{pts_of}
@@ -22,8 +21,7 @@ use Rattle.sub_plan.specs.Sending.{sent_rows, sending}
 use Rattle.sub_plan.specs.Laws.{IsSentPacket, LawOfDueSize, LawOfPesValues, LawOfSize}
 use Rattle.sub_plan.specs.Schedule.{due_in}
 use Rattle.stl_rows.proofs.LastRowLemmas.{last_row_blank}
-use Rattle.sub_plan.proofs.ScheduleBases.{range_split}
-use Rattle.sub_plan.proofs.SentPackets.{opener, closer}
+use Rattle.sub_plan.proofs.SentPackets.{closer}
 use Rattle.sub_plan.proofs.SendingLemmas.{all_sent}
 
 -- ---- how long it is
@@ -67,20 +65,14 @@ rows_but_last :
 unfolding sent_rows
 rows_but_last magazine page e =
     let test : ℕ → Bool = λ row. is_sent_row (row_at page row) in
-    let last : filter test (24 ∷ []) ≡ [] =
-    ap (λ b. cond b (24 ∷ []) []) (ap is_sent_row e ∙ blank_unsent) in
     let rows : filter test (range_with_len 1 24) ≡ filter test (range_with_len 1 23) =
-    ap (filter test) (range_split 1 23 1)
-    ∙ filter-append test (range_with_len 1 23) (24 ∷ [])
-    ∙ ap (λ xs. filter test (range_with_len 1 23) ++ xs) last
-    ∙ append-nil (filter test (range_with_len 1 23)) in
-    let size =
-    length-map (filter test (range_with_len 1 24))
-    (λ row. row_packet magazine row (row_at page row)) in
-    let short = short_filter test (range_with_len 1 23) in
-    let long = length-range_with_len 1 23 in
-    let same = ap length rows in
-    omega (arith, size, short, long, same)
+    filter-append test (range_with_len 1 23) (24 ∷ [])
+    ∙ rw (ap is_sent_row e ∙ blank_unsent, append-nil) refl in
+    rw (
+      length-map (filter test (range_with_len 1 24))
+          (λ row. row_packet magazine row (row_at page row)),
+      rows,
+    ) (short_filter test (range_with_len 1 23))
 
 -- A sending of a page that is due: its header, at most 23 rows, the closing header.
 pub law_of_due_size : LawOfDueSize
@@ -109,73 +101,31 @@ law_of_pes_values o national serial page frame ok shape =
 
 -- ---- for a loop that makes it row by row
 
--- One row more, sent or not.
-rows_more : (magazine : ℕ) (page : Rows) (row : ℕ) (b : Bool)
-    → 1 ≤ row
-    → is_sent_row (row_at page row) ≡ b
-    → rows_from magazine page 1 (row + 1 - 1) ≡ rows_from magazine page 1 (row - 1)
-    ++ cond b (row_packet magazine row (row_at page row) ∷ []) []
-rows_more magazine page row b one e =
-    let test : ℕ → Bool = λ row. is_sent_row (row_at page row) in
-    let pack : ℕ → List ℕ = λ row. row_packet magazine row (row_at page row) in
-    let n : ℕ = row - 1 in
-    let f : row + 1 - 1 ≡ n + 1 = omega arith in
-    let g : 1 + n ≡ row = omega arith in
-    let split : range_with_len 1 (n + 1) ≡ range_with_len 1 n ++ row ∷ [] =
-    range_split 1 n 1 ∙ ap (λ (k : ℕ). range_with_len 1 n ++ k ∷ []) g in
-    ap (rows_from magazine page 1) f
-    ∙ ap (λ xs. map pack (filter test xs)) split
-    ∙ ap (map pack) (filter-append test (range_with_len 1 n) (row ∷ []))
-    ∙ map-append pack (filter test (range_with_len 1 n)) (filter test (row ∷ []))
-    ∙ ap (λ t. rows_from magazine page 1 n ++ map pack (cond t (row ∷ []) [])) e
-    ∙ made b
+-- Of the rows from one on: the row, where it is sent, and those after it. For `of_page`.
+pub rows_next : (magazine : ℕ) (page : Rows) (row : ℕ)
+    → row ≤ 24
+    → rows_from magazine page row (25 - row)
+    ≡ cond (is_sent_row (row_at page row)) (row_packet magazine row (row_at page row) ∷ []) []
+    ++ rows_from magazine page (row + 1) (25 - (row + 1))
+rows_next magazine page row high =
+    let e : 25 - row ≡ suc (24 - row) = omega arith in
+    let f : 25 - (row + 1) ≡ 24 - row = omega arith in
+    rw (e, f) (go (is_sent_row (row_at page row)) _)
   where
-    made : (t : Bool) → rows_from magazine page 1 (row - 1)
-        ++ map (λ row. row_packet magazine row (row_at page row)) (cond t (row ∷ []) [])
-        ≡ rows_from magazine page 1 (row - 1)
-        ++ cond t (row_packet magazine row (row_at page row) ∷ []) []
-    made true = refl
-    made false = refl
+    pack : ℕ → List ℕ
+    pack row = row_packet magazine row (row_at page row)
 
--- The row of a loop at `row`, whether it is sent or not.
-pub rows_sent : (magazine : ℕ) (page : Rows) (row : ℕ) (h : List ℕ) (old new : List (List ℕ))
-    → 1 ≤ row → is_sent_row (row_at page row) ≡ true
-    → old ≡ h ∷ rows_from magazine page 1 (row - 1)
-    → new ≡ old ++ row_packet magazine row (row_at page row) ∷ []
-    → new ≡ h ∷ rows_from magazine page 1 (row + 1 - 1)
-rows_sent magazine page row h old new one shown so_far is =
-    is ∙ ap (λ xs. xs ++ row_packet magazine row (row_at page row) ∷ []) so_far
-    ∙ ap (λ xs. h ∷ xs) (sym (rows_more magazine page row true one shown))
+    go : (b : Bool) → (rest : List ℕ)
+        → map pack (cond b (row ∷ rest) rest) ≡ cond b (pack row ∷ []) [] ++ map pack rest
+    go true rest = refl
+    go false rest = refl
 
--- The row of a loop at `row`, where it is not sent.
-pub rows_passed : (magazine : ℕ) (page : Rows) (row : ℕ) (h : List ℕ) (old : List (List ℕ))
-    → 1 ≤ row → is_sent_row (row_at page row) ≡ false
-    → old ≡ h ∷ rows_from magazine page 1 (row - 1)
-    → old ≡ h ∷ rows_from magazine page 1 (row + 1 - 1)
-rows_passed magazine page row h old one empty so_far =
-    so_far ∙ ap (λ xs. h ∷ xs) (sym (rows_more magazine page row false one empty
-    ∙ append-nil (rows_from magazine page 1 (row - 1))))
-
--- A list that had room has one packet more.
-pub short_pushed : (old new : List (List ℕ)) (packet : List ℕ) (row : ℕ)
-    → new ≡ old ++ packet ∷ []
-    → length old ≤ row
-    → length new ≤ row + 1
-short_pushed old new packet row is short = omega (arith, ap length is, length_push old packet)
-
--- After row 24 the closing header completes the sending.
+-- The closing header completes the sending, after row 24.
 pub sending_made : (w : PageIdValue) (national : National) (serial : Bool) (page : Rows)
-    (magazine row : ℕ) (packets : List (List ℕ))
-    → magazine ≡ w.magazine
-    → row ≡ 25
-    → packets ≡ (header_packet magazine
-    (watched_header w national serial) ∷ rows_from magazine page 1 (row - 1))
-    ++ header_packet magazine (closing_header serial) ∷ []
-    → packets ≡ sending w national serial page
+    (sent : List (List ℕ))
+    → sent ≡ header_packet w.magazine (watched_header w national serial)
+    ∷ rows_from w.magazine page 1 24
+    → sent ++ header_packet w.magazine (closing_header serial) ∷ []
+    ≡ sending w national serial page
 unfolding sending sent_rows
-sending_made w national serial page magazine row packets m e is =
-    let f : row - 1 ≡ 24 = omega arith in
-    is
-    ∙ ap (λ k. header_packet k (watched_header w national serial) ∷
-    (rows_from k page 1 (row - 1) ++ header_packet k (closing_header serial) ∷ [])) m
-    ∙ ap (λ n. opener w national serial ∷ (rows_from w.magazine page 1 n ++ closer w serial ∷ [])) f
+sending_made w national serial page sent is = rw is refl

@@ -1,17 +1,17 @@
 -- The packets of a sending, one by one: what is read of them, made_row, and their kinds, kind_row.
-use Rattle.std.proofs.Common.{◌≡◌, ℕ, zero, suc, ◌+◌, ◌-◌, ◌*◌, ◌/◌, ◌%◌, ◌<◌, ◌≤◌, Bool, true}
-use Rattle.std.proofs.Common.{false, ◌==◌, nat_le, cond, List, [], ◌∷◌, ◌++◌, length, map}
-use Rattle.std.proofs.Common.{replicate, slice_index_or, Option, slice_index, All, refl, ◌∙◌, arith}
-use Rattle.std.proofs.Common.{lit<, eq-eqb, ne_eqb}
-use Rattle.std.specs.List.{list_all, AllByRecursion}
-use Rattle.std.proofs.lemmas.Bool.{and_parts, ltb-true, le-leb}
+use Rattle.std.proofs.Common.{◌≡◌, ℕ, ◌+◌, ◌-◌, ◌*◌, ◌/◌, ◌%◌, ◌<◌, ◌≤◌, Bool, false, ◌==◌, List}
+use Rattle.std.proofs.Common.{[], ◌∷◌, ◌++◌, length, map, replicate, slice_index_or, slice_index}
+use Rattle.std.proofs.Common.{All, refl, arith, lit<, eq-eqb, ne_eqb, inl, inr}
+use Rattle.std.proofs.lemmas.Bool.{cases_lt, cond_both, le-leb, ltb-true}
+use Rattle.std.proofs.lemmas.List.{get_or_past}
+use Rattle.std.proofs.lemmas.List.Sums.{AllPass-from_list_all}
 use Rattle.std.specs.Prelude.{nat_lt}
-use Rattle.std.proofs.lemmas.List.Elements.{All-nil, All-cons, All-append, All-replicate, All-map}
-use Rattle.std.proofs.lemmas.List.Elements.{All-weaker, All-from_get_or, recursion_from_All}
+use Rattle.std.proofs.lemmas.List.Elements.{All-append, All-replicate, All-map, All-weaker}
+use Rattle.std.proofs.lemmas.List.Elements.{All-from_get_or}
 use Rattle.ttx_packet.specs.declared.header.Header.{Header}
 use Rattle.ttx_packet.specs.Hamming84.{code_word, code_words}
-use Rattle.ttx_packet.specs.PacketAddress.{PacketAddress, IsPacket, address, address_words}
-use Rattle.ttx_packet.specs.PageHeader.{header, header_numbers, header_packet, IsHeader}
+use Rattle.ttx_packet.specs.PacketAddress.{IsPacket, address_words}
+use Rattle.ttx_packet.specs.PageHeader.{header_numbers, header_packet, IsHeader}
 use Rattle.ttx_packet.specs.PageId.{PageIdValue}
 use Rattle.ttx_packet.specs.Parity.{is_odd, odd_byte}
 use Rattle.ttx_packet.specs.RowPacket.{row_packet}
@@ -20,66 +20,60 @@ use Rattle.ttx_packet.proofs.ControlLemmas.{bit_small}
 use Rattle.ttx_packet.proofs.MadePackets.{law_of_header_packet, law_of_row_packet}
 use Rattle.ttx_page.specs.declared.packet_kind.PacketKind.TheVariants.{ThisPage, EndsPage, Row}
 use Rattle.ttx_page.specs.Page.{Rows, row_at, IsPage}
-use Rattle.ttx_page.specs.PacketKind.{kind, kind_at}
+use Rattle.ttx_page.specs.PacketKind.{kind}
 use Rattle.stl_rows.specs.declared.national.National.{National}
 use Rattle.sub_plan.specs.Options.{IsWatchable}
 use Rattle.sub_plan.specs.Sending.{has_c14, watched_header, closing_header}
 
 -- ---- packets of bytes
 
--- Each place of a list of bytes, past its end too.
-byte_at : (xs : List ℕ) → AllByRecursion (λ b. b < 0x100) xs → (n : ℕ) → slice_index xs n < 0x100
-byte_at [] h zero = lit< tt
-byte_at [] h (suc n) = lit< tt
-byte_at (x ∷ xs) h zero = h.0
-byte_at (x ∷ xs) h (suc n) = byte_at xs h.1 n
+-- The number is a byte's.
+abbrev IsByte : ℕ → Type 0
+IsByte b = b < 0x100
 
--- The same where a test says it.
-byte_by_test : (xs : List ℕ) → list_all (λ b. nat_lt b 0x100) xs ≡ true
-    → (n : ℕ) → slice_index xs n < 0x100
-byte_by_test [] e zero = lit< tt
-byte_by_test [] e (suc n) = lit< tt
-byte_by_test (x ∷ xs) e zero = ltb-true x 0x100 (and_parts (nat_lt x 0x100) _ e).0
-byte_by_test (x ∷ xs) e (suc n) = byte_by_test xs (and_parts (nat_lt x 0x100) _ e).1 n
+-- Each place of a list of bytes, past its end too.
+byte_at : (xs : List ℕ) → All IsByte xs → (n : ℕ) → slice_index xs n < 0x100
+byte_at xs all n =
+    elim (cases_lt n (length xs)) [
+      | inl h ↦ all n 0 h
+      | inr h ↦ rw (get_or_past xs n 0 h) (lit< tt)
+    ]
 
 -- A code word is a byte: 16 entries, computed.
 code_word_small : (n : ℕ) → code_word n < 0x100
-code_word_small n = byte_by_test code_words refl n
+code_word_small n =
+    byte_at code_words
+    (λ k d h. ltb-true _ 0x100 (AllPass-from_list_all (λ b. nat_lt b 0x100) code_words refl k d h))
+    n
+
+-- So is each of several.
+code_words_small : (numbers : List ℕ) → All IsByte (map code_word numbers)
+code_words_small numbers =
+    All-map IsByte code_word numbers (λ k d l. code_word_small (slice_index_or numbers k d))
 
 -- So is a byte of odd parity.
 odd_byte_small : (code : ℕ) → code < 0x80 → odd_byte code < 0x100
-odd_byte_small code l = go (is_odd code)
-  where
-    go : (b : Bool) → cond b code (code + 0x80) < 0x100
-    go true = omega arith
-    go false = omega arith
+odd_byte_small code l =
+    cond_both (is_odd code) code (code + 0x80) IsByte (λ _. omega arith) (λ _. omega arith)
 
--- 42 bytes are a packet.
-packet_from : (packet : List ℕ) → length packet ≡ 42 → All (λ b. b < 0x100) packet → IsPacket packet
-packet_from packet size all =
-    record { size = size; bytes = byte_at packet (recursion_from_All (λ b. b < 0x100) packet all) }
-
--- The address of a packet is two bytes.
-address_small : (magazine y : ℕ) → All (λ b. b < 0x100) (address_words magazine y)
-address_small magazine y =
-    let low : ℕ = code_word ((magazine + 8 * y) % 16) in
-    let high : ℕ = code_word ((magazine + 8 * y) / 16) in
-    All-cons (λ b. b < 0x100) low (high ∷ []) (code_word_small ((magazine + 8 * y) % 16))
-    (All-cons (λ b. b < 0x100) high [] (code_word_small ((magazine + 8 * y) / 16))
-    (All-nil (λ b. b < 0x100)))
+-- 42 bytes, of which the first two are the address, are a packet.
+packet_from : (magazine y : ℕ) (rest : List ℕ) → length (address_words magazine y ++ rest) ≡ 42
+    → All IsByte rest → IsPacket (address_words magazine y ++ rest)
+packet_from magazine y rest size all = record {
+  size = size;
+  bytes = byte_at (address_words magazine y ++ rest)
+      (All-append IsByte (address_words magazine y) rest
+      (code_words_small ((magazine + 8 * y) % 16 ∷ (magazine + 8 * y) / 16 ∷ [])) all);
+}
 
 -- A header packet is a packet of bytes.
 pub packet_of_header : (magazine : ℕ) (h : Header) → length (header_packet magazine h) ≡ 42
     → IsPacket (header_packet magazine h)
 unfolding header_packet
 packet_of_header magazine h size =
-    packet_from _ size
-    (All-append (λ b. b < 0x100) (address_words magazine 0)
-    (map code_word (header_numbers h) ++ replicate 32 0x20) (address_small magazine 0)
-    (All-append (λ b. b < 0x100) (map code_word (header_numbers h)) (replicate 32 0x20)
-    (All-map (λ b. b < 0x100) code_word (header_numbers h)
-    (λ k d l. code_word_small (slice_index_or (header_numbers h) k d)))
-    (All-replicate (λ b. b < 0x100) 32 0x20 (lit< tt))))
+    packet_from magazine 0 _ size
+    (All-append IsByte (map code_word (header_numbers h)) (replicate 32 0x20)
+    (code_words_small (header_numbers h)) (All-replicate IsByte 32 0x20 (lit< tt)))
 
 -- A row packet is one too.
 pub packet_of_codes : (magazine row : ℕ) (codes : List ℕ)
@@ -87,11 +81,9 @@ pub packet_of_codes : (magazine row : ℕ) (codes : List ℕ)
     → All (λ c. c < 0x80) codes → IsPacket (row_packet magazine row codes)
 unfolding row_packet
 packet_of_codes magazine row codes size all =
-    packet_from _ size
-    (All-append (λ b. b < 0x100) (address_words magazine row) (map odd_byte codes)
-    (address_small magazine row)
-    (All-map (λ b. b < 0x100) odd_byte codes
-    (All-weaker (λ c. c < 0x80) (λ c. odd_byte c < 0x100) odd_byte_small codes all)))
+    packet_from magazine row _ size
+    (All-map IsByte odd_byte codes
+    (All-weaker (λ c. c < 0x80) (λ c. odd_byte c < 0x100) odd_byte_small codes all))
 
 -- ---- what the packets are
 
@@ -160,36 +152,30 @@ made_row w page row ok shape one high =
 
 -- ---- their kinds
 
--- The kind of a packet, from what is read of it.
-kind_from : (w : PageIdValue) (packet : List ℕ) (a : Option PacketAddress) (h : Option Header)
-    → address packet ≡ a → header packet ≡ h → kind w packet ≡ kind_at w a h
-unfolding kind
-kind_from w packet a h p q = rw (p, q) refl
-
 -- The header of the page is one of the page.
 pub kind_opener : (w : PageIdValue) (national : National) (serial : Bool) → IsWatchable w
     → kind w (opener w national serial) ≡ ThisPage (watched_header w national serial)
+unfolding kind
 kind_opener w national serial ok =
     let made = made_opener w national serial ok in
-    let m : (w.magazine == w.magazine) ≡ true = eq-eqb _ _ refl in
-    let p : (w.page == w.page) ≡ true = eq-eqb _ _ refl in
-    kind_from w _ _ _ made.address made.header ∙ rw (m, p) refl
+    rw (made.address, made.header, eq-eqb w.magazine w.magazine refl, eq-eqb w.page w.page refl)
+    refl
 
 -- The closing header ends the page.
 pub kind_closer : (w : PageIdValue) (serial : Bool) → IsWatchable w
     → kind w (closer w serial) ≡ EndsPage
+unfolding kind
 kind_closer w serial ok =
     let made = made_closer w serial ok in
-    let m : (w.magazine == w.magazine) ≡ true = eq-eqb _ _ refl in
-    let p : (0xFF == w.page) ≡ false = ne_eqb _ _ (λ e. absurd (omega (arith, ok.page_number))) in
-    kind_from w _ _ _ made.address made.header ∙ rw (m, p) refl
+    let other : (0xFF == w.page) ≡ false =
+    ne_eqb _ _ (λ e. absurd (omega (arith, ok.page_number))) in
+    rw (made.address, made.header, eq-eqb w.magazine w.magazine refl, other) refl
 
 -- A row of the page is that row.
 pub kind_row : (w : PageIdValue) (page : Rows) (row : ℕ) → IsWatchable w → IsPage page → 1 ≤ row
     → row ≤ 24 → kind w (row_of w page row) ≡ Row row
+unfolding kind
 kind_row w page row ok shape one high =
     let made = made_row w page row ok shape one high in
     let z : (row == 0) ≡ false = ne_eqb _ _ (λ e. absurd (omega arith)) in
-    let m : (w.magazine == w.magazine) ≡ true = eq-eqb _ _ refl in
-    let l : nat_le row 24 ≡ true = le-leb row 24 high in
-    kind_from w _ _ _ made.address made.header ∙ rw (z, m, l) refl
+    rw (made.address, made.header, z, eq-eqb w.magazine w.magazine refl, le-leb row 24 high) refl

@@ -5,9 +5,9 @@ use Rattle.std.specs.List.{range_with_len}
 use Rattle.ttx_pes.specs.PesPacket.{canonical_packet}
 use Rattle.sub_plan.specs.Schedule.{pes_value}
 
--- The frames from one up to before another that are a multiple of `every` after a base.
-unfoldable pub steps : ℕ → ℕ → ℕ → ℕ → List ℕ
-steps every base from end = filter (λ f. (f - base) % every == 0) (range_with_len from (end - from))
+-- The frames from one up to before another that are a multiple of `every` after the first.
+unfoldable pub steps : ℕ → ℕ → ℕ → List ℕ
+steps every from end = filter (λ f. (f - from) % every == 0) (range_with_len from (end - from))
 
 -- Packets that are sent at a frame, as a PES packet.
 abbrev pub packets_at : ℕ → List (List ℕ) → ℕ → List ℕ

@@ -81,11 +81,9 @@ fn send_steps<K: Sink>(
     requires packets { length packets.now ≤ 32 }
     requires failures { CanFail (K.failure_count sink.old) }
     ensures few { IfOk result (λ n. n ≤ end - from) }
-    ensures number { IfOk result (λ n. n ≡ length (steps options.now.every from from end)) }
-    ensures bytes { Writes (K.contents sink.old) (K.contents sink.new)
-        (flat_map (packets_at options.now.origin packets.now)
-        (steps options.now.every from from end))
-        result }
+    ensures number { IfOk result (λ n. n ≡ length (steps options.now.every from end)) }
+    ensures bytes { Writes (K.contents sink.old) (K.contents sink.new) (flat_map
+        (packets_at options.now.origin packets.now) (steps options.now.every from end)) result }
     ensures count { CountsFailure (K.failure_count sink.old) result (K.failure_count sink.new) }
 {
     let every = step_of(options);

@@ -1,6 +1,7 @@
 -- Before each stretch: the sendings before its base are done, and its page is at hand.
-use Rattle.std.proofs.Common.{◌≡◌, ◌+◌, ◌-◌, ◌<◌, ◌≤◌, true, length}
-use Rattle.sub_plan.specs.Schedule.{due_in, is_base, sending_at, sendings, sendings_from}
+use Rattle.std.proofs.Common.{◌≡◌, ◌-◌, ◌<◌, ◌≤◌}
+use Rattle.sub_plan.specs.Laws.{IsBase}
+use Rattle.sub_plan.specs.Schedule.{due_in, sending_at, sendings, sendings_from}
 use Rattle.sub_plan.proofs.PartLemmas.{IsPartDone}
 use Rattle.sub_plan.proofs.scheduling.send_all.Given as goal
 
@@ -10,16 +11,13 @@ invariant-loop-frame g l = record {
   high : l.frame ≤ l.last;
   option : l.national ≡ l.programme.national;
   page : l.page ≡ due_in l.programme l.frame;
-  starts : l.frame < l.last → is_base (due_in l.programme) l.first l.frame ≡ true;
+  starts : l.frame < l.last → IsBase (due_in l.programme) l.first l.frame;
   few : l.count ≤ l.frame - l.first;
-  number :
-      l.count + length (sendings_from (due_in l.programme) l.options.every l.first l.last l.frame)
-      ≡ length (sendings (due_in l.programme) l.options.every l.first l.last);
   failures : g.K.Sink.failure_count l.sink ≡ g.K.Sink.failure_count l.initial.sink;
   part :
       IsPartDone (g.K.Sink.contents l.initial.sink) (g.K.Sink.contents l.sink)
       (sending_at (due_in l.programme) l.options l.programme.national l.serial)
-      (sendings_from (due_in l.programme) l.options.every l.first l.last l.frame)
+      l.count (sendings_from (due_in l.programme) l.options.every l.first l.last l.frame)
       (sendings (due_in l.programme) l.options.every l.first l.last);
 }
 

@@ -1,5 +1,6 @@
--- After each row: the header of the page and the rows up to this one are in the list.
-use Rattle.std.proofs.Common.{◌≡◌, ◌-◌, ◌≤◌, ◌∷◌, length}
+-- After each row: the packets in the list and the rows after this one are the header of the page
+-- and all rows.
+use Rattle.std.proofs.Common.{◌≡◌, ◌-◌, ◌≤◌, ◌∷◌, ◌++◌, length}
 use Rattle.ttx_packet.specs.PageHeader.{header_packet}
 use Rattle.sub_plan.specs.Sending.{watched_header, rows_from}
 use Rattle.sub_plan.proofs.sending.Sending.of_page.Given as goal
@@ -9,7 +10,7 @@ invariant-loop-row l = record {
   past : 1 ≤ l.row;
   short : length l.sent ≤ l.row;
   so_far :
-      l.sent
+      l.sent ++ rows_from l.magazine l.page l.row (25 - l.row)
       ≡ header_packet l.magazine (watched_header l.fn.watched l.fn.national l.serial)
-      ∷ rows_from l.magazine l.page 1 (l.row - 1);
+      ∷ rows_from l.magazine l.page 1 24;
 }
