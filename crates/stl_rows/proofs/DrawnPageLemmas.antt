@@ -2,12 +2,13 @@
 -- is_drawn-next. And what faults tell of the drawn page: drawn-first.
 use Rattle.std.proofs.Common.{◌≡◌, ◌≢◌, ℕ, zero, suc, ◌+◌, ◌-◌, ◌<◌, ◌≤◌, false, nat_lt, List, []}
 use Rattle.std.proofs.Common.{◌∷◌, ◌++◌, Ok, Err, length, map, get_or, refl, sym, ap, ◌∙◌, arith}
-use Rattle.std.proofs.Common.{inl, inr, cond, rules, get_or-set_other, length-append, append_assoc, append-nil}
+use Rattle.std.proofs.Common.{inl, inr, cond, rules, get_or-set_other, length-append, append_assoc}
+use Rattle.std.proofs.Common.{append-nil}
 use Rattle.std.proofs.lemmas.Bool.{cases_eq, cond_both, lt-ltb}
 use Rattle.std.proofs.lemmas.Bool.Decides.{nat_tests}
 use Rattle.std.proofs.lemmas.Grind.{get_or-set_at}
-use Rattle.std.proofs.lemmas.List.{ext_get_or, get_or-append-add, get_or_append_left}
-use Rattle.std.proofs.lemmas.List.{get_or_past, get_or_push, length-set}
+use Rattle.std.proofs.lemmas.List.{ext_get_or, get_or-append-add, get_or_append_left, get_or_past}
+use Rattle.std.proofs.lemmas.List.{get_or_push, length-set}
 use Rattle.std.proofs.lemmas.List.FromFn.{get_or-map-range_with_len, length-map-range_with_len}
 use Rattle.std.specs.List.{range_with_len}
 use Rattle.std.specs.Prelude.{IsOk, MatchOption, slice_set}
@@ -15,8 +16,8 @@ use Rattle.ttx_page.specs.Page.{Rows, blank, blank_row}
 use Rattle.stl_file.specs.Subtitle.{SubtitleValue}
 use Rattle.stl_rows.specs.declared.fault.RowFault.{RowFault}
 use Rattle.stl_rows.specs.declared.national.National.{National}
-use Rattle.stl_rows.specs.DrawnPage.{drawn, faults, line_faults, line_on, lines}
-use Rattle.stl_rows.specs.DrawnPage.{page_of_lines, unless}
+use Rattle.stl_rows.specs.DrawnPage.{drawn, faults, line_faults, line_on, lines, page_of_lines}
+use Rattle.stl_rows.specs.DrawnPage.{unless}
 use Rattle.stl_rows.specs.Line.{code_in_column, prepared, row_of, start_column}
 use Rattle.stl_rows.specs.LineByLine.{FitsRow, put_line}
 use Rattle.stl_rows.specs.TextCode.{first_of, refusals, text_codes}

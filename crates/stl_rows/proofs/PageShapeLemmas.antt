@@ -1,13 +1,12 @@
 -- Each due page is a page, 24 rows of 40 codes below 128: due_is_page.
-use Rattle.std.proofs.Common.{ℕ, zero, suc, ◌+◌, ◌-◌, ◌<◌, not, ◌&&◌, ◌==◌, nat_le, nat_lt}
-use Rattle.std.proofs.Common.{List, [], ◌∷◌, ◌++◌, map, get_or, Option, Some, None, refl, arith}
-use Rattle.std.proofs.Common.{lit<}
-use Rattle.std.specs.List.{range_with_len, onto_first, AllByRecursion}
-use Rattle.std.specs.Prelude.{⊤}
+use Rattle.std.proofs.Common.{ℕ, zero, suc, ◌+◌, ◌-◌, ◌<◌, not, ◌&&◌, ◌==◌, nat_le, nat_lt, List}
+use Rattle.std.proofs.Common.{[], ◌∷◌, ◌++◌, map, get_or, Option, Some, None, refl, arith, lit<}
+use Rattle.std.specs.List.{range_with_len, AllByRecursion}
+use Rattle.std.specs.Prelude.{IfSome}
 use Rattle.std.proofs.lemmas.Bool.{cond_both}
 use Rattle.std.proofs.lemmas.Bool.Decides.{nat_tests}
 use Rattle.std.proofs.lemmas.List.FromFn.{get_or-map-range_with_len, length-map-range_with_len}
-use Rattle.ttx_page.specs.Page.{IsPage}
+use Rattle.ttx_page.specs.Page.{IsCode, IsPage}
 use Rattle.ttx_page.proofs.PageLemmas.{is_page_blank}
 use Rattle.stl_file.specs.Subtitle.{SubtitleValue}
 use Rattle.stl_rows.specs.declared.text_code.TextCode.{TextCode}
@@ -29,8 +28,7 @@ use Rattle.stl_rows.proofs.LineLemmas.{Small, holds_at, holds_map, row_length, r
 
 -- a cell, if there is one, is a code
 abbrev SmallCode : Option ℕ → Type 0
-SmallCode None = ⊤
-SmallCode (Some code) = code < 128
+SmallCode cell = IfSome cell IsCode
 
 -- each entry of a table gives cells below 128
 abbrev SmallEntries : List CellEntry → Type 0
@@ -51,11 +49,6 @@ unfolding cell_of
 cell_of-small English b = cell_in-small (cells English) b (omega arith)
 cell_of-small German b = cell_in-small (cells German) b (omega arith)
 
--- the table of letters after C8 gives codes
-cell_of_letter-small : (c : ℕ) → SmallCode (cell_of_letter c)
-unfolding cell_of_letter
-cell_of_letter-small c = cell_in-small diaeresis_cells c (omega arith)
-
 -- a byte with no entry gives no cell, and so no cell that is no code
 other_small : (byte : ℕ) → HasSevenBits (code_of_other byte)
 unfolding code_of_other
@@ -75,11 +68,12 @@ code_small national byte = go (cell_of national byte) (cell_of-small national by
 -- the cell of a pair is a code
 pair_small : (national : National) (b : ℕ) (next : Option ℕ)
     → SmallCode (cell_of_pair national b next)
-unfolding cell_of_pair
+unfolding cell_of_pair cell_of_letter
 pair_small English b next = tt
 pair_small German b None = cond_both (b == diaeresis) _ _ SmallCode (λ _. tt) (λ _. tt)
 pair_small German b (Some c) =
-    cond_both (b == diaeresis) _ _ SmallCode (λ _. cell_of_letter-small c) (λ _. tt)
+    cond_both (b == diaeresis) _ _ SmallCode
+    (λ _. cell_in-small diaeresis_cells c (omega arith)) (λ _. tt)
 
 -- the cell of a pair or of a byte by itself is a code
 by_small : (pair : Option ℕ) (alone : TextCode)
@@ -89,20 +83,13 @@ by_small : (pair : Option ℕ) (alone : TextCode)
 by_small None alone h k = k
 by_small (Some code) alone h k = h
 
--- a code before a line of codes
-onto_small : (code : ℕ) (ls : List (List ℕ))
-    → code < 128
-    → AllByRecursion Small ls
-    → AllByRecursion Small (onto_first code ls)
-onto_small code [] l h = ((l, tt), tt)
-onto_small code (part ∷ parts) l h = ((l, h.0), h.1)
-
 -- a text code before lines of codes
 with_small : (s : TextCode) (ls : List (List ℕ))
     → HasSevenBits s
     → AllByRecursion Small ls
     → AllByRecursion Small (with_code s ls)
-with_small (Cell code) ls l h = onto_small code ls l h
+with_small (Cell code) [] l h = ((l, tt), tt)
+with_small (Cell code) (line ∷ ls) l h = ((l, h.0), h.1)
 with_small NoCell ls l h = h
 with_small NewLine ls l h = (tt, h)
 with_small (Refused kind) ls l h = h
