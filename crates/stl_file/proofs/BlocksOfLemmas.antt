@@ -14,67 +14,45 @@ use Rattle.stl_file.specs.NormalForm.{all_blocks, block_of, blocks_from, full_pi
 use Rattle.stl_file.specs.NormalForm.{block_head, text_field}
 use Rattle.stl_file.proofs.TimeCodeLemmas.{time_in_range}
 use Rattle.stl_file.proofs.SubtitleLemmas.{IsClean, before_clean, clean_take, clean_drop, clean_of}
-use Rattle.stl_file.proofs.SubtitleBlocksLemmas.{chain_cons, chain_text, blocks_subtitle}
+use Rattle.stl_file.proofs.SubtitleBlocksLemmas.{linked_cons, linked_text, blocks_subtitle}
 
 -- ---- one block
 
--- a head, a piece and unused space were added
-pub pushed : (out a b c head piece pad : List ℕ) (s : SubtitleValue) (ebn : ℕ)
-    → a ≡ out ++ head
-    → b ≡ a ++ piece
-    → c ≡ b ++ pad
-    → head ≡ block_head s ebn
-    → pad ≡ drop (length piece) (replicate 112 unused_space)
-    → c ≡ out ++ block_of s ebn piece
-unfolding block_of
-pushed out a b c head piece pad s ebn ea eb ec eh ep =
-    let field : pad ≡ replicate (112 - length piece) unused_space =
-    ep ∙ drop-replicate (length piece) 112 unused_space in
-    ec ∙ rw (eb, ea, field)
-    (append_assoc (out ++ head) piece (replicate (112 - length piece) unused_space)
-    ∙ append_assoc out head (piece ++ replicate (112 - length piece) unused_space)
-    ∙ ap (λ (h : List ℕ). out ++ (h ++ text_field piece)) eh)
+-- the unused space after a piece of text
+pub pad_is : (piece : List ℕ)
+    → drop (length piece) (replicate 112 unused_space)
+    ≡ replicate (112 - length piece) unused_space
+pad_is piece = drop-replicate (length piece) 112 unused_space
 
--- the text of a block that was made
-text_back : (s : SubtitleValue) (e : ℕ) (piece : List ℕ)
+-- what `push_block` needs
+pub ruleset pushed = (append_assoc, pad_is)
+
+-- a block that was made has its EBN and its text
+block_fields : (s : SubtitleValue) (e : ℕ) (piece : List ℕ)
     → IsClean piece
-    → text_of (block_of s e piece) ≡ piece
+    → (ebn (block_of s e piece) ≡ e) × (text_of (block_of s e piece) ≡ piece)
 unfolding block_of
-text_back s e piece h = before_clean piece (112 - length piece) h
-
--- a block that was made has 128 bytes
-block_size : (s : SubtitleValue) (e : ℕ) (piece : List ℕ)
-    → length piece ≤ 112
-    → length (block_of s e piece) ≡ 128
-unfolding block_of
-block_size s e piece le = let l =
-    length-append piece (replicate (112 - length piece) unused_space) in let r =
-    length-replicate (112 - length piece) unused_space in omega arith
+block_fields s e piece h = (refl, before_clean piece (112 - length piece) h)
 
 -- it belongs to the subtitle
 block_belongs : (s : SubtitleValue) (e : ℕ) (piece : List ℕ)
     → length piece ≤ 112
     → BelongsTo s.sgn s.sn (block_of s e piece)
 unfolding block_of
-block_belongs s e piece le =
-    record {
-      size = block_size s e piece le;
-      is_subtitle = refl;
-      same_sgn = refl;
-      same_sn = omega arith;
-    }
-
--- its EBN is the one that was given
-block_ebn : (s : SubtitleValue) (e : ℕ) (piece : List ℕ) → ebn (block_of s e piece) ≡ e
-unfolding block_of
-block_ebn s e piece = refl
+block_belongs s e piece le = record {
+  size = let pad = replicate (112 - length piece) unused_space in
+      omega (arith, length-append piece pad, length-replicate (112 - length piece) unused_space);
+  is_subtitle = refl;
+  same_sgn = refl;
+  same_sn = omega arith;
+}
 
 -- a block that was made begins the subtitle
-block_heads : (s : SubtitleValue) (e : ℕ) (piece : List ℕ)
+block_begins : (s : SubtitleValue) (e : ℕ) (piece : List ℕ)
     → IsSubtitle s
     → Begins s (block_of s e piece)
 unfolding block_of
-block_heads s e piece h =
+block_begins s e piece h =
     let early : s.tci < 2160000 = let d = h.in_day in let t = h.times in omega arith in
     record {
       cumulative = refl;
@@ -92,59 +70,28 @@ block_heads s e piece h =
 -- ---- the blocks of a subtitle, as they are written
 
 -- a long text has one piece more than what is after its first piece
-pub pieces_more : (text : List ℕ)
+pieces_more : (text : List ℕ)
     → 112 < length text
     → full_pieces text ≡ suc (full_pieces (drop 112 text))
-pieces_more text lt = let l : length (drop 112 text) ≡ length text - 112 = length-drop 112 text in
-    omega arith
+pieces_more text lt = omega (arith, length-drop 112 text)
 
--- a short text is its last piece
-pub pieces_end : (text : List ℕ) → length text ≤ 112 → full_pieces text ≡ 0
-pieces_end text le = omega arith
-
--- a full block in front
-blocks_suc : (s : SubtitleValue) (full ebn : ℕ) (text : List ℕ)
-    → blocks_from s (suc full) ebn text ≡ block_of s ebn (take 112 text)
-    ∷ blocks_from s full (ebn + 1) (drop 112 text)
-unfolding blocks_from
-blocks_suc s full ebn text = refl
-
--- the last block alone
-pub blocks_zero : (s : SubtitleValue) (ebn : ℕ) (text : List ℕ)
-    → blocks_from s 0 ebn text ≡ block_of s 255 text ∷ []
-unfolding blocks_from
-blocks_zero s ebn text = refl
-
--- a full block, and the blocks after it
-pub blocks_more : (s : SubtitleValue) (ebn : ℕ) (text : List ℕ)
+-- the bytes of a full block, and of the blocks after it
+pub joined_more : (s : SubtitleValue) (ebn : ℕ) (text : List ℕ)
     → 112 < length text
-    → blocks_from s (full_pieces text) ebn text ≡ block_of s ebn (take 112 text)
-    ∷ blocks_from s (full_pieces (drop 112 text)) (ebn + 1) (drop 112 text)
-blocks_more s ebn text lt = ap (λ (k : ℕ). blocks_from s k ebn text) (pieces_more text lt)
-    ∙ blocks_suc s (full_pieces (drop 112 text)) ebn text
+    → joined (blocks_from s (full_pieces text) ebn text)
+    ≡ block_of s ebn (take 112 text)
+    ++ joined (blocks_from s (full_pieces (drop 112 text)) (ebn + 1) (drop 112 text))
+unfolding blocks_from
+joined_more s ebn text lt = rw (pieces_more text lt) refl
 
--- one full block was written
-pub joined_more : (s : SubtitleValue) (ebn : ℕ) (text before out all : List ℕ)
-    → 112 < length text
-    → out ≡ before ++ block_of s ebn (take 112 text)
-    → before ++ joined (blocks_from s (full_pieces text) ebn text) ≡ all
-    → out ++ joined (blocks_from s (full_pieces (drop 112 text)) (ebn + 1) (drop 112 text)) ≡ all
-joined_more s ebn text before out all lt e h =
-    let rest = joined (blocks_from s (full_pieces (drop 112 text)) (ebn + 1) (drop 112 text)) in
-    rw e (append_assoc before (block_of s ebn (take 112 text)) rest
-    ∙ ap (λ (bs : List (List ℕ)). before ++ joined bs) (sym (blocks_more s ebn text lt)) ∙ h)
-
--- the last block was written
-pub joined_end : (s : SubtitleValue) (ebn : ℕ) (text before out all : List ℕ)
+-- the bytes of the last block
+pub joined_end : (s : SubtitleValue) (ebn : ℕ) (text : List ℕ)
     → length text ≤ 112
-    → out ≡ before ++ block_of s 255 text
-    → before ++ joined (blocks_from s (full_pieces text) ebn text) ≡ all
-    → out ≡ all
-joined_end s ebn text before out all le e h =
-    let one : joined (blocks_from s (full_pieces text) ebn text) ≡ block_of s 255 text ++ [] =
-    ap (λ (k : ℕ). joined (blocks_from s k ebn text)) (pieces_end text le)
-    ∙ ap joined (blocks_zero s ebn text) in
-    e ∙ ap (λ (b : List ℕ). before ++ b) (sym (append-nil (block_of s 255 text)) ∙ sym one) ∙ h
+    → joined (blocks_from s (full_pieces text) ebn text) ≡ block_of s 255 text
+unfolding blocks_from
+joined_end s ebn text le =
+    let none : full_pieces text ≡ 0 = omega arith in
+    rw none (append-nil (block_of s 255 text))
 
 -- how many blocks
 pub blocks_count : (s : SubtitleValue) (full ebn : ℕ) (text : List ℕ)
@@ -153,77 +100,68 @@ unfolding blocks_from
 blocks_count s zero ebn text = refl
 blocks_count s (suc full) ebn text = ap suc (blocks_count s full (ebn + 1) (drop 112 text))
 
+-- what `spell` needs
+pub ruleset spelled = (append_assoc, length-drop, joined_more, joined_end, blocks_count)
+
 -- ---- they are its blocks
 
 -- the blocks that are made are linked
-blocks_chain : (s : SubtitleValue) (full e : ℕ) (text : List ℕ)
+blocks_linked : (s : SubtitleValue) (full e : ℕ) (text : List ℕ)
     → length text ≤ 112 * suc full
     → e + full ≤ 240
+    → IsClean text
     → AreLinked s.sgn s.sn (blocks_from s full e text)
 unfolding blocks_from
-blocks_chain s zero e text le few = (block_belongs s 255 text (omega arith), block_ebn s 255 text)
-blocks_chain s (suc full) e text le few =
-    chain_cons s.sgn s.sn (block_of s e (take 112 text))
+blocks_linked s zero e text le few h =
+    (block_belongs s 255 text (omega arith), (block_fields s 255 text h).0)
+blocks_linked s (suc full) e text le few h =
+    let piece = take 112 text in
+    linked_cons s.sgn s.sn (block_of s e piece)
     (blocks_from s full (e + 1) (drop 112 text))
-    (block_belongs s e (take 112 text) (omega (arith, length-take 112 text))) (let b =
-    block_ebn s e (take 112 text) in omega arith)
-    (blocks_chain s full (e + 1) (drop 112 text) (omega (arith, length-drop 112 text))
-    (omega arith))
+    (block_belongs s e piece (omega (arith, length-take 112 text)))
+    (let b = (block_fields s e piece (clean_take 112 text h)).0 in omega arith)
+    (blocks_linked s full (e + 1) (drop 112 text) (omega (arith, length-drop 112 text))
+    (omega arith) (clean_drop 112 text h))
 
 -- their joined text is the text
 blocks_text : (s : SubtitleValue) (full e : ℕ) (text : List ℕ)
     → IsClean text
     → flat_map text_of (blocks_from s full e text) ≡ text
 unfolding blocks_from
-blocks_text s zero e text h = append-nil (text_of (block_of s 255 text)) ∙ text_back s 255 text h
-blocks_text s (suc full) e text h =
-    ap (λ (t : List ℕ). t ++ flat_map text_of (blocks_from s full (e + 1) (drop 112 text)))
-    (text_back s e (take 112 text) (clean_take 112 text h))
-    ∙ ap (λ (t : List ℕ). take 112 text ++ t)
-    (blocks_text s full (e + 1) (drop 112 text) (clean_drop 112 text h))
-    ∙ take-append-drop 112 text
+blocks_text s zero e text h = rw ((block_fields s 255 text h).1) (append-nil text)
+blocks_text s (suc full) e text h = rw (
+  (block_fields s e (take 112 text) (clean_take 112 text h)).1,
+  blocks_text s full (e + 1) (drop 112 text) (clean_drop 112 text h),
+) (take-append-drop 112 text)
 
--- the first of some blocks begins the subtitle
-record BeginsWith (s : SubtitleValue) (bs : List (List ℕ)) : Type 0 where
-  first : List ℕ
-  others : List (List ℕ)
-  is : bs ≡ first ∷ others
-  begins : Begins s first
-
--- the first block that is made begins the subtitle
+-- the first one begins the subtitle
 blocks_begin : (s : SubtitleValue) (full e : ℕ) (text : List ℕ)
     → IsSubtitle s
-    → BeginsWith s (blocks_from s full e text)
+    → (first : List ℕ) × ((others : List (List ℕ)) × (blocks_from s full e text ≡ first ∷ others)
+    × Begins s first)
 unfolding blocks_from
-blocks_begin s zero e text h =
-    record {
-      first = block_of s 255 text;
-      others = [];
-      is = refl;
-      begins = block_heads s 255 text h;
-    }
+blocks_begin s zero e text h = (block_of s 255 text, ([], refl, block_begins s 255 text h))
 blocks_begin s (suc full) e text h =
-    record {
-      first = block_of s e (take 112 text);
-      others = blocks_from s full (e + 1) (drop 112 text);
-      is = refl;
-      begins = block_heads s e (take 112 text) h;
-    }
+    (
+      block_of s e (take 112 text),
+      (blocks_from s full (e + 1) (drop 112 text), refl, block_begins s e (take 112 text) h),
+    )
 
 -- the blocks of a subtitle are blocks of it
-pub blocks_made : (s : SubtitleValue) → IsSubtitle s → AreBlocksOf s (blocks_of s)
+blocks_made : (s : SubtitleValue) → IsSubtitle s → AreBlocksOf s (blocks_of s)
 blocks_made s h =
-    let b = blocks_begin s (full_pieces s.text) 0 s.text h in
-    let n = blocks_count s (full_pieces s.text) 0 s.text in
-    let le = h.few in
+    let full = full_pieces s.text in
+    let b = blocks_begin s full 0 s.text h in
+    let few = h.few in
+    let clean = clean_of s.text h.text in
     record {
-      first = b.first;
-      others = b.others;
-      blocks = b.is;
-      few = omega arith;
-      begins = b.begins;
-      linked = blocks_chain s (full_pieces s.text) 0 s.text (omega arith) (omega arith);
-      text_is = sym (blocks_text s (full_pieces s.text) 0 s.text (clean_of s.text h.text));
+      first = b.0;
+      others = b.1.0;
+      blocks = b.1.1;
+      few = omega (arith, blocks_count s full 0 s.text);
+      begins = b.1.2;
+      linked = blocks_linked s full 0 s.text (omega arith) (omega arith) clean;
+      text_is = sym (blocks_text s full 0 s.text clean);
     }
 
 -- a subtitle of a file: its own blocks are blocks of it, and no more than those of the file
@@ -234,7 +172,7 @@ pub record IsMade (s : SubtitleValue) (count : ℕ) : Type 0 where
 -- the blocks of a subtitle of a file can be written again, in no more of them
 pub blocks_again : (s : SubtitleValue) (g : List (List ℕ)) → AreBlocksOf s g → IsMade s (length g)
 blocks_again s g h =
-    let size = chain_text s.sgn s.sn g h.linked in
+    let size = linked_text s.sgn s.sn g h.linked in
     let same = ap length h.text_is in
     let some = ap length h.blocks in
     let n = blocks_count s (full_pieces s.text) 0 s.text in

@@ -20,7 +20,7 @@ use Rattle.stl_file.specs.Reading.{outcome_at}
 use Rattle.stl_file.proofs.OutcomeLemmas.{outcome_at-first}
 use Rattle.stl_file.proofs.RestLemmas.{outcome_complete, outcome_sound}
 use Rattle.stl_file.proofs.GsiLemmas.{gsi_complete}
-use Rattle.stl_file.proofs.OpeningLemmas.{good, opened_sound, opened-whole}
+use Rattle.stl_file.proofs.OpeningLemmas.{good, opened_sound}
 
 -- a file that was read was opened
 judged_ok : (b : List ℕ) (o : Result ReaderValue StlFault) (ts : List SubtitleValue)
@@ -99,36 +99,23 @@ one_file s g h ts us a b =
 
 -- ---- the first bytes
 
--- a file that was opened goes by its blocks
-opened-same : (r : Result (List ℕ) StlFault) (b c : List ℕ)
-    → outcome_at 99999 None b ≡ outcome_at 99999 None c
-    → outcome_opened b (opened r) ≡ outcome_opened c (opened r)
-opened-same (Err e) b c same = refl
-opened-same (Ok g) b c same = same
+-- one byte more than the longest file has decides what a file that was opened gives
+opened-first : (r : Result (List ℕ) StlFault) (b : List ℕ)
+    → outcome_opened (take (128 * 99999 + 1) b) (opened r) ≡ outcome_opened b (opened r)
+opened-first (Err e) b = refl
+opened-first (Ok g) b = outcome_at-first 99999 None b
 
--- a file that is longer gives what its first bytes give
-outcome_of-long : (s : List ℕ)
-    → 12800897 < length s
-    → outcome_of (take 12800897 s) ≡ outcome_of s
-unfolding outcome_of
-outcome_of-long s long =
-    let size : length (take 12800897 s) ≡ 12800897 = length-take-le 12800897 s (omega arith) in
-    let front : take 1024 (take 12800897 s) ≡ take 1024 s =
-    take-take 1024 12800897 s (omega arith) in
-    let back : drop 1024 (take 12800897 s) ≡ take (128 * 99999 + 1) (drop 1024 s) =
-    drop-take 1024 (128 * 99999 + 1) s in
-    let whole = opened-whole (take 12800897 s) (omega (arith, size)) in
-    let all = opened-whole s (omega arith) in
-    rw (whole, all, front, back)
-    (opened-same (gsi_at (take 1024 s)) _ _ (outcome_at-first 99999 None (drop 1024 s)))
-
--- by whether there are more bytes than these
-outcome_of-by : (s : List ℕ)
-    → ((12800897 < length s) ⊎ (length s ≤ 12800897))
-    → outcome_of (take 12800897 s) ≡ outcome_of s
-outcome_of-by s (inl long) = outcome_of-long s long
-outcome_of-by s (inr short) = ap outcome_of (take_all 12800897 s short)
-
--- one byte more than the longest file has decides what a file gives
+-- so what any bytes give
 pub outcome_of-first : (s : List ℕ) → outcome_of (take 12800897 s) ≡ outcome_of s
-outcome_of-first s = outcome_of-by s (cases_lt 12800897 (length s))
+unfolding outcome_of opened_at
+outcome_of-first s = elim (cases_lt 12800897 (length s)) [
+  | inr short ↦ ap outcome_of (take_all 12800897 s short)
+  | inl long ↦
+      let size : length (take 12800897 s) ≡ 12800897 = length-take-le 12800897 s (omega arith) in
+      rw (
+        size,
+        le-ltb (length s) 1024 (omega arith),
+        take-take 1024 12800897 s (omega arith),
+        drop-take 1024 (128 * 99999 + 1) s,
+      ) (opened-first (gsi_at (take 1024 s)) (drop 1024 s))
+]

@@ -1,4 +1,4 @@
--- The blocks of a subtitle, and lists of blocks; main lemmas: length-joined, chain_text,
+-- The blocks of a subtitle, and lists of blocks; main lemmas: length-joined, linked_text,
 -- blocks_subtitle.
 use Rattle.std.proofs.Common.{◌≡◌, ◌*◌, ℕ, true, List, [], ◌∷◌, length, refl}
 use Rattle.std.proofs.Common.{sym, ap, arith, length-append, subst, ◌<◌, ◌≤◌}
@@ -36,31 +36,31 @@ first_linked sgn_is sn_is b [] h = h.0
 first_linked sgn_is sn_is b (c ∷ bs) h = h.0
 
 -- one block in front of linked ones
-pub chain_cons : (sgn_is sn_is : ℕ) (b : List ℕ) (bs : List (List ℕ))
+pub linked_cons : (sgn_is sn_is : ℕ) (b : List ℕ) (bs : List (List ℕ))
     → BelongsTo sgn_is sn_is b
     → ebn b < 240
     → AreLinked sgn_is sn_is bs
     → AreLinked sgn_is sn_is (b ∷ bs)
-chain_cons sgn_is sn_is b [] h lt c = absurd c
-chain_cons sgn_is sn_is b (x ∷ bs) h lt c = (h, lt, c)
+linked_cons sgn_is sn_is b [] h lt c = absurd c
+linked_cons sgn_is sn_is b (x ∷ bs) h lt c = (h, lt, c)
 
 -- linked blocks have at most 112 bytes of text each
-pub chain_text : (sgn_is sn_is : ℕ) (g : List (List ℕ))
+pub linked_text : (sgn_is sn_is : ℕ) (g : List (List ℕ))
     → AreLinked sgn_is sn_is g
     → length (flat_map text_of g) ≤ 112 * length g
-chain_text sgn_is sn_is [] c = absurd c
-chain_text sgn_is sn_is (b ∷ []) c = let t = text_short b c.0.size in let l =
+linked_text sgn_is sn_is [] c = absurd c
+linked_text sgn_is sn_is (b ∷ []) c = let t = text_short b c.0.size in let l =
     ap length (append-nil (text_of b)) in omega arith
-chain_text sgn_is sn_is (b ∷ x ∷ g) c =
+linked_text sgn_is sn_is (b ∷ x ∷ g) c =
     let t = text_short b c.0.size in
     let l = length-append (text_of b) (flat_map text_of (x ∷ g)) in
-    let r = chain_text sgn_is sn_is (x ∷ g) c.2 in
+    let r = linked_text sgn_is sn_is (x ∷ g) c.2 in
     omega arith
 
 -- the subtitle of a file's blocks is one
 pub blocks_subtitle : (s : SubtitleValue) (g : List (List ℕ)) → AreBlocksOf s g → IsSubtitle s
 blocks_subtitle s g h =
-    let size = chain_text s.sgn s.sn g h.linked in
+    let size = linked_text s.sgn s.sn g h.linked in
     let same = ap length h.text_is in
     let few = h.few in
     record {

@@ -72,6 +72,7 @@ impl Gsi {
 
     /// Sets TNB and TNS, the numbers of TTI blocks and of subtitles, to five decimal digits each
     /// with zeros in front, and keeps all other bytes.
+    #[tactic(auto, using(crate::proofs::GsiLemmas::counts_put))]
     pub fn set_counts(&mut self, tnb: u32, tns: u32)
         requires blocks { tnb < 100000 }
         requires subtitles { tns < 100000 }

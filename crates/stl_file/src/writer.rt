@@ -34,6 +34,7 @@ pub fn write_subtitle<K: Sink>(subtitle: &Subtitle, sink: &mut K) -> Result<u8, 
 }
 
 // The blocks of a subtitle, with how many they are.
+#[tactic(auto, using(crate::proofs::BlocksOfLemmas::spelled))]
 fn spell(subtitle: &Subtitle) -> (ArrayVec<u8, 1152>, u8)
     ensures bytes { result.0.items ≡ joined (blocks_of subtitle.now) }
     ensures count { result.1 ≡ length (blocks_of subtitle.now) }
@@ -52,7 +53,8 @@ fn spell(subtitle: &Subtitle) -> (ArrayVec<u8, 1152>, u8)
 }
 
 // Adds one block of a subtitle.
-#[tactic(auto, unfolding(crate::specs::NormalForm::block_of))]
+#[tactic(auto, using(crate::proofs::BlocksOfLemmas::pushed),
+    unfolding(crate::specs::NormalForm::block_of))]
 fn push_block(out: &mut ArrayVec<u8, 1152>, subtitle: &Subtitle, ebn: u8, piece: &[u8])
     requires room { length out.old.items + 128 ≤ 1152 }
     requires piece { length piece.now ≤ 112 }
