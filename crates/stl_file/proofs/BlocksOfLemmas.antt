@@ -3,15 +3,13 @@
 use Rattle.std.proofs.Common.{◌≡◌, ◌*◌, ℕ, List, [], ◌∷◌, ◌++◌, length, refl, sym, ap, ◌∙◌}
 use Rattle.std.proofs.Common.{append_assoc, arith, length-append, take, drop, zero, suc, ◌+◌, ◌-◌}
 use Rattle.std.proofs.Common.{◌<◌, ◌≤◌, replicate, length-take}
-use Rattle.std.proofs.lemmas.Grind.{flat_map-append}
 use Rattle.std.specs.List.{flat_map}
 use Rattle.std.proofs.lemmas.List.{append-nil, take-append-drop, length-replicate, length-drop}
 use Rattle.std.proofs.lemmas.List.{drop-replicate}
 use Rattle.stl_file.specs.Tti.{ebn, text_of, unused_space}
 use Rattle.stl_file.specs.SubtitleBlocks.{joined, BelongsTo, AreLinked, Begins, AreBlocksOf}
 use Rattle.stl_file.specs.Subtitle.{SubtitleValue, IsSubtitle}
-use Rattle.stl_file.specs.NormalForm.{all_blocks, block_of, blocks_from, full_pieces, blocks_of}
-use Rattle.stl_file.specs.NormalForm.{block_head, text_field}
+use Rattle.stl_file.specs.NormalForm.{block_of, blocks_from, full_pieces, blocks_of}
 use Rattle.stl_file.proofs.TimeCodeLemmas.{time_in_range}
 use Rattle.stl_file.proofs.SubtitleLemmas.{IsClean, before_clean, clean_take, clean_drop, clean_of}
 use Rattle.stl_file.proofs.SubtitleBlocksLemmas.{linked_cons, linked_text, blocks_subtitle}
@@ -141,11 +139,10 @@ blocks_begin : (s : SubtitleValue) (full e : ℕ) (text : List ℕ)
     × Begins s first)
 unfolding blocks_from
 blocks_begin s zero e text h = (block_of s 255 text, ([], refl, block_begins s 255 text h))
-blocks_begin s (suc full) e text h =
-    (
-      block_of s e (take 112 text),
-      (blocks_from s full (e + 1) (drop 112 text), refl, block_begins s e (take 112 text) h),
-    )
+blocks_begin s (suc full) e text h = (
+  block_of s e (take 112 text),
+  (blocks_from s full (e + 1) (drop 112 text), refl, block_begins s e (take 112 text) h),
+)
 
 -- the blocks of a subtitle are blocks of it
 blocks_made : (s : SubtitleValue) → IsSubtitle s → AreBlocksOf s (blocks_of s)
@@ -177,16 +174,3 @@ blocks_again s g h =
     let some = ap length h.blocks in
     let n = blocks_count s (full_pieces s.text) 0 s.text in
     record { are_of = blocks_made s (blocks_subtitle s g h); few = omega arith }
-
--- ---- the blocks of all subtitles
-
--- the blocks of two lists of subtitles
-pub all_append : (ss ts : List SubtitleValue)
-    → all_blocks (ss ++ ts) ≡ all_blocks ss ++ all_blocks ts
-all_append ss ts = flat_map-append blocks_of ss ts
-
--- the blocks with those of one subtitle more
-pub all_push : (ss : List SubtitleValue) (s : SubtitleValue)
-    → all_blocks (ss ++ s ∷ []) ≡ all_blocks ss ++ blocks_of s
-all_push ss s = all_append ss (s ∷ [])
-    ∙ ap (λ (x : List (List ℕ)). all_blocks ss ++ x) (append-nil (blocks_of s))

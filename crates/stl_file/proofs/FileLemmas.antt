@@ -1,8 +1,8 @@
 -- `IsFile`: a file is what is read, and its first bytes decide that; main lemmas: file_read,
 -- one_file, outcome_of-first.
 use Rattle.std.proofs.Common.{◌≡◌, ◌*◌, ℕ, false, List, [], ◌++◌, length, refl, sym, ap, ◌∙◌, arith}
-use Rattle.std.proofs.Common.{length-append, take, drop, None, Result, Ok, Err, subst, ◌+◌, ◌<◌}
-use Rattle.std.proofs.Common.{◌≤◌, ◌⊎◌, inl, inr, length-take-le, ltb}
+use Rattle.std.proofs.Common.{length-append, take, drop, None, Result, Ok, Err, subst, ◌+◌}
+use Rattle.std.proofs.Common.{◌≤◌, inl, inr, length-take-le, ltb}
 use Rattle.std.specs.Prelude.{◌↔◌}
 use Rattle.std.proofs.lemmas.List.{take_all, take-take, drop-take, take-append-drop, take_at}
 use Rattle.std.proofs.lemmas.List.{drop_at}

@@ -1,23 +1,21 @@
 -- The normal form: a file of the same subtitles, and what `normal` answers; main lemmas:
 -- normal_is_file, normal_twice, refused_body, whole_written.
-use Rattle.std.proofs.Common.{◌≡◌, ℕ, false, List, [], ◌∷◌, ◌++◌, length, refl, sym, ap, ◌∙◌, arith}
-use Rattle.std.proofs.Common.{length-append, take, drop, Option, Some, None, Result, Ok, Err, subst}
+use Rattle.std.proofs.Common.{◌≡◌, ℕ, false, List, [], ◌∷◌, ◌++◌, length, refl, ap, ◌∙◌, arith}
+use Rattle.std.proofs.Common.{length-append, take, drop, Option, Some, None, Ok, Err, subst}
 use Rattle.std.proofs.Common.{◌≤◌}
 use Rattle.std.specs.Prelude.{filter}
 use Rattle.std.specs.List.{AllByRecursion, flat_map}
 use Rattle.std.specs.Io.KnownBytes.{Appends, Keeps}
-use Rattle.std.proofs.KnownBytes.{Appends-trans}
 use Rattle.std.proofs.lemmas.Bool.Decides.{nat_tests}
 use Rattle.sub_io.specs.Device.{AppendsPrefix}
-use Rattle.sub_io.proofs.DeviceLemmas.{AppendsPrefix-first, AppendsPrefix-second}
 use Rattle.stl_file.specs.declared.counts.Counts.{Counts}
 use Rattle.stl_file.specs.declared.fault.StlFault.{StlFault}
 use Rattle.stl_file.specs.declared.fault.NormalFault.{NormalFault}
 use Rattle.stl_file.specs.declared.fault.NormalFault.TheVariants.{Refused, Write}
 use Rattle.stl_file.specs.Tti.{is_kept, most_blocks, is_passed}
 use Rattle.stl_file.specs.SubtitleBlocks.{IsBlock, joined, AreLinked, AreBlocksOfEach, IsRest}
-use Rattle.stl_file.specs.Reader.{ReaderValue, outcome_from, outcome_left, outcome_of}
-use Rattle.stl_file.specs.Reader.{outcome_opened, opened_at}
+use Rattle.stl_file.specs.Reader.{ReaderValue, outcome_from, outcome_of}
+use Rattle.stl_file.specs.Reader.{opened_at}
 use Rattle.stl_file.specs.Gsi.{with_counts}
 use Rattle.stl_file.specs.Subtitle.{SubtitleValue}
 use Rattle.stl_file.specs.File.{IsFile}
@@ -150,33 +148,14 @@ pub refused_open : (s : List ℕ) (f : StlFault) (old : Option (List ℕ))
     → opened_at s ≡ Err f
     → NormalAnswers s old old (Err (Refused f 0))
 unfolding outcome_of
-refused_open s f old e = (
-  ap (λ (o : Result ReaderValue StlFault). subtitles_of (outcome_opened (drop 1024 s) o)) e,
-  keeps_same old,
-)
+refused_open s f old e = (rw e refl, keeps_same old)
 
 -- after a GSI block that is taken, a file gives what its body gives
 file_body : (s : List ℕ) (r : ReaderValue)
     → opened_at s ≡ good r
     → subtitles_of (outcome_of s) ≡ subtitles_of (outcome_from 0 (drop 1024 s))
 unfolding outcome_of
-file_body s r e =
-    let o = opened_sound s r e in
-    ap (λ (x : Result ReaderValue StlFault). subtitles_of (outcome_opened (drop 1024 s) x)) e
-    ∙ ap (λ (x : ReaderValue). subtitles_of (outcome_left x (drop 1024 s))) o.2
-
--- a pass that was refused has that fault
-counted_err : (j : Judged) (f : NormalFault) → counted j ≡ Err f → j ≡ Err f
-counted_err (Ok ts) f e = absurd cc
-counted_err (Err g) f e = let same : g ≡ f = cc in rw same refl
-
--- the answer of `normal` at a fault of the file
-answer_err : (s : List ℕ) (f : NormalFault) (old : Option (List ℕ))
-    → (f ≡ Write → ⊥)
-    → subtitles_of (outcome_of s) ≡ Err f
-    → NormalAnswers s old old (Err f)
-answer_err s Write old never e = absurd (never refl)
-answer_err s (Refused f b) old never e = (e, keeps_same old)
+file_body s r e = let o = opened_sound s r e in rw (e, o.2) refl
 
 -- a file whose blocks are refused, as `normal` answers it
 pub refused_body : (s : List ℕ) (r : ReaderValue) (f : NormalFault) (old : Option (List ℕ))
@@ -184,100 +163,67 @@ pub refused_body : (s : List ℕ) (r : ReaderValue) (f : NormalFault) (old : Opt
     → (f ≡ Write → ⊥)
     → counted (subtitles_of (outcome_from 0 (drop 1024 s))) ≡ Err f
     → NormalAnswers s old old (Err f)
-refused_body s r f old e never c =
-    answer_err s f old never
-    (file_body s r e ∙ counted_err (subtitles_of (outcome_from 0 (drop 1024 s))) f c)
+refused_body s r Write old e never c = absurd (never refl)
+refused_body s r (Refused f b) old e never c =
+    (let body = file_body s r e in grind arith, keeps_same old)
 
--- the counts of a file that was not refused
-abbrev sum : Counts → Result Counts NormalFault
-sum c = Ok c
-
--- subtitles that were counted
-record Summed (j : Judged) (c : Counts) : Type 0 where
+-- a file that is not refused: its subtitles, their counts and the bytes of its normal form
+record Accepted (s : List ℕ) (r : ReaderValue) (c : Counts) : Type 0 where
   ts : List SubtitleValue
-  is : j ≡ Ok ts
-  blocks : c.tnb ≡ length (all_blocks ts)
-  subtitles : c.tns ≡ length ts
+  is_file : IsFile s (take 1024 s) ts
+  count : c.tns ≡ length ts
+  form :
+      with_counts c.tnb c.tns r.gsi
+      ++ joined (all_blocks (given (subtitles_of (outcome_from 0 (drop 1024 s)))))
+      ≡ normal_form (take 1024 s) ts
 
--- equal answers have equal counts
-counts_are : (x y : Counts) → sum x ≡ sum y → x ≡ y
-counts_are x y e = cc
+-- the subtitles that were counted
+counted_ok : (j : Judged) (c : Counts)
+    → counted j ≡ Ok c
+    → (ts : List SubtitleValue) × (j ≡ Ok ts) × (c.tnb ≡ length (all_blocks ts))
+    × (c.tns ≡ length ts)
+counted_ok (Ok ts) c e = (ts, refl, cc, cc)
+counted_ok (Err f) c e = absurd cc
 
--- counts are those of some subtitles, which the file gave
-summed : (j : Judged) (c : Counts) → counted j ≡ sum c → Summed j c
-summed (Ok ts) c e =
-    let same = counts_are (record { tnb = length (all_blocks ts); tns = length ts }) c e in
+-- a file that was opened and counted is accepted
+accepted : (s : List ℕ) (r : ReaderValue) (c : Counts)
+    → opened_at s ≡ good r
+    → counted (subtitles_of (outcome_from 0 (drop 1024 s))) ≡ Ok c
+    → Accepted s r c
+accepted s r c opened judged =
+    let o = opened_sound s r opened in
+    let j = counted_ok _ c judged in
     record {
-      ts = ts;
-      is = refl;
-      blocks = sym (ap (λ (x : Counts). x.tnb) same);
-      subtitles = sym (ap (λ (x : Counts). x.tns) same);
+      ts = j.0;
+      is_file = body_sound s j.0 o.0 o.1 j.1;
+      count = j.3;
+      form = simp (j.1, o.2, j.2, j.3);
     }
-summed (Err f) c e = absurd cc
 
--- a file that was judged, and the GSI block that is written for it
 module _ (s : List ℕ) (r : ReaderValue) (c : Counts) (g : List ℕ) (opened : opened_at s ≡ good r)
-    (judged : counted (subtitles_of (outcome_from 0 (drop 1024 s))) ≡ sum c)
-    (set : g ≡ with_counts c.tnb c.tns r.gsi) where
-  -- the subtitles of the file
-  all : Summed (subtitles_of (outcome_from 0 (drop 1024 s))) c
-  all = summed (subtitles_of (outcome_from 0 (drop 1024 s))) c judged
-
-  -- it is a file of them
-  file : IsFile s (take 1024 s) all.ts
-  file = let o = opened_sound s r opened in body_sound s all.ts o.0 o.1 all.is
-
-  -- its GSI block with the counts is that of the normal form
-  gsi_is : g ≡ counted_gsi (take 1024 s) all.ts
-  gsi_is =
-      let o = opened_sound s r opened in
-      set ∙ ap (λ (x : ReaderValue). with_counts c.tnb c.tns x.gsi) o.2
-      ∙ ap (λ (n : ℕ). with_counts n c.tns (take 1024 s)) all.blocks
-      ∙ ap (λ (n : ℕ). with_counts (length (all_blocks all.ts)) n (take 1024 s)) all.subtitles
-
-  -- GSI block and blocks are the normal form
-  form_is : g ++ joined (all_blocks all.ts) ≡ normal_form (take 1024 s) all.ts
-  form_is = ap (λ (x : List ℕ). x ++ joined (all_blocks all.ts)) gsi_is
-
-  -- what the second pass writes is these subtitles
-  given_is : given (subtitles_of (outcome_from 0 (drop 1024 s))) ≡ all.ts
-  given_is = ap given all.is
-
-  -- a prefix of both is a prefix of the normal form
-  prefix_is : (u w : Option (List ℕ))
-      → AppendsPrefix u w (g ++ joined (all_blocks all.ts))
-      → WritesPrefix s u w
-  prefix_is u w f = record {
-    subtitles = all.ts;
-    is_file = file;
-    wrote = subst (AppendsPrefix u w) form_is f;
-  }
-
-  -- the sink failed within the GSI block
-  pub prefix_gsi : (u w : Option (List ℕ)) → AppendsPrefix u w g → WritesPrefix s u w
-  prefix_gsi u w x = prefix_is u w (AppendsPrefix-first u w g (joined (all_blocks all.ts)) x)
-
-  -- the sink failed after the GSI block
-  pub prefix_body : (u v w : Option (List ℕ))
-      → Appends u v g
-      → AppendsPrefix v w (joined
-      (all_blocks (given (subtitles_of (outcome_from 0 (drop 1024 s))))))
-      → WritesPrefix s u w
-  prefix_body u v w x y =
-      prefix_is u w (AppendsPrefix-second u v w g (joined (all_blocks all.ts)) x
-      (subst (λ (t : List SubtitleValue). AppendsPrefix v w (joined (all_blocks t))) given_is y))
-
+    (judged : counted (subtitles_of (outcome_from 0 (drop 1024 s))) ≡ Ok c)
+    (set : g ≡ with_counts c.tnb c.tns r.gsi) (old new : Option (List ℕ)) where
   -- all was written
-  pub whole_written : (u v w : Option (List ℕ))
-      → Appends u v g
-      → Appends v w (joined (all_blocks (given (subtitles_of (outcome_from 0 (drop 1024 s))))))
-      → WritesNormal s u w c.tns
-  whole_written u v w x y =
-      let both = Appends-trans u v w g (joined (all_blocks all.ts)) x
-      (subst (λ (t : List SubtitleValue). Appends v w (joined (all_blocks t))) given_is y) in
+  pub whole_written :
+      Appends old new (g ++ joined (all_blocks (given (subtitles_of (outcome_from 0 (drop 1024 s))))))
+      → WritesNormal s old new c.tns
+  whole_written w =
+      let a = accepted s r c opened judged in
       record {
-        subtitles = all.ts;
-        is_file = file;
-        count = all.subtitles;
-        wrote = subst (λ (t : List ℕ). Appends u w t) form_is both;
+        subtitles = a.ts;
+        is_file = a.is_file;
+        count = a.count;
+        wrote = subst (Appends old new) (rw set a.form) w;
+      }
+
+  -- the sink failed
+  pub prefix_written :
+      AppendsPrefix old new (g ++ joined (all_blocks (given (subtitles_of (outcome_from 0 (drop 1024 s))))))
+      → WritesPrefix s old new
+  prefix_written w =
+      let a = accepted s r c opened judged in
+      record {
+        subtitles = a.ts;
+        is_file = a.is_file;
+        wrote = subst (AppendsPrefix old new) (rw set a.form) w;
       }

@@ -1,8 +1,8 @@
 -- `opened_at`, and that no file begins with what `open` refuses; main lemmas: opened_sound,
 -- open_whole, bad_opening.
-use Rattle.std.proofs.Common.{◌≡◌, ℕ, Bool, true, false, cond, List, ◌++◌, length, refl, sym, ap}
+use Rattle.std.proofs.Common.{◌≡◌, ℕ, List, ◌++◌, length, refl, sym, ap}
 use Rattle.std.proofs.Common.{◌∙◌, arith, length-append, take, drop, Option, Some, Result, Ok, Err}
-use Rattle.std.proofs.Common.{◌+◌, ◌<◌, ◌≤◌, ltb, length-take}
+use Rattle.std.proofs.Common.{◌<◌, ◌≤◌, length-take}
 use Rattle.std.specs.Io.KnownBytes.{Consumes}
 use Rattle.std.proofs.lemmas.List.{take_all, length-take-le, take_at, drop_at}
 use Rattle.std.proofs.lemmas.Bool.{le-ltb}

@@ -1,9 +1,11 @@
 -- What the two passes of `normal` need to know of the subtitles of a file.
-use Rattle.std.specs.Prelude.{List, [], length, Result, Ok, Err}
+use Rattle.std.specs.Prelude.{ℕ, ◌+◌, List, [], length, Bool, true, false, Result, Ok, Err}
 use Rattle.stl_file.specs.declared.counts.Counts.{Counts}
+use Rattle.stl_file.specs.declared.fault.StlFault.{StlFault}
 use Rattle.stl_file.specs.declared.fault.NormalFault.{NormalFault}
+use Rattle.stl_file.specs.declared.fault.NormalFault.TheVariants.{Refused}
 use Rattle.stl_file.specs.Subtitle.{SubtitleValue}
-use Rattle.stl_file.specs.NormalForm.{Judged, all_blocks}
+use Rattle.stl_file.specs.NormalForm.{Judged, all_blocks, cons_all}
 
 -- the subtitles of a file that was not refused
 abbrev pub given : Judged → List SubtitleValue
@@ -14,3 +16,15 @@ given (Err f) = []
 abbrev pub counted : Judged → Result Counts NormalFault
 counted (Ok ts) = Ok (record { tnb = length (all_blocks ts); tns = length ts })
 counted (Err f) = Err f
+
+-- counts with those of what is left
+abbrev pub counted_on : Counts → Result Counts NormalFault → Result Counts NormalFault
+counted_on c (Ok d) = Ok (record { tnb = c.tnb + d.tnb; tns = c.tns + d.tns })
+counted_on c (Err f) = Err f
+
+-- All that was left to be given, by the next answer, the block that it names and what is left after
+-- it.
+abbrev pub judged_on : Result Bool StlFault → SubtitleValue → ℕ → Judged → Judged
+judged_on (Ok true) s block left = cons_all s left
+judged_on (Ok false) s block left = Ok []
+judged_on (Err f) s block left = Err (Refused f block)

@@ -1,17 +1,19 @@
 //! The normal form of a subtitle file: its subtitles in the fewest blocks, and the counts of them.
 
-ghost use Rattle.std.specs.Prelude.{◌≡◌, ◌≢◌, ◌+◌, ◌<◌, length, true, if◌then◌else◌};
-ghost use Rattle.std.specs.Prelude.{IfErr, IfOk, is_ok};
+ghost use Rattle.std.specs.Prelude.{◌≡◌, ◌≢◌, ◌+◌, ◌<◌, ◌≤◌, ◌++◌, length, true};
+ghost use Rattle.std.specs.Prelude.{if◌then◌else◌, IfErr, IfOk, Ok, is_ok};
 ghost use Rattle.sub_io.specs.Device.{CanFail, CountsFailure, CountsIf, Writes, failed};
 ghost use Rattle.stl_file.specs.declared.fault.NormalFault.TheVariants.{Write};
+ghost use Rattle.stl_file.specs.declared.progress.Progress.TheVariants.{Reading};
 ghost use Rattle.stl_file.specs.Fault.{is_write};
 ghost use Rattle.stl_file.specs.NormalForm.{NormalAnswers, all_blocks, blocks_of, subtitles_of};
-ghost use Rattle.stl_file.specs.NormalCounts.{counted, given};
-ghost use Rattle.stl_file.specs.Reader.{outcome_from};
+ghost use Rattle.stl_file.specs.NormalCounts.{counted, given, judged_on};
+ghost use Rattle.stl_file.specs.Reader.{outcome_from, outcome_left};
 ghost use Rattle.stl_file.specs.SubtitleBlocks.{joined};
+ghost use Rattle.stl_file.specs.Tti.{most_blocks};
 
 use crate::counts::Counts;
-use crate::fault::NormalFault;
+use crate::fault::{NormalFault, StlFault};
 use crate::gsi::Gsi;
 use crate::reader::StlReader;
 use crate::subtitle::Subtitle;
@@ -42,12 +44,12 @@ pub fn normal<K: Sink>(file: &[u8], sink: &mut K) -> Result<u32, NormalFault>
     let (_, body) = file.split_at(1024);
     let counts = judge(gsi, body)?;
     gsi.set_counts(counts.tnb, counts.tns);
-    put_all(sink, gsi.bytes().as_slice())?;
-    put_subtitles(gsi, body, sink)?;
+    put_normal(gsi, body, sink)?;
     Ok(counts.tns)
 }
 
 // Reads all blocks after the GSI block, and counts what the normal form will have.
+#[tactic(auto, using(crate::proofs::NormalCountsLemmas::judging))]
 fn judge(gsi: Gsi, body: &[u8]) -> Result<Counts, NormalFault>
     ensures exact { counted (subtitles_of (outcome_from 0 body.now)) ≡ result }
     ensures kind { IfErr result (λ fault. fault ≢ Write) }
@@ -58,7 +60,7 @@ fn judge(gsi: Gsi, body: &[u8]) -> Result<Counts, NormalFault>
     let mut subtitle = Subtitle::empty();
     let mut counts = Counts { tnb: 0, tns: 0 };
     'subtitles: loop {
-        match reader.next_into(&mut source, &mut subtitle) {
+        match read_on(&mut reader, &mut source, &mut subtitle) {
             Ok(true) => {
                 counts.tnb += count_of(&subtitle);
                 counts.tns += 1;
@@ -74,14 +76,47 @@ fn judge(gsi: Gsi, body: &[u8]) -> Result<Counts, NormalFault>
     }
 }
 
+// The next subtitle of those that are left, of no fewer blocks than it is written in.
+fn read_on(
+    reader: &mut StlReader,
+    source: &mut MemSource,
+    subtitle: &mut Subtitle,
+) -> Result<bool, StlFault>
+    requires { reader.old.progress ≡ Reading }
+    ensures exact { subtitles_of (outcome_left reader.old source.old)
+        ≡ judged_on result subtitle.new reader.new.block
+        (subtitles_of (outcome_left reader.new source.new)) }
+    ensures reading { result ≡ Ok true → reader.new.progress ≡ Reading }
+    ensures few { result ≡ Ok true → reader.new.block ≤ most_blocks }
+    ensures room { result ≡ Ok true →
+        reader.old.block + length (blocks_of subtitle.new) ≤ reader.new.block }
+{
+    reader.next_into(source, subtitle)
+}
+
 // How many blocks a subtitle is written in.
+#[tactic(auto, using(crate::proofs::BlocksOfLemmas::blocks_count))]
 fn count_of(subtitle: &Subtitle) -> u32
     ensures { result ≡ length (blocks_of subtitle.now) }
 {
     (subtitle.text().len().saturating_sub(1) / 112) as u32 + 1
 }
 
+// Writes the GSI block and the blocks of the subtitles.
+#[tactic(auto, using(sub_io::proofs::DeviceLemmas::prefixes))]
+fn put_normal<K: Sink>(gsi: Gsi, body: &[u8], sink: &mut K) -> Result<(), Failed>
+    requires accepted { is_ok (subtitles_of (outcome_from 0 body.now)) ≡ true }
+    requires count { CanFail (K.failure_count sink.old) }
+    ensures bytes { Writes (K.contents sink.old) (K.contents sink.new)
+        (gsi ++ joined (all_blocks (given (subtitles_of (outcome_from 0 body.now))))) result }
+    ensures count { CountsFailure (K.failure_count sink.old) result (K.failure_count sink.new) }
+{
+    put_all(sink, gsi.bytes().as_slice())?;
+    put_subtitles(gsi, body, sink)
+}
+
 // Reads all blocks after the GSI block again, and writes the subtitles.
+#[tactic(auto, using(crate::proofs::BlocksOfLemmas::blocks_count))]
 fn put_subtitles<K: Sink>(gsi: Gsi, body: &[u8], sink: &mut K) -> Result<(), Failed>
     requires accepted { is_ok (subtitles_of (outcome_from 0 body.now)) ≡ true }
     requires count { CanFail (K.failure_count sink.old) }
@@ -93,7 +128,7 @@ fn put_subtitles<K: Sink>(gsi: Gsi, body: &[u8], sink: &mut K) -> Result<(), Fai
     let mut reader = StlReader::behind(gsi);
     let mut subtitle = Subtitle::empty();
     'subtitles: loop {
-        match reader.next_into(&mut source, &mut subtitle) {
+        match read_on(&mut reader, &mut source, &mut subtitle) {
             Ok(true) => {
                 write_subtitle(&subtitle, sink)?;
             }

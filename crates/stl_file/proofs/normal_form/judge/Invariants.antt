@@ -1,17 +1,20 @@
--- What the first pass keeps: the subtitles so far, and how many blocks they need.
-use Rattle.std.proofs.Common.{◌≡◌, ◌-◌, List, length}
-use Rattle.stl_file.specs.NormalForm.{all_blocks}
-use Rattle.stl_file.specs.Subtitle.{SubtitleValue}
+-- What the first pass keeps: the counts so far, with those of what is left, are those of the whole.
+use Rattle.std.proofs.Common.{◌≡◌, ◌≤◌, ◌-◌}
+use Rattle.stl_file.specs.NormalCounts.{counted, counted_on}
+use Rattle.stl_file.specs.NormalForm.{subtitles_of}
+use Rattle.stl_file.specs.Reader.{outcome_from, outcome_left}
 use Rattle.stl_file.specs.Tti.{most_blocks}
-use Rattle.stl_file.proofs.NormalCountsLemmas.{Passes}
+use Rattle.stl_file.specs.declared.progress.Progress.TheVariants.{Reading}
 use Rattle.stl_file.proofs.normal_form.judge.Given as goal
 
 abbrev pub invariant-subtitles : goal.invariant-subtitles
 invariant-subtitles l = record {
-  done : List SubtitleValue;
-  pass : Passes l.body l.reader l.source done;
-  block_count : l.counts.tnb ≡ length (all_blocks done);
-  subtitle_count : l.counts.tns ≡ length done;
+  whole : counted (subtitles_of (outcome_from 0 l.body))
+      ≡ counted_on l.counts (counted (subtitles_of (outcome_left l.reader l.source)));
+  reading : l.reader.progress ≡ Reading;
+  few : l.reader.block ≤ most_blocks;
+  blocks : l.counts.tnb ≤ l.reader.block;
+  subtitles : l.counts.tns ≤ l.reader.block;
 }
 
 abbrev pub decreases-subtitles : goal.decreases-subtitles

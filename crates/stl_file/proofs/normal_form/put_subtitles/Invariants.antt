@@ -1,19 +1,25 @@
--- What the second pass keeps: the subtitles so far were written.
-use Rattle.std.proofs.Common.{◌≡◌, ◌-◌, List}
-use Rattle.std.specs.Io.KnownBytes.{Appends}
-use Rattle.stl_file.specs.NormalForm.{all_blocks}
-use Rattle.stl_file.specs.Subtitle.{SubtitleValue}
+-- What the second pass keeps: what writes the subtitles that are left has written all of them.
+use Rattle.std.proofs.Common.{◌≡◌, ◌≤◌, ◌-◌, List, ℕ, Option, Result, true, is_ok}
+use Rattle.sub_io.specs.Device.{Writes}
+use Rattle.sub_io.specs.declared.source.Failed.{Failed}
+use Rattle.stl_file.specs.NormalCounts.{given}
+use Rattle.stl_file.specs.NormalForm.{all_blocks, subtitles_of}
+use Rattle.stl_file.specs.Reader.{outcome_from, outcome_left}
 use Rattle.stl_file.specs.SubtitleBlocks.{joined}
 use Rattle.stl_file.specs.Tti.{most_blocks}
-use Rattle.stl_file.proofs.NormalCountsLemmas.{Passes}
+use Rattle.stl_file.specs.declared.progress.Progress.TheVariants.{Reading}
 use Rattle.stl_file.proofs.normal_form.put_subtitles.Given as goal
 
 abbrev pub invariant-subtitles : goal.invariant-subtitles
 invariant-subtitles g l = record {
-  done : List SubtitleValue;
-  pass : Passes l.body l.reader l.source done;
-  wrote : Appends (g.K.Sink.contents l.initial.sink) (g.K.Sink.contents l.sink)
-      (joined (all_blocks done));
+  accepted : is_ok (subtitles_of (outcome_left l.reader l.source)) ≡ true;
+  reading : l.reader.progress ≡ Reading;
+  few : l.reader.block ≤ most_blocks;
+  wrote : (new : Option (List ℕ)) (result : Result (Unit {0}) Failed)
+      → Writes (g.K.Sink.contents l.sink) new
+      (joined (all_blocks (given (subtitles_of (outcome_left l.reader l.source))))) result
+      → Writes (g.K.Sink.contents l.initial.sink) new
+      (joined (all_blocks (given (subtitles_of (outcome_from 0 l.body))))) result;
   count : g.K.Sink.failure_count l.sink ≡ g.K.Sink.failure_count l.initial.sink;
 }
 
