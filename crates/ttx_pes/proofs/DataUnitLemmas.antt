@@ -10,7 +10,7 @@ use Rattle.std.proofs.lemmas.Bool.Decides.{nat_tests}
 use Rattle.std.proofs.lemmas.List.{length-map, take_at, drop_at, take-append-drop, get_or-take}
 use Rattle.std.proofs.lemmas.List.{get_or-drop, get_or_past, append-nil, nil_from_length}
 use Rattle.std.specs.Option.{option_to_list}
-use Rattle.sub_io.specs.Reading.{AreBytes}
+use Rattle.sub_io.specs.Reading.{◌>>=◌, AreBytes}
 use Rattle.ttx_packet.specs.BitOrder.{mirror}
 use Rattle.ttx_pes.specs.declared.fault.PesFault.{PesFault}
 use Rattle.ttx_pes.specs.declared.fault.PesFault.TheVariants as fault
@@ -246,28 +246,12 @@ units_complete (suc n) front more b (u, others, first, rest, held, after, us-is,
 
 -- ---- the loop over data units
 
--- One more data unit of the loop.
-pub units_more : (count i : ℕ) (front units : List UnitValue) (b : List ℕ)
+-- The next data unit of those that are left. For `take_units`.
+pub units_next : (count i : ℕ) (front : List UnitValue) (b : List ℕ)
     → i < count
-    → unit_at front (take 46 b) ≡ Ok units
-    → units_at (count - i) front b ≡ units_at (count - (i + 1)) units (drop 46 b)
+    → units_at (count - i) front b
+    ≡ (unit_at front (take 46 b) >>= λ units. units_at (count - (i + 1)) units (drop 46 b))
 unfolding units_at
-units_more count i front units b lt e =
-    grind (arith, nat_tests)
-
--- A fault in a data unit ends the loop.
-pub units_stop : (count i : ℕ) (front : List UnitValue) (b : List ℕ) (f : PesFault)
-    → i < count
-    → unit_at front (take 46 b) ≡ Err f
-    → units_at (count - i) front b ≡ Err f
-unfolding units_at
-units_stop count i front b f lt e =
-    grind (arith, nat_tests)
-
--- The loop is done.
-pub units_done : (count i : ℕ) (front : List UnitValue) (b : List ℕ)
-    → count ≤ i
-    → units_at (count - i) front b ≡ Ok front
-unfolding units_at
-units_done count i front b le =
-    grind (arith, nat_tests)
+units_next count i front b lt =
+    let next : count - i ≡ suc (count - (i + 1)) = omega arith in
+    rw next refl

@@ -1,11 +1,11 @@
 -- The order of lines, one unit on, and that numbered packets keep it. Main lemma:
 -- numbered_is_value.
 use Rattle.std.proofs.Common.{◌≡◌, ℕ, ◌+◌, ◌<◌, ◌≤◌, true, false, cond, eqb}
-use Rattle.std.proofs.Common.{ltb, List, [], ◌∷◌, ◌++◌, length, get_or, take, map, refl, ap}
+use Rattle.std.proofs.Common.{ltb, List, [], ◌∷◌, ◌++◌, length, get_or, drop, map, refl, ap, append_assoc}
 use Rattle.std.proofs.Common.{◌∙◌, arith}
 use Rattle.std.proofs.lemmas.Bool.{lt-ltb}
 use Rattle.std.proofs.lemmas.Bool.Decides.{nat_tests}
-use Rattle.std.proofs.lemmas.List.{take_more, length-take-le}
+use Rattle.std.proofs.lemmas.List.{drop_more}
 use Rattle.std.specs.List.{AllByRecursion}
 use Rattle.ttx_packet.specs.PacketAddress.{IsPacket}
 use Rattle.ttx_pes.specs.DataUnit.{UnitValue, IsUnit}
@@ -40,46 +40,29 @@ units-push (t ∷ us) u h w = (h.0, units-push us u h.1 w)
 -- For a frame that takes a unit.
 pub ruleset order = (last_place-push, AreInLineOrder-push, units-push)
 
--- The units of packets that are numbered_units from the first line on.
-
--- One more numbered packet.
-numbered_push : (k : ℕ) (xs : List (List ℕ)) (p : List ℕ)
-    → numbered_units k (xs ++ p ∷ []) ≡ numbered_units k xs ++ numbered_unit (k + length xs) p ∷ []
-numbered_push k [] p = let z : k ≡ k + 0 = omega arith in ap (λ (n : ℕ). numbered_unit n p ∷ []) z
-numbered_push k (x ∷ xs) p =
-    let z : k + 1 + length xs ≡ k + length (x ∷ xs) = omega arith in
-    ap (λ (us : List UnitValue). numbered_unit k x ∷ us) (numbered_push (k + 1) xs p
-    ∙ ap (λ (n : ℕ). numbered_units (k + 1) xs ++ numbered_unit n p ∷ []) z)
-
--- The loop of frame_of, one packet on.
-pub numbered_more : (i : ℕ) (ps : List (List ℕ)) (u : UnitValue) (us new : List UnitValue)
-    → i < length ps
-    → us ≡ numbered_units 0 (take i ps)
-    → u ≡ numbered_unit i (get_or ps i [])
-    → new ≡ us ++ u ∷ []
-    → new ≡ numbered_units 0 (take (i + 1) ps)
-numbered_more i ps u us new lt e f h =
-    let len : 0 + length (take i ps) ≡ i = let l = length-take-le i ps (omega arith) in
-    omega arith in
-    let one = numbered_push 0 (take i ps) (get_or ps i []) in
-    let more = take_more ps i [] lt in
-    cc
-
 -- The places of numbers rise.
 place_rises : (i : ℕ) → numbered_place i < numbered_place (i + 1)
 place_rises i = grind (arith, nat_tests)
 
+-- The loop of frame_of, one packet on: those that are left come after it.
+pub numbered_more : (i : ℕ) (ps : List (List ℕ)) (p : List ℕ) (us all : List UnitValue)
+    → i < length ps
+    → p ≡ get_or ps i p
+    → us ++ numbered_units i (drop i ps) ≡ all
+    → (us ++ numbered_unit i p ∷ []) ++ numbered_units (i + 1) (drop (i + 1) ps) ≡ all
+numbered_more i ps p us all lt is e =
+    append_assoc us (numbered_unit i p ∷ []) (numbered_units (i + 1) (drop (i + 1) ps))
+    ∙ rw (drop_more ps i p lt, ← is) at e
+
 -- The last place after a numbered unit: the next number may stand there.
-pub last_numbered : (i : ℕ) (u : UnitValue) (us new : List UnitValue)
+pub last_numbered : (i : ℕ) (u : UnitValue) (us : List UnitValue)
     → eqb u.line 0 ≡ false
     → line_order_place u ≡ numbered_place i
-    → new ≡ us ++ u ∷ []
-    → last_place 0 new < numbered_place (i + 1)
-last_numbered i u us new line at h =
-    let last : last_place 0 new ≡ numbered_place i =
-    ap (last_place 0) h ∙ last_place-push 0 us u ∙ rw line at in
-    let rises = place_rises i in
-    rw last rises
+    → last_place 0 (us ++ u ∷ []) < numbered_place (i + 1)
+last_numbered i u us line at =
+    let last : last_place 0 (us ++ u ∷ []) ≡ numbered_place i =
+    last_place-push 0 us u ∙ rw line at in
+    rw last (place_rises i)
 
 -- ---- numbered packets as a value
 

@@ -105,47 +105,6 @@ spelled v us pts out base head n i j same pts-same e f le h k done =
     ++ repeated (4 * (length v.units / 4 + 1) - 1 - length v.units) stuffing_unit) = cc in
     made
 
--- ---- another PTS
-
--- The canonical packet with another PTS: bytes 9 to 13 alone are others.
-canonical_packet-pts : (us : List UnitValue) (old pts : ℕ)
-    → take 9 (canonical_packet (record { pts = old; units = us }))
-    ++ (pts_bytes pts ++ drop 5 (drop 9 (canonical_packet (record { pts = old; units = us }))))
-    ≡ canonical_packet (record { pts = pts; units = us })
-unfolding canonical_packet payloads_for pes_packet_header
-canonical_packet-pts us old pts = refl
-
--- And it is as long.
-length-other_pts : (us : List UnitValue) (old pts : ℕ)
-    → length (canonical_packet (record { pts = old; units = us }))
-    ≡ length (canonical_packet (record { pts = pts; units = us }))
-unfolding canonical_packet payloads_for pes_packet_header
-length-other_pts us old pts = refl
-
--- It reaches past its PTS.
-pub canonical_packet-has_pts : (v : PesValue) → 14 ≤ length (canonical_packet v)
-unfolding canonical_packet payloads_for pes_packet_header
-canonical_packet-has_pts v = omega arith
-
--- Bytes 9 to 13 of a canonical packet, set to another PTS in place.
-pub canonical_packet-set_pts :
-    (us : List UnitValue) (old pts : ℕ) (bytes slice front back new rest : List ℕ)
-    → bytes ≡ canonical_packet (record { pts = old; units = us })
-    → slice ≡ bytes
-    → front ≡ take 9 slice
-    → back ≡ drop 9 slice
-    → new ≡ pts_bytes pts
-    → rest ≡ drop 5 back
-    → refill (length bytes) bytes (front ++ (new ++ rest))
-    ≡ canonical_packet (record { pts = pts; units = us })
-canonical_packet-set_pts us old pts bytes slice front back new rest e f g h k l =
-    let whole = canonical_packet (record { pts = pts; units = us }) in
-    let made : front ++ (new ++ rest) ≡ whole =
-    rw (g, k, l, h, f, e) (canonical_packet-pts us old pts) in
-    let len : length bytes ≡ length whole = ap length e ∙ length-other_pts us old pts in
-    rw made (take-append-le (length bytes) whole (drop (length whole) bytes) (omega arith)
-    ∙ take_all (length bytes) whole (omega arith))
-
 -- ---- the value of a packet
 
 -- What n data units hold: n units at most.

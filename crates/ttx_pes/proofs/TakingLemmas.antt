@@ -176,18 +176,6 @@ settled_field old new taken body field v h fit same is = record {
   field_is = is ∙ ap (drop 39) same ∙ drop-drop 39 6 taken;
 }
 
--- The first six bytes stay where more were taken after them. For `take_packet`.
-pub head_kept : (got n : ℕ) (old new : List ℕ)
-    → 6 ≤ got
-    → got ≤ n
-    → take got new ≡ take got old
-    → take 6 (take n new) ≡ take 6 old
-head_kept got n old new le more kept =
-    take-take 6 n new (omega arith)
-    ∙ sym (take-take 6 got new le)
-    ∙ ap (take 6) kept
-    ∙ take-take 6 got old le
-
 -- What the first six bytes tell stays where more were taken after them. For `take_packet`.
 pub size_kept : (got n : ℕ) (old new six : List ℕ) (r : Result ℕ PesFault)
     → 6 ≤ got
@@ -197,7 +185,9 @@ pub size_kept : (got n : ℕ) (old new six : List ℕ) (r : Result ℕ PesFault)
     → size_at six ≡ r
     → size_at (take 6 (take n new)) ≡ r
 size_kept got n old new six r le more kept is told =
-    ap size_at (head_kept got n old new le more kept ∙ sym is) ∙ told
+    ap size_at (take-take 6 n new (omega arith) ∙ sym (take-take 6 got new le) ∙ ap (take 6) kept
+    ∙ take-take 6 got old le ∙ sym is)
+    ∙ told
 
 -- ---- the source failed
 
