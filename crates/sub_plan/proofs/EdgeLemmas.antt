@@ -1,9 +1,10 @@
 -- Between edges the due page stays: still_due.
-use Rattle.std.proofs.Common.{◌≡◌, ℕ, zero, suc, ◌-◌, ◌<◌, ◌≤◌, List, ap, ◌∙◌, arith, inl, inr}
+use Rattle.std.proofs.Common.{◌≡◌, ℕ, ◌-◌, ◌<◌, ◌≤◌, List, ◌∙◌, arith, inl, inr}
 use Rattle.std.proofs.lemmas.Bool.{cases_lt}
 use Rattle.ttx_page.specs.Page.{Rows}
 use Rattle.stl_file.specs.Subtitle.{SubtitleValue}
 use Rattle.stl_rows.specs.DuePage.{IsEdge}
+use Rattle.sub_plan.proofs.ScheduleBases.{stays}
 
 -- The due page is that of the frame before, at each frame that is no edge.
 abbrev pub StaysBetweenEdges : (ℕ → Rows) → List SubtitleValue → Type 0
@@ -16,14 +17,11 @@ pub still_due : (due : ℕ → Rows) (records : List SubtitleValue) (start at en
     → ((f : ℕ) → start ≤ f → f ≤ at → due f ≡ due start)
     → start ≤ at
     → (f : ℕ) → start ≤ f → f < end → due f ≡ due start
-still_due due records start at end law next so_far within zero low high =
-    so_far zero low (omega arith)
-still_due due records start at end law next so_far within (suc f) low high =
-    elim (cases_lt at (suc f)) [
-      | inr here ↦ so_far (suc f) low here
+still_due due records start at end law next so_far within f low high =
+    elim (cases_lt at f) [
+      | inr here ↦ so_far f low here
       | inl after ↦
-          let back : suc f - 1 ≡ f = omega arith in
-          law (suc f) (omega arith) (λ edge. absurd (omega (arith, next (suc f) edge after)))
-          ∙ ap due back
-          ∙ still_due due records start at end law next so_far within f (omega arith) (omega arith)
+          stays due at f (omega arith) (λ k a c. law k (omega arith)
+          (λ edge. absurd (omega (arith, next k edge a))))
+          ∙ so_far at within (omega arith)
     ]

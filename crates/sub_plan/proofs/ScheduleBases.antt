@@ -1,8 +1,8 @@
 -- Bases of a schedule and the sendings that they make: last_base, last_sending, sending_in_gap.
 use Rattle.std.proofs.Math.Bool.{or-true}
 use Rattle.std.proofs.Common.{◌≡◌, ℕ, zero, suc, ◌+◌, ◌-◌, ◌%◌, ◌<◌, ◌≤◌, ◌==◌, Bool, true, false}
-use Rattle.std.proofs.Common.{not, cond, List, ◌∷◌, ◌++◌, refl, sym, ap, subst, ◌∙◌, arith, inl}
-use Rattle.std.proofs.Common.{inr, All, Decides}
+use Rattle.std.proofs.Common.{not, List, ◌∷◌, ◌++◌, refl, sym, ap, ◌∙◌, arith, inl, inr, All}
+use Rattle.std.proofs.Common.{Decides}
 use Rattle.std.proofs.Math.Nat.{add-mod_right, mod-eq_of_lt}
 use Rattle.std.proofs.lemmas.Bool.{cases_Bool, cases_lt, false≢true, false_from_ne_true, or_left}
 use Rattle.std.proofs.lemmas.Bool.Decides.{nat_tests, Decides-eqb, Decides-not, Decides-or}
@@ -34,14 +34,60 @@ range_all P a (suc n) h =
     All-cons P a (range_with_len (a + 1) n) (h a (omega arith) (omega arith))
     (range_all P (a + 1) n (λ j b c. h j (omega arith) (omega arith)))
 
--- What holds up to a number and at the next holds up to that.
-up_to_next : (P : ℕ → Type 0) (b f : ℕ) → ((k : ℕ) → b < k → k ≤ f → P k) → P (suc f) → (k : ℕ)
-    → b < k → k ≤ suc f → P k
-up_to_next P b f before last k low high =
-    elim (cases_lt f k) [
-      | inl here ↦ let e : suc f ≡ k = omega arith in subst P e last
-      | inr old ↦ before k low old
+-- What is the same at each number as at the one before is the same at all. For bases and edges.
+pub stays : {X : Type 0} (value : ℕ → X) (s f : ℕ) → s ≤ f
+    → ((k : ℕ) → s < k → k ≤ f → value k ≡ value (k - 1)) → value f ≡ value s
+stays value s zero low step = let e : zero ≡ s = omega arith in ap value e
+stays value s (suc f) low step =
+    elim (cases_lt f s) [
+      | inl here ↦ let e : suc f ≡ s = omega arith in ap value e
+      | inr before ↦
+          let back : suc f - 1 ≡ f = omega arith in
+          step (suc f) (omega arith) (omega arith) ∙ ap value back
+          ∙ stays value s f before (λ k a c. step k a (omega arith))
     ]
+
+-- The last number up to another that passes a test.
+record IsLastOf (test : ℕ → Bool) (first f g : ℕ) : Type 0 where
+  low : first ≤ g
+  high : g ≤ f
+  passes : test g ≡ true
+  none_after : (k : ℕ) → g < k → k ≤ f → test k ≡ false
+
+-- There is one from a number on that passes.
+find_last : (test : ℕ → Bool) (first f : ℕ) → test first ≡ true → first ≤ f
+    → (g : ℕ) × IsLastOf test first f g
+find_last test first f start low = go f (test f) refl low
+  where
+    go : (f : ℕ) (b : Bool) → test f ≡ b → first ≤ f → (g : ℕ) × IsLastOf test first f g
+    go f true h low = (
+      f,
+      record {
+        low = low;
+        high = omega arith;
+        passes = h;
+        none_after = λ k a c. absurd (omega arith);
+      },
+    )
+    go zero false h low = let e : first ≡ zero = omega arith in cc
+    go (suc f) false h low =
+        elim (cases_lt f first) [
+          | inl here ↦ let e : first ≡ suc f = omega arith in cc
+          | inr before ↦
+              let found = go f (test f) refl before in (
+                found.0,
+                record {
+                  low = found.1.low;
+                  high = omega (arith, found.1.high);
+                  passes = found.1.passes;
+                  none_after = λ k a c.
+                      elim (cases_lt f k) [
+                        | inl next ↦ let e : k ≡ suc f = omega arith in ap test e ∙ h
+                        | inr old ↦ found.1.none_after k a old
+                      ];
+                },
+              )
+        ]
 
 -- ---- bases
 
@@ -78,20 +124,20 @@ unfolding base
 base-at due first zero h = refl
 base-at due first (suc b) h = rw ((is_base-Decides due first (suc b)).1 h) refl
 
+-- At a frame that is no base it is that of the frame before.
+base-before : (due : ℕ → Rows) (first f : ℕ) → (IsBase due first f → ⊥)
+    → base due first f ≡ base due first (f - 1)
+unfolding base
+base-before due first zero none = refl
+base-before due first (suc f) none =
+    let back : suc f - 1 ≡ f = omega arith in
+    rw (no_base due first (suc f) none, back) refl
+
 -- Up to the next base the last base stays.
 base_stays : (due : ℕ → Rows) (first s f : ℕ) → s ≤ f
     → ((k : ℕ) → s < k → k ≤ f → IsBase due first k → ⊥) → base due first f ≡ base due first s
-unfolding base
-base_stays due first s zero low none =
-    let e : zero ≡ s = omega arith in
-    ap (base due first) e
-base_stays due first s (suc f) low none =
-    elim (cases_lt f s) [
-      | inl here ↦ let e : suc f ≡ s = omega arith in ap (base due first) e
-      | inr before ↦
-          rw (no_base due first (suc f) (none (suc f) (omega arith) (omega arith)))
-          (base_stays due first s f before (λ k a c. none k a (omega arith)))
-    ]
+base_stays due first s f low none =
+    stays (base due first) s f low (λ k a c. base-before due first k (none k a c))
 
 -- The last base up to a frame is the one that the definition gives.
 pub base-last : (due : ℕ → Rows) (first f b : ℕ) → IsLastBase due first f b → base due first f ≡ b
@@ -101,39 +147,17 @@ base-last due first f b last =
 -- From the first frame on there is one.
 pub last_base : (due : ℕ → Rows) (first f : ℕ) → first ≤ f
     → IsLastBase due first f (base due first f)
-unfolding base
-last_base due first zero low = record {
-  low = low;
-  high = omega arith;
-  is_base = inl (omega arith);
-  none_after = λ k a c. absurd (omega arith);
-}
-last_base due first (suc f) low = go (is_base due first (suc f)) refl (last_base due first f)
-  where
-    go : (b : Bool) → is_base due first (suc f) ≡ b
-        → (first ≤ f → IsLastBase due first f (base due first f))
-        → IsLastBase due first (suc f) (cond b (suc f) (base due first f))
-    go true h before = record {
-      low = low;
-      high = omega arith;
-      is_base = (is_base-Decides due first (suc f)).0 h;
-      none_after = λ k a c. absurd (omega arith);
-    }
-    go false h before =
-        let none : IsBase due first (suc f) → ⊥ =
-        λ b. false≢true (sym h ∙ (is_base-Decides due first (suc f)).1 b) in
-        let last = before
-        (elim (cases_lt f first) [
-          | inl here ↦ absurd (none (inl (omega arith)))
-          | inr later ↦ later
-        ]) in
-        record {
-          low = last.low;
-          high = omega (arith, last.high);
-          is_base = last.is_base;
-          none_after =
-              up_to_next (λ k. IsBase due first k → ⊥) (base due first f) f last.none_after none;
-        }
+last_base due first f low =
+    let found =
+    find_last (is_base due first) first f ((is_base-Decides due first first).1 (inl refl)) low in
+    let last : IsLastBase due first f found.0 = record {
+      low = found.1.low;
+      high = found.1.high;
+      is_base = (is_base-Decides due first found.0).0 found.1.passes;
+      none_after = λ k a c b. false≢true
+          (sym (found.1.none_after k a c) ∙ (is_base-Decides due first k).1 b);
+    } in
+    rw (base-last due first f found.0 last) last
 
 -- ---- frames that send
 
@@ -181,46 +205,20 @@ sends-again due every first last s low high sent none =
 pub last_sending : (due : ℕ → Rows) (every first last f : ℕ) → 1 ≤ every → first ≤ f → (g : ℕ)
     × IsLastSending due every first last f g
 last_sending due every first last f some low =
-    go f (is_sending due every first last f) refl low
-  where
-    now : (f : ℕ) → first ≤ f → is_sending due every first last f ≡ true → (g : ℕ)
-        × IsLastSending due every first last f g
-    now f low h = (
-      f,
+    let found =
+    find_last (is_sending due every first last) first f (sends-first due every first last some)
+    low in
+    let sent = found.1 in (
+      found.0,
       record {
-        low = low;
-        high = omega arith;
-        sends = h;
-        none_after = λ k a c. absurd (omega arith);
-        same = refl;
+        low = sent.low;
+        high = sent.high;
+        sends = sent.passes;
+        none_after = sent.none_after;
+        same = sym (stays due found.0 f sent.high (λ k a c. same_unless_base due first k (λ b.
+            false≢true (sym (sent.none_after k a c) ∙ sends-base due every first last k some b))));
       },
     )
-
-    go : (f : ℕ) (b : Bool) → is_sending due every first last f ≡ b → first ≤ f → (g : ℕ)
-        × IsLastSending due every first last f g
-    go f true h low = now f low h
-    go zero false h low =
-        now zero low (sends-base due every first last zero some (inl (omega arith)))
-    go (suc f) false h low =
-        let none : IsBase due first (suc f) → ⊥ =
-        λ b. false≢true (sym h ∙ sends-base due every first last (suc f) some b) in
-        let later : first ≤ f =
-        elim (cases_lt f first) [
-          | inl here ↦ absurd (none (inl (omega arith)))
-          | inr before ↦ before
-        ] in
-        let found = go f (is_sending due every first last f) refl later in
-        let back : suc f - 1 ≡ f = omega arith in (
-          found.0,
-          record {
-            low = found.1.low;
-            high = omega (arith, found.1.high);
-            sends = found.1.sends;
-            none_after = up_to_next (λ k. is_sending due every first last k ≡ false) found.0 f
-                found.1.none_after h;
-            same = found.1.same ∙ sym (same_unless_base due first (suc f) none ∙ ap due back);
-          },
-        )
 
 -- ---- the laws
 
@@ -251,8 +249,7 @@ law_of_last_sending = last_sending
 -- A frame with the page of the frame before it is no base.
 pub law_of_equal_pages : LawOfEqualPages
 law_of_equal_pages due first f after same =
-    base_stays due first (f - 1) f (omega arith)
-    (λ k a c b. let e : k ≡ f = omega arith in elim (subst (IsBase due first) e b) [
+    base-before due first f (λ b. elim b [
       | inl here ↦ absurd (omega (arith, here))
       | inr other ↦ other same
     ])

@@ -1,9 +1,9 @@
--- What a sending holds and shows: law_of_sending, law_of_sent_packets, law_of_cut_sendings.
+-- What a sending holds and shows: law_of_sending, all_sent, law_of_cut_sendings.
 use Rattle.std.proofs.Common.{◌≡◌, ℕ, zero, suc, ◌+◌, ◌-◌, ◌<◌, ◌≤◌, inl, inr, Bool, true, false}
 use Rattle.std.proofs.Common.{not, ◌==◌, cond, List, [], ◌∷◌, ◌++◌, length, map, filter, take, find}
 use Rattle.std.proofs.Common.{flat_map, option_map, unwrap_or, slice_index, All, refl, sym, ap, ◌∙◌}
-use Rattle.std.proofs.Common.{subst, arith, lit≤, eq-eqb, ne_eqb, append-nil, ◌↔◌, replicate}
-use Rattle.std.proofs.Common.{nat_le, nat_lt, ◌&&◌}
+use Rattle.std.proofs.Common.{arith, lit≤, eq-eqb, ne_eqb, append-nil, ◌↔◌, replicate, nat_le}
+use Rattle.std.proofs.Common.{nat_lt, ◌&&◌}
 use Rattle.std.specs.List.{range_with_len, AllByRecursion}
 use Rattle.std.proofs.Math.Seq.{take-append-add}
 use Rattle.std.proofs.lemmas.Bool.{cases_eq, cases_lt, or_parts, or_left, false≢true}
@@ -33,7 +33,7 @@ use Rattle.sub_plan.specs.Options.{IsWatchable}
 use Rattle.sub_plan.specs.Sending.{is_sent_row, watched_header, closing_header, rows_from}
 use Rattle.sub_plan.specs.Sending.{sent_rows, sending}
 use Rattle.sub_plan.specs.Laws.{AreRowsOfOnePage, IsRowOf, IsSentPacket, LawOfCutSendings}
-use Rattle.sub_plan.specs.Laws.{LawOfSending, LawOfSentPackets}
+use Rattle.sub_plan.specs.Laws.{LawOfSending}
 use Rattle.sub_plan.proofs.ScheduleBases.{range_all}
 use Rattle.sub_plan.proofs.SentPackets.{opener, closer, made_opener, made_closer, packet_of_header}
 use Rattle.sub_plan.proofs.SentPackets.{packet_of_codes, row_of, row_length, row_codes, made_row}
@@ -258,8 +258,7 @@ module _ (w : PageIdValue) (national : National) (serial : Bool) (page : Rows) (
       record {
         page = page;
         shape = shape;
-        rows = subst (All (IsRowOf w page)) (sym (cut_span m))
-            (All-take (IsRowOf w page) m rows (sent_rows_are w page));
+        rows = rw (cut_span m) (All-take (IsRowOf w page) m rows (sent_rows_are w page));
       }
 
   -- ---- each packet of it
@@ -272,8 +271,7 @@ module _ (w : PageIdValue) (national : National) (serial : Bool) (page : Rows) (
   each_packet P first last each =
       All-cons P (opener w national serial) (rows ++ closer w serial ∷ []) first
       (All-push P rows (closer w serial)
-      (All-weaker (IsRowOf w page) P
-      (λ p is. subst P (sym is.is) (each is.row is.low is.high)) rows
+      (All-weaker (IsRowOf w page) P (λ p is. rw is.is (each is.row is.low is.high)) rows
       (sent_rows_are w page)) last)
 
   -- Each packet is as the law says.
@@ -313,10 +311,6 @@ module _ (w : PageIdValue) (national : National) (serial : Bool) (page : Rows) (
                 cc);
           }
 
--- Each packet of a sending is whole, exact, in the mode, and of the page's header alone.
-pub law_of_sent_packets : LawOfSentPackets
-law_of_sent_packets w national serial page ok shape = all_sent w national serial page ok shape
-
 -- ---- sendings one after another, cut anywhere
 
 -- By the number of sendings: what stands before the last header does not matter.
@@ -325,8 +319,7 @@ law_of_cut_sendings w national serial due [] n ok shape =
     rw (take_all {A = List ℕ} n [] (omega arith))
     (record { page = due 0; shape = shape 0; rows = All-nil (IsRowOf w (due 0)) })
 law_of_cut_sendings w national serial due (f ∷ []) n ok shape =
-    let one : List (List ℕ) = sending w national serial (due f) in
-    subst (λ ps. AreRowsOfOnePage w (span (kind w) (take n ps))) (sym (append-nil one))
+    rw (append-nil (sending w national serial (due f)))
     (rows_cut w national serial (due f) ok (shape f) n)
 law_of_cut_sendings w national serial due (f ∷ g ∷ fs) n ok shape =
     let one : List (List ℕ) = sending w national serial (due f) in
@@ -335,19 +328,16 @@ law_of_cut_sendings w national serial due (f ∷ g ∷ fs) n ok shape =
       | inl past ↦
           let m : ℕ = n - length one - 1 in
           let e : length one + suc m ≡ n = omega arith in
-          let cut : take n (one ++ rest) ≡ one ++ take (suc m) rest =
-          ap (λ k. take k (one ++ rest)) (sym e) ∙ take-append-add one rest (suc m) in
           let holds : holds_header (kind w) (take (suc m) rest) ≡ true =
           opens_cut w national serial (due g) ok (shape g) m
           (flat_map (λ k. sending w national serial (due k)) fs) in
-          let same : span (kind w) (take n (one ++ rest)) ≡ span (kind w) (take (suc m) rest) =
-          ap (span (kind w)) cut
-          ∙ ap (before_end (kind w)) (after-append (kind w) one (take (suc m) rest) holds) in
-          subst (AreRowsOfOnePage w) (sym same)
-          (law_of_cut_sendings w national serial due (g ∷ fs) (suc m) ok shape)
+          rw (
+            ← e,
+            take-append-add one rest (suc m),
+            after-append (kind w) one (take (suc m) rest) holds,
+          ) (law_of_cut_sendings w national serial due (g ∷ fs) (suc m) ok shape)
       | inr within ↦
-          subst (λ ps. AreRowsOfOnePage w (span (kind w) ps))
-          (sym (take-append-le n one rest within))
+          rw (take-append-le n one rest within)
           (rows_cut w national serial (due f) ok (shape f) n)
     ]
 

@@ -1,6 +1,6 @@
--- The law, by the lemma of its name.
-use Rattle.sub_plan.proofs.SendingLemmas.{law_of_sent_packets}
+-- The law is all_sent.
+use Rattle.sub_plan.proofs.SendingLemmas.{all_sent}
 use Rattle.sub_plan.proofs.laws.law_of_sent_packets.Goals as goal
 
 pub returns : goal.returns
-returns c = law_of_sent_packets
+returns c = all_sent

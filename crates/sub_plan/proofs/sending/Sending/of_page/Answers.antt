@@ -16,7 +16,8 @@ loop-row-preserved c =
     elim c.if-is_sent_row.branch [
       | then-is_sent_row w ↦
           let sent : is_sent_row (row_at page c.loop-row.row) ≡ true = search rules in
-          rw (w.sent-is, w.push.ensures, w.of_row.ensures.value, c.row-codes.ensures.value) (record {
+          rw (w.sent-is, w.push.ensures, w.of_row.ensures.value, c.row-codes.ensures.value)
+          (record {
             past = omega arith;
             short = omega (arith, i.short, length_push {X = List ℕ});
             so_far = append_assoc c.loop-row.sent _ _ ∙ rw (next, sent) at i.so_far;
