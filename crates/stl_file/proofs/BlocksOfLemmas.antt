@@ -1,6 +1,6 @@
 -- `blocks_of`: the blocks that are written for a subtitle are blocks of it; main lemmas:
 -- joined_more, joined_end, blocks_made, blocks_again.
-use Rattle.std.proofs.Common.{◌≡◌, ◌*◌, ℕ, List, [], ◌∷◌, ◌++◌, length, refl, sym, ap, ◌∙◌}
+use Rattle.std.proofs.Common.{◌≡◌, ◌*◌, ℕ, true, List, [], ◌∷◌, ◌++◌, length, refl, sym, ap, ◌∙◌}
 use Rattle.std.proofs.Common.{append_assoc, arith, length-append, take, drop, zero, suc, ◌+◌, ◌-◌}
 use Rattle.std.proofs.Common.{◌<◌, ◌≤◌, replicate, length-take}
 use Rattle.std.specs.List.{flat_map}
@@ -8,10 +8,10 @@ use Rattle.std.proofs.lemmas.List.{append-nil, take-append-drop, length-replicat
 use Rattle.std.proofs.lemmas.List.{drop-replicate}
 use Rattle.stl_file.specs.Tti.{ebn, text_of, unused_space}
 use Rattle.stl_file.specs.SubtitleBlocks.{joined, BelongsTo, AreLinked, Begins, AreBlocksOf}
-use Rattle.stl_file.specs.Subtitle.{SubtitleValue, IsSubtitle}
+use Rattle.stl_file.specs.Subtitle.{SubtitleValue, IsSubtitle, has_no_unused}
 use Rattle.stl_file.specs.NormalForm.{block_of, blocks_from, full_pieces, blocks_of}
 use Rattle.stl_file.proofs.TimeCodeLemmas.{time_in_range}
-use Rattle.stl_file.proofs.SubtitleLemmas.{IsClean, before_clean, clean_take, clean_drop, clean_of}
+use Rattle.stl_file.proofs.SubtitleLemmas.{before_clean, clean_take, clean_drop}
 use Rattle.stl_file.proofs.SubtitleBlocksLemmas.{linked_cons, linked_text, blocks_subtitle}
 
 -- ---- one block
@@ -27,7 +27,7 @@ pub ruleset pushed = (append_assoc, pad_is)
 
 -- a block that was made has its EBN and its text
 block_fields : (s : SubtitleValue) (e : ℕ) (piece : List ℕ)
-    → IsClean piece
+    → has_no_unused piece ≡ true
     → (ebn (block_of s e piece) ≡ e) × (text_of (block_of s e piece) ≡ piece)
 unfolding block_of
 block_fields s e piece h = (refl, before_clean piece (112 - length piece) h)
@@ -107,7 +107,7 @@ pub ruleset spelled = (append_assoc, length-drop, joined_more, joined_end, block
 blocks_linked : (s : SubtitleValue) (full e : ℕ) (text : List ℕ)
     → length text ≤ 112 * suc full
     → e + full ≤ 240
-    → IsClean text
+    → has_no_unused text ≡ true
     → AreLinked s.sgn s.sn (blocks_from s full e text)
 unfolding blocks_from
 blocks_linked s zero e text le few h =
@@ -123,7 +123,7 @@ blocks_linked s (suc full) e text le few h =
 
 -- their joined text is the text
 blocks_text : (s : SubtitleValue) (full e : ℕ) (text : List ℕ)
-    → IsClean text
+    → has_no_unused text ≡ true
     → flat_map text_of (blocks_from s full e text) ≡ text
 unfolding blocks_from
 blocks_text s zero e text h = rw ((block_fields s 255 text h).1) (append-nil text)
@@ -150,27 +150,27 @@ blocks_made s h =
     let full = full_pieces s.text in
     let b = blocks_begin s full 0 s.text h in
     let few = h.few in
-    let clean = clean_of s.text h.text in
     record {
       first = b.0;
       others = b.1.0;
       blocks = b.1.1;
       few = omega (arith, blocks_count s full 0 s.text);
       begins = b.1.2;
-      linked = blocks_linked s full 0 s.text (omega arith) (omega arith) clean;
-      text_is = sym (blocks_text s full 0 s.text clean);
+      linked = blocks_linked s full 0 s.text (omega arith) (omega arith) h.text;
+      text_is = sym (blocks_text s full 0 s.text h.text);
     }
 
--- a subtitle of a file: its own blocks are blocks of it, and no more than those of the file
-pub record IsMade (s : SubtitleValue) (count : ℕ) : Type 0 where
-  pub are_of : AreBlocksOf s (blocks_of s)
-  pub few : length (blocks_of s) ≤ count
-
 -- the blocks of a subtitle of a file can be written again, in no more of them
-pub blocks_again : (s : SubtitleValue) (g : List (List ℕ)) → AreBlocksOf s g → IsMade s (length g)
-blocks_again s g h =
-    let size = linked_text s.sgn s.sn g h.linked in
-    let same = ap length h.text_is in
-    let some = ap length h.blocks in
-    let n = blocks_count s (full_pieces s.text) 0 s.text in
-    record { are_of = blocks_made s (blocks_subtitle s g h); few = omega arith }
+pub blocks_again : (s : SubtitleValue) (g : List (List ℕ))
+    → AreBlocksOf s g
+    → AreBlocksOf s (blocks_of s) × (length (blocks_of s) ≤ length g)
+blocks_again s g h = (
+  blocks_made s (blocks_subtitle s g h),
+  omega (
+    arith,
+    linked_text s.sgn s.sn g h.linked,
+    ap length h.text_is,
+    ap length h.blocks,
+    blocks_count s (full_pieces s.text) 0 s.text,
+  ),
+)

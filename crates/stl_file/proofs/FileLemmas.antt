@@ -1,7 +1,7 @@
 -- `IsFile`: a file is what is read, and its first bytes decide that; main lemmas: file_read,
 -- one_file, outcome_of-first.
 use Rattle.std.proofs.Common.{◌≡◌, ◌*◌, ℕ, false, List, [], ◌++◌, length, refl, sym, ap, ◌∙◌, arith}
-use Rattle.std.proofs.Common.{length-append, take, drop, None, Result, Ok, Err, subst, ◌+◌}
+use Rattle.std.proofs.Common.{length-append, rules, take, drop, None, Result, Ok, Err, subst, ◌+◌}
 use Rattle.std.proofs.Common.{◌≤◌, inl, inr, length-take-le, ltb}
 use Rattle.std.specs.Prelude.{◌↔◌}
 use Rattle.std.proofs.lemmas.List.{take_all, take-take, drop-take, take-append-drop, take_at}
@@ -41,13 +41,7 @@ body_sound s ts le g e =
       gsi = g;
       blocks = r.blocks;
       bytes = sym (take-append-drop 1024 s) ∙ ap (λ (x : List ℕ). take 1024 s ++ x) r.bytes;
-      rest = record {
-        each = r.each;
-        few = r.few;
-        parts = r.groups;
-        kept = r.kept;
-        are_of = r.are_groups;
-      };
+      rest = search rules;
     }
 
 -- bytes that are read without a fault are a file

@@ -42,7 +42,7 @@ pub took : (from to : ℕ) (old new : Option (List ℕ)) (s : SubtitleValue)
     → TakesSubtitle from to old new s
     → from + length (blocks_of s) ≤ to
 took from to old new s t =
-    omega (arith, t.counted, kept_few t.blocks, (blocks_again s _ t.are_of).few)
+    omega (arith, t.counted, kept_few t.blocks, (blocks_again s _ t.are_of).1)
 
 -- ---- the first pass
 

@@ -2,10 +2,10 @@
 -- normal_is_file, normal_twice, refused_body, whole_written.
 use Rattle.std.proofs.Common.{◌≡◌, ℕ, false, List, [], ◌∷◌, ◌++◌, length, refl, ap, ◌∙◌, arith}
 use Rattle.std.proofs.Common.{length-append, take, drop, Option, Some, None, Ok, Err, subst}
-use Rattle.std.proofs.Common.{◌≤◌}
 use Rattle.std.specs.Prelude.{filter}
-use Rattle.std.specs.List.{AllByRecursion, flat_map}
+use Rattle.std.specs.List.{AllByRecursion}
 use Rattle.std.specs.Io.KnownBytes.{Appends, Keeps}
+use Rattle.std.proofs.lemmas.List.Elements.{filter-append}
 use Rattle.std.proofs.lemmas.Bool.Decides.{nat_tests}
 use Rattle.sub_io.specs.Device.{AppendsPrefix}
 use Rattle.stl_file.specs.declared.counts.Counts.{Counts}
@@ -26,72 +26,55 @@ use Rattle.stl_file.proofs.SubtitleBlocksLemmas.{kept_few}
 use Rattle.stl_file.proofs.GsiLemmas.{counted_is_gsi, counts_twice}
 use Rattle.stl_file.proofs.OpeningLemmas.{good, opened_sound}
 use Rattle.stl_file.proofs.FileLemmas.{body_sound, one_file}
+use Rattle.stl_file.proofs.RestLemmas.{groups_of}
 use Rattle.stl_file.proofs.BlocksOfLemmas.{blocks_again}
 
 -- ---- blocks of subtitles
 
--- each of the blocks is kept
-abbrev AllKept : List (List ℕ) → Type 0
-AllKept bs = AllByRecursion (λ (b : List ℕ). (length b ≡ 128) × (is_passed b ≡ false)) bs
+-- linked blocks have 128 bytes each, and are no comments and no user data
+linked_kept : (sgn_is sn_is : ℕ) (g : List (List ℕ))
+    → AreLinked sgn_is sn_is g
+    → AllByRecursion IsBlock g × (filter is_kept g ≡ g)
+linked_kept sgn_is sn_is [] c = absurd c
+linked_kept sgn_is sn_is (b ∷ []) c =
+    let kept : is_passed b ≡ false = grind (arith, nat_tests) in
+    ((c.0.size, tt), rw kept refl)
+linked_kept sgn_is sn_is (b ∷ x ∷ g) c =
+    let kept : is_passed b ≡ false = grind (arith, nat_tests) in
+    let rest = linked_kept sgn_is sn_is (x ∷ g) c.2 in
+    ((c.0.size, rest.0), rw kept (ap (λ (y : List (List ℕ)). b ∷ y) rest.1))
 
--- linked blocks are no comments and no user data
-chain_kept : (sgn_is sn_is : ℕ) (g : List (List ℕ)) → AreLinked sgn_is sn_is g → AllKept g
-chain_kept sgn_is sn_is [] c = absurd c
-chain_kept sgn_is sn_is (b ∷ []) c = ((c.0.size, grind (arith, nat_tests)), tt)
-chain_kept sgn_is sn_is (b ∷ x ∷ g) c =
-    ((c.0.size, grind (arith, nat_tests)), chain_kept sgn_is sn_is (x ∷ g) c.2)
-
--- kept blocks, one after the other
-kept_append : (xs ys : List (List ℕ)) → AllKept xs → AllKept ys → AllKept (xs ++ ys)
-kept_append [] ys h k = k
-kept_append (x ∷ xs) ys h k = (h.0, kept_append xs ys h.1 k)
-
--- kept blocks have 128 bytes each
-kept_each : (bs : List (List ℕ)) → AllKept bs → AllByRecursion IsBlock bs
-kept_each [] h = tt
-kept_each (b ∷ bs) h = (h.0.0, kept_each bs h.1)
-
--- nothing is passed over among them
-kept_all : (bs : List (List ℕ)) → AllKept bs → filter is_kept bs ≡ bs
-kept_all [] h = refl
-kept_all (b ∷ bs) h = rw h.0.1 (ap (λ (x : List (List ℕ)). b ∷ x) (kept_all bs h.1))
-
--- the blocks of each subtitle
-abbrev own_groups : List SubtitleValue → List (List (List ℕ))
-own_groups [] = []
-own_groups (s ∷ ss) = blocks_of s ∷ own_groups ss
-
--- the blocks of all subtitles, subtitle by subtitle
-groups_joined : (ss : List SubtitleValue)
-    → all_blocks ss ≡ flat_map (λ (g : List (List ℕ)). g) (own_groups ss)
-groups_joined [] = refl
-groups_joined (s ∷ ss) = ap (λ (x : List (List ℕ)). blocks_of s ++ x) (groups_joined ss)
-
--- subtitles that have groups: their own blocks are groups of them, and no more
-record Respelled (ss : List SubtitleValue) (count : ℕ) : Type 0 where
-  groups : AreBlocksOfEach ss (own_groups ss)
-  kept : AllKept (all_blocks ss)
-  few : length (all_blocks ss) ≤ count
+-- blocks, one after the other
+each_append : (xs ys : List (List ℕ))
+    → AllByRecursion IsBlock xs
+    → AllByRecursion IsBlock ys
+    → AllByRecursion IsBlock (xs ++ ys)
+each_append [] ys h k = k
+each_append (x ∷ xs) ys h k = (h.0, each_append xs ys h.1 k)
 
 -- the subtitles of a file have blocks of their own, and no more than the file has
 respelled : (ss : List SubtitleValue) (gs : List (List (List ℕ)))
     → AreBlocksOfEach ss gs
-    → Respelled ss (length (flat_map (λ (g : List (List ℕ)). g) gs))
-respelled [] [] h = record { groups = tt; kept = tt; few = omega arith }
+    → IsRest (length (groups_of gs)) (all_blocks ss) ss
+respelled [] [] h = record { each = tt; few = omega arith; parts = []; kept = refl; are_of = tt }
 respelled [] (g ∷ gs) h = absurd h
 respelled (s ∷ ss) [] h = absurd h
 respelled (s ∷ ss) (g ∷ gs) h =
     let one = blocks_again s g h.0 in
+    let own = linked_kept s.sgn s.sn (blocks_of s) one.0.linked in
     let rest = respelled ss gs h.1 in
-    let a = one.few in
-    let b = rest.few in
-    let l = length-append (blocks_of s) (all_blocks ss) in
-    let m = length-append g (flat_map (λ (x : List (List ℕ)). x) gs) in
+    let few = rest.few in
     record {
-      groups = (one.are_of, rest.groups);
-      kept = kept_append (blocks_of s) (all_blocks ss)
-          (chain_kept s.sgn s.sn (blocks_of s) one.are_of.linked) rest.kept;
-      few = omega arith;
+      each = each_append (blocks_of s) (all_blocks ss) own.0 rest.each;
+      few = omega (
+        arith,
+        one.1,
+        length-append (blocks_of s) (all_blocks ss),
+        length-append g (groups_of gs),
+      );
+      parts = blocks_of s ∷ rest.parts;
+      kept = filter-append is_kept (blocks_of s) (all_blocks ss) ∙ rw (own.1, rest.kept) refl;
+      are_of = (one.0, rest.are_of);
     }
 
 -- the blocks that are made for the subtitles of a file are those of a file
@@ -100,16 +83,12 @@ own_rest : (bs : List (List ℕ)) (ts : List SubtitleValue)
     → IsRest most_blocks (all_blocks ts) ts
 own_rest bs ts r =
     let own = respelled ts r.parts r.are_of in
-    let o = own.few in
-    let k = ap length r.kept in
-    let f = kept_few bs in
-    let le = r.few in
     record {
-      each = kept_each (all_blocks ts) own.kept;
-      few = omega arith;
-      parts = own_groups ts;
-      kept = kept_all (all_blocks ts) own.kept ∙ groups_joined ts;
-      are_of = own.groups;
+      each = own.each;
+      few = omega (arith, own.few, ap length r.kept, kept_few bs, r.few);
+      parts = own.parts;
+      kept = own.kept;
+      are_of = own.are_of;
     }
 
 -- ---- the laws
@@ -197,7 +176,7 @@ accepted s r c opened judged =
       ts = j.0;
       is_file = body_sound s j.0 o.0 o.1 j.1;
       count = j.3;
-      form = simp (j.1, o.2, j.2, j.3);
+      form = cc (ap given j.1, ap (λ (x : ReaderValue). x.gsi) o.2);
     }
 
 module _ (s : List ℕ) (r : ReaderValue) (c : Counts) (g : List ℕ) (opened : opened_at s ≡ good r)

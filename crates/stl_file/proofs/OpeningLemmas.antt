@@ -78,7 +78,7 @@ bad_opening old new bytes f c size bad = record {
       cc;
 }
 
-module _ (bytes : List ℕ) (n : ℕ) (new : Option (List ℕ)) (block : List ℕ)
+module _ {bytes : List ℕ} {n : ℕ} {new : Option (List ℕ)} {block : List ℕ}
     (t : Told bytes n new block) (bound : n ≤ length block) (size : length block ≡ 1024) where
   -- fewer bytes than a GSI block
   pub open_short : n < 1024 → opened_at bytes ≡ Err fault.Truncated

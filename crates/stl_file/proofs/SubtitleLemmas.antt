@@ -1,20 +1,38 @@
--- Texts without unused space; main lemmas: text_more, before_clean, text_short.
+-- Texts without unused space; main lemmas: used, before_clean, text_short.
 use Rattle.std.proofs.Common.{◌≡◌, ℕ, true, List, [], ◌∷◌, ◌++◌, length, refl}
 use Rattle.std.proofs.Common.{append_assoc, arith, take, drop, zero, suc, ◌+◌, ◌<◌, ◌≤◌}
 use Rattle.std.proofs.Common.{get_or, replicate}
-use Rattle.std.specs.List.{AllByRecursion, flat_map}
-use Rattle.std.proofs.lemmas.List.{length-drop, drop_more}
+use Rattle.std.specs.List.{flat_map}
+use Rattle.std.proofs.lemmas.List.{append-nil, length-drop, drop_all, drop_more, take_all, take_more}
+use Rattle.std.proofs.lemmas.Bool.{ne_eqb}
 use Rattle.std.proofs.lemmas.Bool.Decides.{nat_tests}
 use Rattle.stl_file.specs.Tti.{text_of, unused_space, tf, before_unused}
 use Rattle.stl_file.specs.Subtitle.{has_no_unused}
 
--- one byte that is no unused space goes from the field to the text
-pub text_more : (front xs : List ℕ) (i : ℕ)
+-- up to a byte that is no unused space a byte more is used
+pub used_more : (xs : List ℕ) (i : ℕ)
     → i < length xs
     → (get_or xs i 0 ≡ unused_space → ⊥)
-    → (front ++ get_or xs i 0 ∷ []) ++ before_unused (drop (i + 1) xs)
-    ≡ front ++ before_unused (drop i xs)
-text_more front xs i lt ne = grind (arith, nat_tests, append_assoc, drop_more xs i 0)
+    → take (i + 1) xs ++ before_unused (drop (i + 1) xs) ≡ take i xs ++ before_unused (drop i xs)
+used_more xs i lt ne =
+    rw (take_more xs i 0 lt, append_assoc, drop_more xs i 0 lt, ne_eqb _ unused_space ne) refl
+
+-- nothing is used from an unused space on
+pub used_up : (xs : List ℕ) (i : ℕ)
+    → i < length xs
+    → get_or xs i 0 ≡ unused_space
+    → take i xs ++ before_unused (drop i xs) ≡ take i xs
+used_up xs i lt e = rw (drop_more xs i 0 lt, e) (append-nil (take i xs))
+
+-- all is used where there is none
+pub used_all : (xs : List ℕ) (i : ℕ)
+    → length xs ≤ i
+    → take i xs ++ before_unused (drop i xs) ≡ take (length xs) xs
+used_all xs i le =
+    rw (drop_all i xs le, take_all i xs le, take_all (length xs) xs (omega arith)) (append-nil xs)
+
+-- what `used_of` needs
+pub ruleset used = (used_more, used_up, used_all)
 
 -- the two parts of a text
 pub has_no_unused-append : (xs ys : List ℕ)
@@ -24,19 +42,13 @@ pub has_no_unused-append : (xs ys : List ℕ)
 has_no_unused-append [] ys h k = k
 has_no_unused-append (x ∷ xs) ys h k = grind (arith, nat_tests, has_no_unused-append xs ys)
 
--- no byte of a text is an unused space
-abbrev pub IsClean : List ℕ → Type 0
-IsClean xs = AllByRecursion (λ (b : ℕ). b ≡ unused_space → ⊥) xs
-
--- the test, byte by byte
-pub clean_of : (xs : List ℕ) → has_no_unused xs ≡ true → IsClean xs
-clean_of [] h = tt
-clean_of (x ∷ xs) h = grind (arith, nat_tests, clean_of xs)
-
 -- what stands before the first unused space has none
 pub has_no_unused-before_unused : (xs : List ℕ) → has_no_unused (before_unused xs) ≡ true
 has_no_unused-before_unused [] = refl
 has_no_unused-before_unused (x ∷ xs) = grind (arith, nat_tests, has_no_unused-before_unused xs)
+
+-- what `push_text` needs
+pub ruleset cleaned = (has_no_unused-append, has_no_unused-before_unused)
 
 -- so the joined text of blocks has none
 pub has_no_unused-texts : (g : List (List ℕ)) → has_no_unused (flat_map text_of g) ≡ true
@@ -46,20 +58,24 @@ has_no_unused-texts (b ∷ g) =
     (has_no_unused-texts g)
 
 -- the front of a text has none
-pub clean_take : (n : ℕ) (xs : List ℕ) → IsClean xs → IsClean (take n xs)
-clean_take zero xs h = tt
-clean_take (suc n) [] h = tt
-clean_take (suc n) (x ∷ xs) h = (h.0, clean_take n xs h.1)
+pub clean_take : (n : ℕ) (xs : List ℕ)
+    → has_no_unused xs ≡ true
+    → has_no_unused (take n xs) ≡ true
+clean_take zero xs h = refl
+clean_take (suc n) [] h = refl
+clean_take (suc n) (x ∷ xs) h = grind (arith, nat_tests, clean_take n xs)
 
 -- the back of a text has none
-pub clean_drop : (n : ℕ) (xs : List ℕ) → IsClean xs → IsClean (drop n xs)
+pub clean_drop : (n : ℕ) (xs : List ℕ)
+    → has_no_unused xs ≡ true
+    → has_no_unused (drop n xs) ≡ true
 clean_drop zero xs h = h
-clean_drop (suc n) [] h = tt
-clean_drop (suc n) (x ∷ xs) h = clean_drop n xs h.1
+clean_drop (suc n) [] h = refl
+clean_drop (suc n) (x ∷ xs) h = clean_drop n xs (grind (arith, nat_tests))
 
 -- a text after which unused space was put comes back
 pub before_clean : (xs : List ℕ) (k : ℕ)
-    → IsClean xs
+    → has_no_unused xs ≡ true
     → before_unused (xs ++ replicate k unused_space) ≡ xs
 before_clean [] zero h = refl
 before_clean [] (suc k) h = refl

@@ -263,6 +263,7 @@ fn is_text(text: &[u8]) -> bool
 }
 
 // Adds the bytes of a text field before the first unused space.
+#[tactic(auto, using(crate::proofs::SubtitleLemmas::cleaned))]
 fn push_text(text: &mut ArrayVec<u8, 1008>, field: &[u8])
     requires { length text.old.items + length field.now ≤ 1008 }
     ensures items { text.new.items ≡ text.old.items ++ before_unused field.now }
@@ -274,6 +275,7 @@ fn push_text(text: &mut ArrayVec<u8, 1008>, field: &[u8])
 }
 
 // How many bytes of a text field stand before the first unused space.
+#[tactic(auto, using(crate::proofs::SubtitleLemmas::used))]
 fn used_of(field: &[u8]) -> usize
     ensures within { result ≤ length field.now }
     ensures used { take result field.now ≡ before_unused field.now }

@@ -11,7 +11,7 @@ use Rattle.stl_file.proofs.reader.StlReader.open.Goals as goal
 
 pub returns-then-got-lt1024-clause-exact : goal.returns-then-got-lt1024-clause-exact
 returns-then-got-lt1024-clause-exact g c = λ bytes told _.
-    open_short bytes c.in_ok-got.got _ c.fill.new.to (c.in_ok-got.ensures.told bytes told)
+    open_short (c.in_ok-got.ensures.told bytes told)
     c.in_ok-got.ensures.bound (search rules) c.if-got-lt1024.true
 
 pub returns-in_err-gsi-clause-exact : goal.returns-in_err-gsi-clause-exact
@@ -19,20 +19,20 @@ returns-in_err-gsi-clause-exact g c =
     let p = err_from_is_err_and c.from_residual-in_err-gsi.result
     c.from_residual-in_err-gsi.ensures.1 in
     λ bytes told _. rw (p.1, p.2)
-    (open_whole bytes c.in_ok-got.got _ c.fill.new.to (c.in_ok-got.ensures.told bytes told)
+    (open_whole (c.in_ok-got.ensures.told bytes told)
     c.in_ok-got.ensures.bound (search rules) _ (let f = c.if-got-lt1024.false in omega arith)
     (ap gsi_at (sym c.read.ensures) ∙ c.in_err-gsi.ensures.exact))
 
 pub returns-clause-exact : goal.returns-clause-exact
 returns-clause-exact g c = λ bytes told _.
-    open_whole bytes c.in_ok-got.got _ c.fill.new.to (c.in_ok-got.ensures.told bytes told)
+    open_whole (c.in_ok-got.ensures.told bytes told)
     c.in_ok-got.ensures.bound (search rules) _ (let f = c.if-got-lt1024.false in omega arith)
     (ap gsi_at (sym c.read.ensures) ∙ c.in_ok-gsi.ensures.exact)
     ∙ ap Ok (sym c.behind.ensures)
 
 pub returns-clause-left : goal.returns-clause-left
 returns-clause-left g c = λ bytes told.
-    open_rest bytes c.in_ok-got.got _ c.fill.new.to (c.in_ok-got.ensures.told bytes told)
+    open_rest (c.in_ok-got.ensures.told bytes told)
     c.in_ok-got.ensures.bound (search rules) (let f = c.if-got-lt1024.false in omega arith)
 
 pub returns-then-got-lt1024-clause-refused : goal.returns-then-got-lt1024-clause-refused
