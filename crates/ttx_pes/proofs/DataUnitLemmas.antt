@@ -55,10 +55,6 @@ field_bit : (b : ℕ)
     × (1 ≤ cond (eqb ((b / 32) % 2) 1) 1 2) × (cond (eqb ((b / 32) % 2) 1) 1 2 ≤ 2)
 field_bit b lt = grind (arith, nat_tests)
 
--- A unit that a data unit holds.
-abbrev held_unit : UnitValue → Option UnitValue
-held_unit u = Some u
-
 -- A data unit that is read is one of the grammar.
 pub unit_sound : (b : List ℕ) (u : Option UnitValue)
     → length b ≡ 46
@@ -120,14 +116,6 @@ field_back : (reserved field line : ℕ)
     → cond (eqb (((64 * reserved + 32 * (2 - field) + line) / 32) % 2) 1) 1 2 ≡ field
 field_back reserved field line lo hi lt = grind (arith, nat_tests)
 
--- Equal fields make equal units.
-unit_is : (u : UnitValue) (field line : ℕ) (packet : List ℕ)
-    → field ≡ u.field
-    → line ≡ u.line
-    → packet ≡ u.packet
-    → ◌≡◌ {A = UnitValue} (record { id = u.id; field = field; line = line; packet = packet }) u
-unit_is u field line packet p q r = rw (p, q, r) refl
-
 -- A data unit of the grammar is read.
 pub unit_complete : (u : Option UnitValue) (b : List ℕ)
     → IsDataUnit u b
@@ -140,11 +128,9 @@ unit_complete (Some u) b h =
     field_back h.reserved u.field u.line h.is_unit.field.0 h.is_unit.field.1 h.is_unit.line in
     let line-is : (64 * h.reserved + 32 * (2 - u.field) + u.line) % 32 ≡ u.line = let l =
     h.is_unit.line in omega arith in
-    let same =
-    unit_is u _ _ _ field-is line-is
-    (mirrored_twice u.packet h.is_unit.packet.bytes) in
-    rw (h.bytes, id-is) (
-      ap (λ (x : UnitValue). given_as PesFault (held_unit x)) same,
+    let packet-is = mirrored_twice u.packet h.is_unit.packet.bytes in
+    rw (h.bytes, id-is, field-is, line-is, packet-is) (
+      refl,
       ap (λ (n : ℕ). suc (suc (suc (suc n)))) (length-map u.packet mirror
           ∙ h.is_unit.packet.size),
     )

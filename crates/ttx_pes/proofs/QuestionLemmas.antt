@@ -20,7 +20,6 @@ use Rattle.ttx_pes.specs.Refusal.{Question, SixBytes, Start, PacketLength, AllBy
 use Rattle.ttx_pes.specs.Refusal.{PtsFlags, HeaderLength, Time, DataIdentifier, UnitLength}
 use Rattle.ttx_pes.specs.Refusal.{FramingCode, Line, question_number, told_fault, unit_place}
 use Rattle.ttx_pes.proofs.LineOrderLemmas.{last_place-push}
-use Rattle.ttx_pes.proofs.ReadingLemmas.{packet_cut, packet_short, packet_size, packet_whole}
 
 -- ---- the order of the questions
 
@@ -250,6 +249,11 @@ refusal-test : {A : Type 0} (c : Bool) (f : PesFault) (r : Result A PesFault)
 refusal-test true f r = refl
 refusal-test false f r = refl
 
+-- A test that is denied twice.
+not-not : (c : Bool) → not (not c) ≡ c
+not-not true = refl
+not-not false = refl
+
 -- The fault of a value is that of its units.
 refusal-value : (r : Result (List UnitValue) PesFault) (pts : ℕ) (rest : List ℕ)
     → refusal {A = PesValue × List ℕ}
@@ -282,7 +286,7 @@ body_asked n b y rest len same =
 -- A packet is read where its questions are right.
 pub packet_asked : (b : List ℕ)
     → refusal (packet_at b) ≡ first_wrong (right b) (questions (told_size b / 46 - 1))
-unfolding size_at
+unfolding packet_at size_at
 packet_asked b =
     let at : (i : ℕ) → i < 6 → get_or (take 6 b) i 0 ≡ get_or b i 0 = λ i lt.
     get_or-take 6 b i 0 lt in
@@ -292,50 +296,19 @@ packet_asked b =
     let e3 = at 3 (omega arith) in
     let e4 = at 4 (omega arith) in
     let e5 = at 5 (omega arith) in
-    let size : size_at (take 6 b)
-    ≡ cond (not (is_start b)) (Err fault.Start)
-    (cond (not (right b PacketLength)) (Err fault.Length) (Ok (told_size b))) =
-    rw (e0, e1, e2, e3, e4, e5) refl in
-    elim (cases_lt (length b) 6) [
-      | inl short ↦ rw (packet_short b short, lt-ltb _ _ short) refl
-      | inr long ↦
-          let l = le-ltb (length b) 6 long in
-          elim (cases_Bool (is_start b)) [
-            | inr wrong ↦
-                rw (packet_size b fault.Start long (size ∙ rw wrong refl), l, wrong) refl
-            | inl start ↦ elim (cases_Bool (right b PacketLength)) [
-              | inr wrong ↦ rw (
-                packet_size b fault.Length long (size ∙ rw (start, wrong) refl),
-                l,
-                start,
-                wrong,
-              ) refl
-              | inl told ↦
-                  let sized : size_at (take 6 b) ≡ Ok (told_size b) =
-                  size ∙ rw (start, told) refl in
-                  elim (cases_lt (length b) (told_size b)) [
-                    | inl cut ↦ rw (
-                      packet_cut b (told_size b) long sized cut,
-                      l,
-                      start,
-                      told,
-                      lt-ltb _ _ cut,
-                    ) refl
-                    | inr all ↦
-                        let y = take (told_size b - 6) (drop 6 b) in
-                        let whole : told_size b % 184 ≡ 0 = eqb-true _ _ (and_parts _ _ told).0 in
-                        let len : length y ≡ 40 + 46 * (told_size b / 46 - 1) =
-                        rw (length-take, length-drop) (omega arith) in
-                        rw (
-                          packet_whole b (told_size b) long sized all,
-                          l,
-                          start,
-                          told,
-                          le-ltb _ _ all,
-                        ) (body_asked _ b y _ len (λ i lt.
-                          get_or-take (told_size b - 6) (drop 6 b) i 0 (omega arith)
-                          ∙ get_or-drop 6 b i 0))
-                  ]
-            ]
-          ]
-    ]
+    simp (test_first, refusal-test, not-not)
+    (rw (e0, e1, e2, e3, e4, e5) (elim (cases_Bool (right b PacketLength)) [
+      | inr wrong ↦ rw wrong refl
+      | inl told ↦ elim (cases_lt (length b) (told_size b)) [
+        | inl cut ↦ rw (told, lt-ltb (length b) (told_size b) cut) refl
+        | inr all ↦
+            let y = take (told_size b - 6) (drop 6 b) in
+            let whole : told_size b % 184 ≡ 0 = eqb-true _ _ (and_parts _ _ told).0 in
+            let len : length y ≡ 40 + 46 * (told_size b / 46 - 1) =
+            rw (length-take, length-drop) (omega arith) in
+            let body = body_asked _ b y (drop (told_size b) b) len (λ i lt.
+            get_or-take (told_size b - 6) (drop 6 b) i 0 (omega arith)
+            ∙ get_or-drop 6 b i 0) in
+            rw (told, le-ltb (length b) (told_size b) all, body) refl
+      ]
+    ]))

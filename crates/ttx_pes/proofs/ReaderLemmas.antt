@@ -13,7 +13,7 @@ use Rattle.ttx_pes.specs.declared.fault.PesFault.TheVariants as fault
 use Rattle.ttx_pes.specs.PesPacket.{PesValue}
 use Rattle.ttx_pes.specs.Reading.{packet_at, answer_at, rest_after, is_format_fault}
 use Rattle.ttx_pes.specs.Reader.{TakesPesPacket, BeginsNone}
-use Rattle.ttx_pes.proofs.ReadingLemmas.{packet_is_read, none_begins, rest_after-packet}
+use Rattle.ttx_pes.proofs.ReadingLemmas.{packet_is_read, rest_after-packet}
 use Rattle.ttx_pes.specs.Fault.{is_read}
 
 -- The answer of a value that was read.
@@ -75,7 +75,10 @@ pub excluded : (given : ℕ) (bytes : List ℕ) (f : PesFault)
     → is_format_fault f ≡ true
     → answer_at given bytes ≡ Err f
     → BeginsNone bytes
-excluded given bytes f k e = none_begins bytes f (answer_err given bytes f k e)
+excluded given bytes f k e v b rest h parts =
+    let bad = answer_err given bytes f k e in
+    let good = ap packet_at parts ∙ packet_is_read v b rest h in
+    absurd cc
 
 -- A fault for too many packets: a byte is left.
 pub byte_is_left : (given : ℕ) (bytes : List ℕ)

@@ -178,16 +178,6 @@ one_value a b x y v w p q e =
       ap (λ (r : ValueAndRest). r.0) same,
     )
 
--- Where the reading finds a fault, no packet begins the bytes.
-pub none_begins : (bytes : List ℕ) (f : PesFault)
-    → packet_at bytes ≡ Err f
-    → (v : PesValue) (b rest : List ℕ)
-    → IsPesPacket v b
-    → bytes ≡ b ++ rest
-    → ⊥
-none_begins bytes f bad v b rest h e = let good = packet_is_read v b rest h in
-    let same : packet_at bytes ≡ packet_at (b ++ rest) = ap packet_at e in cc
-
 -- ---- what was written
 
 -- What is left after a packet.

@@ -4,6 +4,7 @@ use Rattle.std.proofs.Common.{List, [], ◌∷◌, ◌++◌, map, length, take, 
 use Rattle.std.proofs.Common.{ap, ap₂, ◌∙◌, arith, not, w8, eqb-true, eq-eqb, inl, inr}
 use Rattle.std.proofs.Common.{take-append-drop}
 use Rattle.std.proofs.lemmas.Bool.{cases_eq, ne_eqb}
+use Rattle.std.proofs.lemmas.Bool.Decides.{nat_tests}
 use Rattle.std.proofs.lemmas.List.{take-take}
 use Rattle.std.proofs.lemmas.Simd.{length-zip2, mask_l-mod, tops_compared}
 use lib.Lanes.{zip2, mask_l, top, chunk}
@@ -17,25 +18,14 @@ differ x y = not (nat_eq x y)
 none_differ : (a : List ℕ) → mask_l (zip2 differ a a) ≡ 0
 none_differ [] = refl
 none_differ (x ∷ a) =
-    let same : nat_eq x x ≡ true = eq-eqb x x refl in
-    let rest = none_differ a in
-    rw (same, rest) refl
+    let rest = none_differ a in grind (arith, nat_tests)
 
 -- Where no byte differs, the lists are the same.
 same_from_none : (a b : List ℕ) → length a ≡ length b → mask_l (zip2 differ a b) ≡ 0 → a ≡ b
 same_from_none [] [] l e = refl
 same_from_none [] (y ∷ b) l e = absurd (omega arith)
 same_from_none (x ∷ a) [] l e = absurd (omega arith)
-same_from_none (x ∷ a) (y ∷ b) l e = elim (cases_eq x y) [
-  | inl same ↦
-      let t : nat_eq x y ≡ true = eq-eqb x y same in
-      let rest : mask_l (zip2 differ a b) ≡ 0 = let f = rw t at e in omega arith in
-      ap₂ (λ (z : ℕ) (zs : List ℕ). z ∷ zs) same (same_from_none a b (omega arith) rest)
-  | inr other ↦
-      let t : nat_eq x y ≡ false = ne_eqb x y other in
-      let f = rw t at e in
-      absurd (omega arith)
-]
+same_from_none (x ∷ a) (y ∷ b) l e = grind (arith, nat_tests, same_from_none a b)
 
 -- A mask without a bit says that two blocks are the same. For `is_same_block`.
 pub same_block : (a b : List ℕ)

@@ -12,23 +12,21 @@ returns-in-Ok-End-clause-none g c = λ given is bytes told _.
 
 pub returns-in-Ok-Same-clause-taken : goal.returns-in-Ok-Same-clause-taken
 returns-in-Ok-Same-clause-taken g c = λ _.
-    c.in-Ok-Same.ensures.taken (ap (λ (x : Compared). as_given (Ok x)) c.in-Ok-Same.field-0-is)
+    c.in-Ok-Same.ensures.taken (rw c.in-Ok-Same.field-0-is refl)
 
 pub returns-in-Ok-Same-clause-left : goal.returns-in-Ok-Same-clause-left
 returns-in-Ok-Same-clause-left g c = λ given is bytes told.
-    let t =
-    c.in-Ok-Same.ensures.taken (ap (λ (x : Compared). as_given (Ok x)) c.in-Ok-Same.field-0-is) in
-    packet_left _ _ c.read_compared.new.kept.frame bytes t.packet told
+    let taken = c.in-Ok-Same.ensures.taken (rw c.in-Ok-Same.field-0-is refl) in
+    packet_left _ _ c.read_compared.new.kept.frame bytes taken.packet told
 
 pub returns-in-Ok-Other-clause-taken : goal.returns-in-Ok-Other-clause-taken
 returns-in-Ok-Other-clause-taken g c = λ _.
-    c.in-Ok-Other.ensures.taken (ap (λ (x : Compared). as_given (Ok x)) c.in-Ok-Other.field-0-is)
+    c.in-Ok-Other.ensures.taken (rw c.in-Ok-Other.field-0-is refl)
 
 pub returns-in-Ok-Other-clause-left : goal.returns-in-Ok-Other-clause-left
 returns-in-Ok-Other-clause-left g c = λ given is bytes told.
-    let t =
-    c.in-Ok-Other.ensures.taken (ap (λ (x : Compared). as_given (Ok x)) c.in-Ok-Other.field-0-is) in
-    packet_left _ _ c.read_compared.new.kept.frame bytes t.packet told
+    let taken = c.in-Ok-Other.ensures.taken (rw c.in-Ok-Other.field-0-is refl) in
+    packet_left _ _ c.read_compared.new.kept.frame bytes taken.packet told
 
 pub returns-in-Err-clause-excluded : goal.returns-in-Err-clause-excluded
 returns-in-Err-clause-excluded g c = λ given is bytes told k.
