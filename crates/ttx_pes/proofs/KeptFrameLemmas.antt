@@ -7,16 +7,12 @@ use Rattle.ttx_pes.specs.Reading.{pts_at, units_at, value_at}
 use Rattle.ttx_pes.specs.Taking.{HasUnits}
 use Rattle.ttx_pes.proofs.PesHeaderLemmas.{frame_made, value_with}
 
--- The data field without its data_identifier is the data units of the packet.
-pub units_of_field : (b : List ℕ) → drop 1 (drop 39 b) ≡ drop 40 b
-units_of_field b = drop-drop 1 39 b
-
 -- Units that are read now are those of the data field.
 pub units_kept : (b field : List ℕ) (us : List UnitValue)
     → field ≡ drop 39 b
     → units_at (length (drop 40 b) / 46) [] (drop 40 b) ≡ Ok us
     → HasUnits field us
-units_kept b field us same e some = rw (same, units_of_field b) e
+units_kept b field us same e some = rw (same, drop-drop 1 39 b) e
 
 -- Units that were read before, of the same data field.
 pub value_of_kept : (b field : List ℕ) (t : ℕ) (old new : PesValue)
@@ -27,5 +23,5 @@ pub value_of_kept : (b field : List ℕ) (t : ℕ) (old new : PesValue)
     → new ≡ value_with t old.units
     → value_at b ≡ Ok new
 value_of_kept b field t old new e same has some is =
-    let there = rw (← same, units_of_field b) at (has some) in
+    let there = rw (← same, drop-drop 1 39 b) at (has some) in
     rw is (frame_made b t _ old.units e refl there)

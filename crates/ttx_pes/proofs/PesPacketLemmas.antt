@@ -1,16 +1,16 @@
 -- The canonical packet is a packet of its value, and what is made of a frame is it. Main lemmas:
 -- canonical_is_packet, spelled.
-use Rattle.std.proofs.Common.{List, None, Some, [], ap, append_assoc, arith, drop, length, lit<}
+use Rattle.std.proofs.Common.{List, None, Some, [], append_assoc, arith, length, lit<}
 use Rattle.std.proofs.Common.{refl, subst, suc, sym, take, zero, ℕ, ◌*◌, ◌++◌, ◌+◌, ◌-◌, ◌/◌, ◌∙◌}
 use Rattle.std.proofs.Common.{◌∷◌, ◌≡◌, ◌≤◌, ◌<◌}
 use Rattle.std.specs.Prelude.{replicate}
-use Rattle.std.proofs.lemmas.List.{append-nil, take_all, take-append-le}
-use Rattle.std.specs.List.{flat_map, refill, AllByRecursion}
+use Rattle.std.proofs.lemmas.List.{append-nil, take_all}
+use Rattle.std.specs.List.{flat_map, AllByRecursion}
 use Rattle.ttx_pes.specs.DataUnit.{UnitValue, IsUnit, IsPassedUnit, AreDataUnits, teletext_unit}
 use Rattle.ttx_pes.specs.DataUnit.{stuffing, stuffing_unit}
 use Rattle.ttx_pes.specs.Laws.{LawOfCanonicalPacket, LawOfPacketValue}
 use Rattle.ttx_pes.specs.PesPacket.{PesValue, canonical_packet}
-use Rattle.ttx_pes.specs.PesPacket.{pes_packet_header, payloads_for, pts_bytes, repeated}
+use Rattle.ttx_pes.specs.PesPacket.{pes_packet_header, payloads_for, repeated}
 
 -- A stuffing unit is passed over.
 stuffing_is_passed : IsPassedUnit stuffing_unit

@@ -10,7 +10,6 @@ use Rattle.std.proofs.lemmas.List.{get_or-drop, get_or-take, get_or_past}
 use Rattle.std.specs.Prelude.{◌&&◌, ◌||◌}
 use Rattle.sub_io.specs.Reading.{◌>>=◌}
 use Rattle.ttx_pes.specs.declared.fault.PesFault.{PesFault}
-use Rattle.ttx_pes.specs.declared.fault.PesFault.TheVariants as fault
 use Rattle.ttx_pes.specs.DataUnit.{UnitValue, is_teletext}
 use Rattle.ttx_pes.specs.LineOrder.{last_place, line_order_place, stands_after}
 use Rattle.ttx_pes.specs.PesPacket.{PesValue}

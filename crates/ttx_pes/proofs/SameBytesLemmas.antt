@@ -1,9 +1,8 @@
 -- Slices compared in blocks: same_block for one, same_more for the next, same_whole at the end.
-use Rattle.std.proofs.Common.{◌≡◌, ◌↔◌, ℕ, ◌+◌, ◌*◌, ◌≤◌, ◌^◌, ◌%◌, ◌-◌, Bool, true, false}
+use Rattle.std.proofs.Common.{◌≡◌, ◌↔◌, ℕ, ◌+◌, ◌*◌, ◌≤◌, ◌^◌, ◌%◌, ◌-◌, Bool, true}
 use Rattle.std.proofs.Common.{List, [], ◌∷◌, ◌++◌, map, length, take, drop, cond, nat_eq, refl, sym}
-use Rattle.std.proofs.Common.{ap, ap₂, ◌∙◌, arith, not, w8, eqb-true, eq-eqb, inl, inr}
+use Rattle.std.proofs.Common.{ap, ap₂, ◌∙◌, arith, not, w8, eqb-true, eq-eqb}
 use Rattle.std.proofs.Common.{take-append-drop}
-use Rattle.std.proofs.lemmas.Bool.{cases_eq, ne_eqb}
 use Rattle.std.proofs.lemmas.Bool.Decides.{nat_tests}
 use Rattle.std.proofs.lemmas.List.{take-take}
 use Rattle.std.proofs.lemmas.Simd.{length-zip2, mask_l-mod, tops_compared}

@@ -2,10 +2,9 @@
 -- settled_NAME.
 use Rattle.std.proofs.Common.{◌≡◌, ℕ, ◌<◌, ◌≤◌, List, [], ◌++◌, length, take, drop, Option}
 use Rattle.std.proofs.Common.{Some, Result, Ok, Err, refl, sym, ap, subst, ◌∙◌, append_assoc}
-use Rattle.std.proofs.Common.{arith, inl, inr, length-append, length-take, length-drop}
+use Rattle.std.proofs.Common.{arith, inr, length-append, length-take, length-drop}
 use Rattle.std.proofs.lemmas.List.{take-append-drop, append-nil, take-take, drop-drop}
 use Rattle.std.proofs.lemmas.List.{length-take-le}
-use Rattle.std.proofs.KnownBytes.{Consumes-nil}
 use Rattle.std.specs.Io.KnownBytes.{Consumes, IsAtEnd}
 use lib.Seq.{take-append-le}
 use Rattle.sub_io.specs.Reading.{◌>>=◌, AreBytes}
@@ -190,16 +189,6 @@ size_kept got n old new six r le more kept is told =
     ∙ told
 
 -- ---- the source failed
-
--- Before the size of the packet was known. For `take_packet`.
-pub failed_first : (old new : Option (List ℕ)) (room : List ℕ)
-    → StopsBelow old (take 0 room) new 6
-    → FailsWithin old new
-failed_first old new room s = record {
-  bytes = s.taken;
-  consumed = s.takes old (Consumes-nil old);
-  begun = inl s.few;
-}
 
 -- Behind the first bytes, which tell the size. For `take_packet`.
 pub failed_second : (old mid new : Option (List ℕ)) (got size : ℕ) (room : List ℕ)

@@ -1,4 +1,4 @@
-use Rattle.std.proofs.Common.{◌∷◌, [], length-append, ap, ◌∙◌, arith, rules}
+use Rattle.std.proofs.Common.{◌∷◌, [], length-append, ap, ◌∙◌, arith}
 use Rattle.ttx_pes.specs.PesPacket.{PesValue}
 use Rattle.ttx_pes.proofs.LineOrderLemmas.{numbered_more, last_numbered}
 use Rattle.ttx_pes.proofs.line_numbers.frame_of.Goals as goal

@@ -1,10 +1,10 @@
 -- What the bytes of the source decide at each return: by TakingLemmas.
-use Rattle.std.proofs.Common.{◌≡◌, ℕ, ◌∙◌, take, Ok, refl, sym, ap, arith, rules}
+use Rattle.std.proofs.Common.{◌≡◌, ℕ, ◌∙◌, take, Ok, refl, sym, ap, arith, rules, inl}
 use Rattle.std.proofs.lemmas.List.{length-take-le}
 use Rattle.std.proofs.lemmas.Result.{err_from_is_err_and}
 use Rattle.std.proofs.KnownBytes.{Consumes-nil}
 use Rattle.ttx_pes.specs.Reading.{size_at}
-use Rattle.ttx_pes.proofs.TakingLemmas.{cut_settles, failed_first, failed_second, none_taken}
+use Rattle.ttx_pes.proofs.TakingLemmas.{cut_settles, failed_second, none_taken}
 use Rattle.ttx_pes.proofs.TakingLemmas.{settled_answer, settled_refusal, short_settles, size_kept}
 use Rattle.ttx_pes.proofs.TakingLemmas.{size_settles, too_many, whole_settles}
 use Rattle.ttx_pes.proofs.packet_bytes.take_packet.Goals as goal
@@ -101,7 +101,12 @@ returns-clause-taken g c =
 
 pub returns-in_err-got-clause-failed : goal.returns-in_err-got-clause-failed
 returns-in_err-got-clause-failed g c = λ _.
-    failed_first _ _ c.args.room.now c.in_err-got.ensures.err
+    let stopped = c.in_err-got.ensures.err in
+    record {
+      bytes = stopped.taken;
+      consumed = stopped.takes _ (Consumes-nil _);
+      begun = inl stopped.few;
+    }
 
 pub returns-in_err-fill_on-clause-failed : goal.returns-in_err-fill_on-clause-failed
 returns-in_err-fill_on-clause-failed g c = λ _.

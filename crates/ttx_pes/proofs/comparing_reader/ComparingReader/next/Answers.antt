@@ -1,6 +1,6 @@
 -- What was taken and is left, and what a fault says in the words of the grammar: by ReaderLemmas.
-use Rattle.std.proofs.Common.{◌≡◌, ◌∙◌, ap, refl, Ok, Err}
-use Rattle.ttx_pes.specs.Comparing.{ComparingValue, as_given}
+use Rattle.std.proofs.Common.{◌≡◌, ◌∙◌, ap, refl, Err}
+use Rattle.ttx_pes.specs.Comparing.{ComparingValue}
 use Rattle.ttx_pes.specs.declared.comparing_reader.Compared.{Compared}
 use Rattle.ttx_pes.specs.declared.fault.PesFault.TheVariants.{TooMany}
 use Rattle.ttx_pes.proofs.ReaderLemmas.{byte_is_left, excluded, format_not_read, packet_left}
