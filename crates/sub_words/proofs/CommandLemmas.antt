@@ -17,6 +17,7 @@ use Rattle.clap.specs.declared.parser.matches.ArgMatches.{ArgMatches}
 use Rattle.clap.specs.declared.parser.matches.ArgMatches.TheViews.{out-SubCommand}
 use Rattle.clap.specs.declared.parser.matches.SubCommand.{SubCommand}
 use Rattle.clap.proofs.OnLiterals.{clap_on_literals}
+use Rattle.clap.proofs.WalkLemmas.{first_value-rows}
 use Rattle.sub_words.specs.Commands.{are_sound, command_in, clap_refusals, subttx_app}
 use Rattle.sub_words.specs.Requests.{asked_for, asked_in}
 
@@ -100,3 +101,6 @@ pub asked_for-met : {Z : Type 0} (words : List Text) (met : Option (Box SubComma
     → asked_for words ≡ Some (asked_in name rows)
 asked_for-met words None name rows is e f = cc
 asked_for-met words (Some sub) name rows is e f = rw (← is) cc
+
+-- the value that `clap` gives for an id is the first of its row: for the arguments
+pub ruleset values = (first_value-rows)

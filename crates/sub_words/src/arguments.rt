@@ -12,6 +12,7 @@ use sub_plan::{OptionFault, Options};
 use ttx_packet::PageId;
 
 /// The text of an option. `None` where it is left out and has no default.
+#[tactic(auto, using(crate::proofs::CommandLemmas::values))]
 pub fn given_at<'a>(matches: &ArgMatches<'a>, id: &str) -> Option<&'a str>
     ensures { option_map (λ text. text.now) result
         ≡ first_of id.now (rows_of (found_of matches.now)) }
