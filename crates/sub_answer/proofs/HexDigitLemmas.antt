@@ -2,8 +2,7 @@
 -- (in_turns). Digits of lists that are cut: encode_with-append, drop-encode_with.
 use Rattle.std.proofs.Common.{◌≡◌, ℕ, zero, suc, ◌+◌, ◌*◌, ◌/◌, ◌%◌, ◌^◌, ◌<◌, ◌≤◌, List, [], ◌∷◌}
 use Rattle.std.proofs.Common.{◌++◌, map, length, get_or, drop, replicate, bit_and, refl, sym, ap}
-use Rattle.std.proofs.Common.{◌∙◌, subst, arith, w8, Fits}
-use Rattle.std.proofs.Common.{take, ap₂, take_all, length-drop}
+use Rattle.std.proofs.Common.{◌∙◌, subst, arith, w8, Fits, take, ap₂, take_all, length-drop}
 use Rattle.std.proofs.lemmas.List.{get_or-map, length-map, ext_get_or, drop-drop, append_assoc}
 use Rattle.std.proofs.lemmas.List.{take-append-drop}
 use Rattle.std.proofs.Math.Seq.{drop-nil}

@@ -1,6 +1,5 @@
 pub mod PrintingLemmas
-pub mod WritingLemmas
-pub mod VerdictLemmas
+pub mod AnsweringLemmas
 pub mod NormalLemmas
 pub mod ListenListingLemmas
 pub mod ListingLemmas

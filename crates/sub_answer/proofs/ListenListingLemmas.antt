@@ -1,37 +1,15 @@
 -- What is told of a fault of a run, and what is printed of one.
 use Rattle.std.specs.Prelude.{IfOk}
-use Rattle.std.proofs.Common.{◌≡◌, ◌≢◌, ap, refl, subst, Bool, true, false, Option, Result}
+use Rattle.std.proofs.Common.{◌≡◌, ap, subst, Bool, Option, Result}
 use Rattle.ttx_packet.specs.PageId.{PageIdValue}
 use Rattle.ttx_page.specs.Screen.{Display}
-use Rattle.ttx_pes.specs.declared.fault.PesFault.TheVariants as pes
 use Rattle.sub_check.specs.FrameRules.{Unread}
 use Rattle.sub_check.specs.Transmission.{Transmission}
-use Rattle.sub_check.specs.declared.fault.CheckFault.TheVariants as check
-use Rattle.sub_check.specs.ListeningRun.{Runs, is_of_subtitles, is_read}
-use Rattle.sub_answer.specs.ListenListing.{IsOldPage, Listens, listen_told, listing_of, tuned_with}
-use Rattle.sub_answer.specs.StateText.{IsSeenWhole}
-use Rattle.sub_answer.specs.Told.{status_of}
+use Rattle.sub_check.specs.ListeningRun.{Runs}
+use Rattle.sub_answer.specs.ListenListing.{IsOldPage, IsSeenWhole, Listens, listing_of, tuned_with}
 use Rattle.ttx_page.specs.Page.{Rows}
 use Rattle.sub_check.specs.declared.listening_run.ListenFault.{ListenFault}
-use Rattle.sub_check.specs.declared.listening_run.ListenFault.TheVariants as fault
 use Rattle.sub_check.specs.declared.listening.Listening.{Listening}
-use Rattle.sub_answer.specs.declared.status.Status.TheVariants.{Fault}
-
--- A fault of neither file's source nor of a subtitle file is a refusal. For `print_fault`.
-pub listen_told-not_fault : (f : ListenFault)
-    → is_read f ≡ false
-    → is_of_subtitles f ≡ false
-    → status_of (listen_told f).kind ≢ Fault
-listen_told-not_fault (fault.File (check.Subtitles f)) fine own is = cc
-listen_told-not_fault (fault.File (check.Pes index pes.Read)) fine own is = cc
-listen_told-not_fault f fine own is = cc
-
--- The fault of a source that failed has the status `Fault`. For `print_fault`.
-pub listen_told-source : (f : ListenFault)
-    → is_read f ≡ true
-    → status_of (listen_told f).kind ≡ Fault
-listen_told-source (fault.File (check.Pes index pes.Read)) failed = refl
-listen_told-source f failed = cc
 
 -- what is printed of a run of a receiver that was tuned. For `listen`.
 pub listens_from : (l : Listening) (frames : Transmission) (unread : Option Unread)

@@ -1,33 +1,33 @@
 -- A listing that is printed piece after piece. Main lemmas: front-more, front-end, front-cut,
--- gives-next, packets_from-next.
+-- gives-next, gives-last.
 use Rattle.std.proofs.Common.{◌≡◌, ◌∙◌, ap, refl, sym, subst, arith, ℕ, zero, suc, ◌+◌, ◌-◌, ◌<◌}
-use Rattle.std.proofs.Common.{◌≤◌, ◌≢◌}
-use Rattle.std.proofs.Common.{List, [], ◌∷◌, ◌++◌, append_assoc, drop, length, inl, inr}
-use Rattle.std.proofs.Common.{Bool, true, Option, Some, None, Ok, Err}
-use Rattle.std.specs.Io.KnownBytes.{Appends}
+use Rattle.std.proofs.Common.{◌≤◌, List, [], ◌∷◌, ◌++◌, append_assoc, drop, length, inl, inr, Bool}
+use Rattle.std.proofs.Common.{false, true, Option, Some, None, Result, Ok, Err}
+use Rattle.std.specs.Io.KnownBytes.{Appends, Consumes}
 use Rattle.std.proofs.KnownBytes.{Appends-nil, Appends-trans}
 use Rattle.sub_io.specs.Device.{AppendsPrefix, RisesIf}
 use Rattle.sub_io.specs.Reading.{IfTold}
 use Rattle.sub_io.proofs.DeviceLemmas.{AppendsPrefix-first, AppendsPrefix-second}
 use Rattle.ttx_pes.specs.Fault as pes_fault
+use Rattle.ttx_pes.specs.PesPacket.{PesValue}
 use Rattle.ttx_pes.specs.Reading.{answer_at, most_packets, rest_after}
 use Rattle.ttx_pes.specs.declared.fault.PesFault.{PesFault}
 use Rattle.ttx_pes.specs.declared.fault.PesFault.TheVariants as pes
 use Rattle.stl_file.specs.Fault as stl_fault
-use Rattle.stl_file.specs.Gsi.{gsi_size}
-use Rattle.stl_file.specs.Reader.{EndsKept, ReaderValue, TakesSubtitle, opened_at}
+use Rattle.stl_file.specs.Gsi.{IsGsi, gsi_size}
+use Rattle.stl_file.specs.Reader.{EndsKept, ReaderValue, RefusesOpening, TakesSubtitle, opened_at}
 use Rattle.stl_file.specs.Reader.{outcome_left, outcome_of}
-use Rattle.stl_file.specs.Reading.{fails, Outcome}
+use Rattle.stl_file.specs.Reading.{ends, fails}
 use Rattle.stl_file.specs.Subtitle.{SubtitleValue}
 use Rattle.stl_file.specs.declared.fault.StlFault.{StlFault}
 use Rattle.stl_file.specs.declared.fault.StlFault.TheVariants as stl
-use Rattle.sub_answer.specs.Faults.{pes_kind, stl_kind}
+use Rattle.sub_answer.specs.Faults.{pes_kind, stl_kind, stl_told}
 use Rattle.sub_answer.specs.DeviceCall.{SinkCall, SourceCall}
-use Rattle.sub_answer.specs.Listing.{Extent, Gives, Listing, Lists, PrintsListing, ends_in_fault}
-use Rattle.sub_answer.specs.Listing.{extent_of, followed, has_failed, to_cut}
+use Rattle.sub_answer.specs.Listing.{Gives, IsListed, Listing, Lists, PrintsListing, PrintsOrFails}
+use Rattle.sub_answer.specs.Listing.{followed, has_failed}
 use Rattle.sub_answer.specs.PacketsListing.{answer_then, packets_from}
-use Rattle.sub_answer.specs.ShowListing.{ReadsSubtitles}
-use Rattle.sub_answer.specs.Told.{status_of}
+use Rattle.sub_answer.specs.ShowListing.{ListsFrom, ReadsFile, ReadsSubtitles, subtitles_listing}
+use Rattle.sub_answer.specs.Told.{line_of, status_of}
 use Rattle.sub_answer.specs.declared.status.Status.{Status}
 use Rattle.sub_answer.specs.declared.status.Status.TheVariants.{Fault}
 
@@ -36,25 +36,25 @@ use Rattle.sub_answer.specs.declared.status.Status.TheVariants.{Fault}
 -- What was printed since the sink held `old` is the front of each listing that goes on with what
 -- may be listed now.
 pub record IsFront
-    (Before After : Option (List ℕ) → Option (List ℕ) → Extent → Listing → Type 0)
+    (Before After : IsListed)
     (told left old now : Option (List ℕ))
     : Type 0 where
   pub text : List ℕ
   pub printed : Appends old now text
   pub listed :
-      (end : Option (List ℕ)) (extent : Extent) (more : Listing)
-      → After left end extent more
-      → Before told end extent (followed text more)
+      (end : Option (List ℕ)) (ending : Option Status) (more : Listing)
+      → After left end ending more
+      → Before told end ending (followed text more)
 
 -- Nothing was printed so far. For `list`.
 pub front-none :
-    (Before : Option (List ℕ) → Option (List ℕ) → Extent → Listing → Type 0)
+    (Before : IsListed)
     (told old : Option (List ℕ))
     → IsFront Before Before told told old old
 front-none Before told old = record {
   text = [];
   printed = Appends-nil old;
-  listed = λ end extent more is. is;
+  listed = λ end ending more is. is;
 }
 
 -- Lines after lines are lines.
@@ -66,7 +66,7 @@ followed-twice first second more =
 
 -- The next lines were printed, and more may follow. For `list`.
 pub front-more :
-    (Before At After : Option (List ℕ) → Option (List ℕ) → Extent → Listing → Type 0)
+    (Before At After : IsListed)
     (told left rest old now new : Option (List ℕ)) (text : List ℕ)
     → IsFront Before At told left old now
     → Gives At After left rest text None
@@ -75,54 +75,51 @@ pub front-more :
 front-more Before At After told left rest old now new text i gives p = record {
   text = i.text ++ text;
   printed = Appends-trans old now new i.text text i.printed p;
-  listed = λ end extent more is.
-      subst (Before told end extent) (followed-twice i.text text more)
-      (i.listed end extent (followed text more) (gives.0 end extent more is));
+  listed = λ end ending more is.
+      subst (Before told end ending) (followed-twice i.text text more)
+      (i.listed end ending (followed text more) (gives.0 end ending more is));
 }
-
--- What ends a listing is no cut. For `list` and `list_subtitles`.
-pub never-cut : (status : Status) → extent_of (Some status) ≢ to_cut
-never-cut Fault e = cc
-never-cut status e = cc
 
 -- The last lines were printed. For `list`.
 pub front-end :
-    {S : Type 0} (Before At After : Option (List ℕ) → Option (List ℕ) → Extent → Listing → Type 0)
+    {S : Type 0} (Before At After : IsListed)
     (source : SourceCall S) (out : SinkCall) (left now : Option (List ℕ)) (text : List ℕ)
     (status : Status)
     → IsFront Before At source.told left out.old now
     → Gives At After left source.left text (Some status)
     → Appends now out.new text
     → out.new_count ≡ out.old_count
-    → RisesIf source.old_count (ends_in_fault (Some status)) source.new_count
+    → RisesIf source.old_count (has_failed (Some status)) source.new_count
     → PrintsListing Before source out status
+unfolding PrintsOrFails
 front-end Before At After source out left now text status i gives p same counted = record {
-  extent = extent_of (Some status);
+  ending = Some status;
   listing = followed i.text (record { text = text; status = status });
-  is_listed = i.listed source.left (extent_of (Some status))
+  is_listed = i.listed source.left (Some status)
       (record { text = text; status = status }) gives;
   source_count = counted;
-  cut = λ e. absurd (never-cut status e);
+  cut = λ e. cc;
   printed = inl (same, Appends-trans out.old now out.new i.text text i.printed p, refl);
 }
 
 -- The sink failed at these lines, whatever should follow them. For `list`.
 pub front-cut :
-    {S : Type 0} (Before At After : Option (List ℕ) → Option (List ℕ) → Extent → Listing → Type 0)
+    {S : Type 0} (Before At After : IsListed)
     (source : SourceCall S) (out : SinkCall) (left now : Option (List ℕ)) (text : List ℕ)
     (end : Option Status)
     → IsFront Before At source.told left out.old now
     → Gives At After left source.left text end
     → AppendsPrefix now out.new text
     → out.new_count ≡ out.old_count + 1
-    → RisesIf source.old_count (ends_in_fault end) source.new_count
+    → RisesIf source.old_count (has_failed end) source.new_count
     → PrintsListing Before source out Fault
+unfolding PrintsOrFails
 front-cut Before At After source out left now text None i gives p risen counted =
     let more = gives.1 in record {
-      extent = to_cut;
+      ending = None;
       listing = followed i.text (followed text more.0);
-      is_listed = i.listed source.left to_cut (followed text more.0)
-          (gives.0 source.left to_cut more.0 more.1);
+      is_listed = i.listed source.left None (followed text more.0)
+          (gives.0 source.left None more.0 more.1);
       source_count = counted;
       cut = λ e same. omega (arith, risen, same);
       printed = inr (
@@ -133,9 +130,9 @@ front-cut Before At After source out left now text None i gives p risen counted 
       );
     }
 front-cut Before At After source out left now text (Some status) i gives p risen counted = record {
-  extent = extent_of (Some status);
+  ending = Some status;
   listing = followed i.text (record { text = text; status = status });
-  is_listed = i.listed source.left (extent_of (Some status))
+  is_listed = i.listed source.left (Some status)
       (record { text = text; status = status }) gives;
   source_count = counted;
   cut = λ e same. omega (arith, risen, same);
@@ -147,7 +144,7 @@ lists-some :
     (O : Type 0) (listing_of : O → Listing) (given : List ℕ → O)
     (Takes : Bool → Option (List ℕ) → O → Option (List ℕ) → Type 0) (left : Option (List ℕ))
     → O
-    → (more : Listing) × Lists listing_of given Takes left left to_cut more
+    → (more : Listing) × Lists listing_of given Takes left left None more
 lists-some O listing_of given Takes None o = (
   listing_of o,
   record {
@@ -180,24 +177,35 @@ pub gives-next :
     → O
     → Gives (Lists before given Takes) (Lists after given' Takes') told left text None
 gives-next O before after given given' Takes Takes' piece told left text lines tells reads o = (
-  λ end extent more l. record {
+  λ end ending more l. record {
     outcome = piece l.outcome;
     listing_is = ap (followed text) l.listing_is ∙ sym (lines l.outcome);
     exact = λ bytes is ok.
         let read = reads bytes is in
         ap piece (l.exact read.0 read.1 ok) ∙ sym read.2;
-    taken = λ other. tells l.outcome (has_failed extent) end (l.taken other);
+    taken = λ other. tells l.outcome (has_failed ending) end (l.taken other);
   },
   lists-some O after given' Takes' left o,
 )
 
--- Equal texts and equal statuses are equal listings.
-pub same-listing : (text text' : List ℕ) (status status' : Status)
-    → text ≡ text'
-    → status ≡ status'
-    → (let l : Listing = record { text = text; status = status } in l)
-    ≡ record { text = text'; status = status' }
-same-listing text text' status status' e f = rw (e, f) refl
+-- The last lines were made, and they are those of this outcome. For the listers.
+pub gives-last :
+    (O : Type 0) (listing_of : O → Listing) (given : List ℕ → O)
+    (Takes : Bool → Option (List ℕ) → O → Option (List ℕ) → Type 0)
+    (told left : Option (List ℕ)) (o : O) (text : List ℕ) (failed : Bool)
+    → text ≡ (listing_of o).text
+    → has_failed (Some (listing_of o).status) ≡ failed
+    → IfTold told (λ bytes. failed ≡ false → o ≡ given bytes)
+    → Takes failed told o left
+    → Lists listing_of given Takes told left (Some (listing_of o).status)
+    (record { text = text; status = (listing_of o).status })
+gives-last O listing_of given Takes told left o text failed line is exact taken =
+    rw line (record {
+      outcome = o;
+      listing_is = refl;
+      exact = λ bytes e ok. exact bytes e (sym is ∙ ok);
+      taken = λ other. rw is taken;
+    })
 
 -- ---- PES packets
 
@@ -214,19 +222,21 @@ packets_from-room zero index (x ∷ b) e =
 packets_from-room (suc room) index bytes e =
     let less : suc room - 1 ≡ room = omega arith in rw less refl
 
--- The same after `index` of them. For `PacketLister`.
-pub packets_from-next : (index : ℕ) (bytes : List ℕ)
+-- The same after `index` of them, by the answer. For `PacketLister`.
+pub packets_from-next :
+    (index : ℕ) (bytes : List ℕ) (answer : Result (Option PesValue) PesFault)
     → index ≤ most_packets
+    → answer_at index bytes ≡ answer
     → packets_from (most_packets - index) index bytes
-    ≡ answer_then (answer_at index bytes)
+    ≡ answer_then answer
     (packets_from (most_packets - (index + 1)) (index + 1) (rest_after bytes))
-packets_from-next index bytes few =
+packets_from-next index bytes answer few is =
     let less : most_packets - (index + 1) ≡ most_packets - index - 1 = omega arith in
-    rw less (packets_from-room (most_packets - index) index bytes (omega arith))
+    rw (less, ← is) (packets_from-room (most_packets - index) index bytes (omega arith))
 
 -- The fault of the source alone ends a listing in a fault.
 pub pes-failed : (f : PesFault)
-    → ends_in_fault (Some (status_of (pes_kind f))) ≡ pes_fault.is_read f
+    → has_failed (Some (status_of (pes_kind f))) ≡ pes_fault.is_read f
 pes-failed pes.Read = refl
 pes-failed f = refl
 
@@ -237,8 +247,8 @@ rises : (from to : ℕ) (blocks : List (List ℕ))
     → EndsKept blocks
     → from + length blocks ≡ to
     → from < to
-rises from to [] ends counted = absurd ends
-rises from to (b ∷ blocks) ends counted = omega arith
+rises from to [] kept counted = absurd kept
+rises from to (b ∷ blocks) kept counted = omega arith
 
 -- A subtitle takes a block or more. For `SubtitleLister`.
 pub block-rises : (from to : ℕ) (old new : Option (List ℕ)) (s : SubtitleValue)
@@ -248,36 +258,45 @@ block-rises from to old new s t = rises from to t.blocks t.ends t.counted
 
 -- The fault of the source alone ends a listing in a fault.
 pub stl-failed : (f : StlFault)
-    → ends_in_fault (Some (status_of (stl_kind f))) ≡ stl_fault.is_read f
+    → has_failed (Some (status_of (stl_kind f))) ≡ stl_fault.is_read f
 stl-failed stl.Read = refl
 stl-failed f = refl
 
--- The status that goes with it.
-pub stl-status : (f : StlFault)
-    → ends_in_fault (Some (status_of (stl_kind f))) ≡ true
-    → status_of (stl_kind f) ≡ Fault
-stl-status stl.Read e = refl
-stl-status f e = cc
-
--- After the GSI block no block was taken. For `list_subtitles`.
-pub reads-first :
-    (failed : Bool) (n : ℕ) (told left : Option (List ℕ)) (outcome : Outcome)
-    → n ≡ 0
-    → ReadsSubtitles failed n told outcome left
-    → ReadsSubtitles failed 0 told outcome left
-reads-first failed n told left outcome none h =
-    subst (λ (k : ℕ). ReadsSubtitles failed k told outcome left) none h
-
--- What a file gives whose GSI block is read. For `list_subtitles`.
-pub outcome_of-opened : (bytes : List ℕ) (r : ReaderValue)
-    → opened_at bytes ≡ Ok r
-    → outcome_left r (drop gsi_size bytes) ≡ outcome_of bytes
+-- The GSI block was read, and what its reader gives comes then. For `SubtitleLister`.
+pub gives-opened :
+    (count : ℕ) (r : ReaderValue) (told left : Option (List ℕ))
+    → r.block ≡ 0
+    → IsGsi r.gsi
+    → Consumes told left r.gsi
+    → IfTold told (λ bytes. left ≡ Some (drop gsi_size bytes))
+    → IfTold told (λ bytes. opened_at bytes ≡ Ok r)
+    → Gives (ListsFrom None count) (ListsFrom (Some r) count) told left [] None
 unfolding outcome_of
-outcome_of-opened bytes r e = rw e refl
+gives-opened count r told left start gsi taken rest opened =
+    gives-next _ (subtitles_listing count) (subtitles_listing count) outcome_of (outcome_left r)
+    ReadsFile (λ failed. ReadsSubtitles failed r.block) (λ o. o) told left [] (λ o. refl)
+    (λ o failed end reads. inr (left, r.gsi, gsi, taken, rw start at reads))
+    (λ bytes is. (drop gsi_size bytes, rest bytes is, rw (opened bytes is) refl))
+    ends
 
--- The same, where it is refused.
-pub outcome_of-refused : (bytes : List ℕ) (f : StlFault)
-    → opened_at bytes ≡ Err f
-    → fails f 0 ≡ outcome_of bytes
+-- It was refused, or its source failed.
+pub gives-refused :
+    (count : ℕ) (f : StlFault) (told left : Option (List ℕ)) (text : List ℕ)
+    → text ≡ line_of (stl_told f 0)
+    → IfTold told (λ bytes. stl_fault.is_read f ≡ false → opened_at bytes ≡ Err f)
+    → (stl_fault.is_read f ≡ true
+    → (bytes : List ℕ) × (length bytes < gsi_size) × Consumes told left bytes)
+    → (stl_fault.is_format f ≡ true → RefusesOpening told left f)
+    → ListsFrom None count told left (Some (status_of (stl_kind f)))
+    (record { text = text; status = status_of (stl_kind f) })
 unfolding outcome_of
-outcome_of-refused bytes f e = rw e refl
+gives-refused count f told left text line exact failed refused =
+    gives-last _ (subtitles_listing count) outcome_of ReadsFile told left (fails f 0) text
+    (stl_fault.is_read f) line (stl-failed f) (λ bytes is fine. rw (exact bytes is fine) refl)
+    (inl (record {
+      fault = f;
+      outcome_is = refl;
+      read = refl;
+      failure = failed;
+      refused = refused;
+    }))

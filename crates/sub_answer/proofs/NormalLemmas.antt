@@ -1,88 +1,58 @@
--- What `normal` writes, prints and reads; main lemmas: works-written, taken-at_end.
-use Rattle.std.proofs.Common.{◌≡◌, ℕ, ◌≤◌, List, ◌++◌, length, take, arith, refl, sym, ap, ◌∙◌}
-use Rattle.std.proofs.Common.{Option, Some, None, Ok, Err, subst}
-use Rattle.std.specs.Prelude.{◌↔◌, codes}
+-- What `normal` writes and reads; main lemmas: answers_first, taken-at_end.
+use Rattle.std.proofs.Common.{◌≡◌, ℕ, ◌≤◌, List, ◌++◌, length, take, arith, sym, ap, ◌∙◌}
+use Rattle.std.proofs.Common.{Option, Some, None, Result, Ok, Err, subst}
 use Rattle.std.specs.Io.KnownBytes.{Consumes, IsAtEnd, Keeps}
-use Rattle.std.proofs.KnownBytes.{Appends-kept, Consumes-kept, Consumes-trans}
+use Rattle.std.proofs.KnownBytes.{Consumes-kept, Consumes-trans}
 use Rattle.std.proofs.lemmas.List.{append-nil, take_all, take_at, take-take}
 use Rattle.std.proofs.lemmas.Option.{same_Some}
-use Rattle.sub_io.specs.Device.{AppendsPrefix}
 use Rattle.sub_io.specs.Reading.{IfTold}
-use Rattle.sub_io.proofs.DeviceLemmas.{AppendsPrefix-whole}
 use Rattle.stl_file.specs.declared.fault.NormalFault.{NormalFault}
 use Rattle.stl_file.specs.declared.fault.NormalFault.TheVariants as normal
 use Rattle.stl_file.specs.File.{IsFile}
-use Rattle.stl_file.specs.NormalForm.{Judged, NormalAnswers, WritesNormal, WritesPrefix}
-use Rattle.stl_file.specs.NormalForm.{normal_form, subtitles_of}
-use Rattle.stl_file.specs.Reader.{block_of_byte, outcome_of}
-use Rattle.stl_file.specs.Reading.{Outcome}
+use Rattle.stl_file.specs.NormalForm.{NormalAnswers, subtitles_of}
+use Rattle.stl_file.specs.Reader.{block_of_byte}
+use Rattle.stl_file.specs.Gsi.{gsi_size}
 use Rattle.stl_file.specs.Subtitle.{SubtitleValue}
-use Rattle.stl_file.proofs.FileLemmas.{outcome_of-first}
-use Rattle.sub_answer.specs.NormalWriting.{TellsRead, most_read, normal_of, normal_writing}
-use Rattle.sub_answer.specs.Writing.{Completes, written, written_line}
+use Rattle.stl_file.proofs.FileLemmas.{file_complete, file_sound, outcome_of-first}
+use Rattle.sub_answer.specs.Writing.{TellsRead, most_read}
 use Rattle.sub_answer.specs.declared.answering.normal.InputFault.TheVariants as input
-use Rattle.sub_answer.specs.declared.status.Status.TheVariants.{Done}
 
 -- ---- what was written
 
--- a file's subtitles are what reading it gives
-abbrev pub FileIsRead : Type 0
-FileIsRead = (s g : List ℕ)
-    → (ts : List SubtitleValue)
-    → IsFile s g ts ↔ ((g ≡ take 1024 s) × (subtitles_of (outcome_of s) ≡ Ok ts))
+-- a file whose first bytes are a file is one
+first-is_file : (s : List ℕ) (ts : List SubtitleValue)
+    → IsFile (take most_read s) (take gsi_size (take most_read s)) ts
+    → IsFile s (take gsi_size s) ts
+first-is_file s ts is =
+    file_sound s ts (ap subtitles_of (sym (outcome_of-first s)) ∙ (file_complete _ _ ts is).1)
 
--- the normal form was written, and its line is made
-pub works-written : FileIsRead → (s : List ℕ) (old new : Option (List ℕ)) (line : List ℕ) (n : ℕ)
-    → WritesNormal s old new n
-    → line ≡ written_line n (codes " subtitles\n")
-    → Completes old new line (normal_writing s) Done
-works-written law s old new line n w is =
-    let read = ((law s _ w.subtitles).0 w.is_file).1 in
-    rw read (record {
-      file = w.wrote;
-      text = is ∙ ap (λ (k : ℕ). written_line k (codes " subtitles\n")) w.count;
-      with_status = refl;
-    })
+-- the bytes that are read decide what all of them do
+pub answers_first : (s read : List ℕ) (old new : Option (List ℕ)) (answer : Result ℕ NormalFault)
+    → read ≡ take most_read s
+    → NormalAnswers read old new answer
+    → NormalAnswers s old new answer
+answers_first s read old new answer first answers =
+    go answer (subst (λ (b : List ℕ). NormalAnswers b old new answer) first answers)
+  where
+    front : take gsi_size (take most_read s) ≡ take gsi_size s
+    front = take-take gsi_size most_read s (omega arith)
 
--- a prefix was written
-pub works-prefix : FileIsRead → (s : List ℕ) (old new : Option (List ℕ))
-    → WritesPrefix s old new
-    → AppendsPrefix old new (normal_writing s).file
-works-prefix law s old new w =
-    let read = ((law s _ w.subtitles).0 w.is_file).1 in
-    rw read (w.wrote)
-
--- the same of the answer that the file failed
-pub works-failed : FileIsRead → (s : List ℕ) (old new : Option (List ℕ)) (fault : NormalFault)
-    → fault ≡ normal.Write
-    → NormalAnswers s old new (Err fault)
-    → AppendsPrefix old new (normal_writing s).file
-works-failed law s old new fault is answers =
-    works-prefix law s old new
-    (subst (λ (f : NormalFault). NormalAnswers s old new (Err f)) is answers)
-
--- a failing flush after the normal form was taken
-pub prefix-flushed : (s : List ℕ) (old mid new : Option (List ℕ)) (n : ℕ)
-    → WritesNormal s old mid n
-    → Keeps mid new
-    → WritesPrefix s old new
-prefix-flushed s old mid new n w kept = record {
-  subtitles = w.subtitles;
-  is_file = w.is_file;
-  wrote = AppendsPrefix-whole old new _ (Appends-kept old mid new _ w.wrote kept);
-}
-
--- a flush after the normal form was taken
-pub written-flushed : (s : List ℕ) (old mid new : Option (List ℕ)) (n : ℕ)
-    → WritesNormal s old mid n
-    → Keeps mid new
-    → WritesNormal s old new n
-written-flushed s old mid new n w kept = record {
-  subtitles = w.subtitles;
-  is_file = w.is_file;
-  count = w.count;
-  wrote = Appends-kept old mid new _ w.wrote kept;
-}
+    go : (answer : Result ℕ NormalFault)
+        → NormalAnswers (take most_read s) old new answer
+        → NormalAnswers s old new answer
+    go (Ok n) w = record {
+      subtitles = w.subtitles;
+      is_file = first-is_file s w.subtitles w.is_file;
+      count = w.count;
+      wrote = rw (← front) (w.wrote);
+    }
+    go (Err normal.Write) w = record {
+      subtitles = w.subtitles;
+      is_file = first-is_file s w.subtitles w.is_file;
+      wrote = rw (← front) (w.wrote);
+    }
+    go (Err (normal.Refused f block)) w =
+        (ap subtitles_of (sym (outcome_of-first s)) ∙ w.0, w.1)
 
 -- ---- reading the input
 
@@ -139,20 +109,3 @@ pub block-at : (x y z : Option (List ℕ)) (block : ℕ) (xs : List ℕ)
     → block ≡ block_of_byte (length xs)
     → TellsRead x z (input.Read block)
 block-at x y z block xs p kept is = (xs, Consumes-kept x y z _ p kept, is)
-
--- the GSI block of the normal form is the file's
-normal_of-front : (s t : List ℕ) (j : Judged)
-    → take 1024 s ≡ take 1024 t
-    → normal_of s j ≡ normal_of t j
-normal_of-front s t (Ok ts) same =
-    ap (λ (g : List ℕ). written (normal_form g ts) (length ts) (codes " subtitles\n")) same
-normal_of-front s t (Err (normal.Refused fault block)) same = refl
-normal_of-front s t (Err normal.Write) same = refl
-
--- the bytes that are read decide what is written and printed
-pub normal_writing-first : (s : List ℕ) → normal_writing (take most_read s) ≡ normal_writing s
-normal_writing-first s =
-    let front : take 1024 (take most_read s) ≡ take 1024 s =
-    take-take 1024 most_read s (omega arith) in
-    ap (λ (o : Outcome). normal_of (take most_read s) (subtitles_of o)) (outcome_of-first s)
-    ∙ normal_of-front (take most_read s) s (subtitles_of (outcome_of s)) front

@@ -1,6 +1,6 @@
 -- What is said of the answer to a request, command by command.
 use Rattle.std.specs.Prelude.{◌≡◌, ◌≢◌, ◌↔◌, ℕ, Bool, true, false, List, Option, Result, Err, Ok}
-use Rattle.std.specs.Prelude.{IsTrue}
+use Rattle.std.specs.Prelude.{◌++◌, IsTrue, codes, decimal}
 use Rattle.sub_io.specs.Device.{RisesIf, failed}
 use Rattle.sub_io.specs.Reading.{IfTold}
 use Rattle.ttx_pes.specs.Reader.{FailsAtPacket}
@@ -12,38 +12,35 @@ use Rattle.stl_rows.specs.Programme.{ProgrammeValue}
 use Rattle.stl_rows.specs.declared.fault.LoadFault.{LoadFault}
 use Rattle.stl_rows.specs.declared.national.National.{National}
 use Rattle.sub_plan.specs.Options.{OptionsValue}
-use Rattle.sub_check.specs.Checking.{TellsSubtitles}
+use Rattle.sub_check.specs.CheckedFiles.{AreChecked}
 use Rattle.sub_check.specs.Fault.{is_pes_read, is_stl_read, is_subtitle_fault}
 use Rattle.sub_check.specs.FrameRules.{Unread}
+use Rattle.sub_check.specs.Good.{Good}
 use Rattle.sub_check.specs.ListeningRun.{FailsListening}
-use Rattle.sub_check.specs.LostRows.{RobustToMarkedLoss}
-use Rattle.sub_check.specs.OnScreen.{Shown}
+use Rattle.sub_check.specs.OnScreen.{Complete}
 use Rattle.sub_check.specs.PesFrames.{Carries}
 use Rattle.sub_check.specs.PesReading.{ReadsAs}
-use Rattle.sub_check.specs.Recovery.{Recovers}
-use Rattle.sub_check.specs.Robust.{Robust}
 use Rattle.sub_check.specs.Transmission.{Transmission}
 use Rattle.sub_check.specs.declared.checker.Accepted.{Accepted}
 use Rattle.sub_check.specs.declared.fault.CheckFault.{CheckFault}
 use Rattle.sub_check.specs.declared.fault.CheckFault.TheVariants as check
 use Rattle.sub_check.specs.declared.listening.Listening.{Listening}
 use Rattle.sub_check.specs.declared.listening_run.ListenFault.{ListenFault}
-use Rattle.sub_answer.specs.CheckLines.{verdict}
 use Rattle.sub_answer.specs.DeviceCall.{SinkCall, SourceCall}
+use Rattle.sub_answer.specs.Faults.{check_told}
 use Rattle.sub_answer.specs.ListenListing.{Listens, listen_told}
-use Rattle.sub_answer.specs.Listing.{Listing, PrintsListing, PrintsOrFails, packet_listing}
+use Rattle.sub_answer.specs.Listing.{Listing, PrintsListing, PrintsOrFails, done, packet_listing}
 use Rattle.sub_answer.specs.Listing.{told_listing}
-use Rattle.sub_answer.specs.NormalWriting.{HasNormalFaultLine, normal_writing}
 use Rattle.sub_answer.specs.PacketsListing.{ListsPackets}
 use Rattle.sub_answer.specs.ShowListing.{ListsSubtitles}
-use Rattle.sub_answer.specs.Verdict.{IsAccepted, IsAnswer}
-use Rattle.sub_answer.specs.Writing.{HasScheduleFaultLine, PrintsMemory, Works, Writing, end_status}
-use Rattle.sub_answer.specs.Writing.{is_read_end, is_write_end, schedule_writing}
+use Rattle.sub_answer.specs.Writing as writing
+use Rattle.sub_answer.specs.Writing.{Normalizes, PrintsMemory, Schedules, Work, is_write}
+use Rattle.sub_answer.specs.Writing.{work_listing}
 use Rattle.sub_answer.specs.declared.request.Request.{Request}
 use Rattle.sub_answer.specs.declared.request.Request.TheVariants as ask
 use Rattle.sub_answer.specs.declared.status.Status.{Status}
 use Rattle.sub_answer.specs.declared.status.Status.TheVariants.{Done, Fault}
-use Rattle.sub_answer.specs.declared.writing.End.{End}
+use Rattle.sub_answer.specs.declared.writing.WriteFault.{WriteFault}
 
 -- Whether the answer takes memory: a programme, or a whole file, is kept in it.
 abbrev pub takes_memory : Request → Bool
@@ -54,36 +51,49 @@ takes_memory _ = false
 
 -- ---- what each command answers
 
--- The work of a command that writes a file ended so, and its line was printed whole and gives the
--- status; or `out` failed once, has a prefix of the line, and the status is `Fault`.
+-- The work of a command that writes a file has this answer, the number of things in it or a fault,
+-- and its line was printed.
 pub record EndsWork
     {S : Type 0} (input : SourceCall S) (file out : SinkCall) (status : Status)
-    (writing : List ℕ → Writing)
-    (HasFaultLine : Option (List ℕ) → Option (List ℕ) → List ℕ → End → Type 0)
+    (things : List ℕ) (HasWorked : Work)
     : Type 0 where
-  pub ending : End
-  pub line : List ℕ
-  -- Where the input tells its bytes, these decide what is written, and the line.
-  pub works :
-      IfTold input.told (λ bytes. Works file.old file.new line (writing bytes) ending)
-  -- A failed device and want of memory have this line.
-  pub fault_line : HasFaultLine input.told input.left line ending
-  -- The devices fail where the work ended by them, and nowhere else.
-  pub input_count : RisesIf input.old_count (is_read_end ending) input.new_count
-  pub file_count : RisesIf file.old_count (is_write_end ending) file.new_count
-  pub printed :
-      PrintsOrFails out.old_count out.old out.new_count out.new
-      (record { text = line; status = end_status ending }) status
+  pub answer : Result ℕ WriteFault
+  pub works : HasWorked input.told input.left file.old file.new answer
+  -- The devices fail where the answer says so, and nowhere else.
+  pub input_count : RisesIf input.old_count (failed writing.is_read answer) input.new_count
+  pub file_count : RisesIf file.old_count (failed is_write answer) file.new_count
+  pub printed : PrintsOrFails out (work_listing things answer) status
 
--- This answer of a check is printed, and it is the right one.
-pub record PrintsAnswer
+-- What is accepted: the frames of the day from the first PES packet's to the last one's, and the
+-- headers of the page.
+abbrev pub accepted_line : Accepted → List ℕ
+accepted_line a = codes "accepted " ++ decimal a.frames ++ codes " frames "
+    ++ decimal a.transmissions ++ codes " transmissions\n"
+
+-- The line of an answer, with the status.
+abbrev pub verdict : Result Accepted CheckFault → Listing
+verdict (Ok a) = done (accepted_line a)
+verdict (Err f) = told_listing (check_told f)
+
+-- The files are accepted: the subtitle file gives a programme, and the PES file carries a
+-- transmission that is good for it, of complete pages where these are asked for.
+pub record IsAccepted
+    (national : National) (options : OptionsValue) (file bytes : List ℕ) : Type 0 where
+  pub programme : ProgrammeValue
+  pub frames : Transmission
+  pub loads : loaded national (outcome_of file) ≡ Ok programme
+  pub carries : Carries options.origin bytes frames
+  pub good : Good programme frames options
+  pub complete : IsTrue options.asks_complete → Complete frames options
+
+-- `check` has one answer, which the bytes of both files decide, and prints it.
+pub record AnswersCheck
     {S T : Type 0} (national : National) (options : OptionsValue)
     (stl : SourceCall S) (pes : SourceCall T) (out : SinkCall) (status : Status)
-    (answer : Result Accepted CheckFault)
     : Type 0 where
+  pub answer : Result Accepted CheckFault
   -- Its one line is printed, or `out` failed and has a prefix of it.
-  pub printed :
-      PrintsOrFails out.old_count out.old out.new_count out.new (verdict answer) status
+  pub printed : PrintsOrFails out (verdict answer) status
   -- It tells which device failed.
   pub stl_count : RisesIf stl.old_count (failed is_stl_read answer) stl.new_count
   pub pes_count : RisesIf pes.old_count (failed is_pes_read answer) pes.new_count
@@ -100,30 +110,18 @@ pub record PrintsAnswer
       → FailsAtPacket index pes.told pes.left
   -- Where it refuses the subtitle file, no PES byte is read.
   pub before : failed is_subtitle_fault answer ≡ true → pes.new ≡ pes.old
-  -- Where the files tell their bytes, these decide it.
-  pub subtitles : IfTold stl.told (λ file. TellsSubtitles national (outcome_of file) answer)
-  pub exact :
-      IfTold stl.told (λ file.
-      IfTold pes.told (λ bytes.
-      IsAnswer national options file bytes answer))
-
--- `check` prints one answer, which the bytes of both files decide.
-pub record AnswersCheck
-    {S T : Type 0} (national : National) (options : OptionsValue)
-    (stl : SourceCall S) (pes : SourceCall T) (out : SinkCall) (status : Status)
-    : Type 0 where
-  -- One answer is printed, and it is the right one.
-  pub answer :
-      (answer : Result Accepted CheckFault)
-      × PrintsAnswer national options stl pes out status answer
+  -- Where the files tell their bytes, these decide it. What is accepted is robust, with lost rows
+  -- too: every receiver shows each due page within the repeat bound, but for cells whose byte was
+  -- hit. By it receivers recover from whatever they held before, and where complete pages are asked
+  -- for, it is on their screens. A subtitle file that gives no programme is refused.
+  pub checked : IfTold stl.told (λ file. AreChecked national options file pes.told answer)
   -- Failing devices and want of memory aside, the status is `Done` exactly where the PES file is
   -- read to its end as a good transmission of the programme of the subtitle file.
   pub done :
       IfTold stl.told (λ file.
       IfTold pes.told (λ bytes.
       status ≢ Fault
-      → (status ≡ Done)
-      ↔ ((accepted : Accepted) × IsAccepted national options file bytes accepted)))
+      → (status ≡ Done) ↔ IsAccepted national options file bytes))
   -- The status is `Fault` only where a device failed, or want of memory is printed.
   pub fault :
       status ≡ Fault
@@ -131,25 +129,6 @@ pub record AnswersCheck
       → pes.new_count ≡ pes.old_count
       → out.new_count ≡ out.old_count
       → PrintsMemory national stl.told out.old out.new
-  -- What is accepted is robust, with lost rows too: every receiver shows each due page within the
-  -- repeat bound, but for cells whose byte was hit. By it receivers recover from whatever they held
-  -- before, and where complete pages are asked for, it is on their screens.
-  pub robust :
-      (programme : ProgrammeValue) (frames : Transmission)
-      → IfTold stl.told (λ file.
-      loaded national (outcome_of file) ≡ Ok programme
-      → IfTold pes.told (λ bytes.
-      Carries options.origin bytes frames
-      → status ≡ Done
-      → Robust programme frames options
-      × RobustToMarkedLoss programme frames options
-      × Recovers programme frames options
-      × (IsTrue options.asks_complete → Shown programme frames options)))
-  -- A subtitle file that gives no programme is not accepted, and no PES byte is read.
-  pub no_programme :
-      IfTold stl.told (λ file.
-      ((programme : ProgrammeValue) → loaded national (outcome_of file) ≢ Ok programme)
-      → (status ≢ Done) × (pes.new ≡ pes.old))
 
 -- `listen` prints what a receiver shows that heard the frames of the PES file, or the refusal.
 pub record AnswersListen
@@ -162,31 +141,29 @@ pub record AnswersListen
       → pes.new_count ≡ pes.old_count
       → (listing : Listing)
       × Listens listening frames unread listing
-      × PrintsOrFails out.old_count out.old out.new_count out.new listing status)
+      × PrintsOrFails out listing status)
   -- That the source failed is told at the PES packet within which it failed, and where nothing that
   -- was read before is refused.
   pub read :
       pes.new_count ≢ pes.old_count
       → (f : ListenFault)
       × FailsListening listening pes.told pes.left f
-      × PrintsOrFails out.old_count out.old out.new_count out.new
-      (told_listing (listen_told f)) status
+      × PrintsOrFails out (told_listing (listen_told f)) status
 
 -- What is answered to a request: what is printed and written, and the status.
 abbrev pub Answers :
     {S T : Type 0}
     → Request → SourceCall S → SourceCall T → SinkCall → SinkCall → Status → Type 0
 Answers (ask.Packet bytes) first second file out status =
-    PrintsOrFails out.old_count out.old out.new_count out.new (packet_listing bytes) status
+    PrintsOrFails out (packet_listing bytes) status
 Answers (ask.Packets pes) first second file out status =
     PrintsListing ListsPackets first out status
 Answers (ask.Show stl) first second file out status =
     PrintsListing ListsSubtitles first out status
 Answers (ask.Normal input output) first second file out status =
-    EndsWork first file out status normal_writing HasNormalFaultLine
+    EndsWork first file out status (codes " subtitles\n") Normalizes
 Answers (ask.Schedule stl pes options serial national) first second file out status =
-    EndsWork first file out status (schedule_writing national options serial)
-    (HasScheduleFaultLine national)
+    EndsWork first file out status (codes " transmissions\n") (Schedules national options serial)
 Answers (ask.Check stl pes options national) first second file out status =
     AnswersCheck national options first second out status
 Answers (ask.Listen pes listening) first second file out status =

@@ -1,5 +1,8 @@
 -- What the clauses of a command speak of: its devices, each before and after the call.
-use Rattle.std.specs.Prelude.{ℕ, List, Option}
+use Rattle.std.specs.Prelude.{◌≡◌, ◌≢◌, ℕ, ◌+◌, ◌≤◌, List, Option}
+use Rattle.sub_answer.specs.declared.status.Status.{Status}
+use Rattle.sub_answer.specs.declared.status.Status.TheVariants.{Fault}
+pub use Rattle.sub_io.specs.Device.{CanFail}
 
 -- A source in a call: as it was and as it is, the bytes that it had left before and has left after,
 -- where it tells them, and how often it had failed before and after.
@@ -38,3 +41,13 @@ sink_call contents failure_count old new = record {
   old_count = failure_count old;
   new_count = failure_count new;
 }
+
+-- The count of a device's failures rises by one at most, and not where the status is another than
+-- `Fault`.
+pub record Counts (old : ℕ) (status : Status) (new : ℕ) : Type 0 where
+  pub kept : status ≢ Fault → new ≡ old
+  pub risen : old ≤ new
+  pub once : new ≤ old + 1
+
+abbrev pub CountsFault : {D : Type 0} → (D → ℕ) → D → Status → D → Type 0
+CountsFault failure_count old status new = Counts (failure_count old) status (failure_count new)

@@ -2,7 +2,6 @@
 -- usage, and all else is refused (own).
 use Rattle.std.specs.Prelude.{ℕ, List, codes}
 use Rattle.stl_file.specs.Fault as stl_number
-use Rattle.stl_file.specs.declared.fault.NormalFault.{NormalFault}
 use Rattle.stl_file.specs.declared.fault.NormalFault.TheVariants as normal
 use Rattle.stl_file.specs.declared.fault.StlFault.{StlFault}
 use Rattle.stl_file.specs.declared.fault.StlFault.TheVariants as stl
@@ -10,10 +9,13 @@ use Rattle.stl_rows.specs.Fault as load_number
 use Rattle.stl_rows.specs.declared.fault.LoadFaultKind.{LoadFaultKind}
 use Rattle.stl_rows.specs.declared.fault.LoadFaultKind.TheVariants as load
 use Rattle.sub_answer.specs.Told.{ToldValue, told_as}
+use Rattle.sub_answer.specs.declared.answering.normal.InputFault.TheVariants as input
 use Rattle.sub_answer.specs.declared.request.UsageFault.{UsageFault}
 use Rattle.sub_answer.specs.declared.request.UsageFault.TheVariants as usage
 use Rattle.sub_answer.specs.declared.told.Kind.{Kind}
 use Rattle.sub_answer.specs.declared.told.Kind.TheVariants as kind
+use Rattle.sub_answer.specs.declared.writing.WriteFault.{WriteFault}
+use Rattle.sub_answer.specs.declared.writing.WriteFault.TheVariants as write
 use Rattle.sub_check.specs.Fault as check_fault
 use Rattle.sub_check.specs.declared.fault.CheckFault.{CheckFault}
 use Rattle.sub_check.specs.declared.fault.CheckFault.TheVariants as check
@@ -47,12 +49,6 @@ stl_kind _ = kind.Refused
 abbrev pub stl_told : StlFault → ℕ → ToldValue
 stl_told f block = told_as (stl_kind f) (stl_number.number_and_name f) (place.Block block)
 
--- A fault of a normal form that is not written: the subtitle file's, or that of the file.
-abbrev pub normal_told : NormalFault → ToldValue
-normal_told (normal.Refused f block) = stl_told f block
-normal_told normal.Write =
-    told_as kind.Fault (stl_number.normal_number_and_name normal.Write) place.Nowhere
-
 -- ---- a programme
 
 -- Want of memory is no refusal either.
@@ -65,12 +61,6 @@ load_kind _ = kind.Refused
 abbrev pub load_told : LoadFaultKind → ℕ → ToldValue
 load_told f block =
     told_as (load_kind f) (load_number.number_and_name f) (check_fault.load_place f block)
-
--- A fault of its schedule: that there is none, or that of the file.
-abbrev pub plan_told : PlanFault → ToldValue
-plan_told plan.NoSubtitles =
-    told_as kind.Refused (plan_number.number_and_name plan.NoSubtitles) place.Nowhere
-plan_told plan.Write = told_as kind.Fault (plan_number.number_and_name plan.Write) place.Nowhere
 
 -- ---- a pair of files
 
@@ -112,3 +102,19 @@ usage_kind _ = kind.Usage
 -- A fault of the words, or of the program itself: it has no place.
 abbrev pub usage_told : UsageFault → ToldValue
 usage_told f = told_as (usage_kind f) (usage_number_and_name f) place.Nowhere
+
+-- ---- a file that is written
+
+-- A programme without subtitles is refused; that the file failed is a fault.
+abbrev pub plan_kind : PlanFault → Kind
+plan_kind plan.NoSubtitles = kind.Refused
+plan_kind plan.Write = kind.Fault
+
+-- A failing device and want of memory are faults.
+abbrev pub write_told : WriteFault → ToldValue
+write_told (write.Input (input.Read block)) = stl_told stl.Read block
+write_told (write.Input input.Memory) = usage_told usage.Memory
+write_told (write.Load f) = load_told f.kind f.block
+write_told (write.Normal (normal.Refused f block)) = stl_told f block
+write_told (write.Normal f) = told_as kind.Fault (stl_number.normal_number_and_name f) place.Nowhere
+write_told (write.Plan f) = told_as (plan_kind f) (plan_number.number_and_name f) place.Nowhere

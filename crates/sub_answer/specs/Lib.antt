@@ -5,10 +5,6 @@ pub mod Listing
 pub mod Writing
 pub mod Answering
 pub mod DeviceCall
-pub mod CheckLines
-pub mod Verdict
-pub mod NormalWriting
-pub mod StateText
 pub mod ListenListing
 pub mod PacketsListing
 pub mod ShowListing

@@ -1,7 +1,6 @@
 -- The lines that the program prints. Each ends with one newline.
-use Rattle.std.specs.Prelude.{ℕ, ◌+◌, ◌/◌, ◌%◌, ◌==◌, ◌&&◌, nat_le, List, [], ◌∷◌, ◌++◌}
-use Rattle.std.specs.Prelude.{codes, decimal, map, length}
-use Rattle.std.specs.Prelude.{Bool, if◌then◌else◌, slice_index}
+use Rattle.std.specs.Prelude.{ℕ, ◌+◌, ◌/◌, ◌%◌, ◌==◌, ◌&&◌, nat_le, List, [], ◌∷◌, ◌++◌, codes}
+use Rattle.std.specs.Prelude.{decimal, map, length, Bool, if◌then◌else◌, slice_index}
 use Rattle.ttx_packet.specs.Parity.{is_odd, code_of}
 use Rattle.ttx_packet.specs.PageHeader.{c4, c5, c6, c7, c8, c9, c10, c11, c12, c13, c14}
 use Rattle.ttx_packet.specs.declared.Header.{Header}

@@ -1,7 +1,6 @@
 -- What the commands print, whole, and how they end.
-use Rattle.std.specs.Prelude.{◌≡◌, ◌≢◌, ◌⊎◌, ℕ, ◌+◌, ◌≤◌, ◌==◌, Bool, true, false, nat_le, List}
-use Rattle.std.specs.Prelude.{◌++◌, codes, drop}
-use Rattle.std.specs.Prelude.{Option, Some, None, option_map, if◌then◌else◌}
+use Rattle.std.specs.Prelude.{◌≡◌, ◌≢◌, ◌⊎◌, ℕ, ◌+◌, ◌==◌, Bool, true, false, nat_le, List, ◌++◌}
+use Rattle.std.specs.Prelude.{codes, drop, Option, Some, None, option_map, if◌then◌else◌}
 use Rattle.ttx_packet.specs.PacketAddress.{address, address_pair}
 use Rattle.ttx_packet.specs.PageHeader.{header}
 use Rattle.ttx_packet.specs.declared.Header.{Header}
@@ -74,43 +73,25 @@ exit_code Done = 0
 exit_code Refused = 1
 exit_code Fault = 2
 
--- A device's failures rise by one at most, and not where the status is another than `Fault`.
-pub record CountsFault (old : ℕ) (status : Status) (new : ℕ) : Type 0 where
-  pub kept : status ≢ Fault → new ≡ old
-  pub risen : old ≤ new
-  pub once : new ≤ old + 1
-
--- How far a source is read for a listing: to what ends the listing, to where the source failed, or
--- no further than to where the sink failed.
-pub data Extent : Type 0 where
-  to_end : Extent
-  to_failure : Extent
-  to_cut : Extent
-
--- The source failed.
-abbrev pub has_failed : Extent → Bool
-has_failed to_failure = true
+-- The source failed, where a listing ends so. It has no end where the sink failed before it.
+abbrev pub has_failed : Option Status → Bool
+has_failed (Some Fault) = true
 has_failed _ = false
 
--- How far it was read where a listing ends with this status, or is cut where more may follow.
-abbrev pub extent_of : Option Status → Extent
-extent_of (Some Fault) = to_failure
-extent_of (Some _) = to_end
-extent_of None = to_cut
-
--- A listing ends in a fault.
-abbrev pub ends_in_fault : Option Status → Bool
-ends_in_fault end = has_failed (extent_of end)
+-- What may be listed of a source, by what it tells before and after and how the listing ends.
+abbrev pub IsListed : Type 1
+IsListed = Option (List ℕ) → Option (List ℕ) → Option Status → Listing → Type 0
 
 -- ---- what was printed
 
 -- All of the listing was printed, and its status is given; or the sink failed once, has a prefix of
 -- the text, and the status is `Fault`.
-abbrev pub PrintsOrFails
-    : ℕ → Option (List ℕ) → ℕ → Option (List ℕ) → Listing → Status → Type 0
-PrintsOrFails old_count old new_count new listing status =
-    ((new_count ≡ old_count) × Appends old new listing.text × (status ≡ listing.status))
-    ⊎ ((new_count ≡ old_count + 1) × AppendsPrefix old new listing.text × (status ≡ Fault))
+unfoldable pub PrintsOrFails : SinkCall → Listing → Status → Type 0
+PrintsOrFails out listing status =
+    ((out.new_count ≡ out.old_count) × Appends out.old out.new listing.text
+    × (status ≡ listing.status))
+    ⊎ ((out.new_count ≡ out.old_count + 1) × AppendsPrefix out.old out.new listing.text
+    × (status ≡ Fault))
 
 -- The outcome of reading a source is listed: where the source tells its bytes and did not fail,
 -- these decide the outcome; where it was read to the end of the listing or failed, what was taken
@@ -119,35 +100,32 @@ PrintsOrFails old_count old new_count new listing status =
 pub record Lists
     {Outcome : Type 0} (listing_of : Outcome → Listing) (given : List ℕ → Outcome)
     (Takes : Bool → Option (List ℕ) → Outcome → Option (List ℕ) → Type 0)
-    (told left : Option (List ℕ)) (extent : Extent) (listing : Listing)
+    (told left : Option (List ℕ)) (ending : Option Status) (listing : Listing)
     : Type 0 where
   pub outcome : Outcome
   pub listing_is : listing ≡ listing_of outcome
-  pub exact : IfTold told (λ bytes. has_failed extent ≡ false → outcome ≡ given bytes)
-  pub taken : extent ≢ to_cut → Takes (has_failed extent) told outcome left
+  pub exact : IfTold told (λ bytes. has_failed ending ≡ false → outcome ≡ given bytes)
+  pub taken : ending ≢ None → Takes (has_failed ending) told outcome left
 
 -- A source was read and listed, whether it failed or not, and the listing was printed, or a sink
 -- that failed has a prefix of it.
 pub record PrintsListing
-    {S : Type 0} (IsListed : Option (List ℕ) → Option (List ℕ) → Extent → Listing → Type 0)
-    (source : SourceCall S) (out : SinkCall) (status : Status)
+    {S : Type 0} (Lists : IsListed) (source : SourceCall S) (out : SinkCall) (status : Status)
     : Type 0 where
-  pub extent : Extent
+  pub ending : Option Status
   pub listing : Listing
-  pub is_listed : IsListed source.told source.left extent listing
-  pub source_count : RisesIf source.old_count (has_failed extent) source.new_count
-  pub cut : extent ≡ to_cut → out.new_count ≢ out.old_count
-  pub printed : PrintsOrFails out.old_count out.old out.new_count out.new listing status
+  pub is_listed : Lists source.told source.left ending listing
+  pub source_count : RisesIf source.old_count (has_failed ending) source.new_count
+  pub cut : ending ≡ None → out.new_count ≢ out.old_count
+  pub printed : PrintsOrFails out listing status
 
 -- One piece of a listing was read and its lines made: whatever is listed from here on is listed
 -- after them, and something is; or they end the listing.
-abbrev pub Gives
-    : (Option (List ℕ) → Option (List ℕ) → Extent → Listing → Type 0)
-    → (Option (List ℕ) → Option (List ℕ) → Extent → Listing → Type 0)
+abbrev pub Gives : IsListed → IsListed
     → Option (List ℕ) → Option (List ℕ) → List ℕ → Option Status → Type 0
 Gives Before After told left text None =
-    ((end : Option (List ℕ)) (extent : Extent) (more : Listing)
-    → After left end extent more → Before told end extent (followed text more))
-    × ((more : Listing) × After left left to_cut more)
+    ((end : Option (List ℕ)) (ending : Option Status) (more : Listing)
+    → After left end ending more → Before told end ending (followed text more))
+    × ((more : Listing) × After left left None more)
 Gives Before After told left text (Some status) =
-    Before told left (extent_of (Some status)) (record { text = text; status = status })
+    Before told left (Some status) (record { text = text; status = status })

@@ -10,7 +10,7 @@ use Rattle.ttx_pes.specs.declared.fault.PesFault.{PesFault}
 use Rattle.ttx_pes.specs.declared.fault.PesFault.TheVariants.{TooMany}
 use Rattle.sub_answer.specs.Faults.{pes_told}
 use Rattle.sub_answer.specs.Lines.{pes_line, unit_line}
-use Rattle.sub_answer.specs.Listing.{Extent, Lists, Listing, done, followed, told_listing}
+use Rattle.sub_answer.specs.Listing.{IsListed, Lists, Listing, done, followed, told_listing}
 
 -- What a file of PES packets gives: packets, and then the end or a fault.
 pub data PesOutcome : Type 0 where
@@ -58,5 +58,5 @@ pes_listing index (fails f) = told_listing (pes_told f index)
 pes_listing index (gives v more) = followed (frame_lines index v) (pes_listing (index + 1) more)
 
 -- A file of PES packets is listed.
-abbrev pub ListsPackets : Option (List ℕ) → Option (List ℕ) → Extent → Listing → Type 0
+abbrev pub ListsPackets : IsListed
 ListsPackets = Lists (pes_listing 0) (packets_from most_packets 0) ReadsPackets

@@ -1,16 +1,18 @@
 -- What `show` prints of a subtitle file.
 use Rattle.std.specs.Io.KnownBytes.{Consumes}
 use Rattle.std.specs.Prelude.{◌≡◌, ◌⊎◌, ℕ, ◌+◌, ◌<◌, List, codes, decimal, ◌++◌, length, Option}
-use Rattle.std.specs.Prelude.{Bool, true, false}
+use Rattle.std.specs.Prelude.{Bool, true, false, None, Some, ◌-◌, ◌≤◌}
 use Rattle.stl_file.specs.Fault.{is_format, is_read}
 use Rattle.stl_file.specs.Gsi.{IsGsi, gsi_size}
 use Rattle.stl_file.specs.Reader.{FailsReading, Refuses, RefusesOpening, TakesPassed}
-use Rattle.stl_file.specs.Reader.{TakesSubtitle, outcome_of}
+use Rattle.stl_file.specs.Reader.{ReaderValue, TakesSubtitle, outcome_left, outcome_of}
 use Rattle.stl_file.specs.Reading.{Outcome, ends, fails, gives}
+use Rattle.stl_file.specs.Tti.{most_blocks}
 use Rattle.stl_file.specs.declared.fault.StlFault.{StlFault}
+use Rattle.stl_file.specs.declared.progress.Progress.TheVariants.{Reading}
 use Rattle.sub_answer.specs.Faults.{stl_told}
 use Rattle.sub_answer.specs.Lines.{subtitle_line}
-use Rattle.sub_answer.specs.Listing.{Extent, Lists, Listing, done, followed, told_listing}
+use Rattle.sub_answer.specs.Listing.{IsListed, Lists, Listing, done, followed, told_listing}
 
 -- These subtitles were taken of a source, `from` blocks after the GSI block, and then blocks that
 -- are passed over; or there is no file of what comes then. Where the source failed, it failed at
@@ -51,5 +53,21 @@ subtitles_listing count (gives s block more) =
     followed (subtitle_line s) (subtitles_listing (count + 1) more)
 
 -- A subtitle file is listed.
-abbrev pub ListsSubtitles : Option (List ℕ) → Option (List ℕ) → Extent → Listing → Type 0
+abbrev pub ListsSubtitles : IsListed
 ListsSubtitles = Lists (subtitles_listing 0) outcome_of ReadsFile
+
+-- The same after `count` subtitles, by the reader behind the GSI block, or where there is none yet.
+abbrev pub ListsFrom : Option ReaderValue → ℕ → IsListed
+ListsFrom None count = Lists (subtitles_listing count) outcome_of ReadsFile
+ListsFrom (Some r) count =
+    Lists (subtitles_listing count) (outcome_left r) (λ failed. ReadsSubtitles failed r.block)
+
+-- The reader has not come to the end, and met no fault.
+abbrev pub IsReady : Option ReaderValue → ℕ → Type 0
+IsReady None count = count ≡ 0
+IsReady (Some r) count = (r.progress ≡ Reading) × (count ≤ r.block) × (r.block ≤ most_blocks)
+
+-- How many blocks it can still read at most.
+abbrev pub blocks_left : Option ReaderValue → ℕ
+blocks_left None = most_blocks + 1
+blocks_left (Some r) = most_blocks - r.block

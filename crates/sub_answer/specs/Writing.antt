@@ -1,118 +1,90 @@
--- What the commands that write a file do: the bytes of the file, and the line that is printed.
-use Rattle.std.specs.Prelude.{◌≡◌, ⊤, ℕ, List, [], ◌∷◌, ◌++◌, codes, decimal, length}
-use Rattle.std.specs.Prelude.{Bool, true, false, Option, Result, Ok, Err}
-use Rattle.std.specs.Io.KnownBytes.{Appends, Keeps}
+-- What the commands that write a file do: what the file has, and what is printed of it.
+use Rattle.std.specs.Prelude.{◌≡◌, ◌≢◌, ⊤, ℕ, List, [], ◌++◌, codes, decimal, length}
+use Rattle.std.specs.Prelude.{Bool, true, false, Option, Result, Ok, Err, IsOkAnd}
+use Rattle.std.specs.Io.KnownBytes.{Appends, Consumes, Keeps}
 use Rattle.sub_io.specs.Device.{AppendsPrefix}
 use Rattle.sub_io.specs.Reading.{IfTold}
-use Rattle.stl_file.specs.Reader.{outcome_of}
-use Rattle.stl_file.specs.Subtitle.{SubtitleValue}
-use Rattle.stl_file.specs.declared.fault.StlFault.TheVariants.{Read}
-use Rattle.stl_rows.specs.Loading.{EndsRecord, FailsLoading, loaded}
+use Rattle.stl_file.specs.Fault as stl_fault
+use Rattle.stl_file.specs.NormalForm.{NormalAnswers}
+use Rattle.stl_file.specs.Reader.{block_of_byte, outcome_of}
+use Rattle.stl_rows.specs.Fault as load_fault
+use Rattle.stl_rows.specs.Loading.{EndsRecord, FailsLoading, TellsFault, loaded}
 use Rattle.stl_rows.specs.Programme.{ProgrammeValue}
-use Rattle.stl_rows.specs.declared.fault.LoadFault.{LoadFault}
-use Rattle.stl_rows.specs.declared.fault.LoadFaultKind.{LoadFaultKind}
-use Rattle.stl_rows.specs.declared.fault.LoadFaultKind.TheVariants.{File, Memory}
+use Rattle.stl_rows.specs.declared.fault.LoadFaultKind.TheVariants.{Memory}
 use Rattle.stl_rows.specs.declared.national.National.{National}
+use Rattle.sub_plan.specs.Fault as plan_fault
 use Rattle.sub_plan.specs.Options.{OptionsValue}
 use Rattle.sub_plan.specs.Schedule.{plan, plan_frames}
-use Rattle.sub_plan.specs.declared.fault.PlanFault.TheVariants as plan_fault
-use Rattle.sub_answer.specs.Faults.{load_told, plan_told}
-use Rattle.sub_answer.specs.Listing.{Listing, done}
+use Rattle.sub_plan.specs.declared.fault.PlanFault.{PlanFault}
+use Rattle.sub_plan.specs.declared.fault.PlanFault.TheVariants.{NoSubtitles, Write}
+use Rattle.sub_answer.specs.Faults.{load_told, write_told}
+use Rattle.sub_answer.specs.Listing.{Listing, done, told_listing}
 use Rattle.sub_answer.specs.Told.{line_of}
-use Rattle.sub_answer.specs.declared.status.Status.{Status}
-use Rattle.sub_answer.specs.declared.status.Status.TheVariants.{Done, Refused, Fault}
-use Rattle.sub_answer.specs.declared.writing.End.{End}
-use Rattle.sub_answer.specs.declared.writing.End.TheVariants as end
+use Rattle.sub_answer.specs.declared.answering.normal.InputFault.{InputFault}
+use Rattle.sub_answer.specs.declared.answering.normal.InputFault.TheVariants as input
+use Rattle.sub_answer.specs.declared.writing.WriteFault.{WriteFault}
+use Rattle.sub_answer.specs.declared.writing.WriteFault.TheVariants as write
 
--- The bytes of the file, and what is printed of them.
-pub record Writing : Type 0 where
-  pub file : List ℕ
-  pub listing : Listing
+-- ---- how the work ends, before its line is printed
 
--- The line of a file that was written, with the number of the things in it.
-abbrev pub written_line : ℕ → List ℕ → List ℕ
-written_line count things = codes "written " ++ decimal count ++ things
-
--- A file that is written whole.
-abbrev pub written : List ℕ → ℕ → List ℕ → Writing
-written file count things = record { file = file; listing = done (written_line count things) }
-
--- Nothing is written where the input is refused.
-abbrev pub nothing_written : List ℕ → Writing
-nothing_written line = record { file = []; listing = record { text = line; status = Refused } }
-
--- ---- the work, before its line is printed
-
--- The status that goes with an end.
-abbrev pub end_status : End → Status
-end_status end.Written = Done
-end_status end.Refused = Refused
-end_status _ = Fault
+-- The source failed, of the input of `normal`.
+abbrev pub is_input_read : InputFault → Bool
+is_input_read (input.Read block) = true
+is_input_read input.Memory = false
 
 -- The input failed.
-abbrev pub is_read_end : End → Bool
-is_read_end end.ReadFailed = true
-is_read_end _ = false
+abbrev pub is_read : WriteFault → Bool
+is_read (write.Input f) = is_input_read f
+is_read (write.Load f) = load_fault.is_read f
+is_read _ = false
 
 -- The file failed.
-abbrev pub is_write_end : End → Bool
-is_write_end end.WriteFailed = true
-is_write_end _ = false
+abbrev pub is_write : WriteFault → Bool
+is_write (write.Normal f) = stl_fault.is_write f
+is_write (write.Plan f) = plan_fault.is_write f
+is_write _ = false
 
--- All bytes of the file were written, and the line is made.
-pub record Completes (old new : Option (List ℕ)) (line : List ℕ) (w : Writing) (status : Status) :
-    Type 0 where
-  pub file : Appends old new w.file
-  pub text : line ≡ w.listing.text
-  pub with_status : w.listing.status ≡ status
+-- What is printed: how many things are in the file, or what is told of the fault.
+abbrev pub work_listing : List ℕ → Result ℕ WriteFault → Listing
+work_listing things (Ok count) = done (codes "written " ++ decimal count ++ things)
+work_listing things (Err f) = told_listing (write_told f)
 
--- What the file and the line hold when the work has ended.
-abbrev pub Works : Option (List ℕ) → Option (List ℕ) → List ℕ → Writing → End → Type 0
-Works old new line w end.Written = Completes old new line w Done
-Works old new line w end.Refused = Completes old new line w Refused
-Works old new line w end.ReadFailed = Keeps old new
-Works old new line w end.WriteFailed = AppendsPrefix old new w.file
-Works old new line w end.NoMemory = Keeps old new
+-- What the bytes of the input decide by what the file had and has, and what the input tells before
+-- and after decides where it failed.
+abbrev pub Work : Type 1
+Work = Option (List ℕ) → Option (List ℕ) → Option (List ℕ) → Option (List ℕ)
+    → Result ℕ WriteFault → Type 0
 
--- ---- schedules
+-- ---- `schedule`
 
--- The schedule of a programme with these subtitles, and its line; a programme without any has none.
-abbrev pub schedule_of : List SubtitleValue → ProgrammeValue → OptionsValue → Bool → Writing
-schedule_of [] programme o serial = nothing_written (line_of (plan_told plan_fault.NoSubtitles))
-schedule_of (t ∷ ts) programme o serial =
-    written (plan programme o serial) (length (plan_frames programme o.every))
-    (codes " transmissions\n")
+-- The file has the schedule of a programme, and this is the number of its transmissions; or a
+-- prefix of it, where the file failed; or nothing, where there are no subtitles.
+abbrev pub WritesSchedule :
+    ProgrammeValue → OptionsValue → Bool → Option (List ℕ) → Option (List ℕ)
+    → Result ℕ PlanFault → Type 0
+WritesSchedule programme o serial old new (Ok count) =
+    Appends old new (plan programme o serial)
+    × (count ≡ length (plan_frames programme o.every))
+    × (programme.records ≢ [])
+WritesSchedule programme o serial old new (Err Write) =
+    AppendsPrefix old new (plan programme o serial) × (programme.records ≢ [])
+WritesSchedule programme o serial old new (Err NoSubtitles) =
+    Keeps old new × (programme.records ≡ [])
 
--- The schedule of a file that was loaded, or the line of the fault of loading.
-abbrev pub schedule_writing_of :
-    OptionsValue → Bool → Result ProgrammeValue LoadFault → Writing
-schedule_writing_of o serial (Err fault) =
-    nothing_written (line_of (load_told fault.kind fault.block))
-schedule_writing_of o serial (Ok programme) = schedule_of programme.records programme o serial
-
--- What `schedule` writes and prints of the bytes of a subtitle file.
-abbrev pub schedule_writing : National → OptionsValue → Bool → List ℕ → Writing
-schedule_writing national o serial bytes =
-    schedule_writing_of o serial (loaded national (outcome_of bytes))
-
--- How a fault of loading ends the work.
-abbrev pub load_end : LoadFaultKind → End
-load_end (File Read) = end.ReadFailed
-load_end Memory = end.NoMemory
-load_end _ = end.Refused
-
--- What is printed where a device or memory failed: a read and memory with a TTI block.
-abbrev pub HasScheduleFaultLine
-    : National → Option (List ℕ) → Option (List ℕ) → List ℕ → End → Type 0
-HasScheduleFaultLine national told left line end.ReadFailed =
-    (block : ℕ) × (line ≡ line_of (load_told (File Read) block))
-    × FailsLoading national told left block
-HasScheduleFaultLine national told left line end.WriteFailed =
-    line ≡ line_of (plan_told plan_fault.Write)
-HasScheduleFaultLine national told left line end.NoMemory =
-    (block : ℕ) × (line ≡ line_of (load_told Memory block))
-    × IfTold told (λ bytes. EndsRecord national [] block (outcome_of bytes))
-HasScheduleFaultLine national told left line _ = ⊤
+-- The schedule of the programme that the input gives; or nothing, where it gives none: then it is
+-- told why, and at which block where the source failed.
+abbrev pub Schedules : National → OptionsValue → Bool → Work
+Schedules national o serial told left old new (Ok count) =
+    IfTold told (λ bytes. IsOkAnd (loaded national (outcome_of bytes)) (λ programme.
+    WritesSchedule programme o serial old new (Ok count)))
+Schedules national o serial told left old new (Err (write.Plan f)) =
+    IfTold told (λ bytes. IsOkAnd (loaded national (outcome_of bytes)) (λ programme.
+    WritesSchedule programme o serial old new (Err f)))
+Schedules national o serial told left old new (Err (write.Load f)) =
+    IfTold told (λ bytes. TellsFault national (outcome_of bytes) f.block f.kind)
+    × (load_fault.is_read f ≡ true → FailsLoading national told left f.block)
+    × Keeps old new
+Schedules national o serial told left old new answer = ⊥
 
 -- Want of memory is printed, with the last block of a subtitle that the file gives.
 abbrev pub PrintsMemory :
@@ -120,3 +92,25 @@ abbrev pub PrintsMemory :
 PrintsMemory national told old new =
     (block : ℕ) × Appends old new (line_of (load_told Memory block))
     × IfTold told (λ bytes. EndsRecord national [] block (outcome_of bytes))
+
+-- ---- `normal`
+
+-- One byte more than the longest file has.
+abbrev pub most_read : ℕ
+most_read = 12800897
+
+-- The source failed at a byte of this block, after the bytes that were taken.
+abbrev pub TellsRead : Option (List ℕ) → Option (List ℕ) → InputFault → Type 0
+TellsRead old new (input.Read block) =
+    (bytes : List ℕ) × Consumes old new bytes × (block ≡ block_of_byte (length bytes))
+TellsRead old new input.Memory = ⊤
+
+-- The file has the normal form of the input, or a prefix of it where it failed; or nothing, where
+-- the input is refused or was not read.
+abbrev pub Normalizes : Work
+Normalizes told left old new (Ok count) =
+    IfTold told (λ bytes. NormalAnswers bytes old new (Ok count))
+Normalizes told left old new (Err (write.Normal f)) =
+    IfTold told (λ bytes. NormalAnswers bytes old new (Err f))
+Normalizes told left old new (Err (write.Input f)) = TellsRead told left f × Keeps old new
+Normalizes told left old new answer = ⊥

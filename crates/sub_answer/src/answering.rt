@@ -13,18 +13,15 @@ mod show;
 mod state;
 
 ghost use Rattle.std.specs.Prelude.{◌≡◌, ◌+◌, ◌<◌, false, true};
-ghost use Rattle.sub_io.specs.Device.{CanFail};
 ghost use Rattle.sub_answer.specs.Answering.{Answers, takes_memory};
-ghost use Rattle.sub_answer.specs.DeviceCall.{sink_call, source_call};
+ghost use Rattle.sub_answer.specs.DeviceCall.{CanFail, CountsFault, sink_call, source_call};
 ghost use Rattle.sub_answer.specs.Faults.{usage_told};
 ghost use Rattle.sub_answer.specs.Files.{files_of, reads_one, reads_two, writes_one};
-ghost use Rattle.sub_answer.specs.Listing.{CountsFault, PrintsOrFails};
-ghost use Rattle.sub_answer.specs.Told.{line_of};
+ghost use Rattle.sub_answer.specs.Listing.{PrintsOrFails, told_listing};
 
 use crate::faults::told_of_usage;
-use crate::lines::{Line, push_told};
 use crate::listing::list;
-use crate::printing::print;
+use crate::printing::print_told;
 use crate::request::{Request, UsageFault};
 use crate::status::Status;
 use crate::writing::write;
@@ -34,7 +31,7 @@ use normal::NormalWork;
 use packet::show_packet;
 use packets::PacketLister;
 use schedule::ScheduleWork;
-use show::list_subtitles;
+use show::SubtitleLister;
 use std::alloc::Global;
 use sub_check::ReceiverKind;
 use sub_io::{Flush, Sink, Source};
@@ -72,14 +69,10 @@ pub fn answer<S: Source, T: Source, F: Flush, K: Sink>(
     ensures file { writes_one (files_of request.now) ≡ false → file.new ≡ file.old }
 
     // Each device fails once at most, and not where the status is another than `Fault`.
-    ensures first_count { CountsFault (S.failure_count first.old) result
-        (S.failure_count first.new) }
-    ensures second_count { CountsFault (T.failure_count second.old) result
-        (T.failure_count second.new) }
-    ensures file_count { CountsFault (F.failure_count file.old) result
-        (F.failure_count file.new) }
-    ensures out_count { CountsFault (K.failure_count out.old) result
-        (K.failure_count out.new) }
+    ensures first_count { CountsFault S.failure_count first.old result first.new }
+    ensures second_count { CountsFault T.failure_count second.old result second.new }
+    ensures file_count { CountsFault F.failure_count file.old result file.new }
+    ensures out_count { CountsFault K.failure_count out.old result out.new }
 
     // Where the status is `Done`, a file that is named holds no byte back.
     ensures held { writes_one (files_of request.now) ≡ true
@@ -97,7 +90,7 @@ pub fn answer<S: Source, T: Source, F: Flush, K: Sink>(
     match request {
         Request::Packet { bytes } => show_packet(bytes, out),
         Request::Packets { .. } => list(&mut PacketLister::new(), first, out),
-        Request::Show { .. } => list_subtitles(first, out),
+        Request::Show { .. } => list(&mut SubtitleLister::new(), first, out),
         Request::Schedule {
             options,
             serial,
@@ -109,9 +102,9 @@ pub fn answer<S: Source, T: Source, F: Flush, K: Sink>(
                 serial: *serial,
                 national: *national,
             };
-            write(alloc, &work, first, file, out)
+            write(alloc, &work, b" transmissions\n", first, file, out)
         }
-        Request::Normal { .. } => write(alloc, &NormalWork, first, file, out),
+        Request::Normal { .. } => { write(alloc, &NormalWork, b" subtitles\n", first, file, out) }
         Request::Check {
             options,
             national,
@@ -132,13 +125,10 @@ pub fn answer<S: Source, T: Source, F: Flush, K: Sink>(
 /// The status is `Fault`, also where `out` fails and takes a prefix of the line.
 pub fn say<K: Sink>(fault: &UsageFault, out: &mut K) -> Status
     requires { CanFail (K.failure_count out.old) }
-    ensures printed { PrintsOrFails (K.failure_count out.old) (K.contents out.old)
-        (K.failure_count out.new) (K.contents out.new)
-        (record { text = line_of (usage_told fault.now); status = Status.Fault }) result }
+    ensures printed { PrintsOrFails (sink_call K.contents K.failure_count out.old out.new)
+        (told_listing (usage_told fault.now)) result }
     ensures status { result ≡ Status.Fault }
-    ensures count { CountsFault (K.failure_count out.old) result (K.failure_count out.new) }
+    ensures count { CountsFault K.failure_count out.old result out.new }
 {
-    let mut line = Line::new();
-    push_told(&mut line, &told_of_usage(fault));
-    print(line.as_slice(), Status::Fault, out)
+    print_told(&told_of_usage(fault), out)
 }

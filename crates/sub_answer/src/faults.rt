@@ -1,10 +1,12 @@
 //! What is told of each fault.
 ghost use Rattle.std.specs.Prelude.{◌≡◌};
-ghost use Rattle.sub_answer.specs.Faults.{check_told, load_told, normal_told, pes_told, plan_told};
-ghost use Rattle.sub_answer.specs.Faults.{stl_told, usage_told};
+ghost use Rattle.sub_answer.specs.Faults.{check_told, load_told, pes_told, stl_told, usage_told};
+ghost use Rattle.sub_answer.specs.Faults.{write_told};
 
+use crate::answering::normal::InputFault;
 use crate::request::UsageFault;
 use crate::told::{Kind, Told};
+use crate::writing::WriteFault;
 use stl_file::{NormalFault, StlFault};
 use stl_rows::{LoadFault, LoadFaultKind};
 use sub_check::{CheckFault, FaultPlace};
@@ -39,23 +41,6 @@ pub fn told_of_stl(fault: StlFault, block: u32) -> Told
     )
 }
 
-/// A fault of a normal form that is not written.
-pub fn told_of_normal(fault: NormalFault) -> Told
-    ensures { result ≡ normal_told fault }
-{
-    match fault {
-        NormalFault::Refused { fault, block } => told_of_stl(fault, block),
-        NormalFault::Write => {
-            Told::new(
-                Kind::Fault,
-                fault.number(),
-                fault.name(),
-                FaultPlace::Nowhere,
-            )
-        }
-    }
-}
-
 /// A fault of loading a subtitle file, with the TTI block that it names. One of a text names its
 /// place in it too.
 pub fn told_of_load(fault: LoadFault) -> Told
@@ -69,15 +54,31 @@ pub fn told_of_load(fault: LoadFault) -> Told
     Told::new(kind, fault.kind.number(), fault.kind.name(), place)
 }
 
-/// A fault of a schedule that is not written.
-pub fn told_of_plan(fault: PlanFault) -> Told
-    ensures { result ≡ plan_told fault }
+/// A fault of a file that is not written.
+pub fn told_of_write(fault: WriteFault) -> Told
+    ensures { result ≡ write_told fault }
 {
-    let kind = match fault {
-        PlanFault::NoSubtitles => Kind::Refused,
-        PlanFault::Write => Kind::Fault,
-    };
-    Told::new(kind, fault.number(), fault.name(), FaultPlace::Nowhere)
+    match fault {
+        WriteFault::Input(InputFault::Read { block }) => told_of_stl(StlFault::Read, block),
+        WriteFault::Input(InputFault::Memory) => told_of_usage(&UsageFault::Memory),
+        WriteFault::Load(fault) => told_of_load(fault),
+        WriteFault::Normal(NormalFault::Refused { fault, block }) => told_of_stl(fault, block),
+        WriteFault::Normal(fault) => {
+            Told::new(
+                Kind::Fault,
+                fault.number(),
+                fault.name(),
+                FaultPlace::Nowhere,
+            )
+        }
+        WriteFault::Plan(fault) => {
+            let kind = match fault {
+                PlanFault::NoSubtitles => Kind::Refused,
+                PlanFault::Write => Kind::Fault,
+            };
+            Told::new(kind, fault.number(), fault.name(), FaultPlace::Nowhere)
+        }
+    }
 }
 
 /// A fault of a pair of files: that of one of them, or a refusal.

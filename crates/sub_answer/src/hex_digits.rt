@@ -2,8 +2,8 @@
 //!
 //! A half of a byte is the place of its digit in a table of 16. The digits of the upper halves and
 //! those of the lower ones then take turns.
-ghost use Rattle.std.specs.Prelude.{◌≡◌, ◌/◌, ◌%◌, ◌++◌, length, map, take, drop, slice_index};
-ghost use Rattle.hex.specs.Hex.{encode_lower, encode_with, lower_digits};
+ghost use Rattle.std.specs.Prelude.{◌≡◌, ◌/◌, ◌%◌, map, slice_index};
+ghost use Rattle.hex.specs.Hex.{encode_lower, lower_digits};
 
 use std::simd::prelude::*;
 

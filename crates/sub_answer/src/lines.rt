@@ -31,9 +31,6 @@ pub const LINE_ROOM: usize = 128;
 /// One line.
 pub type Line = ArrayVec<u8, LINE_ROOM>;
 
-/// Frames of a day at 25 a second, of which each has one PES packet at most.
-const FRAMES_OF_DAY: u32 = MOST_PACKETS;
-
 /// Appends a text for which there is room.
 pub fn push_text<const N: usize>(line: &mut ArrayVec<u8, N>, text: &[u8])
     requires { array_vec_len line.old + length text.now ≤ N }
@@ -51,6 +48,16 @@ pub fn push_decimal<const N: usize>(line: &mut ArrayVec<u8, N>, number: u64)
 {
     let mut digits = itoa::Buffer::new();
     push_text(line, digits.format(number).as_bytes());
+}
+
+/// Appends a number in decimal after the word for it.
+pub fn push_number<const N: usize>(line: &mut ArrayVec<u8, N>, word: &[u8], number: u64)
+    requires { array_vec_len line.old + length word.now + NUMBER_ROOM ≤ N }
+    ensures items { line.new.items ≡ line.old.items ++ word.now ++ decimal number }
+    ensures len { array_vec_len line.new ≤ array_vec_len line.old + length word.now + NUMBER_ROOM }
+{
+    push_text(line, word);
+    push_decimal(line, number);
 }
 
 /// Appends a packet's bytes as lower case hexadecimal digits.
@@ -126,8 +133,7 @@ pub fn push_told<const N: usize>(line: &mut ArrayVec<u8, N>, told: &Told)
     requires { array_vec_len line.old + LINE_ROOM ≤ N }
     ensures { line.new.items ≡ line.old.items ++ line_of told.now }
 {
-    push_text(line, text_of_kind(told.kind));
-    push_decimal(line, u64::from(told.number));
+    push_number(line, text_of_kind(told.kind), u64::from(told.number));
     push_text(line, b" ");
     push_text(line, told.name.as_bytes());
     push_place(line, told.place);
@@ -154,34 +160,23 @@ fn push_place<const N: usize>(line: &mut ArrayVec<u8, N>, place: FaultPlace)
 {
     match place {
         FaultPlace::Nowhere => (),
-        FaultPlace::Pes { pes } => push_number(line, b" pes ", pes),
-        FaultPlace::Block { block } => push_number(line, b" block ", block),
+        FaultPlace::Pes { pes } => push_number(line, b" pes ", u64::from(pes)),
+        FaultPlace::Block { block } => push_number(line, b" block ", u64::from(block)),
         FaultPlace::Text { block, at } => {
-            push_number(line, b" block ", block);
-            push_number(line, b" at ", u32::from(at));
+            push_number(line, b" block ", u64::from(block));
+            push_number(line, b" at ", u64::from(at));
         }
         FaultPlace::Frame { frame } => push_frame(line, frame),
         FaultPlace::Packet { frame, packet } => {
             push_frame(line, frame);
-            push_number(line, b" packet ", packet);
+            push_number(line, b" packet ", u64::from(packet));
         }
         FaultPlace::Cell { frame, row, column } => {
             push_frame(line, frame);
-            push_number(line, b" row ", u32::from(row));
-            push_number(line, b" column ", u32::from(column));
+            push_number(line, b" row ", u64::from(row));
+            push_number(line, b" column ", u64::from(column));
         }
     }
-}
-
-// Appends a number after the word for it.
-fn push_number<const N: usize>(line: &mut ArrayVec<u8, N>, word: &[u8], number: u32)
-    requires few { length word.now ≤ 8 }
-    requires room { array_vec_len line.old + 8 + NUMBER_ROOM ≤ N }
-    ensures items { line.new.items ≡ line.old.items ++ word.now ++ decimal number }
-    ensures len { array_vec_len line.new ≤ array_vec_len line.old + 8 + NUMBER_ROOM }
-{
-    push_text(line, word);
-    push_decimal(line, u64::from(number));
 }
 
 // Appends a frame of the day.
@@ -191,5 +186,6 @@ fn push_frame<const N: usize>(line: &mut ArrayVec<u8, N>, frame: u32)
     ensures len { array_vec_len line.new ≡ array_vec_len line.old + 18 }
 {
     push_text(line, b" frame ");
-    push_time(line, TimeCode::of_frame(frame % FRAMES_OF_DAY));
+    // Each frame of a day has one PES packet at most.
+    push_time(line, TimeCode::of_frame(frame % MOST_PACKETS));
 }

@@ -1,11 +1,14 @@
 //! How a file is listed: what is read of it is printed, one piece after the other.
-ghost use Rattle.std.specs.Prelude.{◌≡◌, ℕ, ◌+◌, ◌<◌, [], List, None, Option};
-ghost use Rattle.sub_io.specs.Device.{CanFail, CountsIf};
-ghost use Rattle.sub_answer.specs.DeviceCall.{sink_call, source_call};
-ghost use Rattle.sub_answer.specs.Listing.{CountsFault, Extent, Gives, Listing, PrintsListing};
-ghost use Rattle.sub_answer.specs.Listing.{ends_in_fault};
+ghost use Rattle.std.specs.Prelude.{◌≡◌, ℕ, ◌+◌, ◌<◌, ◌≤◌, ◌++◌, [], None, Some, decimal, length};
+ghost use Rattle.sub_io.specs.Device.{CountsIf};
+ghost use Rattle.sub_answer.specs.DeviceCall.{CanFail, CountsFault, sink_call, source_call};
+ghost use Rattle.sub_answer.specs.Listing.{Gives, IsListed, PrintsListing, has_failed};
+ghost use Rattle.sub_answer.specs.Told.{line_of, status_of};
+ghost use Rattle.sub_answer.specs.declared.status.Status.TheVariants.{Done};
 
+use crate::lines::{push_decimal, push_text, push_told};
 use crate::status::Status;
+use crate::told::Told;
 use arrayvec::ArrayVec;
 use sub_io::{Sink, Source, put_all};
 
@@ -23,9 +26,8 @@ pub trait Lister {
     /// How many pieces it can still give at most.
     ghost pieces: { Self → ℕ };
 
-    /// What may be listed from here on, by what the source tells before and after, and how far it
-    /// is read.
-    ghost lists: { Self → Option (List ℕ) → Option (List ℕ) → Extent → Listing → Type 0 };
+    /// What may be listed from here on.
+    ghost lists: { Self → IsListed };
 
     /// Makes the lines of the next piece. `None` where another may follow, else how the listing
     /// ends.
@@ -37,7 +39,7 @@ pub trait Lister {
             (S.remaining source.old) (S.remaining source.new) text.new.items result }
         ensures ready { result ≡ None → ready self.new }
         ensures fewer { result ≡ None → pieces self.new < pieces self.old }
-        ensures count { CountsIf S.failure_count source.old (ends_in_fault result) source.new };
+        ensures count { CountsIf S.failure_count source.old (has_failed result) source.new };
 }
 
 /// Lists a file, one piece after the other as they are read.
@@ -50,9 +52,8 @@ pub fn list<L: Lister, S: Source, K: Sink>(lister: &mut L, source: &mut S, out: 
     ensures listing { PrintsListing (L.lists lister.old)
         (source_call S.remaining S.failure_count source.old source.new)
         (sink_call K.contents K.failure_count out.old out.new) result }
-    ensures source_count { CountsFault (S.failure_count source.old) result
-        (S.failure_count source.new) }
-    ensures out_count { CountsFault (K.failure_count out.old) result (K.failure_count out.new) }
+    ensures source_count { CountsFault S.failure_count source.old result source.new }
+    ensures out_count { CountsFault K.failure_count out.old result out.new }
     ensures fault { result ≡ Status.Fault
         → S.failure_count source.old + K.failure_count out.old
         < S.failure_count source.new + K.failure_count out.new }
@@ -69,4 +70,26 @@ pub fn list<L: Lister, S: Source, K: Sink>(lister: &mut L, source: &mut S, out: 
             return status;
         }
     }
+}
+
+/// Ends a listing with the line of a fault.
+pub fn end_with(text: &mut Text, told: &Told) -> Option<Status>
+    requires { text.old.items ≡ [] }
+    ensures line { text.new.items ≡ line_of told.now }
+    ensures end { result ≡ Some (status_of told.now.kind) }
+{
+    push_told(text, told);
+    Some(told.status())
+}
+
+/// Ends a listing with the number of things that were listed.
+pub fn end_at(text: &mut Text, count: u32, things: &[u8]) -> Option<Status>
+    requires empty { text.old.items ≡ [] }
+    requires few { length things.now ≤ 32 }
+    ensures line { text.new.items ≡ decimal count ++ things.now }
+    ensures end { result ≡ Some Done }
+{
+    push_decimal(text, u64::from(count));
+    push_text(text, things);
+    Some(Status::Done)
 }

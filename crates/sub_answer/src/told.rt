@@ -1,4 +1,7 @@
 //! What is told of a fault: one line, from which the status follows.
+ghost use Rattle.std.specs.Prelude.{◌≡◌, ◌≤◌, length};
+ghost use Rattle.sub_answer.specs.Told.{ToldValue, status_of, told_as};
+
 use crate::status::Status;
 use std::marker::Model;
 use sub_check::FaultPlace;
@@ -28,9 +31,6 @@ pub struct Told {
 }
 
 impl Model for Told {
-    ghost use Rattle.std.specs.Prelude.{◌≤◌, length};
-    ghost use Rattle.sub_answer.specs.Told.{ToldValue};
-
     ghost Value = { ToldValue };
 
     ghost view = { λ t. record {
@@ -44,9 +44,6 @@ impl Model for Told {
 }
 
 impl Told {
-    ghost use Rattle.std.specs.Prelude.{◌≡◌, ◌≤◌, length};
-    ghost use Rattle.sub_answer.specs.Told.{status_of, told_as};
-
     /// What is told of a fault that has a number and a name.
     pub fn new(kind: Kind, number: u8, name: &'static str, place: FaultPlace) -> Told
         requires { length name.now ≤ 16 }

@@ -1,18 +1,14 @@
 //! `check STL PES`: checks a PES file against a subtitle file.
-ghost use Rattle.std.specs.Prelude.{◌≡◌, []};
-ghost use Rattle.sub_io.specs.Device.{CanFail};
 ghost use Rattle.sub_answer.specs.Answering.{AnswersCheck};
-ghost use Rattle.sub_answer.specs.CheckLines.{verdict};
-ghost use Rattle.sub_answer.specs.DeviceCall.{sink_call, source_call};
-ghost use Rattle.sub_answer.specs.Listing.{CountsFault};
+ghost use Rattle.sub_answer.specs.DeviceCall.{CanFail, CountsFault, sink_call, source_call};
 
 use crate::faults::told_of_check;
-use crate::lines::{Line, push_decimal, push_text, push_told};
-use crate::printing::print;
+use crate::lines::{Line, push_number, push_text};
+use crate::printing::{print_done, print_told};
 use crate::status::Status;
 use std::alloc::Global;
 use stl_rows::National;
-use sub_check::{Accepted, CheckFault, check_files};
+use sub_check::check_files;
 use sub_io::{Sink, Source};
 use sub_plan::Options;
 
@@ -37,35 +33,18 @@ pub fn print_verdict<S: Source, T: Source, K: Sink>(
         (source_call S.remaining S.failure_count stl.old stl.new)
         (source_call T.remaining T.failure_count pes.old pes.new)
         (sink_call K.contents K.failure_count out.old out.new) result }
-    ensures stl_count { CountsFault (S.failure_count stl.old) result (S.failure_count stl.new) }
-    ensures pes_count { CountsFault (T.failure_count pes.old) result (T.failure_count pes.new) }
-    ensures out_count { CountsFault (K.failure_count out.old) result (K.failure_count out.new) }
+    ensures stl_count { CountsFault S.failure_count stl.old result stl.new }
+    ensures pes_count { CountsFault T.failure_count pes.old result pes.new }
+    ensures out_count { CountsFault K.failure_count out.old result out.new }
 {
-    let answer = check_files(alloc, stl, pes, national, options);
-    let mut line = Line::new();
-    let status = push_verdict(&mut line, answer);
-    print(line.as_slice(), status, out)
-}
-
-// Makes the line of the answer of a check, and gives the status that goes with it.
-fn push_verdict(line: &mut Line, answer: Result<Accepted, CheckFault>) -> Status
-    requires { line.old.items ≡ [] }
-    ensures items { line.new.items ≡ (verdict answer).text }
-    ensures status { result ≡ (verdict answer).status }
-{
-    match answer {
+    match check_files(alloc, stl, pes, national, options) {
         Ok(accepted) => {
-            push_text(line, b"accepted ");
-            push_decimal(line, accepted.frames);
-            push_text(line, b" frames ");
-            push_decimal(line, accepted.transmissions);
-            push_text(line, b" transmissions\n");
-            Status::Done
+            let mut line = Line::new();
+            push_number(&mut line, b"accepted ", accepted.frames);
+            push_number(&mut line, b" frames ", accepted.transmissions);
+            push_text(&mut line, b" transmissions\n");
+            print_done(line.as_slice(), out)
         }
-        Err(fault) => {
-            let told = told_of_check(fault);
-            push_told(line, &told);
-            told.status()
-        }
+        Err(fault) => print_told(&told_of_check(fault), out),
     }
 }

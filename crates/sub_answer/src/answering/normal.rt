@@ -1,21 +1,15 @@
 //! `normal IN OUT`: writes the normal form of a subtitle file.
-ghost use Rattle.std.specs.Prelude.{◌≡◌, ◌≢◌, ◌<◌, [], IfErr, IfOk, false, take};
+ghost use Rattle.std.specs.Prelude.{◌≡◌, ◌<◌, IfErr, IfOk, List, OnOk, take, ℕ};
 ghost use Rattle.sub_io.specs.Device.{CanFail, CountsIf, failed};
 ghost use Rattle.sub_io.specs.Reading.{IfTold};
+ghost use Rattle.stl_file.specs.Fault.{is_write};
+ghost use Rattle.stl_file.specs.NormalForm.{NormalAnswers};
 ghost use Rattle.stl_file.specs.Reader.{block_of_byte};
-ghost use Rattle.stl_file.specs.declared.fault.NormalFault.TheVariants.{Write};
-ghost use Rattle.sub_answer.specs.Faults.{normal_told};
-ghost use Rattle.sub_answer.specs.NormalWriting.{HasNormalFaultLine, TellsRead, is_read, most_read};
-ghost use Rattle.sub_answer.specs.NormalWriting.{normal_writing};
-ghost use Rattle.sub_answer.specs.Told.{line_of};
-ghost use Rattle.sub_answer.specs.Writing.{Works, is_read_end, is_write_end};
+ghost use Rattle.sub_answer.specs.Writing.{Normalizes, TellsRead, is_input_read, most_read};
 
-use crate::faults::{told_of_normal, told_of_stl, told_of_usage};
-use crate::lines::{Line, push_told};
-use crate::request::UsageFault;
-use crate::writing::{End, Work, push_written};
+use crate::writing::{Work, WriteFault};
 use std::alloc::{Allocator, Global};
-use stl_file::{NormalFault, StlFault, law_of_files, normal};
+use stl_file::{NormalFault, normal};
 use sub_io::{Flush, Source};
 
 /// One byte more than the longest subtitle file has: a GSI block and 99,999 TTI blocks. No byte
@@ -42,63 +36,39 @@ pub enum InputFault {
 pub struct NormalWork;
 
 impl Work for NormalWork {
-    ghost writing = { λ w. normal_writing };
-
-    ghost fault_line = { λ w. HasNormalFaultLine };
+    ghost works = { λ w. Normalizes };
 
     fn work<S: Source, F: Flush>(
         &self,
         alloc: Global,
         input: &mut S,
         file: &mut F,
-        line: &mut Line,
-    ) -> End {
-        match read_input(alloc, input) {
-            Ok(bytes) => make_of_bytes(bytes.as_slice(), file, line),
-            Err(InputFault::Read { block }) => {
-                push_told(line, &told_of_stl(StlFault::Read, block));
-                End::ReadFailed
-            }
-            Err(InputFault::Memory) => {
-                push_told(line, &told_of_usage(&UsageFault::Memory));
-                End::NoMemory
-            }
+    ) -> Result<u32, WriteFault> {
+        let bytes = match read_input(alloc, input) {
+            Ok(bytes) => bytes,
+            Err(fault) => return Err(WriteFault::Input(fault)),
+        };
+        match put_normal(bytes.as_slice(), file) {
+            Ok(count) => Ok(count),
+            Err(fault) => Err(WriteFault::Normal(fault)),
         }
     }
 }
 
-// Writes the normal form of the bytes of a file, flushes it, and makes the line.
-fn make_of_bytes<F: Flush>(bytes: &[u8], file: &mut F, line: &mut Line) -> End
-    requires file { CanFail (F.failure_count file.old) }
-    requires line { line.old.items ≡ [] }
-    ensures works { Works (F.contents file.old) (F.contents file.new) line.new.items
-        (normal_writing bytes.now) result }
-    ensures line { result ≡ End.WriteFailed → line.new.items ≡ line_of (normal_told Write) }
-    ensures not_read { is_read_end result ≡ false }
-    ensures not_memory { result ≢ End.NoMemory }
-    ensures file_count { CountsIf F.failure_count file.old (is_write_end result) file.new }
-    ensures held { result ≡ End.Written → F.held file.new ≡ 0 }
+// Writes the normal form of the file that has these first bytes, and flushes it.
+fn put_normal<F: Flush>(bytes: &[u8], file: &mut F) -> Result<u32, NormalFault>
+    requires { CanFail (F.failure_count file.old) }
+    ensures answer { (s : List ℕ) → bytes.now ≡ take most_read s
+        → NormalAnswers s (F.contents file.old) (F.contents file.new) result }
+    ensures count { CountsIf F.failure_count file.old (failed is_write result) file.new }
+    ensures held { OnOk result (F.held file.new ≡ 0) }
 {
-    law_of_files();
     match normal(bytes, file) {
         Ok(count) => match file.flush() {
-            Ok(()) => {
-                push_written(line, count, b" subtitles\n");
-                End::Written
-            }
-            Err(_) => {
-                push_told(line, &told_of_normal(NormalFault::Write));
-                End::WriteFailed
-            }
+            Ok(()) => Ok(count),
+            Err(_) => Err(NormalFault::Write),
         },
-        Err(NormalFault::Refused { fault, block }) => {
-            push_told(line, &told_of_stl(fault, block));
-            End::Refused
-        }
-        Err(NormalFault::Write) => {
-            push_told(line, &told_of_normal(NormalFault::Write));
-            End::WriteFailed
-        }
+        Err(fault) => Err(fault),
     }
 }
 
@@ -116,7 +86,7 @@ pub fn read_input<A: Allocator + Drop, S: Source>(
     ensures bytes { IfTold (S.remaining input.old) (λ bytes.
         IfOk result (λ v. v.items ≡ take most_read bytes)) }
     ensures read { IfErr result (TellsRead (S.remaining input.old) (S.remaining input.new)) }
-    ensures count { CountsIf S.failure_count input.old (failed is_read result) input.new }
+    ensures count { CountsIf S.failure_count input.old (failed is_input_read result) input.new }
 {
     let mut bytes = Vec::new(alloc);
     let mut room = [0; PIECE];
@@ -138,14 +108,11 @@ pub fn read_input<A: Allocator + Drop, S: Source>(
     Ok(bytes)
 }
 
-// The block of the byte that stands after `len` bytes: 0 in the GSI block.
+// The block of the byte that stands after `len` bytes: 0 up to 1024 of them, and then one more for
+// each 128.
 fn block_of_byte(len: usize) -> u32
     requires { len < most_read }
     ensures { result ≡ block_of_byte len }
 {
-    if len < 1024 {
-        0
-    } else {
-        ((len - 1024) / 128) as u32 + 1
-    }
+    (len.saturating_sub(1024 - 128) / 128) as u32
 }

@@ -1,15 +1,14 @@
 //! `packet HEX`: shows one packet.
-ghost use Rattle.std.specs.Prelude.{◌≡◌, ◌≢◌, ◌+◌, ◌≤◌, ◌<◌, [], ◌++◌, length, map};
-ghost use Rattle.sub_io.specs.Device.{CanFail};
+ghost use Rattle.std.specs.Prelude.{◌≡◌, ◌+◌, ◌≤◌, [], ◌++◌, IfErr, OnOk, length};
 ghost use Rattle.arrayvec.specs.ArrayVec.{array_vec_len};
-ghost use Rattle.ttx_packet.specs.PageHeader.{header};
+ghost use Rattle.sub_answer.specs.DeviceCall.{CanFail, CountsFault, sink_call};
 ghost use Rattle.sub_answer.specs.Lines.{address_line, control_list, header_line, hex_two, marked};
-ghost use Rattle.sub_answer.specs.Lines.{text_glyph, text_line};
-ghost use Rattle.sub_answer.specs.Listing.{CountsFault, PrintsOrFails, header_listing};
-ghost use Rattle.sub_answer.specs.Listing.{packet_listing, row_listing};
+ghost use Rattle.sub_answer.specs.Lines.{text_line};
+ghost use Rattle.sub_answer.specs.Listing.{PrintsOrFails, done, packet_listing, told_listing};
+ghost use Rattle.sub_answer.specs.declared.told.Kind.TheVariants.{Refused};
 
-use crate::lines::{glyph, push_decimal, push_text, push_told};
-use crate::printing::print;
+use crate::lines::{glyph, push_number, push_text};
+use crate::printing::{print_done, print_told};
 use crate::status::Status;
 use crate::told::{Kind, Told};
 use arrayvec::ArrayVec;
@@ -44,68 +43,39 @@ const HEX_DIGITS: [u8; 16] = *b"0123456789ABCDEF";
 /// Refuses a packet that has no address, or whose header means nothing.
 pub fn show_packet<K: Sink>(bytes: &[u8; 42], out: &mut K) -> Status
     requires { CanFail (K.failure_count out.old) }
-    ensures printed { PrintsOrFails (K.failure_count out.old) (K.contents out.old)
-        (K.failure_count out.new) (K.contents out.new) (packet_listing bytes.now) result }
-    ensures count { CountsFault (K.failure_count out.old) result (K.failure_count out.new) }
+    ensures printed { PrintsOrFails (sink_call K.contents K.failure_count out.old out.new)
+        (packet_listing bytes.now) result }
+    ensures count { CountsFault K.failure_count out.old result out.new }
     ensures fault { result ≡ Status.Fault → K.failure_count out.new ≡ K.failure_count out.old + 1 }
 {
     let mut text = Text::new();
-    let status = push_packet(&mut text, &Packet::new(*bytes));
-    print(text.as_slice(), status, out)
-}
-
-// Appends what is printed of a packet, and gives the status that goes with it.
-fn push_packet(text: &mut Text, packet: &Packet) -> Status
-    requires { text.old.items ≡ [] }
-    ensures text { text.new.items ≡ (packet_listing packet.now).text }
-    ensures status { result ≡ (packet_listing packet.now).status }
-    ensures fine { result ≢ Status.Fault }
-{
-    match packet.address() {
-        None => {
-            push_told(
-                text,
-                &Told::new(Kind::Refused, 3, "BadAddress", FaultPlace::Nowhere),
-            );
-            Status::Refused
-        }
-        Some((magazine, 0)) => push_page_header(text, packet, magazine),
-        Some((magazine, packet_number)) => push_row(text, packet, magazine, packet_number),
+    match push_packet(&mut text, &Packet::new(*bytes)) {
+        Ok(()) => print_done(text.as_slice(), out),
+        Err(told) => print_told(&told, out),
     }
 }
 
-// Appends what is printed of packet X/0.
-fn push_page_header(text: &mut Text, packet: &Packet, magazine: u8) -> Status
+// Appends what is printed of a packet.
+fn push_packet(text: &mut Text, packet: &Packet) -> Result<(), Told>
     requires { text.old.items ≡ [] }
-    ensures text { text.new.items ≡ (header_listing magazine packet.now (header packet.now)).text }
-    ensures status { result ≡ (header_listing magazine packet.now (header packet.now)).status }
-    ensures fine { result ≢ Status.Fault }
+    ensures ok { OnOk result (packet_listing packet.now ≡ done text.new.items) }
+    ensures err { IfErr result (λ told. (packet_listing packet.now ≡ told_listing told)
+        × (told.kind ≡ Refused)) }
 {
-    let Some(header) = packet.header() else {
-        push_told(
-            text,
-            &Told::new(Kind::Refused, 4, "BadHeader", FaultPlace::Nowhere),
-        );
-        return Status::Refused;
+    let Some((magazine, packet_number)) = packet.address() else {
+        return Err(Told::new(Kind::Refused, 3, "BadAddress", FaultPlace::Nowhere));
     };
-    push_address(text, magazine, 0);
-    push_header(text, &header);
-    push_text_line(text, packet.bytes().split_at(10).1);
-    Status::Done
-}
-
-// Appends what is printed of packets X/1 to X/31.
-fn push_row(text: &mut Text, packet: &Packet, magazine: u8, packet_number: u8) -> Status
-    requires { text.old.items ≡ [] }
-    ensures text { text.new.items ≡ (row_listing magazine packet_number packet.now).text }
-    ensures status { result ≡ (row_listing magazine packet_number packet.now).status }
-    ensures fine { result ≢ Status.Fault }
-{
     push_address(text, magazine, packet_number);
-    if packet_number <= 24 {
+    if packet_number == 0 {
+        let Some(header) = packet.header() else {
+            return Err(Told::new(Kind::Refused, 4, "BadHeader", FaultPlace::Nowhere));
+        };
+        push_header(text, &header);
+        push_text_line(text, packet.bytes().split_at(10).1);
+    } else if packet_number <= 24 {
         push_text_line(text, packet.data());
     }
-    Status::Done
+    Ok(())
 }
 
 // Appends a packet's address as a line.
@@ -114,11 +84,9 @@ fn push_address(line: &mut Text, magazine: u8, packet_number: u8)
     ensures items { line.new.items ≡ line.old.items ++ address_line magazine packet_number }
     ensures len { array_vec_len line.new ≤ array_vec_len line.old + ADDRESS_ROOM }
 {
-    push_text(line, b"magazine ");
     let shown_magazine = if magazine == 0 { 8 } else { magazine };
-    push_decimal(line, u64::from(shown_magazine));
-    push_text(line, b" packet ");
-    push_decimal(line, u64::from(packet_number));
+    push_number(line, b"magazine ", u64::from(shown_magazine));
+    push_number(line, b" packet ", u64::from(packet_number));
     push_text(line, b"\n");
 }
 
@@ -194,18 +162,12 @@ fn push_text_line(line: &mut Text, bytes: &[u8])
 {
     push_text(line, b"text |");
     for byte in bytes {
-        line.push(text_glyph(*byte));
+        // A byte of even parity means nothing.
+        line.push(if is_odd(*byte) {
+            glyph(*byte % 128)
+        } else {
+            b'?'
+        });
     }
     push_text(line, b"|\n");
-}
-
-// The character of a text byte.
-fn text_glyph(byte: u8) -> u8
-    ensures { result ≡ text_glyph byte }
-{
-    if is_odd(byte) {
-        glyph(byte % 128)
-    } else {
-        b'?'
-    }
 }

@@ -3,14 +3,14 @@ ghost use Rattle.std.specs.Prelude.{◌≡◌, ◌+◌, ◌-◌, ◌≤◌, ◌+
 ghost use Rattle.arrayvec.specs.ArrayVec.{array_vec_len};
 ghost use Rattle.ttx_pes.specs.Reading.{most_packets};
 ghost use Rattle.ttx_pes.specs.declared.progress.Progress.TheVariants.{Reading};
-ghost use Rattle.sub_answer.specs.Lines.{pes_line, unit_line};
+ghost use Rattle.sub_answer.specs.Lines.{unit_line};
 ghost use Rattle.sub_answer.specs.Listing.{Lists};
 ghost use Rattle.sub_answer.specs.PacketsListing.{ReadsPackets, frame_lines, packets_from};
 ghost use Rattle.sub_answer.specs.PacketsListing.{pes_listing};
 
 use crate::faults::told_of_pes;
-use crate::lines::{push_decimal, push_lower_hex, push_text, push_told};
-use crate::listing::{Lister, PIECE, Text};
+use crate::lines::{push_lower_hex, push_number, push_text};
+use crate::listing::{Lister, PIECE, Text, end_at, end_with};
 use crate::status::Status;
 use sub_io::Source;
 use ttx_pes::{MOST_UNITS, PesFrame, PesReader, Unit};
@@ -52,16 +52,8 @@ impl Lister for PacketLister {
                 self.index += 1;
                 None
             }
-            Ok(false) => {
-                push_decimal(text, u64::from(self.index));
-                push_text(text, b" pes\n");
-                Some(Status::Done)
-            }
-            Err(fault) => {
-                let told = told_of_pes(fault, self.index);
-                push_told(text, &told);
-                Some(told.status())
-            }
+            Ok(false) => end_at(text, self.index, b" pes\n"),
+            Err(fault) => end_with(text, &told_of_pes(fault, self.index)),
         }
     }
 }
@@ -80,24 +72,13 @@ fn push_frame(text: &mut Text, index: u32, frame: &PesFrame)
     requires { text.old.items ≡ [] }
     ensures { text.new.items ≡ frame_lines index frame.now }
 {
-    push_pes(text, index, frame.pts());
+    push_number(text, b"pes ", u64::from(index));
+    push_number(text, b" pts ", frame.pts());
+    push_text(text, b"\n");
     let units = frame.units();
     for number in 0..units.len() {
         push_unit(text, number, &units[number]);
     }
-}
-
-// Appends the line of a PES packet.
-fn push_pes(text: &mut Text, index: u32, pts: u64)
-    requires { text.old.items ≡ [] }
-    ensures items { text.new.items ≡ pes_line index pts }
-    ensures len { array_vec_len text.new ≤ PES_LINE }
-{
-    push_text(text, b"pes ");
-    push_decimal(text, u64::from(index));
-    push_text(text, b" pts ");
-    push_decimal(text, pts);
-    push_text(text, b"\n");
 }
 
 // Appends the line of a Teletext unit: its fields, and its packet in Teletext's own order of bits.
@@ -106,14 +87,10 @@ fn push_unit(text: &mut Text, number: usize, unit: &Unit)
     ensures items { text.new.items ≡ text.old.items ++ unit_line number unit.now }
     ensures len { array_vec_len text.new ≤ array_vec_len text.old + UNIT_LINE }
 {
-    push_text(text, b"unit ");
-    push_decimal(text, number as u64);
-    push_text(text, b" id 0");
-    push_decimal(text, u64::from(unit.id()));
-    push_text(text, b" field ");
-    push_decimal(text, u64::from(unit.field()));
-    push_text(text, b" line ");
-    push_decimal(text, u64::from(unit.line()));
+    push_number(text, b"unit ", number as u64);
+    push_number(text, b" id 0", u64::from(unit.id()));
+    push_number(text, b" field ", u64::from(unit.field()));
+    push_number(text, b" line ", u64::from(unit.line()));
     push_text(text, b" ");
     push_lower_hex(text, unit.packet().bytes());
     push_text(text, b"\n");

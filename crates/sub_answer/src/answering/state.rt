@@ -1,17 +1,17 @@
 //! What is printed of a receiver with a screen.
-ghost use Rattle.std.specs.Prelude.{◌≡◌, IfSome, ◌+◌, ◌*◌, ◌≤◌, ◌<◌, ◌++◌, ◌==◌, map, length};
+ghost use Rattle.std.specs.Prelude.{◌≡◌, IfSome, ◌+◌, ◌*◌, ◌≤◌, ◌<◌, ◌++◌, ◌==◌};
 ghost use Rattle.std.specs.List.{list_all};
-ghost use Rattle.sub_io.specs.Device.{CanFail};
 ghost use Rattle.arrayvec.specs.ArrayVec.{array_vec_len};
 ghost use Rattle.ttx_page.specs.Page.{IsPage, space};
+ghost use Rattle.sub_answer.specs.DeviceCall.{CanFail, CountsFault, sink_call};
 ghost use Rattle.sub_answer.specs.Lines.{glyph};
-ghost use Rattle.sub_answer.specs.Listing.{CountsFault, PrintsOrFails, done};
+ghost use Rattle.sub_answer.specs.Listing.{PrintsOrFails, done};
 ghost use Rattle.ttx_page.specs.Screen.{display};
-ghost use Rattle.sub_answer.specs.StateText.{IsSeenWhole, display_text, open_line, page_text};
-ghost use Rattle.sub_answer.specs.StateText.{row_text, rows_text, seen_page, seen_text};
+ghost use Rattle.sub_answer.specs.ListenListing.{IsSeenWhole, display_text, page_text, row_text};
+ghost use Rattle.sub_answer.specs.ListenListing.{seen_page, seen_text};
 
 use crate::lines::{LINE_ROOM, glyph, push_text, push_two_digits};
-use crate::printing::print;
+use crate::printing::print_done;
 use crate::status::Status;
 use arrayvec::ArrayVec;
 use sub_io::Sink;
@@ -43,38 +43,25 @@ pub fn print_state<R: Receiver, K: Sink>(
     out: &mut K,
 ) -> Status
     requires { CanFail (K.failure_count out.old) }
-    ensures printed { PrintsOrFails (K.failure_count out.old) (K.contents out.old)
-        (K.failure_count out.new) (K.contents out.new)
+    ensures printed { PrintsOrFails (sink_call K.contents K.failure_count out.old out.new)
         (done (display_text asks_complete (display (R.state receiver.now) screen.now))) result }
     ensures page { IsSeenWhole asks_complete (display (R.state receiver.now) screen.now) }
-    ensures count { CountsFault (K.failure_count out.old) result (K.failure_count out.new) }
-    ensures fault { result ≡ Status.Fault
-        → K.failure_count out.old < K.failure_count out.new }
+    ensures count { CountsFault K.failure_count out.old result out.new }
+    ensures fault { result ≡ Status.Fault → K.failure_count out.old < K.failure_count out.new }
 {
     let mut text = Text::new();
-    push_state(&mut text, receiver, screen, asks_complete);
-    print(text.as_slice(), Status::Done, out)
-}
-
-// Appends what a receiver has heard and what is seen of it.
-fn push_state<R: Receiver>(
-    text: &mut Text,
-    receiver: &R,
-    screen: &Option<Page>,
-    asks_complete: bool,
-)
-    requires { array_vec_len text.old ≡ 0 }
-    ensures items { text.new.items ≡ text.old.items
-        ++ display_text asks_complete (display (R.state receiver.now) screen.now) }
-    ensures page { IsSeenWhole asks_complete (display (R.state receiver.now) screen.now) }
-{
     if receiver.heard() {
-        push_text(text, b"heard yes\n");
-        push_text(text, open_text(receiver.open()));
-        push_seen(text, receiver, screen, asks_complete);
+        push_text(&mut text, b"heard yes\n");
+        if receiver.open() {
+            push_text(&mut text, b"open yes\n");
+        } else {
+            push_text(&mut text, b"open no\n");
+        }
+        push_seen(&mut text, receiver, screen, asks_complete);
     } else {
-        push_text(text, b"heard no\n");
+        push_text(&mut text, b"heard no\n");
     }
+    print_done(text.as_slice(), out)
 }
 
 // Appends the lines of the page that a receiver holds, or of its screen.
@@ -94,37 +81,20 @@ fn push_seen<R: Receiver>(text: &mut Text, receiver: &R, screen: &Option<Page>, 
     }
 }
 
-// Whether the page is open.
-fn open_text(is_open: bool) -> &'static [u8]
-    ensures value { result.now ≡ open_line is_open }
-    ensures len { length result.now ≤ 9 }
-{
-    if is_open { b"open yes\n" } else { b"open no\n" }
-}
-
-// Appends the lines of a page.
+// Appends the lines of the rows of a page that hold a cell other than a space.
 fn push_page(text: &mut Text, page: &Page)
     requires { array_vec_len text.old + ROWS_ROOM ≤ STATE_ROOM }
     ensures items { text.new.items ≡ text.old.items ++ page_text page.now }
     ensures page { IsPage page.now }
 {
     let mut rows = Rows::new();
-    push_rows(&mut rows, page);
+    for i in 0..24u8 {
+        push_row(&mut rows, i + 1, page.row(i + 1));
+    }
     if rows.len() == 0 {
         push_text(text, b"blank\n");
     } else {
         push_text(text, rows.as_slice());
-    }
-}
-
-// Appends the lines of the rows that hold a cell other than a space.
-fn push_rows(rows: &mut Rows, page: &Page)
-    requires { array_vec_len rows.old ≡ 0 }
-    ensures items { rows.new.items ≡ rows.old.items ++ rows_text 24 page.now }
-    ensures page { IsPage page.now }
-{
-    for i in 0..24u8 {
-        push_row(rows, i + 1, page.row(i + 1));
     }
 }
 

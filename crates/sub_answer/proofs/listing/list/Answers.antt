@@ -4,7 +4,7 @@ use Rattle.std.proofs.Common.{◌≡◌, ◌∙◌, ◌+◌, ap, arith, if◌the
 use Rattle.std.specs.Io.KnownBytes.{Appends}
 use Rattle.sub_io.specs.Device.{AppendsPrefix}
 use Rattle.sub_answer.specs.DeviceCall.{sink_call, source_call}
-use Rattle.sub_answer.specs.Listing.{ends_in_fault}
+use Rattle.sub_answer.specs.Listing.{has_failed}
 use Rattle.sub_answer.proofs.ListingLemmas.{front-cut, front-end, front-more, front-none}
 use Rattle.sub_answer.proofs.listing.list.Goals as goal
 
@@ -33,7 +33,7 @@ returns-in-Err-clause-listing g c =
     c.as_slice.ensures.value c.in-Err.ensures.bytes)
     risen
     (c.next-end.ensures.count
-    ∙ ap (λ (n : ℕ). n + (if ends_in_fault c.next-end.result then 1 else 0)) before.source)
+    ∙ ap (λ (n : ℕ). n + (if has_failed c.next-end.result then 1 else 0)) before.source)
 
 pub returns-in-Some-clause-listing : goal.returns-in-Some-clause-listing
 returns-in-Some-clause-listing g c =
@@ -53,7 +53,7 @@ returns-in-Some-clause-listing g c =
     c.as_slice.ensures.value c.in-Ok.ensures.bytes)
     kept
     (c.in-Some.ensures.count
-    ∙ ap (λ (n : ℕ). n + (if ends_in_fault (Some status) then 1 else 0)) before.source)
+    ∙ ap (λ (n : ℕ). n + (if has_failed (Some status) then 1 else 0)) before.source)
 
 pub pieces-preserved : goal.pieces-preserved
 pieces-preserved g c =

@@ -4,7 +4,7 @@ use Rattle.ttx_page.specs.Screen.{display}
 use Rattle.sub_check.specs.ListeningRun.{is_read}
 use Rattle.sub_answer.specs.ListenListing.{listing_of}
 use Rattle.sub_answer.proofs.ListenListingLemmas.{listens_from}
-use Rattle.sub_answer.proofs.WritingLemmas.{did_not_rise, did_rise}
+use Rattle.sub_answer.proofs.PrintingLemmas.{did_not_rise, did_rise}
 use Rattle.sub_answer.proofs.answering.listen.print_listening.Goals as goal
 
 pub returns-in-Ok-clause-exact : goal.returns-in-Ok-clause-exact
@@ -37,12 +37,12 @@ returns-clause-exact g c = record {
         c.old_page.ensures
         (c.in-Err.ensures.exact frames unread bytes told reads
         (did_not_rise (is_read c.in-Err.fault) _ _ c.in-Err.ensures.count same)) tt,
-    c.print_fault.ensures.printed,
+    rw c.told_of_listen.ensures at c.print_told.ensures.printed,
   );
   read = λ other. (
     c.in-Err.fault,
     c.in-Err.ensures.failed
         (did_rise (is_read c.in-Err.fault) _ _ c.in-Err.ensures.count other),
-    c.print_fault.ensures.printed,
+    rw c.told_of_listen.ensures at c.print_told.ensures.printed,
   );
 }

@@ -2,7 +2,7 @@
 use Rattle.std.proofs.Common.{◌≡◌, ◌≤◌, ◌-◌}
 use Rattle.std.specs.Prelude.{vec_len}
 use Rattle.std.specs.Io.KnownBytes.{Consumes}
-use Rattle.sub_answer.specs.NormalWriting.{most_read}
+use Rattle.sub_answer.specs.Writing.{most_read}
 use Rattle.sub_answer.proofs.answering.normal.read_input.Given as goal
 
 abbrev pub invariant-pieces : goal.invariant-pieces

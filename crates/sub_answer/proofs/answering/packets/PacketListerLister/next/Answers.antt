@@ -1,17 +1,14 @@
--- The lines of one PES packet more, and the last ones: gives-next, packets_from-next.
-use Rattle.std.proofs.Common.{◌≡◌, ◌∙◌, ◌-◌, ◌+◌, ◌++◌, ap, codes, decimal, refl, rules, sym}
-use Rattle.std.proofs.Common.{Bool, List, Ok, Result, Some, false, true, ℕ}
+-- The lines of one PES packet more, and the last ones: gives-next, gives-last, packets_from-next.
+use Rattle.std.proofs.Common.{◌≡◌, ◌∙◌, ◌-◌, ◌+◌, ap, refl, rules, sym, Bool, Err, None, Ok, Result}
+use Rattle.std.proofs.Common.{Some, false, true}
+use Rattle.ttx_pes.specs.Fault.{is_read}
 use Rattle.ttx_pes.specs.Reader.{given_frame}
 use Rattle.ttx_pes.specs.Reading.{most_packets, rest_after}
 use Rattle.ttx_pes.specs.declared.fault.PesFault.{PesFault}
-use Rattle.sub_answer.specs.Faults.{pes_told}
-use Rattle.sub_answer.specs.Listing.{ends_in_fault, followed}
-use Rattle.sub_answer.specs.PacketsListing.{ReadsPackets, answer_then, ends, fails, gives}
-use Rattle.sub_answer.specs.PacketsListing.{packets_from, pes_listing}
-use Rattle.sub_answer.specs.Told.{line_of, status_of}
-use Rattle.sub_answer.specs.declared.status.Status.{Status}
-use Rattle.sub_answer.proofs.ListingLemmas.{gives-next, packets_from-next, pes-failed}
-use Rattle.sub_answer.proofs.ListingLemmas.{same-listing}
+use Rattle.sub_answer.specs.Listing.{followed}
+use Rattle.sub_answer.specs.PacketsListing.{ReadsPackets, ends, fails, gives, packets_from}
+use Rattle.sub_answer.specs.PacketsListing.{pes_listing}
+use Rattle.sub_answer.proofs.ListingLemmas.{gives-last, gives-next, packets_from-next, pes-failed}
 use Rattle.sub_answer.proofs.answering.packets.PacketListerLister.next.Goals as goal
 
 pub returns-in-Ok-true-clause-gives : goal.returns-in-Ok-true-clause-gives
@@ -29,9 +26,7 @@ returns-in-Ok-true-clause-gives g c =
     (λ bytes told. (
       rest_after bytes,
       rw is at (c.next_into.ensures.left index c.requires.ready.0 bytes told),
-      packets_from-next index bytes c.requires.ready.1
-          ∙ ap (λ a. answer_then a (packets_from (most_packets - (index + 1)) (index + 1)
-          (rest_after bytes)))
+      packets_from-next index bytes (Ok (Some frame)) c.requires.ready.1
           (c.next_into.ensures.exact index c.requires.ready.0 bytes told (rw is refl)
           ∙ ap (λ (r : Result Bool PesFault). given_frame r frame) is),
     ))
@@ -41,42 +36,24 @@ pub returns-in-Ok-false-clause-gives : goal.returns-in-Ok-false-clause-gives
 returns-in-Ok-false-clause-gives g c =
     let index = c.args.self.now.index in
     let is : c.next_into.result ≡ Ok false = cc in
-    let number : c.push_decimal.new.line.items ≡ decimal index =
-    c.push_decimal.ensures.items
-    ∙ ap (λ (xs : List ℕ). xs ++ decimal c.from.result) c.requires.empty
-    ∙ ap (λ (n : ℕ). decimal n) c.from.ensures in
-    let text = c.push_text.ensures.items ∙ ap (λ (xs : List ℕ). xs ++ codes " pes\n") number in
-    record {
-      outcome = ends;
-      listing_is = same-listing _ _ _ _ text refl;
-      exact = λ bytes told ok.
-          sym (packets_from-next index bytes c.requires.ready.1
-          ∙ ap (λ a. answer_then a (packets_from (most_packets - (index + 1)) (index + 1)
-          (rest_after bytes)))
-          (c.next_into.ensures.exact index c.requires.ready.0 bytes told (rw is refl)
-          ∙ ap (λ (r : Result Bool PesFault). given_frame r c.next_into.new.frame) is));
-      taken = λ other. refl;
-    }
+    rw c.end_at.ensures.end
+    (gives-last _ (pes_listing index) (packets_from (most_packets - index) index) ReadsPackets _ _
+    ends _ false c.end_at.ensures.line refl
+    (λ bytes told ok.
+    sym (packets_from-next index bytes (Ok None) c.requires.ready.1
+    (c.next_into.ensures.exact index c.requires.ready.0 bytes told (rw is refl)
+    ∙ ap (λ (r : Result Bool PesFault). given_frame r c.next_into.new.frame) is)))
+    refl)
 
 pub returns-in-Err-clause-gives : goal.returns-in-Err-clause-gives
 returns-in-Err-clause-gives g c =
     let index = c.args.self.now.index in
     let f = c.in-Err.fault in
-    let text : c.push_told.new.line.items ≡ line_of (pes_told f index) = search rules in
-    let status = c.status.ensures ∙ ap (λ t. status_of t.kind) c.told_of_pes-told.ensures in
-    let failed = ap (λ (s : Status). ends_in_fault (Some s)) (sym status) in
-    record {
-      outcome = fails f;
-      listing_is = same-listing _ _ _ _ text status;
-      exact = λ bytes told ok.
-          sym (packets_from-next index bytes c.requires.ready.1
-          ∙ ap (λ a. answer_then a (packets_from (most_packets - (index + 1)) (index + 1)
-          (rest_after bytes)))
-          (c.in-Err.ensures.exact index c.requires.ready.0 bytes told
-          (sym (pes-failed f) ∙ failed ∙ ok)));
-      taken = λ other. (
-        sym (pes-failed f) ∙ failed,
-        λ e. c.in-Err.ensures.failed (sym (pes-failed f) ∙ failed ∙ e),
-        c.in-Err.ensures.refused,
-      );
-    }
+    let end : c.end_with.result ≡ Some (pes_listing index (fails f)).status = search rules in
+    rw end
+    (gives-last _ (pes_listing index) (packets_from (most_packets - index) index) ReadsPackets _ _
+    (fails f) c.end_with.new.text.items (is_read f) (search rules) (pes-failed f)
+    (λ bytes told ok.
+    sym (packets_from-next index bytes (Err f) c.requires.ready.1
+    (c.in-Err.ensures.exact index c.requires.ready.0 bytes told ok)))
+    (refl, c.in-Err.ensures.failed, c.in-Err.ensures.refused))

@@ -1,48 +1,65 @@
--- The line of one subtitle more, and the last one: gives-next; a subtitle takes a block or more,
--- block-rises.
-use Rattle.std.proofs.Common.{◌≡◌, ◌∙◌, ◌+◌, ◌++◌, ap, arith, codes, decimal, refl, rules, sym}
-use Rattle.std.proofs.Common.{Some}
+-- The GSI block, the line of one subtitle more, and the last one: gives-opened, gives-next,
+-- gives-last; a subtitle takes a block or more, block-rises.
+use Rattle.std.proofs.Common.{◌≡◌, ◌∙◌, ◌+◌, ap, arith, refl, rules, sym, None, Some, false}
+use Rattle.stl_file.specs.Fault.{is_read}
 use Rattle.stl_file.specs.Reader.{outcome_left}
 use Rattle.stl_file.specs.Reading.{ends, fails, gives}
 use Rattle.stl_file.specs.declared.progress.Progress.TheVariants.{Reading}
-use Rattle.std.proofs.Common.{List, ℕ}
-use Rattle.sub_answer.specs.Faults.{stl_told}
-use Rattle.sub_answer.specs.Listing.{ends_in_fault, followed}
+use Rattle.sub_answer.specs.Faults.{stl_kind}
+use Rattle.sub_answer.specs.Lines.{subtitle_line}
+use Rattle.sub_answer.specs.Listing.{followed}
 use Rattle.sub_answer.specs.ShowListing.{ReadsSubtitles, subtitles_listing}
-use Rattle.sub_answer.specs.Told.{line_of, status_of}
-use Rattle.sub_answer.specs.declared.status.Status.{Status}
-use Rattle.sub_answer.proofs.ListingLemmas.{block-rises, gives-next, same-listing, stl-failed}
+use Rattle.sub_answer.specs.Told.{status_of}
+use Rattle.sub_answer.proofs.ListingLemmas.{block-rises, gives-last, gives-next, gives-opened}
+use Rattle.sub_answer.proofs.ListingLemmas.{gives-refused, stl-failed}
 use Rattle.sub_answer.proofs.answering.show.SubtitleListerLister.next.Goals as goal
+
+pub returns-in-Ok-clause-gives : goal.returns-in-Ok-clause-gives
+returns-in-Ok-clause-gives g c =
+    let none : c.args.self.now.reader ≡ None = search rules in
+    rw (none, c.requires.empty)
+    (gives-opened c.args.self.now.count c.in-Ok.reader _ _ c.in-Ok.ensures.start.0
+    c.in-Ok.ensures.taken.0 c.in-Ok.ensures.taken.1 c.in-Ok.ensures.left
+    (λ bytes told. c.in-Ok.ensures.exact bytes told refl))
+
+pub returns-in-Err-clause-gives : goal.returns-in-Err-clause-gives
+returns-in-Err-clause-gives g c =
+    let none : c.args.self.now.reader ≡ None = search rules in
+    let end : c.end_with.result ≡ Some (status_of (stl_kind c.in-Err.fault)) = search rules in
+    rw (none, end)
+    (gives-refused c.args.self.now.count c.in-Err.fault _ _ c.end_with.new.text.items
+    (search rules) c.in-Err.ensures.exact c.in-Err.ensures.failed c.in-Err.ensures.refused)
 
 pub returns-in-Ok-Some-clause-gives : goal.returns-in-Ok-Some-clause-gives
 returns-in-Ok-Some-clause-gives g c =
     let count = c.args.self.now.count in
+    let old = c.in-Some.reader in
     let new = c.next.new.self in
-    gives-next _ (subtitles_listing count) (subtitles_listing (count + 1))
-    (outcome_left c.args.self.now.reader) (outcome_left new)
-    (λ failed. ReadsSubtitles failed c.args.self.now.reader.block)
+    let ready = rw c.in-Some.is at c.requires.ready in
+    let line : subtitle_line c.in-Ok-Some.subtitle ≡ c.push_subtitle.new.text.items =
+    search rules in
+    rw c.in-Some.is
+    (gives-next _ (subtitles_listing count) (subtitles_listing (count + 1))
+    (outcome_left old) (outcome_left new)
+    (λ failed. ReadsSubtitles failed old.block)
     (λ failed. ReadsSubtitles failed new.block)
     (gives c.in-Ok-Some.subtitle new.block) _ _ c.push_subtitle.new.text.items
-    (λ o. ap (λ t. followed t (subtitles_listing (count + 1) o))
-    (sym c.push_subtitle.ensures.items))
-    (λ o failed end reads. (
-      _,
-      rw c.in-Ok-Some.field-0-is at (c.in-Ok-Some.ensures.subtitle c.requires.ready.0),
-      reads,
-    ))
+    (λ o. ap (λ t. followed t (subtitles_listing (count + 1) o)) line)
+    (λ o failed end reads.
+    (_, rw c.in-Ok-Some.field-0-is at (c.in-Ok-Some.ensures.subtitle ready.0), reads))
     (λ bytes told.
     let answers = rw c.in-Ok-Some.field-0-is at (c.in-Ok-Some.ensures.exact bytes told refl) in
     (answers.rest, answers.rest_is, answers.outcome))
-    ends
+    ends)
 
 pub returns-in-Ok-Some-clause-ready : goal.returns-in-Ok-Some-clause-ready
 returns-in-Ok-Some-clause-ready g c = λ none.
-    let taken =
-    rw c.in-Ok-Some.field-0-is at (c.in-Ok-Some.ensures.subtitle c.requires.ready.0) in
+    let ready = rw c.in-Some.is at c.requires.ready in
+    let taken = rw c.in-Ok-Some.field-0-is at (c.in-Ok-Some.ensures.subtitle ready.0) in
     let rises = block-rises _ _ _ _ _ taken in
-    let few = c.requires.ready.1 in
+    let few = ready.1 in
     let progress : c.next.new.self.progress ≡ Reading =
-    rw c.in-Ok-Some.field-0-is at c.in-Ok-Some.ensures.progress ∙ c.requires.ready.0 in (
+    rw c.in-Ok-Some.field-0-is at c.in-Ok-Some.ensures.progress ∙ ready.0 in (
       progress,
       omega (arith, rises, few),
       rw progress at c.in-Ok-Some.ensures.place,
@@ -50,51 +67,35 @@ returns-in-Ok-Some-clause-ready g c = λ none.
 
 pub returns-in-Ok-Some-clause-fewer : goal.returns-in-Ok-Some-clause-fewer
 returns-in-Ok-Some-clause-fewer g c = λ none.
-    let taken =
-    rw c.in-Ok-Some.field-0-is at (c.in-Ok-Some.ensures.subtitle c.requires.ready.0) in
+    let ready = rw c.in-Some.is at c.requires.ready in
+    let taken = rw c.in-Ok-Some.field-0-is at (c.in-Ok-Some.ensures.subtitle ready.0) in
     let rises = block-rises _ _ _ _ _ taken in
     let progress : c.next.new.self.progress ≡ Reading =
-    rw c.in-Ok-Some.field-0-is at c.in-Ok-Some.ensures.progress ∙ c.requires.ready.0 in
+    rw c.in-Ok-Some.field-0-is at c.in-Ok-Some.ensures.progress ∙ ready.0 in
     let most = rw progress at c.in-Ok-Some.ensures.place in
-    omega (arith, rises, most)
+    rw c.in-Some.is (omega (arith, rises, most))
 
 pub returns-in-Ok-None-clause-gives : goal.returns-in-Ok-None-clause-gives
 returns-in-Ok-None-clause-gives g c =
-    let count = c.args.self.now.count in
-    let number : c.push_decimal.new.line.items ≡ decimal count =
-    c.push_decimal.ensures.items
-    ∙ ap (λ (xs : List ℕ). xs ++ decimal c.from.result) c.requires.empty
-    ∙ ap (λ (n : ℕ). decimal n) c.from.ensures in
-    let text =
-    c.push_text.ensures.items ∙ ap (λ (xs : List ℕ). xs ++ codes " subtitles\n") number in
-    record {
-      outcome = ends;
-      listing_is = same-listing _ _ _ _ text refl;
-      exact = λ bytes told ok.
-          let answers = rw c.in-Ok-None.field-0-is at (c.in-Ok-None.ensures.exact bytes told refl)
-          in sym answers.outcome;
-      taken = λ other. (
-        refl,
-        _,
-        rw c.in-Ok-None.field-0-is at (c.in-Ok-None.ensures.none c.requires.ready.0),
-      );
-    }
+    let ready = rw c.in-Some.is at c.requires.ready in
+    rw (c.in-Some.is, c.end_at.ensures.end)
+    (gives-last _ (subtitles_listing c.args.self.now.count) (outcome_left c.in-Some.reader)
+    (λ failed. ReadsSubtitles failed c.in-Some.reader.block) _ _ ends _ false
+    c.end_at.ensures.line refl
+    (λ bytes told ok.
+    let answers = rw c.in-Ok-None.field-0-is at (c.in-Ok-None.ensures.exact bytes told refl) in
+    sym answers.outcome)
+    (refl, _, rw c.in-Ok-None.field-0-is at (c.in-Ok-None.ensures.none ready.0)))
 
-pub returns-in-Err-clause-gives : goal.returns-in-Err-clause-gives
-returns-in-Err-clause-gives g c =
-    let f = c.in-Err.fault in
-    let text : c.push_told.new.line.items ≡ line_of (stl_told f c.next.new.self.block) =
-    search rules in
-    let status = c.status.ensures ∙ ap (λ t. status_of t.kind) c.told_of_stl-told.ensures in
-    let failed = ap (λ (s : Status). ends_in_fault (Some s)) (sym status) in
-    record {
-      outcome = fails f c.next.new.self.block;
-      listing_is = same-listing _ _ _ _ text status;
-      exact = λ bytes told ok.
-          sym (c.in-Err.ensures.exact bytes told (sym (stl-failed f) ∙ failed ∙ ok)).outcome;
-      taken = λ other. (
-        sym (stl-failed f) ∙ failed,
-        λ e. c.in-Err.ensures.failed c.requires.ready.0 (sym (stl-failed f) ∙ failed ∙ e),
-        c.in-Err.ensures.refused c.requires.ready.0,
-      );
-    }
+pub returns-in-Err-next-clause-gives : goal.returns-in-Err-next-clause-gives
+returns-in-Err-next-clause-gives g c =
+    let f = c.in-Err-next.fault in
+    let ready = rw c.in-Some.is at c.requires.ready in
+    let end : c.end_with-in-Err-next.result ≡ Some (status_of (stl_kind f)) = search rules in
+    rw (c.in-Some.is, end)
+    (gives-last _ (subtitles_listing c.args.self.now.count) (outcome_left c.in-Some.reader)
+    (λ failed. ReadsSubtitles failed c.in-Some.reader.block) _ _
+    (fails f c.next.new.self.block) c.end_with-in-Err-next.new.text.items (is_read f)
+    (search rules) (stl-failed f)
+    (λ bytes told ok. sym (c.in-Err-next.ensures.exact bytes told ok).outcome)
+    (refl, c.in-Err-next.ensures.failed ready.0, c.in-Err-next.ensures.refused ready.0))

@@ -1,40 +1,42 @@
--- The answer of a check by the clause of `check_files`, `answered`; where the files are accepted,
--- `done-exactly`; where memory was refused, `memory-printed`. All serve `print_verdict`.
-use Rattle.std.proofs.Common.{◌≡◌, ◌≢◌, ◌↔◌, ℕ, List, Option, Some, Result, Ok, Err, IsOk}
-use Rattle.std.proofs.Common.{true, false, refl, ◌+◌, if◌then◌else◌, ap}
+-- The answer of a check by the contract of `check_files`: as_answered; where the files are
+-- accepted, `done-exactly`; where memory was refused, `memory-printed`.
+use Rattle.std.proofs.Common.{◌≡◌, ◌≢◌, ◌↔◌, ℕ, List, Option, Some, Result, Ok, Err}
+use Rattle.std.proofs.Common.{true, false, refl, ◌+◌, if◌then◌else◌, sym, ◌∙◌}
 use Rattle.std.specs.Io.KnownBytes.{Appends}
-use Rattle.sub_io.specs.Device.{failed}
+use Rattle.sub_io.specs.Device.{RisesIf, failed}
 use Rattle.sub_io.specs.Reading.{IfTold}
+use Rattle.ttx_pes.specs.Reader.{FailsAtPacket}
 use Rattle.ttx_pes.specs.declared.PesFault.TheVariants as pes_fault
 use Rattle.stl_file.specs.declared.fault.StlFault.TheVariants as stl
 use Rattle.stl_file.specs.Reader.{outcome_of}
 use Rattle.stl_file.specs.Reading.{Outcome}
-use Rattle.stl_rows.specs.Fault.{is_read_kind}
+use Rattle.stl_rows.specs.Fault.{is_read, is_read_kind}
 use Rattle.stl_rows.specs.declared.fault.LoadFault.{LoadFault}
 use Rattle.stl_rows.specs.declared.fault.LoadFaultKind.{LoadFaultKind}
 use Rattle.stl_rows.specs.declared.fault.LoadFaultKind.TheVariants as load
 use Rattle.stl_rows.specs.declared.national.National.{National}
-use Rattle.stl_rows.specs.Loading.{TellsFault, loaded}
+use Rattle.stl_rows.specs.Loading.{FailsLoading, TellsFault, loaded}
 use Rattle.stl_rows.specs.Programme.{ProgrammeValue}
 use Rattle.sub_plan.specs.Options.{OptionsValue}
 use Rattle.sub_check.specs.CheckedFiles.{AreChecked}
 use Rattle.sub_check.specs.Checking.{TellsSubtitles}
 use Rattle.sub_check.specs.Fault.{is_pes_read, is_stl_read, is_subtitle_fault}
-use Rattle.sub_check.specs.PesReading.{pes_file_of}
 use Rattle.sub_check.specs.declared.checker.Accepted.{Accepted}
 use Rattle.sub_check.specs.declared.fault.CheckFault.{CheckFault}
 use Rattle.sub_check.specs.declared.fault.CheckFault.TheVariants as fault
-use Rattle.sub_answer.specs.CheckLines.{verdict}
+use Rattle.sub_answer.specs.Answering.{AnswersCheck, IsAccepted, verdict}
+use Rattle.sub_answer.specs.DeviceCall.{SinkCall, SourceCall}
 use Rattle.sub_answer.specs.Faults.{check_kind, check_told, load_kind, load_told}
+use Rattle.sub_answer.specs.Listing.{PrintsOrFails}
 use Rattle.sub_answer.specs.Told.{line_of, status_of}
-use Rattle.sub_answer.specs.Verdict.{IsAccepted, IsAnswer}
 use Rattle.sub_answer.specs.Writing.{PrintsMemory}
+use Rattle.sub_answer.specs.declared.status.Status.{Status}
 use Rattle.sub_answer.specs.declared.status.Status.TheVariants.{Done, Fault}
 use Rattle.sub_answer.specs.declared.told.Kind.{Kind}
 use Rattle.sub_answer.specs.declared.told.Kind.TheVariants as kind
-use Rattle.sub_answer.proofs.WritingLemmas.{did_not_rise}
+use Rattle.sub_answer.proofs.PrintingLemmas.{did_not_rise, printed-status, printed-whole}
 
--- A file whose PES file was looked at gives a programme. For `answered`.
+-- A file whose PES file was looked at gives a programme. For `accepted_from`.
 has_programme :
     (national : National) (outcome : Outcome) (answer : Result Accepted CheckFault)
     → (((programme : ProgrammeValue) → loaded national outcome ≢ Ok programme)
@@ -51,11 +53,11 @@ has_programme national outcome answer refused looked = go (loaded national outco
     go (Err f) is =
         let is_refused = refused (λ programme same. cc) in cc
 
--- What is accepted. For `answered`.
+-- What is accepted. For `done-exactly`.
 accepted_from :
     (national : National) (options : OptionsValue) (file bytes : List ℕ) (a : Accepted)
     → AreChecked national options file (Some bytes) (Ok a)
-    → IsAccepted national options file bytes a
+    → IsAccepted national options file bytes
 accepted_from national options file bytes a are =
     let given = has_programme national (outcome_of file) (Ok a) are.refused refl in
     let checked = are.checked given.0 given.1 bytes refl in
@@ -67,43 +69,7 @@ accepted_from national options file bytes a are =
       carries = good.1;
       good = good.2;
       complete = good.3;
-      counts = checked.counts good.0 good.1;
     }
-
--- What is told of both files is what an answer tells.
-pub answered :
-    (national : National) (options : OptionsValue) (file bytes : List ℕ)
-    (answer : Result Accepted CheckFault)
-    → AreChecked national options file (Some bytes) answer
-    → IsAnswer national options file bytes answer
-answered national options file bytes (Ok a) are = record {
-  subtitles = are.subtitles;
-  pes = accepted_from national options file bytes a are;
-  read = λ index e. cc;
-}
-answered national options file bytes (Err f) are = record {
-  subtitles = are.subtitles;
-  pes = λ looked fine.
-      let given = has_programme national (outcome_of file) (Err f) are.refused looked in
-      let reading = pes_file_of options.origin bytes in
-      record {
-        programme = given.0;
-        frames = reading.frames;
-        unread = reading.unread;
-        loads = given.1;
-        reads = refl;
-        first = (are.checked given.0 given.1 bytes refl).first looked fine;
-      };
-  read = λ index e.
-      let is : f ≡ fault.Pes index pes_fault.Read = cc in
-      let given =
-      has_programme national (outcome_of file) (Err f) are.refused (ap is_subtitle_fault is) in
-      record {
-        programme = given.0;
-        loads = given.1;
-        up_to = (are.checked given.0 given.1 bytes refl).read index e;
-      };
-}
 
 -- Nothing that is told of a fault ends as what is done does. For `done-exactly`.
 status_of-not_done : (k : Kind) → status_of k ≢ Done
@@ -142,70 +108,25 @@ looked-of_status national outcome programme (fault.Subtitles f) is told other =
 looked-of_status national outcome programme f is told other = refl
 
 -- The status is that of what is done exactly where the files are accepted.
-pub done-exactly :
+done-exactly :
     (national : National) (options : OptionsValue) (file bytes : List ℕ)
     (answer : Result Accepted CheckFault)
     → AreChecked national options file (Some bytes) answer
     → (verdict answer).status ≢ Fault
-    → ((verdict answer).status ≡ Done)
-    ↔ ((a : Accepted) × IsAccepted national options file bytes a)
+    → ((verdict answer).status ≡ Done) ↔ IsAccepted national options file bytes
 done-exactly national options file bytes (Ok a) are other =
-    (λ done. (a, accepted_from national options file bytes a are), λ is. refl)
+    (λ done. accepted_from national options file bytes a are, λ is. refl)
 done-exactly national options file bytes (Err f) are other = (
   λ done. absurd (status_of-not_done (check_kind f) done),
   λ is.
-      let checked = are.checked is.1.programme is.1.loads bytes refl in
+      let checked = are.checked is.programme is.loads bytes refl in
       let looked =
-      looked-of_status national (outcome_of file) is.1.programme f is.1.loads are.subtitles
-      other in
+      looked-of_status national (outcome_of file) is.programme f is.loads are.subtitles other in
       let fine = fine-of_status f other in
       let ok =
-      (checked.accepted looked fine).1 (
-        is.1.frames,
-        is.1.carries,
-        is.1.good,
-        is.1.complete,
-      ) in
+      (checked.accepted looked fine).1 (is.frames, is.carries, is.good, is.complete) in
       cc,
 )
-
--- What is done is an answer of `Ok`. For the clause `robust`.
-pub ok-of_done :
-    (answer : Result Accepted CheckFault) → (verdict answer).status ≡ Done → IsOk answer
-ok-of_done (Ok a) done = refl
-ok-of_done (Err f) done = absurd (status_of-not_done (check_kind f) done)
-
--- The same where the subtitle file is refused. For the clause `subtitles`.
-pub refused-not_ok :
-    (answer : Result Accepted CheckFault)
-    → failed is_subtitle_fault answer ≡ true
-    → (verdict answer).status ≢ Done
-refused-not_ok (Ok a) refused done = cc
-refused-not_ok (Err f) refused done = status_of-not_done (check_kind f) done
-
--- A source that failed gives a fault. For `stl_read-status`.
-load_read-status :
-    (kind : LoadFaultKind) → is_read_kind kind ≡ true → status_of (load_kind kind) ≡ Fault
-load_read-status (load.File stl.Read) is = refl
-load_read-status kind is = cc
-
--- The same of the source of the subtitle file. For the clause `stl_count`.
-pub stl_read-status :
-    (answer : Result Accepted CheckFault)
-    → failed is_stl_read answer ≡ true
-    → (verdict answer).status ≡ Fault
-stl_read-status (Ok a) is = cc
-stl_read-status (Err (fault.Subtitles f)) is = load_read-status f.kind is
-stl_read-status (Err f) is = cc
-
--- The same of the source of the PES file. For the clause `pes_count`.
-pub pes_read-status :
-    (answer : Result Accepted CheckFault)
-    → failed is_pes_read answer ≡ true
-    → (verdict answer).status ≡ Fault
-pes_read-status (Ok a) is = cc
-pes_read-status (Err (fault.Pes pes pes_fault.Read)) is = refl
-pes_read-status (Err f) is = cc
 
 -- A fault of a subtitle file with the status `Fault` and no failed source is want of memory. For
 -- `fault-printed`.
@@ -252,3 +173,40 @@ memory-printed national told old new (Err f) so sn po pn is sc ss pc ps tells li
     (did_not_rise (is_stl_read f) so sn sc ss)
     (did_not_rise (is_pes_read f) po pn pc ps)
     tells line
+
+-- What `check_files` tells of both files, and the line that is printed. For `print_verdict`.
+pub as_answered :
+    {S T : Type 0} (national : National) (options : OptionsValue) (stl : SourceCall S)
+    (pes : SourceCall T) (out : SinkCall) (status : Status) (answer : Result Accepted CheckFault)
+    → PrintsOrFails out (verdict answer) status
+    → RisesIf stl.old_count (failed is_stl_read answer) stl.new_count
+    → RisesIf pes.old_count (failed is_pes_read answer) pes.new_count
+    → ((f : LoadFault)
+    → answer ≡ Err (fault.Subtitles f)
+    → is_read f ≡ true
+    → FailsLoading national stl.told stl.left f.block)
+    → ((index : ℕ) → answer ≡ Err (fault.Pes index pes_fault.Read)
+    → FailsAtPacket index pes.told pes.left)
+    → (failed is_subtitle_fault answer ≡ true → pes.new ≡ pes.old)
+    → IfTold stl.told (λ file. AreChecked national options file pes.told answer)
+    → AnswersCheck national options stl pes out status
+as_answered national options stl pes out status answer printed sc pc sr pr before checked =
+    record {
+      answer = answer;
+      printed = printed;
+      stl_count = sc;
+      pes_count = pc;
+      stl_read = sr;
+      pes_read = pr;
+      before = before;
+      checked = checked;
+      done = λ file told bytes heard other.
+          let is = printed-status out (verdict answer) status printed other in
+          rw is
+          (done-exactly national options file bytes answer (rw heard at (checked file told))
+          (λ fails. other (is ∙ fails)));
+      fault = λ is stl_same pes_same out_same.
+          let whole = printed-whole out (verdict answer) status printed out_same in
+          memory-printed national stl.told out.old out.new answer _ _ _ _ (sym whole.1 ∙ is)
+          sc stl_same pc pes_same (λ file told. (checked file told).subtitles) whole.0;
+    }
