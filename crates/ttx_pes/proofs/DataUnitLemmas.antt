@@ -232,7 +232,7 @@ units_complete (suc n) front more b (u, others, first, rest, held, after, us-is,
 
 -- ---- the loop over data units
 
--- The next data unit of those that are left. For `take_units`.
+-- The next data unit of those that are left.
 pub units_next : (count i : ℕ) (front : List UnitValue) (b : List ℕ)
     → i < count
     → units_at (count - i) front b
@@ -241,3 +241,14 @@ unfolding units_at
 units_next count i front b lt =
     let next : count - i ≡ suc (count - (i + 1)) = omega arith in
     rw next refl
+
+-- No data unit is left.
+pub units_none : (count i : ℕ) (front : List UnitValue) (b : List ℕ)
+    → count ≤ i
+    → units_at (count - i) front b ≡ Ok front
+unfolding units_at
+units_none count i front b le = let none : count - i ≡ 0 = omega arith in
+    rw none refl
+
+-- For the loop of `take_units`.
+pub ruleset units_left = (units_next, units_none)

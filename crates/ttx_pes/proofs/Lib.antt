@@ -6,7 +6,6 @@ pub mod PesPacketLemmas
 pub mod ReadingLemmas
 pub mod QuestionLemmas
 pub mod RefusalLemmas
-
 pub mod TakingLemmas
 pub mod KeptFrameLemmas
 pub mod ReaderLemmas

@@ -1,7 +1,8 @@
 -- The order of lines, one unit on, and that numbered packets keep it. Main lemma:
 -- numbered_is_value.
 use Rattle.std.proofs.Common.{◌≡◌, ℕ, ◌+◌, ◌<◌, ◌≤◌, true, false, cond, eqb}
-use Rattle.std.proofs.Common.{ltb, List, [], ◌∷◌, ◌++◌, length, get_or, drop, map, refl, append_assoc}
+use Rattle.std.proofs.Common.{ltb, List, [], ◌∷◌, ◌++◌, length, get_or, drop, map, refl}
+use Rattle.std.proofs.Common.{append_assoc}
 use Rattle.std.proofs.Common.{◌∙◌, arith}
 use Rattle.std.proofs.lemmas.Bool.{lt-ltb}
 use Rattle.std.proofs.lemmas.Bool.Decides.{nat_tests}

@@ -241,9 +241,9 @@ module _ (b : List ℕ) (fit : AreBytes b) (q : Question) (n : ℕ) (lo : 1 ≤ 
       agree_where b c r
       (λ e. not_below (length b) 6 (held SixBytes (omega arith)))
       (λ e. let all = not_below (length b) (told_size b) (held AllBytes (omega arith)) in
-          let size = told (omega arith) in omega arith)
+      let size = told (omega arith) in omega arith)
       (λ i asked lt. sym (kept_byte i (omega arith) (omega arith))
-          ∙ ap (λ (x : List ℕ). get_or x i 0) parts ∙ get_or_append_left c rest 0 i lt)
+      ∙ ap (λ (x : List ℕ). get_or x i 0) parts ∙ get_or_append_left c rest 0 i lt)
 
   -- It tells its size.
   told-made : told_size made ≡ 184 * n

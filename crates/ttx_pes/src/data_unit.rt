@@ -68,8 +68,7 @@ fn take_unit(frame: &mut PesFrame, block: &[u8]) -> Result<(), PesFault>
 }
 
 // Adds the Teletext units among that many data units, up to the first fault.
-#[tactic(auto, using(crate::proofs::DataUnitLemmas::units_next),
-    unfolding(crate::specs::Reading::units_at))]
+#[tactic(auto, using(crate::proofs::DataUnitLemmas::units_left))]
 pub(crate) fn take_units(frame: &mut PesFrame, count: usize, blocks: &[u8]) -> Result<(), PesFault>
     requires room { length frame.old.units + count ≤ most_units }
     requires blocks { length blocks.now ≡ data_unit_size * count }

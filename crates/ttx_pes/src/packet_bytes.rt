@@ -78,7 +78,7 @@ pub(crate) fn take_packet<S: Source>(
         (bytes ≡ []) × (S.remaining source.new ≡ Some (rest_after bytes))) }
     ensures taken { IfOk result (λ taken. IfSome taken (λ size.
         Settles (S.remaining source.old) (S.remaining source.new) (take size room.new)
-            (value_at (drop 6 (take size room.new))))) }
+        (value_at (drop 6 (take size room.new))))) }
     ensures range { IfOk result (λ taken. IfSome taken (λ size.
         (payload_size ≤ size) × (size ≤ longest_packet) × (size % payload_size ≡ 0))) }
     ensures failed { failed is_read result ≡ true

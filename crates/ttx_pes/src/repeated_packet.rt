@@ -46,8 +46,7 @@ impl RepeatedPacket {
     }
 
     /// Sets the PTS, in ticks of 90 kHz: 33 bits. The units stay.
-    #[tactic(auto, unfolding(crate::specs::PesPacket::canonical_packet,
-        crate::specs::PesPacket::payloads_for, crate::specs::PesPacket::pes_packet_header))]
+    #[tactic(auto, unfolding(crate::specs::PesPacket::canonical_packet, crate::specs::PesPacket::pes_packet_header))]
     pub fn set_pts(&mut self, pts: u64)
         requires { pts < 2 ^ 33 }
         ensures { self.new ≡ record self.old { pts = pts } }

@@ -25,6 +25,8 @@ invariant_of-self-2 c =
     let field : c.split_at.result.1.now ≡ drop 39 body = search rules in
     let copied = c.copy_from_slice.ensures.after in
     let size : length c.split_at.result.1.now + 45 ≤ 1656 =
-    omega (arith, ap length field, length-drop 39 body) in
-    (size, units_kept body _ c.take_units.new.frame.units
-    (take_at c.copy_from_slice.new.self _ _ (ap length copied) ∙ copied ∙ field) read)
+    omega (arith, ap length field, length-drop 39 body) in (
+      size,
+      units_kept body _ c.take_units.new.frame.units
+          (take_at c.copy_from_slice.new.self _ _ (ap length copied) ∙ copied ∙ field) read,
+    )
