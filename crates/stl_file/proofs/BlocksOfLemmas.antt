@@ -9,21 +9,24 @@ use Rattle.std.proofs.lemmas.List.{drop-replicate}
 use Rattle.stl_file.specs.Tti.{ebn, text_of, unused_space}
 use Rattle.stl_file.specs.SubtitleBlocks.{joined, BelongsTo, AreLinked, Begins, AreBlocksOf}
 use Rattle.stl_file.specs.Subtitle.{SubtitleValue, IsSubtitle, has_no_unused}
-use Rattle.stl_file.specs.NormalForm.{block_of, blocks_from, full_pieces, blocks_of}
+use Rattle.stl_file.specs.NormalForm.{block_head, block_of, blocks_from, full_pieces, blocks_of}
 use Rattle.stl_file.proofs.TimeCodeLemmas.{time_in_range}
 use Rattle.stl_file.proofs.SubtitleLemmas.{before_clean, clean_take, clean_drop}
 use Rattle.stl_file.proofs.SubtitleBlocksLemmas.{linked_cons, linked_text, blocks_subtitle}
 
 -- ---- one block
 
--- the unused space after a piece of text
-pub pad_is : (piece : List ℕ)
-    → drop (length piece) (replicate 112 unused_space)
-    ≡ replicate (112 - length piece) unused_space
-pad_is piece = drop-replicate (length piece) 112 unused_space
+-- a block is its head, a piece of text, and what is left of a field of unused space
+pub block_parts : (s : SubtitleValue) (e : ℕ) (piece : List ℕ)
+    → block_of s e piece
+    ≡ (block_head s e ++ piece) ++ drop (length piece) (replicate 112 unused_space)
+unfolding block_of
+block_parts s e piece =
+    rw (drop-replicate (length piece) 112 unused_space)
+    (sym (append_assoc (block_head s e) piece _))
 
 -- what `push_block` needs
-pub ruleset pushed = (append_assoc, pad_is)
+pub ruleset pushed = (append_assoc, block_parts)
 
 -- a block that was made has its EBN and its text
 block_fields : (s : SubtitleValue) (e : ℕ) (piece : List ℕ)

@@ -3,7 +3,8 @@
 use Rattle.std.proofs.Common.{◌≡◌, ℕ, List, ◌++◌, length, refl, sym, ap}
 use Rattle.std.proofs.Common.{◌∙◌, append_assoc, arith, length-append, take, drop, Ok}
 use Rattle.std.proofs.Common.{◌+◌, ◌≤◌}
-use Rattle.std.proofs.lemmas.List.{drop-take, take-append-drop, length-drop, length-take, length-take-le}
+use Rattle.std.proofs.lemmas.List.{drop-take, take-append-drop, length-drop, length-take}
+use Rattle.std.proofs.lemmas.List.{length-take-le}
 use Rattle.std.proofs.lemmas.List.{take_at, drop_at, take-append-le, take-take, get_or-take}
 use Rattle.std.proofs.lemmas.Bool.Decides.{nat_tests}
 use Rattle.std.proofs.lemmas.Slice.Eq.{bytes_eq-Decides}
@@ -69,7 +70,8 @@ counted_is_gsi tnb tns g h =
     let size = h.size in
     let same : dsc (with_counts tnb tns g) ≡ dsc g =
     sym (get_or-take 238 (take 238 g ++ counts) 11 0 (omega arith))
-    ∙ rw (take_at (take 238 g) counts 238 (length-take-le 238 g (omega arith))) (get_or-take 238 g 11 0 (omega arith)) in
+    ∙ rw (take_at (take 238 g) counts 238 (length-take-le 238 g (omega arith)))
+    (get_or-take 238 g 11 0 (omega arith)) in
     record {
       size = omega (arith, length-append (take 238 g) counts, length-drop 248 g, length-take 238 g);
       format = front_field 3 8 238 g counts (omega arith) (omega arith) ∙ h.format;

@@ -184,7 +184,8 @@ module _ (s : List ℕ) (r : ReaderValue) (c : Counts) (g : List ℕ) (opened : 
     (set : g ≡ with_counts c.tnb c.tns r.gsi) (old new : Option (List ℕ)) where
   -- all was written
   pub whole_written :
-      Appends old new (g ++ joined (all_blocks (given (subtitles_of (outcome_from 0 (drop 1024 s))))))
+      Appends old new
+      (g ++ joined (all_blocks (given (subtitles_of (outcome_from 0 (drop 1024 s))))))
       → WritesNormal s old new c.tns
   whole_written w =
       let a = accepted s r c opened judged in
@@ -197,7 +198,8 @@ module _ (s : List ℕ) (r : ReaderValue) (c : Counts) (g : List ℕ) (opened : 
 
   -- the sink failed
   pub prefix_written :
-      AppendsPrefix old new (g ++ joined (all_blocks (given (subtitles_of (outcome_from 0 (drop 1024 s))))))
+      AppendsPrefix old new
+      (g ++ joined (all_blocks (given (subtitles_of (outcome_from 0 (drop 1024 s))))))
       → WritesPrefix s old new
   prefix_written w =
       let a = accepted s r c opened judged in

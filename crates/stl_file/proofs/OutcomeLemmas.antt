@@ -88,7 +88,8 @@ names_from zero block begun (x ∷ b) e = rw (outcome_full begun (x ∷ b) (omeg
 names_from (suc room) block begun (x ∷ b) e = elim (cases_lt (length (x ∷ b)) 128) [
   | inl cut ↦ rw (outcome_short room begun (x ∷ b) (omega arith) cut) (omega arith)
   | inr whole ↦ rw (outcome_step room begun (x ∷ b) whole)
-      (names-after room (block + 1) _ _ (omega arith) (λ next. names_from room (block + 1) next _ (omega arith)))
+      (names-after room (block + 1) _ _ (omega arith)
+      (λ next. names_from room (block + 1) next _ (omega arith)))
 ]
 
 -- ---- the bytes that decide

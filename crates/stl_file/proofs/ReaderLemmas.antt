@@ -123,7 +123,15 @@ module _ {from : ℕ} {old mid new : Option (List ℕ)} {n block : ℕ} {begun :
       let room : most_blocks - block ≡ suc (most_blocks - (block + 1)) = omega arith in
       let at : most_blocks - (most_blocks - (block + 1)) ≡ block + 1 = omega arith in
       leads (block + 1) (Err fault.Truncated) (omega arith) (λ _. lt)
-      (λ more none. rw (none refl, append-nil, room, outcome_short (most_blocks - (block + 1)) begun (take n buffer) (omega arith) (omega arith), at) refl) (λ s e. absurd cc)
+      (λ more none.
+      rw (
+        none refl,
+        append-nil,
+        room,
+        outcome_short (most_blocks - (block + 1)) begun (take n buffer) (omega arith) (omega arith),
+        at,
+      ) refl)
+      (λ s e. absurd cc)
 
   module _ (few : block < most_blocks) (long : 128 ≤ n) where
     -- what a whole block gives
@@ -132,7 +140,8 @@ module _ {from : ℕ} {old mid new : Option (List ℕ)} {n block : ℕ} {begun :
         ≡ outcome_after (most_blocks - (block + 1))
         (λ next. outcome_at (most_blocks - (block + 1)) next more) (step_at begun buffer)
     one_block more = rw (take_all n buffer (omega arith))
-        (outcome_block (most_blocks - block) (most_blocks - (block + 1)) begun buffer more (omega arith) size)
+        (outcome_block (most_blocks - block) (most_blocks - (block + 1)) begun buffer more
+        (omega arith) size)
 
     -- its number
     number : most_blocks - (most_blocks - (block + 1)) ≡ block + 1
@@ -180,7 +189,12 @@ module _ {from : ℕ} {old mid new : Option (List ℕ)} {n block : ℕ} {begun :
           consumed = Consumes-trans old mid new h.bytes (take n buffer) h.consumed f.bytes;
           size = omega (arith, length-append h.bytes (take n buffer));
           goes = λ more.
-              rw (append_assoc h.bytes (take n buffer) more, h.goes (take n buffer ++ more), one_block more, step) refl;
+              rw (
+                append_assoc h.bytes (take n buffer) more,
+                h.goes (take n buffer ++ more),
+                one_block more,
+                step,
+              ) refl;
         }
 
 -- ---- what an answer says

@@ -1,7 +1,7 @@
 -- `IsRest`: bytes are read without a fault exactly when they are blocks of subtitles; main lemmas:
 -- outcome_complete, outcome_sound.
-use Rattle.std.proofs.Common.{◌≡◌, ℕ, cond, List, [], ◌∷◌, ◌++◌, length, refl, sym, ap, ◌∙◌, inl, inr}
-use Rattle.std.proofs.Common.{append_assoc, arith, take, drop, Option, Some, None, Result, Ok, Err}
+use Rattle.std.proofs.Common.{◌≡◌, ℕ, cond, List, [], ◌∷◌, ◌++◌, length, refl, sym, ap, ◌∙◌}
+use Rattle.std.proofs.Common.{inl, inr, append_assoc, arith, take, drop, Option, Some, None, Result, Ok, Err}
 use Rattle.std.proofs.Common.{subst, zero, suc, ◌+◌, ◌-◌, ◌<◌, ◌≤◌, length-append}
 use Rattle.std.specs.Prelude.{filter}
 use Rattle.std.specs.List.{AllByRecursion, flat_map}
@@ -110,8 +110,8 @@ pub outcome_complete : (bs : List (List ℕ)) (room : ℕ) (ss : List SubtitleVa
     → IsRest room bs ss
     → subtitles_of (outcome_at room None (joined bs)) ≡ Ok ss
 outcome_complete bs room ss r =
-    let few : length (groups_of r.parts) ≤ room = omega (arith, r.few, kept_few bs, ap length r.kept)
-    in
+    let few : length (groups_of r.parts) ≤ room =
+    omega (arith, r.few, kept_few bs, ap length r.kept) in
     kept_enough bs None room room ss r.each r.few r.few
     (rw r.kept (groups_give ss r.parts room r.are_of few))
 
@@ -174,8 +174,10 @@ step_reads room begun before b ss (Ok (Give s)) le rep e go all =
     let c = cons_ok s _ ss all in
     let r = go None [] c.0 refl c.1 in
     let own = before ++ cond (is_kept (take 128 b)) (take 128 b ∷ []) [] in
-    in_front room before [] b ss c.0 (own ∷ r.groups) le r (ap (λ (x : List (List ℕ)). own ++ x) r.kept)
-    (subst (λ (x : List SubtitleValue). AreBlocksOfEach x (own ∷ r.groups)) (sym c.2) (t, r.are_groups))
+    in_front room before [] b ss c.0 (own ∷ r.groups) le r
+    (ap (λ (x : List (List ℕ)). own ++ x) r.kept)
+    (subst (λ (x : List SubtitleValue). AreBlocksOfEach x (own ∷ r.groups)) (sym c.2)
+    (t, r.are_groups))
 
 -- bytes that give subtitles and no fault are blocks of them
 pub outcome_sound : (room : ℕ) (begun : Option Begun) (before : List (List ℕ)) (b : List ℕ)

@@ -9,8 +9,8 @@ ghost use Rattle.sub_io.specs.Reading.{IfTold};
 ghost use Rattle.stl_file.specs.declared.fault.StlFault.TheVariants.{Ended};
 ghost use Rattle.stl_file.specs.Fault.{is_format, is_read};
 ghost use Rattle.stl_file.specs.Gsi.{IsGsi};
-ghost use Rattle.stl_file.specs.Reader.{Leads, block_after, block_by, opened_at, FailsReading, HasPlace};
-ghost use Rattle.stl_file.specs.Reader.{Answers, Refuses, RefusesOpening, TakesPassed};
+ghost use Rattle.stl_file.specs.Reader.{Leads, block_after, block_by, opened_at, FailsReading};
+ghost use Rattle.stl_file.specs.Reader.{HasPlace, Answers, Refuses, RefusesOpening, TakesPassed};
 ghost use Rattle.stl_file.specs.Reader.{TakesSubtitle, given_subtitle, progress_after};
 ghost use Rattle.stl_file.specs.Tti.{most_blocks};
 

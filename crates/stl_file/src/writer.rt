@@ -53,7 +53,7 @@ fn spell(subtitle: &Subtitle) -> (ArrayVec<u8, 1152>, u8)
 }
 
 // Adds one block of a subtitle.
-#[tactic(auto, using(crate::proofs::BlocksOfLemmas::pushed), unfolding(crate::specs::NormalForm::block_of))]
+#[tactic(auto, using(crate::proofs::BlocksOfLemmas::pushed))]
 fn push_block(out: &mut ArrayVec<u8, 1152>, subtitle: &Subtitle, ebn: u8, piece: &[u8])
     requires room { length out.old.items + 128 ≤ 1152 }
     requires piece { length piece.now ≤ 112 }

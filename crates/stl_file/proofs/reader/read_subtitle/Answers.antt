@@ -26,7 +26,8 @@ pub returns-else-count-eq0-clause-leads : goal.returns-else-count-eq0-clause-lea
 returns-else-count-eq0-clause-leads g c = λ _.
     leads_end c.loop-got.invariant.read c.in_ok-got.ensures.fills (search rules) _
     c.if-got-eq0.true c.loop-got.invariant.few refl (λ s e. absurd cc)
-    (rw (outcome_end, ne_eqb _ 0 c.if-count-eq0.false) (ap (fails fault.Unfinished) (let f = c.loop-got.invariant.few in omega arith)))
+    (let f = c.loop-got.invariant.few in
+    rw (outcome_end, ne_eqb _ 0 c.if-count-eq0.false) (ap (fails fault.Unfinished) (omega arith)))
 
 pub returns-then-block-eq99999-clause-leads : goal.returns-then-block-eq99999-clause-leads
 returns-then-block-eq99999-clause-leads g c = λ _.
@@ -36,7 +37,8 @@ returns-then-block-eq99999-clause-leads g c = λ _.
 pub returns-then-got-lt128-clause-leads : goal.returns-then-got-lt128-clause-leads
 returns-then-got-lt128-clause-leads g c = λ _.
     leads_truncated c.loop-got.invariant.read c.in_ok-got.ensures.fills (search rules)
-    c.if-got-eq0.false (let e = c.if-block-eq99999.false in let f = c.loop-got.invariant.few in omega arith)
+    c.if-got-eq0.false
+    (let e = c.if-block-eq99999.false in let f = c.loop-got.invariant.few in omega arith)
     c.if-got-lt128.true
 
 pub returns-in_err-is_whole-clause-leads : goal.returns-in_err-is_whole-clause-leads
