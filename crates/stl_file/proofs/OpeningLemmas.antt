@@ -3,11 +3,10 @@
 use Rattle.std.proofs.Common.{◌≡◌, ℕ, List, ◌++◌, length, refl, sym, ap}
 use Rattle.std.proofs.Common.{◌∙◌, arith, length-append, take, drop, Option, Some, Result, Ok, Err}
 use Rattle.std.proofs.Common.{◌<◌, ◌≤◌, length-take}
-use Rattle.std.specs.Io.KnownBytes.{Consumes}
 use Rattle.std.proofs.lemmas.List.{take_all, length-take-le, take_at, drop_at}
 use Rattle.std.proofs.lemmas.Bool.{le-ltb}
 use Rattle.std.proofs.lemmas.Bool.Decides.{nat_tests}
-use Rattle.sub_io.specs.Device.{Told}
+use Rattle.sub_io.specs.Device.{Fills, Told}
 use Rattle.stl_file.specs.declared.fault.StlFault.{StlFault}
 use Rattle.stl_file.specs.declared.fault.StlFault.TheVariants as fault
 use Rattle.stl_file.specs.declared.progress.Progress.TheVariants.{Reading}
@@ -44,39 +43,37 @@ opened_sound s r e =
 pub file_gsi : (s g : List ℕ) (ts : List SubtitleValue) → IsFile s g ts → take 1024 s ≡ g
 file_gsi s g ts h = ap (take 1024) h.bytes ∙ take_at g (joined h.blocks) 1024 h.gsi.size
 
--- fewer bytes than a GSI block are no file
-pub short_opening : (old new : Option (List ℕ)) (bytes : List ℕ)
-    → Consumes old new bytes
-    → length bytes < 1024
-    → RefusesOpening old new fault.Truncated
-short_opening old new bytes c lt = record {
-  bytes = bytes;
-  consumed = c;
-  none = λ more cut g ts h.
-      omega (
-        arith,
-        ap length (cut refl),
-        ap length h.bytes,
-        h.gsi.size,
-        length-append bytes more,
-        length-append g (joined h.blocks),
-      );
-}
+module _ {old new : Option (List ℕ)} {n : ℕ} {block : List ℕ} (f : Fills old n new block)
+    (size : length block ≡ 1024) where
+  -- fewer bytes than a GSI block are no file
+  pub short_opening : n < 1024 → RefusesOpening old new fault.Truncated
+  short_opening lt = record {
+    bytes = take n block;
+    consumed = f.bytes;
+    none = λ more cut g ts h.
+        omega (
+          arith,
+          ap length (cut refl),
+          ap length h.bytes,
+          h.gsi.size,
+          length-take n block,
+          length-append (take n block) more,
+          length-append g (joined h.blocks),
+        );
+  }
 
--- a GSI block with a fault begins no file
-pub bad_opening : (old new : Option (List ℕ)) (bytes : List ℕ) (f : StlFault)
-    → Consumes old new bytes
-    → length bytes ≡ 1024
-    → gsi_at bytes ≡ Err f
-    → RefusesOpening old new f
-bad_opening old new bytes f c size bad = record {
-  bytes = bytes;
-  consumed = c;
-  none = λ more cut g ts h.
-      let same : bytes ≡ g = sym (take_at bytes more 1024 size) ∙ file_gsi (bytes ++ more) g ts h in
-      let no = sym bad ∙ ap gsi_at same ∙ gsi_complete g h.gsi in
-      cc;
-}
+  -- a GSI block with a fault begins no file
+  pub bad_opening : (x : StlFault) → 1024 ≤ n → gsi_at block ≡ Err x → RefusesOpening old new x
+  bad_opening x le bad =
+      let bound = f.bound in
+      record {
+        bytes = block;
+        consumed = rw (take_all n block (omega arith)) at f.bytes;
+        none = λ more cut g ts h.
+            let same = sym (take_at block more 1024 size) ∙ file_gsi (block ++ more) g ts h in
+            let no = sym bad ∙ ap gsi_at same ∙ gsi_complete g h.gsi in
+            cc;
+      }
 
 module _ {bytes : List ℕ} {n : ℕ} {new : Option (List ℕ)} {block : List ℕ}
     (t : Told bytes n new block) (bound : n ≤ length block) (size : length block ≡ 1024) where
