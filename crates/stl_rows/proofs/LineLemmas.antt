@@ -68,7 +68,7 @@ row_small jc line h =
     holds_map (λ c. c < 128) (code_in_column start line) (range_with_len 0 40)
     (λ column. cell_small start column line h)
 
--- so it does where each column of the line does: for `row_codes`
+-- the same, where the codes of the line are told column by column: for `row_codes`
 pub row_of-codes : (jc : ℕ) (line : List ℕ) → AreCodes line → AreCodes (row_of jc line)
 row_of-codes jc line codes column =
     holds_at (λ c. c < 128) (row_of jc line) column 0 (lit< tt)

@@ -19,8 +19,7 @@ use ttx_page::Page;
 #[inline(always)]
 fn push_cell(cells: &mut ArrayVec<u8, 40>, cell: u8)
     requires { length cells.old.items < 40 }
-    ensures items { cells.new.items ≡ cells.old.items ++ cell ∷ [] }
-    ensures room { length cells.new.items ≤ 40 }
+    ensures { cells.new.items ≡ cells.old.items ++ cell ∷ [] }
 {
     cells.push(cell);
 }

@@ -31,7 +31,7 @@ loop-at-preserved-in-Cell c =
     let i = c.loop-at.invariant in
     let code = c.text_code_at-code.ensures in
     let lines = prepared_lines-cell c.loop-at.cells.items _ _ _ _ _ code.step c.in-Cell.is in
-    rw c.push_cell.ensures.items (record {
+    rw c.push_cell.ensures (record {
       within = search rules;
       rows = omega (arith, i.rows, code.rises);
       codes = codes_push c.loop-at.cells.items _ i.codes (rw c.in-Cell.is at code.small);
