@@ -1,9 +1,7 @@
 //! Data units, read and written (EN 300 472, data unit syntax).
-ghost use Rattle.std.specs.Prelude.{◌≡◌, ◌+◌, ◌*◌, ◌≤◌, ◌++◌, false, true, length, Ok, Err, OnOk};
+ghost use Rattle.std.specs.Prelude.{◌≡◌, ◌+◌, ◌*◌, ◌≤◌, ◌++◌, true, length, Ok, Err, OnOk};
 ghost use Rattle.std.specs.Prelude.{IfErr};
-ghost use Rattle.sub_io.specs.Device.{failed};
 ghost use Rattle.ttx_pes.specs.DataUnit.{data_unit_size, teletext_unit, stuffing_unit};
-ghost use Rattle.ttx_pes.specs.Fault.{is_read};
 ghost use Rattle.ttx_pes.specs.PesPacket.{longest_packet, most_units};
 ghost use Rattle.ttx_pes.specs.Reading.{teletext_at, unit_at, units_at, is_format_fault};
 
@@ -27,7 +25,6 @@ const FRAMING: u8 = 0xE4;
 fn teletext_of(block: &[u8]) -> Result<Option<Unit>, PesFault>
     requires { length block.now ≡ data_unit_size }
     ensures exact { teletext_at block.now ≡ result }
-    ensures read { failed is_read result ≡ false }
     ensures kind { IfErr result (λ fault. is_format_fault fault ≡ true) }
 {
     if block[1] != LENGTH {
@@ -54,7 +51,6 @@ fn take_unit(frame: &mut PesFrame, block: &[u8]) -> Result<(), PesFault>
     requires block { length block.now ≡ data_unit_size }
     ensures room { length frame.new.units ≤ length frame.old.units + 1 }
     ensures ok { OnOk result (unit_at frame.old.units block.now ≡ Ok frame.new.units) }
-    ensures read { failed is_read result ≡ false }
     ensures kind { IfErr result (λ fault. is_format_fault fault ≡ true) }
     ensures err { IfErr result (λ e. unit_at frame.old.units block.now ≡ Err e) }
     ensures pts { frame.new.pts ≡ frame.old.pts }
@@ -73,7 +69,6 @@ pub(crate) fn take_units(frame: &mut PesFrame, count: usize, blocks: &[u8]) -> R
     requires room { length frame.old.units + count ≤ most_units }
     requires blocks { length blocks.now ≡ data_unit_size * count }
     ensures ok { OnOk result (units_at count frame.old.units blocks.now ≡ Ok frame.new.units) }
-    ensures read { failed is_read result ≡ false }
     ensures kind { IfErr result (λ fault. is_format_fault fault ≡ true) }
     ensures err { IfErr result (λ e. units_at count frame.old.units blocks.now ≡ Err e) }
     ensures pts { frame.new.pts ≡ frame.old.pts }

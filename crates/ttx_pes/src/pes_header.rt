@@ -1,9 +1,7 @@
 //! The first 46 bytes of a PES packet, read and written (EN 300 472, PES packet header and
 //! data_identifier).
-ghost use Rattle.std.specs.Prelude.{◌≡◌, ◌+◌, ◌*◌, ◌/◌, ◌%◌, ◌^◌, ◌<◌, ◌≤◌, false, true, length};
+ghost use Rattle.std.specs.Prelude.{◌≡◌, ◌+◌, ◌*◌, ◌/◌, ◌%◌, ◌^◌, ◌<◌, ◌≤◌, true, length};
 ghost use Rattle.std.specs.Prelude.{slice_index, IfOk, IfErr};
-ghost use Rattle.sub_io.specs.Device.{failed};
-ghost use Rattle.ttx_pes.specs.Fault.{is_read};
 ghost use Rattle.ttx_pes.specs.PesPacket.{header_size, longest_packet, payload_size};
 ghost use Rattle.ttx_pes.specs.PesPacket.{pes_packet_header, pts_bytes};
 ghost use Rattle.ttx_pes.specs.Reading.{pts_at, size_at, is_format_fault};
@@ -23,7 +21,6 @@ pub(crate) const LONGEST_PACKET: usize = 9 * PAYLOAD;
 #[tactic(auto, unfolding(crate::specs::Reading::size_at))]
 pub(crate) fn size_of(head: &[u8; 6]) -> Result<usize, PesFault>
     ensures exact { size_at head.now ≡ result }
-    ensures read { failed is_read result ≡ false }
     ensures kind { IfErr result (λ fault. is_format_fault fault ≡ true) }
     ensures range { IfOk result (λ size.
         (payload_size ≤ size) × (size ≤ longest_packet) × (size % payload_size ≡ 0)) }
@@ -51,7 +48,6 @@ fn length_of(head: &[u8; 6]) -> u16
 pub(crate) fn pts_of(body: &[u8]) -> Result<u64, PesFault>
     requires { 40 ≤ length body.now }
     ensures exact { pts_at body.now ≡ result }
-    ensures read { failed is_read result ≡ false }
     ensures kind { IfErr result (λ fault. is_format_fault fault ≡ true) }
     ensures range { IfOk result (λ pts. pts < 2 ^ 33) }
 {

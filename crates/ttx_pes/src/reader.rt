@@ -49,7 +49,6 @@ fn read_value(body: &[u8], frame: &mut PesFrame) -> Result<(), PesFault>
     requires whole { (length body.now + 6) % payload_size ≡ 0 }
     ensures ok { OnOk result (value_at body.now ≡ Ok frame.new) }
     ensures err { IfErr result (λ fault. value_at body.now ≡ Err fault) }
-    ensures read { failed is_read result ≡ false }
     ensures kind { IfErr result (λ fault. is_format_fault fault ≡ true) }
 {
     let pts = pts_of(body)?;

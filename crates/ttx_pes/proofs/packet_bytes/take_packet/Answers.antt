@@ -11,17 +11,15 @@ use Rattle.ttx_pes.proofs.packet_bytes.take_packet.Goals as goal
 
 pub returns-then-got-eq0-clause-end : goal.returns-then-got-eq0-clause-end
 returns-then-got-eq0-clause-end g c = λ _ bytes is.
-    none_taken _ _ bytes (take c.in_ok-got.got c.fill_on.new.room)
-    (c.in_ok-got.ensures.bytes _ (Consumes-nil _)) is
+    none_taken _ _ bytes _ (c.in_ok-got.ensures.bytes _ (Consumes-nil _)) is
     (ap (λ k. take k c.fill_on.new.room) c.if-got-eq0.true) (c.in_ok-got.ensures.end (omega arith))
 
 pub returns-then-given-eq-MOST_PACKETS-2-clause-refused :
     goal.returns-then-given-eq-MOST_PACKETS-2-clause-refused
 returns-then-given-eq-MOST_PACKETS-2-clause-refused g c = λ bytes is _.
     let len = length-take-le c.in_ok-got.got c.fill_on.new.room c.in_ok-got.ensures.room in
-    too_many c.args.given _ _ bytes (take c.in_ok-got.got c.fill_on.new.room)
-    (c.in_ok-got.ensures.bytes _ (Consumes-nil _)) is (omega arith)
-    c.if-given-eq-MOST_PACKETS-2.true
+    too_many c.args.given _ _ bytes _ (c.in_ok-got.ensures.bytes _ (Consumes-nil _)) is
+    (omega arith) c.if-given-eq-MOST_PACKETS-2.true
 
 pub returns-then-got-lt-HEAD-clause-refused : goal.returns-then-got-lt-HEAD-clause-refused
 returns-then-got-lt-HEAD-clause-refused g c = λ bytes is _.
