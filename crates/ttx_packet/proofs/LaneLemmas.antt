@@ -1,14 +1,11 @@
 -- The kernels on lanes, byte by byte: mirror_lanes, even_lanes, odd_lanes.
-use Rattle.std.proofs.lemmas.List.{map-id}
-use Rattle.std.proofs.Common.{◌≡◌, ℕ, zero, suc, ◌*◌, ◌/◌, ◌%◌, ◌^◌, ◌-◌, ◌<◌, true}
-use Rattle.std.proofs.Common.{cond}
-use Rattle.std.proofs.Common.{List, [], ◌∷◌, map, length, get_or, replicate, refl, sym, ap, ap₂}
-use Rattle.std.proofs.Common.{◌∙◌}
-use Rattle.std.proofs.Common.{arith, w8, Fits, nat_eq, eqb-true}
+use Rattle.std.proofs.Common.{◌≡◌, ℕ, zero, suc, ◌*◌, ◌/◌, ◌%◌, ◌^◌, ◌-◌, ◌<◌, true, cond, List, []}
+use Rattle.std.proofs.Common.{◌∷◌, map, length, get_or, replicate, refl, sym, ap, ap₂, ◌∙◌, arith, w8}
+use Rattle.std.proofs.Common.{Fits, nat_eq, eqb-true}
+use Rattle.std.proofs.lemmas.List.{map-id, length-map}
 use Rattle.std.specs.Prelude.{bit_xor, bit_and, bit_or}
 use Rattle.std.specs.Int.RustNames.{count_ones}
 use Rattle.std.proofs.lemmas.Bool.{agree_below_at}
-use Rattle.std.proofs.lemmas.List.{length-map}
 use Rattle.std.proofs.lemmas.Simd.{zip2_splat, zip2_of_maps, bitmask_splat, map-map}
 use lib.Lanes.{zip2, mask_l, top, Each1}
 use lib.Count.{ones_in}
@@ -78,11 +75,7 @@ pub mirror_lanes : (v a b c : List ℕ)
     → c ≡ map (swapped 1 0x55) b
     → c ≡ map mirror v
 mirror_lanes v a b c fits ea eb ec =
-    ec
-    ∙ ap (map (swapped 1 0x55)) (eb ∙ ap (map (swapped 2 0x33)) ea
-    ∙ map-map (swapped 2 0x33) (swapped 4 0x0F) v)
-    ∙ map-map (swapped 1 0x55) (λ x. swapped 2 0x33 (swapped 4 0x0F x)) v
-    ∙ same_lanes mirrors mirror v 0x100 mirrors_is fits
+    rw (ec, eb, ea, map-map, map-map) (same_lanes mirrors mirror v 0x100 mirrors_is fits)
 
 -- ---- parity
 
@@ -102,10 +95,7 @@ pub folds_lanes : (v a b c : List ℕ)
     → b ≡ map (folded 2) a
     → c ≡ map (folded 1) b
     → c ≡ map folds v
-folds_lanes v a b c ea eb ec =
-    ec
-    ∙ ap (map (folded 1)) (eb ∙ ap (map (folded 2)) ea ∙ map-map (folded 2) (folded 4) v)
-    ∙ map-map (folded 1) (λ x. folded 2 (folded 4 x)) v
+folds_lanes v a b c ea eb ec = rw (ec, eb, ea, map-map, map-map)
 
 -- The lowest bit after them.
 abbrev last_bit : ℕ → ℕ

@@ -5,30 +5,20 @@ use Rattle.ttx_packet.proofs.hamming.unham.Goals as goal
 
 pub returns-then-number : goal.returns-then-number
 returns-then-number c =
-    let none = decoded-by_table c.args.byte (omega arith)
-    ∙ cond-true _ _ _ (eq-eqb _ _ c.if-number.true) in
+    let b = c.args.byte in
+    let none = decoded-by_table b (omega arith) ∙ cond-true _ _ _ (eq-eqb _ _ c.if-number.true) in
     record {
       value = sym none;
-      decodes =
-          λ n. (
-            λ e. decodes_from c.args.byte n (none ∙ e),
-            λ is. sym none
-                ∙ decoded_from c.args.byte n is,
-          );
+      decodes = λ n. rw (← none) (decodes_from b n, decoded_from b n);
       small = tt;
     }
 
 pub returns-else-number : goal.returns-else-number
 returns-else-number c =
-    let some = decoded-by_table c.args.byte (omega arith)
-    ∙ cond-false _ _ _ (ne_eqb _ _ c.if-number.false) in
+    let b = c.args.byte in
+    let some = decoded-by_table b (omega arith) ∙ cond-false _ _ _ (ne_eqb _ _ c.if-number.false) in
     record {
       value = sym some;
-      decodes =
-          λ n. (
-            λ e. decodes_from c.args.byte n (some ∙ e),
-            λ is. sym some
-                ∙ decoded_from c.args.byte n is,
-          );
+      decodes = λ n. rw (← some) (decodes_from b n, decoded_from b n);
       small = omega arith;
     }
