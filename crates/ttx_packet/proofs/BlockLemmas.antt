@@ -1,9 +1,11 @@
--- Lists gone over in blocks: block_of, what a store of a block leaves (block_more), and the first
--- item that passes a test, by the masks of blocks (first_so_far).
+-- Lists gone over in blocks: block_of, what a store of a block leaves (block_more) and of a byte
+-- (byte_more), and the first item that passes a test, by the masks of blocks (first_so_far).
 use Rattle.std.proofs.Common.{◌≡◌, ℕ, zero, suc, ◌+◌, ◌*◌, ◌/◌, ◌^◌, ◌<◌, ◌≤◌, Bool, true, false, not}
-use Rattle.std.proofs.Common.{List, [], ◌++◌, map, length, get_or, take, drop, sym, ap, ap₂, ◌∙◌}
+use Rattle.std.proofs.Common.{List, [], ◌∷◌, ◌++◌, map, length, get_or, take, drop, sym, ap, ap₂, ◌∙◌}
 use Rattle.std.proofs.Common.{take_all, arith, w16}
 use Rattle.std.proofs.lemmas.List.{map-append, drop-drop, get_or_past, length-map, length-drop}
+use Rattle.std.proofs.lemmas.List.{length-set, take_more, take_more_set}
+use Rattle.std.proofs.Math.ListN.{set}
 use Rattle.std.proofs.lemmas.Nat.Bits.{bit_at-trailing_zeros}
 use Rattle.std.proofs.lemmas.Simd.{length-chunk, get_or-chunk, mask_l-lt, trailing_mask_l}
 use Rattle.std.proofs.lemmas.Simd.{none_from_empty_mask, run_in_chunk_stops, run_in_chunk_fails}
@@ -80,6 +82,24 @@ block_more f xs out ys n a w k m e width size room block to =
           ∙ sym (map-append f (take a xs) (chunk a w xs))
           ∙ ap (map f) (sym (take-add a w xs) ∙ ap (λ n. take n xs) (sym e));
     }
+
+-- f of the next byte makes them one more.
+pub byte_more : (f : ℕ → ℕ) (xs out : List ℕ) (n a m y : ℕ)
+    → m ≡ a + 1
+    → length xs ≡ n
+    → a < n
+    → y ≡ f (get_or xs a 0)
+    → IsMadeTo f xs n a out
+    → IsMadeTo f xs n m (set out a y)
+byte_more f xs out n a m y e size room byte to = record {
+  size = length-set out a y ∙ to.size;
+  done = ap (λ n. take n (set out a y)) e
+      ∙ take_more_set out a y (omega (arith, to.size))
+      ∙ ap₂ (λ x z. x ++ z ∷ []) to.done byte
+      ∙ sym (map-append f (take a xs) (get_or xs a 0 ∷ []))
+      ∙ ap (map f)
+      (sym (take_more xs a 0 (omega (arith, size))) ∙ ap (λ n. take n xs) (sym e));
+}
 
 -- Where all bytes are made, the list is f mapped over the other.
 pub made_whole : (f : ℕ → ℕ) (xs out : List ℕ) (n : ℕ)

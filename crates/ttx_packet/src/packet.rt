@@ -13,7 +13,7 @@ use crate::control::Control;
 use crate::hamming::{ham, is_word, unham};
 use crate::header::Header;
 use crate::parity::lanes::evens;
-use crate::parity::odd_bytes;
+use crate::parity::{is_odd, odd_bytes};
 use bitflags::Flags;
 use std::marker::Model;
 
@@ -158,18 +158,17 @@ impl Packet {
         ensures value { result ≡ first_even_byte self.now }
         ensures odd { IsNone result ↔ HasOddText self.now }
     {
-        let data = self.data();
-        let (blocks, _) = data.as_chunks::<16>();
+        let (blocks, rest) = self.data().as_chunks::<16>();
         for (i, block) in blocks.iter().enumerate() {
             let mask = evens(block);
             if mask != 0 {
                 return Some((16 * i + mask.trailing_zeros() as usize) as u8);
             }
         }
-        // The last block takes in columns of the one before it, so that none is left over.
-        let last = evens(data.last_chunk().unwrap());
-        if last != 0 {
-            return Some((24 + last.trailing_zeros() as usize) as u8);
+        for (j, byte) in rest.iter().enumerate() {
+            if !is_odd(*byte) {
+                return Some((32 + j) as u8);
+            }
         }
         None
     }

@@ -23,18 +23,17 @@ pub fn par(code: u8) -> u8
 }
 
 /// The bytes of odd parity of 40 codes, each below 128: those of a row.
-///
-/// The last eight are those of a block that begins eight bytes before them, so that none goes alone.
 pub(crate) fn odd_bytes(codes: &[u8; 40]) -> [u8; 40]
     requires { (k : ℕ) → slice_index codes.now k < 0x80 }
     ensures { result ≡ map odd_byte codes.now }
 {
     let mut bytes = [0; 40];
-    let (blocks, _) = codes.as_chunks::<16>();
+    let (blocks, rest) = codes.as_chunks::<16>();
     for (i, block) in blocks.iter().enumerate() {
         bytes[16 * i..16 * i + 16].copy_from_slice(&odd_block(block));
     }
-    let last = odd_block(codes.last_chunk().unwrap());
-    bytes[32..40].copy_from_slice(&last[8..16]);
+    for (j, code) in rest.iter().enumerate() {
+        bytes[32 + j] = par(*code);
+    }
     bytes
 }

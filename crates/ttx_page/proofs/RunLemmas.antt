@@ -14,7 +14,7 @@ RunsBy-push StepsBy [] packet old mid new run step = (new, rw run at step, refl)
 RunsBy-push StepsBy (p ∷ ps) packet old mid new run step =
     (run.0, run.1, RunsBy-push StepsBy ps packet run.0 mid new run.2 step)
 
--- The run of a loop over packets goes on by one. For `hear_all` and `show_all`.
+-- The run of a loop over packets goes on by one. For `hear_all`, of receivers and of `DropRow`.
 pub run_more :
     {S : Type 0} (StepsBy : S → List ℕ → S → Type 0) (packets : List (List ℕ)) (i : ℕ)
     (packet : List ℕ) (old mid new : S)

@@ -1,4 +1,4 @@
-use Rattle.std.proofs.Common.{◌*◌}
+use Rattle.std.proofs.Common.{◌+◌, ◌*◌}
 use Rattle.ttx_packet.specs.Parity.{odd_byte}
 use Rattle.ttx_packet.proofs.BlockLemmas.{IsMadeTo}
 use Rattle.ttx_packet.proofs.parity.odd_bytes.Given as goal
@@ -6,3 +6,7 @@ use Rattle.ttx_packet.proofs.parity.odd_bytes.Given as goal
 -- The blocks before are made.
 abbrev pub invariant-loop-i : goal.invariant-loop-i
 invariant-loop-i l = IsMadeTo odd_byte l.codes 40 (16 * l.i) l.bytes
+
+-- The bytes before are made.
+abbrev pub invariant-loop-j : goal.invariant-loop-j
+invariant-loop-j l = IsMadeTo odd_byte l.codes 40 (32 + l.j) l.bytes

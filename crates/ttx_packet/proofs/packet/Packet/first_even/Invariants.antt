@@ -1,8 +1,13 @@
-use Rattle.std.proofs.Common.{◌≡◌, ℕ, ◌*◌, ◌<◌, false, get_or, drop}
-use Rattle.ttx_packet.specs.Lanes.{is_even}
+use Rattle.std.proofs.Common.{◌≡◌, ℕ, ◌+◌, ◌*◌, ◌<◌, true, slice_index, drop}
+use Rattle.ttx_packet.specs.Parity.{is_odd}
 use Rattle.ttx_packet.proofs.packet.Packet.first_even.Given as goal
 
--- No data byte of the blocks before has even parity.
+-- The data bytes of the blocks before are odd.
 abbrev pub invariant-loop-i : goal.invariant-loop-i
 invariant-loop-i l =
-    (k : ℕ) → k < 16 * l.i → is_even (get_or (drop 2 l.self) k 0) ≡ false
+    (k : ℕ) → k < 16 * l.i → is_odd (slice_index (drop 2 l.self) k) ≡ true
+
+-- The data bytes before are odd.
+abbrev pub invariant-loop-j : goal.invariant-loop-j
+invariant-loop-j l =
+    (k : ℕ) → k < 32 + l.j → is_odd (slice_index (drop 2 l.self) k) ≡ true
