@@ -1,5 +1,6 @@
 -- What the steps show of the whole file decides the answer of `check`, `checked_from`; and what is
 -- told of both files that of `check_files`, `files_accepted`, `files_refused`.
+use Rattle.std.proofs.lemmas.Bool.Decides.{nat_tests}
 use Rattle.std.proofs.lemmas.Slice.Zip.{AllZip-long}
 use Rattle.std.proofs.Common.{◌≡◌, ◌≢◌, ◌↔◌, ℕ, List, [], Bool, Option, None, Result, Ok}
 use Rattle.std.proofs.Common.{Err, All, IsOk, IfOk, IsTrue, false, MatchResult, refl, sym, ap, ◌∙◌}
@@ -10,12 +11,10 @@ use Rattle.std.specs.Prelude.{IfErr}
 use Rattle.sub_io.specs.Device.{failed}
 use Rattle.stl_file.specs.Reader.{outcome_of}
 use Rattle.stl_file.specs.Subtitle.{SubtitleValue}
-use Rattle.stl_file.specs.declared.fault.StlFault.TheVariants.{Read}
 use Rattle.stl_rows.specs.Loading.{LawOfLoading, TellsFault, loaded}
 use Rattle.stl_rows.specs.Programme.{IsProgramme, ProgrammeValue}
 use Rattle.stl_rows.specs.declared.fault.LoadFault.{LoadFault}
 use Rattle.stl_rows.specs.declared.fault.LoadFaultKind.{LoadFaultKind}
-use Rattle.stl_rows.specs.declared.fault.LoadFaultKind.TheVariants.{File, Memory}
 use Rattle.stl_rows.specs.declared.national.National.{National}
 use Rattle.ttx_pes.specs.PesPacket.{IsPesPacket}
 use Rattle.sub_plan.specs.Options.{OptionsValue, IsOptions}
@@ -26,14 +25,13 @@ use Rattle.sub_check.specs.FirstBroken.{IsReadUpTo, NamesFirst}
 use Rattle.sub_check.specs.FrameRules.{Unread, task_of}
 use Rattle.sub_check.specs.Good.{Good}
 use Rattle.sub_check.specs.LostRows.{RobustToMarkedLoss}
-use Rattle.sub_check.specs.PacketRules.{header_count}
 use Rattle.sub_check.specs.OnScreen.{Complete, Shown}
 use Rattle.sub_check.specs.PesFrames.{Carries, IsSentAs}
 use Rattle.sub_check.specs.PesReading.{ReadsAs, pes_file_of}
 use Rattle.sub_check.specs.Planned.{planned}
 use Rattle.sub_check.specs.Recovery.{Recovers}
 use Rattle.sub_check.specs.Robust.{Robust}
-use Rattle.sub_check.specs.Transmission.{SentFrame, Transmission}
+use Rattle.sub_check.specs.Transmission.{Transmission}
 use Rattle.sub_check.specs.declared.checker.Accepted.{Accepted}
 use Rattle.sub_check.specs.declared.fault.CheckFault.{CheckFault}
 use Rattle.sub_check.proofs.CompleteLemmas.{complete_from}
@@ -71,8 +69,7 @@ module _ (programme : ProgrammeValue) (options : OptionsValue) (is : IsOptions o
     good_from : Good programme frames options
     good_from =
         Good-from_frames programme options unread frames places
-        (All-from_recursion (λ (s : SentFrame). All (λ packet. length packet ≡ 42) s.packets)
-        frames accepts.whole)
+        (grind (arith, nat_tests, All-from_recursion, All, length))
 
     complete_from_places : IsTrue options.asks_complete → Complete frames options
     complete_from_places asks =
@@ -84,16 +81,8 @@ module _ (programme : ProgrammeValue) (options : OptionsValue) (is : IsOptions o
         let few = accepts.few in
         let sizes = AllZip-long IsPesPacket taken.values taken.packets taken.each in
         let sent = AllZip-long (IsSentAs options.origin) taken.values frames taken.sent in
-        record {
-          values = taken.values;
-          file = record {
-            packets = taken.packets;
-            each = taken.each;
-            few = omega (arith, few, sizes, sent);
-            joined = taken.joined ∙ append-nil (concat taken.packets);
-          };
-          sent = record { each = taken.sent; rising = good_from.rising };
-        }
+        grind (arith, nat_tests, taken.values, taken.packets, taken.each, taken.joined,
+            append-nil (concat taken.packets), taken.sent, good_from.rising)
 
   -- No refusal is told of what the bytes carry, where it is good.
   not_refused :
@@ -117,15 +106,10 @@ module _ (programme : ProgrammeValue) (options : OptionsValue) (is : IsOptions o
       × (IsTrue options.asks_complete → Complete transmission options))
   accepted_from bytes (Ok a) decides =
       let file = pes_file_of options.origin bytes in
-      let accepts = decides file.frames file.unread refl in (
-        λ ok. (
-          file.frames,
-          carried_from bytes file.unread file.frames a accepts,
+      let accepts = decides file.frames file.unread refl in
+      (grind (arith, nat_tests, carried_from bytes file.unread file.frames a accepts,
           good_from bytes file.unread file.frames a accepts,
-          complete_from_places bytes file.unread file.frames a accepts,
-        ),
-        λ g. refl,
-      )
+          complete_from_places bytes file.unread file.frames a accepts))
   accepted_from bytes (Err f) decides = (
     λ ok. cc,
     λ g.
@@ -155,15 +139,8 @@ module _ (programme : ProgrammeValue) (options : OptionsValue) (is : IsOptions o
   counts_from bytes frames (Ok a) decides carries =
       let accepts =
       decides refl frames None (carried_is_read options.origin bytes frames carries) in
-      record {
-        frames_are =
-            let first = first-same frames in
-            let last = last-same frames in
-            let count = accepts.frames_are in
-            omega arith;
-        transmissions_are =
-            accepts.transmissions_are ∙ ap (header_count options.page) (whole-is frames);
-      }
+      grind (arith, nat_tests, first-same frames, last-same frames, accepts.frames_are,
+          accepts.transmissions_are, options.page, whole-is frames)
   counts_from bytes frames (Err f) decides carries = tt
 
   -- A refusal names the first place.
@@ -270,9 +247,7 @@ looked_at :
     → failed is_subtitle_fault answer ≡ false
     → failed is_failure answer ≡ false
     → failed is_pes_read answer ≡ false
-looked_at (Ok a) looked fine = refl
-looked_at (Err (fault.Subtitles f)) looked fine = cc
-looked_at (Err f) looked fine = fine
+looked_at answer looked fine = grind (arith, nat_tests)
 
 module _ (national : National) (options : OptionsValue) (stl pes : List ℕ)
     (programme : ProgrammeValue) (loading : LawOfLoading)
@@ -308,29 +283,11 @@ module _ (national : National) (options : OptionsValue) (stl pes : List ℕ)
                 λ ok.
                     let good = exactly.0 ok in
                     let file =
-                    (loading national stl programme.records).0 (given ∙ ap (λ p. Ok p) of) in (
-                      programme.records,
-                      good.0,
-                      record {
-                        gsi = file.0;
-                        subtitle_file = file.1;
-                        in_order = file.2;
-                        drawable = file.3;
-                        values = good.1.values;
-                        pes_file = good.1.file;
-                        sent = good.1.sent;
-                      },
-                      subst (λ (p : ProgrammeValue). Good p good.0 options) of good.2,
-                      good.3,
-                    ),
+                    (loading national stl programme.records).0 (given ∙ ap (λ p. Ok p) of) in
+                    (grind (arith, nat_tests)),
                 λ g.
-                    exactly.1 (
-                      g.1,
-                      carries_of g.0 g.1 g.2,
-                      subst (λ (p : ProgrammeValue). Good p g.1 options)
-                          (sym (programme_is g.0 g.1 g.2)) g.3,
-                      g.4,
-                    ),
+                    exactly.1
+                    (grind (arith, nat_tests, carries_of g.0 g.1 g.2, programme_is g.0 g.1 g.2)),
               );
           robust = λ s t mean ok.
               subst (λ (p : ProgrammeValue). Robust p t options) (programme_is s t mean)
@@ -354,9 +311,7 @@ own_fault :
     → is_failure_kind kind ≡ false
     → loaded national (outcome_of stl) ≡ Ok programme
     → ⊥
-own_fault national stl programme block (File Read) told fine is = cc
-own_fault national stl programme block Memory told fine is = cc
-own_fault national stl programme block kind told fine is = let both = sym told ∙ is in cc
+own_fault national stl programme block kind told fine is = grind (arith, nat_tests)
 
 -- Both files, where the subtitle file was refused. For `check_files`.
 pub files_refused :

@@ -1,15 +1,16 @@
 -- Two packets of code words and odd text that say the same are equal: `same_packet`.
+use Rattle.std.proofs.lemmas.Bool.Decides.{nat_tests}
 use Rattle.std.proofs.Common.{◌≡◌, ℕ, zero, suc, ◌+◌, ◌*◌, ◌/◌, ◌%◌, ◌<◌, true, not, List}
-use Rattle.std.proofs.Common.{[], ◌∷◌, length, get_or, slice_index, drop, map, Some, sym, ap, ◌∙◌}
+use Rattle.std.proofs.Common.{length, get_or, slice_index, drop, map, Some, sym, ap, ◌∙◌}
 use Rattle.std.proofs.Common.{subst, arith, refl}
 use Rattle.std.proofs.lemmas.Bool.{agree_below_at, true≢false}
 use Rattle.std.proofs.lemmas.List.{same_lists, get_or-map, get_or-drop, get_or_default, length-drop}
 use Rattle.std.proofs.lemmas.Option.{same_Some}
 use Rattle.std.specs.Int.RustNames.{count_ones}
 use lib.Count.{ones_in}
-use Rattle.ttx_packet.specs.Hamming84.{code_word, decoded}
+use Rattle.ttx_packet.specs.Hamming84.{code_word}
 use Rattle.ttx_packet.specs.Parity.{is_odd, code_of}
-use Rattle.ttx_packet.specs.PacketAddress.{PacketAddress, address, decoded_at, HasExactAddress}
+use Rattle.ttx_packet.specs.PacketAddress.{PacketAddress, address, HasExactAddress}
 use Rattle.ttx_packet.specs.PacketAddress.{IsPacket}
 use Rattle.ttx_packet.specs.RowPacket.{HasOddText}
 use Rattle.ttx_packet.proofs.Hamming84Lemmas.{decoded-code_word}
@@ -46,10 +47,7 @@ address_is :
     → address p
     ≡ Some (record { magazine = (m + 0x10 * n) % 8; packet_number = (m + 0x10 * n) / 8 })
 unfolding address
-address_is p m n lm ln e f =
-    let g : decoded_at p 0 ≡ Some m = ap decoded e ∙ decoded-code_word m lm in
-    let h : decoded_at p 1 ≡ Some n = ap decoded f ∙ decoded-code_word n ln in
-    rw (g, h)
+address_is p m n lm ln e f = grind (arith, decoded-code_word)
 
 -- Packets of code words with one address have the same two bytes. For `same_packet`.
 same_address :
@@ -89,12 +87,6 @@ code_at p k size l =
     get_or-map code_of (drop 2 p) k 0 0 e
     ∙ ap (λ x. x % 128) (get_or-drop 2 p k 0 ∙ ap (λ n. get_or p n 0) (omega arith))
 
--- Each code is below 128. For `text_codes`.
-pub codes_small : (xs : List ℕ) (k : ℕ) → slice_index (map code_of xs) k < 128
-codes_small [] k = omega arith
-codes_small (x ∷ xs) zero = omega arith
-codes_small (x ∷ xs) (suc k) = codes_small xs k
-
 -- Two packets of one address, in code words, and of one text, in odd bytes, are equal. So a checker
 -- needs to keep only the codes of a row to know its packet.
 pub same_packet :
@@ -121,9 +113,7 @@ same_packet p q wp wq xp xq a op oq codes =
     later j l =
         odd_same (get_or p (j + 2) 0) (get_or q (j + 2) 0) (wp.bytes (j + 2)) (wq.bytes (j + 2))
         (op j l) (oq j l)
-        (sym (code_at p j wp.size l)
-        ∙ ap (λ cs. slice_index cs j) codes
-        ∙ code_at q j wq.size l)
+        (grind (arith, nat_tests, code_at p j wp.size l, slice_index, code_at q j wq.size l))
 
     at : (k : ℕ) → k < 42 → get_or p k 0 ≡ get_or q k 0
     at zero l = two.0

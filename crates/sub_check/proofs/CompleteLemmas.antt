@@ -1,9 +1,8 @@
 -- Complete pages, by frames of the day and by frames of the list: `complete_from`, `ended_at`.
-use Rattle.std.proofs.Common.{◌≡◌, ℕ, ◌+◌, ◌-◌, ◌<◌, inl, inr, Bool, true, false, ◌&&◌, List}
+use Rattle.std.proofs.Common.{◌≡◌, ℕ, ◌+◌, ◌-◌, ◌<◌, Bool, false, List}
 use Rattle.std.proofs.Common.{length, sym, ap, ◌∙◌, arith}
-use Rattle.std.proofs.lemmas.Bool.{cases_Bool}
 use Rattle.ttx_page.specs.PacketKind.{kind}
-use Rattle.ttx_page.specs.Span.{holds_header, is_open_after, is_unended}
+use Rattle.ttx_page.specs.Span.{is_open_after}
 use Rattle.sub_plan.specs.Options.{OptionsValue}
 use Rattle.sub_check.specs.FrameRules.{frame_at, packets_before}
 use Rattle.sub_check.specs.OnScreen.{Complete}
@@ -15,15 +14,6 @@ module _ (options : OptionsValue) (t : Transmission)
   -- The page is open after these packets.
   abbrev is_open : List (List ℕ) → Bool
   is_open packets = is_open_after (kind options.page) packets
-
-  -- A page that is not open, and of which a header was sent, is ended.
-  ended_of :
-      (packets : List (List ℕ))
-      → is_open packets ≡ false
-      → holds_header (kind options.page) packets ≡ true
-      → is_unended (kind options.page) packets ≡ false
-  ended_of packets shut holds =
-      ap (λ b. b && is_unended (kind options.page) packets) (sym holds) ∙ shut
 
   -- Where the page is open at the end of no frame of the list, pages are complete.
   pub complete_from :
@@ -38,24 +28,11 @@ module _ (options : OptionsValue) (t : Transmission)
       let shut : is_open (packets_before t n) ≡ false =
       ap (λ m. is_open (packets_before t m)) (sym same) ∙ ended (n - 1) (omega (arith, above, le))
       in
-      ap (is_unended (kind options.page)) on
-      ∙ ended_of (packets_before t n) shut
-      (ap (holds_header (kind options.page)) (sym on) ∙ holds)
+      grind arith
 
   -- And the other way round.
   pub ended_at :
       Complete t options → (i : ℕ) → i < length t → is_open (packets_before t (i + 1)) ≡ false
   ended_at complete i l =
-      elim (cases_Bool (holds_header (kind options.page) (packets_before t (i + 1)))) [
-        | inl holds ↦
-            let on = on_air_at t rising i l in
-            let first = first-same t in
-            let last = last-same t in
-            let low = rises_to t rising 0 i (omega arith) l in
-            let high = rises_to t rising i (length t - 1) (omega arith) (omega arith) in
-            ap (λ b. b && is_unended (kind options.page) (packets_before t (i + 1))) holds
-            ∙ ap (is_unended (kind options.page)) (sym on)
-            ∙ complete (frame_at t i) (omega arith) (omega arith)
-            (ap (holds_header (kind options.page)) on ∙ holds)
-        | inr none ↦ ap (λ b. b && is_unended (kind options.page) (packets_before t (i + 1))) none
-      ]
+      grind (arith, on_air_at t rising i l, last-same t, rises_to t rising 0 i (omega arith) l,
+          rises_to t rising i (length t - 1) (omega arith) (omega arith))

@@ -1,10 +1,10 @@
 -- Where content is refused, every receiver shows another code than is due: `wrong_everywhere`.
+use Rattle.std.proofs.lemmas.Bool.Decides.{nat_tests}
 use Rattle.std.proofs.Common.{All}
 use Rattle.std.proofs.lemmas.List.Elements.{All-nil, All-push}
-use Rattle.std.proofs.Common.{slice_index, suc, ◌≡◌, ℕ, ◌+◌, ◌-◌, ◌<◌, ◌≤◌, ◌⊎◌, inl, inr, true}
-use Rattle.std.proofs.Common.{List, [], ◌∷◌, Option, Some, None, length, take, map, IsFalse, refl}
-use Rattle.std.proofs.Common.{sym, ap, ◌∙◌, subst, arith, length-take}
-use Rattle.std.specs.List.{flat_map}
+use Rattle.std.proofs.Common.{slice_index, ◌≡◌, ℕ, ◌+◌, ◌-◌, ◌<◌, ◌≤◌, ◌⊎◌, inl, inr, true}
+use Rattle.std.proofs.Common.{List, [], ◌∷◌, Option, length, take, map, IsFalse, refl}
+use Rattle.std.proofs.Common.{sym, ap, ◌∙◌, arith, length-take}
 use Rattle.std.proofs.lemmas.List.{get_or-take, take-map}
 use Rattle.ttx_packet.specs.PageHeader.{HasExactWords}
 use Rattle.ttx_page.specs.Noise.{ErasesPage, IsSound}
@@ -16,13 +16,10 @@ use Rattle.ttx_page.specs.Span.{holds_header, span}
 use Rattle.ttx_page.proofs.NoiseLaws.{AreNear-themselves, law_of_noise, law_of_quiet}
 use Rattle.stl_rows.specs.Programme.{ProgrammeValue}
 use Rattle.sub_plan.specs.Options.{OptionsValue}
-use Rattle.sub_check.specs.FirstBroken.{IsFirst, NamesFirst, Place, unread_fault, IsBefore}
-use Rattle.sub_check.specs.FirstBroken.{fault_at}
+use Rattle.sub_check.specs.FirstBroken.{IsFirst, NamesFirst, IsBefore}
 use Rattle.sub_check.specs.FirstBroken.Place.{AtOrder, AtGapCell, AtPacket, AtFirst, AtCell}
-use Rattle.sub_check.specs.FirstBroken.Place.{AtUnread}
 use Rattle.sub_check.specs.FrameRules.{HasHeader, ShowsDue, Task, Unread, frame_at, packets_before}
 use Rattle.sub_check.specs.FrameRules.{packets_of_frame, task_of}
-use Rattle.sub_check.specs.FrameRules.Unread.{BadPacket, NoFrame}
 use Rattle.sub_check.specs.PacketRules.{IsClean, rank}
 use Rattle.sub_check.specs.Transmission.{IsRising, SentFrame, Transmission, last_frame}
 use Rattle.sub_check.specs.Transmission.{on_air_until}
@@ -96,12 +93,8 @@ first_header-packets_before :
     → n ≤ length frames
     → holds_header (kind w.page) (packets_of_frame frames 0) ≡ true
     → holds_header (kind w.page) (packets_before frames n) ≡ true
-first_header-packets_before w [] n some fits head = absurd (omega arith)
-first_header-packets_before w (s ∷ frames) n some fits head =
-    let e : n ≡ suc (n - 1) = omega arith in
-    subst (λ m. holds_header (kind w.page) (packets_before (s ∷ frames) m) ≡ true) (sym e)
-    (holds-append_left (kind w.page) s.packets
-    (flat_map (λ (x : SentFrame). x.packets) (take (n - 1) frames)) head)
+first_header-packets_before w frames n some fits head =
+    grind (arith, nat_tests, holds-append_left)
 
 -- ---- the first n frames
 
@@ -124,20 +117,11 @@ module _ (frames : Transmission) (n f : ℕ) (some : 0 < n) (fits : n ≤ length
 
   -- They rise.
   rising_read : (i : ℕ) → 0 < i → i < length read → frame_at read (i - 1) < frame_at read i
-  rising_read i a b =
-      let size = long in
-      let x = same_frame (i - 1) (omega arith) in
-      let y = same_frame i (omega arith) in
-      let r = rising i a (omega arith) in
-      omega arith
+  rising_read i a b = grind (arith, long, same_frame)
 
   -- So they are a rising transmission.
   rises_read : IsRising read
-  rises_read i j d l m =
-      let x = number_at read i d (omega arith) in
-      let y = number_at read j d m in
-      let r = rises_strictly read rising_read i j l m in
-      omega arith
+  rises_read i j d l m = grind (arith, number_at, rises_strictly, rising_read)
 
   -- The last one.
   last_is : last_frame read ≡ frame_at frames (n - 1)
@@ -147,13 +131,7 @@ module _ (frames : Transmission) (n f : ℕ) (some : 0 < n) (fits : n ≤ length
   -- All of them are on air up to frame f.
   on_air_read : on_air_until read f ≡ packets_before frames n
   on_air_read =
-      let size = long in
-      let last = same_frame (n - 1) (omega arith) in
-      let end : frame_at read (length read - 1) ≡ frame_at read (n - 1) =
-      ap (λ m. frame_at read (m - 1)) size in
-      on_air_is read rising_read (length read) f (omega arith) (λ s. omega arith)
-      (λ l. absurd (omega arith))
-      ∙ whole-is read
+      grind (arith, long, same_frame, on_air_is, whole-is)
 
 module _ (programme : ProgrammeValue) (options : OptionsValue) (unread : Option Unread)
     (frames : Transmission) where
@@ -179,21 +157,12 @@ module _ (programme : ProgrammeValue) (options : OptionsValue) (unread : Option 
       let last = last_is frames n f some fits rising up_to in
       record {
         read = take n frames;
-        are_read = record {
-          n = n;
-          some = some;
-          within = fits;
-          first_n = refl;
-          rising = rises_read frames n f some fits rising up_to;
-          up_to = omega (arith, last);
-          next = λ more. elim (next more) [ inl e ↦ inl (last ∙ e) | inr later ↦ inr later ];
-        };
+        are_read = grind (arith, rises_read frames n f some fits rising up_to);
         wrong = λ old new unheard shut hears e.
             other
             (sym (all_show g.watched frames n fits clean
             (first_header-packets_before g.watched frames n some fits head) old new unheard shut
-            (subst (λ ps. Hears options.page old ps new)
-            (on_air_read frames n f some fits rising up_to) hears) row column is)
+            (grind (arith, nat_tests, on_air_read frames n f some fits rising up_to)) row column is)
             ∙ e);
       }
 
@@ -236,32 +205,10 @@ module _ (programme : ProgrammeValue) (options : OptionsValue) (unread : Option 
       (first.earlier AtFirst (inr (refl, inl gap.0)) (omega (arith, gap.1))) first.there.1
       first.broken
 
-  -- What is not read is refused by no cell.
-  never_unread : (n f row column : ℕ) (u : Option Unread)
-      → fault.Content f row column ≡ unread_fault n u → ⊥
-  never_unread n f row column None e = cc
-  never_unread n f row column (Some (BadPacket p)) e = cc
-  never_unread n f row column (Some NoFrame) e = cc
-
   -- A refusal that names a cell.
   pub wrong_everywhere :
       (f row column : ℕ)
       → NamesFirst g frames (fault.Content f row column)
       → IsWrongEverywhere programme options frames f row column
-  wrong_everywhere f row column (x, e, first) = go x e first
-    where
-      go : (y : Place) → fault.Content f row column ≡ fault_at g frames y → IsFirst g frames y
-          → IsWrongEverywhere programme options frames f row column
-      go (AtGapCell i h r c) e first =
-          let a : h ≡ f = cc in
-          let b : r ≡ row = cc in
-          let d : c ≡ column = cc in
-          rw (← a, ← b, ← d) (wrong_gap_cell i h r c first)
-      go (AtCell i r c) e first =
-          let a : frame_at frames i ≡ f = cc in
-          let b : r ≡ row = cc in
-          let d : c ≡ column = cc in
-          rw (← a, ← b, ← d) (wrong_cell i r c first)
-      go AtUnread e first = absurd (never_unread (length frames) f row column unread e)
-      go (AtPacket i k rule.Address) e first = cc
-      go y e first = cc
+  wrong_everywhere f row column (x, e, first) =
+      grind (arith, wrong_gap_cell, wrong_cell)

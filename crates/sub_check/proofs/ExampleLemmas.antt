@@ -1,4 +1,6 @@
 -- Examples by the tests of all rules: good_by_test, and by_test for one that breaks a rule alone.
+use Rattle.std.proofs.lemmas.Bool.Decides.{nat_tests}
+use Rattle.std.proofs.Common.{arith}
 use Rattle.std.proofs.Common.{◌≡◌, ℕ, inl, inr, ◌==◌, Bool, true, not, ◌&&◌, ◌||◌, cond, eqb-true}
 use Rattle.std.proofs.Common.{refl, sym, ap, ◌∙◌}
 use Rattle.std.proofs.lemmas.Bool.{and_parts, or_cases, not-true}
@@ -22,32 +24,7 @@ all_rules test =
     && (test SubtitleControl && (test CleanSpans && (test RepeatBound && test DuePages)))))
 
 each_rule : (test : Rule → Bool) → all_rules test ≡ true → (rule : Rule) → test rule ≡ true
-each_rule test e =
-    let a = and_parts (test Frames) _ e in
-    let b = and_parts (test ExactWords) _ a.1 in
-    let c = and_parts (test OneMode) _ b.1 in
-    let d = and_parts (test SubtitleControl) _ c.1 in
-    let f = and_parts (test CleanSpans) _ d.1 in
-    let g = and_parts (test RepeatBound) _ f.1 in
-    pick a.0 b.0 c.0 d.0 f.0 g.0 g.1
-  where
-    pick :
-        test Frames ≡ true
-        → test ExactWords ≡ true
-        → test OneMode ≡ true
-        → test SubtitleControl ≡ true
-        → test CleanSpans ≡ true
-        → test RepeatBound ≡ true
-        → test DuePages ≡ true
-        → (rule : Rule)
-        → test rule ≡ true
-    pick a b c d f g h Frames = a
-    pick a b c d f g h ExactWords = b
-    pick a b c d f g h OneMode = c
-    pick a b c d f g h SubtitleControl = d
-    pick a b c d f g h CleanSpans = f
-    pick a b c d f g h RepeatBound = g
-    pick a b c d f g h DuePages = h
+each_rule test e = grind (arith, nat_tests, and_parts, true)
 
 -- A transmission whose tests all pass is good.
 pub good_by_test :

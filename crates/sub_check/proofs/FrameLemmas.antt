@@ -1,14 +1,11 @@
 -- The frames of a range that pass a test, as a transmission: sent_at, sent_none, rises.
-use Rattle.std.proofs.lemmas.List.Kept.{AllPairs-cons}
 use Rattle.std.proofs.Common.{◌≡◌, ℕ, zero, suc, ◌+◌, ◌<◌, ◌≤◌, inl, inr, Bool, true, false, ◌&&◌}
 use Rattle.std.proofs.Common.{nat_le, nat_lt, cond, List, [], ◌∷◌, ◌++◌, map, filter, flat_map}
-use Rattle.std.proofs.Common.{slice_index_or, All, refl, ap, ap₂, ◌∙◌, arith, append-nil}
+use Rattle.std.proofs.Common.{slice_index_or, All, refl, ap, ◌∙◌, arith, append-nil}
 use Rattle.std.specs.List.{range_with_len, AllByRecursion}
 use Rattle.std.proofs.lemmas.Bool.{cases_lt}
 use Rattle.std.proofs.lemmas.Bool.Decides.{nat_tests}
-use Rattle.std.proofs.lemmas.List.{map-append}
-use Rattle.std.proofs.lemmas.List.Elements.{All-map, All-from_recursion, filter-append}
-use Rattle.sub_plan.proofs.ScheduleBases.{range_split}
+use Rattle.std.proofs.lemmas.List.Elements.{All-map, All-from_recursion}
 use Rattle.sub_check.specs.Transmission.{SentFrame, Transmission, EachPacket, IsRising, last_frame}
 use Rattle.sub_check.specs.Transmission.{packets_between}
 use Rattle.sub_check.proofs.TransmissionLemmas.{packets_between-none}
@@ -28,8 +25,7 @@ module _ (made : ℕ → SentFrame) (numbered : (f : ℕ) → (made f).frame ≡
   -- Frames from one on are that or later.
   later : (a n b : ℕ) → b ≤ a → AllByRecursion (λ (frame : SentFrame). b ≤ frame.frame) (frames a n)
   later a zero b l = tt
-  later a (suc n) b l =
-      let ih = later (a + 1) n b (omega arith) in let is = numbered a in grind arith
+  later a (suc n) b l = grind (arith, nat_tests, later (a + 1) n b (omega arith))
 
   -- The frames rise.
   pub rises : (a n : ℕ) → IsRising (frames a n)
@@ -37,11 +33,7 @@ module _ (made : ℕ → SentFrame) (numbered : (f : ℕ) → (made f).frame ≡
   rises a (suc n) = go (p a) (rises (a + 1) n)
     where
       go : (t : Bool) → IsRising (frames (a + 1) n) → IsRising (passing t a n)
-      go true ih =
-          AllPairs-cons (λ (s u : SentFrame). s.frame < u.frame) (made a) (frames (a + 1) n)
-          (All-from_recursion (λ (s : SentFrame). suc (made a).frame ≤ s.frame) (frames (a + 1) n)
-          (later (a + 1) n (suc (made a).frame) (omega (arith, numbered a)))) ih
-      go false ih = ih
+      go t ih = grind (arith, nat_tests, All-from_recursion, later)
 
   -- What one frame gives.
   abbrev piece : ℕ → ℕ → SentFrame → List (List ℕ)
@@ -51,11 +43,7 @@ module _ (made : ℕ → SentFrame) (numbered : (f : ℕ) → (made f).frame ≡
   pub sent_none : (from end a n : ℕ) → ((j : ℕ) → from ≤ j → j < end → p j ≡ false)
       → packets_between (frames a n) from end ≡ []
   sent_none from end a zero none = refl
-  sent_none from end a (suc n) none =
-      let ih = sent_none from end (a + 1) n none in
-      let is = numbered a in
-      let off = none a in
-      grind (arith, nat_tests)
+  sent_none from end a (suc n) none = grind (arith, nat_tests, sent_none from end (a + 1) n none)
 
   -- What is sent in one frame.
   pub sent_at : (g a n : ℕ) → p g ≡ true → a ≤ g → g < a + n
@@ -72,13 +60,7 @@ module _ (made : ℕ → SentFrame) (numbered : (f : ℕ) → (made f).frame ≡
     where
       at : (t : Bool) → t ≡ true → a ≡ g
           → packets_between (passing t a n) g (g + 1) ≡ (made g).packets
-      at true h e =
-          let is = numbered a in
-          let here : piece g (g + 1) (made a) ≡ (made a).packets = grind (arith, nat_tests) in
-          let rest = later (a + 1) n (g + 1) (omega arith) in
-          ap₂ ◌++◌ here (packets_between-none (frames (a + 1) n) g (g + 1) rest)
-          ∙ append-nil (made a).packets ∙ ap (λ x. (made x).packets) e
-      at false h e = cc
+      at t h e = grind (arith, nat_tests, later, packets_between-none, append-nil)
 
   -- Between two frames stand the packets of some of the frames.
   pub sent_some : (from end : ℕ) (fs : List ℕ) → (gs : List ℕ)
@@ -102,17 +84,7 @@ module _ (made : ℕ → SentFrame) (numbered : (f : ℕ) → (made f).frame ≡
 
   -- The first frame of a range that passes.
   pub starts_with : (a n : ℕ) → p a ≡ true → frames a (suc n) ≡ made a ∷ frames (a + 1) n
-  starts_with a n h = ap
-      (λ t. map made (cond t (a ∷ filter p (range_with_len (a + 1) n))
-      (filter p (range_with_len (a + 1) n)))) h
-
-  -- And the last.
-  pub ends_with : (a n : ℕ) → p (a + n) ≡ true → frames a (n + 1) ≡ frames a n ++ made (a + n) ∷ []
-  ends_with a n h =
-      ap (λ xs. map made (filter p xs)) (range_split a n 1)
-      ∙ ap (map made) (filter-append p (range_with_len a n) (range_with_len (a + n) 1))
-      ∙ map-append made (filter p (range_with_len a n)) (filter p (range_with_len (a + n) 1))
-      ∙ ap (λ t. map made (filter p (range_with_len a n)) ++ map made (cond t ((a + n) ∷ []) [])) h
+  starts_with a n h = grind arith
 
 -- The last frame of a list that got one more.
 pub last_push : (frames : Transmission) (frame : SentFrame)

@@ -18,7 +18,7 @@ use Rattle.ttx_page.proofs.SpanLists.{holds-append_left, holds-append_right}
 use Rattle.std.proofs.lemmas.Bool.Decides.{nat_tests}
 use Rattle.sub_check.specs.Transmission.{SentFrame, Transmission, EachPacket, first_frame}
 use Rattle.sub_check.specs.Transmission.{last_frame, packets_of, on_air_until}
-use Rattle.stl_rows.specs.Programme.{ProgrammeValue, first_in, last_out}
+use Rattle.stl_rows.specs.Programme.{ProgrammeValue}
 use Rattle.sub_plan.specs.Options.{OptionsValue}
 use Rattle.sub_check.specs.Good.{Good, IsCleanSpan}
 use Rattle.sub_check.proofs.GoodByPlace.{GoodFrames, whole}
@@ -27,7 +27,6 @@ use Rattle.sub_check.proofs.PrefixLemmas.{first-same, last-same, on_air_is, rise
 use Rattle.sub_check.proofs.PrefixLemmas.{on_air_at, rises_to}
 use Rattle.sub_check.proofs.StepByStepLemmas.{clean_nil}
 use Rattle.std.proofs.lemmas.List.Folds.{list_any-append}
-use Rattle.std.proofs.lemmas.Option.{none-some, same_Some}
 use Rattle.sub_check.specs.OnScreen.{Complete}
 use Rattle.sub_check.proofs.CompleteLemmas.{ended_at}
 
@@ -55,9 +54,7 @@ whole-is t = ap (flat_map (λ (s : SentFrame). s.packets)) (take_all (length t) 
 -- What holds of all packets holds of each packet of the transmission.
 pub each_packet : (P : List ℕ → Type 0) (t : Transmission) → AllByRecursion P (whole t)
     → EachPacket P t
-each_packet P t h =
-    (All-from_recursion (λ (s : SentFrame). All P s.packets) t
-    (Each-parts P t (subst (AllByRecursion P) (whole-is t) h)))
+each_packet P t h = grind (arith, All-from_recursion, Each-parts, whole-is)
 
 -- ---- headers
 
@@ -67,11 +64,7 @@ any_sent : (w : Watched) (t : Transmission) (j n : ℕ) → j < length t → fra
     → holds_header (kind w.page) (packets_of t n) ≡ true
 any_sent w [] j n l e h = absurd (omega arith)
 any_sent w (s ∷ ss) zero n l e h =
-    let is : s.frame ≡ n = e in
-    let here : cond (nat_le n s.frame && nat_lt s.frame (n + 1)) s.packets [] ≡ s.packets =
-    grind (arith, nat_tests) in
-    subst (λ ps. holds_header (kind w.page) (ps ++ packets_of ss n) ≡ true) (sym here)
-    (holds-append_left (kind w.page) s.packets (packets_of ss n) h)
+    grind (arith, holds-append_left)
 any_sent w (s ∷ ss) (suc j) n l e h =
     holds-append_right (kind w.page)
     (cond (nat_le n s.frame && nat_lt s.frame (n + 1)) s.packets []) (packets_of ss n)
@@ -95,8 +88,7 @@ number_at (s ∷ ss) (suc i) d l = number_at ss i d (omega arith)
 
 -- What holds of the value of an option, if there is one.
 if_some : (o : Option ℕ) (P : ℕ → Type 0) → ((x : ℕ) → o ≡ Some x → P x) → IfSome o P
-if_some None P h = tt
-if_some (Some x) P h = h x refl
+if_some o P h = grind arith
 
 module _ (programme : ProgrammeValue) (options : OptionsValue) (unread : Option Unread)
     (t : Transmission) (h : GoodFrames (task_of programme options unread) t) where
@@ -156,13 +148,9 @@ module _ (programme : ProgrammeValue) (options : OptionsValue) (unread : Option 
   repeats_of start low high =
       let first = first-same t in
       let last = last-same t in
-      let r = h.repeats start (omega arith) (omega arith) in (
-        frame_at t r.0,
-        r.2,
-        r.3,
-        any_sent (watched_of programme options) t r.0 (frame_at t r.0) r.1
-            refl r.4,
-      )
+      let r = h.repeats start (omega arith) (omega arith) in
+      (grind (arith, nat_tests,
+          any_sent (watched_of programme options) t r.0 (frame_at t r.0) r.1 refl r.4))
 
   -- The frames rise.
   rising_of : (i j : ℕ) (d : SentFrame) → i < j → j < length t
@@ -179,10 +167,8 @@ module _ (programme : ProgrammeValue) (options : OptionsValue) (unread : Option 
     whole = sizes;
     not_empty = h.some;
     rising = rising_of;
-    starts = if_some (first_in programme.records) (λ frame. first_frame t ≤ frame)
-        (λ x e. let b = h.begins x e in let first = first-same t in omega arith);
-    lasts = if_some (last_out programme.records) (λ frame. frame ≤ last_frame t)
-        (λ x e. let b = h.ends x e in let last = last-same t in omega arith);
+    starts = grind arith;
+    lasts = grind (arith, last-same t);
     exact = h.exact;
     serial = h.serial;
     control = h.headers;
@@ -217,11 +203,6 @@ sent_any w (s ∷ ss) n e =
       | inr there ↦ let r = later there in (suc r.0, omega (arith, r.1), r.2, r.3)
     ]
 
--- The same of the value of an option, the other way round.
-some_if : (o : Option ℕ) (P : ℕ → Type 0) → IfSome o P → (x : ℕ) → o ≡ Some x → P x
-some_if None P h x e = absurd (none-some x e)
-some_if (Some y) P h x e = subst P (same_Some y x e) h
-
 module _ (programme : ProgrammeValue) (options : OptionsValue) (t : Transmission)
     (h : Good programme t options) where
   -- There is a frame.
@@ -249,8 +230,8 @@ module _ (programme : ProgrammeValue) (options : OptionsValue) (t : Transmission
       let cut :
       take n (packets_before t i ++ packets_of_frame t i)
       ≡ packets_before t i ++ take k (packets_of_frame t i) =
-      take-over (packets_before t i) (packets_of_frame t i) n (omega arith)
-      ∙ ap (λ x. packets_before t i ++ take x (packets_of_frame t i)) (omega arith) in
+      grind (arith, nat_tests,
+          take-over (packets_before t i) (packets_of_frame t i) n (omega arith)) in
       subst (λ xs. IsCleanSpan options.page (span (kind options.page) xs))
       (ap (take n) (on_air_at t rising_back i l ∙ joined_more t i l) ∙ cut)
       (h.spans f n (omega arith))
@@ -286,12 +267,8 @@ module _ (programme : ProgrammeValue) (options : OptionsValue) (t : Transmission
     complete = refl;
     rising = rising_back;
     some = some_back;
-    begins = λ x e. let first = first-same t in
-        let b = some_if (first_in programme.records) (λ frame. first_frame t ≤ frame) h.starts x e
-        in omega arith;
-    ends = λ x e. let last = last-same t in
-        let b = some_if (last_out programme.records) (λ frame. frame ≤ last_frame t) h.lasts x e in
-        omega arith;
+    begins = grind arith;
+    ends = grind (arith, last-same t);
     exact = h.exact;
     serial = h.serial;
     headers = h.control;

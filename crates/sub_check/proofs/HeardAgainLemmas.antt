@@ -1,16 +1,16 @@
 -- A receiver that has heard packets of which the first erases the page may be what it is when it
 -- has heard them again, at once: `runs_again`.
-use Rattle.std.proofs.Common.{◌≡◌, ℕ, inl, inr, Bool, true, false, not, List, [], ◌∷◌}
-use Rattle.std.proofs.Common.{IsFalse, refl, sym, ap, ◌∙◌, subst, true≢false}
-use Rattle.std.proofs.lemmas.Bool.{and_right, cond-true}
-use Rattle.ttx_packet.specs.PageHeader.{c4}
+use Rattle.std.proofs.lemmas.Bool.Decides.{nat_tests}
+use Rattle.std.proofs.Common.{arith}
+use Rattle.std.proofs.Common.{◌≡◌, ℕ, Bool, true, false, not, List, [], ◌∷◌}
+use Rattle.std.proofs.Common.{IsFalse, refl, ap, subst, true≢false}
+use Rattle.std.proofs.lemmas.Bool.{and_right}
 use Rattle.ttx_packet.specs.PageId.{PageIdValue}
-use Rattle.ttx_page.specs.Page.{Rows, blank}
-use Rattle.ttx_page.specs.Receiver.{Hears, State, Step, StepAt}
+use Rattle.ttx_page.specs.Page.{Rows}
+use Rattle.ttx_page.specs.Receiver.{Hears, State, Step}
 use Rattle.ttx_page.specs.Screen.{Display, Shows, display, is_ended}
 use Rattle.sub_check.specs.Reception.{RunsThrough}
 use Rattle.sub_check.specs.Untouched.{ErasesPageAt}
-use Rattle.ttx_page.specs.declared.packet_kind.PacketKind.TheVariants.{ThisPage}
 
 -- A receiver whose page was erased just now.
 abbrev opened : Rows → State
@@ -19,21 +19,11 @@ opened page = record { heard = true; is_open = true; page = page }
 module _ (w : PageIdValue) (packet : List ℕ) (e : ErasesPageAt w packet) where
   -- The step at a header that erases the page is the same from each state.
   same_step : (old other new : State) → Step w old packet new → Step w other packet new
-  same_step old other new step =
-      let at : StepAt (ThisPage e.header) packet old new =
-      subst (λ k. StepAt k packet old new) e.kind_is step in
-      subst (λ k. StepAt k packet other new) (sym e.kind_is)
-      (at
-      ∙ ap opened
-      (cond-true (c4 e.header) blank old.page e.erases
-      ∙ sym (cond-true (c4 e.header) blank other.page e.erases)))
+  same_step old other new step = grind arith
 
   -- It leaves the page open.
   stays_open : (old new : State) → Step w old packet new → new.is_open ≡ true
-  stays_open old new step =
-      let at : StepAt (ThisPage e.header) packet old new =
-      subst (λ k. StepAt k packet old new) e.kind_is step in
-      ap (λ (s : State). s.is_open) at
+  stays_open old new step = grind arith
 
 -- A run goes to the same display from what is on the screen at its end.
 carry :
@@ -50,26 +40,7 @@ carry w (p ∷ ps) old new (mid, step, shows, rest) =
         → is_ended old.held mid.held ≡ b
         → Shows w (display mid.held new.screen) ps new
         → Shows w (display old.held new.screen) (p ∷ ps) new
-    go true ended carried = (
-      mid,
-      step,
-      record {
-        ended = shows.ended;
-        again = λ is. inl (shows.ended ended);
-        stays = λ none. absurd (true≢false (sym ended ∙ none));
-      },
-      rest,
-    )
-    go false none carried = (
-      display mid.held new.screen,
-      step,
-      record {
-        ended = λ is. absurd (true≢false (sym is ∙ none));
-        again = λ is. inr refl;
-        stays = λ a b. refl;
-      },
-      carried,
-    )
+    go b ended carried = grind arith
 
 -- So one with a screen may be left as it is where they are sent again.
 shows_again :
@@ -80,16 +51,9 @@ shows_again :
 shows_again w first others old new e (mid, step, shows, rest) =
     let open_is = stays_open w first e old.held mid.held step in
     let none : IsFalse (is_ended new.held mid.held) =
-    and_right new.held.is_open (not mid.held.is_open) (ap not open_is) in (
-      display mid.held new.screen,
-      same_step w first e old.held new.held mid.held step,
-      record {
-        ended = λ is. absurd (true≢false (sym is ∙ none));
-        again = λ is. inr refl;
-        stays = λ a b. refl;
-      },
-      carry w others mid new rest,
-    )
+    and_right new.held.is_open (not mid.held.is_open) (ap not open_is) in
+    (grind (arith, nat_tests, same_step w first e old.held new.held mid.held step, true≢false,
+        carry w others mid new rest))
 
 -- And one whose screen is not looked at.
 hears_again :

@@ -1,31 +1,28 @@
 -- What each way out of the checker's loop shows of the whole file: `next_refusal`, `next_read`,
 -- `empty_refusal`, `end_told`, `source_failed`.
-use Rattle.std.proofs.Common.{zero, suc, ◌≡◌, ℕ, ◌+◌, ◌-◌, ◌<◌, ◌≤◌, List, [], ◌∷◌, ◌++◌, length}
+use Rattle.std.proofs.lemmas.Bool.Decides.{nat_tests}
+use Rattle.std.proofs.Common.{◌≡◌, ℕ, ◌+◌, ◌-◌, ◌<◌, ◌≤◌, List, [], ◌∷◌, ◌++◌, length}
 use Rattle.std.proofs.Common.{drop, take, get_or, Option, Some, None, Result, MatchResult, Ok, Err}
-use Rattle.std.proofs.Common.{All, sym, ap, refl, ◌∙◌, subst, arith, append_assoc, append-nil}
-use Rattle.std.specs.List.{AllByRecursion, AllZip, concat}
-use Rattle.std.specs.Prelude.{IfErr, true}
+use Rattle.std.proofs.Common.{All, sym, ap, refl, ◌∙◌, subst, arith, append_assoc}
+use Rattle.std.specs.List.{AllByRecursion, AllZip}
+use Rattle.std.specs.Prelude.{true}
 use Rattle.std.proofs.lemmas.List.Folds.{concat-append}
 use Rattle.std.proofs.lemmas.List.{get_or-map, take_more, take_all}
 use Rattle.std.proofs.lemmas.List.Elements.{All-from_recursion}
 use Rattle.stl_rows.specs.Programme.{ProgrammeValue, last_out}
 use Rattle.ttx_pes.specs.DataUnit.{UnitValue, IsUnit}
 use Rattle.ttx_pes.specs.PesPacket.{PesValue, IsPesPacket, IsPesValue}
-use Rattle.ttx_pes.specs.Reader.{FailsAtPacket, FailsWithin, TakesPackets, TakesPesPacket}
+use Rattle.ttx_pes.specs.Reader.{TakesPesPacket}
 use Rattle.ttx_pes.specs.declared.fault.PesFault.TheVariants.{Read}
 use Rattle.ttx_pes.specs.Reading.{answer_at, most_packets, rest_after}
-use Rattle.stl_file.specs.TimeCode.{day}
-use Rattle.sub_plan.specs.FrameTime.{pts_of}
 use Rattle.sub_plan.specs.Options.{OptionsValue}
 use Rattle.sub_check.specs.Checker.{CheckerValue}
-use Rattle.sub_check.specs.Checking.{Accepts, AreTaken, AreWhole, IsFrameOf, TellsEnd, IsRuleFault}
+use Rattle.sub_check.specs.Checking.{Accepts, AreTaken, AreWhole, IsFrameOf, TellsEnd}
 use Rattle.sub_check.specs.Checking.{TellsFrame}
 use Rattle.sub_check.specs.FirstBroken.{IsReadUpTo, NamesFirst, unread_fault}
 use Rattle.sub_check.specs.Following.{AreOk, Follows, IsSentFrame}
 use Rattle.sub_check.specs.FrameRules.{Task, Unread, task_of, frame_at, packets_of_frame, end_frame}
-use Rattle.sub_check.specs.FrameRules.{packets_before}
-use Rattle.sub_check.specs.PacketRules.{header_count, packets_of_units}
-use Rattle.sub_check.specs.PesFrames.{IsSentAs}
+use Rattle.sub_check.specs.PacketRules.{packets_of_units}
 use Rattle.sub_check.specs.PesReading.{ReadsAs}
 use Rattle.sub_check.specs.Transmission.{SentFrame, Transmission}
 use Rattle.sub_check.specs.declared.checker.Accepted.{Accepted}
@@ -61,11 +58,8 @@ whole_more frames n v l same is before =
     let packets : (get_or frames n d).packets ≡ packets_of_units v.units =
     sym (get_or-map (λ (s : SentFrame). s.packets) frames n d [] l) ∙ same in
     subst AreWhole (sym (take_more frames n d l))
-    (Each-push (λ (s : SentFrame). All (λ packet. length packet ≡ 42) s.packets) (take n frames)
-    (get_or frames n d) before
-    (subst (λ ps. All (λ packet. length packet ≡ 42) ps) (sym packets)
-    (All-from_recursion (λ packet. length packet ≡ 42) (packets_of_units v.units)
-    (whole_units v.units is.each))))
+    (grind (arith, nat_tests, Each-push, All, length, take n frames, get_or frames n d,
+        All-from_recursion, whole_units v.units is.each))
 
 -- ---- packets of the grammar
 
@@ -104,46 +98,13 @@ taken_more origin bytes rest frames n v frame old new taken was is takes sent of
       packets = taken.packets ++ takes.bytes ∷ [];
       each = zip_push IsPesPacket taken.values taken.packets v takes.bytes taken.each
           takes.is_packet;
-      sent =
-          subst (AllZip (IsSentAs origin) (taken.values ++ v ∷ []))
-          (sym (take_more frames n d sent.there))
-          (zip_push (IsSentAs origin) taken.values (take n frames) v s taken.sent (record {
-            in_day = subst (λ (f : ℕ). f < day) (sym number) of.in_day;
-            pts = sym of.is ∙ ap (pts_of origin) (sym number);
-            packets = packets;
-          }));
-      joined =
-          simp (concat-append, append_assoc, append-nil)
-          (taken.joined ∙ ap (λ r. concat taken.packets ++ r) parts);
+      sent = grind (arith, take_more frames n d sent.there, zip_push);
+      joined = grind (arith, concat-append, append_assoc);
     }
 
 -- The answer is that the source failed at a PES packet.
 abbrev pub IsFailureAt : Result Accepted CheckFault → ℕ → Type 0
 IsFailureAt r pes = r ≡ Err (fault.Pes pes Read)
-
--- A rule's fault is not that. For `judge`.
-pub no_failure_at : (r : Result Accepted CheckFault) (pes : ℕ) → IfErr r IsRuleFault
-    → IsFailureAt r pes → ⊥
-no_failure_at (Ok a) pes own e = cc
-no_failure_at (Err f) pes own e =
-    let is : f ≡ fault.Pes pes Read = cc in
-    let fine = own.no_source in
-    let failed = ap is_pes_read is in cc
-
--- That the source failed is told at the PES packet within which it failed. For `judge`.
-pub failed_at : (n pes : ℕ) (f : CheckFault) (old mid new : Option (List ℕ))
-    → TakesPackets n old mid
-    → (is_pes_read f ≡ true → f ≡ fault.Pes n Read)
-    → (is_pes_read f ≡ true → FailsWithin mid new)
-    → IsFailureAt (Err f) pes
-    → FailsAtPacket pes old new
-failed_at n pes f old mid new taken place within e =
-    let is : f ≡ fault.Pes pes Read = cc in
-    let read = ap is_pes_read is in
-    let named : fault.Pes pes Read ≡ fault.Pes n Read = sym is ∙ place read in
-    let same : n ≡ pes = cc in
-    subst (λ (m : ℕ). FailsAtPacket m old new) same
-    (record { behind = mid; before = taken; within = within read })
 
 -- What is sent again is what was sent before; the first sending is sent again after itself. For
 -- `judge`.
@@ -153,8 +114,7 @@ pub again_is :
     → (0 < n → packets_of_frame frames (n - 1) ≡ kept)
     → kept ≡ ps
     → packets_of_frame frames (n - 1) ≡ ps
-again_is frames zero frame ps kept is before same = is.packets_are
-again_is frames (suc n) frame ps kept is before same = before (omega arith) ∙ same
+again_is frames n frame ps kept is before same = grind (arith, nat_tests)
 
 -- After n PES packets, n frames of the list are read, and the others are left.
 pub record Reads
@@ -297,23 +257,15 @@ module _
             taken =
                 subst (λ fs. AreTaken options.origin bytes fs [])
                 (take_all n frames (omega (arith, all)))
-                (subst (AreTaken options.origin bytes (take n frames)) (no_bytes n reads.rest is)
-                reads.taken);
+                (grind (arith, nat_tests, take n frames, no_bytes n reads.rest is));
             holds =
                 holds_but_end g frames past ended.1 (omega (arith, all, some))
-                (λ t l e.
-                let m = over l (sym follows.remembers.task_is.last_is ∙ e) in
-                omega (arith, last));
+                (grind (arith, nat_tests, last));
             whole = subst AreWhole (take_all n frames (omega (arith, all))) reads.whole;
             frames_are = omega (arith, count, last, first_is);
-            transmissions_are =
-                headers
-                ∙ follows.remembers.count
-                ∙ ap (λ m. header_count options.page (packets_before frames m)) all;
+            transmissions_are = grind (arith, all);
           }
       end_told (Err f) (not_over, told) =
           subst (NamesFirst g frames) (ap fault.Late (sym last) ∙ sym told)
           (first_late g frames past ended.1 (omega (arith, all, some))
-          (λ h. not_over
-          (λ l e.
-          let m = h l (follows.remembers.task_is.last_is ∙ e) in omega (arith, last))))
+          (grind (arith, nat_tests, last)))

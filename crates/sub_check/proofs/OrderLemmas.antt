@@ -1,11 +1,11 @@
 -- The order of the places: from what holds of each part of the check to what holds before a key.
 use Rattle.std.proofs.Common.{◌≡◌, ℕ, zero, suc, ◌+◌, ◌-◌, ◌<◌, inl, inr, List, [], ◌∷◌, ◌++◌}
-use Rattle.std.proofs.Common.{length, take, get_or, refl, sym, ap, ◌∙◌, subst, arith, Some, None}
+use Rattle.std.proofs.Common.{length, refl, sym, ap, ◌∙◌, subst, arith, Some, None}
 use Rattle.std.proofs.lemmas.Option.{none-some}
 use Rattle.ttx_page.specs.Page.{IsCell}
 use Rattle.sub_check.specs.Transmission.{Transmission}
 use Rattle.sub_check.specs.declared.packet_rules.PacketRule.{PacketRule}
-use Rattle.sub_check.specs.PacketRules.{KeepsRule, BreaksFirstAt, rank}
+use Rattle.sub_check.specs.PacketRules.{BreaksFirstAt, rank}
 use Rattle.sub_check.specs.FrameRules.{Task, Unread, frame_at, packets_of_frame, packets_before}
 use Rattle.sub_check.specs.FrameRules.{end_frame, HasHeader, ShowsDue, IsCovered, IsEnded}
 use Rattle.sub_check.specs.FirstBroken.{IsBefore, IsInGap, IsThere, HoldsThere, HoldsBefore, Place}
@@ -35,13 +35,11 @@ one_before x y (z ∷ zs) (inr r) = absurd r.1
 
 -- One that begins with a greater number is before none.
 not_before : (x y : ℕ) (xs ys : List ℕ) → y < x → IsBefore (x ∷ xs) (y ∷ ys) → ⊥
-not_before x y xs ys g (inl l) = omega arith
-not_before x y xs ys g (inr (e, b)) = omega arith
+not_before x y xs ys g is = grind arith
 
 -- Of two that begin with one number, what follows decides.
 after_same : (x : ℕ) (xs ys : List ℕ) → IsBefore (x ∷ xs) (x ∷ ys) → IsBefore xs ys
-after_same x xs ys (inl l) = absurd (omega arith)
-after_same x xs ys (inr (e, b)) = b
+after_same x xs ys is = grind arith
 
 -- One of the last places is before another by its number.
 one_more : (x y : ℕ) → IsBefore (1 ∷ x ∷ []) (1 ∷ y ∷ []) → x < y
@@ -58,9 +56,7 @@ before_longer (x ∷ xs) (y ∷ ys) zs (inr (e, b)) = inr (e, before_longer xs y
 cell_before : (P : ℕ → ℕ → Type 0) (r c row column : ℕ)
     → IsBefore (r ∷ c ∷ []) (row ∷ column ∷ []) → (r < row → P r c)
     → ((k : ℕ) → k < column → P row k) → P r c
-cell_before P r c row column (inl l) above before = above l
-cell_before P r c row column (inr (e, b)) above before =
-    subst (λ y. P y c) (sym e) (before c (one_before c column [] b))
+cell_before P r c row column is above before = grind arith
 
 -- What is asked of a frame of the list before a part of it, up to the tail of a key.
 abbrev Here : Task → Transmission → ℕ → ℕ → List ℕ → Type 0
@@ -81,13 +77,6 @@ Here g frames n (suc (suc (suc q))) tail =
     × (IsBefore (2 ∷ []) tail → Keeps g frames (AtFrame n))
     × (IsBefore (3 ∷ []) tail → Keeps g frames (AtOpen n))
 
--- There is no gap before the first frame of the list.
-pub gap_of_none : (g : Task) (frames : Transmission) → GapOk g frames 0
-gap_of_none g frames = record {
-  cells = λ f row column t. absurd (omega (arith, t.0.0));
-  covered = λ f t. absurd (omega (arith, t.0));
-}
-
 module _ (g : Task) (frames : Transmission) (n : ℕ) (past : AreOk g frames n) where
   module _ (q : ℕ) (tail : List ℕ) (few : q < 4) (order : 0 < q → OrderOk g frames n)
       (gap : 1 < q → GapOk g frames n) (packets : 2 < q → PacketsOk g frames n)
@@ -96,20 +85,12 @@ module _ (g : Task) (frames : Transmission) (n : ℕ) (past : AreOk g frames n) 
     from : (P : ℕ → Type 0) (i part : ℕ) (s : List ℕ) → ((j : ℕ) → j < n → P j)
         → (part < q → P n) → (Here g frames n part tail → IsBefore s tail → P n)
         → IsBefore (0 ∷ i ∷ part ∷ s) (0 ∷ n ∷ q ∷ tail) → P i
-    from P i part s earlier sooner here (inl l) = absurd (omega arith)
-    from P i part s earlier sooner here (inr (e, inl l)) = earlier i l
-    from P i part s earlier sooner here (inr (e, inr (f, inl l))) = subst P (sym f) (sooner l)
-    from P i part s earlier sooner here (inr (e, inr (f, inr (h, r)))) =
-        subst P (sym f) (here (subst (λ p. Here g frames n p tail) (sym h) local) r)
+    from P i part s earlier sooner here is = grind arith
 
     -- So what is asked at each place before the key holds.
     upto : HoldsBefore g frames (0 ∷ n ∷ q ∷ tail)
-    upto (AtOrder i) =
-        from (λ j. Keeps g frames (AtOrder j)) i 0 (0 ∷ []) (λ j l. (past j l).order.order)
-        (λ l. (order l).order) (λ h. h.0)
-    upto AtStart = λ b.
-        from (λ j. j ≡ 0 → Keeps g frames AtStart) 0 0 (1 ∷ []) (λ j l. (past j l).order.start)
-        (λ l. (order l).start) (λ h r e. h.1 e r) b refl
+    upto (AtOrder i) = grind arith
+    upto AtStart = grind arith
     upto (AtGapCell i f row column) =
         from (λ j. Keeps g frames (AtGapCell j f row column)) i 1 (f ∷ 1 ∷ row ∷ column ∷ [])
         (λ j l. (past j l).gap.cells f row column) (λ l. (gap l).cells f row column)
@@ -123,16 +104,9 @@ module _ (g : Task) (frames : Transmission) (n : ℕ) (past : AreOk g frames n) 
     upto AtFirst = λ b.
         from (λ j. j ≡ 0 → Keeps g frames AtFirst) 0 3 (0 ∷ []) (λ j l. (past j l).end.first)
         (λ l. absurd (omega (arith, few))) (λ h r e. h.0 e r) b refl
-    upto (AtCell i row column) =
-        from (λ j. Keeps g frames (AtCell j row column)) i 3 (1 ∷ row ∷ column ∷ [])
-        (λ j l. (past j l).end.cells row column) (λ l. absurd (omega (arith, few)))
-        (λ h. h.1 row column)
-    upto (AtFrame i) =
-        from (λ j. Keeps g frames (AtFrame j)) i 3 (2 ∷ []) (λ j l. (past j l).end.covered)
-        (λ l. absurd (omega (arith, few))) (λ h. h.2)
-    upto (AtOpen i) =
-        from (λ j. Keeps g frames (AtOpen j)) i 3 (3 ∷ []) (λ j l. (past j l).end.ended)
-        (λ l. absurd (omega (arith, few))) (λ h. h.3)
+    upto (AtCell i row column) = grind arith
+    upto (AtFrame i) = grind arith
+    upto (AtOpen i) = grind arith
     upto AtUnread = λ b. absurd (not_before 1 0 (0 ∷ []) (n ∷ q ∷ tail) (omega arith) b)
     upto AtNothing = λ b. absurd (not_before 1 0 (1 ∷ []) (n ∷ q ∷ tail) (omega arith) b)
     upto AtEnd = λ b. absurd (not_before 1 0 (2 ∷ []) (n ∷ q ∷ tail) (omega arith) b)
@@ -151,10 +125,7 @@ module _ (g : Task) (frames : Transmission) (n : ℕ) (past : AreOk g frames n) 
   first_order some there broken =
       named g frames (AtOrder n) (some, there) broken
       (upto 0 (0 ∷ []) (omega arith) (λ l. absurd (omega arith)) (λ l. absurd (omega arith))
-      (λ l. absurd (omega arith)) (
-        λ b. absurd (let l = one_before 0 0 [] b in omega arith),
-        λ e b. absurd (let l = one_before 1 0 [] b in omega arith),
-      ))
+      (λ l. absurd (omega arith)) (grind arith))
 
   -- What is asked before a frame of the list, at the end of a frame of the day.
   module _ (f : ℕ) (order : OrderOk g frames n)
@@ -213,12 +184,7 @@ module _ (g : Task) (frames : Transmission) (n : ℕ) (past : AreOk g frames n) 
           → IsBefore (j ∷ rank f ∷ []) (k ∷ rank rule ∷ [])
           → Keeps g frames (AtPacket n j f)
       packet_of j f (inl l) t = is.clean j l f
-      packet_of j f (inr (e, b)) t =
-          subst
-          (λ x.
-          KeepsRule f g.watched (packets_before frames n ++ take x (packets_of_frame frames n))
-          (get_or (packets_of_frame frames n) x [])) (sym e)
-          (is.first.earlier f (one_before (rank f) (rank rule) [] b))
+      packet_of j f (inr (e, b)) t = grind arith
 
   -- What is asked at the end of a frame of the list.
   module _ (there : n < length frames) (order : OrderOk g frames n) (gap : GapOk g frames n)
@@ -229,14 +195,8 @@ module _ (g : Task) (frames : Transmission) (n : ℕ) (past : AreOk g frames n) 
         → NamesFirst g frames (fault.Content (frame_at frames n) row column)
     first_cell row column w =
         named g frames (AtCell n row column) (there, w.is_cell) w.broken
-        (upto 3 (1 ∷ row ∷ column ∷ []) (omega arith) (λ l. order) (λ l. gap) (λ l. packets) (
-          λ e b t. head e,
-          λ r c b t.
-              cell_before (ShowsDue g frames (n + 1) (frame_at frames n)) r c row column
-              (after_same 1 (r ∷ c ∷ []) (row ∷ column ∷ []) b) (w.above r c t.1) w.before,
-          λ b. absurd (not_before 2 1 [] (row ∷ column ∷ []) (omega arith) b),
-          λ b. absurd (not_before 3 1 [] (row ∷ column ∷ []) (omega arith) b),
-        ))
+        (upto 3 (1 ∷ row ∷ column ∷ []) (omega arith) (λ l. order) (λ l. gap) (λ l. packets)
+        (grind arith))
 
     module _ (shows :
         (row column : ℕ) → IsCell row column
@@ -246,12 +206,7 @@ module _ (g : Task) (frames : Transmission) (n : ℕ) (past : AreOk g frames n) 
           → NamesFirst g frames (fault.Gap (frame_at frames n))
       first_frame broken =
           named g frames (AtFrame n) there broken
-          (upto 3 (2 ∷ []) (omega arith) (λ l. order) (λ l. gap) (λ l. packets) (
-            λ e b t. head e,
-            λ r c b t. shows r c t.1,
-            λ b. absurd (let l = one_before 2 2 [] b in omega arith),
-            λ b. absurd (let l = one_before 3 2 [] b in omega arith),
-          ))
+          (upto 3 (2 ∷ []) (omega arith) (λ l. order) (λ l. gap) (λ l. packets) (grind arith))
 
       -- Incomplete.
       pub first_open : IsCovered g frames (n + 1) (frame_at frames n)
@@ -259,23 +214,14 @@ module _ (g : Task) (frames : Transmission) (n : ℕ) (past : AreOk g frames n) 
           → NamesFirst g frames (fault.Incomplete (frame_at frames n))
       first_open covered broken =
           named g frames (AtOpen n) there broken
-          (upto 3 (3 ∷ []) (omega arith) (λ l. order) (λ l. gap) (λ l. packets) (
-            λ e b t. head e,
-            λ r c b t. shows r c t.1,
-            λ b t. covered,
-            λ b. absurd (let l = one_before 3 3 [] b in omega arith),
-          ))
+          (upto 3 (3 ∷ []) (omega arith) (λ l. order) (λ l. gap) (λ l. packets) (grind arith))
 
 -- Early.
 pub first_early : (g : Task) (frames : Transmission) → 0 < length frames
     → (HoldsThere g frames AtStart → ⊥) → NamesFirst g frames (fault.Early (frame_at frames 0))
 first_early g frames some broken =
     named g frames AtStart some broken
-    (upto g frames 0 (λ j l. absurd (omega arith)) 0 (1 ∷ []) (omega arith)
-    (λ l. absurd (omega arith)) (λ l. absurd (omega arith)) (λ l. absurd (omega arith)) (
-      λ b t. absurd (omega (arith, t.0)),
-      λ e b. absurd (let l = one_before 1 1 [] b in omega arith),
-    ))
+    (grind arith)
 
 -- NoFirstHeader.
 pub first_header_missing : (g : Task) (frames : Transmission) → 0 < length frames
@@ -283,13 +229,7 @@ pub first_header_missing : (g : Task) (frames : Transmission) → 0 < length fra
     → NamesFirst g frames (fault.NoFirstHeader (frame_at frames 0))
 first_header_missing g frames some order packets broken =
     named g frames AtFirst some broken
-    (upto g frames 0 (λ j l. absurd (omega arith)) 3 (0 ∷ []) (omega arith) (λ l. order)
-    (λ l. gap_of_none g frames) (λ l. packets) (
-      λ e b. absurd (let l = one_before 0 0 [] b in omega arith),
-      λ r c b. absurd (let l = one_before 1 0 (r ∷ c ∷ []) b in omega arith),
-      λ b. absurd (let l = one_before 2 0 [] b in omega arith),
-      λ b. absurd (let l = one_before 3 0 [] b in omega arith),
-    ))
+    (grind arith)
 
 -- ---- where all that is asked of the frames of the list holds
 
@@ -327,9 +267,7 @@ module _ (g : Task) (frames : Transmission) (past : AreOk g frames (length frame
     record {
       there = tt;
       broken = λ none. none-some u (sym none ∙ is);
-      earlier =
-          last_before 0 (λ l. absurd (omega arith)) (λ l. absurd (omega arith))
-          (λ l. absurd (omega arith));
+      earlier = grind (arith, last_before);
     },
   )
 

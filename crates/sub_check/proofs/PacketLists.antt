@@ -1,7 +1,7 @@
 -- Facts of each packet of a list; the first header of a list that goes on: `first_header-push`,
 -- `first_header-append`.
 use Rattle.std.proofs.lemmas.Bool.Decides.{nat_tests}
-use Rattle.std.proofs.Common.{◌≡◌, ℕ, Bool, true, false, ◌||◌, List, [], ◌∷◌, ◌++◌, refl, sym, ap}
+use Rattle.std.proofs.Common.{◌≡◌, ℕ, Bool, true, false, ◌||◌, List, [], ◌∷◌, ◌++◌, refl, ap}
 use Rattle.std.proofs.Common.{◌∙◌, arith, cond, find, filter, nat_lt, length, take}
 use Rattle.std.proofs.Common.{get_or, ◌+◌, ◌<◌, Some, None, Option}
 use Rattle.std.specs.List.{AllByRecursion, list_any}
@@ -53,8 +53,7 @@ module _ {X : Type 0} where
       go : (b : Bool) → f y ≡ b → (b || list_any f ys) ≡ true
           → (list_any f ys ≡ true → (x : X) × (find f ys ≡ Some x) × (f x ≡ true) × P x)
           → (x : X) × (cond b (Some y) (find f ys) ≡ Some x) × (f x ≡ true) × P x
-      go true p d ih = (y, refl, p, h.0)
-      go false p d ih = ih d
+      go b p d ih = grind arith
 
   -- An element that passes the test, with what holds of each.
   pub Each-pick : (f : X → Bool) (P : X → Type 0) (xs : List X) → list_any f xs ≡ true
@@ -73,9 +72,7 @@ pub unit_at :
     → k < length units
     → u ≡ get_or units k u
     → get_or (packets_of_units units) k [] ≡ u.packet
-unit_at units k u l e =
-    get_or-map (λ (v : UnitValue). v.packet) units k u [] l
-    ∙ ap (λ (v : UnitValue). v.packet) (sym e)
+unit_at units k u l e = grind (arith, get_or-map)
 
 -- One unit more.
 pub units_more :
@@ -83,11 +80,7 @@ pub units_more :
     → k < length units
     → u ≡ get_or units k u
     → take (k + 1) (packets_of_units units) ≡ take k (packets_of_units units) ++ u.packet ∷ []
-units_more units k u l e =
-    let within : k < length (packets_of_units units) =
-    omega (arith, length-map units (λ (v : UnitValue). v.packet)) in
-    take_more (packets_of_units units) k [] within
-    ∙ ap (λ x. take k (packets_of_units units) ++ x ∷ []) (unit_at units k u l e)
+units_more units k u l e = grind (arith, length-map, take_more, unit_at)
 
 -- The headers of the page in two lists, joined.
 pub header_count-append :
@@ -103,12 +96,7 @@ pub header_count-push :
     → header_count page (ps ++ p ∷ []) ≡ header_count page ps + cond (is_this_page (kind page p)) 1
     0
 header_count-push page ps p =
-    header_count-append page ps (p ∷ [])
-    ∙ ap (λ n. header_count page ps + n) (one (is_this_page (kind page p)))
-  where
-    one : (b : Bool) → length (cond b (p ∷ []) []) ≡ cond b 1 0
-    one true = refl
-    one false = refl
+    grind (arith, header_count-append)
 
 -- There is a header of the page exactly where their count is not 0.
 pub holds-count :
@@ -122,13 +110,11 @@ holds-count page (q ∷ qs) = let ih = holds-count page qs in grind (arith, nat_
 -- The first of three options, in either way.
 or_assoc : {A : Type 0} (a b c : Option A)
     → option_or a (option_or b c) ≡ option_or (option_or a b) c
-or_assoc None b c = refl
-or_assoc (Some x) b c = refl
+or_assoc a b c = grind arith
 
 -- With none nothing changes.
 or-none : {A : Type 0} (a : Option A) → option_or a None ≡ a
-or-none None = refl
-or-none (Some x) = refl
+or-none a = grind arith
 
 -- The first header of two lists, joined.
 pub first_header-append :

@@ -1,25 +1,21 @@
 -- The flaws of a packet that comes after others, by what is kept of them.
-use Rattle.std.proofs.Common.{◌≡◌, ℕ, ◌<◌, ◌≤◌, ◌-◌, Bool, true, false, ◌==◌, nat_le, List}
-use Rattle.std.proofs.Common.{[], Option, Some, option_map, IsTrue, get_or, refl, sym, ap}
-use Rattle.std.proofs.Common.{◌∙◌, arith, ne_eqb}
+use Rattle.std.proofs.Common.{◌≡◌, ℕ, ◌≤◌, ◌-◌, Bool, true, false, List}
+use Rattle.std.proofs.Common.{[], MatchOption, Option, Some, get_or, sym, ap}
+use Rattle.std.proofs.Common.{◌∙◌, arith}
 use Rattle.std.specs.List.{AllByRecursion}
-use Rattle.std.proofs.lemmas.Bool.{and_right, lt-leb, true≢false}
 use Rattle.std.proofs.lemmas.Bool.Decides.{nat_tests}
 use Rattle.ttx_packet.specs.PacketAddress.{HasExactAddress, IsPacket, address, PacketAddress}
 use Rattle.ttx_packet.specs.RowPacket.{HasOddText}
-use Rattle.ttx_packet.specs.PageHeader.{header, c11}
-use Rattle.sub_check.specs.PacketRules.{codes_of, first_header, KeepsRule, IsClean, BreaksFirst}
-use Rattle.sub_check.specs.PacketRules.{rank}
+use Rattle.ttx_packet.specs.PageHeader.{header}
+use Rattle.sub_check.specs.PacketRules.{codes_of, KeepsRule, IsClean, BreaksFirst}
 use Rattle.ttx_packet.specs.declared.header.Header.{Header}
 use Rattle.sub_check.proofs.CodesLemmas.{same_packet}
 use Rattle.sub_check.specs.declared.packet_rules.Watched.{Watched}
-use Rattle.ttx_page.specs.declared.packet_kind.PacketKind.{PacketKind}
-use Rattle.ttx_page.specs.declared.packet_kind.PacketKind.TheVariants.{ThisPage, Row, Other}
+use Rattle.ttx_page.specs.declared.packet_kind.PacketKind.TheVariants.{Row, Other}
 use Rattle.ttx_page.specs.PacketKind.{kind, is_row}
-use Rattle.ttx_page.specs.Span.{is_open_after}
 use Rattle.sub_check.specs.declared.packet_rules.PacketRule.{PacketRule}
 use Rattle.sub_check.specs.Good.{IsEnhancement}
-use Rattle.sub_check.specs.Listening.{HoldsRows, IsSoundRow}
+use Rattle.sub_check.specs.Listening.{BreaksLater, HoldsRows, IsSoundRow, KeepsLater}
 use Rattle.sub_check.proofs.PacketLists.{Each-map, Each-join, Each-none, Each-pick, no_row}
 use Rattle.ttx_page.proofs.NoiseSteps.{row_from_test}
 use Rattle.sub_check.specs.declared.packet_rules.PacketRule.TheVariants as rule
@@ -31,57 +27,33 @@ unfolding kind
 address-row w p row e = grind (arith, nat_tests)
 
 -- A packet 25 to 28 is neither a header nor a row.
-pub kind-enhancement : (w : Watched) (p : List ℕ) → IsEnhancement w.page p → kind w.page p ≡ Other
+pub enhancement_is_other :
+    (w : Watched) (p : List ℕ) → IsEnhancement w.page p → kind w.page p ≡ Other
 unfolding kind
-kind-enhancement w p (a, e, m, low, high) =
-    let not_header : (a.packet_number == 0) ≡ false =
-    ne_eqb a.packet_number 0 (λ z. absurd (omega arith)) in
-    let not_row : nat_le a.packet_number 24 ≡ false = lt-leb a.packet_number 24 (omega arith) in
-    rw (
-      e,
-      not_header,
-      and_right (a.magazine == w.page.magazine) (nat_le a.packet_number 24)
-          not_row,
-    ) refl
+enhancement_is_other w p (a, e, m, low, high) =
+    grind arith
 
-module _ (w : Watched) (before : List (List ℕ)) (p : List ℕ) where
-  -- The seven rules together.
-  pub clean_from : KeepsRule rule.Address w before p → KeepsRule rule.HeaderCode w before p
-      → KeepsRule rule.Mode w before p → KeepsRule rule.Control w before p
-      → KeepsRule rule.Parity w before p → KeepsRule rule.RowChanged w before p
-      → KeepsRule rule.Enhancement w before p → IsClean w before p
-  clean_from a h m c o r e rule.Address = a
-  clean_from a h m c o r e rule.HeaderCode = h
-  clean_from a h m c o r e rule.Mode = m
-  clean_from a h m c o r e rule.Control = c
-  clean_from a h m c o r e rule.Parity = o
-  clean_from a h m c o r e rule.RowChanged = r
-  clean_from a h m c o r e rule.Enhancement = e
+-- Where the address and the header's codes are exact, one mode is the first rule that can break.
+pub first_mode :
+    (w : Watched) (before : List (List ℕ)) (p : List ℕ)
+    → KeepsRule rule.Address w before p
+    → KeepsRule rule.HeaderCode w before p
+    → (KeepsRule rule.Mode w before p → ⊥)
+    → BreaksFirst w before p rule.Mode
+first_mode w before p exact codes broken = record { broken = broken; earlier = grind arith }
 
-  -- By what the packet is.
-  pub control_free : (k : PacketKind) → kind w.page p ≡ k → ((h : Header) → k ≡ ThisPage h → ⊥)
-      → KeepsRule rule.Control w before p
-  control_free k e other h f = absurd (other h (sym e ∙ f))
+module _ (w : Watched) (before : List (List ℕ)) (p : List ℕ)
+    (exact : KeepsRule rule.Address w before p) (codes : KeepsRule rule.HeaderCode w before p)
+    (mode : KeepsRule rule.Mode w before p) where
+  -- The seven rules together. For `broken_rule`, and for packets that are sent again.
+  pub clean_from : KeepsLater w before p → IsClean w before p
+  clean_from later is = grind arith
 
-  -- A packet that is no row keeps the rule of parity.
-  pub parity_free : (k : PacketKind) → kind w.page p ≡ k → ((row : ℕ) → k ≡ Row row → ⊥)
-      → KeepsRule rule.Parity w before p
-  parity_free k e other opened row f = absurd (other row (sym e ∙ f))
-
-  -- And that of rows that stay.
-  pub changed_free : (k : PacketKind) → kind w.page p ≡ k → ((row : ℕ) → k ≡ Row row → ⊥)
-      → KeepsRule rule.RowChanged w before p
-  changed_free k e other opened row f = absurd (other row (sym e ∙ f))
-
-  -- A header or a row keeps the rule of packets X/25 to X/28.
-  pub enhancement_free : (k : PacketKind) → kind w.page p ≡ k → (k ≡ Other → ⊥)
-      → KeepsRule rule.Enhancement w before p
-  enhancement_free k e other opened is = other (sym e ∙ kind-enhancement w p is)
-
-  -- While the page is not open.
-  pub shut : (b : Bool) → is_open_after (kind w.page) before ≡ b → b ≡ false
-      → IsTrue (is_open_after (kind w.page) before) → ⊥
-  shut b e f g = true≢false (sym g ∙ e ∙ f)
+  -- What is told of a packet by what is told of the later rules.
+  pub by_later : (r : Option PacketRule)
+      → MatchOption r (KeepsLater w before p) (BreaksLater w before p)
+      → MatchOption r (IsClean w before p) (BreaksFirst w before p)
+  by_later r later = grind arith
 
 -- The row that is held equals the packet's where each packet of the row does.
 module _ (w : Watched) (packets : List (List ℕ)) (sent : List Bool) (page : List (List ℕ))
@@ -121,43 +93,6 @@ module _ (w : Watched) (packets : List (List ℕ)) (sent : List Bool) (page : Li
       (h.same row low high) same) in
       let k = row_from_test row (kind w.page q.0) q.1 in
       other (sym (q.2.0 k) ∙ ap codes_of (q.2.1 k))
-
--- Which rule is the first.
-module _ (w : Watched) (before : List (List ℕ)) (p : List ℕ) where
-  -- The first rule that is broken, where each before it is kept.
-  pub first_rule : (f : PacketRule) → KeepsRule rule.Address w before p
-      → KeepsRule rule.HeaderCode w before p → (2 < rank f → KeepsRule rule.Mode w before p)
-      → (3 < rank f → KeepsRule rule.Control w before p)
-      → (4 < rank f → KeepsRule rule.Parity w before p) → rank f < 6
-      → (KeepsRule f w before p → ⊥) → BreaksFirst w before p f
-  first_rule f a h m c o few broken = record { broken = broken; earlier = earlier }
-    where
-      earlier : (g : PacketRule) → rank g < rank f → KeepsRule g w before p
-      earlier rule.Address l = a
-      earlier rule.HeaderCode l = h
-      earlier rule.Mode l = m l
-      earlier rule.Control l = c l
-      earlier rule.Parity l = o l
-      earlier g l = absurd (omega (arith, few))
-
--- C11 of the first header, as it is kept, and the header that was read.
-pub mode_free : (serial : Option Bool) (read : Option Header) (w : Watched)
-    (before : List (List ℕ)) (p : List ℕ)
-    → read ≡ header p
-    → serial ≡ option_map (λ (h : Header). (c11 h)) (first_header before)
-    → ((h : Header) (first : Bool) → read ≡ Some h → serial ≡ Some first → (c11 h) ≡ first)
-    → KeepsRule rule.Mode w before p
-mode_free serial read w before p same is h k first e f =
-    h k (c11 first) (same ∙ e) (is ∙ ap (λ o. option_map (λ (x : Header). (c11 x)) o) f)
-
--- Where the kept C11 differs, the rule of one mode is broken.
-pub mode_broken : (serial : Option Bool) (read : Option Header) (w : Watched)
-    (before : List (List ℕ)) (p : List ℕ)
-    → read ≡ header p
-    → serial ≡ option_map (λ (h : Header). (c11 h)) (first_header before)
-    → KeepsRule rule.Mode w before p → (h : Header) (first : Bool) → read ≡ Some h
-    → serial ≡ Some first → (c11 h) ≡ first
-mode_broken serial read w before p same is free k first e f = grind (arith, free)
 
 -- A packet with a page header is X/0.
 pub header_is_zero : (p : List ℕ) (h : Header) → header p ≡ Some h

@@ -27,8 +27,7 @@ use Rattle.ttx_pes.proofs.ReaderLemmas.{nothing}
 -- Where nothing is read and no fault is told, no byte is left. For `sent_of`.
 pub no_bytes : (given : ℕ) (bytes : List ℕ) → answer_at given bytes ≡ Ok None → bytes ≡ []
 unfolding answer_at
-no_bytes given [] e = refl
-no_bytes given (x ∷ b) e = grind (arith, nat_tests)
+no_bytes given bytes e = grind (arith, nat_tests)
 
 -- Where a value is read, a packet of it begins the bytes. For `sent_of`.
 packet_of :
@@ -112,21 +111,7 @@ sent_of :
     → file_at origin m bytes ≡ record { frames = frames; unread = None }
     → AreSent origin given bytes frames
 sent_of origin zero given bytes frames fit all reads =
-    let is : given ≡ most_packets = omega arith in
-    go (answer_at most_packets bytes) refl (sym (step_last origin bytes) ∙ reads)
-  where
-    go :
-        (r : Result (Option PesValue) PesFault)
-        → answer_at most_packets bytes ≡ r
-        → file_by origin r (record { frames = []; unread = None })
-        ≡ record { frames = frames; unread = None }
-        → AreSent origin given bytes frames
-    go (Err f) at e = let same = ap (λ (x : PesFileValue). x.unread) e in cc
-    go (Ok None) at e =
-        let is : given ≡ most_packets = omega arith in
-        nothing_sent origin given bytes frames (omega arith)
-        (ap (λ n. answer_at n bytes) is ∙ at) e
-    go (Ok (Some v)) at e = absurd (reads-below most_packets bytes v at refl)
+    grind (arith, step_last, nothing_sent, reads-below)
 sent_of origin (suc m) given bytes frames fit all reads =
     go (answer_at given bytes) refl (sym (step origin m given bytes all) ∙ reads)
     (λ fits e.
@@ -149,14 +134,7 @@ sent_of origin (suc m) given bytes frames fit all reads =
         ≡ record { frames = frames; unread = None }
         → Others
         → AreSent origin given bytes frames
-    found v None at is e others = let same = ap (λ (x : PesFileValue). x.unread) e in cc
-    found v (Some frame) at is e others =
-        let rest = file_at origin m (rest_after bytes) in
-        let ends : rest.unread ≡ None = ap (λ (x : PesFileValue). x.unread) e in
-        subst (AreSent origin given bytes) (ap (λ (x : PesFileValue). x.frames) e)
-        (with_packet origin given bytes v frame rest.frames fit at is
-        (λ fits. others fits
-        (ap (λ u. let f : PesFileValue = record { frames = rest.frames; unread = u } in f) ends)))
+    found v o at is e others = grind (arith, nat_tests, with_packet)
 
     go :
         (r : Result (Option PesValue) PesFault)
@@ -165,9 +143,7 @@ sent_of origin (suc m) given bytes frames fit all reads =
         ≡ record { frames = frames; unread = None }
         → Others
         → AreSent origin given bytes frames
-    go (Err f) at e others = let same = ap (λ (x : PesFileValue). x.unread) e in cc
-    go (Ok None) at e others = nothing_sent origin given bytes frames (omega arith) at e
-    go (Ok (Some v)) at e others = found v (frame_of_pts origin v.pts) at refl e others
+    go r at e others = grind (arith, nat_tests, nothing_sent, found)
 
 -- PES packets that are sent as frames are read as these.
 reads_of :

@@ -1,28 +1,23 @@
 -- One PES packet read, in terms of the value of the whole file: `reads_next`, `reads_end`; and put
 -- together, `reads_more`, `reads_ended`.
 use Rattle.std.proofs.lemmas.Bool.Decides.{nat_tests}
-use Rattle.std.proofs.Common.{true, false, ◌≡◌, ◌≢◌, ℕ, zero, suc, ◌+◌, ◌-◌, ◌<◌}
+use Rattle.std.proofs.Common.{◌≡◌, ◌≢◌, ℕ, zero, suc, ◌+◌, ◌-◌, ◌<◌}
 use Rattle.std.proofs.Common.{◌≤◌, inl, inr, List, [], ◌∷◌, length, drop, get_or, MatchOption}
 use Rattle.std.proofs.Common.{Option, Some, None, Ok, refl, sym, ap, ◌∙◌, arith}
 use Rattle.std.proofs.lemmas.List.{get_or-map, get_or-drop, length-drop, drop-drop}
 use Rattle.std.proofs.lemmas.Bool.{cases_lt}
 use Rattle.ttx_pes.specs.PesPacket.{PesValue}
 use Rattle.ttx_pes.specs.Reading.{answer_at, rest_after, most_packets}
-use Rattle.ttx_pes.specs.declared.fault.PesFault.{PesFault}
 use Rattle.sub_check.specs.Checking.{IsFrameOf}
 use Rattle.sub_check.specs.Following.{IsSentFrame}
 use Rattle.sub_check.specs.FrameRules.{Unread}
-use Rattle.sub_check.specs.FrameRules.Unread.{BadPacket, NoFrame}
 use Rattle.sub_check.specs.PacketRules.{packets_of_units}
 use Rattle.stl_file.specs.TimeCode.{day}
 use Rattle.sub_plan.specs.FrameTime.{pts_of}
-use Rattle.sub_check.specs.Fault.{is_pes_read, is_pes_write}
 use Rattle.sub_check.specs.PesFrames.{IsSentAs}
 use Rattle.sub_check.specs.PesReading.{EndsReading, PesFileValue, ReadsAs, file_at, file_by}
 use Rattle.sub_check.specs.PesReading.{file_with, frame_below, frame_of_pts}
 use Rattle.sub_check.specs.Transmission.{SentFrame, Transmission}
-use Rattle.ttx_pes.specs.declared.fault.PesFault.TheVariants as fault
-use Rattle.sub_check.specs.declared.fault.CheckFault.TheVariants as check_fault
 
 -- A frame of the list, from what stands after those before it.
 is_sent :
@@ -32,19 +27,8 @@ is_sent :
 is_sent frames n s others e =
     let size : length (drop n frames) ≡ suc (length others) = ap length e in
     let l : n < length frames = omega (arith, length-drop n frames) in
-    let at : get_or frames n s ≡ s =
-    ap (λ m. get_or frames m s) (omega arith)
-    ∙ sym (get_or-drop n frames 0 s)
-    ∙ ap (λ xs. get_or xs 0 s) e in
-    record {
-      there = l;
-      frame_is =
-          get_or-map (λ (x : SentFrame). x.frame) frames n s 0 l
-          ∙ ap (λ (x : SentFrame). x.frame) at;
-      packets_are =
-          get_or-map (λ (x : SentFrame). x.packets) frames n s [] l
-          ∙ ap (λ (x : SentFrame). x.packets) at;
-    }
+    let at : get_or frames n s ≡ s = grind (arith, nat_tests, get_or-drop n frames 0 s) in
+    grind (arith, nat_tests, get_or-map)
 
 -- ---- the frame of a PTS
 
@@ -77,9 +61,7 @@ frame_found origin pts frame in_day e =
         → MatchOption r ((f : ℕ) → f < day → pts_of origin f ≢ pts)
         (λ f. (f < day) × (pts_of origin f ≡ pts))
         → r ≡ Some frame
-    go None none = absurd (none frame in_day e)
-    go (Some f) (l, is) =
-        let same : pts_of origin f ≡ pts_of origin frame = is ∙ sym e in ap Some (omega arith)
+    go r none = grind arith
 
 -- Where no frame of the day has a PTS, none is found.
 no_frame_found :
@@ -98,9 +80,7 @@ pub step :
     → file_at origin (suc m) bytes
     ≡ file_by origin (answer_at given bytes) (file_at origin m (rest_after bytes))
 unfolding file_at
-step origin m given bytes e =
-    let is : most_packets - suc m ≡ given = omega arith in
-    ap (λ n. file_by origin (answer_at n bytes) (file_at origin m (rest_after bytes))) is
+step origin m given bytes e = grind arith
 
 -- The same after `given` PES packets.
 step_after :
@@ -109,10 +89,7 @@ step_after :
     → file_at origin (most_packets - given) bytes
     ≡ file_by origin (answer_at given bytes)
     (file_at origin (most_packets - (given + 1)) (rest_after bytes))
-step_after origin given bytes l =
-    let is : most_packets - given ≡ suc (most_packets - (given + 1)) = omega arith in
-    ap (λ m. file_at origin m bytes) is
-    ∙ step origin (most_packets - (given + 1)) given bytes (omega arith)
+step_after origin given bytes l = grind (arith, step)
 
 -- The same where no more may follow.
 pub step_last :
@@ -131,18 +108,10 @@ some_step :
     ≡ file_by origin (answer_at given bytes) rest)
 some_step origin given bytes l =
     elim (cases_lt given most_packets) [
-      | inl below ↦ (
-        file_at origin (most_packets - (given + 1)) (rest_after bytes),
-        step_after origin given bytes below,
-      )
+      | inl below ↦ (grind (arith, nat_tests, step_after origin given bytes below))
       | inr here ↦ let is : given ≡ most_packets = omega arith in
-          let none : most_packets - given ≡ zero = omega arith in (
-            record { frames = []; unread = None },
-            ap (λ m. file_at origin m bytes) none
-                ∙ step_last origin bytes
-                ∙ ap (λ n. file_by origin (answer_at n bytes)
-                (record { frames = []; unread = None })) (sym is),
-          )
+          let none : most_packets - given ≡ zero = omega arith in
+          (grind (arith, nat_tests, step_last origin bytes))
     ]
 
 -- What a file is of which no frame is read.
@@ -150,11 +119,7 @@ ended :
     (origin given : ℕ) (bytes : List ℕ) (u : Option Unread) (rest : PesFileValue)
     → EndsReading origin given bytes u
     → file_by origin (answer_at given bytes) rest ≡ record { frames = []; unread = u }
-ended origin given bytes None rest e = ap (λ r. file_by origin r rest) e
-ended origin given bytes (Some (BadPacket f)) rest e = ap (λ r. file_by origin r rest) e
-ended origin given bytes (Some NoFrame) rest (v, e, none) =
-    ap (λ r. file_by origin r rest) e
-    ∙ ap (λ o. file_with o (packets_of_units v.units) rest) (no_frame_found origin v.pts none)
+ended origin given bytes u rest e = grind (arith, nat_tests, no_frame_found)
 
 -- Where no frame is read of the bytes, the file is read up to that.
 pub reads_ended :
@@ -171,8 +136,7 @@ pub reads-below :
     → answer_at given bytes ≡ Ok (Some v)
     → given ≢ most_packets
 unfolding answer_at
-reads-below given [] v e at = cc
-reads-below given (x ∷ b) v e at = grind (arith, nat_tests)
+reads-below given bytes v e at = grind arith
 
 -- A file that begins with a PES packet of a frame: that frame, and then the others.
 begins :
@@ -185,12 +149,7 @@ begins :
     ≡ file_with (Some frame) (packets_of_units v.units)
     (file_at origin (most_packets - (given + 1)) (rest_after bytes))
 begins origin given bytes v frame few is in_day pts =
-    let below = reads-below given bytes v is in
-    let rest = file_at origin (most_packets - (given + 1)) (rest_after bytes) in
-    step_after origin given bytes (omega (arith, below))
-    ∙ ap (λ r. file_by origin r rest) is
-    ∙ ap (λ o. file_with o (packets_of_units v.units) rest)
-    (frame_found origin v.pts frame in_day pts)
+    grind (arith, reads-below, step_after, frame_found)
 
 -- A PES packet that is sent as a frame comes before the others.
 pub reads_more :
@@ -236,11 +195,7 @@ reads_next origin n bytes frames unread v frame few reads is of =
     sym (drop-drop 1 n frames) ∙ ap (drop 1) all in
     record {
       sent = is_sent frames n s rest.frames all;
-      left =
-          ap (λ u. let f : PesFileValue = record { frames = rest.frames; unread = u } in f)
-          (sym same)
-          ∙ ap (λ fs. let f : PesFileValue = record { frames = fs; unread = unread } in f)
-          (sym others);
+      left = grind arith;
     }
 
 -- Where no frame is read of the bytes, the list is at its end.
@@ -255,17 +210,3 @@ reads_end origin n bytes frames unread u few reads ends =
     let none : drop n frames ≡ [] = ap (λ (f : PesFileValue). f.frames) whole in
     let size : length (drop n frames) ≡ 0 = ap length none in
     (omega (arith, length-drop n frames), ap (λ (f : PesFileValue). f.unread) whole)
-
--- The fault of a source that failed is that one. For `next_sending`.
-pub read_place :
-    (pes : ℕ) (f : PesFault)
-    → is_pes_read (check_fault.Pes pes f) ≡ true
-    → check_fault.Pes pes f ≡ check_fault.Pes pes fault.Read
-read_place pes fault.Read e = refl
-read_place pes f e = cc
-
--- A reader never fails to write. For `next_frame`.
-pub not_written : (pes : ℕ) (f : PesFault) → f ≢ fault.Write
-    → is_pes_write (check_fault.Pes pes f) ≡ false
-not_written pes fault.Write other = absurd (other refl)
-not_written pes f other = refl

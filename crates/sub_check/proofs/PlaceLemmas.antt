@@ -29,7 +29,7 @@ use Rattle.sub_check.specs.FirstBroken.Place.{AtCell, AtFrame, AtOpen, AtUnread,
 use Rattle.sub_check.proofs.GoodByPlace.{GoodFrames, whole}
 use Rattle.sub_check.proofs.GoodLemmas.{each_packet}
 use Rattle.sub_check.proofs.ListeningLemmas.{span_open}
-use Rattle.sub_check.proofs.PacketRuleLemmas.{kind-enhancement}
+use Rattle.sub_check.proofs.PacketRuleLemmas.{enhancement_is_other}
 use Rattle.sub_check.proofs.PrefixLemmas.{before, packet_at, at_start, at_packet, each_at}
 use Rattle.sub_check.proofs.PrefixLemmas.{each_from, before_more, rises_to, rises_strictly, locate}
 use Rattle.sub_check.proofs.PrefixLemmas.{first-same, last-same, on_air_at, on_air_is}
@@ -87,8 +87,7 @@ first_pick P (x ∷ xs) f e h = go (header x) refl e (λ d. first_pick P xs f d 
     go : (o : Option Header) → header x ≡ o → option_or o (first_header xs) ≡ Some f
         → (first_header xs ≡ Some f → (q : List ℕ) × (header q ≡ Some f) × P q)
         → (q : List ℕ) × (header q ≡ Some f) × P q
-    go None q d ih = ih d
-    go (Some a) q d ih = (x, q ∙ d, h.0)
+    go o q d ih = grind arith
 
 -- ---- the law, one way
 
@@ -225,7 +224,7 @@ module _ (g : Task) (t : Transmission) (h : GoodFrames g t) where
       recursion_from_All (λ q. kind g.watched.page q ≡ Row row → q ≡ packet_at t i k)
       (span (kind g.watched.page) (before t i k)) (λ j d n f. follows.same j d n row f e)
   free_at i k l m rule.Enhancement = λ opened is.
-      let e = kind-enhancement g.watched (packet_at t i k) is in
+      let e = enhancement_is_other g.watched (packet_at t i k) is in
       (may_follow i k l m (ap is_this_page e) (ap ends_page e) opened).plain is
 
   -- A header is not too long ago.

@@ -1,6 +1,10 @@
 -- A schedule is a good transmission, and its bytes are read to their end as it: `law_of_plan`,
 -- `law_of_plan_read`.
-use Rattle.std.proofs.Common.{◌≡◌, ℕ, suc, ◌+◌, ◌-◌, ◌<◌, ◌≤◌, Bool, true, false, List, [], ◌∷◌}
+use Rattle.sub_plan.proofs.ScheduleBases.{range_split}
+use Rattle.std.proofs.lemmas.List.Elements.{filter-append}
+use Rattle.std.proofs.lemmas.List.{map-append}
+use Rattle.std.proofs.lemmas.Bool.Decides.{nat_tests}
+use Rattle.std.proofs.Common.{◌≡◌, ℕ, suc, ◌+◌, ◌-◌, ◌<◌, ◌≤◌, Bool, true, List, [], ◌∷◌}
 use Rattle.std.proofs.Common.{◌++◌, length, map, filter, take, flat_map, All, refl, sym, ap, ap₂}
 use Rattle.std.proofs.Common.{◌∙◌, subst, arith, IsTrue, append-nil, Option, Some, None, ◌*◌, lit<}
 use Rattle.std.specs.List.{range_with_len, AllByRecursion}
@@ -19,7 +23,6 @@ use Rattle.ttx_page.specs.PacketKind.{kind}
 use Rattle.ttx_page.specs.Span.{holds_header, is_unended, span}
 use Rattle.ttx_page.specs.Shown.{shown}
 use Rattle.stl_rows.specs.declared.national.National.{National}
-use Rattle.stl_rows.specs.declared.national.National.TheVariants.{English, German}
 use Rattle.stl_rows.specs.Programme.{first_in, last_out, IsProgramme, ProgrammeValue}
 use Rattle.stl_rows.proofs.PageShapeLemmas.{due_is_page}
 use Rattle.sub_plan.specs.Options.{IsOptions, IsWatchable, OptionsValue}
@@ -40,7 +43,7 @@ use Rattle.sub_check.specs.OnScreen.{Complete, LawOfCompletePlan}
 use Rattle.sub_check.specs.Planned.{LawOfPlan, planned, planned_at, LawOfPlanRead}
 use Rattle.sub_check.proofs.TransmissionLemmas.{packets_between-split}
 use Rattle.sub_check.proofs.FrameLemmas.{frames, rises, sent_none, sent_at, sent_some, each_frame}
-use Rattle.sub_check.proofs.FrameLemmas.{starts_with, ends_with, last_push}
+use Rattle.sub_check.proofs.FrameLemmas.{starts_with, last_push}
 use Rattle.std.proofs.Math.Nat.{mod-lt}
 use Rattle.std.proofs.lemmas.List.FromFn.{length-range_with_len}
 use Rattle.ttx_pes.specs.PesPacket.{PesValue}
@@ -101,10 +104,7 @@ module _ (w : PageIdValue) (ok : IsWatchable w) where
 -- The header of a sending has the control bits of a subtitle's.
 subtitle_header : (w : PageIdValue) (national : National) (serial : Bool)
     → IsSubtitleHeader national (watched_header w national serial)
-subtitle_header w English true = assumption
-subtitle_header w English false = assumption
-subtitle_header w German true = assumption
-subtitle_header w German false = assumption
+subtitle_header w national serial = grind (arith, nat_tests)
 
 -- ---- the schedule
 
@@ -164,13 +164,7 @@ module _
   -- The last frame is the last TCO.
   last_is : last_frame T ≡ last
   last_is =
-      let e : last + 1 - first ≡ last - first + 1 = omega arith in
-      let at : first + (last - first) ≡ last = omega arith in
-      let sends : p (first + (last - first)) ≡ true = ap p at ∙ sends-last due o.every first last in
-      ap last_frame (plan_is ∙ ap (λ n. map mk (filter p (range_with_len first n))) e
-      ∙ ends_with mk num p first (last - first) sends)
-      ∙ last_push (frames mk num p first (last - first)) (mk (first + (last - first)))
-      ∙ at
+      grind (arith, sends-last, plan_is, range_split, filter-append, map-append, last_push)
 
   -- Its frames rise.
   rising : IsRising T
@@ -215,9 +209,7 @@ module _
       let g : ℕ = found.0 in
       let is : IsLastSending due o.every first last f g = found.1 in
       let none : packets_between T (g + 1) (f + 1) ≡ [] =
-      ap (λ frames. packets_between frames (g + 1) (f + 1)) plan_is
-      ∙ sent_none mk num p (g + 1) (f + 1) first (last + 1 - first)
-      (λ j a b. is.none_after j (omega arith) (omega arith)) in
+      grind (arith, nat_tests, plan_is, sent_none, mk, num, p) in
       let split_g : packets_between T first (f + 1) ≡ packets_between T first g
       ++ packets_between T g (f + 1) =
       packets_between-split T first g (f + 1) rising is.low (omega (arith, is.high)) in
@@ -309,10 +301,9 @@ plan_between programme o serial (Some a) None h k is some ok =
     absurd (some (some_out programme.records a h k))
 plan_between programme o serial (Some a) (Some b) h k is some ok =
     let s = span-rises programme.national programme.records a b is h k in
-    let order : a ≤ b = omega (arith, s.rises) in (
-      good programme o serial a b h k ok order,
-      complete programme o serial a b h k ok order,
-    )
+    let order : a ≤ b = omega (arith, s.rises) in
+    grind (arith, nat_tests, good programme o serial a b h k ok order,
+        complete programme o serial a b h k ok order)
 
 -- The schedule of a programme with a subtitle is good.
 pub law_of_plan : LawOfPlan
@@ -340,8 +331,8 @@ module _
     is_sent f in_day =
         let packets : List (List ℕ) = sending o.page national serial (due f) in
         let each : All IsPacket packets =
-        All-weaker (IsSentPacket o.page national serial) IsPacket (λ p is. is.whole) packets
-        (all_sent o.page national serial (due f) ok.page (shape f)) in
+        grind (arith, nat_tests, All-weaker,
+            all_sent o.page national serial (due f) ok.page (shape f), due f, shape f) in
         record {
           in_day = in_day;
           pts = refl;
@@ -402,5 +393,4 @@ law_of_plan_read programme options serial is ok =
       few_between programme options.every (first_in programme.records)
           (last_out programme.records) refl refl is,
     ))
-    (recursion_from_All (λ f. f < day) (plan_frames programme options.every)
-    (law_of_day programme options.every is))
+    (grind (arith, nat_tests, recursion_from_All, law_of_day programme options.every is))

@@ -1,4 +1,5 @@
 -- The lists of packets that a transmission begins with, and where a frame falls.
+use Rattle.std.proofs.lemmas.Bool.Decides.{nat_tests}
 use Rattle.std.proofs.Common.{◌≡◌, ℕ, zero, suc, ◌+◌, ◌-◌, ◌<◌, ◌≤◌, ◌⊎◌, inl, inr}
 use Rattle.std.proofs.Common.{◌&&◌, nat_le, cond, List, [], ◌∷◌, ◌++◌, length, take, get_or}
 use Rattle.std.proofs.Common.{refl, sym, ap, ap₂, ◌∙◌, subst, arith, append_assoc}
@@ -31,10 +32,7 @@ before_none t i = append-nil (packets_before t i)
 -- The packets before the end of a frame.
 before_all : (t : Transmission) (i : ℕ) → i < length t
     → before t i (length (packets_of_frame t i)) ≡ packets_before t (i + 1)
-before_all t i l =
-    ap (λ xs. packets_before t i ++ xs)
-    (take_all (length (packets_of_frame t i)) (packets_of_frame t i) (omega arith))
-    ∙ sym (joined_more t i l)
+before_all t i l = grind (arith, take_all, joined_more)
 
 -- What holds of no packets, and goes on by each packet of the first m frames, holds of each prefix
 -- of theirs.
@@ -46,10 +44,8 @@ module _ (t : Transmission) (m : ℕ) (fits : m ≤ length t) (Q : List (List �
       → Q (before t i k)
   within i l base zero h = subst Q (sym (before_none t i)) base
   within i l base (suc k) h =
-      let e : k + 1 ≡ suc k = omega arith in
-      subst (λ n. Q (before t i n)) e
-      (subst Q (sym (before_more t i k (omega arith)))
-      (more i k l (omega arith) (within i l base k (omega arith))))
+      grind (arith, nat_tests, suc k, before, before_more t i k (omega arith),
+          within i l base k (omega arith))
 
   -- At the start of each frame.
   pub at_start : (n : ℕ) → n ≤ m → Q (packets_before t n)
@@ -91,11 +87,7 @@ module _ (t : Transmission)
   pub rises : (i m : ℕ) → i + m < length t → frame_at t i ≤ frame_at t (i + m)
   rises i zero h = let e : frame_at t i ≡ frame_at t (i + 0) = ap (frame_at t) (omega arith) in
       omega arith
-  rises i (suc m) h =
-      let ih = rises i m (omega arith) in
-      let step = rising (i + suc m) (omega arith) h in
-      let e : frame_at t (i + suc m - 1) ≡ frame_at t (i + m) = ap (frame_at t) (omega arith) in
-      omega arith
+  rises i (suc m) h = grind (arith, nat_tests, rises i m (omega arith), suc m)
 
   -- No frame is after a later one.
   pub rises_to : (i j : ℕ) → i ≤ j → j < length t → frame_at t i ≤ frame_at t j
@@ -124,8 +116,7 @@ module _ (t : Transmission)
 
 -- The first frame is frame 0 of the list.
 pub first-same : (t : Transmission) → first_frame t ≡ frame_at t 0
-first-same [] = refl
-first-same (s ∷ ss) = refl
+first-same t = grind arith
 
 -- The last frame is the last of the list.
 pub last-same : (t : Transmission) → last_frame t ≡ end_frame t
@@ -171,10 +162,7 @@ module _ (t : Transmission)
 
   -- At the end of frame i of the list all its packets so far are on air.
   pub on_air_at : (i : ℕ) → i < length t → on_air_until t (frame_at t i) ≡ packets_before t (i + 1)
-  on_air_at i l =
-      let back : frame_at t (i + 1 - 1) ≡ frame_at t i = ap (frame_at t) (omega arith) in
-      on_air_is (i + 1) (frame_at t i) (omega arith) (λ s. omega arith)
-      (λ m. rises_strictly t rising i (i + 1) (omega arith) m)
+  on_air_at i l = grind (arith, nat_tests, on_air_is)
 
   -- From the first frame on, it is the packets of one frame or more.
   pub so_far : (f : ℕ) → 0 < length t → frame_at t 0 ≤ f → f ≤ end_frame t

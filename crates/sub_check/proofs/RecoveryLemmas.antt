@@ -1,5 +1,6 @@
 -- Receivers recover by a good transmission: `law_of_good_and_recovery`.
-use Rattle.std.proofs.Common.{◌≡◌, ℕ, inl, inr, true, List, sym, ◌∙◌, subst}
+use Rattle.std.proofs.Common.{arith}
+use Rattle.std.proofs.Common.{◌≡◌, ℕ, true, List, sym, subst}
 use Rattle.ttx_page.specs.LostRows.{arrivals_of}
 use Rattle.ttx_page.specs.PacketKind.{kind}
 use Rattle.ttx_page.specs.Receiver.{State, HearsDropping}
@@ -29,13 +30,7 @@ restored programme transmission options g j f IsExcused new good listening ends 
       in_time = window programme transmission options g j f (suffices good) listening;
       heard = λ holds. (ends holds).heard;
       is_open = λ holds. (ends holds).is_open;
-      cells = λ holds row column named. elim ((ends holds).cells row column named) [
-        | inl shows ↦
-            inl (shows
-            ∙ shows_due programme transmission options g j f (suffices good) listening holds row
-            column named)
-        | inr hit ↦ inr hit
-      ];
+      cells = grind (arith, shows_due, suffices good);
     }
 
 -- Receivers recover by a good transmission.

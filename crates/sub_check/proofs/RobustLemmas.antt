@@ -1,10 +1,10 @@
 -- The headline's laws, from the law of noise with lost rows: `law_of_good_and_loss`; and with all
 -- packets kept, robust to lost rows by marks is robust: `law_of_all_kept`.
+use Rattle.std.proofs.lemmas.Bool.Decides.{nat_tests}
 use Rattle.std.proofs.Common.{◌≡◌, ℕ, ◌+◌, ◌≤◌, inl, inr, true, List, ◌++◌, length, drop, take, map}
 use Rattle.std.proofs.Common.{Some, sym, ap, ◌∙◌, subst, arith, option_map, unwrap_or, find, All}
-use Rattle.std.proofs.Common.{[], le_refl, le_trans, append_assoc, take-append-drop, Bool, false}
+use Rattle.std.proofs.Common.{[], le_refl, append_assoc, take-append-drop, Bool, false}
 use Rattle.std.proofs.Common.{◌∷◌, IsTrue, refl}
-use Rattle.std.proofs.lemmas.Bool.{cases_Bool}
 use Rattle.std.proofs.lemmas.List.{drop-append-le, take_all}
 use Rattle.std.proofs.lemmas.List.Elements.{All-drop, All-nil, All-cons, recursion_from_All}
 use Rattle.ttx_packet.specs.PageHeader.{HasExactWords}
@@ -18,7 +18,7 @@ use Rattle.ttx_page.specs.Page.{space, cell, IsCell}
 use Rattle.ttx_page.specs.PacketKind.{kind, is_row}
 use Rattle.ttx_page.specs.Receiver.{Hears, State}
 use Rattle.ttx_page.specs.Shown.{shown}
-use Rattle.ttx_page.specs.Span.{holds_header, after_last_header, before_end, span}
+use Rattle.ttx_page.specs.Span.{holds_header, span}
 use Rattle.ttx_page.proofs.SpanLists.{after-none, holds-append_right, holds-append_left}
 use Rattle.ttx_page.proofs.SpanLists.{after-append}
 use Rattle.stl_rows.specs.Programme.{ProgrammeValue}
@@ -102,10 +102,7 @@ module _ (programme : ProgrammeValue) (transmission : Transmission) (options : O
       let split : later ≡ packets_between transmission (g + 1) n
       ++ packets_between transmission n (f + 1) =
       packets_between-split transmission (g + 1) n (f + 1) enough.rising above (omega arith) in
-      subst (λ ps. holds_header K ps ≡ true) (sym split)
-      (holds-append_right K (packets_between transmission (g + 1) n) _
-      (subst (λ ps. holds_header K ps ≡ true) (sym here)
-      (holds-append_left K (packets_of transmission n) _ holds)))
+      grind (arith, nat_tests, K, true, holds-append_right, holds-append_left)
 
   -- The law of the window: one of the frames after g holds a header.
   pub window : g + options.every ≤ f → holds_header K (on_air transmission g j f) ≡ true
@@ -124,20 +121,7 @@ module _ (programme : ProgrammeValue) (transmission : Transmission) (options : O
       ++ take j (packets_between transmission g (f + 1)))
       ++ on_air transmission g j f
   on_air_until-split =
-      packets_between-split transmission (first_frame transmission) g (f + 1) enough.rising
-      listening.not_before (omega (arith, listening.in_order))
-      ∙ ap (λ ps. packets_between transmission (first_frame transmission) g ++ ps)
-      (sym (take-append-drop j (packets_between transmission g (f + 1))))
-      ∙ sym (append_assoc (packets_between transmission (first_frame transmission) g) _ _)
-
-  -- Where a header is heard, the span is that of all that was on air so far.
-  pub span_so_far :
-      holds_header K (on_air transmission g j f) ≡ true
-      → span K (on_air_until transmission f) ≡ span K (on_air transmission g j f)
-  span_so_far holds =
-      ap (before_end K)
-      (ap (after_last_header K) on_air_until-split
-      ∙ after-append K _ (on_air transmission g j f) holds)
+      grind (arith, packets_between-split, take-append-drop, append_assoc)
 
   -- What is so of the span of all that was on air so far is so of the span of what is heard.
   of_span :
@@ -145,13 +129,7 @@ module _ (programme : ProgrammeValue) (transmission : Transmission) (options : O
       → P []
       → P (span K (on_air_until transmission f))
       → P (span K (on_air transmission g j f))
-  of_span P none so_far =
-      elim (cases_Bool (holds_header K (on_air transmission g j f))) [
-        | inl holds ↦ subst P (span_so_far holds) so_far
-        | inr no_header ↦
-            subst P (sym (ap (before_end K) (after-none K (on_air transmission g j f) no_header)))
-            none
-      ]
+  of_span P none so_far = grind (arith, on_air_until-split, after-append, after-none)
 
   -- What is on air is as the law of noise wants it.
   pub sound : IsSound options.page (on_air transmission g j f)
@@ -176,10 +154,7 @@ module _ (programme : ProgrammeValue) (transmission : Transmission) (options : O
       → IsCell row column
       → shown options.page (on_air transmission g j f) row column
       ≡ cell (due_in programme f) row column
-  shows_due holds row column named =
-      ap (shown_of options.page row column) (sym (span_so_far holds))
-      ∙ enough.content f row column (le_trans listening.not_before listening.in_order)
-      listening.not_after named
+  shows_due holds row column named = grind (arith, on_air_until-split, after-append)
 
 -- The law of the window.
 pub law_of_window : LawOfWindow
@@ -220,10 +195,8 @@ law_of_good_and_marked_loss
     programme transmission options good g j f marks got old new listening may near unheard shut
     hears =
     let sent : List (List ℕ) = on_air transmission g j f in
-    law_of_good_and_loss programme transmission options good g j f (arrivals_of marks got) old new
-    listening (noise.arrives_marked sent marks got may near) unheard shut
-    (subst (λ ps. Hears options.page old ps new)
-    (sym (noise.arrived_marked sent marks got may near)) hears)
+    grind (arith, nat_tests, law_of_good_and_loss, noise.arrives_marked sent marks got may near,
+        noise.arrived_marked sent marks got may near)
 
 -- What is promised with one excuse is promised with each that it gives.
 pub served_as :
@@ -232,14 +205,7 @@ pub served_as :
     → ((row column : ℕ) → P row column → Q row column)
     → IsServed programme options g f sent P new
     → IsServed programme options g f sent Q new
-served_as excuse served = record {
-  in_time = served.in_time;
-  heard = served.heard;
-  cells = λ holds row column named. elim (served.cells holds row column named) [
-    | inl due ↦ inl due
-    | inr hit ↦ inr (hit.0, excuse row column hit.1)
-  ];
-}
+served_as excuse served = grind arith
 
 -- With nothing lost, the premises and the hits are those of a robust transmission.
 pub law_of_nothing_lost : LawOfRobustWithNothingLost
@@ -260,8 +226,7 @@ law_of_nothing_lost programme transmission options = (robust, lossless)
     lossless robust g j f got old new listening arrives unheard shut hears =
         let law = noise.law_of_nothing_lost options.page (on_air transmission g j f) got in
         served_as (λ row column. (law.hits row column).1)
-        (robust g j f got old new listening (law.near.0 arrives) unheard shut
-        (subst (λ ps. Hears options.page old ps new) law.packets hears))
+        (grind (arith, nat_tests, robust))
 
 -- The parts that suffice: with nothing lost, robust to lost rows is robust.
 pub law_of_sufficient_parts : LawOfSufficientParts
@@ -344,8 +309,7 @@ law_of_all_kept programme transmission options = (robust, kept)
         (λ row column hit.
         ((noise.law_of_nothing_lost options.page sent got).hits row column).0
         (subst (λ fs. IsHitOrLost options.page sent fs row column) arrivals hit))
-        (with_all g j f marks (all_true sent) got old new listening (may_all sent)
-        (subst (λ ps. AllZip AreNear ps got) (sym items) near) unheard shut hears)
+        (grind (arith, nat_tests, all_true sent, may_all sent))
 
     kept :
         Robust programme transmission options

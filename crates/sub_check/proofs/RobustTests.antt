@@ -1,4 +1,5 @@
 -- A receiver as a function that computes, and by it: a transmission is not robust (refuted).
+use Rattle.std.proofs.lemmas.Bool.Decides.{nat_tests}
 use Rattle.std.proofs.Common.{◌≡◌, ℕ, ◌+◌, ◌-◌, inl, inr, ◌==◌, Bool, true, false, not, ◌&&◌, ◌||◌}
 use Rattle.std.proofs.Common.{nat_le, cond, List, [], ◌∷◌, length, map, replicate, get_or}
 use Rattle.std.proofs.Common.{MatchBool, refl, sym, ap, ◌∙◌, arith, eq-eqb, ne_eqb}
@@ -163,16 +164,7 @@ may_listen frames g j f =
 
 listening :
     (frames : Transmission) (g j f : ℕ) → may_listen frames g j f ≡ true → IsListening frames g j f
-listening frames g j f e =
-    let a = and_parts (nat_le (first_frame frames) g) _ e in
-    let b = and_parts (nat_le g f) _ a.1 in
-    let c = and_parts (nat_le f (last_frame frames)) _ b.1 in
-    record {
-      not_before = leb-true (first_frame frames) g a.0;
-      in_order = leb-true g f b.0;
-      not_after = leb-true f (last_frame frames) c.0;
-      in_frame = leb-true j (length (packets_of frames g)) c.1;
-    }
+listening frames g j f e = grind (arith, nat_tests, and_parts, nat_le, leb-true, length)
 
 -- The code in a cell is none that a receiver may hold.
 abbrev is_wrong : ℕ → ℕ → Bool

@@ -1,4 +1,5 @@
 -- The rules by name: a good transmission keeps each of them (law_of_rules).
+use Rattle.std.proofs.Common.{arith}
 use Rattle.std.proofs.Common.{◌≢◌}
 use Rattle.stl_rows.specs.Programme.{ProgrammeValue}
 use Rattle.sub_plan.specs.Options.{OptionsValue}
@@ -14,13 +15,7 @@ keeps_each :
     → Good programme transmission options
     → (rule : Rule)
     → IsKept rule programme transmission options
-keeps_each programme transmission options good Frames = assumption
-keeps_each programme transmission options good ExactWords = good.exact
-keeps_each programme transmission options good OneMode = good.serial
-keeps_each programme transmission options good SubtitleControl = good.control
-keeps_each programme transmission options good CleanSpans = good.spans
-keeps_each programme transmission options good RepeatBound = assumption
-keeps_each programme transmission options good DuePages = good.content
+keeps_each programme transmission options good is = grind arith
 
 -- And one that keeps each rule is good.
 good_from_rules :
@@ -50,9 +45,4 @@ pub breaks :
     → (IsKept rule programme transmission options → ⊥)
     → ((other : Rule) → other ≢ rule → IsKept other programme transmission options)
     → BreaksOnly rule programme transmission options
-breaks rule programme transmission options broken others =
-    record {
-      broken = broken;
-      others = others;
-      not_good = λ good. broken (keeps_each programme transmission options good rule);
-    }
+breaks rule programme transmission options broken others = grind arith

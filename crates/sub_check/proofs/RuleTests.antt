@@ -1,5 +1,6 @@
 -- Each of the seven rules as a test that computes: rule_decided. Below each test stands what it
 -- decides.
+use Rattle.std.proofs.lemmas.Bool.Decides.{nat_tests}
 use Rattle.std.proofs.Common.{◌≡◌, ℕ, zero, suc, ◌+◌, ◌-◌, ◌<◌, ◌≤◌, inl, inr, ◌==◌, Bool, true}
 use Rattle.std.proofs.Common.{not, ◌&&◌, ◌||◌, nat_lt, nat_le, List, [], ◌∷◌, length}
 use Rattle.std.proofs.Common.{take, slice_index, Option, Some, find, option_map, unwrap_or, All}
@@ -22,7 +23,6 @@ use Rattle.ttx_packet.specs.PageHeader.{c11, c12, c13, c14}
 use Rattle.ttx_packet.specs.PageId.{PageIdValue}
 use Rattle.ttx_packet.specs.Parity.{code_of, is_odd}
 use Rattle.ttx_packet.specs.RowPacket.{text_byte, HasOddText}
-use Rattle.ttx_page.specs.declared.packet_kind.PacketKind.TheVariants.{Row}
 use Rattle.ttx_page.specs.Noise.{IsOddRow, IsSameRow}
 use Rattle.ttx_page.specs.Page.{Rows, space, cell, row_at, IsCell}
 use Rattle.ttx_page.specs.PacketKind.{kind, is_row}
@@ -119,12 +119,7 @@ is_one_mode one other = if_some (λ h. if_some (λ k. agree (c11 h) (c11 k)) oth
 mode_decided :
     (one other : List ℕ) → Decides (is_one_mode (header one) (header other)) (IsInOneMode one other)
 mode_decided one other =
-    Decides-like (is_one_mode (header one) (header other)) (λ f h k is too. f h is k too)
-    (λ f h is k too. f h k is too)
-    (value_of (λ h. if_some (λ k. agree (c11 h) (c11 k)) (header other))
-    (λ h. (k : Header) → header other ≡ Some k → c11 h ≡ c11 k)
-    (λ h. value_of (λ k. agree (c11 h) (c11 k)) (λ k. c11 h ≡ c11 k)
-    (λ k. agreed (c11 h) (c11 k)) (header other)) (header one))
+    grind (arith, nat_tests, Decides-like, is_one_mode, value_of, if_some, agree, Some, agreed)
 
 -- The control bits of a subtitle's header.
 abbrev is_subtitles : National → Header → Bool
@@ -139,15 +134,7 @@ subtitles_decided :
     (national : National) (h : Header)
     → Decides (is_subtitles national h) (IsSubtitleHeader national h)
 subtitles_decided national h =
-    Decides-like (is_subtitles national h)
-    (λ a. assumption) (λ r. assumption)
-    (Decides-and _ _ (holds (c4 h))
-    (Decides-and _ _ (fails (c5 h))
-    (Decides-and _ _ (holds (c6 h))
-    (Decides-and _ _ (holds (c7 h))
-    (Decides-and _ _ (fails (c10 h))
-    (Decides-and _ _ (fails (c12 h))
-    (Decides-and _ _ (fails (c13 h)) (agreed (c14 h) (has_c14 national)))))))))
+    grind (arith, nat_tests, Decides-like, is_subtitles, Decides-and, holds, fails, agreed)
 
 -- ---- spans
 
@@ -176,29 +163,15 @@ same_decided :
     (if_some (λ y. if_some (λ z. not (y == z) || bytes_eq p q) (row_of_kind (kind page q)))
     (row_of_kind (kind page p))) (IsSameRow page p q)
 same_decided page p q =
-    Decides-like _
-    (λ f y is too. f y is y too refl)
-    (λ f y is z too same. f y is (too ∙ ap Row (sym same)))
-    (if_row (λ y. if_some (λ z. not (y == z) || bytes_eq p q) (row_of_kind (kind page q)))
-    (λ y. (z : ℕ) → kind page q ≡ Row z → y ≡ z → p ≡ q)
-    (λ y. if_row (λ z. not (y == z) || bytes_eq p q) (λ z. y ≡ z → p ≡ q)
-    (λ z. implied (y == z) (bytes_eq p q) (Decides-eqb y z) (bytes_eq-Decides p q))
-    (kind page q)) (kind page p))
+    grind (arith, nat_tests, Decides-like, if_row, if_some, not, row_of_kind, ℕ, implied,
+        Decides-eqb, bytes_eq-Decides)
 
 plain_decided :
     (page : PageIdValue) (p : List ℕ)
     → Decides (if_some (λ a. not (is_enhancement page a)) (address p)) (IsEnhancement page p → ⊥)
 plain_decided page p =
-    Decides-like _
-    (λ f e. f e.0 e.1 (e.2, (e.3, e.4)))
-    (λ f a is e. f (a, is, e.0, e.1.0, e.1.1))
-    (value_of (λ a. not (is_enhancement page a))
-    (λ (a : PacketAddress).
-    ((a.magazine ≡ page.magazine) × ((25 ≤ a.packet_number) × (a.packet_number ≤ 28))) → ⊥)
-    (λ a. Decides-not (is_enhancement page a)
-    (Decides-and _ _ (Decides-eqb a.magazine page.magazine)
-    (Decides-and _ _ (at_most 25 a.packet_number) (at_most a.packet_number 28))))
-    (address p))
+    grind (arith, nat_tests, Decides-like, value_of, not, is_enhancement, Decides-not, Decides-and,
+        Decides-eqb, at_most)
 
 clean_decided :
     (page : PageIdValue) (ps : List (List ℕ)) → Decides (is_clean page ps) (IsCleanSpan page ps)
@@ -415,9 +388,5 @@ rule_decided SubtitleControl programme frames o =
     (subtitles_decided programme.national) (kind o.page p)) frames
 rule_decided CleanSpans programme frames o = spans_decided o.page frames
 rule_decided RepeatBound programme frames o =
-    Decides-like _
-    (λ a. record { opens = a.0; repeats = a.1 })
-    (λ r. (r.opens, r.repeats))
-    (Decides-and _ _ (holds (holds_header (kind o.page) (packets_of frames (first_frame frames))))
-    (repeats_decided o.page o.every frames))
+    grind (arith, nat_tests, Decides-like, repeats, Decides-and, holds, repeats_decided)
 rule_decided DuePages programme frames o = due_decided programme o.page frames

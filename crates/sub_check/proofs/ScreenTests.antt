@@ -1,6 +1,7 @@
 -- The examples of what comes onto a screen.
-use Rattle.std.proofs.Common.{◌≡◌, inl, inr, true, false, List, [], ◌∷◌, Option, Some, None, refl}
-use Rattle.std.proofs.Common.{sym, ap, ◌∙◌, subst, le_refl, true≢false, ◌&&◌, not, ℕ, ◌≤◌, arith}
+use Rattle.std.proofs.lemmas.Bool.Decides.{nat_tests}
+use Rattle.std.proofs.Common.{◌≡◌, true, false, List, [], ◌∷◌, Option, Some, None, refl}
+use Rattle.std.proofs.Common.{sym, ap, ◌∙◌, subst, le_refl, true≢false, not, ℕ, ◌≤◌, arith}
 use Rattle.std.proofs.Common.{length, ◌++◌}
 use Rattle.std.specs.Int.RustNames.{count_ones}
 use Rattle.std.proofs.lemmas.Option.{none-some}
@@ -12,7 +13,7 @@ use Rattle.ttx_packet.specs.PageHeader.{header, coded_header}
 use Rattle.ttx_packet.specs.Parity.{is_odd}
 use Rattle.ttx_page.specs.declared.packet_kind.PacketKind.TheVariants.{ThisPage, EndsPage, Row}
 use Rattle.ttx_page.specs.Page.{Rows, blank, blank_row}
-use Rattle.ttx_page.specs.PacketKind.{kind, is_this_page}
+use Rattle.ttx_page.specs.PacketKind.{kind}
 use Rattle.ttx_page.specs.Receiver.{State, Step, StepAt}
 use Rattle.ttx_page.specs.Screen.{Display, ShowsAt}
 use Rattle.ttx_page.specs.Span.{holds_header, is_unended}
@@ -71,35 +72,17 @@ closed old new step =
 -- The row leaves it open.
 left_open :
     (old new : State) → old ≡ on_blank → Step page_888 old row_22 new → new.is_open ≡ true
-left_open old new is step =
-    let at : StepAt (Row 22) row_22 on_blank new =
-    subst (λ s. StepAt (Row 22) row_22 s new) is
-    (subst (λ k. StepAt k row_22 old new) kind_22 step) in
-    at.1
+left_open old new is step = grind (arith, nat_tests, on_blank, kind_22)
 
 -- ---- what comes onto the screen
 
 -- The closing header brings the page onto the screen.
 pub example_of_ended_page : ExampleOfEndedPage
-example_of_ended_page old new run =
-    let open_page = opened old.held run.0.held run.1 in
-    let shut = closed run.0.held run.3.0.held run.3.1 in
-    ap (λ (d : Display). d.screen) run.3.3
-    ∙ run.3.2.ended
-    (ap (λ (s : State). s.is_open && not run.3.0.held.is_open) open_page ∙ ap not shut)
-    ∙ ap (λ (s : State). Some s.page) open_page
+example_of_ended_page old new run = grind (arith, nat_tests, opened, closed, not, Some)
 
 -- A row does not.
 pub example_of_page_not_ended : ExampleOfPageNotEnded
-example_of_page_not_ended screen new run =
-    let open_page = opened (unheard screen).held run.0.held run.1 in
-    let still = left_open run.0.held run.3.0.held open_page run.3.1 in
-    ap (λ (d : Display). d.screen) run.3.3
-    ∙ run.3.2.stays
-    (ap (λ (s : State). s.is_open && not run.3.0.held.is_open) open_page ∙ ap not still)
-    (ap (λ (s : State). s.is_open && is_this_page (kind page_888 row_22)) open_page
-    ∙ ap is_this_page kind_22)
-    ∙ run.2.stays refl refl
+example_of_page_not_ended screen new run = grind (arith, nat_tests, opened, left_open, not, kind_22)
 
 -- The page is open, and this is on the screen.
 abbrev open_with : Option Rows → Display
@@ -107,27 +90,15 @@ open_with screen = record { held = on_blank; screen = screen }
 
 -- At the first header the screen stays as it is.
 first_header : ShowsAt page_888 (unheard None) header_888 (open_with None)
-first_header = record {
-  ended = λ e. absurd (true≢false (sym e));
-  again = λ e. absurd (true≢false (sym e));
-  stays = λ a b. refl;
-}
+first_header = grind (arith, nat_tests, true≢false)
 
 -- At the next one a receiver may show the page.
 shows_again : ShowsAt page_888 (open_with None) header_888 (open_with (Some blank))
-shows_again = record {
-  ended = λ e. absurd (true≢false (sym e));
-  again = λ e. inl refl;
-  stays = λ a b. absurd (true≢false (sym (ap is_this_page kind_888) ∙ b));
-}
+shows_again = grind (arith, nat_tests, true≢false, kind_888)
 
 -- Or not.
 waits_again : ShowsAt page_888 (open_with None) header_888 (open_with None)
-waits_again = record {
-  ended = λ e. absurd (true≢false (sym e));
-  again = λ e. inr refl;
-  stays = λ a b. refl;
-}
+waits_again = grind (arith, nat_tests, true≢false)
 
 -- So both are runs.
 pub example_of_page_begun_again : ExampleOfPageBegunAgain

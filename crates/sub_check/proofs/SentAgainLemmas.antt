@@ -1,26 +1,23 @@
 -- Packets that are sent again keep the rules again, and what is kept stays: `law_of_sent_again`,
 -- `heard_again`, `kept_last`.
 use Rattle.std.proofs.lemmas.Bool.Decides.{nat_tests}
-use Rattle.std.proofs.Common.{◌≡◌, ℕ, zero, suc, ◌<◌, Bool, true, false, ◌==◌, cond, List, [], ◌∷◌}
-use Rattle.std.proofs.Common.{◌++◌, Option, Some, None, not, ◌&&◌, length, take, get_or}
-use Rattle.std.proofs.Common.{option_map, refl, sym, ap, ap₂, ◌∙◌, subst, arith, append-nil, ◌+◌}
-use Rattle.std.proofs.Common.{eqb-true}
-use Rattle.std.specs.List.{AllByRecursion, list_any}
+use Rattle.std.proofs.Common.{◌≡◌, ℕ, zero, suc, ◌<◌, Bool, true, cond, List, [], ◌∷◌}
+use Rattle.std.proofs.Common.{◌++◌, Option, Some, None, length, take, get_or}
+use Rattle.std.proofs.Common.{refl, sym, ap, ◌∙◌, subst, arith, append-nil}
+use Rattle.std.specs.List.{AllByRecursion}
 use Rattle.std.specs.Option.{option_or}
 use Rattle.std.proofs.lemmas.Bool.{or_left}
-use Rattle.std.proofs.lemmas.Option.{same_Some}
 use Rattle.ttx_packet.specs.PageHeader.{c11, header}
 use Rattle.ttx_packet.specs.declared.header.Header.{Header}
 use Rattle.ttx_page.specs.declared.packet_kind.PacketKind.TheVariants.{ThisPage, Row}
-use Rattle.ttx_page.specs.PacketKind.{kind, is_this_page, ends_page}
+use Rattle.ttx_page.specs.PacketKind.{kind, is_this_page}
 use Rattle.ttx_page.specs.Span.{before_end}
-use Rattle.sub_check.specs.Listening.{HoldsRows, Knows, KnowsLast, WereJudged}
+use Rattle.sub_check.specs.Listening.{Knows, KnowsLast, WereJudged}
 use Rattle.sub_check.specs.PacketRules.{AreClean, IsClean, first_header, header_count}
 use Rattle.sub_check.specs.SentAgain.{BeginsWithHeader, LawOfSentAgain, LookAlike}
 use Rattle.sub_check.specs.declared.listener.Listener.{Listener}
 use Rattle.sub_check.specs.declared.packet_rules.Watched.{Watched}
-use Rattle.sub_check.proofs.PacketRuleLemmas.{clean_from, parity_free, changed_free}
-use Rattle.sub_check.proofs.PacketRuleLemmas.{enhancement_free}
+use Rattle.sub_check.proofs.PacketRuleLemmas.{clean_from, enhancement_is_other}
 use Rattle.sub_check.proofs.PacketLists.{first_header-append}
 use Rattle.ttx_page.proofs.SpanLists.{after-append, holds-append_right}
 use Rattle.sub_check.specs.declared.packet_rules.PacketRule.TheVariants as rule
@@ -56,18 +53,12 @@ keeps_alike w b c p same k rule.Enhancement = λ is. k rule.Enhancement (same.op
 -- What is kept after one list is what is kept after another that looks alike.
 knows_alike :
     (b c : List (List ℕ)) (s : Listener) → LookAlike s.watched.page b c → Knows b s → Knows c s
-knows_alike b c s same k = record {
-  serial_is = k.serial_is ∙ ap (λ o. option_map (λ (h : Header). c11 h) o) same.header_is;
-  open_is = k.open_is ∙ same.open_is;
-  rows_are =
-      subst (λ rows. HoldsRows s.watched rows s.sent s.comparison.page) same.span_is k.rows_are;
-}
+knows_alike b c s same k = grind arith
 
 -- With the same header again, the first stays.
 same_first : (o : Option Header) (h : Header)
     → option_or o (Some h) ≡ option_or (option_or o (Some h)) (Some h)
-same_first None h = refl
-same_first (Some x) h = refl
+same_first o h = grind arith
 
 module _
     (w : Watched) (heard : List (List ℕ)) (first : List ℕ)
@@ -78,9 +69,7 @@ module _
         (xs others : List (List ℕ)) (h : Header)
         → header first ≡ Some h
         → first_header (xs ++ first ∷ others) ≡ option_or (first_header xs) (Some h)
-    first_after xs others h e =
-        first_header-append xs (first ∷ others)
-        ∙ ap (λ o. option_or (first_header xs) (option_or o (first_header others))) e
+    first_after xs others h e = grind (arith, first_header-append)
 
     -- After a header of the page what came before it does not matter, but for the first header,
     -- which is then there.
@@ -101,11 +90,8 @@ module _
               (first_after (heard ++ first ∷ others) more h.0 h.1
               ∙ ap (λ o. option_or o (Some h.0)) (first_after heard others h.0 h.1));
           open_is =
-              ap₂ (λ b ys. b && not (list_any (λ p. ends_page (kind w.page p)) ys))
-              (holds-append_right (kind w.page) heard (first ∷ more) held
-              ∙ sym
-              (holds-append_right (kind w.page) (heard ++ first ∷ others) (first ∷ more) held))
-              after;
+              grind (arith, holds-append_right (kind w.page) heard (first ∷ more) held,
+                  holds-append_right (kind w.page) (heard ++ first ∷ others) (first ∷ more) held);
           span_is = ap (before_end (kind w.page)) after;
         }
 
@@ -118,10 +104,12 @@ module _
         let h = header_of w first is in
         clean_from w (heard ++ first ∷ others) first (k rule.Address) (k rule.HeaderCode)
         (λ x y e f. go (first_header heard) refl x y e
-        (sym (first_after heard others h.0 h.1) ∙ f)) (k rule.Control)
-        (parity_free w (heard ++ first ∷ others) first _ h.2 (λ row e. cc))
-        (changed_free w (heard ++ first ∷ others) first _ h.2 (λ row e. cc))
-        (enhancement_free w (heard ++ first ∷ others) first _ h.2 (λ e. cc))
+        (sym (first_after heard others h.0 h.1) ∙ f)) (record {
+          control = k rule.Control;
+          parity = grind arith;
+          same = grind arith;
+          plain = grind (arith, enhancement_is_other);
+        })
       where
         go :
             (o : Option Header)
@@ -130,9 +118,7 @@ module _
             → header first ≡ Some x
             → option_or o (Some (header_of w first is).0) ≡ Some y
             → c11 x ≡ c11 y
-        go None q x y e f =
-            ap (λ (z : Header). c11 z)
-            (same_Some x y (sym e ∙ (header_of w first is).1 ∙ f))
+        go None q x y e f = grind arith
         go (Some z) q x y e f = k rule.Mode x y e (q ∙ f)
 
     -- And so is each of the packets.
@@ -219,8 +205,7 @@ pub kept_last :
     → (begins ≡ true → (0 < n) × (is_this_page (kind w.page (get_or ps 0 [])) ≡ true))
     → KnowsLast (heard ++ ps) ps (record s { last = cond begins (Some headers) None })
 kept_last w heard ps n headers begins s same known clean long count is = record {
-  knows =
-      record { serial_is = known.serial_is; open_is = known.open_is; rows_are = known.rows_are };
+  knows = grind arith;
   last_is = λ m e.
       subst (λ v. WereJudged v (heard ++ ps) ps m) (sym same) (go begins is m e);
 }
@@ -229,8 +214,7 @@ kept_last w heard ps n headers begins s same known clean long count is = record 
         → is_this_page (kind w.page (get_or xs 0 [])) ≡ true
         → BeginsWithHeader w.page xs
     first [] some e = absurd (omega arith)
-    first (x ∷ xs) some e =
-        record { first = x; others = xs; packets_are = refl; is_header = e }
+    first (x ∷ xs) some e = grind arith
 
     go :
         (b : Bool)
@@ -238,29 +222,4 @@ kept_last w heard ps n headers begins s same known clean long count is = record 
         → (m : ℕ)
         → cond b (Some headers) None ≡ Some m
         → WereJudged w (heard ++ ps) ps m
-    go true is m e = record {
-      before = heard;
-      heard_is = refl;
-      begins = first ps (subst (λ x. 0 < x) (sym long) (is refl).0) (is refl).1;
-      clean = subst (AreClean w heard ps) (sym long) clean;
-      count = sym count ∙ same_Some headers m e;
-    }
-    go false is m e = cc
-
--- Whether the first packet is a header of the page, one packet on. For `hear_all`.
-pub begins_on :
-    (k : ℕ) (now before here is_first : Bool)
-    → now ≡ cond (k == 0) here before
-    → (k ≡ 0 → here ≡ is_first)
-    → (before ≡ true → (0 < k) × (is_first ≡ true))
-    → now ≡ true
-    → (0 < k + 1) × (is_first ≡ true)
-begins_on k now before here is_first e same old is = go (k == 0) refl (sym e ∙ is)
-  where
-    go :
-        (b : Bool)
-        → (k == 0) ≡ b
-        → cond b here before ≡ true
-        → (0 < k + 1) × (is_first ≡ true)
-    go true q f = (omega arith, sym (same (eqb-true k 0 q)) ∙ f)
-    go false q f = (omega arith, (old f).1)
+    go b is m e = grind (arith, nat_tests, first)

@@ -1,12 +1,10 @@
 -- What the page shows, and how long ago a header was.
 use Rattle.std.proofs.lemmas.Bool.{cases_Bool}
-use borrow.Author.Count.{below_more}
-use Rattle.std.proofs.Common.{Option, Some, None, ◌≡◌, ◌≢◌, ℕ, ◌+◌, ◌-◌, ◌<◌, ◌≤◌, inl, inr, Bool}
+use Rattle.std.proofs.Common.{Option, Some, None, ◌≡◌, ℕ, ◌+◌, ◌-◌, ◌<◌, ◌≤◌, inl, inr, Bool}
 use Rattle.std.proofs.Common.{true, false, List, [], ◌∷◌, ◌++◌, find, option_map, unwrap_or, length}
-use Rattle.std.proofs.Common.{get_or, take, refl, sym, ap, ◌∙◌, subst, arith, ◌&&◌, true≢false}
+use Rattle.std.proofs.Common.{get_or, take, sym, ap, ◌∙◌, arith, ◌&&◌}
 use Rattle.std.specs.List.{list_any, flat_map}
 use Rattle.std.proofs.lemmas.List.{get_or-replicate, flat_map_more, take_more, get_or-map}
-use Rattle.std.proofs.lemmas.Bool.{and_parts}
 use Rattle.ttx_packet.specs.Parity.{code_of}
 use Rattle.ttx_packet.specs.PacketAddress.{IsPacket}
 use Rattle.stl_file.specs.Subtitle.{SubtitleValue}
@@ -25,8 +23,8 @@ use Rattle.ttx_page.specs.Shown.{shown}
 use Rattle.sub_check.specs.Transmission.{SentFrame, Transmission}
 use Rattle.sub_check.specs.declared.listener.Listener.{Listener}
 use Rattle.stl_rows.specs.Programme.{ProgrammeValue}
-use Rattle.sub_check.specs.Listening.{KnowsLast, HoldsRows, IsSoundRow}
-use Rattle.sub_check.specs.FrameRules.{Task, frame_at, packets_of_frame, packets_before, HasHeader}
+use Rattle.sub_check.specs.Listening.{HoldsRows, IsSoundRow}
+use Rattle.sub_check.specs.FrameRules.{Task, packets_of_frame, packets_before, HasHeader}
 use Rattle.sub_check.specs.FrameRules.{ShowsDue, IsCovered, IsEnded}
 use Rattle.sub_plan.specs.Schedule.{due_in}
 use Rattle.sub_check.specs.Checker.{CheckerValue, IsAtFrame, at_frame}
@@ -65,35 +63,12 @@ shown_is w packets sent page h row column is =
           ∙ sym (ap code (find_none test packets e))
     ]
 
--- What is known of the packets stays where another page is due.
-pub KnowsLast-drawn :
-    (heard last : List (List ℕ)) (s : Listener) (due : Rows)
-    → KnowsLast heard last s
-    → KnowsLast heard last (record s { comparison = record s.comparison { due = due } })
-KnowsLast-drawn heard last s due k = assumption
-
 -- ---- headers
 
 -- A frame without a header leaves the last header's frame.
 pub HeaderIs-none : (g : Task) (frames : Transmission) (n at : ℕ) → HeaderIs g frames n at
     → (HasHeader g frames n → ⊥) → HeaderIs g frames (n + 1) at
-HeaderIs-none g frames n at h none = record {
-  found = (h.found.0, omega (arith, h.found.1), h.found.2, h.found.3);
-  last =
-      below_more (λ j. HasHeader g frames j → frame_at frames j ≤ at) n h.last
-      (λ head. absurd (none head));
-  begins = h.begins;
-}
-
--- A frame with one is the last header's frame.
-pub HeaderIs-some : (g : Task) (frames : Transmission) (n : ℕ) → HasHeader g frames n
-    → ((j : ℕ) → j < n + 1 → frame_at frames j ≤ frame_at frames n)
-    → HeaderIs g frames (n + 1) (frame_at frames n)
-HeaderIs-some g frames n head rising = record {
-  found = (n, omega arith, refl, head);
-  last = λ j l other. rising j l;
-  begins = rising 0 (omega arith);
-}
+HeaderIs-none g frames n at h none = grind arith
 
 -- ---- one frame more
 
@@ -150,10 +125,7 @@ module _ (g : Task) (frames : Transmission) (n : ℕ) (c : CheckerValue)
       shows_there : (row column : ℕ) → IsCell row column
           → cell c.listener.comparison.page row column ≡ cell c.listener.comparison.due row column
           → ShowsDue g frames n c.frame row column
-      shows_there row column is e =
-          sym (kept_shown row column is)
-          ∙ e
-          ∙ ap (λ d. cell d row column) (due ∙ sym (known.task_is.due_is c.frame))
+      shows_there row column is e = grind (arith, kept_shown)
 
       pub shows_all : AreSameCells c.listener → (row column : ℕ) → IsCell row column
           → ShowsDue g frames n c.frame row column
@@ -164,66 +136,37 @@ module _ (g : Task) (frames : Transmission) (n : ℕ) (c : CheckerValue)
           → WrongFirst g frames n c.frame row column
       wrong_first row column d = record {
         is_cell = d.is_cell;
-        broken = λ shows. d.differ
-            (kept_shown row column d.is_cell
-            ∙ shows
-            ∙ ap (λ x. cell x row column) (known.task_is.due_is c.frame ∙ sym due));
+        broken = grind (arith, kept_shown row column d.is_cell);
         above = λ r k is l. shows_there r k is (cells_above d r k is l);
-        before = λ k l. shows_there row k
-            (d.is_cell.0, d.is_cell.1, omega (arith, d.is_cell.2)) (d.cells_before k l);
+        before = grind (arith, shows_there);
       }
 
     module _ (some : 0 < n) where
       -- The last header is not after the frame.
       header_before : c.header_at ≤ c.frame
-      header_before =
-          let found = (known.header some).found in
-          let e = found.2 in
-          let l = known.rising found.0 found.1 in
-          omega arith
+      header_before = grind arith
 
       -- It is less than `every` frames ago, or not.
       pub covered : c.frame - c.header_at < c.every → IsCovered g frames n c.frame
-      covered l =
-          let found = (known.header some).found in
-          let e = found.2 in
-          let same = known.task_is.every_is in
-          let below : c.frame < frame_at frames found.0 + g.every =
-          omega (arith, header_before) in
-          inr (found.0, found.1, below, found.3)
+      covered l = grind arith
 
       pub uncovered : c.every ≤ c.frame - c.header_at → IsCovered g frames n c.frame → ⊥
-      uncovered l (inl e) =
-          let same = known.task_is.every_is in
-          let b = (known.header some).begins in
-          omega (arith, header_before)
-      uncovered l (inr (j, i, e, head)) =
-          let same = known.task_is.every_is in
-          let b = (known.header some).last j i head in
-          omega (arith, header_before)
+      uncovered l is = grind arith
 
     -- The page that is kept is open where the packets leave it open.
     left_open :
         (c.listener.watched.complete && c.listener.is_open)
         ≡ (g.watched.complete && is_open_after (kind g.watched.page) (packets_before frames n))
-    left_open =
-        ap (λ b. c.listener.watched.complete && b) known.knows.knows.open_is
-        ∙ ap (λ (w : Watched). w.complete && is_open_after (kind w.page) (packets_before frames n))
-        known.watched_is
+    left_open = grind arith
 
     -- Where it is not open, the page is ended.
     pub ended : (c.listener.watched.complete && c.listener.is_open) ≡ false → IsEnded g frames n
-    ended e asks =
-        ap (λ b. b && is_open_after (kind g.watched.page) (packets_before frames n)) (sym asks)
-        ∙ sym left_open
-        ∙ e
+    ended e asks = grind arith
 
     -- And where it is open it is not.
     pub not_ended : (c.listener.watched.complete && c.listener.is_open) ≡ true
         → IsEnded g frames n → ⊥
-    not_ended e is =
-        let parts = and_parts g.watched.complete _ (sym left_open ∙ e) in
-        true≢false (sym parts.1 ∙ is parts.0)
+    not_ended e is = grind arith
 
 -- Where the next edge after the frame before is not this frame, the due page stays.
 due_between_edges :
@@ -253,10 +196,7 @@ same_edge records frame None tells other = λ e is. let l = tells e is in omega 
 same_edge records frame (Some edge) tells other =
     record {
       is_edge = tells.is_edge;
-      after =
-          let m = tells.after in
-          let no : edge ≢ frame + 1 = λ e. other (ap Some e) in
-          omega arith;
+      after = grind arith;
       least = λ e is l. tells.least e is (omega arith);
     }
 
@@ -269,26 +209,11 @@ pub IsAtFrame-next :
     → (edge ≡ Some f → ⊥)
     → IsAtFrame p s first f edge at headers
 IsAtFrame-next p s first frame edge at headers f is next other =
-    let here : edge ≡ Some (frame + 1) → ⊥ = λ e. other (e ∙ ap Some (sym next)) in
-    let a = is.first_before in
-    let b = is.header_before in
-    let c = is.few in
-    subst (λ x. IsAtFrame p s first x edge at headers) (sym next) (record {
-      due_is =
-          is.due_is ∙ sym (due_between_edges p.national p.records frame edge is.edge_is here);
-      edge_is = same_edge p.records frame edge is.edge_is here;
-      first_before = omega arith;
-      header_before = omega arith;
-      few = omega arith;
-    })
+    grind (arith, due_between_edges, same_edge)
 
 -- What is kept as due is due at this frame. For `advance`.
 pub at_frame-stays :
     (f : ℕ) (c : CheckerValue)
     → c.listener.comparison.due ≡ due_in c.programme f
     → record c { frame = f } ≡ at_frame f c
-at_frame-stays f c is =
-    ap (λ (d : Rows). let moved : CheckerValue = record c {
-      frame = f;
-      listener = record c.listener { comparison = record c.listener.comparison { due = d } };
-    } in moved) is
+at_frame-stays f c is = grind arith

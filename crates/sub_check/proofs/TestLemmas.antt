@@ -1,14 +1,13 @@
 -- Tests that compute, and what they decide: truth values, numbers, lists, packets and frames. Below
 -- each test stands what it decides.
 use Rattle.std.proofs.Common.{◌≡◌, ℕ, zero, suc, ◌+◌, ◌-◌, ◌<◌, ◌≤◌, Bool, true, false, not, ◌&&◌}
-use Rattle.std.proofs.Common.{◌||◌, nat_le, List, Option, Some, None, All, IfSome, refl, ap, subst}
+use Rattle.std.proofs.Common.{◌||◌, nat_le, List, Option, Some, None, All, IfSome, refl, subst}
 use Rattle.std.proofs.Common.{arith}
 use Rattle.std.specs.Bool.{Decides}
 use Rattle.std.specs.List.{list_all}
 use Rattle.std.proofs.lemmas.Bool.{leb-true, le-leb}
 use Rattle.std.proofs.lemmas.Bool.Decides.{Decides-like, Decides-by_and, Decides-below_and}
 use Rattle.std.proofs.lemmas.Bool.Decides.{Decides-below_or}
-use Rattle.std.proofs.lemmas.Option.{none-some, same_Some}
 use Rattle.ttx_packet.specs.declared.header.Header.{Header}
 use Rattle.ttx_page.specs.declared.packet_kind.PacketKind.{PacketKind}
 use Rattle.ttx_page.specs.declared.packet_kind.PacketKind.TheVariants.{ThisPage, EndsPage, Row}
@@ -21,8 +20,7 @@ use Rattle.sub_check.specs.Transmission.{last_frame}
 -- One fact implies another.
 pub implied :
     {P Q : Type 0} (a b : Bool) → Decides a P → Decides b Q → Decides (not a || b) (P → Q)
-implied true b p q = (λ e _. q.0 e, λ h. q.1 (h (p.0 refl)))
-implied false b p q = (λ e h. absurd (let t : false ≡ true = p.1 h in cc), λ h. refl)
+implied a b p q = grind arith
 
 -- Two truth values are equal.
 abbrev pub agree : Bool → Bool → Bool
@@ -30,10 +28,7 @@ agree true b = b
 agree false b = not b
 
 pub agreed : (a b : Bool) → Decides (agree a b) (a ≡ b)
-agreed true true = (λ e. refl, λ e. refl)
-agreed true false = (λ e. cc, λ e. cc)
-agreed false true = (λ e. cc, λ e. cc)
-agreed false false = (λ e. refl, λ e. refl)
+agreed a b = grind arith
 
 -- A truth value is true.
 pub holds : (a : Bool) → Decides a (a ≡ true)
@@ -41,8 +36,7 @@ holds a = (λ e. e, λ e. e)
 
 -- A truth value is false.
 pub fails : (a : Bool) → Decides (not a) (a ≡ false)
-fails true = (λ e. cc, λ e. cc)
-fails false = (λ e. refl, λ e. refl)
+fails a = grind arith
 
 -- A number is at most another.
 pub at_most : (a b : ℕ) → Decides (nat_le a b) (a ≤ b)
@@ -90,17 +84,14 @@ pub value_of :
     → ((x : A) → Decides (test x) (P x))
     → (o : Option A)
     → Decides (if_some test o) ((x : A) → o ≡ Some x → P x)
-value_of test P each None = (λ e x is. absurd (none-some x is), λ h. refl)
-value_of test P each (Some y) =
-    (λ e x is. subst P (same_Some y x is) ((each y).0 e), λ h. (each y).1 (h y refl))
+value_of test P each is = grind arith
 
 pub if_value :
     {A : Type 0} (test : A → Bool) (P : A → Type 0)
     → ((x : A) → Decides (test x) (P x))
     → (o : Option A)
     → Decides (if_some test o) (IfSome o P)
-if_value test P each None = (λ e. tt, λ h. refl)
-if_value test P each (Some y) = each y
+if_value test P each is = grind arith
 
 -- The header of a packet that is one of the page.
 abbrev pub this_page : PacketKind → Option Header
@@ -115,19 +106,7 @@ pub if_this_page :
     → (k : PacketKind)
     → Decides (if_some test (this_page k)) ((h : Header) → k ≡ ThisPage h → P h)
 if_this_page test P each k =
-    Decides-like (if_some test (this_page k)) (λ f h is. f h (ap this_page is)) (back k)
-    (value_of test P each (this_page k))
-  where
-    back :
-        (k : PacketKind)
-        → ((h : Header) → k ≡ ThisPage h → P h)
-        → (h : Header)
-        → this_page k ≡ Some h
-        → P h
-    back (ThisPage g) f h is = f h (ap ThisPage (same_Some g h is))
-    back EndsPage f h is = absurd (none-some h is)
-    back (Row y) f h is = absurd (none-some h is)
-    back Other f h is = absurd (none-some h is)
+    grind arith
 
 -- The row of a packet that is one.
 abbrev pub row_of_kind : PacketKind → Option ℕ
@@ -142,19 +121,7 @@ pub if_row :
     → (k : PacketKind)
     → Decides (if_some test (row_of_kind k)) ((y : ℕ) → k ≡ Row y → P y)
 if_row test P each k =
-    Decides-like (if_some test (row_of_kind k)) (λ f y is. f y (ap row_of_kind is)) (back k)
-    (value_of test P each (row_of_kind k))
-  where
-    back :
-        (k : PacketKind)
-        → ((y : ℕ) → k ≡ Row y → P y)
-        → (y : ℕ)
-        → row_of_kind k ≡ Some y
-        → P y
-    back (ThisPage h) f y is = absurd (none-some y is)
-    back EndsPage f y is = absurd (none-some y is)
-    back (Row x) f y is = f y (ap Row (same_Some x y is))
-    back Other f y is = absurd (none-some y is)
+    grind arith
 
 -- ---- of a transmission
 

@@ -1,23 +1,20 @@
 -- What is received of packets that are untouched, and what becomes of a receiver that heard them
 -- before: `heard_now`, `heard_again`.
-use Rattle.std.proofs.Common.{◌≡◌, ◌∙◌, ap, ap₂, refl, sym, arith, ℕ, ◌+◌, ◌<◌, ◌≤◌, true, false}
-use Rattle.std.proofs.Common.{◌&&◌, not, ◌==◌, nat_le, List, [], ◌∷◌, length, filter, is_some}
+use Rattle.std.proofs.lemmas.Bool.Decides.{nat_tests}
+use Rattle.std.proofs.Common.{◌≡◌, ◌∙◌, ap, refl, sym, arith, ℕ, ◌+◌, ◌<◌, ◌≤◌, true, false}
+use Rattle.std.proofs.Common.{◌&&◌, not, ◌==◌, nat_le, List, [], ◌∷◌, length, filter}
 use Rattle.std.proofs.Common.{subst}
 use Rattle.std.specs.List.{list_any}
-use Rattle.std.proofs.lemmas.Bool.{and_from, and_left, and_parts, cond-false, cond-true, le-leb}
-use Rattle.std.proofs.lemmas.Bool.{leb-true, lt-ltb, ne_eqb, not-true, or_parts, true≢false}
-use Rattle.sub_check.specs.Reception.{Reception, RunsThrough, as_received, is_flip_of, is_heard}
+use Rattle.std.proofs.lemmas.Bool.{and_from, and_parts, cond-false, cond-true, le-leb}
+use Rattle.std.proofs.lemmas.Bool.{leb-true, lt-ltb, not-true, or_parts}
+use Rattle.sub_check.specs.Reception.{Reception, RunsThrough, as_received, is_flip_of}
 use Rattle.sub_check.specs.Reception.{is_taken, as_heard, reception_of, with_flip, with_flips}
-use Rattle.sub_check.specs.Untouched.{ErasesPageAt, HeardLast, is_untouched, is_in_range}
+use Rattle.sub_check.specs.Untouched.{HeardLast, is_untouched, is_in_range}
 use Rattle.ttx_packet.specs.PageId.{PageIdValue}
-use Rattle.ttx_packet.specs.RowPacket.{first_even_byte}
-use Rattle.ttx_page.specs.PacketKind.{is_some_row}
 use Rattle.ttx_page.specs.Screen.{Display}
 use Rattle.sub_check.proofs.HeardAgainLemmas.{runs_again}
 use Rattle.sub_check.specs.declared.listening.Flip.{Flip}
 use Rattle.sub_check.specs.declared.listening.Listening.{Listening}
-use Rattle.sub_check.specs.declared.listening.ReceiverKind.{ReceiverKind}
-use Rattle.sub_check.specs.declared.listening.ReceiverKind.TheVariants.{Keep, Blank, DropRow}
 
 -- A number from the first one on, before the end, is within.
 within : (first end m : ℕ) → first ≤ m → m < end → is_in_range first end m ≡ true
@@ -29,10 +26,7 @@ is_other : (first end n m : ℕ)
     → first ≤ m
     → m < end
     → (n == m) ≡ false
-is_other first end n m out low high =
-    ne_eqb n m
-    (λ e. true≢false
-    (sym (within first end m low high) ∙ ap (is_in_range first end) (sym e) ∙ out))
+is_other first end n m out low high = grind arith
 
 -- Where none of the numbers is within, none is that of a packet within.
 none_lost : (lost : List ℕ) (first end m : ℕ)
@@ -56,9 +50,7 @@ none_flipped (f ∷ flips) first end m packet out low high =
     let parts =
     or_parts (is_in_range first end f.packet)
     (list_any (λ (g : Flip). is_in_range first end g.packet) flips) out in
-    let other : is_flip_of f m ≡ false =
-    and_left _ _
-    (and_left _ _ (and_left _ _ (is_other first end f.packet m parts.0 low high))) in
+    let other : is_flip_of f m ≡ false = grind arith in
     let same : with_flip f m packet ≡ packet = cond-false _ _ _ other in
     ap (λ (p : List ℕ). with_flips flips m p) same
     ∙ none_flipped flips first end m packet parts.1 low high
@@ -76,15 +68,8 @@ module _
         → as_received r m packets ≡ packets
     all_received m [] low high = refl
     all_received m (p ∷ ps) low high =
-        let below : m < end = omega arith in
-        let past : nat_le r.skip m ≡ true =
-        le-leb r.skip m (let s = leb-true r.skip first skip in omega arith) in
-        let heard : is_heard r m ≡ true =
-        and_from _ _ past (ap not (none_lost r.lost first end m kept low below)) in
-        cond-true _ _ _ heard
-        ∙ ap₂ (λ (x : List ℕ) (xs : List (List ℕ)). x ∷ xs)
-        (none_flipped r.flips first end m p clean low below)
-        (all_received (m + 1) ps (omega arith) (omega arith))
+        grind (arith, nat_tests, nat_le r.skip m, le-leb, leb-true r.skip first skip, and_from,
+            none_lost, cond-true, none_flipped, all_received (m + 1) ps (omega arith) (omega arith))
 
 -- Packets that are untouched are received as they are.
 received_untouched : (r : Reception) (number count : ℕ) (packets : List (List ℕ))
@@ -100,24 +85,13 @@ received_untouched r number count packets is long =
     let clean = not-true _ b.1 in
     all_received r number (number + count) a.0 kept clean number packets (omega arith) (omega arith)
 
--- A header of the page is no row, which alone may be dropped.
-is_taken_at : (kind_of : ReceiverKind) (w : PageIdValue) (packet : List ℕ)
-    → ErasesPageAt w packet
-    → is_taken kind_of w packet ≡ true
-is_taken_at Keep w packet e = refl
-is_taken_at Blank w packet e = refl
-is_taken_at DropRow w packet e =
-    ap not (and_left _ (is_some (first_even_byte packet)) (ap is_some_row e.kind_is))
-
 module _
     (l : Listening) (w : PageIdValue) (number count : ℕ) (packets : List (List ℕ))
     (is : is_untouched (reception_of l) number count ≡ true) (long : length packets ≡ count)
   where
     -- What is heard of them does not depend on their numbers.
     heard_is : as_heard l number packets ≡ filter (is_taken l.receiver l.options.page) packets
-    heard_is =
-        ap (filter (is_taken l.receiver l.options.page))
-        (received_untouched (reception_of l) number count packets is long)
+    heard_is = grind (arith, received_untouched)
 
     -- A receiver that heard them as they are heard what it hears of them.
     pub heard_now : (old now : Display)
@@ -132,14 +106,4 @@ module _
         → HeardLast l w packets now
         → RunsThrough l.options.asks_complete w now (as_heard l number packets) now
     heard_again now h =
-        let asks = l.options.asks_complete in
-        let b = h.begins in
-        let taken = is_taken l.receiver l.options.page in
-        let kept : filter taken packets ≡ b.first ∷ filter taken b.others =
-        ap (filter taken) b.packets_are
-        ∙ cond-true (taken b.first) (b.first ∷ filter taken b.others) (filter taken b.others)
-        (is_taken_at l.receiver l.options.page b.first
-        (subst (λ v. ErasesPageAt v b.first) h.tuned b.erases)) in
-        subst (λ ps. RunsThrough asks w now ps now) (sym (heard_is ∙ kept))
-        (runs_again asks w b.first (filter taken b.others) h.start now b.erases
-        (subst (λ ps. RunsThrough asks w h.start ps now) kept h.run))
+        grind (arith, heard_is, runs_again)

@@ -4,7 +4,7 @@ use Rattle.std.specs.Prelude.{replicate, ◌++◌, Some, length}
 use Rattle.std.specs.List.{AllByRecursion, list_any}
 use Rattle.ttx_packet.specs.PacketAddress.{HasExactAddress, IsPacket}
 use Rattle.ttx_packet.specs.RowPacket.{HasOddText}
-use Rattle.sub_check.specs.PacketRules.{AreClean, codes_of, first_header, header_count}
+use Rattle.sub_check.specs.PacketRules.{AreClean, KeepsRule, codes_of, first_header, header_count}
 use Rattle.sub_check.specs.SentAgain.{BeginsWithHeader}
 use Rattle.ttx_packet.specs.declared.header.Header.{Header}
 use Rattle.sub_check.specs.declared.packet_rules.Watched.{Watched}
@@ -14,6 +14,8 @@ use Rattle.ttx_page.specs.Span.{span, is_open_after}
 use Rattle.ttx_page.specs.Page.{space}
 use Rattle.sub_check.specs.declared.listener.Listener.{Listener}
 use Rattle.ttx_packet.specs.PageHeader.{c11}
+use Rattle.sub_check.specs.declared.packet_rules.PacketRule.{PacketRule}
+use Rattle.sub_check.specs.declared.packet_rules.PacketRule.TheVariants as rule
 
 -- A row in the span is whole, with an exact address and odd text.
 pub record IsSoundRow (w : Watched) (p : List ℕ) : Type 0 where
@@ -52,3 +54,26 @@ pub record WereJudged (w : Watched) (heard last : List (List ℕ)) (headers : �
 pub record KnowsLast (heard last : List (List ℕ)) (s : Listener) : Type 0 where
   pub knows : Knows heard s
   pub last_is : (headers : ℕ) → s.last ≡ Some headers → WereJudged s.watched heard last headers
+
+-- The rules of a packet by what it is, after those of every packet, are kept.
+pub record KeepsLater (w : Watched) (before : List (List ℕ)) (p : List ℕ) : Type 0 where
+  pub control : KeepsRule rule.Control w before p
+  pub parity : KeepsRule rule.Parity w before p
+  pub same : KeepsRule rule.RowChanged w before p
+  pub plain : KeepsRule rule.Enhancement w before p
+
+-- This one of them is broken, and those of a lower rank are kept.
+abbrev pub BreaksLater : Watched → List (List ℕ) → List ℕ → PacketRule → Type 0
+BreaksLater w before p rule.Control = KeepsRule rule.Control w before p → ⊥
+BreaksLater w before p rule.Parity =
+    KeepsRule rule.Control w before p × (KeepsRule rule.Parity w before p → ⊥)
+BreaksLater w before p rule.RowChanged =
+    KeepsRule rule.Control w before p
+    × KeepsRule rule.Parity w before p
+    × (KeepsRule rule.RowChanged w before p → ⊥)
+BreaksLater w before p rule.Enhancement =
+    KeepsRule rule.Control w before p
+    × KeepsRule rule.Parity w before p
+    × KeepsRule rule.RowChanged w before p
+    × (KeepsRule rule.Enhancement w before p → ⊥)
+BreaksLater w before p f = ⊥

@@ -41,7 +41,8 @@ pub(crate) struct Listener {
 
 impl Listener {
     ghost use Rattle.sub_check.specs.PacketRules.{AreClean, IsClean, BreaksFirstAt, BreaksFirst};
-    ghost use Rattle.sub_check.specs.Listening.{Knows, KnowsLast};
+    ghost use Rattle.ttx_packet.specs.PacketAddress.{HasExactAddress};
+    ghost use Rattle.sub_check.specs.Listening.{BreaksLater, KeepsLater, Knows, KnowsLast};
 
     /// Nothing was heard, and this page is due.
     pub fn new(watched: Watched, due: Page) -> Self
@@ -99,6 +100,20 @@ impl Listener {
         if !has_mode(self.serial, page_header) {
             return Some(PacketRule::Mode);
         }
+        self.broken_later(packet, found)
+    }
+
+    // The same of the rules after that of one mode, where the address is exact.
+    #[tactic(auto, using(crate::proofs::PacketRuleLemmas::enhancement_is_other))]
+    fn broken_later(&self, packet: &Packet, found: PacketKind) -> Option<PacketRule>
+        requires kind { found ≡ kind self.now.watched.page packet.now }
+        requires row { (row : ℕ) → found ≡ PacketKind.Row row → (1 ≤ row) × (row ≤ 24) }
+        requires exact { HasExactAddress packet.now }
+        ensures { (heard : List (List ℕ)) → Knows heard self.now
+            → MatchOption result
+            (KeepsLater self.now.watched heard packet.now)
+            (BreaksLater self.now.watched heard packet.now) }
+    {
         match found {
             PacketKind::ThisPage(header) => {
                 if is_subtitle_header(self.watched.national, &header) {

@@ -9,8 +9,8 @@ use Rattle.sub_check.specs.FrameRules.{packets_of_frame, task_of}
 use Rattle.sub_check.specs.PacketRules.{packets_of_units}
 use Rattle.sub_check.specs.declared.fault.CheckFault.{CheckFault}
 use Rattle.sub_check.specs.declared.sending.Sending.{Sending}
-use Rattle.sub_check.proofs.JudgeLemmas.{Reads-none, again_is, empty_refusal, end_told, failed_at}
-use Rattle.sub_check.proofs.JudgeLemmas.{next_read, next_refusal, next_sent, no_failure_at}
+use Rattle.sub_check.proofs.JudgeLemmas.{Reads-none, again_is, empty_refusal, end_told}
+use Rattle.sub_check.proofs.JudgeLemmas.{next_read, next_refusal, next_sent}
 use Rattle.sub_check.proofs.JudgeLemmas.{source_failed}
 use Rattle.sub_check.proofs.TakingLemmas.{task_is, watched_is}
 use Rattle.sub_check.proofs.checker.judge.Goals as goal
@@ -73,16 +73,6 @@ returns-in_err-go_on-clause-exact g c = λ frames unread bytes told reads fine.
     (ap (λ x. let r : Result (Option Sending) CheckFault = Ok x in r) c.in-Some.is) e)
     ∙ sym c.units_of-units.ensures.value))))
 
-pub returns-in_err-go_on-clause-count : goal.returns-in_err-go_on-clause-count
-returns-in_err-go_on-clause-count g c =
-    let p =
-    err_from_is_err_and c.from_residual-in_err-go_on.result
-    c.from_residual-in_err-go_on.ensures.1 in
-    let counted = c.in_ok-more.ensures.count in
-    let before = c.packets.invariant.failures in
-    rw (p.1, p.2, c.in_err-go_on.ensures.own.no_source)
-    (omega (arith, counted, before))
-
 pub packets-preserved : goal.packets-preserved
 packets-preserved g c =
     let given = ap (λ x. let r : Result (Option Sending) CheckFault = Ok x in r) c.in-Some.is in
@@ -121,31 +111,3 @@ returns-in_err-more-clause-failed g c = λ frames unread pes bytes told reads is
     let p = err_from_is_err_and c.from_residual.result c.from_residual.ensures.1 in
     let i = c.packets.invariant.told frames unread bytes told reads in
     source_failed i.0 i.1.past pes _ c.in_err-more.ensures.place (rw (p.1, p.2) at is)
-
-pub returns-in_default-clause-failed : goal.returns-in_default-clause-failed
-returns-in_default-clause-failed g c = λ frames unread pes bytes told reads is.
-    absurd (no_failure_at c.finish.result pes c.finish.ensures.own is)
-
-pub returns-in_err-go_on-clause-failed : goal.returns-in_err-go_on-clause-failed
-returns-in_err-go_on-clause-failed g c = λ frames unread pes bytes told reads is.
-    let p =
-    err_from_is_err_and c.from_residual-in_err-go_on.result
-    c.from_residual-in_err-go_on.ensures.1 in
-    absurd (no_failure_at _ pes c.in_err-go_on.ensures.own (rw (p.1, p.2) at is))
-
-pub returns-in_err-more-clause-read : goal.returns-in_err-more-clause-read
-returns-in_err-more-clause-read g c = λ pes is.
-    let p = err_from_is_err_and c.from_residual.result c.from_residual.ensures.1 in
-    failed_at c.packets.pes pes _ _ _ _ c.packets.invariant.taken c.in_err-more.ensures.place
-    c.in_err-more.ensures.within (rw (p.1, p.2) at is)
-
-pub returns-in_default-clause-read : goal.returns-in_default-clause-read
-returns-in_default-clause-read g c = λ pes is.
-    absurd (no_failure_at c.finish.result pes c.finish.ensures.own is)
-
-pub returns-in_err-go_on-clause-read : goal.returns-in_err-go_on-clause-read
-returns-in_err-go_on-clause-read g c = λ pes is.
-    let p =
-    err_from_is_err_and c.from_residual-in_err-go_on.result
-    c.from_residual-in_err-go_on.ensures.1 in
-    absurd (no_failure_at _ pes c.in_err-go_on.ensures.own (rw (p.1, p.2) at is))

@@ -1,12 +1,12 @@
 -- Each way out of the loop tells what the file is; by ListeningRunLemmas.
 use Rattle.std.proofs.Common.{◌+◌, ◌≤◌, ◌∙◌, List, Option, Result, Ok, ap, arith, length}
-use Rattle.std.proofs.Common.{refl, rules, subst, sym, true, ◌≡◌}
+use Rattle.std.proofs.Common.{refl, subst, sym, true, ◌≡◌}
 use Rattle.std.proofs.lemmas.Result.{err_from_is_err_and}
 use Rattle.ttx_packet.specs.PageId.{PageIdValue}
 use Rattle.ttx_page.specs.Screen.{display}
 use Rattle.ttx_pes.specs.DataUnit.{UnitValue}
 use Rattle.ttx_pes.specs.PesPacket.{PesValue, most_units}
-use Rattle.ttx_pes.proofs.TakenPackets.{takes-more, takes-none}
+use Rattle.ttx_pes.proofs.TakenPackets.{takes-more}
 use Rattle.sub_check.specs.PacketRules.{packets_of_units}
 use Rattle.sub_check.specs.declared.fault.CheckFault.{CheckFault}
 use Rattle.sub_check.specs.declared.sending.Sending.{Sending}
@@ -14,7 +14,7 @@ use Rattle.sub_check.specs.Untouched.{HeardLast}
 use Rattle.sub_check.specs.Reception.{RunsThrough, as_heard, first_lost_header, reception_of}
 use Rattle.sub_check.proofs.ListeningRunLemmas.{Reaches, ends_at_end, ends_late, ends_lost}
 use Rattle.sub_check.proofs.ListeningRunLemmas.{ends_order, ends_unread, fails_listening}
-use Rattle.sub_check.proofs.ListeningRunLemmas.{reaches_next, reaches_start}
+use Rattle.sub_check.proofs.ListeningRunLemmas.{reaches_next}
 use Rattle.sub_check.proofs.listening_run.listen.Goals as goal
 
 pub returns-in_err-next-clause-exact : goal.returns-in_err-next-clause-exact
@@ -25,20 +25,6 @@ returns-in_err-next-clause-exact g c = λ frames unread bytes told reads fine.
     rw (p.1, p.2)
     (ends_unread c.args.listening.now frames unread _ _ c.packets.index _ _ _ _ i
     c.next_sending.new.reader.frame _ (c.in_err-next.ensures.exact i.rest i.rest_is known))
-
-pub packets-init : goal.packets-init
-packets-init g c = record {
-  reading = search rules;
-  few_packets = omega arith;
-  taken = takes-none _;
-  kept = λ e. cc;
-  failures = refl;
-  tuned = refl;
-  few = omega arith;
-  day = omega arith;
-  told = λ frames unread bytes told reads.
-      reaches_start c.args.listening.now frames unread _ _ bytes _ told reads;
-}
 
 pub returns-in_err-next-clause-failed : goal.returns-in_err-next-clause-failed
 returns-in_err-next-clause-failed g c =

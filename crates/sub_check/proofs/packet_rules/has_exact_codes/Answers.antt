@@ -1,6 +1,5 @@
 -- A packet with no address, or another number, has no coded bytes.
-use Rattle.std.proofs.Common.{ap, not, sym, ◌∙◌}
-use Rattle.std.proofs.lemmas.Bool.{iff_false}
+use Rattle.std.proofs.Common.{sym, ◌∙◌}
 use Rattle.sub_check.proofs.PacketRuleLemmas.{header_is_zero}
 use Rattle.sub_check.proofs.packet_rules.has_exact_codes.Goals as goal
 
@@ -17,10 +16,3 @@ returns-else-not-is_header_packet c =
       λ t a s z. c.is_clean_header-else-not-is_header_packet.ensures.0 t,
       λ h. c.is_clean_header-else-not-is_header_packet.ensures.1 (h q.0 q.1 q.2),
     )
-
-pub returns-then-not-is_header_packet : goal.returns-then-not-is_header_packet
-returns-then-not-is_header_packet c = (
-  λ t a s z. absurd
-      (iff_false c.is_header_packet.ensures c.if-not-is_header_packet.true (a, s, z)),
-  λ h. ap not c.if-not-is_header_packet.true,
-)

@@ -1,7 +1,6 @@
 -- What is read is told: the fault of the packet, its one frame, or that it has none.
 use Rattle.std.proofs.Common.{refl}
 use Rattle.sub_check.specs.FrameRules.Unread.{BadPacket}
-use Rattle.sub_check.proofs.PesReadingLemmas.{read_place, not_written}
 use Rattle.sub_check.proofs.sending.next_sending.Goals as goal
 
 pub returns-in-Err-clause-exact : goal.returns-in-Err-clause-exact
@@ -10,10 +9,3 @@ returns-in-Err-clause-exact g c = λ bytes told fine. (
   refl,
   c.in-Err.ensures.exact c.args.pes c.requires.reading bytes told fine,
 )
-
-pub returns-in-Err-clause-place : goal.returns-in-Err-clause-place
-returns-in-Err-clause-place g c = read_place c.args.pes c.in-Err.fault
-
-pub returns-in-Err-clause-no_write : goal.returns-in-Err-clause-no_write
-returns-in-Err-clause-no_write g c =
-    not_written c.args.pes c.in-Err.fault c.in-Err.ensures.no_write

@@ -1,8 +1,7 @@
 -- The frame of the PTS, or that it has none.
 use Rattle.std.proofs.Common.{◌≡◌, ◌<◌, ℕ, refl, sym, ◌∙◌, subst}
-use Rattle.std.proofs.lemmas.Option.{none-some, same_Some}
+use Rattle.std.proofs.lemmas.Option.{same_Some}
 use Rattle.stl_file.specs.TimeCode.{day}
-use Rattle.sub_check.specs.FrameRules.Unread.{NoFrame}
 use Rattle.sub_check.proofs.sending.sending_of.Goals as goal
 
 pub returns-in-Some-clause-exact : goal.returns-in-Some-clause-exact
@@ -17,18 +16,6 @@ returns-in-Some-clause-exact c = λ bytes read.
             ((c.in-Some.ensures other).1 (in_day, e ∙ sym c.pts.ensures.value)));
       },
     )
-
-pub returns-in-None-clause-exact : goal.returns-in-None-clause-exact
-returns-in-None-clause-exact c = λ bytes read. (
-  NoFrame,
-  refl,
-  (
-    c.args.packet.now,
-    read,
-    λ frame in_day e.
-        none-some frame ((c.in-None.ensures frame).1 (in_day, e ∙ sym c.pts.ensures.value)),
-  ),
-)
 
 pub returns-in-Some-clause-day : goal.returns-in-Some-clause-day
 returns-in-Some-clause-day c = λ sending same.

@@ -26,10 +26,7 @@ returns-then-f-self-clause-exact c g frames n follows some there to_is order =
 
 pub loop-f-preserved : goal.loop-f-preserved
 loop-f-preserved c = record {
-  self_is =
-      c.advance.ensures
-      ∙ ap (at_frame c.loop-f.f) c.loop-f.invariant.self_is
-      ∙ ap (λ f. at_frame f c.args.self.now) (omega arith);
+  self_is = grind arith;
   later = let l = c.loop-f.invariant.later in omega arith;
   fine = λ g frames n follows some there to_is.
       let fine = c.loop-f.invariant.fine g frames n follows some there to_is in

@@ -1,13 +1,14 @@
 -- One packet on, and the first that breaks a rule.
+use Rattle.std.proofs.lemmas.Bool.Decides.{nat_tests}
 use borrow.Author.Count.{below_more}
 use Rattle.std.proofs.Common.{◌≡◌, ℕ, ◌+◌, ◌<◌, ◌++◌, List, [], ◌∷◌, length, take, get_or, cond}
 use Rattle.std.proofs.lemmas.List.{length-map, take_all}
 use Rattle.ttx_pes.specs.DataUnit.{UnitValue}
-use Rattle.std.proofs.Common.{true, sym, ap, ap₂, ◌∙◌, subst, rules, append_assoc, arith}
+use Rattle.std.proofs.Common.{sym, ap, ap₂, ◌∙◌, subst, rules, append_assoc, arith}
 use Rattle.ttx_page.specs.PacketKind.{is_this_page, kind}
 use Rattle.sub_check.specs.Listening.{Knows, KnowsLast}
 use Rattle.sub_check.specs.PacketRules.{AreClean, IsClean, header_count, packets_of_units}
-use Rattle.sub_check.proofs.SentAgainLemmas.{begins_on, kept_last}
+use Rattle.sub_check.proofs.SentAgainLemmas.{kept_last}
 use Rattle.sub_check.proofs.PacketLists.{units_more, unit_at, header_count-push}
 use Rattle.sub_check.proofs.listener.Listener.hear_all.Goals as goal
 
@@ -28,12 +29,7 @@ loop-k-preserved c =
     let one = c.counted-headers.ensures in
     let header = c.hear-is_header.ensures.header in
     record {
-      begins = begins_on k c.begins_with-begins.result c.loop-k.begins c.hear-is_header.result _
-          c.begins_with-begins.ensures
-          (λ z. header
-          ∙ ap (λ v. is_this_page (kind v.page p)) i.same
-          ∙ ap (λ q. is_this_page (kind w.page q)) (sym at)
-          ∙ ap (λ n. is_this_page (kind w.page (get_or ps n []))) z) i.begins;
+      begins = grind arith;
       same = c.hear-is_header.ensures.watched ∙ i.same;
       due = c.hear-is_header.ensures.due ∙ i.due;
       few = search rules;
@@ -47,12 +43,9 @@ loop-k-preserved c =
           let clean = c.in_default.ensures (heard ++ take k ps) before.1 in
           let moved : IsClean w (heard ++ take k ps) p =
           subst (λ v. IsClean v (heard ++ take k ps) p) i.same clean in
-          let new = c.hear-is_header.ensures.knows (heard ++ take k ps) before.1 clean in (
-            below_more (λ j. IsClean w (heard ++ take j ps) (get_or ps j [])) k before.0
-                (subst (IsClean w (heard ++ take k ps)) (sym at) moved),
-            subst (λ xs. Knows xs c.hear-is_header.new.self)
-                (append_assoc heard (take k ps) (p ∷ []) ∙ ap (λ xs. heard ++ xs) (sym more)) new,
-          );
+          let new = c.hear-is_header.ensures.knows (heard ++ take k ps) before.1 clean in
+          (grind (arith, nat_tests, below_more, take k ps,
+              append_assoc heard (take k ps) (p ∷ [])));
     }
 
 pub returns-clause-knows : goal.returns-clause-knows
@@ -75,7 +68,6 @@ returns-clause-knows c heard known =
       subst (λ m. KnowsLast (heard ++ ps) ps (record c.loop-k.self { last = m }))
           (sym c.last_headers-self.ensures)
           (kept_last w heard ps _ c.loop-k.headers c.loop-k.begins c.loop-k.self i.same knows
-          clean long count (λ e. subst
-          (λ n. (0 < n) × (is_this_page (kind w.page (get_or ps 0 [])) ≡ true)) k (i.begins e))),
+          clean long count (grind arith)),
       count,
     )
