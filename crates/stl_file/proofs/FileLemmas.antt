@@ -4,7 +4,7 @@ use Rattle.std.proofs.Common.{◌≡◌, ◌*◌, ℕ, false, List, [], ◌++◌
 use Rattle.std.proofs.Common.{length-append, rules, take, drop, None, Result, Ok, Err, subst, ◌+◌}
 use Rattle.std.proofs.Common.{◌≤◌, inl, inr, length-take-le, ltb}
 use Rattle.std.specs.Prelude.{◌↔◌}
-use Rattle.std.proofs.lemmas.List.{take_all, take-take, drop-take, take-append-drop, take_at}
+use Rattle.std.proofs.lemmas.List.{take_all, take-take, drop-take, take-append-drop}
 use Rattle.std.proofs.lemmas.List.{drop_at}
 use Rattle.std.proofs.lemmas.Bool.{cases_lt, le-ltb}
 use Rattle.stl_file.specs.declared.fault.StlFault.{StlFault}
@@ -20,7 +20,7 @@ use Rattle.stl_file.specs.Reading.{outcome_at}
 use Rattle.stl_file.proofs.OutcomeLemmas.{outcome_at-first}
 use Rattle.stl_file.proofs.RestLemmas.{outcome_complete, outcome_sound}
 use Rattle.stl_file.proofs.GsiLemmas.{gsi_complete}
-use Rattle.stl_file.proofs.OpeningLemmas.{good, opened_sound}
+use Rattle.stl_file.proofs.OpeningLemmas.{good, opened_sound, file_gsi}
 
 -- a file that was read was opened
 judged_ok : (b : List ℕ) (o : Result ReaderValue StlFault) (ts : List SubtitleValue)
@@ -64,7 +64,7 @@ file_complete s g ts h =
     let size = h.gsi.size in
     let whole = ap length h.bytes in
     let parts = length-append g (joined h.blocks) in
-    let front : take 1024 s ≡ g = ap (take 1024) h.bytes ∙ take_at g (joined h.blocks) 1024 size in
+    let front = file_gsi s g ts h in
     let back : drop 1024 s ≡ joined h.blocks =
     ap (drop 1024) h.bytes ∙ drop_at g (joined h.blocks) 1024 size in
     let long : ltb (length s) 1024 ≡ false = le-ltb _ _ (omega arith) in (
