@@ -1,7 +1,9 @@
 -- Lists gone over in blocks: block_of, what a store of a block leaves (block_more) and of a byte
 -- (byte_more), and the first item that passes a test, by the masks of blocks (first_so_far).
-use Rattle.std.proofs.Common.{◌≡◌, ℕ, zero, suc, ◌+◌, ◌*◌, ◌/◌, ◌^◌, ◌<◌, ◌≤◌, Bool, true, false, not}
-use Rattle.std.proofs.Common.{List, [], ◌∷◌, ◌++◌, map, length, get_or, take, drop, sym, ap, ap₂, ◌∙◌}
+use Rattle.std.proofs.Common.{◌≡◌, ℕ, zero, suc, ◌+◌, ◌*◌, ◌/◌, ◌^◌, ◌<◌, ◌≤◌, Bool, true, false}
+use Rattle.std.proofs.Common.{not}
+use Rattle.std.proofs.Common.{List, [], ◌∷◌, ◌++◌, map, length, get_or, take, drop, sym, ap, ap₂}
+use Rattle.std.proofs.Common.{◌∙◌}
 use Rattle.std.proofs.Common.{take_all, arith, w16}
 use Rattle.std.proofs.lemmas.List.{map-append, drop-drop, get_or_past, length-map, length-drop}
 use Rattle.std.proofs.lemmas.List.{length-set, take_more, take_more_set}

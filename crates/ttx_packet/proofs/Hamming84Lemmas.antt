@@ -21,10 +21,12 @@ is_number (Some m) n = m == n
 is_number_true : (o : Option ℕ) (n : ℕ) → is_number o n ≡ true → o ≡ Some n
 is_number_true o n e = grind (arith, nat_tests)
 
--- Each code word decodes to its number: 16 cases, computed.
-code_words_decode : agree_below (λ n. is_number (decoded (code_word n)) n) (λ n. true) 16 ≡ true
+-- A code word decodes to its number: 16 cases, computed.
+pub decoded-code_word : (n : ℕ) → n < 16 → decoded (code_word n) ≡ Some n
 unfolding decoded is_near
-code_words_decode = refl
+decoded-code_word n l =
+    is_number_true _ n
+    (agree_below_at (λ n. is_number (decoded (code_word n)) n) (λ n. true) 16 n refl l)
 
 -- Each code word with one bit changed decodes to its number: 16 times 8 cases, computed.
 changed_code_words_decode : agree_below
@@ -35,11 +37,7 @@ changed_code_words_decode = refl
 
 -- A byte within one bit of a code word decodes to the word's number.
 pub decoded_from : (g n : ℕ) → Decodes g n → decoded g ≡ Some n
-decoded_from g n (l, inl same) =
-    rw same
-    (is_number_true _ n
-    (agree_below_at (λ n. is_number (decoded (code_word n)) n) (λ n. true) 16 n
-    code_words_decode l))
+decoded_from g n (l, inl same) = rw same (decoded-code_word n l)
 decoded_from g n (l, inr changed) =
     let row =
     agree_below_at
@@ -62,10 +60,6 @@ decoded-near sent got (n, l, is) near =
     decoded_from got n (l, rw is at near) ∙ sym (decoded_from sent n (l, inl is))
 
 -- ---- code words
-
--- A code word decodes to its number.
-pub decoded-code_word : (n : ℕ) → n < 16 → decoded (code_word n) ≡ Some n
-decoded-code_word n l = decoded_from (code_word n) n (l, inl refl)
 
 -- The code word of a number is a code word.
 pub code_word_is_exact : (n : ℕ) → n < 16 → IsCodeWord (code_word n)

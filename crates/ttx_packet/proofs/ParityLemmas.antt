@@ -5,7 +5,7 @@ use Rattle.std.proofs.Common.{true, bit_xor}
 use Rattle.std.proofs.Common.{refl, subst, arith, IsTrue, IsFalse}
 use Rattle.std.proofs.Common.{div-add-mod', pow-suc}
 use Rattle.std.specs.Int.RustNames.{count_ones}
-use Rattle.std.proofs.lemmas.Bool.{agree_below, agree_below_at}
+use Rattle.std.proofs.lemmas.Bool.{agree_below_at}
 use Rattle.std.proofs.lemmas.Bool.Decides.{nat_tests}
 use Rattle.std.proofs.lemmas.Nat.{xor_block, ones_cat, ones_le_self}
 use lib.Count.{ones_step, ones_in}
@@ -72,14 +72,10 @@ even_from_changed sent got odd (inr (bit, below, changed)) other =
 
 -- ---- odd bytes
 
--- Each odd byte is odd: 128 cases, computed.
-odd_bytes : agree_below (λ c. is_odd (odd_byte c)) (λ c. true) 128 ≡ true
-unfolding is_odd count_ones ones_in
-odd_bytes = refl
-
--- The odd byte of a code is odd.
+-- The odd byte of a code is odd: 128 cases, computed.
 pub odd_of_code : (c : ℕ) → c < 128 → is_odd (odd_byte c) ≡ true
-odd_of_code c l = agree_below_at (λ c. is_odd (odd_byte c)) (λ c. true) 128 c odd_bytes l
+unfolding is_odd count_ones ones_in
+odd_of_code c l = agree_below_at (λ c. is_odd (odd_byte c)) (λ c. true) 128 c refl l
 
 -- The odd byte of a code has that code.
 pub code_of_odd : (c : ℕ) → c < 128 → code_of (odd_byte c) ≡ c

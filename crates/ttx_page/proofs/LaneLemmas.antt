@@ -1,7 +1,9 @@
 -- Rows compared in blocks: mask_compared, mask_of_block, column_of_test; and how many cells of a
 -- block differ: ones_compared, columns_in_chunk.
-use Rattle.std.proofs.Common.{◌≡◌, ◌≢◌, ℕ, zero, suc, ◌+◌, ◌-◌, ◌^◌, ◌%◌, ◌<◌, ◌≤◌, cond, false, List}
-use Rattle.std.proofs.Common.{map, length, get_or, take, take_all, sym, ap, ap₂, ◌∙◌, arith, add-one, w8}
+use Rattle.std.proofs.Common.{◌≡◌, ◌≢◌, ℕ, zero, suc, ◌+◌, ◌-◌, ◌^◌, ◌%◌, ◌<◌, ◌≤◌, cond, false}
+use Rattle.std.proofs.Common.{List}
+use Rattle.std.proofs.Common.{map, length, get_or, take, take_all, sym, ap, ap₂, ◌∙◌, arith}
+use Rattle.std.proofs.Common.{add-one, w8}
 use Rattle.std.proofs.lemmas.Bool.Decides.{nat_tests}
 use Rattle.std.proofs.lemmas.List.{map-id, ext_get_or}
 use Rattle.std.proofs.lemmas.List.Sums.{sum_by_more}

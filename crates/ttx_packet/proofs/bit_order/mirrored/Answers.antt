@@ -1,5 +1,6 @@
 -- Each block is made, and the last: block_more.
-use Rattle.std.proofs.Common.{◌≡◌, ◌+◌, ◌*◌, ◌/◌, ◌<◌, map, length, take, drop, arith, rules, ◌∙◌, ap}
+use Rattle.std.proofs.Common.{◌≡◌, ◌+◌, ◌*◌, ◌/◌, ◌<◌, map, length, take, drop, arith, rules, ◌∙◌}
+use Rattle.std.proofs.Common.{ap}
 use Rattle.std.proofs.lemmas.List.{drop-drop, drop-map, take-map}
 use Rattle.ttx_packet.specs.BitOrder.{mirror}
 use Rattle.ttx_packet.proofs.BlockLemmas.{block_of, IsMadeTo, block_more, made_whole}
@@ -14,8 +15,8 @@ loop-i-preserved c =
     c.copy_from_slice.ensures.after
     ∙ c.mirrored_block.ensures
     ∙ ap (map mirror) (block_of _ 16 xs i c.as_chunks.ensures.front front) in
-    block_more mirror xs c.loop-i.other _ 42 (16 * i) 16 _ (16 * (i + 1)) (omega arith) (omega arith)
-    (omega arith) (omega arith) block c.loop-i.invariant
+    block_more mirror xs c.loop-i.other _ 42 (16 * i) 16 _ (16 * (i + 1)) (omega arith)
+    (omega arith) (omega arith) (omega arith) block c.loop-i.invariant
 
 pub returns : goal.returns
 returns c =

@@ -1,5 +1,6 @@
 -- Each block is made, and each byte of the rest: block_more, byte_more.
-use Rattle.std.proofs.Common.{◌≡◌, ◌+◌, ◌*◌, ◌/◌, ◌<◌, map, length, get_or, arith, rules, refl, ◌∙◌, ap}
+use Rattle.std.proofs.Common.{◌≡◌, ◌+◌, ◌*◌, ◌/◌, ◌<◌, map, length, get_or, arith, rules, refl, ◌∙◌}
+use Rattle.std.proofs.Common.{ap}
 use Rattle.std.proofs.lemmas.List.{get_or-drop}
 use Rattle.ttx_packet.specs.Parity.{odd_byte}
 use Rattle.ttx_packet.proofs.BlockLemmas.{below_in_chunk, block_of, block_more, byte_more}
@@ -27,7 +28,8 @@ loop-i-preserved c =
     (omega arith) (omega arith) (omega arith) block c.loop-i.invariant
 
 pub loop-j-init : goal.loop-j-init
-loop-j-init c = let blocks : 16 * c.loop-i.i ≡ 32 + 0 = omega arith in rw blocks at c.loop-i.invariant
+loop-j-init c =
+    let blocks : 16 * c.loop-i.i ≡ 32 + 0 = omega arith in rw blocks at c.loop-i.invariant
 
 pub loop-j-preserved : goal.loop-j-preserved
 loop-j-preserved c =

@@ -46,7 +46,8 @@ returns-then-last-ne0 c =
     let back-2 : c.unwrap-2.result.now ≡ drop 24 ys = search rules in
     let mask =
     c.differing-last.ensures
-    ∙ ap₂ differing_mask (last_block 24 16 xs _ c.told-a back) (last_block 24 16 ys _ c.told-b back-2)
+    ∙ ap₂ differing_mask (last_block 24 16 xs _ c.told-a back)
+    (last_block 24 16 ys _ c.told-b back-2)
     ∙ mask_of_block xs ys 24 (omega arith) (omega arith) in
     let found =
     first_so_far (λ x. x) (zip2 differ xs ys) 24 c.differing-last.result false
@@ -62,7 +63,8 @@ returns c =
     let back-2 : c.unwrap-2.result.now ≡ drop 24 ys = search rules in
     let mask =
     c.differing-last.ensures
-    ∙ ap₂ differing_mask (last_block 24 16 xs _ c.told-a back) (last_block 24 16 ys _ c.told-b back-2)
+    ∙ ap₂ differing_mask (last_block 24 16 xs _ c.told-a back)
+    (last_block 24 16 ys _ c.told-b back-2)
     ∙ mask_of_block xs ys 24 (omega arith) (omega arith) in
     rows_of_tests xs ys (omega arith)
     (λ k l.
