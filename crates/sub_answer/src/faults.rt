@@ -17,28 +17,15 @@ use ttx_pes::PesFault;
 pub fn told_of_pes(fault: PesFault, pes: u32) -> Told
     ensures { result ≡ pes_told fault pes }
 {
-    // The failure of the device is no refusal.
-    let kind = match fault {
-        PesFault::Read => Kind::Fault,
-        _ => Kind::Refused,
-    };
-    Told::new(kind, fault.number(), fault.name(), FaultPlace::Pes { pes })
+    told_of_check(CheckFault::Pes { fault, pes })
 }
 
 /// A fault of a subtitle file that is read, with the TTI block that it names.
 pub fn told_of_stl(fault: StlFault, block: u32) -> Told
     ensures { result ≡ stl_told fault block }
 {
-    let kind = match fault {
-        StlFault::Read => Kind::Fault,
-        _ => Kind::Refused,
-    };
-    Told::new(
-        kind,
-        fault.number(),
-        fault.name(),
-        FaultPlace::Block { block },
-    )
+    let kind = LoadFaultKind::File(fault);
+    told_of_load(LoadFault { block, kind })
 }
 
 /// A fault of loading a subtitle file, with the TTI block that it names. One of a text names its
@@ -46,12 +33,25 @@ pub fn told_of_stl(fault: StlFault, block: u32) -> Told
 pub fn told_of_load(fault: LoadFault) -> Told
     ensures { result ≡ load_told fault.kind fault.block }
 {
-    let kind = match fault.kind {
-        LoadFaultKind::File(StlFault::Read) | LoadFaultKind::Memory => Kind::Fault,
+    told_of_check(CheckFault::Subtitles(fault))
+}
+
+/// A fault of a pair of files: a refusal, but for the failure of a device and want of memory.
+pub fn told_of_check(fault: CheckFault) -> Told
+    ensures { result ≡ check_told fault }
+{
+    let kind = match fault {
+        CheckFault::Pes {
+            fault: PesFault::Read,
+            ..
+        } => Kind::Fault,
+        CheckFault::Subtitles(load) => match load.kind {
+            LoadFaultKind::File(StlFault::Read) | LoadFaultKind::Memory => Kind::Fault,
+            _ => Kind::Refused,
+        },
         _ => Kind::Refused,
     };
-    let place = CheckFault::Subtitles(fault).place();
-    Told::new(kind, fault.kind.number(), fault.kind.name(), place)
+    Told::new(kind, fault.number(), fault.name(), fault.place())
 }
 
 /// A fault of a file that is not written.
@@ -78,17 +78,6 @@ pub fn told_of_write(fault: WriteFault) -> Told
             };
             Told::new(kind, fault.number(), fault.name(), FaultPlace::Nowhere)
         }
-    }
-}
-
-/// A fault of a pair of files: that of one of them, or a refusal.
-pub fn told_of_check(fault: CheckFault) -> Told
-    ensures { result ≡ check_told fault }
-{
-    match fault {
-        CheckFault::Subtitles(fault) => told_of_load(fault),
-        CheckFault::Pes { fault, pes } => told_of_pes(fault, pes),
-        _ => Told::new(Kind::Refused, fault.number(), fault.name(), fault.place()),
     }
 }
 
