@@ -7,7 +7,7 @@ ghost use Rattle.std.specs.Prelude.{◌≡◌, ◌+◌, ◌≤◌, ◌<◌, ◌+
 ghost use Rattle.arrayvec.specs.ArrayVec.{array_vec_len};
 ghost use Rattle.hex.specs.Hex.{encode_lower};
 ghost use Rattle.sub_answer.specs.Lines.{glyph, text_digits, time_text, two_digits};
-ghost use Rattle.sub_answer.specs.Told.{frame_text, kind_text, line_of, place_text};
+ghost use Rattle.sub_answer.specs.Told.{frame_text, line_of, place_text};
 
 use crate::hex_digits::digits_of_block;
 use crate::told::{Kind, Told};
@@ -133,23 +133,16 @@ pub fn push_told<const N: usize>(line: &mut ArrayVec<u8, N>, told: &Told)
     requires { array_vec_len line.old + LINE_ROOM ≤ N }
     ensures { line.new.items ≡ line.old.items ++ line_of told.now }
 {
-    push_number(line, text_of_kind(told.kind), u64::from(told.number));
+    match told.kind {
+        Kind::Refused => push_text(line, b"refused "),
+        Kind::Fault => push_text(line, b"fault "),
+        Kind::Usage => push_text(line, b"usage "),
+    }
+    push_decimal(line, u64::from(told.number));
     push_text(line, b" ");
     push_text(line, told.name.as_bytes());
     push_place(line, told.place);
     push_text(line, b"\n");
-}
-
-// What the line begins with.
-fn text_of_kind(kind: Kind) -> &'static [u8]
-    ensures value { result.now ≡ kind_text kind }
-    ensures len { length result.now ≤ 8 }
-{
-    match kind {
-        Kind::Refused => b"refused ",
-        Kind::Fault => b"fault ",
-        Kind::Usage => b"usage ",
-    }
 }
 
 // Appends the place of a fault.
