@@ -106,8 +106,8 @@ fn open_and_answer<R: AllocGlobal + Files, K: Sink>(
                 return Err(UsageFault::Open);
             }
             let mut file_room = room(alloc)?;
-            let file = fs::create(rt, output.name()).map_err(|_| UsageFault::Open)?;
-            let mut file = BufferedSink::new(IntoFile::new(file), file_room.as_mut_slice());
+            let file = create_output(rt, &output)?;
+            let mut file = BufferedSink::new(file, file_room.as_mut_slice());
             answer_and_hand_on(alloc, request, &mut first, &mut nothing, &mut file, out)
         }
     })
@@ -136,6 +136,14 @@ fn is_apart<R: Files>(rt: &R, input: &Input<'_>, output: &Output<'_>) -> bool {
             Err(_) => false,
         },
     }
+}
+
+// Creates a file to be written: what names one to be read is of another type.
+fn create_output<R: Files>(rt: &R, output: &Output<'_>) -> Result<IntoFile<R::File>, UsageFault>
+    ensures { IfOk result (λ file. file.failure_count ≡ 0) }
+{
+    let file = fs::create(rt, output.name()).map_err(|_| UsageFault::Open)?;
+    Ok(IntoFile::new(file))
 }
 
 // Answers a request over these devices, closes the file, and then hands on the lines.
