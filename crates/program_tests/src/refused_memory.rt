@@ -2,8 +2,9 @@
 use linked_list_allocator::LocalHeap;
 use std::test::Fail;
 use sub_answer::{InputFault, read_input};
+use sub_check::Flip;
 use sub_io::MemSource;
-use sub_words::{parse_flips, parse_numbers};
+use sub_words::parse_list;
 
 #[test]
 fn tells_each_growth_that_is_refused(rt: HostRuntime) -> Result<(), Fail> {
@@ -36,12 +37,12 @@ fn tells_each_growth_of_lists_that_is_refused(rt: HostRuntime) -> Result<(), Fai
     let mut refused = 0usize;
     for size in 0..64usize {
         let heap = LocalHeap::new(rt.alloc(), size * 32)?;
-        match parse_flips(&heap, flips) {
+        match parse_list::<_, Flip>(&heap, flips) {
             Ok(list) => assert!(rt; list.is_some(), "{size}"),
             Err(_) => refused = refused.saturating_add(1),
         }
         let heap = LocalHeap::new(rt.alloc(), size * 32)?;
-        match parse_numbers(&heap, lost) {
+        match parse_list::<_, u64>(&heap, lost) {
             Ok(list) => assert!(rt; list.is_some(), "{size}"),
             Err(_) => refused = refused.saturating_add(1),
         }

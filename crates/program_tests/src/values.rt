@@ -1,8 +1,8 @@
 //! Numbers, flips and lists of both, times and receivers, as people write them.
 use crate::asserting::{assert_same, assert_same_in};
 use std::alloc::AllocError;
-use sub_check::ReceiverKind;
-use sub_words::{parse_flips, parse_number, parse_numbers, parse_receiver, parse_time};
+use sub_check::{Flip, ReceiverKind};
+use sub_words::{parse_list, parse_number, parse_receiver, parse_time};
 
 // 64 numbers.
 const NUMBERS: &str =
@@ -44,12 +44,12 @@ fn reads_lists_of_numbers(rt: HostRuntime) -> Result<(), AllocError> {
         ("1 ,2", None),
         ("1,10000000000", None),
     ] {
-        let got = parse_numbers(rt.alloc(), text)?;
+        let got = parse_list::<_, u64>(rt.alloc(), text)?;
         let got = got.map(|list| (list.len(), list.last().copied().unwrap_or(0)));
         assert_same_in(&rt, &got, &want, &text);
     }
     let more = format!(in rt.alloc(); "{NUMBERS},64")?;
-    assert!(rt; parse_numbers(rt.alloc(), more.as_str())?.is_none());
+    assert!(rt; parse_list::<_, u64>(rt.alloc(), more.as_str())?.is_none());
     Ok(())
 }
 
@@ -84,7 +84,7 @@ fn reads_flips(rt: HostRuntime) -> Result<(), AllocError> {
         (":21:1", None),
         ("", None),
     ] {
-        let got = parse_flips(rt.alloc(), text)?;
+        let got = parse_list::<_, Flip>(rt.alloc(), text)?;
         let got = got.map(|list| match list.last() {
             Some(flip) => (list.len(), flip.packet, flip.byte, flip.bit),
             None => (0, 0, 0, 0),
@@ -92,7 +92,7 @@ fn reads_flips(rt: HostRuntime) -> Result<(), AllocError> {
         assert_same_in(&rt, &got, &want, &text);
     }
     let more = format!(in rt.alloc(); "{FLIPS},64:0:1")?;
-    assert!(rt; parse_flips(rt.alloc(), more.as_str())?.is_none());
+    assert!(rt; parse_list::<_, Flip>(rt.alloc(), more.as_str())?.is_none());
     Ok(())
 }
 

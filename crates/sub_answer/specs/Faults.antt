@@ -23,7 +23,6 @@ use Rattle.sub_check.specs.declared.fault_place.FaultPlace.TheVariants as place
 use Rattle.sub_plan.specs.Fault as plan_number
 use Rattle.sub_plan.specs.declared.fault.PlanFault.{PlanFault}
 use Rattle.sub_plan.specs.declared.fault.PlanFault.TheVariants as plan
-use Rattle.ttx_pes.specs.Fault as pes_number
 use Rattle.ttx_pes.specs.declared.fault.PesFault.{PesFault}
 use Rattle.ttx_pes.specs.declared.fault.PesFault.TheVariants as pes
 
@@ -33,10 +32,6 @@ use Rattle.ttx_pes.specs.declared.fault.PesFault.TheVariants as pes
 abbrev pub pes_kind : PesFault → Kind
 pes_kind pes.Read = kind.Fault
 pes_kind _ = kind.Refused
-
--- A fault of a PES packet, counted from 0.
-abbrev pub pes_told : PesFault → ℕ → ToldValue
-pes_told f index = told_as (pes_kind f) (pes_number.number_and_name f) (place.Pes index)
 
 -- ---- a subtitle file that is read
 

@@ -8,7 +8,8 @@ use Rattle.ttx_pes.specs.Reader.{FailsWithin, TakesPesPacket, TakesRefused}
 use Rattle.ttx_pes.specs.Reading.{answer_at, is_format_fault, most_packets, rest_after}
 use Rattle.ttx_pes.specs.declared.fault.PesFault.{PesFault}
 use Rattle.ttx_pes.specs.declared.fault.PesFault.TheVariants.{TooMany}
-use Rattle.sub_answer.specs.Faults.{pes_told}
+use Rattle.sub_answer.specs.Faults.{check_told}
+use Rattle.sub_check.specs.declared.fault.CheckFault.TheVariants.{Pes}
 use Rattle.sub_answer.specs.Lines.{pes_line, unit_line}
 use Rattle.sub_answer.specs.Listing.{IsListed, Lists, Listing, done, followed, told_listing}
 
@@ -54,7 +55,7 @@ frame_lines index v = pes_line index v.pts ++ unit_lines 0 v.units
 -- What is printed after `index` PES packets: each of them in turn, and at the end their number.
 abbrev pub pes_listing : ℕ → PesOutcome → Listing
 pes_listing index ends = done (decimal index ++ codes " pes\n")
-pes_listing index (fails f) = told_listing (pes_told f index)
+pes_listing index (fails f) = told_listing (check_told (Pes index f))
 pes_listing index (gives v more) = followed (frame_lines index v) (pes_listing (index + 1) more)
 
 -- A file of PES packets is listed.

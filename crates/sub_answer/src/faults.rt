@@ -1,7 +1,6 @@
 //! What is told of each fault.
 ghost use Rattle.std.specs.Prelude.{◌≡◌};
-ghost use Rattle.sub_answer.specs.Faults.{check_told, load_told, pes_told, stl_told, usage_told};
-ghost use Rattle.sub_answer.specs.Faults.{write_told};
+ghost use Rattle.sub_answer.specs.Faults.{check_told, stl_told, usage_told, write_told};
 
 use crate::answering::normal::InputFault;
 use crate::request::UsageFault;
@@ -13,27 +12,12 @@ use sub_check::{CheckFault, FaultPlace};
 use sub_plan::PlanFault;
 use ttx_pes::PesFault;
 
-/// A fault of a PES file that is read, with the index of its PES packet.
-pub fn told_of_pes(fault: PesFault, pes: u32) -> Told
-    ensures { result ≡ pes_told fault pes }
-{
-    told_of_check(CheckFault::Pes { fault, pes })
-}
-
 /// A fault of a subtitle file that is read, with the TTI block that it names.
 pub fn told_of_stl(fault: StlFault, block: u32) -> Told
     ensures { result ≡ stl_told fault block }
 {
     let kind = LoadFaultKind::File(fault);
-    told_of_load(LoadFault { block, kind })
-}
-
-/// A fault of loading a subtitle file, with the TTI block that it names. One of a text names its
-/// place in it too.
-pub fn told_of_load(fault: LoadFault) -> Told
-    ensures { result ≡ load_told fault.kind fault.block }
-{
-    told_of_check(CheckFault::Subtitles(fault))
+    told_of_check(CheckFault::Subtitles(LoadFault { block, kind }))
 }
 
 /// A fault of a pair of files: a refusal, but for the failure of a device and want of memory.
@@ -61,7 +45,7 @@ pub fn told_of_write(fault: WriteFault) -> Told
     match fault {
         WriteFault::Input(InputFault::Read { block }) => told_of_stl(StlFault::Read, block),
         WriteFault::Input(InputFault::Memory) => told_of_usage(&UsageFault::Memory),
-        WriteFault::Load(fault) => told_of_load(fault),
+        WriteFault::Load(fault) => told_of_check(CheckFault::Subtitles(fault)),
         WriteFault::Normal(NormalFault::Refused { fault, block }) => told_of_stl(fault, block),
         WriteFault::Normal(fault) => {
             Told::new(

@@ -9,14 +9,12 @@ use std::marker::Model;
 
 /// The name of a file that is read. Contracts see it as the name.
 #[derive(Drop)]
-pub struct Input<'a> {
-    name: &'a str,
-}
+pub struct Input<'a>(&'a str);
 
 impl<'a> Model for Input<'a> {
     ghost Value = { List ℕ };
 
-    ghost view = { λ f. f.name.now };
+    ghost view = { λ f. f.0.now };
 }
 
 impl<'a> Input<'a> {
@@ -24,20 +22,18 @@ impl<'a> Input<'a> {
     pub fn name(&self) -> &'a str
         ensures { result.now ≡ self.now }
     {
-        self.name
+        self.0
     }
 }
 
 /// The name of a file that is written. Contracts see it as the name.
 #[derive(Drop)]
-pub struct Output<'a> {
-    name: &'a str,
-}
+pub struct Output<'a>(&'a str);
 
 impl<'a> Model for Output<'a> {
     ghost Value = { List ℕ };
 
-    ghost view = { λ f. f.name.now };
+    ghost view = { λ f. f.0.now };
 }
 
 impl<'a> Output<'a> {
@@ -45,7 +41,7 @@ impl<'a> Output<'a> {
     pub fn name(&self) -> &'a str
         ensures { result.now ≡ self.now }
     {
-        self.name
+        self.0
     }
 }
 
@@ -71,18 +67,12 @@ impl<'a> Request<'a> {
     {
         match self {
             Request::Packet { .. } => FileNames::None,
-            Request::Packets { pes } => FileNames::Read(Input { name: pes }),
-            Request::Show { stl } => FileNames::Read(Input { name: stl }),
-            Request::Normal { input, output } => {
-                FileNames::Write(Input { name: input }, Output { name: output })
-            }
-            Request::Schedule { stl, pes, .. } => {
-                FileNames::Write(Input { name: stl }, Output { name: pes })
-            }
-            Request::Check { stl, pes, .. } => {
-                FileNames::ReadBoth(Input { name: stl }, Input { name: pes })
-            }
-            Request::Listen { pes, .. } => FileNames::Read(Input { name: pes }),
+            Request::Packets { pes } => FileNames::Read(Input(pes)),
+            Request::Show { stl } => FileNames::Read(Input(stl)),
+            Request::Normal { input, output } => FileNames::Write(Input(input), Output(output)),
+            Request::Schedule { stl, pes, .. } => FileNames::Write(Input(stl), Output(pes)),
+            Request::Check { stl, pes, .. } => FileNames::ReadBoth(Input(stl), Input(pes)),
+            Request::Listen { pes, .. } => FileNames::Read(Input(pes)),
         }
     }
 }

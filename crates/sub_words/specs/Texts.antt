@@ -49,10 +49,6 @@ list_of_text said same text =
     let texts = slice_split (λ c. c == comma) text in
     if nat_le (length texts) 64 then items_after said same [] texts else None
 
--- Numbers joined by commas, none twice by value: those of the packets that are lost.
-unfoldable pub numbers_of_text : List ℕ → Option (List ℕ)
-numbers_of_text text = list_of_text number_of_text (λ a b. a == b) text
-
 -- ---- flips
 
 -- A flip of a bit, 1 to 8, of a byte, 0 to 41, of a packet, each as a text.

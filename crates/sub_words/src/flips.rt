@@ -1,30 +1,12 @@
-//! Flips of bits as people write them.
-ghost use Rattle.std.specs.Prelude.{◌≡◌, ◌==◌, [], ◌∷◌, IfOk, option_map, slice_get};
+//! Flips of bits as people write them: `P:B:K`, the number of the packet, that of the byte, 0 to 41,
+//! and that of the bit, 1 to 8, each of one to ten decimal digits.
+ghost use Rattle.std.specs.Prelude.{◌≡◌, ◌==◌, option_map, slice_get};
 ghost use Rattle.std.specs.List.{slice_split};
-ghost use Rattle.sub_words.specs.Texts.{colon, flip_of_text, flips_of_text, is_same_byte};
+ghost use Rattle.sub_words.specs.Texts.{colon, flip_of_text, is_same_byte};
 
-use crate::lists::{Item, parse_list};
+use crate::lists::Item;
 use crate::numbers::parse_number;
-use std::alloc::{AllocError, Allocator};
 use sub_check::Flip;
-
-/// The flips of a list: 1 to 64 of them joined by commas, each as `P:B:K`, and no two in one byte.
-///
-/// P is the number of the packet, B that of the byte, 0 to 41, K that of the bit, 1 to 8, each of
-/// one to ten decimal digits. `None` for any other text.
-///
-/// # Errors
-///
-/// Want of memory.
-#[tactic(auto, unfolding(crate::specs::Texts::flips_of_text))]
-pub fn parse_flips<A: Allocator + Copy + Drop>(
-    alloc: A,
-    text: &str,
-) -> Result<Option<Vec<Flip, A>>, AllocError>
-    ensures { IfOk result (λ list. option_map (λ v. v.items) list ≡ flips_of_text text.now) }
-{
-    parse_list(alloc, text)
-}
 
 impl Item for Flip {
     ghost said = { flip_of_text };

@@ -18,8 +18,8 @@ mod parsing;
 mod reading;
 mod times;
 
-pub use flips::parse_flips;
 pub use laws::law_of_flips;
-pub use numbers::{parse_number, parse_numbers};
+pub use lists::{Item, parse_list};
+pub use numbers::parse_number;
 pub use parsing::ParseWords;
 pub use times::{parse_receiver, parse_time};

@@ -8,10 +8,11 @@ ghost use Rattle.sub_answer.specs.Listing.{Lists};
 ghost use Rattle.sub_answer.specs.PacketsListing.{ReadsPackets, frame_lines, packets_from};
 ghost use Rattle.sub_answer.specs.PacketsListing.{pes_listing};
 
-use crate::faults::told_of_pes;
+use crate::faults::told_of_check;
 use crate::lines::{push_lower_hex, push_number, push_text};
 use crate::listing::{Lister, PIECE, Text, end_at, end_with};
 use crate::status::Status;
+use sub_check::CheckFault;
 use sub_io::Source;
 use ttx_pes::{MOST_UNITS, PesFrame, PesReader, Unit};
 
@@ -53,7 +54,10 @@ impl Lister for PacketLister {
                 None
             }
             Ok(false) => end_at(text, self.index, b" pes\n"),
-            Err(fault) => end_with(text, &told_of_pes(fault, self.index)),
+            Err(fault) => {
+                let pes = self.index;
+                end_with(text, &told_of_check(CheckFault::Pes { fault, pes }))
+            }
         }
     }
 }

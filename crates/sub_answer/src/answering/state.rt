@@ -120,10 +120,5 @@ fn push_row(rows: &mut Rows, row: u8, cells: &[u8; 40])
 fn is_blank(cells: &[u8; 40]) -> bool
     ensures { result ≡ list_all (λ c. c == space) cells.now }
 {
-    for cell in cells {
-        if *cell != 0x20 {
-            return false;
-        }
-    }
-    true
+    cells.iter().all(|cell| *cell == 0x20)
 }
