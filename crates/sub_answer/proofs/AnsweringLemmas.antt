@@ -20,13 +20,13 @@ use Rattle.stl_rows.specs.Programme.{ProgrammeValue}
 use Rattle.sub_plan.specs.Options.{OptionsValue}
 use Rattle.sub_check.specs.CheckedFiles.{AreChecked}
 use Rattle.sub_check.specs.Checking.{TellsSubtitles}
-use Rattle.sub_check.specs.Fault.{is_pes_read, is_stl_read, is_subtitle_fault}
+use Rattle.sub_check.specs.Fault.{is_failure, is_failure_kind, is_pes_read, is_stl_read, is_subtitle_fault}
 use Rattle.sub_check.specs.declared.checker.Accepted.{Accepted}
 use Rattle.sub_check.specs.declared.fault.CheckFault.{CheckFault}
 use Rattle.sub_check.specs.declared.fault.CheckFault.TheVariants as fault
 use Rattle.sub_answer.specs.Answering.{AnswersCheck, IsAccepted, verdict}
 use Rattle.sub_answer.specs.DeviceCall.{SinkCall, SourceCall}
-use Rattle.sub_answer.specs.Faults.{check_kind, check_told, load_kind, load_told}
+use Rattle.sub_answer.specs.Faults.{check_told, kind_by, load_told}
 use Rattle.sub_answer.specs.Listing.{PrintsOrFails}
 use Rattle.sub_answer.specs.Told.{line_of, status_of}
 use Rattle.sub_answer.specs.Writing.{PrintsMemory}
@@ -79,19 +79,19 @@ status_of-not_done kind.Usage e = cc
 
 -- A file that gives a programme is refused for want of memory or a failing source alone. For
 -- `done-exactly`.
-load_kind-of_programme :
+failure-of_programme :
     (national : National) (outcome : Outcome) (programme : ProgrammeValue) (block : ℕ)
     (kind : LoadFaultKind)
     → loaded national outcome ≡ Ok programme
     → TellsFault national outcome block kind
-    → status_of (load_kind kind) ≡ Fault
-load_kind-of_programme national outcome programme block (load.File stl.Read) is told = refl
-load_kind-of_programme national outcome programme block load.Memory is told = refl
-load_kind-of_programme national outcome programme block kind is told = cc
+    → status_of (kind_by (is_failure_kind kind)) ≡ Fault
+failure-of_programme national outcome programme block (load.File stl.Read) is told = refl
+failure-of_programme national outcome programme block load.Memory is told = refl
+failure-of_programme national outcome programme block kind is told = cc
 
 -- A fault of the PES file with a status other than `Fault` is none of the source. For
 -- `done-exactly`.
-fine-of_status : (f : CheckFault) → status_of (check_kind f) ≢ Fault → is_pes_read f ≡ false
+fine-of_status : (f : CheckFault) → status_of (kind_by (is_failure f)) ≢ Fault → is_pes_read f ≡ false
 fine-of_status (fault.Pes pes pes_fault.Read) other = absurd (other refl)
 fine-of_status f other = refl
 
@@ -101,10 +101,10 @@ looked-of_status :
     (national : National) (outcome : Outcome) (programme : ProgrammeValue) (f : CheckFault)
     → loaded national outcome ≡ Ok programme
     → TellsSubtitles national outcome (Err f)
-    → status_of (check_kind f) ≢ Fault
+    → status_of (kind_by (is_failure f)) ≢ Fault
     → is_subtitle_fault f ≡ false
 looked-of_status national outcome programme (fault.Subtitles f) is told other =
-    absurd (other (load_kind-of_programme national outcome programme f.block f.kind is told))
+    absurd (other (failure-of_programme national outcome programme f.block f.kind is told))
 looked-of_status national outcome programme f is told other = refl
 
 -- The status is that of what is done exactly where the files are accepted.
@@ -117,7 +117,7 @@ done-exactly :
 done-exactly national options file bytes (Ok a) are other =
     (λ done. accepted_from national options file bytes a are, λ is. refl)
 done-exactly national options file bytes (Err f) are other = (
-  λ done. absurd (status_of-not_done (check_kind f) done),
+  λ done. absurd (status_of-not_done (kind_by (is_failure f)) done),
   λ is.
       let checked = are.checked is.programme is.loads bytes refl in
       let looked =
@@ -132,7 +132,7 @@ done-exactly national options file bytes (Err f) are other = (
 -- `fault-printed`.
 kind-printed :
     (national : National) (told old new : Option (List ℕ)) (block : ℕ) (kind : LoadFaultKind)
-    → status_of (load_kind kind) ≡ Fault
+    → status_of (kind_by (is_failure_kind kind)) ≡ Fault
     → is_read_kind kind ≡ false
     → IfTold told (λ file. TellsFault national (outcome_of file) block kind)
     → Appends old new (line_of (load_told kind block))
@@ -144,7 +144,7 @@ kind-printed national told old new block kind is read tells line = cc
 -- The same of any fault. For `memory-printed`.
 fault-printed :
     (national : National) (told old new : Option (List ℕ)) (f : CheckFault)
-    → status_of (check_kind f) ≡ Fault
+    → status_of (kind_by (is_failure f)) ≡ Fault
     → is_stl_read f ≡ false
     → is_pes_read f ≡ false
     → IfTold told (λ file. TellsSubtitles national (outcome_of file) (Err f))

@@ -8,11 +8,9 @@ use Rattle.std.proofs.KnownBytes.{Appends-nil, Appends-trans}
 use Rattle.sub_io.specs.Device.{AppendsPrefix, RisesIf}
 use Rattle.sub_io.specs.Reading.{IfTold}
 use Rattle.sub_io.proofs.DeviceLemmas.{AppendsPrefix-first, AppendsPrefix-second}
-use Rattle.ttx_pes.specs.Fault as pes_fault
 use Rattle.ttx_pes.specs.PesPacket.{PesValue}
 use Rattle.ttx_pes.specs.Reading.{answer_at, most_packets, rest_after}
 use Rattle.ttx_pes.specs.declared.fault.PesFault.{PesFault}
-use Rattle.ttx_pes.specs.declared.fault.PesFault.TheVariants as pes
 use Rattle.stl_file.specs.Fault as stl_fault
 use Rattle.stl_file.specs.Gsi.{IsGsi, gsi_size}
 use Rattle.stl_file.specs.Reader.{EndsKept, ReaderValue, RefusesOpening, TakesSubtitle, opened_at}
@@ -20,8 +18,7 @@ use Rattle.stl_file.specs.Reader.{outcome_left, outcome_of}
 use Rattle.stl_file.specs.Reading.{ends, fails}
 use Rattle.stl_file.specs.Subtitle.{SubtitleValue}
 use Rattle.stl_file.specs.declared.fault.StlFault.{StlFault}
-use Rattle.stl_file.specs.declared.fault.StlFault.TheVariants as stl
-use Rattle.sub_answer.specs.Faults.{pes_kind, stl_kind, stl_told}
+use Rattle.sub_answer.specs.Faults.{kind_by, stl_told}
 use Rattle.sub_answer.specs.DeviceCall.{SinkCall, SourceCall}
 use Rattle.sub_answer.specs.Listing.{Gives, IsListed, Listing, Lists, PrintsListing, PrintsOrFails}
 use Rattle.sub_answer.specs.Listing.{followed, has_failed}
@@ -234,12 +231,6 @@ packets_from-next index bytes answer few is =
     let less : most_packets - (index + 1) ≡ most_packets - index - 1 = omega arith in
     rw (less, ← is) (packets_from-room (most_packets - index) index bytes (omega arith))
 
--- The fault of the source alone ends a listing in a fault.
-pub pes-failed : (f : PesFault)
-    → has_failed (Some (status_of (pes_kind f))) ≡ pes_fault.is_read f
-pes-failed pes.Read = refl
-pes-failed f = refl
-
 -- ---- subtitles
 
 -- One block or more were taken.
@@ -257,10 +248,9 @@ pub block-rises : (from to : ℕ) (old new : Option (List ℕ)) (s : SubtitleVal
 block-rises from to old new s t = rises from to t.blocks t.ends t.counted
 
 -- The fault of the source alone ends a listing in a fault.
-pub stl-failed : (f : StlFault)
-    → has_failed (Some (status_of (stl_kind f))) ≡ stl_fault.is_read f
-stl-failed stl.Read = refl
-stl-failed f = refl
+pub kind_by-failed : (b : Bool) → has_failed (Some (status_of (kind_by b))) ≡ b
+kind_by-failed true = refl
+kind_by-failed false = refl
 
 -- The GSI block was read, and what its reader gives comes then. For `SubtitleLister`.
 pub gives-opened :
@@ -287,12 +277,12 @@ pub gives-refused :
     → (stl_fault.is_read f ≡ true
     → (bytes : List ℕ) × (length bytes < gsi_size) × Consumes told left bytes)
     → (stl_fault.is_format f ≡ true → RefusesOpening told left f)
-    → ListsFrom None count told left (Some (status_of (stl_kind f)))
-    (record { text = text; status = status_of (stl_kind f) })
+    → ListsFrom None count told left (Some (status_of (kind_by (stl_fault.is_read f))))
+    (record { text = text; status = status_of (kind_by (stl_fault.is_read f)) })
 unfolding outcome_of
 gives-refused count f told left text line exact failed refused =
     gives-last _ (subtitles_listing count) outcome_of ReadsFile told left (fails f 0) text
-    (stl_fault.is_read f) line (stl-failed f) (λ bytes is fine. rw (exact bytes is fine) refl)
+    (stl_fault.is_read f) line (kind_by-failed (stl_fault.is_read f)) (λ bytes is fine. rw (exact bytes is fine) refl)
     (inl (record {
       fault = f;
       outcome_is = refl;

@@ -1,11 +1,10 @@
 -- What is told of each fault: a failed device and want of memory are faults, wrong words are wrong
 -- usage, and all else is refused (own).
-use Rattle.std.specs.Prelude.{ℕ, List, codes}
+use Rattle.std.specs.Prelude.{ℕ, Bool, List, codes, if◌then◌else◌}
 use Rattle.stl_file.specs.Fault as stl_number
 use Rattle.stl_file.specs.declared.fault.NormalFault.TheVariants as normal
 use Rattle.stl_file.specs.declared.fault.StlFault.{StlFault}
 use Rattle.stl_file.specs.declared.fault.StlFault.TheVariants as stl
-use Rattle.stl_rows.specs.Fault as load_number
 use Rattle.stl_rows.specs.declared.fault.LoadFaultKind.{LoadFaultKind}
 use Rattle.stl_rows.specs.declared.fault.LoadFaultKind.TheVariants as load
 use Rattle.sub_answer.specs.Told.{ToldValue, told_as}
@@ -20,54 +19,26 @@ use Rattle.sub_check.specs.Fault as check_fault
 use Rattle.sub_check.specs.declared.fault.CheckFault.{CheckFault}
 use Rattle.sub_check.specs.declared.fault.CheckFault.TheVariants as check
 use Rattle.sub_check.specs.declared.fault_place.FaultPlace.TheVariants as place
-use Rattle.sub_plan.specs.Fault as plan_number
-use Rattle.sub_plan.specs.declared.fault.PlanFault.{PlanFault}
-use Rattle.sub_plan.specs.declared.fault.PlanFault.TheVariants as plan
-use Rattle.ttx_pes.specs.declared.fault.PesFault.{PesFault}
-use Rattle.ttx_pes.specs.declared.fault.PesFault.TheVariants as pes
+use Rattle.sub_plan.specs.Fault as plan_fault
 
--- ---- a PES file that is read
+-- ---- files
 
--- The failure of its device alone is no refusal.
-abbrev pub pes_kind : PesFault → Kind
-pes_kind pes.Read = kind.Fault
-pes_kind _ = kind.Refused
-
--- ---- a subtitle file that is read
-
--- The failure of its device alone is no refusal.
-abbrev pub stl_kind : StlFault → Kind
-stl_kind stl.Read = kind.Fault
-stl_kind _ = kind.Refused
-
--- A fault at a TTI block.
-abbrev pub stl_told : StlFault → ℕ → ToldValue
-stl_told f block = told_as (stl_kind f) (stl_number.number_and_name f) (place.Block block)
-
--- ---- a programme
-
--- Want of memory is no refusal either.
-abbrev pub load_kind : LoadFaultKind → Kind
-load_kind (load.File f) = stl_kind f
-load_kind load.Memory = kind.Fault
-load_kind _ = kind.Refused
-
--- A fault at a TTI block. One of a text names its place in it too.
-abbrev pub load_told : LoadFaultKind → ℕ → ToldValue
-load_told f block =
-    told_as (load_kind f) (load_number.number_and_name f) (check_fault.load_place f block)
-
--- ---- a pair of files
-
--- What the fault of the one file is, or of the other; all other faults are refusals.
-abbrev pub check_kind : CheckFault → Kind
-check_kind (check.Subtitles f) = load_kind f.kind
-check_kind (check.Pes index f) = pes_kind f
-check_kind _ = kind.Refused
+-- What the line about a failure of a device or of memory begins with, or that about a refusal.
+abbrev pub kind_by : Bool → Kind
+kind_by is_failure = if is_failure then kind.Fault else kind.Refused
 
 -- A fault of a pair of files.
 abbrev pub check_told : CheckFault → ToldValue
-check_told f = told_as (check_kind f) (check_fault.number_and_name f) (check_fault.place_of f)
+check_told f = told_as (kind_by (check_fault.is_failure f)) (check_fault.number_and_name f)
+    (check_fault.place_of f)
+
+-- A fault of loading a subtitle file, at a TTI block. One of a text names its place in it too.
+abbrev pub load_told : LoadFaultKind → ℕ → ToldValue
+load_told f block = check_told (check.Subtitles (record { kind = f; block = block }))
+
+-- A fault of a subtitle file that is read, at a TTI block.
+abbrev pub stl_told : StlFault → ℕ → ToldValue
+stl_told f block = load_told (load.File f) block
 
 -- ---- words
 
@@ -100,11 +71,6 @@ usage_told f = told_as (usage_kind f) (usage_number_and_name f) place.Nowhere
 
 -- ---- a file that is written
 
--- A programme without subtitles is refused; that the file failed is a fault.
-abbrev pub plan_kind : PlanFault → Kind
-plan_kind plan.NoSubtitles = kind.Refused
-plan_kind plan.Write = kind.Fault
-
 -- A failing device and want of memory are faults.
 abbrev pub write_told : WriteFault → ToldValue
 write_told (write.Input (input.Read block)) = stl_told stl.Read block
@@ -112,4 +78,5 @@ write_told (write.Input input.Memory) = usage_told usage.Memory
 write_told (write.Load f) = load_told f.kind f.block
 write_told (write.Normal (normal.Refused f block)) = stl_told f block
 write_told (write.Normal f) = told_as kind.Fault (stl_number.normal_number_and_name f) place.Nowhere
-write_told (write.Plan f) = told_as (plan_kind f) (plan_number.number_and_name f) place.Nowhere
+write_told (write.Plan f) =
+    told_as (kind_by (plan_fault.is_write f)) (plan_fault.number_and_name f) place.Nowhere

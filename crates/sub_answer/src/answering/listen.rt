@@ -44,7 +44,7 @@ pub fn print_listening<R: Receiver + Drop, S: Source, K: Sink>(
     let mut screen = None;
     match listen(&mut receiver, &mut screen, pes, listening) {
         Ok(()) => print_state(&receiver, &screen, listening.options.asks_complete(), out),
-        Err(fault) => print_told(&told_of_listen(&fault), out),
+        Err(fault) => print_told(&told_of_listen(fault), out),
     }
 }
 
@@ -69,19 +69,14 @@ fn old_row() -> [u8; 40]
 }
 
 // What is told of a fault.
-fn told_of_listen(fault: &ListenFault) -> Told
-    ensures { result ≡ listen_told fault.now }
+fn told_of_listen(fault: ListenFault) -> Told
+    ensures { result ≡ listen_told fault }
 {
     match fault {
-        ListenFault::File(fault) => told_of_check(*fault),
+        ListenFault::File(fault) => told_of_check(fault),
         ListenFault::LostHeader { frame, packet } => {
-            let (frame, packet) = (*frame, *packet);
-            Told::new(
-                Kind::Refused,
-                76,
-                "LostHeader",
-                FaultPlace::Packet { frame, packet },
-            )
+            let place = FaultPlace::Packet { frame, packet };
+            Told::new(Kind::Refused, 76, "LostHeader", place)
         }
     }
 }

@@ -72,10 +72,8 @@ fn push_seen<R: Receiver>(text: &mut Text, receiver: &R, screen: &Option<Page>, 
     ensures page { IfSome (seen_page asks_complete (display (R.state receiver.now) screen.now))
         IsPage }
 {
-    if !asks_complete {
-        return push_page(text, receiver.page());
-    }
     match screen {
+        _ if !asks_complete => push_page(text, receiver.page()),
         Some(page) => push_page(text, page),
         None => push_text(text, b"shown no\n"),
     }

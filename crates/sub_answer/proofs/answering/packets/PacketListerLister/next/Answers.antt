@@ -8,7 +8,7 @@ use Rattle.ttx_pes.specs.declared.fault.PesFault.{PesFault}
 use Rattle.sub_answer.specs.Listing.{followed}
 use Rattle.sub_answer.specs.PacketsListing.{ReadsPackets, ends, fails, gives, packets_from}
 use Rattle.sub_answer.specs.PacketsListing.{pes_listing}
-use Rattle.sub_answer.proofs.ListingLemmas.{gives-last, gives-next, packets_from-next, pes-failed}
+use Rattle.sub_answer.proofs.ListingLemmas.{gives-last, gives-next, kind_by-failed, packets_from-next}
 use Rattle.sub_answer.proofs.answering.packets.PacketListerLister.next.Goals as goal
 
 pub returns-in-Ok-true-clause-gives : goal.returns-in-Ok-true-clause-gives
@@ -52,7 +52,7 @@ returns-in-Err-clause-gives g c =
     let end : c.end_with.result ≡ Some (pes_listing index (fails f)).status = search rules in
     rw end
     (gives-last _ (pes_listing index) (packets_from (most_packets - index) index) ReadsPackets _ _
-    (fails f) c.end_with.new.text.items (is_read f) (search rules) (pes-failed f)
+    (fails f) c.end_with.new.text.items (is_read f) (search rules) (kind_by-failed (is_read f))
     (λ bytes told ok.
     sym (packets_from-next index bytes (Err f) c.requires.ready.1
     (c.in-Err.ensures.exact index c.requires.ready.0 bytes told ok)))

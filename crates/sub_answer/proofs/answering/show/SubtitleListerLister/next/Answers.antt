@@ -5,13 +5,13 @@ use Rattle.stl_file.specs.Fault.{is_read}
 use Rattle.stl_file.specs.Reader.{outcome_left}
 use Rattle.stl_file.specs.Reading.{ends, fails, gives}
 use Rattle.stl_file.specs.declared.progress.Progress.TheVariants.{Reading}
-use Rattle.sub_answer.specs.Faults.{stl_kind}
+use Rattle.sub_answer.specs.Faults.{kind_by}
 use Rattle.sub_answer.specs.Lines.{subtitle_line}
 use Rattle.sub_answer.specs.Listing.{followed}
 use Rattle.sub_answer.specs.ShowListing.{ReadsSubtitles, subtitles_listing}
 use Rattle.sub_answer.specs.Told.{status_of}
 use Rattle.sub_answer.proofs.ListingLemmas.{block-rises, gives-last, gives-next, gives-opened}
-use Rattle.sub_answer.proofs.ListingLemmas.{gives-refused, stl-failed}
+use Rattle.sub_answer.proofs.ListingLemmas.{gives-refused, kind_by-failed}
 use Rattle.sub_answer.proofs.answering.show.SubtitleListerLister.next.Goals as goal
 
 pub returns-in-Ok-clause-gives : goal.returns-in-Ok-clause-gives
@@ -25,7 +25,7 @@ returns-in-Ok-clause-gives g c =
 pub returns-in-Err-clause-gives : goal.returns-in-Err-clause-gives
 returns-in-Err-clause-gives g c =
     let none : c.args.self.now.reader ≡ None = search rules in
-    let end : c.end_with.result ≡ Some (status_of (stl_kind c.in-Err.fault)) = search rules in
+    let end : c.end_with.result ≡ Some (status_of (kind_by (is_read c.in-Err.fault))) = search rules in
     rw (none, end)
     (gives-refused c.args.self.now.count c.in-Err.fault _ _ c.end_with.new.text.items
     (search rules) c.in-Err.ensures.exact c.in-Err.ensures.failed c.in-Err.ensures.refused)
@@ -91,11 +91,11 @@ pub returns-in-Err-next-clause-gives : goal.returns-in-Err-next-clause-gives
 returns-in-Err-next-clause-gives g c =
     let f = c.in-Err-next.fault in
     let ready = rw c.in-Some.is at c.requires.ready in
-    let end : c.end_with-in-Err-next.result ≡ Some (status_of (stl_kind f)) = search rules in
+    let end : c.end_with-in-Err-next.result ≡ Some (status_of (kind_by (is_read f))) = search rules in
     rw (c.in-Some.is, end)
     (gives-last _ (subtitles_listing c.args.self.now.count) (outcome_left c.in-Some.reader)
     (λ failed. ReadsSubtitles failed c.in-Some.reader.block) _ _
     (fails f c.next.new.self.block) c.end_with-in-Err-next.new.text.items (is_read f)
-    (search rules) (stl-failed f)
+    (search rules) (kind_by-failed (is_read f))
     (λ bytes told ok. sym (c.in-Err-next.ensures.exact bytes told ok).outcome)
     (refl, c.in-Err-next.ensures.failed ready.0, c.in-Err-next.ensures.refused ready.0))
