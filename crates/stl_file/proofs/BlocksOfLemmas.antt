@@ -10,6 +10,7 @@ use Rattle.stl_file.specs.Tti.{ebn, text_of, unused_space}
 use Rattle.stl_file.specs.SubtitleBlocks.{joined, BelongsTo, AreLinked, Begins, AreBlocksOf}
 use Rattle.stl_file.specs.Subtitle.{SubtitleValue, IsSubtitle, has_no_unused}
 use Rattle.stl_file.specs.NormalForm.{block_head, block_of, blocks_from, full_pieces, blocks_of}
+use Rattle.stl_file.specs.TimeCode.{day}
 use Rattle.stl_file.proofs.TimeCodeLemmas.{time_in_range}
 use Rattle.stl_file.proofs.SubtitleLemmas.{before_clean, clean_take, clean_drop}
 use Rattle.stl_file.proofs.SubtitleBlocksLemmas.{linked_cons, linked_text, blocks_subtitle}
@@ -54,7 +55,7 @@ block_begins : (s : SubtitleValue) (e : ℕ) (piece : List ℕ)
     → Begins s (block_of s e piece)
 unfolding block_of
 block_begins s e piece h =
-    let early : s.tci < 2160000 = let d = h.in_day in let t = h.times in omega arith in
+    let early : s.tci < day = let d = h.in_day in let t = h.times in omega arith in
     record {
       cumulative = refl;
       sgn_is = refl;

@@ -6,7 +6,7 @@ use Rattle.std.proofs.lemmas.Bool.Decides.{nat_tests}
 use Rattle.stl_file.specs.SubtitleBlocks.{IsTimeAt}
 use Rattle.stl_file.specs.Gsi.{field}
 use Rattle.stl_file.specs.Reading.{time_at}
-use Rattle.stl_file.specs.TimeCode.{frame_of, is_time_code}
+use Rattle.stl_file.specs.TimeCode.{day, frame_of, is_time_code}
 
 -- a byte of a field
 field_byte : (b : List ℕ) (place i : ℕ)
@@ -32,11 +32,11 @@ unfolding time_at
 time_complete b place frame h = grind (arith, nat_tests)
 
 -- the frame of a time code is one of the day
-pub in_day : (h m s f : ℕ) → is_time_code h m s f ≡ true → frame_of h m s f < 2160000
+pub in_day : (h m s f : ℕ) → is_time_code h m s f ≡ true → frame_of h m s f < day
 in_day h m s f e = grind (arith, nat_tests)
 
 -- the bytes of a time code are one
 pub time_in_range : (f : ℕ)
-    → f < 2160000
+    → f < day
     → is_time_code (f / 90000) ((f / 1500) % 60) ((f / 25) % 60) (f % 25) ≡ true
 time_in_range f lt = grind (arith, nat_tests)

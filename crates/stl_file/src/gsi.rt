@@ -40,8 +40,8 @@ const STL_30: [u8; 8] = *b"STL30.01";
 /// CCT of the Latin table.
 const LATIN: [u8; 2] = *b"00";
 
-// The five decimal digits of a count, in ASCII.
-fn five_digits_of(n: u32) -> [u8; 5]
+/// The five decimal digits of a number, in ASCII, as TNB and TNS have them (EBU Tech 3264).
+pub fn five_digits_of(n: u32) -> [u8; 5]
     requires { n < 100000 }
     ensures { result ≡ five_digits n }
 {

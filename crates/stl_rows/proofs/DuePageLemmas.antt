@@ -67,7 +67,8 @@ edges_alone n ts f first none =
     λ p. none (k, x, b, get_or_default ts k x d b, p) in
     grind (arith, nat_tests, edge)))
 
--- what holds of the blank page, and of that of each subtitle without a fault, holds of each due page
+-- what holds of the blank page, and of that of each subtitle without a fault, holds of each due
+-- page
 pub due_has : (P : Rows → Type 0) (n : National) (ts : List SubtitleValue) (f : ℕ)
     → P blank
     → ((t : SubtitleValue) → faults n t ≡ [] → P (page_of_lines t.jc t.vp (lines n t)))

@@ -16,7 +16,8 @@ use Rattle.stl_rows.specs.declared.national.National.{National}
 -- ---- cells before the first line
 
 -- a new line ends the cells before it
-pub onto_line_end : (cells : List ℕ) (lines : List (List ℕ)) → onto cells ([] ∷ lines) ≡ cells ∷ lines
+pub onto_line_end : (cells : List ℕ) (lines : List (List ℕ))
+    → onto cells ([] ∷ lines) ≡ cells ∷ lines
 onto_line_end [] lines = refl
 onto_line_end (c ∷ cells) lines = ap (onto_first c) (onto_line_end cells lines)
 

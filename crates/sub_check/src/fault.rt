@@ -164,8 +164,9 @@ impl CheckFault {
             CheckFault::Late { .. } => (74, "Late"),
         }
     }
-    /// Where the fault is: at the PES packet or the TTI block of the file that it is of, and one of a
-    /// text at its place in it too; at a frame, a packet or a cell of the transmission.
+
+    /// Where the fault is: at the PES packet or the TTI block of the file that it is of, and one of
+    /// a text at its place in it too; at a frame, a packet or a cell of the transmission.
     pub fn place(self) -> FaultPlace
         ensures { result ≡ place_of self }
     {

@@ -11,7 +11,7 @@ use Rattle.sub_io.specs.Device.{failed}
 use Rattle.ttx_pes.specs.declared.fault.PesFault.{PesFault}
 use Rattle.ttx_pes.specs.declared.fault.PesFault.TheVariants as fault
 use Rattle.ttx_pes.specs.PesPacket.{PesValue}
-use Rattle.ttx_pes.specs.Reading.{packet_at, answer_at, rest_after, is_format_fault}
+use Rattle.ttx_pes.specs.Reading.{most_packets, packet_at, answer_at, rest_after, is_format_fault}
 use Rattle.ttx_pes.specs.Reader.{TakesPesPacket, BeginsNone}
 use Rattle.ttx_pes.proofs.ReadingLemmas.{packet_is_read, rest_after-packet}
 use Rattle.ttx_pes.specs.Fault.{is_read}
@@ -61,7 +61,7 @@ answer_err : (given : ℕ) (b : List ℕ) (f : PesFault)
     → packet_at b ≡ Err f
 unfolding answer_at
 answer_err given [] f k e = absurd cc
-answer_err given (x ∷ b) f k e = elim (cases_Bool (eqb given 2160000)) [
+answer_err given (x ∷ b) f k e = elim (cases_Bool (eqb given most_packets)) [
   | inl full ↦ let many : f ≡ fault.TooMany = let told = rw full at e in cc in
       let format = rw many at k in absurd cc
   | inr more ↦ elim (answer_cases (packet_at (x ∷ b))) [

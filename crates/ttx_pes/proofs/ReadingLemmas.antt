@@ -13,7 +13,7 @@ use Rattle.ttx_pes.specs.declared.fault.PesFault.{PesFault}
 use Rattle.ttx_pes.specs.declared.fault.PesFault.TheVariants as fault
 use Rattle.ttx_pes.specs.Laws.{LawOfGrammar, LawOfOneValue, LawOfReading, LawOfReadingBack}
 use Rattle.ttx_pes.specs.PesPacket.{PesValue, IsPesPacket, canonical_packet}
-use Rattle.ttx_pes.specs.Reading.{size_at, value_at, packet_at, answer_at, rest_after}
+use Rattle.ttx_pes.specs.Reading.{most_packets, size_at, value_at, packet_at, answer_at, rest_after}
 use Rattle.ttx_pes.proofs.DataUnitLemmas.{AreBytes-take, AreBytes-drop}
 use Rattle.ttx_pes.proofs.PesHeaderLemmas.{body_complete, body_of, body_sound, head_complete}
 use Rattle.ttx_pes.proofs.PesHeaderLemmas.{head_sound, packet_of_body, six_of}
@@ -29,7 +29,7 @@ answer_cases (Err e) = inr (e, refl)
 -- ---- what is answered
 
 -- The answer after the most packets.
-pub answer_full : (b : List ℕ) → 0 < length b → answer_at 2160000 b ≡ Err fault.TooMany
+pub answer_full : (b : List ℕ) → 0 < length b → answer_at most_packets b ≡ Err fault.TooMany
 unfolding answer_at
 answer_full [] h = absurd (omega arith)
 answer_full (x ∷ b) h = refl
@@ -37,7 +37,7 @@ answer_full (x ∷ b) h = refl
 -- The answer before them is what is read of the packet.
 pub answer_packet : (given : ℕ) (b : List ℕ) (r : Result (PesValue × List ℕ) PesFault)
     → 0 < length b
-    → given ≢ 2160000
+    → given ≢ most_packets
     → packet_at b ≡ r
     → answer_at given b ≡ (r >>= λ p. Ok (Some p.0))
 unfolding answer_at
@@ -98,7 +98,7 @@ packet_parts head body rest size six e le len =
 
 -- The answer where a packet is read.
 pub answer_of_packet : (given : ℕ) (b : List ℕ) (v : PesValue) (rest : List ℕ)
-    → given ≢ 2160000
+    → given ≢ most_packets
     → packet_at b ≡ Ok (v, rest)
     → answer_at given b ≡ Ok (Some v)
 unfolding packet_at

@@ -11,7 +11,7 @@ use Rattle.sub_io.specs.Reading.{◌>>=◌, AreBytes}
 use Rattle.ttx_pes.specs.declared.fault.PesFault.{PesFault}
 use Rattle.ttx_pes.specs.declared.fault.PesFault.TheVariants as fault
 use Rattle.ttx_pes.specs.PesPacket.{PesValue, IsPesPacket}
-use Rattle.ttx_pes.specs.Reading.{size_at, value_at, packet_at, answer_at, rest_after}
+use Rattle.ttx_pes.specs.Reading.{most_packets, size_at, value_at, packet_at, answer_at, rest_after}
 use Rattle.ttx_pes.specs.Reader.{FailsWithin, TakesPesPacket, TakesRefused}
 use Rattle.ttx_pes.specs.Comparing.{TakesDataField}
 use Rattle.ttx_pes.specs.Taking.{Settles, StopsBelow}
@@ -40,7 +40,7 @@ pub too_many : (given : ℕ) (old new : Option (List ℕ)) (bytes taken : List �
     → Consumes old new taken
     → old ≡ Some bytes
     → 0 < length taken
-    → given ≡ 2160000
+    → given ≡ most_packets
     → answer_at given bytes ≡ Err fault.TooMany
 too_many given old new bytes taken h told some full =
     let (rest, parts, _) = left old new bytes taken h told in
@@ -128,7 +128,7 @@ answered (Err f) rest = refl
 pub settled_answer : (given : ℕ) (old new : Option (List ℕ)) (taken bytes : List ℕ)
     (r : Result PesValue PesFault)
     → Settles old new taken r
-    → (given ≡ 2160000 → ⊥)
+    → (given ≡ most_packets → ⊥)
     → old ≡ Some bytes
     → answer_at given bytes ≡ (r >>= λ v. Ok (Some v))
 settled_answer given old new taken bytes r h ne told =

@@ -1,7 +1,5 @@
 //! `show STL`: lists subtitles.
-ghost use Rattle.std.specs.Prelude.{◌≡◌, ◌+◌, [], None};
-ghost use Rattle.arrayvec.specs.ArrayVec.{array_vec_len};
-ghost use Rattle.stl_file.specs.Gsi.{five_digits};
+ghost use Rattle.std.specs.Prelude.{◌≡◌, [], None};
 ghost use Rattle.sub_answer.specs.Lines.{subtitle_line};
 ghost use Rattle.sub_answer.specs.ShowListing.{IsReady, ListsFrom, blocks_left};
 
@@ -9,7 +7,7 @@ use crate::faults::told_of_stl;
 use crate::lines::{push_number, push_text, push_text_digits, push_time};
 use crate::listing::{Lister, Text, end_at, end_with};
 use crate::status::Status;
-use stl_file::{StlReader, Subtitle};
+use stl_file::{StlReader, Subtitle, five_digits_of};
 use sub_io::Source;
 
 /// Lists the subtitles of a file, one after the other as they are read (EBU Tech 3264).
@@ -67,7 +65,7 @@ fn push_subtitle(text: &mut Text, subtitle: &Subtitle)
     requires { text.old.items ≡ [] }
     ensures items { text.new.items ≡ subtitle_line subtitle.now }
 {
-    push_subtitle_number(text, subtitle.sn());
+    push_text(text, &five_digits_of(u32::from(subtitle.sn())));
     push_text(text, b" ");
     push_time(text, subtitle.tci());
     push_text(text, b" ");
@@ -77,20 +75,4 @@ fn push_subtitle(text: &mut Text, subtitle: &Subtitle)
     push_text(text, b" text ");
     push_text_digits(text, subtitle.text());
     push_text(text, b"\n");
-}
-
-// Appends a subtitle's number, SN, in five decimal digits.
-fn push_subtitle_number(text: &mut Text, number: u16)
-    requires { text.old.items ≡ [] }
-    ensures items { text.new.items ≡ five_digits number }
-    ensures len { array_vec_len text.new ≡ 5 }
-{
-    let digits = [
-        b'0' + (number / 10000) as u8,
-        b'0' + (number / 1000 % 10) as u8,
-        b'0' + (number / 100 % 10) as u8,
-        b'0' + (number / 10 % 10) as u8,
-        b'0' + (number % 10) as u8,
-    ];
-    push_text(text, &digits);
 }

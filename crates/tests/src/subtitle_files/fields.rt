@@ -3,7 +3,7 @@
 use super::files::{ALONE, a_file};
 use crate::asserting::{assert_same, assert_same_in};
 use fixtures::block;
-use stl_file::{Gsi, StlReader, Subtitle, TimeCode, Tti};
+use stl_file::{Gsi, StlReader, Subtitle, TimeCode, Tti, five_digits_of};
 use sub_io::MemSource;
 
 #[test]
@@ -71,6 +71,7 @@ fn sets_the_counts_and_nothing_else(rt: HostRuntime) {
     gsi.set_counts(2, 99999);
     bytes[238..248].copy_from_slice(b"0000299999".as_slice());
     assert!(rt; gsi.bytes().as_slice() == bytes.as_slice());
+    assert!(rt; five_digits_of(1234) == *b"01234");
 }
 
 #[test]

@@ -1,4 +1,5 @@
--- A subtitle that draws a page has no fault, and draws that of its lines: no_line_faults, drawn-page.
+-- A subtitle that draws a page has no fault, and draws that of its lines: no_line_faults,
+-- drawn-page.
 use Rattle.std.proofs.Common.{Ok, ap, ◌∙◌}
 use Rattle.stl_rows.proofs.DrawnPageLemmas.{drawn-page, no_line_faults}
 use Rattle.stl_rows.proofs.drawing.drawn_page.Goals as goal
