@@ -81,8 +81,17 @@ module _ (programme : ProgrammeValue) (options : OptionsValue) (is : IsOptions o
         let few = accepts.few in
         let sizes = AllZip-long IsPesPacket taken.values taken.packets taken.each in
         let sent = AllZip-long (IsSentAs options.origin) taken.values frames taken.sent in
-        grind (arith, nat_tests, taken.values, taken.packets, taken.each, taken.joined,
-            append-nil (concat taken.packets), taken.sent, good_from.rising)
+        grind (
+          arith,
+          nat_tests,
+          taken.values,
+          taken.packets,
+          taken.each,
+          taken.joined,
+          append-nil (concat taken.packets),
+          taken.sent,
+          good_from.rising,
+        )
 
   -- No refusal is told of what the bytes carry, where it is good.
   not_refused :
@@ -107,9 +116,13 @@ module _ (programme : ProgrammeValue) (options : OptionsValue) (is : IsOptions o
   accepted_from bytes (Ok a) decides =
       let file = pes_file_of options.origin bytes in
       let accepts = decides file.frames file.unread refl in
-      (grind (arith, nat_tests, carried_from bytes file.unread file.frames a accepts,
-          good_from bytes file.unread file.frames a accepts,
-          complete_from_places bytes file.unread file.frames a accepts))
+      (grind (
+        arith,
+        nat_tests,
+        carried_from bytes file.unread file.frames a accepts,
+        good_from bytes file.unread file.frames a accepts,
+        complete_from_places bytes file.unread file.frames a accepts,
+      ))
   accepted_from bytes (Err f) decides = (
     λ ok. cc,
     λ g.
@@ -139,8 +152,16 @@ module _ (programme : ProgrammeValue) (options : OptionsValue) (is : IsOptions o
   counts_from bytes frames (Ok a) decides carries =
       let accepts =
       decides refl frames None (carried_is_read options.origin bytes frames carries) in
-      grind (arith, nat_tests, first-same frames, last-same frames, accepts.frames_are,
-          accepts.transmissions_are, options.page, whole-is frames)
+      grind (
+        arith,
+        nat_tests,
+        first-same frames,
+        last-same frames,
+        accepts.frames_are,
+        accepts.transmissions_are,
+        options.page,
+        whole-is frames,
+      )
   counts_from bytes frames (Err f) decides carries = tt
 
   -- A refusal names the first place.

@@ -34,5 +34,10 @@ module _ (options : OptionsValue) (t : Transmission)
   pub ended_at :
       Complete t options → (i : ℕ) → i < length t → is_open (packets_before t (i + 1)) ≡ false
   ended_at complete i l =
-      grind (arith, on_air_at t rising i l, last-same t, rises_to t rising 0 i (omega arith) l,
-          rises_to t rising i (length t - 1) (omega arith) (omega arith))
+      grind (
+        arith,
+        on_air_at t rising i l,
+        last-same t,
+        rises_to t rising 0 i (omega arith) l,
+        rises_to t rising i (length t - 1) (omega arith) (omega arith),
+      )

@@ -149,8 +149,11 @@ module _ (programme : ProgrammeValue) (options : OptionsValue) (unread : Option 
       let first = first-same t in
       let last = last-same t in
       let r = h.repeats start (omega arith) (omega arith) in
-      (grind (arith, nat_tests,
-          any_sent (watched_of programme options) t r.0 (frame_at t r.0) r.1 refl r.4))
+      (grind (
+        arith,
+        nat_tests,
+        any_sent (watched_of programme options) t r.0 (frame_at t r.0) r.1 refl r.4,
+      ))
 
   -- The frames rise.
   rising_of : (i j : ℕ) (d : SentFrame) → i < j → j < length t
@@ -230,8 +233,11 @@ module _ (programme : ProgrammeValue) (options : OptionsValue) (t : Transmission
       let cut :
       take n (packets_before t i ++ packets_of_frame t i)
       ≡ packets_before t i ++ take k (packets_of_frame t i) =
-      grind (arith, nat_tests,
-          take-over (packets_before t i) (packets_of_frame t i) n (omega arith)) in
+      grind (
+        arith,
+        nat_tests,
+        take-over (packets_before t i) (packets_of_frame t i) n (omega arith),
+      ) in
       subst (λ xs. IsCleanSpan options.page (span (kind options.page) xs))
       (ap (take n) (on_air_at t rising_back i l ∙ joined_more t i l) ∙ cut)
       (h.spans f n (omega arith))

@@ -52,8 +52,13 @@ shows_again w first others old new e (mid, step, shows, rest) =
     let open_is = stays_open w first e old.held mid.held step in
     let none : IsFalse (is_ended new.held mid.held) =
     and_right new.held.is_open (not mid.held.is_open) (ap not open_is) in
-    (grind (arith, nat_tests, same_step w first e old.held new.held mid.held step, true≢false,
-        carry w others mid new rest))
+    (grind (
+      arith,
+      nat_tests,
+      same_step w first e old.held new.held mid.held step,
+      true≢false,
+      carry w others mid new rest,
+    ))
 
 -- And one whose screen is not looked at.
 hears_again :

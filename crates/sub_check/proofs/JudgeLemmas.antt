@@ -58,8 +58,17 @@ whole_more frames n v l same is before =
     let packets : (get_or frames n d).packets ≡ packets_of_units v.units =
     sym (get_or-map (λ (s : SentFrame). s.packets) frames n d [] l) ∙ same in
     subst AreWhole (sym (take_more frames n d l))
-    (grind (arith, nat_tests, Each-push, All, length, take n frames, get_or frames n d,
-        All-from_recursion, whole_units v.units is.each))
+    (grind (
+      arith,
+      nat_tests,
+      Each-push,
+      All,
+      length,
+      take n frames,
+      get_or frames n d,
+      All-from_recursion,
+      whole_units v.units is.each,
+    ))
 
 -- ---- packets of the grammar
 

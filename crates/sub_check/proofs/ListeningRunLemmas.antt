@@ -42,8 +42,16 @@ pub first_lost_header-none : (r : Reception) (number : ℕ) (packets : List (Lis
     → first_lost_header r number packets ≡ None
 first_lost_header-none r number [] e = refl
 first_lost_header-none r number (packet ∷ packets) e =
-    grind (arith, nat_tests, false, and_right, not, Some, option_map,
-        first_lost_header-none r (number + 1) packets e)
+    grind (
+      arith,
+      nat_tests,
+      false,
+      and_right,
+      not,
+      Some,
+      option_map,
+      first_lost_header-none r (number + 1) packets e,
+    )
 
 -- what is received of two lists of packets, one after the other
 pub as_received-append : (r : Reception) (number : ℕ) (first more : List (List ℕ))
@@ -51,8 +59,15 @@ pub as_received-append : (r : Reception) (number : ℕ) (first more : List (List
     ≡ as_received r number first ++ as_received r (number + length first) more
 as_received-append r number [] more = ap (λ n. as_received r n more) (omega arith)
 as_received-append r number (p ∷ ps) more =
-    grind (arith, nat_tests, length ps, length (p ∷ ps), as_received-append r (number + 1) ps more,
-        true, false)
+    grind (
+      arith,
+      nat_tests,
+      length ps,
+      length (p ∷ ps),
+      as_received-append r (number + 1) ps more,
+      true,
+      false,
+    )
 
 -- what is heard of two lists of packets, one after the other
 as_heard-append : (l : Listening) (number : ℕ) (first more : List (List ℕ))
@@ -257,9 +272,11 @@ module _
                         | inr h ↦ subst (IsHeard l frames) (omega arith) here
                       ];
                   run =
-                      grind (arith,
-                          as_heard-append l 0 (packets_before frames n) (packets_of_units v.units),
-                          runs-append);
+                      grind (
+                        arith,
+                        as_heard-append l 0 (packets_before frames n) (packets_of_units v.units),
+                        runs-append,
+                      );
                   number_is = omega (arith, size, units, number_is);
                   least_is = grind arith;
                 }

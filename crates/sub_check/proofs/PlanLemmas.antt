@@ -302,8 +302,12 @@ plan_between programme o serial (Some a) None h k is some ok =
 plan_between programme o serial (Some a) (Some b) h k is some ok =
     let s = span-rises programme.national programme.records a b is h k in
     let order : a ≤ b = omega (arith, s.rises) in
-    grind (arith, nat_tests, good programme o serial a b h k ok order,
-        complete programme o serial a b h k ok order)
+    grind (
+      arith,
+      nat_tests,
+      good programme o serial a b h k ok order,
+      complete programme o serial a b h k ok order,
+    )
 
 -- The schedule of a programme with a subtitle is good.
 pub law_of_plan : LawOfPlan
@@ -331,8 +335,14 @@ module _
     is_sent f in_day =
         let packets : List (List ℕ) = sending o.page national serial (due f) in
         let each : All IsPacket packets =
-        grind (arith, nat_tests, All-weaker,
-            all_sent o.page national serial (due f) ok.page (shape f), due f, shape f) in
+        grind (
+          arith,
+          nat_tests,
+          All-weaker,
+          all_sent o.page national serial (due f) ok.page (shape f),
+          due f,
+          shape f,
+        ) in
         record {
           in_day = in_day;
           pts = refl;

@@ -44,8 +44,14 @@ module _ (t : Transmission) (m : ℕ) (fits : m ≤ length t) (Q : List (List �
       → Q (before t i k)
   within i l base zero h = subst Q (sym (before_none t i)) base
   within i l base (suc k) h =
-      grind (arith, nat_tests, suc k, before, before_more t i k (omega arith),
-          within i l base k (omega arith))
+      grind (
+        arith,
+        nat_tests,
+        suc k,
+        before,
+        before_more t i k (omega arith),
+        within i l base k (omega arith),
+      )
 
   -- At the start of each frame.
   pub at_start : (n : ℕ) → n ≤ m → Q (packets_before t n)

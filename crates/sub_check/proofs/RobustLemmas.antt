@@ -195,8 +195,13 @@ law_of_good_and_marked_loss
     programme transmission options good g j f marks got old new listening may near unheard shut
     hears =
     let sent : List (List ℕ) = on_air transmission g j f in
-    grind (arith, nat_tests, law_of_good_and_loss, noise.arrives_marked sent marks got may near,
-        noise.arrived_marked sent marks got may near)
+    grind (
+      arith,
+      nat_tests,
+      law_of_good_and_loss,
+      noise.arrives_marked sent marks got may near,
+      noise.arrived_marked sent marks got may near,
+    )
 
 -- What is promised with one excuse is promised with each that it gives.
 pub served_as :

@@ -163,15 +163,36 @@ same_decided :
     (if_some (λ y. if_some (λ z. not (y == z) || bytes_eq p q) (row_of_kind (kind page q)))
     (row_of_kind (kind page p))) (IsSameRow page p q)
 same_decided page p q =
-    grind (arith, nat_tests, Decides-like, if_row, if_some, not, row_of_kind, ℕ, implied,
-        Decides-eqb, bytes_eq-Decides)
+    grind (
+      arith,
+      nat_tests,
+      Decides-like,
+      if_row,
+      if_some,
+      not,
+      row_of_kind,
+      ℕ,
+      implied,
+      Decides-eqb,
+      bytes_eq-Decides,
+    )
 
 plain_decided :
     (page : PageIdValue) (p : List ℕ)
     → Decides (if_some (λ a. not (is_enhancement page a)) (address p)) (IsEnhancement page p → ⊥)
 plain_decided page p =
-    grind (arith, nat_tests, Decides-like, value_of, not, is_enhancement, Decides-not, Decides-and,
-        Decides-eqb, at_most)
+    grind (
+      arith,
+      nat_tests,
+      Decides-like,
+      value_of,
+      not,
+      is_enhancement,
+      Decides-not,
+      Decides-and,
+      Decides-eqb,
+      at_most,
+    )
 
 clean_decided :
     (page : PageIdValue) (ps : List (List ℕ)) → Decides (is_clean page ps) (IsCleanSpan page ps)

@@ -90,8 +90,11 @@ module _
               (first_after (heard ++ first ∷ others) more h.0 h.1
               ∙ ap (λ o. option_or o (Some h.0)) (first_after heard others h.0 h.1));
           open_is =
-              grind (arith, holds-append_right (kind w.page) heard (first ∷ more) held,
-                  holds-append_right (kind w.page) (heard ++ first ∷ others) (first ∷ more) held);
+              grind (
+                arith,
+                holds-append_right (kind w.page) heard (first ∷ more) held,
+                holds-append_right (kind w.page) (heard ++ first ∷ others) (first ∷ more) held,
+              );
           span_is = ap (before_end (kind w.page)) after;
         }
 

@@ -138,8 +138,17 @@ module _ (g : Task) (frames : Transmission) (n : ℕ) (b : CheckerValue) (units 
         names_missing none =
             let e : n ≡ 0 = grind (arith, known.begun, none, total_is) in
             let no : headers ≡ 0 = omega (arith, none, total_is) in
-            grind (arith, nat_tests, here, first_header_missing, arrived.order, packets_ok,
-                true≢false, has_header, nat_lt 0)
+            grind (
+              arith,
+              nat_tests,
+              here,
+              first_header_missing,
+              arrived.order,
+              packets_ok,
+              true≢false,
+              has_header,
+              nat_lt 0,
+            )
 
         -- What is kept after them.
         pub took : (at : ℕ) → (total ≡ 0 → ⊥) → at ≡ cond found b.frame b.header_at
@@ -203,8 +212,14 @@ module _ (g : Task) (frames : Transmission) (n : ℕ) (c : CheckerValue) (t : To
       → NamesFirst g frames (fault.Content c.frame row column)
   names_cell row column d =
       subst (λ f. NamesFirst g frames (fault.Content f row column)) t.frame_is
-      (grind (arith, nat_tests, first_cell, head, WrongFirst,
-          wrong_first g frames (n + 1) c t.known t.due_is row column d))
+      (grind (
+        arith,
+        nat_tests,
+        first_cell,
+        head,
+        WrongFirst,
+        wrong_first g frames (n + 1) c t.known t.due_is row column d,
+      ))
 
   -- A header too long ago.
   pub names_gap : AreSameCells c.listener → c.every ≤ c.frame - c.header_at

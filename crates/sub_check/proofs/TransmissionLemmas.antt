@@ -24,8 +24,14 @@ pub packets_between-none :
     → packets_between frames a b ≡ []
 packets_between-none [] a b later = refl
 packets_between-none (s ∷ frames) a b later =
-    grind (arith, nat_tests, and_right, nat_le a s.frame, le-ltb s.frame b later.0,
-        packets_between-none frames a b later.1)
+    grind (
+      arith,
+      nat_tests,
+      and_right,
+      nat_le a s.frame,
+      le-ltb s.frame b later.0,
+      packets_between-none frames a b later.1,
+    )
 
 -- No packet stands from a frame up to one that is not after it.
 pub packets_between-void :

@@ -68,8 +68,18 @@ module _
         → as_received r m packets ≡ packets
     all_received m [] low high = refl
     all_received m (p ∷ ps) low high =
-        grind (arith, nat_tests, nat_le r.skip m, le-leb, leb-true r.skip first skip, and_from,
-            none_lost, cond-true, none_flipped, all_received (m + 1) ps (omega arith) (omega arith))
+        grind (
+          arith,
+          nat_tests,
+          nat_le r.skip m,
+          le-leb,
+          leb-true r.skip first skip,
+          and_from,
+          none_lost,
+          cond-true,
+          none_flipped,
+          all_received (m + 1) ps (omega arith) (omega arith),
+        )
 
 -- Packets that are untouched are received as they are.
 received_untouched : (r : Reception) (number count : ℕ) (packets : List (List ℕ))

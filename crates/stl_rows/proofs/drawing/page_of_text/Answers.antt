@@ -66,7 +66,7 @@ pub put_line-requires-2-clause-fits : goal.put_line-requires-2-clause-fits
 put_line-requires-2-clause-fits c =
     let cells = c.loop-at.cells.items in
     let lines = prepared_lines-end c.args.national cells c.loop-at.at c.args.text.now
-        (omega arith) in
+    (omega arith) in
     rw c.as_slice-2.ensures.value
     (is_drawn-fits _ _ _ _ _ _ cells c.requires.first (rw lines at c.loop-at.invariant.drawn)
     c.requires.whole)
@@ -75,7 +75,7 @@ pub returns : goal.returns
 returns c =
     let cells = c.loop-at.cells.items in
     let lines = prepared_lines-end c.args.national cells c.loop-at.at c.args.text.now
-        (omega arith) in
+    (omega arith) in
     rw (c.put_line-2.ensures, c.as_slice-2.ensures.value)
     (is_drawn-end _ _ _ _ _
     (is_drawn-next _ _ _ _ _ _ cells c.requires.first (rw lines at c.loop-at.invariant.drawn)

@@ -44,8 +44,13 @@ loop-k-preserved c =
           let moved : IsClean w (heard ++ take k ps) p =
           subst (λ v. IsClean v (heard ++ take k ps) p) i.same clean in
           let new = c.hear-is_header.ensures.knows (heard ++ take k ps) before.1 clean in
-          (grind (arith, nat_tests, below_more, take k ps,
-              append_assoc heard (take k ps) (p ∷ [])));
+          (grind (
+            arith,
+            nat_tests,
+            below_more,
+            take k ps,
+            append_assoc heard (take k ps) (p ∷ []),
+          ));
     }
 
 pub returns-clause-knows : goal.returns-clause-knows
