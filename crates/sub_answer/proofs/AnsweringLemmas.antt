@@ -20,7 +20,8 @@ use Rattle.stl_rows.specs.Programme.{ProgrammeValue}
 use Rattle.sub_plan.specs.Options.{OptionsValue}
 use Rattle.sub_check.specs.CheckedFiles.{AreChecked}
 use Rattle.sub_check.specs.Checking.{TellsSubtitles}
-use Rattle.sub_check.specs.Fault.{is_failure, is_failure_kind, is_pes_read, is_stl_read, is_subtitle_fault}
+use Rattle.sub_check.specs.Fault.{is_failure, is_failure_kind, is_pes_read, is_stl_read}
+use Rattle.sub_check.specs.Fault.{is_subtitle_fault}
 use Rattle.sub_check.specs.declared.checker.Accepted.{Accepted}
 use Rattle.sub_check.specs.declared.fault.CheckFault.{CheckFault}
 use Rattle.sub_check.specs.declared.fault.CheckFault.TheVariants as fault
@@ -91,7 +92,9 @@ failure-of_programme national outcome programme block kind is told = cc
 
 -- A fault of the PES file with a status other than `Fault` is none of the source. For
 -- `done-exactly`.
-fine-of_status : (f : CheckFault) → status_of (kind_by (is_failure f)) ≢ Fault → is_pes_read f ≡ false
+fine-of_status : (f : CheckFault)
+    → status_of (kind_by (is_failure f)) ≢ Fault
+    → is_pes_read f ≡ false
 fine-of_status (fault.Pes pes pes_fault.Read) other = absurd (other refl)
 fine-of_status f other = refl
 

@@ -282,7 +282,8 @@ pub gives-refused :
 unfolding outcome_of
 gives-refused count f told left text line exact failed refused =
     gives-last _ (subtitles_listing count) outcome_of ReadsFile told left (fails f 0) text
-    (stl_fault.is_read f) line (kind_by-failed (stl_fault.is_read f)) (λ bytes is fine. rw (exact bytes is fine) refl)
+    (stl_fault.is_read f) line (kind_by-failed (stl_fault.is_read f))
+    (λ bytes is fine. rw (exact bytes is fine) refl)
     (inl (record {
       fault = f;
       outcome_is = refl;

@@ -10,13 +10,6 @@ pub test_held : {A E : Type 0} (b : Bool) (fault : E) (r : Result A E) (y : A)
 test_held true fault r y e = (refl, e)
 test_held false fault r y e = absurd cc
 
--- A test for a fault that let the reading go on: it did not hold.
-pub test_failed : {A E : Type 0} (b : Bool) (fault : E) (r : Result A E) (y : A)
-    → cond b (Err fault) r ≡ Ok y
-    → (b ≡ false) × (r ≡ Ok y)
-test_failed true fault r y e = absurd cc
-test_failed false fault r y e = (refl, e)
-
 -- A step and what follows it: both gave a value.
 pub step_gave : {A B E : Type 0} (r : Result A E) (f : A → Result B E) (y : B)
     → (r >>= f) ≡ Ok y

@@ -1,5 +1,5 @@
-//! Flips of bits as people write them: `P:B:K`, the number of the packet, that of the byte, 0 to 41,
-//! and that of the bit, 1 to 8, each of one to ten decimal digits.
+//! Flips of bits as people write them: `P:B:K`, the number of the packet, that of the byte, 0 to
+//! 41, and that of the bit, 1 to 8, each of one to ten decimal digits.
 ghost use Rattle.std.specs.Prelude.{◌≡◌, ◌==◌, option_map, slice_get};
 ghost use Rattle.std.specs.List.{slice_split};
 ghost use Rattle.sub_words.specs.Texts.{colon, flip_of_text, is_same_byte};

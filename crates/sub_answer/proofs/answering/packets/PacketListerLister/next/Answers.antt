@@ -8,7 +8,8 @@ use Rattle.ttx_pes.specs.declared.fault.PesFault.{PesFault}
 use Rattle.sub_answer.specs.Listing.{followed}
 use Rattle.sub_answer.specs.PacketsListing.{ReadsPackets, ends, fails, gives, packets_from}
 use Rattle.sub_answer.specs.PacketsListing.{pes_listing}
-use Rattle.sub_answer.proofs.ListingLemmas.{gives-last, gives-next, kind_by-failed, packets_from-next}
+use Rattle.sub_answer.proofs.ListingLemmas.{gives-last, gives-next, kind_by-failed}
+use Rattle.sub_answer.proofs.ListingLemmas.{packets_from-next}
 use Rattle.sub_answer.proofs.answering.packets.PacketListerLister.next.Goals as goal
 
 pub returns-in-Ok-true-clause-gives : goal.returns-in-Ok-true-clause-gives

@@ -25,7 +25,8 @@ returns-in-Ok-clause-gives g c =
 pub returns-in-Err-clause-gives : goal.returns-in-Err-clause-gives
 returns-in-Err-clause-gives g c =
     let none : c.args.self.now.reader ≡ None = search rules in
-    let end : c.end_with.result ≡ Some (status_of (kind_by (is_read c.in-Err.fault))) = search rules in
+    let end : c.end_with.result ≡ Some (status_of (kind_by (is_read c.in-Err.fault))) =
+    search rules in
     rw (none, end)
     (gives-refused c.args.self.now.count c.in-Err.fault _ _ c.end_with.new.text.items
     (search rules) c.in-Err.ensures.exact c.in-Err.ensures.failed c.in-Err.ensures.refused)
@@ -91,7 +92,8 @@ pub returns-in-Err-next-clause-gives : goal.returns-in-Err-next-clause-gives
 returns-in-Err-next-clause-gives g c =
     let f = c.in-Err-next.fault in
     let ready = rw c.in-Some.is at c.requires.ready in
-    let end : c.end_with-in-Err-next.result ≡ Some (status_of (kind_by (is_read f))) = search rules in
+    let end : c.end_with-in-Err-next.result ≡ Some (status_of (kind_by (is_read f))) =
+    search rules in
     rw (c.in-Some.is, end)
     (gives-last _ (subtitles_listing c.args.self.now.count) (outcome_left c.in-Some.reader)
     (λ failed. ReadsSubtitles failed c.in-Some.reader.block) _ _
