@@ -1,6 +1,6 @@
 -- The packets of frames, split and joined: `packets_between-split`, and `after-append` for what
 -- stands before a list with a header.
-use Rattle.std.proofs.Common.{◌≡◌, ℕ, suc, ◌<◌, ◌≤◌, inl, inr, Bool, ◌&&◌, nat_lt}
+use Rattle.std.proofs.Common.{◌≡◌, ℕ, suc, ◌<◌, ◌≤◌, inl, inr, Bool, true, false, ◌&&◌, nat_lt}
 use Rattle.std.proofs.Common.{nat_le, cond, List, [], ◌∷◌, ◌++◌, slice_index_or, All, refl, sym, ap}
 use Rattle.std.proofs.Common.{ap₂, ◌∙◌, arith, append_assoc}
 use Rattle.std.specs.List.{AllByRecursion}
@@ -24,14 +24,9 @@ pub packets_between-none :
     → packets_between frames a b ≡ []
 packets_between-none [] a b later = refl
 packets_between-none (s ∷ frames) a b later =
-    grind (
-      arith,
-      nat_tests,
-      and_right,
-      nat_le a s.frame,
-      le-ltb s.frame b later.0,
-      packets_between-none frames a b later.1,
-    )
+    ap₂ ◌++◌
+    (ap (λ t. cond t s.packets []) (and_right (nat_le a s.frame) _ (le-ltb s.frame b later.0)))
+    (packets_between-none frames a b later.1)
 
 -- No packet stands from a frame up to one that is not after it.
 pub packets_between-void :
@@ -96,9 +91,11 @@ pub packets_between-each :
 packets_between-each P [] a b h = All-nil P
 packets_between-each P (s ∷ frames) a b h =
     All-append P (piece a b s) (packets_between frames a b)
-    (grind (arith, nat_tests, of_piece, nat_le a s.frame, nat_lt s.frame b, All-head, All))
+    (of_piece (nat_le a s.frame && nat_lt s.frame b)
+    (All-head (λ (f : SentFrame). All P f.packets) s frames h))
     (packets_between-each P frames a b
     (All-tail (λ (f : SentFrame). All P f.packets) s frames h))
   where
     of_piece : (t : Bool) → All P s.packets → All P (cond t s.packets [])
-    of_piece t all = grind arith
+    of_piece true all = all
+    of_piece false all = All-nil P
