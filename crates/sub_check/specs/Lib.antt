@@ -16,6 +16,8 @@ pub mod Listening
 pub mod Comparison
 pub mod FrameRules
 pub mod FirstBroken
+pub mod PacketTests
+pub mod Events
 pub mod Checker
 pub mod Following
 pub mod PesReading

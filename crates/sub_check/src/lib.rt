@@ -15,6 +15,7 @@
 mod checker;
 mod comparison;
 mod dropping;
+mod event;
 mod examples;
 mod fault;
 mod fault_place;
@@ -34,6 +35,7 @@ mod sending;
 
 pub use checker::{Accepted, check};
 pub use dropping::{law_of_good_and_dropping, law_of_good_dropping_and_loss};
+pub use event::{EndRule, Event};
 pub use examples::{example_of_good, examples_of_broken_rules, examples_of_no_robustness};
 pub use fault::CheckFault;
 pub use fault_place::FaultPlace;
