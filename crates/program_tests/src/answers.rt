@@ -6,8 +6,9 @@ use fixtures::Watched;
 use std::alloc::Global;
 use std::process::Abort;
 use std::test::Fail;
-use sub_answer::{Request, Status, answer, say};
+use sub_answer::{Status, answer, say};
 use sub_io::{Flush, MemSink, MemSource, Sink, Source};
+use sub_request::Request;
 use sub_words::ParseWords;
 
 /// The words of a check by the defaults of its options.

@@ -2,8 +2,8 @@
 use linked_list_allocator::LocalHeap;
 use std::test::Fail;
 use sub_answer::{InputFault, read_input};
-use sub_check::Flip;
 use sub_io::MemSource;
+use sub_request::Flip;
 use sub_words::parse_list;
 
 #[test]

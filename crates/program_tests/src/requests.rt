@@ -7,8 +7,7 @@ use std::alloc::Global;
 use std::process::Abort;
 use std::test::Fail;
 use stl_rows::National;
-use sub_answer::{FileNames, Request};
-use sub_check::{Flip, ReceiverKind};
+use sub_request::{FileNames, Flip, ReceiverKind, Request};
 use sub_plan::Options;
 use sub_words::ParseWords;
 

@@ -1,7 +1,7 @@
 //! Numbers, flips and lists of both, times and receivers, as people write them.
 use crate::asserting::{assert_same, assert_same_in};
 use std::alloc::AllocError;
-use sub_check::{Flip, ReceiverKind};
+use sub_request::{Flip, ReceiverKind};
 use sub_words::{parse_list, parse_number, parse_receiver, parse_time};
 
 // 64 numbers.

@@ -3,7 +3,7 @@ use crate::answers::{assert_fills, assert_tells};
 use crate::asserting::assert_same_in;
 use std::alloc::Global;
 use std::process::Abort;
-use sub_answer::Request;
+use sub_request::Request;
 use sub_words::ParseWords;
 
 // Asserts the line of words that are refused.

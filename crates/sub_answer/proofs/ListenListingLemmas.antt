@@ -9,7 +9,7 @@ use Rattle.sub_check.specs.ListeningRun.{Runs}
 use Rattle.sub_answer.specs.ListenListing.{IsOldPage, IsSeenWhole, Listens, listing_of, tuned_with}
 use Rattle.ttx_page.specs.Page.{Rows}
 use Rattle.sub_check.specs.declared.listening_run.ListenFault.{ListenFault}
-use Rattle.sub_check.specs.declared.listening.Listening.{Listening}
+use Rattle.sub_request.specs.declared.listening.Listening.{Listening}
 
 -- what is printed of a run of a receiver that was tuned. For `listen`.
 pub listens_from : (l : Listening) (frames : Transmission) (unread : Option Unread)

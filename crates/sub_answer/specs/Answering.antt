@@ -24,7 +24,7 @@ use Rattle.sub_check.specs.Transmission.{Transmission}
 use Rattle.sub_check.specs.declared.checker.Accepted.{Accepted}
 use Rattle.sub_check.specs.declared.fault.CheckFault.{CheckFault}
 use Rattle.sub_check.specs.declared.fault.CheckFault.TheVariants as check
-use Rattle.sub_check.specs.declared.listening.Listening.{Listening}
+use Rattle.sub_request.specs.declared.listening.Listening.{Listening}
 use Rattle.sub_check.specs.declared.listening_run.ListenFault.{ListenFault}
 use Rattle.sub_answer.specs.DeviceCall.{SinkCall, SourceCall}
 use Rattle.sub_answer.specs.Faults.{check_told}
@@ -36,8 +36,8 @@ use Rattle.sub_answer.specs.ShowListing.{ListsSubtitles}
 use Rattle.sub_answer.specs.Writing as writing
 use Rattle.sub_answer.specs.Writing.{Normalizes, PrintsMemory, Schedules, Work, is_write}
 use Rattle.sub_answer.specs.Writing.{work_listing}
-use Rattle.sub_answer.specs.declared.request.Request.{Request}
-use Rattle.sub_answer.specs.declared.request.Request.TheVariants as ask
+use Rattle.sub_request.specs.declared.request.Request.{Request}
+use Rattle.sub_request.specs.declared.request.Request.TheVariants as ask
 use Rattle.sub_answer.specs.declared.status.Status.{Status}
 use Rattle.sub_answer.specs.declared.status.Status.TheVariants.{Done, Fault}
 use Rattle.sub_answer.specs.declared.writing.WriteFault.{WriteFault}

@@ -1,6 +1,6 @@
 -- What is told of each fault: a failed device and want of memory are faults, wrong words are wrong
 -- usage, and all else is refused (own).
-use Rattle.std.specs.Prelude.{ℕ, Bool, List, codes, if◌then◌else◌}
+use Rattle.std.specs.Prelude.{ℕ, Bool, if◌then◌else◌}
 use Rattle.stl_file.specs.Fault as stl_number
 use Rattle.stl_file.specs.declared.fault.NormalFault.TheVariants as normal
 use Rattle.stl_file.specs.declared.fault.StlFault.{StlFault}
@@ -9,8 +9,6 @@ use Rattle.stl_rows.specs.declared.fault.LoadFaultKind.{LoadFaultKind}
 use Rattle.stl_rows.specs.declared.fault.LoadFaultKind.TheVariants as load
 use Rattle.sub_answer.specs.Told.{ToldValue, told_as}
 use Rattle.sub_answer.specs.declared.answering.normal.InputFault.TheVariants as input
-use Rattle.sub_answer.specs.declared.request.UsageFault.{UsageFault}
-use Rattle.sub_answer.specs.declared.request.UsageFault.TheVariants as usage
 use Rattle.sub_answer.specs.declared.told.Kind.{Kind}
 use Rattle.sub_answer.specs.declared.told.Kind.TheVariants as kind
 use Rattle.sub_answer.specs.declared.writing.WriteFault.{WriteFault}
@@ -20,6 +18,9 @@ use Rattle.sub_check.specs.declared.fault.CheckFault.{CheckFault}
 use Rattle.sub_check.specs.declared.fault.CheckFault.TheVariants as check
 use Rattle.sub_check.specs.declared.fault_place.FaultPlace.TheVariants as place
 use Rattle.sub_plan.specs.Fault as plan_fault
+use Rattle.sub_request.specs.Fault as usage_fault
+use Rattle.sub_request.specs.declared.request.UsageFault.{UsageFault}
+use Rattle.sub_request.specs.declared.request.UsageFault.TheVariants as usage
 
 -- ---- files
 
@@ -42,23 +43,6 @@ stl_told f block = load_told (load.File f) block
 
 -- ---- words
 
--- The number and the name of a fault of the words, or of the program itself.
-abbrev pub usage_number_and_name : UsageFault → ℕ × List ℕ
-usage_number_and_name usage.Words = (0, codes "Words")
-usage_number_and_name usage.BadHex = (2, codes "BadHex")
-usage_number_and_name usage.SameFile = (7, codes "SameFile")
-usage_number_and_name usage.BadPage = (1, codes "BadPage")
-usage_number_and_name usage.Every = (80, codes "Every")
-usage_number_and_name usage.Origin = (81, codes "Origin")
-usage_number_and_name usage.BadOption = (83, codes "BadOption")
-usage_number_and_name usage.BadTime = (6, codes "BadTime")
-usage_number_and_name usage.BadSkip = (8, codes "BadSkip")
-usage_number_and_name usage.BadFlip = (5, codes "BadFlip")
-usage_number_and_name usage.BadLose = (84, codes "BadLose")
-usage_number_and_name usage.BadReceiver = (9, codes "BadReceiver")
-usage_number_and_name usage.Open = (90, codes "Open")
-usage_number_and_name usage.Memory = (91, codes "Memory")
-
 -- A file that can't be opened and want of memory are faults; the others are wrong usage.
 abbrev pub usage_kind : UsageFault → Kind
 usage_kind usage.Open = kind.Fault
@@ -67,7 +51,7 @@ usage_kind _ = kind.Usage
 
 -- A fault of the words, or of the program itself: it has no place.
 abbrev pub usage_told : UsageFault → ToldValue
-usage_told f = told_as (usage_kind f) (usage_number_and_name f) place.Nowhere
+usage_told f = told_as (usage_kind f) (usage_fault.number_and_name f) place.Nowhere
 
 -- ---- a file that is written
 

@@ -8,4 +8,3 @@ pub mod DeviceCall
 pub mod ListenListing
 pub mod PacketsListing
 pub mod ShowListing
-pub mod Files

@@ -8,7 +8,7 @@ use Rattle.ttx_page.specs.Screen.{Display}
 use Rattle.sub_check.specs.FrameRules.{Unread}
 use Rattle.sub_check.specs.ListeningRun.{Runs}
 use Rattle.sub_check.specs.Transmission.{Transmission}
-use Rattle.sub_check.specs.declared.listening.Listening.{Listening}
+use Rattle.sub_request.specs.declared.listening.Listening.{Listening}
 use Rattle.sub_check.specs.declared.listening_run.ListenFault.{ListenFault}
 use Rattle.sub_check.specs.declared.listening_run.ListenFault.TheVariants as fault
 use Rattle.sub_answer.specs.Faults.{check_told}

@@ -16,13 +16,12 @@ ghost use Rattle.std.specs.Prelude.{◌≡◌, ◌+◌, ◌<◌, false, true};
 ghost use Rattle.sub_answer.specs.Answering.{Answers, takes_memory};
 ghost use Rattle.sub_answer.specs.DeviceCall.{CanFail, CountsFault, sink_call, source_call};
 ghost use Rattle.sub_answer.specs.Faults.{usage_told};
-ghost use Rattle.sub_answer.specs.Files.{files_of, reads_one, reads_two, writes_one};
+ghost use Rattle.sub_request.specs.Files.{files_of, reads_one, reads_two, writes_one};
 ghost use Rattle.sub_answer.specs.Listing.{PrintsOrFails, told_listing};
 
 use crate::faults::told_of_usage;
 use crate::listing::list;
 use crate::printing::print_told;
-use crate::request::{Request, UsageFault};
 use crate::status::Status;
 use crate::writing::write;
 use check::print_verdict;
@@ -33,8 +32,8 @@ use packets::PacketLister;
 use schedule::ScheduleWork;
 use show::SubtitleLister;
 use std::alloc::Global;
-use sub_check::ReceiverKind;
 use sub_io::{Flush, Sink, Source};
+use sub_request::{ReceiverKind, Request, UsageFault};
 use ttx_page::{Blank, Keep};
 
 /// Answers a request that `Request::parse` gave.

@@ -3,13 +3,13 @@ ghost use Rattle.std.specs.Prelude.{◌≡◌};
 ghost use Rattle.sub_answer.specs.Faults.{check_told, stl_told, usage_told, write_told};
 
 use crate::answering::normal::InputFault;
-use crate::request::UsageFault;
 use crate::told::{Kind, Told};
 use crate::writing::WriteFault;
 use stl_file::{NormalFault, StlFault};
 use stl_rows::{LoadFault, LoadFaultKind};
 use sub_check::{CheckFault, FaultPlace};
 use sub_plan::PlanFault;
+use sub_request::UsageFault;
 use ttx_pes::PesFault;
 
 /// A fault of a subtitle file that is read, with the TTI block that it names.

@@ -29,7 +29,7 @@ use Rattle.sub_check.specs.ListeningRun.{least_frame}
 use Rattle.sub_check.specs.Reception.{Reception, RunsThrough, as_heard, as_received}
 use Rattle.sub_check.specs.Reception.{first_lost_header}
 use Rattle.sub_check.specs.Reception.{reception_of}
-use Rattle.sub_check.specs.declared.listening.Listening.{Listening}
+use Rattle.sub_request.specs.declared.listening.Listening.{Listening}
 use Rattle.ttx_pes.specs.declared.fault.PesFault.TheVariants as pes
 use Rattle.sub_check.specs.declared.fault.CheckFault.TheVariants as check
 use Rattle.sub_check.specs.declared.listening_run.ListenFault.TheVariants as fault

@@ -7,14 +7,15 @@ use Rattle.std.proofs.Common.{subst}
 use Rattle.std.specs.List.{list_any}
 use Rattle.std.proofs.lemmas.Bool.{and_from, and_parts, cond-false, cond-true, le-leb}
 use Rattle.std.proofs.lemmas.Bool.{leb-true, lt-ltb, not-true, or_parts}
-use Rattle.sub_check.specs.Reception.{Reception, RunsThrough, as_received, is_flip_of}
-use Rattle.sub_check.specs.Reception.{is_taken, as_heard, reception_of, with_flip, with_flips}
+use Rattle.sub_check.specs.Reception.{Reception, RunsThrough, as_heard, as_received}
+use Rattle.sub_check.specs.Reception.{is_taken, reception_of}
+use Rattle.sub_request.specs.Flips.{is_flip_of, with_flip, with_flips}
 use Rattle.sub_check.specs.Untouched.{HeardLast, is_untouched, is_in_range}
 use Rattle.ttx_packet.specs.PageId.{PageIdValue}
 use Rattle.ttx_page.specs.Screen.{Display}
 use Rattle.sub_check.proofs.HeardAgainLemmas.{runs_again}
-use Rattle.sub_check.specs.declared.listening.Flip.{Flip}
-use Rattle.sub_check.specs.declared.listening.Listening.{Listening}
+use Rattle.sub_request.specs.declared.listening.Flip.{Flip}
+use Rattle.sub_request.specs.declared.listening.Listening.{Listening}
 
 -- A number from the first one on, before the end, is within.
 within : (first end m : ℕ) → first ≤ m → m < end → is_in_range first end m ≡ true

@@ -16,7 +16,7 @@ use Rattle.sub_check.specs.declared.fault.CheckFault.TheVariants as check
 use Rattle.sub_check.specs.Reception.{RunsThrough, as_heard, first_lost_header, reception_of}
 use Rattle.sub_check.specs.declared.listening_run.ListenFault.{ListenFault}
 use Rattle.sub_check.specs.declared.listening_run.ListenFault.TheVariants as fault
-use Rattle.sub_check.specs.declared.listening.Listening.{Listening}
+use Rattle.sub_request.specs.declared.listening.Listening.{Listening}
 
 -- ---- faults
 

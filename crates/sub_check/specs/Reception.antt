@@ -1,17 +1,18 @@
 -- What a receiver gets of the packets of a file: some are passed over, some are lost, and bits are
 -- flipped (own); and what it hears of that. Packets are numbered from 0 over the whole file.
-use Rattle.std.specs.Prelude.{ℕ, ◌+◌, ◌-◌, ◌^◌, Bool, true, false, not, ◌&&◌, List, [], ◌∷◌}
-use Rattle.std.specs.Prelude.{Option, Some, None, option_map, bit_xor, slice_index, slice_set}
+use Rattle.std.specs.Prelude.{ℕ, ◌+◌, Bool, true, false, not, ◌&&◌, List, [], ◌∷◌}
+use Rattle.std.specs.Prelude.{Option, Some, None, option_map}
 use Rattle.std.specs.Prelude.{if◌then◌else◌, ◌==◌, nat_le, MatchBool}
 use Rattle.std.specs.List.{filter, list_any}
 use Rattle.ttx_packet.specs.PacketAddress.{PacketAddress, address}
 use Rattle.ttx_packet.specs.PageId.{PageIdValue}
 use Rattle.ttx_page.specs.Receiver.{Hears, is_dropped}
 use Rattle.ttx_page.specs.Screen.{Display, Shows}
-use Rattle.sub_check.specs.declared.listening.Flip.{Flip}
-use Rattle.sub_check.specs.declared.listening.Listening.{Listening}
-use Rattle.sub_check.specs.declared.listening.ReceiverKind.{ReceiverKind}
-use Rattle.sub_check.specs.declared.listening.ReceiverKind.TheVariants.{DropRow}
+use Rattle.sub_request.specs.Flips.{with_flips}
+use Rattle.sub_request.specs.declared.listening.Flip.{Flip}
+use Rattle.sub_request.specs.declared.listening.Listening.{Listening}
+use Rattle.sub_request.specs.declared.listening.ReceiverKind.{ReceiverKind}
+use Rattle.sub_request.specs.declared.listening.ReceiverKind.TheVariants.{DropRow}
 
 -- What a request says of the packets: how many are passed over, which are lost, which bits are
 -- flipped.
@@ -31,23 +32,6 @@ is_lost r number = nat_le r.skip number && list_any (λ n. n == number) r.lost
 -- It is neither passed over nor lost.
 abbrev pub is_heard : Reception → ℕ → Bool
 is_heard r number = nat_le r.skip number && not (list_any (λ n. n == number) r.lost)
-
--- The flip is one of a bit of this packet.
-abbrev pub is_flip_of : Flip → ℕ → Bool
-is_flip_of f number =
-    (f.packet == number) && nat_le f.byte 41 && nat_le 1 f.bit && nat_le f.bit 8
-
--- A packet with one bit changed, where the flip is one of it: bit 1 is the lowest of its byte.
-abbrev pub with_flip : Flip → ℕ → List ℕ → List ℕ
-with_flip f number packet =
-    if is_flip_of f number
-    then slice_set packet f.byte (bit_xor (slice_index packet f.byte) (2 ^ (f.bit - 1)))
-    else packet
-
--- A packet as it is received: each flip of it changes a bit.
-abbrev pub with_flips : List Flip → ℕ → List ℕ → List ℕ
-with_flips [] number packet = packet
-with_flips (f ∷ flips) number packet = with_flips flips number (with_flip f number packet)
 
 -- What the receiver gets of packets of which the first has a number.
 abbrev pub as_received : Reception → ℕ → List (List ℕ) → List (List ℕ)

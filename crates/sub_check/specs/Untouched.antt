@@ -9,8 +9,8 @@ use Rattle.ttx_page.specs.PacketKind.{kind}
 use Rattle.ttx_page.specs.Screen.{Display}
 use Rattle.ttx_page.specs.declared.packet_kind.PacketKind.TheVariants.{ThisPage}
 use Rattle.sub_check.specs.Reception.{Reception, RunsThrough, is_taken}
-use Rattle.sub_check.specs.declared.listening.Flip.{Flip}
-use Rattle.sub_check.specs.declared.listening.Listening.{Listening}
+use Rattle.sub_request.specs.declared.listening.Flip.{Flip}
+use Rattle.sub_request.specs.declared.listening.Listening.{Listening}
 
 -- The number stands from the first one on, before the end.
 abbrev pub is_in_range : ℕ → ℕ → ℕ → Bool

@@ -9,9 +9,9 @@ ghost use Rattle.sub_check.specs.Reception.{RunsThrough, as_heard, reception_of}
 ghost use Rattle.sub_check.specs.Untouched.{BeginsErased, ErasesPageAt, HeardLast};
 ghost use Rattle.sub_check.specs.Untouched.{is_untouched, is_in_range};
 
-use crate::listening::{Flip, Listening};
 use crate::reception::{hear_units, hear_untouched};
 use bitflags::Flags;
+use sub_request::{Flip, Listening};
 use ttx_packet::{Control, Header, Packet, PageId};
 use ttx_page::{PacketKind, Page, Receiver};
 use ttx_pes::Unit;

@@ -24,7 +24,6 @@ mod frame_rules;
 mod hearing;
 mod laws;
 mod listener;
-mod listening;
 mod listening_run;
 mod on_screen;
 mod packet_rules;
@@ -46,7 +45,6 @@ pub use laws::{
     law_of_plan_read, law_of_repeats, law_of_rules, law_of_sent_again, law_of_spans_by_packet,
     law_of_sufficient_parts, law_of_window,
 };
-pub use listening::{Flip, Listening, ReceiverKind};
 pub use listening_run::{ListenFault, listen};
 pub use on_screen::{
     law_of_complete_plan, law_of_good_and_complete, law_of_good_dropping_and_complete,

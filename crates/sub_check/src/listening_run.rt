@@ -11,10 +11,10 @@ ghost use Rattle.sub_check.specs.declared.listening_run.ListenFault.TheVariants.
 
 use crate::fault::CheckFault;
 use crate::hearing::hear_sending;
-use crate::listening::Listening;
 use crate::reception::first_lost_header;
 use crate::sending::next_sending;
 use sub_io::Source;
+use sub_request::Listening;
 use ttx_page::{Page, Receiver};
 use ttx_pes::ComparingReader;
 

@@ -9,9 +9,9 @@ ghost use Rattle.ttx_pes.specs.PesPacket.{most_units};
 ghost use Rattle.sub_check.specs.PacketRules.{packets_of_units};
 ghost use Rattle.sub_check.specs.Reception.{RunsThrough, as_heard, first_lost_header, is_heard};
 ghost use Rattle.sub_check.specs.Reception.{is_lost, is_taken, may_be_lost_at, reception_of};
-ghost use Rattle.sub_check.specs.Reception.{with_flip, with_flips};
+ghost use Rattle.sub_request.specs.Flips.{with_flip, with_flips};
 
-use crate::listening::{Flip, Listening, ReceiverKind};
+use sub_request::{Flip, Listening, ReceiverKind};
 use ttx_packet::Packet;
 use ttx_page::{Page, Receiver, is_dropped, show};
 use ttx_pes::Unit;

@@ -10,8 +10,8 @@ use Rattle.std.proofs.lemmas.List.{get_or-set_other}
 use Rattle.std.proofs.lemmas.List.Folds.{list_any-append}
 use Rattle.std.proofs.lemmas.Option.{option_and_then_some, same_Some}
 use Rattle.ttx_packet.specs.OneBit.{AreNear}
-use Rattle.sub_check.specs.Reception.{with_flip, with_flips}
-use Rattle.sub_check.specs.declared.listening.Flip.{Flip}
+use Rattle.sub_request.specs.Flips.{with_flip, with_flips}
+use Rattle.sub_request.specs.declared.listening.Flip.{Flip}
 use Rattle.sub_words.specs.Laws.{LawOfFlips}
 use Rattle.sub_words.specs.Texts.{comma, flip_of_text, flips_of_text, is_same_byte, items_after}
 

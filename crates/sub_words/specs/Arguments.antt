@@ -10,8 +10,8 @@ use Rattle.stl_rows.specs.declared.national.National.{National}
 use Rattle.stl_rows.specs.declared.national.National.TheVariants.{English, German}
 use Rattle.sub_plan.specs.Options.{OptionsValue}
 use Rattle.sub_words.specs.Texts.{list_of_text, number_of_text}
-use Rattle.sub_answer.specs.declared.request.UsageFault.{UsageFault}
-use Rattle.sub_answer.specs.declared.request.UsageFault.TheVariants as fault
+use Rattle.sub_request.specs.declared.request.UsageFault.{UsageFault}
+use Rattle.sub_request.specs.declared.request.UsageFault.TheVariants as fault
 
 -- The text of an argument, defaults included.
 abbrev pub argument : Text → List Row → Text

@@ -1,8 +1,8 @@
 -- What the words of `listen` do to packets.
 use Rattle.std.specs.Prelude.{◌≡◌, ℕ, List, Some}
 use Rattle.ttx_packet.specs.OneBit.{AreNear}
-use Rattle.sub_check.specs.Reception.{with_flips}
-use Rattle.sub_check.specs.declared.listening.Flip.{Flip}
+use Rattle.sub_request.specs.Flips.{with_flips}
+use Rattle.sub_request.specs.declared.listening.Flip.{Flip}
 use Rattle.sub_words.specs.Texts.{flips_of_text}
 
 -- The flips that a text asks for leave each packet, whatever its number, near what was sent: in no

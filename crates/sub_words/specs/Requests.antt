@@ -13,12 +13,12 @@ use Rattle.sub_words.specs.Arguments.{argument, is_given, listed_of, national_of
 use Rattle.sub_words.specs.Commands.{are_sound, command_in, clap_refusals}
 use Rattle.sub_words.specs.Texts.{flip_of_text, frame_of_text, is_same_byte, number_of_text}
 use Rattle.sub_words.specs.Texts.{receiver_of_text}
-use Rattle.sub_check.specs.declared.listening.Flip.{Flip}
-use Rattle.sub_check.specs.declared.listening.ReceiverKind.{ReceiverKind}
-use Rattle.sub_answer.specs.declared.request.Request.{Request}
-use Rattle.sub_answer.specs.declared.request.Request.TheVariants as ask
-use Rattle.sub_answer.specs.declared.request.UsageFault.{UsageFault}
-use Rattle.sub_answer.specs.declared.request.UsageFault.TheVariants as fault
+use Rattle.sub_request.specs.declared.listening.Flip.{Flip}
+use Rattle.sub_request.specs.declared.listening.ReceiverKind.{ReceiverKind}
+use Rattle.sub_request.specs.declared.request.Request.{Request}
+use Rattle.sub_request.specs.declared.request.Request.TheVariants as ask
+use Rattle.sub_request.specs.declared.request.UsageFault.{UsageFault}
+use Rattle.sub_request.specs.declared.request.UsageFault.TheVariants as fault
 
 -- What is asked for: a request, without where its texts and lists lie in memory.
 pub data Asked : Type 0 where

@@ -8,9 +8,9 @@ use Rattle.std.specs.Str.{bytes_eq}
 use Rattle.std.specs.Str.Parse.{digits_value}
 use Rattle.ttx_packet.specs.PacketAddress.{◌>>=◌}
 use Rattle.stl_file.specs.TimeCode.{frame_of, is_time_code}
-use Rattle.sub_check.specs.declared.listening.Flip.{Flip}
-use Rattle.sub_check.specs.declared.listening.ReceiverKind.{ReceiverKind}
-use Rattle.sub_check.specs.declared.listening.ReceiverKind.TheVariants.{Keep, Blank, DropRow}
+use Rattle.sub_request.specs.declared.listening.Flip.{Flip}
+use Rattle.sub_request.specs.declared.listening.ReceiverKind.{ReceiverKind}
+use Rattle.sub_request.specs.declared.listening.ReceiverKind.TheVariants.{Keep, Blank, DropRow}
 
 -- ---- numbers
 

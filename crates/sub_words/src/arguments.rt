@@ -7,8 +7,8 @@ use crate::lists::{Item, parse_list};
 use crate::numbers::parse_number;
 use clap::ArgMatches;
 use std::alloc::Global;
-use sub_answer::UsageFault;
 use sub_plan::{OptionFault, Options};
+use sub_request::UsageFault;
 use ttx_packet::PageId;
 
 /// The text of an option. `None` where it is left out and has no default.

@@ -6,7 +6,7 @@ ghost use Rattle.sub_words.specs.Texts.{colon, flip_of_text, is_same_byte};
 
 use crate::lists::Item;
 use crate::numbers::parse_number;
-use sub_check::Flip;
+use sub_request::Flip;
 
 impl Item for Flip {
     ghost said = { flip_of_text };

@@ -9,7 +9,7 @@ use crate::reading::read_command;
 use clap::ArgMatches;
 use clap::error::ErrorKind;
 use std::alloc::Global;
-use sub_answer::{Request, UsageFault};
+use sub_request::{Request, UsageFault};
 
 /// What is asked for by the words of a command line.
 ///

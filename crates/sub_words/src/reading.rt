@@ -9,8 +9,7 @@ use crate::times::{parse_receiver, parse_time};
 use clap::ArgMatches;
 use std::alloc::Global;
 use stl_rows::National;
-use sub_answer::{Request, UsageFault};
-use sub_check::Listening;
+use sub_request::{Listening, Request, UsageFault};
 
 /// Reads the arguments of a command by its name.
 ///

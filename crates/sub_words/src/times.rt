@@ -4,7 +4,7 @@ ghost use Rattle.stl_file.specs.TimeCode.{day};
 ghost use Rattle.sub_words.specs.Texts.{frame_of_text, receiver_of_text, two_digits_at};
 
 use stl_file::TimeCode;
-use sub_check::ReceiverKind;
+use sub_request::ReceiverKind;
 
 /// The receiver that a text names: `blank`, `keep` or `drop`.
 #[tactic(auto, unfolding(crate::specs::Texts::receiver_of_text))]

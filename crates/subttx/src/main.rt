@@ -14,11 +14,12 @@ use std::os::unix::fs::MetadataExt;
 use std::process::ExitCode;
 use std::rt::{Env, Files};
 use std::{env, fs, io};
-use sub_answer::{FileNames, Input, Output, Request, Status, UsageFault, answer, say};
+use sub_answer::{Status, answer, say};
 use sub_io::{
     BufferedSink, BufferedSource, Close, Flush, FromRead, IntoFile, IntoWrite, MemSink, MemSource,
     Sink, Source,
 };
+use sub_request::{FileNames, Input, Output, Request, UsageFault};
 use sub_words::ParseWords;
 
 fn main(rt: HostRuntime) -> ExitCode {

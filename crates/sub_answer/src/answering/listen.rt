@@ -10,8 +10,9 @@ use crate::faults::told_of_check;
 use crate::printing::print_told;
 use crate::status::Status;
 use crate::told::{Kind, Told};
-use sub_check::{FaultPlace, ListenFault, Listening, listen};
+use sub_check::{FaultPlace, ListenFault, listen};
 use sub_io::{Sink, Source};
+use sub_request::Listening;
 use ttx_page::{Page, Receiver};
 
 /// Runs a receiver over the PES packets of a file up to TIME, and prints what it has heard and

@@ -2,7 +2,7 @@
 use Rattle.std.proofs.Common.{◌≡◌, drop}
 use Rattle.std.specs.List.{list_any}
 use Rattle.sub_check.specs.Untouched.{is_in_range}
-use Rattle.sub_check.specs.declared.listening.Flip.{Flip}
+use Rattle.sub_request.specs.declared.listening.Flip.{Flip}
 use Rattle.sub_check.proofs.hearing.any_flip.Given as goal
 
 abbrev pub invariant-loop-flip : goal.invariant-loop-flip

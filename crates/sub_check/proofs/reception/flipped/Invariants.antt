@@ -1,6 +1,6 @@
 -- The flips that are left make of the bytes what all make of the packet.
 use Rattle.std.proofs.Common.{◌≡◌, drop}
-use Rattle.sub_check.specs.Reception.{with_flips}
+use Rattle.sub_request.specs.Flips.{with_flips}
 use Rattle.sub_check.proofs.reception.flipped.Given as goal
 
 abbrev pub invariant-loop-flip : goal.invariant-loop-flip

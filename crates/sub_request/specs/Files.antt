@@ -1,9 +1,9 @@
 -- The files that a request names, in the order of its words: what is read, and what is written.
 use Rattle.std.specs.Prelude.{Bool, true, false}
-use Rattle.sub_answer.specs.declared.files.FileNames.{FileNames}
-use Rattle.sub_answer.specs.declared.files.FileNames.TheVariants as files
-use Rattle.sub_answer.specs.declared.request.Request.{Request}
-use Rattle.sub_answer.specs.declared.request.Request.TheVariants as ask
+use Rattle.sub_request.specs.declared.files.FileNames.{FileNames}
+use Rattle.sub_request.specs.declared.files.FileNames.TheVariants as files
+use Rattle.sub_request.specs.declared.request.Request.{Request}
+use Rattle.sub_request.specs.declared.request.Request.TheVariants as ask
 
 -- What a request reads, in the order of its words, and what it writes.
 abbrev pub files_of : Request → FileNames

@@ -1,8 +1,8 @@
 //! What the program is asked for, and why it can't be asked so.
 ghost use Rattle.std.specs.Prelude.{◌≡◌, ◌≤◌, length};
 
+use crate::listening::Listening;
 use stl_rows::National;
-use sub_check::Listening;
 use sub_plan::Options;
 use thiserror::Error;
 
@@ -56,18 +56,18 @@ pub enum UsageFault {
 }
 
 impl UsageFault {
-    ghost use Rattle.sub_answer.specs.Faults.{usage_number_and_name};
+    ghost use Rattle.sub_request.specs.Fault.{number_and_name};
 
     /// The number by which the fault is told (own).
     pub fn number(&self) -> u8
-        ensures { result ≡ (usage_number_and_name self.now).0 }
+        ensures { result ≡ (number_and_name self.now).0 }
     {
         self.number_and_name().0
     }
 
     /// The name by which the fault is told (own): at most 16 letters.
     pub fn name(&self) -> &'static str
-        ensures value { result.now ≡ (usage_number_and_name self.now).1 }
+        ensures value { result.now ≡ (number_and_name self.now).1 }
         ensures len { length result.now ≤ 16 }
     {
         self.number_and_name().1
@@ -75,8 +75,8 @@ impl UsageFault {
 
     // The number and the name.
     fn number_and_name(&self) -> (u8, &'static str)
-        ensures number { result.0 ≡ (usage_number_and_name self.now).0 }
-        ensures name { result.1.now ≡ (usage_number_and_name self.now).1 }
+        ensures number { result.0 ≡ (number_and_name self.now).0 }
+        ensures name { result.1.now ≡ (number_and_name self.now).1 }
         ensures len { length result.1.now ≤ 16 }
     {
         match self {

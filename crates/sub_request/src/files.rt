@@ -59,7 +59,7 @@ pub enum FileNames<'a> {
 }
 
 impl<'a> Request<'a> {
-    ghost use Rattle.sub_answer.specs.Files.{files_of};
+    ghost use Rattle.sub_request.specs.Files.{files_of};
 
     /// The files that the request names.
     pub fn files(&self) -> FileNames<'a>
