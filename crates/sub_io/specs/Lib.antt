@@ -4,3 +4,4 @@ pub mod Counted
 pub mod Device
 pub mod Memory
 pub mod Reading
+pub mod Telling

@@ -19,8 +19,11 @@
 //! - `BufferedSource` and `BufferedSink` stand before another device, so that it is called less
 //!   often.
 //! - `FailAt` makes one chosen call of another device fail.
+//! - `Audience` is the trait of devices that are told things one after another, and may stop;
+//!   `FirstTold` stops at the first.
 #![tactic(auto)]
 
+mod audience;
 mod buffered_sink;
 mod buffered_source;
 mod fail_at;
@@ -30,6 +33,7 @@ mod sink;
 mod source;
 mod std_io;
 
+pub use audience::{Audience, FirstTold, Stopped};
 pub use buffered_sink::BufferedSink;
 pub use buffered_source::BufferedSource;
 pub use fail_at::FailAt;
