@@ -1,26 +1,24 @@
--- Where the source fails, and that no fault comes before; main lemma: fails-next.
-use Rattle.std.proofs.Common.{◌≡◌, ℕ, ◌+◌, ◌*◌, ◌/◌, ◌≤◌, List, [], ◌∷◌, ◌++◌, length, Option, Some}
-use Rattle.std.proofs.Common.{None, Result, Err, refl, subst, ◌∙◌, arith, length-append, inl, inr}
-use Rattle.std.proofs.Common.{◌⊎◌}
+-- Where the source fails, and what was told before; main lemma: fails-next.
+use Rattle.std.proofs.Common.{◌≡◌, ℕ, ◌+◌, ◌*◌, ◌/◌, true, List, [], ◌∷◌, ◌++◌, length, Option, Some, None}
+use Rattle.std.proofs.Common.{refl, ◌∙◌, arith, length-append}
 use Rattle.std.specs.Io.KnownBytes.{Consumes}
+use Rattle.std.specs.List.{filter, list_all}
 use Rattle.std.proofs.KnownBytes.{Consumes-trans}
 use Rattle.std.proofs.lemmas.Bool.Decides.{nat_tests}
-use Rattle.stl_file.specs.declared.fault.StlFault.{StlFault}
-use Rattle.stl_file.specs.declared.fault.StlFault.TheVariants.{Unfinished}
+use Rattle.sub_io.specs.Telling.{Tells}
+use Rattle.sub_io.proofs.TellingLemmas.{Tells-none}
 use Rattle.stl_file.specs.declared.progress.Progress.TheVariants.{Reading}
 use Rattle.stl_file.specs.Subtitle.{SubtitleValue}
+use Rattle.stl_file.specs.Reading.{Outcome}
 use Rattle.stl_file.specs.SubtitleBlocks.{joined}
-use Rattle.stl_file.specs.Reading.{Outcome, ends, fails, gives}
 use Rattle.stl_file.specs.Reader.{FailsReading, NamesFrom, ReaderValue, TakesSubtitle}
 use Rattle.stl_file.specs.Reader.{block_of_byte, outcome_left, outcome_of}
 use Rattle.stl_file.proofs.SubtitleBlocksLemmas.{length-joined}
 use Rattle.stl_rows.specs.declared.national.National.{National}
 use Rattle.stl_rows.specs.declared.fault.LoadFault.{LoadFault}
-use Rattle.stl_rows.specs.declared.fault.LoadFaultKind.{LoadFaultKind}
-use Rattle.stl_rows.specs.declared.fault.LoadFaultKind.TheVariants.{File}
-use Rattle.stl_rows.specs.Programme.{ProgrammeValue, follow_faults}
-use Rattle.stl_rows.specs.Loading.{FailsLoading, load_fault, loaded_behind, unless_told}
-use Rattle.stl_rows.proofs.LoadingLemmas.{GoesOn}
+use Rattle.stl_rows.specs.declared.times.Times.{Times}
+use Rattle.stl_rows.specs.EveryFault.{FailsTelling, faults, is_before}
+use Rattle.stl_rows.proofs.LoadingLemmas.{GoesOn, is_told_by, tells-unread}
 
 -- the GSI block and `block` TTI blocks were taken
 pub record HasTaken (old now : Option (List ℕ)) (block : ℕ) : Type 0 where
@@ -41,46 +39,6 @@ has_taken-next old mid now from to t s h =
       long = length-append h.bytes (joined s.blocks) ∙ omega (arith, h.long, s.counted, blocks);
     }
 
--- ---- no fault comes before
-
--- a fault of this block or a later one, or the end inside a subtitle
-abbrev IsLate : ℕ → LoadFault → Type 0
-IsLate block fault = (fault.kind ≡ File Unfinished) ⊎ (block ≤ fault.block)
-
--- what names no block before is late
-late_fault : (block at : ℕ) (f : StlFault)
-    → NamesFrom block (fails f at)
-    → IsLate block (load_fault at (File f))
-late_fault block at Unfinished names = inl refl
-late_fault block at f names = inr names
-
--- the first fault of a subtitle, or what comes after it
-late_subtitle : (faults : List LoadFaultKind) (block at : ℕ)
-    (next : Result ProgrammeValue LoadFault) (fault : LoadFault)
-    → block ≤ at
-    → (next ≡ Err fault → IsLate block fault)
-    → unless_told faults at next ≡ Err fault
-    → IsLate block fault
-late_subtitle [] block at next fault le after e = after e
-late_subtitle (kind ∷ kinds) block at next fault le after e =
-    let same : load_fault at kind ≡ fault = cc in
-    subst (IsLate block) same (inr le)
-
--- what names no block before gives no fault before
-none-before : (national : National) (records : List SubtitleValue) (block : ℕ)
-    (outcome : Outcome) (fault : LoadFault)
-    → NamesFrom block outcome
-    → loaded_behind national records outcome ≡ Err fault
-    → IsLate block fault
-none-before national records block ends fault names e = absurd cc
-none-before national records block (fails f at) fault names e =
-    let same : load_fault at (File f) ≡ fault = cc in
-    subst (IsLate block) same (late_fault block at f names)
-none-before national records block (gives t at outcome) fault names e =
-    late_subtitle (follow_faults national records t) block at
-    (loaded_behind national (records ++ t ∷ []) outcome) fault names.0
-    (none-before national (records ++ t ∷ []) block outcome fault names.1) e
-
 -- ---- the source fails
 
 -- what is known of a source is what was taken and what is left
@@ -97,24 +55,42 @@ block-is : (bytes more : List ℕ) (from to : ℕ)
     → to ≡ block_of_byte (length (bytes ++ more))
 block-is bytes more from to long at = grind (arith, nat_tests, length-append bytes more)
 
+-- no fault comes before block 0
+none_before-0 : (all : List LoadFault) → filter (is_before 0) all ≡ []
+none_before-0 [] = refl
+none_before-0 (f ∷ fs) = grind (arith, nat_tests, none_before-0 fs)
+
 -- while a subtitle is read
-pub fails-next : (national : National) (start old new : Option (List ℕ))
-    (records : List SubtitleValue) (reader : ReaderValue) (block : ℕ)
+pub fails-next : (national : National) (start old new : Option (List ℕ)) (before : Option Times)
+    (kept : Option (List SubtitleValue)) (early : List LoadFault)
+    (told_old told_new : Option (List LoadFault)) (reader : ReaderValue) (block : ℕ)
     → HasTaken start old reader.block
     → reader.progress ≡ Reading
+    → list_all (is_told_by reader.block) early ≡ true
+    → Tells told_old told_new early
     → ((all : List ℕ) → start ≡ Some all → (rest : List ℕ) × (old ≡ Some rest)
-    × GoesOn national (outcome_of all) (outcome_left reader rest) records)
+    × GoesOn national (outcome_of all) (outcome_left reader rest) before kept early)
     → FailsReading reader.block block old new
-    → FailsLoading national start new block
-fails-next national start old new records reader block taken reading goes failed =
+    → FailsTelling national start new told_old told_new block
+fails-next national start old new before kept early told_old told_new reader block taken reading
+    early_told told goes failed =
     record {
       bytes = taken.bytes ++ failed.bytes;
       consumed =
           Consumes-trans start old new taken.bytes failed.bytes taken.consumed failed.consumed;
       block_is = block-is taken.bytes failed.bytes reader.block block taken.long failed.block;
-      none = λ all told fault e.
-          let here = goes all told in
+      told = λ all is.
+          let here = goes all is in
           let left = left_over here.0 new failed.bytes (rw here.1 at failed.consumed) in
-          none-before national records block (outcome_left reader here.0) fault
-          (rw (reading, left.1) (failed.none left.0)) (here.2.same ∙ e);
+          let names : NamesFrom block (outcome_left reader here.0) =
+          rw (reading, left.1) (failed.none left.0) in
+          tells-unread national (outcome_of all) (outcome_left reader here.0) before kept early
+          reader.block block told_old told_new (omega (arith, failed.block)) early_told names here.2
+          told;
     }
+
+-- while the GSI block is read: nothing was told
+pub reads-nothing : (national : National) (outcome : Outcome) (told : Option (List LoadFault))
+    → Tells told told (filter (is_before 0) (faults national outcome))
+reads-nothing national outcome told =
+    rw (none_before-0 (faults national outcome)) (Tells-none told)

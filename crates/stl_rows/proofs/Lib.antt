@@ -11,4 +11,5 @@ pub mod PageShapeLemmas
 pub mod LastRowLemmas
 pub mod ProgrammeLemmas
 pub mod LoadingLemmas
+pub mod EveryFaultLemmas
 pub mod LoadingLaw

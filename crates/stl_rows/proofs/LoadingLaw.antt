@@ -24,7 +24,7 @@ use Rattle.stl_rows.specs.declared.national.National.{National}
 use Rattle.stl_rows.specs.DrawnPage.{drawn}
 use Rattle.stl_rows.specs.Loading.{LawOfLoading, loaded_behind, unless_told}
 use Rattle.stl_rows.specs.Programme.{AreInOrder, IsProgramme, ProgrammeValue, follow_faults}
-use Rattle.stl_rows.specs.Programme.{last_of, order_faults, row_faults}
+use Rattle.stl_rows.specs.Programme.{order_faults, row_faults, times_before, times_of}
 use Rattle.stl_rows.proofs.ProgrammeLemmas.{IsProgramme-none, IsProgramme-push}
 
 -- a programme of these records
@@ -63,7 +63,7 @@ loaded_given n records ends p h =
     }
 loaded_given n records (fails f block) p h = cc
 loaded_given n records (gives t block o) p h =
-    let told = none_told (follow_faults n records t) block _ p h in
+    let told = none_told (follow_faults n (times_before records) t) block _ p h in
     let rest = loaded_given n (records ++ t ∷ []) o p told.1 in
     record {
       given = t ∷ rest.given;
@@ -85,13 +85,13 @@ no_row_fault (Err f) h = search rules
 
 -- a subtitle that starts at the TCO of the one before, or later, has no fault of its times
 no_order_fault : (before t : SubtitleValue) → before.tci < before.tco → before.tco ≤ t.tci
-    → order_faults (Some before) t ≡ []
+    → order_faults (Some (times_of before)) (times_of t) ≡ []
 no_order_fault before t times order = grind (arith, nat_tests)
 
 -- a subtitle of a programme has no fault of its times against the one before it
 times_follow : (n : National) (records ts : List SubtitleValue) (t : SubtitleValue)
     → IsProgramme n (records ++ t ∷ ts)
-    → order_faults (last_of records) t ≡ []
+    → order_faults (times_before records) (times_of t) ≡ []
 times_follow n [] ts t ok = refl
 times_follow n (r ∷ rs) ts t ok =
     let records : List SubtitleValue = r ∷ rs in
@@ -106,7 +106,7 @@ times_follow n (r ∷ rs) ts t ok =
 -- it has none at all
 none_follow : (n : National) (records ts : List SubtitleValue) (t : SubtitleValue)
     → IsProgramme n (records ++ t ∷ ts)
-    → follow_faults n records t ≡ []
+    → follow_faults n (times_before records) t ≡ []
 none_follow n records ts t ok =
     let size = length-append records (t ∷ ts) in
     let drawable : IsOk (drawn n t) =

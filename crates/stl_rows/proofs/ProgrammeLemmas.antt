@@ -1,6 +1,6 @@
 -- A programme with one more subtitle that has no fault is one: IsProgramme-push.
-use Rattle.std.proofs.Common.{◌≡◌, ℕ, ◌-◌, ◌<◌, ◌≤◌, List, [], ◌∷◌, ◌++◌, None, Result, Ok, Err}
-use Rattle.std.proofs.Common.{Some, length, get_or, refl, arith, rules, inl, inr, length-append}
+use Rattle.std.proofs.Common.{◌≡◌, ℕ, ◌-◌, ◌<◌, ◌≤◌, List, [], ◌∷◌, ◌++◌, Result, Ok, Err}
+use Rattle.std.proofs.Common.{◌∙◌, ap, Some, length, get_or, arith, rules, inl, inr, length-append}
 use Rattle.std.proofs.lemmas.Bool.{cases_lt}
 use Rattle.std.proofs.lemmas.Bool.Decides.{nat_tests}
 use Rattle.std.proofs.lemmas.List.{get_or_append_left, get_or_push}
@@ -14,13 +14,8 @@ use Rattle.stl_rows.specs.declared.national.National.{National}
 use Rattle.stl_rows.specs.DrawnPage.{drawn}
 use Rattle.stl_rows.specs.Programme.{AreInOrder, IsProgramme, follow_faults, last_of, order_faults}
 use Rattle.stl_rows.specs.Programme.{row_faults}
-use Rattle.stl_rows.specs.TextCode.{first_of}
+use Rattle.stl_rows.specs.Programme.{times_before, times_of}
 use Rattle.stl_rows.proofs.FaultlessLemmas.{empty_parts}
-
--- no fault is the first where there is none: for `put`
-pub none-first : {A : Type 0} (xs : List A) → None ≡ first_of xs → xs ≡ []
-none-first [] h = refl
-none-first (x ∷ xs) h = cc
 
 -- a subtitle with no fault of its rows draws a page
 draws : (r : Result Rows RowFault) → row_faults r ≡ [] → IsOk r
@@ -28,14 +23,16 @@ draws (Ok page) h = search rules
 draws (Err f) h = cc
 
 -- a subtitle with no fault of its times starts at the TCO of the one before, or later
-after_last : (last t : SubtitleValue) → order_faults (Some last) t ≡ [] → last.tco ≤ t.tci
+after_last : (last t : SubtitleValue)
+    → order_faults (Some (times_of last)) (times_of t) ≡ []
+    → last.tco ≤ t.tci
 after_last last t h = grind (arith, nat_tests)
 
 -- it starts at the TCO of each one before, or later
 last_before : (ts : List SubtitleValue) (t : SubtitleValue) (i : ℕ) (d : SubtitleValue)
     → All IsSubtitle ts
     → AreInOrder ts
-    → order_faults (last_of ts) t ≡ []
+    → order_faults (times_before ts) (times_of t) ≡ []
     → i < length ts
     → (get_or ts i d).tco ≤ t.tci
 last_before ts t i d each ordered h inside =
@@ -56,7 +53,7 @@ last_before ts t i d each ordered h inside =
 in_order-push : (ts : List SubtitleValue) (t : SubtitleValue)
     → All IsSubtitle ts
     → AreInOrder ts
-    → order_faults (last_of ts) t ≡ []
+    → order_faults (times_before ts) (times_of t) ≡ []
     → AreInOrder (ts ++ t ∷ [])
 in_order-push ts t each ordered h i j d below inside =
     let size = length-append ts (t ∷ []) in
@@ -71,15 +68,23 @@ in_order-push ts t each ordered h i j d below inside =
 pub IsProgramme-push : (n : National) (ts : List SubtitleValue) (t : SubtitleValue)
     → IsProgramme n ts
     → IsSubtitle t
-    → follow_faults n ts t ≡ []
+    → follow_faults n (times_before ts) t ≡ []
     → IsProgramme n (ts ++ t ∷ [])
 IsProgramme-push n ts t ok subtitle h =
-    let parts = empty_parts (order_faults (last_of ts) t) (row_faults (drawn n t)) h in
+    let parts = empty_parts (order_faults (times_before ts) (times_of t)) (row_faults (drawn n t)) h in
     record {
       each = All-push IsSubtitle ts t ok.each subtitle;
       in_order = in_order-push ts t ok.each ok.in_order parts.0;
       drawable = All-push (λ x. IsOk (drawn n x)) ts t ok.drawable (draws (drawn n t) parts.1);
     }
+
+-- the last of a list is what was put after the others
+pub last_of-push : {A : Type 0} (xs : List A) (x : A) → last_of (xs ++ x ∷ []) ≡ Some x
+last_of-push xs x =
+    let size = length-append xs (x ∷ []) in
+    let at : ℕ = length (xs ++ x ∷ []) - 1 in
+    slice_get-get_or (xs ++ x ∷ []) at x (omega (arith, size))
+    ∙ ap Some (get_or_push xs x x at (omega (arith, size)))
 
 -- no subtitles are a programme: for `load_in`
 pub IsProgramme-none : (n : National) → IsProgramme n []

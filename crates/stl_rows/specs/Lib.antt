@@ -6,4 +6,5 @@ pub mod LineByLine
 pub mod Programme
 pub mod DuePage
 pub mod Loading
+pub mod EveryFault
 pub mod Fault

@@ -1,5 +1,5 @@
 -- What loading a subtitle file gives: the programme of its subtitles, or the first fault.
-use Rattle.std.specs.Prelude.{◌≡◌, ℕ, ◌⊎◌, List, [], ◌∷◌, ◌++◌, Some, Result, Ok}
+use Rattle.std.specs.Prelude.{◌≡◌, ℕ, ◌⊎◌, List, [], ◌∷◌, ◌++◌, Result, Ok}
 use Rattle.std.specs.Prelude.{Err, ⊤, ◌↔◌, ◌≤◌, All, IsOk, Option, length}
 use Rattle.std.specs.Io.KnownBytes.{Consumes}
 use Rattle.sub_io.specs.Reading.{IfTold}
@@ -12,9 +12,8 @@ use Rattle.stl_rows.specs.declared.national.National.{National}
 use Rattle.stl_rows.specs.declared.fault.LoadFault.{LoadFault}
 use Rattle.stl_rows.specs.declared.fault.LoadFaultKind.{LoadFaultKind}
 use Rattle.stl_rows.specs.declared.fault.LoadFaultKind.TheVariants.{File, Memory}
-use Rattle.stl_rows.specs.TextCode.{first_of}
 use Rattle.stl_rows.specs.DrawnPage.{drawn}
-use Rattle.stl_rows.specs.Programme.{AreInOrder, ProgrammeValue, follow_faults}
+use Rattle.stl_rows.specs.Programme.{AreInOrder, ProgrammeValue, follow_faults, times_before}
 
 -- A fault at a block.
 abbrev pub load_fault : ℕ → LoadFaultKind → LoadFault
@@ -32,7 +31,7 @@ abbrev pub loaded_behind : National → List SubtitleValue → Outcome → Resul
 loaded_behind national records ends = Ok (record { national = national; records = records })
 loaded_behind national records (fails fault block) = Err (load_fault block (File fault))
 loaded_behind national records (gives t block outcome) =
-    unless_told (follow_faults national records t) block
+    unless_told (follow_faults national (times_before records) t) block
     (loaded_behind national (records ++ t ∷ []) outcome)
 
 -- The programme of a file, or its first fault.
@@ -44,7 +43,7 @@ abbrev pub EndsRecord : National → List SubtitleValue → ℕ → Outcome → 
 EndsRecord national records at ends = ⊥
 EndsRecord national records at (fails fault block) = ⊥
 EndsRecord national records at (gives t block outcome) =
-    (follow_faults national records t ≡ [])
+    (follow_faults national (times_before records) t ≡ [])
     × ((at ≡ block) ⊎ EndsRecord national (records ++ t ∷ []) at outcome)
 
 -- A fault of loading. Want of memory is told at the last block of a subtitle alone, where no fault
@@ -69,13 +68,6 @@ pub record FailsLoading (national : National) (old new : Option (List ℕ)) (blo
   pub consumed : Consumes old new bytes
   pub block_is : block ≡ block_of_byte (length bytes)
   pub none : IfTold old (λ all. NoneBefore national (outcome_of all) block)
-
--- The answer to a subtitle that is put after these: the first fault of the told order; want of
--- memory only where there is none.
-abbrev pub TellsFollow : List LoadFaultKind → Result (Unit {0}) LoadFaultKind → Type 0
-TellsFollow faults (Ok u) = faults ≡ []
-TellsFollow faults (Err Memory) = faults ≡ []
-TellsFollow faults (Err kind) = first_of faults ≡ Some kind
 
 -- Bytes are loaded as a programme exactly where they are a subtitle file whose subtitles are in
 -- order, disjoint and drawable; the programme holds these. So `load` refuses no such file but for

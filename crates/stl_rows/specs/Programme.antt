@@ -9,6 +9,7 @@ use Rattle.stl_rows.specs.declared.fault.RowFault.{RowFault}
 use Rattle.stl_rows.specs.declared.fault.LoadFaultKind.{LoadFaultKind}
 use Rattle.stl_rows.specs.declared.fault.LoadFaultKind.TheVariants.{OutOfOrder, Overlap, Row}
 use Rattle.stl_rows.specs.declared.national.National.{National}
+use Rattle.stl_rows.specs.declared.times.Times.{Times}
 use Rattle.stl_rows.specs.DrawnPage.{drawn}
 
 -- What a programme is to its callers: the national option that it is drawn with, and the records of
@@ -43,18 +44,29 @@ last_out records = option_map (λ t. t.tco) (slice_get records (length records -
 abbrev pub last_of : {A : Type 0} → List A → Option A
 last_of xs = slice_get xs (length xs - 1)
 
+-- When a subtitle starts and ends.
+abbrev pub times_of : SubtitleValue → Times
+times_of t = record { tci = t.tci; tco = t.tco }
+
+-- The times of the last of these subtitles.
+abbrev pub times_before : List SubtitleValue → Option Times
+times_before records = option_map times_of (last_of records)
+
 -- The times of a subtitle against those of the one before it.
-abbrev pub order_faults : Option SubtitleValue → SubtitleValue → List LoadFaultKind
+abbrev pub order_faults : Option Times → Times → List LoadFaultKind
 order_faults None t = []
 order_faults (Some before) t =
-    (if nat_lt t.tci before.tci then OutOfOrder ∷ [] else [])
-    ++ (if nat_lt t.tci before.tco then Overlap ∷ [] else [])
+    if nat_lt t.tci before.tci then OutOfOrder ∷ []
+    else if nat_lt t.tci before.tco then Overlap ∷ []
+    else []
 
 -- A drawn page is no fault.
 abbrev pub row_faults : Result Rows RowFault → List LoadFaultKind
 row_faults (Ok page) = []
 row_faults (Err fault) = Row fault ∷ []
 
--- All that keeps a subtitle from following these, in the order in which it is told.
-abbrev pub follow_faults : National → List SubtitleValue → SubtitleValue → List LoadFaultKind
-follow_faults national records t = order_faults (last_of records) t ++ row_faults (drawn national t)
+-- All that is wrong with a subtitle that follows one of these times, in the order in which it is
+-- told.
+abbrev pub follow_faults : National → Option Times → SubtitleValue → List LoadFaultKind
+follow_faults national before t =
+    order_faults before (times_of t) ++ row_faults (drawn national t)

@@ -14,6 +14,7 @@
 #![tactic(auto)]
 
 mod drawing;
+mod every_fault;
 mod fault;
 mod line;
 mod loading;
@@ -21,8 +22,10 @@ mod national;
 mod programme;
 mod text_code;
 mod text_faults;
+mod times;
 
 pub use drawing::draw;
+pub use every_fault::{law_of_every_fault, load_all, load_all_in};
 pub use fault::{LoadFault, LoadFaultKind, RowFault, RowFaultKind};
 pub use loading::{law_of_loading, load, load_in};
 pub use national::National;

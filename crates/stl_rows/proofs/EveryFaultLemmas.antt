@@ -1,0 +1,148 @@
+-- The first of all faults is the one that `load` tells; main lemmas: every_fault, tells-first,
+-- none-told.
+use Rattle.std.proofs.Common.{◌≡◌, ℕ, List, [], ◌∷◌, ◌++◌, map, Option, Some, None}
+use Rattle.std.proofs.Common.{Result, Ok, Err, refl, ap, sym, zero, suc, ◌<◌, ◌≤◌, ◌⊎◌, Bool, true}
+use Rattle.std.proofs.Common.{false, inl, inr, arith, take, cond}
+use Rattle.std.proofs.lemmas.Bool.Decides.{nat_tests}
+use Rattle.std.specs.Prelude.{◌↔◌, IsOk, is_some, option_map}
+use Rattle.std.specs.List.{filter, list_all}
+use Rattle.sub_io.specs.Telling.{first_alone}
+use Rattle.stl_file.specs.declared.fault.StlFault.TheVariants.{Read, Unfinished}
+use Rattle.stl_file.specs.Reading.{Outcome, ends, fails, gives}
+use Rattle.stl_file.specs.Reader.{outcome_of}
+use Rattle.stl_file.specs.Subtitle.{SubtitleValue}
+use Rattle.stl_rows.specs.declared.fault.LoadFault.{LoadFault}
+use Rattle.stl_rows.specs.declared.fault.LoadFaultKind.{LoadFaultKind}
+use Rattle.stl_rows.specs.declared.national.National.{National}
+use Rattle.stl_rows.specs.declared.fault.LoadFaultKind.TheVariants.{File, Memory}
+use Rattle.stl_rows.specs.EveryFault.{FailsTelling, LawOfEveryFault, TellsFaults, TellsOfFile, faults}
+use Rattle.stl_rows.specs.EveryFault.{faults_behind, is_before, is_of_file}
+use Rattle.stl_rows.specs.Loading.{FailsLoading, TellsFault, load_fault, loaded, loaded_behind}
+use Rattle.stl_rows.specs.Loading.{unless_told}
+use Rattle.stl_rows.specs.Programme.{ProgrammeValue, follow_faults, times_before, times_of}
+use Rattle.stl_rows.proofs.ProgrammeLemmas.{last_of-push}
+use Rattle.stl_rows.specs.TextCode.{first_of}
+
+-- a file is refused for the first of these
+abbrev pub FirstIs : Result ProgrammeValue LoadFault → List LoadFault → Type 0
+FirstIs r fs = (fault : LoadFault) → (r ≡ Err fault) ↔ (first_of fs ≡ Some fault)
+
+-- the first fault of a subtitle, or else what comes next
+first_told : (kinds : List LoadFaultKind) (block : ℕ) (next : Result ProgrammeValue LoadFault)
+    (rest : List LoadFault)
+    → FirstIs next rest
+    → FirstIs (unless_told kinds block next) (map (load_fault block) kinds ++ rest)
+first_told [] block next rest h = h
+first_told (k ∷ ks) block next rest h = λ fault. ((λ e. cc), (λ e. cc))
+
+-- of all that is left
+first_behind : (national : National) (records : List SubtitleValue) (left : Outcome)
+    → FirstIs (loaded_behind national records left)
+    (faults_behind national (times_before records) left)
+unfolding faults_behind
+first_behind national records ends = λ fault. ((λ e. absurd cc), (λ e. absurd cc))
+first_behind national records (fails f block) = λ fault. ((λ e. cc), (λ e. cc))
+first_behind national records (gives t block left) =
+    first_told (follow_faults national (times_before records) t) block
+    (loaded_behind national (records ++ t ∷ []) left)
+    (faults_behind national (Some (times_of t)) left)
+    (rw (ap (option_map times_of) (last_of-push records t))
+    at (first_behind national (records ++ t ∷ []) left))
+
+-- none is told exactly where the file is loaded
+none_is : (r : Result ProgrammeValue LoadFault) (fs : List LoadFault)
+    → FirstIs r fs
+    → (fs ≡ []) ↔ IsOk r
+none_is (Ok p) [] h = ((λ e. refl), (λ e. refl))
+none_is (Ok p) (f ∷ fs) h = absurd (let e = (h f).1 refl in cc)
+none_is (Err fault) [] h = absurd (let e = (h fault).0 refl in cc)
+none_is (Err fault) (f ∷ fs) h = ((λ e. absurd cc), (λ e. absurd cc))
+
+-- of all faults
+pub first_fault : (national : National) (outcome : Outcome)
+    → FirstIs (loaded national outcome) (faults national outcome)
+unfolding faults
+first_fault national outcome = first_behind national [] outcome
+
+-- the law: for `law_of_every_fault`
+pub every_fault : LawOfEveryFault
+every_fault national s =
+    let first = first_fault national (outcome_of s) in (
+      first,
+      none_is (loaded national (outcome_of s)) (faults national (outcome_of s)) first,
+    )
+
+-- ---- `load`, which is told the first
+
+-- what is told is the first of all
+first_taken : (n : ℕ) (all : List LoadFault) (fault : LoadFault)
+    → 0 < n
+    → fault ∷ [] ≡ take n all
+    → first_of all ≡ Some fault
+first_taken zero all fault some h = absurd (omega (arith, some))
+first_taken (suc n) [] fault some h = absurd cc
+first_taken (suc n) (f ∷ fs) fault some h = cc
+
+-- a fault of the file is told as `load` tells it
+tells-kind : (national : National) (outcome : Outcome) (block : ℕ) (kind : LoadFaultKind)
+    → is_of_file kind ≡ true
+    → loaded national outcome ≡ Err (load_fault block kind)
+    → TellsFault national outcome block kind
+tells-kind national outcome block (File Read) of_file h = tt
+tells-kind national outcome block Memory of_file h = absurd cc
+tells-kind national outcome block kind of_file h = h
+
+-- the one fault that was told is the one of the file
+pub tells-first : (national : National) (outcome : Outcome) (fault : LoadFault) (stopped : Bool)
+    → TellsFaults (Some []) (Some (fault ∷ [])) stopped (faults national outcome)
+    → TellsOfFile (Some []) (Some (fault ∷ []))
+    → TellsFault national outcome fault.block fault.kind
+tells-first national outcome fault stopped told of_file =
+    let p = told.prefix in
+    let first = first_taken p.0 (faults national outcome) fault p.1 p.3 in
+    let own : list_all (λ (f : LoadFault). is_of_file f.kind) (fault ∷ []) ≡ true =
+    rw (sym of_file.told) at of_file.of_file in
+    let kind : is_of_file fault.kind ≡ true = grind (arith, nat_tests) in
+    tells-kind national outcome fault.block fault.kind kind
+    ((first_fault national outcome fault).1 first)
+
+-- the first of all does not come before this block, where none does
+not_before : (block : ℕ) (all : List LoadFault) (fault : LoadFault)
+    → first_of all ≡ Some fault
+    → filter (is_before block) all ≡ []
+    → is_before block fault ≡ false
+not_before block [] fault first none = absurd cc
+not_before block (f ∷ fs) fault first none =
+    let same : f ≡ fault = cc in
+    rw (sym same) (by_test (is_before block f) f (filter (is_before block) fs) none)
+  where
+    by_test : (test : Bool) (f : LoadFault) (fs : List LoadFault)
+        → cond test (f ∷ fs) fs ≡ []
+        → test ≡ false
+    by_test true f fs h = absurd cc
+    by_test false f fs h = refl
+
+-- what does not come before is the end inside a subtitle, or names this block or a later one
+is_late : (block at : ℕ) (kind : LoadFaultKind)
+    → is_before block (load_fault at kind) ≡ false
+    → (kind ≡ File Unfinished) ⊎ (block ≤ at)
+is_late block at (File Unfinished) h = inl refl
+is_late block at kind h = inr (grind (arith, nat_tests))
+
+-- where the source failed and nothing was told, no fault comes before
+pub none-told : (national : National) (old new : Option (List ℕ)) (block : ℕ)
+    (told : Option LoadFault)
+    → (is_some told ≡ true → ⊥)
+    → FailsTelling national old new (Some []) (Some (first_alone told)) block
+    → FailsLoading national old new block
+none-told national old new block (Some fault) none failed = absurd (none refl)
+none-told national old new block None none failed =
+    record {
+      bytes = failed.bytes;
+      consumed = failed.consumed;
+      block_is = failed.block_is;
+      none = λ all is fault e.
+          is_late block fault.block fault.kind
+          (not_before block (faults national (outcome_of all)) fault
+          ((first_fault national (outcome_of all) fault).0 e) (sym (failed.told all is)));
+    }

@@ -1,0 +1,177 @@
+-- What was told and what is left to be told, at each step of the loop and at each way out:
+-- goes_on-next, tells-end, tells-stop, fails-next.
+use Rattle.std.proofs.Common.{◌≡◌, [], ◌++◌, Some, None, Ok, Err, refl, rules, ap}
+use Rattle.std.proofs.Common.{sym, drop, map, ◌∙◌, arith}
+use Rattle.std.proofs.lemmas.Bool.{lt-ltb}
+use Rattle.std.specs.Prelude.{◌≢◌, option_map}
+use Rattle.sub_io.proofs.TellingLemmas.{Tells-none, Tells-trans}
+use Rattle.stl_file.specs.declared.fault.StlFault.TheVariants.{Ended}
+use Rattle.stl_file.specs.Gsi.{gsi_size}
+use Rattle.stl_file.specs.Reader.{outcome_left, outcome_of}
+use Rattle.stl_rows.specs.Loading.{load_fault, loaded}
+use Rattle.stl_rows.specs.Programme.{follow_faults}
+use Rattle.stl_rows.proofs.FailedReadLemmas.{fails-next, has_taken-next, reads-nothing}
+use Rattle.stl_rows.proofs.LoadingLemmas.{are_kept-next, ends-here, goes_on-next, goes_on-start}
+use Rattle.stl_rows.proofs.LoadingLemmas.{if_kept, of_file-end, of_file-stopped, outcome_of-opened}
+use Rattle.stl_rows.proofs.LoadingLemmas.{programme-next, some-next, some_items, tells-end}
+use Rattle.stl_rows.proofs.LoadingLemmas.{tells-none, tells-stop, told-next, told-of_file}
+use Rattle.stl_rows.proofs.ProgrammeLemmas.{IsProgramme-none}
+use Rattle.stl_rows.proofs.every_fault.load_all_in.Goals as goal
+
+pub subtitles-init : goal.subtitles-init
+subtitles-init g c = rw c.new.ensures.items (record {
+  early = [];
+  told = Tells-none _;
+  early_told = refl;
+  programme = λ records h. let none : [] ≡ records = cc in rw (sym none) (IsProgramme-none c.args.national);
+  are_kept = λ records h. let none : [] ≡ records = cc in rw (sym none) (record { before_is = refl; none = refl });
+  some = λ h. absurd cc;
+  listens = c.requires.listens;
+  reading = search rules;
+  count = search rules;
+  taken = record {
+    bytes = c.in-Ok.reader.gsi;
+    consumed = search rules;
+    long = search rules;
+  };
+  goes_on = λ bytes e. (
+    drop gsi_size bytes,
+    c.in-Ok.ensures.left bytes e,
+    rw (outcome_of-opened bytes _ (c.in-Ok.ensures.exact bytes e refl))
+        (goes_on-start c.args.national _),
+  );
+})
+
+pub subtitles-preserved : goal.subtitles-preserved
+subtitles-preserved g c =
+    let i = c.subtitles.invariant in
+    let t = c.next_into.new.subtitle in
+    let from = c.subtitles.reader.block in
+    let read = c.in-Ok-true.ensures.subtitle i.reading (ap Ok c.in-Ok-true.field-0-test) in
+    let block = c.block-block.ensures.value in
+    let before = c.subtitles.before in
+    let kept = option_map (λ v. v.items) c.subtitles.kept in
+    let clean = c.in-Ok-tell_faults.ensures.clean in
+    let is_kept = c.in_default-keep.ensures.all in
+    rw (is_kept, c.of.ensures.value) (record {
+      early = i.early ++ map (load_fault c.next_into.new.self.block) (follow_faults c.args.national before t);
+      told = Tells-trans _ _ _ i.early _ i.told (rw block at c.in-Ok-tell_faults.ensures.told);
+      early_told = told-next c.args.national before t from _ i.early (omega (arith, read.counted)) i.early_told;
+      programme = programme-next c.args.national before kept i.early t c.in-Ok-tell_faults.clean clean c.of.ensures.subtitle i.are_kept i.programme;
+      are_kept = are_kept-next c.args.national before kept i.early t _ c.in-Ok-tell_faults.clean clean i.are_kept;
+      some = some-next c.args.national before kept i.early t _ c.in-Ok-tell_faults.clean clean i.some;
+      listens = search rules;
+      reading = rw c.in-Ok-true.field-0-test at c.in-Ok-true.ensures.progress ∙ i.reading;
+      count = search rules;
+      taken = has_taken-next _ _ _ _ _ t read i.taken;
+      goes_on = λ bytes e.
+          let here = i.goes_on bytes e in
+          let answer = rw c.in-Ok-true.field-0-test at (c.in-Ok-true.ensures.exact here.0 here.1 refl) in (
+            answer.rest,
+            answer.rest_is,
+            goes_on-next c.args.national _ _ before kept i.early t _ c.in-Ok-tell_faults.clean
+                clean i.are_kept (rw answer.outcome at here.2),
+          );
+    })
+
+pub returns-in-Ok-tell_end-clause-told : goal.returns-in-Ok-tell_end-clause-told
+returns-in-Ok-tell_end-clause-told g c = λ bytes e none.
+    let outcome = outcome_of-opened bytes _ (c.in-Err.ensures.exact bytes e c.in-Ok-tell_end.ensures.file) in
+    tells-end c.args.national (outcome_of bytes) _ None (Some []) [] c.in-Err.fault 0 _ _ _ _
+    (goes_on-start c.args.national (outcome_of bytes)) outcome (Tells-none _) c.in-Ok-tell_end.ensures.told
+
+pub returns-in-Err-tell_end-clause-read : goal.returns-in-Err-tell_end-clause-read
+returns-in-Err-tell_end-clause-read g c = λ is.
+    let failed = c.in-Err-tell_end.ensures.read in
+    let short = c.in-Err.ensures.failed (rw failed.0 refl) in
+    rw (failed.1, failed.2) (record {
+      bytes = short.0;
+      consumed = short.2;
+      block_is = rw (lt-ltb _ 1024 short.1) refl;
+      told = λ all is. reads-nothing c.args.national (outcome_of all) _;
+    })
+
+pub returns-in-Ok-tell_end-2-clause-told : goal.returns-in-Ok-tell_end-2-clause-told
+returns-in-Ok-tell_end-2-clause-told g c = λ bytes e none.
+    let i = c.subtitles.invariant in
+    let here = i.goes_on bytes e in
+    let answer = c.in-Err-next_into.ensures.exact here.0 here.1 c.in-Ok-tell_end-2.ensures.file in
+    tells-end c.args.national (outcome_of bytes) (outcome_left c.subtitles.reader here.0)
+    c.subtitles.before _ i.early c.in-Err-next_into.fault _ _ _ _ _ here.2 answer.outcome i.told
+    (rw c.block.ensures.value at c.in-Ok-tell_end-2.ensures.told)
+
+pub returns-in-Ok-tell_end-2-clause-some : goal.returns-in-Ok-tell_end-2-clause-some
+returns-in-Ok-tell_end-2-clause-some g c = λ none.
+    let i = c.subtitles.invariant in
+    let ended : c.in-Err-next_into.fault ≢ Ended =
+    λ same. let broken = rw i.reading at (c.in-Err-next_into.ensures.ended.1 (ap Err same)) in
+    absurd cc in
+    of_file-end c.subtitles.reader.block i.early c.in-Err-next_into.fault _ _ _ _ i.early_told
+    c.in-Ok-tell_end-2.ensures.file ended i.told c.in-Ok-tell_end-2.ensures.told
+
+pub returns-in-Err-tell_end-2-clause-read : goal.returns-in-Err-tell_end-2-clause-read
+returns-in-Err-tell_end-2-clause-read g c = λ is.
+    let i = c.subtitles.invariant in
+    let failed = c.in-Err-tell_end-2.ensures.read in
+    rw (failed.1, failed.2, c.block.ensures.value)
+    (fails-next c.args.national _ _ _ c.subtitles.before _ i.early _ _ c.subtitles.reader _ i.taken
+    i.reading i.early_told i.told i.goes_on
+    (c.in-Err-next_into.ensures.failed i.reading (rw failed.0 refl)))
+
+pub returns-in_default-clause-told : goal.returns-in_default-clause-told
+returns-in_default-clause-told g c = λ bytes e none.
+    let i = c.subtitles.invariant in
+    let here = i.goes_on bytes e in
+    let answer = rw c.in-Ok-true.field-0-test at (c.in-Ok-true.ensures.exact here.0 here.1 refl) in
+    tells-stop c.args.national (outcome_of bytes) (outcome_left c.subtitles.reader here.0) _
+    c.subtitles.before _ i.early c.next_into.new.subtitle _ _ _ _ _ here.2 answer.outcome
+    c.in_default.ensures.stopped i.told (rw c.block-block.ensures.value at c.in_default.ensures.stops)
+
+pub returns-in_default-clause-some : goal.returns-in_default-clause-some
+returns-in_default-clause-some g c = λ none.
+    let i = c.subtitles.invariant in
+    of_file-stopped _ _ _ i.early c.args.national c.subtitles.before c.next_into.new.subtitle
+    c.subtitles.reader.block _ i.early_told i.told c.in_default.ensures.stops
+
+pub returns-in-Err-keep-clause-memory : goal.returns-in-Err-keep-clause-memory
+returns-in-Err-keep-clause-memory g c = λ bytes e is.
+    let i = c.subtitles.invariant in
+    let here = i.goes_on bytes e in
+    let answer = rw c.in-Ok-true.field-0-test at (c.in-Ok-true.ensures.exact here.0 here.1 refl) in
+    let refused = c.in-Err-keep.ensures.some in
+    rw c.block-block.ensures.value
+    (ends-here c.args.national (outcome_of bytes) _ c.subtitles.before
+    (option_map (λ v. v.items) c.subtitles.kept) i.early c.next_into.new.subtitle _
+    (sym c.in-Ok-tell_faults.ensures.clean ∙ refused.1)
+    (some_items (λ v. v.items) c.subtitles.kept refused.2) i.are_kept
+    (rw answer.outcome at here.2))
+
+pub returns-in-Ok-false-clause-exact : goal.returns-in-Ok-false-clause-exact
+returns-in-Ok-false-clause-exact g c = λ bytes e.
+    let i = c.subtitles.invariant in
+    let here = i.goes_on bytes e in
+    let answer = rw c.in-Ok-false.field-0-test at (c.in-Ok-false.ensures.exact here.0 here.1 refl) in
+    let on = rw answer.outcome at here.2 in
+    if_kept (λ v. v.items)
+    (λ records. loaded c.args.national (outcome_of bytes) ≡ Ok (record { national = c.args.national; records = records }))
+    c.subtitles.kept (λ records h. sym (on.loads records h))
+
+pub returns-in-Ok-false-clause-told : goal.returns-in-Ok-false-clause-told
+returns-in-Ok-false-clause-told g c = λ bytes e none.
+    let i = c.subtitles.invariant in
+    let here = i.goes_on bytes e in
+    let answer = rw c.in-Ok-false.field-0-test at (c.in-Ok-false.ensures.exact here.0 here.1 refl) in
+    let is : c.subtitles.kept ≡ None = cc in
+    tells-none c.args.national (outcome_of bytes) c.subtitles.before _ i.early _ _ _
+    (rw answer.outcome at here.2) (i.some (rw is refl)) i.told
+
+pub returns-in-Ok-false-clause-some : goal.returns-in-Ok-false-clause-some
+returns-in-Ok-false-clause-some g c = λ none.
+    let i = c.subtitles.invariant in
+    let is : c.subtitles.kept ≡ None = cc in
+    record {
+      faults = i.early;
+      some = i.some (rw is refl);
+      of_file = told-of_file c.subtitles.reader.block i.early i.early_told;
+      told = i.told;
+    }

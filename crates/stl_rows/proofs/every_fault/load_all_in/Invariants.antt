@@ -1,0 +1,40 @@
+-- What was told of the subtitles so far, and what is wrong with the rest, is all that is wrong with
+-- the file; what is kept is a programme.
+use Rattle.std.proofs.Common.{◌≡◌, ◌-◌, ◌<◌, ℕ, true, false, List, length, Some, None}
+use Rattle.std.specs.Prelude.{option_map}
+use Rattle.std.specs.List.{list_all}
+use Rattle.sub_io.specs.Telling.{Tells}
+use Rattle.stl_file.specs.declared.progress.Progress.TheVariants.{Reading}
+use Rattle.stl_file.specs.Reader.{outcome_left, outcome_of}
+use Rattle.stl_file.specs.Subtitle.{SubtitleValue}
+use Rattle.stl_rows.specs.declared.fault.LoadFault.{LoadFault}
+use Rattle.stl_rows.specs.Programme.{IsProgramme}
+use Rattle.stl_rows.proofs.FailedReadLemmas.{HasTaken}
+use Rattle.stl_rows.proofs.LoadingLemmas.{AreKept, GoesOn, is_told_by}
+use Rattle.stl_rows.proofs.every_fault.load_all_in.Given as goal
+
+abbrev pub invariant-subtitles : goal.invariant-subtitles
+invariant-subtitles g l = record {
+  early : List LoadFault;
+  told : Tells (g.D.Audience.told l.fn.audience) (g.D.Audience.told l.audience) early;
+  early_told : list_all (is_told_by l.reader.block) early ≡ true;
+  programme : (records : List SubtitleValue)
+      → option_map (λ v. v.items) l.kept ≡ Some records
+      → IsProgramme l.national records;
+  are_kept : (records : List SubtitleValue)
+      → option_map (λ v. v.items) l.kept ≡ Some records
+      → AreKept l.before early records;
+  some : option_map (λ v. v.items) l.kept ≡ None → 0 < length early;
+  listens : g.D.Audience.has_stopped l.audience ≡ false;
+  reading : l.reader.progress ≡ Reading;
+  count : g.S.Source.failure_count l.source ≡ g.S.Source.failure_count l.fn.source;
+  taken : HasTaken (g.S.Source.remaining l.fn.source) (g.S.Source.remaining l.source)
+      l.reader.block;
+  goes_on : (bytes : List ℕ) → g.S.Source.remaining l.fn.source ≡ Some bytes
+      → (rest : List ℕ) × (g.S.Source.remaining l.source ≡ Some rest)
+      × GoesOn l.national (outcome_of bytes) (outcome_left l.reader rest) l.before
+      (option_map (λ v. v.items) l.kept) early;
+}
+
+abbrev pub decreases-subtitles : goal.decreases-subtitles
+decreases-subtitles g l = 99999 - l.reader.block

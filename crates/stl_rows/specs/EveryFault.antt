@@ -1,0 +1,95 @@
+-- Every fault of a subtitle file, one after another, and what a device is told of them.
+use Rattle.std.specs.Prelude.{◌≡◌, ℕ, ◌<◌, ◌≤◌, ◌&&◌, ◌↔◌, nat_lt, not, Bool, true, false, List, [], ◌∷◌}
+use Rattle.std.specs.Prelude.{◌++◌, length, map, take, Option, Some, None, Err, IsOk, option_map}
+use Rattle.std.specs.List.{filter, list_all}
+use Rattle.std.specs.Io.KnownBytes.{Consumes}
+use Rattle.sub_io.specs.Reading.{IfTold}
+use Rattle.sub_io.specs.Telling.{Tells}
+use Rattle.stl_file.specs.declared.fault.StlFault.TheVariants.{Ended, Read, Unfinished}
+use Rattle.stl_file.specs.Reader.{block_of_byte, outcome_of}
+use Rattle.stl_file.specs.Reading.{Outcome, ends, fails, gives}
+use Rattle.stl_file.specs.Subtitle.{SubtitleValue}
+use Rattle.stl_rows.specs.declared.fault.LoadFault.{LoadFault}
+use Rattle.stl_rows.specs.declared.fault.LoadFaultKind.{LoadFaultKind}
+use Rattle.stl_rows.specs.declared.fault.LoadFaultKind.TheVariants.{File, Memory}
+use Rattle.stl_rows.specs.declared.national.National.{National}
+use Rattle.stl_rows.specs.declared.times.Times.{Times}
+use Rattle.stl_rows.specs.Loading.{load_fault, loaded}
+use Rattle.stl_rows.specs.Programme.{follow_faults, times_of}
+use Rattle.stl_rows.specs.TextCode.{first_of}
+
+-- What is wrong with the rest of a file, after a subtitle of these times. At each subtitle's last
+-- block: its times against those of the subtitle before it, whatever is wrong with that one, and
+-- the first fault of its rows. Last, the fault that ends reading, at its block.
+unfoldable pub faults_behind : National → Option Times → Outcome → List LoadFault
+faults_behind national before ends = []
+faults_behind national before (fails fault block) = load_fault block (File fault) ∷ []
+faults_behind national before (gives t block outcome) =
+    map (load_fault block) (follow_faults national before t)
+    ++ faults_behind national (Some (times_of t)) outcome
+
+-- All that is wrong with a file.
+unfoldable pub faults : National → Outcome → List LoadFault
+faults national outcome = faults_behind national None outcome
+
+-- The bytes of the file are at fault, and neither the source nor the memory.
+abbrev pub is_of_file : LoadFaultKind → Bool
+is_of_file (File Read) = false
+is_of_file (File Ended) = false
+is_of_file Memory = false
+is_of_file _ = true
+
+-- What is kept of the subtitles when one more is read: all, while nothing is wrong with any.
+abbrev pub kept_after : Bool → SubtitleValue → Option (List SubtitleValue)
+    → Option (List SubtitleValue)
+kept_after false t kept = None
+kept_after true t kept = option_map (λ ts. ts ++ t ∷ []) kept
+
+-- A device was told faults of the file.
+pub record TellsOfFile (old new : Option (List LoadFault)) : Type 0 where
+  pub faults : List LoadFault
+  pub some : 0 < length faults
+  pub of_file : list_all (λ (f : LoadFault). is_of_file f.kind) faults ≡ true
+  pub told : Tells old new faults
+
+-- The device said stop at one of these: it was told those up to there.
+abbrev pub StopsWithin : Option (List LoadFault) → Option (List LoadFault) → List LoadFault → Type 0
+StopsWithin old new items =
+    (n : ℕ) × (0 < n) × (n ≤ length items) × Tells old new (take n items)
+
+-- A device was told these, where it did not say stop, or a prefix of them.
+pub record TellsFaults
+    (old new : Option (List LoadFault)) (has_stopped : Bool) (items : List LoadFault) : Type 0
+  where
+    pub all : has_stopped ≡ false → Tells old new items
+    pub prefix : StopsWithin old new items
+
+-- The file ends inside a subtitle.
+abbrev pub is_unfinished : LoadFaultKind → Bool
+is_unfinished (File Unfinished) = true
+is_unfinished _ = false
+
+-- A fault that is found before this block is asked for. The end of the file inside a subtitle,
+-- which names the last whole block, is found only where the block after it is.
+abbrev pub is_before : ℕ → LoadFault → Bool
+is_before block fault = nat_lt fault.block block && not (is_unfinished fault.kind)
+
+-- The source failed: the block is that of the byte that was asked for, the first one after those
+-- that were taken. The device was told the faults that are found before it, and no others.
+pub record FailsTelling (national : National) (old new : Option (List ℕ))
+    (told_old told_new : Option (List LoadFault)) (block : ℕ) : Type 0 where
+  pub bytes : List ℕ
+  pub consumed : Consumes old new bytes
+  pub block_is : block ≡ block_of_byte (length bytes)
+  pub told :
+      IfTold old
+      (λ all. Tells told_old told_new (filter (is_before block) (faults national (outcome_of all))))
+
+-- The first of all faults is the one for which `load` refuses the file, and there is none exactly
+-- where it loads it.
+abbrev pub LawOfEveryFault : Type 0
+LawOfEveryFault =
+    (national : National) (s : List ℕ)
+    → ((fault : LoadFault) → (loaded national (outcome_of s) ≡ Err fault)
+    ↔ (first_of (faults national (outcome_of s)) ≡ Some fault))
+    × ((faults national (outcome_of s) ≡ []) ↔ IsOk (loaded national (outcome_of s)))

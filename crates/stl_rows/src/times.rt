@@ -1,0 +1,45 @@
+//! When subtitles start and end.
+
+ghost use Rattle.std.specs.Prelude.{◌≡◌};
+ghost use Rattle.stl_file.specs.Subtitle.{IsSubtitle};
+ghost use Rattle.stl_rows.specs.Programme.{order_faults, times_of};
+ghost use Rattle.stl_rows.specs.TextCode.{first_of};
+
+use crate::fault::LoadFaultKind;
+use stl_file::Subtitle;
+
+/// When a subtitle starts and ends, as frames of the day.
+#[derive(Clone, Copy)]
+pub(crate) struct Times {
+    // TCI.
+    pub(crate) tci: u32,
+    // TCO.
+    pub(crate) tco: u32,
+}
+
+impl Times {
+    // The times of a subtitle.
+    pub(crate) fn of(subtitle: &Subtitle) -> Times
+        ensures value { result ≡ times_of subtitle.now }
+        ensures subtitle { IsSubtitle subtitle.now }
+    {
+        Times {
+            tci: subtitle.tci().frame(),
+            tco: subtitle.tco().frame(),
+        }
+    }
+
+    // What is wrong with these times after those of the subtitle before.
+    pub(crate) fn fault_after(self, before: Option<Times>) -> Option<LoadFaultKind>
+        ensures { result ≡ first_of (order_faults before self) }
+    {
+        let before = before?;
+        if self.tci < before.tci {
+            return Some(LoadFaultKind::OutOfOrder);
+        }
+        if self.tci < before.tco {
+            return Some(LoadFaultKind::Overlap);
+        }
+        None
+    }
+}
