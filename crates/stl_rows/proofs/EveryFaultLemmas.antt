@@ -15,8 +15,8 @@ use Rattle.stl_rows.specs.declared.fault.LoadFault.{LoadFault}
 use Rattle.stl_rows.specs.declared.fault.LoadFaultKind.{LoadFaultKind}
 use Rattle.stl_rows.specs.declared.national.National.{National}
 use Rattle.stl_rows.specs.declared.fault.LoadFaultKind.TheVariants.{File, Memory}
-use Rattle.stl_rows.specs.EveryFault.{FailsTelling, LawOfEveryFault, TellsFaults, TellsOfFile, faults}
-use Rattle.stl_rows.specs.EveryFault.{faults_behind, is_before, is_of_file}
+use Rattle.stl_rows.specs.EveryFault.{FailsTelling, LawOfEveryFault, TellsFaults, TellsOfFile}
+use Rattle.stl_rows.specs.EveryFault.{faults, faults_behind, is_before, is_of_file}
 use Rattle.stl_rows.specs.Loading.{FailsLoading, TellsFault, load_fault, loaded, loaded_behind}
 use Rattle.stl_rows.specs.Loading.{unless_told}
 use Rattle.stl_rows.specs.Programme.{ProgrammeValue, follow_faults, times_before, times_of}

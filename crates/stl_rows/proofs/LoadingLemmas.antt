@@ -1,8 +1,9 @@
 -- What is left of a file after some of its subtitles, and what was told of these; main lemmas:
 -- goes_on-next, tells-stopped, tells-unread.
 use Rattle.std.proofs.Common.{◌≡◌, ◌<◌, ◌≤◌, ◌+◌, ℕ, suc, Bool, true, false, List, [], ◌∷◌, ◌++◌}
-use Rattle.std.proofs.Common.{drop, take, length, map, Option, Some, None, Result, Ok, Err, refl, sym}
-use Rattle.std.proofs.Common.{◌∙◌, ap, inl, inr, arith, zero, length-take, subst, append_assoc, append-nil, length-append}
+use Rattle.std.proofs.Common.{drop, take, length, map, Option, Some, None, Result, Ok, Err, refl}
+use Rattle.std.proofs.Common.{sym, ◌∙◌, ap, inl, inr, arith, zero, length-take, subst}
+use Rattle.std.proofs.Common.{append_assoc, append-nil, length-append}
 use Rattle.std.proofs.Math.Seq.{take-append-add, take-length}
 use Rattle.std.proofs.lemmas.Bool.Decides.{nat_tests}
 use Rattle.std.proofs.lemmas.List.Elements.{filter-append}
@@ -70,7 +71,8 @@ row-of_subtitle (Err fault) = refl
 follow-of_subtitle : (national : National) (before : Option Times) (t : SubtitleValue)
     → list_all is_of_subtitle (follow_faults national before t) ≡ true
 follow-of_subtitle national before t =
-    list_all-append is_of_subtitle (order_faults before (times_of t)) (row_faults (drawn national t))
+    list_all-append is_of_subtitle (order_faults before (times_of t))
+    (row_faults (drawn national t))
     ∙ rw (order-of_subtitle before (times_of t), row-of_subtitle (drawn national t)) refl
 
 -- at their block

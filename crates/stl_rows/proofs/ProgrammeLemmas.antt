@@ -71,7 +71,8 @@ pub IsProgramme-push : (n : National) (ts : List SubtitleValue) (t : SubtitleVal
     → follow_faults n (times_before ts) t ≡ []
     → IsProgramme n (ts ++ t ∷ [])
 IsProgramme-push n ts t ok subtitle h =
-    let parts = empty_parts (order_faults (times_before ts) (times_of t)) (row_faults (drawn n t)) h in
+    let parts =
+    empty_parts (order_faults (times_before ts) (times_of t)) (row_faults (drawn n t)) h in
     record {
       each = All-push IsSubtitle ts t ok.each subtitle;
       in_order = in_order-push ts t ok.each ok.in_order parts.0;

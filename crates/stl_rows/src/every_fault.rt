@@ -1,15 +1,15 @@
 //! Loading a subtitle file as a programme, or telling every fault of it.
 
-ghost use Rattle.std.specs.Prelude.{◌≡◌, ◌≢◌, ◌⊎◌, ◌<◌, ◌≤◌, [], ◌∷◌, ◌++◌, length, map, true, false};
-ghost use Rattle.std.specs.Prelude.{Err, IfErr, IfOk, IfSome, None, Ok, OnErr, OnOk, Some, Result};
-ghost use Rattle.std.specs.Prelude.{is_err, is_none, option_map, take, vec_capacity, vec_len, List, ℕ};
+ghost use Rattle.std.specs.Prelude.{◌≡◌, ◌⊎◌, ◌≤◌, [], ◌∷◌, ◌++◌, map, true, false, IfErr, IfOk};
+ghost use Rattle.std.specs.Prelude.{IfSome, None, Ok, OnErr, OnOk, is_err, is_none, option_map};
+ghost use Rattle.std.specs.Prelude.{vec_capacity, vec_len};
 ghost use Rattle.sub_io.specs.Device.{CanFail, CountsIf, failed};
 ghost use Rattle.sub_io.specs.Reading.{IfTold};
-ghost use Rattle.sub_io.specs.Telling.{Tells, TellsUntilStopped, first_alone};
-ghost use Rattle.stl_file.specs.declared.fault.StlFault.TheVariants.{Ended, Read};
+ghost use Rattle.sub_io.specs.Telling.{Tells, first_alone};
+ghost use Rattle.stl_file.specs.declared.fault.StlFault.TheVariants.{Read};
 ghost use Rattle.stl_file.specs.Fault as stl;
 ghost use Rattle.stl_file.specs.Reader.{outcome_of};
-ghost use Rattle.stl_file.specs.Subtitle.{IsSubtitle, SubtitleValue};
+ghost use Rattle.stl_file.specs.Subtitle.{IsSubtitle};
 ghost use Rattle.stl_rows.specs.EveryFault.{FailsTelling, LawOfEveryFault, StopsWithin};
 ghost use Rattle.stl_rows.specs.EveryFault.{TellsFaults, TellsOfFile, faults, kept_after};
 ghost use Rattle.stl_rows.specs.Fault.{is_read};
@@ -17,8 +17,7 @@ ghost use Rattle.stl_rows.specs.Loading.{EndsRecord, load_fault, loaded};
 ghost use Rattle.stl_rows.specs.Programme.{IsProgramme, follow_faults, row_faults};
 ghost use Rattle.stl_rows.specs.DrawnPage.{drawn};
 ghost use Rattle.stl_rows.specs.TextCode.{first_of};
-ghost use Rattle.stl_rows.specs.declared.fault.LoadFault.{LoadFault};
-ghost use Rattle.stl_rows.specs.declared.fault.LoadFaultKind.TheVariants.{File, Memory, Row};
+ghost use Rattle.stl_rows.specs.declared.fault.LoadFaultKind.TheVariants.{File, Memory};
 
 use crate::fault::{LoadFault, LoadFaultKind};
 use crate::national::National;

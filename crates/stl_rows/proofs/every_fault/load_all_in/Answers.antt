@@ -23,8 +23,12 @@ subtitles-init g c = rw c.new.ensures.items (record {
   early = [];
   told = Tells-none _;
   early_told = refl;
-  programme = λ records h. let none : [] ≡ records = cc in rw (sym none) (IsProgramme-none c.args.national);
-  are_kept = λ records h. let none : [] ≡ records = cc in rw (sym none) (record { before_is = refl; none = refl });
+  programme = λ records h.
+      let none : [] ≡ records = cc in
+      rw (sym none) (IsProgramme-none c.args.national);
+  are_kept = λ records h.
+      let none : [] ≡ records = cc in
+      rw (sym none) (record { before_is = refl; none = refl });
   some = λ h. absurd cc;
   listens = c.requires.listens;
   reading = search rules;
@@ -46,39 +50,44 @@ pub subtitles-preserved : goal.subtitles-preserved
 subtitles-preserved g c =
     let i = c.subtitles.invariant in
     let t = c.next_into.new.subtitle in
-    let from = c.subtitles.reader.block in
+    let here = c.next_into.new.self.block in
     let read = c.in-Ok-true.ensures.subtitle i.reading (ap Ok c.in-Ok-true.field-0-test) in
     let block = c.block-block.ensures.value in
     let before = c.subtitles.before in
     let kept = option_map (λ v. v.items) c.subtitles.kept in
-    let clean = c.in-Ok-tell_faults.ensures.clean in
+    let clean = c.in-Ok-tell_faults.clean in
+    let is_clean = c.in-Ok-tell_faults.ensures.clean in
     let is_kept = c.in_default-keep.ensures.all in
     rw (is_kept, c.of.ensures.value) (record {
-      early = i.early ++ map (load_fault c.next_into.new.self.block) (follow_faults c.args.national before t);
+      early = i.early ++ map (load_fault here) (follow_faults c.args.national before t);
       told = Tells-trans _ _ _ i.early _ i.told (rw block at c.in-Ok-tell_faults.ensures.told);
-      early_told = told-next c.args.national before t from _ i.early (omega (arith, read.counted)) i.early_told;
-      programme = programme-next c.args.national before kept i.early t c.in-Ok-tell_faults.clean clean c.of.ensures.subtitle i.are_kept i.programme;
-      are_kept = are_kept-next c.args.national before kept i.early t _ c.in-Ok-tell_faults.clean clean i.are_kept;
-      some = some-next c.args.national before kept i.early t _ c.in-Ok-tell_faults.clean clean i.some;
+      early_told = told-next c.args.national before t c.subtitles.reader.block here i.early
+          (omega (arith, read.counted)) i.early_told;
+      programme = programme-next c.args.national before kept i.early t clean is_clean
+          c.of.ensures.subtitle i.are_kept i.programme;
+      are_kept = are_kept-next c.args.national before kept i.early t here clean is_clean i.are_kept;
+      some = some-next c.args.national before kept i.early t here clean is_clean i.some;
       listens = search rules;
       reading = rw c.in-Ok-true.field-0-test at c.in-Ok-true.ensures.progress ∙ i.reading;
       count = search rules;
       taken = has_taken-next _ _ _ _ _ t read i.taken;
       goes_on = λ bytes e.
-          let here = i.goes_on bytes e in
-          let answer = rw c.in-Ok-true.field-0-test at (c.in-Ok-true.ensures.exact here.0 here.1 refl) in (
+          let was = i.goes_on bytes e in
+          let answer =
+          rw c.in-Ok-true.field-0-test at (c.in-Ok-true.ensures.exact was.0 was.1 refl) in (
             answer.rest,
             answer.rest_is,
-            goes_on-next c.args.national _ _ before kept i.early t _ c.in-Ok-tell_faults.clean
-                clean i.are_kept (rw answer.outcome at here.2),
+            goes_on-next c.args.national _ _ before kept i.early t here clean is_clean i.are_kept
+                (rw answer.outcome at was.2),
           );
     })
 
 pub returns-in-Ok-tell_end-clause-told : goal.returns-in-Ok-tell_end-clause-told
 returns-in-Ok-tell_end-clause-told g c = λ bytes e none.
-    let outcome = outcome_of-opened bytes _ (c.in-Err.ensures.exact bytes e c.in-Ok-tell_end.ensures.file) in
+    let opened = c.in-Err.ensures.exact bytes e c.in-Ok-tell_end.ensures.file in
     tells-end c.args.national (outcome_of bytes) _ None (Some []) [] c.in-Err.fault 0 _ _ _ _
-    (goes_on-start c.args.national (outcome_of bytes)) outcome (Tells-none _) c.in-Ok-tell_end.ensures.told
+    (goes_on-start c.args.national (outcome_of bytes)) (outcome_of-opened bytes _ opened)
+    (Tells-none _) c.in-Ok-tell_end.ensures.told
 
 pub returns-in-Err-tell_end-clause-read : goal.returns-in-Err-tell_end-clause-read
 returns-in-Err-tell_end-clause-read g c = λ is.
@@ -125,7 +134,8 @@ returns-in_default-clause-told g c = λ bytes e none.
     let answer = rw c.in-Ok-true.field-0-test at (c.in-Ok-true.ensures.exact here.0 here.1 refl) in
     tells-stop c.args.national (outcome_of bytes) (outcome_left c.subtitles.reader here.0) _
     c.subtitles.before _ i.early c.next_into.new.subtitle _ _ _ _ _ here.2 answer.outcome
-    c.in_default.ensures.stopped i.told (rw c.block-block.ensures.value at c.in_default.ensures.stops)
+    c.in_default.ensures.stopped i.told
+    (rw c.block-block.ensures.value at c.in_default.ensures.stops)
 
 pub returns-in_default-clause-some : goal.returns-in_default-clause-some
 returns-in_default-clause-some g c = λ none.
@@ -150,17 +160,20 @@ pub returns-in-Ok-false-clause-exact : goal.returns-in-Ok-false-clause-exact
 returns-in-Ok-false-clause-exact g c = λ bytes e.
     let i = c.subtitles.invariant in
     let here = i.goes_on bytes e in
-    let answer = rw c.in-Ok-false.field-0-test at (c.in-Ok-false.ensures.exact here.0 here.1 refl) in
+    let answer =
+    rw c.in-Ok-false.field-0-test at (c.in-Ok-false.ensures.exact here.0 here.1 refl) in
     let on = rw answer.outcome at here.2 in
     if_kept (λ v. v.items)
-    (λ records. loaded c.args.national (outcome_of bytes) ≡ Ok (record { national = c.args.national; records = records }))
+    (λ records. loaded c.args.national (outcome_of bytes)
+    ≡ Ok (record { national = c.args.national; records = records }))
     c.subtitles.kept (λ records h. sym (on.loads records h))
 
 pub returns-in-Ok-false-clause-told : goal.returns-in-Ok-false-clause-told
 returns-in-Ok-false-clause-told g c = λ bytes e none.
     let i = c.subtitles.invariant in
     let here = i.goes_on bytes e in
-    let answer = rw c.in-Ok-false.field-0-test at (c.in-Ok-false.ensures.exact here.0 here.1 refl) in
+    let answer =
+    rw c.in-Ok-false.field-0-test at (c.in-Ok-false.ensures.exact here.0 here.1 refl) in
     let is : c.subtitles.kept ≡ None = cc in
     tells-none c.args.national (outcome_of bytes) c.subtitles.before _ i.early _ _ _
     (rw answer.outcome at here.2) (i.some (rw is refl)) i.told
