@@ -4,7 +4,8 @@ import html
 import os
 import re
 
-TOP = os.path.dirname(os.path.dirname(os.path.dirname(os.path.realpath(__file__))))
+from . import TOP
+
 MANUAL = os.path.join(TOP, "docs", "MANUAL.md")
 CHAPTER = "## Refusals"
 

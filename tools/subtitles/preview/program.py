@@ -5,9 +5,7 @@ import os
 import re
 import subprocess
 
-FRAMES_OF_A_DAY = 2_160_000
-CLOCK = 2**33  # a PTS has 33 bits
-TICKS = 3600  # of a frame, at 90 kHz
+from ..times import frame_of
 
 Subtitle = collections.namedtuple("Subtitle", "index number first end row justify text")
 Verdict = collections.namedtuple(
@@ -23,22 +21,6 @@ PLACE = re.compile(
 
 class NoReport(Exception):
     """No report can be made; its text is the line for standard error."""
-
-
-def frame_of(time):
-    """The frame of the day of HH:MM:SS:FF, `None` where that is none."""
-    if not re.fullmatch(r"\d\d:\d\d:\d\d:\d\d", time):
-        return None
-    hours, minutes, seconds, frames = map(int, time.split(":"))
-    if hours > 23 or minutes > 59 or seconds > 59 or frames > 24:
-        return None
-    return ((hours * 60 + minutes) * 60 + seconds) * 25 + frames
-
-
-def time_of(frame):
-    """HH:MM:SS:FF of a frame; 24:00:00:00 is the frame after the day's last."""
-    seconds, frames = divmod(frame, 25)
-    return f"{seconds // 3600:02}:{seconds // 60 % 60:02}:{seconds % 60:02}:{frames:02}"
 
 
 def verdict_of(line, status):

@@ -6,17 +6,12 @@ which nobody sent since the receiver was tuned in, or a space whose byte had eve
 import collections
 import functools
 
+from ..teletext import NUMBER, is_odd
+
 OLD, HIT = 0xBF, 0xA0
 
-CODE_WORDS = bytes.fromhex("1502495E6473382FD0C78C9BA1B6FDEA")  # Hamming 8/4, of 0 to F
-# The number of each byte with at most one wrong bit, else `None`.
-NUMBER = [None] * 256
-for number, word in enumerate(CODE_WORDS):
-    for wrong in (0, 1, 2, 4, 8, 16, 32, 64, 128):
-        NUMBER[word ^ wrong] = number
-
 # A text byte as the receiver stores it: its code, or at even parity a space.
-STORED = bytes(byte & 0x7F if bin(byte).count("1") % 2 else HIT for byte in range(256))
+STORED = bytes(byte & 0x7F if is_odd(byte) else HIT for byte in range(256))
 PRINTED = bytes(code & 0x7F if 0x20 <= code & 0x7F <= 0x7E else 0x2E for code in range(256))
 
 # The control bits C4 to C14: the number of a header that holds it, and its place there.

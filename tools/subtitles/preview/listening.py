@@ -3,7 +3,7 @@ import array
 import bisect
 import collections
 
-from .program import CLOCK, FRAMES_OF_A_DAY, TICKS
+from ..times import FRAMES_OF_A_DAY, frame_at
 from .receiver import TUNED, control_bits, hear, packets_of
 
 
@@ -38,8 +38,7 @@ class Heard:
             self.answer_before(FRAMES_OF_A_DAY + 1)
 
     def take(self, pts, units):
-        ticks = (pts - self.origin) % CLOCK
-        frame = ticks // TICKS if ticks % TICKS == 0 and ticks < TICKS * FRAMES_OF_A_DAY else None
+        frame = frame_at(pts, self.origin)
         if units != self.units:
             self.open_run(units, (pts, frame))
         self.run += 1

@@ -1,9 +1,9 @@
 """The whole report: one XHTML page, with all that it needs in it."""
 import os
 
+from ..times import time_of
 from .manual import marked_up, shown
 from .places import block_place, frame_place, place_of_pts
-from .program import time_of
 
 GOOD = ('<svg viewBox="0 0 62 62"><circle cx="31" cy="31" r="27" fill="none" stroke="currentColor" '
         'stroke-width="5"/><path d="M17 32L28 43L46 20" fill="none" stroke="currentColor" '

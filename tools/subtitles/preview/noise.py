@@ -1,26 +1,10 @@
 """Files of PES packets at random, with wrong bits in them, for trying the receiver on."""
 import random
 
-from .receiver import CODE_WORDS
+from ..pes import pes_packet
+from ..teletext import packet
 
 PAGE = 0, 0x88  # magazine 8, page 88
-FIRST_LINE = 7
-
-
-def odd(code):
-    """A 7-bit code with odd parity."""
-    return code if bin(code).count("1") % 2 else code | 0x80
-
-
-def mirrored(data):
-    return bytes(int(f"{byte:08b}"[::-1], 2) for byte in data)
-
-
-def packet(magazine, number, numbers, codes):
-    """A packet: its address, the numbers of a header, and text bytes with odd parity."""
-    address = magazine + 8 * number
-    coded = bytes(CODE_WORDS[one] for one in (address & 15, address >> 4, *numbers))
-    return coded + bytes(map(odd, codes))
 
 
 def random_packet(chance):
@@ -41,18 +25,6 @@ def random_packet(chance):
     for _ in range(chance.choice([0, 0, 0, 1, 2, 5])):
         made[chance.randrange(42)] ^= 1 << chance.randrange(8)
     return bytes(made)
-
-
-def pes_packet(pts, packets):
-    """A PES packet of EN 300 472 with up to 16 Teletext packets."""
-    blocks = len(packets) // 4 + 1
-    times = [0x21 | pts >> 30 << 1, pts >> 22 & 255, pts >> 15 << 1 & 255 | 1, pts >> 7 & 255,
-             pts << 1 & 255 | 1]
-    made = b"\0\0\1\xbd" + (184 * blocks - 6).to_bytes(2, "big") + b"\x84\x80\x24" + bytes(times)
-    made += b"\xff" * 31 + b"\x10"
-    for line, one in enumerate(packets, FIRST_LINE):
-        made += bytes([3, 0x2C, 0xE0 | line, 0xE4]) + mirrored(one)
-    return made + (b"\xff\x2c" + b"\xff" * 44) * (4 * blocks - 1 - len(packets))
 
 
 def transmission(seed):

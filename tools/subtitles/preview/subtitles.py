@@ -3,9 +3,9 @@ import collections
 import html
 import itertools
 
+from ..times import time_of
 from .drawing import differences, empty_picture, is_boxed, picture
 from .letters import option_name
-from .program import time_of
 from .receiver import BLANK_PAGE, HIT, OLD, control_bits, lines_of, national_option
 from .timeline import MINUTE
 

@@ -3,7 +3,8 @@ import collections
 import os
 import subprocess
 
-TOP = os.path.dirname(os.path.dirname(os.path.dirname(os.path.realpath(__file__))))
+from . import TOP
+
 EXAMPLES = os.path.join(TOP, "examples")
 
 # `stl` and `pes` are the words of tools/poke, in examples/; `begins` is how the verdict begins.

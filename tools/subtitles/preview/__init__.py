@@ -11,6 +11,9 @@ subtitles  the pictures of each subtitle, as many as the report has room for
 places     the broken place: its frame, its packets, or its block of the subtitle file
 page       the whole report
 
-cases      transmissions for tools/check-preview and tools/preview-examples
+cases      transmissions for tools/check-preview
 noise      transmissions at random
 """
+import os
+
+TOP = os.path.realpath(os.path.join(os.path.dirname(__file__), "..", "..", ".."))

@@ -2,7 +2,7 @@
 import bisect
 import html
 
-from .program import time_of
+from ..times import time_of
 
 MINUTE = 1500  # in frames
 # How long a strip can be, what that is called, and how far its ticks are apart.

@@ -3,9 +3,10 @@ import bisect
 import os
 import tempfile
 
+from ..teletext import CODE_WORDS, NUMBER
+from ..times import CLOCK, FRAMES_OF_A_DAY, TICKS, time_of
 from .manual import shown
-from .program import CLOCK, FRAMES_OF_A_DAY, TICKS, time_of
-from .receiver import CODE_WORDS, HIT, NUMBER, STORED
+from .receiver import HIT, STORED
 
 FIRST_LINES, LAST_LINES = 200, 20  # of what `show` prints
 NAMED = ' class="named"'

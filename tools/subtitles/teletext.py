@@ -1,0 +1,54 @@
+"""Teletext packets of 42 bytes and their codes (EN 300 706)."""
+
+CODE_WORDS = bytes.fromhex("1502495E6473382FD0C78C9BA1B6FDEA")  # Hamming 8/4, of 0 to F
+# The number of each byte with at most one wrong bit, else `None`.
+NUMBER = [None] * 256
+for number, word in enumerate(CODE_WORDS):
+    for wrong in (0, 1, 2, 4, 8, 16, 32, 64, 128):
+        NUMBER[word ^ wrong] = number
+
+# Each byte with its bits in reverse: a data unit sends bit 1 first.
+MIRROR = bytes(int(f"{byte:08b}"[::-1], 2) for byte in range(256))
+
+
+def is_odd(byte):
+    return bin(byte).count("1") % 2 == 1
+
+
+def odd(code):
+    """A 7-bit code with odd parity."""
+    return code if is_odd(code) else code | 0x80
+
+
+def mirrored(data):
+    return data.translate(MIRROR)
+
+
+def packet(magazine, number, numbers, codes):
+    """A packet: its address, the eight numbers of a header, and text bytes with odd parity."""
+    address = magazine + 8 * number
+    coded = bytes(CODE_WORDS[one] for one in (address & 15, address >> 4, *numbers))
+    return coded + bytes(map(odd, codes))
+
+
+def address_of(data):
+    """The magazine, 0 for 8, and the packet number; `None` where an address byte means nothing."""
+    low, high = NUMBER[data[0]], NUMBER[data[1]]
+    return None if low is None or high is None else (low & 7, low + 16 * high >> 3)
+
+
+def header_of(data):
+    """The eight numbers of a page header, `None` where one of its bytes means nothing."""
+    numbers = [NUMBER[byte] for byte in data[2:10]]
+    return None if None in numbers else bytes(numbers)
+
+
+def page_of(text):
+    """The magazine and the page number of a page as 888; `None` where it names none."""
+    if len(text) != 3 or text[0] not in "12345678":
+        return None
+    try:
+        page = int(text[1:], 16) if text[1:].isalnum() and text.isascii() else 0xFF
+    except ValueError:
+        return None
+    return None if page == 0xFF else (int(text[0]) % 8, page)
