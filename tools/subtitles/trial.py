@@ -5,9 +5,10 @@ import subprocess
 import tempfile
 from collections import namedtuple
 
+from .stl import GSI, TTI
+
 NO_MEMORY = re.compile(rb"fault (91 Memory|58 Memory block \d+)\n")
 ANOTHER_USER = 65534
-GSI, BLOCK = 1024, 128  # bytes of the blocks of a subtitle file
 SECONDS = 2  # of the processor, for one run
 LONG_LOG = 1 << 20  # bytes of strace's log: a run with more of them does not end
 
@@ -158,7 +159,7 @@ def text_of_read(trial, command, name, offset):
     """What is printed where the read fails that begins at a byte of an input."""
     lines = command.printed.splitlines(True)
     if name.endswith(".stl"):
-        block = 0 if offset < GSI else (offset - GSI) // BLOCK + 1
+        block = 0 if offset < GSI else (offset - GSI) // TTI + 1
         before = lines[:max(block - 1, 0)] if command.words[0] == "show" else []
         return b"".join(before) + b"fault 26 Read block %d\n" % block
     index = packets_before(trial.inputs[name], offset)
