@@ -1,10 +1,10 @@
 """PES packets with Teletext (EN 300 472)."""
+from .files import Damaged
 from .teletext import mirrored
 
 START = b"\0\0\1\xbd"  # of a PES packet of private_stream_1
 FIRST_LINE = 7
 UNIT = 46  # bytes of a data unit
-DATA = 46  # where the data units begin: a header of 45 bytes, and the data_identifier
 STUFFING_UNIT = b"\xff\x2c" + b"\xff" * 44
 
 
@@ -28,3 +28,42 @@ def pes_packet(pts, packets):
     for line, one in enumerate(packets, FIRST_LINE):
         made += bytes([3, 0x2C, 0xE0 | line, 0xE4]) + mirrored(one)
     return made + STUFFING_UNIT * (4 * blocks - 1 - len(packets))
+
+
+def pes_packets(file):
+    """The PES packets of a file one after another; `Damaged` where it holds something else."""
+    rest, count = b"", 0
+    while piece := file.read(1 << 20):
+        rest += piece
+        at = 0
+        while len(rest) - at >= 6:
+            if not rest.startswith(START, at):
+                raise Damaged(f"PES packet {count} does not begin with 00 00 01 BD")
+            end = at + 6 + (rest[at + 4] << 8 | rest[at + 5])
+            if end > len(rest):
+                break
+            yield rest[at:end]
+            at, count = end, count + 1
+        rest = rest[at:]
+    if rest:
+        raise Damaged(f"PES packet {count} is cut")
+
+
+def has_pts(data):
+    """Whether a PES packet has a PTS, and a header that is long enough for it."""
+    return len(data) >= 14 and data[7] & 0x80 != 0
+
+
+def data_field(data):
+    """What stands after the header of a PES packet: a data_identifier, then data units."""
+    return data[9 + data[8]:] if len(data) > 9 else b""
+
+
+def teletext_packets(field):
+    """The Teletext packets of a data field, their bits in the order of EN 300 706."""
+    at, found = 1, []
+    while at + UNIT <= len(field):
+        if field[at] in (2, 3) and field[at + 1] == 0x2C:
+            found.append(mirrored(field[at + 4:at + UNIT]))
+        at += 2 + field[at + 1]
+    return found

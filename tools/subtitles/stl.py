@@ -1,10 +1,17 @@
-"""Blocks of subtitle files: a GSI block, then TTI blocks (EBU Tech 3264)."""
-from .times import time_code
+"""Blocks of subtitle files, written and read: a GSI block, then TTI blocks (EBU Tech 3264)."""
+import collections
+
+from .files import Damaged
+from .times import frame_of_code, time_code
 
 GSI, TTI, TEXT = 1024, 128, 112  # bytes of the blocks, and of a TTI block's text field
 USER_DATA, LAST = 0xFE, 0xFF  # extension block numbers (EBN)
 UNUSED, NEW_LINE = b"\x8f", b"\x8a"
 DOUBLE_HEIGHT, START_BOX, END_BOX = b"\x0d", b"\x0b", b"\x0a"
+LAST_OF_MORE = 0xEF  # the highest EBN of a block that others follow
+
+# `begin` and `end` are the four bytes of TCI and TCO, `text` the blocks' text joined.
+Subtitle = collections.namedtuple("Subtitle", "number begin end row justify text")
 
 
 def gsi_block(title, blocks, subtitles, first=0, language=b"09"):
@@ -53,3 +60,38 @@ def subtitle_blocks(number, begin, end, row, justify, text):
 def boxed(text, colour=b""):
     """A line of double height as most files have it, with its box codes twice around it."""
     return DOUBLE_HEIGHT + colour + START_BOX * 2 + text + END_BOX * 2
+
+
+def subtitles_in(data):
+    """The subtitles of a file, without comments and user data, as they stand; `Damaged` where a
+    block can't be read on.
+
+    Nothing is judged but what is needed for reading: `subttx check` does.
+    """
+    if len(data) < GSI or data[3:8] not in (b"STL25", b"STL30"):
+        raise Damaged("no subtitle file: its GSI block is cut, or has another format than STL")
+    if data[3:8] == b"STL30":
+        raise Damaged("30 frames a second: only files of 25 (STL25.01) can be read")
+    first, text, block = None, b"", 0
+    for block, at in enumerate(range(GSI, len(data), TTI), 1):
+        one = data[at:at + TTI]
+        if len(one) < TTI:
+            raise Damaged(f"block {block} is cut")
+        ebn = one[3]
+        if ebn == USER_DATA or one[15] == 1:
+            continue
+        if LAST_OF_MORE < ebn < LAST:
+            raise Damaged(f"block {block} has the reserved extension block number {ebn:02X}")
+        if first is not None and first[:3] != one[:3]:
+            raise Damaged(f"block {block} is of another subtitle than the one that it follows")
+        first, text = first or one, text + one[16:].split(UNUSED)[0]
+        if ebn == LAST:
+            yield Subtitle(first[1] + 256 * first[2], first[5:9], first[9:13], *first[13:15], text)
+            first, text = None, b""
+    if first is not None:
+        raise Damaged(f"the subtitle of block {block} has no last block")
+
+
+def times_of(subtitle):
+    """The frames of the day of a subtitle's TCI and TCO, `None` for what is no time of the day."""
+    return frame_of_code(subtitle.begin), frame_of_code(subtitle.end)
