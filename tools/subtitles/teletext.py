@@ -43,6 +43,22 @@ def header_of(data):
     return None if None in numbers else bytes(numbers)
 
 
+def page_in(header):
+    """The page number of a header's eight numbers, two hexadecimal digits."""
+    return header[0] + 16 * header[1]
+
+
+def headers_in(packets):
+    """Of some packets the page headers: the magazine, the page number and the eight numbers."""
+    found = []
+    for one in packets:
+        address = address_of(one)
+        header = header_of(one) if address and address[1] == 0 else None
+        if header:
+            found.append((address[0], page_in(header), header))
+    return found
+
+
 def page_of(text):
     """The magazine and the page number of a page as 888; `None` where it names none."""
     if len(text) != 3 or text[0] not in "12345678":
@@ -52,3 +68,8 @@ def page_of(text):
     except ValueError:
         return None
     return None if page == 0xFF else (int(text[0]) % 8, page)
+
+
+def page_name(magazine, page):
+    """A page as 888 of its magazine, 0 for 8, and its number."""
+    return f"{magazine or 8}{page:02X}"

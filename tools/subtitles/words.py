@@ -4,6 +4,9 @@ import contextlib
 import os
 import sys
 
+from .teletext import page_of
+from .times import CLOCK, frame_of
+
 
 class Stop(Exception):
     """The tool can't go on; the text is its line on standard error, the status 2."""
@@ -18,6 +21,36 @@ class Words(argparse.ArgumentParser):
 
     def error(self, message):
         raise Stop(message)
+
+
+def page_word(text):
+    """A page as 888: its magazine, 0 for 8, and its number."""
+    page = page_of(text)
+    if page is None:
+        raise argparse.ArgumentTypeError(f"{text} is no page: as 888, a digit from 1 to 8 and two "
+                                         "hexadecimal digits other than FF")
+    return page
+
+
+def time_word(text):
+    """A time of the day, as its frame."""
+    frame = frame_of(text)
+    if frame is None:
+        raise argparse.ArgumentTypeError(
+            f"{text} is no time of the day: HH:MM:SS:FF, 25 frames a second")
+    return frame
+
+
+def origin_word(text):
+    """The PTS of 00:00:00:00."""
+    if not (text.isascii() and text.isdecimal() and int(text) < CLOCK):
+        raise argparse.ArgumentTypeError(f"{text} is no PTS: 0 to {CLOCK - 1}")
+    return int(text)
+
+
+def add_page(parser):
+    parser.add_argument("--page", type=page_word, default=(0, 0x88), metavar="P",
+                        help="the page, 888 where it is left out")
 
 
 def tell(line):
