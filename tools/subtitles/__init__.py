@@ -5,7 +5,9 @@ stl        blocks of subtitle files (EBU Tech 3264)
 letters    the letters of their text (ISO 6937)
 teletext   Teletext packets and their codes (EN 300 706)
 pes        PES packets with Teletext (EN 300 472)
-transport  MPEG transport streams (ISO/IEC 13818-1)
+transport  MPEG transport streams, read (ISO/IEC 13818-1)
+listing    their PIDs with Teletext, and the pages of these
+multiplex  a transport stream with Teletext, written
 votes      the origin for which the edges of subtitles vote
 words      words of a command line, and how a tool ends
 files      files that are written whole or not at all

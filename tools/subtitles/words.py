@@ -7,6 +7,8 @@ import sys
 from .teletext import page_of
 from .times import CLOCK, frame_of
 
+NO_PID = 0x1FFF  # of the packets of a transport stream that hold nothing
+
 
 class Stop(Exception):
     """The tool can't go on; the text is its line on standard error, the status 2."""
@@ -46,6 +48,17 @@ def origin_word(text):
     if not (text.isascii() and text.isdecimal() and int(text) < CLOCK):
         raise argparse.ArgumentTypeError(f"{text} is no PTS: 0 to {CLOCK - 1}")
     return int(text)
+
+
+def pid_word(text):
+    """A PID, decimal or as 0x101."""
+    try:
+        pid = int(text, 0)
+    except ValueError:
+        pid = NO_PID
+    if not 0 <= pid < NO_PID:
+        raise argparse.ArgumentTypeError(f"{text} is no PID: 0 to 8190, or as 0x101")
+    return pid
 
 
 def add_page(parser):

@@ -1,0 +1,165 @@
+"""The PIDs of a transport stream with Teletext, and their pages (ISO/IEC 13818-1, EN 300 468)."""
+import functools
+
+from .pes import START, UNIT
+from .teletext import MIRROR, NUMBER, mirrored, page_in, page_name
+from .transport import ADAPTED, PACKET, Joiner, Stream, beginnings, crc
+
+PAT, PMT = 0, 2  # tables; the first is also its PID
+TELETEXT, VBI_TELETEXT = 0x56, 0x46  # descriptors
+KINDS = {1: "initial page", 2: "subtitles", 3: "additional information", 4: "programme schedule",
+         5: "subtitles for the hard of hearing"}
+IDENTIFIERS = range(0x10, 0x20)  # data_identifier of EBU data
+SUBTITLE = 8  # C6, in the sixth number of a header
+SHOWN = 12  # pages of a line
+STUFFING = 0xFF  # after the last section of a packet
+# The magazine by the two address bytes of a page header as a data unit sends them.
+HEADERS = {bytes([MIRROR[low], MIRROR[high]]): NUMBER[low] for low in range(256)
+           for high in range(256) if NUMBER[high] == 0 and NUMBER[low] in range(8)}
+
+
+@functools.lru_cache(maxsize=1 << 12)
+def subtitle_page(coded):
+    """The page of a header with the subtitle bit, by its eight coded bytes as a data unit sends
+    them."""
+    numbers = [NUMBER[byte] for byte in mirrored(coded)]
+    return page_in(numbers) if None not in numbers and numbers[5] & SUBTITLE else None
+
+
+class Tables:
+    """The sections of a PID, each once."""
+
+    def __init__(self, pid):
+        self.stream, self.rest, self.known = Stream(pid), None, set()
+        self.whole = set()  # payloads that begin and end sections, and were read
+
+    def new_sections(self, piece):
+        for begins, data in self.stream.payloads(piece):
+            if begins and data in self.whole:
+                self.rest = None
+                continue
+            payload = data
+            if begins and data:
+                yield from self.take(data[1:1 + data[0]])
+                self.rest, data = b"", data[1 + data[0]:]
+            yield from self.take(data)
+            if begins and self.rest and self.rest[0] == STUFFING and not payload[0]:
+                self.whole.add(payload)
+
+    def take(self, data):
+        """The sections that end in some bytes and that were not there before."""
+        if self.rest is None:
+            return  # none has begun
+        self.rest += data
+        while len(self.rest) >= 3 and self.rest[0] != STUFFING:
+            length = 3 + (self.rest[1] << 8 & 0xF00 | self.rest[2])
+            if len(self.rest) < length:
+                break
+            one, self.rest = self.rest[:length], self.rest[length:]
+            if one not in self.known:
+                self.known.add(one)
+                if crc(one) == 0:
+                    yield one
+
+
+class Teletext:
+    """A PID with Teletext: what is announced of it, and the subtitle pages that are sent."""
+
+    def __init__(self, pid):
+        self.joiner = Joiner(Stream(pid))
+        self.announced, self.sent = [], set()
+
+    def take(self, piece):
+        for data in self.joiner.ended(piece):
+            self.hear(data)
+
+    def hear(self, data):
+        """Takes the pages of a PES packet whose headers have the subtitle bit."""
+        first = 10 + data[8] if len(data) > 9 else len(data)
+        for at in range(first, len(data) - UNIT + 1, UNIT):
+            if data[at] in (2, 3):
+                magazine = HEADERS.get(data[at + 4:at + 6])
+                page = subtitle_page(data[at + 6:at + 14]) if magazine is not None else None
+                if page is not None:
+                    self.sent.add((magazine or 8, page))
+
+    def line(self):
+        """What is known of the PID."""
+        if self.joiner.data is not None:
+            self.hear(self.joiner.data)
+        pages = [page_name(*page) for page in sorted(self.sent)]
+        more = [f"and {len(pages) - SHOWN} more"] if len(pages) > SHOWN else []
+        announced = ", ".join(dict.fromkeys(self.announced)) or "nothing"
+        sent = " ".join(pages[:SHOWN] + more) or "none"
+        return (f"PID 0x{self.joiner.stream.pid:X}: announced {announced}; "
+                f"subtitle pages sent: {sent}")
+
+
+class Listing:
+    """The PIDs with Teletext of a file that is read in pieces, in `streams`; `others` have none."""
+
+    def __init__(self):
+        self.tables, self.streams, self.others = {PAT: Tables(PAT)}, {}, {}
+
+    def take(self, piece):
+        """Hears a piece of the file; what it announces is heard from its beginning."""
+        done = set()
+        while waiting := self.tables.keys() - done:
+            for pid in waiting:
+                for section in self.tables[pid].new_sections(piece):
+                    self.read(pid, section)
+            done |= waiting
+        self.find_unannounced(piece)
+        for stream in self.streams.values():
+            stream.take(piece)
+
+    def read(self, pid, section):
+        """Takes what a section announces: PIDs of programmes, or Teletext with its pages."""
+        if pid == PAT and section[0] == 0:
+            for at in range(8, len(section) - 4, 4):
+                if section[at:at + 2] != b"\0\0":  # programme 0 is the network's own table
+                    programme = int.from_bytes(section[at + 2:at + 4], "big") & 0x1FFF
+                    self.tables.setdefault(programme, Tables(programme))
+        elif section[0] == PMT:
+            programme = int.from_bytes(section[3:5], "big")
+            at = 12 + (section[10] << 8 & 0xF00 | section[11])
+            while at + 5 <= len(section) - 4:
+                stream = int.from_bytes(section[at + 1:at + 3], "big") & 0x1FFF
+                end = at + 5 + (section[at + 3] << 8 & 0xF00 | section[at + 4])
+                for page in announced_pages(section[at + 5:end]):
+                    known = self.streams.setdefault(stream, Teletext(stream))
+                    known.announced.append(f"{page} in programme {programme}")
+                at = end
+
+    def find_unannounced(self, piece):
+        """PIDs whose PES packets are those of Teletext, whatever is announced."""
+        known = [*(stream.joiner.stream for stream in self.streams.values()),
+                 *(tables.stream for tables in self.tables.values()), *self.others.values()]
+        for at in beginnings(piece, known):
+            pid = int.from_bytes(piece.data[at + 1:at + 3], "big") & 0x1FFF
+            if pid in self.streams or pid in self.others:
+                continue
+            start = at + 4 + (1 + piece.data[at + 4] if piece.data[at + 3] & ADAPTED else 0)
+            data = piece.data[start:at + PACKET]
+            if data.startswith(START) and len(data) > 9 + data[8] \
+                    and data[9 + data[8]] in IDENTIFIERS:
+                self.streams[pid] = Teletext(pid)
+            elif data.startswith(START[:3]):
+                self.others[pid] = Stream(pid)  # another kind of PES packets
+
+    def lines(self):
+        return [self.streams[pid].line() for pid in sorted(self.streams)]
+
+
+def announced_pages(descriptors):
+    """The pages of the Teletext descriptors among some descriptors, each as words."""
+    at = 0
+    while at + 2 <= len(descriptors):
+        tag, end = descriptors[at], at + 2 + descriptors[at + 1]
+        if tag in (TELETEXT, VBI_TELETEXT):
+            for entry in range(at + 2, end - 4, 5):
+                language = descriptors[entry:entry + 3].decode("latin-1")
+                kind, magazine = divmod(descriptors[entry + 3], 8)
+                name = page_name(magazine, descriptors[entry + 4])
+                yield f"{name} {language} {KINDS.get(kind, 'of an unknown kind')}"
+        at = end
