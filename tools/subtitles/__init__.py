@@ -8,6 +8,7 @@ pes        PES packets with Teletext (EN 300 472)
 transport  MPEG transport streams, read (ISO/IEC 13818-1)
 listing    their PIDs with Teletext, and the pages of these
 multiplex  a transport stream with Teletext, written
+sent       the PTS at which the text of a page changes
 votes      the origin for which the edges of subtitles vote
 words      words of a command line, and how a tool ends
 files      files that are written whole or not at all

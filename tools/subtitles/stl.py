@@ -10,6 +10,13 @@ UNUSED, NEW_LINE = b"\x8f", b"\x8a"
 DOUBLE_HEIGHT, START_BOX, END_BOX = b"\x0d", b"\x0b", b"\x0a"
 LAST_OF_MORE = 0xEF  # the highest EBN of a block that others follow
 
+# The cells of text bytes in Teletext where they are others, by the national option (own); in German
+# some letters are C8 and another one.
+CELLS = {"english": {0x23: 0x5F, 0xA3: 0x23, 0xA4: 0x24},
+         "german": {0xA4: 0x24, 0xA7: 0x40, 0xB0: 0x60, 0xFB: 0x7E}}
+DIAERESES = {b"\xc8A": b"[", b"\xc8O": b"\\", b"\xc8U": b"]",
+             b"\xc8a": b"{", b"\xc8o": b"|", b"\xc8u": b"}"}
+
 # `begin` and `end` are the four bytes of TCI and TCO, `text` the blocks' text joined.
 Subtitle = collections.namedtuple("Subtitle", "number begin end row justify text")
 
@@ -95,3 +102,12 @@ def subtitles_in(data):
 def times_of(subtitle):
     """The frames of the day of a subtitle's TCI and TCO, `None` for what is no time of the day."""
     return frame_of_code(subtitle.begin), frame_of_code(subtitle.end)
+
+
+def letters_on_page(text, option):
+    """The codes of a text's letters on the page, without spaces and without what has no code."""
+    if option == "german":
+        for pair, cell in DIAERESES.items():
+            text = text.replace(pair, cell)
+    cells = CELLS[option]
+    return bytes(cells.get(byte, byte) for byte in text if 0x21 <= byte <= 0x7E or byte in cells)
