@@ -91,17 +91,18 @@ class Election:
         """How the edges agree with an origin."""
         low = bisect.bisect_left(self.frames, start)
         high = bisect.bisect_right(self.frames, start + self.length)
-        letters, ticks, other = 0, collections.Counter(), None
+        letters, ticks, other = 0, [], None
         for edge in self.edges[low:high]:
             change = self.changes.get(edge.frame - start)
             if change:
-                ticks[change[1]] += 1
+                ticks.append(change[1])
                 letters += change[0] == edge.letters
             elif other is None:
                 other = edge.frame
-        rest, exact = ticks.most_common(1)[0] if ticks else (0, 0)
+        # Where PTS are not whole frames apart, the origin is in the middle of what they say.
+        rest = sorted(ticks)[len(ticks) // 2] if ticks else 0
         origin = (self.first + rest - TICKS * start) % CLOCK
-        return Fit(origin, sum(ticks.values()), letters, exact, high - low, other, start)
+        return Fit(origin, len(ticks), letters, ticks.count(rest), high - low, other, start)
 
     def apart(self, fit):
         """Whether beginnings and ends agree, but a constant number of frames apart.

@@ -2,11 +2,13 @@
 import argparse
 import contextlib
 import os
+import re
 import sys
 
 from .teletext import page_of
 from .times import CLOCK, frame_of
 
+INSTALLED = "subttx-"  # before the names of tools that are installed
 NO_PID = 0x1FFF  # of the packets of a transport stream that hold nothing
 
 
@@ -20,6 +22,12 @@ class Words(argparse.ArgumentParser):
     def __init__(self, text):
         super().__init__(description=text, usage=argparse.SUPPRESS, allow_abbrev=False,
                          formatter_class=argparse.RawDescriptionHelpFormatter)
+
+    def format_help(self):
+        """The help; where the tools are installed, it calls them by the names that they have."""
+        text = super().format_help()
+        is_installed = self.prog.startswith(INSTALLED)
+        return re.sub(r"\btools/(\w+)", INSTALLED + r"\1", text) if is_installed else text
 
     def error(self, message):
         raise Stop(message)

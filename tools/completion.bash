@@ -1,0 +1,65 @@
+# Completion of the command line of subttx, and of the tools that are installed with it, for bash.
+# tools/install puts it where bash looks for it; else: source tools/completion.bash
+
+# Words that begin as the one that is typed; files where there are none to choose from.
+_subttx_words() {
+    local IFS=$' \t\n'
+    mapfile -t COMPREPLY < <(compgen -W "$1" -- "$2")
+}
+
+_subttx_files() {
+    compopt -o filenames 2>/dev/null
+    mapfile -t COMPREPLY < <(compgen -f -- "$1")
+}
+
+# What an option takes; status 1 where the word before is none with a value to choose.
+_subttx_value() {
+    case $1 in
+        --option) _subttx_words 'english german' "$2" ;;
+        --receiver) _subttx_words 'blank drop keep' "$2" ;;
+        --page | --every | --origin | --at | --skip | --flip | --lose | --from | --to) COMPREPLY=() ;;
+        *) return 1 ;;
+    esac
+}
+
+_subttx() {
+    local word=${COMP_WORDS[COMP_CWORD]} before=${COMP_WORDS[COMP_CWORD - 1]} command= at options
+    for ((at = 1; at < COMP_CWORD; at++)); do
+        case ${COMP_WORDS[at]} in
+            packet | packets | show | normal | schedule | check | listen)
+                command=${COMP_WORDS[at]}
+                break
+                ;;
+        esac
+    done
+    case $command in
+        '')
+            _subttx_words 'packet packets show normal schedule check listen' "$word"
+            return
+            ;;
+        schedule) options='--page --every --origin --option --serial' ;;
+        check) options='--page --every --origin --option --complete --all' ;;
+        listen) options='--page --origin --at --skip --flip --lose --receiver --complete' ;;
+        *) options= ;;
+    esac
+    _subttx_value "$before" "$word" && return
+    case $word in
+        -*) _subttx_words "$options" "$word" ;;
+        *) _subttx_files "$word" ;;
+    esac
+}
+
+# The options of a tool are those that its --help names.
+_subttx_tool() {
+    local word=${COMP_WORDS[COMP_CWORD]} before=${COMP_WORDS[COMP_CWORD - 1]}
+    _subttx_value "$before" "$word" && return
+    case $word in
+        -*) _subttx_words "$("$1" --help 2>/dev/null |
+            grep -oE '(^|[ ,[])--?[a-z]+' | tr -d ' ,[' | sort -u)" "$word" ;;
+        *) _subttx_files "$word" ;;
+    esac
+}
+
+complete -F _subttx subttx
+complete -F _subttx_tool subttx-cut subttx-origin subttx-pes2ts subttx-preview subttx-text \
+    subttx-ts2pes
