@@ -1,0 +1,1 @@
+"""What tools/check-tools does: each part has its CASES, functions of a bench."""

@@ -1,0 +1,90 @@
+"""tools/cut: the PES packets of some frames, byte by byte."""
+import os
+import random
+
+from ..times import CLOCK, TICKS, time_of
+from .bench import example, example_bytes, moved, packets, random_subtitles
+
+ORIGIN = CLOCK - TICKS * 1_000_000  # the PTS begin again at the frame 1,000,000
+
+
+def is_accepted_after(case):
+    """A recording that began early and ended late is accepted once it is cut, at any origin."""
+    data, edges = random_subtitles(21)
+    stl = case.write("cut.stl", data)
+    case.schedule(stl, "own.pes", "--every", "50", "--origin", str(ORIGIN))
+    own = packets(case.read("own.pes"))
+    before = moved(own[0], lambda _, pts: pts - 60 * TICKS)  # a subtitle of somebody else
+    after = moved(own[0], lambda _, pts: pts + 60 * TICKS * 1500)
+    pes = case.write("long.pes", before + b"".join(own) + after)
+    words = ["--origin", str(ORIGIN), "--every", "50"]
+    case.test("refused before", case.program("check", stl, pes, *words)[0] == 1)
+    first, last = time_of(edges[0]), time_of(edges[-1])
+    done = case.tool("cut", pes, "--from", first, "--to", last, *words[:2], "-o", "cut.pes")
+    case.test("its line", done.status == 0 and done.out.decode() ==
+              f"{len(own)} of {len(own) + 2} PES packets, from {first} to {last}\n", done)
+    case.test("its bytes", case.read("cut.pes") == b"".join(own))
+    status, lines = case.program("check", stl, case.path("cut.pes"), *words)
+    case.test("accepted", status == 0, lines)
+
+
+def keeps_the_frames_that_are_asked(case):
+    """At random times: what is kept is what lies between, as `packets` lists the PTS."""
+    pes, origin = example("story.pes"), 0
+    listed = [int(line.split()[3]) for line in case.program("packets", pes)[1]
+              if line.startswith("pes ")]
+    frames = [(pts - origin) // TICKS for pts in listed]
+    data = packets(example_bytes("story.pes"))
+    for seed in range(20):
+        chance = random.Random(seed)
+        begin, end = sorted(chance.choice(frames) + chance.randrange(-1, 2) for _ in range(2))
+        done = case.tool("cut", pes, "--from", time_of(begin), "--to", time_of(end),
+                         "-o", f"{seed}.pes")
+        wanted = [one for one, frame in zip(data, frames) if begin <= frame <= end]
+        is_there = os.path.exists(case.path(f"{seed}.pes"))
+        case.test(f"seed {seed}", done.status == (0 if wanted else 1) and is_there == bool(wanted)
+                  and (not wanted or case.read(f"{seed}.pes") == b"".join(wanted)), done)
+
+
+def begins_with_a_header(case):
+    """PES packets before the first header of the page are left out, later ones are not."""
+    own = packets(example_bytes("story.pes"))
+    hidden = b"".join(one[:46] + b"\xff" + one[47:] if number in (0, 1, 3) else one
+                      for number, one in enumerate(own))
+    words = ["--from", "20:15:00:00", "--to", "20:15:09:00", "-o"]
+    done = case.tool("cut", case.write("hidden.pes", hidden), *words, "some.pes")
+    case.test("from the third on", case.read("some.pes") == b"".join(packets(hidden)[2:]), done)
+    done = case.tool("cut", example("story.pes"), *words, "none.pes", "--page", "100")
+    case.test("another page", done.status == 1 and not os.path.exists(case.path("none.pes")), done)
+
+
+def keeps_what_is_broken(case):
+    """Nothing that `check` has to see is mended: PTS between frames, none, bytes that are wrong."""
+    own = packets(example_bytes("story.pes"))
+    own[1] = moved(own[1], lambda _, pts: pts + 17)
+    own[2] = own[2][:7] + b"\0" + own[2][8:]
+    own[3] = own[3][:100] + b"\0" * (len(own[3]) - 100)
+    pes = case.write("broken.pes", b"".join(own))
+    words = ["--from", "20:15:00:00", "--to", "20:15:09:00", "-o", "kept.pes"]
+    done = case.tool("cut", pes, *words)
+    case.test("all five", done.status == 0 and case.read("kept.pes") == b"".join(own), done)
+    done = case.tool("cut", case.write("cut.pes", b"".join(own)[:-1]), *words)
+    case.test("a cut recording", done.status == 1 and case.read("kept.pes") == b"".join(own[:-1])
+              and "PES packet 4 is cut" in done.told[0], done)
+
+
+def leaves_outputs_alone(case):
+    old = case.write("old.pes", b"as it was")
+    done = case.tool("cut", example("story.pes"), "--from", "01:00:00:00", "--to", "02:00:00:00",
+                     "-o", old)
+    case.test("nothing to write", done.status == 1 and case.read("old.pes") == b"as it was", done)
+    pes = case.write("in.pes", example_bytes("story.pes"))
+    os.symlink(pes, case.path("link.pes"))
+    for out in (pes, case.path("link.pes")):
+        done = case.tool("cut", pes, "--from", "20:15:00:00", "--to", "20:15:09:00", "-o", out)
+        case.test(f"the input as {os.path.basename(out)}", done.status == 2
+                  and case.read("in.pes") == example_bytes("story.pes"), done)
+
+
+CASES = [is_accepted_after, keeps_the_frames_that_are_asked, begins_with_a_header,
+         keeps_what_is_broken, leaves_outputs_alone]

@@ -1,0 +1,115 @@
+"""tools/install and tools/dist: what they make is run from another folder."""
+import os
+import re
+import shutil
+import subprocess
+import tarfile
+
+from ..built import BUILT, TOP, prover_line, read, sources
+from ..words import Stop
+from .bench import example
+
+TIMES = ["--from", "20:15:00:00", "--to", "20:15:09:00"]
+COMPLETE = '''source "$1"
+COMP_WORDS=("${@:2}")
+COMP_CWORD=$((${#COMP_WORDS[@]} - 1))
+if [ "$2" = subttx ]; then _subttx; else _subttx_tool "$2"; fi
+printf '%s\\n' "${COMPREPLY[@]}"
+'''
+
+
+def installs(case):
+    """The program and the tools, also when the folder was moved."""
+    done = case.tool("install", "-p", case.bench.program, "first/prefix")
+    case.test("status", done.status == 0, done)
+    os.rename(case.path("first/prefix"), case.path("moved"))
+    paths = [path.replace("first/prefix", case.path("moved"))
+             for path in done.out.decode().splitlines()]
+    case.test("each file that is told", paths and all(map(os.path.exists, paths)), paths)
+    again = case.tool("install", "-p", case.bench.program, "moved")
+    case.test("once more over it", again.status == 0, again)
+    runs_the_whole_way(case, case.path("moved"))
+
+
+def runs_the_whole_way(case, prefix):
+    """From a recording to a verdict, with the tools of a prefix."""
+    def run(name, *words):
+        return case.call([os.path.join(prefix, "bin", name), *words])
+
+    stl = example("story.stl")
+    stream = run("subttx-pes2ts", example("story.pes"), "0x101")
+    recording = run("subttx-ts2pes", case.write("story.ts", stream.out), "0x101")
+    pes = case.write("recording.pes", recording.out)
+    origin = run("subttx-origin", stl, pes).out.decode().split()
+    case.test("origin", origin == ["--origin", "0"], origin)
+    done = run("subttx-cut", pes, *TIMES, *origin, "-o", "cut.pes")
+    case.test("cut", done.status == 0, done)
+    done = run("subttx", "check", stl, "cut.pes", *origin)
+    case.test("check", done.out == b"accepted 226 frames 5 transmissions\n", done)
+    done = run("subttx-text", stl)
+    case.test("text", done.out.endswith(b"3 subtitles\n"), done)
+    done = run("subttx-preview", stl, "cut.pes", *origin, "-o", "report.html")
+    case.test("preview", (done.status, done.out) ==
+              (0, b"accepted 226 frames 5 transmissions\n"), done)
+    done = run("subttx-cut", "--help")
+    case.test("its own names in the help", b"subttx-cut PES" in done.out
+              and b"tools/" not in done.out, done)
+
+
+def completes(case):
+    """Commands, and the options of each command that the manual names; those of a tool."""
+    if not shutil.which("bash"):
+        case.bench.over.append("completion, since there is no bash")
+        return
+
+    def offered(*words):
+        done = case.call(["bash", "-c", COMPLETE, "bash",
+                          os.path.join(TOP, "tools", "completion.bash"), *words])
+        return set(done.out.decode().split())
+
+    manual = read(os.path.join(TOP, "docs", "MANUAL.md"))
+    headings = re.findall(r"^### `(\w+) (.*)`$", manual, re.MULTILINE)
+    case.test("commands", offered("subttx", "") == {name for name, _ in headings}, headings)
+    for name, words in headings:
+        options = set(re.findall(r"--\w+", words))
+        case.test(name, options <= offered("subttx", name, "-"), (options, name))
+    case.test("values", offered("subttx", "check", "--option", "g") == {"german"})
+    tool = os.path.join(TOP, "tools", "cut")
+    case.test("a tool", {"--from", "--to", "--page", "--origin", "-o"} <= offered(tool, "-"),
+              offered(tool, "-"))
+
+
+def names_one_version(case):
+    version = (read(os.path.join(TOP, "VERSION")) or "none").strip()
+    page = read(os.path.join(TOP, "docs", "subttx.1"))
+    case.test("the man page", re.search(rf'^\.TH .*"subttx {re.escape(version)}"', page, re.M))
+    log = re.search(r"^## (\S+)", read(os.path.join(TOP, "CHANGELOG.md")), re.M)
+    case.test("the change log", log and log[1].rstrip(",") == version, log)
+
+
+def makes_an_archive(case):
+    """The archive's sums are right, and what is in it runs; twice the same bytes."""
+    try:
+        line = prover_line()
+        is_built = read(BUILT + ".sources").strip() == sources()
+    except (Stop, AttributeError):
+        is_built = False
+    if not is_built or not shutil.which("rt"):
+        case.bench.over.append("tools/dist, since the program is not built here for these sources")
+        return
+    done = case.tool("dist")
+    path = case.path(done.out.decode().strip())
+    case.test("status", done.status == 0, done)
+    before = case.read(path)
+    case.tool("dist")
+    case.test("the same bytes again", case.read(path) == before)
+    with tarfile.open(path) as archive:
+        archive.extractall(case.folder)
+        folder = case.path(archive.getnames()[0])
+    sums = subprocess.run(["sha256sum", "--quiet", "-c", "SHA256SUMS"], cwd=folder, check=False)
+    case.test("its sums", sums.returncode == 0)
+    case.test("the prover's line", read(os.path.join(folder, "PROVED")).startswith(line))
+    runs_the_whole_way(case, folder)
+
+
+CASES = [installs, completes, names_one_version, makes_an_archive]

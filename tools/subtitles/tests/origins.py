@@ -1,0 +1,133 @@
+"""tools/origin: the origin that a transmission was given is found again."""
+import random
+
+from ..stl import gsi_block, subtitle_blocks
+from ..times import CLOCK, TICKS
+from .bench import example, example_bytes, moved, packets, random_subtitles
+
+SEEDS = range(12)
+
+
+def origin_of(case, stl, data, *words):
+    """Status, the origin that is printed, and the lines beside it."""
+    done = case.tool("origin", stl, case.write("asked.pes", data), *words)
+    words = done.out.decode().split()
+    return done.status, int(words[1]) if words else None, done.told
+
+
+def finds_that_of_the_examples(case):
+    for name, *words in (["hello"], ["story"], ["german", "--option", "german"]):
+        for given in (0, 2029060592, CLOCK - 1, 813_000_017):
+            data = moved(example_bytes(name + ".pes"), lambda _, pts, given=given: pts + given)
+            found = origin_of(case, example(name + ".stl"), data, *words)
+            case.test(f"{name}, {given}", found[:2] == (0, given), found)
+
+
+def finds_that_of_transmissions_at_random(case):
+    """Also where the PTS begin again, and in a part of the recording; `check` accepts with it."""
+    for seed in SEEDS:
+        chance = random.Random(seed)
+        data, edges = random_subtitles(seed)
+        stl = case.write("random.stl", data)
+        wraps = (CLOCK - TICKS * edges[len(edges) // 2]) % CLOCK
+        given = chance.choice([chance.randrange(CLOCK), wraps])
+        page, every = chance.choice(["888", "12A", "701"]), str(chance.randrange(5, 500))
+        pes = case.schedule(stl, "random.pes", "--page", page, "--every", every,
+                            "--origin", str(given))
+        whole = case.read("random.pes")
+        found = origin_of(case, stl, whole, "--page", page)
+        case.test(f"seed {seed}", found[:2] == (0, given), found)
+        status, lines = case.program("check", stl, pes, "--page", page, "--every", every,
+                                     "--origin", str(found[1]))
+        case.test(f"seed {seed}: check", status == 0, lines)
+        some = packets(whole)
+        part = b"".join(some[len(some) // 3:2 * len(some) // 3])
+        found = origin_of(case, stl, part, "--page", page)
+        case.test(f"seed {seed}, a part", found[:2] == (0, given), found)
+
+
+def finds_it_where_sendings_are_lost(case):
+    """With a third of the PES packets lost, and letters that another inserter leaves out."""
+    for seed in SEEDS:
+        chance = random.Random(seed)
+        data, _ = random_subtitles(seed)
+        stl = case.write("lost.stl", data)
+        case.schedule(stl, "lost.pes", "--origin", "90000", "--every", "1500")
+        kept = [one for one in packets(case.read("lost.pes")) if chance.random() < 0.67]
+        found = origin_of(case, stl, b"".join(kept))
+        case.test(f"seed {seed}", found[:2] == (0, 90000), found)
+
+
+def tells_that_all_is_late(case):
+    late = moved(example_bytes("story.pes"), lambda _, pts: pts + 2 * TICKS)
+    found = origin_of(case, example("story.stl"), late)
+    case.test("beside 0", found[:2] == (0, 7200)
+              and "origin: that is 2 frames late beside --origin 0" in found[2], found)
+    early = moved(example_bytes("story.pes"), lambda _, pts: pts + 5_000_000_000 - TICKS)
+    found = origin_of(case, example("story.stl"), early, "--origin", "5000000000")
+    case.test("beside one that is known", found[:2] == (0, 4_999_996_400) and
+              "origin: that is 1 frame early beside --origin 5000000000" in found[2], found)
+
+
+def tells_that_ends_are_late(case):
+    data, edges = random_subtitles(3)
+    stl = case.write("ends.stl", data)
+    case.schedule(stl, "ends.pes", "--every", "1500")
+    begins = {TICKS * frame for frame in edges[::2]}
+    late = moved(case.read("ends.pes"), lambda _, pts: pts if pts in begins else pts + 3 * TICKS)
+    found = origin_of(case, stl, late)
+    case.test("three frames", found[:2] == (0, 0)
+              and "origin: all ends are 3 frames late beside the beginnings" in found[2], found)
+
+
+def tells_jitter(case):
+    data, _ = random_subtitles(4)
+    stl = case.write("jitter.stl", data)
+    case.schedule(stl, "jitter.pes")
+    chance = random.Random(4)
+    shaken = moved(case.read("jitter.pes"), lambda _, pts: pts + chance.randrange(-250, 251))
+    status, found, told = origin_of(case, stl, shaken)
+    away = min(found, CLOCK - found)
+    case.test("milliseconds", status == 0 and away < 100
+              and any("refused as 61" in line for line in told), (found, told))
+
+
+def tells_what_is_not_unique(case):
+    """Subtitles that are all alike, of which the recording has some."""
+    blocks = [subtitle_blocks(number, 100 * number, 100 * number + 50, 22, 2, b"Again")
+              for number in range(30)]
+    stl = case.write("alike.stl", gsi_block(b"Alike", 30, 30) + b"".join(blocks))
+    case.schedule(stl, "alike.pes")
+    some = packets(case.read("alike.pes"))
+    status, _, told = origin_of(case, stl, b"".join(some[10:20]))
+    case.test("some of them", status == 1 and any("not unique" in line for line in told), told)
+    status, found, told = origin_of(case, stl, b"".join(some))
+    case.test("all of them", (status, found) == (0, 0), told)
+
+
+def tells_what_does_not_fit(case):
+    other = case.write("other.stl", random_subtitles(7)[0])
+    data, _ = random_subtitles(8)
+    case.schedule(case.write("own.stl", data), "own.pes")
+    status, _, told = origin_of(case, other, case.read("own.pes"))
+    case.test("another subtitle file", status == 1 and "fewer than half" in told[-2], told)
+    status, found, told = origin_of(case, case.path("own.stl"), case.read("own.pes"), "--page",
+                                    "100")
+    case.test("another page", (status, found) == (1, None) and told[0].endswith("pages: 888"), told)
+
+
+def goes_on_with_damaged_files(case):
+    cut = example_bytes("story.pes")[:-1]
+    status, found, told = origin_of(case, example("story.stl"), cut)
+    case.test("a cut PES packet", (status, found) == (0, 0) and "PES packet 4 is cut" in told[0],
+              told)
+    first = example_bytes("story.pes")
+    without = first[:7] + b"\0" + first[8:]
+    status, found, told = origin_of(case, example("story.stl"), without)
+    case.test("a PES packet without a PTS", (status, found) == (0, 0), told)
+
+
+CASES = [finds_that_of_the_examples, finds_that_of_transmissions_at_random,
+         finds_it_where_sendings_are_lost, tells_that_all_is_late, tells_that_ends_are_late,
+         tells_jitter, tells_what_is_not_unique, tells_what_does_not_fit,
+         goes_on_with_damaged_files]

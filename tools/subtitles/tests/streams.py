@@ -1,0 +1,137 @@
+"""tools/ts2pes and tools/pes2ts: transport streams, there and back, whole and damaged."""
+import random
+import time
+
+from .bench import example, example_bytes
+
+PID = "0x101"
+EXAMPLE_FILES = ["hello.pes", "hello-25.pes", "story.pes", "german.pes", "no-end.pes"]
+PAYLOAD = 184
+FAST = 100  # MB of transport stream a second, where --speed is asked for
+
+
+def stream_of(case, name, *words):
+    """An example as a transport stream, its packets as a list."""
+    done = case.tool("pes2ts", example(name), PID, *words)
+    assert done.status == 0, done
+    return [done.out[at:at + 188] for at in range(0, len(done.out), 188)]
+
+
+def extracted(case, data, pid=PID):
+    return case.tool("ts2pes", case.write("asked.ts", data), pid)
+
+
+def of_the_pid(packets, pid=0x101):
+    """The numbers of the packets of a PID."""
+    return [number for number, one in enumerate(packets)
+            if int.from_bytes(one[1:3], "big") & 0x1FFF == pid]
+
+
+def goes_there_and_back(case):
+    for name in EXAMPLE_FILES:
+        packets, pes = stream_of(case, name), example_bytes(name)
+        for what, data in {
+                "188 bytes": b"".join(packets),
+                "192 bytes": b"".join(b"TIME" + one for one in packets),
+                "204 bytes": b"".join(one + b"\x47" * 16 for one in packets),
+                "from the middle of a packet": packets[0][77:] + b"".join(packets),
+                "each packet twice": b"".join(one + one for one in packets),
+                "bytes lost between": b"".join(packets[:1]) + packets[1][:99] + b"".join(packets),
+        }.items():
+            done = extracted(case, data)
+            case.test(f"{name}, {what}", (done.status, done.out) == (0, pes), done.told)
+        done = case.tool("ts2pes", "/dev/stdin", PID, data=b"".join(packets))
+        case.test(f"{name}, from a pipe", (done.status, done.out) == (0, pes), done.told)
+
+
+def finds_its_packets_among_others(case):
+    """With other PIDs at random between, some of the same low byte, more than a piece of the file."""
+    packets, pes = stream_of(case, "story.pes"), example_bytes("story.pes")
+    chance = random.Random(1)
+    noise = [bytes([0x47, pid >> 8 | 0x40 * chance.randrange(2), pid & 255, 0x10]) +
+             chance.randbytes(PAYLOAD) for pid in (0x001, 0x201, 0x1101, 0x102, 0x1FFF) * 100]
+    mixed = b"".join(b"".join(chance.choices(noise, k=4000)) + one for one in packets)
+    done = extracted(case, mixed)
+    case.test(f"{len(mixed) / 1e6:.0f} MB", (done.status, done.out) == (0, pes), done.told)
+    done = case.tool("ts2pes", case.path("asked.ts"))
+    case.test("listed", done.out.decode().startswith("PID 0x101: announced 888 eng subtitles"),
+              done)
+
+
+def tells_what_is_lost(case):
+    packets, pes = stream_of(case, "story.pes"), example_bytes("story.pes")
+    own = of_the_pid(packets)
+    lost = b"".join(one for number, one in enumerate(packets) if number != own[1])
+    done = extracted(case, lost)
+    case.test("a TS packet", done.status == 1 and done.out == pes[:184] + pes[368:]
+              and any("lost at 1 places" in line for line in done.told), done)
+    case.test("check sees it", case.program("check", example("story.stl"),
+                                            case.write("lost.pes", done.out))[0] == 1)
+    late = b"".join(packets[own[1]:])
+    done = extracted(case, late)
+    case.test("a recording that begins later", done.status == 0 and pes.endswith(done.out)
+              and "passed over 184 bytes" in done.told[0], done)
+    early = b"".join(packets[:own[1]])
+    done = extracted(case, early)
+    case.test("one that ends early", done.status == 1 and done.out == b""
+              and "is left out" in done.told[0], done)
+    scrambled = [one[:3] + bytes([one[3] | 0xC0]) + one[4:] if number == own[-1] else one
+                 for number, one in enumerate(packets)]
+    done = extracted(case, b"".join(scrambled))
+    case.test("a scrambled one", done.status == 1 and done.out == pes[:-184]
+              and any("scrambled" in line for line in done.told), done)
+
+
+def lists_pages(case):
+    stream = b"".join(stream_of(case, "story.pes", "swe", "--page", "1A9"))
+    done = case.tool("ts2pes", case.write("story.ts", stream))
+    case.test("announced and sent", done == (0, (
+        b"PID 0x101: announced 1A9 swe subtitles in programme 1; subtitle pages sent: 888\n"), []),
+        done)
+    packets = stream_of(case, "story.pes")
+    own = of_the_pid(packets)
+    bare = b"".join(packets[number] for number in own)
+    done = case.tool("ts2pes", case.write("bare.ts", bare))
+    case.test("announced nowhere", done.out == (
+        b"PID 0x101: announced nothing; subtitle pages sent: 888\n"), done)
+    none = b"".join(one for number, one in enumerate(packets)
+                    if number not in own and one[1:3] != b"\x41\x00")
+    done = case.tool("ts2pes", case.write("none.ts", none))
+    case.test("none", (done.status, done.out) == (1, b""), done)
+    done = extracted(case, b"".join(packets), "0x100")
+    case.test("a PID with something else", done.status == 2 and len(done.told) == 1, done)
+
+
+def refuses_what_is_no_teletext(case):
+    pes = example_bytes("story.pes")
+    for name, data, count in (("cut", pes[:-1], 4), ("another start", pes[:368] + b"\1" + pes, 1),
+                              ("no PTS", pes[:7] + b"\0" + pes[8:], 0)):
+        done = case.tool("pes2ts", case.write("wrong.pes", data), PID)
+        case.test(name, done.status == 1 and len(done.told) == 2
+                  and done.told[1].startswith(f"pes2ts: {count} PES packets"), done.told)
+
+
+def is_fast(case):
+    """A stream of a tenth of Teletext; and one of nothing else, made and read."""
+    packets = stream_of(case, "story.pes")
+    own = [packets[number] for number in of_the_pid(packets)]
+    video = bytes([0x47, 2, 0, 0x10]) + bytes(range(PAYLOAD))
+    count = 60_000
+    mixed = b"".join(own[number % len(own)][:3] + bytes([0x10 | number & 15]) +
+                     own[number % len(own)][4:] + 9 * video for number in range(count))
+    pes = case.write("long.pes", example_bytes("story.pes") * 40_000)
+    for name, words in (("ts2pes, a tenth of Teletext", ["ts2pes", case.write("mixed.ts", mixed),
+                                                         PID]),
+                        ("ts2pes, a list of it", ["ts2pes", case.path("mixed.ts")]),
+                        ("pes2ts", ["pes2ts", pes, PID])):
+        begin = time.monotonic()
+        done = case.tool(*words)
+        seconds = time.monotonic() - begin
+        size = len(done.out) if words[0] == "pes2ts" else len(mixed)
+        speed = size / 1e6 / seconds
+        print(f"{name}: {speed:.0f} MB of transport stream a second")
+        case.test(name, done.out and (speed >= FAST or not case.bench.is_timed), speed)
+
+
+CASES = [is_fast, goes_there_and_back, finds_its_packets_among_others, tells_what_is_lost,
+         lists_pages, refuses_what_is_no_teletext]
