@@ -99,7 +99,10 @@ fn prints_what_is_on_the_screen(rt: HostRuntime) -> Result<(), Fail> {
     // The first closing header becomes a stuffing unit; the second sending is closed.
     *pes.as_mut_slice().get_mut(138).ok_or("a place")? = 0xFF;
     assert_hears(&rt, pes.as_slice(), &["10:00:00:10", "--complete", NOT_SHOWN], &[])?;
-    assert_hears(&rt, pes.as_slice(), &["10:00:01:00", "--complete", HI], &[])
+    assert_hears(&rt, pes.as_slice(), &["10:00:01:00", "--complete", HI], &[])?;
+    // That of the second one too: at its header of the page itself the screen stays as it is.
+    *pes.as_mut_slice().get_mut(322).ok_or("a place")? = 0xFF;
+    assert_hears(&rt, pes.as_slice(), &["10:00:01:00", "--complete", NOT_SHOWN], &[])
 }
 
 // Asserts what a receiver shows of the first sending with one flip: the cell is the due one, or a

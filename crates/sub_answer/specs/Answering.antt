@@ -20,6 +20,7 @@ use Rattle.sub_check.specs.ListeningRun.{FailsListening}
 use Rattle.sub_check.specs.OnScreen.{Complete}
 use Rattle.sub_check.specs.PesFrames.{Carries}
 use Rattle.sub_check.specs.PesReading.{ReadsAs}
+use Rattle.sub_check.specs.Reception.{left_by}
 use Rattle.sub_check.specs.Transmission.{Transmission}
 use Rattle.sub_check.specs.declared.checker.Accepted.{Accepted}
 use Rattle.sub_check.specs.declared.fault.CheckFault.{CheckFault}
@@ -130,9 +131,11 @@ pub record AnswersCheck
       → out.new_count ≡ out.old_count
       → PrintsMemory national stl.told out.old out.new
 
--- `listen` prints what a receiver shows that heard the frames of the PES file, or the refusal.
+-- `listen` prints what a receiver shows that heard the frames of the PES file, and leaves this code
+-- in a cell whose byte has even parity; or the refusal.
 pub record AnswersListen
-    {S : Type 0} (listening : Listening) (pes : SourceCall S) (out : SinkCall) (status : Status)
+    {S : Type 0} (leaves : ℕ → ℕ) (listening : Listening) (pes : SourceCall S) (out : SinkCall)
+    (status : Status)
     : Type 0 where
   pub exact :
       (frames : Transmission) (unread : Option Unread)
@@ -140,7 +143,7 @@ pub record AnswersListen
       ReadsAs listening.options.origin 0 bytes frames unread
       → pes.new_count ≡ pes.old_count
       → (listing : Listing)
-      × Listens listening frames unread listing
+      × Listens leaves listening frames unread pes.told pes.left listing
       × PrintsOrFails out listing status)
   -- That the source failed is told at the PES packet within which it failed, and where nothing that
   -- was read before is refused.
@@ -167,4 +170,4 @@ Answers (ask.Schedule stl pes options serial national) first second file out sta
 Answers (ask.Check stl pes options national) first second file out status =
     AnswersCheck national options first second out status
 Answers (ask.Listen pes listening) first second file out status =
-    AnswersListen listening first out status
+    AnswersListen (left_by listening.receiver) listening first out status

@@ -6,7 +6,7 @@ use Rattle.std.specs.List.{list_all}
 use Rattle.ttx_page.specs.Page.{IsCell, IsPage, Rows, cell, row_at, space}
 use Rattle.ttx_page.specs.Screen.{Display}
 use Rattle.sub_check.specs.FrameRules.{Unread}
-use Rattle.sub_check.specs.ListeningRun.{Runs}
+use Rattle.sub_check.specs.ListeningRun.{HearsFile}
 use Rattle.sub_check.specs.Transmission.{Transmission}
 use Rattle.sub_request.specs.declared.listening.Listening.{Listening}
 use Rattle.sub_check.specs.declared.listening_run.ListenFault.{ListenFault}
@@ -93,15 +93,19 @@ abbrev pub listing_of : Bool → Display → Result (Unit {0}) ListenFault → L
 listing_of asks_complete end (Ok _) = done (display_text asks_complete end)
 listing_of asks_complete end (Err f) = told_listing (listen_told f)
 
--- What `listen` prints of a file that is read as these frames: what a receiver that was tuned with
--- an old page holds at the end of its run, or what is on its screen; or the refusal.
+-- What `listen` prints of a file that is read as these frames, of which these bytes were to be read
+-- before and are left after: what a receiver that was tuned with an old page, and leaves this code
+-- in a cell whose byte has even parity, holds at the end of its run, or what is on its screen; or
+-- the refusal.
 pub record Listens
-    (l : Listening) (frames : Transmission) (unread : Option Unread) (listing : Listing)
+    (leaves : ℕ → ℕ) (l : Listening) (frames : Transmission) (unread : Option Unread)
+    (told left : Option (List ℕ)) (listing : Listing)
     : Type 0 where
   pub old_page : Rows
   pub is_old : IsOldPage old_page
   pub end : Display
   pub result : Result (Unit {0}) ListenFault
-  pub runs : Runs l frames unread l.options.page (tuned_with old_page) end result
+  pub hears :
+      HearsFile leaves l frames unread told left l.options.page (tuned_with old_page) end result
   pub listing_is : listing ≡ listing_of l.options.asks_complete end result
   pub page_is : IfOk result (λ _. IsSeenWhole l.options.asks_complete end)

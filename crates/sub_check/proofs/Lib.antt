@@ -3,6 +3,7 @@ pub mod RobustLemmas
 pub mod DroppedLemmas
 pub mod RecoveryLemmas
 pub mod OnScreenLemmas
+pub mod RunningLemmas
 pub mod StepByStepLemmas
 pub mod RuleLemmas
 pub mod TestLemmas

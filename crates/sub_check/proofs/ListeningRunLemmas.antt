@@ -8,8 +8,7 @@ use Rattle.std.proofs.lemmas.List.Elements.{filter-append}
 use Rattle.std.proofs.lemmas.Bool.{and_right, cases_lt}
 use Rattle.sub_io.specs.Reading.{IfTold}
 use Rattle.ttx_packet.specs.PageId.{PageIdValue}
-use Rattle.ttx_page.specs.Receiver.{Hears, State}
-use Rattle.ttx_page.specs.Screen.{Display, Shows}
+use Rattle.ttx_page.specs.Screen.{Display}
 use Rattle.ttx_pes.specs.DataUnit.{UnitValue}
 use Rattle.ttx_pes.specs.PesPacket.{PesValue}
 use Rattle.ttx_pes.specs.Reader.{FailsWithin, TakesPackets}
@@ -24,7 +23,7 @@ use Rattle.sub_check.specs.Transmission.{Transmission}
 use Rattle.sub_check.specs.declared.fault.CheckFault.{CheckFault}
 use Rattle.sub_check.proofs.PesReadingLemmas.{ReadsNext, reads-below, reads_end, reads_next}
 use Rattle.sub_check.proofs.ShownLemmas.{joined_more}
-use Rattle.sub_check.specs.ListeningRun.{AreHeard, FailsListening, IsHeard, RefusesAfter, Runs}
+use Rattle.sub_check.specs.ListeningRun.{AreHeard, FailsListening, HearsFile, IsHeard, RefusesAfter}
 use Rattle.sub_check.specs.ListeningRun.{least_frame}
 use Rattle.sub_check.specs.Reception.{Reception, RunsThrough, as_heard, as_received}
 use Rattle.sub_check.specs.Reception.{first_lost_header}
@@ -77,37 +76,22 @@ as_heard-append l number first more =
     grind (arith, as_received-append, filter-append)
 
 -- two runs, one after the other
-Hears-append : (w : PageIdValue) (first more : List (List ℕ)) (old mid new : State)
-    → Hears w old first mid
-    → Hears w mid more new
-    → Hears w old (first ++ more) new
-Hears-append w [] more old mid new run next = subst (λ (s : State). Hears w s more new) run next
-Hears-append w (p ∷ ps) more old mid new run next =
-    (run.0, run.1, Hears-append w ps more run.0 mid new run.2 next)
-
--- the same, with a screen
-Shows-append : (w : PageIdValue) (first more : List (List ℕ)) (old mid new : Display)
-    → Shows w old first mid
-    → Shows w mid more new
-    → Shows w old (first ++ more) new
-Shows-append w [] more old mid new run next = subst (λ (d : Display). Shows w d more new) run next
-Shows-append w (p ∷ ps) more old mid new run next =
-    (run.0, run.1, run.2, Shows-append w ps more run.0 mid new run.3 next)
-
--- the same, with a screen or none
-runs-append : (b : Bool) (w : PageIdValue) (first more : List (List ℕ)) (old mid new : Display)
-    → RunsThrough b w old first mid
-    → RunsThrough b w mid more new
-    → RunsThrough b w old (first ++ more) new
-runs-append b w first more old mid new run next =
-    grind (arith, nat_tests, Shows-append, run, next, Hears-append)
+runs-append : (b : Bool) (leaves : ℕ → ℕ) (w : PageIdValue) (first more : List (List ℕ))
+    → (old mid new : Display)
+    → RunsThrough b leaves w old first mid
+    → RunsThrough b leaves w mid more new
+    → RunsThrough b leaves w old (first ++ more) new
+runs-append b leaves w [] more old mid new run next =
+    subst (λ (d : Display). RunsThrough b leaves w d more new) run next
+runs-append b leaves w (p ∷ ps) more old mid new run next =
+    (run.0, run.1, runs-append b leaves w ps more run.0 mid new run.2 next)
 
 -- ---- what is reached after n frames
 
 -- The run up to n frames, and what is left of the file.
 pub record Reaches
-    (l : Listening) (frames : Transmission) (unread : Option Unread) (w : PageIdValue)
-    (old : Display) (remaining : Option (List ℕ)) (n number least : ℕ) (now : Display)
+    (leaves : ℕ → ℕ) (l : Listening) (frames : Transmission) (unread : Option Unread)
+    (w : PageIdValue) (old : Display) (remaining : Option (List ℕ)) (n number least : ℕ) (now : Display)
     : Type 0 where
   pub few : n ≤ most_packets
   pub within : n ≤ length frames
@@ -116,7 +100,8 @@ pub record Reaches
   pub left : ReadsAs l.options.origin n rest (drop n frames) unread
   pub heard : AreHeard l frames n
   pub run :
-      RunsThrough l.options.asks_complete w old (as_heard l 0 (packets_before frames n)) now
+      RunsThrough l.options.asks_complete leaves w old
+      (as_heard l 0 (packets_before frames n)) now
   pub number_is : number ≡ length (packets_before frames n)
   pub least_is : least ≡ least_frame frames n
 
@@ -134,33 +119,37 @@ fails_listening l n f old mid new taken place within heard is =
     grind arith
 
 module _
-    (l : Listening) (frames : Transmission) (unread : Option Unread) (w : PageIdValue)
-    (old : Display)
+    (leaves : ℕ → ℕ) (l : Listening) (frames : Transmission) (unread : Option Unread)
+    (told : Option (List ℕ)) (w : PageIdValue) (old : Display)
   where
     module _
         (n number least : ℕ) (remaining : Option (List ℕ)) (now : Display)
-        (reached : Reaches l frames unread w old remaining n number least now)
+        (reached : Reaches leaves l frames unread w old remaining n number least now)
+        (left : Option (List ℕ))
       where
         -- the file ends
         pub ends_at_end : (v : PesValue)
             → TellsFrame l.options.origin n reached.rest v (Ok None)
-            → Runs l frames unread w old now (Ok tt)
-        ends_at_end v told =
+            → HearsFile leaves l frames unread told left w old now (Ok tt)
+        ends_at_end v is =
             let at =
             reads_end l.options.origin n reached.rest frames unread None reached.few reached.left
-            told in
+            is in
             let within = reached.within in
             record {
-              n = n;
-              heard = reached.heard;
-              run = reached.run;
-              ends = inl (omega (arith, at.0), at.1);
+              runs = record {
+                n = n;
+                heard = reached.heard;
+                run = reached.run;
+                ends = inl (omega (arith, at.0), at.1);
+              };
+              stops = λ more. absurd (omega (arith, more, at.0));
             }
 
         -- it is not read on
         pub ends_unread : (v : PesValue) (f : CheckFault)
             → TellsFrame l.options.origin n reached.rest v (Err f)
-            → Runs l frames unread w old now (Err (fault.File f))
+            → HearsFile leaves l frames unread told left w old now (Err (fault.File f))
         ends_unread v f (u, is, ends) =
             let at =
             reads_end l.options.origin n reached.rest frames unread (Some u) reached.few
@@ -168,10 +157,13 @@ module _
             let within = reached.within in
             let all : n ≡ length frames = omega (arith, at.0) in
             record {
-              n = n;
-              heard = reached.heard;
-              run = reached.run;
-              ends = grind arith;
+              runs = record {
+                n = n;
+                heard = reached.heard;
+                run = reached.run;
+                ends = grind arith;
+              };
+              stops = λ more. absurd (omega (arith, more, all));
             }
           where
             refuses : (x : Unread)
@@ -182,38 +174,45 @@ module _
 
         module _
             (v : PesValue) (frame : ℕ)
-            (told : TellsFrame l.options.origin n reached.rest v (Ok (Some frame)))
+            (is : TellsFrame l.options.origin n reached.rest v (Ok (Some frame)))
+            (taken : TakesPackets (n + 1) told left)
           where
             next : ReadsNext l.options.origin n reached.rest frames unread v frame
             next =
                 reads_next l.options.origin n reached.rest frames unread v frame reached.few
-                reached.left told.0 told.1
+                reached.left is.0 is.1
 
             -- its frame is not after the one before
             pub ends_order : frame < least
-                → Runs l frames unread w old now (Err (fault.File (check.Order n)))
+                → HearsFile leaves l frames unread told left w old now (Err (fault.File (check.Order n)))
             ends_order early =
                 let frame_is = next.sent.frame_is in
                 let least_is = reached.least_is in
                 record {
-                  n = n;
-                  heard = reached.heard;
-                  run = reached.run;
-                  ends = (refl, next.sent.there, omega arith);
+                  runs = record {
+                    n = n;
+                    heard = reached.heard;
+                    run = reached.run;
+                    ends = (refl, next.sent.there, omega arith);
+                  };
+                  stops = λ there. taken;
                 }
 
             -- it is after TIME
             pub ends_late : least ≤ frame
                 → l.at < frame
-                → Runs l frames unread w old now (Ok tt)
+                → HearsFile leaves l frames unread told left w old now (Ok tt)
             ends_late rises late =
                 let frame_is = next.sent.frame_is in
                 let least_is = reached.least_is in
                 record {
-                  n = n;
-                  heard = reached.heard;
-                  run = reached.run;
-                  ends = inr (next.sent.there, omega arith, omega arith);
+                  runs = record {
+                    n = n;
+                    heard = reached.heard;
+                    run = reached.run;
+                    ends = inr (next.sent.there, omega arith, omega arith);
+                  };
+                  stops = λ there. taken;
                 }
 
             -- a page header of it is lost
@@ -221,31 +220,34 @@ module _
                 → least ≤ frame
                 → frame ≤ l.at
                 → first_lost_header (reception_of l) number (packets_of_units v.units) ≡ Some packet
-                → Runs l frames unread w old now (Err (fault.LostHeader frame packet))
+                → HearsFile leaves l frames unread told left w old now (Err (fault.LostHeader frame packet))
             ends_lost packet rises in_time lost =
                 let least_is = reached.least_is in
                 record {
-                  n = n;
-                  heard = reached.heard;
-                  run = reached.run;
-                  ends = grind (arith, next.sent.there, next.sent.frame_is, next.sent.packets_are);
+                  runs = record {
+                    n = n;
+                    heard = reached.heard;
+                    run = reached.run;
+                    ends = grind (arith, next.sent.there, next.sent.frame_is, next.sent.packets_are);
+                  };
+                  stops = λ there. taken;
                 }
 
             -- it is heard
-            pub reaches_next : (left : Option (List ℕ)) (after : Display)
+            pub reaches_next : (after : Display)
                 → least ≤ frame
                 → frame ≤ l.at
                 → first_lost_header (reception_of l) number (packets_of_units v.units) ≡ None
                 → left ≡ Some (rest_after reached.rest)
-                → RunsThrough l.options.asks_complete w now
+                → RunsThrough l.options.asks_complete leaves w now
                 (as_heard l number (packets_of_units v.units)) after
-                → Reaches l frames unread w old left (n + 1) (number + length v.units) (frame + 1)
-                after
-            reaches_next left after rises in_time whole left_is run =
+                → Reaches leaves l frames unread w old left (n + 1) (number + length v.units)
+                (frame + 1) after
+            reaches_next after rises in_time whole left_is run =
                 let frame_is = next.sent.frame_is in
                 let least_is = reached.least_is in
                 let there = next.sent.there in
-                let below = reads-below n reached.rest v told.0 in
+                let below = reads-below n reached.rest v is.0 in
                 let few = reached.few in
                 let more = joined_more frames n there
                 ∙ ap (λ ps. packets_before frames n ++ ps) next.sent.packets_are in

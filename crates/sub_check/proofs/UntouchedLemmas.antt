@@ -10,12 +10,13 @@ use Rattle.std.proofs.lemmas.Bool.{leb-true, lt-ltb, not-true, or_parts}
 use Rattle.sub_check.specs.Reception.{Reception, RunsThrough, as_heard, as_received}
 use Rattle.sub_check.specs.Reception.{is_taken, reception_of}
 use Rattle.sub_request.specs.Flips.{is_flip_of, with_flip, with_flips}
-use Rattle.sub_check.specs.Untouched.{HeardLast, is_untouched, is_in_range}
+use Rattle.sub_check.specs.Untouched.{ErasesPageAt, HeardLast, is_untouched, is_in_range}
 use Rattle.ttx_packet.specs.PageId.{PageIdValue}
 use Rattle.ttx_page.specs.Screen.{Display}
 use Rattle.sub_check.proofs.HeardAgainLemmas.{runs_again}
 use Rattle.sub_request.specs.declared.listening.Flip.{Flip}
 use Rattle.sub_request.specs.declared.listening.Listening.{Listening}
+use Rattle.sub_request.specs.declared.listening.ReceiverKind.{ReceiverKind}
 
 -- A number from the first one on, before the end, is within.
 within : (first end m : ℕ) → first ≤ m → m < end → is_in_range first end m ≡ true
@@ -96,8 +97,14 @@ received_untouched r number count packets is long =
     let clean = not-true _ b.1 in
     all_received r number (number + count) a.0 kept clean number packets (omega arith) (omega arith)
 
+-- A header that erases the page is taken by every receiver.
+header_taken : (r : ReceiverKind) (w : PageIdValue) (packet : List ℕ)
+    → ErasesPageAt w packet
+    → is_taken r w packet ≡ true
+header_taken r w packet e = grind (arith, nat_tests)
+
 module _
-    (l : Listening) (w : PageIdValue) (number count : ℕ) (packets : List (List ℕ))
+    (leaves : ℕ → ℕ) (l : Listening) (w : PageIdValue) (number count : ℕ) (packets : List (List ℕ))
     (is : is_untouched (reception_of l) number count ≡ true) (long : length packets ≡ count)
   where
     -- What is heard of them does not depend on their numbers.
@@ -106,15 +113,27 @@ module _
 
     -- A receiver that heard them as they are heard what it hears of them.
     pub heard_now : (old now : Display)
-        → RunsThrough l.options.asks_complete w old
+        → RunsThrough l.options.asks_complete leaves w old
         (filter (is_taken l.receiver l.options.page) packets) now
-        → RunsThrough l.options.asks_complete w old (as_heard l number packets) now
+        → RunsThrough l.options.asks_complete leaves w old (as_heard l number packets) now
     heard_now old now run =
-        subst (λ ps. RunsThrough l.options.asks_complete w old ps now) (sym heard_is) run
+        subst (λ ps. RunsThrough l.options.asks_complete leaves w old ps now) (sym heard_is) run
 
     -- One that heard them before may be left as it is.
     pub heard_again : (now : Display)
-        → HeardLast l w packets now
-        → RunsThrough l.options.asks_complete w now (as_heard l number packets) now
+        → HeardLast leaves l w packets now
+        → RunsThrough l.options.asks_complete leaves w now (as_heard l number packets) now
     heard_again now h =
-        grind (arith, heard_is, runs_again)
+        let b = h.begins in
+        let taken : is_taken l.receiver l.options.page b.first ≡ true =
+        header_taken l.receiver l.options.page b.first
+        (subst (λ (v : PageIdValue). ErasesPageAt v b.first) h.tuned b.erases) in
+        let are : filter (is_taken l.receiver l.options.page) packets
+        ≡ b.first ∷ filter (is_taken l.receiver l.options.page) b.others =
+        rw (b.packets_are, taken) in
+        let Runs : Display → List (List ℕ) → Type 0 =
+        λ old ps. RunsThrough l.options.asks_complete leaves w old ps now in
+        heard_now now now
+        (subst (Runs now) (sym are)
+        (runs_again l.options.asks_complete leaves w b.first _ h.start now b.erases
+        (subst (Runs h.start) are h.run)))

@@ -5,7 +5,7 @@ use Rattle.std.specs.Prelude.{List, MatchResult}
 use Rattle.sub_io.specs.Reading.{IfTold}
 use Rattle.ttx_packet.specs.PageId.{PageIdValue}
 use Rattle.ttx_page.specs.Screen.{Display}
-use Rattle.ttx_pes.specs.Reader.{FailsAtPacket}
+use Rattle.ttx_pes.specs.Reader.{FailsAtPacket, TakesPackets}
 use Rattle.ttx_pes.specs.declared.fault.PesFault.TheVariants.{Read}
 use Rattle.sub_check.specs.Fault as check_number
 use Rattle.sub_check.specs.FirstBroken.{unread_fault}
@@ -90,15 +90,26 @@ pub record FailsListening (l : Listening) (told left : Option (List ℕ)) (f : L
 
 -- ---- the run of a receiver
 
--- What becomes of a receiver that hears a file: it runs through what it hears of the packets up to
--- TIME, or the file is refused.
+-- What becomes of a receiver that hears a file, and leaves this code in a cell whose byte has even
+-- parity: it runs through what it hears of the packets up to TIME, or the file is refused.
 pub record Runs
-    (l : Listening) (frames : Transmission) (unread : Option Unread) (w : PageIdValue)
-    (old new : Display) (result : Result (Unit {0}) ListenFault)
+    (leaves : ℕ → ℕ) (l : Listening) (frames : Transmission) (unread : Option Unread)
+    (w : PageIdValue) (old new : Display) (result : Result (Unit {0}) ListenFault)
     : Type 0 where
   pub n : ℕ
   pub heard : AreHeard l frames n
   pub run :
-      RunsThrough l.options.asks_complete w old (as_heard l 0 (packets_before frames n)) new
+      RunsThrough l.options.asks_complete leaves w old
+      (as_heard l 0 (packets_before frames n)) new
   pub ends :
       MatchResult result (λ _. EndsAfter l frames unread n) (RefusesAfter l frames unread n)
+
+-- The same of a file of which these bytes were to be read before, and are left after.
+pub record HearsFile
+    (leaves : ℕ → ℕ) (l : Listening) (frames : Transmission) (unread : Option Unread)
+    (told left : Option (List ℕ)) (w : PageIdValue) (old new : Display)
+    (result : Result (Unit {0}) ListenFault)
+    : Type 0 where
+  pub runs : Runs leaves l frames unread w old new result
+  -- Where there is a frame after those that are heard, nothing was read after its PES packet.
+  pub stops : runs.n < length frames → TakesPackets (runs.n + 1) told left

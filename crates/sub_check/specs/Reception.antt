@@ -1,18 +1,19 @@
 -- What a receiver gets of the packets of a file: some are passed over, some are lost, and bits are
 -- flipped (own); and what it hears of that. Packets are numbered from 0 over the whole file.
-use Rattle.std.specs.Prelude.{ℕ, ◌+◌, Bool, true, false, not, ◌&&◌, List, [], ◌∷◌}
+use Rattle.std.specs.Prelude.{◌≡◌, ℕ, ◌+◌, Bool, true, false, not, ◌&&◌, List, [], ◌∷◌}
 use Rattle.std.specs.Prelude.{Option, Some, None, option_map}
 use Rattle.std.specs.Prelude.{if◌then◌else◌, ◌==◌, nat_le, MatchBool}
 use Rattle.std.specs.List.{filter, list_any}
 use Rattle.ttx_packet.specs.PacketAddress.{PacketAddress, address}
 use Rattle.ttx_packet.specs.PageId.{PageIdValue}
-use Rattle.ttx_page.specs.Receiver.{Hears, is_dropped}
-use Rattle.ttx_page.specs.Screen.{Display, Shows}
+use Rattle.ttx_page.specs.Page.{space}
+use Rattle.ttx_page.specs.Receiver.{Hears, LeavesCells, RunsBy, Step, is_dropped}
+use Rattle.ttx_page.specs.Screen.{Display, Shows, screen_after}
 use Rattle.sub_request.specs.Flips.{with_flips}
 use Rattle.sub_request.specs.declared.listening.Flip.{Flip}
 use Rattle.sub_request.specs.declared.listening.Listening.{Listening}
 use Rattle.sub_request.specs.declared.listening.ReceiverKind.{ReceiverKind}
-use Rattle.sub_request.specs.declared.listening.ReceiverKind.TheVariants.{DropRow}
+use Rattle.sub_request.specs.declared.listening.ReceiverKind.TheVariants.{Blank, DropRow, Keep}
 
 -- What a request says of the packets: how many are passed over, which are lost, which bits are
 -- flipped.
@@ -53,11 +54,29 @@ abbrev pub as_heard : Listening → ℕ → List (List ℕ) → List (List ℕ)
 as_heard l number packets =
     filter (is_taken l.receiver l.options.page) (as_received (reception_of l) number packets)
 
--- What becomes of a receiver of page w that hears these packets: where complete pages are asked
--- for, it has a screen; else what it holds is all that is said of it, and no screen need be run.
-abbrev pub RunsThrough : Bool → PageIdValue → Display → List (List ℕ) → Display → Type 0
-RunsThrough asks_complete w old packets new =
-    MatchBool asks_complete (Shows w old packets new) (Hears w old.held packets new.held)
+-- What a receiver leaves in a cell whose byte has even parity, of the code that was there. One that
+-- drops rows hears none with such a byte.
+abbrev pub left_by : ReceiverKind → ℕ → ℕ
+left_by Keep = λ was. was
+left_by Blank = λ was. space
+left_by DropRow = λ was. was
+
+-- What becomes of a receiver of page w at a packet that it hears.
+pub record TakesPacket
+    (asks_complete : Bool) (leaves : ℕ → ℕ) (w : PageIdValue)
+    (old : Display) (packet : List ℕ) (new : Display)
+    : Type 0 where
+  -- What it holds goes by a step of the receiver relation, with its choice at each even byte.
+  pub step : Step w old.held packet new.held
+  pub cells : LeavesCells leaves w old.held packet new.held
+  -- Where complete pages are asked for, it has a screen that waits; else the screen stays as it is.
+  pub screen : new.screen ≡ (if asks_complete then screen_after old new.held else old.screen)
+
+-- What becomes of it as it hears these packets, one after another.
+abbrev pub RunsThrough :
+    Bool → (ℕ → ℕ) → PageIdValue → Display → List (List ℕ) → Display → Type 0
+RunsThrough asks_complete leaves w old packets new =
+    RunsBy (TakesPacket asks_complete leaves w) old packets new
 
 -- A packet may be lost: it has an address, and is no packet X/0 (EN 300 706).
 abbrev pub may_be_lost_at : Option PacketAddress → Bool
@@ -71,3 +90,14 @@ first_lost_header r number (packet ∷ packets) =
     if is_lost r number && not (may_be_lost_at (address packet))
     then Some 0
     else option_map (λ place. place + 1) (first_lost_header r (number + 1) packets)
+
+-- What is run is a receiver of the relation; with a screen it is one with a screen, and without one
+-- the screen stays. So what is proved of every receiver is proved of what `listen` prints.
+abbrev pub LawOfListening : Type 0
+LawOfListening =
+    (asks_complete : Bool) (leaves : ℕ → ℕ) (w : PageIdValue) (packets : List (List ℕ))
+    (old new : Display)
+    → RunsThrough asks_complete leaves w old packets new
+    → Hears w old.held packets new.held
+    × (asks_complete ≡ true → Shows w old packets new)
+    × (asks_complete ≡ false → new.screen ≡ old.screen)

@@ -37,11 +37,12 @@ pub record BeginsErased (w : PageIdValue) (packets : List (List ℕ)) : Type 0 w
   pub erases : ErasesPageAt w first
 
 -- The receiver is as it is after these packets, untouched, of which the first erases the page.
-pub record HeardLast (l : Listening) (w : PageIdValue) (packets : List (List ℕ)) (now : Display)
+pub record HeardLast
+    (leaves : ℕ → ℕ) (l : Listening) (w : PageIdValue) (packets : List (List ℕ)) (now : Display)
     : Type 0 where
   pub tuned : w ≡ l.options.page
   pub begins : BeginsErased w packets
   pub start : Display
   pub run :
-      RunsThrough l.options.asks_complete w start
+      RunsThrough l.options.asks_complete leaves w start
       (filter (is_taken l.receiver l.options.page) packets) now

@@ -36,18 +36,18 @@ pub fn hear_sending<R: Receiver>(
     requires number { number + most_units < u64.MAX }
     requires tuned { R.tuned_to receiver.old ≡ listening.now.options.page }
     ensures run { (last : List (List ℕ))
-        → (kept ≡ true → HeardLast listening.now (R.tuned_to receiver.old) last
+        → (kept ≡ true → HeardLast R.leaves listening.now (R.tuned_to receiver.old) last
         (display (R.state receiver.old) screen.old))
         → (again ≡ true → last ≡ packets_of_units units.now)
-        → RunsThrough listening.now.options.asks_complete (R.tuned_to receiver.old)
-        (display (R.state receiver.old) screen.old)
+        → RunsThrough listening.now.options.asks_complete R.leaves
+        (R.tuned_to receiver.old) (display (R.state receiver.old) screen.old)
         (as_heard listening.now number (packets_of_units units.now))
         (display (R.state receiver.new) screen.new) }
     ensures kept { (last : List (List ℕ))
-        → (kept ≡ true → HeardLast listening.now (R.tuned_to receiver.old) last
+        → (kept ≡ true → HeardLast R.leaves listening.now (R.tuned_to receiver.old) last
         (display (R.state receiver.old) screen.old))
         → (again ≡ true → last ≡ packets_of_units units.now)
-        → result ≡ true → HeardLast listening.now (R.tuned_to receiver.new)
+        → result ≡ true → HeardLast R.leaves listening.now (R.tuned_to receiver.new)
         (packets_of_units units.now) (display (R.state receiver.new) screen.new) }
     ensures tuned { R.tuned_to receiver.new ≡ R.tuned_to receiver.old }
 {

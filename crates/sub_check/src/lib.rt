@@ -48,6 +48,7 @@ pub use laws::{
 pub use listening_run::{ListenFault, listen};
 pub use on_screen::{
     law_of_complete_plan, law_of_good_and_complete, law_of_good_dropping_and_complete,
+    law_of_listening,
 };
 pub use packet_rules::{PacketRule, Watched};
 pub use recovery::{law_of_good_and_recovery, law_of_good_dropping_and_recovery};

@@ -4,7 +4,7 @@ ghost use Rattle.sub_io.specs.Device.{CanFail, CountsIf, failed};
 ghost use Rattle.sub_io.specs.Reading.{IfTold};
 ghost use Rattle.ttx_page.specs.Screen.{display};
 ghost use Rattle.sub_check.specs.FrameRules.{Unread};
-ghost use Rattle.sub_check.specs.ListeningRun.{FailsListening, Runs, is_of_subtitles, is_read};
+ghost use Rattle.sub_check.specs.ListeningRun.{FailsListening, HearsFile, is_of_subtitles, is_read};
 ghost use Rattle.sub_check.specs.PesReading.{ReadsAs};
 ghost use Rattle.sub_check.specs.Transmission.{Transmission};
 ghost use Rattle.sub_check.specs.declared.listening_run.ListenFault.TheVariants.{File};
@@ -64,7 +64,8 @@ pub fn listen<R: Receiver, S: Source>(
         → IfTold (S.remaining pes.old) (λ bytes.
         ReadsAs listening.now.options.origin 0 bytes frames unread
         → failed is_read result ≡ false
-        → Runs listening.now frames unread (R.tuned_to receiver.old)
+        → HearsFile R.leaves listening.now frames unread (S.remaining pes.old)
+        (S.remaining pes.new) (R.tuned_to receiver.old)
         (display (R.state receiver.old) screen.old)
         (display (R.state receiver.new) screen.new) result) }
     ensures failed { IfErr result (λ f. is_read f ≡ true

@@ -4,6 +4,7 @@
 //! The functions do nothing: the contract of each is a law over the definitions of `specs/`.
 ghost use Rattle.sub_check.specs.OnScreen.{LawOfCompletePlan, LawOfGoodAndComplete};
 ghost use Rattle.sub_check.specs.OnScreen.{LawOfGoodDroppingAndComplete};
+ghost use Rattle.sub_check.specs.Reception.{LawOfListening};
 
 /// Whatever a receiver held and showed before, at every frame's end from the next header of its
 /// page on the page that is due is on its screen, but for spaces where a byte was hit or a row
@@ -23,4 +24,11 @@ pub fn law_of_good_dropping_and_complete()
 #[tactic(auto, using(crate::proofs::PlanLemmas::law_of_complete_plan))]
 pub fn law_of_complete_plan()
     ensures { LawOfCompletePlan }
+{}
+
+/// What `listen` runs is a receiver of the relation, of which the laws speak; where complete pages
+/// are asked for it has a screen, and else the screen stays as it is.
+#[tactic(auto, using(crate::proofs::RunningLemmas::law_of_listening))]
+pub fn law_of_listening()
+    ensures { LawOfListening }
 {}

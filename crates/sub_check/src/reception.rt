@@ -46,8 +46,8 @@ pub fn hear_units<R: Receiver>(
 )
     requires few { length units.now ≤ most_units }
     requires number { number + most_units < u64.MAX }
-    ensures run { RunsThrough listening.now.options.asks_complete (R.tuned_to receiver.old)
-        (display (R.state receiver.old) screen.old)
+    ensures run { RunsThrough listening.now.options.asks_complete R.leaves
+        (R.tuned_to receiver.old) (display (R.state receiver.old) screen.old)
         (as_heard listening.now number (packets_of_units units.now))
         (display (R.state receiver.new) screen.new) }
     ensures tuned { R.tuned_to receiver.new ≡ R.tuned_to receiver.old }
@@ -66,8 +66,8 @@ pub fn hear_untouched<R: Receiver>(
     listening: &Listening,
     units: &[Unit],
 )
-    ensures run { RunsThrough listening.now.options.asks_complete (R.tuned_to receiver.old)
-        (display (R.state receiver.old) screen.old)
+    ensures run { RunsThrough listening.now.options.asks_complete R.leaves
+        (R.tuned_to receiver.old) (display (R.state receiver.old) screen.old)
         (filter (is_taken listening.now.receiver listening.now.options.page)
         (packets_of_units units.now))
         (display (R.state receiver.new) screen.new) }
@@ -87,11 +87,11 @@ fn hear_packet<R: Receiver>(
     packet: &Packet,
 )
     ensures run { (packets : List (List ℕ)) (end : Display)
-        → RunsThrough listening.now.options.asks_complete (R.tuned_to receiver.old)
-        (display (R.state receiver.new) screen.new)
+        → RunsThrough listening.now.options.asks_complete R.leaves
+        (R.tuned_to receiver.old) (display (R.state receiver.new) screen.new)
         (as_heard listening.now (number + 1) packets) end
-        → RunsThrough listening.now.options.asks_complete (R.tuned_to receiver.old)
-        (display (R.state receiver.old) screen.old)
+        → RunsThrough listening.now.options.asks_complete R.leaves
+        (R.tuned_to receiver.old) (display (R.state receiver.old) screen.old)
         (as_heard listening.now number (packet.now ∷ packets)) end }
     ensures tuned { R.tuned_to receiver.new ≡ R.tuned_to receiver.old }
 {
@@ -110,11 +110,11 @@ fn take<R: Receiver>(
     packet: &Packet,
 )
     ensures run { (packets : List (List ℕ)) (end : Display)
-        → RunsThrough listening.now.options.asks_complete (R.tuned_to receiver.old)
-        (display (R.state receiver.new) screen.new)
+        → RunsThrough listening.now.options.asks_complete R.leaves
+        (R.tuned_to receiver.old) (display (R.state receiver.new) screen.new)
         (filter (is_taken listening.now.receiver listening.now.options.page) packets) end
-        → RunsThrough listening.now.options.asks_complete (R.tuned_to receiver.old)
-        (display (R.state receiver.old) screen.old)
+        → RunsThrough listening.now.options.asks_complete R.leaves
+        (R.tuned_to receiver.old) (display (R.state receiver.old) screen.old)
         (filter (is_taken listening.now.receiver listening.now.options.page)
         (packet.now ∷ packets)) end }
     ensures tuned { R.tuned_to receiver.new ≡ R.tuned_to receiver.old }
@@ -125,7 +125,7 @@ fn take<R: Receiver>(
     if listening.options.asks_complete() {
         show(receiver, screen, packet);
     } else {
-        // No page is copied to a screen that is not looked at.
+        // The screen stays: no page is copied to one that is not looked at.
         receiver.hear(packet);
     }
 }

@@ -81,13 +81,10 @@ AtEvenBytes Becomes w old packet new =
     → IsFalse (is_odd (text_byte packet column))
     → Becomes (cell old.page row column) (cell new.page row column)
 
--- The receiver keeps each cell whose byte is even.
-abbrev pub KeepsCells : PageIdValue → State → List ℕ → State → Type 0
-KeepsCells w old packet new = AtEvenBytes (λ was is. is ≡ was) w old packet new
-
--- The receiver blanks each cell whose byte is even.
-abbrev pub BlanksCells : PageIdValue → State → List ℕ → State → Type 0
-BlanksCells w old packet new = AtEvenBytes (λ was is. is ≡ space) w old packet new
+-- A receiver that has chosen leaves this code, by the code that was there, in each cell whose byte
+-- is even: one that keeps cells the same code, one that blanks them a space.
+abbrev pub LeavesCells : (ℕ → ℕ) → PageIdValue → State → List ℕ → State → Type 0
+LeavesCells leaves w old packet new = AtEvenBytes (λ was is. is ≡ leaves was) w old packet new
 
 -- ---- receivers that drop rows
 

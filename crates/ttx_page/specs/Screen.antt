@@ -1,7 +1,7 @@
 -- A receiver with a screen (own). Of the receivers of `Receiver` it counts what page one holds.
 -- Decoders of the field show a page when it is complete: when a later header has ended it.
 use Rattle.std.specs.Prelude.{◌≡◌, ℕ, ◌⊎◌, Bool, ◌&&◌, not, List, [], ◌∷◌, Option, Some, IsTrue}
-use Rattle.std.specs.Prelude.{IsFalse}
+use Rattle.std.specs.Prelude.{IsFalse, if◌then◌else◌}
 use Rattle.ttx_packet.specs.PageId.{PageIdValue}
 use Rattle.ttx_page.specs.Page.{Rows}
 use Rattle.ttx_page.specs.PacketKind.{kind, is_this_page}
@@ -41,6 +41,11 @@ pub record ShowsAt (w : PageIdValue) (old : Display) (packet : List ℕ) (new : 
         IsFalse (is_ended old.held new.held)
         → IsFalse (begins_again w old.held packet)
         → new.screen ≡ old.screen
+
+-- The screen of a receiver that waits at a header of the page: a page comes onto it only when a
+-- header of another page has ended it, as it was held. So does libzvbi.
+abbrev pub screen_after : Display → State → Option Rows
+screen_after old new = if is_ended old.held new then Some old.held.page else old.screen
 
 -- A receiver of page w with a screen that hears these packets may go from one display to the other:
 -- what it holds goes by steps of the relation, and the screen follows.

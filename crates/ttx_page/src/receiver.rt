@@ -1,7 +1,7 @@
 //! Receivers of one page: the trait, and what a receiver becomes by a list of packets.
-ghost use Rattle.std.specs.Prelude.{◌≡◌, true, false};
+ghost use Rattle.std.specs.Prelude.{◌≡◌, ℕ, true, false};
 ghost use Rattle.ttx_packet.specs.PageId.{PageIdValue};
-ghost use Rattle.ttx_page.specs.Receiver.{Hears, State, Step};
+ghost use Rattle.ttx_page.specs.Receiver.{Hears, LeavesCells, State, Step};
 
 use crate::page::Page;
 use ttx_packet::{Packet, PageId};
@@ -10,13 +10,17 @@ use ttx_packet::{Packet, PageId};
 ///
 /// Its law is the clause `step` of `hear`: each packet takes it one step of the receiver relation,
 /// `specs/Receiver`. What the relation leaves open, a cell whose byte has even parity, a receiver
-/// chooses; `Keep` and `Blank` are the two ends. `DropRow` is none of them: it drops a whole row.
+/// chooses, and says so: `leaves`. `Keep` and `Blank` are the two ends. `DropRow` is none of them:
+/// it drops a whole row.
 pub trait Receiver: Sized {
     /// The page that the receiver is tuned to.
     ghost tuned_to: { Self → PageIdValue };
 
     /// What it has heard, whether its page is open, and the page that it holds.
     ghost state: { Self → State };
+
+    /// What it leaves in a cell whose byte has even parity, of the code that was there.
+    ghost leaves: { ℕ → ℕ };
 
     /// A receiver of `page_id` that has heard nothing yet, its page not open, holding `page`: what
     /// it showed before, which may be anything.
@@ -41,9 +45,12 @@ pub trait Receiver: Sized {
     fn page(&self) -> &Page
         ensures { result.now ≡ (state self.now).page };
 
-    /// Hears a packet: one step of the receiver relation, of the page that it is tuned to.
+    /// Hears a packet: one step of the receiver relation, of the page that it is tuned to, with its
+    /// choice at each even byte.
     fn hear(&mut self, packet: &Packet)
         ensures step { Step (tuned_to self.old) (state self.old) packet.now (state self.new) }
+        ensures cells { LeavesCells leaves (tuned_to self.old) (state self.old) packet.now
+            (state self.new) }
         ensures tuned { tuned_to self.new ≡ tuned_to self.old };
 }
 

@@ -1,7 +1,7 @@
 //! A screen beside a receiver: a page comes onto it when it is complete.
 ghost use Rattle.std.specs.Prelude.{◌≡◌, Some};
-ghost use Rattle.ttx_page.specs.Receiver.{Step};
-ghost use Rattle.ttx_page.specs.Screen.{Shows, ShowsAt, display};
+ghost use Rattle.ttx_page.specs.Receiver.{LeavesCells, Step};
+ghost use Rattle.ttx_page.specs.Screen.{Shows, ShowsAt, display, screen_after};
 
 use crate::page::Page;
 use crate::receiver::Receiver;
@@ -14,6 +14,10 @@ use ttx_packet::Packet;
 /// is: a page is shown when a header of another page ends it, as libzvbi does.
 pub fn show<R: Receiver>(receiver: &mut R, screen: &mut Option<Page>, packet: &Packet)
     ensures step { Step (R.tuned_to receiver.old) (R.state receiver.old) packet.now
+        (R.state receiver.new) }
+    ensures cells { LeavesCells R.leaves (R.tuned_to receiver.old) (R.state receiver.old)
+        packet.now (R.state receiver.new) }
+    ensures waits { screen.new ≡ screen_after (display (R.state receiver.old) screen.old)
         (R.state receiver.new) }
     ensures shows { ShowsAt (R.tuned_to receiver.old)
         (display (R.state receiver.old) screen.old) packet.now

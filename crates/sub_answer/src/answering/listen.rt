@@ -32,7 +32,7 @@ pub fn print_listening<R: Receiver + Drop, S: Source, K: Sink>(
     // Where the source tells its bytes and does not fail, they are read as frames, and what is
     // printed is the state of a receiver that heard what it gets of them, or the refusal. A source
     // that fails is told at the PES packet within which it failed, after what was heard.
-    ensures exact { AnswersListen listening.now
+    ensures exact { AnswersListen R.leaves listening.now
         (source_call S.remaining S.failure_count pes.old pes.new)
         (sink_call K.contents K.failure_count out.old out.new) result }
     ensures first_count { CountsFault S.failure_count pes.old result pes.new }

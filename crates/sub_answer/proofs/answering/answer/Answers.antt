@@ -1,4 +1,8 @@
 -- What a command's body says of its answer, said of the request.
+use Rattle.std.proofs.Common.{◌≡◌, ap, inl, inr}
+use Rattle.sub_check.specs.Reception.{left_by}
+use Rattle.sub_check.specs.declared.listening.ReceiverKind.TheVariants.{Keep}
+use Rattle.sub_answer.proofs.ListenListingLemmas.{answers_as}
 use Rattle.sub_answer.proofs.answering.answer.Goals as goal
 
 pub returns-in-Packets-clause-answers : goal.returns-in-Packets-clause-answers
@@ -15,7 +19,13 @@ pub returns-in-Check-clause-answers : goal.returns-in-Check-clause-answers
 returns-in-Check-clause-answers g c = rw c.in-Check.is c.print_verdict.ensures.check
 
 pub returns-in-Keep-clause-answers : goal.returns-in-Keep-clause-answers
-returns-in-Keep-clause-answers g c = rw c.in-Listen.is c.print_listening.ensures.exact
+returns-in-Keep-clause-answers g c =
+    let l = c.in-Listen.listening in
+    let same : left_by l.receiver ≡ left_by Keep =
+    elim c.in-Keep.is [ inl e ↦ ap left_by e | inr e ↦ ap left_by e ] in
+    rw c.in-Listen.is (answers_as _ _ l _ _ _ same c.print_listening.ensures.exact)
 
 pub returns-in-Blank-clause-answers : goal.returns-in-Blank-clause-answers
-returns-in-Blank-clause-answers g c = rw c.in-Listen.is c.print_listening-in-Blank.ensures.exact
+returns-in-Blank-clause-answers g c =
+    rw c.in-Listen.is
+    (answers_as _ _ _ _ _ _ (ap left_by c.in-Blank.is) c.print_listening-in-Blank.ensures.exact)

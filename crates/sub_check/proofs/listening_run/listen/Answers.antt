@@ -23,7 +23,7 @@ returns-in_err-next-clause-exact g c = λ frames unread bytes told reads fine.
     let known = rw (p.1, p.2) at fine in
     let i = c.packets.invariant.told frames unread bytes told reads in
     rw (p.1, p.2)
-    (ends_unread c.args.listening.now frames unread _ _ c.packets.index _ _ _ _ i
+    (ends_unread _ c.args.listening.now frames unread _ _ _ c.packets.index _ _ _ _ i _
     c.next_sending.new.reader.frame _ (c.in_err-next.ensures.exact i.rest i.rest_is known))
 
 pub returns-in_err-next-clause-failed : goal.returns-in_err-next-clause-failed
@@ -38,25 +38,31 @@ returns-in_err-next-clause-failed g c =
 pub returns-in_default-clause-exact : goal.returns-in_default-clause-exact
 returns-in_default-clause-exact g c = λ frames unread bytes told reads fine.
     let i = c.packets.invariant.told frames unread bytes told reads in
-    ends_at_end c.args.listening.now frames unread _ _ c.packets.index _ _ _ _ i
+    ends_at_end _ c.args.listening.now frames unread _ _ _ c.packets.index _ _ _ _ i _
     c.next_sending.new.reader.frame
     (rw c.in_default.is at (c.in_ok-next.ensures.exact i.rest i.rest_is refl))
 
 pub returns-then-frame-least-clause-exact : goal.returns-then-frame-least-clause-exact
 returns-then-frame-least-clause-exact g c = λ frames unread bytes told reads fine.
     let i = c.packets.invariant.told frames unread bytes told reads in
-    ends_order c.args.listening.now frames unread _ _ c.packets.index _ _ _ _ i
+    ends_order _ c.args.listening.now frames unread _ _ _ c.packets.index _ _ _ _ i _
     c.next_sending.new.reader.frame c.in-Some.sending.frame
-    (rw c.in-Some.is at (c.in_ok-next.ensures.exact i.rest i.rest_is refl)) c.if-frame-least.true
+    (rw c.in-Some.is at (c.in_ok-next.ensures.exact i.rest i.rest_is refl))
+    (takes-more c.packets.index _ _ _ _ c.packets.invariant.taken
+    (c.in_ok-next.ensures.taken c.in-Some.sending
+    (ap (λ x. let r : Result (Option Sending) CheckFault = Ok x in r) c.in-Some.is))) c.if-frame-least.true
 
 pub returns-then-frame-listening-clause-exact : goal.returns-then-frame-listening-clause-exact
 returns-then-frame-listening-clause-exact g c = λ frames unread bytes told reads fine.
     let i = c.packets.invariant.told frames unread bytes told reads in
     let rises = c.if-frame-least.false in
     let late = c.if-frame-listening.true in
-    ends_late c.args.listening.now frames unread _ _ c.packets.index _ _ _ _ i
+    ends_late _ c.args.listening.now frames unread _ _ _ c.packets.index _ _ _ _ i _
     c.next_sending.new.reader.frame c.in-Some.sending.frame
     (rw c.in-Some.is at (c.in_ok-next.ensures.exact i.rest i.rest_is refl))
+    (takes-more c.packets.index _ _ _ _ c.packets.invariant.taken
+    (c.in_ok-next.ensures.taken c.in-Some.sending
+    (ap (λ x. let r : Result (Option Sending) CheckFault = Ok x in r) c.in-Some.is)))
     (omega (arith, rises)) (omega (arith, late))
 
 pub returns-in-Some-first_lost_header-clause-exact :
@@ -67,9 +73,12 @@ returns-in-Some-first_lost_header-clause-exact g c = λ frames unread bytes told
     let in_time = c.if-frame-listening.false in
     let packet = c.in-Some-first_lost_header.packet in
     let l = c.args.listening.now in
-    ends_lost l frames unread _ _ c.packets.index _ _ _ _ i
+    ends_lost _ l frames unread _ _ _ c.packets.index _ _ _ _ i _
     c.next_sending.new.reader.frame c.in-Some.sending.frame
-    (rw c.in-Some.is at (c.in_ok-next.ensures.exact i.rest i.rest_is refl)) packet
+    (rw c.in-Some.is at (c.in_ok-next.ensures.exact i.rest i.rest_is refl))
+    (takes-more c.packets.index _ _ _ _ c.packets.invariant.taken
+    (c.in_ok-next.ensures.taken c.in-Some.sending
+    (ap (λ x. let r : Result (Option Sending) CheckFault = Ok x in r) c.in-Some.is))) packet
     (omega (arith, rises)) (omega (arith, in_time))
     (ap (λ (us : List UnitValue). first_lost_header (reception_of l) c.packets.number
     (packets_of_units us))
@@ -93,6 +102,9 @@ packets-preserved g c =
     let rises = c.if-frame-least.false in
     let in_time = c.if-frame-listening.false in
     let l = c.args.listening.now in
+    let taken =
+    takes-more c.packets.index _ _ _ _ c.packets.invariant.taken
+    (c.in_ok-next.ensures.taken c.in-Some.sending given) in
     let whole = ap (λ (us : List UnitValue). first_lost_header (reception_of l)
     c.packets.number (packets_of_units us)) (sym value)
     ∙ sym c.first_lost_header.ensures
@@ -102,7 +114,7 @@ packets-preserved g c =
     λ e. ap packets_of_units
     (sym (c.in_ok-next.ensures.again c.in-Some.sending given e) ∙ sym value) in
     let run =
-    subst (λ (us : List UnitValue). RunsThrough l.options.asks_complete
+    subst (λ (us : List UnitValue). RunsThrough l.options.asks_complete g.R.Receiver.leaves
     (g.R.Receiver.tuned_to c.packets.receiver)
     (display (g.R.Receiver.state c.packets.receiver) c.packets.screen)
     (as_heard l c.packets.number (packets_of_units us))
@@ -112,14 +124,12 @@ packets-preserved g c =
     record {
       reading = c.in_ok-next.ensures.progress c.in-Some.sending given;
       few_packets = omega (arith, packets);
-      taken =
-          takes-more c.packets.index _ _ _ _ c.packets.invariant.taken
-          (c.in_ok-next.ensures.taken c.in-Some.sending given);
+      taken = taken;
       failures = omega (arith, counted, before);
       tuned = c.hear_sending-kept.ensures.tuned ∙ c.packets.invariant.tuned;
       few = omega (arith, few, units);
       kept = λ e.
-          subst (λ (us : List UnitValue). HeardLast l
+          subst (λ (us : List UnitValue). HeardLast g.R.Receiver.leaves l
           (g.R.Receiver.tuned_to c.hear_sending-kept.new.receiver) (packets_of_units us)
           (display (g.R.Receiver.state c.hear_sending-kept.new.receiver)
           c.hear_sending-kept.new.screen)) value
@@ -127,7 +137,7 @@ packets-preserved g c =
       day = omega (arith, day);
       told = λ frames unread bytes told reads.
           let i = c.packets.invariant.told frames unread bytes told reads in
-          subst (λ (us : List UnitValue). Reaches l frames unread
+          subst (λ (us : List UnitValue). Reaches g.R.Receiver.leaves l frames unread
           (g.R.Receiver.tuned_to c.args.receiver.now)
           (display (g.R.Receiver.state c.args.receiver.now) c.args.screen.now)
           (g.S.Source.remaining c.next_sending.new.source) (c.packets.index + 1)
@@ -135,12 +145,12 @@ packets-preserved g c =
           (display (g.R.Receiver.state c.hear_sending-kept.new.receiver)
           c.hear_sending-kept.new.screen))
           (sym value)
-          (reaches_next l frames unread _ _ c.packets.index _ _ _ _ i
+          (reaches_next _ l frames unread (g.S.Source.remaining c.args.pes.now) _ _ c.packets.index _ _ _ _ i _
           c.next_sending.new.reader.frame c.in-Some.sending.frame
-          (rw c.in-Some.is at (c.in_ok-next.ensures.exact i.rest i.rest_is refl)) _ _
+          (rw c.in-Some.is at (c.in_ok-next.ensures.exact i.rest i.rest_is refl)) taken _
           (omega (arith, rises)) (omega (arith, in_time)) whole
           (c.in_ok-next.ensures.left i.rest i.rest_is)
-          (subst (λ (w : PageIdValue). RunsThrough l.options.asks_complete w
+          (subst (λ (w : PageIdValue). RunsThrough l.options.asks_complete g.R.Receiver.leaves w
           (display (g.R.Receiver.state c.packets.receiver) c.packets.screen)
           (as_heard l c.packets.number (packets_of_units c.next_sending.new.reader.frame.units))
           (display (g.R.Receiver.state c.hear_sending-kept.new.receiver)

@@ -21,7 +21,7 @@ invariant-packets g l = record {
   taken : TakesPackets l.index (g.S.Source.remaining l.fn.pes) (g.S.Source.remaining l.pes);
   kept :
       l.kept ≡ true
-      → HeardLast l.listening (g.R.Receiver.tuned_to l.receiver)
+      → HeardLast g.R.Receiver.leaves l.listening (g.R.Receiver.tuned_to l.receiver)
       (packets_of_units l.reader.frame.units) (display (g.R.Receiver.state l.receiver) l.screen);
   failures : g.S.Source.failure_count l.pes ≡ g.S.Source.failure_count l.fn.pes;
   tuned : g.R.Receiver.tuned_to l.receiver ≡ g.R.Receiver.tuned_to l.fn.receiver;
@@ -31,7 +31,7 @@ invariant-packets g l = record {
       (frames : Transmission) (unread : Option Unread) (bytes : List ℕ)
       → g.S.Source.remaining l.fn.pes ≡ Some bytes
       → ReadsAs l.listening.options.origin 0 bytes frames unread
-      → Reaches l.listening frames unread (g.R.Receiver.tuned_to l.fn.receiver)
+      → Reaches g.R.Receiver.leaves l.listening frames unread (g.R.Receiver.tuned_to l.fn.receiver)
       (display (g.R.Receiver.state l.fn.receiver) l.fn.screen) (g.S.Source.remaining l.pes)
       l.index l.number l.least (display (g.R.Receiver.state l.receiver) l.screen);
 }

@@ -12,7 +12,7 @@ returns-in-Ok-clause-exact g c = record {
   exact = λ frames unread bytes told reads same. (
     listing_of c.asks_complete.result
         (display (g.R.Receiver.state c.listen.new.receiver) c.listen.new.screen) (Ok tt),
-    listens_from c.args.listening.now frames unread _ _ _ (Ok tt) c.old_page.result
+    listens_from _ c.args.listening.now frames unread _ _ _ _ _ (Ok tt) c.old_page.result
         c.asks_complete.result c.asks_complete.ensures.value
         (c.tune-receiver.ensures.tuned ∙ c.page.ensures.value)
         (ap (λ s. display s None) c.tune-receiver.ensures.state)
@@ -30,7 +30,7 @@ returns-clause-exact g c = record {
     listing_of c.args.listening.now.options.asks_complete
         (display (g.R.Receiver.state c.listen.new.receiver) c.listen.new.screen)
         (Err c.in-Err.fault),
-    listens_from c.args.listening.now frames unread _ _ _ (Err c.in-Err.fault) c.old_page.result
+    listens_from _ c.args.listening.now frames unread _ _ _ _ _ (Err c.in-Err.fault) c.old_page.result
         c.args.listening.now.options.asks_complete refl
         (c.tune-receiver.ensures.tuned ∙ c.page.ensures.value)
         (ap (λ s. display s None) c.tune-receiver.ensures.state)
