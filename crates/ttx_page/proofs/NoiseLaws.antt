@@ -1,6 +1,6 @@
 -- The laws of noise and of lost rows: what a run over items leaves of the flags, `flags`, and of a
 -- cell, `cell_shown`, gives `law_of_recovery` and `law_of_lost_rows`; the others follow.
-use Rattle.std.proofs.Common.{◌≡◌, ℕ, ◌⊎◌, inl, inr, Bool, true, false, not, ◌||◌, List, []}
+use Rattle.std.proofs.Common.{◌≡◌, ℕ, ◌<◌, ◌⊎◌, inl, inr, Bool, true, false, not, ◌||◌, List, []}
 use Rattle.std.proofs.Common.{◌∷◌, map, zip, find, Option, Some, None, option_map, unwrap_or, All}
 use Rattle.std.proofs.Common.{Contains, refl, sym, ap, ◌∙◌, arith}
 use Rattle.std.specs.List.{list_any, AllZip, items_where_true}
@@ -20,13 +20,45 @@ use Rattle.ttx_page.specs.PacketKind.{kind, is_this_page, ends_page, is_row}
 use Rattle.ttx_page.specs.Receiver.{State, Hears}
 use Rattle.ttx_page.specs.Span.{holds_header, is_unended, is_open_after, after_last_header, span}
 use Rattle.ttx_page.specs.Shown.{shown, IsHit}
-use Rattle.ttx_page.specs.Noise.{IsOddRow, IsSameRow, IsSound, LawOfNoise, LawOfQuiet}
+use Rattle.ttx_page.specs.Noise.{HasSameCodes, IsOddRow, IsSound, LawOfNoise, LawOfQuiet}
 use Rattle.ttx_page.specs.LostRows.{LawOfMarkedLoss, LawOfNothingLost, Arrives, arrived}
 use Rattle.ttx_page.specs.LostRows.{IsHitOrLost, LawOfLostRows, MayBeMarked, arrivals_of}
 use Rattle.ttx_page.specs.Recovery.{LawOfMarkedRecovery, LawOfRecovery}
 use Rattle.ttx_page.proofs.SpanLists.{Any-map, map-Any, find_is, find_none, none_pass}
 use Rattle.ttx_page.proofs.SpanLists.{list_any-map, after-map, span-map, zip-map}
-use Rattle.ttx_page.proofs.NoiseSteps.{Item, kind_of_item, Becomes, over}
+use Rattle.ttx_page.proofs.NoiseSteps.{Item, kind_of_item, Becomes, over, row_from_test}
+
+-- Each packet of a row in the span has the code that is shown. Also for `LateStart`.
+pub shown_is :
+    (w : PageIdValue) (sent : List (List ℕ)) (row column : ℕ) (packet : List ℕ)
+    → IsSound w sent
+    → Contains (span (kind w) sent) packet
+    → kind w packet ≡ Row row
+    → column < 40
+    → code_of (text_byte packet column) ≡ shown w sent row column
+shown_is w sent row column packet sound within is below = go (find test spanned) refl
+  where
+    spanned : List (List ℕ)
+    spanned = span (kind w) sent
+
+    test : List ℕ → Bool
+    test p = is_row row (kind w p)
+
+    go :
+        (o : Option (List ℕ))
+        → find test spanned ≡ o
+        → code_of (text_byte packet column)
+        ≡ unwrap_or (option_map (λ p. code_of (text_byte p column)) o) space
+    go None e =
+        let none = none_pass test spanned e in
+        let some = list_any_at test spanned within.0 packet within.1 in
+        grind (arith, nat_tests)
+    go (Some first) e =
+        let found = find_is test spanned first e in
+        sym
+        (All-contains (HasSameCodes w first) spanned packet
+        (All-contains (λ p. All (HasSameCodes w p) spanned) spanned first sound.same found.1) within
+        row column (row_from_test row (kind w first) found.0) is below)
 
 -- What is sent, with what arrives of it.
 module _ (w : PageIdValue) (sent : List (List ℕ)) (arrivals : List (Option (List ℕ)))
@@ -80,38 +112,6 @@ module _ (w : PageIdValue) (sent : List (List ℕ)) (arrivals : List (Option (Li
       ap (list_any (λ p. is_row row (kind w p))) span-items
       ∙ list_any-map sent_of (λ p. is_row row (kind w p)) (span (kind_of_item w) items)
 
-  -- Each packet of a row in the span has the code that is shown.
-  shown_is :
-      (row column : ℕ) (packet : List ℕ)
-      → IsSound w sent
-      → Contains (span (kind w) sent) packet
-      → kind w packet ≡ Row row
-      → code_of (text_byte packet column) ≡ shown w sent row column
-  shown_is row column packet sound within is = go (find test spanned) refl
-    where
-      spanned : List (List ℕ)
-      spanned = span (kind w) sent
-
-      test : List ℕ → Bool
-      test p = is_row row (kind w p)
-
-      go :
-          (o : Option (List ℕ))
-          → find test spanned ≡ o
-          → code_of (text_byte packet column)
-          ≡ unwrap_or (option_map (λ p. code_of (text_byte p column)) o) space
-      go None e =
-          let none = none_pass test spanned e in
-          let some = list_any_at test spanned within.0 packet within.1 in
-          grind (arith, nat_tests)
-      go (Some first) e =
-          let found = find_is test spanned first e in
-          let same =
-          All-contains (IsSameRow w first) spanned packet
-          (All-contains (λ p. All (IsSameRow w p) spanned) spanned first sound.same found.1)
-          within row in
-          grind (arith, nat_tests)
-
   -- What has become of a receiver and of one cell.
   becomes :
       (old new : State) (row column : ℕ)
@@ -153,7 +153,7 @@ module _ (w : PageIdValue) (sent : List (List ℕ)) (arrivals : List (Option (Li
       (λ item within is.
       let sent_within = sent-in_span item within in (
         All-contains (IsOddRow w) _ item.0 sound.odd sent_within row is column named.2,
-        shown_is row column item.0 sound sent_within is,
+        shown_is w sent row column item.0 sound sent_within is named.2,
         λ lost_byte. (within.0, item, within.1, within.2, (is, lost_byte)),
       )) in
       let rows = row-items row in

@@ -1,12 +1,13 @@
 -- The law of noise: what every receiver holds after packets that were sent with care, and got with
 -- at most one wrong bit in each byte.
-use Rattle.std.specs.Prelude.{◌≡◌, ℕ, ◌⊎◌, List, All, IsTrue, IsFalse}
+use Rattle.std.specs.Prelude.{◌≡◌, ℕ, ◌<◌, ◌⊎◌, List, All, IsTrue, IsFalse}
 use Rattle.std.specs.List.{AllZip}
 use Rattle.ttx_packet.specs.declared.header.Header.{Header}
 use Rattle.ttx_packet.specs.OneBit.{AreNear}
 use Rattle.ttx_packet.specs.PageHeader.{c4, HasExactWords}
 use Rattle.ttx_packet.specs.PageId.{PageIdValue}
-use Rattle.ttx_packet.specs.RowPacket.{HasOddText}
+use Rattle.ttx_packet.specs.Parity.{code_of}
+use Rattle.ttx_packet.specs.RowPacket.{HasOddText, text_byte}
 use Rattle.ttx_page.specs.declared.packet_kind.PacketKind.TheVariants.{ThisPage, Row}
 use Rattle.ttx_page.specs.Page.{space, cell, IsCell}
 use Rattle.ttx_page.specs.PacketKind.{kind}
@@ -27,6 +28,15 @@ abbrev pub IsSameRow : PageIdValue → List ℕ → List ℕ → Type 0
 IsSameRow w first second =
     (row : ℕ) → kind w first ≡ Row row → kind w second ≡ Row row → first ≡ second
 
+-- Two packets of one row have the same codes.
+abbrev pub HasSameCodes : PageIdValue → List ℕ → List ℕ → Type 0
+HasSameCodes w first second =
+    (row column : ℕ)
+    → kind w first ≡ Row row
+    → kind w second ≡ Row row
+    → column < 40
+    → code_of (text_byte first column) ≡ code_of (text_byte second column)
+
 -- What is asked of the packets that are sent.
 pub record IsSound (w : PageIdValue) (sent : List (List ℕ)) : Type 0 where
   -- Addresses and headers are code words, with no bit wrong.
@@ -35,8 +45,8 @@ pub record IsSound (w : PageIdValue) (sent : List (List ℕ)) : Type 0 where
   pub erases : All (ErasesPage w) sent
   -- In the span each row has 40 bytes of odd parity.
   pub odd : All (IsOddRow w) (span (kind w) sent)
-  -- In the span two packets of one row are equal.
-  pub same : All (λ first. All (IsSameRow w first) (span (kind w) sent)) (span (kind w) sent)
+  -- In the span two packets of one row have the same codes.
+  pub same : All (λ first. All (HasSameCodes w first) (span (kind w) sent)) (span (kind w) sent)
 
 -- What has become of a receiver that had not heard the page, and in which it was not open.
 pub record EndsAs
