@@ -31,6 +31,7 @@ use Rattle.sub_check.proofs.PrefixLemmas.{at_start, before, last-same, on_air_is
 use Rattle.sub_check.proofs.PrefixLemmas.{rises_strictly}
 use Rattle.sub_check.proofs.StepByStepLemmas.{clean_nil}
 use Rattle.sub_check.specs.Good.{IsCleanSpan}
+use Rattle.ttx_page.proofs.LateStart.{codes_of_same}
 use Rattle.ttx_page.proofs.SpanLists.{holds-append_left}
 use Rattle.sub_check.specs.declared.fault.CheckFault.TheVariants as fault
 use Rattle.sub_check.specs.declared.packet_rules.PacketRule.TheVariants as rule
@@ -67,7 +68,7 @@ module _ (w : Watched) (frames : Transmission) (n : ℕ) (fits : n ≤ length fr
     exact = exact;
     erases = erases;
     odd = clean_span.odd;
-    same = clean_span.same;
+    same = codes_of_same w.page _ clean_span.same;
   }
 
   -- With a header among them every receiver shows what they show.

@@ -1,6 +1,7 @@
 pub mod TransmissionLemmas
+pub mod AllKept
+pub mod StretchLemmas
 pub mod RobustLemmas
-pub mod DroppedLemmas
 pub mod RecoveryLemmas
 pub mod OnScreenLemmas
 pub mod RunningLemmas

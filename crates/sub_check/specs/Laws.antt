@@ -7,8 +7,7 @@ use Rattle.sub_plan.specs.Options.{OptionsValue}
 use Rattle.sub_check.specs.Transmission.{Transmission, on_air}
 use Rattle.sub_check.specs.Good.{Good}
 use Rattle.sub_check.specs.Robust.{IsListening, Robust}
-use Rattle.sub_check.specs.LostRows.{RobustToLoss, RobustToMarkedLoss, RobustWithNothingLost}
-use Rattle.sub_check.specs.LostRows.{RobustWithAllKept}
+use Rattle.sub_check.specs.LostRows.{RobustToMarkedLoss, RobustWithAllKept}
 
 -- The law of the window: a start at any packet of a good transmission meets a header of the page by
 -- the end of frame g + every.
@@ -29,28 +28,14 @@ LawOfGood =
     → Good programme transmission options
     → Robust programme transmission options
 
--- A good transmission is robust to lost rows, by arrivals.
-abbrev pub LawOfGoodAndLoss : Type 0
-LawOfGoodAndLoss =
-    (programme : ProgrammeValue) (transmission : Transmission) (options : OptionsValue)
-    → Good programme transmission options
-    → RobustToLoss programme transmission options
-
--- A good transmission is robust to lost rows, by marks.
+-- A good transmission is robust to lost rows.
 abbrev pub LawOfGoodAndMarkedLoss : Type 0
 LawOfGoodAndMarkedLoss =
     (programme : ProgrammeValue) (transmission : Transmission) (options : OptionsValue)
     → Good programme transmission options
     → RobustToMarkedLoss programme transmission options
 
--- With nothing lost, robust to lost rows is robust, by arrivals.
-abbrev pub LawOfRobustWithNothingLost : Type 0
-LawOfRobustWithNothingLost =
-    (programme : ProgrammeValue) (transmission : Transmission) (options : OptionsValue)
-    → RobustWithNothingLost programme transmission options
-    ↔ Robust programme transmission options
-
--- With nothing lost, robust to lost rows is robust, by marks.
+-- With all packets kept, robust to lost rows is robust.
 abbrev pub LawOfAllKept : Type 0
 LawOfAllKept =
     (programme : ProgrammeValue) (transmission : Transmission) (options : OptionsValue)

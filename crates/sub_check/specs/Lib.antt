@@ -4,9 +4,9 @@ pub mod Good
 pub mod Rules
 pub mod StepByStep
 pub mod Robust
+pub mod Stretch
 pub mod Sufficient
 pub mod LostRows
-pub mod DroppedRows
 pub mod Recovery
 pub mod Laws
 pub mod Examples

@@ -3,6 +3,7 @@
 use Rattle.std.specs.Prelude.{◌≡◌, ℕ, ◌≤◌, ◌⊎◌, Bool, List, [], Option, Some, IsTrue, IsFalse}
 use Rattle.std.specs.List.{AllZip, items_where_true}
 use Rattle.ttx_packet.specs.OneBit.{AreNear}
+use Rattle.ttx_packet.specs.PageId.{PageIdValue}
 use Rattle.ttx_page.specs.DroppedRows.{SomewhereInRow}
 use Rattle.ttx_page.specs.LostRows.{IsHitOrLost, MayBeMarked, arrivals_of}
 use Rattle.ttx_page.specs.Page.{Rows, space, cell, IsCell}
@@ -18,15 +19,21 @@ use Rattle.sub_check.specs.Robust.{IsListening}
 use Rattle.sub_check.specs.Transmission.{Transmission, first_frame, last_frame, on_air}
 use Rattle.sub_check.specs.Transmission.{on_air_until}
 
--- Complete pages: at the end of each frame, with packets of its own or not, where a header of the
--- page was sent so far, a header after its last one ends the span. So the page is not open then.
-abbrev pub Complete : Transmission → OptionsValue → Type 0
-Complete transmission options =
+-- Complete pages in the frames from a to b: at the end of each of them, with packets of its own or
+-- not, where a header of the page was sent so far, a header after its last one ends the span. So
+-- the page is not open then.
+abbrev pub CompleteWithin : Transmission → OptionsValue → ℕ → ℕ → Type 0
+CompleteWithin transmission options a b =
     (f : ℕ)
-    → first_frame transmission ≤ f
-    → f ≤ last_frame transmission
+    → a ≤ f
+    → f ≤ b
     → IsTrue (holds_header (kind options.page) (on_air_until transmission f))
     → IsFalse (is_unended (kind options.page) (on_air_until transmission f))
+
+-- Complete pages: in all frames.
+abbrev pub Complete : Transmission → OptionsValue → Type 0
+Complete transmission options =
+    CompleteWithin transmission options (first_frame transmission) (last_frame transmission)
 
 -- On the screen is a page, and each cell of it is that of the page that is due at the frame, or an
 -- excused space.
@@ -56,19 +63,45 @@ Shown programme transmission options =
     → HasDuePage programme f
     (IsHitOrLost options.page (on_air transmission g j f) (arrivals_of marks got)) new.screen
 
--- Shown by receivers that drop rows: a space is excused where any byte of its row was hit, or the
--- row lost.
-abbrev pub ShownForDropping : ProgrammeValue → Transmission → OptionsValue → Type 0
-ShownForDropping programme transmission options =
+-- ---- in a stretch of frames
+
+-- The frames from a to b are shown by receivers that go on by this relation: as above, with start
+-- and stop in these frames. A cell is excused by what `Widens` makes of a hit byte or a lost row.
+abbrev pub ShownBy :
+    (PageIdValue → Display → List (List ℕ) → Display → Type 0)
+    → ((ℕ → ℕ → Type 0) → ℕ → ℕ → Type 0)
+    → ProgrammeValue → Transmission → OptionsValue → ℕ → ℕ → Type 0
+ShownBy ShowsSo Widens programme transmission options a b =
     (g j f : ℕ) (marks : List Bool) (got : List (List ℕ)) (old new : Display)
     → IsListening transmission g j f
+    → a ≤ g
+    → f ≤ b
     → AllZip MayBeMarked (on_air transmission g j f) marks
     → AllZip AreNear (items_where_true marks (on_air transmission g j f)) got
-    → ShowsDropping options.page old got new
+    → ShowsSo options.page old got new
     → IsTrue (holds_header (kind options.page) (on_air transmission g j f))
     → HasDuePage programme f
-    (SomewhereInRow (IsHitOrLost options.page (on_air transmission g j f) (arrivals_of marks got)))
+    (Widens (IsHitOrLost options.page (on_air transmission g j f) (arrivals_of marks got)))
     new.screen
+
+-- They are shown by every receiver.
+abbrev pub ShownWithin : ProgrammeValue → Transmission → OptionsValue → ℕ → ℕ → Type 0
+ShownWithin programme transmission options a b =
+    ShownBy Shows (λ IsExcused. IsExcused) programme transmission options a b
+
+-- And by every receiver that drops rows: a space is excused where any byte of its row was hit, or
+-- the row lost.
+abbrev pub ShownForDroppingWithin : ProgrammeValue → Transmission → OptionsValue → ℕ → ℕ → Type 0
+ShownForDroppingWithin programme transmission options a b =
+    ShownBy ShowsDropping SomewhereInRow programme transmission options a b
+
+-- A transmission that is shown by receivers that drop rows.
+abbrev pub ShownForDropping : ProgrammeValue → Transmission → OptionsValue → Type 0
+ShownForDropping programme transmission options =
+    ShownForDroppingWithin programme transmission options (first_frame transmission)
+    (last_frame transmission)
+
+-- ---- good transmissions
 
 -- A good transmission of complete pages is shown.
 -- So the headline holds of the screens of decoders that wait for the end of a page.

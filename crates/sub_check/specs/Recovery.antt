@@ -1,8 +1,9 @@
 -- What every receiver holds of a transmission, whatever it held before: wherever it starts,
 -- whatever bits are wrong and whatever rows are lost.
-use Rattle.std.specs.Prelude.{◌≡◌, ℕ, ◌+◌, ◌≤◌, ◌⊎◌, Bool, List, IsTrue}
+use Rattle.std.specs.Prelude.{◌≡◌, ◌↔◌, ℕ, ◌+◌, ◌≤◌, ◌⊎◌, Bool, List, IsTrue, IsFalse}
 use Rattle.std.specs.List.{AllZip, items_where_true}
 use Rattle.ttx_packet.specs.OneBit.{AreNear}
+use Rattle.ttx_packet.specs.PageId.{PageIdValue}
 use Rattle.ttx_page.specs.DroppedRows.{SomewhereInRow}
 use Rattle.ttx_page.specs.LostRows.{IsHitOrLost, MayBeMarked, arrivals_of}
 use Rattle.ttx_page.specs.Page.{space, cell, IsCell}
@@ -14,7 +15,7 @@ use Rattle.sub_plan.specs.Options.{OptionsValue}
 use Rattle.sub_plan.specs.Schedule.{due_in}
 use Rattle.sub_check.specs.Good.{Good}
 use Rattle.sub_check.specs.Robust.{IsListening}
-use Rattle.sub_check.specs.Transmission.{Transmission, on_air}
+use Rattle.sub_check.specs.Transmission.{Transmission, first_frame, last_frame, on_air}
 
 -- What is promised to a receiver that listened from frame g to the end of frame f, where these
 -- packets were sent, whatever it held before, and its state is now this one.
@@ -53,18 +54,57 @@ Recovers programme transmission options =
     → IsRestored programme options g f (on_air transmission g j f)
     (IsHitOrLost options.page (on_air transmission g j f) (arrivals_of marks got)) new
 
--- A transmission from which receivers that drop rows recover: a space is excused where any byte of
--- its row was hit, or the row lost.
-abbrev pub RecoversForDropping : ProgrammeValue → Transmission → OptionsValue → Type 0
-RecoversForDropping programme transmission options =
+-- ---- in a stretch of frames
+
+-- What is promised to a receiver in a stretch of frames: it is restored; and where it had not heard
+-- its page, and that was not open, it has heard it exactly where a header of it was sent.
+pub record IsRestoredFrom
+    (programme : ProgrammeValue) (options : OptionsValue) (g f : ℕ)
+    (sent : List (List ℕ)) (IsExcused : ℕ → ℕ → Type 0) (old new : State)
+    : Type 0 where
+  pub restored : IsRestored programme options g f sent IsExcused new
+  pub heard :
+      IsFalse old.heard
+      → IsFalse old.is_open
+      → IsTrue new.heard
+      ↔ IsTrue (holds_header (kind options.page) sent)
+
+-- Receivers that hear by this relation recover in the frames from a to b: as above, with start and
+-- stop in these frames. A cell is excused by what `Widens` makes of a hit byte or a lost row.
+abbrev pub RecoversBy :
+    (PageIdValue → State → List (List ℕ) → State → Type 0)
+    → ((ℕ → ℕ → Type 0) → ℕ → ℕ → Type 0)
+    → ProgrammeValue → Transmission → OptionsValue → ℕ → ℕ → Type 0
+RecoversBy HearsSo Widens programme transmission options a b =
     (g j f : ℕ) (marks : List Bool) (got : List (List ℕ)) (old new : State)
     → IsListening transmission g j f
+    → a ≤ g
+    → f ≤ b
     → AllZip MayBeMarked (on_air transmission g j f) marks
     → AllZip AreNear (items_where_true marks (on_air transmission g j f)) got
-    → HearsDropping options.page old got new
-    → IsRestored programme options g f (on_air transmission g j f)
-    (SomewhereInRow (IsHitOrLost options.page (on_air transmission g j f) (arrivals_of marks got)))
-    new
+    → HearsSo options.page old got new
+    → IsRestoredFrom programme options g f (on_air transmission g j f)
+    (Widens (IsHitOrLost options.page (on_air transmission g j f) (arrivals_of marks got))) old new
+
+-- Every receiver recovers in the frames from a to b.
+abbrev pub RecoversWithin : ProgrammeValue → Transmission → OptionsValue → ℕ → ℕ → Type 0
+RecoversWithin programme transmission options a b =
+    RecoversBy Hears (λ IsExcused. IsExcused) programme transmission options a b
+
+-- And so does every receiver that drops rows: a space is excused where any byte of its row was hit,
+-- or the row lost.
+abbrev pub RecoversForDroppingWithin :
+    ProgrammeValue → Transmission → OptionsValue → ℕ → ℕ → Type 0
+RecoversForDroppingWithin programme transmission options a b =
+    RecoversBy HearsDropping SomewhereInRow programme transmission options a b
+
+-- A transmission from which receivers that drop rows recover.
+abbrev pub RecoversForDropping : ProgrammeValue → Transmission → OptionsValue → Type 0
+RecoversForDropping programme transmission options =
+    RecoversForDroppingWithin programme transmission options (first_frame transmission)
+    (last_frame transmission)
+
+-- ---- good transmissions
 
 -- Receivers recover from anything by a good transmission.
 -- So what was on the air before, and what noise made of it, is over with the next header.

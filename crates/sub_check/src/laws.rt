@@ -1,14 +1,15 @@
 //! A good transmission is robust, and its rules packet by packet.
 //!
 //! The functions do nothing: the contract of each is a law over the definitions of `specs/`.
-ghost use Rattle.sub_check.specs.Laws.{LawOfGood, LawOfGoodAndLoss, LawOfGoodAndMarkedLoss};
-ghost use Rattle.sub_check.specs.Laws.{LawOfAllKept, LawOfRobustWithNothingLost, LawOfWindow};
+ghost use Rattle.sub_check.specs.Laws.{LawOfAllKept, LawOfGood, LawOfGoodAndMarkedLoss};
+ghost use Rattle.sub_check.specs.Laws.{LawOfWindow};
 ghost use Rattle.sub_check.specs.PesReading.{LawOfPesFiles};
 ghost use Rattle.sub_check.specs.Planned.{LawOfPlan, LawOfPlanRead};
 ghost use Rattle.sub_check.specs.Rules.{LawOfRules};
 ghost use Rattle.sub_check.specs.SentAgain.{LawOfSentAgain};
 ghost use Rattle.sub_check.specs.StepByStep.{LawOfCleanSpans, LawOfRepeats, LawOfSpansByPacket};
-ghost use Rattle.sub_check.specs.Sufficient.{LawOfSufficientParts};
+ghost use Rattle.sub_check.specs.Stretch.{LawOfWholeStretch};
+ghost use Rattle.sub_check.specs.Sufficient.{LawOfStretch, LawOfSufficientParts};
 
 /// A start at any packet of a good transmission meets a header of the page within the repeat bound.
 #[tactic(auto, using(crate::proofs::RobustLemmas::law_of_window))]
@@ -30,22 +31,23 @@ pub fn law_of_sufficient_parts()
     ensures { LawOfSufficientParts }
 {}
 
-/// A good transmission is robust where packets are lost too, any but page headers: a cell of a lost
-/// row counts as hit.
-#[tactic(auto, using(crate::proofs::RobustLemmas::law_of_good_and_loss))]
-pub fn law_of_good_and_loss()
-    ensures { LawOfGoodAndLoss }
+/// What these parts of the rules say of a stretch of frames suffices there, whatever was on air
+/// before it: every receiver that starts in it recovers, and where pages are complete in it, what
+/// is due is on its screen.
+pub fn law_of_stretch()
+    ensures { LawOfStretch }
 {}
 
-/// A good transmission is robust where packets are lost, with a mark beside each: kept or lost.
+/// What may be trusted of all frames of a transmission is what is promised of it.
+pub fn law_of_whole_stretch()
+    ensures { LawOfWholeStretch }
+{}
+
+/// A good transmission is robust where packets are lost too, any but page headers: a mark beside each
+/// packet says whether it is kept, and a cell of a lost row counts as hit.
 #[tactic(auto, using(crate::proofs::RobustLemmas::law_of_good_and_marked_loss))]
 pub fn law_of_good_and_marked_loss()
     ensures { LawOfGoodAndMarkedLoss }
-{}
-
-/// With nothing lost, robust to lost rows is robust.
-pub fn law_of_nothing_lost()
-    ensures { LawOfRobustWithNothingLost }
 {}
 
 /// With all packets marked as kept, robust to lost rows is robust.

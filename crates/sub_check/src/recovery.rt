@@ -11,7 +11,6 @@ pub fn law_of_good_and_recovery()
 {}
 
 /// Receivers that drop rows recover too: a space stands where a byte of the cell's row was hit.
-#[tactic(auto, using(crate::proofs::RecoveryLemmas::law_of_good_dropping_and_recovery))]
 pub fn law_of_good_dropping_and_recovery()
     ensures { LawOfGoodDroppingAndRecovery }
 {}

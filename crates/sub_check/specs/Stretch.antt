@@ -1,0 +1,47 @@
+-- What may be trusted of a stretch of frames, and what is promised of a whole transmission.
+use Rattle.std.specs.Prelude.{ℕ}
+use Rattle.stl_rows.specs.Programme.{ProgrammeValue}
+use Rattle.sub_plan.specs.Options.{OptionsValue}
+use Rattle.sub_check.specs.LostRows.{RobustToMarkedLoss}
+use Rattle.sub_check.specs.OnScreen.{Complete, CompleteWithin, Shown, ShownForDropping}
+use Rattle.sub_check.specs.OnScreen.{ShownForDroppingWithin, ShownWithin}
+use Rattle.sub_check.specs.Recovery.{Recovers, RecoversForDropping, RecoversForDroppingWithin}
+use Rattle.sub_check.specs.Recovery.{RecoversWithin}
+use Rattle.sub_check.specs.Robust.{Robust}
+use Rattle.sub_check.specs.Transmission.{Transmission, first_frame, last_frame}
+
+-- What may be trusted of the frames from a to b.
+pub record MayBeTrusted
+    (programme : ProgrammeValue) (transmission : Transmission) (options : OptionsValue) (a b : ℕ)
+    : Type 0 where
+  -- Every receiver recovers there, and so does each that drops rows.
+  pub recovers : RecoversWithin programme transmission options a b
+  pub dropping : RecoversForDroppingWithin programme transmission options a b
+  -- Where pages are complete there, what is due is on the screens of both.
+  pub shown :
+      CompleteWithin transmission options a b
+      → ShownWithin programme transmission options a b
+  pub shown_dropping :
+      CompleteWithin transmission options a b
+      → ShownForDroppingWithin programme transmission options a b
+
+-- What is promised of a whole transmission.
+pub record HasPromises
+    (programme : ProgrammeValue) (transmission : Transmission) (options : OptionsValue)
+    : Type 0 where
+  pub robust : Robust programme transmission options
+  pub to_loss : RobustToMarkedLoss programme transmission options
+  pub recovers : Recovers programme transmission options
+  pub dropping : RecoversForDropping programme transmission options
+  pub shown : Complete transmission options → Shown programme transmission options
+  pub shown_dropping :
+      Complete transmission options
+      → ShownForDropping programme transmission options
+
+-- It is what may be trusted of all its frames.
+abbrev pub LawOfWholeStretch : Type 0
+LawOfWholeStretch =
+    (programme : ProgrammeValue) (transmission : Transmission) (options : OptionsValue)
+    → MayBeTrusted programme transmission options (first_frame transmission)
+    (last_frame transmission)
+    → HasPromises programme transmission options
