@@ -59,7 +59,7 @@ each_packet P t h = grind (arith, All-from_recursion, Each-parts, whole-is)
 -- ---- headers
 
 -- A header in a frame of the list is one in the frame of the day.
-any_sent : (w : Watched) (t : Transmission) (j n : ℕ) → j < length t → frame_at t j ≡ n
+pub any_sent : (w : Watched) (t : Transmission) (j n : ℕ) → j < length t → frame_at t j ≡ n
     → holds_header (kind w.page) (packets_of_frame t j) ≡ true
     → holds_header (kind w.page) (packets_of t n) ≡ true
 any_sent w [] j n l e h = absurd (omega arith)

@@ -6,6 +6,7 @@ pub mod StepByStep
 pub mod Robust
 pub mod Stretch
 pub mod Sufficient
+pub mod CleanStretch
 pub mod LostRows
 pub mod Recovery
 pub mod Laws

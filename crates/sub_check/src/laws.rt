@@ -1,6 +1,7 @@
 //! A good transmission is robust, and its rules packet by packet.
 //!
 //! The functions do nothing: the contract of each is a law over the definitions of `specs/`.
+ghost use Rattle.sub_check.specs.CleanStretch.{LawOfCleanStretch};
 ghost use Rattle.sub_check.specs.Laws.{LawOfAllKept, LawOfGood, LawOfGoodAndMarkedLoss};
 ghost use Rattle.sub_check.specs.Laws.{LawOfWindow};
 ghost use Rattle.sub_check.specs.PesReading.{LawOfPesFiles};
@@ -36,6 +37,11 @@ pub fn law_of_sufficient_parts()
 /// is due is on its screen.
 pub fn law_of_stretch()
     ensures { LawOfStretch }
+{}
+
+/// A stretch of frames that is clean may be trusted, whatever is broken outside it.
+pub fn law_of_clean_stretch()
+    ensures { LawOfCleanStretch }
 {}
 
 /// What may be trusted of all frames of a transmission is what is promised of it.

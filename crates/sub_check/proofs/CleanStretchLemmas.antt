@@ -1,0 +1,315 @@
+-- A clean stretch has what suffices, and so may be trusted: `law_of_clean_stretch`.
+use Rattle.std.proofs.lemmas.Bool.Decides.{nat_tests}
+use Rattle.std.proofs.Common.{◌≡◌, ℕ, zero, suc, ◌+◌, ◌-◌, ◌<◌, ◌≤◌, ◌⊎◌, inl, inr, true, false, ◌&&◌}
+use Rattle.std.proofs.Common.{nat_le, cond, List, [], ◌∷◌, ◌++◌, length, take, drop, map}
+use Rattle.std.proofs.Common.{slice_index_or, Option, refl, sym, ap, ◌∙◌, subst, arith}
+use Rattle.std.proofs.Common.{append_assoc, IsTrue, get_or, le_refl, le_trans}
+use Rattle.std.specs.List.{AllByRecursion}
+use Rattle.std.proofs.lemmas.Bool.{cases_eq, cases_lt}
+use Rattle.std.proofs.lemmas.List.{append-nil, get_or-drop}
+use Rattle.std.proofs.lemmas.List.Elements.{All-nil}
+use Rattle.ttx_packet.specs.PageId.{PageIdValue}
+use Rattle.ttx_packet.specs.Parity.{code_of}
+use Rattle.ttx_page.specs.Noise.{IsSound}
+use Rattle.ttx_page.specs.Page.{IsCell}
+use Rattle.ttx_page.specs.PacketKind.{kind}
+use Rattle.ttx_page.specs.Shown.{shown}
+use Rattle.ttx_page.proofs.LateStart.{MayFollow, sound-joined}
+use Rattle.stl_rows.specs.Programme.{ProgrammeValue}
+use Rattle.sub_plan.specs.Options.{OptionsValue}
+use Rattle.sub_check.specs.CleanStretch.{AtEnds, IsClean, IsEnd, LawOfCleanStretch}
+use Rattle.sub_check.specs.CleanStretch.Part.{DuePages, ExactAddresses, ExactHeaders, FramesRise}
+use Rattle.sub_check.specs.CleanStretch.Part.{OddRows, RepeatBound, SameRows, SubtitleHeaders}
+use Rattle.sub_check.specs.FrameRules.{IsEnded, Unread, frame_at, packets_before, packets_of_frame}
+use Rattle.sub_check.specs.FrameRules.{HasHeader, task_of, watched_of}
+use Rattle.sub_check.specs.Good.{HoldsHeader}
+use Rattle.sub_check.specs.OnScreen.{CompleteWithin}
+use Rattle.sub_check.specs.PacketRules.{codes_of}
+use Rattle.sub_check.specs.Sufficient.{IsSufficient}
+use Rattle.sub_check.specs.Transmission.{IsRising, SentFrame, Transmission, first_frame, last_frame}
+use Rattle.sub_check.specs.Transmission.{on_air_until, packets_between}
+use Rattle.sub_check.proofs.GoodLemmas.{any_sent, number_at}
+use Rattle.sub_check.proofs.PrefixLemmas.{first-same, last-same, locate, on_air_at, on_air_is}
+use Rattle.sub_check.proofs.PrefixLemmas.{rises_to}
+use Rattle.sub_check.proofs.StretchLemmas.{law_of_stretch}
+use Rattle.sub_check.proofs.TransmissionLemmas.{later_than, packets_between-none, rising-tail}
+
+-- ---- what is on air in a stretch is sound, where each packet of it may follow those before it
+
+module _ (page : PageIdValue) (a b : ℕ) where
+  -- Each packet at a frame from a to b may follow these packets, and those of the frames before it.
+  abbrev AreFit : List (List ℕ) → Transmission → Type 0
+  AreFit before frames =
+      (i k : ℕ)
+      → i < length frames
+      → k < length (packets_of_frame frames i)
+      → a ≤ frame_at frames i
+      → frame_at frames i ≤ b
+      → MayFollow page ((before ++ packets_before frames i) ++ take k (packets_of_frame frames i))
+      (slice_index_or (packets_of_frame frames i) k [])
+
+  -- The packets of the first frame may follow.
+  fit_head :
+      (before : List (List ℕ)) (s : SentFrame) (frames : Transmission)
+      → AreFit before (s ∷ frames)
+      → a ≤ s.frame
+      → s.frame ≤ b
+      → (k : ℕ)
+      → k < length s.packets
+      → MayFollow page (before ++ take k s.packets) (slice_index_or s.packets k [])
+  fit_head before s frames fit low high k l =
+      subst (λ ps. MayFollow page (ps ++ take k s.packets) (slice_index_or s.packets k []))
+      (append-nil before) (fit 0 k (omega arith) l low high)
+
+  -- And those of the others may follow, after them.
+  fit_tail :
+      (before : List (List ℕ)) (s : SentFrame) (frames : Transmission)
+      → AreFit before (s ∷ frames)
+      → AreFit (before ++ s.packets) frames
+  fit_tail before s frames fit i k l m low high =
+      subst
+      (λ ps. MayFollow page (ps ++ take k (packets_of_frame frames i))
+      (slice_index_or (packets_of_frame frames i) k []))
+      (sym (append_assoc before s.packets (packets_before frames i)))
+      (fit (suc i) k (omega arith) m low high)
+
+  -- From frames that are all in the stretch or later, up to frame f.
+  sound_on :
+      (before heard : List (List ℕ)) (frames : Transmission) (f : ℕ)
+      → f ≤ b
+      → IsRising frames
+      → AllByRecursion (λ (s : SentFrame). a ≤ s.frame) frames
+      → IsSound page heard
+      → AreFit (before ++ heard) frames
+      → IsSound page (heard ++ packets_between frames a (f + 1))
+  sound_on before heard [] f high rising later sound fit =
+      subst (IsSound page) (sym (append-nil heard)) sound
+  sound_on before heard (s ∷ frames) f high rising later sound fit =
+      elim (cases_lt f s.frame) [
+        | inl past ↦
+            let none : packets_between (s ∷ frames) a (f + 1) ≡ [] =
+            packets_between-none (s ∷ frames) a (f + 1)
+            (omega arith, later_than s frames (f + 1) rising (omega arith)) in
+            subst (IsSound page) (sym (append-nil heard) ∙ ap (λ ps. heard ++ ps) (sym none)) sound
+        | inr within ↦
+            let here : packets_between (s ∷ frames) a (f + 1)
+            ≡ s.packets ++ packets_between frames a (f + 1) = grind (arith, nat_tests) in
+            subst (IsSound page)
+            (append_assoc heard s.packets (packets_between frames a (f + 1))
+            ∙ ap (λ ps. heard ++ ps) (sym here))
+            (sound_on before (heard ++ s.packets) frames f high (rising-tail s frames rising)
+            later.1
+            (sound-joined page before heard s.packets sound
+            (fit_head (before ++ heard) s frames fit later.0 (omega arith)))
+            (subst (λ ps. AreFit ps frames) (append_assoc before heard s.packets)
+            (fit_tail (before ++ heard) s frames fit)))
+      ]
+
+  -- From any frames.
+  sound_between :
+      (before : List (List ℕ)) (frames : Transmission) (f : ℕ)
+      → f ≤ b
+      → IsRising frames
+      → AreFit before frames
+      → IsSound page (packets_between frames a (f + 1))
+  sound_between before [] f high rising fit = record {
+    exact = All-nil _;
+    erases = All-nil _;
+    odd = All-nil _;
+    same = All-nil _;
+  }
+  sound_between before (s ∷ frames) f high rising fit =
+      elim (cases_lt s.frame a) [
+        | inl early ↦
+            let rest =
+            sound_between (before ++ s.packets) frames f high (rising-tail s frames rising)
+            (fit_tail before s frames fit) in
+            let none : packets_between (s ∷ frames) a (f + 1) ≡ packets_between frames a (f + 1) =
+            grind (arith, nat_tests) in
+            subst (IsSound page) (sym none) rest
+        | inr from ↦
+            sound_on before [] (s ∷ frames) f high rising
+            (from, later_than s frames a rising from)
+            (record { exact = All-nil _; erases = All-nil _; odd = All-nil _; same = All-nil _ })
+            (subst (λ ps. AreFit ps (s ∷ frames)) (sym (append-nil before)) fit)
+      ]
+
+-- ---- a clean stretch
+
+-- The code of a column, among the codes of bytes.
+code_in : (bytes : List ℕ) (k : ℕ) → get_or (map code_of bytes) k 0 ≡ code_of (get_or bytes k 0)
+code_in [] k = refl
+code_in (x ∷ bytes) zero = refl
+code_in (x ∷ bytes) (suc k) = code_in bytes k
+
+-- And among the codes of a packet.
+code_of_column :
+    (p : List ℕ) (k : ℕ) → get_or (codes_of p) k 0 ≡ code_of (get_or p (k + 2) 0)
+code_of_column p k =
+    code_in (drop 2 p) k
+    ∙ ap code_of (get_or-drop 2 p k 0 ∙ ap (λ n. get_or p n 0) (omega arith))
+
+module _ (programme : ProgrammeValue) (transmission : Transmission) (options : OptionsValue)
+    (unread : Option Unread) (a b : ℕ)
+    (clean : IsClean (task_of programme options unread) transmission a b) where
+  -- Each packet may follow those before it.
+  fit : AreFit options.page a b [] transmission
+  fit i k l m low high = record {
+    exact =
+        (clean.kept ExactAddresses i k l m low high, clean.kept ExactHeaders i k l m low high);
+    erases = λ h is. (clean.kept SubtitleHeaders i k l m low high h is).erases;
+    odd = λ up row is. clean.kept OddRows i k l m low high up row is;
+    same = λ up row column first is found below.
+        sym (code_of_column first column)
+        ∙ ap (λ codes. get_or codes column 0)
+        (clean.kept SameRows i k l m low high up row first is found)
+        ∙ code_of_column (slice_index_or (packets_of_frame transmission i) k []) column;
+  }
+
+  -- Each frame of the list is after the one before.
+  rising :
+      (i : ℕ)
+      → 0 < i
+      → i < length transmission
+      → frame_at transmission (i - 1) < frame_at transmission i
+  rising i low l =
+      let nothing : SentFrame = record { frame = 0; packets = [] } in
+      let rises = clean.kept FramesRise (i - 1) i nothing (omega arith) (omega arith) in
+      let earlier = number_at transmission (i - 1) nothing (omega arith) in
+      let later = number_at transmission i nothing l in
+      omega arith
+
+  -- Each frame of the stretch has an end, at which what is on air up to it counts.
+  end_at :
+      (f : ℕ)
+      → a ≤ f
+      → f ≤ b
+      → (n : ℕ)
+      × IsEnd transmission n f
+      × (on_air_until transmission f ≡ packets_before transmission n)
+      × (frame_at transmission (n - 1) ≤ f)
+  end_at f low high =
+      let first = first-same transmission in
+      let last = last-same transmission in
+      let from = clean.from in
+      let to = clean.to in
+      let some = clean.not_empty in
+      elim
+      (locate transmission rising (length transmission - 1) f (omega arith) (omega arith)
+      (omega arith)) [
+        | inl (i, l, is) ↦
+            let same : frame_at transmission (i + 1 - 1) ≡ frame_at transmission i =
+            ap (frame_at transmission) (omega arith) in (
+              i + 1,
+              (omega arith, omega arith, inl (sym is ∙ sym same)),
+              ap (on_air_until transmission) (sym is) ∙ on_air_at transmission rising i l,
+              omega arith,
+            )
+        | inr (i, gap) ↦ (
+          i,
+          (
+            gap.0,
+            omega (arith, gap.1),
+            inr (
+              gap.1,
+              gap.3,
+              λ j l.
+                  let rises =
+                  rises_to transmission rising j (i - 1) (omega arith) (omega (arith, gap.1)) in
+                  omega (arith, gap.2),
+            ),
+          ),
+          on_air_is transmission rising i f (omega (arith, gap.1)) (λ s. omega (arith, gap.2))
+              (λ m. gap.3),
+          omega (arith, gap.2),
+        )
+      ]
+
+  -- At each frame's end a header of the page is less than the repeat bound ago, or the first frame
+  -- is.
+  covered :
+      (f : ℕ)
+      → a ≤ f
+      → f ≤ b
+      → (f + 1 < first_frame transmission + options.every)
+      ⊎ ((j : ℕ)
+      × (j < length transmission)
+      × (frame_at transmission j ≤ f)
+      × (f < frame_at transmission j + options.every)
+      × HasHeader (task_of programme options unread) transmission j)
+  covered f low high =
+      let first = first-same transmission in
+      let (n, end, on, before) = end_at f low high in
+      elim (clean.kept RepeatBound n f end low high) [
+        | inl early ↦ inl (omega arith)
+        | inr (j, l, late, has) ↦
+            let rises =
+            rises_to transmission rising j (n - 1) (omega arith) (omega (arith, end.0, end.1)) in
+            inr (j, omega (arith, end.1), omega arith, late, has)
+      ]
+
+  -- It has what suffices.
+  enough : IsSufficient programme transmission options a b
+  enough = record {
+    first = clean.from;
+    rising = clean.kept FramesRise;
+    sound = λ f low high.
+        sound_between options.page a b [] transmission f high (clean.kept FramesRise) fit;
+    repeats = repeats;
+    content = λ f row column low high named.
+        let end = end_at f low high in
+        ap (λ ps. shown options.page ps row column) end.2
+        ∙ clean.kept DuePages end.0 f end.1 low high row column named;
+  }
+    where
+      repeats :
+          (start : ℕ)
+          → a ≤ start
+          → start + options.every ≤ b + 1
+          → (f : ℕ)
+          × (start ≤ f)
+          × (f < start + options.every)
+          × HoldsHeader options.page transmission f
+      repeats start low high =
+          let from = clean.from in
+          elim (cases_eq options.every 0) [
+            | inl none ↦ elim (covered a (le_refl a) clean.in_order) [
+              | inl early ↦ absurd (omega arith)
+              | inr (j, l, before, late, has) ↦ absurd (omega arith)
+            ]
+            | inr every ↦
+                elim (covered (start + options.every - 1) (omega arith) (omega arith)) [
+                  | inl early ↦ absurd (omega arith)
+                  | inr (j, l, before, late, has) ↦ (
+                    frame_at transmission j,
+                    omega arith,
+                    omega arith,
+                    any_sent (watched_of programme options) transmission j
+                        (frame_at transmission j) l refl has,
+                  )
+                ]
+          ]
+
+  -- Where the page is open at no end of it, pages are complete in it.
+  complete :
+      IsTrue options.asks_complete
+      → AtEnds (λ n f. IsEnded (task_of programme options unread) transmission n) transmission a b
+      → CompleteWithin transmission options a b
+  complete asks ended f low high holds =
+      let end = end_at f low high in
+      let shut = ended end.0 f end.1 low high asks in
+      let on = end.2 in
+      grind (arith, nat_tests)
+
+-- A clean stretch may be trusted.
+pub law_of_clean_stretch : LawOfCleanStretch
+law_of_clean_stretch programme transmission options unread a b clean =
+    let trusted =
+    law_of_stretch programme transmission options a b
+    (enough programme transmission options unread a b clean) in
+    record {
+      trusted = trusted;
+      shown = λ asks ended.
+          let pages = complete programme transmission options unread a b clean asks ended in
+          (trusted.shown pages, trusted.shown_dropping pages);
+    }
