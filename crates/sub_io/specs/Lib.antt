@@ -1,4 +1,5 @@
 pub mod Buffered
+pub mod Calls
 pub mod Countdown
 pub mod Counted
 pub mod Device

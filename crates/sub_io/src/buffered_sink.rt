@@ -1,9 +1,10 @@
 //! A sink that holds bytes back, so that many short pushes cost few calls of the sink inside.
 
 ghost use Rattle.std.specs.Prelude.{◌≡◌, ◌≢◌, ◌+◌, ◌-◌, ◌<◌, ◌≤◌, min, [], ◌++◌, length, take};
-ghost use Rattle.std.specs.Prelude.{Ok, IfErr, IfOk, IsErr, OnOk, false, true, ◌↔◌, ◌⊎◌};
+ghost use Rattle.std.specs.Prelude.{Ok, IfErr, IfOk, IsErr, OnOk, false, true, is_ok, ◌↔◌, ◌⊎◌};
 ghost use Rattle.std.specs.Io.KnownBytes.{Appends, Keeps, append_known};
 ghost use Rattle.sub_io.specs.Buffered.{HeldBack, failures_and_refused};
+ghost use Rattle.sub_io.specs.Calls.{HoldsBack, PutsByPushes, answered};
 ghost use Rattle.sub_io.specs.Device.{CanFail, CountsFailure, Pushes};
 
 use crate::sink::push_all;
@@ -69,6 +70,7 @@ impl<'a, K: Sink> BufferedSink<'a, K> {
         requires nonempty { 0 < length from.now }
         requires count { CanFail (K.failure_count self.old.device) }
         requires failed { self.old.failed ≡ false }
+        ensures call { K.is_push self.old.device from.now (answered result) self.new.device }
         ensures some { IfOk result (λ n. 0 < n) }
         ensures bound { IfOk result (λ n. n ≤ length from.now) }
         ensures bytes { Pushes
@@ -108,6 +110,7 @@ fn push_front<K: Sink>(sink: &mut K, room: &mut [u8], len: usize) -> Result<(), 
     requires within { len ≤ length room.old }
     requires count { CanFail (K.failure_count sink.old) }
     ensures same { room.new ≡ room.old }
+    ensures calls { PutsByPushes K.is_push sink.old (take len room.old) (is_ok result) sink.new }
     ensures ok { OnOk result (Appends
         (K.contents sink.old) (K.contents sink.new) (take len room.old)) }
     ensures err { IfErr result (λ n. (n ≤ len)
@@ -122,6 +125,8 @@ impl<K: Sink> Sink for BufferedSink<'_, K> {
 
     ghost failure_count = { λ k.
         failures_and_refused (K.failure_count k.device) k.refused };
+
+    ghost is_push = { HoldsBack K.is_push };
 
     /// Holds the bytes back, as many as there is room for. It hands on what is held where the room
     /// is full, and pushes straight into the sink inside where no byte is held and `from` is at
@@ -158,6 +163,7 @@ impl<K: Sink> Sink for BufferedSink<'_, K> {
             × Pushes (K.contents self.old.device) (K.contents self.new.device) from.now result }
         ensures room { self.new.room ≡ self.old.room }
 
+        ensures call { HoldsBack K.is_push self.old from.now (answered result) self.new }
         ensures some { IfOk result (λ n. 0 < n) }
         ensures bound { IfOk result (λ n. n ≤ length from.now) }
         ensures bytes { Pushes
@@ -208,6 +214,8 @@ impl<K: Sink> Flush for BufferedSink<'_, K> {
             × CountsFailure
             (K.failure_count self.old.device) result (K.failure_count self.new.device) }
         ensures failed { IsErr result ↔ (self.new.failed ≡ true) }
+        ensures calls { self.old.failed ≡ false → PutsByPushes K.is_push
+            self.old.device self.old.held (is_ok result) self.new.device }
         // All bytes that were held back went to the sink inside.
         ensures whole { OnOk result ((self.new.held ≡ [])
             × Appends (K.contents self.old.device) (K.contents self.new.device) self.old.held) }
@@ -244,8 +252,11 @@ impl<K: Sink> Flush for BufferedSink<'_, K> {
 }
 
 impl<K: Close> Close for BufferedSink<'_, K> {
+    ghost is_closed = { λ k. K.is_closed k.device };
+
     /// Closes the sink inside. Bytes that are held back are not handed on.
     fn close(&mut self)
+        ensures closed { K.is_closed self.new.device ≡ true }
         ensures held { self.new.held ≡ self.old.held }
         ensures room { self.new.room ≡ self.old.room }
         ensures failed { self.new.failed ≡ self.old.failed }

@@ -1,10 +1,11 @@
 //! A source that reads ahead, so that many short pulls cost few calls of the source inside.
 
 ghost use Rattle.std.specs.Prelude.{◌≡◌, ◌≢◌, ◌+◌, ◌<◌, ◌≤◌, min, [], ◌++◌, length, slice_range};
-ghost use Rattle.std.specs.Prelude.{take, Ok, IfOk, OnErr};
+ghost use Rattle.std.specs.Prelude.{take, Ok, Some, None, IfOk, OnErr, MatchResult};
 ghost use Rattle.std.specs.Io.{ReadsAtMost};
 ghost use Rattle.std.specs.Io.KnownBytes.{Consumes, IsAtEnd, Keeps, prepend_known};
 ghost use Rattle.sub_io.specs.Buffered.{ReadAhead};
+ghost use Rattle.sub_io.specs.Calls.{ReadsAhead, answered};
 ghost use Rattle.sub_io.specs.Device.{CanFail, CountsFailure, Pulls};
 
 use crate::{Failed, Source};
@@ -56,6 +57,10 @@ impl<'a, S: Source> BufferedSource<'a, S> {
     fn refill(&mut self) -> Result<(), Failed>
         requires empty { self.old.held ≡ [] }
         requires count { CanFail (S.failure_count self.old.device) }
+        ensures call { MatchResult result
+            (λ _. S.is_pull self.old.device self.old.room (Some (length self.new.held))
+            self.new.device)
+            (λ _. S.is_pull self.old.device self.old.room None self.new.device) }
         ensures room { self.new.room ≡ self.old.room }
         ensures bytes { IfOk result (λ _. Consumes
             (S.remaining self.old.device) (S.remaining self.new.device) self.new.held) }
@@ -105,6 +110,8 @@ impl<S: Source> Source for BufferedSource<'_, S> {
 
     ghost failure_count = { λ s. S.failure_count s.device };
 
+    ghost is_pull = { ReadsAhead S.is_pull };
+
     /// Gives the bytes that are held, or asks the source inside once: straight into `to` where that
     /// is at least as long as the room.
     ///
@@ -128,6 +135,7 @@ impl<S: Source> Source for BufferedSource<'_, S> {
         ensures full { IfOk result (λ n. n < length to.old → self.new.held ≡ []) }
         ensures room { self.new.room ≡ self.old.room }
 
+        ensures call { ReadsAhead S.is_pull self.old (length to.old) (answered result) self.new }
         ensures bound { ReadsAtMost result to.new }
         ensures bytes { Pulls
             (prepend_known self.old.held (S.remaining self.old.device))

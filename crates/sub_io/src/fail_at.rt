@@ -4,6 +4,7 @@ ghost use Rattle.std.specs.Prelude.{◌≡◌, ◌+◌, ◌<◌, ◌≤◌, leng
 ghost use Rattle.std.specs.Prelude.{false, true};
 ghost use Rattle.std.specs.Io.{ReadsAtMost};
 ghost use Rattle.std.specs.Io.KnownBytes.{Keeps};
+ghost use Rattle.sub_io.specs.Calls.{PassesOn, answered};
 ghost use Rattle.sub_io.specs.Countdown.{CountingDown, failures_with, fails_next, left_after};
 ghost use Rattle.sub_io.specs.Device.{CanFail, CountsFailure, Pulls, Pushes};
 
@@ -74,6 +75,8 @@ impl<S: Source> Source for FailAt<S> {
 
     ghost failure_count = { λ d. failures_with d.left (S.failure_count d.device) };
 
+    ghost is_pull = { PassesOn S.is_pull };
+
     /// Pulls from the device inside.
     ///
     /// # Errors
@@ -89,6 +92,7 @@ impl<S: Source> Source for FailAt<S> {
             (S.failure_count self.old.device) result (S.failure_count self.new.device) }
         ensures left { self.new.left ≡ left_after self.old.left }
 
+        ensures call { PassesOn S.is_pull self.old (length to.old) (answered result) self.new }
         ensures bound { ReadsAtMost result to.new }
         ensures bytes { Pulls
             (S.remaining self.old.device) (S.remaining self.new.device) to.new result }
@@ -114,6 +118,8 @@ impl<K: Sink> Sink for FailAt<K> {
 
     ghost failure_count = { λ d. failures_with d.left (K.failure_count d.device) };
 
+    ghost is_push = { PassesOn K.is_push };
+
     /// Pushes into the device inside.
     ///
     /// # Errors
@@ -130,6 +136,7 @@ impl<K: Sink> Sink for FailAt<K> {
             (K.failure_count self.old.device) result (K.failure_count self.new.device) }
         ensures left { self.new.left ≡ left_after self.old.left }
 
+        ensures call { PassesOn K.is_push self.old from.now (answered result) self.new }
         ensures some { IfOk result (λ n. 0 < n) }
         ensures bound { IfOk result (λ n. n ≤ length from.now) }
         ensures bytes { Pushes

@@ -1,6 +1,7 @@
 //! A file of std that is written, and closed before its value ends.
 
 ghost use Rattle.std.specs.Prelude.{◌≡◌, ◌+◌, ◌<◌, ◌≤◌, IfOk, IsErr, None, Option, Some, length};
+ghost use Rattle.std.specs.Prelude.{is_none};
 ghost use Rattle.sub_io.specs.Counted.{Counted, told_while_open};
 ghost use Rattle.sub_io.specs.Device.{CanFail, CountsFailure, Pushes};
 
@@ -78,6 +79,8 @@ impl<W: Write> Sink for IntoFile<W> {
 }
 
 impl<W: Write + Drop> Close for IntoFile<W> {
+    ghost is_closed = { λ s. is_none s.device };
+
     /// Lets go of the writer, which closes a file.
     fn close(&mut self)
         ensures { self.new ≡ record { device = None; failure_count = self.old.failure_count } }

@@ -1,7 +1,7 @@
 //! Devices over memory: a source that gives the bytes of a slice, and a sink that fills one.
 
 ghost use Rattle.std.specs.Prelude.{◌≡◌, ℕ, ◌+◌, ◌-◌, ◌<◌, ◌≤◌, min, List, [], length, take, Ok};
-ghost use Rattle.std.specs.Prelude.{IfOk, IsErr, OnOk, Some, ◌↔◌};
+ghost use Rattle.std.specs.Prelude.{IfOk, IsErr, OnOk, Some, true, ◌↔◌};
 ghost use Rattle.std.specs.Io.{ReadsAtMost};
 ghost use Rattle.std.specs.Io.KnownBytes.{Keeps};
 ghost use Rattle.sub_io.specs.Device.{CanFail, CountsFailure, Pulls, Pushes, holds_nothing};
@@ -156,6 +156,8 @@ impl Flush for MemSink<'_> {
 }
 
 impl Close for MemSink<'_> {
+    ghost is_closed = { λ _. true };
+
     /// Does nothing: memory is not closed.
     fn close(&mut self)
         ensures { self.new ≡ self.old }

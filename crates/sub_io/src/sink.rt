@@ -1,8 +1,9 @@
 //! Devices that take bytes.
 
 ghost use Rattle.std.specs.Prelude.{◌≡◌, ℕ, ◌<◌, ◌≤◌, List, length, Option, IfErr, IfOk};
-ghost use Rattle.std.specs.Prelude.{OnOk, take};
+ghost use Rattle.std.specs.Prelude.{OnOk, take, is_ok, Bool, true};
 ghost use Rattle.std.specs.Io.KnownBytes.{Appends, Keeps};
+ghost use Rattle.sub_io.specs.Calls.{PutsByPushes, answered, any_call};
 ghost use Rattle.sub_io.specs.Device.{CanFail, CountsFailure, Pushes, Writes};
 
 use crate::Failed;
@@ -15,6 +16,10 @@ pub trait Sink {
     // How many of its calls have failed.
     ghost failure_count: { Self → ℕ };
 
+    // Which pushes go so, where it says that: its state before, the bytes that it is lent, how many
+    // it takes or none where it fails, its state after.
+    ghost is_push: { Self → List ℕ → Option ℕ → Self → Type 0 } = { any_call };
+
     /// Takes bytes from the front of `from`, which must not be empty, and answers how many: 1 to
     /// its length.
     ///
@@ -26,6 +31,7 @@ pub trait Sink {
         requires count { CanFail (failure_count self.old) }
         ensures some { IfOk result (λ n. 0 < n) }
         ensures bound { IfOk result (λ n. n ≤ length from.now) }
+        ensures call { is_push self.old from.now (answered result) self.new }
         ensures bytes { Pushes (contents self.old) (contents self.new) from.now result }
         ensures count { CountsFailure (failure_count self.old) result (failure_count self.new) };
 
@@ -57,18 +63,23 @@ pub trait Flush: Sink {
 
 /// A sink that can be closed before its value ends, as a file.
 pub trait Close: Sink {
+    // Whether it is closed. What need not be closed, as memory, always is.
+    ghost is_closed: { Self → Bool };
+
     /// Closes it: what is below it is handed nothing more. What closing reports is not looked at.
     fn close(&mut self)
-        ensures { Self.failure_count self.new ≡ Self.failure_count self.old };
+        ensures closed { is_closed self.new ≡ true }
+        ensures count { Self.failure_count self.new ≡ Self.failure_count self.old };
 }
 
-/// Pushes all of `from`, in as many calls as the sink needs.
+/// Pushes all of `from`, in as many calls as the sink needs: each is lent what is left of it.
 ///
 /// # Errors
 ///
 /// `Failed` at the first push that fails: a prefix of `from` was taken.
 pub fn put_all<K: Sink>(sink: &mut K, from: &[u8]) -> Result<(), Failed>
     requires { CanFail (K.failure_count sink.old) }
+    ensures calls { PutsByPushes K.is_push sink.old from.now (is_ok result) sink.new }
     ensures bytes { Writes (K.contents sink.old) (K.contents sink.new) from.now result }
     ensures count { CountsFailure (K.failure_count sink.old) result (K.failure_count sink.new) }
 {
@@ -81,6 +92,7 @@ pub fn put_all<K: Sink>(sink: &mut K, from: &[u8]) -> Result<(), Failed>
 // Pushes all of `from`. The error is how many bytes were taken before the first push that failed.
 pub(crate) fn push_all<K: Sink>(sink: &mut K, from: &[u8]) -> Result<(), usize>
     requires { CanFail (K.failure_count sink.old) }
+    ensures calls { PutsByPushes K.is_push sink.old from.now (is_ok result) sink.new }
     ensures ok { OnOk result (Appends (K.contents sink.old) (K.contents sink.new) from.now) }
     ensures err { IfErr result (λ n. (n ≤ length from.now)
         × Appends (K.contents sink.old) (K.contents sink.new) (take n from.now)) }

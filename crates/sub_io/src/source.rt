@@ -1,8 +1,10 @@
 //! Devices that give bytes.
 
 ghost use Rattle.std.specs.Prelude.{◌≡◌, ℕ, ◌+◌, ◌<◌, ◌≤◌, List, length, take, Option, IfOk, OnErr};
+ghost use Rattle.std.specs.Prelude.{is_ok};
 ghost use Rattle.std.specs.Io.{ReadsAtMost};
 ghost use Rattle.std.specs.Io.KnownBytes.{Consumes, IsAtEnd};
+ghost use Rattle.sub_io.specs.Calls.{FillsByPulls, answered, any_call};
 ghost use Rattle.sub_io.specs.Device.{CanFail, CountsFailure, Fills, Pulls, Told};
 ghost use Rattle.sub_io.specs.Reading.{AreBytes, IfTold};
 
@@ -18,6 +20,10 @@ pub trait Source {
     // How many of its calls have failed.
     ghost failure_count: { Self → ℕ };
 
+    // Which pulls go so, where it says that: its state before, how many bytes it is lent, how many
+    // it gives or none where it fails, its state after.
+    ghost is_pull: { Self → ℕ → Option ℕ → Self → Type 0 } = { any_call };
+
     /// Puts bytes in front of `to` and answers how many; 0 for a nonempty `to` means the end.
     ///
     /// # Errors
@@ -26,6 +32,7 @@ pub trait Source {
     fn pull(&mut self, to: &mut [u8]) -> Result<usize, Failed>
         requires { CanFail (failure_count self.old) }
         ensures bound { ReadsAtMost result to.new }
+        ensures call { is_pull self.old (length to.old) (answered result) self.new }
         ensures bytes { Pulls (remaining self.old) (remaining self.new) to.new result }
         ensures count { CountsFailure (failure_count self.old) result (failure_count self.new) };
 
@@ -36,8 +43,8 @@ pub trait Source {
 
 /// Pulls until `to` is full or the source is at its end, and answers how many bytes it got.
 ///
-/// Fewer than `to.len()` only at the end of the source. It makes at most as many pulls as `to` is
-/// long.
+/// Fewer than `to.len()` only at the end of the source. Each pull is lent what is left of `to`, and
+/// none is made after one that gave nothing or failed, nor where `to` is full.
 ///
 /// # Errors
 ///
@@ -56,6 +63,7 @@ pub fn fill<S: Source>(source: &mut S, to: &mut [u8]) -> Result<usize, Failed>
     ensures told { IfTold (S.remaining source.old) (λ bytes.
         IfOk result (λ n. Told bytes n (S.remaining source.new) to.new)) }
     ensures fit { AreBytes to.new }
+    ensures calls { FillsByPulls S.is_pull source.old (length to.old) (is_ok result) source.new }
     ensures err { OnErr result ((bytes : List ℕ) × (length bytes < length to.new)
         × Consumes (S.remaining source.old) (S.remaining source.new) bytes) }
     ensures count { CountsFailure (S.failure_count source.old) result (S.failure_count source.new) }
@@ -66,6 +74,7 @@ pub fn fill<S: Source>(source: &mut S, to: &mut [u8]) -> Result<usize, Failed>
 // `fill` without the clauses that follow from the others.
 fn fill_up<S: Source>(source: &mut S, to: &mut [u8]) -> Result<usize, Failed>
     requires { CanFail (S.failure_count source.old) }
+    ensures calls { FillsByPulls S.is_pull source.old (length to.old) (is_ok result) source.new }
     ensures fills { IfOk result (λ n.
         Fills (S.remaining source.old) n (S.remaining source.new) to.new) }
     ensures err { OnErr result ((bytes : List ℕ) × (length bytes < length to.new)

@@ -6,8 +6,8 @@ ghost use Rattle.sub_io.specs.Device.{CountsFailure, Pulls, Pushes};
 use crate::asserting::assert_same;
 use std::io::{self, Read, Write};
 use sub_io::{
-    BufferedSink, BufferedSource, FailAt, Failed, Flush, FromRead, IntoWrite, MemSink, MemSource,
-    Sink, Source, put_all,
+    BufferedSink, BufferedSource, FailAt, Failed, Flush, FromRead, IntoFile, IntoWrite, MemSink,
+    MemSource, Sink, Source, put_all,
 };
 
 // A source of which each byte says how long the slice was that the source was lent, and the first
@@ -210,6 +210,11 @@ fn an_interrupted_read_is_not_made_again(rt: HostRuntime) {
 #[test]
 fn an_interrupted_write_is_not_made_again(rt: HostRuntime) {
     let mut sink = IntoWrite::new(InterruptedOnce { was: false });
+    assert_same(&rt, &sink.push(b"x"), &Err(Failed));
+    assert!(rt; sink.failures() == 1);
+    assert_same(&rt, &sink.push(b"x"), &Ok(1));
+
+    let mut sink = IntoFile::new(InterruptedOnce { was: false });
     assert_same(&rt, &sink.push(b"x"), &Err(Failed));
     assert!(rt; sink.failures() == 1);
     assert_same(&rt, &sink.push(b"x"), &Ok(1));

@@ -1,5 +1,6 @@
 //! Devices in memory, over std, and failing ones.
 use crate::asserting::{assert_same, assert_same_in};
+use fixtures::Counting;
 use std::io::{self, Cursor, Read, Write};
 use sub_io::{
     FailAt, Failed, Flush, FromRead, IntoWrite, MemSink, MemSource, Sink, Source, fill, put_all,
@@ -15,6 +16,20 @@ fn gives_its_bytes_and_then_ends(rt: HostRuntime) {
     assert_same(&rt, &to, b"dec");
     assert_same(&rt, &fill(&mut source, &mut to), &Ok(0));
     assert_same(&rt, &source.failures(), &0);
+}
+
+#[test]
+fn asks_no_more_once_a_pull_gave_nothing(rt: HostRuntime) {
+    // room, what is got, and by how many pulls: the last one finds the end
+    for (room, got, pulls) in [(0, 0, 0), (5, 5, 1), (6, 5, 2), (9, 5, 2)] {
+        let mut source = Counting {
+            inner: MemSource::new(b"abcde"),
+            pulls: 0,
+        };
+        let mut to = [0; 9];
+        assert_same(&rt, &fill(&mut source, &mut to[..room]), &Ok(got));
+        assert_same(&rt, &source.pulls, &pulls);
+    }
 }
 
 #[test]

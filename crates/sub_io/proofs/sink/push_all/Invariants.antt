@@ -1,12 +1,17 @@
 -- After each turn of `push_all` the sink holds the bytes up to the place, and no push has failed.
-use Rattle.std.proofs.Common.{length, ◌-◌, ◌≡◌, ◌≤◌, take}
+use Rattle.std.proofs.Common.{length, ◌-◌, ◌≡◌, ◌≤◌, Bool, drop, take}
 use Rattle.std.specs.Io.KnownBytes.{Appends}
+use Rattle.sub_io.specs.Calls.{PutsByPushes}
 use Rattle.sub_io.proofs.sink.push_all.Given as goal
 
 abbrev pub invariant-loop-at : goal.invariant-loop-at
 invariant-loop-at g l = record {
   bound : l.at ≤ length l.from;
   bytes : Appends (g.K.Sink.contents l.initial.sink) (g.K.Sink.contents l.sink) (take l.at l.from);
+  calls :
+      (ok : Bool) (end : g.row.K.Denot)
+      → PutsByPushes g.K.Sink.is_push l.sink (drop l.at l.from) ok end
+      → PutsByPushes g.K.Sink.is_push l.initial.sink l.from ok end;
   count : g.K.Sink.failure_count l.sink ≡ g.K.Sink.failure_count l.initial.sink;
 }
 

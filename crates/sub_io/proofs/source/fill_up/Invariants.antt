@@ -1,6 +1,7 @@
 -- After each turn of `fill_up` the buffer begins with the bytes taken, and no pull has failed.
-use Rattle.std.proofs.Common.{length, ◌-◌, ◌≡◌, ◌≤◌, take}
+use Rattle.std.proofs.Common.{length, ◌-◌, ◌≡◌, ◌≤◌, Bool, take}
 use Rattle.std.specs.Io.KnownBytes.{Consumes}
+use Rattle.sub_io.specs.Calls.{FillsByPulls}
 use Rattle.sub_io.proofs.source.fill_up.Given as goal
 
 abbrev pub invariant-loop-at : goal.invariant-loop-at
@@ -8,6 +9,10 @@ invariant-loop-at g l = record {
   bound : l.at ≤ length l.to;
   bytes : Consumes
       (g.S.Source.remaining l.initial.source) (g.S.Source.remaining l.source) (take l.at l.to);
+  calls :
+      (ok : Bool) (end : g.row.S.Denot)
+      → FillsByPulls g.S.Source.is_pull l.source (length l.initial.to - l.at) ok end
+      → FillsByPulls g.S.Source.is_pull l.initial.source (length l.initial.to) ok end;
   count : g.S.Source.failure_count l.source ≡ g.S.Source.failure_count l.initial.source;
 }
 
