@@ -15,6 +15,7 @@ files      files that are written whole or not at all
 built      the program as it was proved and built
 prefix     what is installed under a folder
 
-preview    parts of tools/preview
-trial      how tools/faults runs the program
+preview      parts of tools/preview
+every_place  what `check --all` tells, from the definitions, for tools/check-every-place
+trial        how tools/faults runs the program
 """

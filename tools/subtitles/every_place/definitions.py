@@ -1,0 +1,274 @@
+"""What `check --all` has to print, from the definitions: a second implementation, plain and slow.
+
+Nothing is kept from one PES packet to the next but the list of the packets before it: what a
+receiver holds is looked up there at the end of each frame.
+"""
+import collections
+
+from ..teletext import CODE_WORDS, address_of, is_odd
+from ..times import frame_at, time_of
+from .reading import header_of, pes_packets_of, records_of
+from .rows import BLANK, COLUMNS, TextFault, drawn
+
+NAMES = dict(
+    (int(words[0]), words[1]) for words in map(str.split, """
+    10 Truncated|11 Format|12 Rate|13 Display|14 Alphabet|15 Extension|16 Cumulative|17 CommentFlag
+    |18 Justify|19 Row|20 Time|21 EmptyTime|22 Sequence|23 TooLong|24 Unfinished|25 TooManyBlocks
+    |30 Truncated|31 Start|32 Length|33 Flags|34 NoTime|35 HeaderLength|36 Time|37 DataId
+    |38 UnitLength|39 Framing|40 LineOrder|44 TooMany|50 Character|51 Control|52 RowTooLong
+    |53 PastBottom|54 DoubleRow|55 Hidden|56 OutOfOrder|57 Overlap|60 Empty|61 OffFrame|62 Order
+    |63 Early|64 Address|65 HeaderCode|66 Mode|67 Control|68 Parity|69 RowChanged|70 Enhancement
+    |71 NoFirstHeader|72 Content|73 Gap|74 Late|77 Incomplete""".split("|")))
+
+# The words of `check`: `page` is its magazine, 0 for magazine 8, and its page number.
+Options = collections.namedtuple("Options", "page every origin option is_complete")
+# A Teletext packet as it is read: `header` is `None` in any other packet, and where it is none.
+Packet = collections.namedtuple("Packet", "data address header")
+
+
+def options_of(words):
+    """The options of `check` from its words, each a name and a text but for `--complete`."""
+    is_complete = "--complete" in words
+    words = [word for word in words if word != "--complete"]
+    given = {"--page": "888", "--every": "250", "--origin": "0", "--option": "english",
+             **dict(zip(words[::2], words[1::2]))}
+    page = int(given["--page"][0]) % 8, int(given["--page"][1:], 16)
+    return Options(page, int(given["--every"]), int(given["--origin"]), given["--option"],
+                   is_complete)
+
+
+def refused(number, place=""):
+    return f"refused {number} {NAMES[number]} {place}".rstrip()
+
+
+def ended(number, frame):
+    return f"ended {number} {NAMES[number]} frame {time_of(frame)}"
+
+
+# The subtitle file
+
+def stl_faults(data, option):
+    """The lines for everything that is broken in a subtitle file."""
+    records, last_fault = records_of(data)
+    before = None
+    for record in records:
+        if before and record.tci < before.tci:
+            yield refused(56, f"block {record.block}")
+        elif before and record.tci < before.tco:
+            yield refused(57, f"block {record.block}")
+        try:
+            drawn(record, option)
+        except TextFault as fault:
+            yield refused(fault.number, f"block {record.block} at {fault.at}")
+        before = record
+    if last_fault:
+        yield refused(last_fault.number, f"block {last_fault.block}")
+
+
+class Due:
+    """The page that is due at each frame."""
+
+    def __init__(self, records, option):
+        self.pages = [(one.tci, one.tco, drawn(one, option)) for one in records]
+
+    def at(self, frame):
+        return next((page for tci, tco, page in self.pages if tci <= frame < tco), BLANK)
+
+    def first(self):
+        return self.pages[0][0] if self.pages else None
+
+    def last(self):
+        return self.pages[-1][1] if self.pages else None
+
+
+# What is on air
+
+def span_of(packets, page):
+    """What follows the last header of the page, up to the header that ends it.
+
+    Answers these packets, and whether the page is still open after them.
+    """
+    begin = next((at for at in reversed(range(len(packets)))
+                  if packets[at].header and packets[at].header[0] == page), None)
+    if begin is None:
+        return [], False
+    for end, packet in enumerate(packets[begin + 1:], begin + 1):
+        if packet.header and (packet.header[0][0] == page[0] or 11 in packet.header[1]):
+            return packets[begin + 1:end], False
+    return packets[begin + 1:], True
+
+
+def is_row(packet, page):
+    return packet.address and packet.address[0] == page[0] and 1 <= packet.address[1] <= 24
+
+
+def first_of_row(packets, page, row):
+    """The codes of the first packet of a row in the span of the packets, `None` where none is."""
+    for packet in span_of(packets, page)[0]:
+        if is_row(packet, page) and packet.address[1] == row:
+            return codes_of(packet)
+    return None
+
+
+def codes_of(packet):
+    return bytes(byte & 0x7F for byte in packet.data[2:])
+
+
+def shown(packets, page):
+    """The page that a receiver holds after the packets: 960 codes."""
+    rows = {}
+    for packet in span_of(packets, page)[0]:
+        if is_row(packet, page):
+            rows.setdefault(packet.address[1], codes_of(packet))
+    return b"".join(rows.get(row, BLANK[:COLUMNS]) for row in range(1, 25))
+
+
+# The rules of a packet
+
+def is_exact(codes):
+    return all(byte in CODE_WORDS for byte in codes)
+
+
+def is_plain_subtitle_header(control, option):
+    """C4, C6 and C7 set; C5, C10, C12 and C13 clear; C14 set in German, and clear in English."""
+    national = {14} if option == "german" else set()
+    return control >= {4, 6, 7} and control & {5, 10, 12, 13, 14} == national
+
+
+def packet_faults(packet, before, options):
+    """The numbers of the rules that a packet breaks after those before it."""
+    address, header, page = packet.address, packet.header, options.page
+    is_open = span_of(before, page)[1]
+    is_stored = is_open and is_row(packet, page)
+    headers = (one.header for one in before if one.header)
+    known = first_of_row(before, page, address[1]) if is_stored else None
+    broken = {
+        64: not is_exact(packet.data[:2]),
+        65: address and address[1] == 0 and not is_exact(packet.data[2:10]),
+        66: header and (11 in header[1]) != (11 in next(headers, header)[1]),
+        67: header and header[0] == page and not is_plain_subtitle_header(header[1],
+                                                                         options.option),
+        68: is_stored and not all(map(is_odd, packet.data[2:])),
+        69: known is not None and known != codes_of(packet),
+        70: is_open and address and address[0] == page[0] and 25 <= address[1] <= 28,
+    }
+    return [number for number, is_so in broken.items() if is_so]
+
+
+# The ends of frames
+
+class Ends:
+    """What stands at the end of a frame, beside what stood at the end before."""
+
+    def __init__(self, due, options):
+        self.due, self.options = due, options
+        self.first = self.frame = None  # the first frame, and that of the end before
+        self.standing = {}  # a number, and for 72 its cell
+
+    def stands(self, frame, packets, headers):
+        """The numbers that stand at an end; `headers` are the frames with a header of the page."""
+        options, found = self.options, {}
+        held, due = shown(packets, options.page), self.due.at(frame)
+        if held != due:
+            found[72] = next(at for at in range(len(due)) if held[at] != due[at])
+        is_window = frame >= self.first + options.every - 1
+        if is_window and not any(frame < one + options.every for one in headers):
+            found[73] = True
+        if options.is_complete and span_of(packets, options.page)[1]:
+            found[77] = True
+        return found
+
+    def at(self, frame, packets, headers):
+        """The lines of an end."""
+        found = self.stands(frame, packets, headers)
+        for number in (72, 73, 77):
+            now, before = found.get(number), self.standing.get(number)
+            if now == before:
+                continue
+            if before is not None:
+                yield ended(number, self.frame)
+            if now is not None:
+                yield refused(number, self.place(number, frame, now))
+        self.standing, self.frame = found, frame
+
+    @staticmethod
+    def place(number, frame, cell):
+        words = f"frame {time_of(frame)}"
+        return f"{words} row {cell // COLUMNS + 1} column {cell % COLUMNS}" if number == 72 \
+            else words
+
+    def after_the_last(self):
+        """The lines for what still stands after the last end."""
+        for number in sorted(self.standing):
+            yield ended(number, self.frame)
+
+
+def pes_events(due, data, options):
+    """The lines for everything that is broken in a transmission."""
+    listed, broken = pes_packets_of(data)
+    ends, frames, sent, headers = Ends(due, options), [], [], []
+    for index, (pts, teletext) in enumerate(listed):
+        frame = frame_at(pts, options.origin)
+        if frame is None:
+            break
+        if not frames:
+            ends.first = frame
+            if due.first() is not None and due.first() < frame:
+                yield refused(63, f"frame {time_of(frame)}")
+        else:
+            if frame <= frames[-1]:
+                yield refused(62, f"pes {index}")
+            for between in range(max(frames) + 1, frame):
+                yield from ends.at(between, sent, headers)
+        frames.append(frame)
+        for number, one in enumerate(teletext):
+            packet = Packet(one, address_of(one), header_of(one))
+            for fault in packet_faults(packet, sent, options):
+                yield refused(fault, f"frame {time_of(frame)} packet {number}")
+            sent.append(packet)
+            if packet.header and packet.header[0] == options.page:
+                headers.append(frame)
+        if index == 0 and not headers:
+            yield refused(71, f"frame {time_of(frame)}")
+        yield from ends.at(frame, sent, headers)
+    yield from ends.after_the_last()
+    yield from end_of_list(due, frames, listed, broken)
+
+
+def end_of_list(due, frames, listed, broken):
+    """The line for what ended reading; else that for an empty or an early end."""
+    if len(frames) < len(listed):
+        yield refused(61, f"pes {len(frames)}")
+    elif broken:
+        yield refused(broken, f"pes {len(listed)}")
+    elif not frames:
+        yield refused(60)
+    elif due.last() is not None and due.last() > frames[-1]:
+        yield refused(74, f"frame {time_of(frames[-1])}")
+
+
+def transmissions(data, options):
+    """The frames and the headers of the page of a file that is accepted."""
+    frames, count = [], 0
+    for pts, teletext in pes_packets_of(data)[0]:
+        frames.append(frame_at(pts, options.origin))
+        headers = [header_of(one) for one in teletext]
+        count += sum(header is not None and header[0] == options.page for header in headers)
+    return frames[-1] - frames[0] + 1, count
+
+
+def check_all(stl, pes, options):
+    """The lines of `check --all`, as they are found."""
+    count = 0
+    for line in stl_faults(stl, options.option):
+        count += 1
+        yield line
+    if not count:
+        due = Due(records_of(stl)[0], options.option)
+        for line in pes_events(due, pes, options):
+            count += line.startswith("refused")
+            yield line
+    if count:
+        yield f"{count} faults"
+    else:
+        yield "accepted {} frames {} transmissions".format(*transmissions(pes, options))

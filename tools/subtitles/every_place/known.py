@@ -1,0 +1,79 @@
+"""Pairs of files with the lines that `check --all` prints of them, worked out by hand."""
+import collections
+import os
+
+from ..preview import TOP
+from ..stl import GSI, subtitle_blocks
+
+# `words` are the options of `check`, `lines` what it prints.
+Known = collections.namedtuple("Known", "name stl pes words lines")
+
+
+def example(name):
+    with open(os.path.join(TOP, "examples", name), "rb") as file:
+        return file.read()
+
+
+def poked(data, changes):
+    data = bytearray(data)
+    for at, byte in changes.items():
+        data[at] = byte
+    return bytes(data)
+
+
+# One subtitle from 10:00:00:00 to 10:00:02:00, sent at these two frames.
+HELLO, SENT = example("hello.stl"), example("hello.pes")
+EVEN_H = {117: 0x12}  # the row's H with even parity
+NO_ERASE = {55: 0xA8}  # C4 clear in the first header
+NO_END = {138: 0xFF}  # the first closing header a stuffing unit
+
+
+def five_subtitles():
+    """One that overlaps and two with an accent, a good one, and one before the others."""
+    accent = b"caf\xc2e"
+    times = [(900_000, 900_050, b"\x0d\x0b\x0bHi\x0a\x0a"), (900_040, 900_090, accent),
+             (900_100, 900_150, accent), (900_150, 900_160, b"ok"), (900_010, 900_020, b"ok")]
+    blocks = [subtitle_blocks(number, tci, tco, 22, 2, text)
+              for number, (tci, tco, text) in enumerate(times)]
+    return HELLO[:GSI] + b"".join(blocks)
+
+
+OF_FIVE = ["refused 57 Overlap block 2", "refused 50 Character block 2 at 3",
+           "refused 50 Character block 3 at 3", "refused 56 OutOfOrder block 5"]
+
+KNOWN = [
+    Known("accepted", HELLO, SENT, "", ["accepted 51 frames 2 transmissions"]),
+    Known("a gap", HELLO, SENT, "--every 25",
+          ["refused 73 Gap frame 10:00:01:00", "ended 73 Gap frame 10:00:01:24", "1 faults"]),
+    Known("the file twice", HELLO, SENT + SENT, "", ["refused 62 Order pes 2", "1 faults"]),
+    Known("another page", HELLO, SENT, "--page 100",
+          ["refused 71 NoFirstHeader frame 10:00:00:00",
+           "refused 72 Content frame 10:00:00:00 row 22 column 16",
+           "ended 72 Content frame 10:00:01:24", "2 faults"]),
+    Known("a frame early", HELLO, SENT, "--origin 3600",
+          ["refused 72 Content frame 09:59:59:24 row 22 column 16",
+           "ended 72 Content frame 09:59:59:24",
+           "refused 72 Content frame 10:00:01:24 row 22 column 16",
+           "ended 72 Content frame 10:00:01:24", "refused 74 Late frame 10:00:01:24", "3 faults"]),
+    Known("a frame late", HELLO, SENT, "--origin 8589930992",
+          ["refused 63 Early frame 10:00:00:01",
+           "refused 72 Content frame 10:00:02:00 row 22 column 16",
+           "ended 72 Content frame 10:00:02:00", "2 faults"]),
+    Known("no frame", HELLO, SENT, "--origin 1", ["refused 61 OffFrame pes 0", "1 faults"]),
+    Known("no PES packet", HELLO, b"", "", ["refused 60 Empty", "1 faults"]),
+    Known("no erase, an even byte, cut", HELLO, poked(SENT, {**EVEN_H, **NO_ERASE})[:-1], "",
+          ["refused 67 Control frame 10:00:00:00 packet 0",
+           "refused 68 Parity frame 10:00:00:00 packet 1", "refused 30 Truncated pes 1",
+           "3 faults"]),
+    Known("an even byte", HELLO, poked(SENT, EVEN_H), "",
+          ["refused 68 Parity frame 10:00:00:00 packet 1", "1 faults"]),
+    Known("another letter", HELLO, poked(SENT, {117: 0x16}), "",
+          ["refused 72 Content frame 10:00:00:00 row 22 column 19",
+           "ended 72 Content frame 10:00:01:24", "1 faults"]),
+    Known("no end of the page", HELLO, poked(SENT, NO_END), "--complete",
+          ["refused 77 Incomplete frame 10:00:00:00", "ended 77 Incomplete frame 10:00:01:24",
+           "1 faults"]),
+    Known("five subtitles", five_subtitles(), SENT, "", [*OF_FIVE, "4 faults"]),
+    Known("five subtitles and a part of a block", five_subtitles() + b"\0" * 127, SENT, "",
+          [*OF_FIVE, "refused 10 Truncated block 6", "5 faults"]),
+]

@@ -1,0 +1,308 @@
+"""Pairs of a subtitle file and a transmission, made and broken at random.
+
+First both are made whole: `schedule` of the program writes the transmission. Then bytes, Teletext
+packets, PES packets and subtitles of them are changed. A `Pair` is what `check` is asked about.
+"""
+import collections
+import random
+
+from ..pes import DATA, STUFFING_UNIT, UNIT, pes_packet, pts_bytes, pts_in
+from ..stl import GSI, TTI, USER_DATA, gsi_block, subtitle_blocks
+from ..teletext import CODE_WORDS, MIRROR, mirrored, odd
+from ..teletext import packet as teletext_packet
+from ..times import CLOCK, FRAMES_OF_A_DAY, TICKS
+
+Pair = collections.namedtuple("Pair", "seed stl pes words")
+Shown = collections.namedtuple("Shown", "tci tco row justify text")
+
+PACKET = 4  # where a data unit has its Teletext packet
+MOST_LINES = 16  # that `pes_packet` has room for
+LETTERS = b"ABCDEFGHIJKLMNOPQRSTUVWXYZabcdefghijklmnopqrstuvwxyz 0123456789.,?!'"
+
+
+# Subtitle files
+
+def random_text(chance, row):
+    """Some lines that fit at a row; seldom with a letter that is German alone."""
+    lines = []
+    for _ in range(chance.choice([1, 1, 2, 3])):
+        line = bytes(chance.choices(LETTERS, k=chance.randrange(1, 30)))
+        if chance.random() < 0.2:
+            line = bytes([chance.randrange(1, 8)]) + line
+        lines.append(line)
+    separator = b"\x8a"
+    if chance.random() < 0.4:
+        lines, separator = [b"\x0d\x0b\x0b" + line + b"\x0a\x0a" for line in lines], b"\x8a\x8a"
+    text = separator.join(lines[:max(1, (23 - row) // len(separator))])
+    if chance.random() < 0.05:
+        text = text.replace(b"u", b"\xc8u").replace(b"s", b"\xfb")
+    return text
+
+
+def random_subtitles(chance):
+    """Some subtitles in order, at any time of the day, some of them next to each other."""
+    frame = chance.choice([0, 25, 900_000, chance.randrange(FRAMES_OF_A_DAY - 2000)])
+    made = []
+    for _ in range(chance.choice([1, 1, 2, 3, 4, 6])):
+        frame += chance.choice([0, 0, 1, 2, chance.randrange(80)])
+        end = frame + chance.choice([1, 2, 25, chance.randrange(1, 120)])
+        row = chance.randrange(1, 23)
+        made.append(Shown(frame, end, row, chance.randrange(4), random_text(chance, row)))
+        frame = end
+    return made
+
+
+def stl_file(chance, subtitles):
+    """A subtitle file; now and then a comment or user data stands among its blocks."""
+    made = gsi_block(b"At random", 0, len(subtitles))
+    for number, one in enumerate(subtitles):
+        made += subtitle_blocks(number, *one)
+        if chance.random() < 0.1:
+            passed = bytearray(made[-TTI:])
+            at, value = chance.choice([(15, 1), (3, USER_DATA)])
+            passed[at] = value
+            made += passed
+    return made
+
+
+def other_subtitles(chance, subtitles):
+    """The subtitles with one of them changed: a transmission of the others shows another page."""
+    subtitles = list(subtitles)
+    at = chance.randrange(len(subtitles))
+    one = subtitles[at]
+    way = chance.randrange(5)
+    if way == 0:
+        one = one._replace(tci=min(max(0, one.tci + chance.randrange(-30, 30)), one.tco - 1))
+    elif way == 1:
+        one = one._replace(tco=one.tci + chance.randrange(1, 90))
+    elif way == 2:
+        one = one._replace(text=random_text(chance, one.row))
+    elif way == 3:
+        one = one._replace(justify=chance.randrange(4))
+    else:
+        del subtitles[at]
+        return subtitles
+    subtitles[at] = one
+    return subtitles
+
+
+# Values of fields that are told, or just not: EBN, CS, TCI and TCO, VP, JC, CF.
+FIELDS = {3: [0, 1, 0xF0, 0xFD, 0xFE, 0xFF], 4: [0, 1], 5: [0, 10, 24], 8: [0, 24, 25], 9: [0, 24],
+          12: [0, 24, 25], 13: [0, 1, 20, 22, 23, 24], 14: [0, 3, 4], 15: [0, 1, 2]}
+CODES = [0x00, 0x0B, 0x0D, 0x0E, 0x40, 0x5B, 0x80, 0x8A, 0x8F, 0xA7, 0xC8]
+
+
+def break_block(chance, data, block):
+    """Another byte in a block: a field, or one of its text."""
+    way = chance.random()
+    if way < 0.5:
+        data[block + 16 + chance.randrange(20)] = chance.choice([*CODES, chance.randrange(256)])
+    elif way < 0.9:
+        at = chance.choice([*FIELDS])
+        data[block + at] = chance.choice([*FIELDS[at], chance.randrange(256)])
+    else:
+        data[block + chance.randrange(3)] ^= 1  # SGN, SN
+
+
+def break_stl(chance, data):
+    """A subtitle file with some bytes, blocks or its length otherwise."""
+    data = bytearray(data)
+    for _ in range(chance.choice([1, 1, 2, 5])):
+        blocks = (len(data) - GSI) // TTI
+        if blocks < 1:
+            break
+        one, other = (GSI + TTI * chance.randrange(blocks) for _ in range(2))
+        way = chance.random()
+        if way < 0.75:
+            break_block(chance, data, one)
+        elif way < 0.8:
+            data[chance.choice([3, 6, 11, 12, chance.randrange(GSI)])] = chance.randrange(256)
+        elif way < 0.88:
+            data[one:one + TTI], data[other:other + TTI] = \
+                data[other:other + TTI], data[one:one + TTI]
+        elif way < 0.91:
+            data[one:one + TTI] = data[one:one + TTI] * chance.choice([0, 2, 10])
+        elif way < 0.95:
+            data[one + 16:one + TTI] = chance.choice([b"xx", b"x\x8a"]) * 56
+        else:
+            del data[chance.randrange(len(data)):]
+    return bytes(data)
+
+
+# Transmissions
+
+def split(data):
+    """The PES packets of a transmission that `schedule` wrote."""
+    packets, begin = [], 0
+    while begin < len(data):
+        length = 6 + int.from_bytes(data[begin + 4:begin + 6], "big")
+        packets.append(bytearray(data[begin:begin + length]))
+        begin += length
+    return packets
+
+
+def units_in(packet):
+    """Where the data units of a PES packet that carry Teletext begin."""
+    return [at for at in range(DATA, len(packet), UNIT) if packet[at] in (2, 3)]
+
+
+def teletext_in(packet):
+    """The Teletext packets of a PES packet."""
+    return [mirrored(packet[at + PACKET:at + UNIT]) for at in units_in(packet)]
+
+
+def random_header(chance):
+    """A header of the page, of another one, or of another magazine, with any control bits."""
+    units, tens = chance.choice([8, 8, 15]), chance.choice([8, 8, 15])
+    numbers = [units, tens, 0, chance.choice([8, 8, 0]), 0, chance.choice([8, 8, 12]),
+               chance.choice([1, 1, 9]), chance.choice([0, 0, 8, 1])]
+    return teletext_packet(chance.choice([0, 0, 1]), 0, numbers, b" " * 32)
+
+
+def random_packet(chance):
+    """A header, a row, or a packet of enhancement."""
+    if chance.random() < 0.4:
+        return random_header(chance)
+    number = chance.choice([1, 22, 23, 24, 25, 26, 28, 29, 30])
+    return teletext_packet(chance.choice([0, 0, 0, 2]), number, [], chance.choices(LETTERS, k=40))
+
+
+def change_bit(chance, packet):
+    at = chance.choice(units_in(packet))
+    place = chance.choice([chance.randrange(2), chance.randrange(10), chance.randrange(42)])
+    packet[at + PACKET + place] ^= 1 << chance.randrange(8)
+
+
+def change_code(chance, packet):
+    """Another code word in an address or a header, or another letter in a row."""
+    at = chance.choice(units_in(packet)) + PACKET
+    place = chance.choice([chance.randrange(2, 10), chance.randrange(10, 42)])
+    code = chance.choice([CODE_WORDS[chance.randrange(16)], odd(chance.randrange(128))])
+    packet[at + place] = MIRROR[code]
+
+
+def change_byte(chance, packet):
+    packet[chance.randrange(len(packet))] = chance.randrange(256)
+
+
+def drop_unit(chance, packet):
+    at = chance.choice(units_in(packet))
+    packet[at:at + UNIT] = STUFFING_UNIT
+
+
+def add_unit(chance, packet):
+    """One more packet at any place: a new one, or one of those there, changed or not."""
+    teletext = teletext_in(packet)
+    if len(teletext) >= MOST_LINES:
+        return
+    made, way = random_packet(chance), chance.random()
+    if way < 0.6:
+        made = chance.choice(teletext)
+        if way < 0.3:
+            at = chance.randrange(10, 42)
+            made = made[:at] + bytes([odd(chance.choice(LETTERS))]) + made[at + 1:]
+    teletext.insert(chance.randrange(len(teletext) + 1), made)
+    packet[:] = pes_packet(pts_in(packet), teletext)
+
+
+def swap_units(chance, packet):
+    """Two packets change places: a row before its header, or rows after the closing header."""
+    one, other = (chance.choice(units_in(packet)) + PACKET for _ in range(2))
+    end = UNIT - PACKET
+    packet[one:one + end], packet[other:other + end] = \
+        packet[other:other + end], packet[one:one + end]
+
+
+def move_frame(chance, packet):
+    frames = chance.choice([-1, 1, 2, chance.randrange(-60, 60)])
+    ticks = chance.choice([TICKS * frames] * 6 + [frames])
+    packet[9:14] = pts_bytes((pts_in(packet) + ticks) % CLOCK)
+
+
+WITHIN = [change_bit, change_bit, change_code, change_code, change_code, drop_unit, add_unit,
+          add_unit, swap_units, move_frame, change_byte]
+
+
+def change_order(chance, packets):
+    """PES packets twice, left out, or in another order."""
+    at, way = chance.randrange(len(packets)), chance.randrange(5)
+    if way == 0 and len(packets) > 1:
+        del packets[at]
+    elif way == 1:
+        packets.insert(at, bytearray(packets[at]))
+    elif way == 2:
+        other = chance.randrange(len(packets))
+        packets[at], packets[other] = packets[other], packets[at]
+    elif way == 3:
+        packets += [bytearray(packet) for packet in packets[at:]]
+    else:
+        del packets[at:at + chance.randrange(3)]
+
+
+def change_some(chance, packets):
+    """One PES packet is changed, or some after each other in the same way."""
+    way, seed = chance.choice(WITHIN), chance.random()
+    first = chance.randrange(len(packets))
+    count = chance.choice([1, 1, 1, 2, 3, len(packets)])
+    for packet in packets[first:first + count]:
+        if units_in(packet):
+            way(random.Random(seed), packet)
+
+
+def break_pes(chance, data):
+    """A transmission with some of its packets, their order, or its length otherwise."""
+    packets = split(data)
+    for _ in range(chance.choice([0, 1, 1, 2, 3, 6, 12])):
+        if packets:
+            (change_order if chance.random() < 0.12 else change_some)(chance, packets)
+    data = b"".join(packets)
+    way = chance.random()
+    if way < 0.05:
+        data = data[:chance.randrange(len(data) + 1)]
+    elif way < 0.08:
+        data += bytes(chance.choices(b"\0\1\xbd\xff", k=chance.choice([1, 5, 6, 200])))
+    return data
+
+
+# Pairs
+
+def random_words(chance):
+    """The options that `schedule` and `check` share."""
+    return {"--page": chance.choice(["888", "888", "888", "1A0", "8f0"]),
+            "--every": str(chance.choice([1, 2, 25, 25, 50, 250])),
+            "--origin": str(chance.choice([0, 0, 3600, 2**33 - 3600 * 900_001, 5])),
+            "--option": chance.choice(["english", "english", "german"])}
+
+
+def other_words(chance, words):
+    """The options with one of them otherwise, seldom."""
+    if chance.random() >= 0.25:
+        return words
+    name = chance.choice(["--every"] * 4 + ["--page", "--origin", "--origin", "--option"])
+    origin = int(words["--origin"]) + chance.choice([3600, -3600, 1, 90_000])
+    other = {"--every": str(chance.choice([1, 10, 24, 49, 1500])), "--page": "100",
+             "--origin": str(origin % 2**33),
+             "--option": "german" if words["--option"] == "english" else "english"}
+    return {**words, name: other[name]}
+
+
+def listed(words):
+    return [word for pair in words.items() for word in pair]
+
+
+def random_pair(seed, schedule):
+    """A pair at random. `schedule` gives the transmission of a subtitle file, by words."""
+    chance = random.Random(seed)
+    subtitles, words = random_subtitles(chance), random_words(chance)
+    stl = stl_file(chance, subtitles)
+    mode = chance.choice([[], [], ["--serial"]])
+    pes = schedule(stl, [*listed(words), *mode])
+    if chance.random() < 0.3:
+        stl = stl_file(chance, other_subtitles(chance, subtitles))
+    if chance.random() < 0.2:
+        stl = break_stl(chance, stl)
+    pes = break_pes(chance, pes)
+    words = listed(other_words(chance, words))
+    if chance.random() < 0.4:
+        words.append("--complete")
+    return Pair(seed, stl, pes, words)

@@ -1,0 +1,192 @@
+"""Subtitle files, PES packets and page headers, read as the standards say it, and what is wrong.
+
+Subtitle files are read by EBU Tech 3264, PES packets by EN 300 472, Teletext packets by EN 300 706,
+with the limits of docs/MANUAL.md. Numbers of faults are those of the manual's tables. Nothing here
+was written from the program's sources.
+"""
+import collections
+
+from ..pes import pts_in
+from ..stl import GSI, LAST, TTI, USER_DATA
+from ..teletext import NUMBER, address_of, mirrored
+from ..times import frame_of_code
+
+MOST_BLOCKS, MOST_BLOCKS_OF_ONE, MOST_PES_PACKETS = 99_999, 9, 2_160_000
+
+# A subtitle as the blocks of the file hold it. `block` is the number of its last block, and `text`
+# what its blocks hold before their unused space, joined.
+Record = collections.namedtuple("Record", "block tci tco row justify text")
+# A fault of a subtitle file: its number, its block, and for a fault of the text its place there.
+StlFault = collections.namedtuple("StlFault", "number block at", defaults=[None])
+
+
+# Subtitle files
+
+def general_fault(data):
+    """The number of what is wrong with the GSI block, `None` where nothing is."""
+    if len(data) < GSI:
+        return 10
+    format_code, display, table = data[3:11], data[11:12], data[12:14]
+    if format_code not in (b"STL25.01", b"STL30.01"):
+        return 11
+    if format_code == b"STL30.01":
+        return 12
+    if display not in (b"1", b"2"):
+        return 13
+    return None if table == b"00" else 14
+
+
+def first_block_fault(block):
+    """The number of what is wrong with the first block of a subtitle."""
+    tci, tco = frame_of_code(block[5:9]), frame_of_code(block[9:13])
+    questions = [(16, block[4] != 0), (18, block[14] > 3), (19, not 1 <= block[13] <= 23),
+                 (20, tci is None or tco is None)]
+    for number, is_broken in questions:
+        if is_broken:
+            return number
+    return None if tci < tco else 21
+
+
+def block_fault(block, group):
+    """The number of what is wrong with a block after the blocks `group` of its subtitle.
+
+    A block that is passed over has none: user data, or a comment.
+    """
+    extension, comment = block[3], block[15]
+    if extension == USER_DATA:
+        return None
+    if 0xF0 <= extension <= 0xFD:
+        return 15
+    if comment > 1:
+        return 17
+    if comment == 1:
+        return None
+    if not group:
+        return first_block_fault(block)
+    if block[0:3] != group[0][0:3]:
+        return 22
+    return 23 if len(group) == MOST_BLOCKS_OF_ONE else None
+
+
+def record_of(group, number):
+    """The subtitle that a whole group of blocks holds."""
+    head = group[0]
+    text = b"".join(block[16:].partition(b"\x8f")[0] for block in group)
+    return Record(number, frame_of_code(head[5:9]), frame_of_code(head[9:13]), head[13], head[14],
+                  text)
+
+
+def records_of(data):
+    """The subtitles before the first block that is broken, and that block's fault or `None`."""
+    number = general_fault(data)
+    if number:
+        return [], StlFault(number, 0)
+    records, group, count = [], [], 0
+    while GSI + TTI * count < len(data):
+        block = data[GSI + TTI * count:][:TTI]
+        count += 1
+        number = 25 if count > MOST_BLOCKS else 10 if len(block) < TTI \
+            else block_fault(block, group)
+        if number:
+            return records, StlFault(number, count)
+        if block[3] == USER_DATA or block[15] == 1:
+            continue
+        group.append(block)
+        if block[3] == LAST:
+            records.append(record_of(group, count))
+            group = []
+    return records, StlFault(24, count) if group else None
+
+
+# PES packets
+
+def is_pts(field):
+    """Whether five bytes are a PTS: 0010, and the three bits between its parts."""
+    return field[0] >> 4 == 2 and field[0] & 1 and field[2] & 1 and field[4] & 1
+
+
+def head_fault(packet):
+    """The number of what is wrong before the data units of a whole packet."""
+    questions = [(33, packet[6] >> 4 == 8), (34, packet[7] >> 6 == 2), (35, packet[8] == 0x24),
+                 (36, is_pts(packet[9:14])), (37, 0x10 <= packet[45] <= 0x1F)]
+    return next((number for number, is_kept in questions if not is_kept), None)
+
+
+def unit_fault(unit, last_line):
+    """The number of what is wrong with a data unit, after a line of the field."""
+    if unit[1] != 0x2C:
+        return 38
+    if unit[0] not in (2, 3):
+        return None
+    if unit[3] != 0xE4:
+        return 39
+    return 40 if unit[2] & 31 and line_of(unit) <= last_line else None
+
+
+def line_of(unit):
+    """The field and the line of a data unit, which rise; the first field has the bit set."""
+    return (0 if unit[2] & 32 else 1, unit[2] & 31)
+
+
+def units_of(packet):
+    """The Teletext packets of the data units, and the number of what is wrong with one."""
+    packets, last_line = [], (0, 0)
+    for at in range(46, len(packet), 46):
+        unit = packet[at:at + 46]
+        number = unit_fault(unit, last_line)
+        if number:
+            return packets, number
+        if unit[0] in (2, 3):
+            packets.append(mirrored(unit[4:]))
+            if unit[2] & 31:
+                last_line = line_of(unit)
+    return packets, None
+
+
+def pes_at(data, begin):
+    """The packet that begins there: its length, its PTS, its Teletext packets; or a number."""
+    head = data[begin:begin + 6]
+    if len(head) < 6:
+        return 30
+    if head[:4] != b"\0\0\1\xbd":
+        return 31
+    length = int.from_bytes(head[4:], "big") + 6
+    if length not in range(184, 184 * 9 + 1, 184):
+        return 32
+    packet = data[begin:begin + length]
+    if len(packet) < length:
+        return 30
+    number = head_fault(packet)
+    packets, broken = units_of(packet) if number is None else ([], number)
+    return broken or (length, pts_in(packet), packets)
+
+
+def pes_packets_of(data):
+    """The PES packets that can be read, each a PTS and Teletext packets; the number of the first
+    fault, or `None` where all bytes are read."""
+    found, begin = [], 0
+    while begin < len(data):
+        read = pes_at(data, begin) if len(found) < MOST_PES_PACKETS else 44
+        if isinstance(read, int):
+            return found, read
+        found.append(read[1:])
+        begin += read[0]
+    return found, None
+
+
+# Teletext packets
+
+def header_of(packet):
+    """The page and the control bits of a packet with number 0, with correction; else `None`.
+
+    The page is magazine and page number. The control bits are a set of 4 to 14.
+    """
+    address = address_of(packet)
+    numbers = [NUMBER[byte] for byte in packet[2:10]]
+    if address is None or address[1] != 0 or None in numbers:
+        return None
+    bits = [(4, 3, 3), (5, 5, 2), (6, 5, 3), *((7 + at, 6, at) for at in range(4)),
+            *((11 + at, 7, at) for at in range(4))]
+    control = {name for name, number, bit in bits if numbers[number] >> bit & 1}
+    return (address[0], numbers[0] + 16 * numbers[1]), control
+

@@ -1,0 +1,78 @@
+"""The page that a subtitle draws, or what is wrong with its text; from the tables, byte by byte."""
+ROWS, COLUMNS, SPACE = 24, 40, 0x20
+DOUBLE_HEIGHT, END_BOX, START_BOX, NEW_LINE = 0x0D, 0x0A, 0x0B, 0x8A
+NO_CELL = range(0x80, 0x86)  # italics, underline and boxing on and off
+LAST_ROW = 23
+BLANK = bytes([SPACE]) * (ROWS * COLUMNS)
+
+COMMON = {code: code for code in (*range(0x01, 0x0E), 0x1C, 0x1D, *range(0x20, 0x23),
+                                  *range(0x25, 0x40), *range(0x41, 0x5B), *range(0x61, 0x7B))}
+CELLS = {
+    "english": {**COMMON, 0x23: 0x5F, 0xA4: 0x24, 0x24: 0x24, 0x40: 0x40, 0xA3: 0x23},
+    "german": {**COMMON, 0x23: 0x23, 0xA4: 0x24, 0x24: 0x24, 0xA7: 0x40, 0xB0: 0x60, 0xFB: 0x7E},
+}
+UMLAUT = 0xC8  # stands before its letter
+UMLAUTS = {"english": {}, "german": {ord("A"): 0x5B, ord("O"): 0x5C, ord("U"): 0x5D,
+                                     ord("a"): 0x7B, ord("o"): 0x7C, ord("u"): 0x7D}}
+
+
+class TextFault(Exception):
+    """A number of a fault and its place: a byte of the text, or a line of it."""
+
+    def __init__(self, number, at):
+        super().__init__(number, at)
+        self.number, self.at = number, at
+
+
+def lines_of(text, option):
+    """The lines of a text as cells."""
+    lines, at = [[]], 0
+    while at < len(text):
+        byte, after = text[at], text[at + 1:at + 2]
+        if byte == NEW_LINE:
+            lines.append([])
+        elif byte in CELLS[option]:
+            lines[-1].append(CELLS[option][byte])
+        elif byte == UMLAUT and after and after[0] in UMLAUTS[option]:
+            lines[-1].append(UMLAUTS[option][after[0]])
+            at += 1
+        elif byte not in NO_CELL:
+            raise TextFault(51 if byte < 0x20 or 0x80 <= byte < 0xA0 else 50, at)
+        at += 1
+    return lines
+
+
+def prepared(line):
+    """A line in its box; an empty one has none."""
+    if not line or START_BOX in line:
+        return line
+    return [START_BOX] * 2 + line + [END_BOX] * 2
+
+
+def line_fault(lines, number, row):
+    """The number of what is wrong with a prepared line in its row."""
+    line = lines[number]
+    if len(line) > COLUMNS:
+        return 52
+    if line and row > LAST_ROW:
+        return 53
+    if DOUBLE_HEIGHT in line and row == LAST_ROW:
+        return 54
+    return 55 if line and number and DOUBLE_HEIGHT in lines[number - 1] else None
+
+
+def drawn(record, option):
+    """The page of a subtitle: 960 codes, row by row. Raises a `TextFault` where there is none."""
+    lines = [prepared(line) for line in lines_of(record.text, option)]
+    page = bytearray(BLANK)
+    for number, line in enumerate(lines):
+        row = record.row + number
+        fault = line_fault(lines, number, row)
+        if fault:
+            raise TextFault(fault, number)
+        if line:
+            left = COLUMNS - len(line)
+            column = {2: left // 2, 3: left}.get(record.justify, 0)
+            begin = (row - 1) * COLUMNS + column
+            page[begin:begin + len(line)] = bytes(line)
+    return bytes(page)
