@@ -12,6 +12,9 @@ from .receiver import HIT, OLD, national_option
 
 WIDTH, HEIGHT = 12, 15
 SPACE = 0x20
+BLANK_ROW = b" " * 40
+LOW_ROWS = 21, 23  # of a picture of a blank page
+HIDDEN = 'aria-hidden="true"'  # of a picture whose rows stand beside it as text
 Cell = collections.namedtuple("Cell", "letter ink paper flash boxed double")
 
 
@@ -112,11 +115,13 @@ def frame(column, width, first, end, more=0):
     return f'<rect class="d1" {place}/><rect class="d2" {place}/>'
 
 
-def pointer(row, column, tall):
+def pointer(row, column, tall, cut):
     """A wider frame around the cell that the refusal names, and points to it on each edge."""
     end = row + 1 + (row in tall)
     x, y = column * WIDTH + WIDTH // 2, (row + end - 2) * HEIGHT / 2
-    points = f"M{x} 14l-7 -14h14zM{x} 346l-7 14h14zM14 {y:g}l-14 -7v14zM466 {y:g}l14 -7v14z"
+    top, bottom = (cut[0] - 1) * HEIGHT, cut[1] * HEIGHT
+    points = (f"M{x} {top + 9}l-6 -9h12zM{x} {bottom - 9}l-6 9h12z"
+              f"M14 {y:g}l-14 -7v14zM466 {y:g}l14 -7v14z")
     return f'{frame(column, 1, row, end, 4)}<path class="point" d="{points}"/>'
 
 
@@ -125,28 +130,81 @@ def is_boxed(header):
     return bool(header[5] & 12)
 
 
-def picture(rows, header, different=(), place=None):
-    """A page as SVG: 24 rows of 40 cells, those that differ framed, and the place marked."""
-    parts = ['<svg class="page" viewBox="-22 -1 504 362" xml:space="preserve">'
-             '<rect class="v" width="480" height="360"/>']
+def cut_of(pages, row=None):
+    """The first and the last row that a picture of some pages shows: those in use, and one more."""
+    used = [number for rows in pages for number, one in enumerate(rows, 1) if one != BLANK_ROW]
+    used += [row] if row else []
+    if not used:
+        return LOW_ROWS
+    return max(1, min(used) - 1), min(24, max(used) + 1)
+
+
+def opened(kind, label, cut, left=22):
+    """The begin of a picture of these rows, with its ground; `left` is room for row numbers."""
+    top, height = (cut[0] - 1) * HEIGHT, (cut[1] - cut[0] + 1) * HEIGHT
+    return (f'<svg class="{kind}" viewBox="{-left} {top - 1} {482 + left} {height + 2}" {label} '
+            f'xml:space="preserve"><rect class="v" y="{top}" width="480" height="{height}"/>')
+
+
+def picture(rows, header, label, cut, different=(), place=None, kind="page"):
+    """A page as SVG: some of its rows, cells that differ framed, and the place marked.
+
+    `label` is the attribute that says to people who don't see it what it is, or that it says
+    nothing which does not stand beside it.
+    """
+    parts = [opened(kind, label, cut, 22 if kind == "page" else 2)]
     tall = set()
     for number, row in enumerate(rows, 1):
-        is_seen = row != b" " * 40 or not is_boxed(header)
-        if is_seen and number - 1 not in tall:
+        is_seen = row != BLANK_ROW or not is_boxed(header)
+        if is_seen and cut[0] <= number <= cut[1] and number - 1 not in tall:
             drawn, is_tall = row_drawing(row, number, national_option(header), is_boxed(header))
             parts.append(drawn)
             tall |= {number} if is_tall else set()
     parts.append(frames_of(different, tall))
     if place:
-        parts.append(pointer(*place, tall))
+        parts.append(pointer(*place, tall, cut))
     parts.append("</svg>")
     return "".join(parts)
 
 
-def empty_picture(words):
+def empty_picture(words, cut):
     """The place of a picture where there is no page, with the reason."""
-    return ('<svg class="page none" viewBox="-22 -1 504 362"><rect class="v" width="480" '
-            f'height="360"/><text class="w" x="240" y="180">{html.escape(words)}</text></svg>')
+    middle = (cut[0] + cut[1] - 1) * HEIGHT // 2 + 7
+    return (f'{opened("page none", HIDDEN, cut)}<text class="w" x="240" y="{middle}">'
+            f"{html.escape(words)}</text></svg>")
+
+
+# Spacing attributes by their names; what is not among them is told by its code alone.
+ATTRIBUTES = {0x08: "flash", 0x09: "steady", 0x0A: "end box", 0x0B: "start box",
+              0x0C: "normal height", 0x0D: "double height", 0x18: "conceal",
+              0x1C: "black background", 0x1D: "new background",
+              **dict(enumerate(("black", "red", "green", "yellow", "blue", "magenta", "cyan",
+                                "white")))}
+
+
+def text_of_code(byte, option):
+    """What a cell holds, in words: its letter, or the name of its spacing attribute."""
+    code = byte & 0x7F
+    if byte == OLD:
+        return "nothing that was sent"
+    if code == SPACE:
+        return "a space" if byte != HIT else "a space for a byte of even parity"
+    if code < SPACE:
+        name = ATTRIBUTES.get(code)
+        return f"code {code:02X}" + (f" ({name})" if name else "")
+    return f"<code>{html.escape(letters(option)[code])}</code>"
+
+
+def label_of(words):
+    """The attributes of a picture that is told by words."""
+    return f'role="img" aria-label="{html.escape(words)}"'
+
+
+def words_of(rows, option):
+    """The letters of a page, row by row, for people who hear them."""
+    table = letters(option)
+    lines = (" ".join("".join(table[code & 0x7F] for code in row).split()) for row in rows)
+    return " / ".join(line for line in lines if line) or "blank"
 
 
 def differences(due, held):

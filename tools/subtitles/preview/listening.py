@@ -2,6 +2,7 @@
 import array
 import bisect
 import collections
+import itertools
 
 from ..times import FRAMES_OF_A_DAY, frame_at
 from .receiver import TUNED, control_bits, hear, packets_of
@@ -14,19 +15,42 @@ class PageCount:
         self.count, self.first, self.last, self.bits = 0, first, first, collections.Counter()
 
 
+class Changes:
+    """The frames at whose ends another page is held than before, each page as a number."""
+
+    def __init__(self):
+        self.frames, self.pages = array.array("I"), array.array("q")
+
+    def add(self, frame, rows):
+        self.frames.append(frame)
+        self.pages.append(hash(rows))
+
+    def held(self, wanted):
+        """For each wanted page when it is held: spans of frames, each its first and its last."""
+        spans = {hash(rows): [] for rows in wanted}
+        ends = itertools.chain(self.frames[1:], [FRAMES_OF_A_DAY])
+        for first, page, end in zip(self.frames, self.pages, ends):
+            if page in spans:
+                spans[page].append((first, end - 1))
+        return spans
+
+
 class Heard:
     """A listing, heard to its end, and the states at the ends of the frames asked for.
 
     The receiver hears PES packets while each is of a frame after the one before, as `listen` does;
     `halt` is the first that is not: its number and its PTS. What can't be seen for that reason, or
-    since the file can't be read on, has no state.
+    since the file can't be read on, has no state. `changes` are the pages that it held, and `falls`
+    the frames of all PES packets whose frame is not after the one before. `units_at` are the PES
+    packets of the frames `seen`, and of the last one.
     """
 
-    def __init__(self, listing, asked, page, origin):
-        self.page, self.origin = page, origin
+    def __init__(self, listing, asked, page, origin, seen=()):
+        self.page, self.origin, self.seen = page, origin, set(seen)
         self.asked, self.next_asked = sorted(set(asked)), 0
         self.states, self.units_at = {}, {}
         self.pages, self.sendings = {}, array.array("I")
+        self.changes, self.falls, self.frame_before = Changes(), array.array("I"), None
         self.halt, self.last_frame, self.count, self.last_heard = None, None, 0, None
         self.state, self.units, self.is_settled = TUNED, None, False
         self.packets, self.run, self.has_header = [], 0, False
@@ -36,6 +60,8 @@ class Heard:
         self.end = listing.last
         if self.is_whole():
             self.answer_before(FRAMES_OF_A_DAY + 1)
+        if self.last_frame is not None:
+            self.units_at[self.last_frame] = self.last_heard
 
     def take(self, pts, units):
         frame = frame_at(pts, self.origin)
@@ -48,6 +74,9 @@ class Heard:
                 self.halt = self.count, pts, frame
             else:
                 self.hear_frame(frame)
+        if self.halt and None not in (frame, self.frame_before) and frame <= self.frame_before:
+            self.falls.append(frame)
+        self.frame_before = frame
         self.count += 1
 
     def hear_frame(self, frame):
@@ -62,9 +91,12 @@ class Heard:
                 self.state = hear(self.state, packet, self.page)
             # The same packets again change nothing where they changed nothing now.
             self.is_settled = self.state == before
+            if self.state.rows is not before.rows:
+                self.changes.add(frame, self.state.rows)
         if self.next_asked < len(self.asked) and self.asked[self.next_asked] == frame:
-            self.units_at[frame] = self.last_heard
             self.answer_before(frame + 1)
+            if frame in self.seen:
+                self.units_at[frame] = self.last_heard
 
     def answer_before(self, frame):
         """Gives the frames before `frame` that are still asked the state as it is."""
@@ -94,6 +126,10 @@ class Heard:
     def state_at(self, frame):
         """The state at the end of an asked frame; `None` where the file can't be read on."""
         return self.state if frame == self.last_frame else self.states.get(frame)
+
+    def is_after(self, frame):
+        """Whether a frame is after the last that was heard, where any was."""
+        return self.last_frame is not None and frame > self.last_frame
 
     def sendings_between(self, first, end):
         """How many frames from `first` to the one before `end` have a header of the page."""

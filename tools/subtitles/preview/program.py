@@ -106,16 +106,21 @@ class Program:
         lines, verdict = self.run(*words)
         return lines, answered(words[0], verdict)
 
-    def check(self, stl, pes):
-        """The verdict: accepted or refused, and nothing that only looks like it."""
-        verdict = self.run("check", *self.check_options, "--", stl, pes)[1]
-        if verdict.number == 0 and "--complete" in self.check_options:
-            raise NoReport(f"check does not know --complete, or other words: {verdict.line}")
-        is_verdict = ACCEPTED.match(verdict.line) if verdict.status == 0 else \
-            verdict.line.startswith("refused ") and verdict.number is not None
+    def check(self, stl, pes, take):
+        """The verdict, accepted or refused, and all that `take` makes of the lines of `--all`."""
+        command = self.command("check", *self.check_options, "--all", "--", stl, pes)
+        try:
+            with subprocess.Popen(command, stdin=subprocess.DEVNULL, stdout=subprocess.PIPE,
+                                  text=True, errors="replace") as process:
+                told = take(line.rstrip("\n") for line in process.stdout)
+        except (OSError, ValueError) as error:
+            raise NoReport(f"{self.path} can't be run: {error}") from None
+        verdict = verdict_of(told.first_line, process.returncode)
+        is_verdict = ACCEPTED.match(told.last_line) if verdict.status == 0 else \
+            verdict.status == 1 and told.last_line == f"{told.count} faults"
         if not is_verdict:
-            raise NoReport(f"check was not answered: {verdict.line}")
-        return verdict
+            raise NoReport(f"check was not answered: {told.last_line or 'it printed nothing'}")
+        return verdict, told
 
     def show(self, stl):
         """The lines of `show`, its subtitles, and its last line."""

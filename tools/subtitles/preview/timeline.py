@@ -1,37 +1,49 @@
-"""Strips of time with subtitles, sendings of the page and the broken place, as SVG."""
+"""Strips of time with subtitles, sendings of the page and faults.
+
+Shapes are SVG that is as wide as the page; words stand beside and below them, so that they are as
+large on a narrow page as on a wide one.
+"""
 import bisect
-import html
 
 from ..times import time_of
+from .manual import shown
 
 MINUTE = 1500  # in frames
-# How long a strip can be, what that is called, and how far its ticks are apart.
-UNITS = [(250, "ten seconds", 25), (MINUTE, "a minute", 250), (10 * MINUTE, "ten minutes", MINUTE),
-         (60 * MINUTE, "an hour", 5 * MINUTE)]
+# How long a strip can be, what that is called, how far its ticks are apart, and its words.
+UNITS = [(250, "ten seconds", 25, 50), (MINUTE, "a minute", 250, 250),
+         (10 * MINUTE, "ten minutes", MINUTE, 2 * MINUTE),
+         (60 * MINUTE, "an hour", 5 * MINUTE, 10 * MINUTE)]
+MINUTES = UNITS[1]
 MOST_STRIPS = 24
-LEFT, RIGHT = 92, 1192  # where the time begins and ends on a strip of 1200 units
+WIDTH = 1000  # of a strip, in its own units
 # Sendings nearer than that are drawn as one block: on up to 300 strips of minutes, and on more.
 CLOSE, CLOSE_ON_MANY, MANY_STRIPS = 3, 8, 300
-# The look of a subtitle that is held as it is due, and of another: its class, its top, its height.
-BARS = [("bar", 6, 16), ("odd", 3, 22)]
+# The look of a subtitle that is held as it is due, of one that is not, and of one that can't be
+# seen: its class, its top, its height.
+GOOD, ODD, UNKNOWN = ("bar", 5, 14), ("odd", 2, 20), ("unknown", 5, 14)
+LANE, TICKS, AXIS, FAULTS, HEIGHT = 24, 28, 37, 40, 54  # where these are drawn, from the top
 # A subtitle that is narrower than that is no bar of its own; of more than so many subtitles, one
 # without pictures is none either.
-NARROW, FEW = 5, 5000
+NARROW, FEW = 4, 5000
+WORDS_WIDTH = 9  # of a digit, in a strip of WIDTH units on a wide page
 
 
 class Timeline:
-    """What is drawn on strips: subtitles in order, frames with a sending, and the broken place.
+    """What is drawn on strips: subtitles in order, frames with a sending, and faults.
 
-    `links` are the subtitles that have pictures, by their index, `odd` those at whose first frame
-    something else is held than is due.
+    `entries` are the subtitles' entries, `faults` what `check --all` told, `broken` the frame of
+    the first of them and `flag` its line. Nothing is known from the frame `end` on, where it is
+    given.
     """
 
-    def __init__(self, subtitles, sendings, broken, flag, links, odd):
-        self.subtitles, self.sendings, self.broken, self.flag = subtitles, sendings, broken, flag
-        self.links, self.odd = links, odd
+    def __init__(self, subtitles, sendings, entries, faults, broken, flag, end):
+        self.subtitles, self.sendings = subtitles, sendings
+        self.entries, self.spans = entries, faults.spans
+        self.broken, self.flag, self.end = broken, flag, end
+        self.links = {frame: entry.index for frame, entry in entries.entry_at.items()}
         self.ends = [subtitle.end for subtitle in subtitles]
         self.firsts = [subtitle.first for subtitle in subtitles]
-        self.unit, self.called, self.step = next(
+        self.unit, self.called, self.step, self.words = next(
             (unit for unit in UNITS if len(self.used(unit[0])) <= MOST_STRIPS), UNITS[-1])
         self.close = CLOSE if len(self.used(MINUTE)) <= MANY_STRIPS else CLOSE_ON_MANY
 
@@ -40,8 +52,8 @@ class Timeline:
         used = {frame // unit for frame in self.sendings}
         for subtitle in self.subtitles:
             used.update(range(subtitle.first // unit, (subtitle.end - 1) // unit + 1))
-        if self.broken is not None:
-            used.add(self.broken // unit)
+        for begin, end in self.spans:
+            used.update(range(begin // unit, end // unit + 1))
         return used
 
     def has_minutes(self):
@@ -56,106 +68,146 @@ class Timeline:
             if last is not None and number > last + 1:
                 parts.append(f'<p class="gap">nothing from {time_of((last + 1) * self.unit)} to '
                              f"{time_of(number * self.unit)}</p>")
-            parts.append(self.strip(number * self.unit, self.unit, self.step, minutes))
+            strip = Strip(self, number * self.unit, (self.unit, self.step, self.words))
+            parts.append(strip.drawn(minutes))
             last = number
         return "".join(parts) or '<p class="gap">nothing</p>'
 
     def minute(self, number):
         """The strip of a minute of the day."""
-        return self.strip(number * MINUTE, MINUTE, 250, ())
+        unit, _, step, words = MINUTES
+        return Strip(self, number * MINUTE, (unit, step, words)).drawn(())
 
-    def strip(self, begin, unit, step, minutes):
-        scale = (RIGHT - LEFT) / unit
 
-        def x(frame):
-            return round(LEFT + (min(max(frame, begin), begin + unit) - begin) * scale, 1)
+class Strip:
+    """One strip: its first frame, and its length with the distances of its ticks and words."""
 
-        is_broken = self.broken is not None and begin <= self.broken < begin + unit
-        height = 70 if is_broken else 54
-        parts = [f'<svg class="strip" viewBox="0 0 1200 {height}"><text class="time" x="0" y="18">'
-                 f'{time_of(begin)[:8]}</text><rect class="lane" x="{LEFT}" y="4" '
-                 f'width="{RIGHT - LEFT}" height="20"/>']
-        parts += self.bars(begin, unit, x)
-        parts += self.ticks(begin, unit, x)
-        parts += axis(begin, unit, step, x)
-        for minute in range(begin // MINUTE, (begin + unit) // MINUTE):
+    def __init__(self, timeline, begin, unit):
+        self.timeline, self.begin = timeline, begin
+        self.unit, self.step, self.words = unit
+        self.end = begin + self.unit
+
+    def x(self, frame):
+        inside = min(max(frame, self.begin), self.end) - self.begin
+        return round(inside * WIDTH / self.unit, 1)
+
+    def drawn(self, minutes):
+        """The strip; `minutes` are those that have strips of their own to lead to."""
+        line, words = self.timeline, []
+        shapes = [f'<rect class="lane" y="0" width="{WIDTH}" height="{LANE}"/>']
+        shapes += self.bars(words)
+        shapes += self.hatching(words)
+        shapes += self.sendings()
+        shapes += self.axis(words)
+        shapes += self.faults()
+        for minute in range(self.begin // MINUTE, self.end // MINUTE):
             if minute in minutes:
-                at = x(minute * MINUTE)
-                parts.append(f'<a href="#m{minute}"><rect class="go" x="{at}" y="2" '
-                             f'width="{round(MINUTE * scale, 1)}" height="50"><title>'
-                             f'{time_of(minute * MINUTE)[:5]}</title></rect></a>')
-        if is_broken:
-            parts.append(self.mark(x(self.broken)))
-        parts.append("</svg>")
-        return "".join(parts)
+                at = self.x(minute * MINUTE)
+                shapes.append(
+                    f'<a href="#m{minute}" aria-label="{time_of(minute * MINUTE)[:5]}"><rect '
+                    f'class="go" x="{at}" y="0" width="{self.x((minute + 1) * MINUTE) - at:g}" '
+                    f'height="{HEIGHT}"/></a>')
+        flag = ""
+        if line.broken is not None and self.begin <= line.broken < self.end:
+            shapes.append(f'<path class="broken" d="M{self.x(line.broken)} 0v{HEIGHT}"/>')
+            flag = f'<p class="flag">&#9650; {time_of(line.broken)}: {shown(line.flag)}</p>'
+        label = f"{time_of(self.begin)} to {time_of(self.end)}"
+        return (f'<div class="strip"><p class="time">{time_of(self.begin)[:8]}</p><div>'
+                f'<svg viewBox="0 0 {WIDTH} {HEIGHT}" preserveAspectRatio="none" role="group" '
+                f'aria-label="{label}">{"".join(shapes)}</svg>{"".join(words)}</div>{flag}</div>')
 
-    def bars(self, begin, unit, x):
-        """The subtitles of a strip: bars that are links, and a path of narrow ones and others."""
-        narrow = {False: [], True: []}
-        place = bisect.bisect_right(self.ends, begin)
-        while place < len(self.subtitles) and self.firsts[place] < begin + unit:
-            subtitle = self.subtitles[place]
-            left, right = x(subtitle.first), x(subtitle.end)
+    def bars(self, words):
+        """The subtitles: bars that are links, and a path of narrow ones and others."""
+        line, entries = self.timeline, self.timeline.entries
+        narrow = {GOOD: [], ODD: [], UNKNOWN: []}
+        place = bisect.bisect_right(line.ends, self.begin)
+        while place < len(line.subtitles) and line.firsts[place] < self.end:
+            subtitle = line.subtitles[place]
+            left, right = self.x(subtitle.first), self.x(subtitle.end)
+            look = ODD if subtitle.index in entries.odd else \
+                UNKNOWN if subtitle.index in entries.unknown else GOOD
             place += 1
-            is_alone = subtitle.index in self.links or len(self.subtitles) <= FEW
-            if right - left < NARROW or not is_alone:
-                known = narrow[subtitle.index in self.odd]
-                if known and left - known[-1][1] < 0.5:
-                    known[-1][1] = right
-                else:
-                    known.append([left, max(right, left + 0.6)])
-                continue
-            yield self.bar(subtitle, left, right)
-        for is_odd, spans in narrow.items():
-            kind, top, height = BARS[is_odd]
+            is_alone = subtitle.index in entries.drawn or len(line.subtitles) <= FEW
+            if right - left >= NARROW and is_alone:
+                yield self.bar(subtitle, left, right, look, words)
+            elif narrow[look] and left - narrow[look][-1][1] < 0.5:
+                narrow[look][-1][1] = right
+            else:
+                narrow[look].append([left, max(right, left + 0.6)])
+        for (kind, top, height), spans in narrow.items():
             path = "".join(f"M{a:g} {top}h{b - a:.3g}v{height}H{a:g}z" for a, b in spans)
             yield f'<path class="{kind}" d="{path}"/>' if path else ""
 
-    def bar(self, subtitle, left, right):
-        name = str(subtitle.index)
-        kind, top, height = BARS[subtitle.index in self.odd]
-        label = ""
-        if right - left > 8 * len(name) + 4:
-            label = f'<text class="in" x="{round((left + right) / 2, 1)}" y="18">{name}</text>'
-        times = f"{time_of(subtitle.first)} to {time_of(subtitle.end)}"
+    def bar(self, subtitle, left, right, look, words):
+        """A bar, and its number where it has room."""
+        kind, top, height = look
+        name = f"subtitle {subtitle.index}"
+        if right - left > WORDS_WIDTH * len(str(subtitle.index)) + 4:
+            words.append(f'<span class="in {kind}" style="left:{(left + right) / 20:.4g}%">'
+                         f"{subtitle.index}</span>")
         shape = (f'<rect class="{kind}" x="{left}" y="{top}" width="{right - left:.1f}" '
-                 f'height="{height}" rx="2"><title>{name}: {times}</title></rect>')
-        if subtitle.index in self.links:
-            return f'<a href="#s{name}">{shape}{label}</a>'
-        return shape + label
+                 f'height="{height}"><title>{name}: {time_of(subtitle.first)} to '
+                 f"{time_of(subtitle.end)}</title></rect>")
+        if subtitle.index in self.timeline.entries.drawn:
+            return f'<a href="#s{subtitle.index}" aria-label="{name}">{shape}</a>'
+        return shape
 
-    def ticks(self, begin, unit, x):
-        """The sendings of a strip, those that are close to each other as one block."""
-        first = bisect.bisect_left(self.sendings, begin)
-        end = bisect.bisect_left(self.sendings, begin + unit)
-        runs = []
-        for frame in self.sendings[first:end]:
-            at = x(frame)
-            if runs and at - runs[-1][1] < self.close:
+    def hatching(self, words):
+        """Lines over the time of which nothing is known."""
+        end = self.timeline.end
+        if end is None or end >= self.end:
+            return
+        left = self.x(end)
+        lines = "".join(f"M{at:g} {FAULTS}L{min(at + 12, WIDTH):g} 0"
+                        for at in range(int(left), WIDTH, 6) if at >= left)
+        yield (f'<rect class="after" x="{left}" width="{WIDTH - left:g}" height="{FAULTS}"/>'
+               f'<path class="hatch" d="{lines}"/>')
+        if end >= self.begin:
+            side = f"left:{left / 10:.4g}%" if left < WIDTH / 2 else \
+                f"right:{(WIDTH - left) / 10:.4g}%"
+            words.append(f'<span class="end" style="{side}">nothing known after '
+                         f"{time_of(end - 1)}</span>")
+
+    def sendings(self):
+        """The sendings, those that are close to each other as one block."""
+        frames, runs = self.timeline.sendings, []
+        first = bisect.bisect_left(frames, self.begin)
+        for frame in frames[first:bisect.bisect_left(frames, self.end)]:
+            at = self.x(frame)
+            if runs and at - runs[-1][1] < self.timeline.close:
                 runs[-1][1] = at
             else:
                 runs.append([at, at])
-        lines = "".join(f"M{left:g} 28v10" for left, right in runs if left == right)
+        lines = "".join(f"M{left:g} {TICKS}v8" for left, right in runs if left == right)
         if lines:
             yield f'<path class="tick" d="{lines}"/>'
-        blocks = "".join(f"M{left:g} 28h{right - left:.3g}v10H{left:g}z"
+        blocks = "".join(f"M{left:g} {TICKS}h{right - left:.3g}v8H{left:g}z"
                          for left, right in runs if left < right)
         if blocks:
             yield f'<path class="many" d="{blocks}"/>'
 
-    def mark(self, at):
-        """The flag of the broken place; its words on the side that has room."""
-        side, anchor = (at + 9, "start") if at < 800 else (at - 9, "end")
-        return (f'<path class="broken" d="M{at} 2V26M{at} 55V68M{at - 6:g} 2H{at + 6:g}L{at} 12z"/>'
-                f'<text class="flag" x="{side:g}" y="66" text-anchor="{anchor}">'
-                f"{html.escape(self.flag)}</text>")
+    def axis(self, words):
+        """Ticks of time, with words at some of them."""
+        lines = "".join(f"M{self.x(frame):g} {AXIS}v4"
+                        for frame in range(self.begin, self.end + 1, self.step))
+        yield f'<path class="axis" d="M0 {AXIS}H{WIDTH}{lines}"/>'
+        for frame in range(self.begin + self.words, self.end, self.words):
+            short = time_of(frame)[:5] if self.step >= MINUTE else ":" + time_of(frame)[6:8]
+            side = f"left:{self.x(frame) / 10:.4g}%"
+            words.append(f'<span class="axis" style="{side}">{short}</span>')
 
-
-def axis(begin, unit, step, x):
-    """Ticks of time, with words at some of them."""
-    lines = "".join(f"M{x(frame):g} 38v4" for frame in range(begin, begin + unit + 1, step))
-    yield f'<path class="axis" d="M{LEFT} 38H{RIGHT}{lines}"/>'
-    words = {25: 50, 250: 250, MINUTE: MINUTE, 5 * MINUTE: 10 * MINUTE}[step]
-    for frame in range(begin + words, begin + unit, words):
-        short = time_of(frame)[:5] if step >= MINUTE else ":" + time_of(frame)[6:8]
-        yield f'<text class="axis" x="{x(frame):g}" y="51">{short}</text>'
+    def faults(self):
+        """What is told: a mark for each span that has room for one, which leads to the list."""
+        links, runs = self.timeline.links, []
+        for begin, end in self.timeline.spans.between(self.begin, self.end):
+            left, right = self.x(begin), max(self.x(end + 1), self.x(begin) + 2)
+            name = next((links[frame] for frame in range(begin, min(end, begin + 9) + 1)
+                         if frame in links), None)
+            if runs and left - runs[-1][1] < 3:
+                runs[-1][1], runs[-1][2] = right, runs[-1][2] or name
+            else:
+                runs.append([left, right, name])
+        for left, right, name in runs:
+            mark = (f'<rect class="bad" x="{left:g}" y="{FAULTS}" width="{right - left:.3g}" '
+                    f'height="{HEIGHT - FAULTS}"/>')
+            yield f'<a href="#e{name}" aria-label="fault {name}">{mark}</a>' if name else mark

@@ -1,0 +1,196 @@
+"""The list of faults, and for the first of them pictures of what is due and what is held."""
+import bisect
+
+from ..times import time_of
+from .drawing import text_of_code
+from .figures import NOT_READ
+from .fits import frames_words
+from .manual import shown
+from .places import around, pes_words, units_table
+from .receiver import national_option
+
+MOST_PICTURED = 100  # entries with pictures
+CONTENT = 72
+
+
+class FaultList:
+    """The entries of the list, and the sections that they lead to."""
+
+    def __init__(self, report, program):
+        self.report, self.program = report, program
+        self.entries, self.figures, self.held = report.faults.entries, report.figures, report.held
+        self.firsts = [one.first for one in report.subtitles]
+        self.pictured = {}  # the entry that has the pictures of a frame
+
+    def frame_of(self, entry):
+        """The frame whose pictures belong to an entry, `None` where there is none."""
+        if entry.first.pes is not None:
+            return self.held.last_frame
+        return entry.first.frame
+
+    def is_shown(self, frame):
+        """Whether there is something to see at a frame."""
+        return frame is not None and self.held.state_at(frame) is not None
+
+    # Words
+
+    def subtitle_words(self, frame):
+        """The subtitle that is due at a frame, as a link."""
+        at = bisect.bisect_right(self.firsts, frame) - 1
+        if at < 0 or self.report.subtitles[at].end <= frame:
+            return "no subtitle is due"
+        one = self.report.subtitles[at]
+        name = f"subtitle {one.index}"
+        if one.index in self.report.entries.drawn:
+            name = f'<a href="#s{one.index}">{name}</a>'
+        return f"{name} (SN {one.number})"
+
+    def cell_words(self, fault):
+        """What is due and what is held in the cell that a fault names."""
+        state = self.held.state_at(fault.frame)
+        rows, header = self.figures.due_at(fault.frame)
+        due = text_of_code(rows[fault.row - 1][fault.column], national_option(header))
+        words = f"due {due}, held "
+        if state is None:
+            return words + NOT_READ
+        if not state.is_heard:
+            return words + "nothing: no header was heard yet"
+        option = national_option(state.header)
+        return words + text_of_code(state.rows[fault.row - 1][fault.column], option)
+
+    def details(self, entry):
+        """What is known of the first fault of an entry, beside its line."""
+        fault, words = entry.first, []
+        if fault.frame is None:
+            return ""
+        if fault.number == CONTENT:
+            words.append(self.cell_words(fault))
+        words.append(self.subtitle_words(fault.frame))
+        fit = self.report.fits.words(fault.frame) if fault.number == CONTENT else ""
+        return "; ".join([*words, fit] if fit else words)
+
+    # The list
+
+    def listed(self):
+        """The list, as far as it goes, and how much more there is."""
+        faults = self.report.faults
+        parts = [f'<h2 id="faults">{faults_words(faults.count)}</h2>',
+                 "<p>Faults of one number that are told one after another are one entry.</p>"
+                 if faults.count > faults.entry_count else "",
+                 f'<ol class="faults">{"".join(map(self.item, self.entries))}</ol>']
+        more = faults.entry_count - len(self.entries)
+        if more:
+            parts.append(f"<p><b>{more:,} more entries</b> are told by <code>check --all</code> and"
+                         " left out here.</p>")
+        if len(self.entries) > MOST_PICTURED:
+            parts.append(f"<p>The first {MOST_PICTURED} entries have pictures below.</p>")
+        return "".join(parts)
+
+    def item(self, entry):
+        fault, frame = entry.first, self.frame_of(entry)
+        when = time_of(fault.frame) if fault.frame is not None else place_words(fault.line)
+        if entry.index <= MOST_PICTURED:
+            when = f'<a href="#{section_name(entry)}">{when}</a>'
+        words = [f"<b>{when}</b> <code>{shown(fault.line.partition(' ')[2])}</code>"]
+        span = self.span_words(entry)
+        details = self.details(entry) if self.is_shown(frame) or fault.frame is None else NOT_READ
+        words += [f"<small>{one}</small>" for one in (span, details) if one]
+        return f'<li id="e{entry.index}">{"<br/>".join(words)}</li>'
+
+    @staticmethod
+    def span_words(entry):
+        """How many faults an entry has, and up to where it reaches."""
+        last, words = entry.last, []
+        if entry.count > 1:
+            end = time_of(last.frame) if last.frame is not None else place_words(last.line)
+            words.append(f"{entry.count:,} faults, the last at {end}")
+        if entry.until is not None:
+            begin = last.frame if entry.count == 1 else entry.until
+            words.append(f"until {time_of(entry.until)}"
+                         + (f", {frames_words(entry.until - begin + 1)}" if entry.count == 1
+                            else ""))
+        return ", ".join(words)
+
+    # The sections
+
+    def section(self, entry):
+        """The pictures of an entry, and its Teletext packets: all for the first, else the named."""
+        fault, frame = entry.first, self.frame_of(entry)
+        title = "The broken place" if entry.index == 1 else \
+            f"Fault {entry.index}: <code>{shown(fault.line.partition(' ')[2])}</code>"
+        parts = [f'<section class="fault" id="{section_name(entry)}"><h2>{title}</h2>'
+                 f"{self.steps(entry)}"]
+        details = self.details(entry)
+        if details and self.is_shown(frame):
+            parts.append(f'<p class="details">{details[0].upper()}{details[1:]}.</p>')
+        if self.span_words(entry):
+            parts.append(f"<p>{self.span_words(entry).capitalize()}.</p>")
+        if fault.pes is not None:
+            parts.append(pes_words(fault, self.held, self.report.origin))
+        parts.append(self.seen(entry, frame))
+        return "".join(parts) + "</section>"
+
+    def seen(self, entry, frame):
+        """What there is to see of an entry."""
+        fault = entry.first
+        if frame is None:
+            return "<p>There is no frame to look at: no PES packet comes before it.</p>" \
+                if fault.pes is not None else ""
+        if not self.is_shown(frame):
+            return f"<p>No pictures: {NOT_READ}.</p>"
+        parts = []
+        if fault.pes is not None:
+            parts.append(f"<p>Pictures at the last frame before that PES packet, {time_of(frame)}."
+                         "</p>")
+        else:
+            parts.append(around(self.held, frame, self.report.page))
+        place = (fault.row, fault.column) if fault.row is not None else None
+        other = self.pictured.setdefault(frame, entry)
+        if other is entry or place:
+            parts.append(self.figures.at(frame, place))
+        else:
+            parts.append(f'<p>Pictures of that frame: <a href="#{section_name(other)}">fault '
+                         f"{other.index}</a>.</p>")
+        parts.append(self.packets(entry, frame))
+        return "".join(parts)
+
+    def packets(self, entry, frame):
+        known = self.held.units_at.get(frame)
+        if not known:
+            return f"<p>No PES packet has frame {time_of(frame)}.</p>" if entry.index == 1 else ""
+        if entry.index > 1 and entry.first.packet is None:
+            return ""
+        return units_table(self.program, known, frame, entry.first.packet, entry.index == 1)
+
+    def steps(self, entry):
+        """Links to the entries before and after, and to the list."""
+        links = []
+        for other, words in ((entry.index - 1, "&#9664; previous fault"),
+                             (entry.index + 1, "next fault &#9654;")):
+            if 1 <= other <= min(len(self.entries), MOST_PICTURED):
+                name = section_name(self.entries[other - 1])
+                links.append(f'<a href="#{name}">{words}</a>')
+        links.append(f'<a href="#e{entry.index}">in the list</a>')
+        return f'<p class="steps">{" ".join(links)}</p>'
+
+    def place(self):
+        """The first fault, which `check` names."""
+        return self.section(self.entries[0]) if self.entries else ""
+
+    def others(self):
+        """The sections of the faults after the first one."""
+        return "".join(map(self.section, self.entries[1:MOST_PICTURED]))
+
+
+def section_name(entry):
+    return "place" if entry.index == 1 else f"f{entry.index}"
+
+
+def faults_words(count):
+    return f"{count:,} fault{'s' * (count != 1)}"
+
+
+def place_words(line):
+    """The place in a line that names no frame; the name where it has none."""
+    words = line.split(" ")
+    return " ".join(words[3:]) or words[2]

@@ -1,0 +1,124 @@
+"""The pictures at a frame: the page that is due, the page that a receiver holds, and its screen."""
+import html
+
+from ..times import time_of
+from .drawing import (
+    HIDDEN, cut_of, differences, empty_picture, is_boxed, label_of, picture, words_of)
+from .letters import option_name
+from .receiver import BLANK_PAGE, HIT, OLD, control_bits, lines_of, national_option
+
+NOT_READ = "the PES file can't be followed up to this frame"
+# What is held beside what is due, with the words for the count of such subtitles.
+SAME, DIFFERENT, NOTHING, NOT_KNOWN = "same", "different", "nothing", "not known"
+KINDS = {SAME: "as due", DIFFERENT: "another page than the one that is due",
+         NOTHING: "no page yet",
+         NOT_KNOWN: "not known, since the PES file ends, or can't be followed, before"}
+
+
+class Figures:
+    """The pictures at a frame: due, held, and with complete pages asked for the screen.
+
+    `due` and `held` are what a receiver heard of the program's own schedule, `None` where there is
+    no subtitle, and of the PES file. `header` is that of a page that nobody sent.
+    """
+
+    def __init__(self, due, held, header, page, is_complete):
+        self.due, self.held, self.header = due, held, header
+        self.page, self.is_complete = page, is_complete
+
+    def due_at(self, frame):
+        """The page that is due, and its header: blank before the first sending of the schedule."""
+        state = self.due and self.due.state_at(frame)
+        return (state.rows, state.header) if state and state.is_heard else (BLANK_PAGE, self.header)
+
+    def kind_at(self, frame):
+        """What is held at a frame, or is on the screen, beside what is due: one of KINDS."""
+        rows, state = self.due_at(frame)[0], self.held.state_at(frame)
+        if state is None or self.held.is_after(frame):
+            return NOT_KNOWN
+        if not state.is_heard or self.is_complete and state.screen is None:
+            return NOTHING
+        if differences(rows, state.rows) or self.is_complete and differences(rows, state.screen[0]):
+            return DIFFERENT
+        return SAME
+
+    def at(self, frame, place=None):
+        """The figures at the end of a frame, with the cell that is refused marked."""
+        time, state = time_of(frame), self.held.state_at(frame)
+        due, header = self.due_at(frame)
+        seen = [due] + [state.rows] * (state is not None and state.is_heard)
+        if self.is_complete and state and state.screen:
+            seen.append(state.screen[0])
+        cut = cut_of(seen, place and place[0])
+        parts = [figure("due", f"Due at {time}", option_name(national_option(header)),
+                        picture(due, header, HIDDEN, cut, (), place), lines_of(due))]
+        held = f"A receiver at the end of {time}"
+        if state is None:
+            parts.append(figure("held", held, NOT_READ, empty_picture("not known", cut), []))
+        elif not state.is_heard:
+            words = f"no header of page {self.page} was heard yet"
+            parts.append(figure("held", held, words, empty_picture("nothing heard", cut),
+                                ["heard no"]))
+        else:
+            told = "still open for rows" if state.is_open else "not open"
+            drawn = Drawn(state.rows, state.header, cut, place)
+            parts.append(page_figure("held", held, told, due, drawn))
+        if self.is_complete:
+            parts.append(self.screen_figure(time, due, state, cut, place))
+        names = "pictures three" if self.is_complete else "pictures"
+        return f'<div class="{names}">{"".join(parts)}</div>'
+
+    def screen_figure(self, time, due, state, cut, place):
+        caption, told = f"On its screen at the end of {time}", "complete pages alone"
+        if state is None:
+            return figure("screen", caption, NOT_READ, empty_picture("not known", cut), [])
+        if state.screen is None:
+            lines = ["shown no" if state.is_heard else "heard no"]
+            return figure("screen", caption, told, empty_picture("nothing yet", cut), lines)
+        return page_figure("screen", caption, told, due, Drawn(*state.screen, cut, place))
+
+    def small_at(self, frame):
+        """One small picture, of the page that is held as it is due."""
+        rows, header = self.due_at(frame)
+        label = label_of(words_of(rows, national_option(header)))
+        return picture(rows, header, label, cut_of([rows]), kind="page small")
+
+
+class Drawn:
+    """A page that is drawn: its rows and header, the rows of the picture, and a marked cell."""
+
+    def __init__(self, rows, header, cut, place):
+        self.rows, self.header, self.cut, self.place = rows, header, cut, place
+
+    def picture(self, different):
+        return picture(self.rows, self.header, HIDDEN, self.cut, different, self.place)
+
+
+def page_figure(kind, caption, told, due, drawn):
+    """The figure of a page that a receiver has, with the cells framed that are not as due."""
+    different = differences(due, drawn.rows)
+    count = len(different)
+    cells = f"<b>{count} cells differ</b>" if count > 1 else \
+        "<b>1 cell differs</b>" if count else "no cell differs"
+    words = f"{cells}; {told}; {header_words(drawn.header, drawn.rows)}"
+    return figure(kind, caption, words, drawn.picture(different), lines_of(drawn.rows))
+
+
+def header_words(header, rows):
+    """The control bits and the letters of the page's last header, and marks in its cells."""
+    words = [" ".join(control_bits(header)) or "no control bit",
+             option_name(national_option(header))]
+    if not is_boxed(header):
+        words.append("no subtitle: all of the page is shown")
+    marks = set(b"".join(rows))
+    if OLD in marks:
+        words.append("dotted: never sent")
+    if HIT in marks:
+        words.append("dashed: even parity")
+    return ", ".join(words)
+
+
+def figure(kind, caption, words, drawn, lines):
+    rows = html.escape("\n".join(lines), quote=False)
+    return (f'<figure class="{kind}"><figcaption>{caption}<br/><small>{words}</small></figcaption>'
+            f"{drawn}<pre>{rows}</pre></figure>")

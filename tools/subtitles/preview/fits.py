@@ -1,0 +1,61 @@
+"""How far the sending is that would fit where another page is held than the one that is due."""
+import bisect
+
+from ..times import time_of
+from .receiver import BLANK_PAGE
+
+
+def frames_words(count):
+    return f"{count:,} frame{'s' * (count != 1)}"
+
+
+def is_change(changes, frame):
+    at = bisect.bisect_left(changes.frames, frame)
+    return at < len(changes.frames) and changes.frames[at] == frame
+
+
+class Fits:
+    """Of some frames, each with the page that is due and the one that is held, what would fit.
+
+    `due` and `held` are the changes of pages in the program's own schedule, and in the PES file.
+    """
+
+    def __init__(self, due, held, pages):
+        self.due, self.held, self.pages = due, held, pages
+        self.when_held = held.held([one for one, _ in pages.values()])
+        self.when_due = due.held([other for _, other in pages.values()])
+        before = due.frames[0] if due.frames else None
+        blank = self.when_due.get(hash(BLANK_PAGE))
+        if blank is not None and before != 0:
+            blank.insert(0, (0, before - 1 if before else 0))
+
+    def late(self, frame):
+        """The frame from which on the due page is held, where that is no sending of its own."""
+        spans = self.when_held[hash(self.pages[frame][0])]
+        return next((first for first, _ in spans
+                     if first > frame and not is_change(self.due, first)), None)
+
+    def early(self, frame):
+        """The frame from which on the page is due that comes to be held at this one."""
+        if not is_change(self.held, frame):
+            return None
+        spans = self.when_due[hash(self.pages[frame][1])]
+        return next((first for first, _ in spans
+                     if first > frame and not is_change(self.held, first)), None)
+
+    def words(self, frame):
+        """The nearest sending that would fit; nothing for a frame without pages."""
+        if frame not in self.pages:
+            return ""
+        late, early = self.late(frame), self.early(frame)
+        if late is not None and (early is None or late <= early):
+            return (f"sent {frames_words(late - frame)} late: the due page is held from "
+                    f"{time_of(late)} on")
+        if early is not None:
+            return (f"sent {frames_words(early - frame)} early: the page that is held is due from "
+                    f"{time_of(early)} on")
+        before = [last for _, last in self.when_held[hash(self.pages[frame][0])] if last < frame]
+        if before:
+            return (f"never sent from there on: the due page was held last at {time_of(before[-1])}"
+                    f", {frames_words(frame - before[-1])} before")
+        return "never sent: the due page is held at no frame"
