@@ -126,7 +126,7 @@ fn names_what_is_read_and_what_is_written(rt: HostRuntime) {
         _ => panic!(rt; "no file is written"),
     }
     match (Request::Show { stl: "a" }).files() {
-        FileNames::Read(input) => assert_same(&rt, &input.name(), &"a"),
+        FileNames::ReadStl(input) => assert_same(&rt, &input.name(), &"a"),
         _ => panic!(rt; "no file is read"),
     }
 }

@@ -1,23 +1,42 @@
 //! The files that a request names: what is read, and what is written.
 //!
-//! The two have types of their own, which are made here alone: so a file that is to be read can't
-//! be taken for the one that is written.
+//! A subtitle file that is read, a file of PES packets that is read and a file that is written have
+//! types of their own, which are made here alone: so none of them can be taken for another.
 ghost use Rattle.std.specs.Prelude.{◌≡◌, ℕ, List};
 
 use crate::request::Request;
 use std::marker::Model;
 
-/// The name of a file that is read. Contracts see it as the name.
+/// The name of a subtitle file that is read. Contracts see it as the name.
 #[derive(Drop)]
-pub struct Input<'a>(&'a str);
+pub struct StlInput<'a>(&'a str);
 
-impl<'a> Model for Input<'a> {
+impl<'a> Model for StlInput<'a> {
     ghost Value = { List ℕ };
 
     ghost view = { λ f. f.0.now };
 }
 
-impl<'a> Input<'a> {
+impl<'a> StlInput<'a> {
+    /// The name.
+    pub fn name(&self) -> &'a str
+        ensures { result.now ≡ self.now }
+    {
+        self.0
+    }
+}
+
+/// The name of a file of PES packets that is read. Contracts see it as the name.
+#[derive(Drop)]
+pub struct PesInput<'a>(&'a str);
+
+impl<'a> Model for PesInput<'a> {
+    ghost Value = { List ℕ };
+
+    ghost view = { λ f. f.0.now };
+}
+
+impl<'a> PesInput<'a> {
     /// The name.
     pub fn name(&self) -> &'a str
         ensures { result.now ≡ self.now }
@@ -50,12 +69,14 @@ impl<'a> Output<'a> {
 pub enum FileNames<'a> {
     /// None.
     None,
-    /// One is read.
-    Read(Input<'a>),
-    /// Two are read.
-    ReadBoth(Input<'a>, Input<'a>),
-    /// One is read and another is written.
-    Write(Input<'a>, Output<'a>),
+    /// A subtitle file is read.
+    ReadStl(StlInput<'a>),
+    /// A file of PES packets is read.
+    ReadPes(PesInput<'a>),
+    /// Both are read.
+    ReadBoth(StlInput<'a>, PesInput<'a>),
+    /// A subtitle file is read and another file is written.
+    Write(StlInput<'a>, Output<'a>),
 }
 
 impl<'a> Request<'a> {
@@ -67,12 +88,14 @@ impl<'a> Request<'a> {
     {
         match self {
             Request::Packet { .. } => FileNames::None,
-            Request::Packets { pes } => FileNames::Read(Input(pes)),
-            Request::Show { stl } => FileNames::Read(Input(stl)),
-            Request::Normal { input, output } => FileNames::Write(Input(input), Output(output)),
-            Request::Schedule { stl, pes, .. } => FileNames::Write(Input(stl), Output(pes)),
-            Request::Check { stl, pes, .. } => FileNames::ReadBoth(Input(stl), Input(pes)),
-            Request::Listen { pes, .. } => FileNames::Read(Input(pes)),
+            Request::Packets { pes } => FileNames::ReadPes(PesInput(pes)),
+            Request::Show { stl } => FileNames::ReadStl(StlInput(stl)),
+            Request::Normal { input, output } => {
+                FileNames::Write(StlInput(input), Output(output))
+            }
+            Request::Schedule { stl, pes, .. } => FileNames::Write(StlInput(stl), Output(pes)),
+            Request::Check { stl, pes, .. } => FileNames::ReadBoth(StlInput(stl), PesInput(pes)),
+            Request::Listen { pes, .. } => FileNames::ReadPes(PesInput(pes)),
         }
     }
 }

@@ -7,7 +7,7 @@
 //!
 //! ```text
 //! let request = Request::Show { stl: "film.stl" };
-//! request.files() // FileNames::Read: film.stl
+//! request.files() // FileNames::ReadStl: film.stl
 //! ```
 #![tactic(auto)]
 
@@ -15,6 +15,6 @@ mod files;
 mod listening;
 mod request;
 
-pub use files::{FileNames, Input, Output};
+pub use files::{FileNames, Output, PesInput, StlInput};
 pub use listening::{Flip, Listening, ReceiverKind};
 pub use request::{Request, UsageFault};

@@ -1,0 +1,148 @@
+-- What is answered over sources, told without what they are.
+use Rattle.std.proofs.Common.{ℕ, List, ◌≡◌, refl}
+use Rattle.stl_rows.specs.declared.national.National.{National}
+use Rattle.sub_plan.specs.Options.{OptionsValue}
+use Rattle.sub_answer.specs.Answering.{Answers, AnswersCheck, EndsWork}
+use Rattle.sub_answer.specs.DeviceCall.{SinkCall, SourceCall}
+use Rattle.sub_answer.specs.Listing.{IsListed, PrintsListing}
+use Rattle.sub_answer.specs.Writing.{Work}
+use Rattle.sub_answer.specs.declared.status.Status.{Status}
+use Rattle.sub_request.specs.declared.request.Request.{Request}
+use Rattle.sub_request.specs.declared.request.Request.TheVariants as ask
+use Rattle.subttx.specs.Ending.{Ends, EndsFrom, EndsWith, Lines, forgotten}
+
+-- What is listed of a source, without what the source is.
+listing-forgotten :
+    {S : Type 0} (lists : IsListed) (source : SourceCall S) (out : SinkCall) (status : Status)
+    → PrintsListing lists source out status
+    → PrintsListing lists (forgotten source) out status
+listing-forgotten lists source out status is = record {
+  ending = is.ending;
+  listing = is.listing;
+  is_listed = is.is_listed;
+  source_count = is.source_count;
+  cut = is.cut;
+  printed = is.printed;
+}
+
+-- What is written from an input, without what the input is.
+work-forgotten :
+    {S : Type 0} (input : SourceCall S) (file out : SinkCall) (status : Status)
+    (things : List ℕ) (works : Work)
+    → EndsWork input file out status things works
+    → EndsWork (forgotten input) file out status things works
+work-forgotten input file out status things works is = record {
+  answer = is.answer;
+  works = is.works;
+  input_count = is.input_count;
+  file_count = is.file_count;
+  printed = is.printed;
+}
+
+-- What a check answers, without what its first source is.
+check-forgotten :
+    {S T : Type 0} (national : National) (options : OptionsValue) (stl : SourceCall S)
+    (pes : SourceCall T) (out : SinkCall) (status : Status)
+    → AnswersCheck national options stl pes out status
+    → AnswersCheck national options (forgotten stl) pes out status
+check-forgotten national options stl pes out status is = record {
+  answer = is.answer;
+  printed = is.printed;
+  stl_count = is.stl_count;
+  pes_count = is.pes_count;
+  stl_read = is.stl_read;
+  pes_read = is.pes_read;
+  before = is.before;
+  checked = is.checked;
+  done = is.done;
+  fault = is.fault;
+}
+
+-- The same without what its second source is.
+check-second-forgotten :
+    {S T : Type 0} (national : National) (options : OptionsValue) (stl : SourceCall S)
+    (pes : SourceCall T) (out : SinkCall) (status : Status)
+    → AnswersCheck national options stl pes out status
+    → AnswersCheck national options stl (forgotten pes) out status
+check-second-forgotten national options stl pes out status is = record {
+  answer = is.answer;
+  printed = is.printed;
+  stl_count = is.stl_count;
+  pes_count = is.pes_count;
+  stl_read = is.stl_read;
+  pes_read = is.pes_read;
+  before = λ refused. refl;
+  checked = is.checked;
+  done = is.done;
+  fault = is.fault;
+}
+
+-- What is answered, without what the first source is.
+first-forgotten :
+    {S T : Type 0} (request : Request) (first : SourceCall S) (second : SourceCall T)
+    (file out : SinkCall) (status : Status)
+    → Answers request first second file out status
+    → Answers request (forgotten first) second file out status
+first-forgotten (ask.Packet bytes) first second file out status is = is
+first-forgotten (ask.Packets pes) first second file out status is =
+    listing-forgotten _ first out status is
+first-forgotten (ask.Show stl) first second file out status is =
+    listing-forgotten _ first out status is
+first-forgotten (ask.Normal input output) first second file out status is =
+    work-forgotten first file out status _ _ is
+first-forgotten (ask.Schedule stl pes options serial national) first second file out status is =
+    work-forgotten first file out status _ _ is
+first-forgotten (ask.Check stl pes options national) first second file out status is =
+    check-forgotten national options first second out status is
+first-forgotten (ask.Listen pes listening) first second file out status is =
+    record { exact = is.exact; read = is.read }
+
+-- What is answered, without what the second source is.
+second-forgotten :
+    {S T : Type 0} (request : Request) (first : SourceCall S) (second : SourceCall T)
+    (file out : SinkCall) (status : Status)
+    → Answers request first second file out status
+    → Answers request first (forgotten second) file out status
+second-forgotten (ask.Packet bytes) first second file out status is = is
+second-forgotten (ask.Packets pes) first second file out status is = is
+second-forgotten (ask.Show stl) first second file out status is = is
+second-forgotten (ask.Normal input output) first second file out status is = is
+second-forgotten (ask.Schedule stl pes options serial national) first second file out status is = is
+second-forgotten (ask.Check stl pes options national) first second file out status is =
+    check-second-forgotten national options first second out status is
+second-forgotten (ask.Listen pes listening) first second file out status is = is
+
+-- How a run ends, of its first source alone.
+pub ends_from :
+    {S T : Type 0} (request : Request) (first : SourceCall S) (second : SourceCall T)
+    (file : SinkCall) (old new : Lines) (result : Status)
+    → EndsWith request first second file old new result
+    → EndsFrom request first old new result
+ends_from request first second file old new result is = record {
+  second = forgotten second;
+  file = file;
+  ends = record {
+    status = is.status;
+    written = is.written;
+    printed = is.printed;
+    answers = second-forgotten request first second _ _ is.status is.answers;
+    handed_on = is.handed_on;
+  };
+}
+
+-- How a run ends, of its lines alone.
+pub ends_at_all :
+    {S : Type 0} (request : Request) (first : SourceCall S) (old new : Lines) (result : Status)
+    → EndsFrom request first old new result
+    → Ends request old new result
+ends_at_all request first old new result is = (forgotten first, record {
+  second = is.second;
+  file = is.file;
+  ends = record {
+    status = is.ends.status;
+    written = is.ends.written;
+    printed = is.ends.printed;
+    answers = first-forgotten request first is.second _ _ is.ends.status is.ends.answers;
+    handed_on = is.ends.handed_on;
+  };
+})

@@ -1,0 +1,12 @@
+use Rattle.std.proofs.Common.{rules, ◌≡◌}
+use Rattle.subttx.specs.Ending.{EndsWith, buffered_call, lines_of}
+use Rattle.subttx.proofs.ending.answer_and_hand_on.Goals as goal
+
+pub returns-clause-ends : goal.returns-clause-ends
+returns-clause-ends g c = record {
+  status = c.answer-status.result;
+  written = (lines_of g.F.Sink.contents g.F.Sink.failure_count c.answer-status.new.file).taken;
+  printed = lines_of g.K.Sink.contents g.K.Sink.failure_count c.answer-status.new.out;
+  answers = rw c.close.ensures.count c.answer-status.ensures.answers;
+  handed_on = c.hand_on.ensures;
+}

@@ -1,0 +1,44 @@
+//! Whether the file that is written is another one than the file that is read.
+ghost use Rattle.std.specs.Prelude.{◌≡◌};
+ghost use Rattle.subttx.specs.Apart.{is_apart};
+
+use std::os::unix::fs::MetadataExt;
+use std::rt::Files;
+use std::{fs, io};
+
+/// What was found at a name.
+#[derive(Clone, Copy)]
+pub enum Found {
+    /// Nothing is there.
+    Nothing,
+    /// A file, by its device and its inode there.
+    At(u64, u64),
+    /// It could not be looked up.
+    Unknown,
+}
+
+/// What is at a name.
+pub fn look_up<R: Files>(rt: &R, name: &str) -> Found {
+    match fs::metadata(rt, name) {
+        Ok(there) => Found::At(there.dev(), there.ino()),
+        Err(error) => match error.kind() {
+            io::ErrorKind::NotFound => Found::Nothing,
+            _ => Found::Unknown,
+        },
+    }
+}
+
+/// Whether creating the output can't empty the input, by what was found at both names: nothing is
+/// there, or another file, which is not the input by a link or by another way to it.
+pub fn is_apart(input: Found, output: Found) -> bool
+    ensures { result ≡ is_apart input output }
+{
+    match output {
+        Found::Nothing => true,
+        Found::Unknown => false,
+        Found::At(device, inode) => match input {
+            Found::At(input_device, input_inode) => input_device != device || input_inode != inode,
+            Found::Nothing | Found::Unknown => false,
+        },
+    }
+}

@@ -1,0 +1,116 @@
+//! Answers a request over devices, closes the file and hands on the lines.
+//!
+//! For a device that the request does not name, an empty one is handed in, by a function of its own.
+ghost use Rattle.std.specs.Prelude.{◌≡◌, []};
+ghost use Rattle.sub_io.specs.Buffered.{HandsOn, failures_and_refused};
+ghost use Rattle.sub_io.specs.Device.{CanFail};
+ghost use Rattle.sub_answer.specs.DeviceCall.{source_call};
+ghost use Rattle.subttx.specs.Ending.{EndsFrom, EndsWith, HandsOnLines, buffered_call, lines_of};
+
+use std::alloc::Global;
+use sub_answer::{Status, answer};
+use sub_io::{BufferedSink, Close, Flush, MemSink, MemSource, Sink, Source};
+use sub_request::Request;
+
+/// Answers a request that reads one source.
+pub fn answer_from<S: Source, K: Sink>(
+    alloc: Global,
+    request: &Request<'_>,
+    first: &mut S,
+    out: &mut BufferedSink<'_, K>,
+) -> Status
+    requires first { CanFail (S.failure_count first.old) }
+    requires out { failures_and_refused (K.failure_count out.old.device) out.old.refused ≡ 0 }
+    ensures { EndsFrom request.now
+        (source_call S.remaining S.failure_count first.old first.new)
+        (lines_of K.contents K.failure_count out.old)
+        (lines_of K.contents K.failure_count out.new) result }
+{
+    answer_pair(alloc, request, first, &mut MemSource::new(&[]), out)
+}
+
+/// Answers a request that reads two sources.
+pub fn answer_pair<S: Source, T: Source, K: Sink>(
+    alloc: Global,
+    request: &Request<'_>,
+    first: &mut S,
+    second: &mut T,
+    out: &mut BufferedSink<'_, K>,
+) -> Status
+    requires first { CanFail (S.failure_count first.old) }
+    requires second { CanFail (T.failure_count second.old) }
+    requires out { failures_and_refused (K.failure_count out.old.device) out.old.refused ≡ 0 }
+    ensures { EndsFrom request.now
+        (source_call S.remaining S.failure_count first.old first.new)
+        (lines_of K.contents K.failure_count out.old)
+        (lines_of K.contents K.failure_count out.new) result }
+{
+    let (mut nowhere, mut room) = ([0; 0], [0; 1]);
+    let mut file = BufferedSink::new(MemSink::new(&mut nowhere), &mut room);
+    answer_and_hand_on(alloc, request, first, second, &mut file, out)
+}
+
+/// Answers a request that reads one source and writes a file.
+pub fn answer_with_file<S: Source, F: Close, K: Sink>(
+    alloc: Global,
+    request: &Request<'_>,
+    first: &mut S,
+    file: &mut BufferedSink<'_, F>,
+    out: &mut BufferedSink<'_, K>,
+) -> Status
+    requires first { CanFail (S.failure_count first.old) }
+    requires file { (failures_and_refused (F.failure_count file.old.device) file.old.refused ≡ 0)
+        × (file.old.held ≡ []) }
+    requires out { failures_and_refused (K.failure_count out.old.device) out.old.refused ≡ 0 }
+    ensures { EndsFrom request.now
+        (source_call S.remaining S.failure_count first.old first.new)
+        (lines_of K.contents K.failure_count out.old)
+        (lines_of K.contents K.failure_count out.new) result }
+{
+    answer_and_hand_on(alloc, request, first, &mut MemSource::new(&[]), file, out)
+}
+
+// Answers a request over these devices, closes the file, and then hands on the lines.
+//
+// Where the status is 0, neither the file nor the lines are held back, and no call of either sink
+// has failed: the devices below them have taken all bytes, by calls that did not fail. The file is
+// closed before: with standard output closed, its number may be the file's.
+fn answer_and_hand_on<S: Source, T: Source, F: Close, K: Sink>(
+    alloc: Global,
+    request: &Request<'_>,
+    first: &mut S,
+    second: &mut T,
+    file: &mut BufferedSink<'_, F>,
+    out: &mut BufferedSink<'_, K>,
+) -> Status
+    requires first { CanFail (S.failure_count first.old) }
+    requires second { CanFail (T.failure_count second.old) }
+    requires file { (failures_and_refused (F.failure_count file.old.device) file.old.refused ≡ 0)
+        × (file.old.held ≡ []) }
+    requires out { failures_and_refused (K.failure_count out.old.device) out.old.refused ≡ 0 }
+    ensures ends { EndsWith request.now
+        (source_call S.remaining S.failure_count first.old first.new)
+        (source_call T.remaining T.failure_count second.old second.new)
+        (buffered_call F.contents F.failure_count file.old file.new)
+        (lines_of K.contents K.failure_count out.old)
+        (lines_of K.contents K.failure_count out.new) result }
+    ensures done { result ≡ Status.Done → HandsOn F.failure_count file.old file.new
+        × HandsOn K.failure_count out.old out.new }
+{
+    let status = answer(alloc, request, first, second, file, out);
+    file.close();
+    hand_on(status, out)
+}
+
+/// Hands on what is held back of the lines, for a run that ends with this status.
+pub fn hand_on<K: Sink>(status: Status, out: &mut BufferedSink<'_, K>) -> Status
+    requires { CanFail (failures_and_refused
+        (K.failure_count out.old.device) out.old.refused) }
+    ensures { HandsOnLines (lines_of K.contents K.failure_count out.old) status
+        (lines_of K.contents K.failure_count out.new) result }
+{
+    match out.flush() {
+        Ok(()) => status,
+        Err(_) => Status::Fault,
+    }
+}
