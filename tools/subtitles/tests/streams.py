@@ -133,5 +133,5 @@ def is_fast(case):
         case.test(name, done.out and (speed >= FAST or not case.bench.is_timed), speed)
 
 
-CASES = [is_fast, goes_there_and_back, finds_its_packets_among_others, tells_what_is_lost,
+CASES = [goes_there_and_back, finds_its_packets_among_others, tells_what_is_lost,
          lists_pages, refuses_what_is_no_teletext]
