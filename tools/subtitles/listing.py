@@ -34,6 +34,7 @@ class Tables:
         self.whole = set()  # payloads that begin and end sections, and were read
 
     def new_sections(self, piece):
+        """The sections that end in a piece of the file and that were not there before."""
         for begins, data in self.stream.payloads(piece):
             if begins and data in self.whole:
                 self.rest = None
@@ -47,7 +48,7 @@ class Tables:
                 self.whole.add(payload)
 
     def take(self, data):
-        """The sections that end in some bytes and that were not there before."""
+        """The same of some bytes."""
         if self.rest is None:
             return  # none has begun
         self.rest += data
@@ -120,7 +121,7 @@ class Listing:
                 if section[at:at + 2] != b"\0\0":  # programme 0 is the network's own table
                     programme = int.from_bytes(section[at + 2:at + 4], "big") & 0x1FFF
                     self.tables.setdefault(programme, Tables(programme))
-        elif section[0] == PMT:
+        elif section[0] == PMT and len(section) > 12:
             programme = int.from_bytes(section[3:5], "big")
             at = 12 + (section[10] << 8 & 0xF00 | section[11])
             while at + 5 <= len(section) - 4:
@@ -155,7 +156,7 @@ def announced_pages(descriptors):
     """The pages of the Teletext descriptors among some descriptors, each as words."""
     at = 0
     while at + 2 <= len(descriptors):
-        tag, end = descriptors[at], at + 2 + descriptors[at + 1]
+        tag, end = descriptors[at], min(at + 2 + descriptors[at + 1], len(descriptors))
         if tag in (TELETEXT, VBI_TELETEXT):
             for entry in range(at + 2, end - 4, 5):
                 language = descriptors[entry:entry + 3].decode("latin-1")

@@ -16,9 +16,10 @@ SCRAMBLED, ADAPTED, PAYLOAD = 0xC0, 0x20, 0x10  # in the fourth
 BEGIN_MARK = bytes(byte & BEGINS != 0 for byte in range(256))
 DISCONTINUITY = 0x80  # in the first byte of an adaptation field
 
-# Packets one after another: `count` of them from `start` in `data`, `stride` bytes apart; the first
-# is number `number` of the file.
-Piece = collections.namedtuple("Piece", "data start count stride number")
+LONGEST = 6 + 0xFFFF  # bytes of a PES packet
+
+# Packets one after another: `count` of them from `start` in `data`, `stride` bytes apart.
+Piece = collections.namedtuple("Piece", "data start count stride")
 
 
 class Reader:
@@ -29,7 +30,7 @@ class Reader:
 
     def __init__(self, file):
         self.file, self.strides = file, STRIDES
-        self.number = self.skipped = 0
+        self.count = self.skipped = 0
 
     def __iter__(self):
         data, is_end, is_found = b"", False, False
@@ -38,28 +39,28 @@ class Reader:
             data, is_end, at = data + more, not more, 0
             while len(data) - at >= PACKET:
                 if not is_found:
-                    start = self.find(data, at, is_end)
+                    start, is_found = self.find(data, at, is_end)
                     self.skipped += start - at
-                    at, is_found = start, self.is_packet(data, start, is_end)
+                    at = start
                 if not is_found:
                     break
                 piece, is_found = self.piece(data, at, is_end)
                 yield piece
-                self.number += piece.count
+                self.count += piece.count
                 at += piece.count * piece.stride
                 if is_found:
                     break
             data = data[at:]
         self.skipped += len(data)
-        if not self.number:
+        if not self.count:
             raise Damaged("no transport stream: packets of 188 bytes that begin with 47")
 
     def find(self, data, at, is_end):
-        """Where packets begin, from `at` on; where none do, the first byte that can't tell yet."""
+        """Where packets begin, from `at` on, and True; or the first byte that can't tell yet."""
         for start in self.starts(data, at):
             if self.is_packet(data, start, is_end):
-                return start
-        return len(data) if is_end else max(at, len(data) - IN_A_ROW * max(STRIDES))
+                return start, True
+        return len(data) if is_end else max(at, len(data) - IN_A_ROW * max(STRIDES)), False
 
     @staticmethod
     def starts(data, at):
@@ -84,20 +85,20 @@ class Reader:
         count = (len(data) - at - PACKET) // stride + 1 if is_end else (len(data) - at) // stride
         syncs = data[at:at + stride * count:stride]
         good = len(syncs) - len(syncs.lstrip(bytes([SYNC])))
-        return Piece(data, at, good, stride, self.number), good == count
+        return Piece(data, at, good, stride), good == count
 
 
 class Stream:
-    """The packets of one PID: the number of those that are lost, `lost`, and scrambled."""
+    """The packets of one PID: at how many places some are `lost`, how many are `scrambled`."""
 
     def __init__(self, pid):
         self.pid, self.counter = pid, None
-        self.found = self.lost = self.scrambled = 0
+        self.lost = self.scrambled = 0
         self.low = bytes(byte == pid & 0xFF for byte in range(256))
         self.high = bytes(byte & 0x1F == pid >> 8 for byte in range(256))
 
     def marks(self, piece):
-        """A number with a byte for each packet of a piece, the first one the highest: 1 for its."""
+        """A number with a byte for each packet of a piece, the first the highest: 1 for its own."""
         low, high = (column(piece, at) for at in (2, 1))
         return as_number(low.translate(self.low)) & as_number(high.translate(self.high))
 
@@ -105,7 +106,6 @@ class Stream:
         """Of each packet with a payload: whether a PES packet or section begins, and the payload."""
         data = piece.data
         for at in places(piece, self.marks(piece)):
-            self.found += 1
             flags, control = data[at + 1], data[at + 3]
             start, is_jump = at + 4, False
             if flags & ERROR or not control & PAYLOAD:
@@ -168,10 +168,10 @@ class Joiner:
                 if self.data is not None:
                     yield self.data
                 self.data = payload
-            elif self.data is not None:
-                self.data += payload
-            else:
+            elif self.data is None:
                 self.passed += len(payload)
+            elif len(self.data) < LONGEST:
+                self.data += payload
 
 
 def crc(data):

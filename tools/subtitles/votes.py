@@ -65,22 +65,23 @@ class Election:
 
     def starts(self):
         """Frames that the first change may have: those with the most votes."""
-        longest = max(self.changes)
-        votes = array.array("I", bytes(4 * (self.frames[-1] + longest + 1)))
+        # The frame that a change gives the first one, if it is that of an edge, is its frame less
+        # its distance: from `least` on.
+        least, most = self.frames[0] - max(self.changes), self.frames[-1]
+        votes = array.array("I", bytes(4 * (most - least + 1)))
         for frames in self.sample():
-            shift = longest - frames
             for frame in self.frames:
-                votes[shift + frame] += 1
+                votes[frame - frames - least] += 1
         by_letters = collections.defaultdict(list)
         for edge in self.edges:
             by_letters[edge.letters].append(edge.frame)
         for frames, (letters, _) in self.changes.items():
             alike = by_letters.get(letters, ()) if letters else ()
             for frame in alike if len(alike) <= REPEATED else ():
-                votes[longest - frames + frame] += 2
+                votes[frame - frames - least] += 2
         best = heapq.nlargest(TRIED, range(len(votes)), votes.__getitem__)
         # Where all subtitles are alike, the first and the last tell more than those between.
-        return {at - longest for at in best} | {self.frames[0], self.frames[-1] - longest}
+        return {least + at for at in best} | {self.frames[0], most - max(self.changes)}
 
     def sample(self):
         """Changes that vote: all, or as many as there is time for."""
@@ -108,16 +109,22 @@ class Election:
         """Whether beginnings and ends agree, but a constant number of frames apart.
 
         `None`, or which of the two disagree with the origin, and by how many frames they are late.
+        Only edges at which the letters change to those that are due count here.
         """
         for is_begin in (True, False):
-            own = [edge.frame - fit.start for edge in self.edges if edge.is_begin == is_begin
-                   and 0 <= edge.frame - fit.start <= self.length]
-            late = {shift: sum(frame + shift in self.changes for frame in own)
+            own = [(edge.frame - fit.start, edge.letters) for edge in self.edges
+                   if edge.is_begin == is_begin and 0 <= edge.frame - fit.start <= self.length]
+            late = {shift: sum(self.letters_at(frames + shift) == letters
+                               for frames, letters in own)
                     for shift in range(-MOST_APART, MOST_APART + 1)}
             best = max(late, key=late.get)
             if len(own) > 1 and best and late[best] == len(own) and late[0] * 2 < len(own):
                 return is_begin, best
         return None
+
+    def letters_at(self, frames):
+        """The letters to which the page changes so many frames after the first change."""
+        return self.changes.get(frames, (None, 0))[0]
 
 
 def points(fit):

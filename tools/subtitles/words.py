@@ -76,7 +76,8 @@ def add_page(parser):
 
 def tell(line):
     """A line on standard error, after what was printed before it."""
-    sys.stdout.flush()
+    with contextlib.suppress(OSError):
+        sys.stdout.flush()  # `run` tells where that fails
     print(f"{os.path.basename(sys.argv[0])}: {line}", file=sys.stderr)
 
 

@@ -1,6 +1,7 @@
 """tools/origin: the origin that a transmission was given is found again."""
 import random
 
+from ..pes import data_field, pes_packet, pts_in, teletext_packets
 from ..stl import gsi_block, subtitle_blocks
 from ..times import CLOCK, TICKS
 from .bench import example, example_bytes, moved, packets, random_subtitles
@@ -80,6 +81,22 @@ def tells_that_ends_are_late(case):
               and "origin: all ends are 3 frames late beside the beginnings" in found[2], found)
 
 
+def tells_that_rows_are_late(case):
+    """Each header erases the page, and the rows come in the next frame."""
+    data, _ = random_subtitles(5)
+    stl = case.write("rows.stl", data)
+    case.schedule(stl, "rows.pes", "--every", "1500")
+    made = b""
+    for one in packets(case.read("rows.pes")):
+        found = teletext_packets(data_field(one))
+        made += pes_packet(pts_in(one), found[:1])
+        if len(found) > 2:
+            made += pes_packet(pts_in(one) + TICKS, found[1:])
+    found = origin_of(case, stl, made)
+    case.test("one frame", found[:2] == (0, TICKS)
+              and "origin: all ends are 1 frame early beside the beginnings" in found[2], found)
+
+
 def tells_jitter(case):
     data, _ = random_subtitles(4)
     stl = case.write("jitter.stl", data)
@@ -129,5 +146,5 @@ def goes_on_with_damaged_files(case):
 
 CASES = [finds_that_of_the_examples, finds_that_of_transmissions_at_random,
          finds_it_where_sendings_are_lost, tells_that_all_is_late, tells_that_ends_are_late,
-         tells_jitter, tells_what_is_not_unique, tells_what_does_not_fit,
+         tells_that_rows_are_late, tells_jitter, tells_what_is_not_unique, tells_what_does_not_fit,
          goes_on_with_damaged_files]
