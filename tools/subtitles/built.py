@@ -5,7 +5,8 @@ import subprocess
 from .words import Stop
 
 TOP = os.path.realpath(os.path.join(os.path.dirname(__file__), "..", ".."))
-BUILT = os.path.join(TOP, "crates", "subttx", "out", "subttx")
+PLACE = os.path.join("crates", "subttx", "out", "subttx")
+BUILT = os.path.join(TOP, PLACE)
 
 
 def sources():
@@ -18,17 +19,24 @@ def sources():
 
 
 def built_program(path=None):
-    """The file of the program: the one at `path`, or what was built for the sources as they stand."""
+    """The file of the program: at `path`, or as it was built for the sources as they stand."""
     if path:
         if os.path.isdir(path) or not os.access(path, os.X_OK):
             raise Stop(f"{path} is no program")
-        return path
+        return behind_script(path)
     if not os.access(BUILT, os.X_OK):
         raise Stop("the program is not built: run ./subttx, or the gate")
     stamp = read(BUILT + ".sources")
     if stamp is None or stamp.strip() != sources():
         raise Stop("the program was built for other sources: run ./subttx, or the gate")
     return BUILT
+
+
+def behind_script(path):
+    """The program that a script ./subttx of a repository runs; else the path itself."""
+    built = os.path.join(os.path.dirname(os.path.realpath(path)), PLACE)
+    with open(path, "rb") as file:
+        return built if file.read(2) == b"#!" and os.path.isfile(built) else path
 
 
 def read(path):

@@ -5,19 +5,20 @@ import random
 from ..times import CLOCK, TICKS, time_of
 from .bench import example, example_bytes, moved, packets, random_subtitles
 
-ORIGIN = CLOCK - TICKS * 1_000_000  # the PTS begin again at the frame 1,000,000
-
 
 def is_accepted_after(case):
-    """A recording that began early and ended late is accepted once it is cut, at any origin."""
+    """A recording that began early and ended late is accepted once it is cut.
+
+    The PTS begin again in the middle of it.
+    """
     data, edges = random_subtitles(21)
-    stl = case.write("cut.stl", data)
-    case.schedule(stl, "own.pes", "--every", "50", "--origin", str(ORIGIN))
+    stl, origin = case.write("cut.stl", data), CLOCK - TICKS * edges[len(edges) // 2]
+    case.schedule(stl, "own.pes", "--every", "50", "--origin", str(origin))
     own = packets(case.read("own.pes"))
     before = moved(own[0], lambda _, pts: pts - 60 * TICKS)  # a subtitle of somebody else
     after = moved(own[0], lambda _, pts: pts + 60 * TICKS * 1500)
     pes = case.write("long.pes", before + b"".join(own) + after)
-    words = ["--origin", str(ORIGIN), "--every", "50"]
+    words = ["--origin", str(origin), "--every", "50"]
     case.test("refused before", case.program("check", stl, pes, *words)[0] == 1)
     first, last = time_of(edges[0]), time_of(edges[-1])
     done = case.tool("cut", pes, "--from", first, "--to", last, *words[:2], "-o", "cut.pes")
