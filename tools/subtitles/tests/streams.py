@@ -1,13 +1,15 @@
 """tools/ts2pes and tools/pes2ts: transport streams, there and back, whole and damaged."""
 import random
-import time
+import resource
 
 from .bench import example, example_bytes
 
 PID = "0x101"
 EXAMPLE_FILES = ["hello.pes", "hello-25.pes", "story.pes", "german.pes", "no-end.pes"]
 PAYLOAD = 184
-FAST = 100  # MB of transport stream a second, where --speed is asked for
+# MB of transport stream a second of the processor: where --speed is asked for, and on a machine
+# that does other things too.
+FAST, ANYWHERE = 100, 30
 
 
 def stream_of(case, name, *words):
@@ -111,8 +113,15 @@ def refuses_what_is_no_teletext(case):
                   and done.told[1].startswith(f"pes2ts: {count} PES packets"), done.told)
 
 
+def processor_seconds():
+    """What all calls took up to now."""
+    used = resource.getrusage(resource.RUSAGE_CHILDREN)
+    return used.ru_utime + used.ru_stime
+
+
 def is_fast(case):
-    """A stream of a tenth of Teletext; and one of nothing else, made and read."""
+    """A stream of a tenth of Teletext is read and listed, and one of nothing else is made."""
+    least = FAST if case.bench.is_timed else ANYWHERE
     packets = stream_of(case, "story.pes")
     own = [packets[number] for number in of_the_pid(packets)]
     video = bytes([0x47, 2, 0, 0x10]) + bytes(range(PAYLOAD))
@@ -124,13 +133,12 @@ def is_fast(case):
                                                          PID]),
                         ("ts2pes, a list of it", ["ts2pes", case.path("mixed.ts")]),
                         ("pes2ts", ["pes2ts", pes, PID])):
-        begin = time.monotonic()
+        begin = processor_seconds()
         done = case.tool(*words)
-        seconds = time.monotonic() - begin
         size = len(done.out) if words[0] == "pes2ts" else len(mixed)
-        speed = size / 1e6 / seconds
-        print(f"{name}: {speed:.0f} MB of transport stream a second")
-        case.test(name, done.out and (speed >= FAST or not case.bench.is_timed), speed)
+        speed = size / 1e6 / (processor_seconds() - begin)
+        print(f"{name}: {speed:.0f} MB of transport stream a second of the processor")
+        case.test(name, done.out and speed >= least, speed)
 
 
 CASES = [goes_there_and_back, finds_its_packets_among_others, tells_what_is_lost,
