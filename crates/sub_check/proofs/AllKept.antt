@@ -55,7 +55,7 @@ arrivals_of-all_true (p ∷ sent) (g ∷ got) (false ∷ marks) all may near =
     let h : false ≡ true = all.0 in cc
 
 -- A mark for each packet, all true.
-abbrev all_kept : List (List ℕ) → List Bool
+abbrev pub all_kept : List (List ℕ) → List Bool
 all_kept sent = map (λ p. true) sent
 
 -- They are true.
@@ -64,7 +64,7 @@ all_true [] = All-nil _
 all_true (p ∷ sent) = All-cons IsTrue true (all_kept sent) refl (all_true sent)
 
 -- And no page header is lost by them.
-may_all : (sent : List (List ℕ)) → AllZip MayBeMarked sent (all_kept sent)
+pub may_all : (sent : List (List ℕ)) → AllZip MayBeMarked sent (all_kept sent)
 may_all [] = tt
 may_all (p ∷ sent) = (λ h a is. let e : true ≡ false = h in absurd (cc), may_all sent)
 

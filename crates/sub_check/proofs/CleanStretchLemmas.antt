@@ -18,8 +18,8 @@ use Rattle.ttx_page.proofs.LateStart.{MayFollow, sound-joined}
 use Rattle.stl_rows.specs.Programme.{ProgrammeValue}
 use Rattle.sub_plan.specs.Options.{OptionsValue}
 use Rattle.sub_check.specs.CleanStretch.{AtEnds, IsClean, IsEnd, LawOfCleanStretch}
-use Rattle.sub_check.specs.CleanStretch.Part.{DuePages, ExactAddresses, ExactHeaders, FramesRise}
-use Rattle.sub_check.specs.CleanStretch.Part.{OddRows, RepeatBound, SameRows, SubtitleHeaders}
+use Rattle.sub_check.specs.CleanStretch.Part.{DueContent, ExactAddresses, ExactHeaders, FramesRise}
+use Rattle.sub_check.specs.CleanStretch.Part.{OddRows, HeadersInTime, SameRows, SubtitleHeaders}
 use Rattle.sub_check.specs.FrameRules.{IsEnded, Unread, frame_at, packets_before, packets_of_frame}
 use Rattle.sub_check.specs.FrameRules.{HasHeader, task_of, watched_of}
 use Rattle.sub_check.specs.Good.{HoldsHeader}
@@ -240,7 +240,7 @@ module _ (programme : ProgrammeValue) (transmission : Transmission) (options : O
   covered f low high =
       let first = first-same transmission in
       let (n, end, on, before) = end_at f low high in
-      elim (clean.kept RepeatBound n f end low high) [
+      elim (clean.kept HeadersInTime n f end low high) [
         | inl early ↦ inl (omega arith)
         | inr (j, l, late, has) ↦
             let rises =
@@ -259,7 +259,7 @@ module _ (programme : ProgrammeValue) (transmission : Transmission) (options : O
     content = λ f row column low high named.
         let end = end_at f low high in
         ap (λ ps. shown options.page ps row column) end.2
-        ∙ clean.kept DuePages end.0 f end.1 low high row column named;
+        ∙ clean.kept DueContent end.0 f end.1 low high row column named;
   }
     where
       repeats :

@@ -14,6 +14,7 @@ pub mod ExampleLemmas
 pub mod BrokenRules
 pub mod RobustTests
 pub mod NotRobust
+pub mod StretchExample
 pub mod GoodExample
 pub mod ScreenTests
 pub mod CodesLemmas

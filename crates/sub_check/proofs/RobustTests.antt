@@ -1,150 +1,46 @@
--- A receiver as a function that computes, and by it: a transmission is not robust (refuted).
+-- A transmission is not robust, by a receiver that computes: `refuted`. And it is not though all
+-- that is asked of a clean stretch but one part holds, which is needed then: `needed`.
 use Rattle.std.proofs.lemmas.Bool.Decides.{nat_tests}
-use Rattle.std.proofs.Common.{◌≡◌, ℕ, ◌+◌, ◌-◌, inl, inr, ◌==◌, Bool, true, false, not, ◌&&◌, ◌||◌}
-use Rattle.std.proofs.Common.{nat_le, cond, List, [], ◌∷◌, length, map, replicate, get_or}
-use Rattle.std.proofs.Common.{MatchBool, refl, sym, ap, ◌∙◌, arith, eq-eqb, ne_eqb}
-use Rattle.std.specs.List.{range_with_len, AllZip}
-use Rattle.std.proofs.lemmas.Bool.{and_parts, or_cases, not-true, leb-true, cond-true, cond-false}
-use Rattle.std.proofs.lemmas.List.FromFn.{get_or-map-range_with_len}
-use Rattle.ttx_packet.specs.OneBit.{AreNear, is_near}
-use Rattle.ttx_packet.specs.PageHeader.{c4}
+use Rattle.std.proofs.Common.{◌≡◌, ◌≢◌, ℕ, suc, ◌+◌, ◌-◌, ◌<◌, ◌≤◌, inl, inr, ◌==◌, Bool, true, false, not}
+use Rattle.std.proofs.Common.{◌&&◌, ◌||◌, nat_le, nat_lt, List, [], ◌++◌, length, take, refl, sym}
+use Rattle.std.proofs.Common.{ap, ◌∙◌, arith, eq-eqb, eqb-true, find, None, Some, slice_index_or}
+use Rattle.std.proofs.Common.{replicate, subst, zero}
+use Rattle.std.proofs.lemmas.Bool.{and_parts, or_cases, not-true, leb-true}
+use Rattle.std.specs.Bool.{Decides}
+use Rattle.std.specs.Str.{bytes_eq}
+use Rattle.std.proofs.lemmas.Bool.Decides.{Decides-and, Decides-like, Decides-ltb, Decides-or}
+use Rattle.std.proofs.lemmas.Slice.Eq.{bytes_eq-Decides}
 use Rattle.ttx_packet.specs.PageId.{PageIdValue}
-use Rattle.ttx_packet.specs.Parity.{code_of, is_odd}
-use Rattle.ttx_packet.specs.RowPacket.{text_byte}
-use Rattle.ttx_packet.proofs.OneBitLemmas.{near_from_test}
-use Rattle.ttx_page.specs.declared.packet_kind.PacketKind.{PacketKind}
-use Rattle.ttx_page.specs.declared.packet_kind.PacketKind.TheVariants.{ThisPage, EndsPage, Row}
-use Rattle.ttx_page.specs.declared.packet_kind.PacketKind.TheVariants.{Other}
-use Rattle.ttx_page.specs.Page.{Rows, space, blank, cell, IsCell}
-use Rattle.ttx_page.specs.PacketKind.{kind}
-use Rattle.ttx_page.specs.Receiver.{State, StepAt, Hears, StoresRow}
-use Rattle.ttx_page.specs.Span.{holds_header}
+use Rattle.ttx_packet.specs.RowPacket.{HasOddText}
+use Rattle.ttx_page.specs.Page.{space, cell, IsCell}
+use Rattle.ttx_page.specs.PacketKind.{is_row, kind}
+use Rattle.ttx_page.specs.Receiver.{State}
+use Rattle.ttx_page.specs.Span.{holds_header, is_open_after, span}
+use Rattle.ttx_page.proofs.ComputedReceiver.{heard_so, near_packets, packets_tested, steps}
 use Rattle.stl_rows.specs.Programme.{ProgrammeValue}
 use Rattle.sub_plan.specs.Options.{OptionsValue}
 use Rattle.sub_plan.specs.Schedule.{due_in}
+use Rattle.sub_check.specs.CleanStretch.{AtEnds, AtPackets, IsClean, IsKeptWithin, KeepsCodes, Part}
+use Rattle.sub_check.specs.CleanStretch.{number_of}
+use Rattle.sub_check.specs.CleanStretch.Part.{DueContent, ExactAddresses, ExactHeaders, FramesRise}
+use Rattle.sub_check.specs.CleanStretch.Part.{OddRows, HeadersInTime, SameRows, SubtitleHeaders}
+use Rattle.sub_check.specs.Examples.{IsNeeded}
+use Rattle.sub_check.specs.FrameRules.{HasHeader, IsCovered, ShowsDue, Task, frame_at, task_of}
+use Rattle.sub_check.specs.FrameRules.{packets_before, packets_of_frame}
+use Rattle.sub_check.specs.Good.{IsSubtitleHeader}
+use Rattle.sub_check.specs.PacketRules.{codes_of, KeepsRule}
 use Rattle.sub_check.specs.Transmission.{Transmission, first_frame, last_frame, packets_of, on_air}
 use Rattle.sub_check.specs.Robust.{IsListening, Robust}
-use Rattle.sub_check.proofs.TestLemmas.{agree, agreed}
-
--- ---- near packets
-
--- The bytes are near, place by place.
-abbrev near_bytes : List ℕ → List ℕ → Bool
-near_bytes [] [] = true
-near_bytes [] (g ∷ got) = false
-near_bytes (s ∷ sent) [] = false
-near_bytes (s ∷ sent) (g ∷ got) = is_near s g && near_bytes sent got
-
-bytes_tested : (sent got : List ℕ) → near_bytes sent got ≡ true → AreNear sent got
-bytes_tested [] [] e = tt
-bytes_tested [] (g ∷ got) e = cc
-bytes_tested (s ∷ sent) [] e = cc
-bytes_tested (s ∷ sent) (g ∷ got) e =
-    let parts = and_parts (is_near s g) (near_bytes sent got) e in
-    (near_from_test s g parts.0, bytes_tested sent got parts.1)
-
--- The packets are near.
-abbrev near_packets : List (List ℕ) → List (List ℕ) → Bool
-near_packets [] [] = true
-near_packets [] (g ∷ got) = false
-near_packets (s ∷ sent) [] = false
-near_packets (s ∷ sent) (g ∷ got) = near_bytes s g && near_packets sent got
-
-packets_tested :
-    (sent got : List (List ℕ)) → near_packets sent got ≡ true → AllZip AreNear sent got
-packets_tested [] [] e = tt
-packets_tested [] (g ∷ got) e = cc
-packets_tested (s ∷ sent) [] e = cc
-packets_tested (s ∷ sent) (g ∷ got) e =
-    let parts = and_parts (near_bytes s g) (near_packets sent got) e in
-    (bytes_tested s g parts.0, packets_tested sent got parts.1)
-
--- ---- a receiver that keeps the cells of even bytes
-
--- The page with these codes in its cells.
-abbrev page_of_cells : (ℕ → ℕ → ℕ) → Rows
-page_of_cells code =
-    map (λ row. map (λ column. code row column) (range_with_len 0 40)) (range_with_len 1 24)
-
-cell-page_of_cells :
-    (code : ℕ → ℕ → ℕ) (row column : ℕ)
-    → IsCell row column
-    → cell (page_of_cells code) row column ≡ code row column
-cell-page_of_cells code row column named =
-    ap (λ (codes : List ℕ). get_or codes column 0)
-    (get_or-map-range_with_len (λ row. map (λ column. code row column) (range_with_len 0 40)) 1 24
-    (row - 1) row [] (omega (arith, named.0, named.1)) (omega (arith, named.0)))
-    ∙ get_or-map-range_with_len (λ column. code row column) 0 40 column column 0 named.2
-    (omega arith)
-
--- The code of a cell after a byte of its row.
-abbrev kept_code : ℕ → ℕ → ℕ
-kept_code byte was = cond (is_odd byte) (code_of byte) was
-
--- The page after row y was stored.
-abbrev stored : List ℕ → ℕ → Rows → Rows
-stored packet y page =
-    page_of_cells
-    (λ row column. cond (row == y) (kept_code (text_byte packet column) (cell page row column))
-    (cell page row column))
-
-stores_row :
-    (packet : List ℕ) (y : ℕ) (page : Rows) → StoresRow packet y page (stored packet y page)
-stores_row packet y page row column named =
-    let code : ℕ → ℕ → ℕ = λ row column.
-    cond (row == y) (kept_code (text_byte packet column) (cell page row column))
-    (cell page row column) in
-    let at = cell-page_of_cells code row column named in (
-      λ same.
-          let here = at ∙ cond-true (row == y) _ _ (eq-eqb row y same) in (
-            λ odd. here ∙ cond-true (is_odd (text_byte packet column)) _ _ odd,
-            λ even. inl (here ∙ cond-false (is_odd (text_byte packet column)) _ _ even),
-          ),
-      λ other. at ∙ cond-false (row == y) _ _ (ne_eqb row y other),
-    )
-
--- Its state after a packet of each kind.
-abbrev step : PacketKind → List ℕ → State → State
-step (ThisPage h) packet old =
-    record { heard = true; is_open = true; page = cond (c4 h) blank old.page }
-step EndsPage packet old = record old { is_open = false }
-step (Row y) packet old =
-    cond old.is_open (record old { page = stored packet y old.page }) old
-step Other packet old = old
-
-stepped : (k : PacketKind) (packet : List ℕ) (old : State) → StepAt k packet old (step k packet old)
-stepped (ThisPage h) packet old = refl
-stepped EndsPage packet old = refl
-stepped (Row y) packet old = go old.is_open
-  where
-    more : State
-    more = record old { page = stored packet y old.page }
-
-    go :
-        (b : Bool)
-        → MatchBool b
-        (((cond b more old).heard ≡ old.heard)
-        × ((cond b more old).is_open ≡ old.is_open)
-        × StoresRow packet y old.page (cond b more old).page)
-        (cond b more old ≡ old)
-    go true = (refl, refl, stores_row packet y old.page)
-    go false = refl
-stepped Other packet old = refl
-
--- Its state after a list of packets.
-abbrev steps : PageIdValue → State → List (List ℕ) → State
-steps w old [] = old
-steps w old (packet ∷ packets) = steps w (step (kind w packet) packet old) packets
-
-heard_so :
-    (w : PageIdValue) (old : State) (packets : List (List ℕ))
-    → Hears w old packets (steps w old packets)
-heard_so w old [] = refl
-heard_so w old (packet ∷ packets) = (
-  step (kind w packet) packet old,
-  stepped (kind w packet) packet old,
-  heard_so w (step (kind w packet) packet old) packets,
-)
+use Rattle.sub_check.specs.declared.packet_rules.PacketRule.TheVariants as rule
+use Rattle.sub_check.specs.declared.packet_rules.Watched.{Watched}
+use Rattle.sub_check.proofs.RuleTests.{exact_address_decided, exact_codes_decided}
+use Rattle.sub_check.proofs.RuleTests.{has_exact_address, has_exact_codes, is_odd_text}
+use Rattle.sub_check.proofs.RuleTests.{is_subtitles, odd_text_decided, rises, rising_decided}
+use Rattle.sub_check.proofs.RuleTests.{shows_decided, shows_page, subtitles_decided}
+use Rattle.sub_check.proofs.StretchLemmas.{robust_of_recovers}
+use Rattle.sub_check.proofs.TestLemmas.{agree, agreed, all_below, any_below, at_most, below}
+use Rattle.sub_check.proofs.TestLemmas.{holds, if_row, if_some, if_this_page, implied, row_of_kind}
+use Rattle.sub_check.proofs.TestLemmas.{some_below, this_page, value_of}
 
 -- It has heard nothing, and holds a page of question marks.
 abbrev before : State
@@ -162,7 +58,7 @@ may_listen frames g j f =
     nat_le (first_frame frames) g
     && (nat_le g f && (nat_le f (last_frame frames) && nat_le j (length (packets_of frames g))))
 
-listening :
+pub listening :
     (frames : Transmission) (g j f : ℕ) → may_listen frames g j f ≡ true → IsListening frames g j f
 listening frames g j f e = grind (arith, nat_tests, and_parts, nat_le, leb-true, length)
 
@@ -233,3 +129,274 @@ refuted programme frames o g j f got e robust =
 
     differs : (x y : ℕ) → not (x == y) ≡ true → x ≡ y → ⊥
     differs x y e is = absurd (let t : not (x == y) ≡ false = ap not (eq-eqb x y is) in cc)
+
+-- ---- all parts but one of what is asked of a clean stretch
+
+-- A frame is in the stretch.
+abbrev in_stretch : ℕ → ℕ → ℕ → Bool
+in_stretch a b f = nat_le a f && nat_le f b
+
+in_stretch_decided : (a b f : ℕ) → Decides (in_stretch a b f) ((a ≤ f) × (f ≤ b))
+in_stretch_decided a b f = Decides-and _ _ (at_most a f) (at_most f b)
+
+-- A test of each packet at a frame of the stretch, and of those before it.
+abbrev packets_pass : (List (List ℕ) → List ℕ → Bool) → Transmission → ℕ → ℕ → Bool
+packets_pass test frames a b =
+    all_below
+    (λ i. not (in_stretch a b (frame_at frames i))
+    || all_below
+    (λ k. test (packets_before frames i ++ take k (packets_of_frame frames i))
+    (slice_index_or (packets_of_frame frames i) k []))
+    (length (packets_of_frame frames i)))
+    (length frames)
+
+at_packets :
+    (test : List (List ℕ) → List ℕ → Bool) (Holds : List (List ℕ) → List ℕ → Type 0)
+    → ((before : List (List ℕ)) (p : List ℕ) → Decides (test before p) (Holds before p))
+    → (frames : Transmission) (a b : ℕ)
+    → packets_pass test frames a b ≡ true
+    → AtPackets Holds frames a b
+at_packets test Holds decided frames a b e i k l m low high =
+    (below _
+    (λ i. (a ≤ frame_at frames i) × (frame_at frames i ≤ b)
+    → (k : ℕ)
+    → k < length (packets_of_frame frames i)
+    → Holds (packets_before frames i ++ take k (packets_of_frame frames i))
+    (slice_index_or (packets_of_frame frames i) k []))
+    (λ i. implied _ _ (in_stretch_decided a b (frame_at frames i))
+    (below _
+    (λ k. Holds (packets_before frames i ++ take k (packets_of_frame frames i))
+    (slice_index_or (packets_of_frame frames i) k []))
+    (λ k. decided _ _) (length (packets_of_frame frames i)))) (length frames)).0 e i l (low, high)
+    k m
+
+-- A test of each end at a frame of the stretch, and of some frames more.
+abbrev ends_pass : (ℕ → ℕ → Bool) → Transmission → ℕ → ℕ → Bool
+ends_pass test frames a b =
+    all_below
+    (λ m. end_passes (suc m) (frame_at frames m)
+    && all_below (λ d. end_passes (suc m) (frame_at frames m + 1 + d))
+    (frame_at frames (suc m) - (frame_at frames m + 1)))
+    (length frames)
+  where
+    end_passes : ℕ → ℕ → Bool
+    end_passes n f = not (in_stretch a b f) || test n f
+
+at_ends :
+    (test : ℕ → ℕ → Bool) (Holds : ℕ → ℕ → Type 0)
+    → ((n f : ℕ) → Decides (test n f) (Holds n f))
+    → (frames : Transmission) (a b : ℕ)
+    → ends_pass test frames a b ≡ true
+    → AtEnds Holds frames a b
+at_ends test Holds decided frames a b e zero f end low high = absurd (omega (arith, end.0))
+at_ends test Holds decided frames a b e (suc m) f end low high =
+    let same : frame_at frames (suc m - 1) ≡ frame_at frames m =
+    ap (frame_at frames) (omega arith) in
+    elim end.2 [
+      | inl own ↦ subst Within (sym (own ∙ same)) all.0 (low, high)
+      | inr gap ↦
+          let after = gap.2 m (omega arith) in
+          let place : frame_at frames m + 1 + (f - (frame_at frames m + 1)) ≡ f =
+          omega (arith, after) in
+          subst Within place (all.1 (f - (frame_at frames m + 1)) (omega (arith, after, gap.1)))
+          (low, high)
+    ]
+  where
+    Within : ℕ → Type 0
+    Within g = (a ≤ g) × (g ≤ b) → Holds (suc m) g
+
+    each : (n g : ℕ) → Decides (not (in_stretch a b g) || test n g)
+        ((a ≤ g) × (g ≤ b) → Holds n g)
+    each n g = implied _ _ (in_stretch_decided a b g) (decided n g)
+
+    all :
+        Within (frame_at frames m)
+        × ((d : ℕ)
+        → d < frame_at frames (suc m) - (frame_at frames m + 1)
+        → Within (frame_at frames m + 1 + d))
+    all =
+        (below _
+        (λ m. ((a ≤ frame_at frames m) × (frame_at frames m ≤ b)
+        → Holds (suc m) (frame_at frames m))
+        × ((d : ℕ)
+        → d < frame_at frames (suc m) - (frame_at frames m + 1)
+        → (a ≤ frame_at frames m + 1 + d) × (frame_at frames m + 1 + d ≤ b)
+        → Holds (suc m) (frame_at frames m + 1 + d)))
+        (λ m. Decides-and _ _ (each (suc m) (frame_at frames m))
+        (below _
+        (λ d. (a ≤ frame_at frames m + 1 + d) × (frame_at frames m + 1 + d ≤ b)
+        → Holds (suc m) (frame_at frames m + 1 + d))
+        (λ d. each (suc m) (frame_at frames m + 1 + d))
+        (frame_at frames (suc m) - (frame_at frames m + 1)))) (length frames)).0 e m
+        (omega (arith, end.1))
+
+-- While the page is open a row has the codes of the first packet of its row.
+abbrev keeps_codes : PageIdValue → List (List ℕ) → List ℕ → Bool
+keeps_codes page before p =
+    not (is_open_after (kind page) before)
+    || if_some
+    (λ row. if_some (λ first. bytes_eq (codes_of first) (codes_of p))
+    (find (λ q. is_row row (kind page q)) (span (kind page) before)))
+    (row_of_kind (kind page p))
+
+codes_decided :
+    (w : Watched) (before : List (List ℕ)) (p : List ℕ)
+    → Decides (keeps_codes w.page before p) (KeepsCodes w before p)
+codes_decided w before p =
+    Decides-like _
+    (λ h up row first is found. h up row is first found)
+    (λ h up row is first found. h up row first is found)
+    (implied _ _ (holds (is_open_after (kind w.page) before))
+    (if_row _
+    (λ row. (first : List ℕ)
+    → find (λ q. is_row row (kind w.page q)) (span (kind w.page) before) ≡ Some first
+    → codes_of first ≡ codes_of p)
+    (λ row. value_of _ (λ first. codes_of first ≡ codes_of p)
+    (λ first. bytes_eq-Decides (codes_of first) (codes_of p))
+    (find (λ q. is_row row (kind w.page q)) (span (kind w.page) before))) (kind w.page p)))
+
+-- While the page is open a row is odd.
+abbrev keeps_odd : PageIdValue → List (List ℕ) → List ℕ → Bool
+keeps_odd page before p =
+    not (is_open_after (kind page) before)
+    || if_some (λ row. is_odd_text p) (row_of_kind (kind page p))
+
+odd_decided :
+    (w : Watched) (before : List (List ℕ)) (p : List ℕ)
+    → Decides (keeps_odd w.page before p) (KeepsRule rule.Parity w before p)
+odd_decided w before p =
+    implied _ _ (holds (is_open_after (kind w.page) before))
+    (if_row _ (λ row. HasOddText p) (λ row. odd_text_decided p) (kind w.page p))
+
+-- A header of the page is less than the repeat bound ago.
+abbrev is_covered : Task → Transmission → ℕ → ℕ → Bool
+is_covered g frames n f =
+    nat_lt (f + 1) (frame_at frames 0 + g.every)
+    || any_below
+    (λ j. nat_lt f (frame_at frames j + g.every)
+    && holds_header (kind g.watched.page) (packets_of_frame frames j))
+    n
+
+covered_decided :
+    (g : Task) (frames : Transmission) (n f : ℕ)
+    → Decides (is_covered g frames n f) (IsCovered g frames n f)
+covered_decided g frames n f =
+    Decides-like (is_covered g frames n f)
+    (λ h. elim h [ inl early ↦ inl early | inr (j, l, both) ↦ inr (j, l, both.0, both.1) ])
+    (λ h. elim h [ inl early ↦ inl early | inr (j, l, late, has) ↦ inr (j, l, (late, has)) ])
+    (Decides-or _ _ (Decides-ltb (f + 1) (frame_at frames 0 + g.every))
+    (some_below _ (λ j. (f < frame_at frames j + g.every) × HasHeader g frames j)
+    (λ j. Decides-and _ _ (Decides-ltb f (frame_at frames j + g.every))
+    (holds (holds_header (kind g.watched.page) (packets_of_frame frames j)))) n))
+
+-- The part as a test of a stretch.
+abbrev keeps_part : Part → Task → Transmission → ℕ → ℕ → Bool
+keeps_part FramesRise g frames a b = rises frames
+keeps_part ExactAddresses g frames a b = packets_pass (λ before p. has_exact_address p) frames a b
+keeps_part ExactHeaders g frames a b = packets_pass (λ before p. has_exact_codes p) frames a b
+keeps_part SubtitleHeaders g frames a b =
+    packets_pass
+    (λ before p. if_some (is_subtitles g.watched.national) (this_page (kind g.watched.page p)))
+    frames a b
+keeps_part OddRows g frames a b = packets_pass (keeps_odd g.watched.page) frames a b
+keeps_part SameRows g frames a b = packets_pass (keeps_codes g.watched.page) frames a b
+keeps_part DueContent g frames a b =
+    ends_pass
+    (λ n f. shows_page g.watched.page (span (kind g.watched.page) (packets_before frames n))
+    (g.due f))
+    frames a b
+keeps_part HeadersInTime g frames a b = ends_pass (is_covered g frames) frames a b
+
+-- What passes it is kept.
+kept_by_test :
+    (part : Part) (g : Task) (frames : Transmission) (a b : ℕ)
+    → keeps_part part g frames a b ≡ true
+    → IsKeptWithin part g frames a b
+kept_by_test FramesRise g frames a b e = (rising_decided frames).0 e
+kept_by_test ExactAddresses g frames a b e =
+    at_packets _ (KeepsRule rule.Address g.watched) (λ before p. exact_address_decided p) frames a
+    b e
+kept_by_test ExactHeaders g frames a b e =
+    at_packets _ (KeepsRule rule.HeaderCode g.watched) (λ before p. exact_codes_decided p) frames a
+    b e
+kept_by_test SubtitleHeaders g frames a b e =
+    at_packets _ (KeepsRule rule.Control g.watched)
+    (λ before p. if_this_page _ (IsSubtitleHeader g.watched.national)
+    (subtitles_decided g.watched.national) (kind g.watched.page p)) frames a b e
+kept_by_test OddRows g frames a b e =
+    at_packets _ (KeepsRule rule.Parity g.watched) (odd_decided g.watched) frames a b e
+kept_by_test SameRows g frames a b e =
+    at_packets _ (KeepsCodes g.watched) (codes_decided g.watched) frames a b e
+kept_by_test DueContent g frames a b e =
+    at_ends _ (λ n f. (row column : ℕ) → IsCell row column → ShowsDue g frames n f row column)
+    (λ n f. shows_decided g.watched.page (packets_before frames n) (g.due f)) frames a b e
+kept_by_test HeadersInTime g frames a b e =
+    at_ends _ (IsCovered g frames) (covered_decided g frames) frames a b e
+
+-- A test of all parts.
+abbrev all_parts : (Part → Bool) → Bool
+all_parts test =
+    test FramesRise
+    && (test ExactAddresses
+    && (test ExactHeaders
+    && (test SubtitleHeaders
+    && (test OddRows && (test SameRows && (test DueContent && test HeadersInTime))))))
+
+each_part : (test : Part → Bool) → all_parts test ≡ true → (part : Part) → test part ≡ true
+each_part test e = grind (arith, nat_tests, and_parts, true)
+
+-- All other parts pass, and the transmission is refuted.
+abbrev is_needed :
+    Part → ProgrammeValue → Transmission → OptionsValue → ℕ → ℕ → ℕ → List (List ℕ) → Bool
+is_needed part programme frames o g j f got =
+    all_parts
+    (λ other. (number_of other == number_of part)
+    || keeps_part other (task_of programme o None) frames (first_frame frames)
+    (last_frame frames))
+    && is_refuted programme frames o g j f got
+
+-- So the part is needed.
+pub needed :
+    (part : Part) (programme : ProgrammeValue) (frames : Transmission) (o : OptionsValue)
+    → (g j f : ℕ) (got : List (List ℕ))
+    → is_needed part programme frames o g j f got ≡ true
+    → IsNeeded part programme frames o
+needed part programme frames o g j f got e =
+    let test : Part → Bool = λ other. (number_of other == number_of part)
+    || keeps_part other (task_of programme o None) frames (first_frame frames)
+    (last_frame frames) in
+    let parts = and_parts (all_parts test) (is_refuted programme frames o g j f got) e in
+    let not_robust = refuted programme frames o g j f got parts.1 in
+    record {
+      others = λ other differs.
+          elim (or_cases (number_of other == number_of part) _ (each_part test parts.0 other)) [
+            | inl same ↦ absurd (differs (eqb-true (number_of other) (number_of part) same))
+            | inr kept ↦ kept_by_test other (task_of programme o None) frames _ _ kept
+          ];
+      not_robust = not_robust;
+      not_trusted = λ trusted. not_robust (robust_of_recovers programme frames o trusted);
+    }
+
+-- ---- a clean stretch
+
+-- All parts pass, and the frames are some of the transmission.
+abbrev is_clean_stretch : Task → Transmission → ℕ → ℕ → Bool
+is_clean_stretch g frames a b =
+    all_parts (λ part. keeps_part part g frames a b)
+    && (nat_lt 0 (length frames)
+    && (nat_le (first_frame frames) a && (nat_le a b && nat_le b (last_frame frames))))
+
+pub clean_by_test :
+    (g : Task) (frames : Transmission) (a b : ℕ)
+    → is_clean_stretch g frames a b ≡ true
+    → IsClean g frames a b
+clean_by_test g frames a b e =
+    let test : Part → Bool = λ part. keeps_part part g frames a b in
+    let parts = and_parts (all_parts test) _ e in
+    record {
+      not_empty = grind (arith, nat_tests, and_parts);
+      from = grind (arith, nat_tests, and_parts);
+      in_order = grind (arith, nat_tests, and_parts);
+      to = grind (arith, nat_tests, and_parts);
+      kept = λ part. kept_by_test part g frames a b (each_part test parts.0 part);
+    }

@@ -17,7 +17,7 @@ use Rattle.std.proofs.lemmas.List.Kept.{AllPairs-cons}
 use Rattle.std.proofs.lemmas.Slice.Eq.{bytes_eq-Decides}
 use Rattle.ttx_packet.specs.declared.header.Header.{Header}
 use Rattle.ttx_packet.specs.Hamming84.{IsCodeWord, code_word}
-use Rattle.ttx_packet.specs.PacketAddress.{PacketAddress, address}
+use Rattle.ttx_packet.specs.PacketAddress.{PacketAddress, address, HasExactAddress}
 use Rattle.ttx_packet.specs.PageHeader.{header, HasExactHeader, HasExactWords, c4, c5, c6, c7, c10}
 use Rattle.ttx_packet.specs.PageHeader.{c11, c12, c13, c14}
 use Rattle.ttx_packet.specs.PageId.{PageIdValue}
@@ -50,12 +50,12 @@ use Rattle.sub_check.proofs.TransmissionLemmas.{packets_between-void}
 -- ---- the rules
 
 -- The numbers of the frames rise.
-abbrev rises : Transmission → Bool
+abbrev pub rises : Transmission → Bool
 rises [] = true
 rises (s ∷ frames) =
     list_all (λ (later : SentFrame). nat_lt s.frame later.frame) frames && rises frames
 
-rising_decided : (frames : Transmission) → Decides (rises frames) (IsRising frames)
+pub rising_decided : (frames : Transmission) → Decides (rises frames) (IsRising frames)
 rising_decided [] = (λ e i j d l m. absurd (omega arith), λ h. refl)
 rising_decided (s ∷ frames) =
     let R : SentFrame → SentFrame → Type 0 = λ t u. t.frame < u.frame in
@@ -89,16 +89,25 @@ word_decided b =
 abbrev is_exact_header : List ℕ → Bool
 is_exact_header p = all_below (λ k. not (nat_le 2 k) || is_word (slice_index p k)) 10
 
-abbrev is_exact : List ℕ → Bool
-is_exact p =
-    all_below (λ k. is_word (slice_index p k)) 2
-    && if_some (λ (a : PacketAddress). not (a.packet_number == 0) || is_exact_header p) (address p)
+-- The address is exact.
+abbrev pub has_exact_address : List ℕ → Bool
+has_exact_address p = all_below (λ k. is_word (slice_index p k)) 2
 
-exact_decided : (p : List ℕ) → Decides (is_exact p) (HasExactWords p)
-exact_decided p =
-    Decides-and _ _
-    (below (λ k. is_word (slice_index p k)) (λ k. IsCodeWord (slice_index p k))
-    (λ k. word_decided (slice_index p k)) 2)
+pub exact_address_decided : (p : List ℕ) → Decides (has_exact_address p) (HasExactAddress p)
+exact_address_decided p =
+    below (λ k. is_word (slice_index p k)) (λ k. IsCodeWord (slice_index p k))
+    (λ k. word_decided (slice_index p k)) 2
+
+-- So are the coded bytes, where they are those of a packet X/0.
+abbrev pub has_exact_codes : List ℕ → Bool
+has_exact_codes p =
+    if_some (λ (a : PacketAddress). not (a.packet_number == 0) || is_exact_header p) (address p)
+
+pub exact_codes_decided :
+    (p : List ℕ)
+    → Decides (has_exact_codes p)
+    ((a : PacketAddress) → address p ≡ Some a → a.packet_number ≡ 0 → HasExactHeader p)
+exact_codes_decided p =
     (value_of (λ (a : PacketAddress). not (a.packet_number == 0) || is_exact_header p)
     (λ (a : PacketAddress). a.packet_number ≡ 0 → HasExactHeader p)
     (λ a. implied (a.packet_number == 0) (is_exact_header p) (Decides-eqb a.packet_number 0) coded)
@@ -112,6 +121,12 @@ exact_decided p =
         (λ k. implied (nat_le 2 k) (is_word (slice_index p k)) (at_most 2 k)
         (word_decided (slice_index p k))) 10)
 
+abbrev is_exact : List ℕ → Bool
+is_exact p = has_exact_address p && has_exact_codes p
+
+exact_decided : (p : List ℕ) → Decides (is_exact p) (HasExactWords p)
+exact_decided p = Decides-and _ _ (exact_address_decided p) (exact_codes_decided p)
+
 -- Two packets are in one mode.
 abbrev is_one_mode : Option Header → Option Header → Bool
 is_one_mode one other = if_some (λ h. if_some (λ k. agree (c11 h) (c11 k)) other) one
@@ -122,7 +137,7 @@ mode_decided one other =
     grind (arith, nat_tests, Decides-like, is_one_mode, value_of, if_some, agree, Some, agreed)
 
 -- The control bits of a subtitle's header.
-abbrev is_subtitles : National → Header → Bool
+abbrev pub is_subtitles : National → Header → Bool
 is_subtitles national h =
     c4 h
     && (not (c5 h)
@@ -130,7 +145,7 @@ is_subtitles national h =
     && (c7 h
     && (not (c10 h) && (not (c12 h) && (not (c13 h) && agree (c14 h) (has_c14 national)))))))
 
-subtitles_decided :
+pub subtitles_decided :
     (national : National) (h : Header)
     → Decides (is_subtitles national h) (IsSubtitleHeader national h)
 subtitles_decided national h =
@@ -139,8 +154,13 @@ subtitles_decided national h =
 -- ---- spans
 
 -- The 40 bytes of text have odd parity.
-abbrev is_odd_text : List ℕ → Bool
+abbrev pub is_odd_text : List ℕ → Bool
 is_odd_text p = all_below (λ column. is_odd (text_byte p column)) 40
+
+pub odd_text_decided : (p : List ℕ) → Decides (is_odd_text p) (HasOddText p)
+odd_text_decided p =
+    below (λ column. is_odd (text_byte p column)) (λ column. is_odd (text_byte p column) ≡ true)
+    (λ column. holds (is_odd (text_byte p column))) 40
 
 -- A packet X/25 to X/28 of the magazine.
 abbrev is_enhancement : PageIdValue → PacketAddress → Bool
@@ -202,10 +222,8 @@ clean_decided page ps =
     (λ r. (r.odd, (r.same, r.plain)))
     (Decides-and _ _
     (each_of (λ p. if_some (λ _. is_odd_text p) (row_of_kind (kind page p))) (IsOddRow page)
-    (λ p. if_row (λ _. is_odd_text p) (λ _. HasOddText p)
-    (λ _. below (λ column. is_odd (text_byte p column))
-    (λ column. is_odd (text_byte p column) ≡ true)
-    (λ column. holds (is_odd (text_byte p column))) 40) (kind page p)) ps)
+    (λ p. if_row (λ _. is_odd_text p) (λ _. HasOddText p) (λ _. odd_text_decided p)
+    (kind page p)) ps)
     (Decides-and _ _
     (each_of _ (λ p. All (IsSameRow page p) ps)
     (λ p. each_of _ (IsSameRow page p) (same_decided page p) ps) ps)
@@ -317,13 +335,13 @@ shows_row found codes =
     40
 
 -- The packets of a span show the page.
-abbrev shows_page : PageIdValue → List (List ℕ) → Rows → Bool
+abbrev pub shows_page : PageIdValue → List (List ℕ) → Rows → Bool
 shows_page page ps rows =
     all_below
     (λ k. shows_row (find (λ p. is_row (suc k) (kind page p)) ps) (row_at rows (suc k)))
     24
 
-shows_decided :
+pub shows_decided :
     (page : PageIdValue) (packets : List (List ℕ)) (rows : Rows)
     → Decides (shows_page page (span (kind page) packets) rows)
     ((row column : ℕ) → IsCell row column → shown page packets row column ≡ cell rows row column)

@@ -25,12 +25,12 @@ use Rattle.ttx_page.proofs.SpanLists.{holds-append_left, holds-append_right}
 use Rattle.stl_rows.specs.Programme.{ProgrammeValue}
 use Rattle.sub_plan.specs.Options.{OptionsValue}
 use Rattle.sub_plan.specs.Schedule.{due_in}
-use Rattle.sub_check.specs.Transmission.{Transmission, first_frame, packets_between, packets_of}
-use Rattle.sub_check.specs.Transmission.{on_air, on_air_until}
+use Rattle.sub_check.specs.Transmission.{Transmission, first_frame, last_frame, packets_between}
+use Rattle.sub_check.specs.Transmission.{on_air, on_air_until, packets_of}
 use Rattle.sub_check.specs.LostRows.{RobustToMarkedLoss}
 use Rattle.sub_check.specs.OnScreen.{CompleteWithin, ShownForDroppingWithin, ShownWithin}
 use Rattle.sub_check.specs.Recovery.{IsRestoredFrom, RecoversForDroppingWithin, RecoversWithin}
-use Rattle.sub_check.specs.Robust.{IsListening}
+use Rattle.sub_check.specs.Robust.{IsListening, Robust}
 use Rattle.sub_check.specs.Stretch.{LawOfWholeStretch}
 use Rattle.sub_check.specs.Sufficient.{IsSufficient, LawOfStretch}
 use Rattle.sub_check.proofs.AllKept.{law_of_all_kept}
@@ -247,12 +247,31 @@ law_of_stretch programme transmission options a b enough = record {
 
 -- ---- all frames
 
+module _ (programme : ProgrammeValue) (transmission : Transmission) (options : OptionsValue)
+    (recovers : RecoversWithin programme transmission options (first_frame transmission)
+    (last_frame transmission)) where
+  -- Where receivers recover in all frames, the transmission is robust to lost rows.
+  to_loss : RobustToMarkedLoss programme transmission options
+  to_loss g j f marks got old new listening may near unheard shut hears =
+      let restored =
+      recovers g j f marks got old new listening listening.not_before listening.not_after may near
+      hears in
+      record {
+        in_time = restored.restored.in_time;
+        heard = restored.heard unheard shut;
+        cells = restored.restored.cells;
+      }
+
+  -- And so it is robust. Also for the examples.
+  pub robust_of_recovers : Robust programme transmission options
+  robust_of_recovers =
+      (law_of_all_kept programme transmission options).0 (λ g j f marks all. to_loss g j f marks)
+
 -- What may be trusted of all frames is what is promised of the transmission.
 pub law_of_whole_stretch : LawOfWholeStretch
 law_of_whole_stretch programme transmission options trusted = record {
-  robust =
-      (law_of_all_kept programme transmission options).0 (λ g j f marks all. to_loss g j f marks);
-  to_loss = to_loss;
+  robust = robust_of_recovers programme transmission options trusted.recovers;
+  to_loss = to_loss programme transmission options trusted.recovers;
   recovers = λ g j f marks got old new listening may near hears.
       (trusted.recovers g j f marks got old new listening listening.not_before listening.not_after
       may near hears).restored;
@@ -262,14 +281,3 @@ law_of_whole_stretch programme transmission options trusted = record {
       listening.not_after;
   shown_dropping = trusted.shown_dropping;
 }
-  where
-    to_loss : RobustToMarkedLoss programme transmission options
-    to_loss g j f marks got old new listening may near unheard shut hears =
-        let restored =
-        trusted.recovers g j f marks got old new listening listening.not_before listening.not_after
-        may near hears in
-        record {
-          in_time = restored.restored.in_time;
-          heard = restored.heard unheard shut;
-          cells = restored.restored.cells;
-        }

@@ -60,24 +60,35 @@ KeepsCodes w before p =
     → find (λ q. is_row row (kind w.page q)) (span (kind w.page) before) ≡ Some first
     → codes_of first ≡ codes_of p
 
--- The parts of what is asked, with the number of the refusal that tells that one is broken.
+-- The parts of what is asked.
 pub data Part : Type 0 where
-  -- 62: the frames of the transmission rise, also outside the stretch.
+  -- The frames of the transmission rise, also outside the stretch.
   FramesRise : Part
-  -- 64: address bytes are code words with no bit wrong.
+  -- Address bytes are code words with no bit wrong.
   ExactAddresses : Part
-  -- 65: so are the coded bytes of packets X/0.
+  -- So are the coded bytes of packets X/0.
   ExactHeaders : Part
-  -- 67: headers of the page are a subtitle's.
+  -- Headers of the page are a subtitle's.
   SubtitleHeaders : Part
-  -- 68: rows of the open page have odd parity.
+  -- Rows of the open page have odd parity.
   OddRows : Part
-  -- 69: and stay as they are.
+  -- And stay as they are.
   SameRows : Part
-  -- 72: at each end the page that is due is shown.
-  DuePages : Part
-  -- 73: at each end a header of the page is less than the repeat bound ago.
-  RepeatBound : Part
+  -- At each end the page that is due is shown.
+  DueContent : Part
+  -- At each end a header of the page is less than the repeat bound ago.
+  HeadersInTime : Part
+
+-- The number of the refusal that tells that a part is broken.
+abbrev pub number_of : Part → ℕ
+number_of FramesRise = 62
+number_of ExactAddresses = 64
+number_of ExactHeaders = 65
+number_of SubtitleHeaders = 67
+number_of OddRows = 68
+number_of SameRows = 69
+number_of DueContent = 72
+number_of HeadersInTime = 73
 
 -- The frames from a to b keep the part.
 abbrev pub IsKeptWithin : Part → Task → Transmission → ℕ → ℕ → Type 0
@@ -88,10 +99,10 @@ IsKeptWithin ExactHeaders g frames a b =
 IsKeptWithin SubtitleHeaders g frames a b = AtPackets (KeepsRule rule.Control g.watched) frames a b
 IsKeptWithin OddRows g frames a b = AtPackets (KeepsRule rule.Parity g.watched) frames a b
 IsKeptWithin SameRows g frames a b = AtPackets (KeepsCodes g.watched) frames a b
-IsKeptWithin DuePages g frames a b =
+IsKeptWithin DueContent g frames a b =
     AtEnds (λ n f. (row column : ℕ) → IsCell row column → ShowsDue g frames n f row column)
     frames a b
-IsKeptWithin RepeatBound g frames a b = AtEnds (λ n f. IsCovered g frames n f) frames a b
+IsKeptWithin HeadersInTime g frames a b = AtEnds (λ n f. IsCovered g frames n f) frames a b
 
 -- A clean stretch: some frames of the transmission that keep all parts. Any other rule may be broken
 -- there, and any rule before and after.

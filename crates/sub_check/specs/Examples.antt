@@ -1,12 +1,21 @@
 -- Transmissions of page 888 in full, byte by byte: a good one, for each part of a rule one that
--- breaks that rule alone, and for each rule that the headline needs one that is not robust.
-use Rattle.std.specs.Prelude.{ℕ, false, List, [], ◌∷◌, ◌++◌, replicate, take}
+-- breaks that rule alone, and for each part of what the headline needs one that is not robust.
+use Rattle.std.specs.Prelude.{◌≡◌, ◌≢◌, ◌⊎◌, ℕ, false, List, [], ◌∷◌, ◌++◌, None, replicate, take}
+use Rattle.std.specs.List.{AllZip}
+use Rattle.ttx_packet.specs.OneBit.{AreNear}
+use Rattle.ttx_page.specs.Page.{cell, space}
+use Rattle.ttx_page.specs.Receiver.{Hears, State}
 use Rattle.stl_rows.specs.declared.national.National.TheVariants.{English, German}
 use Rattle.stl_rows.specs.Programme.{ProgrammeValue}
 use Rattle.sub_plan.specs.Examples.{page_888}
 use Rattle.sub_plan.specs.Options.{OptionsValue}
-use Rattle.sub_check.specs.Transmission.{Transmission}
+use Rattle.sub_check.specs.Transmission.{Transmission, first_frame, last_frame}
+use Rattle.sub_check.specs.CleanStretch.{IsClean, IsKeptWithin, Part, number_of}
+use Rattle.sub_check.specs.CleanStretch.Part.{DueContent, ExactAddresses, ExactHeaders, FramesRise}
+use Rattle.sub_check.specs.CleanStretch.Part.{HeadersInTime, OddRows, SameRows, SubtitleHeaders}
+use Rattle.sub_check.specs.FrameRules.{task_of}
 use Rattle.sub_check.specs.Good.{Good}
+use Rattle.sub_check.specs.Recovery.{RecoversWithin}
 use Rattle.sub_check.specs.Robust.{Robust}
 use Rattle.sub_check.specs.Rules.{BreaksOnly}
 use Rattle.sub_check.specs.Rules.Rule.{Frames, ExactWords, OneMode, SubtitleControl}
@@ -283,41 +292,97 @@ ExampleOfChangeInGap =
     ∷ [])
     (each 2)
 
--- ---- for each rule that the headline needs one that is not robust
+-- ---- for each part of what is asked of a clean stretch one that is not robust without it
 
--- Frame 900002 was not looked at, since what is listed after it takes it back. Who starts at it
--- shows an exclamation mark that is not due.
-abbrev pub ExampleOfUnseenFrame : Type 0
-ExampleOfUnseenFrame = Robust no_subtitles out_of_order (each 1) → ⊥
+-- In all frames each other part is kept, and the transmission is not robust. So neither may its
+-- frames be trusted.
+pub record IsNeeded
+    (part : Part) (programme : ProgrammeValue) (transmission : Transmission)
+    (options : OptionsValue)
+    : Type 0 where
+  pub others :
+      (other : Part)
+      → number_of other ≢ number_of part
+      → IsKeptWithin other (task_of programme options None) transmission
+      (first_frame transmission) (last_frame transmission)
+  pub not_robust : Robust programme transmission options → ⊥
+  pub not_trusted :
+      RecoversWithin programme transmission options (first_frame transmission)
+      (last_frame transmission)
+      → ⊥
 
--- Without C4 a receiver keeps its old page.
-abbrev pub ExampleOfOldPage : Type 0
-ExampleOfOldPage = Robust no_subtitles (one_header header_without_c4) (each 1) → ⊥
+-- Frame 900001 is listed after frame 900002, which ends the page, and so its row is passed over.
+abbrev pub listed_late : Transmission
+listed_late =
+    record { frame = 900000; packets = header_888 ∷ [] }
+    ∷ record { frame = 900002; packets = closing ∷ [] }
+    ∷ record { frame = 900001; packets = row_1 0xA1 ∷ [] }
+    ∷ record { frame = 900003; packets = header_888 ∷ closing ∷ [] }
+    ∷ []
 
--- A0 may be got as A1, which has odd parity: an exclamation mark that nobody sent.
-abbrev pub ExampleOfWrongCharacter : Type 0
-ExampleOfWrongCharacter =
-    Robust no_subtitles (one_frame (header_888 ∷ row_1 0xA0 ∷ closing ∷ [])) (each 1) → ⊥
-
--- Of two packets of row 1 the first one counts as what is shown, and a receiver holds the second.
-abbrev pub ExampleOfOverwrittenRow : Type 0
-ExampleOfOverwrittenRow = Robust no_subtitles changed_row (each 1) → ⊥
-
+-- A transmission in which the part alone is not kept.
+abbrev pub without : Part → Transmission
+-- Who hears the frames up to 900001 is shown an exclamation mark that is not due.
+without FramesRise = listed_late
 -- One bit more, and the address byte decodes to nothing: the header is not heard.
-abbrev pub ExampleOfUnheardHeader : Type 0
-ExampleOfUnheardHeader = Robust no_subtitles (one_header header_with_wrong_bit) (each 1) → ⊥
-
+without ExactAddresses = one_header header_with_wrong_bit
 -- One wrong bit, and a packet X/0 is a header that nobody sent.
-abbrev pub ExampleOfMadeHeader : Type 0
-ExampleOfMadeHeader =
-    Robust no_subtitles (one_frame (header_888 ∷ closing ∷ no_header ∷ [])) (each 1) → ⊥
-
--- Who starts after the first frame hears no header within the bound.
-abbrev pub ExampleOfLongWait : Type 0
-ExampleOfLongWait =
-    Robust no_subtitles (two_frames (header_888 ∷ closing ∷ []) (closing ∷ [])) (each 1) → ⊥
-
+without ExactHeaders = one_frame (header_888 ∷ closing ∷ no_header ∷ [])
+-- Without C4 a receiver keeps its old page.
+without SubtitleHeaders = one_header header_without_c4
+-- A0 may be got as A1, which has odd parity: an exclamation mark that nobody sent.
+without OddRows = one_frame (header_888 ∷ row_1 0xA0 ∷ closing ∷ [])
+-- Of two packets of row 1 the first one counts as what is shown, and a receiver holds the second.
+without SameRows = changed_row
 -- Every receiver shows what is not due.
-abbrev pub ExampleOfShownContent : Type 0
-ExampleOfShownContent =
-    Robust no_subtitles (one_frame (header_888 ∷ row_1 0xA1 ∷ closing ∷ [])) (each 1) → ⊥
+without DueContent = one_frame (header_888 ∷ row_1 0xA1 ∷ closing ∷ [])
+-- Who starts after the first frame hears no header within the bound.
+without HeadersInTime = two_frames (header_888 ∷ closing ∷ []) (closing ∷ [])
+
+-- Its repeat bound.
+abbrev pub bound_without : Part → ℕ
+bound_without FramesRise = 3
+bound_without _ = 1
+
+-- So each part is needed: with the seven others alone a stretch can't be trusted.
+abbrev pub ExamplesOfNeededParts : Type 0
+ExamplesOfNeededParts =
+    (part : Part) → IsNeeded part no_subtitles (without part) (each (bound_without part))
+
+-- ---- a clean stretch of a refused transmission
+
+-- `Hi` from frame 900001 to 900002.
+abbrev pub later_subtitle : ProgrammeValue
+later_subtitle = record {
+  national = English;
+  records =
+      record {
+        sgn = 0;
+        sn = 1;
+        tci = 900001;
+        tco = 900002;
+        vp = 22;
+        jc = 2;
+        text = 0x48 ∷ 0x69 ∷ [];
+      }
+      ∷ [];
+}
+
+-- In frame 900000 the header does not erase the page, and a row has an even byte.
+abbrev pub damaged_first : Transmission
+damaged_first =
+    record { frame = 900000; packets = header_without_c4 ∷ row_1 0xA0 ∷ closing ∷ [] }
+    ∷ record { frame = 900001; packets = header_888 ∷ row_22 ∷ closing ∷ [] }
+    ∷ record { frame = 900002; packets = header_888 ∷ closing ∷ [] }
+    ∷ []
+
+-- It is refused. The frames after it are clean; so who hears frame 900001, with any bit of each byte
+-- wrong and whatever he held before, holds the `H` there or, where its byte was hit, a space.
+pub record ExampleOfCleanStretch : Type 0 where
+  pub refused : Good later_subtitle damaged_first (each 1) → ⊥
+  pub clean : IsClean (task_of later_subtitle (each 1) None) damaged_first 900001 900002
+  pub held :
+      (got : List (List ℕ)) (old new : State)
+      → AllZip AreNear (header_888 ∷ row_22 ∷ closing ∷ []) got
+      → Hears page_888 old got new
+      → (cell new.page 22 19 ≡ 0x48) ⊎ (cell new.page 22 19 ≡ space)

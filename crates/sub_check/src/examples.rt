@@ -1,23 +1,20 @@
 //! Transmissions in full, byte by byte: a good one, for each part of a rule one that breaks that
-//! rule alone, and for each rule that the headline needs one that is not robust.
+//! rule alone, and for each part of what the headline needs one that is not robust.
 //!
 //! They show that the definitions of `specs/` say what they are to say. The functions do nothing.
 ghost use Rattle.sub_check.specs.Examples.{ExampleOfC12, ExampleOfC13, ExampleOfC14};
-ghost use Rattle.sub_check.specs.Examples.{ExampleOfChangeInGap, ExampleOfChangedRow};
+ghost use Rattle.sub_check.specs.Examples.{ExampleOfChangeInGap, ExampleOfChangedRow, ExampleOfCleanStretch};
 ghost use Rattle.sub_check.specs.Examples.{ExampleOfEarlyEnd, ExampleOfEnglishHeader};
 ghost use Rattle.sub_check.specs.Examples.{ExampleOfEnhancement, ExampleOfEvenByte};
 ghost use Rattle.sub_check.specs.Examples.{ExampleOfFallingFrames, ExampleOfGap, ExampleOfGood};
 ghost use Rattle.sub_check.specs.Examples.{ExampleOfInhibitedDisplay, ExampleOfLateStart};
-ghost use Rattle.sub_check.specs.Examples.{ExampleOfLongWait, ExampleOfMadeHeader};
 ghost use Rattle.sub_check.specs.Examples.{ExampleOfMissingText, ExampleOfNewsflash};
 ghost use Rattle.sub_check.specs.Examples.{ExampleOfNoErasure, ExampleOfNoFirstHeader};
 ghost use Rattle.sub_check.specs.Examples.{ExampleOfNoHeader, ExampleOfNoSubtitle};
-ghost use Rattle.sub_check.specs.Examples.{ExampleOfOldPage, ExampleOfOverwrittenRow};
-ghost use Rattle.sub_check.specs.Examples.{ExampleOfShortPacket, ExampleOfShownContent};
-ghost use Rattle.sub_check.specs.Examples.{ExampleOfShownHeader, ExampleOfTwoModes};
-ghost use Rattle.sub_check.specs.Examples.{ExampleOfUnheardHeader, ExampleOfUnseenFrame};
-ghost use Rattle.sub_check.specs.Examples.{ExampleOfWrongBit, ExampleOfWrongCharacter};
+ghost use Rattle.sub_check.specs.Examples.{ExampleOfShortPacket, ExampleOfShownHeader};
+ghost use Rattle.sub_check.specs.Examples.{ExampleOfTwoModes, ExampleOfWrongBit};
 ghost use Rattle.sub_check.specs.Examples.{ExampleOfWrongContent, ExampleOfWrongUnits};
+ghost use Rattle.sub_check.specs.Examples.{ExamplesOfNeededParts};
 
 /// A good transmission: one subtitle in one frame, and in the next frame the page without it.
 pub fn example_of_good()
@@ -61,21 +58,13 @@ pub fn examples_of_broken_rules()
     ensures change_in_gap { ExampleOfChangeInGap }
 {}
 
-/// Transmissions that break a rule and are not robust: the rules are there for a reason.
-pub fn examples_of_no_robustness()
-    // Frames that rise: who starts at a frame that is listed before its time sees what is not due.
-    ensures unseen_frame { ExampleOfUnseenFrame }
-    // C4: the old page stays.
-    ensures old_page { ExampleOfOldPage }
-    // Odd parity: a hit byte is shown as another character.
-    ensures wrong_character { ExampleOfWrongCharacter }
-    // Equal rows: the later row is shown.
-    ensures overwritten_row { ExampleOfOverwrittenRow }
-    // Code words: one more wrong bit, and a header is not heard, or one is heard that nobody sent.
-    ensures unheard_header { ExampleOfUnheardHeader }
-    ensures made_header { ExampleOfMadeHeader }
-    // The repeat bound: one waits longer.
-    ensures long_wait { ExampleOfLongWait }
-    // Content: every receiver shows what is not due.
-    ensures shown_content { ExampleOfShownContent }
+/// Each part of what is asked of a clean stretch is needed: for each there is a transmission that
+/// keeps all others and is not robust.
+pub fn examples_of_needed_parts()
+    ensures { ExamplesOfNeededParts }
+{}
+
+/// A refused transmission with a stretch of frames that is clean, and what a receiver holds there.
+pub fn example_of_clean_stretch()
+    ensures { ExampleOfCleanStretch }
 {}

@@ -33,7 +33,9 @@ mod sending;
 
 pub use checker::{Accepted, check};
 pub use event::{EndRule, Event};
-pub use examples::{example_of_good, examples_of_broken_rules, examples_of_no_robustness};
+pub use examples::{
+    example_of_clean_stretch, example_of_good, examples_of_broken_rules, examples_of_needed_parts,
+};
 pub use fault::CheckFault;
 pub use fault_place::FaultPlace;
 pub use files::check_files;
