@@ -11,3 +11,4 @@ pub mod ReaderLemmas
 pub mod BlocksOfLemmas
 pub mod NormalCountsLemmas
 pub mod NormalFormLemmas
+pub mod RefusalLemmas

@@ -10,3 +10,4 @@ pub mod Subtitle
 pub mod SubtitleBlocks
 pub mod TimeCode
 pub mod Tti
+pub mod Refusal
