@@ -121,7 +121,8 @@ told_gsi : (s : List ℕ) (f : StlFault)
 unfolding opened_at gsi_at
 told_gsi s f =
     let g : List ℕ = take gsi_size s in
-    ask (IsRightOfGsi s) GsiBytes (FileFormat ∷ FrameRate ∷ DisplayStandard ∷ CodeTable ∷ []) f (nat_lt (length s) gsi_size) (opened (gsi_at g))
+    ask (IsRightOfGsi s) GsiBytes (FileFormat ∷ FrameRate ∷ DisplayStandard ∷ CodeTable ∷ []) f
+    (nat_lt (length s) gsi_size) (opened (gsi_at g))
     (λ is right. grind (arith, nat_tests)) (λ is. grind (arith, nat_tests)) (λ long t.
     ap opened
     (ask (IsRightOfGsi s) FileFormat (FrameRate ∷ DisplayStandard ∷ CodeTable ∷ []) f
