@@ -16,7 +16,8 @@ use Rattle.sub_request.specs.declared.listening.Listening.{Listening}
 
 -- what is printed of a run of a receiver that was tuned. For `listen`.
 pub listens_from : (leaves : ℕ → ℕ) (l : Listening) (frames : Transmission)
-    → (unread : Option Unread) (told left : Option (List ℕ)) (w : PageIdValue) (old end : Display) (result : Result (Unit {0}) ListenFault) (page : Rows)
+    → (unread : Option Unread) (told left : Option (List ℕ)) (w : PageIdValue)
+    → (old end : Display) (result : Result (Unit {0}) ListenFault) (page : Rows)
     → (asks_complete : Bool)
     → asks_complete ≡ l.options.asks_complete
     → w ≡ l.options.page
@@ -25,7 +26,9 @@ pub listens_from : (leaves : ℕ → ℕ) (l : Listening) (frames : Transmission
     → HearsFile leaves l frames unread told left w old end result
     → IfOk result (λ _. IsSeenWhole asks_complete end)
     → Listens leaves l frames unread told left (listing_of asks_complete end result)
-listens_from leaves l frames unread told left w old end result page asks_complete asks tuned start is_old hears seen =
+listens_from
+    leaves l frames unread told left w old end result page asks_complete asks tuned start is_old
+    hears seen =
     record {
       old_page = page;
       is_old = is_old;

@@ -91,7 +91,8 @@ runs-append b leaves w (p ∷ ps) more old mid new run next =
 -- The run up to n frames, and what is left of the file.
 pub record Reaches
     (leaves : ℕ → ℕ) (l : Listening) (frames : Transmission) (unread : Option Unread)
-    (w : PageIdValue) (old : Display) (remaining : Option (List ℕ)) (n number least : ℕ) (now : Display)
+    (w : PageIdValue) (old : Display) (remaining : Option (List ℕ)) (n number least : ℕ)
+    (now : Display)
     : Type 0 where
   pub few : n ≤ most_packets
   pub within : n ≤ length frames
@@ -184,7 +185,8 @@ module _
 
             -- its frame is not after the one before
             pub ends_order : frame < least
-                → HearsFile leaves l frames unread told left w old now (Err (fault.File (check.Order n)))
+                → HearsFile leaves l frames unread told left w old now
+                (Err (fault.File (check.Order n)))
             ends_order early =
                 let frame_is = next.sent.frame_is in
                 let least_is = reached.least_is in
@@ -220,7 +222,8 @@ module _
                 → least ≤ frame
                 → frame ≤ l.at
                 → first_lost_header (reception_of l) number (packets_of_units v.units) ≡ Some packet
-                → HearsFile leaves l frames unread told left w old now (Err (fault.LostHeader frame packet))
+                → HearsFile leaves l frames unread told left w old now
+                (Err (fault.LostHeader frame packet))
             ends_lost packet rises in_time lost =
                 let least_is = reached.least_is in
                 record {
@@ -228,7 +231,8 @@ module _
                     n = n;
                     heard = reached.heard;
                     run = reached.run;
-                    ends = grind (arith, next.sent.there, next.sent.frame_is, next.sent.packets_are);
+                    ends =
+                        grind (arith, next.sent.there, next.sent.frame_is, next.sent.packets_are);
                   };
                   stops = λ there. taken;
                 }

@@ -3,7 +3,7 @@
 ghost use Rattle.std.specs.Prelude.{◌≡◌, length};
 
 use crate::asserting::{assert_same, assert_same_in};
-use fixtures::{Drip, FIRST, ROW, Trickle};
+use fixtures::{Drip, Endless, FIRST, ROW, Trickle};
 use std::test::*;
 use sub_io::{FailAt, MemSink, MemSource, Sink, Source};
 use ttx_packet::Packet;
@@ -50,6 +50,25 @@ fn an_empty_file_has_no_packet(rt: HostRuntime) -> Result<(), Fail> {
     assert_same(&rt, &frame.pts(), &0);
     assert!(rt; reader.next(&mut source)?.is_none());
     Ok(())
+}
+
+#[test]
+fn refuses_a_byte_after_the_packets_of_a_day(rt: HostRuntime) {
+    let mut source = Endless {
+        rest: &[],
+        again: &FIRST,
+    };
+    let mut reader = PesReader::new();
+    let mut frame = PesFrame::new(0);
+    let mut given = 0u32;
+    for _ in 0..2_160_000u32 {
+        if reader.next_into(&mut source, &mut frame) == Ok(true) {
+            given = given.saturating_add(1);
+        }
+    }
+    assert_same(&rt, &given, &2_160_000);
+    let after = reader.next_into(&mut source, &mut frame);
+    assert_same(&rt, &after, &Err(PesFault::TooMany));
 }
 
 #[test]

@@ -12,7 +12,8 @@ use Rattle.sub_check.proofs.hearing.hear_sending.Goals as goal
 
 pub returns-then-kept-clause-run : goal.returns-then-kept-clause-run
 returns-then-kept-clause-run g c = λ last kept again.
-    heard_again g.R.Receiver.leaves c.args.listening.now (g.R.Receiver.tuned_to c.args.receiver.now) c.args.number _
+    heard_again g.R.Receiver.leaves c.args.listening.now
+    (g.R.Receiver.tuned_to c.args.receiver.now) c.args.number _
     (packets_of_units c.args.units.now)
     (sym c.is_untouched.ensures ∙ c.if-not-is_untouched.false)
     (length-map c.args.units.now (λ (u : UnitValue). u.packet)) _

@@ -50,7 +50,8 @@ returns-then-frame-least-clause-exact g c = λ frames unread bytes told reads fi
     (rw c.in-Some.is at (c.in_ok-next.ensures.exact i.rest i.rest_is refl))
     (takes-more c.packets.index _ _ _ _ c.packets.invariant.taken
     (c.in_ok-next.ensures.taken c.in-Some.sending
-    (ap (λ x. let r : Result (Option Sending) CheckFault = Ok x in r) c.in-Some.is))) c.if-frame-least.true
+    (ap (λ x. let r : Result (Option Sending) CheckFault = Ok x in r) c.in-Some.is)))
+    c.if-frame-least.true
 
 pub returns-then-frame-listening-clause-exact : goal.returns-then-frame-listening-clause-exact
 returns-then-frame-listening-clause-exact g c = λ frames unread bytes told reads fine.
@@ -145,7 +146,8 @@ packets-preserved g c =
           (display (g.R.Receiver.state c.hear_sending-kept.new.receiver)
           c.hear_sending-kept.new.screen))
           (sym value)
-          (reaches_next _ l frames unread (g.S.Source.remaining c.args.pes.now) _ _ c.packets.index _ _ _ _ i _
+          (reaches_next _ l frames unread (g.S.Source.remaining c.args.pes.now) _ _
+          c.packets.index _ _ _ _ i _
           c.next_sending.new.reader.frame c.in-Some.sending.frame
           (rw c.in-Some.is at (c.in_ok-next.ensures.exact i.rest i.rest_is refl)) taken _
           (omega (arith, rises)) (omega (arith, in_time)) whole

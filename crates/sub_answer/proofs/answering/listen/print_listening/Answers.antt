@@ -30,7 +30,8 @@ returns-clause-exact g c = record {
     listing_of c.args.listening.now.options.asks_complete
         (display (g.R.Receiver.state c.listen.new.receiver) c.listen.new.screen)
         (Err c.in-Err.fault),
-    listens_from _ c.args.listening.now frames unread _ _ _ _ _ (Err c.in-Err.fault) c.old_page.result
+    listens_from _ c.args.listening.now frames unread _ _ _ _ _ (Err c.in-Err.fault)
+        c.old_page.result
         c.args.listening.now.options.asks_complete refl
         (c.tune-receiver.ensures.tuned ∙ c.page.ensures.value)
         (ap (λ s. display s None) c.tune-receiver.ensures.state)
