@@ -1,8 +1,10 @@
 """The letters of a subtitle file's text (EBU Tech 3264, code table 00, which is ISO 6937)."""
 import unicodedata
 
+# As Unicode puts them after a letter; a space where the table has none.
 ACCENTS = dict(zip(range(0xC1, 0xD0),
-                   "\u0300\u0301\u0302\u0303\u0304\u0306\u0307\u0308 \u030a\u0327 \u030b\u0328\u030c"))
+                   "\u0300\u0301\u0302\u0303\u0304\u0306\u0307\u0308 "
+                   "\u030a\u0327 \u030b\u0328\u030c"))
 UPPER = {
     **dict(zip(range(0xA0, 0xB0), "\u00a0¡¢£$¥#§¤‘“«←↑→↓")),
     **dict(zip(range(0xB0, 0xC0), "°±²³×µ¶·÷’”»¼½¾¿")),

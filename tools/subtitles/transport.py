@@ -103,7 +103,7 @@ class Stream:
         return as_number(low.translate(self.low)) & as_number(high.translate(self.high))
 
     def payloads(self, piece):
-        """Of each packet with a payload: whether a PES packet or section begins, and the payload."""
+        """Of each packet with a payload whether a PES packet or section begins, and the payload."""
         data = piece.data
         for at in places(piece, self.marks(piece)):
             flags, control = data[at + 1], data[at + 3]

@@ -53,7 +53,7 @@ class Election:
         self.length = max(self.distance(last)[0], 0)
 
     def distance(self, pts):
-        """From the first change to a PTS, in the nearest number of frames, and the rest in ticks."""
+        """From the first change to a PTS: the nearest number of frames, and the rest in ticks."""
         frames, ticks = divmod((pts - self.first) % CLOCK + TICKS // 2, TICKS)
         return frames, ticks - TICKS // 2
 

@@ -56,6 +56,14 @@ def runs_the_whole_way(case, prefix):
               and b"tools/" not in done.out, done)
 
 
+def refuses_a_dash(case):
+    """A word that begins with a dash is no folder, also after `--`."""
+    for words in (["-x"], ["--", "-x"], ["--prefix"]):
+        done = case.tool("install", "-p", case.bench.program, *words)
+        case.test(" ".join(words), done.status == 2 and len(done.told) == 1
+                  and not os.listdir(case.folder), done)
+
+
 def completes(case):
     """Commands, and the options of each command that the manual names; those of a tool."""
     if not shutil.which("bash"):
@@ -112,4 +120,4 @@ def makes_an_archive(case):
     runs_the_whole_way(case, folder)
 
 
-CASES = [installs, completes, names_one_version, makes_an_archive]
+CASES = [installs, refuses_a_dash, completes, names_one_version, makes_an_archive]

@@ -47,7 +47,7 @@ def goes_there_and_back(case):
 
 
 def finds_its_packets_among_others(case):
-    """With other PIDs at random between, some of the same low byte, more than a piece of the file."""
+    """With other PIDs between, some of the same low byte, in more than one piece of the file."""
     packets, pes = stream_of(case, "story.pes"), example_bytes("story.pes")
     chance = random.Random(1)
     noise = [bytes([0x47, pid >> 8 | 0x40 * chance.randrange(2), pid & 255, 0x10]) +
