@@ -36,7 +36,7 @@ def copy_tools(prefix):
              os.path.join(prefix, "bin", INSTALLED + name))
     shutil.copytree(os.path.join(TOP, "tools", "subtitles"),
                     os.path.join(home, "tools", "subtitles"),
-                    ignore=shutil.ignore_patterns("__pycache__"))
+                    ignore=shutil.ignore_patterns("__pycache__", "tests"))
     copy(os.path.join(TOP, MANUAL), os.path.join(home, MANUAL))
     copy(os.path.join(TOP, "VERSION"), os.path.join(home, "VERSION"))
     link(os.path.join("..", "..", "bin", "subttx"), os.path.join(home, "subttx"))
