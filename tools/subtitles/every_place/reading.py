@@ -83,7 +83,7 @@ def records_of(data):
         return [], StlFault(number, 0)
     records, group, count = [], [], 0
     while GSI + TTI * count < len(data):
-        block = data[GSI + TTI * count:][:TTI]
+        block = data[GSI + TTI * count:GSI + TTI * (count + 1)]
         count += 1
         number = 25 if count > MOST_BLOCKS else 10 if len(block) < TTI \
             else block_fault(block, group)

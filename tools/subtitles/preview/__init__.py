@@ -1,18 +1,25 @@
 """Parts of tools/preview, one idea each.
 
 program    what `subttx` is asked, and its lines as values
+faults     what `check --all` tells, as entries of a list and as spans of frames
 receiver   the model receiver: one step of it, and what it reads of the lines of `packets`
 listening  a listing heard to its end: pages, sendings, and what was held at the frames asked for
+fits       how far the sending is that would fit
 manual     what docs/MANUAL.md says a refusal means, and what to do
 letters    the characters of the two national options
 drawing    a page as Teletext level 1 draws it, as SVG
-timeline   strips with subtitles, sendings and the broken place
+figures    the pictures at a frame
+timeline   strips with subtitles, sendings and faults
 subtitles  the pictures of each subtitle, as many as the report has room for
-places     the broken place: its frame, its packets, or its block of the subtitle file
+places     a place in a transmission: its PES packet, its Teletext packets
+fault_list the list of faults, and the pictures of the first of them
+blocks     a refused subtitle file: its broken place, and its refused subtitles
 page       the whole report
 
 cases      transmissions for tools/check-preview
 noise      transmissions at random
+comparing  a report held against what the program prints
+measures   how a report looks in a browser
 """
 import os
 

@@ -209,6 +209,8 @@ def words_of(rows, option):
 
 def differences(due, held):
     """The cells, as row and column, whose codes differ."""
+    if due == held:
+        return []
     return [(number, column)
             for number, (one, other) in enumerate(zip(due, held), 1) if one != other
             for column in range(40) if (one[column] ^ other[column]) & 0x7F]

@@ -51,8 +51,8 @@ class Spans:
 
     def between(self, begin, end):
         """The spans that have a frame from `begin` to the one before `end`; these rise."""
-        first = bisect.bisect_left(self.ends, begin)
-        return zip(self.begins[first:], self.ends[first:bisect.bisect_left(self.begins, end)])
+        first, last = bisect.bisect_left(self.ends, begin), bisect.bisect_left(self.begins, end)
+        return zip(self.begins[first:last], self.ends[first:last])
 
 
 def joined(several):

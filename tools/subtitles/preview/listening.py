@@ -71,12 +71,13 @@ class Heard:
         self.last = pts, frame
         if self.halt is None:
             if frame is None or (self.last_frame is not None and frame <= self.last_frame):
-                self.halt = self.count, pts, frame
+                self.halt, self.frame_before = (self.count, pts, frame), self.last_frame
             else:
                 self.hear_frame(frame)
-        if self.halt and None not in (frame, self.frame_before) and frame <= self.frame_before:
-            self.falls.append(frame)
-        self.frame_before = frame
+        if self.halt:
+            if None not in (frame, self.frame_before) and frame <= self.frame_before:
+                self.falls.append(frame)
+            self.frame_before = frame
         self.count += 1
 
     def hear_frame(self, frame):

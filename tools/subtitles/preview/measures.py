@@ -14,7 +14,8 @@ from . import TOP
 LEAST_CONTRAST = 4.5
 BROWSERS = ("chromium", "chromium-browser", "google-chrome")
 # Text colours and the grounds on which they stand, as variables of the style.
-PAIRS = [(text, ground) for text in ("words", "soft", "link", "bad") for ground in ("ground", "shade")]
+PAIRS = [(text, ground) for text in ("words", "soft", "link", "bad")
+         for ground in ("ground", "shade")]
 PAIRS += [("words", "named"), ("bad", "named"), ("on-bar", "bar"), ("on-bar", "odd")]
 
 SCRIPT = r"""
@@ -64,7 +65,9 @@ for (let node; (node = walk.nextNode());) {
 parent.postMessage(JSON.stringify(told), "*");
 """
 WRAPPER = """<!DOCTYPE html><html><body style="margin:0"><script>
-addEventListener("message", event => {{ document.getElementById("told").textContent = event.data; }});
+addEventListener("message", event => {{
+  document.getElementById("told").textContent = event.data;
+}});
 </script><iframe src="{name}" style="border:0;width:{width}px;height:2000px"></iframe>
 <pre id="told"></pre></body></html>
 """

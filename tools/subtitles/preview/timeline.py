@@ -4,8 +4,10 @@ Shapes are SVG that is as wide as the page; words stand beside and below them, s
 large on a narrow page as on a wide one.
 """
 import bisect
+import itertools
 
 from ..times import time_of
+from .faults import Spans
 from .manual import shown
 
 MINUTE = 1500  # in frames
@@ -28,6 +30,20 @@ NARROW, FEW = 4, 5000
 WORDS_WIDTH = 9  # of a digit, in a strip of WIDTH units on a wide page
 
 
+def runs_of(frames):
+    """Rising frames as spans of neighbours."""
+    begin = last = None
+    for frame in frames:
+        if last is None:
+            begin = frame
+        elif frame - 1 != last:
+            yield begin, last
+            begin = frame
+        last = frame
+    if last is not None:
+        yield begin, last
+
+
 class Timeline:
     """What is drawn on strips: subtitles in order, frames with a sending, and faults.
 
@@ -37,7 +53,7 @@ class Timeline:
     """
 
     def __init__(self, subtitles, sendings, entries, faults, broken, flag, end):
-        self.subtitles, self.sendings = subtitles, sendings
+        self.subtitles, self.sendings = subtitles, Spans(runs_of(sendings))
         self.entries, self.spans = entries, faults.spans
         self.broken, self.flag, self.end = broken, flag, end
         self.links = {frame: entry.index for frame, entry in entries.entry_at.items()}
@@ -49,10 +65,10 @@ class Timeline:
 
     def used(self, unit):
         """The numbers of the strips of that length with something on them."""
-        used = {frame // unit for frame in self.sendings}
+        used = set()
         for subtitle in self.subtitles:
             used.update(range(subtitle.first // unit, (subtitle.end - 1) // unit + 1))
-        for begin, end in self.spans:
+        for begin, end in itertools.chain(self.sendings, self.spans):
             used.update(range(begin // unit, end // unit + 1))
         return used
 
@@ -170,14 +186,17 @@ class Strip:
 
     def sendings(self):
         """The sendings, those that are close to each other as one block."""
-        frames, runs = self.timeline.sendings, []
-        first = bisect.bisect_left(frames, self.begin)
-        for frame in frames[first:bisect.bisect_left(frames, self.end)]:
-            at = self.x(frame)
-            if runs and at - runs[-1][1] < self.timeline.close:
-                runs[-1][1] = at
+        close, runs = self.timeline.close, []
+        for begin, end in self.timeline.sendings.between(self.begin, self.end):
+            left, right = self.x(begin), self.x(min(end, self.end - 1))
+            is_alone = self.x(begin + 1) - left >= close
+            if begin < end and is_alone:
+                runs += [[self.x(frame)] * 2 for frame in range(max(begin, self.begin),
+                                                               min(end + 1, self.end))]
+            elif runs and left - runs[-1][1] < close:
+                runs[-1][1] = right
             else:
-                runs.append([at, at])
+                runs.append([left, right])
         lines = "".join(f"M{left:g} {TICKS}v8" for left, right in runs if left == right)
         if lines:
             yield f'<path class="tick" d="{lines}"/>'
