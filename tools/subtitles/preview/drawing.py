@@ -203,7 +203,8 @@ def label_of(words):
 def words_of(rows, option):
     """The letters of a page, row by row, for people who hear them."""
     table = letters(option)
-    lines = (" ".join("".join(table[code & 0x7F] for code in row).split()) for row in rows)
+    lines = (" ".join("".join(table[code & 0x7F] for code in row).split())
+             for row in rows if row != BLANK_ROW)
     return " / ".join(line for line in lines if line) or "blank"
 
 

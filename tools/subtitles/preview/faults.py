@@ -4,7 +4,7 @@ import bisect
 import functools
 import heapq
 
-from ..times import frame_of
+from ..times import FRAMES_A_SECOND
 from .program import verdict_of
 
 MOST_ENTRIES = 1000  # that are listed; the others are counted
@@ -20,8 +20,12 @@ class Entry:
     """
 
     def __init__(self, index, line):
-        self.index, self.first, self.count = index, verdict_of(line, 1), 1
-        self.last_line, self.until = line, None
+        self.index, self.first_line, self.last_line = index, line, line
+        self.count, self.until = 1, None
+
+    @functools.cached_property
+    def first(self):
+        return verdict_of(self.first_line, 1)
 
     @property
     def last(self):
@@ -61,9 +65,10 @@ def joined(several):
     return Spans(heapq.merge(*several))
 
 
-@functools.lru_cache(maxsize=8)
 def frame_at(time):
-    return frame_of(time)
+    """The frame of a time that the program printed."""
+    hours, minutes, seconds, frames = map(int, time.split(":"))
+    return ((hours * 60 + minutes) * 60 + seconds) * FRAMES_A_SECOND + frames
 
 
 class Faults:

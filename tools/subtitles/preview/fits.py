@@ -49,13 +49,13 @@ class Fits:
             return ""
         late, early = self.late(frame), self.early(frame)
         if late is not None and (early is None or late <= early):
-            return (f"sent {frames_words(late - frame)} late: the due page is held from "
-                    f"{time_of(late)} on")
+            return (f"the nearest sending that fits is {frames_words(late - frame)} late: the due "
+                    f"page is held from {time_of(late)} on")
         if early is not None:
-            return (f"sent {frames_words(early - frame)} early: the page that is held is due from "
+            return (f"this sending is {frames_words(early - frame)} early: what is held is due from "
                     f"{time_of(early)} on")
         before = [last for _, last in self.when_held[hash(self.pages[frame][0])] if last < frame]
         if before:
-            return (f"never sent from there on: the due page was held last at {time_of(before[-1])}"
-                    f", {frames_words(frame - before[-1])} before")
-        return "never sent: the due page is held at no frame"
+            return (f"no later sending fits: the due page was held last at {time_of(before[-1])}, "
+                    f"{frames_words(frame - before[-1])} before")
+        return "no sending fits: the due page is never held"

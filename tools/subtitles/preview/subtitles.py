@@ -59,12 +59,16 @@ class Entries:
         """Words for the faults while it is due, with a link to the first that is listed."""
         if not any(True for _ in self.faults.spans.between(subtitle.first, subtitle.end)):
             return ""
-        at = bisect.bisect_left(self.entry_frames, subtitle.first)
-        frame = self.entry_frames[at] if at < len(self.entry_frames) else subtitle.end
-        if frame >= subtitle.end:
+        entry = self.entry_in(subtitle.first, subtitle.end)
+        if not entry:
             return ' <b class="bad">faults while it is due</b>'
-        return (f' <a class="bad" href="#e{self.entry_at[frame].index}"><b>fault '
-                f"{self.entry_at[frame].index}</b></a>")
+        return f' <a class="bad" href="#e{entry.index}"><b>fault {entry.index}</b></a>'
+
+    def entry_in(self, begin, end):
+        """The first listed fault that is told from `begin` to the frame before `end`."""
+        at = bisect.bisect_left(self.entry_frames, begin)
+        is_one = at < len(self.entry_frames) and self.entry_frames[at] < end
+        return self.entry_at[self.entry_frames[at]] if is_one else None
 
     def small(self, subtitle):
         first, end = time_of(subtitle.first), time_of(subtitle.end)

@@ -56,7 +56,7 @@ class Timeline:
         self.subtitles, self.sendings = subtitles, Spans(runs_of(sendings))
         self.entries, self.spans = entries, faults.spans
         self.broken, self.flag, self.end = broken, flag, end
-        self.links = {frame: entry.index for frame, entry in entries.entry_at.items()}
+        self.numbers = {}  # of strips in use, by their length
         self.ends = [subtitle.end for subtitle in subtitles]
         self.firsts = [subtitle.first for subtitle in subtitles]
         self.unit, self.called, self.step, self.words = next(
@@ -65,12 +65,15 @@ class Timeline:
 
     def used(self, unit):
         """The numbers of the strips of that length with something on them."""
-        used = set()
-        for subtitle in self.subtitles:
-            used.update(range(subtitle.first // unit, (subtitle.end - 1) // unit + 1))
-        for begin, end in itertools.chain(self.sendings, self.spans):
-            used.update(range(begin // unit, end // unit + 1))
-        return used
+        if unit not in self.numbers:
+            self.numbers[unit] = used = set()
+            subtitles = ((subtitle.first, subtitle.end - 1) for subtitle in self.subtitles)
+            last = None
+            for begin, end in itertools.chain(subtitles, self.sendings, self.spans):
+                if begin // unit != last or end // unit != last:
+                    last = end // unit
+                    used.update(range(begin // unit, last + 1))
+        return self.numbers[unit]
 
     def has_minutes(self):
         """Whether strips are so long that each minute needs one of its own."""
@@ -155,10 +158,11 @@ class Strip:
             yield f'<path class="{kind}" d="{path}"/>' if path else ""
 
     def bar(self, subtitle, left, right, look, words):
-        """A bar, and its number where it has room."""
+        """A bar, and its number where it has room and is not hatched."""
         kind, top, height = look
-        name = f"subtitle {subtitle.index}"
-        if right - left > WORDS_WIDTH * len(str(subtitle.index)) + 4:
+        name, end = f"subtitle {subtitle.index}", self.timeline.end
+        has_room = right - left > WORDS_WIDTH * len(str(subtitle.index)) + 4
+        if has_room and (end is None or subtitle.end <= end):
             words.append(f'<span class="in {kind}" style="left:{(left + right) / 20:.4g}%">'
                          f"{subtitle.index}</span>")
         shape = (f'<rect class="{kind}" x="{left}" y="{top}" width="{right - left:.1f}" '
@@ -217,16 +221,17 @@ class Strip:
 
     def faults(self):
         """What is told: a mark for each span that has room for one, which leads to the list."""
-        links, runs = self.timeline.links, []
+        runs, near = [], CLOSE * self.unit / WIDTH
         for begin, end in self.timeline.spans.between(self.begin, self.end):
-            left, right = self.x(begin), max(self.x(end + 1), self.x(begin) + 2)
-            name = next((links[frame] for frame in range(begin, min(end, begin + 9) + 1)
-                         if frame in links), None)
-            if runs and left - runs[-1][1] < 3:
-                runs[-1][1], runs[-1][2] = right, runs[-1][2] or name
+            if runs and begin - runs[-1][1] <= near:
+                runs[-1][1] = end
             else:
-                runs.append([left, right, name])
-        for left, right, name in runs:
-            mark = (f'<rect class="bad" x="{left:g}" y="{FAULTS}" width="{right - left:.3g}" '
+                runs.append([begin, end])
+        for begin, end in runs:
+            left = self.x(begin)
+            width = max(self.x(end + 1) - left, 2)
+            mark = (f'<rect class="bad" x="{left:g}" y="{FAULTS}" width="{width:.4g}" '
                     f'height="{HEIGHT - FAULTS}"/>')
-            yield f'<a href="#e{name}" aria-label="fault {name}">{mark}</a>' if name else mark
+            entry = self.timeline.entries.entry_in(max(begin, self.begin), end + 1)
+            yield f'<a href="#e{entry.index}" aria-label="fault {entry.index}">{mark}</a>' \
+                if entry else mark
