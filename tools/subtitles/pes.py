@@ -5,6 +5,7 @@ from .teletext import mirrored
 START = b"\0\0\1\xbd"  # of a PES packet of private_stream_1
 FIRST_LINE = 7
 UNIT = 46  # bytes of a data unit
+DATA = 46  # where those that `subttx` writes begin: after 45 bytes and the data_identifier
 STUFFING_UNIT = b"\xff\x2c" + b"\xff" * 44
 
 

@@ -4,9 +4,10 @@ First both are made whole: `schedule` of the program writes the transmission. Th
 packets, PES packets and subtitles of them are changed. A `Pair` is what `check` is asked about.
 """
 import collections
+import io
 import random
 
-from ..pes import DATA, STUFFING_UNIT, UNIT, pes_packet, pts_bytes, pts_in
+from ..pes import DATA, STUFFING_UNIT, UNIT, pes_packet, pes_packets, pts_bytes, pts_in
 from ..stl import GSI, TTI, USER_DATA, gsi_block, subtitle_blocks
 from ..teletext import CODE_WORDS, MIRROR, mirrored, odd
 from ..teletext import packet as teletext_packet
@@ -131,16 +132,6 @@ def break_stl(chance, data):
 
 # Transmissions
 
-def split(data):
-    """The PES packets of a transmission that `schedule` wrote."""
-    packets, begin = [], 0
-    while begin < len(data):
-        length = 6 + int.from_bytes(data[begin + 4:begin + 6], "big")
-        packets.append(bytearray(data[begin:begin + length]))
-        begin += length
-    return packets
-
-
 def units_in(packet):
     """Where the data units of a PES packet that carry Teletext begin."""
     return [at for at in range(DATA, len(packet), UNIT) if packet[at] in (2, 3)]
@@ -251,7 +242,7 @@ def change_some(chance, packets):
 
 def break_pes(chance, data):
     """A transmission with some of its packets, their order, or its length otherwise."""
-    packets = split(data)
+    packets = list(map(bytearray, pes_packets(io.BytesIO(data))))
     for _ in range(chance.choice([0, 1, 1, 2, 3, 6, 12])):
         if packets:
             (change_order if chance.random() < 0.12 else change_some)(chance, packets)

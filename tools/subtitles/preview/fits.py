@@ -52,10 +52,10 @@ class Fits:
             return (f"the nearest sending that fits is {frames_words(late - frame)} late: the due "
                     f"page is held from {time_of(late)} on")
         if early is not None:
-            return (f"this sending is {frames_words(early - frame)} early: what is held is due from "
-                    f"{time_of(early)} on")
+            return (f"this sending is {frames_words(early - frame)} early: what is held is due "
+                    f"from {time_of(early)} on")
         before = [last for _, last in self.when_held[hash(self.pages[frame][0])] if last < frame]
         if before:
-            return (f"no later sending fits: the due page was held last at {time_of(before[-1])}, "
-                    f"{frames_words(frame - before[-1])} before")
+            return ("no later sending fits: the due page was held last at "
+                    f"{time_of(before[-1])}, {frames_words(frame - before[-1])} before")
         return "no sending fits: the due page is never held"
