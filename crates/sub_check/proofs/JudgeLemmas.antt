@@ -1,39 +1,109 @@
--- What each way out of the checker's loop shows of the whole file: `next_refusal`, `next_read`,
--- `empty_refusal`, `end_told`, `source_failed`.
+-- What each way out of the checker's loop shows of the whole file: `next_sent`, `next_read`,
+-- `at_end`, `is_read`, `counts_read`; and of what is told, `told_to_end`, `told_to_stop`.
 use Rattle.std.proofs.lemmas.Bool.Decides.{nat_tests}
-use Rattle.std.proofs.Common.{◌≡◌, ℕ, ◌+◌, ◌-◌, ◌<◌, ◌≤◌, List, [], ◌∷◌, ◌++◌, length}
-use Rattle.std.proofs.Common.{drop, take, get_or, Option, Some, None, Result, MatchResult, Ok, Err}
-use Rattle.std.proofs.Common.{All, sym, ap, refl, ◌∙◌, subst, arith, append_assoc}
+use Rattle.std.proofs.Common.{◌≡◌, ℕ, zero, suc, ◌+◌, ◌-◌, ◌<◌, ◌≤◌, Bool, List, [], ◌∷◌, ◌++◌}
+use Rattle.std.proofs.Common.{length, drop, take, get_or, Option, Some, None, Result, Ok, Err}
+use Rattle.std.proofs.Common.{All, sym, ap, refl, ◌∙◌, subst, arith, append_assoc, append-nil}
+use Rattle.std.proofs.Common.{add-one}
 use Rattle.std.specs.List.{AllByRecursion, AllZip}
-use Rattle.std.specs.Prelude.{true}
+use Rattle.std.specs.Prelude.{is_err}
 use Rattle.std.proofs.lemmas.List.Folds.{concat-append}
 use Rattle.std.proofs.lemmas.List.{get_or-map, take_more, take_all}
 use Rattle.std.proofs.lemmas.List.Elements.{All-from_recursion}
-use Rattle.stl_rows.specs.Programme.{ProgrammeValue, last_out}
+use Rattle.sub_io.specs.Telling.{Tells, TellsPrefix, TellsUntilStopped}
+use Rattle.sub_io.proofs.TellingLemmas.{Tells-trans, TellsPrefix-first, TellsPrefix-second}
+use Rattle.stl_rows.specs.Programme.{ProgrammeValue}
 use Rattle.ttx_pes.specs.DataUnit.{UnitValue, IsUnit}
 use Rattle.ttx_pes.specs.PesPacket.{PesValue, IsPesPacket, IsPesValue}
 use Rattle.ttx_pes.specs.Reader.{TakesPesPacket}
-use Rattle.ttx_pes.specs.declared.fault.PesFault.TheVariants.{Read}
-use Rattle.ttx_pes.specs.Reading.{answer_at, most_packets, rest_after}
+use Rattle.ttx_pes.specs.Reading.{most_packets, rest_after}
 use Rattle.sub_plan.specs.Options.{OptionsValue}
 use Rattle.sub_check.specs.Checker.{CheckerValue}
-use Rattle.sub_check.specs.Checking.{Accepts, AreTaken, AreWhole, IsFrameOf, TellsEnd}
-use Rattle.sub_check.specs.Checking.{TellsFrame}
-use Rattle.sub_check.specs.FirstBroken.{IsReadUpTo, NamesFirst, unread_fault}
-use Rattle.sub_check.specs.Following.{AreOk, Follows, IsSentFrame}
-use Rattle.sub_check.specs.FrameRules.{Task, Unread, task_of, frame_at, packets_of_frame, end_frame}
-use Rattle.sub_check.specs.PacketRules.{packets_of_units}
-use Rattle.sub_check.specs.PesReading.{ReadsAs}
+use Rattle.sub_check.specs.Checking.{AreTaken, AreWhole, CountsRead, IsFrameOf, IsRead, TellsFrame}
+use Rattle.sub_check.specs.Checking.{TellsOrStops}
+use Rattle.sub_check.specs.Events.{closing_events, events, events_of_first, frame_events, latest}
+use Rattle.sub_check.specs.Following.{Follows, IsSentFrame, IsTaskOf}
+use Rattle.ttx_packet.specs.PageId.{PageIdValue}
+use Rattle.stl_rows.specs.declared.national.National.{National}
+use Rattle.sub_check.specs.FrameRules.{watched_of}
+use Rattle.sub_check.specs.FrameRules.{Task, Unread, packets_before, task_of, packets_of_frame}
+use Rattle.sub_check.specs.PacketRules.{header_count, packets_of_units}
+use Rattle.sub_check.specs.PesReading.{EndsReading, ReadsAs}
 use Rattle.sub_check.specs.Transmission.{SentFrame, Transmission}
 use Rattle.sub_check.specs.declared.checker.Accepted.{Accepted}
-use Rattle.sub_check.specs.declared.fault.CheckFault.{CheckFault}
-use Rattle.sub_check.proofs.OrderLemmas.{first_late, first_nothing, first_unread, holds_before}
-use Rattle.sub_check.proofs.OrderLemmas.{holds_but_end}
+use Rattle.sub_check.specs.declared.event.Event.{Event}
 use Rattle.sub_check.proofs.PacketLists.{Each-push}
 use Rattle.sub_check.proofs.PesFileLemmas.{no_bytes}
 use Rattle.sub_check.proofs.PesReadingLemmas.{reads_next, reads_end, reads-below}
-use Rattle.sub_check.specs.Fault.{is_pes_read}
-use Rattle.sub_check.specs.declared.fault.CheckFault.TheVariants as fault
+
+-- ---- what is told
+
+-- One frame more, and more.
+events_more :
+    (g : Task) (frames : Transmission) (k m : ℕ)
+    → (rest : List Event)
+    × (events_of_first g frames (k + m) ≡ events_of_first g frames m ++ rest)
+unfolding events_of_first
+events_more g frames zero m =
+    let none : 0 + m ≡ m = omega arith in
+    ([], ap (events_of_first g frames) none ∙ sym (append-nil (events_of_first g frames m)))
+events_more g frames (suc k) m =
+    let before = events_more g frames k m in
+    let on : suc k + m ≡ suc (k + m) = omega arith in (
+      before.0 ++ frame_events g frames (k + m),
+      ap (events_of_first g frames) on
+          ∙ ap (λ xs. xs ++ frame_events g frames (k + m)) before.1
+          ∙ append_assoc (events_of_first g frames m) before.0 (frame_events g frames (k + m)),
+    )
+
+-- The events of some frames begin those of the whole.
+events_from :
+    (g : Task) (frames : Transmission) (n : ℕ)
+    → n ≤ length frames
+    → (rest : List Event) × (events g frames ≡ events_of_first g frames n ++ rest)
+unfolding events
+events_from g frames n l =
+    let more = events_more g frames (length frames - n) n in
+    let all : length frames - n + n ≡ length frames = omega arith in
+    let closing : List Event = closing_events g frames (length frames) in (
+      more.0 ++ closing,
+      ap (λ m. events_of_first g frames m ++ closing) (sym all)
+          ∙ ap (λ xs. xs ++ closing) more.1
+          ∙ append_assoc (events_of_first g frames n) more.0 closing,
+    )
+
+pub one_more : (g : Task) (frames : Transmission) (n : ℕ)
+    → events_of_first g frames (n + 1) ≡ events_of_first g frames n ++ frame_events g frames n
+unfolding events_of_first
+one_more g frames n = rw add-one refl
+
+-- A device that said stop at a frame was told a part of the whole. For `tell_all`.
+pub told_to_stop :
+    (g : Task) (frames : Transmission) (n : ℕ) (a b c : Option (List Event))
+    → n < length frames
+    → Tells a b (events_of_first g frames n)
+    → TellsPrefix b c (frame_events g frames n)
+    → TellsPrefix a c (events g frames)
+told_to_stop g frames n a b c l before more =
+    let whole = events_from g frames (n + 1) (omega arith) in
+    rw (whole.1, one_more g frames n)
+    (TellsPrefix-first a c _ whole.0 (TellsPrefix-second a b c _ _ before more))
+
+-- A device that was told what follows the last frame was told the whole, or a part. For `tell_all`.
+pub told_to_end :
+    {X E : Type 0}
+    (g : Task) (frames : Transmission) (n : ℕ) (a b c : Option (List Event)) (r : Result X E)
+    (stopped : Bool)
+    → length frames ≡ n
+    → Tells a b (events_of_first g frames n)
+    → TellsUntilStopped b c (closing_events g frames n) r
+    → stopped ≡ is_err r
+    → TellsOrStops a c (events g frames) stopped
+unfolding events
+told_to_end g frames n a b c (Ok x) stopped all before more e =
+    rw (e, all) (Tells-trans a b c _ _ before more)
+told_to_end g frames n a b c (Err x) stopped all before more e =
+    rw (e, all) (TellsPrefix-second a b c _ _ before more)
 
 -- ---- packets of 42 bytes
 
@@ -110,10 +180,6 @@ taken_more origin bytes rest frames n v frame old new taken was is takes sent of
       sent = grind (arith, take_more frames n d sent.there, zip_push);
       joined = grind (arith, concat-append, append_assoc);
     }
-
--- The answer is that the source failed at a PES packet.
-abbrev pub IsFailureAt : Result Accepted CheckFault → ℕ → Type 0
-IsFailureAt r pes = r ≡ Err (fault.Pes pes Read)
 
 -- What is sent again is what was sent before; the first sending is sent again after itself. For
 -- `judge`.
@@ -198,83 +264,82 @@ module _
           whole = whole_more frames n v next.sent.there next.sent.packets_are value reads.whole;
         }
 
-    -- Where all that is asked of the frames so far holds.
-    module _ (past : AreOk g frames n) where
-      -- What keeps the file from being read on is the first that is broken.
-      pub next_refusal :
-          (v : PesValue) (f : CheckFault)
-          → TellsFrame options.origin n reads.rest v (Err f)
-          → NamesFirst g frames f
-      next_refusal v f (u, told, ends) =
-          let within = reads.within in
-          let at =
-          reads_end options.origin n reads.rest frames unread (Some u) reads.few reads.left ends in
-          let all : length frames ≡ n = omega (arith, at.0) in
-          subst (NamesFirst g frames) (ap (λ m. unread_fault m (Some u)) all ∙ sym told)
-          (first_unread g frames (λ j l. past j (omega (arith, at.0))) u at.1)
+    -- Where no PES packet is read on, the list is at its end.
+    pub at_end :
+        (u : Option Unread)
+        → EndsReading options.origin n reads.rest u
+        → (length frames ≡ n) × (unread ≡ u)
+    at_end u ends =
+        let within = reads.within in
+        let at = reads_end options.origin n reads.rest frames unread u reads.few reads.left ends in
+        (omega (arith, at.0), at.1)
 
-      -- That the source failed is told at the PES packet that could not be read.
-      pub source_failed :
-          (pes : ℕ) (f : CheckFault)
-          → (is_pes_read f ≡ true → f ≡ fault.Pes n Read)
-          → IsFailureAt (Err f) pes
-          → IsReadUpTo g frames pes
-      source_failed pes f place e =
-          let is : f ≡ fault.Pes pes Read = cc in
-          let named : fault.Pes pes Read ≡ fault.Pes n Read =
-          sym is ∙ place (ap is_pes_read is) in
-          let same : n ≡ pes = cc in
-          subst (IsReadUpTo g frames) same (record {
-            within = reads.within;
-            holds = holds_before g frames n past;
-          })
+    -- What was read is a file of the frames, where nothing is left.
+    pub is_read :
+        (u : Option Unread) (a : Accepted)
+        → EndsReading options.origin n reads.rest u
+        → CountsRead options.page frames a
+        → IsRead g options.origin bytes frames a
+    is_read u a ends counts =
+        let at = at_end u ends in
+        let few = reads.few in
+        let all : take n frames ≡ frames = take_all n frames (omega (arith, at.0)) in
+        record {
+          few = omega (arith, at.0);
+          taken = λ none.
+              subst (λ fs. AreTaken options.origin bytes fs []) all
+              (none_left u ends (sym at.1 ∙ none));
+          whole = subst AreWhole all reads.whole;
+          counts = counts;
+        }
+      where
+        none_left : (u : Option Unread) → EndsReading options.origin n reads.rest u → u ≡ None
+            → AreTaken options.origin bytes (take n frames) []
+        none_left None ends e = grind (arith, nat_tests, no_bytes n reads.rest ends)
+        none_left (Some x) ends e = cc
 
-    -- A file with no PES packet.
-    pub empty_refusal :
-        n ≡ 0
-        → answer_at n reads.rest ≡ Ok None
-        → NamesFirst g frames fault.Empty
-    empty_refusal none is =
-        let at = reads_end options.origin n reads.rest frames unread None reads.few reads.left is in
-        first_nothing g frames (λ j l. absurd (omega (arith, at.0))) at.1 (omega (arith, at.0))
+    -- What is counted at the end.
+    pub counts_read :
+        (c : CheckerValue) (a : Accepted)
+        → Follows g frames n c
+        → length frames ≡ n
+        → (n ≡ 0 → a.frames ≡ 0)
+        → (0 < n → a.frames + c.first ≡ c.latest + 1)
+        → a.transmissions ≡ c.headers
+        → CountsRead options.page frames a
+    counts_read c a follows all none some headers = record {
+      none = λ e. none (sym all ∙ e);
+      frames_are = λ l.
+          let some_n : 0 < n = omega (arith, all, l) in
+          let first_is = (follows.begun some_n).first_is in
+          let latest_is = follows.latest_is some_n ∙ ap (latest frames) (sym all) in
+          omega (arith, some some_n, first_is, latest_is);
+      transmissions_are = headers ∙ follows.known.count
+          ∙ ap (λ m. header_count options.page (packets_before frames m)) (sym all);
+    }
 
-    -- The end of any other.
-    module _ {c : CheckerValue} (follows : Follows g frames n c) (some : 0 < n)
-        (is : answer_at n reads.rest ≡ Ok None) where
-      ended : (length frames ≤ n) × (unread ≡ None)
-      ended = reads_end options.origin n reads.rest frames unread None reads.few reads.left is
+-- ---- before the first PES packet
 
-      all : n ≡ length frames
-      all = let within = reads.within in omega (arith, ended.0)
+-- The task of a programme and options, where the bound was read of the options, is that of the
+-- programme. For `tell_all`.
+pub task_is :
+    (p : ProgrammeValue) (options : OptionsValue) (unread : Option Unread) (every : ℕ)
+    → every ≡ options.every
+    → IsTaskOf (task_of p options unread) p every
+task_is p options unread every e =
+    record { due_is = λ f. refl; every_is = sym e; first_is = refl; last_is = refl }
 
-      last : c.frame ≡ end_frame frames
-      last = follows.frame_is some ∙ ap (λ m. frame_at frames (m - 1)) all
+-- What is watched, from what was read. For `tell_all`.
+pub watched_is :
+    (p : ProgrammeValue) (options : OptionsValue) (page : PageIdValue) (national : National)
+    → (complete : Bool)
+    → page ≡ options.page
+    → national ≡ p.national
+    → complete ≡ options.asks_complete
+    → watched_of p options ≡ record { page = page; national = national; complete = complete }
+watched_is p options page national complete e f h = grind arith
 
-      past : AreOk g frames (length frames)
-      past = λ j l. follows.past j (omega (arith, all))
-
-      -- What is told there.
-      pub end_told :
-          (r : Result Accepted CheckFault)
-          → TellsEnd (last_out c.programme.records) c.first c.frame c.headers r
-          → MatchResult r (Accepts g options.origin bytes frames) (NamesFirst g frames)
-      end_told (Ok a) (over, count, headers) =
-          let first_is = follows.first_is some in
-          let few = reads.few in
-          record {
-            few = omega (arith, all, few);
-            taken =
-                subst (λ fs. AreTaken options.origin bytes fs [])
-                (take_all n frames (omega (arith, all)))
-                (grind (arith, nat_tests, take n frames, no_bytes n reads.rest is));
-            holds =
-                holds_but_end g frames past ended.1 (omega (arith, all, some))
-                (grind (arith, nat_tests, last));
-            whole = subst AreWhole (take_all n frames (omega (arith, all))) reads.whole;
-            frames_are = omega (arith, count, last, first_is);
-            transmissions_are = grind (arith, all);
-          }
-      end_told (Err f) (not_over, told) =
-          subst (NamesFirst g frames) (ap fault.Late (sym last) ∙ sym told)
-          (first_late g frames past ended.1 (omega (arith, all, some))
-          (grind (arith, nat_tests, last)))
+-- Of no frame nothing is told.
+pub none_of_first : (g : Task) (frames : Transmission) → events_of_first g frames 0 ≡ []
+unfolding events_of_first
+none_of_first g frames = refl

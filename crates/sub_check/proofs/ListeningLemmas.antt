@@ -1,103 +1,85 @@
--- What is kept of the packets, one packet on.
-use Rattle.std.proofs.lemmas.Bool.{cases_Bool}
-use Rattle.std.proofs.Common.{◌≡◌, ℕ, ◌-◌, ◌≤◌, inl, inr, Bool, true, false}
-use Rattle.std.proofs.Common.{List, [], ◌∷◌, ◌++◌, Option, option_map}
-use Rattle.std.proofs.Common.{length, get_or, set, replicate, sym, ap, ◌∙◌, subst, arith}
-use Rattle.std.proofs.Common.{get_or-set_other}
+-- What is kept of the packets, one packet on: `knows_this`, `knows_still`, `knows_row`.
+use Rattle.std.proofs.Common.{◌≡◌, ℕ, ◌-◌, ◌≤◌, Bool, true, false, not, ◌&&◌, cond}
+use Rattle.std.proofs.Common.{List, [], ◌∷◌, ◌++◌, Option, Some, None, option_map, find}
+use Rattle.std.proofs.Common.{length, get_or, set, replicate}
+use Rattle.std.proofs.Common.{refl, sym, ap, ◌∙◌, arith, get_or-set_other}
 use Rattle.std.proofs.lemmas.Bool.Decides.{nat_tests}
 use Rattle.std.proofs.lemmas.Grind.{get_or-set_at}
 use Rattle.std.specs.Option.{option_or}
-use Rattle.std.specs.List.{AllByRecursion}
 use Rattle.std.proofs.lemmas.List.{get_or-replicate}
-use Rattle.sub_check.specs.PacketRules.{codes_of, first_header}
+use Rattle.std.proofs.lemmas.List.Folds.{find-append}
 use Rattle.ttx_packet.specs.PageHeader.{header, c11}
+use Rattle.ttx_packet.specs.PageId.{PageIdValue}
 use Rattle.ttx_packet.specs.declared.header.Header.{Header}
-use Rattle.sub_check.specs.declared.packet_rules.Watched.{Watched}
-use Rattle.ttx_page.specs.declared.packet_kind.PacketKind.TheVariants.{ThisPage, EndsPage, Row}
-use Rattle.ttx_page.specs.PacketKind.{kind, is_this_page, ends_page}
+use Rattle.ttx_page.specs.declared.packet_kind.PacketKind.{PacketKind}
+use Rattle.ttx_page.specs.declared.packet_kind.PacketKind.TheVariants.{EndsPage, Other, Row}
+use Rattle.ttx_page.specs.declared.packet_kind.PacketKind.TheVariants.{ThisPage}
+use Rattle.ttx_page.specs.PacketKind.{kind, is_this_page, ends_page, is_row}
 use Rattle.ttx_page.specs.Page.{blank_row, blank, space}
 use Rattle.ttx_page.specs.Span.{span, is_open_after}
-use Rattle.ttx_page.proofs.SpanPush.{span-push, span-this, open-this, open-other, list_any-push}
-use Rattle.sub_check.proofs.PacketLists.{first_header-push, Each-push, Each-join}
-use Rattle.sub_check.specs.Listening.{HoldsRows, IsSoundRow, Knows}
+use Rattle.ttx_page.proofs.SpanPush.{span-push, span-this, open-this, open-other}
+use Rattle.sub_check.proofs.PacketLists.{first_header-push}
+use Rattle.sub_check.specs.Listening.{Knows}
+use Rattle.sub_check.specs.PacketRules.{codes_of, first_header}
+use Rattle.sub_check.specs.PacketTests.{first_of_row}
 use Rattle.sub_check.specs.declared.listener.Listener.{Listener}
-use Rattle.sub_check.specs.declared.packet_rules.PacketRule.TheVariants as rule
-use Rattle.ttx_packet.specs.PacketAddress.{IsPacket}
-use Rattle.sub_check.specs.PacketRules.{IsClean}
 
 -- C11 of a header, if there is one.
 abbrev c11_of : Option Header → Option Bool
-c11_of o = option_map (λ (h : Header). (c11 h)) o
+c11_of o = option_map (λ (h : Header). c11 h) o
 
 -- C11 of the first of two headers.
 c11-or : (a b : Option Header) → c11_of (option_or a b) ≡ option_or (c11_of a) (c11_of b)
 c11-or a b = grind (arith, nat_tests)
 
--- While the page is open a packet that neither is a header of the page nor ends it is in the span.
-pub span_open :
-    (w : Watched) (heard : List (List ℕ)) (p : List ℕ)
-    → is_this_page (kind w.page p) ≡ false
-    → ends_page (kind w.page p) ≡ false
-    → is_open_after (kind w.page) heard ≡ true
-    → span (kind w.page) (heard ++ p ∷ []) ≡ span (kind w.page) heard ++ p ∷ []
-span_open w heard p this ends opened = rw (span-push (kind w.page) heard p, this, opened, ends)
-
--- ---- the rows of the span
-
--- With no packet each row is blank and unsent.
-pub HoldsRows-none : (w : Watched) → HoldsRows w [] (replicate 24 false) blank
+-- With nothing heard nothing is kept.
+pub knows_none :
+    (s : Listener)
+    → s.serial ≡ None
+    → s.is_open ≡ false
+    → s.sent ≡ replicate 24 false
+    → s.comparison.page ≡ blank
+    → Knows [] s
 unfolding blank blank_row
-HoldsRows-none w = record {
-  sound = tt;
-  marks = λ row low high. get_or-replicate 24 (row - 1) false false (omega arith);
-  same = λ row low high. tt;
-  blank = λ row low high e. get_or-replicate 24 (row - 1) (replicate 40 space) [] (omega arith);
+knows_none s serial opened sent page = record {
+  serial_is = serial;
+  open_is = opened;
+  sent_is = λ row low high.
+      ap (λ xs. get_or xs (row - 1) false) sent
+      ∙ get_or-replicate 24 (row - 1) false false (omega arith);
+  page_is = λ row low high.
+      ap (λ xs. get_or xs (row - 1) []) page
+      ∙ get_or-replicate 24 (row - 1) (replicate 40 space) [] (omega arith);
 }
 
-module _ (w : Watched) (packets : List (List ℕ)) (sent : List Bool) (page : List (List ℕ))
-    (p : List ℕ) (h : HoldsRows w packets sent page) where
-  -- A packet that is no row.
-  HoldsRows-other : ((y : ℕ) → kind w.page p ≡ Row y → ⊥)
-      → HoldsRows w (packets ++ p ∷ []) sent page
-  HoldsRows-other other = record {
-    sound = grind (arith, Each-push);
-    marks = grind (arith, nat_tests, list_any-push);
-    same = grind (arith, Each-push);
-    blank = h.blank;
-  }
+-- The first that passes a test in a span, one packet on.
+find-push :
+    (k : PacketKind) (row : ℕ) (opened : Bool) (xs : List (List ℕ)) (p : List ℕ)
+    (f : List ℕ → Bool)
+    → f p ≡ is_row row k
+    → find f (cond (is_this_page k) [] (cond (opened && not (ends_page k)) (xs ++ p ∷ []) xs))
+    ≡ cond (is_this_page k) None
+    (cond (opened && is_row row k) (option_or (find f xs) (Some p)) (find f xs))
+find-push (ThisPage h) row opened xs p f e = refl
+find-push EndsPage row true xs p f e = refl
+find-push EndsPage row false xs p f e = refl
+find-push (Row y) row true xs p f e = rw (find-append f xs (p ∷ []), e) (grind (arith, nat_tests))
+find-push (Row y) row false xs p f e = refl
+find-push Other row true xs p f e = rw (find-append f xs (p ∷ []), e) (grind (arith, nat_tests))
+find-push Other row false xs p f e = refl
 
-  -- A row.
-  HoldsRows-row : (y : ℕ) → 1 ≤ y → y ≤ 24 → length sent ≡ 24 → length page ≡ 24
-      → kind w.page p ≡ Row y → IsSoundRow w p
-      → AllByRecursion (λ q. kind w.page q ≡ Row y → q ≡ p) packets
-      → HoldsRows w (packets ++ p ∷ []) (set sent (y - 1) true)
-      (set page (y - 1) (codes_of p))
-  HoldsRows-row y low high long tall k sound equal = record {
-    sound = Each-push (IsSoundRow w) packets p h.sound sound;
-    marks = grind (arith, nat_tests, list_any-push, get_or-set_at, get_or-set_other);
-    same = λ row a b.
-        let Same : List ℕ → Type 0 =
-        λ q. kind w.page q ≡ Row row
-        → codes_of q ≡ get_or (set page (y - 1) (codes_of p)) (row - 1) [] in
-        Each-push Same packets p
-        (Each-join (λ q. kind w.page q ≡ Row y → q ≡ p)
-        (λ q. kind w.page q ≡ Row row → codes_of q ≡ get_or page (row - 1) []) Same
-        (same row a b) packets equal (h.same row a b)) (here row a b);
-    blank = grind (arith, get_or-set_at, get_or-set_other);
-  }
-    where
-      same : (row : ℕ) → 1 ≤ row → row ≤ 24 → (q : List ℕ)
-          → (kind w.page q ≡ Row y → q ≡ p)
-          → (kind w.page q ≡ Row row → codes_of q ≡ get_or page (row - 1) [])
-          → kind w.page q ≡ Row row
-          → codes_of q ≡ get_or (set page (y - 1) (codes_of p)) (row - 1) []
-      same row a b q equals before e = grind (arith, get_or-set_at, get_or-set_other)
-
-      here : (row : ℕ) → 1 ≤ row → row ≤ 24 → kind w.page p ≡ Row row
-          → codes_of p ≡ get_or (set page (y - 1) (codes_of p)) (row - 1) []
-      here row a b e = grind (arith, get_or-set_at)
-
--- ---- what is kept, one packet on
+-- The first packet of a row in the span, one packet on.
+first_of_row-push :
+    (page : PageIdValue) (heard : List (List ℕ)) (p : List ℕ) (row : ℕ)
+    → first_of_row page (span (kind page) (heard ++ p ∷ [])) row
+    ≡ cond (is_this_page (kind page p)) None
+    (cond (is_open_after (kind page) heard && is_row row (kind page p))
+    (option_or (first_of_row page (span (kind page) heard) row) (Some p))
+    (first_of_row page (span (kind page) heard) row))
+first_of_row-push page heard p row =
+    ap (λ xs. first_of_row page xs row) (span-push (kind page) heard p)
+    ∙ find-push (kind page p) row (is_open_after (kind page) heard) (span (kind page) heard) p
+    (λ q. is_row row (kind page q)) refl
 
 module _ (heard : List (List ℕ)) (p : List ℕ) (s : Listener) (read : Option Header)
     (serial : Option Bool) (known : Knows heard s) (is_read : read ≡ header p)
@@ -107,67 +89,70 @@ module _ (heard : List (List ℕ)) (p : List ℕ) (s : Listener) (read : Option 
   serial_more = grind (arith, c11-or, first_header-push, known.serial_is)
 
   -- A header of the page opens it, and nothing was sent.
-  pub knows_this : (h : Header) → kind s.watched.page p ≡ ThisPage h
+  pub knows_this : is_this_page (kind s.watched.page p) ≡ true
       → Knows (heard ++ p ∷ []) (record s {
         serial = serial;
         is_open = true;
         sent = replicate 24 false;
         comparison = record s.comparison { page = blank };
       })
-  knows_this h k = record {
+  unfolding blank blank_row
+  knows_this is = record {
     serial_is = serial_more;
-    open_is = grind (arith, open-this);
-    rows_are = rw (span-this (kind s.watched.page) heard p (ap is_this_page k))
-        (HoldsRows-none s.watched);
+    open_is = sym (open-this (kind s.watched.page) heard p is);
+    sent_is = λ row low high.
+        rw (span-this (kind s.watched.page) heard p is)
+        (get_or-replicate 24 (row - 1) false false (omega arith));
+    page_is = λ row low high.
+        rw (span-this (kind s.watched.page) heard p is)
+        (get_or-replicate 24 (row - 1) (replicate 40 space) [] (omega arith));
   }
 
-  -- A header that ends the page closes it.
-  pub knows_ends : kind s.watched.page p ≡ EndsPage
-      → Knows (heard ++ p ∷ []) (record s { serial = serial; is_open = false })
-  knows_ends k = record {
-    serial_is = serial_more;
-    open_is = grind (arith, nat_tests, open-other);
-    rows_are = grind (arith, nat_tests, span-push, known.rows_are);
-  }
+  module _ (other : is_this_page (kind s.watched.page p) ≡ false) where
+    -- Any other packet may end it, and leaves the rows as they are, but for a row of the open page
+    -- that was not sent before.
+    pub knows_still : (opened : Bool)
+        → opened ≡ (s.is_open && not (ends_page (kind s.watched.page p)))
+        → ((row : ℕ) → 1 ≤ row → row ≤ 24 → s.is_open ≡ true
+        → is_row row (kind s.watched.page p) ≡ true → get_or s.sent (row - 1) false ≡ true)
+        → Knows (heard ++ p ∷ []) (record s { serial = serial; is_open = opened })
+    knows_still opened e sent = record {
+      serial_is = serial_more;
+      open_is = grind (arith, nat_tests, open-other, known.open_is);
+      sent_is = λ row low high.
+          let more = first_of_row-push s.watched.page heard p row in
+          let before = known.sent_is row low high in
+          let there = sent row low high in
+          grind (arith, nat_tests, known.open_is);
+      page_is = λ row low high.
+          let more = first_of_row-push s.watched.page heard p row in
+          let marks = known.sent_is row low high in
+          let before = known.page_is row low high in
+          let there = sent row low high in
+          grind (arith, nat_tests, known.open_is);
+    }
 
-  -- Any other packet leaves it as it is, and so do the rows, where it is none of the open page.
-  pub knows_other : is_this_page (kind s.watched.page p) ≡ false
-      → ends_page (kind s.watched.page p) ≡ false
-      → (s.is_open ≡ true → (row : ℕ) → kind s.watched.page p ≡ Row row → ⊥)
-      → Knows (heard ++ p ∷ []) (record s { serial = serial })
-  knows_other this ends other = record {
-    serial_is = serial_more;
-    open_is = grind (arith, nat_tests, open-other, known.open_is);
-    rows_are = elim (cases_Bool (is_open_after (kind s.watched.page) heard)) [
-      | inl e ↦ rw (span_open s.watched heard p this ends e)
-          (HoldsRows-other s.watched _ _ _ p known.rows_are (other (known.open_is ∙ e)))
-      | inr e ↦ rw (span-push (kind s.watched.page) heard p, this, e) known.rows_are
-    ];
-  }
-
-  -- A row of the open page is sent, and held.
-  pub knows_row : (row : ℕ) → 1 ≤ row → row ≤ 24 → kind s.watched.page p ≡ Row row
-      → s.is_open ≡ true → length s.sent ≡ 24 → length s.comparison.page ≡ 24
-      → IsPacket p → IsClean s.watched heard p
-      → Knows (heard ++ p ∷ []) (record s {
-        serial = serial;
-        sent = set s.sent (row - 1) true;
-        comparison = record s.comparison {
-          page = set s.comparison.page (row - 1) (codes_of p);
-        };
-      })
-  knows_row row low high k opened long tall whole clean =
-      let is_open = sym known.open_is ∙ opened in
-      record {
-        serial_is = serial_more;
-        open_is = grind (arith, nat_tests, open-other, known.open_is);
-        rows_are = subst (λ packets. HoldsRows s.watched packets (set s.sent (row - 1) true)
-            (set s.comparison.page (row - 1) (codes_of p)))
-            (sym (span_open s.watched heard p (ap is_this_page k) (ap ends_page k) is_open))
-            (HoldsRows-row s.watched _ s.sent s.comparison.page p known.rows_are row low high long
-            tall k (record {
-              whole = λ row e. whole;
-              exact = λ row e. clean rule.Address;
-              odd = clean rule.Parity is_open;
-            }) (clean rule.RowChanged is_open row k));
-      }
+    -- A row of the open page that was not sent before is sent, and held.
+    pub knows_row : (y : ℕ) → 1 ≤ y → y ≤ 24 → kind s.watched.page p ≡ Row y
+        → s.is_open ≡ true → get_or s.sent (y - 1) false ≡ false
+        → length s.sent ≡ 24 → length s.comparison.page ≡ 24
+        → Knows (heard ++ p ∷ []) (record s {
+          serial = serial;
+          sent = set s.sent (y - 1) true;
+          comparison = record s.comparison {
+            page = set s.comparison.page (y - 1) (codes_of p);
+          };
+        })
+    knows_row y low high k opened new long tall = record {
+      serial_is = serial_more;
+      open_is = grind (arith, nat_tests, open-other, known.open_is);
+      sent_is = λ row a b.
+          let more = first_of_row-push s.watched.page heard p row in
+          let before = known.sent_is row a b in
+          grind (arith, nat_tests, known.open_is, get_or-set_at, get_or-set_other);
+      page_is = λ row a b.
+          let more = first_of_row-push s.watched.page heard p row in
+          let marks = known.sent_is row a b in
+          let before = known.page_is row a b in
+          grind (arith, nat_tests, known.open_is, get_or-set_at, get_or-set_other);
+    }

@@ -1,101 +1,158 @@
--- The flaws of a packet that comes after others, by what is kept of them.
-use Rattle.std.proofs.Common.{◌≡◌, ℕ, ◌≤◌, ◌-◌, Bool, true, false, List}
-use Rattle.std.proofs.Common.{[], MatchOption, Option, Some, get_or, sym, ap}
-use Rattle.std.proofs.Common.{◌∙◌, arith}
-use Rattle.std.specs.List.{AllByRecursion}
-use Rattle.std.proofs.lemmas.Bool.Decides.{nat_tests}
-use Rattle.ttx_packet.specs.PacketAddress.{HasExactAddress, IsPacket, address, PacketAddress}
-use Rattle.ttx_packet.specs.RowPacket.{HasOddText}
-use Rattle.ttx_packet.specs.PageHeader.{header}
-use Rattle.sub_check.specs.PacketRules.{codes_of, KeepsRule, IsClean, BreaksFirst}
+-- The tests of a packet's rules, and what they decide: code words, `address_decided` and
+-- `header_decided`.
+use Rattle.std.proofs.lemmas.Bool.Decides.{nat_tests, Decides-below_and, Decides-below_or}
+use Rattle.std.proofs.lemmas.Bool.Decides.{Decides-eqb, Decides-like, same_from_decides}
+use Rattle.std.proofs.Common.{◌≡◌, ℕ, ◌+◌, ◌-◌, ◌<◌, Bool, true, false, not, ◌&&◌, ◌==◌, cond}
+use Rattle.std.proofs.Common.{List, Option, None, Some, is_some, option_map, slice_index, bit_or}
+use Rattle.std.proofs.Common.{refl, sym, ap, ◌∙◌, arith, subst}
+use Rattle.std.specs.Bool.{Decides}
+use Rattle.ttx_packet.specs.Hamming84.{IsCodeWord, code_word}
+use Rattle.ttx_packet.specs.PacketAddress.{HasExactAddress, address}
+use Rattle.ttx_packet.specs.PageHeader.{HasExactHeader, c11, header}
+use Rattle.ttx_packet.specs.RowPacket.{first_even_byte}
 use Rattle.ttx_packet.specs.declared.header.Header.{Header}
-use Rattle.sub_check.proofs.CodesLemmas.{same_packet}
+use Rattle.ttx_page.specs.Differing.{row_differing}
+use Rattle.ttx_page.specs.PacketKind.{kind}
+use Rattle.ttx_page.specs.Span.{is_open_after, span}
+use Rattle.ttx_page.specs.declared.packet_kind.PacketKind.TheVariants.{EndsPage, Other, Row}
+use Rattle.ttx_page.specs.declared.packet_kind.PacketKind.TheVariants.{ThisPage}
+use Rattle.sub_check.specs.Listening.{held, later_set, rule_set}
+use Rattle.sub_check.specs.PacketRules.{codes_of, first_header}
+use Rattle.sub_check.specs.PacketTests.{are_code_words, breaks, first_of_row, is_of_enhancement}
+use Rattle.sub_check.specs.PacketTests.{is_of_header, is_other_mode, is_other_text}
+use Rattle.sub_check.specs.PacketTests.{is_subtitle_header, is_word_below}
 use Rattle.sub_check.specs.declared.packet_rules.Watched.{Watched}
-use Rattle.ttx_page.specs.declared.packet_kind.PacketKind.TheVariants.{Row, Other}
-use Rattle.ttx_page.specs.PacketKind.{kind, is_row}
-use Rattle.sub_check.specs.declared.packet_rules.PacketRule.{PacketRule}
-use Rattle.sub_check.specs.Good.{IsEnhancement}
-use Rattle.sub_check.specs.Listening.{BreaksLater, HoldsRows, IsSoundRow, KeepsLater}
-use Rattle.sub_check.proofs.PacketLists.{Each-map, Each-join, Each-none, Each-pick, no_row}
-use Rattle.ttx_page.proofs.NoiseSteps.{row_from_test}
-use Rattle.sub_check.specs.declared.packet_rules.PacketRule.TheVariants as rule
 
--- A row has an address of the magazine with its number.
-pub address-row : (w : Watched) (p : List ℕ) (row : ℕ) → kind w.page p ≡ Row row
-    → address p ≡ Some (record { magazine = w.page.magazine; packet_number = row })
-unfolding kind
-address-row w p row e = grind (arith, nat_tests)
+-- ---- code words
 
--- A packet 25 to 28 is neither a header nor a row.
-pub enhancement_is_other :
-    (w : Watched) (p : List ℕ) → IsEnhancement w.page p → kind w.page p ≡ Other
-unfolding kind
-enhancement_is_other w p (a, e, m, low, high) =
-    grind arith
+word_decided : (b : ℕ) → Decides (is_word_below b 16) (IsCodeWord b)
+unfolding is_word_below
+word_decided b =
+    Decides-below_or (λ n. b == code_word n) (λ n. b ≡ code_word n) (is_word_below b)
+    (λ n. Decides-eqb b (code_word n)) refl (λ _. refl) 16
 
--- Where the address and the header's codes are exact, one mode is the first rule that can break.
-pub first_mode :
-    (w : Watched) (before : List (List ℕ)) (p : List ℕ)
-    → KeepsRule rule.Address w before p
-    → KeepsRule rule.HeaderCode w before p
-    → (KeepsRule rule.Mode w before p → ⊥)
-    → BreaksFirst w before p rule.Mode
-first_mode w before p exact codes broken = record { broken = broken; earlier = grind arith }
+words_decided :
+    (from n : ℕ) (p : List ℕ)
+    → Decides (are_code_words from n p) ((k : ℕ) → k < n → IsCodeWord (slice_index p (from + k)))
+unfolding are_code_words
+words_decided from n p =
+    Decides-below_and (λ k. is_word_below (slice_index p (from + k)) 16)
+    (λ k. IsCodeWord (slice_index p (from + k))) (λ m. are_code_words from m p)
+    (λ k. word_decided (slice_index p (from + k))) refl (λ _. refl) n
 
-module _ (w : Watched) (before : List (List ℕ)) (p : List ℕ)
-    (exact : KeepsRule rule.Address w before p) (codes : KeepsRule rule.HeaderCode w before p)
-    (mode : KeepsRule rule.Mode w before p) where
-  -- The seven rules together. For `broken_rule`, and for packets that are sent again.
-  pub clean_from : KeepsLater w before p → IsClean w before p
-  clean_from later is = grind arith
+pub address_decided : (p : List ℕ) → Decides (are_code_words 0 2 p) (HasExactAddress p)
+address_decided p =
+    Decides-like (are_code_words 0 2 p)
+    (λ h k l.
+    let here : 0 + k ≡ k = omega arith in subst (λ n. IsCodeWord (slice_index p n)) here (h k l))
+    (λ h k l. h (0 + k) (omega arith))
+    (words_decided 0 2 p)
 
-  -- What is told of a packet by what is told of the later rules.
-  pub by_later : (r : Option PacketRule)
-      → MatchOption r (KeepsLater w before p) (BreaksLater w before p)
-      → MatchOption r (IsClean w before p) (BreaksFirst w before p)
-  by_later r later = grind arith
+pub header_decided : (p : List ℕ) → Decides (are_code_words 2 8 p) (HasExactHeader p)
+header_decided p =
+    Decides-like (are_code_words 2 8 p)
+    (λ h k low high.
+    let here : 2 + (k - 2) ≡ k = omega arith in
+    subst (λ n. IsCodeWord (slice_index p n)) here (h (k - 2) (omega arith)))
+    (λ h k l. h (2 + k) (omega arith) (omega arith))
+    (words_decided 2 8 p)
 
--- The row that is held equals the packet's where each packet of the row does.
-module _ (w : Watched) (packets : List (List ℕ)) (sent : List Bool) (page : List (List ℕ))
-    (h : HoldsRows w packets sent page) (row : ℕ) (low : 1 ≤ row) (high : row ≤ 24) (p : List ℕ)
-    (is_row_of : kind w.page p ≡ Row row) where
-  -- Where the row was not sent, no packet of it stands in the span.
-  pub rows_unsent : get_or sent (row - 1) false ≡ false
-      → AllByRecursion (λ q. kind w.page q ≡ Row row → q ≡ p) packets
-  rows_unsent e =
-      Each-map (λ q. is_row row (kind w.page q) ≡ false) (λ q. kind w.page q ≡ Row row → q ≡ p)
-      (λ q other s. absurd (no_row row (kind w.page q) other s)) packets
-      (Each-none (λ q. is_row row (kind w.page q)) packets (sym (h.marks row low high) ∙ e))
+-- A test of the same fact, turned round.
+turned : {P : Type 0} (r s : Bool) → Decides r P → Decides s P → not r ≡ not s
+turned r s d e = ap not (same_from_decides r s d e)
 
-  -- Where the row that is held has the codes of the packet, each packet of the row equals it.
-  pub rows_equal : IsPacket p → HasExactAddress p → HasOddText p
-      → get_or page (row - 1) [] ≡ codes_of p
-      → AllByRecursion (λ q. kind w.page q ≡ Row row → q ≡ p) packets
-  rows_equal whole exact odd e =
-      Each-join (IsSoundRow w)
-      (λ q. kind w.page q ≡ Row row → codes_of q ≡ get_or page (row - 1) [])
-      (λ q. kind w.page q ≡ Row row → q ≡ p)
-      (λ q s c k. same_packet q p (s.whole row k) whole (s.exact row k) exact
-      (address-row w q row k ∙ sym (address-row w p row is_row_of)) (s.odd row k) odd
-      (c k ∙ e)) packets h.sound (h.same row low high)
+-- For `has_wrong_address`.
+pub wrong_address : (p : List ℕ) (r : Bool) → Decides r (HasExactAddress p)
+    → not r ≡ not (are_code_words 0 2 p)
+wrong_address p r d = turned r (are_code_words 0 2 p) d (address_decided p)
 
-  -- Where it has other codes, some packet of the row differs.
-  pub rows_other : get_or sent (row - 1) false ≡ true → (get_or page (row - 1) [] ≡ codes_of p → ⊥)
-      → AllByRecursion (λ q. kind w.page q ≡ Row row → q ≡ p) packets → ⊥
-  rows_other e other same =
-      let q = Each-pick (λ q. is_row row (kind w.page q))
-      (λ q. (kind w.page q ≡ Row row → codes_of q ≡ get_or page (row - 1) []) ×
-      (kind w.page q ≡ Row row → q ≡ p)) packets (sym (h.marks row low high) ∙ e)
-      (Each-join (λ q. kind w.page q ≡ Row row → codes_of q ≡ get_or page (row - 1) [])
-      (λ q. kind w.page q ≡ Row row → q ≡ p)
-      (λ q. (kind w.page q ≡ Row row → codes_of q ≡ get_or page (row - 1) []) ×
-      (kind w.page q ≡ Row row → q ≡ p)) (λ q a b. (a, b)) packets
-      (h.same row low high) same) in
-      let k = row_from_test row (kind w.page q.0) q.1 in
-      other (sym (q.2.0 k) ∙ ap codes_of (q.2.1 k))
+-- For `has_wrong_word`.
+pub wrong_header : (p : List ℕ) (r : Bool) → Decides r (HasExactHeader p)
+    → not r ≡ not (are_code_words 2 8 p)
+wrong_header p r d = turned r (are_code_words 2 8 p) d (header_decided p)
 
--- A packet with a page header is X/0.
-pub header_is_zero : (p : List ℕ) (h : Header) → header p ≡ Some h
-    → (a : PacketAddress) × (address p ≡ Some a) × (a.packet_number ≡ 0)
+-- A packet with a page header is X/0. For `has_wrong_codes`.
+pub header_is_zero :
+    (p : List ℕ) (h : Header) → header p ≡ Some h → is_of_header (address p) ≡ true
 unfolding header
 header_is_zero p h e = grind (arith, nat_tests)
+
+-- ---- a packet by what it is
+
+-- A packet 25 to 28 is neither a header nor a row.
+enhancement_is_other :
+    (w : Watched) (p : List ℕ)
+    → is_of_enhancement w.page (address p) ≡ true
+    → kind w.page p ≡ Other
+unfolding kind
+enhancement_is_other w p e = grind (arith, nat_tests)
+
+-- So any other packet is none.
+pub no_enhancement :
+    (w : Watched) (p : List ℕ)
+    → (kind w.page p ≡ Other → ⊥)
+    → is_of_enhancement w.page (address p) ≡ false
+no_enhancement w p other = grind (arith, nat_tests, enhancement_is_other)
+
+-- Other codes than those that are held of a row.
+other_text :
+    (o : Option (List ℕ)) (codes : List ℕ)
+    → is_other_text o codes ≡ (is_some o && not (row_differing (held o) codes == 0))
+other_text None codes = refl
+other_text (Some q) codes = refl
+
+module _ (w : Watched) (heard : List (List ℕ)) (p : List ℕ) (set : ℕ) where
+  -- A header of the page breaks no later rule but that of its control bits.
+  pub later_this : (h : Header) → kind w.page p ≡ ThisPage h
+      → later_set (λ r. breaks r w heard p) set
+      ≡ cond (not (is_subtitle_header w.national h)) (bit_or set 8) set
+  unfolding breaks
+  later_this h k =
+      let none = no_enhancement w p (λ e. let both = sym k ∙ e in cc) in
+      rw (k, none) (grind (arith, nat_tests))
+
+  -- A header that ends the page breaks none.
+  pub later_ends : kind w.page p ≡ EndsPage → later_set (λ r. breaks r w heard p) set ≡ set
+  unfolding breaks
+  later_ends k =
+      let none = no_enhancement w p (λ e. let both = sym k ∙ e in cc) in
+      rw (k, none) (grind (arith, nat_tests))
+
+  -- Any other packet that is no row may be one that enhances the page.
+  pub later_other : kind w.page p ≡ Other
+      → later_set (λ r. breaks r w heard p) set
+      ≡ cond (is_open_after (kind w.page) heard && is_of_enhancement w.page (address p))
+      (bit_or set 0x40) set
+  unfolding breaks
+  later_other k = rw k (grind (arith, nat_tests))
+
+  -- A row may have an even byte, and other codes than those that are held of it.
+  pub later_row : (y : ℕ) (o : Option (List ℕ)) → kind w.page p ≡ Row y
+      → o ≡ first_of_row w.page (span (kind w.page) heard) y
+      → later_set (λ r. breaks r w heard p) set
+      ≡ (let even : ℕ =
+      cond (is_open_after (kind w.page) heard && is_some (first_even_byte p)) (bit_or set 0x10) set in
+      cond
+      (is_open_after (kind w.page) heard && is_some o
+      && not (row_differing (held o) (codes_of p) == 0))
+      (bit_or even 0x20) even)
+  unfolding breaks
+  later_row y o k e =
+      let none = no_enhancement w p (λ e. let both = sym k ∙ e in cc) in
+      let other = other_text o (codes_of p) in
+      rw (k, none, ← e, other) (grind (arith, nat_tests))
+
+-- The rules of every packet, and then the later ones. For `broken_rules`.
+pub rules_are :
+    (w : Watched) (heard : List (List ℕ)) (p : List ℕ) (serial : Option Bool)
+    → serial ≡ option_map (λ (h : Header). c11 h) (first_header heard)
+    → rule_set (λ r. breaks r w heard p)
+    ≡ (let address_set : ℕ = cond (not (are_code_words 0 2 p)) (bit_or 0 1) 0 in
+    let header_set : ℕ =
+    cond (is_of_header (address p) && not (are_code_words 2 8 p)) (bit_or address_set 2)
+    address_set in
+    later_set (λ r. breaks r w heard p)
+    (cond (is_other_mode serial (option_map (λ (h : Header). c11 h) (header p)))
+    (bit_or header_set 4) header_set))
+unfolding breaks rule_set
+rules_are w heard p serial e = rw e refl

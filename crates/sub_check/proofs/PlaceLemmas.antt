@@ -9,7 +9,7 @@ use Rattle.std.proofs.lemmas.Option.{none-some, same_Some}
 use Rattle.ttx_packet.specs.PageHeader.{HasExactWords, header, c11}
 use Rattle.ttx_packet.specs.declared.header.Header.{Header}
 use Rattle.sub_check.specs.declared.packet_rules.Watched.{Watched}
-use Rattle.ttx_page.specs.declared.packet_kind.PacketKind.TheVariants.{Row}
+use Rattle.ttx_page.specs.declared.packet_kind.PacketKind.TheVariants.{Other, Row}
 use Rattle.ttx_page.specs.PacketKind.{kind, is_this_page, ends_page}
 use Rattle.ttx_page.specs.Page.{cell, IsCell}
 use Rattle.ttx_page.specs.Span.{span, is_open_after}
@@ -18,7 +18,7 @@ use Rattle.sub_check.specs.PacketRules.{first_header, KeepsRule, IsClean}
 use Rattle.sub_check.proofs.PacketLists.{first_header-push, Each-push, Each-map}
 use Rattle.sub_check.specs.Transmission.{EachPacket, Transmission, first_frame, last_frame}
 use Rattle.sub_check.specs.Transmission.{on_air_until}
-use Rattle.sub_check.specs.Good.{IsCleanSpan, IsControlled, IsInOneMode}
+use Rattle.sub_check.specs.Good.{IsCleanSpan, IsControlled, IsEnhancement, IsInOneMode}
 use Rattle.sub_check.specs.StepByStep.{MayFollow}
 use Rattle.sub_check.specs.FrameRules.{Task, frame_at, packets_of_frame, end_frame, HasHeader}
 use Rattle.sub_check.specs.FrameRules.{ShowsDue, IsCovered}
@@ -28,13 +28,30 @@ use Rattle.sub_check.specs.FirstBroken.Place.{AtOrder, AtStart, AtGapCell, AtGap
 use Rattle.sub_check.specs.FirstBroken.Place.{AtCell, AtFrame, AtOpen, AtUnread, AtNothing, AtEnd}
 use Rattle.sub_check.proofs.GoodByPlace.{GoodFrames, whole}
 use Rattle.sub_check.proofs.GoodLemmas.{each_packet}
-use Rattle.sub_check.proofs.ListeningLemmas.{span_open}
-use Rattle.sub_check.proofs.PacketRuleLemmas.{enhancement_is_other}
+use Rattle.ttx_page.proofs.SpanPush.{span-push}
 use Rattle.sub_check.proofs.PrefixLemmas.{before, packet_at, at_start, at_packet, each_at}
 use Rattle.sub_check.proofs.PrefixLemmas.{each_from, before_more, rises_to, rises_strictly, locate}
 use Rattle.sub_check.proofs.PrefixLemmas.{first-same, last-same, on_air_at, on_air_is}
 use Rattle.sub_check.proofs.StepByStepLemmas.{clean_nil, last_clean, pushed}
 use Rattle.sub_check.specs.declared.packet_rules.PacketRule.TheVariants as rule
+
+-- ---- a packet of the span
+
+-- While the page is open a packet that neither is a header of the page nor ends it is in the span.
+span_open :
+    (w : Watched) (heard : List (List ℕ)) (p : List ℕ)
+    → is_this_page (kind w.page p) ≡ false
+    → ends_page (kind w.page p) ≡ false
+    → is_open_after (kind w.page) heard ≡ true
+    → span (kind w.page) (heard ++ p ∷ []) ≡ span (kind w.page) heard ++ p ∷ []
+span_open w heard p this ends opened = rw (span-push (kind w.page) heard p, this, opened, ends)
+
+-- A packet 25 to 28 is neither a header nor a row.
+enhancement_is_other :
+    (w : Watched) (p : List ℕ) → IsEnhancement w.page p → kind w.page p ≡ Other
+unfolding kind
+enhancement_is_other w p (a, e, m, low, high) =
+    grind arith
 
 -- ---- one packet more in a span
 

@@ -1,26 +1,28 @@
--- Packets that are sent again keep the rules again, and what is kept stays: `law_of_sent_again`,
--- `heard_again`, `kept_last`.
+-- Packets that are sent again break the same rules again, and what is kept stays:
+-- `law_of_sent_again`, `heard_again`, `kept_last`.
 use Rattle.std.proofs.lemmas.Bool.Decides.{nat_tests}
-use Rattle.std.proofs.Common.{◌≡◌, ℕ, zero, suc, ◌<◌, Bool, true, cond, List, [], ◌∷◌}
-use Rattle.std.proofs.Common.{◌++◌, Option, Some, None, length, take, get_or}
+use Rattle.std.proofs.Common.{◌≡◌, ℕ, zero, suc, ◌<◌, Bool, true, false, ◌&&◌, cond, List, [], ◌∷◌}
+use Rattle.std.proofs.Common.{◌++◌, Option, Some, None, option_map, length, take, get_or}
 use Rattle.std.proofs.Common.{refl, sym, ap, ◌∙◌, subst, arith, append-nil}
-use Rattle.std.specs.List.{AllByRecursion}
+use Rattle.std.specs.List.{filter}
 use Rattle.std.specs.Option.{option_or}
 use Rattle.std.proofs.lemmas.Bool.{or_left}
 use Rattle.ttx_packet.specs.PageHeader.{c11, header}
 use Rattle.ttx_packet.specs.declared.header.Header.{Header}
-use Rattle.ttx_page.specs.declared.packet_kind.PacketKind.TheVariants.{ThisPage, Row}
+use Rattle.ttx_page.specs.declared.packet_kind.PacketKind.TheVariants.{ThisPage}
 use Rattle.ttx_page.specs.PacketKind.{kind, is_this_page}
 use Rattle.ttx_page.specs.Span.{before_end}
-use Rattle.sub_check.specs.Listening.{Knows, KnowsLast, WereJudged}
-use Rattle.sub_check.specs.PacketRules.{AreClean, IsClean, first_header, header_count}
-use Rattle.sub_check.specs.SentAgain.{BeginsWithHeader, LawOfSentAgain, LookAlike}
-use Rattle.sub_check.specs.declared.listener.Listener.{Listener}
-use Rattle.sub_check.specs.declared.packet_rules.Watched.{Watched}
-use Rattle.sub_check.proofs.PacketRuleLemmas.{clean_from, enhancement_is_other}
-use Rattle.sub_check.proofs.PacketLists.{first_header-append}
 use Rattle.ttx_page.proofs.SpanLists.{after-append, holds-append_right}
+use Rattle.sub_check.specs.Listening.{BreakNone, Knows, KnowsLast, WereJudged}
+use Rattle.sub_check.specs.PacketRules.{first_header, header_count}
+use Rattle.sub_check.specs.PacketTests.{broken_rules, breaks, is_other_mode, packet_rules}
+use Rattle.sub_check.specs.SentAgain.{BeginsWithHeader, BreakAlike, LawOfSentAgain, LookAlike}
+use Rattle.sub_check.specs.declared.listener.Listener.{Listener}
+use Rattle.sub_check.specs.declared.packet_rules.PacketRule.{PacketRule}
 use Rattle.sub_check.specs.declared.packet_rules.PacketRule.TheVariants as rule
+use Rattle.sub_check.specs.declared.packet_rules.Watched.{Watched}
+use Rattle.sub_check.proofs.PacketRuleLemmas.{no_enhancement}
+use Rattle.sub_check.proofs.PacketLists.{first_header-append}
 
 -- ---- a header of the page
 
@@ -34,31 +36,54 @@ header_of w p e = grind (arith, nat_tests)
 
 -- ---- what a rule looks back to
 
--- A rule that is kept after one list is kept after another that looks alike.
-keeps_alike :
+-- Where each rule is broken alike, the broken rules are the same.
+rules_alike :
+    (w : Watched) (b c : List (List ℕ)) (p : List ℕ)
+    → ((r : PacketRule) → breaks r w b p ≡ breaks r w c p)
+    → broken_rules w b p ≡ broken_rules w c p
+unfolding broken_rules
+rules_alike w b c p same = ap (λ test. filter test packet_rules) (λ k r. same r k)
+
+-- A packet breaks the same rules after two lists that look alike.
+breaks_alike :
     (w : Watched) (b c : List (List ℕ)) (p : List ℕ)
     → LookAlike w.page b c
-    → IsClean w b p
-    → IsClean w c p
-keeps_alike w b c p same k rule.Address = k rule.Address
-keeps_alike w b c p same k rule.HeaderCode = k rule.HeaderCode
-keeps_alike w b c p same k rule.Mode = λ h first e f. k rule.Mode h first e (same.header_is ∙ f)
-keeps_alike w b c p same k rule.Control = k rule.Control
-keeps_alike w b c p same k rule.Parity = λ is. k rule.Parity (same.open_is ∙ is)
-keeps_alike w b c p same k rule.RowChanged = λ is row e.
-    subst (AllByRecursion (λ q. kind w.page q ≡ Row row → q ≡ p)) same.span_is
-    (k rule.RowChanged (same.open_is ∙ is) row e)
-keeps_alike w b c p same k rule.Enhancement = λ is. k rule.Enhancement (same.open_is ∙ is)
+    → (r : PacketRule)
+    → breaks r w b p ≡ breaks r w c p
+unfolding breaks
+breaks_alike w b c p same rule.Address = refl
+breaks_alike w b c p same rule.HeaderCode = refl
+breaks_alike w b c p same rule.Mode = rw same.header_is refl
+breaks_alike w b c p same rule.Control = refl
+breaks_alike w b c p same rule.Parity = rw same.open_is refl
+breaks_alike w b c p same rule.RowChanged = rw (same.open_is, same.span_is) refl
+breaks_alike w b c p same rule.Enhancement = rw same.open_is refl
 
 -- What is kept after one list is what is kept after another that looks alike.
 knows_alike :
     (b c : List (List ℕ)) (s : Listener) → LookAlike s.watched.page b c → Knows b s → Knows c s
-knows_alike b c s same k = grind arith
+knows_alike b c s same k = record {
+  serial_is = rw (← same.header_is) k.serial_is;
+  open_is = rw (← same.open_is) k.open_is;
+  sent_is = rw (← same.span_is) k.sent_is;
+  page_is = rw (← same.span_is) k.page_is;
+}
 
 -- With the same header again, the first stays.
 same_first : (o : Option Header) (h : Header)
     → option_or o (Some h) ≡ option_or (option_or o (Some h)) (Some h)
 same_first o h = grind arith
+
+-- It is of another mode than the first one where it was before.
+same_mode : (o : Option Header) (h : Header)
+    → is_other_mode (option_map (λ (x : Header). c11 x) (option_or o (Some h))) (Some (c11 h))
+    ≡ is_other_mode (option_map (λ (x : Header). c11 x) o) (Some (c11 h))
+same_mode None h = one (c11 h)
+  where
+    one : (b : Bool) → is_other_mode (Some b) (Some b) ≡ is_other_mode None (Some b)
+    one true = refl
+    one false = refl
+same_mode (Some x) h = refl
 
 module _
     (w : Watched) (heard : List (List ℕ)) (first : List ℕ)
@@ -98,57 +123,46 @@ module _
           span_is = ap (before_end (kind w.page)) after;
         }
 
-    -- The header itself is clean again.
+    -- The header itself breaks the same rules again.
     first_again :
-        (others : List (List ℕ))
-        → IsClean w heard first
-        → IsClean w (heard ++ first ∷ others) first
-    first_again others k =
+        (others : List (List ℕ)) (r : PacketRule)
+        → breaks r w (heard ++ first ∷ others) first ≡ breaks r w heard first
+    unfolding breaks
+    first_again others rule.Address = refl
+    first_again others rule.HeaderCode = refl
+    first_again others rule.Mode =
         let h = header_of w first is in
-        clean_from w (heard ++ first ∷ others) first (k rule.Address) (k rule.HeaderCode)
-        (λ x y e f. go (first_header heard) refl x y e
-        (sym (first_after heard others h.0 h.1) ∙ f)) (record {
-          control = k rule.Control;
-          parity = grind arith;
-          same = grind arith;
-          plain = grind (arith, enhancement_is_other);
-        })
-      where
-        go :
-            (o : Option Header)
-            → first_header heard ≡ o
-            → (x y : Header)
-            → header first ≡ Some x
-            → option_or o (Some (header_of w first is).0) ≡ Some y
-            → c11 x ≡ c11 y
-        go None q x y e f = grind arith
-        go (Some z) q x y e f = k rule.Mode x y e (q ∙ f)
+        rw (first_after heard others h.0 h.1, h.1) (same_mode (first_header heard) h.0)
+    first_again others rule.Control = refl
+    first_again others rule.Parity =
+        let h = header_of w first is in rw h.2 (grind (arith, nat_tests))
+    first_again others rule.RowChanged =
+        let h = header_of w first is in rw h.2 (grind (arith, nat_tests))
+    first_again others rule.Enhancement =
+        let h = header_of w first is in
+        let none = no_enhancement w first (λ e. let both = sym h.2 ∙ e in cc) in
+        rw none (grind (arith, nat_tests))
 
-    -- And so is each of the packets.
-    clean_again :
-        (others : List (List ℕ)) (n : ℕ)
-        → AreClean w heard (first ∷ others) n
-        → AreClean w (heard ++ first ∷ others) (first ∷ others) n
-    clean_again others n clean zero l =
-        subst (λ xs. IsClean w xs first) (sym (append-nil (heard ++ first ∷ others)))
-        (first_again others
-        (subst (λ xs. IsClean w xs first) (append-nil heard) (clean zero l)))
-    clean_again others n clean (suc k) l =
-        keeps_alike w (heard ++ first ∷ take k others)
-        ((heard ++ first ∷ others) ++ first ∷ take k others) _ (alike others (take k others))
-        (clean (suc k) l)
+    -- And so does each of the packets.
+    breaks_again : (others : List (List ℕ))
+        → BreakAlike w heard (heard ++ first ∷ others) (first ∷ others)
+    breaks_again others zero l =
+        rules_alike w (heard ++ []) ((heard ++ first ∷ others) ++ []) first
+        (λ r. rw (append-nil heard, append-nil (heard ++ first ∷ others)) (sym (first_again others r)))
+    breaks_again others (suc k) l =
+        rules_alike w (heard ++ first ∷ take k others)
+        ((heard ++ first ∷ others) ++ first ∷ take k others) (get_or others k [])
+        (breaks_alike w _ _ (get_or others k []) (alike others (take k others)))
 
--- Packets that begin with a header of the page and keep the rules keep them again.
+-- Packets that begin with a header of the page break the same rules again.
 pub law_of_sent_again : LawOfSentAgain
-law_of_sent_again w heard packets begins clean =
+law_of_sent_again w heard packets begins =
     let first = begins.first in
     let others = begins.others in
     subst
-    (λ ps.
-    AreClean w (heard ++ ps) ps (length ps) × LookAlike w.page (heard ++ ps) ((heard ++ ps) ++ ps))
-    (sym begins.packets_are) (
-      clean_again w heard first begins.is_header others _
-          (subst (λ ps. AreClean w heard ps (length ps)) begins.packets_are clean),
+    (λ ps. BreakAlike w heard (heard ++ ps) ps
+    × LookAlike w.page (heard ++ ps) ((heard ++ ps) ++ ps)) (sym begins.packets_are) (
+      breaks_again w heard first begins.is_header others,
       alike w heard first begins.is_header others others,
     )
 
@@ -156,29 +170,24 @@ law_of_sent_again w heard packets begins clean =
 
 -- The packets heard last, sent again. For `hear_sending`.
 pub heard_again :
-    (heard last ps : List (List ℕ)) (n headers : ℕ) (s : Listener)
+    (heard last ps : List (List ℕ)) (headers : ℕ) (s : Listener)
     → KnowsLast heard last s
     → s.last ≡ Some headers
     → last ≡ ps
-    → length ps ≡ n
-    → AreClean s.watched heard ps n
+    → BreakNone s.watched heard ps (length ps)
     × KnowsLast (heard ++ ps) ps s
     × (headers ≡ header_count s.watched.page ps)
-heard_again heard last ps n headers s known is same long =
+heard_again heard last ps headers s known is same =
     let j = known.last_is headers is in
-    let law = law_of_sent_again s.watched j.before last j.begins j.clean in
-    let clean : AreClean s.watched heard last (length last) =
-    subst (λ xs. AreClean s.watched xs last (length last)) (sym j.heard_is) law.0 in
+    let law = law_of_sent_again s.watched j.before last j.begins in
+    let clean : BreakNone s.watched heard last (length last) =
+    subst (λ xs. BreakNone s.watched xs last (length last)) (sym j.heard_is)
+    (λ k l. sym (law.0 k l) ∙ j.clean k l) in
     let alike : LookAlike s.watched.page heard (heard ++ last) =
     subst (λ xs. LookAlike s.watched.page xs (xs ++ last)) (sym j.heard_is) law.1 in
     subst
-    (λ m.
-    AreClean s.watched heard ps m
-    × KnowsLast (heard ++ ps) ps s
-    × (headers ≡ header_count s.watched.page ps)) long
-    (subst
     (λ xs.
-    AreClean s.watched heard xs (length xs)
+    BreakNone s.watched heard xs (length xs)
     × KnowsLast (heard ++ xs) xs s
     × (headers ≡ header_count s.watched.page xs)) same (
       clean,
@@ -195,22 +204,26 @@ heard_again heard last ps n headers s known is same long =
             };
       },
       sym j.count,
-    ))
+    )
 
 -- What is kept of the packets heard last, where they were heard just now. For `hear_all`.
 pub kept_last :
-    (w : Watched) (heard ps : List (List ℕ)) (n headers : ℕ) (begins : Bool) (s : Listener)
+    (w : Watched) (heard ps : List (List ℕ)) (headers : ℕ) (begins clean : Bool) (s : Listener)
     → s.watched ≡ w
     → Knows (heard ++ ps) s
-    → AreClean w heard ps n
-    → length ps ≡ n
     → headers ≡ header_count w.page ps
-    → (begins ≡ true → (0 < n) × (is_this_page (kind w.page (get_or ps 0 [])) ≡ true))
-    → KnowsLast (heard ++ ps) ps (record s { last = cond begins (Some headers) None })
-kept_last w heard ps n headers begins s same known clean long count is = record {
-  knows = grind arith;
+    → (begins ≡ true → (0 < length ps) × (is_this_page (kind w.page (get_or ps 0 [])) ≡ true))
+    → (clean ≡ true → BreakNone w heard ps (length ps))
+    → KnowsLast (heard ++ ps) ps (record s { last = cond (begins && clean) (Some headers) None })
+kept_last w heard ps headers begins clean s same known count is none = record {
+  knows = record {
+    serial_is = known.serial_is;
+    open_is = known.open_is;
+    sent_is = known.sent_is;
+    page_is = known.page_is;
+  };
   last_is = λ m e.
-      subst (λ v. WereJudged v (heard ++ ps) ps m) (sym same) (go begins is m e);
+      subst (λ v. WereJudged v (heard ++ ps) ps m) (sym same) (go begins clean is none m e);
 }
   where
     first : (xs : List (List ℕ)) → 0 < length xs
@@ -220,9 +233,20 @@ kept_last w heard ps n headers begins s same known clean long count is = record 
     first (x ∷ xs) some e = grind arith
 
     go :
-        (b : Bool)
-        → (b ≡ true → (0 < n) × (is_this_page (kind w.page (get_or ps 0 [])) ≡ true))
+        (b q : Bool)
+        → (b ≡ true → (0 < length ps) × (is_this_page (kind w.page (get_or ps 0 [])) ≡ true))
+        → (q ≡ true → BreakNone w heard ps (length ps))
         → (m : ℕ)
-        → cond b (Some headers) None ≡ Some m
+        → cond (b && q) (Some headers) None ≡ Some m
         → WereJudged w (heard ++ ps) ps m
-    go b is m e = grind (arith, nat_tests, first)
+    go true true is none m e =
+        let b = is refl in
+        record {
+          before = heard;
+          heard_is = refl;
+          begins = first ps b.0 b.1;
+          clean = none refl;
+          count = grind arith;
+        }
+    go true false is none m e = grind arith
+    go false q is none m e = grind arith

@@ -8,6 +8,9 @@ use Rattle.std.specs.List.{list_all}
 use Rattle.std.proofs.lemmas.Bool.{leb-true, le-leb}
 use Rattle.std.proofs.lemmas.Bool.Decides.{Decides-like, Decides-by_and, Decides-below_and}
 use Rattle.std.proofs.lemmas.Bool.Decides.{Decides-below_or}
+use Rattle.std.proofs.lemmas.Bool.Decides.{nat_tests}
+use Rattle.ttx_packet.proofs.OneBitLemmas.{first_below_is}
+use Rattle.ttx_packet.specs.OneBit.{first_below}
 use Rattle.ttx_packet.specs.declared.header.Header.{Header}
 use Rattle.ttx_page.specs.declared.packet_kind.PacketKind.{PacketKind}
 use Rattle.ttx_page.specs.declared.packet_kind.PacketKind.TheVariants.{ThisPage, EndsPage, Row}
@@ -65,6 +68,22 @@ pub some_below :
     → (n : ℕ)
     → Decides (any_below test n) ((k : ℕ) × (k < n) × P k)
 some_below test P each n = Decides-below_or test P (any_below test) each refl (λ _. refl) n
+
+-- Where no number below a bound is found, none passes.
+pub below_none : (n : ℕ) (test : ℕ → Bool) → first_below n test ≡ None
+    → (k : ℕ) → k < n → test k ≡ false
+below_none zero test e k l = absurd (omega arith)
+below_none (suc n) test e k l = let before = below_none n test in grind (arith, nat_tests)
+
+-- What is found has none before it that passes.
+pub below_before : (n : ℕ) (test : ℕ → Bool) (x : ℕ) → first_below n test ≡ Some x
+    → (k : ℕ) → k < x → test k ≡ false
+below_before zero test x e k l = grind arith
+below_before (suc n) test x e k l =
+    let before = below_before n test x in
+    let none = below_none n test in
+    let is = first_below_is n test x in
+    grind (arith, nat_tests)
 
 -- A test of each element.
 pub each_of :

@@ -1,5 +1,6 @@
 -- What the checker tells of the bytes of a subtitle file and a PES file.
-use Rattle.std.specs.Prelude.{◌≡◌, ◌≢◌, ◌↔◌, ℕ, List, [], Bool, false, true, Option, All, IsOk}
+use Rattle.std.specs.Prelude.{◌≡◌, ◌≢◌, ◌↔◌, ℕ, ◌≤◌, length, List, [], Bool, false, true, Option}
+use Rattle.std.specs.Prelude.{All, IsOk}
 use Rattle.std.specs.Prelude.{Result, Ok, Err, IfOk, IfErr, IsTrue}
 use Rattle.sub_io.specs.Device.{failed}
 use Rattle.sub_io.specs.Reading.{IfTold}
@@ -14,7 +15,10 @@ use Rattle.stl_rows.specs.Programme.{AreInOrder, ProgrammeValue}
 use Rattle.stl_rows.specs.declared.national.National.{National}
 use Rattle.sub_plan.specs.Options.{OptionsValue}
 use Rattle.sub_plan.specs.Schedule.{plan}
-use Rattle.sub_check.specs.Checking.{HasCounts, TellsSubtitles}
+use Rattle.sub_io.specs.Telling.{Tells}
+use Rattle.sub_check.specs.Checking.{CountsRead, HasCounts, TellsOrStops, TellsSubtitles}
+use Rattle.sub_check.specs.Events.{events, events_of_first}
+use Rattle.sub_check.specs.declared.event.Event.{Event}
 use Rattle.sub_check.specs.Fault.{is_failure, is_pes_read, is_subtitle_fault}
 use Rattle.sub_check.specs.FirstBroken.{IsReadUpTo, NamesFirst}
 use Rattle.sub_check.specs.FrameRules.{task_of}
@@ -192,3 +196,20 @@ pub record AreChecked
       (programme : ProgrammeValue)
       → loaded national (outcome_of file) ≡ Ok programme
       → IfTold pes (λ bytes. IsChecked programme options bytes answer)
+
+-- What a device was told of the bytes of a PES file, checked against a programme: where it did not
+-- say stop, all events, and the answer counts what was read; else the events up to there. Where the
+-- source failed, the events of the PES packets that were read whole.
+abbrev pub TellsEvents : ProgrammeValue → OptionsValue → List ℕ
+    → Option (List Event) → Option (List Event) → Bool → Result Accepted CheckFault → Type 0
+TellsEvents programme options bytes old new stopped (Ok a) =
+    let file = pes_file_of options.origin bytes in
+    TellsOrStops old new (events (task_of programme options file.unread) file.frames) stopped
+    × (stopped ≡ false → CountsRead options.page file.frames a)
+TellsEvents programme options bytes old new stopped (Err f) =
+    let file = pes_file_of options.origin bytes in
+    (n : ℕ)
+    × (n ≤ length file.frames)
+    × (f ≡ fault.Pes n Read)
+    × Tells old new (events_of_first (task_of programme options file.unread) file.frames n)
+    × (stopped ≡ false)

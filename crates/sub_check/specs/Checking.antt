@@ -1,8 +1,10 @@
 -- What the checker's steps answer.
-use Rattle.std.specs.Prelude.{◌≡◌, ℕ, ◌+◌, ◌<◌, ◌≤◌, false, List, [], ◌++◌, length}
+use Rattle.std.specs.Prelude.{◌≡◌, ℕ, zero, suc, ◌+◌, ◌<◌, ◌≤◌, Bool, true, false, List, [], ◌∷◌}
+use Rattle.std.specs.Prelude.{◌++◌, length, nat_le, if◌then◌else◌}
 use Rattle.std.specs.Prelude.{Option, Some, None, ⊤}
 use Rattle.std.specs.Prelude.{Result, Ok, Err, All, flat_map}
 use Rattle.std.specs.List.{AllByRecursion, AllZip, concat}
+use Rattle.sub_io.specs.Telling.{Tells, TellsPrefix}
 use Rattle.ttx_packet.specs.PageId.{PageIdValue}
 use Rattle.stl_file.specs.Reading.{Outcome}
 use Rattle.stl_rows.specs.Loading.{TellsFault}
@@ -11,6 +13,10 @@ use Rattle.ttx_pes.specs.PesPacket.{IsPesPacket, PesValue}
 use Rattle.ttx_pes.specs.Reading.{answer_at, most_packets}
 use Rattle.stl_file.specs.TimeCode.{day}
 use Rattle.sub_plan.specs.FrameTime.{pts_of}
+use Rattle.ttx_pes.specs.declared.fault.PesFault.TheVariants.{Read}
+use Rattle.sub_check.specs.Events.{events, events_of_first, latest}
+use Rattle.sub_check.specs.declared.event.Event.{Event}
+use Rattle.sub_check.specs.declared.event.Event.TheVariants.{Told}
 use Rattle.sub_check.specs.Fault.{is_pes_read, is_pes_write, is_subtitle_fault}
 use Rattle.sub_check.specs.FirstBroken.{HoldsEverywhere, unread_fault}
 use Rattle.sub_check.specs.FrameRules.{Task, Unread, frame_at, end_frame, packets_before}
@@ -55,14 +61,27 @@ as_frame (Ok None) = Ok None
 as_frame (Ok (Some sending)) = Ok (Some sending.frame)
 as_frame (Err f) = Err f
 
--- What is told at the end, by the last TCO, the first frame, the last frame and the headers.
-abbrev pub TellsEnd : Option ℕ → ℕ → ℕ → ℕ → Result Accepted CheckFault → Type 0
-TellsEnd last_out first frame headers (Ok a) =
-    ((last : ℕ) → last_out ≡ Some last → last ≤ frame)
-    × (a.frames + first ≡ frame + 1)
-    × (a.transmissions ≡ headers)
-TellsEnd last_out first frame headers (Err f) =
-    (((last : ℕ) → last_out ≡ Some last → last ≤ frame) → ⊥) × (f ≡ fault.Late frame)
+-- What is told last, after PES packets, of which the last is of this frame: the fault that ended
+-- reading; else that there is none, or that the last TCO is after that frame.
+abbrev pub late_fault : Option ℕ → ℕ → Option CheckFault
+late_fault None frame = None
+late_fault (Some last_out) frame =
+    if nat_le last_out frame then None else Some (fault.Late frame)
+
+abbrev pub last_fault : Option CheckFault → Option ℕ → ℕ → ℕ → Option CheckFault
+last_fault (Some f) last_out pes frame = Some f
+last_fault None last_out zero frame = Some fault.Empty
+last_fault None last_out (suc n) frame = late_fault last_out frame
+
+-- It is told.
+abbrev pub fault_events : Option CheckFault → List Event
+fault_events None = []
+fault_events (Some f) = Told f ∷ []
+
+-- The fault that ended reading, of what the list is read up to.
+abbrev pub ending_fault : ℕ → Option Unread → Option CheckFault
+ending_fault pes None = None
+ending_fault pes (Some u) = Some (unread_fault pes (Some u))
 
 -- Each packet has 42 bytes.
 abbrev pub AreWhole : Transmission → Type 0
@@ -96,3 +115,39 @@ pub record HasCounts (page : PageIdValue) (frames : Transmission) (a : Accepted)
   pub frames_are : a.frames + first_frame frames ≡ last_frame frames + 1
   pub transmissions_are :
       a.transmissions ≡ header_count page (flat_map (λ (s : SentFrame). s.packets) frames)
+
+-- What is counted of the PES packets that were read: the frames of the day from the first one's to
+-- the latest one's, and the headers of the page.
+pub record CountsRead (page : PageIdValue) (frames : Transmission) (a : Accepted) : Type 0 where
+  pub none : length frames ≡ 0 → a.frames ≡ 0
+  pub frames_are :
+      0 < length frames → a.frames + frame_at frames 0 ≡ latest frames (length frames) + 1
+  pub transmissions_are :
+      a.transmissions ≡ header_count page (packets_before frames (length frames))
+
+-- The bytes were read up to what is unread: where nothing is, they are a PES file of the frames.
+pub record IsRead (g : Task) (origin : ℕ) (bytes : List ℕ) (frames : Transmission) (a : Accepted)
+    : Type 0 where
+  pub few : length frames ≤ most_packets
+  pub taken : g.unread ≡ None → AreTaken origin bytes frames []
+  pub whole : AreWhole frames
+  pub counts : CountsRead g.watched.page frames a
+
+-- A device was told all of these; or it said stop, and was told them up to there.
+abbrev pub TellsOrStops : {A : Type 0}
+    → Option (List A) → Option (List A) → List A → Bool → Type 0
+TellsOrStops old new items false = Tells old new items
+TellsOrStops old new items true = TellsPrefix old new items
+
+-- What a device was told of a transmission that is read of these bytes.
+abbrev pub TellsAll : Task → ℕ → List ℕ → Transmission
+    → Option (List Event) → Option (List Event) → Bool → Result Accepted CheckFault → Type 0
+TellsAll g origin bytes frames old new stopped (Ok a) =
+    TellsOrStops old new (events g frames) stopped
+    × (stopped ≡ false → IsRead g origin bytes frames a)
+TellsAll g origin bytes frames old new stopped (Err f) =
+    (n : ℕ)
+    × (n ≤ length frames)
+    × (f ≡ fault.Pes n Read)
+    × Tells old new (events_of_first g frames n)
+    × (stopped ≡ false)

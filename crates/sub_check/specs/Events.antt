@@ -11,7 +11,8 @@ use Rattle.std.specs.Prelude.{option_and_then, option_map, nat_le, nat_lt, if◌
 use Rattle.std.specs.Prelude.{slice_index_or}
 use Rattle.std.specs.List.{list_any}
 use Rattle.ttx_packet.specs.OneBit.{first_below}
-use Rattle.ttx_page.specs.Page.{cell}
+use Rattle.ttx_packet.specs.PageId.{PageIdValue}
+use Rattle.ttx_page.specs.Page.{Rows, cell}
 use Rattle.ttx_page.specs.PacketKind.{kind}
 use Rattle.ttx_page.specs.Shown.{shown}
 use Rattle.ttx_page.specs.Span.{holds_header, is_open_after}
@@ -49,12 +50,14 @@ first_cell test =
     (λ above. option_map (λ column. (above + 1, column)) (first_below 40 (test (above + 1))))
     (first_below 24 (λ above. is_some (first_below 40 (test (above + 1)))))
 
+-- The first cell that shows another code after these packets than a page has there.
+unfoldable pub wrong_after : PageIdValue → List (List ℕ) → Rows → Option (ℕ × ℕ)
+wrong_after page packets due =
+    first_cell (λ row column. not (shown page packets row column == cell due row column))
+
 -- The first cell that shows another code after n frames of the list than is due at frame f.
-unfoldable pub wrong_cell : Task → Transmission → ℕ → ℕ → Option (ℕ × ℕ)
-wrong_cell g frames n f =
-    first_cell
-    (λ row column.
-    not (shown g.watched.page (packets_before frames n) row column == cell (g.due f) row column))
+abbrev pub wrong_cell : Task → Transmission → ℕ → ℕ → Option (ℕ × ℕ)
+wrong_cell g frames n f = wrong_after g.watched.page (packets_before frames n) (g.due f)
 
 -- A header of the page in this frame is one of the last `every` frames up to f, or of a later one.
 abbrev pub covers : Task → ℕ → SentFrame → Bool
@@ -153,9 +156,13 @@ is_early (Some first_in) frame = nat_lt first_in frame
 -- each other one is after the one before.
 unfoldable pub order_events : Task → Transmission → ℕ → List Event
 order_events g frames zero =
-    if is_early g.first_in (frame_at frames 0) then Told (fault.Early (frame_at frames 0)) ∷ [] else []
+    if is_early g.first_in (frame_at frames 0)
+    then Told (fault.Early (frame_at frames 0)) ∷ []
+    else []
 order_events g frames (suc i) =
-    if nat_lt (frame_at frames i) (frame_at frames (suc i)) then [] else Told (fault.Order (suc i)) ∷ []
+    if nat_lt (frame_at frames i) (frame_at frames (suc i))
+    then []
+    else Told (fault.Order (suc i)) ∷ []
 
 -- What is told of packet k of a frame, sent after these packets: all rules that it breaks.
 unfoldable pub rules_told : Watched → ℕ → ℕ → List (List ℕ) → List ℕ → List Event

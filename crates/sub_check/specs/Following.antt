@@ -1,11 +1,15 @@
 -- The parts of the check of one frame of the list, and what is kept after the first n frames.
-use Rattle.std.specs.Prelude.{◌≡◌, ℕ, ◌-◌, ◌<◌, ◌≤◌, List, length}
+use Rattle.std.specs.Prelude.{◌≡◌, ℕ, suc, ◌+◌, ◌-◌, ◌<◌, List, ◌++◌, length, nat_le}
 use Rattle.sub_check.specs.Transmission.{Transmission}
 use Rattle.stl_rows.specs.Programme.{ProgrammeValue, first_in, last_out}
-use Rattle.sub_check.specs.Checker.{CheckerValue}
+use Rattle.sub_check.specs.Checker.{CheckerValue, as_standing}
 use Rattle.sub_check.specs.declared.packet_rules.PacketRule.{PacketRule}
+use Rattle.sub_check.specs.Events.{end_before, events_at_end, first_header_events, gap_events}
+use Rattle.sub_check.specs.Events.{gap_length, is_gap, latest, nothing_stands, order_events}
+use Rattle.sub_check.specs.Events.{packet_events, standing_at, standing_before}
+use Rattle.sub_check.specs.declared.event.Event.{Event}
 use Rattle.sub_check.specs.Listening.{KnowsLast}
-use Rattle.sub_check.specs.FrameRules.{Task, frame_at, packets_of_frame, packets_before, HasHeader}
+use Rattle.sub_check.specs.FrameRules.{Task, frame_at, packets_of_frame, packets_before}
 use Rattle.sub_plan.specs.Schedule.{due_in}
 use Rattle.sub_check.specs.PacketRules.{header_count}
 use Rattle.sub_check.specs.FirstBroken.{Place, IsThere, HoldsThere}
@@ -58,38 +62,63 @@ pub record IsSentFrame (frames : Transmission) (i frame : ℕ) (packets : List (
     pub frame_is : frame_at frames i ≡ frame
     pub packets_are : packets_of_frame frames i ≡ packets
 
--- Of the first n frames the last with a header of the page has this number.
-pub record HeaderIs (g : Task) (frames : Transmission) (n : ℕ) (frame : ℕ) : Type 0 where
-  pub found : (j : ℕ) × (j < n) × (frame_at frames j ≡ frame) × HasHeader g frames j
-  pub last : (j : ℕ) → j < n → HasHeader g frames j → frame_at frames j ≤ frame
-  pub begins : frame_at frames 0 ≤ frame
-
 -- All that is asked of the first n frames of the list holds.
 abbrev pub AreOk : Task → Transmission → ℕ → Type 0
 AreOk g frames n = (j : ℕ) → j < n → FrameOk g frames j
 
--- What is kept is what the first n frames of the list say, at a frame that none of them is after.
+-- ---- what is kept
+
+-- What is kept of the packets is what the first n frames of the list say.
 pub record Remembers (g : Task) (frames : Transmission) (n : ℕ) (c : CheckerValue) : Type 0 where
   pub task_is : IsTaskOf g c.programme c.every
   pub watched_is : c.listener.watched ≡ g.watched
   pub knows : KnowsLast (packets_before frames n) (packets_of_frame frames (n - 1)) c.listener
-  pub rising : (j : ℕ) → j < n → frame_at frames j ≤ c.frame
-  pub begun : 0 < n → 0 < c.headers
-  pub header : 0 < n → HeaderIs g frames n c.header_at
   pub count : c.headers ≡ header_count g.watched.page (packets_before frames n)
 
--- That, at the last of these frames, and all that is asked of them holds.
-pub record Follows (g : Task) (frames : Transmission) (n : ℕ) (c : CheckerValue) : Type 0 where
-  pub remembers : Remembers g frames n c
-  pub first_is : 0 < n → c.first ≡ frame_at frames 0
-  pub frame_is : 0 < n → c.frame ≡ frame_at frames (n - 1)
-  pub past : AreOk g frames n
-
--- That, at the frame after them, and what is asked before its packets holds.
-pub record Arrives (g : Task) (frames : Transmission) (n : ℕ) (c : CheckerValue) : Type 0 where
-  pub remembers : Remembers g frames n c
+-- What is kept from the first PES packet on: its frame, and from when on a header of the page is
+-- too long ago.
+pub record HasBegun (g : Task) (frames : Transmission) (n : ℕ) (c : CheckerValue) : Type 0 where
   pub first_is : c.first ≡ frame_at frames 0
+  pub late_is : (f : ℕ) → is_gap g frames n f ≡ nat_le c.late_at (f + 1)
+
+-- What is kept after the first n frames of the list, at the end of the last of them.
+pub record Follows (g : Task) (frames : Transmission) (n : ℕ) (c : CheckerValue) : Type 0 where
+  pub known : Remembers g frames n c
+  pub none : n ≡ 0 → as_standing c.standing ≡ nothing_stands
+  pub begun : 0 < n → HasBegun g frames n c
+  pub latest_is : 0 < n → c.latest ≡ latest frames n
+  pub standing_is :
+      0 < n → as_standing c.standing ≡ standing_at g frames n (frame_at frames (n - 1))
+  pub last_is : 0 < n → c.last ≡ frame_at frames (n - 1)
+
+-- What is kept after the first n frames of the list, where the next end is that of frame f.
+pub record Waits (g : Task) (frames : Transmission) (n f : ℕ) (c : CheckerValue) : Type 0 where
+  pub known : Remembers g frames n c
+  pub begun : HasBegun g frames n c
+  pub standing_is : as_standing c.standing ≡ standing_before g frames n f
+  pub last_is : 0 < n → c.last ≡ end_before frames n f
+
+-- That, at frame n of the list, before its packets.
+pub record Arrives (g : Task) (frames : Transmission) (n : ℕ) (c : CheckerValue) : Type 0 where
+  pub waits : Waits g frames n (frame_at frames n) c
   pub frame_is : c.frame ≡ frame_at frames n
-  pub past : AreOk g frames n
-  pub order : OrderOk g frames n
-  pub gap : GapOk g frames n
+  pub latest_is : c.latest ≡ latest frames (suc n)
+
+-- ---- what is told
+
+-- What is told of frame i of the list before its packets.
+abbrev pub arriving_events : Task → Transmission → ℕ → List Event
+arriving_events g frames i =
+    order_events g frames i ++ gap_events g frames i (gap_length frames i)
+
+-- What is told of frame i of the list after its packets.
+abbrev pub ending_events : Task → Transmission → ℕ → List Event
+ending_events g frames i =
+    first_header_events g frames i ++ events_at_end g frames i (suc i) (frame_at frames i)
+
+-- What is told of the packets of frame i of the list, and then.
+abbrev pub taking_events : Task → Transmission → ℕ → List Event
+taking_events g frames i =
+    packet_events g.watched (frame_at frames i) (packets_before frames i)
+    (packets_of_frame frames i) (length (packets_of_frame frames i))
+    ++ ending_events g frames i

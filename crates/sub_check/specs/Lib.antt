@@ -19,6 +19,7 @@ pub mod FrameRules
 pub mod FirstBroken
 pub mod PacketTests
 pub mod Events
+pub mod FirstEvent
 pub mod Checker
 pub mod Following
 pub mod PesReading

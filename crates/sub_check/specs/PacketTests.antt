@@ -1,10 +1,10 @@
 -- The rules of a packet as tests, whatever was sent before: a packet may break several, and is
 -- tested also where packets before it broke some. The page header and the address are read with
 -- one wrong bit in a byte corrected.
-use Rattle.std.specs.Prelude.{ℕ, ◌&&◌, ◌||◌, ◌==◌, Bool, true, false, not, List, [], ◌∷◌, Option, Some}
-use Rattle.std.specs.Prelude.{None, option_map, is_some, nat_le, slice_index}
-use Rattle.std.specs.List.{filter, find, list_all, list_any, range_with_len}
-use Rattle.ttx_packet.specs.Hamming84.{code_words}
+use Rattle.std.specs.Prelude.{ℕ, zero, suc, ◌+◌, ◌&&◌, ◌||◌, ◌==◌, Bool, true, false, not, List, []}
+use Rattle.std.specs.Prelude.{◌∷◌, Option, Some, None, option_map, is_some, nat_le, slice_index}
+use Rattle.std.specs.List.{filter, find}
+use Rattle.ttx_packet.specs.Hamming84.{code_word}
 use Rattle.ttx_packet.specs.PacketAddress.{PacketAddress, address}
 use Rattle.ttx_packet.specs.PageHeader.{c4, c5, c6, c7, c10, c11, c12, c13, c14, header}
 use Rattle.ttx_packet.specs.PageId.{PageIdValue}
@@ -23,12 +23,17 @@ use Rattle.sub_check.specs.declared.packet_rules.PacketRule.{PacketRule}
 use Rattle.sub_check.specs.declared.packet_rules.PacketRule.TheVariants as rule
 use Rattle.sub_check.specs.declared.packet_rules.Watched.{Watched}
 
+-- A byte is one of the first n code words.
+unfoldable pub is_word_below : ℕ → ℕ → Bool
+is_word_below b zero = false
+is_word_below b (suc n) = b == code_word n || is_word_below b n
+
 -- Each byte of a packet from a place on, as many as these, is a code word, with no bit wrong (EN
 -- 300 706, 8.2).
 unfoldable pub are_code_words : ℕ → ℕ → List ℕ → Bool
-are_code_words from count packet =
-    list_all (λ place. list_any (λ word. slice_index packet place == word) code_words)
-    (range_with_len from count)
+are_code_words from zero packet = true
+are_code_words from (suc n) packet =
+    is_word_below (slice_index packet (from + n)) 16 && are_code_words from n packet
 
 -- The address is that of a packet X/0.
 abbrev pub is_of_header : Option PacketAddress → Bool
@@ -64,10 +69,13 @@ abbrev pub is_other_text : Option (List ℕ) → List ℕ → Bool
 is_other_text None codes = false
 is_other_text (Some q) codes = not (row_differing (codes_of q) codes == 0)
 
+-- The first packet of a row among these.
+abbrev pub first_of_row : PageIdValue → List (List ℕ) → ℕ → Option (List ℕ)
+first_of_row page packets row = find (λ q. is_row row (kind page q)) packets
+
 -- The codes of a row are others than those of the first packet of its row among these.
 abbrev pub is_other_row : PageIdValue → List (List ℕ) → List ℕ → PacketKind → Bool
-is_other_row page packets p (Row row) =
-    is_other_text (find (λ q. is_row row (kind page q)) packets) (codes_of p)
+is_other_row page packets p (Row row) = is_other_text (first_of_row page packets row) (codes_of p)
 is_other_row page packets p (ThisPage h) = false
 is_other_row page packets p EndsPage = false
 is_other_row page packets p Other = false
@@ -96,7 +104,7 @@ breaks rule.Enhancement w before p =
     is_open_after (kind w.page) before && is_of_enhancement w.page (address p)
 
 -- The rules in the order in which they are told of one packet.
-abbrev pub packet_rules : List PacketRule
+unfoldable pub packet_rules : List PacketRule
 packet_rules =
     rule.Address ∷ rule.HeaderCode ∷ rule.Mode ∷ rule.Control ∷ rule.Parity ∷ rule.RowChanged
     ∷ rule.Enhancement ∷ []

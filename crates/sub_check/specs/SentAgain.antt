@@ -1,10 +1,11 @@
--- Packets that are sent again: where the first of them is a header of the page, and they keep the
--- rules, they keep them again.
-use Rattle.std.specs.Prelude.{◌≡◌, ℕ, List, ◌∷◌, ◌++◌, length, IsTrue}
+-- Packets that are sent again: where the first of them is a header of the page, each breaks the same
+-- rules again.
+use Rattle.std.specs.Prelude.{◌≡◌, ℕ, ◌<◌, List, [], ◌∷◌, ◌++◌, length, IsTrue, slice_index_or, take}
 use Rattle.ttx_packet.specs.PageId.{PageIdValue}
 use Rattle.ttx_page.specs.PacketKind.{kind, is_this_page}
 use Rattle.ttx_page.specs.Span.{is_open_after, span}
-use Rattle.sub_check.specs.PacketRules.{AreClean, first_header}
+use Rattle.sub_check.specs.PacketRules.{first_header}
+use Rattle.sub_check.specs.PacketTests.{broken_rules}
 use Rattle.sub_check.specs.declared.packet_rules.Watched.{Watched}
 
 -- The first of the packets is a header of the page.
@@ -21,13 +22,20 @@ pub record LookAlike (page : PageIdValue) (one other : List (List ℕ)) : Type 0
   pub open_is : is_open_after (kind page) one ≡ is_open_after (kind page) other
   pub span_is : span (kind page) one ≡ span (kind page) other
 
--- Packets that begin with a header of the page and keep the rules keep them again when they are
--- sent again at once, and leave all that a rule looks back to as they left it before.
--- So a checker need not look at a sending that is the one before, sent again.
+-- Each of these packets breaks the same rules, sent after the one list and after the other.
+abbrev pub BreakAlike : Watched → List (List ℕ) → List (List ℕ) → List (List ℕ) → Type 0
+BreakAlike w one other packets =
+    (k : ℕ)
+    → k < length packets
+    → broken_rules w (one ++ take k packets) (slice_index_or packets k [])
+    ≡ broken_rules w (other ++ take k packets) (slice_index_or packets k [])
+
+-- Packets that begin with a header of the page break the same rules again when they are sent again
+-- at once, and leave all that a rule looks back to as they left it before.
+-- So a checker need not look at a sending that broke none, sent again.
 abbrev pub LawOfSentAgain : Type 0
 LawOfSentAgain =
     (w : Watched) (heard packets : List (List ℕ))
     → BeginsWithHeader w.page packets
-    → AreClean w heard packets (length packets)
-    → AreClean w (heard ++ packets) packets (length packets)
+    → BreakAlike w heard (heard ++ packets) packets
     × LookAlike w.page (heard ++ packets) ((heard ++ packets) ++ packets)

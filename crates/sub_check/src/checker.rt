@@ -1,32 +1,31 @@
 //! The exact checker: a PES file against a programme, one PES packet at a time.
-ghost use Rattle.std.specs.Prelude.{◌≡◌, ℕ, MatchResult};
-ghost use Rattle.std.specs.Prelude.{Err, Option, false};
+ghost use Rattle.std.specs.Prelude.{◌≡◌, ℕ, Ok, Err, Option, None, Some, IfErr, true, false};
 ghost use Rattle.sub_io.specs.Device.{CanFail, CountsIf, failed};
 ghost use Rattle.sub_io.specs.Reading.{IfTold};
 ghost use Rattle.stl_rows.specs.Programme.{IsProgramme};
 ghost use Rattle.ttx_pes.specs.Reader.{FailsAtPacket};
 ghost use Rattle.sub_plan.specs.Options.{IsOptions};
-ghost use Rattle.sub_check.specs.CheckedFiles.{IsChecked};
-ghost use Rattle.sub_check.specs.Checking.{Accepts};
+ghost use Rattle.sub_check.specs.CheckedFiles.{IsChecked, TellsEvents};
+ghost use Rattle.sub_check.specs.Checking.{IsRuleFault, TellsAll};
 ghost use Rattle.sub_check.specs.Fault.{is_pes_read, is_pes_write, is_subtitle_fault};
-ghost use Rattle.sub_check.specs.FirstBroken.{IsReadUpTo, NamesFirst};
 ghost use Rattle.sub_check.specs.FrameRules.{Unread, task_of};
 ghost use Rattle.sub_check.specs.PesReading.{ReadsAs};
 ghost use Rattle.sub_check.specs.Transmission.{Transmission};
 
+use crate::event::Event;
 use crate::fault::CheckFault;
 use crate::frame_rules::Checker;
 use crate::packet_rules::Watched;
 use crate::sending::{next_sending, units_of};
 use stl_rows::Programme;
-use sub_io::Source;
+use sub_io::{Audience, FirstTold, Source};
 use sub_plan::Options;
 use ttx_pes::{ComparingReader, PesFault};
 
 /// What an accepted transmission holds.
 #[derive(Clone, Copy, Debug, PartialEq, Eq)]
 pub struct Accepted {
-    /// How many frames of the day there are from the first PES packet's to the last one's.
+    /// How many frames of the day there are from the first PES packet's to the latest one's.
     pub frames: u64,
     /// How many headers of the page there are.
     pub transmissions: u64,
@@ -69,34 +68,67 @@ pub fn check<S: Source>(
     ensures no_write { failed is_pes_write result ≡ false }
     ensures count { CountsIf S.failure_count source.old (failed is_pes_read result) source.new }
 {
-    judge(programme, source, options)
+    let mut first = FirstTold::new();
+    match tell_all(programme, source, options, &mut first) {
+        Err(fault) => Err(fault),
+        Ok(counts) => answer(first.into_first(), counts),
+    }
 }
 
-// Checks a PES file, place by place.
-fn judge<S: Source>(
+/// Checks a PES file against a programme, as `check` does, and tells all that is broken to a device
+/// of the caller's, one event after another, until it says stop.
+///
+/// The events are those of `check`'s list, each where it is broken: all rules that a packet breaks;
+/// of a rule that is asked at the end of each frame, where it begins to be broken and where it has
+/// ended. Where the bytes can't be read on, that is the last event. It counts what was read: the
+/// frames of the day from the first PES packet's to the latest one's, and the headers of the page.
+///
+/// It takes no memory, and reads as `check` does.
+///
+/// # Errors
+///
+/// `Pes` with `Read` where the source failed: then the events are those of the PES packets before.
+pub fn check_all<S: Source, A: Audience<Event>>(
     programme: &Programme,
     source: &mut S,
     options: &Options,
+    audience: &mut A,
 ) -> Result<Accepted, CheckFault>
-    requires { CanFail (S.failure_count source.old) }
+    requires failures { CanFail (S.failure_count source.old) }
+    requires goes_on { A.has_stopped audience.old ≡ false }
+    // Where the source tells its bytes, these decide what the device is told.
+    ensures told { IfTold (S.remaining source.old) (λ bytes.
+        TellsEvents programme.now options.now bytes (A.told audience.old) (A.told audience.new)
+        (A.has_stopped audience.new) result) }
+    // That the source failed is told at the PES packet within which it failed: those before it were
+    // taken. There is no other `Err`.
+    ensures read { (pes : ℕ) → result ≡ Err (CheckFault.Pes pes PesFault.Read)
+        → FailsAtPacket pes (S.remaining source.old) (S.remaining source.new) }
+    ensures only { IfErr result (λ f. is_pes_read f ≡ true) }
+    ensures count { CountsIf S.failure_count source.old (failed is_pes_read result) source.new }
+{
+    tell_all(programme, source, options, audience)
+}
+
+// Tells all that is broken, PES packet by PES packet.
+fn tell_all<S: Source, A: Audience<Event>>(
+    programme: &Programme,
+    source: &mut S,
+    options: &Options,
+    audience: &mut A,
+) -> Result<Accepted, CheckFault>
+    requires failures { CanFail (S.failure_count source.old) }
+    requires goes_on { A.has_stopped audience.old ≡ false }
     ensures exact { (frames : Transmission) (unread : Option Unread)
         → IfTold (S.remaining source.old) (λ bytes.
         ReadsAs options.now.origin 0 bytes frames unread
-        → failed is_pes_read result ≡ false
-        → MatchResult result
-        (Accepts (task_of programme.now options.now unread) options.now.origin bytes frames)
-        (NamesFirst (task_of programme.now options.now unread) frames)) }
-    ensures failed { (frames : Transmission) (unread : Option Unread) (pes : ℕ)
-        → IfTold (S.remaining source.old) (λ bytes.
-        ReadsAs options.now.origin 0 bytes frames unread
-        → result ≡ Err (CheckFault.Pes pes PesFault.Read)
-        → IsReadUpTo (task_of programme.now options.now unread) frames pes) }
+        → TellsAll (task_of programme.now options.now unread) options.now.origin bytes frames
+        (A.told audience.old) (A.told audience.new) (A.has_stopped audience.new) result) }
     ensures read { (pes : ℕ) → result ≡ Err (CheckFault.Pes pes PesFault.Read)
         → FailsAtPacket pes (S.remaining source.old) (S.remaining source.new) }
-    ensures no_write { failed is_pes_write result ≡ false }
+    ensures only { IfErr result (λ f. is_pes_read f ≡ true) }
     ensures options { IsOptions options.now }
     ensures programme { IsProgramme programme.now.national programme.now.records }
-    ensures own { failed is_subtitle_fault result ≡ false }
     ensures count { CountsIf S.failure_count source.old (failed is_pes_read result) source.new }
 {
     let every = options.every() as u32;
@@ -109,15 +141,64 @@ fn judge<S: Source>(
     let mut checker = Checker::new(programme, watched, every);
     let mut pes = 0;
     'packets: loop {
-        let more = next_sending(&mut reader, source, options, pes)?;
-        let Some(sending) = more else {
-            if pes == 0 {
-                return Err(CheckFault::Empty);
+        let more = match next_sending(&mut reader, source, options, pes) {
+            Err(fault) => {
+                if is_source_failure(&fault) {
+                    return Err(fault);
+                }
+                let _ = checker.close(pes, Some(fault), audience);
+                return Ok(checker.counts(pes));
             }
-            return checker.finish();
+            Ok(more) => more,
+        };
+        let Some(sending) = more else {
+            let _ = checker.close(pes, None, audience);
+            return Ok(checker.counts(pes));
         };
         let units = units_of(&reader);
-        checker.go_on(pes, sending, units)?;
-        pes += 1;
+        match checker.go_on(pes, sending, units, audience) {
+            Err(_) => return Ok(checker.counts(pes)),
+            Ok(()) => pes += 1,
+        }
+    }
+}
+
+// The answer, where this was told first, if anything was.
+fn answer(first: Option<Event>, counts: Accepted) -> Result<Accepted, CheckFault>
+    ensures none { first ≡ None → result ≡ Ok counts }
+    ensures some { (f : CheckFault) → first ≡ Some (Event.Told f) → IsRuleFault f
+        → result ≡ Err f }
+    ensures own { IfErr result IsRuleFault }
+{
+    match first {
+        None => Ok(counts),
+        Some(Event::Told(fault)) => Err(of_rule(fault)),
+        // Nothing ends before it is told.
+        Some(Event::Ended { .. }) => Err(CheckFault::Empty),
+    }
+}
+
+// A fault that is told by a rule, as it is. No other is told of a PES file.
+fn of_rule(fault: CheckFault) -> CheckFault
+    ensures same { IsRuleFault fault → result ≡ fault }
+    ensures own { IsRuleFault result }
+{
+    match fault {
+        CheckFault::Subtitles(_)
+        | CheckFault::Pes {
+            fault: PesFault::Read | PesFault::Write,
+            ..
+        } => CheckFault::Empty,
+        _ => fault,
+    }
+}
+
+// The source failed.
+fn is_source_failure(fault: &CheckFault) -> bool
+    ensures { result ≡ is_pes_read fault.now }
+{
+    match fault {
+        CheckFault::Pes { fault, .. } => *fault == PesFault::Read,
+        _ => false,
     }
 }

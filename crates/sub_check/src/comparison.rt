@@ -1,7 +1,6 @@
 //! The page that is shown beside the page that is due, and in how many cells they differ.
-ghost use Rattle.std.specs.Prelude.{◌≡◌, ℕ, ◌-◌, ◌≤◌, ◌↔◌, IfSome, IsTrue, MatchOption, Some};
+ghost use Rattle.std.specs.Prelude.{◌≡◌, ℕ, ◌-◌, ◌≤◌, ◌==◌, not, IfSome, IsTrue, MatchOption, Some};
 ghost use Rattle.std.specs.Prelude.{slice_set};
-ghost use Rattle.ttx_packet.specs.PacketAddress.{IsPacket};
 ghost use Rattle.ttx_page.specs.Differing.{row_differing};
 ghost use Rattle.ttx_page.specs.Page.{AreCodes, DiffersFirst, IsCell, IsPage, IsRow, blank, cell};
 ghost use Rattle.ttx_page.specs.Page.{row_at};
@@ -85,13 +84,12 @@ impl Comparison {
         self.wrong = recounted(self.wrong, before, after);
     }
 
-    /// Whether a row that is shown holds the codes of a packet.
-    pub fn holds_row(&self, row: u8, packet: &Packet) -> bool
+    /// Whether a row that is shown holds other codes than a packet.
+    pub fn differs_from(&self, row: u8, packet: &Packet) -> bool
         requires { IsRow row }
-        ensures value { IsTrue result ↔ (row_at self.now.page row ≡ codes_of packet.now) }
-        ensures whole { IsPacket packet.now }
+        ensures { result ≡ not (row_differing (row_at self.now.page row) (codes_of packet.now) == 0) }
     {
-        is_same_row(self.page.row(row), &text_codes(packet))
+        differing_columns(self.page.row(row), &text_codes(packet)) != 0
     }
 
     /// The first cell that differs from the due page, found by the count where there is one.
@@ -129,13 +127,6 @@ fn is_zero(count: Option<u16>) -> bool
         Some(count) => count == 0,
         None => false,
     }
-}
-
-// Whether two rows are equal.
-fn is_same_row(a: &[u8; 40], b: &[u8; 40]) -> bool
-    ensures { IsTrue result ↔ (a.now ≡ b.now) }
-{
-    a == b
 }
 
 // How many cells of a row differ on two pages.

@@ -12,7 +12,7 @@ pub enum EndRule {
     Incomplete,
 }
 
-/// What is told of a PES file that is checked: a rule that is broken, or one that is broken no more.
+/// What is told of a PES file that is checked: a rule that is broken, or one that is so no more.
 #[derive(Clone, Copy, Debug, PartialEq, Eq)]
 pub enum Event {
     /// What is asked is broken here. A rule of a frame's end is told where it was not broken at the

@@ -2,6 +2,7 @@
 //!
 //! The functions do nothing: the contract of each is a law over the definitions of `specs/`.
 ghost use Rattle.sub_check.specs.CleanStretch.{LawOfCleanStretch};
+ghost use Rattle.sub_check.specs.FirstEvent.{LawOfFirstEvent};
 ghost use Rattle.sub_check.specs.Laws.{LawOfAllKept, LawOfGood, LawOfGoodAndMarkedLoss};
 ghost use Rattle.sub_check.specs.Laws.{LawOfWindow};
 ghost use Rattle.sub_check.specs.PesReading.{LawOfPesFiles};
@@ -105,4 +106,11 @@ pub fn law_of_plan_read()
 /// these frames, and the other way round.
 pub fn law_of_pes_files()
     ensures { LawOfPesFiles }
+{}
+
+/// The first event that is told of a transmission names the first place that is broken, and nothing
+/// is told exactly where all that is asked holds.
+#[tactic(auto, using(crate::proofs::EventLemmas::law_of_first_event))]
+pub fn law_of_first_event()
+    ensures { LawOfFirstEvent }
 {}

@@ -8,6 +8,7 @@
 //!
 //! ```text
 //! check(&programme, &mut source, &options)?; // Accepted { frames: 51, transmissions: 2 }
+//! check_all(&programme, &mut source, &options, &mut audience)?; // tells every broken place
 //! law_of_good: Good programme transmission options → Robust programme transmission options
 //! ```
 #![tactic(auto)]
@@ -28,10 +29,12 @@ mod on_screen;
 mod packet_rules;
 mod reception;
 mod recovery;
+mod rule_set;
 mod screen_examples;
 mod sending;
+mod standing;
 
-pub use checker::{Accepted, check};
+pub use checker::{Accepted, check, check_all};
 pub use event::{EndRule, Event};
 pub use examples::{
     example_of_clean_stretch, example_of_good, examples_of_broken_rules, examples_of_needed_parts,
@@ -40,7 +43,7 @@ pub use fault::CheckFault;
 pub use fault_place::FaultPlace;
 pub use files::check_files;
 pub use laws::{
-    law_of_all_kept, law_of_clean_spans, law_of_clean_stretch, law_of_good,
+    law_of_all_kept, law_of_clean_spans, law_of_clean_stretch, law_of_first_event, law_of_good,
     law_of_good_and_marked_loss, law_of_pes_files, law_of_plan, law_of_plan_read, law_of_repeats,
     law_of_rules, law_of_sent_again, law_of_spans_by_packet, law_of_stretch,
     law_of_sufficient_parts, law_of_whole_stretch, law_of_window,

@@ -1,28 +1,32 @@
-//! What is kept of the packets that were heard, and the rule that the next packet breaks.
-ghost use Rattle.std.specs.Prelude.{◌≡◌, ℕ, ◌+◌, ◌-◌, ◌<◌, ◌≤◌, ◌++◌, List, [], ◌∷◌, MatchOption};
-ghost use Rattle.std.specs.Prelude.{MatchResult, length, true, false, replicate, slice_set};
-ghost use Rattle.std.specs.Prelude.{if◌then◌else◌, ◌&&◌, ◌==◌, Some, None};
+//! What is kept of the packets that were heard, and the rules that the next packet breaks.
+ghost use Rattle.std.specs.Prelude.{◌≡◌, ℕ, ◌+◌, ◌-◌, ◌<◌, ◌≤◌, ◌++◌, List, [], ◌∷◌, MatchResult};
+ghost use Rattle.std.specs.Prelude.{length, true, false, is_err, replicate, slice_set};
+ghost use Rattle.std.specs.Prelude.{if◌then◌else◌, ◌&&◌, ◌==◌, not, Some, None, is_some};
+ghost use Rattle.std.specs.Prelude.{slice_index_or};
+ghost use Rattle.sub_io.specs.Telling.{Tells, TellsPrefix};
+ghost use Rattle.ttx_packet.specs.PacketAddress.{address};
 ghost use Rattle.ttx_packet.specs.PageHeader.{header};
-ghost use Rattle.ttx_page.specs.Page.{AreCodes, DiffersFirst, IsCell, IsPage, blank, cell};
+ghost use Rattle.ttx_packet.specs.RowPacket.{first_even_byte};
+ghost use Rattle.ttx_page.specs.Differing.{row_differing};
+ghost use Rattle.ttx_page.specs.Page.{AreCodes, IsPage, IsRow, blank, row_at};
 ghost use Rattle.ttx_page.specs.PacketKind.{is_this_page, kind};
+ghost use Rattle.ttx_page.specs.Span.{is_open_after};
 ghost use Rattle.ttx_pes.specs.PesPacket.{most_units};
-ghost use Rattle.sub_check.specs.PacketRules.{header_count, packets_of_units};
+ghost use Rattle.sub_check.specs.Events.{packet_events, wrong_after};
+ghost use Rattle.sub_check.specs.PacketRules.{codes_of, header_count, packets_of_units};
+ghost use Rattle.sub_check.specs.PacketTests.{breaks, is_of_enhancement};
 
 use crate::comparison::Comparison;
+use crate::event::Event;
 use crate::packet_rules::{
-    PacketRule, Watched, first_serial, has_exact_codes, has_mode, has_odd_text, is_enhancement,
-    is_subtitle_header, text_codes,
+    Watched, first_serial, has_even_byte, has_wrong_address, has_wrong_codes, is_enhancement,
+    is_other_mode, is_subtitle_header, text_codes,
 };
+use crate::rule_set::{RuleSet, tell_rules};
+use sub_io::{Audience, Stopped};
 use ttx_packet::{Header, Packet};
 use ttx_page::{PacketKind, Page};
 use ttx_pes::Unit;
-
-/// A rule that is broken, and the packet that breaks it.
-#[derive(Clone, Copy)]
-pub(crate) struct BrokenRule {
-    pub packet: u32,
-    pub rule: PacketRule,
-}
 
 /// What is kept of the packets that were heard.
 #[derive(Drop)]
@@ -40,9 +44,7 @@ pub(crate) struct Listener {
 }
 
 impl Listener {
-    ghost use Rattle.sub_check.specs.PacketRules.{AreClean, IsClean, BreaksFirstAt, BreaksFirst};
-    ghost use Rattle.ttx_packet.specs.PacketAddress.{HasExactAddress};
-    ghost use Rattle.sub_check.specs.Listening.{BreaksLater, KeepsLater, Knows, KnowsLast};
+    ghost use Rattle.sub_check.specs.Listening.{Knows, KnowsLast, later_set, rule_set};
 
     /// Nothing was heard, and this page is due.
     pub fn new(watched: Watched, due: Page) -> Self
@@ -71,84 +73,169 @@ impl Listener {
 
     /// Whether complete pages are asked for, and the page is open.
     pub fn is_incomplete(&self) -> bool
-        ensures { result ≡ (self.now.watched.complete && self.now.is_open) }
+        ensures { (heard : List (List ℕ)) → Knows heard self.now → result
+            ≡ (self.now.watched.complete && is_open_after (kind self.now.watched.page) heard) }
     {
         self.watched.complete && self.is_open
     }
 
-    /// The first rule that a packet of this kind, with this page header, breaks which comes now.
-    pub fn broken_rule(
+    /// The first cell that shows another code than is due.
+    pub fn first_wrong(&self) -> Option<(u8, u8)>
+        ensures { (heard : List (List ℕ)) → Knows heard self.now → result
+            ≡ wrong_after self.now.watched.page heard self.now.comparison.due }
+    {
+        self.comparison.first_wrong()
+    }
+
+    /// Hears the packets of a frame, tells which rules they break, and says how many headers of the
+    /// page are among them. `again` says that they are those heard last.
+    ///
+    /// Packets that begin with a header of the page and broke no rule break none again, and leave
+    /// what is kept as it is: no packet is looked at.
+    ///
+    /// # Errors
+    ///
+    /// `Stopped` where the audience said stop. What is kept is then of no use.
+    pub fn hear_sending<A: Audience<Event>>(
+        &mut self,
+        units: &[Unit],
+        again: bool,
+        frame: u32,
+        audience: &mut A,
+    ) -> Result<u8, Stopped>
+        requires few { length units.now ≤ most_units }
+        requires goes_on { A.has_stopped audience.old ≡ false }
+        ensures watched { self.new.watched ≡ self.old.watched }
+        ensures due { self.new.comparison.due ≡ self.old.comparison.due }
+        ensures stopped { A.has_stopped audience.new ≡ is_err result }
+        ensures knows { (heard last : List (List ℕ)) → KnowsLast heard last self.old
+            → (again ≡ true → last ≡ packets_of_units units.now) → MatchResult result
+            (λ headers. KnowsLast (heard ++ packets_of_units units.now)
+            (packets_of_units units.now) self.new
+            × (headers ≡ header_count self.old.watched.page (packets_of_units units.now))
+            × Tells (A.told audience.old) (A.told audience.new)
+            (packet_events self.old.watched frame heard (packets_of_units units.now)
+            (length (packets_of_units units.now))))
+            (λ _. TellsPrefix (A.told audience.old) (A.told audience.new)
+            (packet_events self.old.watched frame heard (packets_of_units units.now)
+            (length (packets_of_units units.now)))) }
+    {
+        if again {
+            if let Some(headers) = self.last {
+                return Ok(headers);
+            }
+        }
+        self.hear_all(units, frame, audience)
+    }
+
+    // Hears the packets of a frame, and tells which rules they break.
+    fn hear_all<A: Audience<Event>>(
+        &mut self,
+        units: &[Unit],
+        frame: u32,
+        audience: &mut A,
+    ) -> Result<u8, Stopped>
+        requires few { length units.now ≤ most_units }
+        requires goes_on { A.has_stopped audience.old ≡ false }
+        ensures watched { self.new.watched ≡ self.old.watched }
+        ensures due { self.new.comparison.due ≡ self.old.comparison.due }
+        ensures stopped { A.has_stopped audience.new ≡ is_err result }
+        ensures knows { (heard : List (List ℕ)) → Knows heard self.old → MatchResult result
+            (λ headers. KnowsLast (heard ++ packets_of_units units.now)
+            (packets_of_units units.now) self.new
+            × (headers ≡ header_count self.old.watched.page (packets_of_units units.now))
+            × Tells (A.told audience.old) (A.told audience.new)
+            (packet_events self.old.watched frame heard (packets_of_units units.now)
+            (length (packets_of_units units.now))))
+            (λ _. TellsPrefix (A.told audience.old) (A.told audience.new)
+            (packet_events self.old.watched frame heard (packets_of_units units.now)
+            (length (packets_of_units units.now)))) }
+    {
+        let mut headers = 0;
+        let mut begins = false;
+        let mut is_clean = true;
+        for k in 0..units.len() {
+            let packet = units[k].packet();
+            let (found, page_header) = PacketKind::with_header(self.watched.page, packet);
+            let rules = self.broken_rules(packet, found, page_header);
+            tell_rules(rules, frame, k as u32, audience)?;
+            let is_header = self.hear(packet, found, page_header);
+            begins = begins_with(begins, k, is_header);
+            headers = counted(headers, is_header);
+            is_clean = stays_clean(is_clean, rules);
+        }
+        self.last = last_headers(begins, is_clean, headers);
+        Ok(headers)
+    }
+
+    // The rules that a packet of this kind, with this page header, breaks which comes now.
+    fn broken_rules(
         &self,
         packet: &Packet,
         found: PacketKind,
         page_header: Option<Header>,
-    ) -> Option<PacketRule>
+    ) -> RuleSet
         requires kind { found ≡ kind self.now.watched.page packet.now }
         requires page_header { page_header ≡ header packet.now }
         requires row { (row : ℕ) → found ≡ PacketKind.Row row → (1 ≤ row) × (row ≤ 24) }
         ensures { (heard : List (List ℕ)) → Knows heard self.now
-            → MatchOption result
-            (IsClean self.now.watched heard packet.now)
-            (BreaksFirst self.now.watched heard packet.now) }
+            → result.0 ≡ rule_set (λ r. breaks r self.now.watched heard packet.now) }
     {
-        if !packet.is_clean_address() {
-            return Some(PacketRule::Address);
-        }
-        if !has_exact_codes(packet, page_header) {
-            return Some(PacketRule::HeaderCode);
-        }
-        if !has_mode(self.serial, page_header) {
-            return Some(PacketRule::Mode);
-        }
-        self.broken_later(packet, found)
+        let rules = RuleSet::none()
+            .with(RuleSet::ADDRESS, has_wrong_address(packet))
+            .with(RuleSet::HEADER_CODE, has_wrong_codes(packet, page_header))
+            .with(RuleSet::MODE, is_other_mode(self.serial, page_header));
+        self.with_later(rules, packet, found)
     }
 
-    // The same of the rules after that of one mode, where the address is exact.
-    #[tactic(auto, using(crate::proofs::PacketRuleLemmas::enhancement_is_other))]
-    fn broken_later(&self, packet: &Packet, found: PacketKind) -> Option<PacketRule>
+    // A set, with the rules that a packet breaks by what it is.
+    fn with_later(&self, rules: RuleSet, packet: &Packet, found: PacketKind) -> RuleSet
         requires kind { found ≡ kind self.now.watched.page packet.now }
         requires row { (row : ℕ) → found ≡ PacketKind.Row row → (1 ≤ row) × (row ≤ 24) }
-        requires exact { HasExactAddress packet.now }
         ensures { (heard : List (List ℕ)) → Knows heard self.now
-            → MatchOption result
-            (KeepsLater self.now.watched heard packet.now)
-            (BreaksLater self.now.watched heard packet.now) }
+            → result.0 ≡ later_set (λ r. breaks r self.now.watched heard packet.now) rules.0 }
     {
         match found {
-            PacketKind::ThisPage(header) => {
-                if is_subtitle_header(self.watched.national, &header) {
-                    None
-                } else {
-                    Some(PacketRule::Control)
-                }
-            }
-            PacketKind::EndsPage => None,
-            PacketKind::Row(row) => {
-                if !self.is_open {
-                    return None;
-                }
-                if !has_odd_text(packet) {
-                    return Some(PacketRule::Parity);
-                }
-                let at = row as usize - 1;
-                if self.sent[at] && !self.comparison.holds_row(row, packet) {
-                    return Some(PacketRule::RowChanged);
-                }
-                None
-            }
-            PacketKind::Other => {
-                if self.is_open && is_enhancement(self.watched.page, packet) {
-                    Some(PacketRule::Enhancement)
-                } else {
-                    None
-                }
-            }
+            PacketKind::ThisPage(header) => rules.with(
+                RuleSet::CONTROL,
+                !is_subtitle_header(self.watched.national, &header),
+            ),
+            PacketKind::EndsPage => rules,
+            PacketKind::Row(row) => rules
+                .with(RuleSet::PARITY, self.has_even_row(packet))
+                .with(RuleSet::ROW_CHANGED, self.has_changed(row, packet)),
+            PacketKind::Other => rules.with(RuleSet::ENHANCEMENT, self.is_enhanced(packet)),
         }
     }
 
-    /// Hears a packet of this kind that breaks no rule, and says whether it is a header of the
-    /// page.
-    pub fn hear(&mut self, packet: &Packet, found: PacketKind, page_header: Option<Header>) -> bool
+    // Whether the page is open, and a row's packet has an even byte.
+    fn has_even_row(&self, packet: &Packet) -> bool
+        ensures { result ≡ (self.now.is_open && is_some (first_even_byte packet.now)) }
+    {
+        self.is_open && has_even_byte(packet)
+    }
+
+    // Whether the page is open, and a row that was sent has other codes than a packet.
+    fn has_changed(&self, row: u8, packet: &Packet) -> bool
+        requires { IsRow row }
+        ensures { result ≡ (self.now.is_open && slice_index_or self.now.sent (row - 1) false
+            && not (row_differing (row_at self.now.comparison.page row) (codes_of packet.now)
+            == 0)) }
+    {
+        self.is_open && self.sent[row as usize - 1] && self.comparison.differs_from(row, packet)
+    }
+
+    // Whether the page is open, and a packet is X/25 to X/28 of its magazine.
+    fn is_enhanced(&self, packet: &Packet) -> bool
+        ensures { result
+            ≡ (self.now.is_open && is_of_enhancement self.now.watched.page (address packet.now)) }
+    {
+        self.is_open && is_enhancement(self.watched.page, packet)
+    }
+
+    // Hears a packet of this kind, and says whether it is a header of the page. Of a row that was
+    // sent, the first packet stays.
+    fn hear(&mut self, packet: &Packet, found: PacketKind, page_header: Option<Header>) -> bool
         requires kind { found ≡ kind self.old.watched.page packet.now }
         requires page_header { page_header ≡ header packet.now }
         requires row { (row : ℕ) → found ≡ PacketKind.Row row → (1 ≤ row) × (row ≤ 24) }
@@ -156,7 +243,6 @@ impl Listener {
         ensures watched { self.new.watched ≡ self.old.watched }
         ensures due { self.new.comparison.due ≡ self.old.comparison.due }
         ensures knows { (heard : List (List ℕ)) → Knows heard self.old
-            → IsClean self.old.watched heard packet.now
             → Knows (heard ++ packet.now ∷ []) self.new }
     {
         self.serial = first_serial(self.serial, page_header);
@@ -170,7 +256,7 @@ impl Listener {
                 false
             }
             PacketKind::Row(row) => {
-                if self.is_open {
+                if self.is_new(row) {
                     self.store(row, &text_codes(packet));
                 }
                 false
@@ -179,71 +265,13 @@ impl Listener {
         }
     }
 
-    /// Hears the packets of a frame, and says how many headers of the page are among them. `again`
-    /// says that they are those heard last.
-    ///
-    /// Packets that begin with a header of the page and keep the rules keep them again, and leave
-    /// what is kept as it is: no packet is looked at.
-    pub fn hear_sending(&mut self, units: &[Unit], again: bool) -> Result<u8, BrokenRule>
-        requires few { length units.now ≤ most_units }
-        ensures watched { self.new.watched ≡ self.old.watched }
-        ensures due { self.new.comparison.due ≡ self.old.comparison.due }
-        ensures knows { (heard last : List (List ℕ)) → KnowsLast heard last self.old
-            → (again ≡ true → last ≡ packets_of_units units.now) → MatchResult result
-            (λ headers. AreClean self.old.watched heard (packets_of_units units.now)
-            (length units.now)
-            × KnowsLast (heard ++ packets_of_units units.now) (packets_of_units units.now) self.new
-            × (headers ≡ header_count self.old.watched.page (packets_of_units units.now)))
-            (λ fault. BreaksFirstAt self.old.watched heard (packets_of_units units.now)
-            fault.packet fault.rule) }
+    // Whether the page is open, and a row was not sent.
+    fn is_new(&self, row: u8) -> bool
+        requires { IsRow row }
+        ensures { result
+            ≡ (self.now.is_open && not (slice_index_or self.now.sent (row - 1) false)) }
     {
-        if again {
-            if let Some(headers) = self.last {
-                return Ok(headers);
-            }
-        }
-        self.hear_all(units)
-    }
-
-    // Hears the packets of a frame as long as they break no rule.
-    fn hear_all(&mut self, units: &[Unit]) -> Result<u8, BrokenRule>
-        requires few { length units.now ≤ most_units }
-        ensures watched { self.new.watched ≡ self.old.watched }
-        ensures due { self.new.comparison.due ≡ self.old.comparison.due }
-        ensures knows { (heard : List (List ℕ)) → Knows heard self.old → MatchResult result
-            (λ headers. AreClean self.old.watched heard (packets_of_units units.now)
-            (length units.now)
-            × KnowsLast (heard ++ packets_of_units units.now) (packets_of_units units.now) self.new
-            × (headers ≡ header_count self.old.watched.page (packets_of_units units.now)))
-            (λ fault. BreaksFirstAt self.old.watched heard (packets_of_units units.now)
-            fault.packet fault.rule) }
-    {
-        let mut headers = 0;
-        let mut begins = false;
-        for k in 0..units.len() {
-            let packet = units[k].packet();
-            let (found, page_header) = PacketKind::with_header(self.watched.page, packet);
-            if let Some(rule) = self.broken_rule(packet, found, page_header) {
-                let packet = k as u32;
-                return Err(BrokenRule { packet, rule });
-            }
-            let is_header = self.hear(packet, found, page_header);
-            begins = begins_with(begins, k, is_header);
-            headers = counted(headers, is_header);
-        }
-        self.last = last_headers(begins, headers);
-        Ok(headers)
-    }
-
-    /// The first cell that differs from the due page.
-    pub fn first_wrong(&self) -> Option<(u8, u8)>
-        ensures { MatchOption result
-            ((row column : ℕ) → IsCell row column
-            → cell self.now.comparison.page row column ≡ cell self.now.comparison.due row column)
-            (λ place. DiffersFirst self.now.comparison.page self.now.comparison.due place.0
-            place.1) }
-    {
-        self.comparison.first_wrong()
+        self.is_open && !self.sent[row as usize - 1]
     }
 
     // A header of the page: it is blank, and no row was sent.
@@ -291,9 +319,20 @@ fn begins_with(begins: bool, k: usize, is_header: bool) -> bool
     if k == 0 { is_header } else { begins }
 }
 
-// How many headers there are, where the first packet is one.
-fn last_headers(begins: bool, headers: u8) -> Option<u8>
-    ensures { result ≡ (if begins then Some headers else None) }
+// Whether no rule was broken, at a packet that breaks these.
+fn stays_clean(is_clean: bool, rules: RuleSet) -> bool
+    ensures { result ≡ (is_clean && rules.0 == 0) }
 {
-    if begins { Some(headers) } else { None }
+    is_clean && rules.has_none()
+}
+
+// How many headers there are, where the first packet is one and none breaks a rule.
+fn last_headers(begins: bool, is_clean: bool, headers: u8) -> Option<u8>
+    ensures { result ≡ (if begins && is_clean then Some headers else None) }
+{
+    if begins && is_clean {
+        Some(headers)
+    } else {
+        None
+    }
 }

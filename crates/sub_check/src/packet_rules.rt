@@ -1,15 +1,15 @@
 //! The rules of a single packet: tests that the listener joins with what it keeps.
-ghost use Rattle.std.specs.Prelude.{◌≡◌, ◌<◌, ◌≤◌, ◌↔◌, Bool, IsTrue, Some, Option, option_map};
+ghost use Rattle.std.specs.Prelude.{◌≡◌, ◌&&◌, Bool, not, Option, is_some, option_map};
 ghost use Rattle.std.specs.Option.{option_or};
-ghost use Rattle.ttx_packet.specs.PacketAddress.{IsPacket, PacketAddress, address};
-ghost use Rattle.ttx_packet.specs.PageHeader.{c11, header, is_set, HasExactHeader};
-ghost use Rattle.ttx_packet.specs.Parity.{code_of};
-ghost use Rattle.ttx_packet.specs.RowPacket.{HasOddText};
+ghost use Rattle.ttx_packet.specs.PacketAddress.{IsPacket, address};
+ghost use Rattle.ttx_packet.specs.PageHeader.{c11, header, is_set};
+ghost use Rattle.ttx_packet.specs.RowPacket.{first_even_byte};
 ghost use Rattle.ttx_packet.specs.declared.header.Header.{Header};
 ghost use Rattle.ttx_page.specs.Page.{AreCodes};
 ghost use Rattle.sub_plan.specs.Sending.{has_c14};
-ghost use Rattle.sub_check.specs.Good.{IsEnhancement, IsSubtitleHeader};
 ghost use Rattle.sub_check.specs.PacketRules.{codes_of};
+ghost use Rattle.sub_check.specs.PacketTests.{are_code_words, is_of_enhancement, is_of_header};
+ghost use Rattle.sub_check.specs.PacketTests.{is_other_mode, is_same_bit, is_subtitle_header};
 
 use bitflags::Flags;
 use stl_rows::National;
@@ -52,8 +52,7 @@ pub struct Watched {
 
 // Whether a packet is X/0.
 fn is_header_packet(packet: &Packet) -> bool
-    ensures { IsTrue result ↔ ((a : PacketAddress)
-        × (address packet.now ≡ Some a) × (a.packet_number ≡ 0)) }
+    ensures { result ≡ is_of_header (address packet.now) }
 {
     match packet.address() {
         None => false,
@@ -61,16 +60,31 @@ fn is_header_packet(packet: &Packet) -> bool
     }
 }
 
-/// Whether in a packet X/0 the eight coded bytes are code words. `page_header` is what they say.
-pub(crate) fn has_exact_codes(packet: &Packet, page_header: Option<Header>) -> bool
+/// Whether a packet is X/0 and one of its eight coded bytes is no code word. `page_header` is what
+/// they say.
+#[tactic(auto, using(crate::proofs::PacketRuleLemmas::header_is_zero))]
+pub(crate) fn has_wrong_codes(packet: &Packet, page_header: Option<Header>) -> bool
     requires { page_header ≡ header packet.now }
-    ensures { IsTrue result ↔ ((a : PacketAddress)
-        → address packet.now ≡ Some a → a.packet_number ≡ 0 → HasExactHeader packet.now) }
+    ensures { result ≡ (is_of_header (address packet.now) && not (are_code_words 2 8 packet.now)) }
 {
     match page_header {
-        Some(_) => packet.is_clean_header(),
-        None => !is_header_packet(packet) || packet.is_clean_header(),
+        Some(_) => has_wrong_word(packet),
+        None => is_header_packet(packet) && has_wrong_word(packet),
     }
+}
+
+/// Whether one of the two address bytes is no code word.
+pub(crate) fn has_wrong_address(packet: &Packet) -> bool
+    ensures { result ≡ not (are_code_words 0 2 packet.now) }
+{
+    !packet.is_clean_address()
+}
+
+// Whether one of the eight coded bytes is no code word.
+fn has_wrong_word(packet: &Packet) -> bool
+    ensures { result ≡ not (are_code_words 2 8 packet.now) }
+{
+    !packet.is_clean_header()
 }
 
 /// C11, magazine serial.
@@ -80,14 +94,13 @@ fn is_serial(header: &Header) -> bool
     header.control.contains(Control::C11)
 }
 
-/// Whether a header, where there is one, has the C11 of the first one.
-pub(crate) fn has_mode(serial: Option<bool>, page_header: Option<Header>) -> bool
-    ensures { IsTrue result ↔ ((h : Header) (first : Bool)
-        → page_header ≡ Some h → serial ≡ Some first → c11 h ≡ first) }
+/// Whether a header, where there is one, has another C11 than the first one.
+pub(crate) fn is_other_mode(serial: Option<bool>, page_header: Option<Header>) -> bool
+    ensures { result ≡ is_other_mode serial (option_map (λ (h : Header). c11 h) page_header) }
 {
     match (page_header, serial) {
-        (Some(header), Some(first)) => is_serial(&header) == first,
-        _ => true,
+        (Some(header), Some(first)) => is_serial(&header) != first,
+        _ => false,
     }
 }
 
@@ -121,10 +134,17 @@ fn third_bit(national: National) -> bool
     }
 }
 
+// Whether two bits are the same.
+fn is_same_bit(one: bool, other: bool) -> bool
+    ensures { result ≡ is_same_bit one other }
+{
+    one == other
+}
+
 /// Whether a header is a subtitle's: C4, C6 and C7 are set, C5 and C10 are clear, and C12, C13 and
 /// C14 are those of the national option.
 pub(crate) fn is_subtitle_header(national: National, header: &Header) -> bool
-    ensures { IsTrue result ↔ IsSubtitleHeader national header.now }
+    ensures { result ≡ is_subtitle_header national header.now }
 {
     let control = header.control;
     is_bit(control, Control::C4)
@@ -134,12 +154,12 @@ pub(crate) fn is_subtitle_header(national: National, header: &Header) -> bool
         && !is_bit(control, Control::C10)
         && !is_bit(control, Control::C12)
         && !is_bit(control, Control::C13)
-        && is_bit(control, Control::C14) == third_bit(national)
+        && is_same_bit(is_bit(control, Control::C14), third_bit(national))
 }
 
 /// Whether a packet is X/25 to X/28 of the page's magazine.
 pub(crate) fn is_enhancement(page: PageId, packet: &Packet) -> bool
-    ensures { IsTrue result ↔ IsEnhancement page packet.now }
+    ensures { result ≡ is_of_enhancement page (address packet.now) }
 {
     match packet.address() {
         None => false,
@@ -149,11 +169,11 @@ pub(crate) fn is_enhancement(page: PageId, packet: &Packet) -> bool
     }
 }
 
-/// Whether the 40 bytes of a packet's text are odd.
-pub(crate) fn has_odd_text(packet: &Packet) -> bool
-    ensures { IsTrue result ↔ HasOddText packet.now }
+/// Whether one of the 40 bytes of a packet's text is even.
+pub(crate) fn has_even_byte(packet: &Packet) -> bool
+    ensures { result ≡ is_some (first_even_byte packet.now) }
 {
-    packet.first_even().is_none()
+    packet.first_even().is_some()
 }
 
 /// The 40 codes of a packet's text: each byte without its parity bit.

@@ -1,18 +1,25 @@
--- The frames of the day so far show what is due, and a header is not too long ago.
-use Rattle.std.proofs.Common.{◌≡◌, ℕ, ◌<◌, length, ◌-◌}
-use Rattle.sub_check.specs.Checker.{at_frame}
-use Rattle.sub_check.specs.FirstBroken.Place.{AtGapCell, AtGap}
-use Rattle.sub_check.specs.Following.{Keeps, Follows}
+-- What was told at the ends so far, and what is kept there.
+use Rattle.std.proofs.Common.{◌≡◌, ℕ, ◌+◌, ◌-◌, ◌<◌, ◌≤◌, false}
+use Rattle.sub_io.specs.Telling.{Tells}
+use Rattle.sub_check.specs.Events.{gap_events, latest}
+use Rattle.sub_check.specs.Following.{Follows, Waits}
 use Rattle.sub_check.specs.FrameRules.{Task, frame_at}
 use Rattle.sub_check.specs.Transmission.{Transmission}
 use Rattle.sub_check.proofs.frame_rules.Checker.cross_gap.Given as goal
 
 abbrev pub invariant-loop-f : goal.invariant-loop-f
-invariant-loop-f l = record {
-  self_is : l.self ≡ at_frame (l.f - 1) l.fn.self;
-  later : l.fn.self.frame < l.f;
-  fine : (g : Task) (frames : Transmission) (n : ℕ) → Follows g frames n l.fn.self
-      → 0 < n → n < length frames → frame_at frames n ≡ l.to
-      → ((d row column : ℕ) → d < l.f → Keeps g frames (AtGapCell n d row column))
-      × ((d : ℕ) → d < l.f → Keeps g frames (AtGap n d));
+invariant-loop-f g l = record {
+  goes_on : g.A.Audience.has_stopped l.audience ≡ false;
+  headers : l.self.headers ≡ l.fn.self.headers;
+  latest_is : l.self.latest ≡ l.fn.self.latest;
+  later : l.fn.self.latest < l.f;
+  upto : l.fn.self.latest + 1 < l.f → l.f ≤ l.to;
+  told :
+      (task : Task) (frames : Transmission) (n : ℕ)
+      → Follows task frames n l.fn.self
+      → 0 < n
+      → frame_at frames n ≡ l.to
+      → Tells (g.A.Audience.told l.fn.audience) (g.A.Audience.told l.audience)
+      (gap_events task frames n (l.f - (latest frames n + 1)))
+      × Waits task frames n l.f l.self;
 }

@@ -1,27 +1,17 @@
--- The first frame, in time; or order, and the frames before a later one: by TakingLemmas.
-use Rattle.std.proofs.lemmas.Bool.Decides.{nat_tests}
-use Rattle.std.proofs.Common.{sym, ap, ◌∙◌, subst, arith}
-use Rattle.std.proofs.lemmas.Bool.{iff_false}
-use Rattle.stl_rows.specs.Programme.{first_in}
-use Rattle.sub_check.specs.Checker.{CheckerValue}
-use Rattle.sub_check.specs.FirstBroken.{NamesFirst}
+-- The first PES packet, or another one.
+use Rattle.std.proofs.Common.{◌∙◌, ap, sym, subst}
+use Rattle.std.specs.Prelude.{OnOk}
+use Rattle.sub_io.specs.Telling.{TellsUntilStopped}
+use Rattle.sub_check.specs.Following.{Arrives, Follows, arriving_events}
 use Rattle.sub_check.specs.FrameRules.{frame_at}
-use Rattle.sub_check.specs.declared.fault.CheckFault.TheVariants as fault
-use Rattle.sub_check.proofs.OrderLemmas.{first_early, first_order}
 use Rattle.sub_check.proofs.frame_rules.Checker.reach.Goals as goal
 
-pub returns-then-not-is_in_time-clause-exact : goal.returns-then-not-is_in_time-clause-exact
-returns-then-not-is_in_time-clause-exact c g frames follows there is =
-    let first =
-    follows.remembers.task_is.first_is
-    ∙ ap (λ (v : CheckerValue). first_in v.programme.records) (sym c.self.view_is)
-    ∙ sym c.first_in.ensures.value in
-    let at = ap (frame_at frames) (sym c.if-pes-eq0.true) ∙ is in
-    subst (λ x. NamesFirst g frames (fault.Early x)) at
-    (first_early g frames (omega (arith, there))
-    (λ h. iff_false c.is_in_time.ensures c.if-not-is_in_time.true
-    (λ f e. let l = h f (first ∙ e) in omega (arith, at))))
-
-pub returns-then-frame-self-clause-exact : goal.returns-then-frame-self-clause-exact
-returns-then-frame-self-clause-exact c g frames follows there is =
-    grind (arith, nat_tests, first_order)
+pub returns-then-pes-eq0-clause-told : goal.returns-then-pes-eq0-clause-told
+returns-then-pes-eq0-clause-told g c = λ task frames follows is.
+    let e = c.if-pes-eq0.true in
+    subst (λ n.
+    TellsUntilStopped (g.A.Audience.told c.args.audience.now)
+    (g.A.Audience.told c.begin.new.audience) (arriving_events task frames n) c.begin.result
+    × OnOk c.begin.result (Arrives task frames n c.begin.new.self)) (sym e)
+    (c.begin.ensures.told task frames (subst (λ n. Follows task frames n c.args.self.now) e follows)
+    (ap (frame_at frames) (sym e) ∙ is))

@@ -1,68 +1,80 @@
--- The packets of a frame and its end: by TakingLemmas.
-use Rattle.std.proofs.Common.{◌+◌, sym, ap, ◌∙◌, subst}
-use Rattle.sub_check.specs.FirstBroken.{NamesFirst}
-use Rattle.sub_check.specs.Following.{Arrives}
-use Rattle.sub_check.proofs.TakingLemmas.{follows, names_cell, names_gap, names_missing, names_open}
-use Rattle.sub_check.proofs.TakingLemmas.{names_packet, took}
+-- The packets of a frame, and its end.
+use Rattle.std.proofs.Common.{◌+◌, ◌-◌, ◌++◌, ◌∙◌, List, [], ◌∷◌, ℕ, ap, cond, sym, subst}
+use Rattle.std.proofs.lemmas.Result.{err_from_is_err_and}
+use Rattle.sub_io.proofs.TellingLemmas.{TellsPrefix-first, TellsUntilStopped-after}
+use Rattle.sub_check.specs.Checker.{CheckerValue, after_end, as_standing, stands}
+use Rattle.sub_check.specs.Events.{end_events}
+use Rattle.sub_check.specs.Following.{Arrives, Follows}
+use Rattle.sub_check.specs.FrameRules.{packets_before, packets_of_frame}
+use Rattle.sub_check.specs.Listening.{Knows}
+use Rattle.sub_check.specs.PacketRules.{packets_of_units}
+use Rattle.sub_check.specs.declared.event.Event.TheVariants.{Told}
+use Rattle.sub_check.specs.declared.fault.CheckFault.TheVariants as fault
+use Rattle.sub_check.proofs.FollowingLemmas.{end_told, first_told, follows_then, taking_are}
+use Rattle.sub_check.proofs.TellingSteps.{all_same, ok_map, prefix_same, stopped_first}
+use Rattle.sub_check.proofs.TellingSteps.{stopped_then, told_same, told_then}
 use Rattle.sub_check.proofs.frame_rules.Checker.take.Goals as goal
 
-pub returns-in-Err-clause-exact : goal.returns-in-Err-clause-exact
-returns-in-Err-clause-exact c g frames n arrives there packets again =
-    let here = subst (Arrives g frames n) (sym c.self.view_is) arrives in
-    subst (NamesFirst g frames) (sym c.fault_of.ensures.value)
-    (names_packet g frames n _ c.args.units.now here there packets c.in-Err.fault.packet
-    c.in-Err.fault.rule (c.in-Err.ensures.knows _ _ here.remembers.knows again))
+pub returns-in_err-headers-clause-told : goal.returns-in_err-headers-clause-told
+returns-in_err-headers-clause-told g c = λ task frames arrives there packets again.
+    let p = err_from_is_err_and c.from_residual.result c.from_residual.ensures.1 in
+    let here = subst (Arrives task frames c.args.pes) (sym c.self.view_is) arrives in
+    let told =
+    c.in_err-headers.ensures.knows (packets_before frames c.args.pes)
+    (packets_of_frame frames (c.args.pes - 1)) here.waits.known.knows again in
+    rw p.1
+    (stopped_first _ _ _ _ _ (taking_are task frames c.args.pes _ _ here packets) told, tt)
 
-pub returns-then-self-eq0-clause-exact : goal.returns-then-self-eq0-clause-exact
-returns-then-self-eq0-clause-exact c g frames n arrives there packets again =
-    let here = subst (Arrives g frames n) (sym c.self.view_is) arrives in
-    let heard = c.in-Ok.ensures.knows _ _ here.remembers.knows again in
-    names_missing g frames n _ c.args.units.now here there packets c.hear_sending.new.self
-    c.in-Ok.headers _ c.any_header.result c.in-Ok.ensures.watched heard c.any_header.ensures
-    (ap (λ x. c.self.inside.headers + x) c.from.ensures) c.if-self-eq0.true
+pub returns-in_err-tell_if-clause-told : goal.returns-in_err-tell_if-clause-told
+returns-in_err-tell_if-clause-told g c = λ task frames arrives there packets again.
+    let r = c.from_residual-in_err-tell_if in
+    let p = err_from_is_err_and r.result r.ensures.1 in
+    let here = subst (Arrives task frames c.args.pes) (sym c.self.view_is) arrives in
+    let heard =
+    c.in_ok-headers.ensures.knows (packets_before frames c.args.pes)
+    (packets_of_frame frames (c.args.pes - 1)) here.waits.known.knows again in
+    let first =
+    first_told task frames c.args.pes _ here there _ packets c.hear_sending.new.self
+    c.in_ok-headers.headers c.in_ok-headers.ensures.watched heard.0 heard.1 in
+    let lacks =
+    ap (λ b. cond b (Told (fault.NoFirstHeader c.self.inside.frame) ∷ []) [])
+    (sym c.lacks_header.ensures) in
+    rw p.1 (
+      stopped_then _ _ _ _ _ _ (taking_are task frames c.args.pes _ _ here packets) heard.2
+          (TellsPrefix-first _ _ _ _
+          (prefix_same _ _ _ _ (first ∙ lacks) c.in_err-tell_if.ensures.told)),
+      tt,
+    )
 
-pub returns-in-Some-clause-exact : goal.returns-in-Some-clause-exact
-returns-in-Some-clause-exact c g frames n arrives there packets again =
-    let here = subst (Arrives g frames n) (sym c.self.view_is) arrives in
-    let heard = c.in-Ok.ensures.knows _ _ here.remembers.knows again in
-    let t =
-    took g frames n _ c.args.units.now here there packets c.hear_sending.new.self
-    c.in-Ok.headers _ c.any_header.result c.in-Ok.ensures.watched heard c.any_header.ensures
-    (ap (λ x. c.self.inside.headers + x) c.from.ensures) _ c.if-self-eq0.false
-    c.later_header-self-inside.ensures (c.in-Ok.ensures.due ∙ c.self.invariant.due_is) in
-    names_cell g frames n _ t c.in-Some.row c.in-Some.column c.in-Some.ensures
-
-pub returns-then-frame-self-clause-exact : goal.returns-then-frame-self-clause-exact
-returns-then-frame-self-clause-exact c g frames n arrives there packets again =
-    let here = subst (Arrives g frames n) (sym c.self.view_is) arrives in
-    let heard = c.in-Ok.ensures.knows _ _ here.remembers.knows again in
-    let t =
-    took g frames n _ c.args.units.now here there packets c.hear_sending.new.self
-    c.in-Ok.headers _ c.any_header.result c.in-Ok.ensures.watched heard c.any_header.ensures
-    (ap (λ x. c.self.inside.headers + x) c.from.ensures) _ c.if-self-eq0.false
-    c.later_header-self-inside.ensures (c.in-Ok.ensures.due ∙ c.self.invariant.due_is) in
-    names_gap g frames n _ t c.in_default.ensures c.if-frame-self.true
-
-pub returns-then-is_incomplete-clause-exact : goal.returns-then-is_incomplete-clause-exact
-returns-then-is_incomplete-clause-exact c g frames n arrives there packets again =
-    let here = subst (Arrives g frames n) (sym c.self.view_is) arrives in
-    let heard = c.in-Ok.ensures.knows _ _ here.remembers.knows again in
-    let t =
-    took g frames n _ c.args.units.now here there packets c.hear_sending.new.self
-    c.in-Ok.headers _ c.any_header.result c.in-Ok.ensures.watched heard c.any_header.ensures
-    (ap (λ x. c.self.inside.headers + x) c.from.ensures) _ c.if-self-eq0.false
-    c.later_header-self-inside.ensures (c.in-Ok.ensures.due ∙ c.self.invariant.due_is) in
-    names_open g frames n _ t c.in_default.ensures c.if-frame-self.false
-    (sym c.is_incomplete.ensures ∙ c.if-is_incomplete.true)
-
-pub returns-clause-exact : goal.returns-clause-exact
-returns-clause-exact c g frames n arrives there packets again =
-    let here = subst (Arrives g frames n) (sym c.self.view_is) arrives in
-    let heard = c.in-Ok.ensures.knows _ _ here.remembers.knows again in
-    let t =
-    took g frames n _ c.args.units.now here there packets c.hear_sending.new.self
-    c.in-Ok.headers _ c.any_header.result c.in-Ok.ensures.watched heard c.any_header.ensures
-    (ap (λ x. c.self.inside.headers + x) c.from.ensures) _ c.if-self-eq0.false
-    c.later_header-self-inside.ensures (c.in-Ok.ensures.due ∙ c.self.invariant.due_is) in
-    follows g frames n _ t c.in_default.ensures c.if-frame-self.false
-    (sym c.is_incomplete.ensures ∙ c.if-is_incomplete.false)
+pub returns-clause-told : goal.returns-clause-told
+returns-clause-told g c = λ task frames arrives there packets again.
+    let here = subst (Arrives task frames c.args.pes) (sym c.self.view_is) arrives in
+    let heard =
+    c.in_ok-headers.ensures.knows (packets_before frames c.args.pes)
+    (packets_of_frame frames (c.args.pes - 1)) here.waits.known.knows again in
+    let first =
+    first_told task frames c.args.pes _ here there _ packets c.hear_sending.new.self
+    c.in_ok-headers.headers c.in_ok-headers.ensures.watched heard.0 heard.1 in
+    let lacks =
+    ap (λ b. cond b (Told (fault.NoFirstHeader c.self.inside.frame) ∷ []) [])
+    (sym c.lacks_header.ensures) in
+    let due = c.in_ok-headers.ensures.due ∙ c.self.invariant.due_is in
+    let all : List (List ℕ) =
+    packets_before frames c.args.pes ++ packets_of_units c.args.units.now in
+    let e = c.count.ensures in
+    let knows = subst (λ (v : CheckerValue). Knows all v.listener) (sym e) heard.0.knows in
+    let end =
+    ap (λ (v : CheckerValue). end_events (as_standing v.standing) v.last
+    (as_standing (stands all v)) v.frame) e
+    ∙ end_told task frames c.args.pes _ here there _ packets c.hear_sending.new.self
+    c.in_ok-headers.headers c.in_ok-headers.ensures.watched heard.0 heard.1 due in (
+      told_then _ _ _ _ _ _ _ (taking_are task frames c.args.pes _ _ here packets) heard.2
+          (TellsUntilStopped-after _ _ _ _ _ _
+          (all_same _ _ _ _ (first ∙ lacks) c.in_ok-tell_if.ensures.told)
+          (told_same _ _ _ _ _ (sym end) (c.end_of_frame.ensures.told all knows))),
+      ok_map _ _ c.end_of_frame.result (c.end_of_frame.ensures.ended all knows)
+          (λ is. subst (Follows task frames (c.args.pes + 1))
+          (sym (is ∙ ap (after_end all) e))
+          (follows_then task frames c.args.pes _ here there _ packets c.hear_sending.new.self
+          c.in_ok-headers.headers c.in_ok-headers.ensures.watched heard.0 heard.1 due)),
+    )

@@ -1,19 +1,41 @@
--- One packet on, and the first that breaks a rule.
+-- One packet on: PacketEventLemmas.
 use Rattle.std.proofs.lemmas.Bool.Decides.{nat_tests}
-use borrow.Author.Count.{below_more}
-use Rattle.std.proofs.Common.{◌≡◌, ℕ, ◌+◌, ◌<◌, ◌++◌, List, [], ◌∷◌, length, take, get_or, cond}
+use Rattle.std.proofs.Common.{◌≡◌, ℕ, ◌+◌, ◌<◌, ◌++◌, ◌&&◌, ◌==◌, List, [], ◌∷◌, length, take, get_or}
+use Rattle.std.proofs.Common.{cond, true, refl}
 use Rattle.std.proofs.lemmas.List.{length-map, take_all}
+use Rattle.std.proofs.Common.{sym, ap, ap₂, ◌∙◌, subst, rules, append_assoc, append-nil, arith}
 use Rattle.ttx_pes.specs.DataUnit.{UnitValue}
-use Rattle.std.proofs.Common.{sym, ap, ap₂, ◌∙◌, subst, rules, append_assoc, arith}
 use Rattle.ttx_page.specs.PacketKind.{is_this_page, kind}
-use Rattle.sub_check.specs.Listening.{Knows, KnowsLast}
-use Rattle.sub_check.specs.PacketRules.{AreClean, IsClean, header_count, packets_of_units}
-use Rattle.sub_check.proofs.SentAgainLemmas.{kept_last}
+use Rattle.sub_io.specs.Telling.{Tells}
+use Rattle.sub_io.proofs.TellingLemmas.{Tells-none}
+use Rattle.sub_check.specs.Events.{packet_events}
+use Rattle.sub_check.specs.Listening.{BreakNone, Knows, KnowsLast, rule_set}
+use Rattle.sub_check.specs.PacketRules.{header_count, packets_of_units}
+use Rattle.sub_check.specs.PacketTests.{breaks}
+use Rattle.sub_check.proofs.PacketEventLemmas.{clean_one, told_one, told_part}
 use Rattle.sub_check.proofs.PacketLists.{units_more, unit_at, header_count-push}
+use Rattle.sub_check.proofs.RuleSetLemmas.{stopped}
+use Rattle.sub_check.proofs.SentAgainLemmas.{kept_last}
 use Rattle.sub_check.proofs.listener.Listener.hear_all.Goals as goal
 
+pub loop-k-init : goal.loop-k-init
+unfolding packet_events
+loop-k-init g c = record {
+  same = refl;
+  due = refl;
+  goes_on = c.requires.goes_on;
+  few = omega arith;
+  header = refl;
+  begins = λ e. cc;
+  known = λ heard known. (
+    subst (λ xs. Knows xs c.args.self.now) (sym (append-nil heard)) known,
+    Tells-none (g.A.Audience.told c.args.audience.now),
+    λ e k l. absurd (omega arith),
+  );
+}
+
 pub loop-k-preserved : goal.loop-k-preserved
-loop-k-preserved c =
+loop-k-preserved g c =
     let w = c.args.self.now.watched in
     let k : ℕ = c.loop-k.k in
     let u = c.index-units-k.result in
@@ -32,6 +54,7 @@ loop-k-preserved c =
       begins = grind arith;
       same = c.hear-is_header.ensures.watched ∙ i.same;
       due = c.hear-is_header.ensures.due ∙ i.due;
+      goes_on = grind arith;
       few = search rules;
       header =
           one
@@ -40,39 +63,66 @@ loop-k-preserved c =
           ∙ sym (ap (header_count w.page) more ∙ header_count-push w.page (take k ps) p);
       known = λ heard known.
           let before = i.known heard known in
-          let clean = c.in_default.ensures (heard ++ take k ps) before.1 in
-          let moved : IsClean w (heard ++ take k ps) p =
-          subst (λ v. IsClean v (heard ++ take k ps) p) i.same clean in
-          let new = c.hear-is_header.ensures.knows (heard ++ take k ps) before.1 clean in
-          (grind (
-            arith,
-            nat_tests,
-            below_more,
-            take k ps,
-            append_assoc heard (take k ps) (p ∷ []),
-          ));
+          let set =
+          subst
+          (λ v. c.broken_rules-rules.result.0 ≡ rule_set (λ r. breaks r v (heard ++ take k ps) p))
+          i.same (c.broken_rules-rules.ensures (heard ++ take k ps) before.0) in
+          let told = c.in_ok-tell_rules.ensures.told (λ r. breaks r w (heard ++ take k ps) p) set in
+          let new = c.hear-is_header.ensures.knows (heard ++ take k ps) before.0 in (
+            subst (λ xs. Knows xs c.hear-is_header.new.self)
+                (append_assoc heard (take k ps) (p ∷ []) ∙ ap (λ xs. heard ++ xs) (sym more)) new,
+            told_one w c.args.frame heard ps k p _ _ _ at before.1 told,
+            λ e.
+                let parts : (c.loop-k.is_clean && c.broken_rules-rules.result.0 == 0) ≡ true =
+                sym c.stays_clean-is_clean.ensures ∙ e in
+                clean_one w c.args.frame heard ps k p at (before.2 (grind (arith, nat_tests)))
+                (sym set ∙ (grind (arith, nat_tests))),
+          );
     }
 
+pub returns-in_err-tell_rules-clause-knows : goal.returns-in_err-tell_rules-clause-knows
+returns-in_err-tell_rules-clause-knows g c heard known =
+    let w = c.args.self.now.watched in
+    let k : ℕ = c.loop-k.k in
+    let u = c.index-units-k.result in
+    let p : List ℕ = c.packet-packet.result.now in
+    let i = c.loop-k.invariant in
+    let units = c.args.units.now in
+    let ps = packets_of_units units in
+    let l : k < length units = search rules in
+    let long : length ps ≡ length units = length-map units (λ (u : UnitValue). u.packet) in
+    let at : get_or ps k [] ≡ p =
+    unit_at units k u l c.index-units-k.is ∙ sym c.packet-packet.ensures.value in
+    let before = i.known heard known in
+    let set =
+    subst (λ v. c.broken_rules-rules.result.0 ≡ rule_set (λ r. breaks r v (heard ++ take k ps) p))
+    i.same (c.broken_rules-rules.ensures (heard ++ take k ps) before.0) in
+    let told = c.in_err-tell_rules.ensures.told (λ r. breaks r w (heard ++ take k ps) p) set in
+    stopped c.from_residual.result _ _ c.from_residual.ensures.0
+    (told_part w c.args.frame heard ps k p _ _ _ at before.1 (length ps) (omega (arith, l, long))
+    told)
+
 pub returns-clause-knows : goal.returns-clause-knows
-returns-clause-knows c heard known =
+returns-clause-knows g c heard known =
     let w = c.args.self.now.watched in
     let i = c.loop-k.invariant in
     let units = c.args.units.now in
     let ps = packets_of_units units in
     let long : length ps ≡ length units = length-map units (λ (u : UnitValue). u.packet) in
-    let k : c.loop-k.k ≡ length units = search rules in
-    let all : take c.loop-k.k ps ≡ ps = take_all c.loop-k.k ps (omega (arith, k, long)) in
+    let k : c.loop-k.k ≡ length ps = search (rules, long) in
+    let all : take c.loop-k.k ps ≡ ps = take_all c.loop-k.k ps (omega (arith, k)) in
     let r = i.known heard known in
-    let clean : AreClean w heard ps (length units) =
-    subst (AreClean w heard ps) k r.0 in
     let knows : Knows (heard ++ ps) c.loop-k.self =
-    subst (λ xs. Knows (heard ++ xs) c.loop-k.self) all r.1 in
+    subst (λ xs. Knows (heard ++ xs) c.loop-k.self) all r.0 in
     let count : c.loop-k.headers ≡ header_count w.page ps =
     i.header ∙ ap (header_count w.page) all in (
-      clean,
       subst (λ m. KnowsLast (heard ++ ps) ps (record c.loop-k.self { last = m }))
           (sym c.last_headers-self.ensures)
-          (kept_last w heard ps _ c.loop-k.headers c.loop-k.begins c.loop-k.self i.same knows
-          clean long count (grind arith)),
+          (kept_last w heard ps c.loop-k.headers c.loop-k.begins c.loop-k.is_clean c.loop-k.self
+          i.same knows count (λ e. let b = i.begins e in (omega (arith, b.0, k), b.1))
+          (λ e. subst (BreakNone w heard ps) k (r.2 e))),
       count,
+      subst
+          (λ n. Tells (g.A.Audience.told c.args.audience.now) (g.A.Audience.told c.loop-k.audience)
+          (packet_events w c.args.frame heard ps n)) k r.1,
     )

@@ -1,14 +1,17 @@
--- The packets so far keep the rules, and what is kept is what they say.
-use Rattle.std.proofs.Common.{◌≡◌, ◌≤◌, ◌<◌, ℕ, List, [], ◌++◌, take, get_or, true}
+-- The rules that the packets so far break are told, and what is kept is what they say.
+use Rattle.std.proofs.Common.{◌≡◌, ◌≤◌, ◌<◌, ℕ, List, [], ◌++◌, take, get_or, true, false}
 use Rattle.ttx_page.specs.PacketKind.{is_this_page, kind}
-use Rattle.sub_check.specs.PacketRules.{AreClean, header_count, packets_of_units}
-use Rattle.sub_check.specs.Listening.{Knows}
+use Rattle.sub_io.specs.Telling.{Tells}
+use Rattle.sub_check.specs.Events.{packet_events}
+use Rattle.sub_check.specs.Listening.{BreakNone, Knows}
+use Rattle.sub_check.specs.PacketRules.{header_count, packets_of_units}
 use Rattle.sub_check.proofs.listener.Listener.hear_all.Given as goal
 
 abbrev pub invariant-loop-k : goal.invariant-loop-k
-invariant-loop-k l = record {
+invariant-loop-k g l = record {
   same : l.self.watched ≡ l.initial.self.watched;
   due : l.self.comparison.due ≡ l.initial.self.comparison.due;
+  goes_on : g.A.Audience.has_stopped l.audience ≡ false;
   few : l.headers ≤ l.k;
   header :
       l.headers ≡ header_count l.initial.self.watched.page (take l.k (packets_of_units l.units));
@@ -20,6 +23,9 @@ invariant-loop-k l = record {
   known :
       (heard : List (List ℕ))
       → Knows heard l.initial.self
-      → AreClean l.initial.self.watched heard (packets_of_units l.units) l.k
-      × Knows (heard ++ take l.k (packets_of_units l.units)) l.self;
+      → Knows (heard ++ take l.k (packets_of_units l.units)) l.self
+      × Tells (g.A.Audience.told l.initial.audience) (g.A.Audience.told l.audience)
+      (packet_events l.initial.self.watched l.frame heard (packets_of_units l.units) l.k)
+      × (l.is_clean ≡ true
+      → BreakNone l.initial.self.watched heard (packets_of_units l.units) l.k);
 }

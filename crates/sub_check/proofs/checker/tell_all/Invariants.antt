@@ -1,15 +1,17 @@
--- After `pes` PES packets, what is kept is what they say, and none of them broke a rule.
-use Rattle.std.proofs.Common.{◌≡◌, ◌<◌, ◌≤◌, ◌-◌, ℕ, List, Option, Some}
+-- After `pes` PES packets, what is kept is what they say, and all that is told of them was told.
+use Rattle.std.proofs.Common.{◌≡◌, ◌<◌, ◌≤◌, ◌-◌, ◌*◌, ℕ, List, Option, Some, false}
 use Rattle.ttx_pes.specs.Reader.{TakesPackets}
 use Rattle.ttx_pes.specs.Reading.{most_packets}
 use Rattle.ttx_pes.specs.declared.progress.Progress.TheVariants.{Reading}
+use Rattle.sub_io.specs.Telling.{Tells}
+use Rattle.sub_check.specs.Events.{events_of_first}
 use Rattle.sub_check.specs.Following.{Follows}
 use Rattle.sub_check.specs.FrameRules.{Unread, packets_of_frame, task_of}
 use Rattle.sub_check.specs.PacketRules.{packets_of_units}
 use Rattle.sub_check.specs.PesReading.{ReadsAs}
 use Rattle.sub_check.specs.Transmission.{Transmission}
 use Rattle.sub_check.proofs.JudgeLemmas.{Reads}
-use Rattle.sub_check.proofs.checker.judge.Given as goal
+use Rattle.sub_check.proofs.checker.tell_all.Given as goal
 
 abbrev pub invariant-packets : goal.invariant-packets
 invariant-packets g l = record {
@@ -17,6 +19,8 @@ invariant-packets g l = record {
   reading : l.reader.progress ≡ Reading l.pes;
   taken : TakesPackets l.pes (g.S.Source.remaining l.fn.source) (g.S.Source.remaining l.source);
   failures : g.S.Source.failure_count l.source ≡ g.S.Source.failure_count l.fn.source;
+  goes_on : g.A.Audience.has_stopped l.audience ≡ false;
+  headers : l.checker.headers ≤ 255 * l.pes;
   told :
       (frames : Transmission) (unread : Option Unread) (bytes : List ℕ)
       → g.S.Source.remaining l.fn.source ≡ Some bytes
@@ -24,7 +28,9 @@ invariant-packets g l = record {
       → Reads l.programme l.options bytes frames unread (g.S.Source.remaining l.source) l.pes
       × Follows (task_of l.programme l.options unread) frames l.pes l.checker
       × (0 < l.pes
-      → packets_of_frame frames (l.pes - 1) ≡ packets_of_units l.reader.frame.units);
+      → packets_of_frame frames (l.pes - 1) ≡ packets_of_units l.reader.frame.units)
+      × Tells (g.A.Audience.told l.fn.audience) (g.A.Audience.told l.audience)
+      (events_of_first (task_of l.programme l.options unread) frames l.pes);
 }
 
 abbrev pub decreases-packets : goal.decreases-packets
