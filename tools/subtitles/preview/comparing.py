@@ -10,6 +10,7 @@ from ..times import frame_of
 from . import TOP, cases
 from .faults import MOST_ENTRIES
 from .letters import ENGLISH, GERMAN, letters
+from .program import counted
 
 PREVIEW = os.path.join(TOP, "tools", "preview")
 HTML, SVG = "{http://www.w3.org/1999/xhtml}", "{http://www.w3.org/1999/xhtml}svg"
@@ -27,6 +28,7 @@ class Trial:
         self.lock, self.passed, self.failed = threading.Lock(), 0, 0
         stl, pes = cases.make(cases.ACCEPTED[0], folder)
         self.has_complete = self.run("check", "--complete", stl, pes)[0] != 2
+        self.has_all = self.run("check", "--all", stl, pes)[0] != 2
 
     def test(self, name, is_right, told=""):
         with self.lock:
@@ -46,6 +48,11 @@ class Trial:
                               stdout=subprocess.PIPE, stderr=subprocess.DEVNULL)
         return done.returncode, done.stdout.decode().splitlines()
 
+    def check(self, *words):
+        """The lines of `check --all`; of a program without it, those that a report shows."""
+        status, lines = self.run("check", *["--all"] * self.has_all, *words)
+        return status, lines if self.has_all else list(counted(lines))
+
     def preview(self, *words):
         return subprocess.run([PREVIEW, *words], stdin=subprocess.DEVNULL, stdout=subprocess.PIPE,
                               stderr=subprocess.PIPE, cwd=self.folder, check=False)
@@ -58,7 +65,7 @@ def option_of(words, name, otherwise):
 def test_case(trial, one):
     """The report of one case."""
     stl, pes = cases.make(one, trial.folder)
-    status, lines = trial.run("check", *one.options, "--all", stl, pes)
+    status, lines = trial.check(*one.options, stl, pes)
     report = trial.path(one.name + ".html")
     done = trial.preview(stl, pes, *one.options, "-p", trial.program, "-o", report)
     trial.test(f"{one.name}: the case's own verdict", lines[0].startswith(one.begins), lines)
