@@ -7,8 +7,8 @@ use std::alloc::Global;
 use std::process::Abort;
 use std::test::Fail;
 use stl_rows::National;
-use sub_request::{FileNames, Flip, ReceiverKind, Request};
 use sub_plan::Options;
+use sub_request::{FileNames, Flip, ReceiverKind, Request};
 use sub_words::ParseWords;
 
 // Asserts that a request is the schedule of files a and b with these options.

@@ -135,14 +135,17 @@ pub ends_at_all :
     {S : Type 0} (request : Request) (first : SourceCall S) (old new : Lines) (result : Status)
     → EndsFrom request first old new result
     → Ends request old new result
-ends_at_all request first old new result is = (forgotten first, record {
-  second = is.second;
-  file = is.file;
-  ends = record {
-    status = is.ends.status;
-    written = is.ends.written;
-    printed = is.ends.printed;
-    answers = first-forgotten request first is.second _ _ is.ends.status is.ends.answers;
-    handed_on = is.ends.handed_on;
-  };
-})
+ends_at_all request first old new result is = (
+  forgotten first,
+  record {
+    second = is.second;
+    file = is.file;
+    ends = record {
+      status = is.ends.status;
+      written = is.ends.written;
+      printed = is.ends.printed;
+      answers = first-forgotten request first is.second _ _ is.ends.status is.ends.answers;
+      handed_on = is.ends.handed_on;
+    };
+  },
+)

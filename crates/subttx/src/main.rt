@@ -15,9 +15,9 @@ ghost use Rattle.subttx.specs.Ending.{Answered, Ends, lines_of};
 
 use crate::ending::hand_on;
 use crate::opening::{read_and_write, read_both, read_nothing, read_pes, read_stl, room};
-use std::{env, io};
 use std::process::ExitCode;
 use std::rt::{Env, Files};
+use std::{env, io};
 use sub_answer::{Status, say};
 use sub_io::{BufferedSink, IntoWrite, Sink};
 use sub_request::{FileNames, Request, UsageFault};
