@@ -20,6 +20,8 @@ mod drawings;
 #[cfg(test)]
 mod dropped_rows;
 #[cfg(test)]
+mod events;
+#[cfg(test)]
 mod failed_reads;
 #[cfg(test)]
 mod libzvbi;
