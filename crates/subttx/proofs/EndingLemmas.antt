@@ -1,5 +1,5 @@
 -- What is answered over sources, told without what they are.
-use Rattle.std.proofs.Common.{ℕ, List, ◌≡◌, refl}
+use Rattle.std.proofs.Common.{ℕ, List, refl}
 use Rattle.stl_rows.specs.declared.national.National.{National}
 use Rattle.sub_plan.specs.Options.{OptionsValue}
 use Rattle.sub_answer.specs.Answering.{Answers, AnswersCheck, EndsWork}

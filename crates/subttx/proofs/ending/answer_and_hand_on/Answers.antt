@@ -1,5 +1,4 @@
-use Rattle.std.proofs.Common.{rules, ◌≡◌}
-use Rattle.subttx.specs.Ending.{EndsWith, buffered_call, lines_of}
+use Rattle.subttx.specs.Ending.{lines_of}
 use Rattle.subttx.proofs.ending.answer_and_hand_on.Goals as goal
 
 pub returns-clause-ends : goal.returns-clause-ends
