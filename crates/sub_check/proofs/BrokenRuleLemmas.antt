@@ -49,7 +49,7 @@ abbrev pub Refutes : Bool → Type 0 → Type 0
 Refutes b P = Decides (not b) P
 
 -- The coded bytes of a packet X/0.
-coded : (o : Option PacketAddress) (b : Bool) (P : Type 0) → Decides b P
+pub coded : (o : Option PacketAddress) (b : Bool) (P : Type 0) → Decides b P
     → Refutes (is_of_header o && not b) ((a : PacketAddress) → o ≡ Some a → a.packet_number ≡ 0 → P)
 coded None b P d = (λ e a is z. absurd (grind arith), λ h. refl)
 coded (Some a) b P d = (
@@ -92,7 +92,7 @@ subtitle_header : (national : National) (h : Header)
 subtitle_header national h =
     grind (arith, nat_tests, Decides-like, is_subtitle_header, Decides-and, holds, fails, same_bit)
 
-controlled : (national : National) (k : PacketKind)
+pub controlled : (national : National) (k : PacketKind)
     → Refutes (is_wrong_header national k) ((h : Header) → k ≡ ThisPage h → IsSubtitleHeader national h)
 controlled national (ThisPage h) = let d = subtitle_header national h in (
   λ e other is. grind (arith, nat_tests),
@@ -103,7 +103,7 @@ controlled national (Row row) = (λ e h is. grind arith, λ h. refl)
 controlled national Other = (λ e h is. grind arith, λ h. refl)
 
 -- The text's parity.
-odd_text : (p : List ℕ) → Refutes (is_some (first_even_byte p)) (HasOddText p)
+pub odd_text : (p : List ℕ) → Refutes (is_some (first_even_byte p)) (HasOddText p)
 unfolding first_even_byte
 odd_text p = go (first_below 40 (λ column. not (is_odd (text_byte p column)))) refl
   where
@@ -126,7 +126,7 @@ odd_text p = go (first_below 40 (λ column. not (is_odd (text_byte p column)))) 
 -- ---- rows
 
 -- Rows that differ in none of the first n columns.
-columns_zero : (n : ℕ) (xs ys : List ℕ) → columns_differing n xs ys ≡ 0 → (k : ℕ) → k < n
+pub columns_zero : (n : ℕ) (xs ys : List ℕ) → columns_differing n xs ys ≡ 0 → (k : ℕ) → k < n
     → get_or xs k 0 ≡ get_or ys k 0
 unfolding columns_differing
 columns_zero zero xs ys e k l = absurd (omega arith)

@@ -1,6 +1,7 @@
 -- A clean stretch has what suffices, and so may be trusted: `law_of_clean_stretch`.
 use Rattle.std.proofs.lemmas.Bool.Decides.{nat_tests}
-use Rattle.std.proofs.Common.{◌≡◌, ℕ, zero, suc, ◌+◌, ◌-◌, ◌<◌, ◌≤◌, ◌⊎◌, inl, inr, true, false, ◌&&◌}
+use Rattle.std.proofs.Common.{◌≡◌, ℕ, zero, suc, ◌+◌, ◌-◌, ◌<◌, ◌≤◌, ◌⊎◌, inl, inr, true, false}
+use Rattle.std.proofs.Common.{◌&&◌}
 use Rattle.std.proofs.Common.{nat_le, cond, List, [], ◌∷◌, ◌++◌, length, take, drop, map}
 use Rattle.std.proofs.Common.{slice_index_or, Option, refl, sym, ap, ◌∙◌, subst, arith}
 use Rattle.std.proofs.Common.{append_assoc, IsTrue, get_or, le_refl, le_trans}
@@ -161,8 +162,7 @@ module _ (programme : ProgrammeValue) (transmission : Transmission) (options : O
     odd = λ up row is. clean.kept OddRows i k l m low high up row is;
     same = λ up row column first is found below.
         sym (code_of_column first column)
-        ∙ ap (λ codes. get_or codes column 0)
-        (clean.kept SameRows i k l m low high up row first is found)
+        ∙ clean.kept SameRows i k l m low high up row first is found column below
         ∙ code_of_column (slice_index_or (packets_of_frame transmission i) k []) column;
   }
 
@@ -191,9 +191,9 @@ module _ (programme : ProgrammeValue) (transmission : Transmission) (options : O
   end_at f low high =
       let first = first-same transmission in
       let last = last-same transmission in
-      let from = clean.from in
-      let to = clean.to in
-      let some = clean.not_empty in
+      let from = clean.stretch.from in
+      let to = clean.stretch.to in
+      let some = clean.stretch.not_empty in
       elim
       (locate transmission rising (length transmission - 1) f (omega arith) (omega arith)
       (omega arith)) [
@@ -251,7 +251,7 @@ module _ (programme : ProgrammeValue) (transmission : Transmission) (options : O
   -- It has what suffices.
   enough : IsSufficient programme transmission options a b
   enough = record {
-    first = clean.from;
+    first = clean.stretch.from;
     rising = clean.kept FramesRise;
     sound = λ f low high.
         sound_between options.page a b [] transmission f high (clean.kept FramesRise) fit;
@@ -271,9 +271,9 @@ module _ (programme : ProgrammeValue) (transmission : Transmission) (options : O
           × (f < start + options.every)
           × HoldsHeader options.page transmission f
       repeats start low high =
-          let from = clean.from in
+          let from = clean.stretch.from in
           elim (cases_eq options.every 0) [
-            | inl none ↦ elim (covered a (le_refl a) clean.in_order) [
+            | inl none ↦ elim (covered a (le_refl a) clean.stretch.in_order) [
               | inl early ↦ absurd (omega arith)
               | inr (j, l, before, late, has) ↦ absurd (omega arith)
             ]

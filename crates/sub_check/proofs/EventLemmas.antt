@@ -206,7 +206,7 @@ module _ (g : Task) (frames : Transmission) (n f : ℕ) where
     pub ended : IsEnded g frames n
 
   -- No cell is wrong.
-  none_wrong : wrong_cell g frames n f ≡ None → (row column : ℕ) → IsCell row column
+  pub none_wrong : wrong_cell g frames n f ≡ None → (row column : ℕ) → IsCell row column
       → ShowsDue g frames n f row column
   unfolding wrong_after
   none_wrong e row column is =
@@ -275,11 +275,11 @@ module _ (g : Task) (frames : Transmission) (n f : ℕ) where
       (Decides-or _ _ (near_decided m (omega arith)) (covers_at m d (omega arith))))
 
   -- Whether the repeat bound has passed.
-  gap_decided : n ≤ length frames → Decides (not (is_gap g frames n f)) (IsCovered g frames n f)
+  pub gap_decided : n ≤ length frames → Decides (not (is_gap g frames n f)) (IsCovered g frames n f)
   unfolding is_gap
   gap_decided l = let near = near_decided n l in grind (arith, nat_tests)
 
-  incomplete_decided : Decides (not (is_incomplete g frames n)) (IsEnded g frames n)
+  pub incomplete_decided : Decides (not (is_incomplete g frames n)) (IsEnded g frames n)
   unfolding is_incomplete
   incomplete_decided = grind (arith, nat_tests)
 

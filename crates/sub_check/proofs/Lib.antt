@@ -48,3 +48,4 @@ pub mod ContentLemmas
 pub mod HeardAgainLemmas
 pub mod UntouchedLemmas
 pub mod ListeningRunLemmas
+pub mod UntoldLemmas

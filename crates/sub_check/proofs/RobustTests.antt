@@ -1,15 +1,16 @@
 -- A transmission is not robust, by a receiver that computes: `refuted`. And it is not though all
 -- that is asked of a clean stretch but one part holds, which is needed then: `needed`.
 use Rattle.std.proofs.lemmas.Bool.Decides.{nat_tests}
-use Rattle.std.proofs.Common.{◌≡◌, ◌≢◌, ℕ, suc, ◌+◌, ◌-◌, ◌<◌, ◌≤◌, inl, inr, ◌==◌, Bool, true, false, not}
+use Rattle.std.proofs.Common.{◌≡◌, ◌≢◌, ℕ, suc, ◌+◌, ◌-◌, ◌<◌, ◌≤◌, inl, inr, ◌==◌, Bool, true}
+use Rattle.std.proofs.Common.{false, not}
 use Rattle.std.proofs.Common.{◌&&◌, ◌||◌, nat_le, nat_lt, List, [], ◌++◌, length, take, refl, sym}
-use Rattle.std.proofs.Common.{ap, ◌∙◌, arith, eq-eqb, eqb-true, find, None, Some, slice_index_or}
+use Rattle.std.proofs.Common.{ap, ◌∙◌, arith, eq-eqb, eqb-true, find, None, Some, slice_index}
+use Rattle.std.proofs.Common.{slice_index_or}
 use Rattle.std.proofs.Common.{replicate, subst, zero}
 use Rattle.std.proofs.lemmas.Bool.{and_parts, or_cases, not-true, leb-true}
 use Rattle.std.specs.Bool.{Decides}
-use Rattle.std.specs.Str.{bytes_eq}
-use Rattle.std.proofs.lemmas.Bool.Decides.{Decides-and, Decides-like, Decides-ltb, Decides-or}
-use Rattle.std.proofs.lemmas.Slice.Eq.{bytes_eq-Decides}
+use Rattle.std.proofs.lemmas.Bool.Decides.{Decides-and, Decides-eqb, Decides-like, Decides-ltb}
+use Rattle.std.proofs.lemmas.Bool.Decides.{Decides-or}
 use Rattle.ttx_packet.specs.PageId.{PageIdValue}
 use Rattle.ttx_packet.specs.RowPacket.{HasOddText}
 use Rattle.ttx_page.specs.Page.{space, cell, IsCell}
@@ -230,12 +231,16 @@ at_ends test Holds decided frames a b e (suc m) f end low high =
         (frame_at frames (suc m) - (frame_at frames m + 1)))) (length frames)).0 e m
         (omega (arith, end.1))
 
+-- 40 codes are the same.
+abbrev same_codes : List ℕ → List ℕ → Bool
+same_codes one other = all_below (λ column. slice_index one column == slice_index other column) 40
+
 -- While the page is open a row has the codes of the first packet of its row.
 abbrev keeps_codes : PageIdValue → List (List ℕ) → List ℕ → Bool
 keeps_codes page before p =
     not (is_open_after (kind page) before)
     || if_some
-    (λ row. if_some (λ first. bytes_eq (codes_of first) (codes_of p))
+    (λ row. if_some (λ first. same_codes (codes_of first) (codes_of p))
     (find (λ q. is_row row (kind page q)) (span (kind page) before)))
     (row_of_kind (kind page p))
 
@@ -250,9 +255,14 @@ codes_decided w before p =
     (if_row _
     (λ row. (first : List ℕ)
     → find (λ q. is_row row (kind w.page q)) (span (kind w.page) before) ≡ Some first
-    → codes_of first ≡ codes_of p)
-    (λ row. value_of _ (λ first. codes_of first ≡ codes_of p)
-    (λ first. bytes_eq-Decides (codes_of first) (codes_of p))
+    → (column : ℕ)
+    → column < 40
+    → slice_index (codes_of first) column ≡ slice_index (codes_of p) column)
+    (λ row. value_of _
+    (λ first. (column : ℕ)
+    → column < 40
+    → slice_index (codes_of first) column ≡ slice_index (codes_of p) column)
+    (λ first. below _ _ (λ column. Decides-eqb _ _) 40)
     (find (λ q. is_row row (kind w.page q)) (span (kind w.page) before))) (kind w.page p)))
 
 -- While the page is open a row is odd.
@@ -394,9 +404,11 @@ clean_by_test g frames a b e =
     let test : Part → Bool = λ part. keeps_part part g frames a b in
     let parts = and_parts (all_parts test) _ e in
     record {
-      not_empty = grind (arith, nat_tests, and_parts);
-      from = grind (arith, nat_tests, and_parts);
-      in_order = grind (arith, nat_tests, and_parts);
-      to = grind (arith, nat_tests, and_parts);
+      stretch = record {
+        not_empty = grind (arith, nat_tests, and_parts);
+        from = grind (arith, nat_tests, and_parts);
+        in_order = grind (arith, nat_tests, and_parts);
+        to = grind (arith, nat_tests, and_parts);
+      };
       kept = λ part. kept_by_test part g frames a b (each_part test parts.0 part);
     }

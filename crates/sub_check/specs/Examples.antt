@@ -376,8 +376,8 @@ damaged_first =
     ∷ record { frame = 900002; packets = header_888 ∷ closing ∷ [] }
     ∷ []
 
--- It is refused. The frames after it are clean; so who hears frame 900001, with any bit of each byte
--- wrong and whatever he held before, holds the `H` there or, where its byte was hit, a space.
+-- It is refused. The frames after it are clean; so who hears frame 900001, with any bit of each
+-- byte wrong and whatever he held before, holds the `H` there or, where its byte was hit, a space.
 pub record ExampleOfCleanStretch : Type 0 where
   pub refused : Good later_subtitle damaged_first (each 1) → ⊥
   pub clean : IsClean (task_of later_subtitle (each 1) None) damaged_first 900001 900002

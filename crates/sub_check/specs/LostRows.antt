@@ -9,9 +9,9 @@ use Rattle.sub_plan.specs.Options.{OptionsValue}
 use Rattle.sub_check.specs.Transmission.{Transmission, on_air}
 use Rattle.sub_check.specs.Robust.{IsListening, IsServed}
 
--- From one start to one end, with a mark beside each packet on air, true where it is kept, and false
--- where it is lost: what was got is near the list of the packets that are kept, and page headers are
--- kept.
+-- From one start to one end, with a mark beside each packet on air, true where it is kept, and
+-- false where it is lost: what was got is near the list of the packets that are kept, and page
+-- headers are kept.
 abbrev pub IsRobustWithMarks :
     ProgrammeValue → Transmission → OptionsValue → ℕ → ℕ → ℕ → List Bool → Type 0
 IsRobustWithMarks programme transmission options g j f marks =

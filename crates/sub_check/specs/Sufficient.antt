@@ -49,8 +49,8 @@ LawOfStretch =
     → IsSufficient programme transmission options a b
     → MayBeTrusted programme transmission options a b
 
--- What is said of these parts of all frames: a good transmission has them, and they alone give all that is
--- promised of it.
+-- What is said of these parts of all frames: a good transmission has them, and they alone give all
+-- that is promised of it.
 pub record LawOfParts
     (programme : ProgrammeValue) (transmission : Transmission) (options : OptionsValue)
     : Type 0 where

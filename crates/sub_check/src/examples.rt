@@ -3,7 +3,8 @@
 //!
 //! They show that the definitions of `specs/` say what they are to say. The functions do nothing.
 ghost use Rattle.sub_check.specs.Examples.{ExampleOfC12, ExampleOfC13, ExampleOfC14};
-ghost use Rattle.sub_check.specs.Examples.{ExampleOfChangeInGap, ExampleOfChangedRow, ExampleOfCleanStretch};
+ghost use Rattle.sub_check.specs.Examples.{ExampleOfChangeInGap, ExampleOfChangedRow};
+ghost use Rattle.sub_check.specs.Examples.{ExampleOfCleanStretch};
 ghost use Rattle.sub_check.specs.Examples.{ExampleOfEarlyEnd, ExampleOfEnglishHeader};
 ghost use Rattle.sub_check.specs.Examples.{ExampleOfEnhancement, ExampleOfEvenByte};
 ghost use Rattle.sub_check.specs.Examples.{ExampleOfFallingFrames, ExampleOfGap, ExampleOfGood};

@@ -1,7 +1,7 @@
 //! A good transmission is robust, and its rules packet by packet.
 //!
 //! The functions do nothing: the contract of each is a law over the definitions of `specs/`.
-ghost use Rattle.sub_check.specs.CleanStretch.{LawOfCleanStretch};
+ghost use Rattle.sub_check.specs.CleanStretch.{LawOfCleanStretch, LawOfUntoldStretch};
 ghost use Rattle.sub_check.specs.FirstEvent.{LawOfFirstEvent};
 ghost use Rattle.sub_check.specs.Laws.{LawOfAllKept, LawOfGood, LawOfGoodAndMarkedLoss};
 ghost use Rattle.sub_check.specs.Laws.{LawOfWindow};
@@ -43,6 +43,12 @@ pub fn law_of_stretch()
 /// A stretch of frames that is clean may be trusted, whatever is broken outside it.
 pub fn law_of_clean_stretch()
     ensures { LawOfCleanStretch }
+{}
+
+/// A stretch is clean where nothing of the rules that a receiver depends on is told of its packets,
+/// and no wrong content and no gap stands at its ends.
+pub fn law_of_untold_stretch()
+    ensures { LawOfUntoldStretch }
 {}
 
 /// What may be trusted of all frames of a transmission is what is promised of it.

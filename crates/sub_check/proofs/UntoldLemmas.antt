@@ -1,0 +1,112 @@
+-- A stretch of which nothing is told is clean: `law_of_untold_stretch`.
+use Rattle.std.proofs.Common.{◌≡◌, ℕ, ◌<◌, ◌==◌, Bool, true, false, not, ◌&&◌, List, Some, refl}
+use Rattle.std.proofs.Common.{sym}
+use Rattle.std.proofs.Common.{ap, ◌∙◌, subst, arith, eqb-true, is_some, find, slice_index}
+use Rattle.std.proofs.Common.{IsFalse, IsTrue}
+use Rattle.ttx_packet.specs.PacketAddress.{address}
+use Rattle.ttx_packet.specs.PageHeader.{HasExactHeader}
+use Rattle.ttx_packet.specs.RowPacket.{first_even_byte}
+use Rattle.ttx_page.specs.Differing.{row_differing}
+use Rattle.ttx_page.specs.PacketKind.{is_row, is_some_row, kind}
+use Rattle.ttx_page.specs.Span.{is_open_after, span}
+use Rattle.ttx_page.specs.declared.packet_kind.PacketKind.TheVariants.{Row}
+use Rattle.sub_check.specs.CleanStretch.{DecidesStretch, IsKeptWithin, IsUntold, KeepsCodes}
+use Rattle.sub_check.specs.CleanStretch.{LawOfUntoldStretch, Part}
+use Rattle.sub_check.specs.CleanStretch.Part.{DueContent, ExactAddresses, ExactHeaders, FramesRise}
+use Rattle.sub_check.specs.CleanStretch.Part.{HeadersInTime, OddRows, SameRows, SubtitleHeaders}
+use Rattle.sub_check.specs.Events.{standing_at}
+use Rattle.sub_check.specs.FrameRules.{Task}
+use Rattle.sub_check.specs.PacketRules.{KeepsRule, codes_of}
+use Rattle.sub_check.specs.PacketTests.{are_code_words, breaks, first_of_row, is_other_row}
+use Rattle.sub_check.specs.PacketTests.{is_other_text}
+use Rattle.sub_check.specs.Transmission.{Transmission}
+use Rattle.sub_check.specs.declared.packet_rules.PacketRule.TheVariants as rule
+use Rattle.sub_check.specs.declared.packet_rules.Watched.{Watched}
+use Rattle.sub_check.proofs.BrokenRuleLemmas.{coded, columns_zero, controlled, odd_text}
+use Rattle.sub_check.proofs.EventLemmas.{gap_decided, incomplete_decided, none_wrong}
+use Rattle.sub_check.proofs.PacketRuleLemmas.{address_decided, header_decided}
+
+-- ---- a packet
+
+-- What is not false is true.
+not_false : (b : Bool) → not b ≡ false → b ≡ true
+not_false true e = refl
+not_false false e = sym e
+
+-- Of tests that fail together, the last where the others pass.
+last_of_two : (x y : Bool) → (x && y) ≡ false → x ≡ true → y ≡ false
+last_of_two true y e one = e
+last_of_two false y e one = cc
+
+last_of_three : (x y z : Bool) → (x && y && z) ≡ false → x ≡ true → y ≡ true → z ≡ false
+last_of_three true true z e one two = e
+last_of_three true false z e one two = cc
+last_of_three false y z e one two = cc
+
+module _ (w : Watched) (before : List (List ℕ)) (p : List ℕ) where
+  exact_address : IsFalse (breaks rule.Address w before p) → KeepsRule rule.Address w before p
+  unfolding breaks
+  exact_address untold = (address_decided p).0 (not_false (are_code_words 0 2 p) untold)
+
+  exact_codes : IsFalse (breaks rule.HeaderCode w before p) → KeepsRule rule.HeaderCode w before p
+  unfolding breaks
+  exact_codes untold =
+      (coded (address p) (are_code_words 2 8 p) (HasExactHeader p) (header_decided p)).0
+      (ap not untold)
+
+  control_bits : IsFalse (breaks rule.Control w before p) → KeepsRule rule.Control w before p
+  unfolding breaks
+  control_bits untold = (controlled w.national (kind w.page p)).0 (ap not untold)
+
+  odd_row : IsFalse (breaks rule.Parity w before p) → KeepsRule rule.Parity w before p
+  unfolding breaks
+  odd_row untold up row is =
+      (odd_text p).0
+      (ap not
+      (last_of_three (is_open_after (kind w.page) before) (is_some_row (kind w.page p))
+      (is_some (first_even_byte p)) untold up (ap is_some_row is)))
+
+  same_row : IsFalse (breaks rule.RowChanged w before p) → KeepsCodes w before p
+  unfolding breaks
+  same_row untold up row first is found column below =
+      let spanned : List (List ℕ) = span (kind w.page) before in
+      let other : is_other_row w.page spanned p (kind w.page p) ≡ false =
+      last_of_two (is_open_after (kind w.page) before) _ untold up in
+      let text : is_other_text (first_of_row w.page spanned row) (codes_of p) ≡ false =
+      ap (is_other_row w.page spanned p) (sym is) ∙ other in
+      let none : is_other_text (Some first) (codes_of p) ≡ false =
+      ap (λ o. is_other_text o (codes_of p)) (sym found) ∙ text in
+      columns_zero 40 (codes_of first) (codes_of p)
+      (eqb-true (row_differing (codes_of first) (codes_of p)) 0 (not_false _ none)) column below
+
+-- ---- a stretch
+
+module _ (g : Task) (frames : Transmission) (a b : ℕ) (untold : IsUntold g frames a b) where
+  kept : (part : Part) → IsKeptWithin part g frames a b
+  unfolding standing_at
+  kept FramesRise = untold.rising
+  kept ExactAddresses = λ i k l m low high.
+      exact_address g.watched _ _ (untold.packets rule.Address refl i k l m low high)
+  kept ExactHeaders = λ i k l m low high.
+      exact_codes g.watched _ _ (untold.packets rule.HeaderCode refl i k l m low high)
+  kept SubtitleHeaders = λ i k l m low high.
+      control_bits g.watched _ _ (untold.packets rule.Control refl i k l m low high)
+  kept OddRows = λ i k l m low high.
+      odd_row g.watched _ _ (untold.packets rule.Parity refl i k l m low high)
+  kept SameRows = λ i k l m low high.
+      same_row g.watched _ _ (untold.packets rule.RowChanged refl i k l m low high)
+  kept DueContent = λ n f end low high. none_wrong g frames n f (untold.content n f end low high)
+  kept HeadersInTime = λ n f end low high.
+      (gap_decided g frames n f end.1).0 (ap not (untold.gap n f end low high))
+
+-- What is told of a stretch.
+pub law_of_untold_stretch : LawOfUntoldStretch
+unfolding standing_at
+law_of_untold_stretch g frames a b = record {
+  clean = λ untold. record {
+    stretch = untold.stretch;
+    kept = kept g frames a b untold;
+  };
+  ended = λ shut n f end low high.
+      (incomplete_decided g frames n f).0 (ap not (shut n f end low high));
+}
