@@ -27,6 +27,7 @@ fn asks_no_more_once_a_pull_gave_nothing(rt: HostRuntime) {
             pulls: 0,
         };
         let mut to = [0; 9];
+        assert!(rt; room <= 9);
         assert_same(&rt, &fill(&mut source, &mut to[..room]), &Ok(got));
         assert_same(&rt, &source.pulls, &pulls);
     }
