@@ -22,6 +22,8 @@ mod dropped_rows;
 #[cfg(test)]
 mod events;
 #[cfg(test)]
+mod every_fault;
+#[cfg(test)]
 mod failed_reads;
 #[cfg(test)]
 mod libzvbi;
