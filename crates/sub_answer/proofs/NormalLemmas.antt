@@ -1,9 +1,11 @@
 -- What `normal` writes and reads; main lemmas: answers_first, taken-at_end.
-use Rattle.std.proofs.Common.{◌≡◌, ℕ, ◌≤◌, List, ◌++◌, length, take, arith, sym, ap, ◌∙◌}
+use Rattle.std.proofs.Common.{◌≡◌, ◌≢◌, ℕ, ◌≤◌, List, ◌++◌, length, take, arith, sym, ap, ◌∙◌}
+use Rattle.std.proofs.Common.{refl, length-append}
 use Rattle.std.proofs.Common.{Option, Some, None, Result, Ok, Err, subst}
 use Rattle.std.specs.Io.KnownBytes.{Consumes, IsAtEnd, Keeps}
 use Rattle.std.proofs.KnownBytes.{Consumes-kept, Consumes-trans}
 use Rattle.std.proofs.lemmas.List.{append-nil, take_all, take_at, take-take}
+use lib.Seq.{length-take-le}
 use Rattle.std.proofs.lemmas.Option.{same_Some}
 use Rattle.sub_io.specs.Reading.{IfTold}
 use Rattle.stl_file.specs.declared.fault.NormalFault.{NormalFault}
@@ -101,6 +103,18 @@ taken-to_most (Some b) None xs p size bytes e = absurd p
 taken-to_most (Some b) (Some ys) xs p size bytes e =
     let all : bytes ≡ xs ++ ys = sym (same_Some b bytes e) ∙ p in
     sym (ap (take most_read) all ∙ take_at xs ys most_read size)
+
+-- memory is wanted for a piece that was taken
+pub memory-wanted : (x y z : Option (List ℕ)) (n : ℕ) (xs ps : List ℕ)
+    → n ≤ length ps
+    → n ≢ 0
+    → Consumes x y xs
+    → Consumes y z (take n ps)
+    → TellsRead x z input.Memory
+memory-wanted x y z n xs ps room some p q =
+    let long = length-append xs (take n ps) in
+    let part = length-take-le n ps room in
+    (xs ++ take n ps, Consumes-next x y z n xs ps _ refl p q, omega (arith, long, part, some))
 
 -- the block of a byte that could not be read
 pub block-at : (x y z : Option (List ℕ)) (block : ℕ) (xs : List ℕ)

@@ -1,5 +1,5 @@
 -- What the commands that write a file do: what the file has, and what is printed of it.
-use Rattle.std.specs.Prelude.{◌≡◌, ◌≢◌, ⊤, ℕ, List, [], ◌++◌, codes, decimal, length}
+use Rattle.std.specs.Prelude.{◌≡◌, ◌≢◌, ◌<◌, ℕ, List, [], ◌++◌, codes, decimal, length}
 use Rattle.std.specs.Prelude.{Bool, true, false, Option, Result, Ok, Err, IsOkAnd}
 use Rattle.std.specs.Io.KnownBytes.{Appends, Consumes, Keeps}
 use Rattle.sub_io.specs.Device.{AppendsPrefix}
@@ -99,11 +99,13 @@ PrintsMemory national told old new =
 abbrev pub most_read : ℕ
 most_read = 12800897
 
--- The source failed at a byte of this block, after the bytes that were taken.
+-- The source failed at a byte of this block, after the bytes that were taken; or memory was
+-- refused, which is wanted only for bytes that were taken.
 abbrev pub TellsRead : Option (List ℕ) → Option (List ℕ) → InputFault → Type 0
 TellsRead old new (input.Read block) =
     (bytes : List ℕ) × Consumes old new bytes × (block ≡ block_of_byte (length bytes))
-TellsRead old new input.Memory = ⊤
+TellsRead old new input.Memory =
+    (bytes : List ℕ) × Consumes old new bytes × (0 < length bytes)
 
 -- The file has the normal form of the input, or a prefix of it where it failed; or nothing, where
 -- the input is refused or was not read.

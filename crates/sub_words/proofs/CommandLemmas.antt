@@ -2,9 +2,11 @@
 -- refusals-parsed and IsFaultOf-refused for the parse, asked_for-met for its answer.
 use Rattle.std.proofs.Common.{◌≡◌, ◌≢◌, ◌∙◌, true, false, List, [], Option, Some, None, Ok, Err}
 use Rattle.std.proofs.Common.{refl, ap, subst, inl, inr, arith}
-use Rattle.std.specs.Prelude.{Box, option_map}
+use Rattle.std.specs.Borrow.{Bor}
+use Rattle.std.specs.Prelude.{Box, IfErr, Result, option_map, ◌==◌, ◌<◌, ◌∷◌, ℕ, length}
 use Rattle.std.specs.Box.{box_value}
 use Rattle.std.proofs.lemmas.Bool.{and_parts, not-true}
+use Rattle.std.proofs.lemmas.Bool.Decides.{nat_tests}
 use Rattle.clap.specs.Words.{App, FailsBy, HasKind, HasMatchesOf, IsAmong, IsParsedFrom, Kinds, Row}
 use Rattle.clap.specs.Words.{Text, app_of, fault_of, has_subcommand, is_simple, is_simple_and_free}
 use Rattle.clap.specs.Words.{kind_of, subcommand_rows, subcommand_rows_of}
@@ -18,8 +20,11 @@ use Rattle.clap.specs.declared.parser.matches.ArgMatches.TheViews.{out-SubComman
 use Rattle.clap.specs.declared.parser.matches.SubCommand.{SubCommand}
 use Rattle.clap.proofs.OnLiterals.{clap_on_literals}
 use Rattle.clap.proofs.WalkLemmas.{first_value-rows}
-use Rattle.sub_words.specs.Commands.{are_sound, command_in, clap_refusals, subttx_app}
-use Rattle.sub_words.specs.Requests.{asked_for, asked_in}
+use Rattle.sub_words.specs.Commands.{are_sound, command_in, clap_refusals, subttx_app, texts_of}
+use Rattle.sub_words.specs.Requests.{Asked, IsFaultIn, IsFaultOf, IsReadAs, asked_for, asked_in}
+use Rattle.sub_request.specs.declared.request.Request.{Request}
+use Rattle.sub_request.specs.declared.request.UsageFault.{UsageFault}
+use Rattle.sub_request.specs.declared.request.UsageFault.TheVariants as fault
 
 -- the exactness of the matches is promised of a simple command, as the program's is
 is_simple-subttx : is_simple subttx_app ≡ true
@@ -30,6 +35,51 @@ is_simple-subttx = refl
 is_free-subttx : is_simple_and_free subttx_app ≡ true
 unfolding subttx_app clap_on_literals
 is_free-subttx = refl
+
+-- no words are those of no command
+none-refused : (clap_refusals [] ≢ []) × (are_sound [] ≢ true)
+unfolding clap_refusals are_sound subttx_app clap_on_literals
+none-refused = (λ e. cc, λ e. cc)
+
+-- no words at all
+pub no-words : (words : List (Bor (List ℕ)))
+    → (length words == 0) ≡ true
+    → IsFaultOf (texts_of words) fault.Words
+no-words [] none = none-refused
+no-words (w ∷ ws) none =
+    let more : 0 < length (w ∷ ws) = omega arith in absurd (grind (arith, nat_tests))
+
+-- words as texts are as many
+pub some-texts : (words : List (Bor (List ℕ)))
+    → (length words == 0) ≡ false
+    → texts_of words ≢ []
+some-texts [] some e = cc
+some-texts (w ∷ ws) some e = cc
+
+-- a fault of a command's arguments is one of the words
+fault-read : (words : List Text) (asked : Result Asked UsageFault) (f : UsageFault)
+    → words ≢ []
+    → clap_refusals words ≡ []
+    → asked_for words ≡ Some asked
+    → IsFaultIn asked f
+    → IsFaultOf words f
+fault-read words asked fault.Memory some taken is read = some
+fault-read words asked fault.Words some taken is read = cc
+fault-read words asked fault.Open some taken is read = cc
+fault-read words asked f some taken is read =
+    record { taken = taken; broken = is ∙ ap Some read.0 }
+
+-- what the arguments of the words' command are read as
+pub fault-of_read :
+    (words : List Text) (asked : Result Asked UsageFault) (result : Result Request UsageFault)
+    → words ≢ []
+    → clap_refusals words ≡ []
+    → asked_for words ≡ Some asked
+    → IsReadAs asked result
+    → IfErr result (IsFaultOf words)
+fault-of_read words asked (Ok r) some taken is read = tt
+fault-of_read words asked (Err f) some taken is read =
+    fault-read words asked f some taken is read
 
 -- ---- what a parse of the program's command gives
 

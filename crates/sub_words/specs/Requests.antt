@@ -133,9 +133,9 @@ pub record Breaks (words : List Text) (fault : UsageFault) : Type 0 where
   pub broken : asked_for words ≡ Some (Err fault)
 
 -- The fault is one that the words have: `clap` refuses them, or they break the program's own rule.
--- Want of memory says nothing of the words, and no file is opened by reading them.
+-- Want of memory says of the words only that there are some, and no file is opened by reading them.
 abbrev pub IsFaultOf : List Text → UsageFault → Type 0
 IsFaultOf words fault.Words = (clap_refusals words ≢ []) × (are_sound words ≢ true)
-IsFaultOf words fault.Memory = ⊤
+IsFaultOf words fault.Memory = words ≢ []
 IsFaultOf words fault.Open = ⊥
 IsFaultOf words own = Breaks words own

@@ -1,5 +1,5 @@
 //! The words of the command line, read as a request.
-ghost use Rattle.std.specs.Prelude.{◌≡◌, [], IfErr, IfOk, OnOk, true};
+ghost use Rattle.std.specs.Prelude.{◌≡◌, ◌≢◌, [], IfErr, IfOk, OnOk, true};
 ghost use Rattle.clap.specs.Words.{has_subcommand, subcommand_rows_of};
 ghost use Rattle.sub_words.specs.Commands.{command_in, clap_refusals, texts_of};
 ghost use Rattle.sub_words.specs.Requests.{AsksFor, IsFaultOf};
@@ -24,7 +24,8 @@ pub trait ParseWords<'a>: Sized {
     ///
     /// `Words` where `clap` refuses the words. Then the first fault of the command's arguments:
     /// `BadHex`, `SameFile`, `BadPage`, `Every`, `Origin`, `BadOption`, `BadTime`, `BadSkip`,
-    /// `BadFlip`, `BadLose`, `BadReceiver`. `Memory` where memory ran out before that was known.
+    /// `BadFlip`, `BadLose`, `BadReceiver`. `Memory` where memory ran out before that was known; where
+    /// there are no words none is taken.
     fn parse(alloc: Global, words: &'a [&'a str]) -> Result<Self, UsageFault>;
 }
 
@@ -33,6 +34,9 @@ impl<'a> ParseWords<'a> for Request<'a> {
         ensures request { IfOk result (AsksFor (texts_of words.now)) }
         ensures fault { IfErr result (IsFaultOf (texts_of words.now)) }
     {
+        if words.is_empty() {
+            return Err(UsageFault::Words);
+        }
         let matches = matches_of(alloc, words)?;
         match matches.subcommand() {
             Some((name, arguments)) => read_command(alloc, name, arguments),
@@ -43,6 +47,7 @@ impl<'a> ParseWords<'a> for Request<'a> {
 
 // The matches that `clap` gives for the words.
 fn matches_of<'a>(alloc: Global, words: &'a [&'a str]) -> Result<ArgMatches<'a>, UsageFault>
+    requires { words.now ≢ [] }
     ensures command { IfOk result (λ m. subcommand_rows_of m ≡ command_in (texts_of words.now)) }
     ensures there { IfOk result (λ m. has_subcommand m ≡ true) }
     ensures taken { OnOk result (clap_refusals (texts_of words.now) ≡ []) }

@@ -1,6 +1,7 @@
 -- Each pull puts its piece after those before it; what was taken is told at the end.
 use Rattle.std.proofs.Common.{rules}
-use Rattle.sub_answer.proofs.NormalLemmas.{Consumes-next, block-at, taken-at_end, taken-to_most}
+use Rattle.sub_answer.proofs.NormalLemmas.{Consumes-next, block-at, memory-wanted}
+use Rattle.sub_answer.proofs.NormalLemmas.{taken-at_end, taken-to_most}
 use Rattle.sub_answer.proofs.answering.normal.read_input.Goals as goal
 
 pub returns-in-Ok-eq0-clause-bytes : goal.returns-in-Ok-eq0-clause-bytes
@@ -23,3 +24,8 @@ returns-in-Err-clause-read g c =
 pub returns-clause-bytes : goal.returns-clause-bytes
 returns-clause-bytes g c =
     taken-to_most _ _ _ c.pieces.invariant.taken (search rules)
+
+pub returns-in_default-clause-read : goal.returns-in_default-clause-read
+returns-in_default-clause-read g c =
+    memory-wanted _ _ _ _ _ _ (search rules) (search rules) c.pieces.invariant.taken
+    c.in-Ok.ensures.bytes.0
