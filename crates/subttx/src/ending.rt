@@ -1,7 +1,7 @@
 //! Answers a request over devices, closes the file and hands on the lines.
 //!
 //! For a device that the request does not name, an empty one is handed in, by a function of its own.
-ghost use Rattle.std.specs.Prelude.{◌≡◌, []};
+ghost use Rattle.std.specs.Prelude.{◌≡◌, true, []};
 ghost use Rattle.sub_io.specs.Buffered.{HandsOn, failures_and_refused};
 ghost use Rattle.sub_io.specs.Device.{CanFail};
 ghost use Rattle.sub_answer.specs.DeviceCall.{source_call};
@@ -62,7 +62,8 @@ pub fn answer_with_file<S: Source, F: Close, K: Sink>(
     requires file { (failures_and_refused (F.failure_count file.old.device) file.old.refused ≡ 0)
         × (file.old.held ≡ []) }
     requires out { failures_and_refused (K.failure_count out.old.device) out.old.refused ≡ 0 }
-    ensures { EndsFrom request.now
+    ensures closed { F.is_closed file.new.device ≡ true }
+    ensures ends { EndsFrom request.now
         (source_call S.remaining S.failure_count first.old first.new)
         (lines_of K.contents K.failure_count out.old)
         (lines_of K.contents K.failure_count out.new) result }
@@ -96,6 +97,7 @@ fn answer_and_hand_on<S: Source, T: Source, F: Close, K: Sink>(
         (lines_of K.contents K.failure_count out.new) result }
     ensures done { result ≡ Status.Done → HandsOn F.failure_count file.old file.new
         × HandsOn K.failure_count out.old out.new }
+    ensures closed { F.is_closed file.new.device ≡ true }
 {
     let status = answer(alloc, request, first, second, file, out);
     file.close();

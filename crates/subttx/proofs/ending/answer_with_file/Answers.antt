@@ -1,5 +1,5 @@
 use Rattle.subttx.proofs.EndingLemmas.{ends_from}
 use Rattle.subttx.proofs.ending.answer_with_file.Goals as goal
 
-pub returns : goal.returns
-returns g c = ends_from _ _ _ _ _ _ _ c.answer_and_hand_on.ensures.ends
+pub returns-clause-ends : goal.returns-clause-ends
+returns-clause-ends g c = ends_from _ _ _ _ _ _ _ c.answer_and_hand_on.ensures.ends
