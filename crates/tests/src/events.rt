@@ -129,7 +129,13 @@ fn tells_an_open_page_and_its_end(rt: HostRuntime) -> Result<(), Fail> {
     let frame = 900_000;
     let open = Event::Told(CheckFault::Incomplete { frame });
     let wanted = [open, ended(EndRule::Incomplete, LAST)];
-    tells(&rt, rt.alloc(), &bytes, &every(250)?.asking_complete(), &wanted)
+    tells(
+        &rt,
+        rt.alloc(),
+        &bytes,
+        &every(250)?.asking_complete(),
+        &wanted,
+    )
 }
 
 #[test]
@@ -140,7 +146,13 @@ fn tells_a_wrong_page_and_a_first_frame_without_a_header(rt: HostRuntime) -> Res
         content(frame),
         ended(EndRule::Content, LAST),
     ];
-    tells(&rt, rt.alloc(), &schedule_of_hi(), &options("100", 250, 0)?, &wanted)
+    tells(
+        &rt,
+        rt.alloc(),
+        &schedule_of_hi(),
+        &options("100", 250, 0)?,
+        &wanted,
+    )
 }
 
 #[test]
@@ -152,7 +164,13 @@ fn tells_a_cell_again_where_it_was_right_between(rt: HostRuntime) -> Result<(), 
         ended(EndRule::Content, LAST),
         Event::Told(CheckFault::Late { frame: LAST }),
     ];
-    tells(&rt, rt.alloc(), &schedule_of_hi(), &options("888", 250, 3600)?, &wanted)
+    tells(
+        &rt,
+        rt.alloc(),
+        &schedule_of_hi(),
+        &options("888", 250, 3600)?,
+        &wanted,
+    )
 }
 
 #[test]
