@@ -1,8 +1,9 @@
 //! All that is told of a transmission, one event after another: what begins to be broken, and up to
 //! where it stood so.
-ghost use Rattle.std.specs.Prelude.{None};
+ghost use Rattle.std.specs.Prelude.{◌≡◌, None, false};
+ghost use Rattle.sub_io.specs.Device.{CanFail};
 
-use crate::asserting::{assert_same, assert_same_in};
+use crate::asserting::assert_same;
 use fixtures::{FIRST, SECOND, every, file_of_hi, options, schedule_of_hi};
 use std::alloc::Global;
 use std::process::Abort;
@@ -23,7 +24,9 @@ struct Kept {
 }
 
 impl Kept {
-    fn new(limit: usize) -> Kept {
+    fn new(limit: usize) -> Kept
+        ensures { result.stopped ≡ false }
+    {
         Kept {
             events: [None; 8],
             count: 0,
@@ -57,7 +60,9 @@ fn told_of<S: Source>(
     source: &mut S,
     options: &Options,
     limit: usize,
-) -> Result<(Kept, Result<Accepted, CheckFault>), Fail> {
+) -> Result<(Kept, Result<Accepted, CheckFault>), Fail>
+    requires { CanFail (S.failure_count source.old) }
+{
     let programme = load(alloc, &mut MemSource::new(&file_of_hi()), National::English)?;
     let mut kept = Kept::new(limit);
     let answer = check_all(&programme, source, options, &mut kept);
@@ -74,8 +79,8 @@ fn tells(
 ) -> Result<(), Fail> {
     let (kept, _) = told_of(alloc, &mut MemSource::new(bytes), options, 9)?;
     assert_same(rt, &kept.count, &wanted.len());
-    for (i, event) in wanted.iter().enumerate() {
-        assert_same_in(rt, &kept.events[i], &Some(*event), &i);
+    for (got, event) in kept.events.iter().zip(wanted.iter()) {
+        assert_same(rt, got, &Some(*event));
     }
     let programme = load(alloc, &mut MemSource::new(&file_of_hi()), National::English)?;
     let answer = check(&programme, &mut MemSource::new(bytes), options);
@@ -175,11 +180,11 @@ fn tells_a_cell_again_where_it_was_right_between(rt: HostRuntime) -> Result<(), 
 
 #[test]
 fn goes_on_where_frames_do_not_rise(rt: HostRuntime) -> Result<(), Fail> {
-    let mut bytes = [0; 736];
-    bytes[..368].copy_from_slice(&schedule_of_hi());
-    bytes[368..].copy_from_slice(&schedule_of_hi());
+    let mut bytes = Vec::new(rt.alloc());
+    bytes.extend_from_slice(&schedule_of_hi())?;
+    bytes.extend_from_slice(&schedule_of_hi())?;
     let order = Event::Told(CheckFault::Order { pes: 2 });
-    tells(&rt, rt.alloc(), &bytes, &every(250)?, &[order])
+    tells(&rt, rt.alloc(), bytes.as_slice(), &every(250)?, &[order])
 }
 
 #[test]
