@@ -6,7 +6,8 @@ use Rattle.std.proofs.Common.{false, inl, inr, arith, take, cond}
 use Rattle.std.proofs.lemmas.Bool.Decides.{nat_tests}
 use Rattle.std.specs.Prelude.{◌↔◌, IsOk, is_some, option_map}
 use Rattle.std.specs.List.{filter, list_all}
-use Rattle.sub_io.specs.Telling.{first_alone}
+use Rattle.sub_io.specs.Telling.{KeepsFirst}
+use Rattle.sub_io.proofs.TellingLemmas.{first_is}
 use Rattle.stl_file.specs.declared.fault.StlFault.TheVariants.{Read, Unfinished}
 use Rattle.stl_file.specs.Reading.{Outcome, ends, fails, gives}
 use Rattle.stl_file.specs.Reader.{outcome_of}
@@ -94,14 +95,15 @@ tells-kind national outcome block kind of_file h = h
 
 -- the one fault that was told is the one of the file
 pub tells-first : (national : National) (outcome : Outcome) (fault : LoadFault) (stopped : Bool)
-    → TellsFaults (Some []) (Some (fault ∷ [])) stopped (faults national outcome)
-    → TellsOfFile (Some []) (Some (fault ∷ []))
+    → TellsFaults KeepsFirst None (Some fault) stopped (faults national outcome)
+    → TellsOfFile KeepsFirst None (Some fault)
     → TellsFault national outcome fault.block fault.kind
 tells-first national outcome fault stopped told of_file =
     let p = told.prefix in
-    let first = first_taken p.0 (faults national outcome) fault p.1 p.3 in
+    let taken = first_is (Some fault) (take p.0 (faults national outcome)) p.3 in
+    let first = first_taken p.0 (faults national outcome) fault p.1 taken in
     let own : list_all (λ (f : LoadFault). is_of_file f.kind) (fault ∷ []) ≡ true =
-    rw (sym of_file.told) at of_file.of_file in
+    rw (sym (first_is (Some fault) of_file.faults of_file.told)) at of_file.of_file in
     let kind : is_of_file fault.kind ≡ true = grind (arith, nat_tests) in
     tells-kind national outcome fault.block fault.kind kind
     ((first_fault national outcome fault).1 first)
@@ -133,7 +135,7 @@ is_late block at kind h = inr (grind (arith, nat_tests))
 pub none-told : (national : National) (old new : Option (List ℕ)) (block : ℕ)
     (told : Option LoadFault)
     → (is_some told ≡ true → ⊥)
-    → FailsTelling national old new (Some []) (Some (first_alone told)) block
+    → FailsTelling national old new KeepsFirst None told block
     → FailsLoading national old new block
 none-told national old new block (Some fault) none failed = absurd (none refl)
 none-told national old new block None none failed =
@@ -144,5 +146,6 @@ none-told national old new block None none failed =
       none = λ all is fault e.
           is_late block fault.block fault.kind
           (not_before block (faults national (outcome_of all)) fault
-          ((first_fault national (outcome_of all) fault).0 e) (sym (failed.told all is)));
+          ((first_fault national (outcome_of all) fault).0 e)
+          (sym (first_is None _ (failed.told all is))));
     }

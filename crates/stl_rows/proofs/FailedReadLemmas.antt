@@ -63,15 +63,15 @@ none_before-0 (f ∷ fs) = grind (arith, nat_tests, none_before-0 fs)
 -- while a subtitle is read
 pub fails-next : (national : National) (start old new : Option (List ℕ)) (before : Option Times)
     (kept : Option (List SubtitleValue)) (early : List LoadFault)
-    (told_old told_new : Option (List LoadFault)) (reader : ReaderValue) (block : ℕ)
+    {D : Type 0} {IsTold : D → LoadFault → D → Type 0} (told_old told_new : D) (reader : ReaderValue) (block : ℕ)
     → HasTaken start old reader.block
     → reader.progress ≡ Reading
     → list_all (is_told_by reader.block) early ≡ true
-    → Tells told_old told_new early
+    → Tells IsTold told_old told_new early
     → ((all : List ℕ) → start ≡ Some all → (rest : List ℕ) × (old ≡ Some rest)
     × GoesOn national (outcome_of all) (outcome_left reader rest) before kept early)
     → FailsReading reader.block block old new
-    → FailsTelling national start new told_old told_new block
+    → FailsTelling national start new IsTold told_old told_new block
 fails-next national start old new before kept early told_old told_new reader block taken reading
     early_told told goes failed =
     record {
@@ -90,7 +90,7 @@ fails-next national start old new before kept early told_old told_new reader blo
     }
 
 -- while the GSI block is read: nothing was told
-pub reads-nothing : (national : National) (outcome : Outcome) (told : Option (List LoadFault))
-    → Tells told told (filter (is_before 0) (faults national outcome))
+pub reads-nothing : (national : National) (outcome : Outcome) {D : Type 0} {IsTold : D → LoadFault → D → Type 0} (told : D)
+    → Tells IsTold told told (filter (is_before 0) (faults national outcome))
 reads-nothing national outcome told =
     rw (none_before-0 (faults national outcome)) (Tells-none told)

@@ -125,30 +125,30 @@ order_alone : (before : Option Times) (t : Times)
 order_alone None t = refl
 order_alone (Some before) t = grind (arith, nat_tests)
 
-stops-whole : (old new : Option (List LoadFault)) (items : List LoadFault)
+stops-whole : {D : Type 0} {IsTold : D → LoadFault → D → Type 0} (old new : D) (items : List LoadFault)
     → 0 < length items
-    → Tells old new items
-    → StopsWithin old new items
+    → Tells IsTold old new items
+    → StopsWithin IsTold old new items
 stops-whole old new items some told =
-    (length items, some, omega arith, subst (Tells old new) (sym (take-length items)) told)
+    (length items, some, omega arith, subst (Tells IsTold old new) (sym (take-length items)) told)
 
 pub stops-last : (national : National) (before : Option Times) (t : SubtitleValue) (block : ℕ)
-    (old mid new : Option (List LoadFault)) (order row : Option LoadFaultKind)
+    {D : Type 0} {IsTold : D → LoadFault → D → Type 0} (old mid new : D) (order row : Option LoadFaultKind)
     → order ≡ first_of (order_faults before (times_of t))
     → first_alone row ≡ row_faults (drawn national t)
     → is_none row ≡ false
-    → Tells old mid (map (load_fault block) (first_alone order))
-    → Tells mid new (map (load_fault block) (first_alone row))
-    → StopsWithin old new (map (load_fault block) (follow_faults national before t))
+    → Tells IsTold old mid (map (load_fault block) (first_alone order))
+    → Tells IsTold mid new (map (load_fault block) (first_alone row))
+    → StopsWithin IsTold old new (map (load_fault block) (follow_faults national before t))
 stops-last national before t block old mid new order None is_order is_row some p q = absurd cc
 stops-last national before t block old mid new order (Some kind) is_order is_row some p q =
     let orders : List LoadFaultKind = order_faults before (times_of t) in
-    let first : Tells old mid (map (load_fault block) orders) =
+    let first : Tells IsTold old mid (map (load_fault block) orders) =
     rw (is_order, order_alone before (times_of t)) at p in
     let same : map (load_fault block) (orders ++ kind ∷ [])
     ≡ map (load_fault block) orders ++ load_fault block kind ∷ [] =
     map-append (load_fault block) orders (kind ∷ []) in
-    let whole : Tells old new (map (load_fault block) (orders ++ kind ∷ [])) =
+    let whole : Tells IsTold old new (map (load_fault block) (orders ++ kind ∷ [])) =
     rw same (Tells-trans old mid new (map (load_fault block) orders) _ first q) in
     rw (sym is_row)
     (stops-whole old new (map (load_fault block) (orders ++ kind ∷ []))
@@ -293,11 +293,11 @@ ends-here national outcome rest before (Some ts) early t block clean some are_ke
 -- ---- what was told in all
 
 -- all faults
-pub tells-all : (old new : Option (List LoadFault)) (stopped : Bool) (early all : List LoadFault)
+pub tells-all : {D : Type 0} {IsTold : D → LoadFault → D → Type 0} (old new : D) (stopped : Bool) (early all : List LoadFault)
     → all ≡ early
     → 0 < length early
-    → Tells old new early
-    → TellsFaults old new stopped all
+    → Tells IsTold old new early
+    → TellsFaults IsTold old new stopped all
 tells-all old new stopped early all same some told =
     rw same (record {
       all = λ no. told;
@@ -305,11 +305,11 @@ tells-all old new stopped early all same some told =
     })
 
 -- those up to where the device said stop
-pub tells-stopped : (old mid new : Option (List LoadFault)) (early items rest all : List LoadFault)
+pub tells-stopped : {D : Type 0} {IsTold : D → LoadFault → D → Type 0} (old mid new : D) (early items rest all : List LoadFault)
     → all ≡ early ++ (items ++ rest)
-    → Tells old mid early
-    → StopsWithin mid new items
-    → TellsFaults old new true all
+    → Tells IsTold old mid early
+    → StopsWithin IsTold mid new items
+    → TellsFaults IsTold old new true all
 tells-stopped old mid new early items rest all same told s =
     let bound : s.0 ≤ length items = s.2 in
     let here : take (length early + s.0) (early ++ (items ++ rest)) ≡ early ++ take s.0 items =
@@ -333,12 +333,12 @@ take-of_file zero items h = refl
 take-of_file (suc n) [] h = refl
 take-of_file (suc n) (f ∷ fs) h = grind (arith, nat_tests, take-of_file n fs)
 
-pub of_file-stopped : (old mid new : Option (List LoadFault)) (early : List LoadFault)
+pub of_file-stopped : {D : Type 0} {IsTold : D → LoadFault → D → Type 0} (old mid new : D) (early : List LoadFault)
     (national : National) (before : Option Times) (t : SubtitleValue) (from block : ℕ)
     → list_all (is_told_by from) early ≡ true
-    → Tells old mid early
-    → StopsWithin mid new (map (load_fault block) (follow_faults national before t))
-    → TellsOfFile old new
+    → Tells IsTold old mid early
+    → StopsWithin IsTold mid new (map (load_fault block) (follow_faults national before t))
+    → TellsOfFile IsTold old new
 of_file-stopped old mid new early national before t from block early_told told s =
     let items : List LoadFault = map (load_fault block) (follow_faults national before t) in
     let items_told = at_block block (follow_faults national before t)
@@ -371,11 +371,11 @@ goes_on-start national outcome = record {
 -- no faults were told, and nothing is wrong with the file
 pub tells-none : (national : National) (outcome : Outcome) (before : Option Times)
     (kept : Option (List SubtitleValue)) (early : List LoadFault)
-    (old new : Option (List LoadFault)) (stopped : Bool)
+    {D : Type 0} {IsTold : D → LoadFault → D → Type 0} (old new : D) (stopped : Bool)
     → GoesOn national outcome ends before kept early
     → 0 < length early
-    → Tells old new early
-    → TellsFaults old new stopped (faults national outcome)
+    → Tells IsTold old new early
+    → TellsFaults IsTold old new stopped (faults national outcome)
 unfolding faults_behind
 tells-none national outcome before kept early old new stopped on some told =
     tells-all old new stopped early (faults national outcome) (on.same ∙ append-nil early) some told
@@ -383,12 +383,12 @@ tells-none national outcome before kept early old new stopped on some told =
 -- the fault that ends reading was told last
 pub tells-end : (national : National) (outcome left : Outcome) (before : Option Times)
     (kept : Option (List SubtitleValue)) (early : List LoadFault) (fault : StlFault) (block : ℕ)
-    (old mid new : Option (List LoadFault)) (stopped : Bool)
+    {D : Type 0} {IsTold : D → LoadFault → D → Type 0} (old mid new : D) (stopped : Bool)
     → GoesOn national outcome left before kept early
     → left ≡ fails fault block
-    → Tells old mid early
-    → Tells mid new (load_fault block (File fault) ∷ [])
-    → TellsFaults old new stopped (faults national outcome)
+    → Tells IsTold old mid early
+    → Tells IsTold mid new (load_fault block (File fault) ∷ [])
+    → TellsFaults IsTold old new stopped (faults national outcome)
 unfolding faults_behind
 tells-end national outcome left before kept early fault block old mid new stopped on is p q =
     let last : List LoadFault = load_fault block (File fault) ∷ [] in
@@ -405,13 +405,13 @@ file-of_file Ended read ended = absurd (ended refl)
 file-of_file fault read ended = refl
 
 pub of_file-end : (from : ℕ) (early : List LoadFault) (fault : StlFault) (block : ℕ)
-    (old mid new : Option (List LoadFault))
+    {D : Type 0} {IsTold : D → LoadFault → D → Type 0} (old mid new : D)
     → list_all (is_told_by from) early ≡ true
     → is_read fault ≡ false
     → fault ≢ Ended
-    → Tells old mid early
-    → Tells mid new (load_fault block (File fault) ∷ [])
-    → TellsOfFile old new
+    → Tells IsTold old mid early
+    → Tells IsTold mid new (load_fault block (File fault) ∷ [])
+    → TellsOfFile IsTold old new
 of_file-end from early fault block old mid new early_told read ended p q =
     let last : List LoadFault = load_fault block (File fault) ∷ [] in
     record {
@@ -426,13 +426,13 @@ of_file-end from early fault block old mid new early_told read ended p q =
 -- the device said stop at a fault of a subtitle
 pub tells-stop : (national : National) (outcome left rest : Outcome) (before : Option Times)
     (kept : Option (List SubtitleValue)) (early : List LoadFault) (t : SubtitleValue) (block : ℕ)
-    (old mid new : Option (List LoadFault)) (stopped : Bool)
+    {D : Type 0} {IsTold : D → LoadFault → D → Type 0} (old mid new : D) (stopped : Bool)
     → GoesOn national outcome left before kept early
     → left ≡ gives t block rest
     → stopped ≡ true
-    → Tells old mid early
-    → StopsWithin mid new (map (load_fault block) (follow_faults national before t))
-    → TellsFaults old new stopped (faults national outcome)
+    → Tells IsTold old mid early
+    → StopsWithin IsTold mid new (map (load_fault block) (follow_faults national before t))
+    → TellsFaults IsTold old new stopped (faults national outcome)
 unfolding faults_behind
 tells-stop national outcome left rest before kept early t block old mid new stopped on is
     is_stopped p q =
@@ -503,13 +503,13 @@ late national before block (gives t at left) names =
 -- the faults before the block at which the source failed were told
 pub tells-unread : (national : National) (outcome left : Outcome) (before : Option Times)
     (kept : Option (List SubtitleValue)) (early : List LoadFault) (from block : ℕ)
-    (old new : Option (List LoadFault))
+    {D : Type 0} {IsTold : D → LoadFault → D → Type 0} (old new : D)
     → from < block
     → list_all (is_told_by from) early ≡ true
     → NamesFrom block left
     → GoesOn national outcome left before kept early
-    → Tells old new early
-    → Tells old new (filter (is_before block) (faults national outcome))
+    → Tells IsTold old new early
+    → Tells IsTold old new (filter (is_before block) (faults national outcome))
 tells-unread national outcome left before kept early from block old new lt early_told names on told
     =
     let none = late national before block left names in

@@ -47,23 +47,26 @@ kept_after false t kept = None
 kept_after true t kept = option_map (λ ts. ts ++ t ∷ []) kept
 
 -- A device was told faults of the file.
-pub record TellsOfFile (old new : Option (List LoadFault)) : Type 0 where
+pub record TellsOfFile {D : Type 0} (IsTold : D → LoadFault → D → Type 0) (old new : D) : Type 0
+  where
   pub faults : List LoadFault
   pub some : 0 < length faults
   pub of_file : list_all (λ (f : LoadFault). is_of_file f.kind) faults ≡ true
-  pub told : Tells old new faults
+  pub told : Tells IsTold old new faults
 
 -- The device said stop at one of these: it was told those up to there.
-abbrev pub StopsWithin : Option (List LoadFault) → Option (List LoadFault) → List LoadFault → Type 0
-StopsWithin old new items =
-    (n : ℕ) × (0 < n) × (n ≤ length items) × Tells old new (take n items)
+abbrev pub StopsWithin : {D : Type 0}
+    → (D → LoadFault → D → Type 0) → D → D → List LoadFault → Type 0
+StopsWithin IsTold old new items =
+    (n : ℕ) × (0 < n) × (n ≤ length items) × Tells IsTold old new (take n items)
 
 -- A device was told these, where it did not say stop, or a prefix of them.
 pub record TellsFaults
-    (old new : Option (List LoadFault)) (has_stopped : Bool) (items : List LoadFault) : Type 0
-  where
-    pub all : has_stopped ≡ false → Tells old new items
-    pub prefix : StopsWithin old new items
+    {D : Type 0} (IsTold : D → LoadFault → D → Type 0) (old new : D) (has_stopped : Bool)
+    (items : List LoadFault)
+    : Type 0 where
+  pub all : has_stopped ≡ false → Tells IsTold old new items
+  pub prefix : StopsWithin IsTold old new items
 
 -- The file ends inside a subtitle.
 abbrev pub is_unfinished : LoadFaultKind → Bool
@@ -77,14 +80,17 @@ is_before block fault = nat_lt fault.block block && not (is_unfinished fault.kin
 
 -- The source failed: the block is that of the byte that was asked for, the first one after those
 -- that were taken. The device was told the faults that are found before it, and no others.
-pub record FailsTelling (national : National) (old new : Option (List ℕ))
-    (told_old told_new : Option (List LoadFault)) (block : ℕ) : Type 0 where
+pub record FailsTelling
+    {D : Type 0} (national : National) (old new : Option (List ℕ))
+    (IsTold : D → LoadFault → D → Type 0) (told_old told_new : D) (block : ℕ)
+    : Type 0 where
   pub bytes : List ℕ
   pub consumed : Consumes old new bytes
   pub block_is : block ≡ block_of_byte (length bytes)
   pub told :
       IfTold old
-      (λ all. Tells told_old told_new (filter (is_before block) (faults national (outcome_of all))))
+      (λ all. Tells IsTold told_old told_new
+      (filter (is_before block) (faults national (outcome_of all))))
 
 -- The first of all faults is the one for which `load` refuses the file, and there is none exactly
 -- where it loads it.

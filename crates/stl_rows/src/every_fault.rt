@@ -53,7 +53,7 @@ pub fn load_all<S: Source, D: Audience<LoadFault>>(
     ensures exact { IfTold (S.remaining source.old) (λ bytes. IfOk result (λ found.
         IfSome found (λ programme. loaded national (outcome_of bytes) ≡ Ok programme))) }
     ensures told { IfTold (S.remaining source.old) (λ bytes. result ≡ Ok None →
-        TellsFaults (D.told audience.old) (D.told audience.new) (D.has_stopped audience.new)
+        TellsFaults D.is_told audience.old audience.new (D.has_stopped audience.new)
         (faults national (outcome_of bytes))) }
     ensures memory { IfTold (S.remaining source.old) (λ bytes. IfErr result (λ f.
         f.kind ≡ Memory → EndsRecord national [] f.block (outcome_of bytes))) }
@@ -64,16 +64,16 @@ pub fn load_all<S: Source, D: Audience<LoadFault>>(
         IfSome found (λ programme. programme.national ≡ national)) }
     // `None` comes where faults were told, and a programme and `Memory` where none was.
     ensures some { result ≡ Ok None →
-        TellsOfFile (D.told audience.old) (D.told audience.new) }
+        TellsOfFile D.is_told audience.old audience.new }
     ensures none { IfOk result (λ found. IfSome found (λ _.
-        Tells (D.told audience.old) (D.told audience.new) [])) }
+        Tells D.is_told audience.old audience.new [])) }
     ensures none_before { IfErr result (λ f. f.kind ≡ Memory →
-        Tells (D.told audience.old) (D.told audience.new) []) }
+        Tells D.is_told audience.old audience.new []) }
     ensures stopped { D.has_stopped audience.new ≡ true → result ≡ Ok None }
     // A failed read names the block of the byte that was asked for.
     ensures read { IfErr result (λ f. is_read f ≡ true → FailsTelling national
         (S.remaining source.old) (S.remaining source.new)
-        (D.told audience.old) (D.told audience.new) f.block) }
+        D.is_told audience.old audience.new f.block) }
     ensures kinds { IfErr result (λ f. (f.kind ≡ Memory) ⊎ (f.kind ≡ File Read)) }
     ensures count { CountsIf S.failure_count source.old (failed is_read result) source.new }
 {
@@ -102,21 +102,21 @@ pub fn load_all_in<A: Allocator + Drop, S: Source, D: Audience<LoadFault>>(
         IfSome found (λ v. loaded national (outcome_of bytes)
         ≡ Ok (record { national = national; records = v.items })))) }
     ensures told { IfTold (S.remaining source.old) (λ bytes. result ≡ Ok None →
-        TellsFaults (D.told audience.old) (D.told audience.new) (D.has_stopped audience.new)
+        TellsFaults D.is_told audience.old audience.new (D.has_stopped audience.new)
         (faults national (outcome_of bytes))) }
     ensures memory { IfTold (S.remaining source.old) (λ bytes. IfErr result (λ f.
         f.kind ≡ Memory → EndsRecord national [] f.block (outcome_of bytes))) }
     ensures programme { IfOk result (λ found. IfSome found (λ v. IsProgramme national v.items)) }
     ensures some { result ≡ Ok None →
-        TellsOfFile (D.told audience.old) (D.told audience.new) }
+        TellsOfFile D.is_told audience.old audience.new }
     ensures none { IfOk result (λ found. IfSome found (λ _.
-        Tells (D.told audience.old) (D.told audience.new) [])) }
+        Tells D.is_told audience.old audience.new [])) }
     ensures none_before { IfErr result (λ f. f.kind ≡ Memory →
-        Tells (D.told audience.old) (D.told audience.new) []) }
+        Tells D.is_told audience.old audience.new []) }
     ensures stopped { D.has_stopped audience.new ≡ true → result ≡ Ok None }
     ensures read { IfErr result (λ f. is_read f ≡ true → FailsTelling national
         (S.remaining source.old) (S.remaining source.new)
-        (D.told audience.old) (D.told audience.new) f.block) }
+        D.is_told audience.old audience.new f.block) }
     ensures kinds { IfErr result (λ f. (f.kind ≡ Memory) ⊎ (f.kind ≡ File Read)) }
     ensures count { CountsIf S.failure_count source.old (failed is_read result) source.new }
 {
@@ -184,7 +184,7 @@ fn tell_end<D: Audience<LoadFault>>(
     audience: &mut D,
 ) -> Result<(), LoadFault>
     requires { D.has_stopped audience.old ≡ false }
-    ensures told { OnOk result (Tells (D.told audience.old) (D.told audience.new)
+    ensures told { OnOk result (Tells D.is_told audience.old audience.new
         (load_fault block (File fault) ∷ [])) }
     ensures read { IfErr result (λ f.
         (fault ≡ Read) × (f ≡ load_fault block (File Read)) × (audience.new ≡ audience.old)) }
@@ -210,9 +210,9 @@ fn tell_faults<D: Audience<LoadFault>>(
     audience: &mut D,
 ) -> Result<bool, Stopped>
     requires { D.has_stopped audience.old ≡ false }
-    ensures told { OnOk result (Tells (D.told audience.old) (D.told audience.new)
+    ensures told { OnOk result (Tells D.is_told audience.old audience.new
         (map (load_fault block) (follow_faults national before subtitle.now))) }
-    ensures stops { OnErr result (StopsWithin (D.told audience.old) (D.told audience.new)
+    ensures stops { OnErr result (StopsWithin D.is_told audience.old audience.new
         (map (load_fault block) (follow_faults national before subtitle.now))) }
     ensures clean { IfOk result (λ clean.
         clean ≡ is_none (first_of (follow_faults national before subtitle.now))) }
@@ -234,7 +234,7 @@ fn tell_fault<D: Audience<LoadFault>>(
     audience: &mut D,
 ) -> Result<bool, Stopped>
     requires { D.has_stopped audience.old ≡ false }
-    ensures told { Tells (D.told audience.old) (D.told audience.new)
+    ensures told { Tells D.is_told audience.old audience.new
         (map (load_fault block) (first_alone kind)) }
     ensures clean { IfOk result (λ clean. clean ≡ is_none kind) }
     ensures some { OnErr result (is_none kind ≡ false) }

@@ -7,7 +7,8 @@ use Rattle.std.proofs.Common.{ap, ◌∙◌, subst, arith, All, Bool}
 use Rattle.std.specs.List.{AllByRecursion}
 use Rattle.std.proofs.lemmas.List.{take-append-drop}
 use Rattle.std.proofs.lemmas.List.Elements.{All-from_recursion}
-use Rattle.sub_io.specs.Telling.{first_alone}
+use Rattle.sub_io.specs.Telling.{KeepsFirst}
+use Rattle.sub_io.proofs.TellingLemmas.{first_is}
 use Rattle.ttx_packet.specs.PacketAddress.{IsPacket}
 use Rattle.ttx_pes.specs.Reading.{most_packets}
 use Rattle.ttx_pes.specs.declared.fault.PesFault.{PesFault}
@@ -154,23 +155,21 @@ module _ (g : Task) (origin : ℕ) (bytes : List ℕ) (frames : Transmission)
     -- The answer of `check`, where the source did not fail.
     pub decided : (none first : Option Event) (a : Accepted) (answer : Result Accepted CheckFault)
         → none ≡ None
-        → TellsAll g origin bytes frames (Some (first_alone none)) (Some (first_alone first))
-        (is_some first) (Ok a)
+        → TellsAll g origin bytes frames KeepsFirst none first (is_some first) (Ok a)
         → (first ≡ None → answer ≡ Ok a)
         → ((f : CheckFault) → first ≡ Some (Told f) → IsRuleFault f → answer ≡ Err f)
         → MatchResult answer (Accepts g origin bytes frames) (NamesFirst g frames)
     decided (Some x) first a answer e told accepted refused = cc
     decided None None a answer e (told, is) accepted refused =
-        rw (accepted refl) (accepts a (is refl) (sym told))
+        rw (accepted refl) (accepts a (is refl) (sym (first_is None (events g frames) told)))
     decided None (Some x) a answer e ((n, l, told), is) accepted refused =
-        let t = named x n told in
+        let t = named x n (first_is (Some x) (take n (events g frames)) told) in
         rw (refused t.0 (ap Some t.1) (own t.0 t.2)) t.2
 
     -- And where it failed.
     pub read_up_to : (none first : Option Event) (f : CheckFault) (pes : ℕ)
         → none ≡ None
-        → TellsAll g origin bytes frames (Some (first_alone none)) (Some (first_alone first))
-        (is_some first) (Err f)
+        → TellsAll g origin bytes frames KeepsFirst none first (is_some first) (Err f)
         → f ≡ fault.Pes pes Read
         → IsReadUpTo g frames pes
     read_up_to (Some x) first f pes e told failed = cc
@@ -180,17 +179,19 @@ module _ (g : Task) (origin : ℕ) (bytes : List ℕ) (frames : Transmission)
         let at : n ≡ pes = cc in
         let past : AreOk g frames n =
         none_told (NamesFirst g frames) (AreOk g frames n) (events_of_first g frames n)
-        (frames_told g frames whole n l) (sym told) in
+        (frames_told g frames whole n l)
+        (sym (first_is None (events_of_first g frames n) told)) in
         subst (IsReadUpTo g frames) at
         (record { within = l; holds = holds_before g frames n past })
 
 -- What was told of the file as one value. For `check_all`.
 pub tells_events :
     (programme : ProgrammeValue) (options : OptionsValue) (bytes : List ℕ)
-    (old new : Option (List Event)) (stopped : Bool) (r : Result Accepted CheckFault)
+    {D : Type 0} {IsTold : D → Event → D → Type 0} (old new : D) (stopped : Bool)
+    (r : Result Accepted CheckFault)
     → TellsAll (task_of programme options (pes_file_of options.origin bytes).unread) options.origin
-    bytes (pes_file_of options.origin bytes).frames old new stopped r
-    → TellsEvents programme options bytes old new stopped r
+    bytes (pes_file_of options.origin bytes).frames IsTold old new stopped r
+    → TellsEvents programme options bytes IsTold old new stopped r
 tells_events programme options bytes old new stopped (Ok a) (told, is) =
     (told, λ e. (is e).counts)
 tells_events programme options bytes old new stopped (Err f) told = told

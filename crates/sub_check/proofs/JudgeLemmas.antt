@@ -79,11 +79,11 @@ one_more g frames n = rw add-one refl
 
 -- A device that said stop at a frame was told a part of the whole. For `tell_all`.
 pub told_to_stop :
-    (g : Task) (frames : Transmission) (n : ℕ) (a b c : Option (List Event))
+    (g : Task) (frames : Transmission) (n : ℕ) {D : Type 0} {IsTold : D → Event → D → Type 0} (a b c : D)
     → n < length frames
-    → Tells a b (events_of_first g frames n)
-    → TellsPrefix b c (frame_events g frames n)
-    → TellsPrefix a c (events g frames)
+    → Tells IsTold a b (events_of_first g frames n)
+    → TellsPrefix IsTold b c (frame_events g frames n)
+    → TellsPrefix IsTold a c (events g frames)
 told_to_stop g frames n a b c l before more =
     let whole = events_from g frames (n + 1) (omega arith) in
     rw (whole.1, one_more g frames n)
@@ -92,13 +92,13 @@ told_to_stop g frames n a b c l before more =
 -- A device that was told what follows the last frame was told the whole, or a part. For `tell_all`.
 pub told_to_end :
     {X E : Type 0}
-    (g : Task) (frames : Transmission) (n : ℕ) (a b c : Option (List Event)) (r : Result X E)
+    (g : Task) (frames : Transmission) (n : ℕ) {D : Type 0} {IsTold : D → Event → D → Type 0} (a b c : D) (r : Result X E)
     (stopped : Bool)
     → length frames ≡ n
-    → Tells a b (events_of_first g frames n)
-    → TellsUntilStopped b c (closing_events g frames n) r
+    → Tells IsTold a b (events_of_first g frames n)
+    → TellsUntilStopped IsTold b c (closing_events g frames n) r
     → stopped ≡ is_err r
-    → TellsOrStops a c (events g frames) stopped
+    → TellsOrStops IsTold a c (events g frames) stopped
 unfolding events
 told_to_end g frames n a b c (Ok x) stopped all before more e =
     rw (e, all) (Tells-trans a b c _ _ before more)

@@ -67,18 +67,18 @@ module _ (w : Watched) (frame : ℕ) (before ps : List (List ℕ)) where
   packet_events-none (suc k) clean =
       rw (packet_events-none k (λ j l. clean j (omega arith)), clean k (omega arith)) refl
 
-  module _ (k : ℕ) (p : List ℕ) (a b c : Option (List Event)) (at : get_or ps k [] ≡ p)
-      (told : Tells a b (packet_events w frame before ps k)) where
+  module _ (k : ℕ) (p : List ℕ) {D : Type 0} {IsTold : D → Event → D → Type 0} (a b c : D) (at : get_or ps k [] ≡ p)
+      (told : Tells IsTold a b (packet_events w frame before ps k)) where
     -- One packet more. For `hear_all`.
-    pub told_one : Tells b c (told_by w frame k (before ++ take k ps) p)
-        → Tells a c (packet_events w frame before ps (k + 1))
+    pub told_one : Tells IsTold b c (told_by w frame k (before ++ take k ps) p)
+        → Tells IsTold a c (packet_events w frame before ps (k + 1))
     told_one more =
         rw (packet_events-more k p at) (Tells-trans a b c _ _ told more)
 
     -- A part of what is told of one more is a part of what is told of all. For `hear_all`.
     pub told_part : (n : ℕ) → k < n
-        → TellsPrefix b c (told_by w frame k (before ++ take k ps) p)
-        → TellsPrefix a c (packet_events w frame before ps n)
+        → TellsPrefix IsTold b c (told_by w frame k (before ++ take k ps) p)
+        → TellsPrefix IsTold a c (packet_events w frame before ps n)
     told_part n l more =
         let whole = packet_events-prefix (k + 1) n (omega arith) in
         rw (whole.1, packet_events-more k p at)

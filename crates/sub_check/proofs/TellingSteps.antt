@@ -6,46 +6,46 @@ use Rattle.sub_io.proofs.TellingLemmas.{TellsPrefix-whole, TellsUntilStopped-aft
 use Rattle.std.specs.Prelude.{OnOk}
 use Rattle.sub_io.specs.Telling.{Tells, TellsPrefix, TellsUntilStopped}
 
-module _ {A X E : Type 0} where
+module _ {A D X E : Type 0} {IsTold : D → A → D → Type 0} where
   -- All was told, whatever the device said of the last.
-  pub told_whole : (a b : Option (List A)) (xs whole : List A) (r : Result X E) → whole ≡ xs
-      → Tells a b xs → TellsUntilStopped a b whole r
-  told_whole a b xs whole (Ok x) is p = subst (Tells a b) (sym is) p
-  told_whole a b xs whole (Err e) is p = TellsPrefix-whole a b whole (subst (Tells a b) (sym is) p)
+  pub told_whole : (a b : D) (xs whole : List A) (r : Result X E) → whole ≡ xs
+      → Tells IsTold a b xs → TellsUntilStopped IsTold a b whole r
+  told_whole a b xs whole (Ok x) is p = subst (Tells IsTold a b) (sym is) p
+  told_whole a b xs whole (Err e) is p = TellsPrefix-whole a b whole (subst (Tells IsTold a b) (sym is) p)
 
   -- The same by another name.
-  pub told_same : (a b : Option (List A)) (xs whole : List A) (r : Result X E) → whole ≡ xs
-      → TellsUntilStopped a b xs r → TellsUntilStopped a b whole r
-  told_same a b xs whole r is p = subst (λ l. TellsUntilStopped a b l r) (sym is) p
+  pub told_same : (a b : D) (xs whole : List A) (r : Result X E) → whole ≡ xs
+      → TellsUntilStopped IsTold a b xs r → TellsUntilStopped IsTold a b whole r
+  told_same a b xs whole r is p = subst (λ l. TellsUntilStopped IsTold a b l r) (sym is) p
 
   -- The one part, and then the other.
-  pub told_then : (a b c : Option (List A)) (xs ys whole : List A) (r : Result X E)
-      → whole ≡ xs ++ ys → Tells a b xs → TellsUntilStopped b c ys r
-      → TellsUntilStopped a c whole r
+  pub told_then : (a b c : D) (xs ys whole : List A) (r : Result X E)
+      → whole ≡ xs ++ ys → Tells IsTold a b xs → TellsUntilStopped IsTold b c ys r
+      → TellsUntilStopped IsTold a c whole r
   told_then a b c xs ys whole r is p q =
-      subst (λ l. TellsUntilStopped a c l r) (sym is)
+      subst (λ l. TellsUntilStopped IsTold a c l r) (sym is)
       (TellsUntilStopped-after a b c xs ys r p q)
 
-module _ {A : Type 0} where
+module _ {A D : Type 0} {IsTold : D → A → D → Type 0} where
   -- The device said stop in the one part, or in the other.
-  pub stopped_first : (a b : Option (List A)) (xs ys whole : List A) → whole ≡ xs ++ ys
-      → TellsPrefix a b xs → TellsPrefix a b whole
+  pub stopped_first : (a b : D) (xs ys whole : List A) → whole ≡ xs ++ ys
+      → TellsPrefix IsTold a b xs → TellsPrefix IsTold a b whole
   stopped_first a b xs ys whole is p =
-      subst (TellsPrefix a b) (sym is) (TellsPrefix-first a b xs ys p)
+      subst (TellsPrefix IsTold a b) (sym is) (TellsPrefix-first a b xs ys p)
 
-  pub stopped_then : (a b c : Option (List A)) (xs ys whole : List A) → whole ≡ xs ++ ys
-      → Tells a b xs → TellsPrefix b c ys → TellsPrefix a c whole
+  pub stopped_then : (a b c : D) (xs ys whole : List A) → whole ≡ xs ++ ys
+      → Tells IsTold a b xs → TellsPrefix IsTold b c ys → TellsPrefix IsTold a c whole
   stopped_then a b c xs ys whole is p q =
-      subst (TellsPrefix a c) (sym is) (TellsPrefix-second a b c xs ys p q)
+      subst (TellsPrefix IsTold a c) (sym is) (TellsPrefix-second a b c xs ys p q)
 
   -- The same by another name.
-  pub all_same : (a b : Option (List A)) (xs whole : List A) → whole ≡ xs
-      → Tells a b xs → Tells a b whole
-  all_same a b xs whole is p = subst (Tells a b) (sym is) p
+  pub all_same : (a b : D) (xs whole : List A) → whole ≡ xs
+      → Tells IsTold a b xs → Tells IsTold a b whole
+  all_same a b xs whole is p = subst (Tells IsTold a b) (sym is) p
 
-  pub prefix_same : (a b : Option (List A)) (xs whole : List A) → whole ≡ xs
-      → TellsPrefix a b xs → TellsPrefix a b whole
-  prefix_same a b xs whole is p = subst (TellsPrefix a b) (sym is) p
+  pub prefix_same : (a b : D) (xs whole : List A) → whole ≡ xs
+      → TellsPrefix IsTold a b xs → TellsPrefix IsTold a b whole
+  prefix_same a b xs whole is p = subst (TellsPrefix IsTold a b) (sym is) p
 
 -- What follows of an `Ok`.
 pub ok_map : {X E : Type 0} (P Q : Type 0) (r : Result X E) → OnOk r P → (P → Q) → OnOk r Q

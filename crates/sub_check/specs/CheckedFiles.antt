@@ -200,16 +200,16 @@ pub record AreChecked
 -- What a device was told of the bytes of a PES file, checked against a programme: where it did not
 -- say stop, all events, and the answer counts what was read; else the events up to there. Where the
 -- source failed, the events of the PES packets that were read whole.
-abbrev pub TellsEvents : ProgrammeValue → OptionsValue → List ℕ
-    → Option (List Event) → Option (List Event) → Bool → Result Accepted CheckFault → Type 0
-TellsEvents programme options bytes old new stopped (Ok a) =
+abbrev pub TellsEvents : {D : Type 0} → ProgrammeValue → OptionsValue → List ℕ
+    → (D → Event → D → Type 0) → D → D → Bool → Result Accepted CheckFault → Type 0
+TellsEvents programme options bytes IsTold old new stopped (Ok a) =
     let file = pes_file_of options.origin bytes in
-    TellsOrStops old new (events (task_of programme options file.unread) file.frames) stopped
+    TellsOrStops IsTold old new (events (task_of programme options file.unread) file.frames) stopped
     × (stopped ≡ false → CountsRead options.page file.frames a)
-TellsEvents programme options bytes old new stopped (Err f) =
+TellsEvents programme options bytes IsTold old new stopped (Err f) =
     let file = pes_file_of options.origin bytes in
     (n : ℕ)
     × (n ≤ length file.frames)
     × (f ≡ fault.Pes n Read)
-    × Tells old new (events_of_first (task_of programme options file.unread) file.frames n)
+    × Tells IsTold old new (events_of_first (task_of programme options file.unread) file.frames n)
     × (stopped ≡ false)

@@ -134,20 +134,20 @@ pub record IsRead (g : Task) (origin : ℕ) (bytes : List ℕ) (frames : Transmi
   pub counts : CountsRead g.watched.page frames a
 
 -- A device was told all of these; or it said stop, and was told them up to there.
-abbrev pub TellsOrStops : {A : Type 0}
-    → Option (List A) → Option (List A) → List A → Bool → Type 0
-TellsOrStops old new items false = Tells old new items
-TellsOrStops old new items true = TellsPrefix old new items
+abbrev pub TellsOrStops : {A D : Type 0}
+    → (D → A → D → Type 0) → D → D → List A → Bool → Type 0
+TellsOrStops IsTold old new items false = Tells IsTold old new items
+TellsOrStops IsTold old new items true = TellsPrefix IsTold old new items
 
 -- What a device was told of a transmission that is read of these bytes.
-abbrev pub TellsAll : Task → ℕ → List ℕ → Transmission
-    → Option (List Event) → Option (List Event) → Bool → Result Accepted CheckFault → Type 0
-TellsAll g origin bytes frames old new stopped (Ok a) =
-    TellsOrStops old new (events g frames) stopped
+abbrev pub TellsAll : {D : Type 0} → Task → ℕ → List ℕ → Transmission
+    → (D → Event → D → Type 0) → D → D → Bool → Result Accepted CheckFault → Type 0
+TellsAll g origin bytes frames IsTold old new stopped (Ok a) =
+    TellsOrStops IsTold old new (events g frames) stopped
     × (stopped ≡ false → IsRead g origin bytes frames a)
-TellsAll g origin bytes frames old new stopped (Err f) =
+TellsAll g origin bytes frames IsTold old new stopped (Err f) =
     (n : ℕ)
     × (n ≤ length frames)
     × (f ≡ fault.Pes n Read)
-    × Tells old new (events_of_first g frames n)
+    × Tells IsTold old new (events_of_first g frames n)
     × (stopped ≡ false)

@@ -98,7 +98,7 @@ pub fn check_all<S: Source, A: Audience<Event>>(
     requires goes_on { A.has_stopped audience.old ≡ false }
     // Where the source tells its bytes, these decide what the device is told.
     ensures told { IfTold (S.remaining source.old) (λ bytes.
-        TellsEvents programme.now options.now bytes (A.told audience.old) (A.told audience.new)
+        TellsEvents programme.now options.now bytes A.is_told audience.old audience.new
         (A.has_stopped audience.new) result) }
     // That the source failed is told at the PES packet within which it failed: those before it were
     // taken. There is no other `Err`.
@@ -123,7 +123,7 @@ fn tell_all<S: Source, A: Audience<Event>>(
         → IfTold (S.remaining source.old) (λ bytes.
         ReadsAs options.now.origin 0 bytes frames unread
         → TellsAll (task_of programme.now options.now unread) options.now.origin bytes frames
-        (A.told audience.old) (A.told audience.new) (A.has_stopped audience.new) result) }
+        A.is_told audience.old audience.new (A.has_stopped audience.new) result) }
     ensures read { (pes : ℕ) → result ≡ Err (CheckFault.Pes pes PesFault.Read)
         → FailsAtPacket pes (S.remaining source.old) (S.remaining source.new) }
     ensures only { IfErr result (λ f. is_pes_read f ≡ true) }

@@ -174,7 +174,7 @@ impl<'a> Checker<'a> {
         ensures latest { self.new.latest ≡ self.old.latest }
         ensures due { self.old.listener.comparison.due ≡ due_in self.old.programme self.old.frame }
         ensures told { (heard : List (List ℕ)) → Knows heard self.old.listener
-            → TellsUntilStopped (A.told audience.old) (A.told audience.new)
+            → TellsUntilStopped A.is_told audience.old audience.new
             (end_events (as_standing self.old.standing) self.old.last
             (as_standing (stands heard self.old)) self.old.frame) result }
         ensures ended { (heard : List (List ℕ)) → Knows heard self.old.listener
@@ -199,7 +199,7 @@ impl<'a> Checker<'a> {
         ensures latest { self.new.latest ≡ self.old.latest }
         ensures told { (g : Task) (frames : Transmission) (n : ℕ)
             → Follows g frames n self.old → 0 < n → frame_at frames n ≡ to
-            → TellsUntilStopped (A.told audience.old) (A.told audience.new)
+            → TellsUntilStopped A.is_told audience.old audience.new
             (gap_events g frames n (gap_length frames n)) result
             × OnOk result (Waits g frames n to self.new) }
     {
@@ -219,7 +219,7 @@ impl<'a> Checker<'a> {
         ensures frame { OnOk result (self.new.frame ≡ frame) }
         ensures told { (g : Task) (frames : Transmission)
             → Follows g frames 0 self.old → frame_at frames 0 ≡ frame
-            → TellsUntilStopped (A.told audience.old) (A.told audience.new)
+            → TellsUntilStopped A.is_told audience.old audience.new
             (arriving_events g frames 0) result
             × OnOk result (Arrives g frames 0 self.new) }
     {
@@ -244,7 +244,7 @@ impl<'a> Checker<'a> {
         ensures frame { OnOk result (self.new.frame ≡ frame) }
         ensures told { (g : Task) (frames : Transmission)
             → Follows g frames pes self.old → frame_at frames pes ≡ frame
-            → TellsUntilStopped (A.told audience.old) (A.told audience.new)
+            → TellsUntilStopped A.is_told audience.old audience.new
             (arriving_events g frames pes) result
             × OnOk result (Arrives g frames pes self.new) }
     {
@@ -272,7 +272,7 @@ impl<'a> Checker<'a> {
         ensures frame { OnOk result (self.new.frame ≡ frame) }
         ensures told { (g : Task) (frames : Transmission)
             → Follows g frames pes self.old → frame_at frames pes ≡ frame
-            → TellsUntilStopped (A.told audience.old) (A.told audience.new)
+            → TellsUntilStopped A.is_told audience.old audience.new
             (arriving_events g frames pes) result
             × OnOk result (Arrives g frames pes self.new) }
     {
@@ -316,7 +316,7 @@ impl<'a> Checker<'a> {
             → Arrives g frames pes self.old
             → pes < length frames → packets_of_frame frames pes ≡ packets_of_units units.now
             → (again ≡ true → packets_of_frame frames (pes - 1) ≡ packets_of_units units.now)
-            → TellsUntilStopped (A.told audience.old) (A.told audience.new)
+            → TellsUntilStopped A.is_told audience.old audience.new
             (taking_events g frames pes) result
             × OnOk result (Follows g frames (pes + 1) self.new) }
     {
@@ -351,7 +351,7 @@ impl<'a> Checker<'a> {
             → IsSentFrame frames pes sending.frame (packets_of_units units.now)
             → (sending.again ≡ true
             → packets_of_frame frames (pes - 1) ≡ packets_of_units units.now)
-            → TellsUntilStopped (A.told audience.old) (A.told audience.new)
+            → TellsUntilStopped A.is_told audience.old audience.new
             (frame_events g frames pes) result
             × OnOk result (Follows g frames (pes + 1) self.new) }
     {
@@ -376,7 +376,7 @@ impl<'a> Checker<'a> {
         ensures told { (g : Task) (frames : Transmission)
             → Follows g frames pes self.now
             → length frames ≡ pes → fault ≡ ending_fault pes g.unread
-            → TellsUntilStopped (A.told audience.old) (A.told audience.new)
+            → TellsUntilStopped A.is_told audience.old audience.new
             (closing_events g frames pes) result }
     {
         let last = last_fault(fault, self.programme.last_out(), pes, self.last);
@@ -410,7 +410,7 @@ fn tell_fault<A: Audience<Event>>(
 ) -> Result<(), Stopped>
     requires goes_on { A.has_stopped audience.old ≡ false }
     ensures stopped { A.has_stopped audience.new ≡ is_err result }
-    ensures told { TellsUntilStopped (A.told audience.old) (A.told audience.new)
+    ensures told { TellsUntilStopped A.is_told audience.old audience.new
         (fault_events fault) result }
 {
     match fault {

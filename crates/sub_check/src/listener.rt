@@ -113,10 +113,10 @@ impl Listener {
             (λ headers. KnowsLast (heard ++ packets_of_units units.now)
             (packets_of_units units.now) self.new
             × (headers ≡ header_count self.old.watched.page (packets_of_units units.now))
-            × Tells (A.told audience.old) (A.told audience.new)
+            × Tells A.is_told audience.old audience.new
             (packet_events self.old.watched frame heard (packets_of_units units.now)
             (length (packets_of_units units.now))))
-            (λ _. TellsPrefix (A.told audience.old) (A.told audience.new)
+            (λ _. TellsPrefix A.is_told audience.old audience.new
             (packet_events self.old.watched frame heard (packets_of_units units.now)
             (length (packets_of_units units.now)))) }
     {
@@ -144,10 +144,10 @@ impl Listener {
             (λ headers. KnowsLast (heard ++ packets_of_units units.now)
             (packets_of_units units.now) self.new
             × (headers ≡ header_count self.old.watched.page (packets_of_units units.now))
-            × Tells (A.told audience.old) (A.told audience.new)
+            × Tells A.is_told audience.old audience.new
             (packet_events self.old.watched frame heard (packets_of_units units.now)
             (length (packets_of_units units.now))))
-            (λ _. TellsPrefix (A.told audience.old) (A.told audience.new)
+            (λ _. TellsPrefix A.is_told audience.old audience.new
             (packet_events self.old.watched frame heard (packets_of_units units.now)
             (length (packets_of_units units.now)))) }
     {

@@ -96,7 +96,7 @@ pub(crate) fn tell_rules<A: Audience<Event>>(
 ) -> Result<(), Stopped>
     requires goes_on { A.has_stopped audience.old ≡ false }
     ensures told { (test : PacketRule → Bool) → rules.0 ≡ rule_set test
-        → TellsUntilStopped (A.told audience.old) (A.told audience.new)
+        → TellsUntilStopped A.is_told audience.old audience.new
         (map (λ r. Event.Told (packet_fault r frame packet)) (filter test packet_rules)) result }
     ensures stopped { A.has_stopped audience.new ≡ is_err result }
 {
@@ -120,7 +120,7 @@ fn tell_rule<A: Audience<Event>>(
 ) -> Result<(), Stopped>
     requires goes_on { A.has_stopped audience.old ≡ false }
     ensures told { (test : PacketRule → Bool) → rules.0 ≡ rule_set test
-        → TellsUntilStopped (A.told audience.old) (A.told audience.new)
+        → TellsUntilStopped A.is_told audience.old audience.new
         (map (λ r. Event.Told (packet_fault r frame packet)) (filter test (rule ∷ []))) result }
     ensures stopped { A.has_stopped audience.new ≡ is_err result }
 {

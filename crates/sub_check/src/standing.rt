@@ -43,7 +43,7 @@ impl StandingRules {
     ) -> Result<(), Stopped>
         requires goes_on { A.has_stopped audience.old ≡ false }
         ensures stopped { A.has_stopped audience.new ≡ is_err result }
-        ensures told { TellsUntilStopped (A.told audience.old) (A.told audience.new)
+        ensures told { TellsUntilStopped A.is_told audience.old audience.new
             (end_events (as_standing self.now) before (as_standing new.now) frame) result }
     {
         tell_content(self.content, before, new.content, frame, audience)?;
@@ -73,7 +73,7 @@ fn tell_content<A: Audience<Event>>(
 ) -> Result<(), Stopped>
     requires goes_on { A.has_stopped audience.old ≡ false }
     ensures stopped { A.has_stopped audience.new ≡ is_err result }
-    ensures told { TellsUntilStopped (A.told audience.old) (A.told audience.new)
+    ensures told { TellsUntilStopped A.is_told audience.old audience.new
         (content_events old before new frame) result }
 {
     let ended = Event::Ended {
@@ -120,7 +120,7 @@ fn tell_rule<A: Audience<Event>>(
 ) -> Result<(), Stopped>
     requires goes_on { A.has_stopped audience.old ≡ false }
     ensures stopped { A.has_stopped audience.new ≡ is_err result }
-    ensures told { TellsUntilStopped (A.told audience.old) (A.told audience.new)
+    ensures told { TellsUntilStopped A.is_told audience.old audience.new
         (rule_events rule fault old before new) result }
 {
     if new {
@@ -140,7 +140,7 @@ pub(crate) fn tell_if<A: Audience<Event>>(
 ) -> Result<(), Stopped>
     requires goes_on { A.has_stopped audience.old ≡ false }
     ensures stopped { A.has_stopped audience.new ≡ is_err result }
-    ensures told { TellsUntilStopped (A.told audience.old) (A.told audience.new)
+    ensures told { TellsUntilStopped A.is_told audience.old audience.new
         (if is_told then event ∷ [] else []) result }
 {
     if is_told {

@@ -1,26 +1,36 @@
 -- What a device is told: one thing after another, until it says stop.
 --
--- What it was told is an `Option (List A)`, as the bytes of a device are: `None` is a device that
--- does not tell what it was told, and each of these words holds of it.
-use Rattle.std.specs.Prelude.{◌≡◌, ℕ, ◌≤◌, List, [], ◌∷◌, ◌++◌, length, take, Option, Some, None, ⊤}
+-- A device says how it stands after one thing by how it stood before: a relation of its state, what
+-- it is told, and its state then. Each of these words says so of many things.
+use Rattle.std.specs.Prelude.{◌≡◌, ℕ, ◌≤◌, List, [], ◌∷◌, ◌++◌, length, take, Option, Some, None}
 use Rattle.std.specs.Prelude.{Result, MatchResult}
 
--- It was told these, after all that it was told before.
-abbrev pub Tells : {A : Type 0} → Option (List A) → Option (List A) → List A → Type 0
-Tells None new items = ⊤
-Tells (Some xs) None items = ⊥
-Tells (Some xs) (Some ys) items = ys ≡ xs ++ items
+-- It was told these, one after another.
+abbrev pub TellsInTurn : {A D : Type 0} → (D → A → D → Type 0) → D → D → List A → Type 0
+TellsInTurn IsTold old new [] = new ≡ old
+TellsInTurn {A} {D} IsTold old new (x ∷ xs) =
+    (mid : D) × IsTold old x mid × TellsInTurn IsTold mid new xs
+
+pub record Tells
+    {A D : Type 0} (IsTold : D → A → D → Type 0) (old new : D) (items : List A) : Type 0
+  where
+    pub in_turn : TellsInTurn IsTold old new items
 
 -- It was told a prefix of these.
-abbrev pub TellsPrefix : {A : Type 0} → Option (List A) → Option (List A) → List A → Type 0
-TellsPrefix old new items = (n : ℕ) × (n ≤ length items) × Tells old new (take n items)
+abbrev pub TellsPrefix : {A D : Type 0} → (D → A → D → Type 0) → D → D → List A → Type 0
+TellsPrefix IsTold old new items =
+    (n : ℕ) × (n ≤ length items) × Tells IsTold old new (take n items)
 
 -- An `Ok` has told it all of these, an `Err` a prefix of them: the device said stop at the last of
 -- the prefix.
-abbrev pub TellsUntilStopped : {A X E : Type 0}
-    → Option (List A) → Option (List A) → List A → Result X E → Type 0
-TellsUntilStopped old new items result =
-    MatchResult result (λ _. Tells old new items) (λ _. TellsPrefix old new items)
+abbrev pub TellsUntilStopped : {A D X E : Type 0}
+    → (D → A → D → Type 0) → D → D → List A → Result X E → Type 0
+TellsUntilStopped IsTold old new items result =
+    MatchResult result (λ _. Tells IsTold old new items) (λ _. TellsPrefix IsTold old new items)
+
+-- A device that keeps the first thing, and is told none after it.
+abbrev pub KeepsFirst : {A : Type 0} → Option A → A → Option A → Type 0
+KeepsFirst old item new = (old ≡ None) × (new ≡ Some item)
 
 -- The first thing alone, where there is one: what a device was told that stops at the first.
 abbrev pub first_alone : {A : Type 0} → Option A → List A

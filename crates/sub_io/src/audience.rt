@@ -1,8 +1,8 @@
 //! Devices that are told things, one after another, and may stop.
 
-ghost use Rattle.std.specs.Prelude.{◌≡◌, List, [], ◌∷◌, Bool, false, None, Option, Some, is_err};
-ghost use Rattle.std.specs.Prelude.{is_some, IsErr};
-ghost use Rattle.sub_io.specs.Telling.{Tells, first_alone};
+ghost use Rattle.std.specs.Prelude.{◌≡◌, [], ◌∷◌, Bool, false, Option, None, Some, is_err, is_some};
+ghost use Rattle.std.specs.Prelude.{IsErr};
+ghost use Rattle.sub_io.specs.Telling.{KeepsFirst, Tells};
 
 use std::marker::Model;
 
@@ -15,8 +15,8 @@ pub struct Stopped;
 /// It may keep them, count them or print them. It says stop where it wants no more, or where it
 /// failed: why is a matter of the device's.
 pub trait Audience<T> {
-    // What it was told, where it tells that.
-    ghost told: { Self → Option (List T) };
+    // How it stands after it was told a thing: its state before, the thing, its state then.
+    ghost is_told: { Self → T → Self → Type 0 };
 
     // It said stop.
     ghost has_stopped: { Self → Bool };
@@ -28,7 +28,7 @@ pub trait Audience<T> {
     /// `Stopped` where it wants to be told nothing after this: it was told this one.
     fn tell(&mut self, item: T) -> Result<(), Stopped>
         requires { has_stopped self.old ≡ false }
-        ensures told { Tells (told self.old) (told self.new) (item ∷ []) }
+        ensures told { Tells is_told self.old self.new (item ∷ []) }
         ensures stopped { has_stopped self.new ≡ is_err result };
 }
 
@@ -64,7 +64,7 @@ impl<T: Drop> FirstTold<T> {
 }
 
 impl<T: Drop> Audience<T> for FirstTold<T> {
-    ghost told = { λ f. Some (first_alone f) };
+    ghost is_told = { KeepsFirst };
 
     ghost has_stopped = { λ f. is_some f };
 
@@ -73,6 +73,7 @@ impl<T: Drop> Audience<T> for FirstTold<T> {
     /// # Errors
     ///
     /// `Stopped` always.
+    #[tactic(auto, using(crate::proofs::TellingLemmas::tellings))]
     fn tell(&mut self, item: T) -> Result<(), Stopped>
         ensures first { self.new ≡ Some item }
         ensures stopped { IsErr result }

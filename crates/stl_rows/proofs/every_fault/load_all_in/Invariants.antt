@@ -16,7 +16,7 @@ use Rattle.stl_rows.proofs.every_fault.load_all_in.Given as goal
 abbrev pub invariant-subtitles : goal.invariant-subtitles
 invariant-subtitles g l = record {
   early : List LoadFault;
-  told : Tells (g.D.Audience.told l.fn.audience) (g.D.Audience.told l.audience) early;
+  told : Tells g.D.Audience.is_told l.fn.audience l.audience early;
   early_told : list_all (is_told_by l.reader.block) early ≡ true;
   programme : (records : List SubtitleValue)
       → option_map (λ v. v.items) l.kept ≡ Some records

@@ -29,7 +29,7 @@ invariant-packets g l = record {
       × Follows (task_of l.programme l.options unread) frames l.pes l.checker
       × (0 < l.pes
       → packets_of_frame frames (l.pes - 1) ≡ packets_of_units l.reader.frame.units)
-      × Tells (g.A.Audience.told l.fn.audience) (g.A.Audience.told l.audience)
+      × Tells g.A.Audience.is_told l.fn.audience l.audience
       (events_of_first (task_of l.programme l.options unread) frames l.pes);
 }
 

@@ -14,12 +14,12 @@ use Rattle.sub_check.proofs.rule_set.tell_rules.Goals as goal
 pub returns-then-has_none-clause-told : goal.returns-then-has_none-clause-told
 returns-then-has_none-clause-told g c test e =
     let empty = eqb-true c.args.rules.0 0 (sym c.has_none.ensures ∙ c.if-has_none.true) in
-    rw (no_rules test (sym e ∙ empty)) (Tells-none (g.A.Audience.told c.args.audience.now))
+    rw (no_rules test (sym e ∙ empty)) (Tells-none c.args.audience.now)
 
 pub loop-i-init : goal.loop-i-init
 loop-i-init g c = record {
   goes_on = c.requires.goes_on;
-  told = λ test e. Tells-none (g.A.Audience.told c.args.audience.now);
+  told = λ test e. Tells-none c.args.audience.now;
 }
 
 pub returns-in_err-tell_rule-clause-told : goal.returns-in_err-tell_rule-clause-told

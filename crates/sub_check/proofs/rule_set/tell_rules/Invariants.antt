@@ -15,6 +15,6 @@ invariant-loop-i g l = record {
   told :
       (test : PacketRule → Bool)
       → l.rules.0 ≡ rule_set test
-      → Tells (g.A.Audience.told l.fn.audience) (g.A.Audience.told l.audience)
+      → Tells g.A.Audience.is_told l.fn.audience l.audience
       (map (λ r. Told (packet_fault r l.frame l.packet)) (filter test (take l.i packet_rules)));
 }

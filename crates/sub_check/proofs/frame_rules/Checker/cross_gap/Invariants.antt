@@ -19,7 +19,7 @@ invariant-loop-f g l = record {
       → Follows task frames n l.fn.self
       → 0 < n
       → frame_at frames n ≡ l.to
-      → Tells (g.A.Audience.told l.fn.audience) (g.A.Audience.told l.audience)
+      → Tells g.A.Audience.is_told l.fn.audience l.audience
       (gap_events task frames n (l.f - (latest frames n + 1)))
       × Waits task frames n l.f l.self;
 }

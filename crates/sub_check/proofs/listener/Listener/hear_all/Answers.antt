@@ -29,7 +29,7 @@ loop-k-init g c = record {
   begins = λ e. cc;
   known = λ heard known. (
     subst (λ xs. Knows xs c.args.self.now) (sym (append-nil heard)) known,
-    Tells-none (g.A.Audience.told c.args.audience.now),
+    Tells-none c.args.audience.now,
     λ e k l. absurd (omega arith),
   );
 }
@@ -123,6 +123,6 @@ returns-clause-knows g c heard known =
           (λ e. subst (BreakNone w heard ps) k (r.2 e))),
       count,
       subst
-          (λ n. Tells (g.A.Audience.told c.args.audience.now) (g.A.Audience.told c.loop-k.audience)
+          (λ n. Tells g.A.Audience.is_told c.args.audience.now c.loop-k.audience
           (packet_events w c.args.frame heard ps n)) k r.1,
     )

@@ -24,7 +24,7 @@ invariant-loop-k g l = record {
       (heard : List (List ℕ))
       → Knows heard l.initial.self
       → Knows (heard ++ take l.k (packets_of_units l.units)) l.self
-      × Tells (g.A.Audience.told l.initial.audience) (g.A.Audience.told l.audience)
+      × Tells g.A.Audience.is_told l.initial.audience l.audience
       (packet_events l.initial.self.watched l.frame heard (packets_of_units l.units) l.k)
       × (l.is_clean ≡ true
       → BreakNone l.initial.self.watched heard (packets_of_units l.units) l.k);

@@ -16,7 +16,7 @@ returns-in-Some-clause-knows g c heard last known same =
       again.1,
       again.2,
       rw (packet_events-none w c.args.frame heard ps (length ps) again.0)
-          (Tells-none (g.A.Audience.told c.args.audience.now)),
+          (Tells-none c.args.audience.now),
     )
 
 pub returns-clause-knows : goal.returns-clause-knows
