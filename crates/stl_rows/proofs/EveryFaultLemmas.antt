@@ -4,11 +4,11 @@ use Rattle.std.proofs.Common.{◌≡◌, ℕ, List, [], ◌∷◌, ◌++◌, map
 use Rattle.std.proofs.Common.{Result, Ok, Err, refl, ap, sym, zero, suc, ◌<◌, ◌≤◌, ◌⊎◌, Bool, true}
 use Rattle.std.proofs.Common.{false, inl, inr, arith, take, cond}
 use Rattle.std.proofs.lemmas.Bool.Decides.{nat_tests}
-use Rattle.std.specs.Prelude.{◌↔◌, IsOk, is_some, option_map}
+use Rattle.std.specs.Prelude.{◌↔◌, ◌≢◌, IsOk, is_some, option_map}
 use Rattle.std.specs.List.{filter, list_all}
 use Rattle.sub_io.specs.Telling.{KeepsFirst}
 use Rattle.sub_io.proofs.TellingLemmas.{first_is}
-use Rattle.stl_file.specs.declared.fault.StlFault.TheVariants.{Read, Unfinished}
+use Rattle.stl_file.specs.declared.fault.StlFault.TheVariants.{Ended, Read, Unfinished}
 use Rattle.stl_file.specs.Reading.{Outcome, ends, fails, gives}
 use Rattle.stl_file.specs.Reader.{outcome_of}
 use Rattle.stl_file.specs.Subtitle.{SubtitleValue}
@@ -20,6 +20,7 @@ use Rattle.stl_rows.specs.EveryFault.{FailsTelling, LawOfEveryFault, TellsFaults
 use Rattle.stl_rows.specs.EveryFault.{faults, faults_behind, is_before, is_of_file}
 use Rattle.stl_rows.specs.Loading.{FailsLoading, TellsFault, load_fault, loaded, loaded_behind}
 use Rattle.stl_rows.specs.Loading.{unless_told}
+use Rattle.stl_rows.specs.Fault.{is_read, is_read_kind}
 use Rattle.stl_rows.specs.Programme.{ProgrammeValue, follow_faults, times_before, times_of}
 use Rattle.stl_rows.proofs.ProgrammeLemmas.{last_of-push}
 use Rattle.stl_rows.specs.TextCode.{first_of}
@@ -93,6 +94,41 @@ tells-kind national outcome block (File Read) of_file h = tt
 tells-kind national outcome block Memory of_file h = absurd cc
 tells-kind national outcome block kind of_file h = h
 
+-- what was told of the file by the first is one of its faults
+pub first-of_file : (first : Option LoadFault)
+    → TellsOfFile KeepsFirst None first
+    → (fault : LoadFault) × (first ≡ Some fault) × (is_of_file fault.kind ≡ true)
+first-of_file None of_file =
+    let none = first_is None of_file.faults of_file.told in
+    let some : 0 < 0 = rw (sym none) at of_file.some in
+    absurd (omega (arith, some))
+first-of_file (Some fault) of_file =
+    let own : list_all (λ (f : LoadFault). is_of_file f.kind) (fault ∷ []) ≡ true =
+    rw (sym (first_is (Some fault) of_file.faults of_file.told)) at of_file.of_file in
+    (fault, refl, grind (arith, nat_tests))
+
+-- neither the source's failure nor the end of the file
+not_read : (kind : LoadFaultKind)
+    → is_of_file kind ≡ true
+    → (kind ≢ File Ended) × (is_read_kind kind ≡ false)
+not_read (File Read) of_file = cc
+not_read (File Ended) of_file = cc
+not_read Memory of_file = cc
+not_read (File f) of_file = ((λ e. cc), refl)
+not_read kind of_file = ((λ e. cc), refl)
+
+-- what `load` was told first is no failure of the source
+pub first-not_read : (none first : Option LoadFault) (fault : LoadFault)
+    → none ≡ None
+    → first ≡ Some fault
+    → TellsOfFile KeepsFirst none first
+    → (fault.kind ≢ File Ended) × (is_read fault ≡ false)
+first-not_read none first fault is_none is_first of_file =
+    let own = first-of_file first (rw is_none at of_file) in
+    let same = own.1 in
+    let is = own.2 in
+    not_read fault.kind cc
+
 -- the one fault that was told is the one of the file
 pub tells-first : (national : National) (outcome : Outcome) (fault : LoadFault) (stopped : Bool)
     → TellsFaults KeepsFirst None (Some fault) stopped (faults national outcome)
@@ -102,9 +138,8 @@ tells-first national outcome fault stopped told of_file =
     let p = told.prefix in
     let taken = first_is (Some fault) (take p.0 (faults national outcome)) p.3 in
     let first = first_taken p.0 (faults national outcome) fault p.1 taken in
-    let own : list_all (λ (f : LoadFault). is_of_file f.kind) (fault ∷ []) ≡ true =
-    rw (sym (first_is (Some fault) of_file.faults of_file.told)) at of_file.of_file in
-    let kind : is_of_file fault.kind ≡ true = grind (arith, nat_tests) in
+    let own = first-of_file (Some fault) of_file in
+    let kind : is_of_file fault.kind ≡ true = let same = own.1 in let is = own.2 in cc in
     tells-kind national outcome fault.block fault.kind kind
     ((first_fault national outcome fault).1 first)
 

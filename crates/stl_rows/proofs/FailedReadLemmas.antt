@@ -63,7 +63,8 @@ none_before-0 (f ∷ fs) = grind (arith, nat_tests, none_before-0 fs)
 -- while a subtitle is read
 pub fails-next : (national : National) (start old new : Option (List ℕ)) (before : Option Times)
     (kept : Option (List SubtitleValue)) (early : List LoadFault)
-    {D : Type 0} {IsTold : D → LoadFault → D → Type 0} (told_old told_new : D) (reader : ReaderValue) (block : ℕ)
+    {D : Type 0} {IsTold : D → LoadFault → D → Type 0} (told_old told_new : D)
+    (reader : ReaderValue) (block : ℕ)
     → HasTaken start old reader.block
     → reader.progress ≡ Reading
     → list_all (is_told_by reader.block) early ≡ true
@@ -90,7 +91,8 @@ fails-next national start old new before kept early told_old told_new reader blo
     }
 
 -- while the GSI block is read: nothing was told
-pub reads-nothing : (national : National) (outcome : Outcome) {D : Type 0} {IsTold : D → LoadFault → D → Type 0} (told : D)
+pub reads-nothing : (national : National) (outcome : Outcome)
+    {D : Type 0} {IsTold : D → LoadFault → D → Type 0} (told : D)
     → Tells IsTold told told (filter (is_before 0) (faults national outcome))
 reads-nothing national outcome told =
     rw (none_before-0 (faults national outcome)) (Tells-none told)

@@ -125,23 +125,26 @@ order_alone : (before : Option Times) (t : Times)
 order_alone None t = refl
 order_alone (Some before) t = grind (arith, nat_tests)
 
-stops-whole : {D : Type 0} {IsTold : D → LoadFault → D → Type 0} (old new : D) (items : List LoadFault)
+stops-whole : {D : Type 0} {IsTold : D → LoadFault → D → Type 0} (old new : D)
+    (items : List LoadFault)
     → 0 < length items
     → Tells IsTold old new items
     → StopsWithin IsTold old new items
-stops-whole old new items some told =
+stops-whole {IsTold = IsTold} old new items some told =
     (length items, some, omega arith, subst (Tells IsTold old new) (sym (take-length items)) told)
 
 pub stops-last : (national : National) (before : Option Times) (t : SubtitleValue) (block : ℕ)
-    {D : Type 0} {IsTold : D → LoadFault → D → Type 0} (old mid new : D) (order row : Option LoadFaultKind)
+    {D : Type 0} {IsTold : D → LoadFault → D → Type 0} (old mid new : D)
+    (order row : Option LoadFaultKind)
     → order ≡ first_of (order_faults before (times_of t))
     → first_alone row ≡ row_faults (drawn national t)
     → is_none row ≡ false
     → Tells IsTold old mid (map (load_fault block) (first_alone order))
     → Tells IsTold mid new (map (load_fault block) (first_alone row))
     → StopsWithin IsTold old new (map (load_fault block) (follow_faults national before t))
-stops-last national before t block old mid new order None is_order is_row some p q = absurd cc
-stops-last national before t block old mid new order (Some kind) is_order is_row some p q =
+stops-last national before t block {IsTold = IsTold} old mid new order None is_order is_row some p q = absurd cc
+stops-last national before t block {IsTold = IsTold} old mid new order (Some kind) is_order is_row
+    some p q =
     let orders : List LoadFaultKind = order_faults before (times_of t) in
     let first : Tells IsTold old mid (map (load_fault block) orders) =
     rw (is_order, order_alone before (times_of t)) at p in

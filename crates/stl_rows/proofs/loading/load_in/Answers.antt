@@ -1,14 +1,47 @@
 -- The first fault that is told is what comes of the file: tells-first; and where the source failed
 -- there is none before: none-told.
 use Rattle.std.proofs.Common.{ap, ◌∙◌, sym}
-use Rattle.std.specs.Prelude.{Ok}
+use Rattle.std.specs.Prelude.{None, Ok}
 use Rattle.stl_file.specs.Reader.{outcome_of}
-use Rattle.stl_rows.proofs.EveryFaultLemmas.{none-told, tells-first}
+use Rattle.stl_rows.proofs.EveryFaultLemmas.{first-not_read, first-of_file, none-told, tells-first}
 use Rattle.stl_rows.proofs.loading.load_in.Goals as goal
 
 pub returns-in-Ok-Some-clause-exact : goal.returns-in-Ok-Some-clause-exact
 returns-in-Ok-Some-clause-exact g c = λ bytes e.
     rw c.in-Ok-Some.field-0-is at (c.in-Ok-Some.ensures.exact bytes e)
+
+pub unreachable-requires : goal.unreachable-requires
+unreachable-requires g c =
+    let told = sym c.into_first.ensures ∙ c.in-None.is in
+    let one =
+    first-of_file None
+    (rw (c.new-first.ensures, told)
+    at (c.in-Ok-None.ensures.some (ap Ok c.in-Ok-None.field-0-is))) in
+    let none = one.1 in
+    cc
+
+pub returns-in-Some-clause-never : goal.returns-in-Some-clause-never
+returns-in-Some-clause-never g c =
+    (first-not_read _ _ c.in-Some.fault c.new-first.ensures
+    (sym c.into_first.ensures ∙ c.in-Some.is)
+    (c.in-Ok-None.ensures.some (ap Ok c.in-Ok-None.field-0-is))).0
+
+pub returns-in-Some-clause-read : goal.returns-in-Some-clause-read
+returns-in-Some-clause-read g c = λ is.
+    let no =
+    first-not_read _ _ c.in-Some.fault c.new-first.ensures
+    (sym c.into_first.ensures ∙ c.in-Some.is)
+    (c.in-Ok-None.ensures.some (ap Ok c.in-Ok-None.field-0-is)) in
+    let not_read = no.1 in
+    cc
+
+pub returns-in-Some-clause-count : goal.returns-in-Some-clause-count
+returns-in-Some-clause-count g c =
+    let no =
+    first-not_read _ _ c.in-Some.fault c.new-first.ensures
+    (sym c.into_first.ensures ∙ c.in-Some.is)
+    (c.in-Ok-None.ensures.some (ap Ok c.in-Ok-None.field-0-is)) in
+    rw no.1 c.in-Ok-None.ensures.count
 
 pub returns-in-Some-clause-fault : goal.returns-in-Some-clause-fault
 returns-in-Some-clause-fault g c = λ bytes e.
