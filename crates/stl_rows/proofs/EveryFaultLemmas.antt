@@ -118,13 +118,13 @@ not_read (File f) of_file = ((λ e. cc), refl)
 not_read kind of_file = ((λ e. cc), refl)
 
 -- what `load` was told first is no failure of the source
-pub first-not_read : (none first : Option LoadFault) (fault : LoadFault)
-    → none ≡ None
+pub first-not_read : (new first : Option LoadFault) (fault : LoadFault)
+    → new ≡ None
     → first ≡ Some fault
-    → TellsOfFile KeepsFirst none first
+    → TellsOfFile KeepsFirst new first
     → (fault.kind ≢ File Ended) × (is_read fault ≡ false)
-first-not_read none first fault is_none is_first of_file =
-    let own = first-of_file first (rw is_none at of_file) in
+first-not_read new first fault is_new is_first of_file =
+    let own = first-of_file first (rw is_new at of_file) in
     let same = own.1 in
     let is = own.2 in
     not_read fault.kind cc

@@ -187,11 +187,11 @@ module _ (g : Task) (origin : ℕ) (bytes : List ℕ) (frames : Transmission)
 -- What was told of the file as one value. For `check_all`.
 pub tells_events :
     (programme : ProgrammeValue) (options : OptionsValue) (bytes : List ℕ)
-    {D : Type 0} {IsTold : D → Event → D → Type 0} (old new : D) (stopped : Bool)
+    {D : Type 0} (IsTold : D → Event → D → Type 0) (old new : D) (stopped : Bool)
     (r : Result Accepted CheckFault)
     → TellsAll (task_of programme options (pes_file_of options.origin bytes).unread) options.origin
     bytes (pes_file_of options.origin bytes).frames IsTold old new stopped r
     → TellsEvents programme options bytes IsTold old new stopped r
-tells_events programme options bytes old new stopped (Ok a) (told, is) =
+tells_events programme options bytes IsTold old new stopped (Ok a) (told, is) =
     (told, λ e. (is e).counts)
-tells_events programme options bytes old new stopped (Err f) told = told
+tells_events programme options bytes IsTold old new stopped (Err f) told = told

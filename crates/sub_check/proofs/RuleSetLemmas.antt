@@ -1,15 +1,19 @@
 -- Sets of rules: which rules a set holds, `holds_rule`, and what is told of one, `told_more`.
 use Rattle.std.proofs.Common.{◌≡◌, ℕ, zero, suc, ◌+◌, ◌<◌, Bool, true, false, ◌&&◌, ◌==◌}
 use Rattle.std.proofs.Common.{List, [], ◌∷◌, ◌++◌, length, get_or, take, drop, map, bit_and, refl}
-use Rattle.std.proofs.Common.{Result, Ok, Err, sym, ap, ◌∙◌, arith}
+use Rattle.std.proofs.Common.{Result, Ok, Err, sym, ap, ◌∙◌, arith, cond}
 use Rattle.std.specs.Prelude.{IsErr, MatchResult}
 use Rattle.std.specs.List.{filter}
 use Rattle.std.proofs.lemmas.Bool.Decides.{nat_tests}
 use Rattle.std.proofs.lemmas.List.{map-append, take_more, take-append-drop}
 use Rattle.std.proofs.lemmas.List.Elements.{filter-append}
 use Rattle.sub_check.proofs.TestLemmas.{agree, agreed}
+use Rattle.sub_check.specs.FirstBroken.{packet_fault}
 use Rattle.sub_check.specs.Listening.{bit_of, rule_set}
 use Rattle.sub_check.specs.PacketTests.{packet_rules}
+use Rattle.sub_check.specs.declared.event.Event.{Event}
+use Rattle.sub_check.specs.declared.event.Event.TheVariants.{Told}
+use Rattle.sub_check.specs.declared.fault.CheckFault.{CheckFault}
 use Rattle.sub_check.specs.declared.packet_rules.PacketRule.{PacketRule}
 use Rattle.sub_check.specs.declared.packet_rules.PacketRule.TheVariants as rule
 
@@ -119,6 +123,21 @@ pub stopped : {X E : Type 0} (r : Result X E) (F : X → Type 0) (P : Type 0) �
     → MatchResult r F (λ _. P)
 stopped (Ok v) F P e p = cc
 stopped (Err f) F P e p = p
+
+-- What is told of one rule, where it is in the set. For `tell_rule`.
+told_where : (r : PacketRule) (tell : PacketRule → Event) (holds : Bool)
+    → map tell (cond holds (r ∷ []) []) ≡ cond holds (tell r ∷ []) []
+told_where r tell true = refl
+told_where r tell false = refl
+
+pub one_rule :
+    (test : PacketRule → Bool) (r : PacketRule) (frame packet : ℕ) (holds : Bool) (f : CheckFault)
+    → test r ≡ holds
+    → f ≡ packet_fault r frame packet
+    → map (λ (s : PacketRule). Told (packet_fault s frame packet)) (filter test (r ∷ []))
+    ≡ cond holds (Told f ∷ []) []
+one_rule test r frame packet holds f is told =
+    rw (is, told) (told_where r (λ s. Told (packet_fault s frame packet)) holds)
 
 module _ {A : Type 0} (tell : PacketRule → A) (test : PacketRule → Bool) where
   -- What is told of two lists of rules.

@@ -6,17 +6,18 @@ use Rattle.sub_io.proofs.TellingLemmas.{TellsPrefix-whole, TellsUntilStopped-aft
 use Rattle.std.specs.Prelude.{OnOk}
 use Rattle.sub_io.specs.Telling.{Tells, TellsPrefix, TellsUntilStopped}
 
+-- The same by another name.
+pub told_same : {A D X E : Type 0} (IsTold : D → A → D → Type 0) (a b : D) (xs whole : List A)
+    (r : Result X E) → whole ≡ xs
+    → TellsUntilStopped IsTold a b xs r → TellsUntilStopped IsTold a b whole r
+told_same IsTold a b xs whole r is p = subst (λ l. TellsUntilStopped IsTold a b l r) (sym is) p
+
 module _ {A D X E : Type 0} {IsTold : D → A → D → Type 0} where
   -- All was told, whatever the device said of the last.
   pub told_whole : (a b : D) (xs whole : List A) (r : Result X E) → whole ≡ xs
       → Tells IsTold a b xs → TellsUntilStopped IsTold a b whole r
   told_whole a b xs whole (Ok x) is p = subst (Tells IsTold a b) (sym is) p
   told_whole a b xs whole (Err e) is p = TellsPrefix-whole a b whole (subst (Tells IsTold a b) (sym is) p)
-
-  -- The same by another name.
-  pub told_same : (a b : D) (xs whole : List A) (r : Result X E) → whole ≡ xs
-      → TellsUntilStopped IsTold a b xs r → TellsUntilStopped IsTold a b whole r
-  told_same a b xs whole r is p = subst (λ l. TellsUntilStopped IsTold a b l r) (sym is) p
 
   -- The one part, and then the other.
   pub told_then : (a b c : D) (xs ys whole : List A) (r : Result X E)

@@ -10,6 +10,7 @@ ghost use Rattle.sub_check.specs.PacketTests.{packet_rules};
 use crate::event::Event;
 use crate::fault::CheckFault;
 use crate::packet_rules::PacketRule;
+use crate::standing::tell_if;
 use bitflags::{Flag, Flags, bitflag_items};
 use sub_io::{Audience, Stopped};
 
@@ -110,7 +111,6 @@ pub(crate) fn tell_rules<A: Audience<Event>>(
 }
 
 // Tells a rule, where it is in the set.
-#[tactic(auto, using(sub_io::proofs::TellingLemmas::tellings))]
 fn tell_rule<A: Audience<Event>>(
     rules: RuleSet,
     rule: PacketRule,
@@ -124,10 +124,8 @@ fn tell_rule<A: Audience<Event>>(
         (map (λ r. Event.Told (packet_fault r frame packet)) (filter test (rule ∷ []))) result }
     ensures stopped { A.has_stopped audience.new ≡ is_err result }
 {
-    if rules.holds(rule) {
-        audience.tell(Event::Told(fault_of(rule, frame, packet)))?;
-    }
-    Ok(())
+    let told = Event::Told(fault_of(rule, frame, packet));
+    tell_if(rules.holds(rule), told, audience)
 }
 
 // The rule at a place of their order.

@@ -7,5 +7,5 @@ use Rattle.sub_check.proofs.checker.check_all.Goals as goal
 pub returns-clause-told : goal.returns-clause-told
 returns-clause-told g c = λ bytes told.
     let file = pes_file_of c.args.options.now.origin bytes in
-    tells_events c.args.programme.now c.args.options.now bytes _ _ _ c.tell_all.result
+    tells_events c.args.programme.now c.args.options.now bytes _ _ _ _ c.tell_all.result
     (c.tell_all.ensures.exact file.frames file.unread bytes told refl)

@@ -12,7 +12,7 @@ some h = omega (arith, h)
 
 pub returns-then-pes-eq0-clause-told : goal.returns-then-pes-eq0-clause-told
 returns-then-pes-eq0-clause-told g c = λ task frames follows all is.
-    told_same _ _ _ _ _
+    told_same _ _ _ _ _ _
     (closing_none task frames c.args.pes _ _ _ _ is c.if-pes-eq0.true
     c.last_fault-last.ensures) c.tell_fault.ensures.told
 

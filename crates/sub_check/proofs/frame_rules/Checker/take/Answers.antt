@@ -71,7 +71,7 @@ returns-clause-told g c = λ task frames arrives there packets again.
       told_then _ _ _ _ _ _ _ (taking_are task frames c.args.pes _ _ here packets) heard.2
           (TellsUntilStopped-after _ _ _ _ _ _
           (all_same _ _ _ _ (first ∙ lacks) c.in_ok-tell_if.ensures.told)
-          (told_same _ _ _ _ _ (sym end) (c.end_of_frame.ensures.told all knows))),
+          (told_same _ _ _ _ _ _ (sym end) (c.end_of_frame.ensures.told all knows))),
       ok_map _ _ c.end_of_frame.result (c.end_of_frame.ensures.ended all knows)
           (λ is. subst (Follows task frames (c.args.pes + 1))
           (sym (is ∙ ap (after_end all) e))
