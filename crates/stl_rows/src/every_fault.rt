@@ -5,7 +5,7 @@ ghost use Rattle.std.specs.Prelude.{IfSome, None, Ok, OnErr, OnOk, is_err, is_no
 ghost use Rattle.std.specs.Prelude.{vec_capacity, vec_len};
 ghost use Rattle.sub_io.specs.Device.{CanFail, CountsIf, failed};
 ghost use Rattle.sub_io.specs.Reading.{IfTold};
-ghost use Rattle.sub_io.specs.Telling.{Tells, first_alone};
+ghost use Rattle.sub_io.specs.Telling.{Tells, TellsSome, first_alone};
 ghost use Rattle.stl_file.specs.declared.fault.StlFault.TheVariants.{Read};
 ghost use Rattle.stl_file.specs.Fault as stl;
 ghost use Rattle.stl_file.specs.Reader.{outcome_of};
@@ -70,6 +70,8 @@ pub fn load_all<S: Source, D: Audience<LoadFault>>(
     ensures none_before { IfErr result (λ f. f.kind ≡ Memory →
         Tells D.is_told audience.old audience.new []) }
     ensures stopped { D.has_stopped audience.new ≡ true → result ≡ Ok None }
+    // Whatever the source tells, the device was told some faults where it failed.
+    ensures some_before { IfErr result (λ _. TellsSome D.is_told audience.old audience.new) }
     // A failed read names the block of the byte that was asked for.
     ensures read { IfErr result (λ f. is_read f ≡ true → FailsTelling national
         (S.remaining source.old) (S.remaining source.new)
@@ -114,6 +116,7 @@ pub fn load_all_in<A: Allocator + Drop, S: Source, D: Audience<LoadFault>>(
     ensures none_before { IfErr result (λ f. f.kind ≡ Memory →
         Tells D.is_told audience.old audience.new []) }
     ensures stopped { D.has_stopped audience.new ≡ true → result ≡ Ok None }
+    ensures some_before { IfErr result (λ _. TellsSome D.is_told audience.old audience.new) }
     ensures read { IfErr result (λ f. is_read f ≡ true → FailsTelling national
         (S.remaining source.old) (S.remaining source.new)
         D.is_told audience.old audience.new f.block) }

@@ -2,6 +2,7 @@
 ghost use Rattle.std.specs.Prelude.{◌≡◌, ℕ, Ok, Err, Option, None, Some, IfErr, true, false};
 ghost use Rattle.sub_io.specs.Device.{CanFail, CountsIf, failed};
 ghost use Rattle.sub_io.specs.Reading.{IfTold};
+ghost use Rattle.sub_io.specs.Telling.{TellsSome};
 ghost use Rattle.stl_rows.specs.Programme.{IsProgramme};
 ghost use Rattle.ttx_pes.specs.Reader.{FailsAtPacket};
 ghost use Rattle.sub_plan.specs.Options.{IsOptions};
@@ -100,6 +101,10 @@ pub fn check_all<S: Source, A: Audience<Event>>(
     ensures told { IfTold (S.remaining source.old) (λ bytes.
         TellsEvents programme.now options.now bytes A.is_told audience.old audience.new
         (A.has_stopped audience.new) result) }
+    // Whatever the source tells, the device was told some events, and did not say stop where the
+    // source failed.
+    ensures some { TellsSome A.is_told audience.old audience.new }
+    ensures goes_on { IfErr result (λ _. A.has_stopped audience.new ≡ false) }
     // That the source failed is told at the PES packet within which it failed: those before it were
     // taken. There is no other `Err`.
     ensures read { (pes : ℕ) → result ≡ Err (CheckFault.Pes pes PesFault.Read)
@@ -111,6 +116,7 @@ pub fn check_all<S: Source, A: Audience<Event>>(
 }
 
 // Tells all that is broken, PES packet by PES packet.
+#[tactic(auto, using(sub_io::proofs::TellingLemmas::some))]
 fn tell_all<S: Source, A: Audience<Event>>(
     programme: &Programme,
     source: &mut S,
@@ -124,6 +130,8 @@ fn tell_all<S: Source, A: Audience<Event>>(
         ReadsAs options.now.origin 0 bytes frames unread
         → TellsAll (task_of programme.now options.now unread) options.now.origin bytes frames
         A.is_told audience.old audience.new (A.has_stopped audience.new) result) }
+    ensures some { TellsSome A.is_told audience.old audience.new }
+    ensures goes_on { IfErr result (λ _. A.has_stopped audience.new ≡ false) }
     ensures read { (pes : ℕ) → result ≡ Err (CheckFault.Pes pes PesFault.Read)
         → FailsAtPacket pes (S.remaining source.old) (S.remaining source.new) }
     ensures only { IfErr result (λ f. is_pes_read f ≡ true) }

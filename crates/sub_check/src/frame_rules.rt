@@ -4,7 +4,7 @@ ghost use Rattle.std.specs.Prelude.{◌≡◌, ℕ, ◌+◌, ◌-◌, ◌*◌, �
 ghost use Rattle.std.specs.Prelude.{MatchOption, OnOk, IfErr, if◌then◌else◌, max, nat_le, nat_lt};
 ghost use Rattle.std.specs.Prelude.{Some, None, true, false, is_err};
 ghost use Rattle.stl_file.specs.TimeCode.{day};
-ghost use Rattle.sub_io.specs.Telling.{TellsUntilStopped};
+ghost use Rattle.sub_io.specs.Telling.{TellsSome, TellsUntilStopped};
 ghost use Rattle.sub_check.specs.Checker.{is_before, later_by};
 ghost use Rattle.sub_check.specs.Checking.{ending_fault, fault_events, last_fault, late_fault};
 ghost use Rattle.sub_check.specs.Events.{closing_events, end_events, gap_events, gap_length};
@@ -166,10 +166,12 @@ impl<'a> Checker<'a> {
     }
 
     // The end of the frame that was reached: what changes of what stands broken is told.
+    #[tactic(auto, using(sub_io::proofs::TellingLemmas::some))]
     fn end_of_frame<A: Audience<Event>>(&mut self, audience: &mut A) -> Result<(), Stopped>
         requires goes_on { A.has_stopped audience.old ≡ false }
         requires day { self.old.frame < day }
         ensures stopped { A.has_stopped audience.new ≡ is_err result }
+        ensures some { TellsSome A.is_told audience.old audience.new }
         ensures headers { self.new.headers ≡ self.old.headers }
         ensures latest { self.new.latest ≡ self.old.latest }
         ensures due { self.old.listener.comparison.due ≡ due_in self.old.programme self.old.frame }
@@ -191,10 +193,12 @@ impl<'a> Checker<'a> {
 
     // The ends of the frames of the day before that of a PES packet, from the one after the latest
     // on.
+    #[tactic(auto, using(sub_io::proofs::TellingLemmas::some))]
     fn cross_gap<A: Audience<Event>>(&mut self, to: u32, audience: &mut A) -> Result<(), Stopped>
         requires goes_on { A.has_stopped audience.old ≡ false }
         requires day { to < day }
         ensures stopped { A.has_stopped audience.new ≡ is_err result }
+        ensures some { TellsSome A.is_told audience.old audience.new }
         ensures headers { self.new.headers ≡ self.old.headers }
         ensures latest { self.new.latest ≡ self.old.latest }
         ensures told { (g : Task) (frames : Transmission) (n : ℕ)
@@ -211,10 +215,12 @@ impl<'a> Checker<'a> {
     }
 
     // Goes to the frame of the first PES packet.
+    #[tactic(auto, using(sub_io::proofs::TellingLemmas::some))]
     fn begin<A: Audience<Event>>(&mut self, frame: u32, audience: &mut A) -> Result<(), Stopped>
         requires goes_on { A.has_stopped audience.old ≡ false }
         requires day { frame < day }
         ensures stopped { A.has_stopped audience.new ≡ is_err result }
+        ensures some { TellsSome A.is_told audience.old audience.new }
         ensures headers { self.new.headers ≡ self.old.headers }
         ensures frame { OnOk result (self.new.frame ≡ frame) }
         ensures told { (g : Task) (frames : Transmission)
@@ -230,6 +236,7 @@ impl<'a> Checker<'a> {
     }
 
     // Goes to the frame of another PES packet.
+    #[tactic(auto, using(sub_io::proofs::TellingLemmas::some))]
     fn go_to<A: Audience<Event>>(
         &mut self,
         pes: u32,
@@ -240,6 +247,7 @@ impl<'a> Checker<'a> {
         requires later { 0 < pes }
         requires day { frame < day }
         ensures stopped { A.has_stopped audience.new ≡ is_err result }
+        ensures some { TellsSome A.is_told audience.old audience.new }
         ensures headers { self.new.headers ≡ self.old.headers }
         ensures frame { OnOk result (self.new.frame ≡ frame) }
         ensures told { (g : Task) (frames : Transmission)
@@ -259,6 +267,7 @@ impl<'a> Checker<'a> {
     }
 
     // Goes to the frame of a PES packet.
+    #[tactic(auto, using(sub_io::proofs::TellingLemmas::some))]
     fn reach<A: Audience<Event>>(
         &mut self,
         pes: u32,
@@ -268,6 +277,7 @@ impl<'a> Checker<'a> {
         requires goes_on { A.has_stopped audience.old ≡ false }
         requires day { frame < day }
         ensures stopped { A.has_stopped audience.new ≡ is_err result }
+        ensures some { TellsSome A.is_told audience.old audience.new }
         ensures headers { self.new.headers ≡ self.old.headers }
         ensures frame { OnOk result (self.new.frame ≡ frame) }
         ensures told { (g : Task) (frames : Transmission)
@@ -299,6 +309,7 @@ impl<'a> Checker<'a> {
     }
 
     // The packets of the frame that was reached, and its end.
+    #[tactic(auto, using(sub_io::proofs::TellingLemmas::some))]
     fn take<A: Audience<Event>>(
         &mut self,
         pes: u32,
@@ -311,6 +322,7 @@ impl<'a> Checker<'a> {
         requires room { self.old.headers ≤ 255 * pes }
         requires day { self.old.frame < day }
         ensures stopped { A.has_stopped audience.new ≡ is_err result }
+        ensures some { TellsSome A.is_told audience.old audience.new }
         ensures headers { OnOk result (self.new.headers ≤ 255 * (pes + 1)) }
         ensures told { (g : Task) (frames : Transmission)
             → Arrives g frames pes self.old
@@ -333,6 +345,7 @@ impl<'a> Checker<'a> {
     /// # Errors
     ///
     /// `Stopped` where the audience said stop. What is kept is then of no use.
+    #[tactic(auto, using(sub_io::proofs::TellingLemmas::some))]
     pub fn go_on<A: Audience<Event>>(
         &mut self,
         pes: u32,
@@ -345,6 +358,7 @@ impl<'a> Checker<'a> {
         requires room { self.old.headers ≤ 255 * pes }
         requires day { sending.frame < day }
         ensures stopped { A.has_stopped audience.new ≡ is_err result }
+        ensures some { TellsSome A.is_told audience.old audience.new }
         ensures headers { OnOk result (self.new.headers ≤ 255 * (pes + 1)) }
         ensures told { (g : Task) (frames : Transmission)
             → Follows g frames pes self.old
@@ -365,6 +379,7 @@ impl<'a> Checker<'a> {
     /// # Errors
     ///
     /// `Stopped` where the audience said stop.
+    #[tactic(auto, using(sub_io::proofs::TellingLemmas::some))]
     pub fn close<A: Audience<Event>>(
         &self,
         pes: u32,
@@ -373,6 +388,7 @@ impl<'a> Checker<'a> {
     ) -> Result<(), Stopped>
         requires goes_on { A.has_stopped audience.old ≡ false }
         ensures stopped { A.has_stopped audience.new ≡ is_err result }
+        ensures some { TellsSome A.is_told audience.old audience.new }
         ensures told { (g : Task) (frames : Transmission)
             → Follows g frames pes self.now
             → length frames ≡ pes → fault ≡ ending_fault pes g.unread

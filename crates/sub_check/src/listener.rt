@@ -3,7 +3,7 @@ ghost use Rattle.std.specs.Prelude.{◌≡◌, ℕ, ◌+◌, ◌-◌, ◌<◌, �
 ghost use Rattle.std.specs.Prelude.{length, true, false, is_err, replicate, slice_set};
 ghost use Rattle.std.specs.Prelude.{if◌then◌else◌, ◌&&◌, ◌==◌, not, Some, None, is_some};
 ghost use Rattle.std.specs.Prelude.{slice_index_or};
-ghost use Rattle.sub_io.specs.Telling.{Tells, TellsPrefix};
+ghost use Rattle.sub_io.specs.Telling.{Tells, TellsPrefix, TellsSome};
 ghost use Rattle.ttx_packet.specs.PacketAddress.{address};
 ghost use Rattle.ttx_packet.specs.PageHeader.{header};
 ghost use Rattle.ttx_packet.specs.RowPacket.{first_even_byte};
@@ -96,6 +96,7 @@ impl Listener {
     /// # Errors
     ///
     /// `Stopped` where the audience said stop. What is kept is then of no use.
+    #[tactic(auto, using(sub_io::proofs::TellingLemmas::some))]
     pub fn hear_sending<A: Audience<Event>>(
         &mut self,
         units: &[Unit],
@@ -108,6 +109,7 @@ impl Listener {
         ensures watched { self.new.watched ≡ self.old.watched }
         ensures due { self.new.comparison.due ≡ self.old.comparison.due }
         ensures stopped { A.has_stopped audience.new ≡ is_err result }
+        ensures some { TellsSome A.is_told audience.old audience.new }
         ensures knows { (heard last : List (List ℕ)) → KnowsLast heard last self.old
             → (again ≡ true → last ≡ packets_of_units units.now) → MatchResult result
             (λ headers. KnowsLast (heard ++ packets_of_units units.now)
@@ -129,6 +131,7 @@ impl Listener {
     }
 
     // Hears the packets of a frame, and tells which rules they break.
+    #[tactic(auto, using(sub_io::proofs::TellingLemmas::some))]
     fn hear_all<A: Audience<Event>>(
         &mut self,
         units: &[Unit],
@@ -140,6 +143,7 @@ impl Listener {
         ensures watched { self.new.watched ≡ self.old.watched }
         ensures due { self.new.comparison.due ≡ self.old.comparison.due }
         ensures stopped { A.has_stopped audience.new ≡ is_err result }
+        ensures some { TellsSome A.is_told audience.old audience.new }
         ensures knows { (heard : List (List ℕ)) → Knows heard self.old → MatchResult result
             (λ headers. KnowsLast (heard ++ packets_of_units units.now)
             (packets_of_units units.now) self.new

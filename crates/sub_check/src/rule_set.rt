@@ -2,7 +2,7 @@
 ghost use Rattle.std.specs.Prelude.{⊤, ◌≡◌, ◌==◌, ◌<◌, Bool, List, [], ◌∷◌, codes, false, is_err};
 ghost use Rattle.std.specs.Prelude.{bit_or, if◌then◌else◌, map, slice_index_or};
 ghost use Rattle.std.specs.List.{filter};
-ghost use Rattle.sub_io.specs.Telling.{TellsUntilStopped};
+ghost use Rattle.sub_io.specs.Telling.{TellsSome, TellsUntilStopped};
 ghost use Rattle.sub_check.specs.FirstBroken.{packet_fault};
 ghost use Rattle.sub_check.specs.Listening.{bit_of, rule_set};
 ghost use Rattle.sub_check.specs.PacketTests.{packet_rules};
@@ -89,6 +89,7 @@ impl RuleSet {
 /// # Errors
 ///
 /// `Stopped` where the audience said stop at one of them.
+#[tactic(auto, using(sub_io::proofs::TellingLemmas::some))]
 pub(crate) fn tell_rules<A: Audience<Event>>(
     rules: RuleSet,
     frame: u32,
@@ -99,6 +100,7 @@ pub(crate) fn tell_rules<A: Audience<Event>>(
     ensures told { (test : PacketRule → Bool) → rules.0 ≡ rule_set test
         → TellsUntilStopped A.is_told audience.old audience.new
         (map (λ r. Event.Told (packet_fault r frame packet)) (filter test packet_rules)) result }
+    ensures some { TellsSome A.is_told audience.old audience.new }
     ensures stopped { A.has_stopped audience.new ≡ is_err result }
 {
     if rules.has_none() {
@@ -111,6 +113,7 @@ pub(crate) fn tell_rules<A: Audience<Event>>(
 }
 
 // Tells a rule, where it is in the set.
+#[tactic(auto, using(sub_io::proofs::TellingLemmas::some))]
 fn tell_rule<A: Audience<Event>>(
     rules: RuleSet,
     rule: PacketRule,
@@ -122,6 +125,7 @@ fn tell_rule<A: Audience<Event>>(
     ensures told { (test : PacketRule → Bool) → rules.0 ≡ rule_set test
         → TellsUntilStopped A.is_told audience.old audience.new
         (map (λ r. Event.Told (packet_fault r frame packet)) (filter test (rule ∷ []))) result }
+    ensures some { TellsSome A.is_told audience.old audience.new }
     ensures stopped { A.has_stopped audience.new ≡ is_err result }
 {
     let told = Event::Told(fault_of(rule, frame, packet));

@@ -1,12 +1,12 @@
 -- Things that a device was told one after another; main lemma: TellsUntilStopped-after. What one was
--- told that keeps the first: first_is.
+-- told that keeps the first: first_is. Where it is only said that some was told: TellsSome-until.
 use Rattle.std.proofs.Common.{◌≡◌, ◌+◌, ◌≤◌, List, [], ◌∷◌, ◌++◌, length, take, Option, Some, None}
 use Rattle.std.proofs.Common.{Result, Ok, Err, refl, sym, subst, le_refl, arith}
 use Rattle.std.proofs.Common.{append_assoc, append-nil, length-append}
 use Rattle.std.proofs.Math.Seq.{take-append-add, take-length}
 use lib.Seq.{take-append-le}
 use Rattle.sub_io.specs.Telling.{KeepsFirst, Tells, TellsInTurn, TellsPrefix, TellsUntilStopped}
-use Rattle.sub_io.specs.Telling.{first_alone}
+use Rattle.sub_io.specs.Telling.{TellsSome, first_alone}
 
 -- one list after another
 in_turn-trans : {A D : Type 0} (IsTold : D → A → D → Type 0) (a b c : D) (xs ys : List A)
@@ -74,6 +74,27 @@ module _ {A D : Type 0} {IsTold : D → A → D → Type 0} where
   TellsUntilStopped-after old mid new xs ys (Err fault) p q =
       TellsPrefix-second old mid new xs ys p q
 
+-- ---- whatever was told
+
+module _ {A D : Type 0} {IsTold : D → A → D → Type 0} where
+  -- nothing
+  pub TellsSome-none : (a : D) → TellsSome IsTold a a
+  TellsSome-none a = record { items = []; told = Tells-none a }
+
+  -- the one and then the other
+  pub TellsSome-trans : (a b c : D) → TellsSome IsTold a b → TellsSome IsTold b c
+      → TellsSome IsTold a c
+  TellsSome-trans a b c p q =
+      record { items = p.items ++ q.items; told = Tells-trans a b c p.items q.items p.told q.told }
+
+-- these, or a prefix of them
+pub TellsSome-until : {A D X E : Type 0} (IsTold : D → A → D → Type 0) (a b : D) (xs : List A)
+    (result : Result X E)
+    → TellsUntilStopped IsTold a b xs result
+    → TellsSome IsTold a b
+TellsSome-until IsTold a b xs (Ok value) p = record { items = xs; told = p }
+TellsSome-until IsTold a b xs (Err fault) p = record { items = take p.0 xs; told = p.2 }
+
 -- a device that keeps the first was told at most that
 pub first_is : {A : Type 0} (first : Option A) (xs : List A)
     → Tells KeepsFirst None first xs
@@ -91,4 +112,11 @@ pub ruleset tellings = (
   TellsPrefix-second,
   TellsPrefix-whole,
   TellsUntilStopped-after,
+)
+
+-- for one of which it is only said that it told some: `using(sub_io::proofs::TellingLemmas::some)`
+pub ruleset some = (
+  TellsSome-none,
+  TellsSome-trans,
+  TellsSome-until,
 )

@@ -28,6 +28,11 @@ abbrev pub TellsUntilStopped : {A D X E : Type 0}
 TellsUntilStopped IsTold old new items result =
     MatchResult result (λ _. Tells IsTold old new items) (λ _. TellsPrefix IsTold old new items)
 
+-- It was told some things, or none.
+pub record TellsSome {A D : Type 0} (IsTold : D → A → D → Type 0) (old new : D) : Type 0 where
+  pub items : List A
+  pub told : Tells IsTold old new items
+
 -- A device that keeps the first thing, and is told none after it.
 abbrev pub KeepsFirst : {A : Type 0} → Option A → A → Option A → Type 0
 KeepsFirst old item new = (old ≡ None) × (new ≡ Some item)

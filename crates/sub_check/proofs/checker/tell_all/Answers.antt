@@ -2,7 +2,7 @@
 use Rattle.std.proofs.Common.{◌∙◌, List, None, Option, Result, Ok, Some, sym, refl, ap, subst}
 use Rattle.std.proofs.Common.{arith}
 use Rattle.std.proofs.lemmas.Bool.{true≢false}
-use Rattle.sub_io.proofs.TellingLemmas.{Tells-none, Tells-trans}
+use Rattle.sub_io.proofs.TellingLemmas.{TellsSome-none, TellsSome-trans, Tells-none, Tells-trans}
 use Rattle.ttx_pes.proofs.TakenPackets.{takes-more, takes-none}
 use Rattle.ttx_pes.specs.Comparing.{ComparingValue}
 use Rattle.ttx_pes.specs.DataUnit.{UnitValue}
@@ -26,6 +26,7 @@ packets-init g c = record {
   taken = takes-none _;
   failures = refl;
   goes_on = c.requires.goes_on;
+  some = TellsSome-none c.args.audience.now;
   headers = omega (arith, c.new-checker.ensures.none);
   told = λ frames unread bytes told reads. (
     Reads-none c.args.programme.now c.args.options.now bytes frames unread _ told reads,
@@ -118,6 +119,7 @@ packets-preserved g c =
       taken = takes-more c.packets.pes _ _ _ _ c.packets.invariant.taken takes;
       failures = omega (arith, counted, before);
       goes_on = c.in-Ok-go_on.ensures.stopped;
+      some = TellsSome-trans _ _ _ c.packets.invariant.some c.in-Ok-go_on.ensures.some;
       headers = c.in-Ok-go_on.ensures.headers;
       told = λ frames unread bytes told reads.
           let i = c.packets.invariant.told frames unread bytes told reads in

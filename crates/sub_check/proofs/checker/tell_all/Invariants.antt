@@ -3,7 +3,7 @@ use Rattle.std.proofs.Common.{◌≡◌, ◌<◌, ◌≤◌, ◌-◌, ◌*◌, �
 use Rattle.ttx_pes.specs.Reader.{TakesPackets}
 use Rattle.ttx_pes.specs.Reading.{most_packets}
 use Rattle.ttx_pes.specs.declared.progress.Progress.TheVariants.{Reading}
-use Rattle.sub_io.specs.Telling.{Tells}
+use Rattle.sub_io.specs.Telling.{Tells, TellsSome}
 use Rattle.sub_check.specs.Events.{events_of_first}
 use Rattle.sub_check.specs.Following.{Follows}
 use Rattle.sub_check.specs.FrameRules.{Unread, packets_of_frame, task_of}
@@ -20,6 +20,7 @@ invariant-packets g l = record {
   taken : TakesPackets l.pes (g.S.Source.remaining l.fn.source) (g.S.Source.remaining l.source);
   failures : g.S.Source.failure_count l.source ≡ g.S.Source.failure_count l.fn.source;
   goes_on : g.A.Audience.has_stopped l.audience ≡ false;
+  some : TellsSome g.A.Audience.is_told l.fn.audience l.audience;
   headers : l.checker.headers ≤ 255 * l.pes;
   told :
       (frames : Transmission) (unread : Option Unread) (bytes : List ℕ)

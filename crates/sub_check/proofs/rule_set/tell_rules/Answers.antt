@@ -1,7 +1,7 @@
 -- One rule more: RuleSetLemmas.
 use Rattle.std.proofs.Common.{◌+◌, sym, ◌∙◌, arith}
 use Rattle.std.proofs.Common.{eqb-true}
-use Rattle.sub_io.proofs.TellingLemmas.{Tells-trans, Tells-none, TellsPrefix-first}
+use Rattle.sub_io.proofs.TellingLemmas.{TellsSome-none, TellsSome-trans, Tells-trans, Tells-none, TellsPrefix-first}
 use Rattle.sub_io.proofs.TellingLemmas.{TellsPrefix-second}
 use Rattle.sub_check.proofs.RuleSetLemmas.{no_rules, told_all, told_more, told_rest}
 use Rattle.sub_check.proofs.RuleSetLemmas.{stopped}
@@ -19,6 +19,7 @@ returns-then-has_none-clause-told g c test e =
 pub loop-i-init : goal.loop-i-init
 loop-i-init g c = record {
   goes_on = c.requires.goes_on;
+  some = TellsSome-none c.args.audience.now;
   told = λ test e. Tells-none c.args.audience.now;
 }
 
@@ -35,6 +36,7 @@ returns-in_err-tell_rule-clause-told g c test e =
 pub loop-i-preserved : goal.loop-i-preserved
 loop-i-preserved g c = record {
   goes_on = grind arith;
+  some = TellsSome-trans _ _ _ c.loop-i.invariant.some c.in_ok-tell_rule.ensures.some;
   told = λ test e.
       let tell : PacketRule → Event = λ r. Told (packet_fault r c.args.frame c.args.packet) in
       let more = told_more tell test c.loop-i.i c.rule_at.result (omega arith) c.rule_at.ensures in

@@ -1,7 +1,7 @@
 -- The rules so far are told.
 use Rattle.std.proofs.Common.{◌≡◌, Bool, false, map, take}
 use Rattle.std.specs.List.{filter}
-use Rattle.sub_io.specs.Telling.{Tells}
+use Rattle.sub_io.specs.Telling.{Tells, TellsSome}
 use Rattle.sub_check.specs.FirstBroken.{packet_fault}
 use Rattle.sub_check.specs.Listening.{rule_set}
 use Rattle.sub_check.specs.PacketTests.{packet_rules}
@@ -12,6 +12,7 @@ use Rattle.sub_check.proofs.rule_set.tell_rules.Given as goal
 abbrev pub invariant-loop-i : goal.invariant-loop-i
 invariant-loop-i g l = record {
   goes_on : g.A.Audience.has_stopped l.audience ≡ false;
+  some : TellsSome g.A.Audience.is_told l.fn.audience l.audience;
   told :
       (test : PacketRule → Bool)
       → l.rules.0 ≡ rule_set test

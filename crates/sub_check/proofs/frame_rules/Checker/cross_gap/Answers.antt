@@ -1,7 +1,7 @@
 -- One end after another.
 use Rattle.std.proofs.Common.{◌+◌, ◌-◌, ◌<◌, ◌∙◌, ap, sym, subst, arith, refl}
 use Rattle.std.proofs.lemmas.Result.{err_from_is_err_and}
-use Rattle.sub_io.proofs.TellingLemmas.{Tells-none, Tells-trans}
+use Rattle.sub_io.proofs.TellingLemmas.{TellsSome-none, TellsSome-trans, Tells-none, Tells-trans}
 use Rattle.sub_check.specs.Events.{gap_events, latest}
 use Rattle.sub_check.specs.Following.{Follows, Waits}
 use Rattle.sub_check.specs.FrameRules.{packets_before}
@@ -14,6 +14,7 @@ use Rattle.sub_check.proofs.frame_rules.Checker.cross_gap.Goals as goal
 pub loop-f-init : goal.loop-f-init
 loop-f-init g c = record {
   goes_on = c.requires.goes_on;
+  some = TellsSome-none c.args.audience.now;
   headers = grind arith;
   latest_is = grind arith;
   later = grind arith;
@@ -31,6 +32,7 @@ loop-f-preserved g c =
     let i = c.loop-f.invariant in
     record {
       goes_on = c.in_ok-end_of_frame.ensures.stopped;
+      some = TellsSome-trans _ _ _ i.some c.in_ok-end_of_frame.ensures.some;
       headers = grind arith;
       latest_is = grind arith;
       later = let l = i.later in omega arith;

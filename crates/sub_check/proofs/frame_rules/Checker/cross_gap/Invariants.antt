@@ -1,6 +1,6 @@
 -- What was told at the ends so far, and what is kept there.
 use Rattle.std.proofs.Common.{◌≡◌, ℕ, ◌+◌, ◌-◌, ◌<◌, ◌≤◌, false}
-use Rattle.sub_io.specs.Telling.{Tells}
+use Rattle.sub_io.specs.Telling.{Tells, TellsSome}
 use Rattle.sub_check.specs.Events.{gap_events, latest}
 use Rattle.sub_check.specs.Following.{Follows, Waits}
 use Rattle.sub_check.specs.FrameRules.{Task, frame_at}
@@ -10,6 +10,7 @@ use Rattle.sub_check.proofs.frame_rules.Checker.cross_gap.Given as goal
 abbrev pub invariant-loop-f : goal.invariant-loop-f
 invariant-loop-f g l = record {
   goes_on : g.A.Audience.has_stopped l.audience ≡ false;
+  some : TellsSome g.A.Audience.is_told l.fn.audience l.audience;
   headers : l.self.headers ≡ l.fn.self.headers;
   latest_is : l.self.latest ≡ l.fn.self.latest;
   later : l.fn.self.latest < l.f;

@@ -7,7 +7,7 @@ use Rattle.std.proofs.Common.{sym, ap, ap₂, ◌∙◌, subst, rules, append_as
 use Rattle.ttx_pes.specs.DataUnit.{UnitValue}
 use Rattle.ttx_page.specs.PacketKind.{is_this_page, kind}
 use Rattle.sub_io.specs.Telling.{Tells}
-use Rattle.sub_io.proofs.TellingLemmas.{Tells-none}
+use Rattle.sub_io.proofs.TellingLemmas.{TellsSome-none, TellsSome-trans, Tells-none}
 use Rattle.sub_check.specs.Events.{packet_events}
 use Rattle.sub_check.specs.Listening.{BreakNone, Knows, KnowsLast, rule_set}
 use Rattle.sub_check.specs.PacketRules.{header_count, packets_of_units}
@@ -24,6 +24,7 @@ loop-k-init g c = record {
   same = refl;
   due = refl;
   goes_on = c.requires.goes_on;
+  some = TellsSome-none c.args.audience.now;
   few = omega arith;
   header = refl;
   begins = λ e. cc;
@@ -55,6 +56,7 @@ loop-k-preserved g c =
       same = c.hear-is_header.ensures.watched ∙ i.same;
       due = c.hear-is_header.ensures.due ∙ i.due;
       goes_on = grind arith;
+      some = TellsSome-trans _ _ _ i.some c.in_ok-tell_rules.ensures.some;
       few = search rules;
       header =
           one

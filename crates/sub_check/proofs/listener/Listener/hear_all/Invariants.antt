@@ -1,7 +1,7 @@
 -- The rules that the packets so far break are told, and what is kept is what they say.
 use Rattle.std.proofs.Common.{◌≡◌, ◌≤◌, ◌<◌, ℕ, List, [], ◌++◌, take, get_or, true, false}
 use Rattle.ttx_page.specs.PacketKind.{is_this_page, kind}
-use Rattle.sub_io.specs.Telling.{Tells}
+use Rattle.sub_io.specs.Telling.{Tells, TellsSome}
 use Rattle.sub_check.specs.Events.{packet_events}
 use Rattle.sub_check.specs.Listening.{BreakNone, Knows}
 use Rattle.sub_check.specs.PacketRules.{header_count, packets_of_units}
@@ -12,6 +12,7 @@ invariant-loop-k g l = record {
   same : l.self.watched ≡ l.initial.self.watched;
   due : l.self.comparison.due ≡ l.initial.self.comparison.due;
   goes_on : g.A.Audience.has_stopped l.audience ≡ false;
+  some : TellsSome g.A.Audience.is_told l.initial.audience l.audience;
   few : l.headers ≤ l.k;
   header :
       l.headers ≡ header_count l.initial.self.watched.page (take l.k (packets_of_units l.units));
