@@ -12,7 +12,7 @@ files_of (ask.Packets pes) = files.ReadPes pes.now
 files_of (ask.Show stl) = files.ReadStl stl.now
 files_of (ask.Normal stl normal) = files.Write stl.now normal.now
 files_of (ask.Schedule stl pes options serial national) = files.Write stl.now pes.now
-files_of (ask.Check stl pes options national) = files.ReadBoth stl.now pes.now
+files_of (ask.Check stl pes options national all) = files.ReadBoth stl.now pes.now
 files_of (ask.Listen pes listening) = files.ReadPes pes.now
 
 -- Whether a first input is read.

@@ -147,6 +147,8 @@ pub enum Request<'a> {
         options: Options,
         /// The national option by which the text is read.
         national: National,
+        /// Whether every broken place is told, and not the first alone.
+        all: bool,
     },
     /// `listen PES`: runs one receiver.
     Listen {
