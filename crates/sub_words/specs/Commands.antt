@@ -37,13 +37,13 @@ clap_rule (argument.Option id value) = option_rule id.now value.now
 clap_rule (argument.BareOption id) = bare_option_rule id.now
 clap_rule (argument.Flag id) = flag_rule id.now
 
--- The arguments of a schedule that is written or checked, of which the last is a flag.
-abbrev pub pair_rules : Text → List Rule
-pair_rules flag =
+-- The arguments of a schedule that is written or checked, of which the last are flags.
+abbrev pub pair_rules : List Text → List Rule
+pair_rules flags =
     required_rule (codes "stl") ∷ required_rule (codes "pes")
     ∷ option_rule (codes "page") (codes "888") ∷ option_rule (codes "origin") (codes "0")
     ∷ option_rule (codes "every") (codes "250") ∷ option_rule (codes "option") (codes "english")
-    ∷ flag_rule flag ∷ []
+    ∷ map flag_rule flags
 
 -- The commands, each with the rules of its arguments.
 abbrev pub commands : List (Text × List Rule)
@@ -57,9 +57,9 @@ commands =
     -- normal IN OUT
     ∷ (codes "normal", required_rule (codes "in") ∷ required_rule (codes "out") ∷ [])
     -- schedule STL PES [--page P] [--origin T] [--every N] [--option O] [--serial]
-    ∷ (codes "schedule", pair_rules (codes "serial"))
-    -- check STL PES [--page P] [--origin T] [--every N] [--option O] [--complete]
-    ∷ (codes "check", pair_rules (codes "complete"))
+    ∷ (codes "schedule", pair_rules (codes "serial" ∷ []))
+    -- check STL PES [--page P] [--origin T] [--every N] [--option O] [--complete] [--all]
+    ∷ (codes "check", pair_rules (codes "complete" ∷ codes "all" ∷ []))
     -- listen PES [--page P] [--origin T] --at TIME [--skip N] [--flip F] [--lose L] [--receiver R]
     -- [--complete]
     ∷ (

@@ -27,7 +27,7 @@ pub data Asked : Type 0 where
   Show : (stl : Text) → Asked
   Normal : (input output : Text) → Asked
   Schedule : (stl pes : Text) → OptionsValue → (serial : Bool) → National → Asked
-  Check : (stl pes : Text) → OptionsValue → National → Asked
+  Check : (stl pes : Text) → OptionsValue → National → (all : Bool) → Asked
   Listen : (pes : Text) → OptionsValue → (at skip : ℕ) → List Flip → (lost : List ℕ)
       → ReceiverKind → Asked
 
@@ -39,7 +39,8 @@ asked_by (ask.Show stl) = Show stl.now
 asked_by (ask.Normal input output) = Normal input.now output.now
 asked_by (ask.Schedule stl pes options serial national) =
     Schedule stl.now pes.now options serial national
-asked_by (ask.Check stl pes options national) = Check stl.now pes.now options national
+asked_by (ask.Check stl pes options national all) =
+    Check stl.now pes.now options national all
 asked_by (ask.Listen pes l) =
     Listen pes.now l.options l.at l.skip l.flips.items l.lost.items l.receiver
 
@@ -69,12 +70,13 @@ schedule_asked rows = do
   national ← national_of rows
   Ok (Schedule names.0 names.1 options (is_given (codes "serial") rows) national)
 
--- `check STL PES [--page P] [--every N] [--origin T] [--option O] [--complete]`
+-- `check STL PES [--page P] [--every N] [--origin T] [--option O] [--complete] [--all]`
 abbrev pub check_asked : List Row → Result Asked UsageFault
 check_asked rows = do
   options ← options_of (number_of_text (argument (codes "every") rows)) rows
   national ← national_of rows
-  Ok (Check (argument (codes "stl") rows) (argument (codes "pes") rows) options national)
+  let all = is_given (codes "all") rows in
+      Ok (Check (argument (codes "stl") rows) (argument (codes "pes") rows) options national all)
 
 -- `listen PES [--page P] [--origin T] [--complete] --at TIME [--skip N] [--flip F] [--lose L]
 -- [--receiver R]`: the repeat bound of the options is not looked at.

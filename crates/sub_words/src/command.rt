@@ -57,6 +57,7 @@ const COMMANDS: [(&str, &[Argument]); 7] = [
             Argument::Option("every", "250"),
             Argument::Option("option", "english"),
             Argument::Flag("complete"),
+            Argument::Flag("all"),
         ],
     ),
     (

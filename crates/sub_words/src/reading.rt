@@ -80,7 +80,7 @@ fn read_schedule<'a>(matches: &ArgMatches<'a>) -> Result<Request<'a>, UsageFault
     })
 }
 
-// `check STL PES [--page P] [--every N] [--origin T] [--option O] [--complete]`
+// `check STL PES [--page P] [--every N] [--origin T] [--option O] [--complete] [--all]`
 fn read_check<'a>(matches: &ArgMatches<'a>) -> Result<Request<'a>, UsageFault>
     ensures { IsReadAs (check_asked (rows_of (found_of matches.now))) result }
 {
@@ -89,6 +89,7 @@ fn read_check<'a>(matches: &ArgMatches<'a>) -> Result<Request<'a>, UsageFault>
         pes: text_at(matches, "pes"),
         options: options_at(matches, parse_number(text_at(matches, "every")))?,
         national: National::parse(text_at(matches, "option")).ok_or(UsageFault::BadOption)?,
+        all: flag_at(matches, "all"),
     })
 }
 
