@@ -3,7 +3,7 @@
 use Rattle.std.proofs.Common.{◌≡◌, ℕ, zero, suc, ◌+◌, ◌-◌, ◌<◌, List, [], ◌∷◌, ◌++◌, length, take}
 use Rattle.std.proofs.Common.{drop, Option, Some, None, is_some, Result, MatchResult, Ok, Err, refl}
 use Rattle.std.proofs.Common.{sym}
-use Rattle.std.proofs.Common.{ap, ◌∙◌, subst, arith, All, Bool}
+use Rattle.std.proofs.Common.{ap, ◌∙◌, subst, arith, All, Bool, false}
 use Rattle.std.specs.List.{AllByRecursion}
 use Rattle.std.proofs.lemmas.List.{take-append-drop}
 use Rattle.std.proofs.lemmas.List.Elements.{All-from_recursion}
@@ -20,12 +20,12 @@ use Rattle.sub_check.specs.FirstBroken.{packet_fault, unread_fault}
 use Rattle.sub_check.specs.FirstBroken.Place.{AtOrder, AtStart, AtGapCell, AtGap, AtPacket, AtFirst}
 use Rattle.sub_check.specs.FirstBroken.Place.{AtCell, AtFrame, AtOpen, AtUnread, AtNothing, AtEnd}
 use Rattle.sub_check.specs.Following.{AreOk}
-use Rattle.stl_rows.specs.Programme.{ProgrammeValue}
-use Rattle.sub_plan.specs.Options.{OptionsValue}
-use Rattle.sub_check.specs.CheckedFiles.{TellsEvents}
+use Rattle.stl_rows.specs.Programme.{IsProgramme, ProgrammeValue}
+use Rattle.sub_plan.specs.Options.{IsOptions, OptionsValue}
+use Rattle.sub_check.specs.CheckedFiles.{IsChecked, TellsEvents, first_answer}
 use Rattle.sub_check.specs.FrameRules.{Task, Unread, end_frame, frame_at, task_of}
 use Rattle.sub_check.specs.FrameRules.Unread.{BadPacket, NoFrame}
-use Rattle.sub_check.specs.PesReading.{ReadsAs, pes_file_of}
+use Rattle.sub_check.specs.PesReading.{PesFileValue, ReadsAs, pes_file_of}
 use Rattle.sub_check.specs.Transmission.{EachPacket, SentFrame, Transmission}
 use Rattle.sub_check.specs.declared.checker.Accepted.{Accepted}
 use Rattle.sub_check.specs.declared.event.Event.{Event}
@@ -34,6 +34,10 @@ use Rattle.sub_check.specs.declared.fault.CheckFault.{CheckFault}
 use Rattle.sub_check.specs.declared.fault.CheckFault.TheVariants as fault
 use Rattle.sub_check.specs.declared.packet_rules.PacketRule.{PacketRule}
 use Rattle.sub_check.specs.declared.packet_rules.PacketRule.TheVariants as rule
+use Rattle.sub_io.specs.Device.{failed}
+use Rattle.std.proofs.lemmas.Bool.{true≢false}
+use Rattle.sub_check.specs.Fault.{is_pes_read}
+use Rattle.sub_check.proofs.CheckLemmas.{checked_from}
 use Rattle.sub_check.proofs.EventLemmas.{frames_told, law_of_first_event, none_told}
 use Rattle.sub_check.proofs.OrderLemmas.{holds_before}
 use Rattle.sub_check.proofs.ReadFileLemmas.{IsOfBytes, IsSoundFile, file_sound}
@@ -184,14 +188,83 @@ module _ (g : Task) (origin : ℕ) (bytes : List ℕ) (frames : Transmission)
         subst (IsReadUpTo g frames) at
         (record { within = l; holds = holds_before g frames n past })
 
+    -- All that is told decides the answer of `check` by its first.
+    pub first_decides : (a : Accepted) → IsRead g origin bytes frames a
+        → MatchResult (first_answer (events g frames) a) (Accepts g origin bytes frames)
+        (NamesFirst g frames)
+    first_decides a is = go (events g frames) refl
+      where
+        go :
+            (es : List Event)
+            → events g frames ≡ es
+            → MatchResult (first_answer es a) (Accepts g origin bytes frames) (NamesFirst g frames)
+        go [] e = accepts a is e
+        go (x ∷ more) e =
+            let t = (law_of_first_event g frames whole).first x more e in
+            rw t.1 t.2
+
+    -- And no failure of the source is told.
+    pub first_own : (a : Accepted) → failed is_pes_read (first_answer (events g frames) a) ≡ false
+    first_own a = go (events g frames) refl
+      where
+        go :
+            (es : List Event)
+            → events g frames ≡ es
+            → failed is_pes_read (first_answer es a) ≡ false
+        go [] e = refl
+        go (x ∷ more) e =
+            let t = (law_of_first_event g frames whole).first x more e in
+            rw t.1 (own t.0 t.2).no_source
+
+-- What is told first is what `check` refuses the bytes for, and it accepts them where nothing is.
+checked_first :
+    (programme : ProgrammeValue) (options : OptionsValue) (bytes : List ℕ) (a : Accepted)
+    → IsOptions options
+    → IsProgramme programme.national programme.records
+    → ((frames : Transmission) (unread : Option Unread)
+    → ReadsAs options.origin 0 bytes frames unread
+    → IsRead (task_of programme options unread) options.origin bytes frames a)
+    → IsChecked programme options bytes
+    (first_answer
+    (events (task_of programme options (pes_file_of options.origin bytes).unread)
+    (pes_file_of options.origin bytes).frames) a)
+checked_first programme options bytes a fine p is =
+    let file = pes_file_of options.origin bytes in
+    let g = task_of programme options file.unread in
+    let whole = is file.frames file.unread refl in
+    checked_from programme options fine bytes (first_answer (events g file.frames) a) p
+    (λ no frames unread reads.
+    subst (λ (es : List Event). MatchResult (first_answer es a)
+    (Accepts (task_of programme options unread) options.origin bytes frames)
+    (NamesFirst (task_of programme options unread) frames))
+    (sym (ap (λ (f : PesFileValue). events (task_of programme options f.unread) f.frames) reads))
+    (first_decides (task_of programme options unread) options.origin bytes frames reads a
+    (is frames unread reads)))
+    (λ frames unread pes reads e.
+    let none = first_own g options.origin bytes file.frames refl a in
+    absurd (true≢false (rw e at none)))
+
 -- What was told of the file as one value. For `check_all`.
 pub tells_events :
     (programme : ProgrammeValue) (options : OptionsValue) (bytes : List ℕ)
     {D : Type 0} (IsTold : D → Event → D → Type 0) (old new : D) (stopped : Bool)
     (r : Result Accepted CheckFault)
-    → TellsAll (task_of programme options (pes_file_of options.origin bytes).unread) options.origin
-    bytes (pes_file_of options.origin bytes).frames IsTold old new stopped r
+    → IsOptions options
+    → IsProgramme programme.national programme.records
+    → ((frames : Transmission) (unread : Option Unread)
+    → ReadsAs options.origin 0 bytes frames unread
+    → TellsAll (task_of programme options unread) options.origin bytes frames IsTold old new stopped
+    r)
     → TellsEvents programme options bytes IsTold old new stopped r
-tells_events programme options bytes IsTold old new stopped (Ok a) (told, is) =
-    (told, λ e. (is e).counts)
-tells_events programme options bytes IsTold old new stopped (Err f) told = told
+tells_events programme options bytes IsTold old new stopped (Ok a) fine p told =
+    let file = pes_file_of options.origin bytes in
+    let whole = told file.frames file.unread refl in (
+      whole.0,
+      λ quiet. (
+        (whole.1 quiet).counts,
+        checked_first programme options bytes a fine p
+            (λ frames unread reads. (told frames unread reads).1 quiet),
+      ),
+    )
+tells_events programme options bytes IsTold old new stopped (Err f) fine p told =
+    let file = pes_file_of options.origin bytes in told file.frames file.unread refl

@@ -1,5 +1,5 @@
 -- What the checker tells of the bytes of a subtitle file and a PES file.
-use Rattle.std.specs.Prelude.{◌≡◌, ◌≢◌, ◌↔◌, ℕ, ◌≤◌, length, List, [], Bool, false, true, Option}
+use Rattle.std.specs.Prelude.{◌≡◌, ◌≢◌, ◌↔◌, ℕ, ◌≤◌, length, List, [], ◌∷◌, Bool, false, true, Option}
 use Rattle.std.specs.Prelude.{All, IsOk}
 use Rattle.std.specs.Prelude.{Result, Ok, Err, IfOk, IfErr, IsTrue}
 use Rattle.sub_io.specs.Device.{failed}
@@ -19,6 +19,7 @@ use Rattle.sub_io.specs.Telling.{Tells}
 use Rattle.sub_check.specs.Checking.{CountsRead, HasCounts, TellsOrStops, TellsSubtitles}
 use Rattle.sub_check.specs.Events.{events, events_of_first}
 use Rattle.sub_check.specs.declared.event.Event.{Event}
+use Rattle.sub_check.specs.declared.event.Event.TheVariants.{Told}
 use Rattle.sub_check.specs.Fault.{is_failure, is_pes_read, is_subtitle_fault}
 use Rattle.sub_check.specs.FirstBroken.{IsReadUpTo, NamesFirst}
 use Rattle.sub_check.specs.FrameRules.{task_of}
@@ -197,15 +198,24 @@ pub record AreChecked
       → loaded national (outcome_of file) ≡ Ok programme
       → IfTold pes (λ bytes. IsChecked programme options bytes answer)
 
+-- The answer of `check` by all events: these counts where there is none, else the fault that is told
+-- first.
+abbrev pub first_answer : List Event → Accepted → Result Accepted CheckFault
+first_answer (Told f ∷ more) a = Err f
+first_answer _ a = Ok a
+
 -- What a device was told of the bytes of a PES file, checked against a programme: where it did not
--- say stop, all events, and the answer counts what was read; else the events up to there. Where the
--- source failed, the events of the PES packets that were read whole.
+-- say stop, all events, the answer counts what was read, and the first event is the one for which
+-- `check` refuses the bytes, which it accepts where there is none; else the events up to there.
+-- Where the source failed, the events of the PES packets that were read whole.
 abbrev pub TellsEvents : {D : Type 0} → ProgrammeValue → OptionsValue → List ℕ
     → (D → Event → D → Type 0) → D → D → Bool → Result Accepted CheckFault → Type 0
 TellsEvents programme options bytes IsTold old new stopped (Ok a) =
     let file = pes_file_of options.origin bytes in
-    TellsOrStops IsTold old new (events (task_of programme options file.unread) file.frames) stopped
-    × (stopped ≡ false → CountsRead options.page file.frames a)
+    let told = events (task_of programme options file.unread) file.frames in
+    TellsOrStops IsTold old new told stopped
+    × (stopped ≡ false → CountsRead options.page file.frames a
+    × IsChecked programme options bytes (first_answer told a))
 TellsEvents programme options bytes IsTold old new stopped (Err f) =
     let file = pes_file_of options.origin bytes in
     (n : ℕ)
