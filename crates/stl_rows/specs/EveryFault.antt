@@ -49,10 +49,10 @@ kept_after true t kept = option_map (λ ts. ts ++ t ∷ []) kept
 -- A device was told faults of the file.
 pub record TellsOfFile {D : Type 0} (IsTold : D → LoadFault → D → Type 0) (old new : D) : Type 0
   where
-  pub faults : List LoadFault
-  pub some : 0 < length faults
-  pub of_file : list_all (λ (f : LoadFault). is_of_file f.kind) faults ≡ true
-  pub told : Tells IsTold old new faults
+    pub faults : List LoadFault
+    pub some : 0 < length faults
+    pub of_file : list_all (λ (f : LoadFault). is_of_file f.kind) faults ≡ true
+    pub told : Tells IsTold old new faults
 
 -- The device said stop at one of these: it was told those up to there.
 abbrev pub StopsWithin : {D : Type 0}
