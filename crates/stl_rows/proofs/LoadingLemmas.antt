@@ -142,7 +142,8 @@ pub stops-last : (national : National) (before : Option Times) (t : SubtitleValu
     → Tells IsTold old mid (map (load_fault block) (first_alone order))
     → Tells IsTold mid new (map (load_fault block) (first_alone row))
     → StopsWithin IsTold old new (map (load_fault block) (follow_faults national before t))
-stops-last national before t block {IsTold = IsTold} old mid new order None is_order is_row some p q = absurd cc
+stops-last national before t block {IsTold = IsTold} old mid new order None is_order is_row
+    some p q = absurd cc
 stops-last national before t block {IsTold = IsTold} old mid new order (Some kind) is_order is_row
     some p q =
     let orders : List LoadFaultKind = order_faults before (times_of t) in
@@ -296,7 +297,8 @@ ends-here national outcome rest before (Some ts) early t block clean some are_ke
 -- ---- what was told in all
 
 -- all faults
-pub tells-all : {D : Type 0} {IsTold : D → LoadFault → D → Type 0} (old new : D) (stopped : Bool) (early all : List LoadFault)
+pub tells-all : {D : Type 0} {IsTold : D → LoadFault → D → Type 0} (old new : D)
+    (stopped : Bool) (early all : List LoadFault)
     → all ≡ early
     → 0 < length early
     → Tells IsTold old new early
@@ -308,7 +310,8 @@ tells-all old new stopped early all same some told =
     })
 
 -- those up to where the device said stop
-pub tells-stopped : {D : Type 0} {IsTold : D → LoadFault → D → Type 0} (old mid new : D) (early items rest all : List LoadFault)
+pub tells-stopped : {D : Type 0} {IsTold : D → LoadFault → D → Type 0} (old mid new : D)
+    (early items rest all : List LoadFault)
     → all ≡ early ++ (items ++ rest)
     → Tells IsTold old mid early
     → StopsWithin IsTold mid new items
@@ -336,7 +339,8 @@ take-of_file zero items h = refl
 take-of_file (suc n) [] h = refl
 take-of_file (suc n) (f ∷ fs) h = grind (arith, nat_tests, take-of_file n fs)
 
-pub of_file-stopped : {D : Type 0} {IsTold : D → LoadFault → D → Type 0} (old mid new : D) (early : List LoadFault)
+pub of_file-stopped : {D : Type 0} {IsTold : D → LoadFault → D → Type 0} (old mid new : D)
+    (early : List LoadFault)
     (national : National) (before : Option Times) (t : SubtitleValue) (from block : ℕ)
     → list_all (is_told_by from) early ≡ true
     → Tells IsTold old mid early

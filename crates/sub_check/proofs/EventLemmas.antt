@@ -1,7 +1,8 @@
 -- What is told first of a transmission is the first place that is broken: `first_event`.
 use Rattle.std.proofs.Common.{◌≡◌, ℕ, zero, suc, ◌+◌, ◌-◌, ◌<◌, ◌≤◌, inl, inr, Bool, true, false}
 use Rattle.std.proofs.Common.{List, [], ◌∷◌, ◌++◌, length, take, Option, Some, None, refl, sym, ap}
-use Rattle.std.proofs.Common.{◌∙◌, subst, arith, nat_lt, nat_le, not, ◌||◌, ◌==◌, get_or, is_some, if◌then◌else◌}
+use Rattle.std.proofs.Common.{◌∙◌, subst, arith, nat_lt, nat_le, not, ◌||◌, ◌==◌, get_or, is_some}
+use Rattle.std.proofs.Common.{if◌then◌else◌}
 use Rattle.std.proofs.Common.{IsTrue, map, option_map}
 use Rattle.std.specs.Prelude.{option_and_then}
 use Rattle.std.specs.List.{AllByRecursion, list_any}
@@ -22,7 +23,8 @@ use Rattle.ttx_page.specs.Span.{after_last_header, before_end, holds_header, is_
 use Rattle.ttx_page.specs.declared.packet_kind.PacketKind.{PacketKind}
 use Rattle.sub_check.specs.Events.{Standing, closing_events, covers, end_before, end_events, events}
 use Rattle.sub_check.specs.Events.{events_at_end, events_of_first, first_cell, first_header_events}
-use Rattle.sub_check.specs.Events.{frame_events, gap_events, gap_length, is_gap, is_incomplete, latest}
+use Rattle.sub_check.specs.Events.{frame_events, gap_events, gap_length, is_gap, is_incomplete}
+use Rattle.sub_check.specs.Events.{latest}
 use Rattle.sub_check.specs.Events.{content_events, endings, is_early, late_events, rest_events}
 use Rattle.sub_check.specs.Events.{rule_events}
 use Rattle.sub_check.specs.Events.{nothing_stands, order_events, packet_events, rules_told}
@@ -47,7 +49,8 @@ use Rattle.sub_check.specs.declared.fault.CheckFault.{CheckFault}
 use Rattle.sub_check.specs.declared.fault.CheckFault.TheVariants as fault
 use Rattle.sub_check.proofs.OrderLemmas.{first_early, first_frame, first_gap, first_gap_cell}
 use Rattle.sub_check.proofs.OrderLemmas.{first_cell as first_cell_at}
-use Rattle.sub_check.proofs.OrderLemmas.{first_header_missing, first_late, first_nothing, first_open}
+use Rattle.sub_check.proofs.OrderLemmas.{first_header_missing, first_late, first_nothing}
+use Rattle.sub_check.proofs.OrderLemmas.{first_open}
 use Rattle.sub_check.proofs.OrderLemmas.{first_order, first_packet, first_unread, holds_but_end}
 use Rattle.sub_check.proofs.BrokenRuleLemmas.{FirstRule, IsSoundSpan, broken_first}
 use Rattle.sub_check.proofs.PacketLists.{Each-push}

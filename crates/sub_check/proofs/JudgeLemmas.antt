@@ -79,7 +79,8 @@ one_more g frames n = rw add-one refl
 
 -- A device that said stop at a frame was told a part of the whole. For `tell_all`.
 pub told_to_stop :
-    (g : Task) (frames : Transmission) (n : ℕ) {D : Type 0} {IsTold : D → Event → D → Type 0} (a b c : D)
+    (g : Task) (frames : Transmission) (n : ℕ)
+    {D : Type 0} {IsTold : D → Event → D → Type 0} (a b c : D)
     → n < length frames
     → Tells IsTold a b (events_of_first g frames n)
     → TellsPrefix IsTold b c (frame_events g frames n)
@@ -92,7 +93,8 @@ told_to_stop g frames n a b c l before more =
 -- A device that was told what follows the last frame was told the whole, or a part. For `tell_all`.
 pub told_to_end :
     {X E : Type 0}
-    (g : Task) (frames : Transmission) (n : ℕ) {D : Type 0} {IsTold : D → Event → D → Type 0} (a b c : D) (r : Result X E)
+    (g : Task) (frames : Transmission) (n : ℕ)
+    {D : Type 0} {IsTold : D → Event → D → Type 0} (a b c : D) (r : Result X E)
     (stopped : Bool)
     → length frames ≡ n
     → Tells IsTold a b (events_of_first g frames n)

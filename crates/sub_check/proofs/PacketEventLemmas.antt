@@ -67,7 +67,8 @@ module _ (w : Watched) (frame : ℕ) (before ps : List (List ℕ)) where
   packet_events-none (suc k) clean =
       rw (packet_events-none k (λ j l. clean j (omega arith)), clean k (omega arith)) refl
 
-  module _ (k : ℕ) (p : List ℕ) {D : Type 0} {IsTold : D → Event → D → Type 0} (a b c : D) (at : get_or ps k [] ≡ p)
+  module _ (k : ℕ) (p : List ℕ) {D : Type 0} {IsTold : D → Event → D → Type 0} (a b c : D)
+      (at : get_or ps k [] ≡ p)
       (told : Tells IsTold a b (packet_events w frame before ps k)) where
     -- One packet more. For `hear_all`.
     pub told_one : Tells IsTold b c (told_by w frame k (before ++ take k ps) p)

@@ -14,7 +14,8 @@ use Rattle.ttx_pes.specs.DataUnit.{UnitValue, data_unit_length, framing_code, is
 use Rattle.ttx_pes.specs.LineOrder.{last_place, stands_after}
 use Rattle.ttx_pes.specs.Fault.{is_read, is_write}
 use Rattle.ttx_pes.specs.PesPacket.{PesValue, header_data_length, longest_packet, payload_size}
-use Rattle.ttx_pes.specs.Reading.{answer_at, byte_at, has_markers, is_start, most_packets, packet_at}
+use Rattle.ttx_pes.specs.Reading.{answer_at, byte_at, has_markers, is_start, most_packets}
+use Rattle.ttx_pes.specs.Reading.{packet_at}
 use Rattle.ttx_pes.specs.Reading.{pts_at, pts_bits, rest_after, size_at, teletext_at, told_size}
 use Rattle.ttx_pes.specs.Reading.{unit_at, unit_of, units_at, value_at, with_unit}
 use Rattle.ttx_pes.specs.declared.fault.PesFault.{PesFault}

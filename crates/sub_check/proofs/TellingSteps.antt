@@ -17,7 +17,8 @@ module _ {A D X E : Type 0} {IsTold : D → A → D → Type 0} where
   pub told_whole : (a b : D) (xs whole : List A) (r : Result X E) → whole ≡ xs
       → Tells IsTold a b xs → TellsUntilStopped IsTold a b whole r
   told_whole a b xs whole (Ok x) is p = subst (Tells IsTold a b) (sym is) p
-  told_whole a b xs whole (Err e) is p = TellsPrefix-whole a b whole (subst (Tells IsTold a b) (sym is) p)
+  told_whole a b xs whole (Err e) is p =
+      TellsPrefix-whole a b whole (subst (Tells IsTold a b) (sym is) p)
 
   -- The one part, and then the other.
   pub told_then : (a b c : D) (xs ys whole : List A) (r : Result X E)

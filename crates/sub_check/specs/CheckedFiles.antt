@@ -1,5 +1,6 @@
 -- What the checker tells of the bytes of a subtitle file and a PES file.
-use Rattle.std.specs.Prelude.{◌≡◌, ◌≢◌, ◌↔◌, ℕ, ◌≤◌, length, List, [], ◌∷◌, Bool, false, true, Option}
+use Rattle.std.specs.Prelude.{◌≡◌, ◌≢◌, ◌↔◌, ℕ, ◌≤◌, length, List, [], ◌∷◌, Bool, false, true}
+use Rattle.std.specs.Prelude.{Option}
 use Rattle.std.specs.Prelude.{All, IsOk}
 use Rattle.std.specs.Prelude.{Result, Ok, Err, IfOk, IfErr, IsTrue}
 use Rattle.sub_io.specs.Device.{failed}
@@ -198,8 +199,8 @@ pub record AreChecked
       → loaded national (outcome_of file) ≡ Ok programme
       → IfTold pes (λ bytes. IsChecked programme options bytes answer)
 
--- The answer of `check` by all events: these counts where there is none, else the fault that is told
--- first.
+-- The answer of `check` by all events: these counts where there is none, else the fault that is
+-- told first.
 abbrev pub first_answer : List Event → Accepted → Result Accepted CheckFault
 first_answer (Told f ∷ more) a = Err f
 first_answer _ a = Ok a

@@ -19,7 +19,8 @@ pub record BeginsWithFirst (g : Task) (frames : Transmission) : Type 0 where
       → events g frames ≡ event ∷ rest
       → (f : CheckFault) × (event ≡ Told f) × NamesFirst g frames f
 
--- So one checker serves both: one that tells everything, and one that is stopped at the first event.
+-- So one checker serves both: one that tells everything, and one that is stopped at the first
+-- event.
 abbrev pub LawOfFirstEvent : Type 0
 LawOfFirstEvent =
     (g : Task) (frames : Transmission)

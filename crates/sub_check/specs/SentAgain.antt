@@ -1,6 +1,7 @@
--- Packets that are sent again: where the first of them is a header of the page, each breaks the same
--- rules again.
-use Rattle.std.specs.Prelude.{◌≡◌, ℕ, ◌<◌, List, [], ◌∷◌, ◌++◌, length, IsTrue, slice_index_or, take}
+-- Packets that are sent again: where the first of them is a header of the page, each breaks the
+-- same rules again.
+use Rattle.std.specs.Prelude.{◌≡◌, ℕ, ◌<◌, List, [], ◌∷◌, ◌++◌, length, IsTrue, slice_index_or}
+use Rattle.std.specs.Prelude.{take}
 use Rattle.ttx_packet.specs.PageId.{PageIdValue}
 use Rattle.ttx_page.specs.PacketKind.{kind, is_this_page}
 use Rattle.ttx_page.specs.Span.{is_open_after, span}

@@ -87,7 +87,8 @@ impl Comparison {
     /// Whether a row that is shown holds other codes than a packet.
     pub fn differs_from(&self, row: u8, packet: &Packet) -> bool
         requires { IsRow row }
-        ensures { result ≡ not (row_differing (row_at self.now.page row) (codes_of packet.now) == 0) }
+        ensures { result
+            ≡ not (row_differing (row_at self.now.page row) (codes_of packet.now) == 0) }
     {
         differing_columns(self.page.row(row), &text_codes(packet)) != 0
     }

@@ -56,8 +56,8 @@ pub fn law_of_whole_stretch()
     ensures { LawOfWholeStretch }
 {}
 
-/// A good transmission is robust where packets are lost too, any but page headers: a mark beside each
-/// packet says whether it is kept, and a cell of a lost row counts as hit.
+/// A good transmission is robust where packets are lost too, any but page headers: a mark beside
+/// each packet says whether it is kept, and a cell of a lost row counts as hit.
 #[tactic(auto, using(crate::proofs::RobustLemmas::law_of_good_and_marked_loss))]
 pub fn law_of_good_and_marked_loss()
     ensures { LawOfGoodAndMarkedLoss }

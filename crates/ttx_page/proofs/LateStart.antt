@@ -1,7 +1,8 @@
 -- Who starts late: what was sent before a header of the page does not matter, `sound-later` and
 -- `shown-later`. And packets that may follow what was sent before are sound: `sound-joined`.
 use Rattle.std.proofs.Common.{◌≡◌, ℕ, suc, ◌<◌, Bool, true, not, List}
-use Rattle.std.proofs.Common.{[], ◌∷◌, ◌++◌, length, take, slice_index_or, find, Option, Some, None, Contains}
+use Rattle.std.proofs.Common.{[], ◌∷◌, ◌++◌, length, take, slice_index_or, find, Option, Some, None}
+use Rattle.std.proofs.Common.{Contains}
 use Rattle.std.proofs.Common.{option_map, unwrap_or, All, IsTrue, refl, sym, ap, ◌∙◌, subst, arith}
 use Rattle.std.proofs.Common.{append_assoc}
 use Rattle.std.specs.List.{list_any}
