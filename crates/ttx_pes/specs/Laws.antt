@@ -9,7 +9,7 @@ use Rattle.ttx_pes.specs.LineOrder.{numbered_units, AreInLineOrder, RisesTo}
 use Rattle.ttx_pes.specs.PesPacket.{PesValue, IsPesPacket, IsPesValue, canonical_packet}
 use Rattle.ttx_pes.specs.PesPacket.{numbered_frame}
 use Rattle.ttx_pes.specs.Reading.{packet_at, answer_at, rest_after, most_packets}
-use Rattle.ttx_pes.specs.Refusal.{Question, told_fault, FailFirst}
+use Rattle.ttx_pes.specs.Refusal.{told_fault, FailFirst}
 use Rattle.ttx_pes.specs.declared.fault.PesFault.{PesFault}
 
 -- A packet has one value, and no packet is a proper prefix of another.
@@ -56,8 +56,8 @@ LawOfRefusal =
     → AreBytes bytes
     → ((f : PesFault)
     → packet_at bytes ≡ Err f
-    → (q : Question) × (told_fault q ≡ f) × FailFirst q bytes)
-    × ((q : Question) → FailFirst q bytes → (f : PesFault) × (packet_at bytes ≡ Err f))
+    → (question : ℕ) × (told_fault question ≡ f) × FailFirst question bytes)
+    × ((question : ℕ) → FailFirst question bytes → (f : PesFault) × (packet_at bytes ≡ Err f))
 
 -- What was written of a frame is read as that frame, whatever follows, and what follows is left.
 -- So a schedule that was written is the schedule that is read.

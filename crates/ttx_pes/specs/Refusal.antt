@@ -1,112 +1,85 @@
 -- Which refusal the bytes of a PES packet deserve, by the grammar alone: what is asked of them, in
 -- order, and the first question in which no packet of the grammar agrees with them (EN 300 472; the
 -- order of the questions is (own)).
-use Rattle.std.specs.Prelude.{◌≡◌, ℕ, ◌+◌, ◌*◌, ◌<◌, ◌≤◌, List, [], ◌∷◌, length, slice_index}
-use Rattle.std.specs.List.{AllByRecursion}
+--
+-- A question has a number. It asks for bytes of the packet or of data unit k, or how many bytes
+-- there are, and a fault is told where the answer is wrong:
+--
+--   0            that there are six bytes                                       Truncated
+--   1            0..3   packet_start_code_prefix, stream_id                     Start
+--   2            4..5   PES_packet_length                                       Length
+--   3            that there are all bytes of the packet                         Truncated
+--   4            6      PES_scrambling_control, with the two bits before it     Flags
+--   5            7      PTS_DTS_flags                                           NoTime
+--   6            8      PES_header_data_length                                  HeaderLength
+--   7            9..13  PTS                                                     Time
+--   8            45     data_identifier                                         DataId
+--   9 + 3 * k    1      data_unit_length                                        UnitLength
+--   10 + 3 * k   0, 3   data_unit_id and, of a Teletext unit, framing_code      Framing
+--   11 + 3 * k   2      field_parity and line_offset                            LineOrder
+use Rattle.std.specs.Prelude.{◌≡◌, ℕ, ◌+◌, ◌-◌, ◌*◌, ◌/◌, ◌%◌, ◌<◌, ◌≤◌, List, [], ◌∷◌, ◌++◌}
+use Rattle.std.specs.Prelude.{length, replicate, slice_index, slice_index_or}
 use Rattle.ttx_pes.specs.declared.fault.PesFault.{PesFault}
 use Rattle.ttx_pes.specs.declared.fault.PesFault.TheVariants as fault
 use Rattle.ttx_pes.specs.DataUnit.{data_unit_size}
-use Rattle.ttx_pes.specs.PesPacket.{PesValue, IsPesPacket, header_size}
+use Rattle.ttx_pes.specs.PesPacket.{PesValue, IsPesPacket, header_size, most_units}
 
--- What is asked: of the packet, and then of its data units one after the other, counted from 0.
-pub data Question : Type 0 where
-  -- that there are six bytes
-  SixBytes : Question
-  -- packet_start_code_prefix and stream_id
-  Start : Question
-  -- PES_packet_length
-  PacketLength : Question
-  -- that there are all bytes of the packet
-  AllBytes : Question
-  -- PES_scrambling_control, with the two bits before it
-  Scrambling : Question
-  -- PTS_DTS_flags
-  PtsFlags : Question
-  -- PES_header_data_length
-  HeaderLength : Question
-  -- PTS
-  Time : Question
-  -- data_identifier
-  DataIdentifier : Question
-  -- data_unit_length of a data unit
-  UnitLength : ℕ → Question
-  -- its data_unit_id and, of a Teletext unit, framing_code
-  FramingCode : ℕ → Question
-  -- its field_parity and line_offset
-  Line : ℕ → Question
+-- The faults of the questions of a packet, and of those of a data unit.
+abbrev pub packet_faults : List PesFault
+packet_faults =
+    fault.Truncated ∷ fault.Start ∷ fault.Length ∷ fault.Truncated ∷ fault.Flags ∷ fault.NoTime
+    ∷ fault.HeaderLength ∷ fault.Time ∷ fault.DataId ∷ []
 
--- The fault that is told where the answer is wrong.
-abbrev pub told_fault : Question → PesFault
-told_fault SixBytes = fault.Truncated
-told_fault Start = fault.Start
-told_fault PacketLength = fault.Length
-told_fault AllBytes = fault.Truncated
-told_fault Scrambling = fault.Flags
-told_fault PtsFlags = fault.NoTime
-told_fault HeaderLength = fault.HeaderLength
-told_fault Time = fault.Time
-told_fault DataIdentifier = fault.DataId
-told_fault (UnitLength k) = fault.UnitLength
-told_fault (FramingCode k) = fault.Framing
-told_fault (Line k) = fault.LineOrder
+abbrev pub unit_faults : List PesFault
+unit_faults = fault.UnitLength ∷ fault.Framing ∷ fault.LineOrder ∷ []
 
--- The bytes have the packet's byte at a place; nothing where the packet ends before it.
-abbrev pub HaveSameByte : List ℕ → List ℕ → ℕ → Type 0
-HaveSameByte bytes packet place =
-    place < length packet → slice_index bytes place ≡ slice_index packet place
+-- The fault that is told where the answer to a question is wrong.
+abbrev pub told_fault : ℕ → PesFault
+told_fault i =
+    slice_index_or packet_faults i (slice_index_or unit_faults (i % 3) fault.Truncated)
 
--- The place of a byte of a data unit.
-abbrev pub unit_place : ℕ → ℕ → ℕ
-unit_place k i = header_size + (data_unit_size * k + i)
+-- A number after those of all questions, for bytes that may be anything: no packet has more units.
+abbrev pub no_question : ℕ
+no_question = 9 + 3 * most_units
 
--- The bytes agree with a packet in what is asked: there are as many, or those of a field are the
--- packet's.
-abbrev pub Agree : List ℕ → List ℕ → Question → Type 0
-Agree bytes packet SixBytes = 6 ≤ length bytes
-Agree bytes packet Start = AllByRecursion (HaveSameByte bytes packet) (0 ∷ 1 ∷ 2 ∷ 3 ∷ [])
-Agree bytes packet PacketLength = AllByRecursion (HaveSameByte bytes packet) (4 ∷ 5 ∷ [])
-Agree bytes packet AllBytes = length packet ≤ length bytes
-Agree bytes packet Scrambling = HaveSameByte bytes packet 6
-Agree bytes packet PtsFlags = HaveSameByte bytes packet 7
-Agree bytes packet HeaderLength = HaveSameByte bytes packet 8
-Agree bytes packet Time =
-    AllByRecursion (HaveSameByte bytes packet) (9 ∷ 10 ∷ 11 ∷ 12 ∷ 13 ∷ [])
-Agree bytes packet DataIdentifier = HaveSameByte bytes packet 45
-Agree bytes packet (UnitLength k) = HaveSameByte bytes packet (unit_place k 1)
-Agree bytes packet (FramingCode k) =
-    AllByRecursion (HaveSameByte bytes packet) (unit_place k 0 ∷ unit_place k 3 ∷ [])
-Agree bytes packet (Line k) = HaveSameByte bytes packet (unit_place k 2)
+-- The numbers of the questions that ask for the bytes before the data units, one by one.
+abbrev pub header_askers : List ℕ
+header_askers =
+    (1 ∷ 1 ∷ 1 ∷ 1 ∷ 2 ∷ 2 ∷ 4 ∷ 5 ∷ 6 ∷ 7 ∷ 7 ∷ 7 ∷ 7 ∷ 7 ∷ [])
+    ++ (replicate 31 no_question ++ (8 ∷ []))
 
--- The number of a question in the order in which they are asked, from 0.
-abbrev pub question_number : Question → ℕ
-question_number SixBytes = 0
-question_number Start = 1
-question_number PacketLength = 2
-question_number AllBytes = 3
-question_number Scrambling = 4
-question_number PtsFlags = 5
-question_number HeaderLength = 6
-question_number Time = 7
-question_number DataIdentifier = 8
-question_number (UnitLength k) = 9 + 3 * k
-question_number (FramingCode k) = 10 + 3 * k
-question_number (Line k) = 11 + 3 * k
+-- Those of the first bytes of data unit 0.
+abbrev pub unit_askers : List ℕ
+unit_askers = 10 ∷ 9 ∷ 11 ∷ 10 ∷ []
 
--- They agree in all that is asked before a question.
-abbrev pub AgreeBefore : Question → List ℕ → List ℕ → Type 0
-AgreeBefore q bytes packet =
-    (r : Question) → question_number r < question_number q → Agree bytes packet r
+-- The number of the question that asks for the byte at a place.
+abbrev pub asker : ℕ → ℕ
+asker place =
+    let within = place - header_size in
+    slice_index_or header_askers place
+    (slice_index_or unit_askers (within % data_unit_size) no_question
+    + 3 * (within / data_unit_size))
+
+-- The bytes agree with a packet in all that is asked before a question: there are as many, and
+-- those that are asked for are the packet's, if it does not end before them.
+pub record AgreeBefore (question : ℕ) (bytes packet : List ℕ) : Type 0 where
+  pub six : 0 < question → 6 ≤ length bytes
+  pub all : 3 < question → length packet ≤ length bytes
+  pub same :
+      (place : ℕ)
+      → asker place < question
+      → place < length packet
+      → slice_index bytes place ≡ slice_index packet place
 
 -- A question is the first in which the bytes fail: some packet of the grammar agrees with them in
 -- all that is asked before, and none that does agrees in what is asked there.
-pub record FailFirst (q : Question) (bytes : List ℕ) : Type 0 where
+pub record FailFirst (question : ℕ) (bytes : List ℕ) : Type 0 where
   pub value : PesValue
   pub packet : List ℕ
   pub is_packet : IsPesPacket value packet
-  pub before : AgreeBefore q bytes packet
+  pub before : AgreeBefore question bytes packet
   pub none :
       (v : PesValue) (p : List ℕ)
       → IsPesPacket v p
-      → AgreeBefore q bytes p
-      → Agree bytes p q
+      → AgreeBefore (question + 1) bytes p
       → ⊥
