@@ -20,7 +20,7 @@ use Rattle.ttx_pes.specs.PesPacket.{IsPesPacket, PesValue, packet_length, packet
 use Rattle.ttx_pes.specs.Reading.{packet_at, told_size}
 use Rattle.ttx_pes.specs.Refusal.{AgreeBefore, FailFirst, asker, header_askers, told_fault}
 use Rattle.ttx_pes.specs.Refusal.{unit_askers}
-use Rattle.ttx_pes.proofs.QuestionLemmas.{HoldBelow, first_wrong, next_place, packet_asked, refusal}
+use Rattle.ttx_pes.proofs.QuestionLemmas.{HoldBelow, first_wrong, packet_asked, refusal}
 use Rattle.ttx_pes.proofs.QuestionLemmas.{size_is_right, tests, tests_cases, told_units, unit_byte}
 use Rattle.ttx_pes.proofs.QuestionLemmas.{unit_place, units_tests}
 use Rattle.ttx_pes.proofs.ReadingLemmas.{answer_cases, packet_is_read, read_is_packet}
