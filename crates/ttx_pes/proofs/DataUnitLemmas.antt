@@ -1,11 +1,12 @@
 -- A data unit that is read is one of the grammar, and the other way round. Main lemmas:
 -- units_sound, units_complete.
 use Rattle.std.proofs.Common.{◌≡◌, ℕ, zero, suc, ◌+◌, ◌-◌, ◌*◌, ◌/◌, ◌%◌, ◌<◌, ◌≤◌, true}
-use Rattle.std.proofs.Common.{cond, not, eqb, List, [], ◌∷◌, ◌++◌, length, take}
-use Rattle.std.proofs.Common.{drop, map, Option, Some, None, Result, Ok, Err, refl, sym, ap, subst}
+use Rattle.std.proofs.Common.{cond, eqb, List, [], ◌∷◌, ◌++◌, length, take}
+use Rattle.std.proofs.Common.{get_or, drop, map, Option, Some, None, Ok, refl, sym, ap, subst}
 use Rattle.std.proofs.Common.{◌∙◌, append_assoc, arith, inl, inr, length-append, length-take}
 use Rattle.std.proofs.Common.{length-drop}
-use Rattle.std.proofs.lemmas.Bool.{cases_Bool, eqb-true, cases_lt}
+use Rattle.std.proofs.Math.Seq.{drop-cons}
+use Rattle.std.proofs.lemmas.Bool.{cases_Bool, cases_lt}
 use Rattle.std.proofs.lemmas.Bool.Decides.{nat_tests}
 use Rattle.std.proofs.lemmas.List.{length-map, take_at, drop_at, take-append-drop, get_or-take}
 use Rattle.std.proofs.lemmas.List.{get_or-drop, get_or_past, append-nil, nil_from_length}
@@ -13,13 +14,37 @@ use Rattle.std.specs.Option.{option_to_list}
 use Rattle.sub_io.specs.Reading.{◌>>=◌, AreBytes}
 use Rattle.ttx_packet.specs.BitOrder.{mirror}
 use Rattle.ttx_pes.specs.declared.fault.PesFault.{PesFault}
-use Rattle.ttx_pes.specs.declared.fault.PesFault.TheVariants as fault
 use Rattle.ttx_pes.specs.DataUnit.{UnitValue, is_teletext, IsDataUnit, AreDataUnits}
 use Rattle.ttx_pes.specs.LineOrder.{last_place, stands_after, AreInLineOrder}
 use Rattle.ttx_pes.specs.Reading.{unit_of, with_unit, teletext_at, unit_at, units_at}
 use Rattle.ttx_packet.proofs.BitOrderLemmas.{mirror-mirror}
 use Rattle.ttx_pes.proofs.LineOrderLemmas.{last_place-push}
-use Rattle.sub_io.proofs.ReadingLemmas.{test_held, step_gave, Ok-injective, given_as}
+use Rattle.sub_io.proofs.ReadingLemmas.{step_gave, Ok-injective, given_as}
+
+-- ---- bytes
+
+-- Bytes in a prefix.
+pub AreBytes-take : (n : ℕ) (b : List ℕ) → AreBytes b → AreBytes (take n b)
+AreBytes-take n b h i = elim (cases_lt i n) [
+  | inl lt ↦ rw (get_or-take n b i 0 lt) (h i)
+  | inr le ↦ rw (get_or_past (take n b) i 0 (omega (arith, length-take n b))) (omega arith)
+]
+
+-- Bytes after a prefix.
+pub AreBytes-drop : (n : ℕ) (b : List ℕ) → AreBytes b → AreBytes (drop n b)
+AreBytes-drop n b h i = rw get_or-drop (h (n + i))
+
+-- The n bytes from a place on, one by one, and those after them.
+abbrev pub spelled_from : ℕ → ℕ → List ℕ → List ℕ
+spelled_from zero i b = drop i b
+spelled_from (suc n) i b = get_or b i 0 ∷ spelled_from n (suc i) b
+
+-- A list by its first bytes.
+pub list_of_bytes : (n i : ℕ) (b : List ℕ) → i + n ≤ length b → drop i b ≡ spelled_from n i b
+list_of_bytes zero i b le = refl
+list_of_bytes (suc n) i b le =
+    drop-cons b i 0 (omega arith)
+    ∙ ap (λ (x : List ℕ). get_or b i 0 ∷ x) (list_of_bytes n (suc i) b (omega arith))
 
 -- ---- mirrored bytes
 
@@ -62,47 +87,38 @@ pub unit_sound : (b : List ℕ) (u : Option UnitValue)
     → teletext_at b ≡ Ok u
     → IsDataUnit u b
 unfolding teletext_at
-unit_sound [] u len fit e = absurd (omega arith)
-unit_sound (b0 ∷ []) u len fit e = absurd (omega arith)
-unit_sound (b0 ∷ b1 ∷ []) u len fit e = absurd (omega arith)
-unit_sound (b0 ∷ b1 ∷ b2 ∷ []) u len fit e = absurd (omega arith)
-unit_sound (b0 ∷ b1 ∷ b2 ∷ b3 ∷ p) u len fit e =
-    let b = b0 ∷ b1 ∷ b2 ∷ b3 ∷ p in
-    let whole : Result (Option UnitValue) PesFault =
-    cond (not (eqb b3 228)) (Err fault.Framing) (Ok (Some (unit_of b))) in
-    let g = test_held (eqb b1 44) fault.UnitLength (cond (not (is_teletext b0)) (Ok None) whole) u e
-    in
-    let is-44 : b1 ≡ 44 = eqb-true _ _ g.0 in
-    elim (cases_Bool (is_teletext b0)) [
-      | inr passed ↦ rw (← Ok-injective None u (rw passed at g.1))
-          (record {
-            id = b0;
-            rest = b2 ∷ b3 ∷ p;
-            bytes = rw is-44 refl;
-            other = passed;
-            size = omega arith;
-          })
-      | inl held ↦
-          let f = test_held (eqb b3 228) fault.Framing (Ok (Some (unit_of b))) u (rw held at g.1) in
-          let is-228 : b3 ≡ 228 = eqb-true _ _ f.0 in
-          let pos = field_bit b2 (fit 2) in
-          let fits : AreBytes p = λ i. fit (suc (suc (suc (suc i)))) in
-          rw (← Ok-injective (Some (unit_of b)) u f.1)
-          (record {
-            reserved = b2 / 64;
-            two_bits = let l = fit 2 in omega arith;
-            bytes = rw (is-44, is-228, pos.0, mirrored_twice p fits) refl;
-            is_unit = record {
-              id = is_teletext_id b0 held;
-              field = (pos.1, pos.2);
-              line = omega arith;
-              packet = record {
-                size = length-map p mirror ∙ omega arith;
-                bytes = mirrored_fit p fits;
-              };
-            };
-          })
-    ]
+unit_sound b u len fit e = elim (cases_Bool (is_teletext (get_or b 0 0))) [
+  | inr passed ↦
+      let read : (get_or b 1 0 ≡ 44) × (None ≡ u) = grind (arith, nat_tests) in
+      rw (← read.1) (record {
+        id = get_or b 0 0;
+        rest = drop 2 b;
+        bytes = list_of_bytes 2 0 b (omega arith) ∙ rw read.0 refl;
+        other = passed;
+        size = length-drop 2 b ∙ omega arith;
+      })
+  | inl held ↦
+      let read : (get_or b 1 0 ≡ 44) × (get_or b 3 0 ≡ 228) × (Some (unit_of b) ≡ u) =
+      grind (arith, nat_tests) in
+      let third = field_bit (get_or b 2 0) (fit 2) in
+      let fits = AreBytes-drop 4 b fit in
+      rw (← read.2) (record {
+        reserved = get_or b 2 0 / 64;
+        two_bits = let l = fit 2 in omega arith;
+        bytes =
+            list_of_bytes 4 0 b (omega arith)
+            ∙ rw (read.0, read.1, third.0, mirrored_twice (drop 4 b) fits) refl;
+        is_unit = record {
+          id = is_teletext_id (get_or b 0 0) held;
+          field = (third.1, third.2);
+          line = omega arith;
+          packet = record {
+            size = length-map (drop 4 b) mirror ∙ length-drop 4 b ∙ omega arith;
+            bytes = mirrored_fit (drop 4 b) fits;
+          };
+        };
+      })
+]
 
 -- Units with those numbers are read.
 teletext_id_is : (id : ℕ) → 2 ≤ id → id ≤ 3 → is_teletext id ≡ true
@@ -136,17 +152,6 @@ unit_complete (Some u) b h =
     )
 
 -- ---- data units one after another
-
--- Bytes in a prefix.
-pub AreBytes-take : (n : ℕ) (b : List ℕ) → AreBytes b → AreBytes (take n b)
-AreBytes-take n b h i = elim (cases_lt i n) [
-  | inl lt ↦ rw (get_or-take n b i 0 lt) (h i)
-  | inr le ↦ rw (get_or_past (take n b) i 0 (omega (arith, length-take n b))) (omega arith)
-]
-
--- Bytes after a prefix.
-pub AreBytes-drop : (n : ℕ) (b : List ℕ) → AreBytes b → AreBytes (drop n b)
-AreBytes-drop n b h i = rw get_or-drop (h (n + i))
 
 -- What a data unit adds.
 pub record Adds (front us : List UnitValue) (u : Option UnitValue) : Type 0 where

@@ -89,16 +89,7 @@ record IsNumbered (i : ℕ) (p : List ℕ) : Type 0 where
 
 -- One numbered unit.
 numbered_one : (i : ℕ) (p : List ℕ) → i < 32 → IsPacket p → IsNumbered i p
-numbered_one i p lt h = record {
-  unit = record {
-    id = grind (arith, nat_tests);
-    field = grind (arith, nat_tests);
-    line = grind (arith, nat_tests);
-    packet = grind (arith, nat_tests);
-  };
-  line = grind (arith, nat_tests);
-  place = grind (arith, nat_tests);
-}
+numbered_one i p lt h = grind (arith, nat_tests)
 
 -- All numbered units are units.
 numbered_each : (i : ℕ) (ps : List (List ℕ)) → i + length ps ≤ 32 → AllByRecursion IsPacket ps

@@ -1,10 +1,9 @@
 -- The fields of a header that are read are those of the grammar, and the other way round. Main
 -- lemmas: body_sound, body_complete.
-use Rattle.std.proofs.Common.{zero, suc, ◌≡◌, ℕ, ◌+◌, ◌-◌, ◌*◌, ◌/◌, ◌%◌, ◌^◌, ◌<◌, ◌≤◌}
+use Rattle.std.proofs.Common.{◌≡◌, ℕ, ◌+◌, ◌-◌, ◌*◌, ◌/◌, ◌%◌, ◌^◌, ◌<◌, ◌≤◌}
 use Rattle.std.proofs.Common.{List, [], ◌∷◌, ◌++◌, length, get_or, take, drop, Ok}
 use Rattle.std.proofs.Common.{refl, sym, ap, ◌∙◌, append_assoc, arith, subst}
 use Rattle.std.proofs.Common.{length-append, length-take, length-drop}
-use Rattle.std.proofs.Math.Seq.{drop-cons}
 use Rattle.std.proofs.lemmas.Bool.Decides.{nat_tests}
 use Rattle.std.proofs.lemmas.List.{drop_at, take-append-drop, drop_more, drop-drop, get_or_at}
 use Rattle.std.proofs.lemmas.List.{nil_from_length}
@@ -15,22 +14,11 @@ use Rattle.ttx_pes.specs.DataUnit.{UnitValue}
 use Rattle.ttx_pes.specs.PesPacket.{IsPesPacket, PesValue, packet_length, packet_start, pts_bytes}
 use Rattle.ttx_pes.specs.Reading.{pts_bits, pts_at, units_at, value_at}
 use Rattle.ttx_pes.specs.Reading.{size_at, told_size}
-use Rattle.ttx_pes.proofs.DataUnitLemmas.{AreBytes-drop, units_sound, units_complete}
+use Rattle.ttx_pes.proofs.DataUnitLemmas.{AreBytes-drop, list_of_bytes, units_sound}
+use Rattle.ttx_pes.proofs.DataUnitLemmas.{units_complete}
 use Rattle.sub_io.proofs.ReadingLemmas.{step_gave, Ok-injective, given_as}
 
 -- ---- the first six bytes
-
--- The n bytes from a place on, one by one, and those after them.
-abbrev spelled_from : ℕ → ℕ → List ℕ → List ℕ
-spelled_from zero i b = drop i b
-spelled_from (suc n) i b = get_or b i 0 ∷ spelled_from n (suc i) b
-
--- A list by its first bytes.
-list_of_bytes : (n i : ℕ) (b : List ℕ) → i + n ≤ length b → drop i b ≡ spelled_from n i b
-list_of_bytes zero i b le = refl
-list_of_bytes (suc n) i b le =
-    drop-cons b i 0 (omega arith)
-    ∙ ap (λ (x : List ℕ). get_or b i 0 ∷ x) (list_of_bytes n (suc i) b (omega arith))
 
 -- Six bytes whose size is read are those of the grammar.
 pub head_sound : (b : List ℕ) (size : ℕ) → length b ≡ 6 → AreBytes b → size_at b ≡ Ok size
@@ -81,15 +69,7 @@ record Header (b : List ℕ) (t : ℕ) : Type 0 where
 -- The tests that a PTS went through.
 header_sound : (b : List ℕ) (t : ℕ) → pts_at b ≡ Ok t → Header b t
 unfolding pts_at
-header_sound b t e = record {
-  flagged = grind (arith, nat_tests);
-  pts_alone = grind (arith, nat_tests);
-  len = grind (arith, nat_tests);
-  prefix = grind (arith, nat_tests);
-  markers = grind (arith, nat_tests);
-  ebu = grind (arith, nat_tests);
-  value = grind (arith, nat_tests);
-}
+header_sound b t e = grind (arith, nat_tests)
 
 -- The PTS, read and written: it has 33 bits.
 pts_sound : (b : List ℕ) (t : ℕ)

@@ -1,9 +1,9 @@
 -- What a reader that was given a packet or a fault knows of the bytes of its source. Main lemmas:
 -- packet_left, excluded.
-use Rattle.std.proofs.Common.{◌≡◌, ℕ, ◌<◌, true, false, eqb, List, [], ◌∷◌, ◌++◌}
+use Rattle.std.proofs.Common.{◌≡◌, ℕ, ◌<◌, true, false, List, [], ◌∷◌, ◌++◌}
 use Rattle.std.proofs.Common.{length, Option, Some, None, Result, Ok, Err, refl, sym, ap}
-use Rattle.std.proofs.Common.{◌∙◌, arith, inl, inr}
-use Rattle.std.proofs.lemmas.Bool.{cases_Bool}
+use Rattle.std.proofs.Common.{◌∙◌, arith}
+use Rattle.std.proofs.lemmas.Bool.Decides.{nat_tests}
 use Rattle.std.proofs.lemmas.Option.{same_Some}
 use Rattle.std.specs.Io.KnownBytes.{Consumes}
 use Rattle.ttx_pes.proofs.ReadingLemmas.{answer_cases}
@@ -11,7 +11,7 @@ use Rattle.sub_io.specs.Device.{failed}
 use Rattle.ttx_pes.specs.declared.fault.PesFault.{PesFault}
 use Rattle.ttx_pes.specs.declared.fault.PesFault.TheVariants as fault
 use Rattle.ttx_pes.specs.PesPacket.{PesValue}
-use Rattle.ttx_pes.specs.Reading.{most_packets, packet_at, answer_at, rest_after, is_format_fault}
+use Rattle.ttx_pes.specs.Reading.{packet_at, answer_at, rest_after, is_format_fault}
 use Rattle.ttx_pes.specs.Reader.{TakesPesPacket, BeginsNone}
 use Rattle.ttx_pes.proofs.ReadingLemmas.{packet_is_read, rest_after-packet}
 use Rattle.ttx_pes.specs.Fault.{is_read}
@@ -61,14 +61,7 @@ answer_err : (given : ℕ) (b : List ℕ) (f : PesFault)
     → packet_at b ≡ Err f
 unfolding answer_at
 answer_err given [] f k e = absurd cc
-answer_err given (x ∷ b) f k e = elim (cases_Bool (eqb given most_packets)) [
-  | inl full ↦ let many : f ≡ fault.TooMany = let told = rw full at e in cc in
-      let format = rw many at k in absurd cc
-  | inr more ↦ elim (answer_cases (packet_at (x ∷ b))) [
-    | inl (p, read) ↦ let told = rw (more, read) at e in absurd cc
-    | inr (g, bad) ↦ let told = rw (more, bad) at e in cc
-  ]
-]
+answer_err given (x ∷ b) f k e = grind (arith, nat_tests, answer_cases)
 
 -- A fault of the format: no packet begins the bytes.
 pub excluded : (given : ℕ) (bytes : List ℕ) (f : PesFault)

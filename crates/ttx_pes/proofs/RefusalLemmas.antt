@@ -5,7 +5,7 @@ use Rattle.std.proofs.Common.{false, cond, not, ltb, List, [], ◌∷◌, ◌++�
 use Rattle.std.proofs.Common.{Some, None, Ok, Err, refl, sym, ap, ◌∙◌, arith, inl, inr}
 use Rattle.std.proofs.Common.{length-append, subst}
 use Rattle.std.proofs.Math.Bool.{or-true}
-use Rattle.std.proofs.lemmas.Bool.{cases_lt, and_parts, eq-eqb, eqb-true, le-leb, leb-true, le-ltb}
+use Rattle.std.proofs.lemmas.Bool.{cases_lt, eq-eqb, le-leb, le-ltb}
 use Rattle.std.proofs.lemmas.Bool.{lt-ltb}
 use Rattle.std.proofs.lemmas.Bool.Decides.{nat_tests}
 use Rattle.std.proofs.lemmas.List.{append-nil, get_or_append_left, get_or_past}
@@ -36,9 +36,7 @@ told_count : (b : List ℕ)
     → size_is_right b ≡ true
     → (n : ℕ) × (1 ≤ n) × (n ≤ 9) × (told_size b ≡ 184 * n)
 told_count b h =
-    let parts = and_parts _ _ h in
-    let whole : told_size b % 184 ≡ 0 = eqb-true _ _ parts.0 in
-    let low : told_size b ≤ 1656 = leb-true _ _ parts.1 in
+    let parts : (told_size b % 184 ≡ 0) × (told_size b ≤ 1656) = grind (arith, nat_tests) in
     (told_size b / 184, omega arith, omega arith, omega arith)
 
 -- Bytes that are read hold all their tests, and those that hold them are read.
