@@ -17,12 +17,8 @@ use Rattle.stl_file.specs.Reader.{opened, opened_at}
 use Rattle.stl_file.specs.Reading.{Begun, More, closed, fails, first_at, kept_at}
 use Rattle.stl_file.specs.Reading.{outcome_at, step_at, time_at}
 use Rattle.stl_file.specs.Refusal.{HasFewBlocks, HasTimes, IsRight, IsRightOfGsi, LawOfRefusedBlock}
-use Rattle.stl_file.specs.Refusal.{LawOfRefusedGsi, Question, TellsFirst, asked, asked_of_block}
-use Rattle.stl_file.specs.Refusal.{asked_of_gsi, asked_of_kept, named_block, told_fault}
-use Rattle.stl_file.specs.Refusal.{BlockBytes, CodeTable, Comment}
-use Rattle.stl_file.specs.Refusal.{CumulativeStatus, DisplayStandard, Duration, ExtensionNumber}
-use Rattle.stl_file.specs.Refusal.{FileFormat, FrameRate, GsiBytes, Justification}
-use Rattle.stl_file.specs.Refusal.{TimeCodes, VerticalPosition}
+use Rattle.stl_file.specs.Refusal.{LawOfRefusedGsi, TellsFirst, asked, asked_of_block, asked_of_gsi}
+use Rattle.stl_file.specs.Refusal.{asked_of_kept, named_block}
 use Rattle.stl_file.specs.Subtitle.{SubtitleValue}
 use Rattle.stl_file.specs.SubtitleBlocks.{IsTimeAt}
 use Rattle.stl_file.specs.Tti.{block_size, cf, cs, ebn, jc, vp}
@@ -31,7 +27,7 @@ use Rattle.stl_file.proofs.TimeCodeLemmas.{time_complete, time_sound}
 -- ---- one question after another
 
 -- What is read where these are asked: the fault of the first that is answered wrongly, or a value.
-record Asks {X : Type 0} (P : Question → Type 0) (qs : List Question) (r : Result X StlFault)
+record Asks {X : Type 0} (P : StlFault → Type 0) (qs : List StlFault) (r : Result X StlFault)
     : Type 0 where
   pub told : (f : StlFault) → TellsFirst P qs f → r ≡ Err f
   pub taken : AllByRecursion P qs → IsOk r
@@ -41,15 +37,15 @@ abbrev Tells : Bool → Type 0 → Type 0
 Tells bad Right = (bad ≡ true → Right → ⊥) × (bad ≡ false → Right)
 
 -- Nothing is asked.
-none_asked : {X : Type 0} (P : Question → Type 0) (x : X) → Asks P [] (Ok x)
+none_asked : {X : Type 0} (P : StlFault → Type 0) (x : X) → Asks P [] (Ok x)
 none_asked P x = record { told = λ f none. absurd none; taken = λ _. refl }
 
 -- A question, and then the others.
-ask : {X : Type 0} (P : Question → Type 0) (q : Question) (qs : List Question) (bad : Bool)
+ask : {X : Type 0} (P : StlFault → Type 0) (q : StlFault) (qs : List StlFault) (bad : Bool)
     (next : Result X StlFault)
     → Tells bad (P q)
     → (P q → Asks P qs next)
-    → Asks P (q ∷ qs) (if bad then Err (told_fault q) else next)
+    → Asks P (q ∷ qs) (if bad then Err (q) else next)
 ask P q qs true next test others = record {
   told = λ f t. elim t [
     | inl wrong ↦ ap Err (sym wrong.1)
@@ -68,7 +64,7 @@ ask P q qs false next test others =
     }
 
 -- Nothing is asked of what is passed over.
-skip : {X : Type 0} (P : Question → Type 0) (qs : List Question) (pass : Bool) (step : X)
+skip : {X : Type 0} (P : StlFault → Type 0) (qs : List StlFault) (pass : Bool) (step : X)
     (next : Result X StlFault)
     → (pass ≡ false → Asks P qs next)
     → Asks P (if pass then [] else qs) (if pass then Ok step else next)
@@ -76,7 +72,7 @@ skip P qs true step next others = none_asked P step
 skip P qs false step next others = others refl
 
 -- A value goes on to another, and a fault stays.
-given : {X Y : Type 0} (P : Question → Type 0) (qs : List Question) (r : Result X StlFault)
+given : {X Y : Type 0} (P : StlFault → Type 0) (qs : List StlFault) (r : Result X StlFault)
     (next : Result X StlFault → Result Y StlFault)
     → ((e : StlFault) → next (Err e) ≡ Err e)
     → ((x : X) → IsOk (next (Ok x)))
@@ -123,13 +119,13 @@ asked_gsi : (s : List ℕ) → Asks (IsRightOfGsi s) asked_of_gsi (opened_at s)
 unfolding opened_at gsi_at
 asked_gsi s =
     let g : List ℕ = take gsi_size s in
-    let P : Question → Type 0 = IsRightOfGsi s in
-    ask P GsiBytes _ (nat_lt (length s) gsi_size) _ (grind (arith, nat_tests)) (λ _.
+    let P : StlFault → Type 0 = IsRightOfGsi s in
+    ask P fault.Truncated _ (nat_lt (length s) gsi_size) _ (grind (arith, nat_tests)) (λ _.
     given P _ (gsi_at g) opened (λ e. refl) (λ x. refl)
-    (ask P FileFormat _ _ _ (format_told (dfc g)) (λ is_format.
-    ask P FrameRate _ _ _ (rate_told (dfc g) is_format) (λ _.
-    ask P DisplayStandard _ _ _ (display_told (dsc g)) (λ _.
-    ask P CodeTable _ _ _ (table_told (cct g)) (λ _. none_asked P g))))))
+    (ask P fault.Format _ _ _ (format_told (dfc g)) (λ is_format.
+    ask P fault.Rate _ _ _ (rate_told (dfc g) is_format) (λ _.
+    ask P fault.Display _ _ _ (display_told (dsc g)) (λ _.
+    ask P fault.Alphabet _ _ _ (table_told (cct g)) (λ _. none_asked P g))))))
 
 -- The law: for `law_of_refused_gsi`.
 pub refused_gsi : LawOfRefusedGsi
@@ -146,39 +142,40 @@ no_time b place e h =
     (grind (arith, nat_tests), λ t at. let read = time_complete b place t at in absurd cc)
 
 -- That the time codes are in order.
-order_asked : {X : Type 0} (P : Question → Type 0) (x : X) (before : Bool)
-    → Tells (not before) (P Duration)
-    → Asks P (Duration ∷ []) (if before then Ok x else Err fault.EmptyTime)
-order_asked P x true test = ask P Duration [] false (Ok x) test (λ _. none_asked P x)
-order_asked P x false test = ask P Duration [] true (Ok x) test (λ _. none_asked P x)
+order_asked : {X : Type 0} (P : StlFault → Type 0) (x : X) (before : Bool)
+    → Tells (not before) (P fault.EmptyTime)
+    → Asks P (fault.EmptyTime ∷ []) (if before then Ok x else Err fault.EmptyTime)
+order_asked P x true test = ask P fault.EmptyTime [] false (Ok x) test (λ _. none_asked P x)
+order_asked P x false test = ask P fault.EmptyTime [] true (Ok x) test (λ _. none_asked P x)
 
 -- The time codes, and then that they are in order.
 times_asked : (room : ℕ) (bytes : List ℕ) (in_at out_at : Result ℕ StlFault)
     (make : ℕ → ℕ → SubtitleValue)
     → time_at (take block_size bytes) 5 ≡ in_at
     → time_at (take block_size bytes) 9 ≡ out_at
-    → Asks (IsRight room None bytes) (TimeCodes ∷ Duration ∷ [])
+    → Asks (IsRight room None bytes) (fault.Time ∷ fault.EmptyTime ∷ [])
     (do
       tci ← in_at
       tco ← out_at
       (if nat_lt tci tco then Ok (make tci tco) else Err fault.EmptyTime))
 times_asked room bytes (Err e) out_at make r5 r9 =
     let none = no_time (take block_size bytes) 5 e r5 in
-    let P : Question → Type 0 = IsRight room None bytes in
-    let never : P TimeCodes → ⊥ = λ at. none.1 at.0 at.2.tci_is in
-    rw none.0 (ask P TimeCodes (Duration ∷ []) true (Err e) (λ _. never, λ no. absurd cc)
+    let P : StlFault → Type 0 = IsRight room None bytes in
+    let never : P fault.Time → ⊥ = λ at. none.1 at.0 at.2.tci_is in
+    rw none.0 (ask P fault.Time (fault.EmptyTime ∷ []) true (Err e) (λ _. never, λ no. absurd cc)
     (λ at. absurd (never at)))
 times_asked room bytes (Ok n) (Err e) make r5 r9 =
     let none = no_time (take block_size bytes) 9 e r9 in
-    let P : Question → Type 0 = IsRight room None bytes in
-    let never : P TimeCodes → ⊥ = λ at. none.1 at.1 at.2.tco_is in
-    rw none.0 (ask P TimeCodes (Duration ∷ []) true (Err e) (λ _. never, λ no. absurd cc)
+    let P : StlFault → Type 0 = IsRight room None bytes in
+    let never : P fault.Time → ⊥ = λ at. none.1 at.1 at.2.tco_is in
+    rw none.0 (ask P fault.Time (fault.EmptyTime ∷ []) true (Err e) (λ _. never, λ no. absurd cc)
     (λ at. absurd (never at)))
 times_asked room bytes (Ok n) (Ok m) make r5 r9 =
     let b : List ℕ = take block_size bytes in
-    let P : Question → Type 0 = IsRight room None bytes in
-    let at : HasTimes b n m = record { tci_is = time_sound b 5 n r5; tco_is = time_sound b 9 m r9 } in
-    ask P TimeCodes (Duration ∷ []) false _ (λ no. absurd cc, λ _. (n, m, at)) (λ _.
+    let P : StlFault → Type 0 = IsRight room None bytes in
+    let at : HasTimes b n m =
+    record { tci_is = time_sound b 5 n r5; tco_is = time_sound b 9 m r9 } in
+    ask P fault.Time (fault.EmptyTime ∷ []) false _ (λ no. absurd cc, λ _. (n, m, at)) (λ _.
     order_asked P (make n m) (nat_lt n m) (
       λ late right. let lt = right n m at in grind (arith, nat_tests),
       λ early tci tco there.
@@ -195,10 +192,10 @@ first_asked : (room : ℕ) (bytes : List ℕ)
 unfolding first_at
 first_asked room bytes =
     let b : List ℕ = take block_size bytes in
-    let P : Question → Type 0 = IsRight room None bytes in
-    ask P CumulativeStatus _ (not (cs b == 0)) _ (grind (arith, nat_tests)) (λ _.
-    ask P Justification _ (nat_lt 3 (jc b)) _ (grind (arith, nat_tests)) (λ _.
-    ask P VerticalPosition _ (not (nat_le 1 (vp b) && nat_le (vp b) 23)) _ (grind (arith, nat_tests))
+    let P : StlFault → Type 0 = IsRight room None bytes in
+    ask P fault.Cumulative _ (not (cs b == 0)) _ (grind (arith, nat_tests)) (λ _.
+    ask P fault.Justify _ (nat_lt 3 (jc b)) _ (grind (arith, nat_tests)) (λ _.
+    ask P fault.Row _ (not (nat_le 1 (vp b) && nat_le (vp b) 23)) _ (grind (arith, nat_tests))
     (λ _. times_asked room bytes (time_at b 5) (time_at b 9) _ refl refl)))
 
 -- A block that is kept.
@@ -223,10 +220,10 @@ step_asked : (room : ℕ) (begun : Option Begun) (bytes : List ℕ)
 unfolding step_at
 step_asked room begun bytes few =
     let b : List ℕ = take block_size bytes in
-    let P : Question → Type 0 = IsRight room begun bytes in
+    let P : StlFault → Type 0 = IsRight room begun bytes in
     skip P _ (ebn b == 254) (More begun) _ (λ _.
-    ask P ExtensionNumber _ (nat_le 240 (ebn b) && not (ebn b == 255)) _ (grind (arith, nat_tests))
-    (λ _. ask P Comment _ (nat_lt 1 (cf b)) _ (grind (arith, nat_tests)) (λ _.
+    ask P fault.Extension _ (nat_le 240 (ebn b) && not (ebn b == 255)) _ (grind (arith, nat_tests))
+    (λ _. ask P fault.CommentFlag _ (nat_lt 1 (cf b)) _ (grind (arith, nat_tests)) (λ _.
     skip P _ (cf b == 1) (More begun) _ (λ _. kept_asked room begun bytes few))))
 
 -- A block and its place, where there may be one more.
@@ -234,7 +231,7 @@ told_rest : (n : ℕ) (begun : Option Begun) (x : ℕ) (b : List ℕ) (f : StlFa
     → suc n ≤ 99999
     → HasFewBlocks begun
     → TellsFirst (IsRight (suc n) begun (x ∷ b))
-    (BlockBytes ∷ asked_of_block begun (take block_size (x ∷ b))) f
+    (fault.Truncated ∷ asked_of_block begun (take block_size (x ∷ b))) f
     → outcome_at (suc n) begun (x ∷ b) ≡ fails f (100000 - suc n)
 unfolding outcome_at
 told_rest n begun x b f le few (inl t) =

@@ -1,6 +1,7 @@
 -- Which refusal the bytes of a file deserve: what is asked of the GSI block and of each TTI block,
--- in order, and the first question that they fail (EBU Tech 3264; the order is (own)). A law alone
--- cites it: no reader follows these.
+-- in order, and the first question that they fail (EBU Tech 3264; the order is (own)). A question
+-- has the name of the fault that is told where the answer is wrong. A law alone cites it: no reader
+-- follows these.
 use Rattle.std.specs.Prelude.{◌≡◌, ⊤, ℕ, ◌+◌, ◌-◌, ◌<◌, ◌≤◌, ◌⊎◌, ◌==◌, List, [], ◌∷◌, length, take}
 use Rattle.std.specs.Prelude.{Option, Some, None, Err, IfSome, IsOk, if◌then◌else◌}
 use Rattle.std.specs.List.{AllByRecursion}
@@ -15,104 +16,46 @@ use Rattle.stl_file.specs.Tti.{last_block, most_blocks}
 use Rattle.stl_file.specs.Tti.{most_of_subtitle, not_cumulative, sgn, sn, tci_place, tco_place}
 use Rattle.stl_file.specs.Tti.{user_data, vp}
 
--- What is asked: of the GSI block, and then of each TTI block.
-pub data Question : Type 0 where
-  -- that there are 1024 bytes
-  GsiBytes : Question
-  -- that DFC is one of the standard's
-  FileFormat : Question
-  -- that it is that of 25 frames a second
-  FrameRate : Question
-  -- DSC
-  DisplayStandard : Question
-  -- CCT
-  CodeTable : Question
-  -- that no subtitle is begun, where the file ends
-  Finished : Question
-  -- that there may be one block more
-  BlockCount : Question
-  -- that there are 128 bytes
-  BlockBytes : Question
-  -- EBN
-  ExtensionNumber : Question
-  -- CF
-  Comment : Question
-  -- SGN and SN within a subtitle
-  SameSubtitle : Question
-  -- that the subtitle may have one block more
-  BlocksOfSubtitle : Question
-  -- CS of a first block
-  CumulativeStatus : Question
-  -- its JC
-  Justification : Question
-  -- its VP
-  VerticalPosition : Question
-  -- its TCI and TCO
-  TimeCodes : Question
-  -- that TCI is before TCO
-  Duration : Question
-
--- The fault that is told where the answer is wrong.
-abbrev pub told_fault : Question → StlFault
-told_fault GsiBytes = fault.Truncated
-told_fault FileFormat = fault.Format
-told_fault FrameRate = fault.Rate
-told_fault DisplayStandard = fault.Display
-told_fault CodeTable = fault.Alphabet
-told_fault Finished = fault.Unfinished
-told_fault BlockCount = fault.TooManyBlocks
-told_fault BlockBytes = fault.Truncated
-told_fault ExtensionNumber = fault.Extension
-told_fault Comment = fault.CommentFlag
-told_fault SameSubtitle = fault.Sequence
-told_fault BlocksOfSubtitle = fault.TooLong
-told_fault CumulativeStatus = fault.Cumulative
-told_fault Justification = fault.Justify
-told_fault VerticalPosition = fault.Row
-told_fault TimeCodes = fault.Time
-told_fault Duration = fault.EmptyTime
-
 -- The first of these questions whose answer is wrong is the one for which this fault is told.
-abbrev pub TellsFirst : (Question → Type 0) → List Question → StlFault → Type 0
+abbrev pub TellsFirst : (StlFault → Type 0) → List StlFault → StlFault → Type 0
 TellsFirst IsRight [] f = ⊥
-TellsFirst IsRight (q ∷ qs) f =
-    ((IsRight q → ⊥) × (f ≡ told_fault q)) ⊎ (IsRight q × TellsFirst IsRight qs f)
+TellsFirst IsRight (q ∷ qs) f = ((IsRight q → ⊥) × (f ≡ q)) ⊎ (IsRight q × TellsFirst IsRight qs f)
 
 -- ---- the GSI block
 
 -- What is asked of it, in order.
-abbrev pub asked_of_gsi : List Question
-asked_of_gsi = GsiBytes ∷ FileFormat ∷ FrameRate ∷ DisplayStandard ∷ CodeTable ∷ []
+abbrev pub asked_of_gsi : List StlFault
+asked_of_gsi = fault.Truncated ∷ fault.Format ∷ fault.Rate ∷ fault.Display ∷ fault.Alphabet ∷ []
 
 -- The right answer, of the bytes of a file.
-abbrev pub IsRightOfGsi : List ℕ → Question → Type 0
-IsRightOfGsi s GsiBytes = gsi_size ≤ length s
-IsRightOfGsi s FileFormat = (dfc (take gsi_size s) ≡ stl_25) ⊎ (dfc (take gsi_size s) ≡ stl_30)
-IsRightOfGsi s FrameRate = dfc (take gsi_size s) ≡ stl_25
-IsRightOfGsi s DisplayStandard =
-    (dsc (take gsi_size s) ≡ level_1) ⊎ (dsc (take gsi_size s) ≡ level_2)
-IsRightOfGsi s CodeTable = cct (take gsi_size s) ≡ latin
+abbrev pub IsRightOfGsi : List ℕ → StlFault → Type 0
+IsRightOfGsi s fault.Truncated = gsi_size ≤ length s
+IsRightOfGsi s fault.Format = (dfc (take gsi_size s) ≡ stl_25) ⊎ (dfc (take gsi_size s) ≡ stl_30)
+IsRightOfGsi s fault.Rate = dfc (take gsi_size s) ≡ stl_25
+IsRightOfGsi s fault.Display = (dsc (take gsi_size s) ≡ level_1) ⊎ (dsc (take gsi_size s) ≡ level_2)
+IsRightOfGsi s fault.Alphabet = cct (take gsi_size s) ≡ latin
 IsRightOfGsi s _ = ⊤
 
 -- ---- a TTI block
 
 -- What is asked of a block that is kept, in order: of the first of a subtitle, or of a further one.
-abbrev pub asked_of_kept : Option Begun → List Question
+abbrev pub asked_of_kept : Option Begun → List StlFault
 asked_of_kept None =
-    CumulativeStatus ∷ Justification ∷ VerticalPosition ∷ TimeCodes ∷ Duration ∷ []
-asked_of_kept (Some begun) = SameSubtitle ∷ BlocksOfSubtitle ∷ []
+    fault.Cumulative ∷ fault.Justify ∷ fault.Row ∷ fault.Time ∷ fault.EmptyTime ∷ []
+asked_of_kept (Some begun) = fault.Sequence ∷ fault.TooLong ∷ []
 
 -- The same of any block: user data is passed over, and then comments are.
-abbrev pub asked_of_block : Option Begun → List ℕ → List Question
+abbrev pub asked_of_block : Option Begun → List ℕ → List StlFault
 asked_of_block begun b =
     if ebn b == user_data then []
-    else ExtensionNumber ∷ Comment ∷ (if cf b == is_comment then [] else asked_of_kept begun)
+    else fault.Extension ∷ fault.CommentFlag
+    ∷ (if cf b == is_comment then [] else asked_of_kept begun)
 
 -- The same of the bytes that are left, where a subtitle is begun or not.
-abbrev pub asked : Option Begun → List ℕ → List Question
-asked begun [] = Finished ∷ []
+abbrev pub asked : Option Begun → List ℕ → List StlFault
+asked begun [] = fault.Unfinished ∷ []
 asked begun (x ∷ bytes) =
-    BlockCount ∷ BlockBytes ∷ asked_of_block begun (take block_size (x ∷ bytes))
+    fault.TooManyBlocks ∷ fault.Truncated ∷ asked_of_block begun (take block_size (x ∷ bytes))
 
 -- The time codes stand at the places of TCI and TCO.
 pub record HasTimes (b : List ℕ) (tci tco : ℕ) : Type 0 where
@@ -120,24 +63,24 @@ pub record HasTimes (b : List ℕ) (tci tco : ℕ) : Type 0 where
   pub tco_is : IsTimeAt b tco_place tco
 
 -- The right answer, of a block.
-abbrev pub IsRightOfBlock : Option Begun → List ℕ → Question → Type 0
-IsRightOfBlock begun b ExtensionNumber = (ebn b < first_reserved) ⊎ (ebn b ≡ last_block)
-IsRightOfBlock begun b Comment = cf b ≤ is_comment
-IsRightOfBlock begun b SameSubtitle =
+abbrev pub IsRightOfBlock : Option Begun → List ℕ → StlFault → Type 0
+IsRightOfBlock begun b fault.Extension = (ebn b < first_reserved) ⊎ (ebn b ≡ last_block)
+IsRightOfBlock begun b fault.CommentFlag = cf b ≤ is_comment
+IsRightOfBlock begun b fault.Sequence =
     IfSome begun (λ o. (sgn b ≡ o.subtitle.sgn) × (sn b ≡ o.subtitle.sn))
-IsRightOfBlock begun b BlocksOfSubtitle = IfSome begun (λ o. o.blocks < most_of_subtitle)
-IsRightOfBlock begun b CumulativeStatus = cs b ≡ not_cumulative
-IsRightOfBlock begun b Justification = jc b ≤ 3
-IsRightOfBlock begun b VerticalPosition = (1 ≤ vp b) × (vp b ≤ 23)
-IsRightOfBlock begun b TimeCodes = (tci tco : ℕ) × HasTimes b tci tco
-IsRightOfBlock begun b Duration = (tci tco : ℕ) → HasTimes b tci tco → tci < tco
+IsRightOfBlock begun b fault.TooLong = IfSome begun (λ o. o.blocks < most_of_subtitle)
+IsRightOfBlock begun b fault.Cumulative = cs b ≡ not_cumulative
+IsRightOfBlock begun b fault.Justify = jc b ≤ 3
+IsRightOfBlock begun b fault.Row = (1 ≤ vp b) × (vp b ≤ 23)
+IsRightOfBlock begun b fault.Time = (tci tco : ℕ) × HasTimes b tci tco
+IsRightOfBlock begun b fault.EmptyTime = (tci tco : ℕ) → HasTimes b tci tco → tci < tco
 IsRightOfBlock begun b _ = ⊤
 
 -- The same of the bytes that are left, where so many blocks may still follow.
-abbrev pub IsRight : ℕ → Option Begun → List ℕ → Question → Type 0
-IsRight room begun bytes Finished = begun ≡ None
-IsRight room begun bytes BlockCount = 0 < room
-IsRight room begun bytes BlockBytes = block_size ≤ length bytes
+abbrev pub IsRight : ℕ → Option Begun → List ℕ → StlFault → Type 0
+IsRight room begun bytes fault.Unfinished = begun ≡ None
+IsRight room begun bytes fault.TooManyBlocks = 0 < room
+IsRight room begun bytes fault.Truncated = block_size ≤ length bytes
 IsRight room begun bytes q = IsRightOfBlock begun (take block_size bytes) q
 
 -- The block that is named: the one of the byte that is left, or the last whole one.
