@@ -5,6 +5,7 @@
 //! in a `Status`.
 #![tactic(auto)]
 
+mod answering;
 mod apart;
 mod ending;
 mod opening;
@@ -13,14 +14,16 @@ ghost use Rattle.std.specs.Prelude.{◌≡◌, IfErr, IfOk};
 ghost use Rattle.sub_io.specs.Buffered.{failures_and_refused};
 ghost use Rattle.subttx.specs.Ending.{Answered, Ends, lines_of};
 
+use crate::answering::answer_opened;
 use crate::ending::hand_on;
-use crate::opening::{read_and_write, read_both, read_nothing, read_pes, read_stl, room};
+use crate::opening::{BUFFER, open, room, size_of_rooms};
+use std::alloc::Global;
 use std::process::ExitCode;
 use std::rt::{Env, Files};
 use std::{env, io};
 use sub_answer::{Status, say};
 use sub_io::{BufferedSink, IntoWrite, Sink};
-use sub_request::{FileNames, Request, UsageFault};
+use sub_request::{Request, UsageFault};
 use sub_words::ParseWords;
 
 fn main(rt: HostRuntime) -> ExitCode {
@@ -30,7 +33,7 @@ fn main(rt: HostRuntime) -> ExitCode {
 // Runs the program over standard output, which gets what is printed through one buffer.
 fn run<R: AllocGlobal + Env + Files + Print>(rt: &R) -> Status {
     let mut standard_output = IntoWrite::new(io::writer(rt));
-    let Ok(mut room) = room(rt.alloc()) else {
+    let Some(mut room) = room(rt.alloc(), BUFFER) else {
         return say(&UsageFault::Memory, &mut standard_output);
     };
     let mut out = BufferedSink::new(standard_output, room.as_mut_slice());
@@ -40,7 +43,7 @@ fn run<R: AllocGlobal + Env + Files + Print>(rt: &R) -> Status {
     }
 }
 
-// Answers the words of the command line. A word that is no text is no word of a command.
+// Answers the words of the command line.
 fn answer_words<R: AllocGlobal + Env + Files, K: Sink>(
     rt: &R,
     out: &mut BufferedSink<'_, K>,
@@ -50,20 +53,33 @@ fn answer_words<R: AllocGlobal + Env + Files, K: Sink>(
         (lines_of K.contents K.failure_count out.new)) }
     ensures unanswered { IfErr result (λ _. out.new ≡ out.old) }
 {
-    let alloc = rt.alloc();
-    let words = env::args(rt).map_err(|error| match error.kind() {
-        io::ErrorKind::OutOfMemory => UsageFault::Memory,
-        _ => UsageFault::Words,
-    })?;
-    let words: Vec<String> = words.collect(alloc).map_err(|_| UsageFault::Memory)?;
-    let words = words.iter().map(|word| word.as_str());
-    let words: Vec<&str> = words.collect(alloc).map_err(|_| UsageFault::Memory)?;
-    let request = Request::parse(alloc, words.as_slice())?;
+    let words = words_of(rt)?;
+    let Some(words) = texts_of(rt.alloc(), words.as_slice()) else {
+        return Err(UsageFault::Memory);
+    };
+    let request = Request::parse(rt.alloc(), words.as_slice())?;
     open_and_answer(rt, &request, out)
 }
 
-// Opens the files that the request names, in the order of the words, and creates the one that it
-// writes. At the first that fails it opens no more, and nothing is printed.
+// The words of the command line. A word that is no text is no word of a command.
+fn words_of<R: AllocGlobal + Env>(rt: &R) -> Result<Vec<String>, UsageFault> {
+    match env::args(rt) {
+        Ok(words) => words.collect(rt.alloc()).map_err(|_| UsageFault::Memory),
+        Err(error) => match error.kind() {
+            io::ErrorKind::OutOfMemory => Err(UsageFault::Memory),
+            _ => Err(UsageFault::Words),
+        },
+    }
+}
+
+// The words as texts, `None` where memory runs out.
+fn texts_of(alloc: Global, words: &[String]) -> Option<Vec<&str>> {
+    let texts = words.iter().map(|word| word.as_str());
+    texts.collect(alloc).ok()
+}
+
+// Opens the files that the request names, and answers it over them. Where a file can't be opened,
+// nothing is printed.
 fn open_and_answer<R: AllocGlobal + Files, K: Sink>(
     rt: &R,
     request: &Request<'_>,
@@ -74,11 +90,13 @@ fn open_and_answer<R: AllocGlobal + Files, K: Sink>(
         (lines_of K.contents K.failure_count out.new)) }
     ensures unanswered { IfErr result (λ _. out.new ≡ out.old) }
 {
-    match request.files() {
-        FileNames::None => Ok(read_nothing(rt.alloc(), request, out)),
-        FileNames::ReadStl(stl) => read_stl(rt, request, &stl, out),
-        FileNames::ReadPes(pes) => read_pes(rt, request, &pes, out),
-        FileNames::ReadBoth(stl, pes) => read_both(rt, request, &stl, &pes, out),
-        FileNames::Write(stl, output) => read_and_write(rt, request, &stl, &output, out),
-    }
+    let names = request.files();
+    let Some(mut rooms) = room(rt.alloc(), size_of_rooms(&names)) else {
+        return Err(UsageFault::Memory);
+    };
+    let Some(files) = open(rt, &names) else {
+        return Err(UsageFault::Open);
+    };
+    let rooms = rooms.as_mut_slice();
+    Ok(answer_opened(rt.alloc(), request, files, rooms, out))
 }

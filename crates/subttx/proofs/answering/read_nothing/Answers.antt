@@ -1,5 +1,5 @@
 use Rattle.subttx.proofs.EndingLemmas.{ends_at_all}
-use Rattle.subttx.proofs.opening.read_nothing.Goals as goal
+use Rattle.subttx.proofs.answering.read_nothing.Goals as goal
 
 pub returns : goal.returns
 returns g c = ends_at_all _ _ _ _ _ c.answer_from.ensures

@@ -1,0 +1,5 @@
+use Rattle.subttx.proofs.EndingLemmas.{ends_at_all}
+use Rattle.subttx.proofs.answering.read_both.Goals as goal
+
+pub returns : goal.returns
+returns g c = ends_at_all _ _ _ _ _ c.answer_pair.ensures

@@ -1,0 +1,105 @@
+//! Answers a request over the files that it names: a function for each way of opening them.
+ghost use Rattle.std.specs.Prelude.{◌≡◌, ◌≤◌, length};
+ghost use Rattle.sub_io.specs.Buffered.{failures_and_refused};
+ghost use Rattle.subttx.specs.Ending.{Ends, lines_of};
+
+use crate::ending::{answer_from, answer_pair, answer_with_file};
+use crate::opening::Opened;
+use std::alloc::Global;
+use std::io::{Read, Write};
+use sub_answer::Status;
+use sub_io::{BufferedSink, BufferedSource, FromRead, IntoFile, MemSource, Sink};
+use sub_request::Request;
+
+/// Answers a request over its files, each behind a buffer. These share the rooms.
+pub fn answer_opened<F: Read + Write + Drop, K: Sink>(
+    alloc: Global,
+    request: &Request<'_>,
+    files: Opened<F>,
+    rooms: &mut [u8],
+    out: &mut BufferedSink<'_, K>,
+) -> Status
+    requires rooms { 2 ≤ length rooms.old }
+    requires out { failures_and_refused (K.failure_count out.old.device) out.old.refused ≡ 0 }
+    ensures { Ends request.now (lines_of K.contents K.failure_count out.old)
+        (lines_of K.contents K.failure_count out.new) result }
+{
+    match files {
+        Opened::Nothing => read_nothing(alloc, request, out),
+        Opened::Read(file) => read_one(alloc, request, file, rooms, out),
+        Opened::ReadBoth(stl, pes) => read_both(alloc, request, stl, pes, rooms, out),
+        Opened::Write(stl, output) => read_and_write(alloc, request, stl, output, rooms, out),
+    }
+}
+
+// Answers a request that names no file.
+fn read_nothing<K: Sink>(
+    alloc: Global,
+    request: &Request<'_>,
+    out: &mut BufferedSink<'_, K>,
+) -> Status
+    requires { failures_and_refused (K.failure_count out.old.device) out.old.refused ≡ 0 }
+    ensures { Ends request.now (lines_of K.contents K.failure_count out.old)
+        (lines_of K.contents K.failure_count out.new) result }
+{
+    answer_from(alloc, request, &mut MemSource::new(&[]), out)
+}
+
+// Answers a request that reads one file.
+fn read_one<F: Read + Drop, K: Sink>(
+    alloc: Global,
+    request: &Request<'_>,
+    file: F,
+    room: &mut [u8],
+    out: &mut BufferedSink<'_, K>,
+) -> Status
+    requires room { 2 ≤ length room.old }
+    requires out { failures_and_refused (K.failure_count out.old.device) out.old.refused ≡ 0 }
+    ensures { Ends request.now (lines_of K.contents K.failure_count out.old)
+        (lines_of K.contents K.failure_count out.new) result }
+{
+    let mut first = BufferedSource::new(FromRead::new(file), room);
+    answer_from(alloc, request, &mut first, out)
+}
+
+// Answers a request that reads a subtitle file and a file of PES packets.
+fn read_both<F: Read + Drop, K: Sink>(
+    alloc: Global,
+    request: &Request<'_>,
+    stl: F,
+    pes: F,
+    rooms: &mut [u8],
+    out: &mut BufferedSink<'_, K>,
+) -> Status
+    requires rooms { 2 ≤ length rooms.old }
+    requires out { failures_and_refused (K.failure_count out.old.device) out.old.refused ≡ 0 }
+    ensures { Ends request.now (lines_of K.contents K.failure_count out.old)
+        (lines_of K.contents K.failure_count out.new) result }
+{
+    let half = rooms.len() / 2;
+    let (room, other) = rooms.split_at_mut(half);
+    let mut first = BufferedSource::new(FromRead::new(stl), room);
+    let mut second = BufferedSource::new(FromRead::new(pes), other);
+    answer_pair(alloc, request, &mut first, &mut second, out)
+}
+
+// Answers a request that reads a subtitle file and writes a file.
+fn read_and_write<F: Read + Drop, W: Write + Drop, K: Sink>(
+    alloc: Global,
+    request: &Request<'_>,
+    stl: F,
+    output: W,
+    rooms: &mut [u8],
+    out: &mut BufferedSink<'_, K>,
+) -> Status
+    requires rooms { 2 ≤ length rooms.old }
+    requires out { failures_and_refused (K.failure_count out.old.device) out.old.refused ≡ 0 }
+    ensures { Ends request.now (lines_of K.contents K.failure_count out.old)
+        (lines_of K.contents K.failure_count out.new) result }
+{
+    let half = rooms.len() / 2;
+    let (room, other) = rooms.split_at_mut(half);
+    let mut first = BufferedSource::new(FromRead::new(stl), room);
+    let mut file = BufferedSink::new(IntoFile::new(output), other);
+    answer_with_file(alloc, request, &mut first, &mut file, out)
+}
