@@ -86,6 +86,14 @@ AtEvenBytes Becomes w old packet new =
 abbrev pub LeavesCells : (ℕ → ℕ) → PageIdValue → State → List ℕ → State → Type 0
 LeavesCells leaves w old packet new = AtEvenBytes (λ was is. is ≡ leaves was) w old packet new
 
+-- A receiver that has chosen: a step of the relation, with its choice at each even byte.
+abbrev pub StepLeaving : (ℕ → ℕ) → PageIdValue → State → List ℕ → State → Type 0
+StepLeaving leaves w old packet new = Step w old packet new × LeavesCells leaves w old packet new
+
+-- It goes from one state to the other by hearing these packets.
+abbrev pub HearsLeaving : (ℕ → ℕ) → PageIdValue → State → List (List ℕ) → State → Type 0
+HearsLeaving leaves w old packets new = RunsBy (StepLeaving leaves w) old packets new
+
 -- ---- receivers that drop rows
 
 -- The packet is a row of the page, and one of its 40 data bytes has even parity.

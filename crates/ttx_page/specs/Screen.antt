@@ -5,7 +5,7 @@ use Rattle.std.specs.Prelude.{IsFalse, if◌then◌else◌}
 use Rattle.ttx_packet.specs.PageId.{PageIdValue}
 use Rattle.ttx_page.specs.Page.{Rows}
 use Rattle.ttx_page.specs.PacketKind.{kind, is_this_page}
-use Rattle.ttx_page.specs.Receiver.{State, Step, StepDropping}
+use Rattle.ttx_page.specs.Receiver.{RunsBy, State, Step, StepDropping, StepLeaving}
 use Rattle.ttx_page.specs.Span.{holds_header}
 
 -- What a receiver holds, and what is on its screen: nothing yet, or a page.
@@ -46,6 +46,16 @@ pub record ShowsAt (w : PageIdValue) (old : Display) (packet : List ℕ) (new : 
 -- header of another page has ended it, as it was held. So does libzvbi.
 abbrev pub screen_after : Display → State → Option Rows
 screen_after old new = if is_ended old.held new then Some old.held.page else old.screen
+
+-- A receiver of page w that has chosen, with a screen that waits, goes from one display to the other
+-- by hearing these packets.
+abbrev pub ShowsWaiting :
+    (ℕ → ℕ) → PageIdValue → Display → List (List ℕ) → Display → Type 0
+ShowsWaiting leaves w old packets new =
+    RunsBy
+    (λ before packet after. StepLeaving leaves w before.held packet after.held
+    × (after.screen ≡ screen_after before after.held))
+    old packets new
 
 -- A receiver of page w with a screen that hears these packets may go from one display to the other:
 -- what it holds goes by steps of the relation, and the screen follows.

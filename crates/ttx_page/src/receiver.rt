@@ -1,7 +1,7 @@
 //! Receivers of one page: the trait, and what a receiver becomes by a list of packets.
 ghost use Rattle.std.specs.Prelude.{◌≡◌, ℕ, true, false};
 ghost use Rattle.ttx_packet.specs.PageId.{PageIdValue};
-ghost use Rattle.ttx_page.specs.Receiver.{Hears, LeavesCells, State, Step};
+ghost use Rattle.ttx_page.specs.Receiver.{Hears, HearsLeaving, LeavesCells, State, Step};
 
 use crate::page::Page;
 use ttx_packet::{Packet, PageId};
@@ -54,10 +54,12 @@ pub trait Receiver: Sized {
         ensures tuned { tuned_to self.new ≡ tuned_to self.old };
 }
 
-/// Hears packets, one after another.
+/// Hears packets, one after another, with the receiver's choice at each even byte.
 pub fn hear_all<R: Receiver>(receiver: &mut R, packets: &[Packet])
     ensures run { Hears (R.tuned_to receiver.old) (R.state receiver.old) packets.now
         (R.state receiver.new) }
+    ensures chosen { HearsLeaving R.leaves (R.tuned_to receiver.old) (R.state receiver.old)
+        packets.now (R.state receiver.new) }
     ensures tuned { R.tuned_to receiver.new ≡ R.tuned_to receiver.old }
 {
     for packet in packets {

@@ -1,7 +1,7 @@
 //! A screen beside a receiver: a page comes onto it when it is complete.
 ghost use Rattle.std.specs.Prelude.{◌≡◌, Some};
 ghost use Rattle.ttx_page.specs.Receiver.{LeavesCells, Step};
-ghost use Rattle.ttx_page.specs.Screen.{Shows, ShowsAt, display, screen_after};
+ghost use Rattle.ttx_page.specs.Screen.{Shows, ShowsAt, ShowsWaiting, display, screen_after};
 
 use crate::page::Page;
 use crate::receiver::Receiver;
@@ -41,9 +41,12 @@ fn put_on(screen: &mut Option<Page>, page: &Page)
     }
 }
 
-/// Hears packets, one after another, with a screen.
+/// Hears packets, one after another, with a screen that waits as that of `show`.
 pub fn show_all<R: Receiver>(receiver: &mut R, screen: &mut Option<Page>, packets: &[Packet])
     ensures run { Shows (R.tuned_to receiver.old)
+        (display (R.state receiver.old) screen.old) packets.now
+        (display (R.state receiver.new) screen.new) }
+    ensures waits { ShowsWaiting R.leaves (R.tuned_to receiver.old)
         (display (R.state receiver.old) screen.old) packets.now
         (display (R.state receiver.new) screen.new) }
     ensures tuned { R.tuned_to receiver.new ≡ R.tuned_to receiver.old }
