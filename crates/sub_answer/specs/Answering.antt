@@ -1,6 +1,6 @@
 -- What is said of the answer to a request, command by command.
 use Rattle.std.specs.Prelude.{◌≡◌, ◌≢◌, ◌↔◌, ℕ, Bool, true, false, List, Option, Result, Err, Ok}
-use Rattle.std.specs.Prelude.{◌++◌, IsTrue, codes, decimal}
+use Rattle.std.specs.Prelude.{IsTrue, codes, if◌then◌else◌}
 use Rattle.sub_io.specs.Device.{RisesIf, failed}
 use Rattle.sub_io.specs.Reading.{IfTold}
 use Rattle.ttx_pes.specs.Reader.{FailsAtPacket}
@@ -28,6 +28,8 @@ use Rattle.sub_check.specs.declared.fault.CheckFault.TheVariants as check
 use Rattle.sub_request.specs.declared.listening.Listening.{Listening}
 use Rattle.sub_check.specs.declared.listening_run.ListenFault.{ListenFault}
 use Rattle.sub_answer.specs.DeviceCall.{SinkCall, SourceCall}
+use Rattle.sub_answer.specs.EveryFault.{AnswersAll}
+use Rattle.sub_answer.specs.FaultListing.{accepted_line}
 use Rattle.sub_answer.specs.Faults.{check_told}
 use Rattle.sub_answer.specs.ListenListing.{Listens, listen_told}
 use Rattle.sub_answer.specs.Listing.{Listing, PrintsListing, PrintsOrFails, done, packet_listing}
@@ -47,7 +49,7 @@ use Rattle.sub_answer.specs.declared.writing.WriteFault.{WriteFault}
 abbrev pub takes_memory : Request → Bool
 takes_memory (ask.Normal input output) = true
 takes_memory (ask.Schedule stl pes options serial national) = true
-takes_memory (ask.Check stl pes options national) = true
+takes_memory (ask.Check stl pes options national all) = true
 takes_memory _ = false
 
 -- ---- what each command answers
@@ -64,12 +66,6 @@ pub record EndsWork
   pub input_count : RisesIf input.old_count (failed writing.is_read answer) input.new_count
   pub file_count : RisesIf file.old_count (failed is_write answer) file.new_count
   pub printed : PrintsOrFails out (work_listing things answer) status
-
--- What is accepted: the frames of the day from the first PES packet's to the last one's, and the
--- headers of the page.
-abbrev pub accepted_line : Accepted → List ℕ
-accepted_line a = codes "accepted " ++ decimal a.frames ++ codes " frames "
-    ++ decimal a.transmissions ++ codes " transmissions\n"
 
 -- The line of an answer, with the status.
 abbrev pub verdict : Result Accepted CheckFault → Listing
@@ -167,7 +163,9 @@ Answers (ask.Normal input output) first second file out status =
     EndsWork first file out status (codes " subtitles\n") Normalizes
 Answers (ask.Schedule stl pes options serial national) first second file out status =
     EndsWork first file out status (codes " transmissions\n") (Schedules national options serial)
-Answers (ask.Check stl pes options national) first second file out status =
-    AnswersCheck national options first second out status
+Answers (ask.Check stl pes options national all) first second file out status =
+    if all
+    then AnswersAll national options first second out status
+    else AnswersCheck national options first second out status
 Answers (ask.Listen pes listening) first second file out status =
     AnswersListen (left_by listening.receiver) listening first out status

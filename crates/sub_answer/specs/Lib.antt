@@ -8,3 +8,6 @@ pub mod DeviceCall
 pub mod ListenListing
 pub mod PacketsListing
 pub mod ShowListing
+pub mod FaultListing
+pub mod Printer
+pub mod EveryFault

@@ -4,6 +4,7 @@
 //! lines of refused words are printed.
 
 mod check;
+mod check_all;
 mod listen;
 pub mod normal;
 mod packet;
@@ -25,6 +26,7 @@ use crate::printing::print_told;
 use crate::status::Status;
 use crate::writing::write;
 use check::print_verdict;
+use check_all::print_every_fault;
 use listen::print_listening;
 use normal::NormalWork;
 use packet::show_packet;
@@ -107,8 +109,15 @@ pub fn answer<S: Source, T: Source, F: Flush, K: Sink>(
         Request::Check {
             options,
             national,
+            all,
             ..
-        } => { print_verdict(alloc, first, second, *national, options, out) }
+        } => {
+            if *all {
+                print_every_fault(alloc, first, second, *national, options, out)
+            } else {
+                print_verdict(alloc, first, second, *national, options, out)
+            }
+        }
         Request::Listen { listening, .. } => match listening.receiver {
             // One that drops rows hears none with a byte of even parity.
             ReceiverKind::Keep | ReceiverKind::DropRow => {

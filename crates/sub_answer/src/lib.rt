@@ -15,6 +15,7 @@ mod faults;
 mod hex_digits;
 mod lines;
 mod listing;
+mod printer;
 mod printing;
 mod status;
 mod told;

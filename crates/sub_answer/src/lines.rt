@@ -6,14 +6,16 @@
 ghost use Rattle.std.specs.Prelude.{◌≡◌, ◌+◌, ◌≤◌, ◌<◌, ◌++◌, length, decimal};
 ghost use Rattle.arrayvec.specs.ArrayVec.{array_vec_len};
 ghost use Rattle.hex.specs.Hex.{encode_lower};
+ghost use Rattle.sub_answer.specs.FaultListing.{ended_line, event_line, rule_number_and_name};
 ghost use Rattle.sub_answer.specs.Lines.{glyph, text_digits, time_text, two_digits};
 ghost use Rattle.sub_answer.specs.Told.{frame_text, line_of, place_text};
 
+use crate::faults::told_of_check;
 use crate::hex_digits::digits_of_block;
 use crate::told::{Kind, Told};
 use arrayvec::ArrayVec;
 use stl_file::TimeCode;
-use sub_check::FaultPlace;
+use sub_check::{EndRule, Event, FaultPlace};
 use ttx_pes::MOST_PACKETS;
 
 /// Room for a number in decimal.
@@ -143,6 +145,44 @@ pub fn push_told<const N: usize>(line: &mut ArrayVec<u8, N>, told: &Told)
     push_text(line, told.name.as_bytes());
     push_place(line, told.place);
     push_text(line, b"\n");
+}
+
+/// Appends the line of an event: of a fault that is told, or of a rule that stood broken up to a
+/// frame.
+pub fn push_event<const N: usize>(line: &mut ArrayVec<u8, N>, event: Event)
+    requires { array_vec_len line.old + LINE_ROOM ≤ N }
+    ensures { line.new.items ≡ line.old.items ++ event_line event }
+{
+    match event {
+        Event::Told(fault) => push_told(line, &told_of_check(fault)),
+        Event::Ended { rule, frame } => push_ended(line, rule, frame),
+    }
+}
+
+// Appends the line of a rule that stood broken up to a frame.
+fn push_ended<const N: usize>(line: &mut ArrayVec<u8, N>, rule: EndRule, frame: u32)
+    requires { array_vec_len line.old + LINE_ROOM ≤ N }
+    ensures { line.new.items ≡ line.old.items ++ ended_line rule frame }
+{
+    let (number, name) = number_and_name(rule);
+    push_number(line, b"ended ", u64::from(number));
+    push_text(line, b" ");
+    push_text(line, name);
+    push_frame(line, frame);
+    push_text(line, b"\n");
+}
+
+// The number and the name of a rule of a frame's end: those of its fault.
+fn number_and_name(rule: EndRule) -> (u8, &'static [u8])
+    ensures number { result.0 ≡ (rule_number_and_name rule).0 }
+    ensures name { result.1.now ≡ (rule_number_and_name rule).1 }
+    ensures len { length result.1.now ≤ 16 }
+{
+    match rule {
+        EndRule::Content => (72, b"Content"),
+        EndRule::Gap => (73, b"Gap"),
+        EndRule::Incomplete => (77, b"Incomplete"),
+    }
 }
 
 // Appends the place of a fault.

@@ -1,6 +1,9 @@
 //! `check STL PES`: checks a PES file against a subtitle file.
+ghost use Rattle.std.specs.Prelude.{◌≡◌, ◌+◌};
 ghost use Rattle.sub_answer.specs.Answering.{AnswersCheck};
 ghost use Rattle.sub_answer.specs.DeviceCall.{CanFail, CountsFault, sink_call, source_call};
+ghost use Rattle.sub_answer.specs.FaultListing.{accepted_line};
+ghost use Rattle.sub_answer.specs.Listing.{PrintsOrFails, done};
 
 use crate::faults::told_of_check;
 use crate::lines::{Line, push_number, push_text};
@@ -8,7 +11,7 @@ use crate::printing::{print_done, print_told};
 use crate::status::Status;
 use std::alloc::Global;
 use stl_rows::National;
-use sub_check::check_files;
+use sub_check::{Accepted, check_files};
 use sub_io::{Sink, Source};
 use sub_plan::Options;
 
@@ -38,13 +41,23 @@ pub fn print_verdict<S: Source, T: Source, K: Sink>(
     ensures out_count { CountsFault K.failure_count out.old result out.new }
 {
     match check_files(alloc, stl, pes, national, options) {
-        Ok(accepted) => {
-            let mut line = Line::new();
-            push_number(&mut line, b"accepted ", accepted.frames);
-            push_number(&mut line, b" frames ", accepted.transmissions);
-            push_text(&mut line, b" transmissions\n");
-            print_done(line.as_slice(), out)
-        }
+        Ok(accepted) => print_accepted(accepted, out),
         Err(fault) => print_told(&told_of_check(fault), out),
     }
+}
+
+/// Prints the line of what is accepted.
+pub fn print_accepted<K: Sink>(accepted: Accepted, out: &mut K) -> Status
+    requires { CanFail (K.failure_count out.old) }
+    ensures printed { PrintsOrFails (sink_call K.contents K.failure_count out.old out.new)
+        (done (accepted_line accepted)) result }
+    ensures count { CountsFault K.failure_count out.old result out.new }
+    ensures failed { result ≡ Status.Fault
+        → K.failure_count out.new ≡ K.failure_count out.old + 1 }
+{
+    let mut line = Line::new();
+    push_number(&mut line, b"accepted ", accepted.frames);
+    push_number(&mut line, b" frames ", accepted.transmissions);
+    push_text(&mut line, b" transmissions\n");
+    print_done(line.as_slice(), out)
 }

@@ -1,0 +1,87 @@
+-- What `check --all` prints: a line for each event, and a last one.
+use Rattle.std.specs.Prelude.{ℕ, zero, suc, ◌+◌, min, List, [], ◌∷◌, ◌++◌, codes, decimal, map}
+use Rattle.std.specs.Prelude.{Option, Some, None, Result, Ok, Err}
+use Rattle.stl_rows.specs.declared.fault.LoadFault.{LoadFault}
+use Rattle.sub_check.specs.declared.checker.Accepted.{Accepted}
+use Rattle.sub_check.specs.declared.event.EndRule.{EndRule}
+use Rattle.sub_check.specs.declared.event.EndRule.TheVariants as end
+use Rattle.sub_check.specs.declared.event.Event.{Event}
+use Rattle.sub_check.specs.declared.event.Event.TheVariants.{Ended, Told}
+use Rattle.sub_check.specs.declared.fault.CheckFault.{CheckFault}
+use Rattle.sub_check.specs.declared.fault.CheckFault.TheVariants.{Subtitles}
+use Rattle.sub_answer.specs.Faults.{check_told}
+use Rattle.sub_answer.specs.Listing.{Listing, done, followed, told_listing}
+use Rattle.sub_answer.specs.Told.{frame_text, line_of}
+use Rattle.sub_answer.specs.declared.status.Status.TheVariants.{Refused}
+
+-- ---- a line for each event
+
+-- The number and the name of a rule of a frame's end: those of its fault.
+abbrev pub rule_number_and_name : EndRule → ℕ × List ℕ
+rule_number_and_name end.Content = (72, codes "Content")
+rule_number_and_name end.Gap = (73, codes "Gap")
+rule_number_and_name end.Incomplete = (77, codes "Incomplete")
+
+-- A rule stood broken up to this frame, and does so no more.
+abbrev pub ended_line : EndRule → ℕ → List ℕ
+ended_line rule frame = codes "ended " ++ decimal (rule_number_and_name rule).0 ++ codes " "
+    ++ (rule_number_and_name rule).1 ++ frame_text frame ++ codes "\n"
+
+-- The line of an event.
+abbrev pub event_line : Event → List ℕ
+event_line (Told f) = line_of (check_told f)
+event_line (Ended rule frame) = ended_line rule frame
+
+-- The lines of events.
+abbrev pub lines_of : List Event → List ℕ
+lines_of [] = []
+lines_of (e ∷ events) = event_line e ++ lines_of events
+
+-- Whether an event is a refusal: 1, or 0 where it is an end.
+abbrev pub refusal : Event → ℕ
+refusal (Told f) = 1
+refusal (Ended rule frame) = 0
+
+-- How many of these are refusals.
+abbrev pub refusals : List Event → ℕ
+refusals [] = 0
+refusals (e ∷ events) = refusal e + refusals events
+
+-- A fault of the subtitle file, as an event.
+abbrev pub subtitle_event : LoadFault → Event
+subtitle_event f = Told (Subtitles f)
+
+-- Faults of the subtitle file, as events.
+abbrev pub subtitle_events : List LoadFault → List Event
+subtitle_events faults = map subtitle_event faults
+
+-- ---- the last line
+
+-- The greatest number that is counted to.
+abbrev pub most_counted : ℕ
+most_counted = 0xFFFF_FFFF_FFFF_FFFF
+
+-- What is accepted: the frames of the day from the first PES packet's to the last one's, and the
+-- headers of the page.
+abbrev pub accepted_line : Accepted → List ℕ
+accepted_line a = codes "accepted " ++ decimal a.frames ++ codes " frames "
+    ++ decimal a.transmissions ++ codes " transmissions\n"
+
+-- How many places are refused.
+abbrev pub count_listing : ℕ → Listing
+count_listing n = record {
+  text = decimal (min n most_counted) ++ codes " faults\n";
+  status = Refused;
+}
+
+-- The last line after so many refusals: what is told of a failed device or of memory; else how many
+-- there were, or where there was none what is accepted. `None` is a refused subtitle file.
+abbrev pub last_listing : ℕ → Result (Option Accepted) CheckFault → Listing
+last_listing refused (Err f) = told_listing (check_told f)
+last_listing refused (Ok None) = count_listing refused
+last_listing zero (Ok (Some a)) = done (accepted_line a)
+last_listing (suc n) (Ok (Some a)) = count_listing (suc n)
+
+-- The lines of all events, and the last line.
+abbrev pub all_listing : List Event → Result (Option Accepted) CheckFault → Listing
+all_listing events answer = followed (lines_of events) (last_listing (refusals events) answer)

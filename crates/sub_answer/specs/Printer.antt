@@ -1,0 +1,51 @@
+-- What a device does that prints a line for each event.
+use Rattle.std.specs.Prelude.{◌≡◌, ℕ, ◌+◌, min, nat_lt, Bool, true, false, List, Option}
+use Rattle.std.specs.Io.KnownBytes.{Appends}
+use Rattle.sub_io.specs.Device.{AppendsPrefix}
+use Rattle.sub_check.specs.declared.event.Event.{Event}
+use Rattle.sub_answer.specs.FaultListing.{event_line, lines_of, most_counted, refusal, refusals}
+
+-- The device: what its sink has taken, where it tells that, and how often it has failed; how many
+-- refusals were counted; whether the sink failed while it printed.
+pub record PrinterValue : Type 0 where
+  pub contents : Option (List ℕ)
+  pub count : ℕ
+  pub refused : ℕ
+  pub failed : Bool
+
+-- The device by its parts.
+abbrev pub printer_value : Option (List ℕ) → ℕ → ℕ → Bool → PrinterValue
+printer_value contents count refused failed = record {
+  contents = contents;
+  count = count;
+  refused = refused;
+  failed = failed;
+}
+
+-- Whether a count of failures can rise by one more.
+abbrev pub can_fail : ℕ → Bool
+can_fail count = nat_lt count 0xFFFF_FFFF_FFFF_FFFF
+
+-- The count after more refusals: the greatest number stands for any above it too.
+unfoldable pub counted : ℕ → ℕ → ℕ
+counted refused more = min (refused + more) most_counted
+
+-- It was told an event, the sink having failed at none before. Its line was put and a refusal
+-- counted; or the sink failed once, and has a prefix of the line.
+pub record PrintsEvent (old : PrinterValue) (event : Event) (new : PrinterValue) : Type 0 where
+  pub goes_on : old.failed ≡ false
+  pub put : new.failed ≡ false → Appends old.contents new.contents (event_line event)
+  pub put_count : new.failed ≡ false → new.count ≡ old.count
+  pub put_refused : new.failed ≡ false → new.refused ≡ counted old.refused (refusal event)
+  pub cut : new.failed ≡ true → AppendsPrefix old.contents new.contents (event_line event)
+  pub cut_count : new.failed ≡ true → new.count ≡ old.count + 1
+
+-- The same of events, told one after another to one that has not failed: all lines were put, or a
+-- prefix of them.
+pub record PrintsEvents (old : PrinterValue) (events : List Event) (new : PrinterValue) : Type 0
+  where
+    pub put : new.failed ≡ false → Appends old.contents new.contents (lines_of events)
+    pub put_count : new.failed ≡ false → new.count ≡ old.count
+    pub put_refused : new.failed ≡ false → new.refused ≡ counted old.refused (refusals events)
+    pub cut : new.failed ≡ true → AppendsPrefix old.contents new.contents (lines_of events)
+    pub cut_count : new.failed ≡ true → new.count ≡ old.count + 1
