@@ -4,3 +4,6 @@ pub mod NormalLemmas
 pub mod ListenListingLemmas
 pub mod ListingLemmas
 pub mod HexDigitLemmas
+pub mod PrinterLemmas
+pub mod EveryFaultLemmas
+pub mod AllAnswerLemmas

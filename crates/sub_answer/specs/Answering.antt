@@ -1,6 +1,6 @@
 -- What is said of the answer to a request, command by command.
 use Rattle.std.specs.Prelude.{◌≡◌, ◌≢◌, ◌↔◌, ℕ, Bool, true, false, List, Option, Result, Err, Ok}
-use Rattle.std.specs.Prelude.{IsTrue, codes, if◌then◌else◌}
+use Rattle.std.specs.Prelude.{IsTrue, codes}
 use Rattle.sub_io.specs.Device.{RisesIf, failed}
 use Rattle.sub_io.specs.Reading.{IfTold}
 use Rattle.ttx_pes.specs.Reader.{FailsAtPacket}
@@ -163,9 +163,9 @@ Answers (ask.Normal input output) first second file out status =
     EndsWork first file out status (codes " subtitles\n") Normalizes
 Answers (ask.Schedule stl pes options serial national) first second file out status =
     EndsWork first file out status (codes " transmissions\n") (Schedules national options serial)
-Answers (ask.Check stl pes options national all) first second file out status =
-    if all
-    then AnswersAll national options first second out status
-    else AnswersCheck national options first second out status
+Answers (ask.Check stl pes options national true) first second file out status =
+    AnswersAll national options first second out status
+Answers (ask.Check stl pes options national false) first second file out status =
+    AnswersCheck national options first second out status
 Answers (ask.Listen pes listening) first second file out status =
     AnswersListen (left_by listening.receiver) listening first out status

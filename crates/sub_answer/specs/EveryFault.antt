@@ -1,6 +1,6 @@
 -- What is said of the answer to `check --all`.
 use Rattle.std.specs.Prelude.{◌≡◌, ◌≢◌, ℕ, ◌<◌, ◌≤◌, length, Bool, true, false, not, List, [], Option}
-use Rattle.std.specs.Prelude.{Some, None, Result, Ok, Err, ⊥}
+use Rattle.std.specs.Prelude.{Some, None, Result, Ok, Err, IfErr, IsOk, ◌⊎◌}
 use Rattle.std.specs.List.{filter}
 use Rattle.std.specs.Io.KnownBytes.{Consumes}
 use Rattle.sub_io.specs.Device.{RisesIf, failed}
@@ -30,6 +30,7 @@ use Rattle.sub_check.specs.declared.fault.CheckFault.TheVariants.{Pes, Subtitles
 use Rattle.sub_answer.specs.DeviceCall.{SinkCall, SourceCall}
 use Rattle.sub_answer.specs.FaultListing.{all_listing, refusals, subtitle_events}
 use Rattle.sub_answer.specs.Listing.{PrintsOrFails}
+use Rattle.sub_answer.specs.Printer.{PrinterValue, PrintsEvents}
 use Rattle.sub_answer.specs.Writing.{PrintsMemory}
 use Rattle.sub_answer.specs.declared.status.Status.{Status}
 use Rattle.sub_answer.specs.declared.status.Status.TheVariants.{Fault}
@@ -92,6 +93,39 @@ pub record FailsAtBlock (told left : Option (List ℕ)) (block : ℕ) : Type 0 w
   pub bytes : List ℕ
   pub consumed : Consumes told left bytes
   pub block_is : block ≡ block_of_byte (length bytes)
+
+-- What can end the listing before its end: that a source failed; or want of memory, before any event.
+abbrev pub CanEnd : List Event → CheckFault → Type 0
+CanEnd events (Subtitles f) = (is_read f ≡ true) ⊎ ((f.kind ≡ Memory) × (events ≡ []))
+CanEnd events f = is_pes_read f ≡ true
+
+-- What a printer was told of the events of both files, and the answer, which is the one that was
+-- given where its sink has not failed.
+pub record TellsBoth
+    {S T : Type 0} (national : National) (options : OptionsValue)
+    (stl : SourceCall S) (pes : SourceCall T) (old new : PrinterValue)
+    (given : Result (Option Accepted) CheckFault)
+    : Type 0 where
+  pub events : List Event
+  pub answer : Result (Option Accepted) CheckFault
+  pub same : new.failed ≡ false → answer ≡ given
+  pub prints : PrintsEvents old events new
+  pub stl_count : RisesIf stl.old_count (failed is_stl_read answer) stl.new_count
+  pub pes_count : RisesIf pes.old_count (failed is_pes_read answer) pes.new_count
+  pub stl_read :
+      (f : LoadFault)
+      → answer ≡ Err (Subtitles f)
+      → is_read f ≡ true
+      → FailsAtBlock stl.told stl.left f.block
+  pub pes_read :
+      (index : ℕ)
+      → answer ≡ Err (Pes index Read)
+      → FailsAtPacket index pes.told pes.left
+  pub before : is_of_subtitles answer ≡ true → pes.new ≡ pes.old
+  pub ended : IfErr answer (CanEnd events)
+  pub cut : new.failed ≡ true → IsOk answer
+  pub listed :
+      IfTold stl.told (λ file. AreListed national options file pes.told events answer)
 
 -- `check --all` tells events, and has one answer; the bytes of both files decide them.
 pub record AnswersAll

@@ -1,6 +1,6 @@
 -- What `check --all` prints: a line for each event, and a last one.
-use Rattle.std.specs.Prelude.{ℕ, zero, suc, ◌+◌, min, List, [], ◌∷◌, ◌++◌, codes, decimal, map}
-use Rattle.std.specs.Prelude.{Option, Some, None, Result, Ok, Err}
+use Rattle.std.specs.Prelude.{ℕ, ◌+◌, ◌==◌, min, List, [], ◌∷◌, ◌++◌, codes, decimal, map}
+use Rattle.std.specs.Prelude.{Option, Some, None, Result, Ok, Err, if◌then◌else◌}
 use Rattle.stl_rows.specs.declared.fault.LoadFault.{LoadFault}
 use Rattle.sub_check.specs.declared.checker.Accepted.{Accepted}
 use Rattle.sub_check.specs.declared.event.EndRule.{EndRule}
@@ -68,20 +68,20 @@ accepted_line a = codes "accepted " ++ decimal a.frames ++ codes " frames "
     ++ decimal a.transmissions ++ codes " transmissions\n"
 
 -- How many places are refused.
-abbrev pub count_listing : ℕ → Listing
-count_listing n = record {
-  text = decimal (min n most_counted) ++ codes " faults\n";
-  status = Refused;
-}
+abbrev pub faults_listing : ℕ → Listing
+faults_listing n = record { text = decimal n ++ codes " faults\n"; status = Refused }
 
--- The last line after so many refusals: what is told of a failed device or of memory; else how many
--- there were, or where there was none what is accepted. `None` is a refused subtitle file.
+-- The last line, where so many refusals were counted: what is told of a failed device or of memory;
+-- else how many there were, or where there was none what is accepted. `None` is a refused subtitle
+-- file.
 abbrev pub last_listing : ℕ → Result (Option Accepted) CheckFault → Listing
 last_listing refused (Err f) = told_listing (check_told f)
-last_listing refused (Ok None) = count_listing refused
-last_listing zero (Ok (Some a)) = done (accepted_line a)
-last_listing (suc n) (Ok (Some a)) = count_listing (suc n)
+last_listing refused (Ok None) = faults_listing refused
+last_listing refused (Ok (Some a)) =
+    if refused == 0 then done (accepted_line a) else faults_listing refused
 
--- The lines of all events, and the last line.
+-- The lines of all events, and the last line. The greatest number that is counted to stands for any
+-- above it.
 abbrev pub all_listing : List Event → Result (Option Accepted) CheckFault → Listing
-all_listing events answer = followed (lines_of events) (last_listing (refusals events) answer)
+all_listing events answer =
+    followed (lines_of events) (last_listing (min (refusals events) most_counted) answer)

@@ -1,5 +1,5 @@
 //! A device that prints a line for each event that it is told.
-ghost use Rattle.std.specs.Prelude.{◌≡◌, ◌×◌, ◌||◌, false, is_err, not};
+ghost use Rattle.std.specs.Prelude.{◌≡◌, ◌||◌, false, is_err, not};
 ghost use Rattle.sub_io.specs.Device.{CanFail};
 ghost use Rattle.sub_answer.specs.FaultListing.{refusal, subtitle_event};
 ghost use Rattle.sub_answer.specs.Printer.{PrintsEvent, can_fail, counted, printer_value};
@@ -49,14 +49,23 @@ impl<'a, K: Sink> Printer<'a, K> {
     }
 
     // Counts an event where it is a refusal.
+    #[tactic(auto, unfolding(crate::specs::Printer::counted))]
     fn count(&mut self, event: Event)
         ensures { self.new ≡ record self.old {
           refused = counted self.old.refused (refusal event);
         } }
     {
-        if let Event::Told(_) = event {
-            self.refused = self.refused.saturating_add(1);
-        }
+        self.refused = self.refused.saturating_add(refusal(event));
+    }
+}
+
+// 1 for a refusal, and 0 for an end.
+fn refusal(event: Event) -> u64
+    ensures { result ≡ refusal event }
+{
+    match event {
+        Event::Told(_) => 1,
+        Event::Ended { .. } => 0,
     }
 }
 
@@ -73,7 +82,6 @@ impl<K: Sink> Audience<Event> for Printer<'_, K> {
     /// # Errors
     ///
     /// `Stopped` where the sink failed: it has a prefix of the line.
-    #[tactic(auto, using(sub_io::proofs::TellingLemmas::tellings))]
     fn tell(&mut self, item: Event) -> Result<(), Stopped> {
         self.print(item)
     }
@@ -93,7 +101,6 @@ impl<K: Sink> Audience<LoadFault> for Printer<'_, K> {
     /// # Errors
     ///
     /// `Stopped` where the sink failed: it has a prefix of the line.
-    #[tactic(auto, using(sub_io::proofs::TellingLemmas::tellings))]
     fn tell(&mut self, item: LoadFault) -> Result<(), Stopped> {
         self.print(Event::Told(CheckFault::Subtitles(item)))
     }

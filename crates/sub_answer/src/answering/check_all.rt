@@ -1,4 +1,10 @@
 //! `check STL PES --all`: prints every broken place of a subtitle file, or else of a PES file.
+ghost use Rattle.std.specs.Prelude.{◌≡◌, false};
+ghost use Rattle.sub_answer.specs.DeviceCall.{CanFail, CountsFault, sink_call, source_call};
+ghost use Rattle.sub_answer.specs.EveryFault.{AnswersAll, TellsBoth};
+ghost use Rattle.sub_answer.specs.FaultListing.{faults_listing, last_listing};
+ghost use Rattle.sub_answer.specs.Listing.{PrintsOrFails};
+ghost use Rattle.sub_answer.specs.Printer.{printer_value};
 
 use crate::answering::check::print_accepted;
 use crate::faults::told_of_check;
@@ -27,6 +33,16 @@ pub fn print_every_fault<S: Source, T: Source, K: Sink>(
     options: &Options,
     out: &mut K,
 ) -> Status
+    requires stl { CanFail (S.failure_count stl.old) }
+    requires pes { CanFail (T.failure_count pes.old) }
+    requires out { CanFail (K.failure_count out.old) }
+    ensures all { AnswersAll national options.now
+        (source_call S.remaining S.failure_count stl.old stl.new)
+        (source_call T.remaining T.failure_count pes.old pes.new)
+        (sink_call K.contents K.failure_count out.old out.new) result }
+    ensures stl_count { CountsFault S.failure_count stl.old result stl.new }
+    ensures pes_count { CountsFault T.failure_count pes.old result pes.new }
+    ensures out_count { CountsFault K.failure_count out.old result out.new }
 {
     let mut printer = Printer {
         out,
@@ -55,6 +71,19 @@ fn tell_every_fault<S: Source, T: Source, K: Sink>(
     options: &Options,
     printer: &mut Printer<'_, K>,
 ) -> Result<Option<Accepted>, CheckFault>
+    requires stl { CanFail (S.failure_count stl.old) }
+    requires pes { CanFail (T.failure_count pes.old) }
+    requires out { CanFail (K.failure_count printer.old.out.now) }
+    requires goes_on { printer.old.failed ≡ false }
+    requires none { printer.old.refused ≡ 0 }
+    ensures same { printer.new.out.ghost_name ≡ printer.old.out.ghost_name }
+    ensures told { TellsBoth national options.now
+        (source_call S.remaining S.failure_count stl.old stl.new)
+        (source_call T.remaining T.failure_count pes.old pes.new)
+        (printer_value (K.contents printer.old.out.now) (K.failure_count printer.old.out.now)
+        printer.old.refused printer.old.failed)
+        (printer_value (K.contents printer.new.out.now) (K.failure_count printer.new.out.now)
+        printer.new.refused printer.new.failed) result }
 {
     match load_all(alloc, stl, national, printer) {
         Err(fault) => Err(CheckFault::Subtitles(fault)),
@@ -72,16 +101,31 @@ fn print_end<K: Sink>(
     answer: Result<Option<Accepted>, CheckFault>,
     out: &mut K,
 ) -> Status
+    requires { CanFail (K.failure_count out.old) }
+    ensures printed { PrintsOrFails
+        (sink_call K.contents K.failure_count out.old out.new) (last_listing refused answer) result }
+    ensures count { CountsFault K.failure_count out.old result out.new }
 {
     match answer {
         Err(fault) => print_told(&told_of_check(fault), out),
-        Ok(Some(accepted)) if refused == 0 => print_accepted(accepted, out),
-        Ok(_) => print_count(refused, out),
+        Ok(None) => print_count(refused, out),
+        Ok(Some(accepted)) => {
+            if refused == 0 {
+                print_accepted(accepted, out)
+            } else {
+                print_count(refused, out)
+            }
+        }
     }
 }
 
 // Prints how many faults were told.
+#[tactic(auto, unfolding(crate::specs::Listing::PrintsOrFails))]
 fn print_count<K: Sink>(refused: u64, out: &mut K) -> Status
+    requires { CanFail (K.failure_count out.old) }
+    ensures printed { PrintsOrFails
+        (sink_call K.contents K.failure_count out.old out.new) (faults_listing refused) result }
+    ensures count { CountsFault K.failure_count out.old result out.new }
 {
     let mut line = Line::new();
     push_decimal(&mut line, refused);

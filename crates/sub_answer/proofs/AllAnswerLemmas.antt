@@ -1,0 +1,276 @@
+-- What is answered to `check --all` by what a printer was told, and how counts go with it. Main
+-- lemmas: answers_cut, answers_end, counted_stl, counted_pes.
+use Rattle.std.proofs.Common.{◌≡◌, ◌≢◌, ◌∙◌, ap, refl, sym, subst, arith, inl, inr, ℕ, ◌+◌, ◌==◌, ◌≤◌}
+use Rattle.std.proofs.Common.{List, [], ◌++◌, Bool, true, false, Option, Some, None, Result, Ok, Err}
+use Rattle.std.proofs.Common.{if◌then◌else◌, min}
+use Rattle.std.proofs.lemmas.Bool.{true≢false}
+use Rattle.std.specs.Prelude.{IfErr}
+use Rattle.std.specs.Io.KnownBytes.{Appends}
+use Rattle.std.proofs.KnownBytes.{Appends-trans}
+use Rattle.sub_io.proofs.DeviceLemmas.{AppendsPrefix-first, AppendsPrefix-second}
+use Rattle.sub_io.specs.Device.{AppendsPrefix, RisesIf, failed}
+use Rattle.sub_io.specs.Reading.{IfTold}
+use Rattle.ttx_pes.specs.declared.fault.PesFault.TheVariants as pes_fault
+use Rattle.stl_file.specs.declared.fault.StlFault.TheVariants as stl_fault
+use Rattle.stl_rows.specs.Fault.{is_read, is_read_kind}
+use Rattle.stl_rows.specs.declared.fault.LoadFaultKind.{LoadFaultKind}
+use Rattle.stl_rows.specs.declared.fault.LoadFaultKind.TheVariants as load
+use Rattle.stl_rows.specs.declared.national.National.{National}
+use Rattle.sub_plan.specs.Options.{OptionsValue}
+use Rattle.sub_check.specs.Fault.{is_failure, is_failure_kind, is_pes_read, is_stl_read}
+use Rattle.sub_check.specs.declared.checker.Accepted.{Accepted}
+use Rattle.sub_check.specs.declared.event.Event.{Event}
+use Rattle.sub_check.specs.declared.fault.CheckFault.{CheckFault}
+use Rattle.sub_check.specs.declared.fault.CheckFault.TheVariants as fault
+use Rattle.sub_answer.specs.DeviceCall.{Counts, SinkCall, SourceCall}
+use Rattle.sub_answer.specs.EveryFault.{AnswersAll, AreListed, AreListedBefore, CanEnd}
+use Rattle.sub_answer.specs.EveryFault.{TellsBoth}
+use Rattle.sub_answer.specs.FaultListing.{all_listing, last_listing, lines_of, most_counted}
+use Rattle.sub_answer.specs.FaultListing.{refusals}
+use Rattle.sub_answer.specs.Faults.{kind_by, load_told}
+use Rattle.sub_answer.specs.Listing.{Listing, PrintsOrFails, followed}
+use Rattle.sub_answer.specs.Printer.{PrinterValue, counted}
+use Rattle.sub_answer.specs.Told.{line_of, status_of}
+use Rattle.sub_answer.specs.Writing.{PrintsMemory}
+use Rattle.sub_answer.specs.declared.status.Status.{Status}
+use Rattle.sub_answer.specs.declared.status.Status.TheVariants.{Done, Fault, Refused}
+use Rattle.sub_answer.proofs.PrintingLemmas.{did_not_rise, printed-whole}
+
+-- A sink in a call, by what it had taken and has taken.
+abbrev sink : Option (List ℕ) → ℕ → Option (List ℕ) → ℕ → SinkCall
+sink old old_count new new_count = record {
+  old = old;
+  new = new;
+  old_count = old_count;
+  new_count = new_count;
+}
+
+-- Lines were put, and then a listing was printed.
+printed-after : (old mid new : Option (List ℕ)) (m n p : ℕ) (text : List ℕ) (listing : Listing)
+    (status : Status)
+    → Appends old mid text
+    → n ≡ m
+    → PrintsOrFails (sink mid n new p) listing status
+    → PrintsOrFails (sink old m new p) (followed text listing) status
+unfolding PrintsOrFails
+printed-after old mid new m n p text listing status put same (inl (kept, whole, is)) =
+    inl (kept ∙ same, Appends-trans old mid new text listing.text put whole, is)
+printed-after old mid new m n p text listing status put same (inr (risen, part, is)) =
+    inr (risen ∙ ap (λ x. x + 1) same,
+    AppendsPrefix-second old mid new text listing.text put part, is)
+
+-- Lines were cut, whatever should follow them.
+printed-cut : (old new : Option (List ℕ)) (m n : ℕ) (text : List ℕ) (listing : Listing)
+    → AppendsPrefix old new text
+    → n ≡ m + 1
+    → PrintsOrFails (sink old m new n) (followed text listing) Fault
+unfolding PrintsOrFails
+printed-cut old new m n text listing part risen =
+    inr (risen, AppendsPrefix-first old new text listing.text part, refl)
+
+-- What is accepted, or counted, does not end as a failure does.
+last-status : (n : ℕ) (b : Bool) (a : Accepted) → (n == 0) ≡ b
+    → (last_listing n (Ok (Some a))).status ≢ Fault
+last-status n true a is e = let s = rw is at e in cc
+last-status n false a is e = let s = rw is at e in cc
+
+-- Want of memory is told alone.
+memory-alone :
+    (national : National) (told old new : Option (List ℕ)) (events : List Event) (block : ℕ)
+    (kind : LoadFaultKind)
+    → kind ≡ load.Memory
+    → events ≡ []
+    → Appends old new (lines_of events ++ line_of (load_told kind block))
+    → IfTold told (λ file. AreListedBefore national file events block kind)
+    → PrintsMemory national told old new
+memory-alone national told old new events block load.Memory is none text are = (
+  block,
+  subst (λ (es : List Event). Appends old new (lines_of es ++ line_of (load_told load.Memory block)))
+      none text,
+  λ file heard. (are file heard).1,
+)
+memory-alone national told old new events block kind is none text are = cc
+
+-- An answer with the status `Fault`, where neither source failed, is want of memory.
+memory-told :
+    (national : National) (options : OptionsValue) (told pes old new : Option (List ℕ))
+    (events : List Event) (answer : Result (Option Accepted) CheckFault)
+    (refused so sn po pn : ℕ)
+    → (last_listing refused answer).status ≡ Fault
+    → IfErr answer (CanEnd events)
+    → RisesIf so (failed is_stl_read answer) sn
+    → sn ≡ so
+    → RisesIf po (failed is_pes_read answer) pn
+    → pn ≡ po
+    → Appends old new (lines_of events ++ (last_listing refused answer).text)
+    → IfTold told (λ file. AreListed national options file pes events answer)
+    → PrintsMemory national told old new
+memory-told national options told pes old new events (Ok None) refused so sn po pn is ended sc ss pc
+    ps text are = cc
+memory-told national options told pes old new events (Ok (Some a)) refused so sn po pn is ended sc ss
+    pc ps text are = absurd (last-status refused (refused == 0) a refl is)
+memory-told national options told pes old new events (Err (fault.Subtitles f)) refused so sn po pn is
+    ended sc ss pc ps text are =
+    elim ended [
+      inl read ↦ absurd (true≢false (sym read ∙ did_not_rise (is_read f) so sn sc ss))
+    | inr memory ↦
+        memory-alone national told old new events f.block f.kind memory.0 memory.1 text are
+    ]
+memory-told national options told pes old new events (Err f) refused so sn po pn is ended sc ss pc ps
+    text are =
+    absurd (true≢false (sym ended ∙ did_not_rise (is_pes_read f) po pn pc ps))
+
+-- ---- the answer
+
+-- The sink failed while events were told. For `print_every_fault`.
+pub answers_cut :
+    {S T : Type 0} (national : National) (options : OptionsValue)
+    (stl : SourceCall S) (pes : SourceCall T) (old new : PrinterValue)
+    (given : Result (Option Accepted) CheckFault)
+    → TellsBoth national options stl pes old new given
+    → new.failed ≡ true
+    → AnswersAll national options stl pes (sink old.contents old.count new.contents new.count) Fault
+answers_cut national options stl pes old new given t failing = record {
+  events = t.events;
+  answer = t.answer;
+  printed =
+      printed-cut old.contents new.contents old.count new.count (lines_of t.events)
+      (last_listing (min (refusals t.events) most_counted) t.answer)
+      (t.prints.cut failing) (t.prints.cut_count failing);
+  stl_count = t.stl_count;
+  pes_count = t.pes_count;
+  stl_read = t.stl_read;
+  pes_read = t.pes_read;
+  before = t.before;
+  listed = t.listed;
+  fault = λ is stl_same pes_same out_same.
+      let risen = t.prints.cut_count failing in absurd (omega (arith, risen, out_same));
+}
+
+-- All events were told, and the last line was printed or cut. For `print_every_fault`.
+pub answers_end :
+    {S T : Type 0} (national : National) (options : OptionsValue)
+    (stl : SourceCall S) (pes : SourceCall T) (old new : PrinterValue)
+    (given : Result (Option Accepted) CheckFault) (end : Option (List ℕ)) (end_count : ℕ)
+    (status : Status)
+    → TellsBoth national options stl pes old new given
+    → new.failed ≡ false
+    → old.refused ≡ 0
+    → PrintsOrFails (sink new.contents new.count end end_count) (last_listing new.refused given)
+    status
+    → AnswersAll national options stl pes (sink old.contents old.count end end_count) status
+unfolding counted
+answers_end national options stl pes old new given end end_count status t holds none last =
+    let refused : new.refused ≡ min (refusals t.events) most_counted =
+    t.prints.put_refused holds ∙ ap (λ n. min (n + refusals t.events) most_counted) none
+    ∙ (let none_before : 0 + refusals t.events ≡ refusals t.events = omega arith in
+    ap (λ n. min n most_counted) none_before) in
+    let line : PrintsOrFails (sink new.contents new.count end end_count)
+    (last_listing (min (refusals t.events) most_counted) t.answer) status =
+    rw (sym refused, t.same holds) last in
+    let printed =
+    printed-after old.contents new.contents end old.count new.count end_count (lines_of t.events)
+    (last_listing (min (refusals t.events) most_counted) t.answer) status (t.prints.put holds)
+    (t.prints.put_count holds) line in
+    record {
+      events = t.events;
+      answer = t.answer;
+      printed = printed;
+      stl_count = t.stl_count;
+      pes_count = t.pes_count;
+      stl_read = t.stl_read;
+      pes_read = t.pes_read;
+      before = t.before;
+      listed = t.listed;
+      fault = λ is stl_same pes_same out_same.
+          let whole =
+          printed-whole (sink old.contents old.count end end_count)
+          (all_listing t.events t.answer) status printed out_same in
+          memory-told national options stl.told pes.told old.contents end t.events t.answer
+          (min (refusals t.events) most_counted) _ _ _ _ (sym whole.1 ∙ is) t.ended t.stl_count
+          stl_same t.pes_count pes_same whole.0 t.listed;
+    }
+
+-- The same of a sink that stands so. For `print_every_fault`.
+pub answers_at :
+    {S T : Type 0} (national : National) (options : OptionsValue)
+    (stl : SourceCall S) (pes : SourceCall T) (old mid new : Option (List ℕ)) (m n p : ℕ)
+    (status : Status)
+    → AnswersAll national options stl pes (sink old m mid n) status
+    → new ≡ mid
+    → p ≡ n
+    → AnswersAll national options stl pes (sink old m new p) status
+answers_at national options stl pes old mid new m n p status answers same counted =
+    rw (same, counted) answers
+
+-- ---- counts
+
+counted_by : (b : Bool) (old new : ℕ) (status : Status)
+    → RisesIf old b new
+    → (b ≡ true → status ≡ Fault)
+    → Counts old status new
+counted_by true old new status rises is = record {
+  kept = λ other. absurd (other (is refl));
+  risen = omega (arith, rises);
+  once = omega (arith, rises);
+}
+counted_by false old new status rises is = record {
+  kept = λ other. omega (arith, rises);
+  risen = omega (arith, rises);
+  once = omega (arith, rises);
+}
+
+-- The status of a listing that tells a failure.
+printed-fault : (out : SinkCall) (listing : Listing) (status : Status)
+    → PrintsOrFails out listing status
+    → listing.status ≡ Fault
+    → status ≡ Fault
+unfolding PrintsOrFails
+printed-fault out listing status (inl p) is = p.2 ∙ is
+printed-fault out listing status (inr p) is = p.2
+
+-- A failed read of the subtitle file is a failure, whatever its kind.
+kind-fails : (kind : LoadFaultKind) → is_read_kind kind ≡ true
+    → status_of (kind_by (is_failure_kind kind)) ≡ Fault
+kind-fails load.Memory is = refl
+kind-fails kind is = ap (λ b. status_of (kind_by b)) is
+
+stl-fails : (f : CheckFault) → is_stl_read f ≡ true → status_of (kind_by (is_failure f)) ≡ Fault
+stl-fails (fault.Subtitles f) is = kind-fails f.kind is
+stl-fails f is = absurd (true≢false (sym is))
+
+pes-fails : (f : CheckFault) → is_pes_read f ≡ true → status_of (kind_by (is_failure f)) ≡ Fault
+pes-fails (fault.Subtitles f) is = absurd (true≢false (sym is))
+pes-fails f is = ap (λ b. status_of (kind_by b)) is
+
+stl-status : (events : List Event) (answer : Result (Option Accepted) CheckFault)
+    → failed is_stl_read answer ≡ true
+    → (all_listing events answer).status ≡ Fault
+stl-status events (Ok a) is = absurd (true≢false (sym is))
+stl-status events (Err f) is = stl-fails f is
+
+pes-status : (events : List Event) (answer : Result (Option Accepted) CheckFault)
+    → failed is_pes_read answer ≡ true
+    → (all_listing events answer).status ≡ Fault
+pes-status events (Ok a) is = absurd (true≢false (sym is))
+pes-status events (Err f) is = pes-fails f is
+
+-- The subtitle file's source fails once at most, and not where the status is another than `Fault`.
+pub counted_stl : {S T : Type 0} (national : National) (options : OptionsValue)
+    (stl : SourceCall S) (pes : SourceCall T) (out : SinkCall) (status : Status)
+    → AnswersAll national options stl pes out status
+    → Counts stl.old_count status stl.new_count
+counted_stl national options stl pes out status a =
+    counted_by (failed is_stl_read a.answer) stl.old_count stl.new_count status a.stl_count
+    (λ fails. printed-fault out (all_listing a.events a.answer) status a.printed
+    (stl-status a.events a.answer fails))
+
+-- The same of the PES file's.
+pub counted_pes : {S T : Type 0} (national : National) (options : OptionsValue)
+    (stl : SourceCall S) (pes : SourceCall T) (out : SinkCall) (status : Status)
+    → AnswersAll national options stl pes out status
+    → Counts pes.old_count status pes.new_count
+counted_pes national options stl pes out status a =
+    counted_by (failed is_pes_read a.answer) pes.old_count pes.new_count status a.pes_count
+    (λ fails. printed-fault out (all_listing a.events a.answer) status a.printed
+    (pes-status a.events a.answer fails))

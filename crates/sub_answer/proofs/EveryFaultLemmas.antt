@@ -1,0 +1,457 @@
+-- What a printer was told of two files, and what is answered by it. Main lemmas: after_error,
+-- after_faults, after_pes_error, after_pes, answers_cut, answers_end.
+use Rattle.std.proofs.Common.{◌≡◌, ◌≢◌, ◌∙◌, ap, refl, sym, subst, arith, inl, inr, ℕ, ◌+◌, ◌<◌, ◌≤◌}
+use Rattle.std.proofs.Common.{zero, suc, List, [], ◌∷◌, ◌++◌, map, drop, take, length, Bool, true}
+use Rattle.std.proofs.Common.{false, Option, Some, None, Result, Ok, Err, if◌then◌else◌, ◌-◌, max, min}
+use Rattle.std.proofs.lemmas.Bool.{true≢false}
+use Rattle.std.proofs.lemmas.Bool.Decides.{nat_tests}
+use Rattle.std.specs.Prelude.{◌⊎◌, IfErr}
+use Rattle.std.specs.List.{filter}
+use Rattle.std.specs.Io.KnownBytes.{Appends}
+use Rattle.std.proofs.KnownBytes.{Appends-nil, Appends-trans}
+use Rattle.sub_io.proofs.DeviceLemmas.{AppendsPrefix-first, AppendsPrefix-second}
+use Rattle.sub_io.specs.Device.{RisesIf, failed}
+use Rattle.sub_io.specs.Reading.{IfTold}
+use Rattle.sub_io.specs.Telling.{Tells, TellsPrefix, TellsSome}
+use Rattle.ttx_packet.specs.PageId.{PageIdValue}
+use Rattle.ttx_pes.specs.Reader.{FailsAtPacket}
+use Rattle.ttx_pes.specs.declared.fault.PesFault.TheVariants as pes_fault
+use Rattle.stl_file.specs.Reader.{outcome_of}
+use Rattle.stl_file.specs.declared.fault.StlFault.TheVariants as stl_fault
+use Rattle.stl_rows.specs.EveryFault.{FailsTelling, TellsFaults, TellsOfFile, faults, is_before}
+use Rattle.stl_rows.specs.Fault.{is_read}
+use Rattle.stl_rows.specs.Loading.{EndsRecord, load_fault, loaded}
+use Rattle.stl_rows.specs.Programme.{ProgrammeValue}
+use Rattle.stl_rows.specs.declared.fault.LoadFault.{LoadFault}
+use Rattle.stl_rows.specs.declared.fault.LoadFaultKind.{LoadFaultKind}
+use Rattle.stl_rows.specs.declared.fault.LoadFaultKind.TheVariants as load
+use Rattle.stl_rows.specs.declared.national.National.{National}
+use Rattle.sub_plan.specs.Options.{OptionsValue}
+use Rattle.sub_check.specs.CheckedFiles.{TellsEvents}
+use Rattle.sub_check.specs.Checking.{CountsRead}
+use Rattle.sub_check.specs.Events as pes_events
+use Rattle.sub_check.specs.Fault.{is_failure, is_pes_read, is_stl_read}
+use Rattle.sub_check.specs.FrameRules.{frame_at, packets_before, task_of}
+use Rattle.sub_check.specs.PacketRules.{header_count}
+use Rattle.sub_check.specs.PesReading.{pes_file_of}
+use Rattle.sub_check.specs.Transmission.{Transmission}
+use Rattle.sub_check.specs.declared.checker.Accepted.{Accepted}
+use Rattle.sub_check.specs.declared.event.Event.{Event}
+use Rattle.sub_check.specs.declared.fault.CheckFault.{CheckFault}
+use Rattle.sub_check.specs.declared.fault.CheckFault.TheVariants as fault
+use Rattle.sub_answer.specs.DeviceCall.{Counts, SinkCall, SourceCall}
+use Rattle.sub_answer.specs.EveryFault.{AnswersAll, AreListed, CanEnd, FailsAtBlock, TellsBoth}
+use Rattle.sub_answer.specs.FaultListing.{all_listing, last_listing, lines_of, most_counted}
+use Rattle.sub_answer.specs.FaultListing.{refusals, subtitle_event, subtitle_events}
+use Rattle.sub_answer.specs.Faults.{kind_by, load_told}
+use Rattle.sub_answer.specs.Listing.{Listing, PrintsOrFails}
+use Rattle.sub_answer.specs.Printer.{PrinterValue, PrintsEvent, PrintsEvents, counted}
+use Rattle.sub_answer.specs.Told.{status_of}
+use Rattle.sub_answer.specs.Writing.{PrintsMemory}
+use Rattle.sub_answer.specs.declared.status.Status.{Status}
+use Rattle.sub_answer.specs.declared.status.Status.TheVariants.{Done, Fault, Refused}
+use Rattle.sub_answer.proofs.PrinterLemmas.{as_told, prints-taken, prints_all}
+use Rattle.sub_answer.proofs.PrintingLemmas.{did_not_rise, printed-whole}
+
+-- ---- the subtitle file
+
+-- A fault of the subtitle file is one refusal.
+refusals-subtitles : (fs : List LoadFault) → refusals (subtitle_events fs) ≡ length fs
+refusals-subtitles [] = refl
+refusals-subtitles (f ∷ fs) = let rest = refusals-subtitles fs in omega (arith, rest)
+
+-- What an error of the subtitle file names.
+named : (f g : LoadFault)
+    → (let r : Result (Option Accepted) CheckFault = Err (fault.Subtitles f) in r)
+    ≡ Err (fault.Subtitles g)
+    → f ≡ g
+named f g is = cc
+
+module _ {D N : Type 0} (IsTold : D → LoadFault → D → Type 0) (name : D → N)
+    (value : D → PrinterValue)
+    (one : (s t : D) (x : LoadFault) → IsTold s x t
+    → (name t ≡ name s) × PrintsEvent (value s) (subtitle_event x) (value t))
+    {S T : Type 0} (national : National) (options : OptionsValue)
+    (stl : SourceCall S) (pes : SourceCall T)
+    (old new : D)
+    (goes : (value old).failed ≡ false) (few : (value old).refused ≤ most_counted)
+    (pes_same : pes.new ≡ pes.old) (pes_count : RisesIf pes.old_count false pes.new_count) where
+
+  abbrev printed : (items : List LoadFault) → Tells IsTold old new items
+      → (name new ≡ name old) × PrintsEvents (value old) (subtitle_events items) (value new)
+  printed items told = prints_all IsTold name value subtitle_event one old new items goes few told
+
+  module _ (quiet : (value new).failed ≡ false) where
+    -- Memory was refused: nothing was told before.
+    refused_memory : (block : ℕ)
+        → Tells IsTold old new []
+        → RisesIf stl.old_count false stl.new_count
+        → IfTold stl.told (λ file. EndsRecord national [] block (outcome_of file))
+        → TellsBoth national options stl pes (value old) (value new)
+        (Err (fault.Subtitles (load_fault block load.Memory)))
+    refused_memory block told count memory = record {
+      events = [];
+      answer = Err (fault.Subtitles (load_fault block load.Memory));
+      same = λ holds. refl;
+      prints = (printed [] told).1;
+      stl_count = count;
+      pes_count = pes_count;
+      stl_read = λ f is read.
+          absurd (true≢false (sym read ∙ sym (ap is_read (named _ f is))));
+      pes_read = λ index is. cc;
+      before = λ is. pes_same;
+      ended = inr (refl, refl);
+      cut = λ failing. absurd (true≢false (sym failing ∙ quiet));
+      listed = λ file told. (refl, memory file told);
+    }
+
+    -- The source failed: these were told before.
+    failed_source : (block : ℕ) (items : List LoadFault)
+        → Tells IsTold old new items
+        → RisesIf stl.old_count true stl.new_count
+        → FailsAtBlock stl.told stl.left block
+        → IfTold stl.told (λ file. items ≡ filter (is_before block) (faults national (outcome_of file)))
+        → TellsBoth national options stl pes (value old) (value new)
+        (Err (fault.Subtitles (load_fault block (load.File stl_fault.Read))))
+    failed_source block items told count fails are = record {
+      events = subtitle_events items;
+      answer = Err (fault.Subtitles (load_fault block (load.File stl_fault.Read)));
+      same = λ holds. refl;
+      prints = (printed items told).1;
+      stl_count = count;
+      pes_count = pes_count;
+      stl_read = λ f is read.
+          subst (λ (g : LoadFault). FailsAtBlock stl.told stl.left g.block) (named _ f is) fails;
+      pes_read = λ index is. cc;
+      before = λ is. pes_same;
+      ended = inl refl;
+      cut = λ failing. absurd (true≢false (sym failing ∙ quiet));
+      listed = λ file told. ap subtitle_events (are file told);
+    }
+
+    -- Where the source tells its bytes, they decide what was told before it failed.
+    failed_at : (block : ℕ) (o : Option (List ℕ))
+        → stl.told ≡ o
+        → TellsSome IsTold old new
+        → RisesIf stl.old_count true stl.new_count
+        → FailsTelling national stl.told stl.left IsTold old new block
+        → TellsBoth national options stl pes (value old) (value new)
+        (Err (fault.Subtitles (load_fault block (load.File stl_fault.Read))))
+    failed_at block None is some count read =
+        failed_source block some.items some.told count
+        (record { bytes = read.bytes; consumed = read.consumed; block_is = read.block_is })
+        (λ file told. cc)
+    failed_at block (Some file) is some count read =
+        failed_source block (filter (is_before block) (faults national (outcome_of file)))
+        (read.told file is) count
+        (record { bytes = read.bytes; consumed = read.consumed; block_is = read.block_is })
+        (λ other told.
+        let same : file ≡ other = cc in
+        ap (λ b. filter (is_before block) (faults national (outcome_of b))) same)
+
+    -- The subtitle file can't be read on. For `tell_every_fault`.
+    pub after_error : (block : ℕ) (kind : LoadFaultKind)
+        → (kind ≡ load.Memory) ⊎ (kind ≡ load.File stl_fault.Read)
+        → TellsSome IsTold old new
+        → (kind ≡ load.Memory → Tells IsTold old new [])
+        → RisesIf stl.old_count (is_read (load_fault block kind)) stl.new_count
+        → IfTold stl.told (λ file. kind ≡ load.Memory
+        → EndsRecord national [] block (outcome_of file))
+        → (is_read (load_fault block kind) ≡ true
+        → FailsTelling national stl.told stl.left IsTold old new block)
+        → TellsBoth national options stl pes (value old) (value new)
+        (Err (fault.Subtitles (load_fault block kind)))
+    after_error block load.Memory kinds some none count memory read =
+        refused_memory block (none refl) count (λ file told. memory file told refl)
+    after_error block (load.File stl_fault.Read) kinds some none count memory read =
+        failed_at block stl.told refl some count (read refl)
+    after_error block kind kinds some none count memory read =
+        absurd (elim kinds [ inl e ↦ cc | inr e ↦ cc ])
+
+  -- The subtitle file is refused: these are its faults, of which the sink may have a part.
+  refused_file : (items : List LoadFault)
+      → PrintsEvents (value old) (subtitle_events items) (value new)
+      → 0 < length items
+      → RisesIf stl.old_count false stl.new_count
+      → IfTold stl.told (λ file. items ≡ faults national (outcome_of file))
+      → TellsBoth national options stl pes (value old) (value new) (Ok None)
+  refused_file items prints some count are = record {
+    events = subtitle_events items;
+    answer = Ok None;
+    same = λ holds. refl;
+    prints = prints;
+    stl_count = count;
+    pes_count = pes_count;
+    stl_read = λ f is. cc;
+    pes_read = λ index is. cc;
+    before = λ is. pes_same;
+    ended = tt;
+    cut = λ failing. refl;
+    listed = λ file told.
+        (ap subtitle_events (are file told), rw (refusals-subtitles items) some);
+  }
+
+  -- What was told of a list, where the sink failed or not.
+  prints-faults : (items : List LoadFault) (stopped b : Bool)
+      → (value new).failed ≡ b
+      → (b ≡ false → stopped ≡ false)
+      → TellsFaults IsTold old new stopped items
+      → PrintsEvents (value old) (subtitle_events items) (value new)
+  prints-faults items stopped false is quiet told = (printed items (told.all (quiet refl))).1
+  prints-faults items stopped true is quiet told =
+      let p = told.prefix in
+      prints-taken subtitle_event (value old) (value new) p.0 items is
+      (printed (take p.0 items) p.3).1
+
+  go_faults : (o : Option (List ℕ)) (stopped : Bool)
+      → stl.told ≡ o
+      → ((value new).failed ≡ false → stopped ≡ false)
+      → TellsOfFile IsTold old new
+      → IfTold stl.told (λ file. TellsFaults IsTold old new stopped
+      (faults national (outcome_of file)))
+      → RisesIf stl.old_count false stl.new_count
+      → TellsBoth national options stl pes (value old) (value new) (Ok None)
+  go_faults None stopped is quiet some told count =
+      refused_file some.faults (printed some.faults some.told).1 some.some count (λ file heard. cc)
+  go_faults (Some file) stopped is quiet some told count =
+      let here = told file is in
+      let p = here.prefix in
+      let least : 0 < p.0 = p.1 in
+      let most : p.0 ≤ length (faults national (outcome_of file)) = p.2 in
+      refused_file (faults national (outcome_of file))
+      (prints-faults (faults national (outcome_of file)) stopped (value new).failed refl quiet here)
+      (omega (arith, least, most)) count
+      (λ other heard.
+      let same : file ≡ other = cc in
+      ap (λ b. faults national (outcome_of b)) same)
+
+  -- The subtitle file is refused. For `tell_every_fault`.
+  pub after_faults : (stopped : Bool)
+      → ((value new).failed ≡ false → (value new).count ≡ (value old).count → stopped ≡ false)
+      → TellsOfFile IsTold old new
+      → IfTold stl.told (λ file. TellsFaults IsTold old new stopped
+      (faults national (outcome_of file)))
+      → RisesIf stl.old_count false stl.new_count
+      → (name new ≡ name old)
+      × TellsBoth national options stl pes (value old) (value new) (Ok None)
+  after_faults stopped quiet some told count =
+      let here = printed some.faults some.told in (
+        here.0,
+        go_faults stl.told stopped refl (λ holds. quiet holds (here.1.put_count holds)) some told count,
+      )
+
+  -- The name of what it prints into stays.
+  pub same_sink : TellsSome IsTold old new → name new ≡ name old
+  same_sink some = (printed some.items some.told).0
+
+-- ---- the PES file
+
+-- The frames that are counted are holds fewer than none.
+latest-first : (frames : Transmission) (n : ℕ) → frame_at frames 0 ≤ pes_events.latest frames (suc n)
+unfolding pes_events.latest
+latest-first frames zero = grind (arith, nat_tests)
+latest-first frames (suc n) =
+    let before = latest-first frames n in grind (arith, nat_tests)
+
+-- What was read can be counted.
+some_counts : (page : PageIdValue) (frames : Transmission) (n : ℕ) → length frames ≡ n
+    → (a : Accepted) × CountsRead page frames a
+some_counts page frames zero is = (
+  record {
+    frames = 0;
+    transmissions = header_count page (packets_before frames (length frames));
+  },
+  record {
+    none = λ none. refl;
+    frames_are = λ some. absurd (omega (arith, is, some));
+    transmissions_are = refl;
+  },
+)
+some_counts page frames (suc n) is =
+    let first = latest-first frames n in (
+      record {
+        frames = (pes_events.latest frames (suc n) + 1) - frame_at frames 0;
+        transmissions = header_count page (packets_before frames (length frames));
+      },
+      record {
+        none = λ none. absurd (omega (arith, is, none));
+        frames_are = λ some. rw is (omega (arith, first));
+        transmissions_are = refl;
+      },
+    )
+
+module _ {D N : Type 0} (IsTold : D → Event → D → Type 0) (name : D → N)
+    (value : D → PrinterValue)
+    (one : (s t : D) (x : Event) → IsTold s x t
+    → (name t ≡ name s) × PrintsEvent (value s) x (value t))
+    {S T : Type 0} (national : National) (options : OptionsValue)
+    (stl : SourceCall S) (pes : SourceCall T) (programme : ProgrammeValue)
+    (old new : D)
+    (goes : (value old).failed ≡ false) (few : (value old).refused ≤ most_counted)
+    (loads : IfTold stl.told (λ file. loaded national (outcome_of file) ≡ Ok programme))
+    (stl_count : RisesIf stl.old_count false stl.new_count) where
+
+  put : (items : List Event) → Tells IsTold old new items
+      → (name new ≡ name old) × PrintsEvents (value old) items (value new)
+  put items told =
+      let all = prints_all IsTold name value (λ (e : Event). e) one old new items goes few told in
+      (all.0, as_told (value old) (value new) items all.1)
+
+  -- The source failed at this PES packet: these were told before.
+  failed_pes : (n : ℕ) (items : List Event)
+      → (value new).failed ≡ false
+      → Tells IsTold old new items
+      → RisesIf pes.old_count true pes.new_count
+      → ((index : ℕ) → n ≡ index → FailsAtPacket index pes.told pes.left)
+      → IfTold pes.told (λ bytes. (n ≤ length (pes_file_of options.origin bytes).frames)
+      × (items ≡ pes_events.events_of_first
+      (task_of programme options (pes_file_of options.origin bytes).unread)
+      (pes_file_of options.origin bytes).frames n))
+      → TellsBoth national options stl pes (value old) (value new)
+      (Err (fault.Pes n pes_fault.Read))
+  failed_pes n items quiet told count fails are = record {
+    events = items;
+    answer = Err (fault.Pes n pes_fault.Read);
+    same = λ holds. refl;
+    prints = (put items told).1;
+    stl_count = stl_count;
+    pes_count = count;
+    stl_read = λ f is. cc;
+    pes_read = λ index is. fails index cc;
+    before = λ is. cc;
+    ended = refl;
+    cut = λ failing. absurd (true≢false (sym failing ∙ quiet));
+    listed = λ file told. record { programme = programme; loads = loads file told; listed = are };
+  }
+
+  go_pes : (o : Option (List ℕ)) (n : ℕ) (stopped : Bool)
+      → pes.told ≡ o
+      → (value new).failed ≡ false
+      → TellsSome IsTold old new
+      → IfTold pes.told (λ bytes. TellsEvents programme options bytes IsTold old new stopped
+      (Err (fault.Pes n pes_fault.Read)))
+      → RisesIf pes.old_count true pes.new_count
+      → ((index : ℕ) → n ≡ index → FailsAtPacket index pes.told pes.left)
+      → TellsBoth national options stl pes (value old) (value new)
+      (Err (fault.Pes n pes_fault.Read))
+  go_pes None n stopped is quiet some told count fails =
+      failed_pes n some.items quiet some.told count fails (λ bytes heard. cc)
+  go_pes (Some bytes) n stopped is quiet some told count fails =
+      let here = told bytes is in
+      let file = pes_file_of options.origin bytes in
+      let at : here.0 ≡ n = let e = here.2 in cc in
+      failed_pes n
+      (pes_events.events_of_first (task_of programme options file.unread) file.frames n) quiet
+      (subst (λ (m : ℕ). Tells IsTold old new
+      (pes_events.events_of_first (task_of programme options file.unread) file.frames m)) at
+      here.3) count fails
+      (λ other heard.
+      let same : bytes ≡ other = cc in
+      rw (sym same) (subst (λ (m : ℕ). m ≤ length file.frames) at here.1, refl))
+
+  -- The source of the PES file failed. For `tell_every_fault`.
+  pub after_pes_error : (f : CheckFault) (stopped : Bool)
+      → is_pes_read f ≡ true
+      → (value new).failed ≡ false
+      → TellsSome IsTold old new
+      → IfTold pes.told (λ bytes. TellsEvents programme options bytes IsTold old new stopped (Err f))
+      → RisesIf pes.old_count (is_pes_read f) pes.new_count
+      → ((index : ℕ)
+      → (let r : Result Accepted CheckFault = Err f in r) ≡ Err (fault.Pes index pes_fault.Read)
+      → FailsAtPacket index pes.told pes.left)
+      → TellsBoth national options stl pes (value old) (value new) (Err f)
+  after_pes_error (fault.Pes n pes_fault.Read) stopped is quiet some told count fails =
+      go_pes pes.told n stopped refl quiet some told count
+      (λ index e. fails index (ap (λ m. let r : Result Accepted CheckFault
+      = Err (fault.Pes m pes_fault.Read) in r) e))
+  after_pes_error f stopped is quiet some told count fails = cc
+
+  -- These are the events of the PES file, of which the sink may have a part.
+  read_pes : (items : List Event) (a given : Accepted)
+      → PrintsEvents (value old) items (value new)
+      → ((value new).failed ≡ false → a ≡ given)
+      → RisesIf pes.old_count false pes.new_count
+      → IfTold pes.told (λ bytes. (items ≡ pes_events.events
+      (task_of programme options (pes_file_of options.origin bytes).unread)
+      (pes_file_of options.origin bytes).frames)
+      × CountsRead options.page (pes_file_of options.origin bytes).frames a)
+      → TellsBoth national options stl pes (value old) (value new) (Ok (Some given))
+  read_pes items a given prints same count are = record {
+    events = items;
+    answer = Ok (Some a);
+    same = λ holds. ap (λ (x : Accepted). let r : Result (Option Accepted) CheckFault
+        = Ok (Some x) in r) (same holds);
+    prints = prints;
+    stl_count = stl_count;
+    pes_count = count;
+    stl_read = λ f is. cc;
+    pes_read = λ index is. cc;
+    before = λ is. cc;
+    ended = tt;
+    cut = λ failing. refl;
+    listed = λ file told. record { programme = programme; loads = loads file told; listed = are };
+  }
+
+  go_events : (bytes : List ℕ) (given : Accepted) (stopped b : Bool)
+      → pes.told ≡ Some bytes
+      → (value new).failed ≡ b
+      → stopped ≡ b
+      → TellsEvents programme options bytes IsTold old new stopped (Ok given)
+      → RisesIf pes.old_count false pes.new_count
+      → TellsBoth national options stl pes (value old) (value new) (Ok (Some given))
+  go_events bytes given false false is holds stops told count =
+      let file = pes_file_of options.origin bytes in
+      let whole = pes_events.events (task_of programme options file.unread) file.frames in
+      read_pes whole given given (put whole told.0).1 (λ holds. refl) count
+      (λ other heard.
+      let same : bytes ≡ other = cc in
+      rw (sym same) (refl, (told.1 refl).0))
+  go_events bytes given true true is failing stops told count =
+      let file = pes_file_of options.origin bytes in
+      let whole = pes_events.events (task_of programme options file.unread) file.frames in
+      let counts = some_counts options.page file.frames (length file.frames) refl in
+      let p = told.0 in
+      let part = prints_all IsTold name value (λ (e : Event). e) one old new (take p.0 whole) goes few p.2 in
+      read_pes whole counts.0 given
+      (as_told (value old) (value new) whole
+      (prints-taken (λ (e : Event). e) (value old) (value new) p.0 whole failing part.1))
+      (λ holds. absurd (true≢false (sym failing ∙ holds))) count
+      (λ other heard.
+      let same : bytes ≡ other = cc in
+      rw (sym same) (refl, counts.1))
+  go_events bytes given true false is failing stops told count = cc
+  go_events bytes given false true is failing stops told count = cc
+
+  go_all : (o : Option (List ℕ)) (given : Accepted) (stopped : Bool)
+      → pes.told ≡ o
+      → stopped ≡ (value new).failed
+      → TellsSome IsTold old new
+      → IfTold pes.told (λ bytes. TellsEvents programme options bytes IsTold old new stopped
+      (Ok given))
+      → RisesIf pes.old_count false pes.new_count
+      → TellsBoth national options stl pes (value old) (value new) (Ok (Some given))
+  go_all None given stopped is stops some told count =
+      read_pes some.items given given (put some.items some.told).1 (λ holds. refl) count
+      (λ bytes heard. cc)
+  go_all (Some bytes) given stopped is stops some told count =
+      go_events bytes given stopped (value new).failed is refl stops (told bytes is) count
+
+  -- The PES file was read, or the sink failed. For `tell_every_fault`.
+  pub after_pes : (given : Accepted) (stopped : Bool)
+      → ((value new).failed ≡ true → stopped ≡ true)
+      → ((value new).failed ≡ false → (value new).count ≡ (value old).count → stopped ≡ false)
+      → TellsSome IsTold old new
+      → IfTold pes.told (λ bytes. TellsEvents programme options bytes IsTold old new stopped
+      (Ok given))
+      → RisesIf pes.old_count false pes.new_count
+      → TellsBoth national options stl pes (value old) (value new) (Ok (Some given))
+  after_pes given stopped stops quiet some told count =
+      go_all pes.told given stopped refl (both (value new).failed refl) some told count
+    where
+      both : (b : Bool) → (value new).failed ≡ b → stopped ≡ (value new).failed
+      both true is = stops is ∙ sym is
+      both false is = quiet is ((put some.items some.told).1.put_count is) ∙ sym is
+
+  -- The name of what it prints into stays.
+  pub same_out : TellsSome IsTold old new → name new ≡ name old
+  same_out some = (put some.items some.told).0
