@@ -56,8 +56,11 @@ unfolding PrintsOrFails
 printed-after old mid new m n p text listing status put same (inl (kept, whole, is)) =
     inl (kept ∙ same, Appends-trans old mid new text listing.text put whole, is)
 printed-after old mid new m n p text listing status put same (inr (risen, part, is)) =
-    inr (risen ∙ ap (λ x. x + 1) same,
-    AppendsPrefix-second old mid new text listing.text put part, is)
+    inr (
+      risen ∙ ap (λ x. x + 1) same,
+      AppendsPrefix-second old mid new text listing.text put part,
+      is,
+    )
 
 -- Lines were cut, whatever should follow them.
 printed-cut : (old new : Option (List ℕ)) (m n : ℕ) (text : List ℕ) (listing : Listing)
@@ -112,9 +115,9 @@ memory-told national options told pes old new events (Ok (Some a)) refused so sn
 memory-told national options told pes old new events (Err (fault.Subtitles f)) refused so sn po pn is
     ended sc ss pc ps text are =
     elim ended [
-      inl read ↦ absurd (true≢false (sym read ∙ did_not_rise (is_read f) so sn sc ss))
-    | inr memory ↦
-        memory-alone national told old new events f.block f.kind memory.0 memory.1 text are
+      | inl read ↦ absurd (true≢false (sym read ∙ did_not_rise (is_read f) so sn sc ss))
+      | inr memory ↦
+          memory-alone national told old new events f.block f.kind memory.0 memory.1 text are
     ]
 memory-told national options told pes old new events (Err f) refused so sn po pn is ended sc ss pc ps
     text are =

@@ -76,7 +76,6 @@ module _ {D N : Type 0} (IsTold : D → LoadFault → D → Type 0) (name : D �
     (old new : D)
     (goes : (value old).failed ≡ false) (few : (value old).refused ≤ most_counted)
     (pes_same : pes.new ≡ pes.old) (pes_count : RisesIf pes.old_count false pes.new_count) where
-
   abbrev printed : (items : List LoadFault) → Tells IsTold old new items
       → (name new ≡ name old) × PrintsEvents (value old) (subtitle_events items) (value new)
   printed items told = prints_all IsTold name value subtitle_event one old new items goes few told
@@ -290,7 +289,6 @@ module _ {D N : Type 0} (IsTold : D → Event → D → Type 0) (name : D → N)
     (goes : (value old).failed ≡ false) (few : (value old).refused ≤ most_counted)
     (loads : IfTold stl.told (λ file. loaded national (outcome_of file) ≡ Ok programme))
     (stl_count : RisesIf stl.old_count false stl.new_count) where
-
   put : (items : List Event) → Tells IsTold old new items
       → (name new ≡ name old) × PrintsEvents (value old) items (value new)
   put items told =

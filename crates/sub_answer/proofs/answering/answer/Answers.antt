@@ -15,9 +15,6 @@ returns-in-Normal-clause-answers g c = rw c.in-Normal.is c.write-in-Normal.ensur
 pub returns-in-Schedule-clause-answers : goal.returns-in-Schedule-clause-answers
 returns-in-Schedule-clause-answers g c = rw c.in-Schedule.is c.write.ensures.work
 
-pub returns-in-Check-clause-answers : goal.returns-in-Check-clause-answers
-returns-in-Check-clause-answers g c = rw c.in-Check.is c.print_verdict.ensures.check
-
 pub returns-in-Keep-clause-answers : goal.returns-in-Keep-clause-answers
 returns-in-Keep-clause-answers g c =
     let l = c.in-Listen.listening in
