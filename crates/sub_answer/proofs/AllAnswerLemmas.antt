@@ -1,7 +1,9 @@
 -- What is answered to `check --all` by what a printer was told, and how counts go with it. Main
 -- lemmas: answers_cut, answers_end, counted_stl, counted_pes.
-use Rattle.std.proofs.Common.{◌≡◌, ◌≢◌, ◌∙◌, ap, refl, sym, subst, arith, inl, inr, ℕ, ◌+◌, ◌==◌, ◌≤◌}
-use Rattle.std.proofs.Common.{List, [], ◌++◌, Bool, true, false, Option, Some, None, Result, Ok, Err}
+use Rattle.std.proofs.Common.{◌≡◌, ◌≢◌, ◌∙◌, ap, refl, sym, subst, arith, inl, inr, ℕ, ◌+◌, ◌==◌}
+use Rattle.std.proofs.Common.{◌≤◌}
+use Rattle.std.proofs.Common.{List, [], ◌++◌, Bool, true, false, Option, Some, None, Result, Ok}
+use Rattle.std.proofs.Common.{Err}
 use Rattle.std.proofs.Common.{if◌then◌else◌, min}
 use Rattle.std.proofs.lemmas.Bool.{true≢false}
 use Rattle.std.specs.Prelude.{IfErr}
@@ -88,7 +90,8 @@ memory-alone :
     → PrintsMemory national told old new
 memory-alone national told old new events block load.Memory is none text are = (
   block,
-  subst (λ (es : List Event). Appends old new (lines_of es ++ line_of (load_told load.Memory block)))
+  subst (λ (es : List Event). Appends old new
+      (lines_of es ++ line_of (load_told load.Memory block)))
       none text,
   λ file heard. (are file heard).1,
 )
@@ -110,16 +113,19 @@ memory-told :
     → PrintsMemory national told old new
 memory-told national options told pes old new events (Ok None) refused so sn po pn is ended sc ss pc
     ps text are = cc
-memory-told national options told pes old new events (Ok (Some a)) refused so sn po pn is ended sc ss
+memory-told national options told pes old new events (Ok (Some a)) refused so sn po pn is
+    ended sc ss
     pc ps text are = absurd (last-status refused (refused == 0) a refl is)
-memory-told national options told pes old new events (Err (fault.Subtitles f)) refused so sn po pn is
+memory-told national options told pes old new events (Err (fault.Subtitles f)) refused so
+    sn po pn is
     ended sc ss pc ps text are =
     elim ended [
       | inl read ↦ absurd (true≢false (sym read ∙ did_not_rise (is_read f) so sn sc ss))
       | inr memory ↦
           memory-alone national told old new events f.block f.kind memory.0 memory.1 text are
     ]
-memory-told national options told pes old new events (Err f) refused so sn po pn is ended sc ss pc ps
+memory-told national options told pes old new events (Err f) refused so sn po pn is ended
+    sc ss pc ps
     text are =
     absurd (true≢false (sym ended ∙ did_not_rise (is_pes_read f) po pn pc ps))
 

@@ -1,8 +1,10 @@
 -- What a printer was told of two files, and what is answered by it. Main lemmas: after_error,
 -- after_faults, after_pes_error, after_pes, answers_cut, answers_end.
-use Rattle.std.proofs.Common.{◌≡◌, ◌≢◌, ◌∙◌, ap, refl, sym, subst, arith, inl, inr, ℕ, ◌+◌, ◌<◌, ◌≤◌}
+use Rattle.std.proofs.Common.{◌≡◌, ◌≢◌, ◌∙◌, ap, refl, sym, subst, arith, inl, inr, ℕ, ◌+◌, ◌<◌}
+use Rattle.std.proofs.Common.{◌≤◌}
 use Rattle.std.proofs.Common.{zero, suc, List, [], ◌∷◌, ◌++◌, map, drop, take, length, Bool, true}
-use Rattle.std.proofs.Common.{false, Option, Some, None, Result, Ok, Err, if◌then◌else◌, ◌-◌, max, min}
+use Rattle.std.proofs.Common.{false, Option, Some, None, Result, Ok, Err, if◌then◌else◌, ◌-◌, max}
+use Rattle.std.proofs.Common.{min}
 use Rattle.std.proofs.lemmas.Bool.{true≢false}
 use Rattle.std.proofs.lemmas.Bool.Decides.{nat_tests}
 use Rattle.std.specs.Prelude.{◌⊎◌, IfErr}
@@ -109,7 +111,8 @@ module _ {D N : Type 0} (IsTold : D → LoadFault → D → Type 0) (name : D �
         → Tells IsTold old new items
         → RisesIf stl.old_count true stl.new_count
         → FailsAtBlock stl.told stl.left block
-        → IfTold stl.told (λ file. items ≡ filter (is_before block) (faults national (outcome_of file)))
+        → IfTold stl.told (λ file. items
+        ≡ filter (is_before block) (faults national (outcome_of file)))
         → TellsBoth national options stl pes (value old) (value new)
         (Err (fault.Subtitles (load_fault block (load.File stl_fault.Read))))
     failed_source block items told count fails are = record {
@@ -236,7 +239,8 @@ module _ {D N : Type 0} (IsTold : D → LoadFault → D → Type 0) (name : D �
   after_faults stopped quiet some told count =
       let here = printed some.faults some.told in (
         here.0,
-        go_faults stl.told stopped refl (λ holds. quiet holds (here.1.put_count holds)) some told count,
+        go_faults stl.told stopped refl (λ holds. quiet holds (here.1.put_count holds)) some told
+            count,
       )
 
   -- The name of what it prints into stays.
@@ -246,7 +250,8 @@ module _ {D N : Type 0} (IsTold : D → LoadFault → D → Type 0) (name : D �
 -- ---- the PES file
 
 -- The frames that are counted are holds fewer than none.
-latest-first : (frames : Transmission) (n : ℕ) → frame_at frames 0 ≤ pes_events.latest frames (suc n)
+latest-first : (frames : Transmission) (n : ℕ)
+    → frame_at frames 0 ≤ pes_events.latest frames (suc n)
 unfolding pes_events.latest
 latest-first frames zero = grind (arith, nat_tests)
 latest-first frames (suc n) =
@@ -352,7 +357,8 @@ module _ {D N : Type 0} (IsTold : D → Event → D → Type 0) (name : D → N)
       → is_pes_read f ≡ true
       → (value new).failed ≡ false
       → TellsSome IsTold old new
-      → IfTold pes.told (λ bytes. TellsEvents programme options bytes IsTold old new stopped (Err f))
+      → IfTold pes.told (λ bytes.
+      TellsEvents programme options bytes IsTold old new stopped (Err f))
       → RisesIf pes.old_count (is_pes_read f) pes.new_count
       → ((index : ℕ)
       → (let r : Result Accepted CheckFault = Err f in r) ≡ Err (fault.Pes index pes_fault.Read)
@@ -409,7 +415,8 @@ module _ {D N : Type 0} (IsTold : D → Event → D → Type 0) (name : D → N)
       let whole = pes_events.events (task_of programme options file.unread) file.frames in
       let counts = some_counts options.page file.frames (length file.frames) refl in
       let p = told.0 in
-      let part = prints_all IsTold name value (λ (e : Event). e) one old new (take p.0 whole) goes few p.2 in
+      let part =
+      prints_all IsTold name value (λ (e : Event). e) one old new (take p.0 whole) goes few p.2 in
       read_pes whole counts.0 given
       (as_told (value old) (value new) whole
       (prints-taken (λ (e : Event). e) (value old) (value new) p.0 whole failing part.1))

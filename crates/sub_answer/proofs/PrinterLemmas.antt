@@ -1,5 +1,6 @@
 -- What a printer does that was told several events; main lemma: prints_all.
-use Rattle.std.proofs.Common.{◌≡◌, ◌∙◌, ap, refl, sym, subst, arith, ℕ, ◌+◌, ◌<◌, ◌≤◌, min, ◌||◌, not}
+use Rattle.std.proofs.Common.{◌≡◌, ◌∙◌, ap, refl, sym, subst, arith, ℕ, ◌+◌, ◌<◌, ◌≤◌, min, ◌||◌}
+use Rattle.std.proofs.Common.{not}
 use Rattle.std.proofs.Common.{List, [], ◌∷◌, ◌++◌, map, Bool, true, false, Option}
 use Rattle.std.proofs.Common.{append_assoc, drop, take}
 use Rattle.std.proofs.lemmas.List.{map-append, take-append-drop}
@@ -169,7 +170,8 @@ map-same (e ∷ events) = ap (λ (es : List Event). e ∷ es) (map-same events)
 pub as_told : (a b : PrinterValue) (events : List Event)
     → PrintsEvents a (map (λ (e : Event). e) events) b
     → PrintsEvents a events b
-as_told a b events prints = subst (λ (es : List Event). PrintsEvents a es b) (map-same events) prints
+as_told a b events prints =
+    subst (λ (es : List Event). PrintsEvents a es b) (map-same events) prints
 
 -- A device that has not failed, and whose count is as it was, has not said stop.
 pub still_goes : (failed : Bool) (old new : ℕ)

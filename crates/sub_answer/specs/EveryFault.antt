@@ -1,5 +1,5 @@
 -- What is said of the answer to `check --all`.
-use Rattle.std.specs.Prelude.{◌≡◌, ◌≢◌, ℕ, ◌<◌, ◌≤◌, length, Bool, true, false, not, List, [], Option}
+use Rattle.std.specs.Prelude.{◌≡◌, ℕ, ◌<◌, ◌≤◌, length, Bool, true, false, List, [], Option}
 use Rattle.std.specs.Prelude.{Some, None, Result, Ok, Err, IfErr, IsOk, ◌⊎◌}
 use Rattle.std.specs.List.{filter}
 use Rattle.std.specs.Io.KnownBytes.{Consumes}
@@ -94,7 +94,8 @@ pub record FailsAtBlock (told left : Option (List ℕ)) (block : ℕ) : Type 0 w
   pub consumed : Consumes told left bytes
   pub block_is : block ≡ block_of_byte (length bytes)
 
--- What can end the listing before its end: that a source failed; or want of memory, before any event.
+-- What can end the listing before its end: that a source failed; or want of memory, before any
+-- event.
 abbrev pub CanEnd : List Event → CheckFault → Type 0
 CanEnd events (Subtitles f) = (is_read f ≡ true) ⊎ ((f.kind ≡ Memory) × (events ≡ []))
 CanEnd events f = is_pes_read f ≡ true

@@ -103,7 +103,8 @@ fn print_end<K: Sink>(
 ) -> Status
     requires { CanFail (K.failure_count out.old) }
     ensures printed { PrintsOrFails
-        (sink_call K.contents K.failure_count out.old out.new) (last_listing refused answer) result }
+        (sink_call K.contents K.failure_count out.old out.new) (last_listing refused answer)
+        result }
     ensures count { CountsFault K.failure_count out.old result out.new }
 {
     match answer {
