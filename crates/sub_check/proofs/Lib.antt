@@ -49,3 +49,4 @@ pub mod HeardAgainLemmas
 pub mod UntouchedLemmas
 pub mod ListeningRunLemmas
 pub mod UntoldLemmas
+pub mod ToldStretchLemmas

@@ -7,6 +7,7 @@ pub mod Robust
 pub mod Stretch
 pub mod Sufficient
 pub mod CleanStretch
+pub mod ToldStretch
 pub mod LostRows
 pub mod Recovery
 pub mod Laws

@@ -12,6 +12,7 @@ ghost use Rattle.sub_check.specs.SentAgain.{LawOfSentAgain};
 ghost use Rattle.sub_check.specs.StepByStep.{LawOfCleanSpans, LawOfRepeats, LawOfSpansByPacket};
 ghost use Rattle.sub_check.specs.Stretch.{LawOfWholeStretch};
 ghost use Rattle.sub_check.specs.Sufficient.{LawOfStretch, LawOfSufficientParts};
+ghost use Rattle.sub_check.specs.ToldStretch.{LawOfToldStretch};
 
 /// A start at any packet of a good transmission meets a header of the page within the repeat bound.
 #[tactic(auto, using(crate::proofs::RobustLemmas::law_of_window))]
@@ -49,6 +50,12 @@ pub fn law_of_clean_stretch()
 /// and no wrong content and no gap stands at its ends.
 pub fn law_of_untold_stretch()
     ensures { LawOfUntoldStretch }
+{}
+
+/// The list of all that is told says which stretches these are: nothing of a receiver's rules is
+/// told of a stretch of which the list tells nothing.
+pub fn law_of_told_stretch()
+    ensures { LawOfToldStretch }
 {}
 
 /// What may be trusted of all frames of a transmission is what is promised of it.
