@@ -49,4 +49,7 @@ pub mod HeardAgainLemmas
 pub mod UntouchedLemmas
 pub mod ListeningRunLemmas
 pub mod UntoldLemmas
+pub mod ToldListLemmas
+pub mod NotedLemmas
+pub mod RisingEndLemmas
 pub mod ToldStretchLemmas

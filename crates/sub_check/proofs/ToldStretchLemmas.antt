@@ -1,433 +1,35 @@
 -- Of a stretch of which the list of all that is told tells nothing, nothing is told:
 -- `law_of_told_stretch`.
-use Rattle.std.proofs.Common.{◌≡◌, ℕ, zero, suc, ◌+◌, ◌-◌, ◌<◌, ◌≤◌, ◌⊎◌, inl, inr, Bool, true}
-use Rattle.std.proofs.Common.{false, not, ◌&&◌, ◌==◌, nat_le, nat_lt, if◌then◌else◌, cond, List, []}
-use Rattle.std.proofs.Common.{◌∷◌, ◌++◌, length, take, map, All, Contains, get_or, Option, Some, None}
-use Rattle.std.proofs.Common.{is_some, IsFalse, IsTrue, refl, sym, ap, ◌∙◌, subst, arith, le_refl}
-use Rattle.std.specs.List.{AllByRecursion, filter, fold}
-use Rattle.std.proofs.lemmas.Bool.{cases_lt, ltb-true, true≢false}
-use Rattle.std.proofs.lemmas.Bool.Decides.{nat_tests}
-use Rattle.std.proofs.lemmas.List.Elements.{Contains-append_left, Contains-append_right}
+use Rattle.std.proofs.Common.{◌≡◌, ℕ, zero, suc, ◌+◌, ◌-◌, ◌<◌, ◌≤◌, inl, inr, Bool, true}
+use Rattle.std.proofs.Common.{false, List, []}
+use Rattle.std.proofs.Common.{◌∷◌, ◌++◌, length, All, Option, Some, None}
+use Rattle.std.proofs.Common.{is_some, IsTrue, refl, sym, ap, ◌∙◌, subst, arith, le_refl}
+use Rattle.std.specs.List.{AllByRecursion, fold}
+use Rattle.std.proofs.lemmas.Bool.{cases_lt, true≢false}
 use Rattle.std.proofs.lemmas.List.Elements.{recursion_from_All}
 use Rattle.std.proofs.lemmas.List.Sums.{fold-append}
-use Rattle.sub_check.specs.CleanStretch.{IsEnd, IsUntold, is_needed}
-use Rattle.sub_check.specs.Events.{Standing, closing_events, content_events, end_before, end_events}
+use Rattle.sub_check.specs.CleanStretch.{IsEnd}
+use Rattle.sub_check.specs.Events.{Standing, closing_events, end_before}
 use Rattle.sub_check.specs.Events.{endings, events, events_at_end, events_of_first, frame_events}
-use Rattle.sub_check.specs.Events.{first_header_events, gap_events, gap_length, is_early, late_events}
+use Rattle.sub_check.specs.Events.{first_header_events, gap_events, gap_length}
 use Rattle.sub_check.specs.Events.{latest, nothing_stands, order_events, packet_events, rest_events}
-use Rattle.sub_check.specs.Events.{rule_events, rules_told, standing_at, standing_before}
-use Rattle.sub_check.specs.FirstBroken.{packet_fault, unread_fault}
-use Rattle.sub_check.specs.FrameRules.{Task, Unread, end_frame, frame_at, packets_before}
+use Rattle.sub_check.specs.Events.{standing_at, standing_before}
+use Rattle.sub_check.specs.FrameRules.{Task, end_frame, frame_at, packets_before}
 use Rattle.sub_check.specs.FrameRules.{packets_of_frame}
-use Rattle.sub_check.specs.FrameRules.Unread.{BadPacket, NoFrame}
-use Rattle.sub_check.specs.PacketTests.{breaks, broken_rules, packet_rules}
-use Rattle.sub_check.specs.ToldStretch.{HoldFrame, IsOutside, LawOfToldStretch, Noted, TellsNothingOf}
-use Rattle.sub_check.specs.ToldStretch.{TellsRising, is_same_rule, note, noted_ended, noted_told}
+use Rattle.sub_check.specs.ToldStretch.{HoldFrame, IsOutside, LawOfToldStretch, Noted}
+use Rattle.sub_check.specs.ToldStretch.{TellsRising, note, noted_ended, noted_told}
 use Rattle.sub_check.specs.ToldStretch.{nothing_noted, stands, told_stretches, with_last}
-use Rattle.sub_check.specs.Transmission.{IsRising, SentFrame, Transmission}
+use Rattle.sub_check.specs.Transmission.{Transmission}
 use Rattle.sub_check.specs.declared.event.EndRule.{EndRule}
 use Rattle.sub_check.specs.declared.event.EndRule.TheVariants as end
 use Rattle.sub_check.specs.declared.event.Event.{Event}
-use Rattle.sub_check.specs.declared.event.Event.TheVariants.{Ended, Told}
-use Rattle.sub_check.specs.declared.fault.CheckFault.TheVariants as fault
-use Rattle.sub_check.specs.declared.packet_rules.PacketRule.{PacketRule}
-use Rattle.sub_check.specs.declared.packet_rules.PacketRule.TheVariants as rule
-use Rattle.sub_check.specs.declared.packet_rules.Watched.{Watched}
-use Rattle.sub_check.proofs.GoodLemmas.{number_at}
-use Rattle.sub_check.proofs.PrefixLemmas.{before, packet_at, rises_strictly, rises_to}
-
--- ---- what the list holds
-
--- Lists that grow by pieces hold what is in a piece.
-in_joined : (whole piece : ℕ → List Event) → ((n : ℕ) → whole (suc n) ≡ whole n ++ piece n)
-    → (e : Event) (i n : ℕ) → i < n → Contains (piece i) e → Contains (whole n) e
-in_joined whole piece more e i zero l h = absurd (omega arith)
-in_joined whole piece more e i (suc n) l h =
-    subst (λ xs. Contains xs e) (sym (more n)) (elim (cases_lt i n) [
-      | inl earlier ↦ Contains-append_left (whole n) (piece n) e
-          (in_joined whole piece more e i n earlier h)
-      | inr here ↦ let same : i ≡ n = omega arith in
-          Contains-append_right (whole n) (piece n) e (subst (λ k. Contains (piece k) e) same h)
-    ])
-
--- An event that is told where a test fails.
-in_else : (b : Bool) (e : Event) → b ≡ false → Contains (if b then [] else e ∷ []) e
-in_else true e f = absurd (true≢false f)
-in_else false e f = (0, omega arith, refl)
-
--- A packet's rules that pass a test, told.
-in_told : (test : PacketRule → Bool) (h : PacketRule → Event) (rs : List PacketRule)
-    (r : PacketRule) → Contains rs r → test r ≡ true → Contains (map h (filter test rs)) (h r)
-in_told test h [] r (k, l, e) t = absurd (omega arith)
-in_told test h (q ∷ qs) r (zero, l, e) t = go (test q) (ap test e ∙ t)
-  where
-    go : (b : Bool) → b ≡ true → Contains (map h (cond b (q ∷ filter test qs) (filter test qs))) (h r)
-    go true p = (0, omega arith, ap h e)
-    go false p = absurd (true≢false (sym p))
-in_told test h (q ∷ qs) r (suc k, l, e) t =
-    go (test q) (in_told test h qs r (k, omega arith, e) t)
-  where
-    go : (b : Bool) → Contains (map h (filter test qs)) (h r)
-        → Contains (map h (cond b (q ∷ filter test qs) (filter test qs))) (h r)
-    go true rest = Contains-append_right (h q ∷ []) _ (h r) rest
-    go false rest = rest
-
--- Each rule of a packet is tested.
-tested : (r : PacketRule) → Contains packet_rules r
-unfolding packet_rules
-tested rule.Address = (0, omega arith, refl)
-tested rule.HeaderCode = (1, omega arith, refl)
-tested rule.Mode = (2, omega arith, refl)
-tested rule.Control = (3, omega arith, refl)
-tested rule.Parity = (4, omega arith, refl)
-tested rule.RowChanged = (5, omega arith, refl)
-tested rule.Enhancement = (6, omega arith, refl)
-
-module _ (g : Task) (frames : Transmission) where
-  -- What is told of a frame of the list.
-  in_events : (i : ℕ) (e : Event) → i < length frames → Contains (frame_events g frames i) e
-      → Contains (events g frames) e
-  unfolding events events_of_first
-  in_events i e l h =
-      Contains-append_left (events_of_first g frames (length frames)) _ e
-      (in_joined (events_of_first g frames) (frame_events g frames) (λ n. refl) e i (length frames) l h)
-
-  -- That it is not after the one before.
-  in_order : (i : ℕ) → suc i < length frames
-      → nat_lt (frame_at frames i) (frame_at frames (suc i)) ≡ false
-      → Contains (events g frames) (Told (fault.Order (suc i)))
-  unfolding frame_events order_events
-  in_order i l falls =
-      let e : Event = Told (fault.Order (suc i)) in
-      in_events (suc i) e l
-      (Contains-append_left _ _ e
-      (Contains-append_left _ _ e
-      (Contains-append_left _ _ e
-      (Contains-append_left _ _ e
-      (in_else (nat_lt (frame_at frames i) (frame_at frames (suc i))) e falls)))))
-
-  -- And that one of its packets breaks a rule.
-  in_packets : (r : PacketRule) (i k : ℕ) → i < length frames
-      → k < length (packets_of_frame frames i)
-      → breaks r g.watched (before frames i k) (packet_at frames i k) ≡ true
-      → Contains (events g frames) (Told (packet_fault r (frame_at frames i) k))
-  unfolding frame_events packet_events rules_told broken_rules
-  in_packets r i k l m broken =
-      let e : Event = Told (packet_fault r (frame_at frames i) k) in
-      let earlier : List Event = order_events g frames i ++ gap_events g frames i (gap_length frames i) in
-      let packets : List Event = packet_events g.watched (frame_at frames i) (packets_before frames i)
-      (packets_of_frame frames i) (length (packets_of_frame frames i)) in
-      let header : List Event = first_header_events g frames i in
-      in_events i e l
-      (Contains-append_left (earlier ++ packets ++ header)
-      (events_at_end g frames i (suc i) (frame_at frames i)) e
-      (Contains-append_left (earlier ++ packets) header e
-      (Contains-append_right earlier packets e
-      (in_joined (packet_events g.watched (frame_at frames i) (packets_before frames i)
-      (packets_of_frame frames i))
-      (λ n. rules_told g.watched (frame_at frames i) n (before frames i n) (packet_at frames i n))
-      (λ n. refl) e k (length (packets_of_frame frames i)) m
-      (in_told (λ q. breaks q g.watched (before frames i k) (packet_at frames i k))
-      (λ q. Told (packet_fault q (frame_at frames i) k)) packet_rules r (tested r) broken)))))
-
-  -- Where no frame is told that is not after the one before, frames rise.
-  rising : TellsRising (events g frames) → (i : ℕ) → 0 < i → i < length frames
-      → frame_at frames (i - 1) < frame_at frames i
-  rising told zero some l = absurd (omega arith)
-  rising told (suc i) some l =
-      let back : i ≡ suc i - 1 = omega arith in
-      subst (λ j. frame_at frames j < frame_at frames (suc i)) back
-      (go (nat_lt (frame_at frames i) (frame_at frames (suc i))) refl)
-    where
-      go : (b : Bool) → nat_lt (frame_at frames i) (frame_at frames (suc i)) ≡ b
-          → frame_at frames i < frame_at frames (suc i)
-      go true is = ltb-true (frame_at frames i) (frame_at frames (suc i)) is
-      go false is = absurd (told (suc i) (in_order i l is))
-
-  is_rising : TellsRising (events g frames) → IsRising frames
-  is_rising told i j d l m =
-      let a = number_at frames i d (omega arith) in
-      let b = number_at frames j d m in
-      let r = rises_strictly frames (rising told) i j l m in omega arith
-
-  -- Where none is told of the stretch, no packet there breaks a rule that a receiver depends on.
-  none_broken : (a b : ℕ) → TellsNothingOf (events g frames) a b → (r : PacketRule)
-      → IsTrue (is_needed r) → (i k : ℕ) → i < length frames
-      → k < length (packets_of_frame frames i) → a ≤ frame_at frames i → frame_at frames i ≤ b
-      → breaks r g.watched (before frames i k) (packet_at frames i k) ≡ false
-  none_broken a b nothing r needed i k l m low high =
-      go (breaks r g.watched (before frames i k) (packet_at frames i k)) refl
-    where
-      go : (t : Bool) → breaks r g.watched (before frames i k) (packet_at frames i k) ≡ t
-          → t ≡ false
-      go true broken =
-          absurd (nothing.packets r (frame_at frames i) k needed low high
-          (in_packets r i k l m broken))
-      go false kept = refl
-
--- ---- what events of a frame's end change of what is noted
-
--- What changes of what is noted of a rule at an end of frame f, by whether it stood broken at the
--- end before and does now.
-abbrev IsChange : Bool → Bool → ℕ → ℕ → Noted → Noted → Type 0
-IsChange false false before f s t = t ≡ s
-IsChange false true before f s t = t ≡ noted_told f s
-IsChange true false before f s t = t ≡ noted_ended before s
-IsChange true true before f s t = (t ≡ s) ⊎ (t ≡ noted_told f (noted_ended before s))
-
-module _ (before f : ℕ) (s : Noted) where
-  content_change : (old new : Option (ℕ × ℕ))
-      → IsChange (is_some old) (is_some new) before f s
-      (fold (note end.Content) s (content_events old before new f))
-  content_change None None = refl
-  content_change None (Some y) = refl
-  content_change (Some x) None = refl
-  content_change (Some x) (Some y) = go ((x.0 == y.0) && (x.1 == y.1))
-    where
-      go : (b : Bool) → IsChange true true before f s
-          (fold (note end.Content) s
-          (if b then [] else Ended end.Content before ∷ Told (fault.Content f y.0 y.1) ∷ []))
-      go true = inl refl
-      go false = inr refl
-
-  gap_change : (old new : Bool)
-      → IsChange old new before f s
-      (fold (note end.Gap) s (rule_events end.Gap (fault.Gap f) old before new))
-  gap_change true true = inl refl
-  gap_change true false = refl
-  gap_change false true = refl
-  gap_change false false = refl
-
-  open_change : (old new : Bool)
-      → IsChange old new before f s
-      (fold (note end.Incomplete) s
-      (rule_events end.Incomplete (fault.Incomplete f) old before new))
-  open_change true true = inl refl
-  open_change true false = refl
-  open_change false true = refl
-  open_change false false = refl
-
-  -- The events of the other rules change nothing.
-  content_kept : (r : EndRule) → is_same_rule end.Content r ≡ false → (old new : Option (ℕ × ℕ))
-      → fold (note r) s (content_events old before new f) ≡ s
-  content_kept r other None None = refl
-  content_kept r other None (Some y) = ap (λ b. if b then noted_told f s else s) other
-  content_kept r other (Some x) None = ap (λ b. if b then noted_ended before s else s) other
-  content_kept r other (Some x) (Some y) = go ((x.0 == y.0) && (x.1 == y.1))
-    where
-      go : (b : Bool) → fold (note r) s
-          (if b then [] else Ended end.Content before ∷ Told (fault.Content f y.0 y.1) ∷ [])
-          ≡ s
-      go true = refl
-      go false =
-          ap (λ b. let t : Noted = if b then noted_ended before s else s in
-          if b then noted_told f t else t) other
-
-  gap_kept : (r : EndRule) → is_same_rule end.Gap r ≡ false → (old new : Bool)
-      → fold (note r) s (rule_events end.Gap (fault.Gap f) old before new) ≡ s
-  gap_kept r other true true = refl
-  gap_kept r other true false = ap (λ b. if b then noted_ended before s else s) other
-  gap_kept r other false true = ap (λ b. if b then noted_told f s else s) other
-  gap_kept r other false false = refl
-
-  open_kept : (r : EndRule) → is_same_rule end.Incomplete r ≡ false → (old new : Bool)
-      → fold (note r) s (rule_events end.Incomplete (fault.Incomplete f) old before new) ≡ s
-  open_kept r other true true = refl
-  open_kept r other true false = ap (λ b. if b then noted_ended before s else s) other
-  open_kept r other false true = ap (λ b. if b then noted_told f s else s) other
-  open_kept r other false false = refl
-
--- What is noted after two lists, and after three.
-after_two : (r : EndRule) (s t u : Noted) (xs ys : List Event) → fold (note r) s xs ≡ t
-    → fold (note r) t ys ≡ u → fold (note r) s (xs ++ ys) ≡ u
-after_two r s t u xs ys x y = fold-append (note r) s xs ys ∙ ap (λ v. fold (note r) v ys) x ∙ y
-
-after_three : (r : EndRule) (s t u v : Noted) (xs ys zs : List Event) → fold (note r) s xs ≡ t
-    → fold (note r) t ys ≡ u → fold (note r) u zs ≡ v → fold (note r) s (xs ++ ys ++ zs) ≡ v
-after_three r s t u v xs ys zs x y z =
-    after_two r s u v (xs ++ ys) zs (after_two r s t u xs ys x y) z
-
-module _ (before f : ℕ) (s : Noted) (old new : Standing) where
-  -- The events of a rule.
-  abbrev own : EndRule → List Event
-  own end.Content = content_events old.content before new.content f
-  own end.Gap = rule_events end.Gap (fault.Gap f) old.gap before new.gap
-  own end.Incomplete =
-      rule_events end.Incomplete (fault.Incomplete f) old.incomplete before new.incomplete
-
-  -- What is noted of a rule after all that is told at an end.
-  end_noted : (r : EndRule) → fold (note r) s (end_events old before new f) ≡ fold (note r) s (own r)
-  unfolding end_events
-  end_noted end.Content =
-      let t = fold (note end.Content) s (own end.Content) in
-      after_three end.Content s t t t (own end.Content) (own end.Gap) (own end.Incomplete) refl
-      (gap_kept before f t end.Content refl old.gap new.gap)
-      (open_kept before f t end.Content refl old.incomplete new.incomplete)
-  end_noted end.Gap =
-      let t = fold (note end.Gap) s (own end.Gap) in
-      after_three end.Gap s s t t (own end.Content) (own end.Gap) (own end.Incomplete)
-      (content_kept before f s end.Gap refl old.content new.content) refl
-      (open_kept before f t end.Gap refl old.incomplete new.incomplete)
-  end_noted end.Incomplete =
-      let t = fold (note end.Incomplete) s (own end.Incomplete) in
-      after_three end.Incomplete s s s t (own end.Content) (own end.Gap) (own end.Incomplete)
-      (content_kept before f s end.Incomplete refl old.content new.content)
-      (gap_kept before f s end.Incomplete refl old.gap new.gap) refl
-
-  end_change : (r : EndRule) → IsChange (stands r old) (stands r new) before f s
-      (fold (note r) s (end_events old before new f))
-  end_change r =
-      subst (IsChange (stands r old) (stands r new) before f s) (sym (end_noted r)) (changed r)
-    where
-      changed : (q : EndRule)
-          → IsChange (stands q old) (stands q new) before f s (fold (note q) s (own q))
-      changed end.Content = content_change before f s old.content new.content
-      changed end.Gap = gap_change before f s old.gap new.gap
-      changed end.Incomplete = open_change before f s old.incomplete new.incomplete
-
--- ---- what is told beside the ends changes nothing that is noted of their rules
-
-module _ (r : EndRule) where
-  packet_kept : (q : PacketRule) (f k : ℕ) (s : Noted) → note r s (Told (packet_fault q f k)) ≡ s
-  packet_kept rule.Address f k s = refl
-  packet_kept rule.HeaderCode f k s = refl
-  packet_kept rule.Mode f k s = refl
-  packet_kept rule.Control f k s = refl
-  packet_kept rule.Parity f k s = refl
-  packet_kept rule.RowChanged f k s = refl
-  packet_kept rule.Enhancement f k s = refl
-
-  rules_kept : (f k : ℕ) (s : Noted) (qs : List PacketRule)
-      → fold (note r) s (map (λ (q : PacketRule). Told (packet_fault q f k)) qs) ≡ s
-  rules_kept f k s [] = refl
-  rules_kept f k s (q ∷ qs) =
-      ap (λ t. fold (note r) t (map (λ (p : PacketRule). Told (packet_fault p f k)) qs))
-      (packet_kept q f k s)
-      ∙ rules_kept f k s qs
-
-  packets_kept : (w : Watched) (f : ℕ) (before packets : List (List ℕ)) (n : ℕ) (s : Noted)
-      → fold (note r) s (packet_events w f before packets n) ≡ s
-  unfolding packet_events rules_told
-  packets_kept w f before packets zero s = refl
-  packets_kept w f before packets (suc n) s =
-      after_two r s s s (packet_events w f before packets n) _
-      (packets_kept w f before packets n s)
-      (rules_kept f n s (broken_rules w (before ++ take n packets) (get_or packets n [])))
-
-  -- An event where a test says so, or where it does not.
-  then_kept : (b : Bool) (e : Event) (s : Noted) → note r s e ≡ s
-      → fold (note r) s (if b then e ∷ [] else []) ≡ s
-  then_kept true e s kept = kept
-  then_kept false e s kept = refl
-
-  else_kept : (b : Bool) (e : Event) (s : Noted) → note r s e ≡ s
-      → fold (note r) s (if b then [] else e ∷ []) ≡ s
-  else_kept true e s kept = refl
-  else_kept false e s kept = kept
-
-  late_kept : (o : Option ℕ) (f : ℕ) (s : Noted) → fold (note r) s (late_events o f) ≡ s
-  late_kept None f s = refl
-  late_kept (Some last) f s = else_kept (nat_le last f) (Told (fault.Late f)) s refl
-
-  module _ (g : Task) (frames : Transmission) (s : Noted) where
-    order_kept : (i : ℕ) → fold (note r) s (order_events g frames i) ≡ s
-    unfolding order_events
-    order_kept zero =
-        then_kept (is_early g.first_in (frame_at frames 0)) (Told (fault.Early (frame_at frames 0))) s
-        refl
-    order_kept (suc i) =
-        else_kept (nat_lt (frame_at frames i) (frame_at frames (suc i))) (Told (fault.Order (suc i))) s
-        refl
-
-    header_kept : (i : ℕ) → fold (note r) s (first_header_events g frames i) ≡ s
-    unfolding first_header_events
-    header_kept zero = else_kept _ (Told (fault.NoFirstHeader (frame_at frames 0))) s refl
-    header_kept (suc i) = refl
-
-    rest_kept : (o : Option Unread) → fold (note r) s (rest_events g frames o) ≡ s
-    rest_kept None = late_kept g.last_out (end_frame frames) s
-    rest_kept (Some (BadPacket f)) = refl
-    rest_kept (Some NoFrame) = refl
-
--- ---- the ends of frames that rise
-
-module _ (frames : Transmission)
-    (rises : (i : ℕ) → 0 < i → i < length frames → frame_at frames (i - 1) < frame_at frames i) where
-  -- An end is not before the frames that count, before the next one, and not after the last.
-  end_low : (n f : ℕ) → IsEnd frames n f → frame_at frames (n - 1) ≤ f
-  end_low n f at = elim at.2 [
-    | inl is ↦ omega arith
-    | inr gap ↦ let l = gap.2 (n - 1) (omega (arith, at.0)) in omega arith
-  ]
-
-  end_high : (n f : ℕ) → IsEnd frames n f → n < length frames → f < frame_at frames n
-  end_high n f at l = elim at.2 [
-    | inl is ↦ let r = rises n at.0 l in omega arith
-    | inr gap ↦ gap.1
-  ]
-
-  end_last : (n f : ℕ) → IsEnd frames n f → f ≤ end_frame frames
-  end_last n f at = elim at.2 [
-    | inl is ↦
-        let r = rises_to frames rises (n - 1) (length frames - 1) (omega (arith, at.0, at.1))
-        (omega (arith, at.0, at.1)) in
-        omega arith
-    | inr gap ↦
-        let l = gap.0 in
-        let h = gap.1 in
-        let r = rises_to frames rises n (length frames - 1) (omega arith) (omega arith) in
-        omega arith
-  ]
-
-  -- The ends of one frame are one.
-  not_less : (m n f : ℕ) → IsEnd frames m f → IsEnd frames n f → m < n → ⊥
-  not_less m n f one other l =
-      let within = other.1 in
-      let high = end_high m f one (omega arith) in
-      let low = end_low n f other in
-      let r = rises_to frames rises m (n - 1) (omega arith) (omega arith) in
-      omega arith
-
-  same_end : (m n f : ℕ) → IsEnd frames m f → IsEnd frames n f → m ≡ n
-  same_end m n f one other = elim (cases_lt m n) [
-    | inl less ↦ absurd (not_less m n f one other less)
-    | inr no_less ↦ elim (cases_lt n m) [
-      | inl more ↦ absurd (not_less n m f other one more)
-      | inr no_more ↦ omega arith
-    ]
-  ]
-
-  -- The last of the first frames is the latest.
-  latest_is : (n : ℕ) → 0 < n → n ≤ length frames → latest frames n ≡ frame_at frames (n - 1)
-  unfolding latest
-  latest_is zero some l = absurd (omega arith)
-  latest_is (suc zero) some l = let e : suc zero - 1 ≡ 0 = omega arith in
-      let f = ap (frame_at frames) e in omega arith
-  latest_is (suc (suc m)) some l =
-      let ih = latest_is (suc m) (omega arith) (omega arith) in
-      let r = rises (suc m) (omega arith) (omega arith) in
-      let e : suc (suc m) - 1 ≡ suc m = omega arith in
-      let f = ap (frame_at frames) e in
-      omega arith
-
-  -- How many frames of the day lie before a frame of the list.
-  gap_length-is : (n : ℕ) → 0 < n
-      → gap_length frames n ≡ frame_at frames n - (latest frames n + 1)
-  unfolding gap_length
-  gap_length-is zero some = absurd (omega arith)
-  gap_length-is (suc i) some = refl
-
-  -- The end before the next frame of the day is this one.
-  before_next : (n f : ℕ) → 0 < n → n ≤ length frames → frame_at frames (n - 1) ≤ f
-      → end_before frames n (suc f) ≡ f
-  before_next n f some l low =
-      let last = latest_is n some l in
-      let back : suc f - 1 ≡ f = omega arith in
-      grind (arith, nat_tests)
-
-  -- The end before is not after.
-  before_not_after : (n f : ℕ) → frame_at frames (n - 1) ≤ f → end_before frames n f ≤ f
-  before_not_after n f low = grind (arith, nat_tests)
+use Rattle.sub_check.proofs.PrefixLemmas.{before, rises_to}
+use Rattle.sub_check.proofs.ToldListLemmas.{is_rising, none_broken, rising}
+use Rattle.sub_check.proofs.NotedLemmas.{IsChange, after_two, end_change, header_kept}
+use Rattle.sub_check.proofs.NotedLemmas.{order_kept, packets_kept, rest_kept}
+use Rattle.sub_check.proofs.RisingEndLemmas.{RiseByPlace, before_next, before_not_after}
+use Rattle.sub_check.proofs.RisingEndLemmas.{end_last, end_low}
+use Rattle.sub_check.proofs.RisingEndLemmas.{gap_length-is, latest_is, same_end}
 
 -- ---- what is noted at each end
 
@@ -437,16 +39,15 @@ longer : (told before f h : ℕ) (over : List (ℕ × ℕ)) → before ≤ f
 longer told before f h over l (inl held) = inl (held.0, omega (arith, held.1))
 longer told before f h over l (inr held) = inr held
 
-module _ (g : Task) (frames : Transmission)
-    (rises : (i : ℕ) → 0 < i → i < length frames → frame_at frames (i - 1) < frame_at frames i)
-    (r : EndRule) where
+module _ (g : Task) (frames : Transmission) (rises : RiseByPlace frames) (r : EndRule) where
   -- The rule stands broken at an end.
   abbrev stands_at : ℕ → ℕ → Bool
   stands_at n f = stands r (standing_at g frames n f)
 
   -- The ends of frames before the next one at which it does are noted.
   abbrev Known : ℕ → List (ℕ × ℕ) → Type 0
-  Known next over = (m h : ℕ) → IsEnd frames m h → h < next → stands_at m h ≡ true → HoldFrame over h
+  Known next over =
+      (m h : ℕ) → IsEnd frames m h → h < next → stands_at m h ≡ true → HoldFrame over h
 
   -- What is noted where the rule stood broken at the end of frame `before`, or did not.
   abbrev IsNoted : Bool → ℕ → ℕ → Noted → Type 0
@@ -604,10 +205,7 @@ module _ (g : Task) (frames : Transmission)
       let so_far : fold (note r) s (order_events g frames n ++ gaps ++ packets
       ++ first_header_events g frames n)
       ≡ t =
-      after_two r s t t (order_events g frames n ++ gaps ++ packets) (first_header_events g frames n)
-      (after_three r s s t t (order_events g frames n) gaps packets (order_kept r g frames s n) refl
-      (packets_kept r g.watched f _ _ _ t))
-      (header_kept r g frames t n) in
+      grind (arith, fold-append, order_kept, packets_kept, header_kept) in
       let back : suc n - 1 ≡ n = omega arith in
       let at : IsEnd frames (suc n) f =
       (omega arith, omega arith, inl (ap (frame_at frames) (sym back))) in
@@ -621,16 +219,15 @@ module _ (g : Task) (frames : Transmission)
       low i l = rises_to frames rises (i - 1) i (omega arith) l
 
   none_stands : (q : EndRule) → stands q nothing_stands ≡ false
-  none_stands end.Content = refl
-  none_stands end.Gap = refl
-  none_stands end.Incomplete = refl
+  none_stands q = grind arith
 
   -- The first frames of the list.
   first_steps : (n : ℕ) → n ≤ length frames
       → Start n (fold (note r) nothing_noted (events_of_first g frames n))
   unfolding events_of_first standing_before
   first_steps zero l =
-      subst (λ b. IsNoted b (end_before frames 0 (frame_at frames 0)) (frame_at frames 0) nothing_noted)
+      let f : ℕ = frame_at frames 0 in
+      subst (λ b. IsNoted b (end_before frames 0 f) f nothing_noted)
       (sym (none_stands r))
       (λ m h at k broken.
       let low = end_low frames rises m h at in
@@ -638,7 +235,8 @@ module _ (g : Task) (frames : Transmission)
       absurd (omega arith))
   first_steps (suc n) l =
       subst (λ (u : Noted). Start (suc n) u)
-      (sym (fold-append (note r) nothing_noted (events_of_first g frames n) (frame_events g frames n)))
+      (sym (fold-append (note r) nothing_noted (events_of_first g frames n)
+      (frame_events g frames n)))
       (frame_step n _ l (first_steps n (omega arith)))
 
   -- What stands broken at the last end is ended.
@@ -708,8 +306,7 @@ module _ (g : Task) (frames : Transmission) where
       go false fine = refl
 
 no_cell : (o : Option (ℕ × ℕ)) → is_some o ≡ false → o ≡ None
-no_cell None e = refl
-no_cell (Some x) e = absurd (true≢false e)
+no_cell o e = grind arith
 
 -- What the list says of a stretch is so.
 pub law_of_told_stretch : LawOfToldStretch
@@ -721,7 +318,8 @@ law_of_told_stretch g frames = record {
     packets = λ r needed i k l m low high.
         none_broken g frames a b nothing r needed i k l m low high;
     content = λ n f at low high.
-        no_cell _ (none_stand g frames nothing.rising end.Content a b nothing.content n f at low high);
+        no_cell _
+        (none_stand g frames nothing.rising end.Content a b nothing.content n f at low high);
     gap = λ n f at low high.
         none_stand g frames nothing.rising end.Gap a b nothing.gap n f at low high;
   };
