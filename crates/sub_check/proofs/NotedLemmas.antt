@@ -1,22 +1,17 @@
--- What is noted of a rule of a frame's end, from one end to the next, `end_change`, and which events
--- change nothing of it.
-use Rattle.std.proofs.Common.{◌≡◌, ℕ, zero, suc, ◌⊎◌, Bool, true}
-use Rattle.std.proofs.Common.{false, List, []}
-use Rattle.std.proofs.Common.{◌∷◌, ◌++◌, take, map, get_or, Option}
-use Rattle.std.proofs.Common.{is_some, refl, ap, ◌∙◌, arith}
+-- What is noted of a rule of a frame's end, from one end to the next, `end_change`; and which
+-- events change nothing of it.
+use Rattle.std.proofs.Common.{◌≡◌, ℕ, zero, suc, ◌⊎◌, Bool, true, false, List, [], ◌∷◌, ◌++◌, take}
+use Rattle.std.proofs.Common.{map, get_or, Option, is_some, refl, ap, ◌∙◌, arith}
 use Rattle.std.specs.List.{fold}
 use Rattle.std.proofs.lemmas.Bool.Decides.{nat_tests}
 use Rattle.std.proofs.lemmas.List.Sums.{fold-append}
-use Rattle.sub_check.specs.Events.{Standing, content_events, end_events}
-use Rattle.sub_check.specs.Events.{first_header_events}
-use Rattle.sub_check.specs.Events.{order_events, packet_events, rest_events}
-use Rattle.sub_check.specs.Events.{rule_events, rules_told}
+use Rattle.sub_check.specs.Events.{Standing, content_events, end_events, first_header_events}
+use Rattle.sub_check.specs.Events.{order_events, packet_events, rest_events, rule_events}
+use Rattle.sub_check.specs.Events.{rules_told}
 use Rattle.sub_check.specs.FirstBroken.{packet_fault}
 use Rattle.sub_check.specs.FrameRules.{Task, Unread}
 use Rattle.sub_check.specs.PacketTests.{broken_rules}
-use Rattle.sub_check.specs.ToldStretch.{Noted}
-use Rattle.sub_check.specs.ToldStretch.{is_same_rule, note, noted_ended, noted_told}
-use Rattle.sub_check.specs.ToldStretch.{stands}
+use Rattle.sub_check.specs.ToldStretch.{Noted, is_same_rule, note, noted_ended, noted_told, stands}
 use Rattle.sub_check.specs.Transmission.{Transmission}
 use Rattle.sub_check.specs.declared.event.EndRule.{EndRule}
 use Rattle.sub_check.specs.declared.event.EndRule.TheVariants as end

@@ -1,14 +1,11 @@
 -- The ends of frames that rise: each frame has one, and the end before it is the last: `same_end`,
 -- `before_next`.
-use Rattle.std.proofs.Common.{◌≡◌, ℕ, zero, suc, ◌+◌, ◌-◌, ◌<◌, ◌≤◌, inl, inr}
-use Rattle.std.proofs.Common.{length}
-use Rattle.std.proofs.Common.{refl, ap, arith}
+use Rattle.std.proofs.Common.{◌≡◌, ℕ, zero, suc, ◌+◌, ◌-◌, ◌<◌, ◌≤◌, inl, inr, length, refl, ap}
+use Rattle.std.proofs.Common.{arith}
 use Rattle.std.proofs.lemmas.Bool.{cases_lt}
 use Rattle.std.proofs.lemmas.Bool.Decides.{nat_tests}
 use Rattle.sub_check.specs.CleanStretch.{IsEnd}
-use Rattle.sub_check.specs.Events.{end_before}
-use Rattle.sub_check.specs.Events.{gap_length}
-use Rattle.sub_check.specs.Events.{latest}
+use Rattle.sub_check.specs.Events.{end_before, gap_length, latest}
 use Rattle.sub_check.specs.FrameRules.{end_frame, frame_at}
 use Rattle.sub_check.specs.Transmission.{Transmission}
 use Rattle.sub_check.proofs.PrefixLemmas.{rises_to}

@@ -1,23 +1,19 @@
 -- What the list of all that is told of a transmission holds of its frames and of their packets:
 -- `rising`, `none_broken`.
-use Rattle.std.proofs.Common.{◌≡◌, ℕ, zero, suc, ◌-◌, ◌<◌, ◌≤◌, inl, inr, Bool, true}
-use Rattle.std.proofs.Common.{false, nat_lt, if◌then◌else◌, cond, List, []}
-use Rattle.std.proofs.Common.{◌∷◌, ◌++◌, length, map, Contains}
+use Rattle.std.proofs.Common.{◌≡◌, ℕ, zero, suc, ◌-◌, ◌<◌, ◌≤◌, inl, inr, Bool, true, false, nat_lt}
+use Rattle.std.proofs.Common.{if◌then◌else◌, cond, List, [], ◌∷◌, ◌++◌, length, map, Contains}
 use Rattle.std.proofs.Common.{IsTrue, refl, sym, ap, ◌∙◌, subst, arith}
 use Rattle.std.specs.List.{filter}
 use Rattle.std.proofs.lemmas.Bool.{cases_lt, ltb-true, true≢false}
 use Rattle.std.proofs.lemmas.List.Elements.{Contains-append_left, Contains-append_right}
 use Rattle.sub_check.specs.CleanStretch.{is_needed}
 use Rattle.sub_check.specs.Events.{events, events_at_end, events_of_first, frame_events}
-use Rattle.sub_check.specs.Events.{first_header_events, gap_events, gap_length}
-use Rattle.sub_check.specs.Events.{order_events, packet_events}
-use Rattle.sub_check.specs.Events.{rules_told}
+use Rattle.sub_check.specs.Events.{first_header_events, gap_events, gap_length, order_events}
+use Rattle.sub_check.specs.Events.{packet_events, rules_told}
 use Rattle.sub_check.specs.FirstBroken.{packet_fault}
-use Rattle.sub_check.specs.FrameRules.{Task, frame_at, packets_before}
-use Rattle.sub_check.specs.FrameRules.{packets_of_frame}
+use Rattle.sub_check.specs.FrameRules.{Task, frame_at, packets_before, packets_of_frame}
 use Rattle.sub_check.specs.PacketTests.{breaks, broken_rules, packet_rules}
-use Rattle.sub_check.specs.ToldStretch.{TellsNothingOf}
-use Rattle.sub_check.specs.ToldStretch.{TellsRising}
+use Rattle.sub_check.specs.ToldStretch.{TellsNothingOf, TellsRising}
 use Rattle.sub_check.specs.Transmission.{IsRising, Transmission}
 use Rattle.sub_check.specs.declared.event.Event.{Event}
 use Rattle.sub_check.specs.declared.event.Event.TheVariants.{Told}
@@ -26,6 +22,11 @@ use Rattle.sub_check.specs.declared.packet_rules.PacketRule.{PacketRule}
 use Rattle.sub_check.specs.declared.packet_rules.PacketRule.TheVariants as rule
 use Rattle.sub_check.proofs.GoodLemmas.{number_at}
 use Rattle.sub_check.proofs.PrefixLemmas.{before, packet_at, rises_strictly}
+
+-- A test that never says so. Also for ends.
+pub never_true : (b : Bool) → (b ≡ true → ⊥) → b ≡ false
+never_true true never = absurd (never refl)
+never_true false never = refl
 
 -- Lists that grow by pieces hold what is in a piece.
 in_joined : (whole piece : ℕ → List Event) → ((n : ℕ) → whole (suc n) ≡ whole n ++ piece n)
@@ -80,8 +81,8 @@ module _ (g : Task) (frames : Transmission) where
   unfolding events events_of_first
   in_events i e l h =
       Contains-append_left (events_of_first g frames (length frames)) _ e
-      (in_joined (events_of_first g frames) (frame_events g frames) (λ n. refl) e i (length frames) l
-      h)
+      (in_joined (events_of_first g frames) (frame_events g frames) (λ n. refl) e i (length frames)
+      l h)
 
   -- That it is not after the one before.
   in_order : (i : ℕ) → suc i < length frames
@@ -149,11 +150,6 @@ module _ (g : Task) (frames : Transmission) where
       → k < length (packets_of_frame frames i) → a ≤ frame_at frames i → frame_at frames i ≤ b
       → breaks r g.watched (before frames i k) (packet_at frames i k) ≡ false
   none_broken a b nothing r needed i k l m low high =
-      go (breaks r g.watched (before frames i k) (packet_at frames i k)) refl
-    where
-      go : (t : Bool) → breaks r g.watched (before frames i k) (packet_at frames i k) ≡ t
-          → t ≡ false
-      go true broken =
-          absurd (nothing.packets r (frame_at frames i) k needed low high
-          (in_packets r i k l m broken))
-      go false kept = refl
+      never_true _
+      (λ broken. nothing.packets r (frame_at frames i) k needed low high
+      (in_packets r i k l m broken))

@@ -1,35 +1,32 @@
 -- Of a stretch of which the list of all that is told tells nothing, nothing is told:
 -- `law_of_told_stretch`.
-use Rattle.std.proofs.Common.{◌≡◌, ℕ, zero, suc, ◌+◌, ◌-◌, ◌<◌, ◌≤◌, inl, inr, Bool, true}
-use Rattle.std.proofs.Common.{false, List, []}
-use Rattle.std.proofs.Common.{◌∷◌, ◌++◌, length, All, Option, Some, None}
-use Rattle.std.proofs.Common.{is_some, IsTrue, refl, sym, ap, ◌∙◌, subst, arith, le_refl}
+use Rattle.std.proofs.Common.{◌≡◌, ℕ, zero, suc, ◌+◌, ◌-◌, ◌<◌, ◌≤◌, inl, inr, Bool, true, false}
+use Rattle.std.proofs.Common.{List, [], ◌∷◌, ◌++◌, length, All, Option, Some, None, is_some, IsTrue}
+use Rattle.std.proofs.Common.{refl, sym, ap, ◌∙◌, subst, arith, le_refl}
 use Rattle.std.specs.List.{AllByRecursion, fold}
 use Rattle.std.proofs.lemmas.Bool.{cases_lt, true≢false}
 use Rattle.std.proofs.lemmas.List.Elements.{recursion_from_All}
 use Rattle.std.proofs.lemmas.List.Sums.{fold-append}
 use Rattle.sub_check.specs.CleanStretch.{IsEnd}
-use Rattle.sub_check.specs.Events.{Standing, closing_events, end_before}
-use Rattle.sub_check.specs.Events.{endings, events, events_at_end, events_of_first, frame_events}
-use Rattle.sub_check.specs.Events.{first_header_events, gap_events, gap_length}
-use Rattle.sub_check.specs.Events.{latest, nothing_stands, order_events, packet_events, rest_events}
+use Rattle.sub_check.specs.Events.{Standing, closing_events, end_before, endings, events}
+use Rattle.sub_check.specs.Events.{events_at_end, events_of_first, frame_events}
+use Rattle.sub_check.specs.Events.{first_header_events, gap_events, gap_length, latest}
+use Rattle.sub_check.specs.Events.{nothing_stands, order_events, packet_events, rest_events}
 use Rattle.sub_check.specs.Events.{standing_at, standing_before}
-use Rattle.sub_check.specs.FrameRules.{Task, end_frame, frame_at, packets_before}
-use Rattle.sub_check.specs.FrameRules.{packets_of_frame}
-use Rattle.sub_check.specs.ToldStretch.{HoldFrame, IsOutside, LawOfToldStretch, Noted}
-use Rattle.sub_check.specs.ToldStretch.{TellsRising, note, noted_ended, noted_told}
-use Rattle.sub_check.specs.ToldStretch.{nothing_noted, stands, told_stretches, with_last}
+use Rattle.sub_check.specs.FrameRules.{Task, end_frame, frame_at, packets_before, packets_of_frame}
+use Rattle.sub_check.specs.ToldStretch.{HoldFrame, IsOutside, LawOfToldStretch, Noted, TellsRising}
+use Rattle.sub_check.specs.ToldStretch.{note, noted_ended, noted_told, nothing_noted, stands}
+use Rattle.sub_check.specs.ToldStretch.{told_stretches, with_last}
 use Rattle.sub_check.specs.Transmission.{Transmission}
 use Rattle.sub_check.specs.declared.event.EndRule.{EndRule}
 use Rattle.sub_check.specs.declared.event.EndRule.TheVariants as end
 use Rattle.sub_check.specs.declared.event.Event.{Event}
 use Rattle.sub_check.proofs.PrefixLemmas.{before, rises_to}
-use Rattle.sub_check.proofs.ToldListLemmas.{is_rising, none_broken, rising}
-use Rattle.sub_check.proofs.NotedLemmas.{IsChange, after_two, end_change, header_kept}
-use Rattle.sub_check.proofs.NotedLemmas.{order_kept, packets_kept, rest_kept}
-use Rattle.sub_check.proofs.RisingEndLemmas.{RiseByPlace, before_next, before_not_after}
-use Rattle.sub_check.proofs.RisingEndLemmas.{end_last, end_low}
-use Rattle.sub_check.proofs.RisingEndLemmas.{gap_length-is, latest_is, same_end}
+use Rattle.sub_check.proofs.ToldListLemmas.{is_rising, never_true, none_broken, rising}
+use Rattle.sub_check.proofs.NotedLemmas.{IsChange, after_two, end_change, header_kept, order_kept}
+use Rattle.sub_check.proofs.NotedLemmas.{packets_kept, rest_kept}
+use Rattle.sub_check.proofs.RisingEndLemmas.{RiseByPlace, before_next, before_not_after, end_last}
+use Rattle.sub_check.proofs.RisingEndLemmas.{end_low, gap_length-is, latest_is, same_end}
 
 -- ---- what is noted at each end
 
@@ -297,14 +294,12 @@ module _ (g : Task) (frames : Transmission) where
   none_stand : TellsRising (events g frames) → (r : EndRule) (a b : ℕ)
       → All (IsOutside a b) (told_stretches r (events g frames)) → (n f : ℕ) → IsEnd frames n f
       → a ≤ f → f ≤ b → stands r (standing_at g frames n f) ≡ false
-  none_stand told r a b out n f at low high = go (stands r (standing_at g frames n f)) refl
-    where
-      go : (t : Bool) → stands r (standing_at g frames n f) ≡ t → t ≡ false
-      go true broken =
-          absurd (none_held a b f low high (told_stretches r (events g frames))
-          (recursion_from_All (IsOutside a b) _ out) (ends_noted told r n f at broken))
-      go false fine = refl
+  none_stand told r a b out n f at low high =
+      never_true _
+      (λ broken. none_held a b f low high (told_stretches r (events g frames))
+      (recursion_from_All (IsOutside a b) _ out) (ends_noted told r n f at broken))
 
+-- Content of which no cell is wrong.
 no_cell : (o : Option (ℕ × ℕ)) → is_some o ≡ false → o ≡ None
 no_cell o e = grind arith
 
