@@ -52,8 +52,9 @@ pub fn law_of_untold_stretch()
     ensures { LawOfUntoldStretch }
 {}
 
-/// The list of all that is told says which stretches these are: nothing of a receiver's rules is
-/// told of a stretch of which the list tells nothing.
+/// The list of all that is told is enough to find such stretches: it tells of no frame that is not
+/// after the one before, of no packet of the stretch that breaks a rule that a receiver depends on,
+/// and of wrong content and gaps only at frames outside it.
 pub fn law_of_told_stretch()
     ensures { LawOfToldStretch }
 {}
