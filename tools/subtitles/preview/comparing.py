@@ -10,7 +10,6 @@ from ..times import frame_of
 from . import TOP, cases
 from .faults import MOST_ENTRIES
 from .letters import ENGLISH, GERMAN, letters
-from .program import counted
 
 PREVIEW = os.path.join(TOP, "tools", "preview")
 HTML, SVG = "{http://www.w3.org/1999/xhtml}", "{http://www.w3.org/1999/xhtml}svg"
@@ -26,9 +25,6 @@ class Trial:
     def __init__(self, program, folder, is_verbose):
         self.program, self.folder, self.is_verbose = program, folder, is_verbose
         self.lock, self.passed, self.failed = threading.Lock(), 0, 0
-        stl, pes = cases.make(cases.ACCEPTED[0], folder)
-        self.has_complete = self.run("check", "--complete", stl, pes)[0] != 2
-        self.has_all = self.run("check", "--all", stl, pes)[0] != 2
 
     def test(self, name, is_right, told=""):
         with self.lock:
@@ -49,9 +45,8 @@ class Trial:
         return done.returncode, done.stdout.decode().splitlines()
 
     def check(self, *words):
-        """The lines of `check --all`; of a program without it, those that a report shows."""
-        status, lines = self.run("check", *["--all"] * self.has_all, *words)
-        return status, lines if self.has_all else list(counted(lines))
+        """The status and the lines of `check --all`."""
+        return self.run("check", "--all", *words)
 
     def preview(self, *words):
         return subprocess.run([PREVIEW, *words], stdin=subprocess.DEVNULL, stdout=subprocess.PIPE,

@@ -107,17 +107,12 @@ class Program:
         return lines, answered(words[0], verdict)
 
     def check(self, stl, pes, take):
-        """The verdict, accepted or refused, and all that `take` makes of the lines of `--all`.
-
-        Of a program without `--all` they are the line of `check`, and the count of faults.
-        """
-        has_all = self.has_all()
-        command = self.command("check", *self.check_options, *["--all"] * has_all, "--", stl, pes)
+        """The verdict, accepted or refused, and all that `take` makes of the lines of `--all`."""
+        command = self.command("check", *self.check_options, "--all", "--", stl, pes)
         try:
             with subprocess.Popen(command, stdin=subprocess.DEVNULL, stdout=subprocess.PIPE,
                                   text=True, errors="replace") as process:
-                lines = (line.rstrip("\n") for line in process.stdout)
-                told = take(lines if has_all else counted(lines))
+                told = take(line.rstrip("\n") for line in process.stdout)
         except (OSError, ValueError) as error:
             raise NoReport(f"{self.path} can't be run: {error}") from None
         verdict = verdict_of(told.first_line, process.returncode)
@@ -126,10 +121,6 @@ class Program:
         if not is_verdict:
             raise NoReport(f"check was not answered: {told.last_line or 'it printed nothing'}")
         return verdict, told
-
-    def has_all(self):
-        """Whether the program knows `check --all`."""
-        return self.run("check", "--all", "none", "none")[0] != ["usage 0 Words"]
 
     def show(self, stl):
         """The lines of `show`, its subtitles, and its last line."""
@@ -146,14 +137,6 @@ class Program:
     def packet(self, digits):
         """What `packet` says of 84 hexadecimal digits, as lines."""
         return self.answered("packet", digits)[0]
-
-
-def counted(lines):
-    """The line of a plain `check`, and after a refusal the count of faults, as `--all` ends."""
-    for line in lines:
-        yield line
-        if line.startswith("refused "):
-            yield "1 faults"
 
 
 def answered(command, verdict):
