@@ -39,7 +39,7 @@ _subttx() {
             return
             ;;
         schedule) options='--page --every --origin --option --serial' ;;
-        check) options='--page --every --origin --option --complete' ;;
+        check) options='--page --every --origin --option --complete --all' ;;
         listen) options='--page --origin --at --skip --flip --lose --receiver --complete' ;;
         *) options= ;;
     esac
