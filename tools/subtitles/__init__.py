@@ -18,4 +18,5 @@ prefix     what is installed under a folder
 preview      parts of tools/preview
 every_place  what `check --all` tells, from the definitions, for tools/check-every-place
 trial        how tools/faults runs the program
+mending      how tools/check-mending mends a pair by its list
 """

@@ -165,6 +165,9 @@ def text_of_read(trial, command, name, offset):
     index = packets_before(trial.inputs[name], offset)
     starts = [at for at, line in enumerate(lines) if line.startswith(b"pes ")] + [len(lines) - 1]
     before = lines[:starts[index]] if command.words[0] == "packets" else []
+    if "--all" in command.words:
+        # Of each PES packet with rows two faults are told.
+        before = lines[:-1][:2 * index]
     return b"".join(before) + b"fault 41 Read pes %d\n" % index
 
 
