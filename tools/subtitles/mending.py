@@ -8,7 +8,7 @@ import dataclasses
 from .pes import data_field, pes_packet, pes_packets, pts_in, teletext_packets
 from .stl import DOUBLE_HEIGHT, GSI, TEXT, TTI, UNUSED
 from .teletext import CODE_WORDS, NUMBER, address_of, headers_in, is_odd
-from .times import TICKS, frame_of, time_code
+from .times import TICKS, frame_of
 
 CODED = 2, 10  # where a header has its eight coded bytes
 # In which of the eight numbers a control bit stands, and its value there.
