@@ -152,6 +152,7 @@ answers_cut national options stl pes old new given t failing = record {
   pes_read = t.pes_read;
   before = t.before;
   listed = t.listed;
+  checked = λ other. absurd (other refl);
   fault = λ is stl_same pes_same out_same.
       let risen = t.prints.cut_count failing in absurd (omega (arith, risen, out_same));
 }
@@ -191,6 +192,7 @@ answers_end national options stl pes old new given end end_count status t holds 
       pes_read = t.pes_read;
       before = t.before;
       listed = t.listed;
+      checked = λ other. t.checked holds;
       fault = λ is stl_same pes_same out_same.
           let whole =
           printed-whole (sink old.contents old.count end end_count)

@@ -29,7 +29,7 @@ use Rattle.stl_rows.specs.declared.fault.LoadFaultKind.{LoadFaultKind}
 use Rattle.stl_rows.specs.declared.fault.LoadFaultKind.TheVariants as load
 use Rattle.stl_rows.specs.declared.national.National.{National}
 use Rattle.sub_plan.specs.Options.{OptionsValue}
-use Rattle.sub_check.specs.CheckedFiles.{TellsEvents}
+use Rattle.sub_check.specs.CheckedFiles.{IsChecked, TellsEvents, first_answer}
 use Rattle.sub_check.specs.Checking.{CountsRead}
 use Rattle.sub_check.specs.Events as pes_events
 use Rattle.sub_check.specs.Fault.{is_failure, is_pes_read, is_stl_read}
@@ -103,6 +103,7 @@ module _ {D N : Type 0} (IsTold : D → LoadFault → D → Type 0) (name : D �
       before = λ is. pes_same;
       ended = inr (refl, refl);
       cut = λ failing. absurd (true≢false (sym failing ∙ quiet));
+      checked = λ holds file heard bytes known. tt;
       listed = λ file told. (refl, memory file told);
     }
 
@@ -128,6 +129,7 @@ module _ {D N : Type 0} (IsTold : D → LoadFault → D → Type 0) (name : D �
       before = λ is. pes_same;
       ended = inl refl;
       cut = λ failing. absurd (true≢false (sym failing ∙ quiet));
+      checked = λ holds file heard bytes known. tt;
       listed = λ file told. ap subtitle_events (are file told);
     }
 
@@ -189,6 +191,7 @@ module _ {D N : Type 0} (IsTold : D → LoadFault → D → Type 0) (name : D �
     before = λ is. pes_same;
     ended = tt;
     cut = λ failing. refl;
+    checked = λ holds file heard bytes known. tt;
     listed = λ file told.
         (ap subtitle_events (are file told), rw (refusals-subtitles items) some);
   }
@@ -324,6 +327,7 @@ module _ {D N : Type 0} (IsTold : D → Event → D → Type 0) (name : D → N)
     before = λ is. cc;
     ended = refl;
     cut = λ failing. absurd (true≢false (sym failing ∙ quiet));
+    checked = λ holds file heard bytes known. tt;
     listed = λ file told. record { programme = programme; loads = loads file told; listed = are };
   }
 
@@ -379,8 +383,10 @@ module _ {D N : Type 0} (IsTold : D → Event → D → Type 0) (name : D → N)
       (task_of programme options (pes_file_of options.origin bytes).unread)
       (pes_file_of options.origin bytes).frames)
       × CountsRead options.page (pes_file_of options.origin bytes).frames a)
+      → ((value new).failed ≡ false
+      → IfTold pes.told (λ bytes. IsChecked programme options bytes (first_answer items given)))
       → TellsBoth national options stl pes (value old) (value new) (Ok (Some given))
-  read_pes items a given prints same count are = record {
+  read_pes items a given prints same count are verdict = record {
     events = items;
     answer = Ok (Some a);
     same = λ holds. ap (λ (x : Accepted). let r : Result (Option Accepted) CheckFault
@@ -393,6 +399,12 @@ module _ {D N : Type 0} (IsTold : D → Event → D → Type 0) (name : D → N)
     before = λ is. cc;
     ended = tt;
     cut = λ failing. refl;
+    checked = λ holds file heard bytes known other is.
+        let here = loads file heard in
+        let one : programme ≡ other = cc in
+        subst (λ (p : ProgrammeValue). IsChecked p options bytes (first_answer items a)) one
+        (subst (λ (x : Accepted). IsChecked programme options bytes (first_answer items x))
+        (sym (same holds)) (verdict holds bytes known));
     listed = λ file told. record { programme = programme; loads = loads file told; listed = are };
   }
 
@@ -410,6 +422,9 @@ module _ {D N : Type 0} (IsTold : D → Event → D → Type 0) (name : D → N)
       (λ other heard.
       let same : bytes ≡ other = cc in
       rw (sym same) (refl, (told.1 refl).0))
+      (λ quiet other heard.
+      let same : bytes ≡ other = cc in
+      rw (sym same) (told.1 refl).1)
   go_events bytes given true true is failing stops told count =
       let file = pes_file_of options.origin bytes in
       let whole = pes_events.events (task_of programme options file.unread) file.frames in
@@ -424,6 +439,7 @@ module _ {D N : Type 0} (IsTold : D → Event → D → Type 0) (name : D → N)
       (λ other heard.
       let same : bytes ≡ other = cc in
       rw (sym same) (refl, counts.1))
+      (λ quiet. absurd (true≢false (sym failing ∙ quiet)))
   go_events bytes given true false is failing stops told count = cc
   go_events bytes given false true is failing stops told count = cc
 
@@ -437,7 +453,7 @@ module _ {D N : Type 0} (IsTold : D → Event → D → Type 0) (name : D → N)
       → TellsBoth national options stl pes (value old) (value new) (Ok (Some given))
   go_all None given stopped is stops some told count =
       read_pes some.items given given (put some.items some.told).1 (λ holds. refl) count
-      (λ bytes heard. cc)
+      (λ bytes heard. cc) (λ holds bytes heard. cc)
   go_all (Some bytes) given stopped is stops some told count =
       go_events bytes given stopped (value new).failed is refl stops (told bytes is) count
 

@@ -1,5 +1,5 @@
 -- What is said of the answer to `check --all`.
-use Rattle.std.specs.Prelude.{◌≡◌, ℕ, ◌<◌, ◌≤◌, length, Bool, true, false, List, [], Option}
+use Rattle.std.specs.Prelude.{◌≡◌, ◌≢◌, ⊤, ℕ, ◌<◌, ◌≤◌, length, Bool, true, false, List, [], Option}
 use Rattle.std.specs.Prelude.{Some, None, Result, Ok, Err, IfErr, IsOk, ◌⊎◌}
 use Rattle.std.specs.List.{filter}
 use Rattle.std.specs.Io.KnownBytes.{Consumes}
@@ -18,6 +18,7 @@ use Rattle.stl_rows.specs.declared.fault.LoadFaultKind.TheVariants.{File, Memory
 use Rattle.stl_rows.specs.declared.national.National.{National}
 use Rattle.stl_file.specs.declared.fault.StlFault.TheVariants as stl_fault
 use Rattle.sub_plan.specs.Options.{OptionsValue}
+use Rattle.sub_check.specs.CheckedFiles.{IsChecked, first_answer}
 use Rattle.sub_check.specs.Checking.{CountsRead}
 use Rattle.sub_check.specs.Events as pes_events
 use Rattle.sub_check.specs.Fault.{is_pes_read, is_stl_read, is_subtitle_fault}
@@ -94,6 +95,17 @@ pub record FailsAtBlock (told left : Option (List ℕ)) (block : ℕ) : Type 0 w
   pub consumed : Consumes told left bytes
   pub block_is : block ≡ block_of_byte (length bytes)
 
+-- Where both files were read, the answer of `check`, which the first event decides, is one of the
+-- bytes: what is accepted is good and robust.
+abbrev pub IsVerdict :
+    National → OptionsValue → List ℕ → List ℕ → List Event → Result (Option Accepted) CheckFault
+    → Type 0
+IsVerdict national options file bytes events (Ok (Some a)) =
+    (programme : ProgrammeValue)
+    → loaded national (outcome_of file) ≡ Ok programme
+    → IsChecked programme options bytes (first_answer events a)
+IsVerdict national options file bytes events answer = ⊤
+
 -- What can end the listing before its end: that a source failed; or want of memory, before any
 -- event.
 abbrev pub CanEnd : List Event → CheckFault → Type 0
@@ -125,6 +137,10 @@ pub record TellsBoth
   pub before : is_of_subtitles answer ≡ true → pes.new ≡ pes.old
   pub ended : IfErr answer (CanEnd events)
   pub cut : new.failed ≡ true → IsOk answer
+  pub checked :
+      new.failed ≡ false
+      → IfTold stl.told (λ file.
+      IfTold pes.told (λ bytes. IsVerdict national options file bytes events answer))
   pub listed :
       IfTold stl.told (λ file. AreListed national options file pes.told events answer)
 
@@ -156,6 +172,12 @@ pub record AnswersAll
   -- Where the files tell their bytes, these decide the events.
   pub listed :
       IfTold stl.told (λ file. AreListed national options file pes.told events answer)
+  -- Failing devices and want of memory aside, the answer of `check` that goes with the events is
+  -- one of the bytes of both files.
+  pub checked :
+      status ≢ Fault
+      → IfTold stl.told (λ file.
+      IfTold pes.told (λ bytes. IsVerdict national options file bytes events answer))
   -- The status is `Fault` only where a device failed, or want of memory is printed.
   pub fault :
       status ≡ Fault
