@@ -6,6 +6,7 @@ use Rattle.std.proofs.Common.{List, [], ◌++◌, Bool, true, false, Option, Som
 use Rattle.std.proofs.Common.{Err}
 use Rattle.std.proofs.Common.{if◌then◌else◌, min}
 use Rattle.std.proofs.lemmas.Bool.{true≢false}
+use Rattle.std.proofs.lemmas.Bool.Decides.{nat_tests}
 use Rattle.std.specs.Prelude.{IfErr}
 use Rattle.std.specs.Io.KnownBytes.{Appends}
 use Rattle.std.proofs.KnownBytes.{Appends-trans}
@@ -19,6 +20,11 @@ use Rattle.stl_rows.specs.declared.fault.LoadFaultKind.{LoadFaultKind}
 use Rattle.stl_rows.specs.declared.fault.LoadFaultKind.TheVariants as load
 use Rattle.stl_rows.specs.declared.national.National.{National}
 use Rattle.sub_plan.specs.Options.{OptionsValue}
+use Rattle.sub_check.specs.CheckedFiles.{IsChecked, first_answer}
+use Rattle.sub_check.specs.declared.event.Event.TheVariants.{Ended, Told}
+use Rattle.sub_answer.specs.declared.told.Kind.{Kind}
+use Rattle.sub_answer.specs.declared.told.Kind.TheVariants as kind
+use Rattle.std.proofs.Common.{◌∷◌}
 use Rattle.sub_check.specs.Fault.{is_failure, is_failure_kind, is_pes_read, is_stl_read}
 use Rattle.sub_check.specs.declared.checker.Accepted.{Accepted}
 use Rattle.sub_check.specs.declared.event.Event.{Event}
@@ -26,7 +32,7 @@ use Rattle.sub_check.specs.declared.fault.CheckFault.{CheckFault}
 use Rattle.sub_check.specs.declared.fault.CheckFault.TheVariants as fault
 use Rattle.sub_answer.specs.DeviceCall.{Counts, SinkCall, SourceCall}
 use Rattle.sub_answer.specs.EveryFault.{AnswersAll, AreListed, AreListedBefore, CanEnd}
-use Rattle.sub_answer.specs.EveryFault.{TellsBoth}
+use Rattle.sub_answer.specs.EveryFault.{IsAccepted, IsVerdict, TellsBoth}
 use Rattle.sub_answer.specs.FaultListing.{all_listing, last_listing, lines_of, most_counted}
 use Rattle.sub_answer.specs.FaultListing.{refusals}
 use Rattle.sub_answer.specs.Faults.{kind_by, load_told}
@@ -129,6 +135,61 @@ memory-told national options told pes old new events (Err f) refused so sn po pn
     text are =
     absurd (true≢false (sym ended ∙ did_not_rise (is_pes_read f) po pn pc ps))
 
+-- Nothing that is told of a fault ends as what is done does.
+not-done : (k : Kind) → status_of k ≢ Done
+not-done kind.Refused e = cc
+not-done kind.Fault e = cc
+not-done kind.Usage e = cc
+
+-- Where the last line is that of what is accepted, nothing is refused.
+none-refused : (n : ℕ) (b : Bool) (a : Accepted) → (min n most_counted == 0) ≡ b
+    → (last_listing (min n most_counted) (Ok (Some a))).status ≡ Done
+    → n ≡ 0
+none-refused n true a is e = grind (arith, nat_tests)
+none-refused n false a is e = let s = rw is at e in cc
+
+-- Where nothing is refused, `check` accepts.
+first-accepted : (events : List Event) (a : Accepted) → refusals events ≡ 0
+    → first_answer events a ≡ Ok a
+first-accepted [] a none = refl
+first-accepted (Told f ∷ events) a none = absurd (omega (arith, none))
+first-accepted (Ended rule frame ∷ events) a none = refl
+
+-- What is accepted is good.
+accepted-is :
+    (national : National) (options : OptionsValue) (file bytes : List ℕ) (pes : Option (List ℕ))
+    (events : List Event) (answer : Result (Option Accepted) CheckFault)
+    → (all_listing events answer).status ≡ Done
+    → AreListed national options file pes events answer
+    → IsVerdict national options file bytes events answer
+    → IsAccepted national options file bytes
+accepted-is national options file bytes pes events (Ok None) is are verdict = cc
+accepted-is national options file bytes pes events (Err f) is are verdict =
+    absurd (not-done (kind_by (is_failure f)) is)
+accepted-is national options file bytes pes events (Ok (Some a)) is are verdict =
+    let none = none-refused (refusals events) (min (refusals events) most_counted == 0) a refl is in
+    let checked : IsChecked are.programme options bytes (Ok a) =
+    subst (IsChecked are.programme options bytes) (first-accepted events a none)
+    (verdict are.programme are.loads) in
+    let good = (checked.accepted refl refl).0 refl in
+    record {
+      programme = are.programme;
+      frames = good.0;
+      loads = are.loads;
+      carries = good.1;
+      good = good.2;
+      complete = good.3;
+    }
+
+-- A status other than `Fault` is that of the listing.
+listing-status : (out : SinkCall) (listing : Listing) (status : Status)
+    → PrintsOrFails out listing status
+    → status ≡ Done
+    → listing.status ≡ Done
+unfolding PrintsOrFails
+listing-status out listing status (inl p) is = sym p.2 ∙ is
+listing-status out listing status (inr p) is = let both = sym p.2 ∙ is in cc
+
 -- ---- the answer
 
 -- The sink failed while events were told. For `print_every_fault`.
@@ -153,6 +214,7 @@ answers_cut national options stl pes old new given t failing = record {
   before = t.before;
   listed = t.listed;
   checked = λ other. absurd (other refl);
+  accepted = λ is. cc;
   fault = λ is stl_same pes_same out_same.
       let risen = t.prints.cut_count failing in absurd (omega (arith, risen, out_same));
 }
@@ -193,6 +255,11 @@ answers_end national options stl pes old new given end end_count status t holds 
       before = t.before;
       listed = t.listed;
       checked = λ other. t.checked holds;
+      accepted = λ is file heard bytes known.
+          accepted-is national options file bytes pes.told t.events t.answer
+          (listing-status (sink old.contents old.count end end_count)
+          (all_listing t.events t.answer) status printed is)
+          (t.listed file heard) (t.checked holds file heard bytes known);
       fault = λ is stl_same pes_same out_same.
           let whole =
           printed-whole (sink old.contents old.count end end_count)

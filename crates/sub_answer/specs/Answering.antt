@@ -28,7 +28,7 @@ use Rattle.sub_check.specs.declared.fault.CheckFault.TheVariants as check
 use Rattle.sub_request.specs.declared.listening.Listening.{Listening}
 use Rattle.sub_check.specs.declared.listening_run.ListenFault.{ListenFault}
 use Rattle.sub_answer.specs.DeviceCall.{SinkCall, SourceCall}
-use Rattle.sub_answer.specs.EveryFault.{AnswersAll}
+pub use Rattle.sub_answer.specs.EveryFault.{AnswersAll, IsAccepted}
 use Rattle.sub_answer.specs.FaultListing.{accepted_line}
 use Rattle.sub_answer.specs.Faults.{check_told}
 use Rattle.sub_answer.specs.ListenListing.{Listens, listen_told}
@@ -71,17 +71,6 @@ pub record EndsWork
 abbrev pub verdict : Result Accepted CheckFault → Listing
 verdict (Ok a) = done (accepted_line a)
 verdict (Err f) = told_listing (check_told f)
-
--- The files are accepted: the subtitle file gives a programme, and the PES file carries a
--- transmission that is good for it, of complete pages where these are asked for.
-pub record IsAccepted
-    (national : National) (options : OptionsValue) (file bytes : List ℕ) : Type 0 where
-  pub programme : ProgrammeValue
-  pub frames : Transmission
-  pub loads : loaded national (outcome_of file) ≡ Ok programme
-  pub carries : Carries options.origin bytes frames
-  pub good : Good programme frames options
-  pub complete : IsTrue options.asks_complete → Complete frames options
 
 -- `check` has one answer, which the bytes of both files decide, and prints it.
 pub record AnswersCheck

@@ -1,6 +1,6 @@
 -- What is said of the answer to `check --all`.
 use Rattle.std.specs.Prelude.{◌≡◌, ◌≢◌, ⊤, ℕ, ◌<◌, ◌≤◌, length, Bool, true, false, List, [], Option}
-use Rattle.std.specs.Prelude.{Some, None, Result, Ok, Err, IfErr, IsOk, ◌⊎◌}
+use Rattle.std.specs.Prelude.{Some, None, Result, Ok, Err, IfErr, IsOk, IsTrue, ◌⊎◌}
 use Rattle.std.specs.List.{filter}
 use Rattle.std.specs.Io.KnownBytes.{Consumes}
 use Rattle.sub_io.specs.Device.{RisesIf, failed}
@@ -23,7 +23,11 @@ use Rattle.sub_check.specs.Checking.{CountsRead}
 use Rattle.sub_check.specs.Events as pes_events
 use Rattle.sub_check.specs.Fault.{is_pes_read, is_stl_read, is_subtitle_fault}
 use Rattle.sub_check.specs.FrameRules.{task_of}
+use Rattle.sub_check.specs.Good.{Good}
+use Rattle.sub_check.specs.OnScreen.{Complete}
+use Rattle.sub_check.specs.PesFrames.{Carries}
 use Rattle.sub_check.specs.PesReading.{pes_file_of}
+use Rattle.sub_check.specs.Transmission.{Transmission}
 use Rattle.sub_check.specs.declared.checker.Accepted.{Accepted}
 use Rattle.sub_check.specs.declared.event.Event.{Event}
 use Rattle.sub_check.specs.declared.fault.CheckFault.{CheckFault}
@@ -34,7 +38,7 @@ use Rattle.sub_answer.specs.Listing.{PrintsOrFails}
 use Rattle.sub_answer.specs.Printer.{PrinterValue, PrintsEvents}
 use Rattle.sub_answer.specs.Writing.{PrintsMemory}
 use Rattle.sub_answer.specs.declared.status.Status.{Status}
-use Rattle.sub_answer.specs.declared.status.Status.TheVariants.{Fault}
+use Rattle.sub_answer.specs.declared.status.Status.TheVariants.{Done, Fault}
 
 -- An answer, `None` for a refused subtitle file, refuses that file or could not read it.
 abbrev pub is_of_subtitles : Result (Option Accepted) CheckFault → Bool
@@ -94,6 +98,17 @@ pub record FailsAtBlock (told left : Option (List ℕ)) (block : ℕ) : Type 0 w
   pub bytes : List ℕ
   pub consumed : Consumes told left bytes
   pub block_is : block ≡ block_of_byte (length bytes)
+
+-- The files are accepted: the subtitle file gives a programme, and the PES file carries a
+-- transmission that is good for it, of complete pages where these are asked for.
+pub record IsAccepted
+    (national : National) (options : OptionsValue) (file bytes : List ℕ) : Type 0 where
+  pub programme : ProgrammeValue
+  pub frames : Transmission
+  pub loads : loaded national (outcome_of file) ≡ Ok programme
+  pub carries : Carries options.origin bytes frames
+  pub good : Good programme frames options
+  pub complete : IsTrue options.asks_complete → Complete frames options
 
 -- Where both files were read, the answer of `check`, which the first event decides, is one of the
 -- bytes: what is accepted is good and robust.
@@ -178,6 +193,11 @@ pub record AnswersAll
       status ≢ Fault
       → IfTold stl.told (λ file.
       IfTold pes.told (λ bytes. IsVerdict national options file bytes events answer))
+  -- The status is `Done` only where the files are accepted.
+  pub accepted :
+      status ≡ Done
+      → IfTold stl.told (λ file.
+      IfTold pes.told (λ bytes. IsAccepted national options file bytes))
   -- The status is `Fault` only where a device failed, or want of memory is printed.
   pub fault :
       status ≡ Fault
