@@ -14,6 +14,9 @@ use sub_words::ParseWords;
 /// The words of a check by the defaults of its options.
 pub const CHECK: [&str; 4] = ["subttx", "check", "a", "b"];
 
+/// The same with all that is told.
+pub const CHECK_ALL: [&str; 5] = ["subttx", "check", "--all", "a", "b"];
+
 /// The words of a schedule by the defaults of its options.
 pub const SCHEDULE: [&str; 4] = ["subttx", "schedule", "a", "b"];
 
@@ -37,7 +40,22 @@ pub fn answer_words<'a, S: Source, T: Source, F: Flush, K: Sink>(
     }
 }
 
-// The status that a text tells by the first word of its last line.
+/// The first lines of a text, as many as are asked for.
+pub fn first_lines(text: &[u8], count: usize) -> &[u8] {
+    let mut left = count;
+    for (place, byte) in text.iter().enumerate() {
+        if left == 0 {
+            return text.get(..place).unwrap_or(text);
+        }
+        if *byte == b'\n' {
+            left -= 1;
+        }
+    }
+    text
+}
+
+// The status that a text tells by its last line: by the first word of it, or by its end where it
+// counts faults.
 fn status_of(text: &[u8]) -> Status {
     let mut line = text;
     for (place, byte) in text.iter().enumerate() {
@@ -46,7 +64,7 @@ fn status_of(text: &[u8]) -> Status {
             line = rest;
         }
     }
-    if line.starts_with(b"refused ") {
+    if line.starts_with(b"refused ") || line.ends_with(b" faults\n") {
         Status::Refused
     } else if line.starts_with(b"fault ") || line.starts_with(b"usage ") {
         Status::Fault
@@ -68,7 +86,7 @@ pub fn assert_prints<'a, S: Source, T: Source>(
     requires first { CanFail (S.failure_count first.old) }
     requires second { CanFail (T.failure_count second.old) }
 {
-    let mut room = [0; 768];
+    let mut room = [0; 1024];
     let mut out = MemSink::new(&mut room);
     let mut file = MemSink::new(&mut []);
     let status = answer_words(rt.alloc(), words, first, second, &mut file, &mut out);
@@ -78,7 +96,75 @@ pub fn assert_prints<'a, S: Source, T: Source>(
     assert_same_in(rt, &status, &status_of(end), &words);
 }
 
-/// Asserts what is printed for words over two files in memory, and the status that it tells.
+// Answers the words of a check over two files in memory, with `--all` after its name.
+fn answer_all<'a, K: Sink>(
+    rt: &(impl Abort + Alloc<A = Global>),
+    words: &[&'a str],
+    first: &[u8],
+    second: &[u8],
+    out: &mut K,
+) -> Status
+    requires { CanFail (K.failure_count out.old) }
+{
+    let mut all_words = ["--all"; 20];
+    let len = words.len();
+    assert!(rt; 2 <= len && len < 20, "{words:?}");
+    all_words[..2].copy_from_slice(&words[..2]);
+    all_words[3..len + 1].copy_from_slice(&words[2..]);
+    let (mut first, mut second) = (MemSource::new(first), MemSource::new(second));
+    let mut file = MemSink::new(&mut []);
+    answer_words(
+        rt.alloc(),
+        &all_words[..len + 1],
+        &mut first,
+        &mut second,
+        &mut file,
+        out,
+    )
+}
+
+// Asserts that a check with `--all` prints the line of the check without it first: alone where
+// nothing is refused, and else with the number of faults as the last line.
+fn assert_tells_first<'a>(
+    rt: &(impl Abort + Alloc<A = Global>),
+    words: &[&'a str],
+    first: &[u8],
+    second: &[u8],
+    line: &[u8],
+) {
+    let mut room = [0; 4096];
+    let mut out = MemSink::new(&mut room);
+    let status = answer_all(rt, words, first, second, &mut out);
+    let text = out.written();
+    let is_refused = line.starts_with(b"refused ");
+    let end = if is_refused { b" faults\n" } else { line };
+    assert!(rt; text.starts_with(line) && text.ends_with(end), "{words:?}");
+    assert!(rt; is_refused || text == line, "{words:?}");
+    assert_same_in(rt, &status, &status_of(text), &words);
+}
+
+/// Asserts what is printed of two files in memory for the words of a check with `--all`, and the
+/// status; and that without it the first line is printed.
+pub fn assert_all<'a>(
+    rt: &(impl Abort + Alloc<A = Global>),
+    words: &'a [&'a str],
+    first: &[u8],
+    second: &[u8],
+    lines: &str,
+) {
+    let lines = lines.as_bytes();
+    let mut room = [0; 1024];
+    let mut out = MemSink::new(&mut room);
+    let status = answer_all(rt, words, first, second, &mut out);
+    assert!(rt; out.written() == lines, "{words:?}");
+    assert_same_in(rt, &status, &status_of(lines), &words);
+    let line = first_lines(lines, 1);
+    let (mut first, mut second) = (MemSource::new(first), MemSource::new(second));
+    assert_prints(rt, words, &mut first, &mut second, &[], line);
+}
+
+/// Asserts what is printed for words over two files in memory, and the status that it tells. Of a
+/// check also that with `--all` it is printed first.
 pub fn assert_tells<'a>(
     rt: &(impl Abort + Alloc<A = Global>),
     words: &'a [&'a str],
@@ -86,6 +172,9 @@ pub fn assert_tells<'a>(
     second: &[u8],
     want: &str,
 ) {
+    if words.len() > 2 && words[1] == "check" {
+        assert_tells_first(rt, words, first, second, want.as_bytes());
+    }
     let (mut first, mut second) = (MemSource::new(first), MemSource::new(second));
     assert_prints(rt, words, &mut first, &mut second, &[], want.as_bytes());
 }

@@ -1,5 +1,5 @@
 //! `check`: verdicts on transmissions of `Hi` with one thing changed.
-use crate::answers::{CHECK, assert_fills, assert_tells};
+use crate::answers::{CHECK, assert_fills, assert_prints, assert_tells};
 use crate::asserting::assert_same_in;
 use fixtures::{
     CLOSING, FIRST, HEADER, ROW, SECOND, TEN, file_of_hi, gsi, in_serial_mode, packet_of, push_pes,
@@ -8,6 +8,7 @@ use fixtures::{
 use std::alloc::Global;
 use std::process::Abort;
 use std::test::Fail;
+use sub_io::MemSource;
 
 const ACCEPTED: &str = "accepted 51 frames 2 transmissions\n";
 
@@ -113,7 +114,7 @@ fn judges_a_byte_that_is_changed(rt: HostRuntime) {
 
 #[test]
 fn judges_every_other_value_of_a_byte(rt: HostRuntime) {
-    let good = schedule_of_hi();
+    let (stl, good) = (file_of_hi(), schedule_of_hi());
     for at in 0..45 {
         let want = match at {
             0..=3 => "refused 31 Start pes 0\n",
@@ -124,7 +125,8 @@ fn judges_every_other_value_of_a_byte(rt: HostRuntime) {
         for value in 0..=255 {
             pes[at] = value;
             let want = if value == good[at] { ACCEPTED } else { want };
-            assert_judges(&rt, &pes, want);
+            let (mut stl, mut pes) = (MemSource::new(&stl), MemSource::new(&pes));
+            assert_prints(&rt, &CHECK, &mut stl, &mut pes, &[], want.as_bytes());
         }
     }
 }

@@ -14,6 +14,10 @@ mod check;
 #[cfg(test)]
 mod complete;
 #[cfg(test)]
+mod every_fault;
+#[cfg(test)]
+mod every_place;
+#[cfg(test)]
 mod failed_reads;
 #[cfg(test)]
 mod failing;
@@ -33,6 +37,8 @@ mod requests;
 mod schedule;
 #[cfg(test)]
 mod show;
+#[cfg(test)]
+mod stopped;
 #[cfg(test)]
 mod values;
 #[cfg(test)]

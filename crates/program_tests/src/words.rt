@@ -33,7 +33,7 @@ fn prints_the_line_of_refused_words_into_any_output(rt: HostRuntime) {
 #[rattlefmt::skip]
 #[test]
 fn refuses_words_that_are_no_command(rt: HostRuntime) {
-    let no_words: [&[&str]; 29] = [
+    let no_words: [&[&str]; 33] = [
         &["subttx"],
         &["subttx", "--help"],
         &["subttx", "-h"],
@@ -58,12 +58,16 @@ fn refuses_words_that_are_no_command(rt: HostRuntime) {
         &["subttx", "listen", "--at", "10:00:00:10"],
         &["subttx", "listen", "b.pes", "--at", "10:00:00:10", "--every", "25"],
         &["subttx", "--page", "888", "check", "a.stl", "b.pes"],
-        // a flag takes no text, stands once, and is one of two commands
+        // a flag takes no text, stands once, and is one of some commands
         &["subttx", "check", "a", "b", "--complete=yes"],
         &["subttx", "check", "a", "b", "--complete", "--complete"],
         &["subttx", "listen", "a", "--at", "10:00:00:10", "--complete=yes"],
         &["subttx", "schedule", "a", "b", "--complete"],
         &["subttx", "packets", "a", "--complete"],
+        &["subttx", "check", "a", "b", "--all=yes"],
+        &["subttx", "check", "a", "b", "--all", "--all"],
+        &["subttx", "schedule", "a", "b", "--all"],
+        &["subttx", "listen", "a", "--at", "10:00:00:10", "--all"],
     ];
     for words in no_words {
         assert_refuses(&rt, words, "usage 0 Words\n");

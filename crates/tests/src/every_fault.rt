@@ -1,27 +1,12 @@
 //! Every fault of a subtitle file, told one after another.
 use crate::asserting::assert_same;
-use fixtures::{FirstFew, HI, TEN, block, file_of_hi, gsi, head};
-use std::alloc::Global;
+use fixtures::{FirstFew, file_of_five, file_of_hi};
 use std::test::Fail;
 use stl_file::StlFault;
 use stl_rows::{LoadFault, LoadFaultKind, National, RowFault, RowFaultKind, load, load_all};
 use sub_io::{FailAt, MemSource};
 
-// Five subtitles: the second begins before the first has ended, and can't be drawn; the third can't
-// either; the fifth begins before the fourth.
-fn five(alloc: Global) -> Result<Vec<u8>, Fail> {
-    let cafe = [0x63, 0x61, 0x66, 0xC2, 0x65];
-    let mut file = Vec::new(alloc);
-    file.extend_from_slice(&gsi())?;
-    file.extend_from_slice(&block(&head(TEN, TEN + 50, 22), &HI))?;
-    file.extend_from_slice(&block(&head(TEN + 40, TEN + 90, 22), &cafe))?;
-    file.extend_from_slice(&block(&head(TEN + 100, TEN + 150, 22), &cafe))?;
-    file.extend_from_slice(&block(&head(TEN + 150, TEN + 160, 22), b"ok"))?;
-    file.extend_from_slice(&block(&head(TEN + 10, TEN + 20, 22), b"ok"))?;
-    Ok(file)
-}
-
-// What is wrong with them, and then with a sixth block that is cut.
+// What is wrong with five subtitles, and then with a sixth block that is cut.
 fn told() -> [Option<LoadFault>; 6] {
     let character = LoadFaultKind::Row(RowFault {
         kind: RowFaultKind::Character,
@@ -40,7 +25,7 @@ fn told() -> [Option<LoadFault>; 6] {
 
 #[test]
 fn tells_every_fault(rt: HostRuntime) -> Result<(), Fail> {
-    let mut file = five(rt.alloc())?;
+    let mut file = file_of_five(rt.alloc())?;
     let mut told = told();
     file.extend_from_slice(&[0x8F; 127])?;
     let mut device = FirstFew::<LoadFault, 6>::new();
@@ -53,7 +38,7 @@ fn tells_every_fault(rt: HostRuntime) -> Result<(), Fail> {
     assert!(rt; matches!(answer, Ok(None)));
     assert_same(&rt, &device.items, &told);
     // Without the cut block, and as far as `load` and a source that fails come.
-    let file = five(rt.alloc())?;
+    let file = file_of_five(rt.alloc())?;
     told[4] = None;
     let mut device = FirstFew::<LoadFault, 6>::new();
     let mut source = MemSource::new(file.as_slice());
@@ -68,7 +53,7 @@ fn tells_every_fault(rt: HostRuntime) -> Result<(), Fail> {
 
 #[test]
 fn tells_up_to_where_the_device_says_stop(rt: HostRuntime) -> Result<(), Fail> {
-    let file = five(rt.alloc())?;
+    let file = file_of_five(rt.alloc())?;
     let told = told();
     let mut device = FirstFew::<LoadFault, 3>::new();
     let mut source = MemSource::new(file.as_slice());
@@ -80,7 +65,7 @@ fn tells_up_to_where_the_device_says_stop(rt: HostRuntime) -> Result<(), Fail> {
 
 #[test]
 fn tells_up_to_where_the_source_failed(rt: HostRuntime) -> Result<(), Fail> {
-    let file = five(rt.alloc())?;
+    let file = file_of_five(rt.alloc())?;
     let told = told();
     let mut device = FirstFew::<LoadFault, 6>::new();
     // The GSI block and two blocks are read.
