@@ -1,9 +1,10 @@
 -- What is answered over sources, told without what they are.
-use Rattle.std.proofs.Common.{ℕ, List, refl}
+use Rattle.std.proofs.Common.{ℕ, List, true, false, refl}
 use Rattle.stl_rows.specs.declared.national.National.{National}
 use Rattle.sub_plan.specs.Options.{OptionsValue}
 use Rattle.sub_answer.specs.Answering.{Answers, AnswersCheck, EndsWork}
 use Rattle.sub_answer.specs.DeviceCall.{SinkCall, SourceCall}
+use Rattle.sub_answer.specs.EveryFault.{AnswersAll}
 use Rattle.sub_answer.specs.Listing.{IsListed, PrintsListing}
 use Rattle.sub_answer.specs.Writing.{Work}
 use Rattle.sub_answer.specs.declared.status.Status.{Status}
@@ -77,6 +78,48 @@ check-second-forgotten national options stl pes out status is = record {
   fault = is.fault;
 }
 
+-- What a check answers that tells everything, without what its first source is.
+all-forgotten :
+    {S T : Type 0} (national : National) (options : OptionsValue) (stl : SourceCall S)
+    (pes : SourceCall T) (out : SinkCall) (status : Status)
+    → AnswersAll national options stl pes out status
+    → AnswersAll national options (forgotten stl) pes out status
+all-forgotten national options stl pes out status is = record {
+  events = is.events;
+  answer = is.answer;
+  printed = is.printed;
+  stl_count = is.stl_count;
+  pes_count = is.pes_count;
+  stl_read = is.stl_read;
+  pes_read = is.pes_read;
+  before = is.before;
+  listed = is.listed;
+  checked = is.checked;
+  accepted = is.accepted;
+  fault = is.fault;
+}
+
+-- The same without what its second source is.
+all-second-forgotten :
+    {S T : Type 0} (national : National) (options : OptionsValue) (stl : SourceCall S)
+    (pes : SourceCall T) (out : SinkCall) (status : Status)
+    → AnswersAll national options stl pes out status
+    → AnswersAll national options stl (forgotten pes) out status
+all-second-forgotten national options stl pes out status is = record {
+  events = is.events;
+  answer = is.answer;
+  printed = is.printed;
+  stl_count = is.stl_count;
+  pes_count = is.pes_count;
+  stl_read = is.stl_read;
+  pes_read = is.pes_read;
+  before = λ refused. refl;
+  listed = is.listed;
+  checked = is.checked;
+  accepted = is.accepted;
+  fault = is.fault;
+}
+
 -- What is answered, without what the first source is.
 first-forgotten :
     {S T : Type 0} (request : Request) (first : SourceCall S) (second : SourceCall T)
@@ -92,7 +135,9 @@ first-forgotten (ask.Normal input output) first second file out status is =
     work-forgotten first file out status _ _ is
 first-forgotten (ask.Schedule stl pes options serial national) first second file out status is =
     work-forgotten first file out status _ _ is
-first-forgotten (ask.Check stl pes options national) first second file out status is =
+first-forgotten (ask.Check stl pes options national true) first second file out status is =
+    all-forgotten national options first second out status is
+first-forgotten (ask.Check stl pes options national false) first second file out status is =
     check-forgotten national options first second out status is
 first-forgotten (ask.Listen pes listening) first second file out status is =
     record { exact = is.exact; read = is.read }
@@ -108,7 +153,9 @@ second-forgotten (ask.Packets pes) first second file out status is = is
 second-forgotten (ask.Show stl) first second file out status is = is
 second-forgotten (ask.Normal input output) first second file out status is = is
 second-forgotten (ask.Schedule stl pes options serial national) first second file out status is = is
-second-forgotten (ask.Check stl pes options national) first second file out status is =
+second-forgotten (ask.Check stl pes options national true) first second file out status is =
+    all-second-forgotten national options first second out status is
+second-forgotten (ask.Check stl pes options national false) first second file out status is =
     check-second-forgotten national options first second out status is
 second-forgotten (ask.Listen pes listening) first second file out status is = is
 
