@@ -1,10 +1,9 @@
 -- What is answered to `check --all` by what a printer was told, and how counts go with it. Main
 -- lemmas: answers_cut, answers_end, counted_stl, counted_pes.
 use Rattle.std.proofs.Common.{◌≡◌, ◌≢◌, ◌∙◌, ap, refl, sym, subst, arith, inl, inr, ℕ, ◌+◌, ◌==◌}
-use Rattle.std.proofs.Common.{◌≤◌}
 use Rattle.std.proofs.Common.{List, [], ◌++◌, Bool, true, false, Option, Some, None, Result, Ok}
 use Rattle.std.proofs.Common.{Err}
-use Rattle.std.proofs.Common.{if◌then◌else◌, min}
+use Rattle.std.proofs.Common.{min}
 use Rattle.std.proofs.lemmas.Bool.{true≢false}
 use Rattle.std.proofs.lemmas.Bool.Decides.{nat_tests}
 use Rattle.std.specs.Prelude.{IfErr}
@@ -13,8 +12,6 @@ use Rattle.std.proofs.KnownBytes.{Appends-trans}
 use Rattle.sub_io.proofs.DeviceLemmas.{AppendsPrefix-first, AppendsPrefix-second}
 use Rattle.sub_io.specs.Device.{AppendsPrefix, RisesIf, failed}
 use Rattle.sub_io.specs.Reading.{IfTold}
-use Rattle.ttx_pes.specs.declared.fault.PesFault.TheVariants as pes_fault
-use Rattle.stl_file.specs.declared.fault.StlFault.TheVariants as stl_fault
 use Rattle.stl_rows.specs.Fault.{is_read, is_read_kind}
 use Rattle.stl_rows.specs.declared.fault.LoadFaultKind.{LoadFaultKind}
 use Rattle.stl_rows.specs.declared.fault.LoadFaultKind.TheVariants as load
@@ -41,7 +38,7 @@ use Rattle.sub_answer.specs.Printer.{PrinterValue, counted}
 use Rattle.sub_answer.specs.Told.{line_of, status_of}
 use Rattle.sub_answer.specs.Writing.{PrintsMemory}
 use Rattle.sub_answer.specs.declared.status.Status.{Status}
-use Rattle.sub_answer.specs.declared.status.Status.TheVariants.{Done, Fault, Refused}
+use Rattle.sub_answer.specs.declared.status.Status.TheVariants.{Done, Fault}
 use Rattle.sub_answer.proofs.PrintingLemmas.{did_not_rise, printed-whole}
 
 -- A sink in a call, by what it had taken and has taken.

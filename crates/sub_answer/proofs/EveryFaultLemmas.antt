@@ -1,20 +1,16 @@
 -- What a printer was told of two files, and what is answered by it. Main lemmas: after_error,
 -- after_faults, after_pes_error, after_pes, answers_cut, answers_end.
-use Rattle.std.proofs.Common.{◌≡◌, ◌≢◌, ◌∙◌, ap, refl, sym, subst, arith, inl, inr, ℕ, ◌+◌, ◌<◌}
+use Rattle.std.proofs.Common.{◌≡◌, ◌∙◌, ap, refl, sym, subst, arith, inl, inr, ℕ, ◌+◌, ◌<◌}
 use Rattle.std.proofs.Common.{◌≤◌}
-use Rattle.std.proofs.Common.{zero, suc, List, [], ◌∷◌, ◌++◌, map, drop, take, length, Bool, true}
-use Rattle.std.proofs.Common.{false, Option, Some, None, Result, Ok, Err, if◌then◌else◌, ◌-◌, max}
-use Rattle.std.proofs.Common.{min}
+use Rattle.std.proofs.Common.{zero, suc, List, [], ◌∷◌, take, length, Bool, true}
+use Rattle.std.proofs.Common.{false, Option, Some, None, Result, Ok, Err, ◌-◌}
 use Rattle.std.proofs.lemmas.Bool.{true≢false}
 use Rattle.std.proofs.lemmas.Bool.Decides.{nat_tests}
-use Rattle.std.specs.Prelude.{◌⊎◌, IfErr}
+use Rattle.std.specs.Prelude.{◌⊎◌}
 use Rattle.std.specs.List.{filter}
-use Rattle.std.specs.Io.KnownBytes.{Appends}
-use Rattle.std.proofs.KnownBytes.{Appends-nil, Appends-trans}
-use Rattle.sub_io.proofs.DeviceLemmas.{AppendsPrefix-first, AppendsPrefix-second}
-use Rattle.sub_io.specs.Device.{RisesIf, failed}
+use Rattle.sub_io.specs.Device.{RisesIf}
 use Rattle.sub_io.specs.Reading.{IfTold}
-use Rattle.sub_io.specs.Telling.{Tells, TellsPrefix, TellsSome}
+use Rattle.sub_io.specs.Telling.{Tells, TellsSome}
 use Rattle.ttx_packet.specs.PageId.{PageIdValue}
 use Rattle.ttx_pes.specs.Reader.{FailsAtPacket}
 use Rattle.ttx_pes.specs.declared.fault.PesFault.TheVariants as pes_fault
@@ -32,7 +28,7 @@ use Rattle.sub_plan.specs.Options.{OptionsValue}
 use Rattle.sub_check.specs.CheckedFiles.{IsChecked, TellsEvents, first_answer}
 use Rattle.sub_check.specs.Checking.{CountsRead}
 use Rattle.sub_check.specs.Events as pes_events
-use Rattle.sub_check.specs.Fault.{is_failure, is_pes_read, is_stl_read}
+use Rattle.sub_check.specs.Fault.{is_pes_read}
 use Rattle.sub_check.specs.FrameRules.{frame_at, packets_before, task_of}
 use Rattle.sub_check.specs.PacketRules.{header_count}
 use Rattle.sub_check.specs.PesReading.{pes_file_of}
@@ -41,19 +37,12 @@ use Rattle.sub_check.specs.declared.checker.Accepted.{Accepted}
 use Rattle.sub_check.specs.declared.event.Event.{Event}
 use Rattle.sub_check.specs.declared.fault.CheckFault.{CheckFault}
 use Rattle.sub_check.specs.declared.fault.CheckFault.TheVariants as fault
-use Rattle.sub_answer.specs.DeviceCall.{Counts, SinkCall, SourceCall}
-use Rattle.sub_answer.specs.EveryFault.{AnswersAll, AreListed, CanEnd, FailsAtBlock, TellsBoth}
-use Rattle.sub_answer.specs.FaultListing.{all_listing, last_listing, lines_of, most_counted}
+use Rattle.sub_answer.specs.DeviceCall.{SourceCall}
+use Rattle.sub_answer.specs.EveryFault.{FailsAtBlock, TellsBoth}
+use Rattle.sub_answer.specs.FaultListing.{most_counted}
 use Rattle.sub_answer.specs.FaultListing.{refusals, subtitle_event, subtitle_events}
-use Rattle.sub_answer.specs.Faults.{kind_by, load_told}
-use Rattle.sub_answer.specs.Listing.{Listing, PrintsOrFails}
-use Rattle.sub_answer.specs.Printer.{PrinterValue, PrintsEvent, PrintsEvents, counted}
-use Rattle.sub_answer.specs.Told.{status_of}
-use Rattle.sub_answer.specs.Writing.{PrintsMemory}
-use Rattle.sub_answer.specs.declared.status.Status.{Status}
-use Rattle.sub_answer.specs.declared.status.Status.TheVariants.{Done, Fault, Refused}
+use Rattle.sub_answer.specs.Printer.{PrinterValue, PrintsEvent, PrintsEvents}
 use Rattle.sub_answer.proofs.PrinterLemmas.{as_told, prints-taken, prints_all}
-use Rattle.sub_answer.proofs.PrintingLemmas.{did_not_rise, printed-whole}
 
 -- ---- the subtitle file
 

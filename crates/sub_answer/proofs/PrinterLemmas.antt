@@ -1,12 +1,11 @@
 -- What a printer does that was told several events; main lemma: prints_all.
-use Rattle.std.proofs.Common.{◌≡◌, ◌∙◌, ap, refl, sym, subst, arith, ℕ, ◌+◌, ◌<◌, ◌≤◌, min, ◌||◌}
+use Rattle.std.proofs.Common.{◌≡◌, ◌∙◌, ap, refl, sym, subst, arith, ℕ, ◌+◌, ◌<◌, ◌≤◌, ◌||◌}
 use Rattle.std.proofs.Common.{not}
-use Rattle.std.proofs.Common.{List, [], ◌∷◌, ◌++◌, map, Bool, true, false, Option}
+use Rattle.std.proofs.Common.{List, [], ◌∷◌, ◌++◌, map, Bool, true, false}
 use Rattle.std.proofs.Common.{append_assoc, drop, take}
 use Rattle.std.proofs.lemmas.List.{map-append, take-append-drop}
 use Rattle.std.proofs.lemmas.Bool.{true≢false}
 use Rattle.std.proofs.lemmas.Bool.Decides.{nat_tests}
-use Rattle.std.specs.Io.KnownBytes.{Appends}
 use Rattle.std.proofs.KnownBytes.{Appends-nil, Appends-trans}
 use Rattle.sub_io.proofs.DeviceLemmas.{AppendsPrefix-first, AppendsPrefix-second}
 use Rattle.sub_io.specs.Device.{AppendsPrefix}

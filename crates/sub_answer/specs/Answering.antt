@@ -1,24 +1,19 @@
 -- What is said of the answer to a request, command by command.
 use Rattle.std.specs.Prelude.{◌≡◌, ◌≢◌, ◌↔◌, ℕ, Bool, true, false, List, Option, Result, Err, Ok}
-use Rattle.std.specs.Prelude.{IsTrue, codes}
+use Rattle.std.specs.Prelude.{codes}
 use Rattle.sub_io.specs.Device.{RisesIf, failed}
 use Rattle.sub_io.specs.Reading.{IfTold}
 use Rattle.ttx_pes.specs.Reader.{FailsAtPacket}
 use Rattle.ttx_pes.specs.declared.fault.PesFault.TheVariants.{Read}
-use Rattle.stl_file.specs.Reader.{outcome_of}
 use Rattle.stl_rows.specs.Fault.{is_read}
-use Rattle.stl_rows.specs.Loading.{FailsLoading, loaded}
-use Rattle.stl_rows.specs.Programme.{ProgrammeValue}
+use Rattle.stl_rows.specs.Loading.{FailsLoading}
 use Rattle.stl_rows.specs.declared.fault.LoadFault.{LoadFault}
 use Rattle.stl_rows.specs.declared.national.National.{National}
 use Rattle.sub_plan.specs.Options.{OptionsValue}
 use Rattle.sub_check.specs.CheckedFiles.{AreChecked}
 use Rattle.sub_check.specs.Fault.{is_pes_read, is_stl_read, is_subtitle_fault}
 use Rattle.sub_check.specs.FrameRules.{Unread}
-use Rattle.sub_check.specs.Good.{Good}
 use Rattle.sub_check.specs.ListeningRun.{FailsListening}
-use Rattle.sub_check.specs.OnScreen.{Complete}
-use Rattle.sub_check.specs.PesFrames.{Carries}
 use Rattle.sub_check.specs.PesReading.{ReadsAs}
 use Rattle.sub_check.specs.Reception.{left_by}
 use Rattle.sub_check.specs.Transmission.{Transmission}

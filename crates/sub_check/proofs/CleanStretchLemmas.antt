@@ -1,10 +1,9 @@
 -- A clean stretch has what suffices, and so may be trusted: `law_of_clean_stretch`.
 use Rattle.std.proofs.lemmas.Bool.Decides.{nat_tests}
-use Rattle.std.proofs.Common.{◌≡◌, ℕ, zero, suc, ◌+◌, ◌-◌, ◌<◌, ◌≤◌, ◌⊎◌, inl, inr, true, false}
-use Rattle.std.proofs.Common.{◌&&◌}
-use Rattle.std.proofs.Common.{nat_le, cond, List, [], ◌∷◌, ◌++◌, length, take, drop, map}
+use Rattle.std.proofs.Common.{◌≡◌, ℕ, zero, suc, ◌+◌, ◌-◌, ◌<◌, ◌≤◌, ◌⊎◌, inl, inr}
+use Rattle.std.proofs.Common.{List, [], ◌∷◌, ◌++◌, length, take, drop, map}
 use Rattle.std.proofs.Common.{slice_index_or, Option, refl, sym, ap, ◌∙◌, subst, arith}
-use Rattle.std.proofs.Common.{append_assoc, IsTrue, get_or, le_refl, le_trans}
+use Rattle.std.proofs.Common.{append_assoc, IsTrue, get_or, le_refl}
 use Rattle.std.specs.List.{AllByRecursion}
 use Rattle.std.proofs.lemmas.Bool.{cases_eq, cases_lt}
 use Rattle.std.proofs.lemmas.List.{append-nil, get_or-drop}
@@ -12,8 +11,6 @@ use Rattle.std.proofs.lemmas.List.Elements.{All-nil}
 use Rattle.ttx_packet.specs.PageId.{PageIdValue}
 use Rattle.ttx_packet.specs.Parity.{code_of}
 use Rattle.ttx_page.specs.Noise.{IsSound}
-use Rattle.ttx_page.specs.Page.{IsCell}
-use Rattle.ttx_page.specs.PacketKind.{kind}
 use Rattle.ttx_page.specs.Shown.{shown}
 use Rattle.ttx_page.proofs.LateStart.{MayFollow, sound-joined}
 use Rattle.stl_rows.specs.Programme.{ProgrammeValue}
@@ -27,7 +24,7 @@ use Rattle.sub_check.specs.Good.{HoldsHeader}
 use Rattle.sub_check.specs.OnScreen.{CompleteWithin}
 use Rattle.sub_check.specs.PacketRules.{codes_of}
 use Rattle.sub_check.specs.Sufficient.{IsSufficient}
-use Rattle.sub_check.specs.Transmission.{IsRising, SentFrame, Transmission, first_frame, last_frame}
+use Rattle.sub_check.specs.Transmission.{IsRising, SentFrame, Transmission, first_frame}
 use Rattle.sub_check.specs.Transmission.{on_air_until, packets_between}
 use Rattle.sub_check.proofs.GoodLemmas.{any_sent, number_at}
 use Rattle.sub_check.proofs.PrefixLemmas.{first-same, last-same, locate, on_air_at, on_air_is}

@@ -1,6 +1,6 @@
 -- What is told of the packets of a frame, one packet on: `told_one`, `told_part`; and where they
 -- break no rule, `packet_events-none`.
-use Rattle.std.proofs.Common.{◌≡◌, ℕ, zero, suc, ◌+◌, ◌<◌, ◌≤◌, inl, inr, List, [], ◌++◌, Option}
+use Rattle.std.proofs.Common.{◌≡◌, ℕ, zero, suc, ◌+◌, ◌<◌, ◌≤◌, inl, inr, List, [], ◌++◌}
 use Rattle.std.proofs.Common.{map, take, get_or, refl, sym, ap, ◌∙◌, arith, append_assoc}
 use Rattle.std.proofs.Common.{append-nil, add-one}
 use Rattle.std.specs.List.{filter}

@@ -1,6 +1,6 @@
 -- Events that are told in parts, one part after another: `told_whole`, `told_same`, `told_then`,
 -- `stopped_first`, `stopped_then`, `all_same`, `prefix_same`; `ok_map`.
-use Rattle.std.proofs.Common.{◌≡◌, List, ◌++◌, Option, Result, Ok, Err, sym, subst}
+use Rattle.std.proofs.Common.{◌≡◌, List, ◌++◌, Result, Ok, Err, sym, subst}
 use Rattle.sub_io.proofs.TellingLemmas.{TellsPrefix-first, TellsPrefix-second}
 use Rattle.sub_io.proofs.TellingLemmas.{TellsPrefix-whole, TellsUntilStopped-after}
 use Rattle.std.specs.Prelude.{OnOk}

@@ -1,16 +1,15 @@
 -- A stretch of which nothing is told is clean: `law_of_untold_stretch`.
-use Rattle.std.proofs.Common.{◌≡◌, ℕ, ◌<◌, ◌==◌, Bool, true, false, not, ◌&&◌, List, Some, refl}
+use Rattle.std.proofs.Common.{◌≡◌, ℕ, Bool, true, false, not, ◌&&◌, List, Some, refl}
 use Rattle.std.proofs.Common.{sym}
-use Rattle.std.proofs.Common.{ap, ◌∙◌, subst, arith, eqb-true, is_some, find, slice_index}
-use Rattle.std.proofs.Common.{IsFalse, IsTrue}
+use Rattle.std.proofs.Common.{ap, ◌∙◌, eqb-true, is_some}
+use Rattle.std.proofs.Common.{IsFalse}
 use Rattle.ttx_packet.specs.PacketAddress.{address}
 use Rattle.ttx_packet.specs.PageHeader.{HasExactHeader}
 use Rattle.ttx_packet.specs.RowPacket.{first_even_byte}
 use Rattle.ttx_page.specs.Differing.{row_differing}
-use Rattle.ttx_page.specs.PacketKind.{is_row, is_some_row, kind}
+use Rattle.ttx_page.specs.PacketKind.{is_some_row, kind}
 use Rattle.ttx_page.specs.Span.{is_open_after, span}
-use Rattle.ttx_page.specs.declared.packet_kind.PacketKind.TheVariants.{Row}
-use Rattle.sub_check.specs.CleanStretch.{DecidesStretch, IsKeptWithin, IsUntold, KeepsCodes}
+use Rattle.sub_check.specs.CleanStretch.{IsKeptWithin, IsUntold, KeepsCodes}
 use Rattle.sub_check.specs.CleanStretch.{LawOfUntoldStretch, Part}
 use Rattle.sub_check.specs.CleanStretch.Part.{DueContent, ExactAddresses, ExactHeaders, FramesRise}
 use Rattle.sub_check.specs.CleanStretch.Part.{HeadersInTime, OddRows, SameRows, SubtitleHeaders}

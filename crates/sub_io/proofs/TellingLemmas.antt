@@ -1,9 +1,9 @@
 -- Things that a device was told one after another; main lemma: TellsUntilStopped-after. What one
 -- was told that keeps the first: first_is. Where it is only said that some was told:
 -- TellsSome-until.
-use Rattle.std.proofs.Common.{◌≡◌, ◌+◌, ◌≤◌, List, [], ◌∷◌, ◌++◌, length, take, Option, Some, None}
+use Rattle.std.proofs.Common.{◌≡◌, ◌+◌, ◌≤◌, List, [], ◌∷◌, ◌++◌, length, take, Option, None}
 use Rattle.std.proofs.Common.{Result, Ok, Err, refl, sym, subst, le_refl, arith}
-use Rattle.std.proofs.Common.{append_assoc, append-nil, length-append}
+use Rattle.std.proofs.Common.{length-append}
 use Rattle.std.proofs.Math.Seq.{take-append-add, take-length}
 use lib.Seq.{take-append-le}
 use Rattle.sub_io.specs.Telling.{KeepsFirst, Tells, TellsInTurn, TellsPrefix, TellsUntilStopped}

@@ -2,7 +2,7 @@
 --
 -- A device says how it stands after one thing by how it stood before: a relation of its state, what
 -- it is told, and its state then. Each of these words says so of many things.
-use Rattle.std.specs.Prelude.{◌≡◌, ℕ, ◌≤◌, List, [], ◌∷◌, ◌++◌, length, take, Option, Some, None}
+use Rattle.std.specs.Prelude.{◌≡◌, ℕ, ◌≤◌, List, [], ◌∷◌, length, take, Option, Some, None}
 use Rattle.std.specs.Prelude.{Result, MatchResult}
 
 -- It was told these, one after another.

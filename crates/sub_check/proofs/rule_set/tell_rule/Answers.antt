@@ -1,5 +1,5 @@
 -- A rule is told where it is in the set: one_rule.
-use Rattle.std.proofs.Common.{◌∙◌, sym}
+use Rattle.std.proofs.Common.{sym}
 use Rattle.sub_check.proofs.RuleSetLemmas.{one_rule}
 use Rattle.sub_check.proofs.TellingSteps.{told_same}
 use Rattle.sub_check.proofs.rule_set.tell_rule.Goals as goal
