@@ -1,6 +1,6 @@
 //! All that is told of a transmission, one event after another: what begins to be broken, and up to
 //! where it stood so.
-ghost use Rattle.std.specs.Prelude.{◌≡◌, None, false};
+ghost use Rattle.std.specs.Prelude.{⊤, ◌≡◌, false};
 ghost use Rattle.sub_io.specs.Device.{CanFail};
 
 use crate::asserting::assert_same;
@@ -37,10 +37,11 @@ impl Kept {
 }
 
 impl Audience<Event> for Kept {
-    ghost told = { λ kept. None };
+    ghost is_told = { λ _ _ _. ⊤ };
 
     ghost has_stopped = { λ kept. kept.stopped };
 
+    #[tactic(auto, using(sub_io::proofs::TellingLemmas::tellings))]
     fn tell(&mut self, event: Event) -> Result<(), Stopped> {
         if self.count < 8 {
             self.events[self.count] = Some(event);
