@@ -1,6 +1,6 @@
 //! The requests that words are read as.
 use crate::answers::SCHEDULE;
-use crate::asserting::{assert_same, assert_same_in};
+use crate::asserting::assert_same;
 use crate::normal::NORMAL;
 use fixtures::options;
 use std::alloc::Global;
@@ -66,38 +66,44 @@ fn reads_the_words_of_a_schedule(rt: HostRuntime) -> Result<(), Fail> {
     Ok(())
 }
 
-// Asserts that words ask for a check of files a and b with these flags.
-fn assert_checks<'a>(
-    rt: &(impl Abort + Alloc<A = Global>),
-    words: &'a [&'a str],
-    is_complete: bool,
-    is_all: bool,
-) {
-    match Request::parse(rt.alloc(), words) {
-        Ok(
-            Request::Check {
-                stl,
-                pes,
-                options,
-                all,
-                ..
-            },
-        ) => {
-            assert_same_in(rt, &(stl, pes), &("a", "b"), &words);
-            assert_same_in(rt, &options.asks_complete(), &is_complete, &words);
-            assert_same_in(rt, &all, &is_all, &words);
+// Asserts that a request is a check of files a and b with these flags.
+fn assert_checks(rt: &impl Abort, request: &Request<'_>, is_complete: bool, is_all: bool) {
+    match request {
+        Request::Check {
+            stl,
+            pes,
+            options,
+            all,
+            ..
+        } => {
+            assert_same(rt, &(*stl, *pes), &("a", "b"));
+            assert_same(rt, &options.asks_complete(), &is_complete);
+            assert_same(rt, all, &is_all);
         }
-        _ => panic!(rt; "{words:?} is no check"),
+        _ => panic!(rt; "no check"),
     }
 }
 
-#[rattlefmt::skip]
 #[test]
-fn reads_the_flags_of_a_check(rt: HostRuntime) {
-    assert_checks(&rt, &["subttx", "check", "a", "b"], false, false);
-    assert_checks(&rt, &["subttx", "check", "a", "b", "--complete"], true, false);
-    assert_checks(&rt, &["subttx", "check", "a", "b", "--all"], false, true);
-    assert_checks(&rt, &["subttx", "check", "--all", "a", "b", "--complete"], true, true);
+fn reads_the_flags_of_a_check(rt: HostRuntime) -> Result<(), Fail> {
+    let alloc = rt.alloc();
+    let plain: &[&str] = &["subttx", "check", "a", "b"];
+    let complete: &[&str] = &["subttx", "check", "a", "b", "--complete"];
+    let all: &[&str] = &["subttx", "check", "a", "b", "--all"];
+    let both: &[&str] = &["subttx", "check", "--all", "a", "b", "--complete"];
+    // words, complete pages, every broken place
+    for (words, is_complete, is_all) in [
+        (plain, false, false),
+        (complete, true, false),
+        (all, false, true),
+        (both, true, true),
+    ] {
+        match Request::parse(alloc, words) {
+            Ok(request) => assert_checks(&rt, &request, is_complete, is_all),
+            Err(_) => return Err("a request".into()),
+        }
+    }
+    Ok(())
 }
 
 // Asserts that words ask to listen to file a with this page and PTS of frame 0, up to a frame,
