@@ -38,6 +38,7 @@ abbrev pub with_last : Option ℕ → ℕ → List (ℕ × ℕ) → List (ℕ ×
 with_last None frame over = over
 with_last (Some told) frame over = (told, frame) ∷ over
 
+-- It has ended after this frame.
 abbrev pub noted_ended : ℕ → Noted → Noted
 noted_ended frame s = record { over = with_last s.since frame s.over; since = None }
 
@@ -60,6 +61,7 @@ abbrev pub note_told : EndRule → Noted → Option (EndRule × ℕ) → Noted
 note_told rule s None = s
 note_told rule s (Some told) = if is_same_rule told.0 rule then noted_told told.1 s else s
 
+-- What is noted after any event.
 abbrev pub note : EndRule → Noted → Event → Noted
 note rule s (Told refusal) = note_told rule s (rule_told refusal)
 note rule s (Ended ended frame) = if is_same_rule ended rule then noted_ended frame s else s

@@ -30,6 +30,7 @@ packet_faults =
     fault.Truncated ∷ fault.Start ∷ fault.Length ∷ fault.Truncated ∷ fault.Flags ∷ fault.NoTime
     ∷ fault.HeaderLength ∷ fault.Time ∷ fault.DataId ∷ []
 
+-- The same of the fields of each data unit.
 abbrev pub unit_faults : List PesFault
 unit_faults = fault.UnitLength ∷ fault.Framing ∷ fault.LineOrder ∷ []
 
