@@ -26,36 +26,36 @@ use Rattle.stl_rows.proofs.FaultlessLemmas.{IsOnPage, empty_parts, on_page}
 
 -- ---- the rows of the page
 
--- an empty line shows spaces. For row_of-none
+-- An empty line shows spaces. For row_of-none.
 code_in_column-none : (start k : ℕ) → 32 ≡ code_in_column start [] k
 code_in_column-none start k = grind (arith, nat_tests)
 
--- the row of an empty line is blank
+-- The row of an empty line is blank.
 pub row_of-none : (jc : ℕ) → blank_row ≡ row_of jc []
 unfolding blank_row row_of
 row_of-none jc = λ i. map (λ k. code_in_column-none (start_column jc 0) k i) (range_with_len 0 40)
 
--- the page of no lines is blank
+-- The page of no lines is blank.
 page_of_none : (jc vp : ℕ) → blank ≡ page_of_lines jc vp []
 unfolding blank page_of_lines
 page_of_none jc vp =
     λ i. map (λ row. cond_both (nat_lt row vp) [] [] (λ line. blank_row ≡ row_of jc line)
     (λ _. row_of-none jc) (λ _. row_of-none jc) i) (range_with_len 1 24)
 
--- an empty line after others changes no line
+-- An empty line after others changes no line.
 get_or_push-none : (ls : List (List ℕ)) (k : ℕ) → get_or ls k [] ≡ get_or (ls ++ [] ∷ []) k []
 get_or_push-none [] zero = refl
 get_or_push-none [] (suc k) = refl
 get_or_push-none (l ∷ ls) zero = refl
 get_or_push-none (l ∷ ls) (suc k) = get_or_push-none ls k
 
--- the row after those of lines is that of one more
+-- The row after those of lines is that of one more.
 line_on-last : (vp row : ℕ) (done : List (List ℕ)) (line : List ℕ)
     → row ≡ vp + length done
     → line_on vp (done ++ line ∷ []) row ≡ line
 line_on-last vp row done line e = grind (arith, nat_tests, get_or_push done line [] (row - vp))
 
--- the others stay
+-- The others stay.
 line_on-other : (vp row : ℕ) (done : List (List ℕ)) (line : List ℕ)
     → row ≢ vp + length done
     → line_on vp (done ++ line ∷ []) row ≡ line_on vp done row
@@ -69,12 +69,12 @@ line_on-other vp row done line e =
       get_or_past done (row - vp) [],
     )
 
--- no cells are no line
+-- No cells are no line.
 prepared_none : prepared [] ≡ []
 unfolding prepared
 prepared_none = refl
 
--- a line after others is put on the row after theirs
+-- A line after others is put on the row after theirs.
 put_line-page : (jc vp : ℕ) (done : List (List ℕ)) (cells : List ℕ)
     → FitsRow (vp + length done) cells
     → put_line jc (vp + length done) cells (page_of_lines jc vp done)
@@ -120,7 +120,7 @@ pub record IsDrawn (jc vp row : ℕ) (page : Rows) (all left : List (List ℕ)) 
   pub next : row ≡ vp + length done
   pub all_are : all ≡ done ++ left
 
--- the blank page has none of them
+-- The blank page has none of them.
 pub is_drawn-start : (jc vp : ℕ) (all : List (List ℕ)) → IsDrawn jc vp vp blank all all
 is_drawn-start jc vp all = record {
   done = [];
@@ -129,7 +129,7 @@ is_drawn-start jc vp all = record {
   all_are = refl;
 }
 
--- where no line has a fault the next is on the page
+-- Where no line has a fault the next is on the page.
 pub is_drawn-on_page : (jc vp row : ℕ) (page : Rows) (all left : List (List ℕ))
     → IsDrawn jc vp row page all left
     → line_faults 0 vp false all ≡ []
@@ -138,7 +138,7 @@ is_drawn-on_page jc vp row page all left h none =
     rw (h.all_are, get_or-append-add h.done left 0 [])
     at (on_page 0 vp row false all (length h.done + 0) (omega (arith, h.next)) none)
 
--- so it fits its row
+-- So it fits its row.
 pub is_drawn-fits : (jc vp row : ℕ) (page : Rows) (all left : List (List ℕ)) (cells : List ℕ)
     → 1 ≤ vp
     → IsDrawn jc vp row page all (prepared cells ∷ left)
@@ -152,7 +152,7 @@ is_drawn-fits jc vp row page all left cells first h none =
       few = on.few;
     }
 
--- it is put
+-- It is put.
 pub is_drawn-next : (jc vp row : ℕ) (page : Rows) (all left : List (List ℕ)) (cells : List ℕ)
     → 1 ≤ vp
     → IsDrawn jc vp row page all (prepared cells ∷ left)
@@ -168,7 +168,7 @@ is_drawn-next jc vp row page all left cells first h none =
       all_are = h.all_are ∙ sym (append_assoc h.done (prepared cells ∷ []) left);
     }
 
--- where none is left the page shows all
+-- Where none is left the page shows all.
 pub is_drawn-end : (jc vp row : ℕ) (page : Rows) (all : List (List ℕ))
     → IsDrawn jc vp row page all []
     → page_of_lines jc vp all ≡ page
@@ -176,7 +176,7 @@ is_drawn-end jc vp row page all h = rw (h.all_are, append-nil) (sym h.shown)
 
 -- ---- faults
 
--- a subtitle that draws a page has no fault
+-- A subtitle that draws a page has no fault.
 no_faults : (n : National) (t : SubtitleValue) → IsOk (drawn n t) → faults n t ≡ []
 unfolding drawn
 no_faults n t ok = go (faults n t) ok
@@ -185,20 +185,20 @@ no_faults n t ok = go (faults n t) ok
     go [] h = refl
     go (f ∷ fs) h = search rules
 
--- nor have its lines. For `drawn_page`
+-- Nor have its lines. For `drawn_page`.
 pub no_line_faults : (n : National) (t : SubtitleValue)
     → IsOk (drawn n t)
     → line_faults 0 t.vp false (lines n t) ≡ []
 no_line_faults n t ok = (empty_parts (refusals (text_codes n 0 t.text)) _ (no_faults n t ok)).1
 
--- it draws the page of its lines. For `drawn_page`
+-- It draws the page of its lines. For `drawn_page`.
 pub drawn-page : (n : National) (t : SubtitleValue)
     → IsOk (drawn n t)
     → drawn n t ≡ Ok (page_of_lines t.jc t.vp (lines n t))
 unfolding drawn
 drawn-page n t ok = rw (no_faults n t ok) refl
 
--- the first of all faults is told. For `first_fault`
+-- The first of all faults is told. For `first_fault`.
 pub drawn-first : (n : National) (t : SubtitleValue)
     → MatchOption (first_of (faults n t)) (IsOk (drawn n t)) (λ f. drawn n t ≡ Err f)
 unfolding drawn

@@ -22,11 +22,11 @@ use Rattle.stl_rows.specs.Programme.{IsProgramme}
 
 -- ---- what is due
 
--- a subtitle is not due before its TCI, nor from its TCO on
+-- A subtitle is not due before its TCI, nor from its TCO on.
 not_due : (f : ℕ) (t : SubtitleValue) → (f < t.tci) ⊎ (t.tco ≤ f) → is_due f t ≡ false
 not_due f t h = grind (arith, nat_tests)
 
--- where none is due the page is blank: for `law_of_blank_pages`
+-- Where none is due the page is blank: for `law_of_blank_pages`.
 pub none_is_blank : LawOfBlankPages
 unfolding due
 none_is_blank n ts f none =
@@ -34,7 +34,7 @@ none_is_blank n ts f none =
     (found_nowhere (find (is_due f)) (is_due f) Some None refl (λ x xs. refl) ts empty_subtitle
     (λ k b. not_due f (get_or ts k empty_subtitle) (none k empty_subtitle b)))
 
--- one that is due is shown: for `law_of_due_subtitles`
+-- One that is due is shown: for `law_of_due_subtitles`.
 pub due_is_shown : LawOfDueSubtitles
 unfolding due
 due_is_shown n ts f t order member low high =
@@ -45,7 +45,7 @@ due_is_shown n ts f t order member low high =
     (rw member.2 (grind (arith, nat_tests)))
     ∙ ap Some member.2)
 
--- two tests that agree find the same. For edges_alone
+-- Two tests that agree find the same. For edges_alone.
 find_same : {X : Type 0} (p q : X → Bool) (xs : List X)
     → ((k : ℕ) (d : X) → k < length xs → p (get_or xs k d) ≡ q (get_or xs k d))
     → find p xs ≡ find q xs
@@ -55,7 +55,7 @@ find_same p q (x ∷ xs) h =
     let tail : find p xs ≡ find q xs = find_same p q xs (λ k d b. h (suc k) d (omega arith)) in
     rw (e, tail) refl
 
--- the due page changes at edges alone: for `law_of_edges`
+-- The due page changes at edges alone: for `law_of_edges`.
 pub edges_alone : LawOfEdges
 unfolding due
 edges_alone n ts f first none =
@@ -67,8 +67,8 @@ edges_alone n ts f first none =
     λ p. none (k, x, b, get_or_default ts k x d b, p) in
     grind (arith, nat_tests, edge)))
 
--- what holds of the blank page, and of that of each subtitle without a fault, holds of each due
--- page
+-- What holds of the blank page, and of that of each subtitle without a fault, holds of each due
+-- page.
 pub due_has : (P : Rows → Type 0) (n : National) (ts : List SubtitleValue) (f : ℕ)
     → P blank
     → ((t : SubtitleValue) → faults n t ≡ [] → P (page_of_lines t.jc t.vp (lines n t)))
@@ -95,7 +95,7 @@ pub record IsFirstAfter (ts : List SubtitleValue) (f at : ℕ) : Type 0 where
 module _ (n : National) (ts : List SubtitleValue) (f at : ℕ) (t : SubtitleValue)
     (ok : IsProgramme n ts) (first : IsFirstAfter ts f at) (inside : at < length ts)
     (is : t ≡ get_or ts at t) where
-  -- each subtitle has ended by the frame, is this one, or starts where this one ends, or after
+  -- Each subtitle has ended by the frame, is this one, or starts where this one ends, or after.
   placed : (x : SubtitleValue)
       → Contains ts x
       → (x.tco ≤ f) ⊎ ((x ≡ t) ⊎ (t.tco ≤ x.tci))
@@ -114,11 +114,11 @@ module _ (n : National) (ts : List SubtitleValue) (f at : ℕ) (t : SubtitleValu
             ]
       ]
 
-  -- it ends after the frame
+  -- It ends after the frame.
   pub ends_after : f < t.tco
   ends_after = rw (← is) at (first.after at t (omega arith) inside)
 
-  -- in a gap before it none is due: for `page_at`
+  -- In a gap before it none is due: for `page_at`.
   pub none-between : f < t.tci
       → (k : ℕ) (d : SubtitleValue)
       → k < length ts
@@ -130,7 +130,7 @@ module _ (n : National) (ts : List SubtitleValue) (f at : ℕ) (t : SubtitleValu
         | inr (inr later) ↦ inl (omega (arith, later, ends_after))
       ]
 
-  -- an edge after the frame is its TCI, or not before its TCO
+  -- An edge after the frame is its TCI, or not before its TCO.
   later_edge : (x : ℕ) → IsEdge ts x → f < x → (x ≡ t.tci) ⊎ (t.tco ≤ x)
   later_edge x edge after =
       let s : SubtitleValue = edge.1 in
@@ -138,7 +138,7 @@ module _ (n : National) (ts : List SubtitleValue) (f at : ℕ) (t : SubtitleValu
       let order : s.tci < s.tco = (All-contains IsSubtitle ts s ok.each member).times in
       grind (arith, placed s member, order, edge.4)
 
-  -- before it the next edge is its TCI: for `edge_after`
+  -- Before it the next edge is its TCI: for `edge_after`.
   pub next_edge-tci : f < t.tci → IsNextEdge ts f t.tci
   next_edge-tci gap = record {
     is_edge = (at, t, inside, sym is, inl refl);
@@ -151,7 +151,7 @@ module _ (n : National) (ts : List SubtitleValue) (f at : ℕ) (t : SubtitleValu
         );
   }
 
-  -- within it the next edge is its TCO: for `edge_after`
+  -- Within it the next edge is its TCO: for `edge_after`.
   pub next_edge-tco : t.tci ≤ f → IsNextEdge ts f t.tco
   next_edge-tco low = record {
     is_edge = (at, t, inside, sym is, inr refl);
@@ -159,7 +159,7 @@ module _ (n : National) (ts : List SubtitleValue) (f at : ℕ) (t : SubtitleValu
     least = λ x edge after. omega (arith, later_edge x edge after, low, after);
   }
 
--- the TCOs of a programme rise, so that a binary search finds one: for `first_after`
+-- The TCOs of a programme rise, so that a binary search finds one: for `first_after`.
 pub tco_rises : (n : National) (ts : List SubtitleValue)
     → IsProgramme n ts
     → IsNonDecreasingBy (λ (t : SubtitleValue). t.tco) ts

@@ -25,11 +25,11 @@ use Rattle.stl_rows.specs.Programme.{ProgrammeValue, follow_faults, times_before
 use Rattle.stl_rows.proofs.ProgrammeLemmas.{last_of-push}
 use Rattle.stl_rows.specs.TextCode.{first_of}
 
--- a file is refused for the first of these
+-- A file is refused for the first of these.
 abbrev pub FirstIs : Result ProgrammeValue LoadFault → List LoadFault → Type 0
 FirstIs r fs = (fault : LoadFault) → (r ≡ Err fault) ↔ (first_of fs ≡ Some fault)
 
--- the first fault of a subtitle, or else what comes next
+-- The first fault of a subtitle, or else what comes next.
 first_told : (kinds : List LoadFaultKind) (block : ℕ) (next : Result ProgrammeValue LoadFault)
     (rest : List LoadFault)
     → FirstIs next rest
@@ -37,7 +37,7 @@ first_told : (kinds : List LoadFaultKind) (block : ℕ) (next : Result Programme
 first_told [] block next rest h = h
 first_told (k ∷ ks) block next rest h = λ fault. ((λ e. cc), (λ e. cc))
 
--- of all that is left
+-- Of all that is left.
 first_behind : (national : National) (records : List SubtitleValue) (left : Outcome)
     → FirstIs (loaded_behind national records left)
     (faults_behind national (times_before records) left)
@@ -51,7 +51,7 @@ first_behind national records (gives t block left) =
     (rw (ap (option_map times_of) (last_of-push records t))
     at (first_behind national (records ++ t ∷ []) left))
 
--- none is told exactly where the file is loaded
+-- None is told exactly where the file is loaded.
 none_is : (r : Result ProgrammeValue LoadFault) (fs : List LoadFault)
     → FirstIs r fs
     → (fs ≡ []) ↔ IsOk r
@@ -60,13 +60,13 @@ none_is (Ok p) (f ∷ fs) h = absurd (let e = (h f).1 refl in cc)
 none_is (Err fault) [] h = absurd (let e = (h fault).0 refl in cc)
 none_is (Err fault) (f ∷ fs) h = ((λ e. absurd cc), (λ e. absurd cc))
 
--- of all faults
+-- Of all faults.
 pub first_fault : (national : National) (outcome : Outcome)
     → FirstIs (loaded national outcome) (faults national outcome)
 unfolding faults
 first_fault national outcome = first_behind national [] outcome
 
--- the law: for `law_of_every_fault`
+-- The law: for `law_of_every_fault`.
 pub every_fault : LawOfEveryFault
 every_fault national s =
     let first = first_fault national (outcome_of s) in (
@@ -76,7 +76,7 @@ every_fault national s =
 
 -- ---- `load`, which is told the first
 
--- what is told is the first of all
+-- What is told is the first of all.
 first_taken : (n : ℕ) (all : List LoadFault) (fault : LoadFault)
     → 0 < n
     → fault ∷ [] ≡ take n all
@@ -85,7 +85,7 @@ first_taken zero all fault some h = absurd (omega (arith, some))
 first_taken (suc n) [] fault some h = absurd cc
 first_taken (suc n) (f ∷ fs) fault some h = cc
 
--- a fault of the file is told as `load` tells it
+-- A fault of the file is told as `load` tells it.
 tells-kind : (national : National) (outcome : Outcome) (block : ℕ) (kind : LoadFaultKind)
     → is_of_file kind ≡ true
     → loaded national outcome ≡ Err (load_fault block kind)
@@ -94,7 +94,7 @@ tells-kind national outcome block (File Read) of_file h = tt
 tells-kind national outcome block Memory of_file h = absurd cc
 tells-kind national outcome block kind of_file h = h
 
--- what was told of the file by the first is one of its faults
+-- What was told of the file by the first is one of its faults.
 pub first-of_file : (first : Option LoadFault)
     → TellsOfFile KeepsFirst None first
     → (fault : LoadFault) × (first ≡ Some fault) × (is_of_file fault.kind ≡ true)
@@ -107,7 +107,7 @@ first-of_file (Some fault) of_file =
     rw (sym (first_is (Some fault) of_file.faults of_file.told)) at of_file.of_file in
     (fault, refl, grind (arith, nat_tests))
 
--- neither the source's failure nor the end of the file
+-- Neither the source's failure nor the end of the file.
 not_read : (kind : LoadFaultKind)
     → is_of_file kind ≡ true
     → (kind ≢ File Ended) × (is_read_kind kind ≡ false)
@@ -117,7 +117,7 @@ not_read Memory of_file = cc
 not_read (File f) of_file = ((λ e. cc), refl)
 not_read kind of_file = ((λ e. cc), refl)
 
--- what `load` was told first is no failure of the source
+-- What `load` was told first is no failure of the source.
 pub first-not_read : (new first : Option LoadFault) (fault : LoadFault)
     → new ≡ None
     → first ≡ Some fault
@@ -129,7 +129,7 @@ first-not_read new first fault is_new is_first of_file =
     let is = own.2 in
     not_read fault.kind cc
 
--- the one fault that was told is the one of the file
+-- The one fault that was told is the one of the file.
 pub tells-first : (national : National) (outcome : Outcome) (fault : LoadFault) (stopped : Bool)
     → TellsFaults KeepsFirst None (Some fault) stopped (faults national outcome)
     → TellsOfFile KeepsFirst None (Some fault)
@@ -143,30 +143,23 @@ tells-first national outcome fault stopped told of_file =
     tells-kind national outcome fault.block fault.kind kind
     ((first_fault national outcome fault).1 first)
 
--- the first of all does not come before this block, where none does
+-- The first of all does not come before this block, where none does.
 not_before : (block : ℕ) (all : List LoadFault) (fault : LoadFault)
     → first_of all ≡ Some fault
     → filter (is_before block) all ≡ []
     → is_before block fault ≡ false
 not_before block [] fault first none = absurd cc
 not_before block (f ∷ fs) fault first none =
-    let same : f ≡ fault = cc in
-    rw (sym same) (by_test (is_before block f) f (filter (is_before block) fs) none)
-  where
-    by_test : (test : Bool) (f : LoadFault) (fs : List LoadFault)
-        → cond test (f ∷ fs) fs ≡ []
-        → test ≡ false
-    by_test true f fs h = absurd cc
-    by_test false f fs h = refl
+    let same : f ≡ fault = cc in rw (sym same) (grind (arith, nat_tests))
 
--- what does not come before is the end inside a subtitle, or names this block or a later one
+-- What does not come before is the end inside a subtitle, or names this block or a later one.
 is_late : (block at : ℕ) (kind : LoadFaultKind)
     → is_before block (load_fault at kind) ≡ false
     → (kind ≡ File Unfinished) ⊎ (block ≤ at)
 is_late block at (File Unfinished) h = inl refl
 is_late block at kind h = inr (grind (arith, nat_tests))
 
--- where the source failed and nothing was told, no fault comes before
+-- Where the source failed and nothing was told, no fault comes before.
 pub none-told : (national : National) (old new : Option (List ℕ)) (block : ℕ)
     (told : Option LoadFault)
     → (is_some told ≡ true → ⊥)

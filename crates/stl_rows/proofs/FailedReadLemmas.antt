@@ -2,7 +2,7 @@
 use Rattle.std.proofs.Common.{◌≡◌, ℕ, ◌+◌, ◌*◌, ◌/◌, true, List, [], ◌∷◌, ◌++◌, length, Option}
 use Rattle.std.proofs.Common.{Some, None, refl, ◌∙◌, arith, length-append}
 use Rattle.std.specs.Io.KnownBytes.{Consumes}
-use Rattle.std.specs.List.{filter, list_all}
+use Rattle.std.specs.List.{All, filter}
 use Rattle.std.proofs.KnownBytes.{Consumes-trans}
 use Rattle.std.proofs.lemmas.Bool.Decides.{nat_tests}
 use Rattle.sub_io.specs.Telling.{Tells}
@@ -18,63 +18,62 @@ use Rattle.stl_rows.specs.declared.national.National.{National}
 use Rattle.stl_rows.specs.declared.fault.LoadFault.{LoadFault}
 use Rattle.stl_rows.specs.declared.times.Times.{Times}
 use Rattle.stl_rows.specs.EveryFault.{FailsTelling, faults, is_before}
-use Rattle.stl_rows.proofs.LoadingLemmas.{GoesOn, is_told_by, tells-unread}
+use Rattle.stl_rows.proofs.LoadingLemmas.{GoesOn, IsToldBy, tells-unread}
 
--- the GSI block and `block` TTI blocks were taken
+-- The GSI block and `block` TTI blocks were taken.
 pub record HasTaken (old now : Option (List ℕ)) (block : ℕ) : Type 0 where
   pub bytes : List ℕ
   pub consumed : Consumes old now bytes
   pub long : length bytes ≡ 1024 + 128 * block
 
--- and the blocks of a subtitle
-pub has_taken-next : (old mid now : Option (List ℕ)) (from to : ℕ) (t : SubtitleValue)
+-- And the blocks of a subtitle.
+pub has_taken-next : {old mid now : Option (List ℕ)} {from to : ℕ} {t : SubtitleValue}
     → TakesSubtitle from to mid now t
     → HasTaken old mid from
     → HasTaken old now to
-has_taken-next old mid now from to t s h =
-    let blocks = length-joined s.blocks s.each in
+has_taken-next {old} {mid} {now} s h =
     record {
       bytes = h.bytes ++ joined s.blocks;
       consumed = Consumes-trans old mid now h.bytes (joined s.blocks) h.consumed s.consumed;
-      long = length-append h.bytes (joined s.blocks) ∙ omega (arith, h.long, s.counted, blocks);
+      long = length-append h.bytes (joined s.blocks)
+          ∙ omega (arith, h.long, s.counted, length-joined s.blocks s.each);
     }
 
 -- ---- the source fails
 
--- what is known of a source is what was taken and what is left
+-- What is known of a source is what was taken and what is left.
 left_over : (rest : List ℕ) (new : Option (List ℕ)) (bytes : List ℕ)
     → Consumes (Some rest) new bytes
     → (more : List ℕ) × (rest ≡ bytes ++ more)
 left_over rest None bytes p = absurd p
 left_over rest (Some more) bytes p = (more, p)
 
--- after `from` TTI blocks
+-- After `from` TTI blocks.
 block-is : (bytes more : List ℕ) (from to : ℕ)
     → length bytes ≡ 1024 + 128 * from
     → to ≡ from + length more / 128 + 1
     → to ≡ block_of_byte (length (bytes ++ more))
 block-is bytes more from to long at = grind (arith, nat_tests, length-append bytes more)
 
--- no fault comes before block 0
+-- No fault comes before block 0.
 none_before-0 : (all : List LoadFault) → filter (is_before 0) all ≡ []
 none_before-0 [] = refl
 none_before-0 (f ∷ fs) = grind (arith, nat_tests, none_before-0 fs)
 
--- while a subtitle is read
-pub fails-next : (national : National) (start old new : Option (List ℕ)) (before : Option Times)
-    (kept : Option (List SubtitleValue)) (early : List LoadFault)
-    {D : Type 0} {IsTold : D → LoadFault → D → Type 0} (told_old told_new : D)
-    (reader : ReaderValue) (block : ℕ)
+-- While a subtitle is read.
+pub fails-next : {national : National} {start old new : Option (List ℕ)} {before : Option Times}
+    {kept : Option (List SubtitleValue)} {early : List LoadFault} {D : Type 0}
+    {IsTold : D → LoadFault → D → Type 0} {told_old told_new : D} (reader : ReaderValue)
+    {block : ℕ}
     → HasTaken start old reader.block
     → reader.progress ≡ Reading
-    → list_all (is_told_by reader.block) early ≡ true
+    → All (IsToldBy reader.block) early
     → Tells IsTold told_old told_new early
     → ((all : List ℕ) → start ≡ Some all → (rest : List ℕ) × (old ≡ Some rest)
     × GoesOn national (outcome_of all) (outcome_left reader rest) before kept early)
     → FailsReading reader.block block old new
     → FailsTelling national start new IsTold told_old told_new block
-fails-next national start old new before kept early told_old told_new reader block taken reading
-    early_told told goes failed =
+fails-next {start = start} {old} {new} reader {block} taken reading early_told told goes failed =
     record {
       bytes = taken.bytes ++ failed.bytes;
       consumed =
@@ -85,12 +84,11 @@ fails-next national start old new before kept early told_old told_new reader blo
           let left = left_over here.0 new failed.bytes (rw here.1 at failed.consumed) in
           let names : NamesFrom block (outcome_left reader here.0) =
           rw (reading, left.1) (failed.none left.0) in
-          tells-unread national (outcome_of all) (outcome_left reader here.0) before kept early
-          reader.block block told_old told_new (omega (arith, failed.block)) early_told names here.2
+          tells-unread reader.block block (omega (arith, failed.block)) early_told names here.2
           told;
     }
 
--- while the GSI block is read: nothing was told
+-- While the GSI block is read: nothing was told.
 pub reads-nothing : (national : National) (outcome : Outcome)
     {D : Type 0} {IsTold : D → LoadFault → D → Type 0} (told : D)
     → Tells IsTold told told (filter (is_before 0) (faults national outcome))

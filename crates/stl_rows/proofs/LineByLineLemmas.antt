@@ -15,13 +15,13 @@ use Rattle.stl_rows.specs.declared.national.National.{National}
 
 -- ---- cells before the first line
 
--- a new line ends the cells before it
+-- A new line ends the cells before it.
 pub onto_line_end : (cells : List ℕ) (lines : List (List ℕ))
     → onto cells ([] ∷ lines) ≡ cells ∷ lines
 onto_line_end [] lines = refl
 onto_line_end (c ∷ cells) lines = ap (onto_first c) (onto_line_end cells lines)
 
--- a cell before the first line is one of the cells before it
+-- A cell before the first line is one of the cells before it.
 pub onto_code : (cells : List ℕ) (code : ℕ) (lines : List (List ℕ))
     → onto cells (onto_first code lines) ≡ onto (cells ++ code ∷ []) lines
 onto_code [] code lines = refl
@@ -29,7 +29,7 @@ onto_code (c ∷ cells) code lines = ap (onto_first c) (onto_code cells code lin
 
 -- ---- one text code
 
--- a cell comes after those before it
+-- A cell comes after those before it.
 pub prepared_lines-cell : (cells : List ℕ) (at code : ℕ) (s : TextCode)
     (ss rest : List (ℕ × TextCode))
     → ss ≡ (at, s) ∷ rest
@@ -38,7 +38,7 @@ pub prepared_lines-cell : (cells : List ℕ) (at code : ℕ) (s : TextCode)
 prepared_lines-cell cells at code s ss rest step is =
     rw (step, is) (ap (map prepared) (onto_code cells code (lines_of rest)))
 
--- a new line ends the line
+-- A new line ends the line.
 pub prepared_lines-line_end : (cells : List ℕ) (at : ℕ) (s : TextCode)
     (ss rest : List (ℕ × TextCode))
     → ss ≡ (at, s) ∷ rest
@@ -47,7 +47,7 @@ pub prepared_lines-line_end : (cells : List ℕ) (at : ℕ) (s : TextCode)
 prepared_lines-line_end cells at s ss rest step is =
     rw (step, is) (ap (map prepared) (onto_line_end cells (lines_of rest)))
 
--- the end of the text ends the last line
+-- The end of the text ends the last line.
 pub prepared_lines-end : (n : National) (cells : List ℕ) (at : ℕ) (text : List ℕ)
     → length text ≤ at
     → prepared_lines cells (text_codes n at (drop at text)) ≡ prepared cells ∷ []
@@ -55,12 +55,12 @@ prepared_lines-end n cells at text past =
     at_drop_all (λ bytes. prepared_lines cells (text_codes n at bytes)) text at past
     ∙ ap (map prepared) (onto_line_end cells [])
 
--- a prepared line is no shorter than its cells
+-- A prepared line is no shorter than its cells.
 pub prepared_longer : (cells : List ℕ) → length cells ≤ length (prepared cells)
 unfolding prepared
 prepared_longer cells = grind (arith, nat_tests, length-append)
 
--- the cells stay codes with one more. For `page_of_text`
+-- The cells stay codes with one more. For `page_of_text`.
 pub codes_push : (cells : List ℕ) (code : ℕ)
     → AreCodes cells
     → IsCode code

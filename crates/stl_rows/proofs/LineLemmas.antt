@@ -10,7 +10,7 @@ use Rattle.std.specs.List.{range_with_len, AllByRecursion}
 use Rattle.ttx_page.specs.Page.{AreCodes, space}
 use Rattle.stl_rows.specs.Line.{code_in_column, row_of, start_column}
 
--- a line that is put on a row of spaces: for `row_codes`
+-- A line that is put on a row of spaces: for `row_codes`.
 pub row_of-put : (jc start : ℕ) (line row : List ℕ)
     → start ≡ start_column jc (length line)
     → start + length line ≤ 40
@@ -26,11 +26,11 @@ row_of-put jc start line row e room is =
     (fill_by_all (code_in_column start line) _ 40 0 (grind (arith, places))
     (λ k h. grind (arith, nat_tests, places, blank, get_or_past line (k - start) space)))
 
--- each cell is a code
+-- Each cell is a code.
 abbrev pub Small : List ℕ → Type 0
 Small codes = AllByRecursion (λ (c : ℕ). c < 128) codes
 
--- what holds of each of a list, and of the value for none, holds of what is at a place
+-- What holds of each of a list, and of the value for none, holds of what is at a place.
 pub holds_at : {X : Type 0} (P : X → Type 0) (xs : List X) (k : ℕ) (d : X)
     → P d
     → AllByRecursion P xs
@@ -39,14 +39,14 @@ holds_at P [] k d none h = none
 holds_at P (x ∷ xs) zero d none h = h.0
 holds_at P (x ∷ xs) (suc k) d none h = holds_at P xs k d none h.1
 
--- what holds of all that a function gives holds of each of a list that is made by it
+-- What holds of all that a function gives holds of each of a list that is made by it.
 pub holds_map : {X Y : Type 0} (P : Y → Type 0) (f : X → Y) (xs : List X)
     → ((x : X) → P (f x))
     → AllByRecursion P (map f xs)
 holds_map P f [] h = tt
 holds_map P f (x ∷ xs) h = (h x, holds_map P f xs h)
 
--- what a column shows of a line of codes is a code
+-- What a column shows of a line of codes is a code.
 cell_small : (start column : ℕ) (line : List ℕ)
     → Small line
     → code_in_column start line column < 128
@@ -54,13 +54,13 @@ cell_small start column line h =
     cond_both (nat_le start column) _ space (λ c. c < 128)
     (λ _. holds_at (λ c. c < 128) line (column - start) space (lit< tt) h) (λ _. lit< tt)
 
--- a row has 40 cells
+-- A row has 40 cells.
 pub row_length : (jc : ℕ) (line : List ℕ) → length (row_of jc line) ≡ 40
 unfolding row_of
 row_length jc line =
     length-map-range_with_len (code_in_column (start_column jc (length line)) line) 0 40
 
--- a row that shows a line of codes holds codes alone
+-- A row that shows a line of codes holds codes alone.
 pub row_small : (jc : ℕ) (line : List ℕ) → Small line → Small (row_of jc line)
 unfolding row_of
 row_small jc line h =
@@ -68,7 +68,7 @@ row_small jc line h =
     holds_map (λ c. c < 128) (code_in_column start line) (range_with_len 0 40)
     (λ column. cell_small start column line h)
 
--- the same, where the codes of the line are told column by column: for `row_codes`
+-- The same, where the codes of the line are told column by column: for `row_codes`.
 pub row_of-codes : (jc : ℕ) (line : List ℕ) → AreCodes line → AreCodes (row_of jc line)
 row_of-codes jc line codes column =
     holds_at (λ c. c < 128) (row_of jc line) column 0 (lit< tt)

@@ -27,13 +27,13 @@ use Rattle.stl_rows.specs.Programme.{AreInOrder, IsProgramme, ProgrammeValue, fo
 use Rattle.stl_rows.specs.Programme.{order_faults, row_faults, times_before, times_of}
 use Rattle.stl_rows.proofs.ProgrammeLemmas.{IsProgramme-none, IsProgramme-push}
 
--- a programme of these records
+-- A programme of these records.
 abbrev programme_of : National → List SubtitleValue → Result ProgrammeValue LoadFault
 programme_of n records = Ok (record { national = n; records = records })
 
 -- ---- what is loaded is in order and drawable
 
--- what is loaded of the subtitles that are left: them, and with those before they are a programme
+-- What is loaded of the subtitles that are left: them, and with those before they are a programme.
 record IsLoaded (n : National) (records : List SubtitleValue) (o : Outcome) (p : ProgrammeValue)
     : Type 0 where
   given : List SubtitleValue
@@ -41,7 +41,7 @@ record IsLoaded (n : National) (records : List SubtitleValue) (o : Outcome) (p :
   is : p ≡ record { national = n; records = records ++ given }
   programme : IsProgramme n records → All IsSubtitle given → IsProgramme n (records ++ given)
 
--- where something was loaded no fault was told
+-- Where something was loaded no fault was told.
 none_told : (faults : List LoadFaultKind) (block : ℕ) (next : Result ProgrammeValue LoadFault)
     (p : ProgrammeValue)
     → unless_told faults block next ≡ Ok p
@@ -49,7 +49,7 @@ none_told : (faults : List LoadFaultKind) (block : ℕ) (next : Result Programme
 none_told [] block next p h = (refl, h)
 none_told (kind ∷ kinds) block next p h = cc
 
--- what was loaded are the subtitles of the file, and each may follow those before it
+-- What was loaded are the subtitles of the file, and each may follow those before it.
 loaded_given : (n : National) (records : List SubtitleValue) (o : Outcome) (p : ProgrammeValue)
     → loaded_behind n records o ≡ Ok p
     → IsLoaded n records o p
@@ -78,17 +78,17 @@ loaded_given n records (gives t block o) p h =
 
 -- ---- what is in order and drawable is loaded
 
--- a drawable subtitle has no fault of its rows
+-- A drawable subtitle has no fault of its rows.
 no_row_fault : (r : Result Rows RowFault) → IsOk r → row_faults r ≡ []
 no_row_fault (Ok page) h = refl
 no_row_fault (Err f) h = search rules
 
--- a subtitle that starts at the TCO of the one before, or later, has no fault of its times
+-- A subtitle that starts at the TCO of the one before, or later, has no fault of its times.
 no_order_fault : (before t : SubtitleValue) → before.tci < before.tco → before.tco ≤ t.tci
     → order_faults (Some (times_of before)) (times_of t) ≡ []
 no_order_fault before t times order = grind (arith, nat_tests)
 
--- a subtitle of a programme has no fault of its times against the one before it
+-- A subtitle of a programme has no fault of its times against the one before it.
 times_follow : (n : National) (records ts : List SubtitleValue) (t : SubtitleValue)
     → IsProgramme n (records ++ t ∷ ts)
     → order_faults (times_before records) (times_of t) ≡ []
@@ -103,7 +103,7 @@ times_follow n (r ∷ rs) ts t ok =
     (no_order_fault (get_or records at t) t (rw old at (ok.each at t (omega (arith, size))).times)
     (rw (old, new) at (ok.in_order at (length records) t (omega arith) (omega (arith, size)))))
 
--- it has none at all
+-- It has none at all.
 none_follow : (n : National) (records ts : List SubtitleValue) (t : SubtitleValue)
     → IsProgramme n (records ++ t ∷ ts)
     → follow_faults n (times_before records) t ≡ []
@@ -113,14 +113,14 @@ none_follow n records ts t ok =
     rw (get_or-append_seam records t ts t) at (ok.drawable (length records) t (omega arith)) in
     rw (times_follow n records ts t ok, no_row_fault (drawn n t) drawable) refl
 
--- the first of all subtitles, and the others
+-- The first of all subtitles, and the others.
 first_given : (t : SubtitleValue) (r : Judged) (ts : List SubtitleValue)
     → cons_all t r ≡ Ok ts
     → (us : List SubtitleValue) × (r ≡ Ok us) × (ts ≡ t ∷ us)
 first_given t (Err f) ts h = cc
 first_given t (Ok us) ts h = (us, refl, cc)
 
--- subtitles that are a programme are loaded
+-- Subtitles that are a programme are loaded.
 given_loaded : (n : National) (records : List SubtitleValue) (o : Outcome) (ts : List SubtitleValue)
     → subtitles_of o ≡ Ok ts
     → IsProgramme n (records ++ ts)
@@ -137,7 +137,7 @@ given_loaded n records (gives t block o) ts h ok =
 
 -- ---- the law
 
--- each subtitle of a file is one
+-- Each subtitle of a file is one.
 all_subtitles : (ts : List SubtitleValue) (gs : List (List (List ℕ)))
     → AreBlocksOfEach ts gs
     → All IsSubtitle ts
@@ -146,7 +146,7 @@ all_subtitles (t ∷ ts) [] e = λ k d h. absurd e
 all_subtitles (t ∷ ts) (g ∷ gs) e =
     All-cons IsSubtitle t ts (blocks_subtitle t g e.0) (all_subtitles ts gs e.1)
 
--- the law, from what a file is: for `law_of_loading`
+-- The law, from what a file is: for `law_of_loading`.
 pub loading_is :
     ((s g : List ℕ) (ts : List SubtitleValue)
     → IsFile s g ts ↔ ((g ≡ take 1024 s) × (subtitles_of (outcome_of s) ≡ Ok ts)))

@@ -6,9 +6,11 @@ use Rattle.std.proofs.Common.{sym, ◌∙◌, ap, inl, inr, arith, zero, length-
 use Rattle.std.proofs.Common.{append_assoc, append-nil, length-append}
 use Rattle.std.proofs.Math.Seq.{take-append-add, take-length}
 use Rattle.std.proofs.lemmas.Bool.Decides.{nat_tests}
-use Rattle.std.proofs.lemmas.List.Elements.{filter-append}
+use Rattle.std.proofs.lemmas.List.Elements.{All-append, All-head, All-map, All-tail, All-take}
+use Rattle.std.proofs.lemmas.List.Elements.{All-weaker, filter-append}
+use Rattle.std.proofs.lemmas.List.Sums.{AllPass-from_list_all, list_all-from_AllPass}
 use Rattle.std.proofs.lemmas.List.Folds.{list_all-append}
-use Rattle.std.specs.Prelude.{◌&&◌, ◌≢◌, nat_le, is_none, option_map, IfSome}
+use Rattle.std.specs.Prelude.{All, ◌≢◌, is_none, option_map, IfSome}
 use Rattle.std.proofs.lemmas.List.{length-map, map-append}
 use Rattle.std.specs.List.{filter, list_all}
 use lib.Seq.{take-append-le}
@@ -38,7 +40,7 @@ use Rattle.stl_rows.specs.Programme.{times_before, times_of}
 use Rattle.stl_rows.proofs.ProgrammeLemmas.{IsProgramme-push, last_of-push}
 use Rattle.stl_rows.specs.TextCode.{first_of}
 
--- what reading a file gives, by what opening it gives
+-- What reading a file gives, by what opening it gives.
 pub outcome_of-opened : (bytes : List ℕ) (r : Result ReaderValue StlFault)
     → opened_at bytes ≡ r
     → outcome_of bytes ≡ outcome_opened (drop gsi_size bytes) r
@@ -47,91 +49,72 @@ outcome_of-opened bytes r h = ap (outcome_opened (drop gsi_size bytes)) h
 
 -- ---- what was told of subtitles
 
--- a fault of a subtitle
+-- A fault of a subtitle.
 abbrev pub is_of_subtitle : LoadFaultKind → Bool
 is_of_subtitle OutOfOrder = true
 is_of_subtitle Overlap = true
 is_of_subtitle (Row fault) = true
 is_of_subtitle _ = false
 
--- a fault of a subtitle that ends at this block or before
-abbrev pub is_told_by : ℕ → LoadFault → Bool
-is_told_by block fault = is_of_subtitle fault.kind && nat_le fault.block block
+-- A fault of a subtitle that ends at this block or before.
+abbrev pub IsToldBy : ℕ → LoadFault → Type 0
+IsToldBy block fault = (is_of_subtitle fault.kind ≡ true) × (fault.block ≤ block)
 
--- the faults of a subtitle are such
-order-of_subtitle : (before : Option Times) (t : Times)
-    → list_all is_of_subtitle (order_faults before t) ≡ true
-order-of_subtitle None t = refl
-order-of_subtitle (Some before) t = grind (arith, nat_tests)
-
-row-of_subtitle : (r : Result Rows RowFault) → list_all is_of_subtitle (row_faults r) ≡ true
-row-of_subtitle (Ok page) = refl
-row-of_subtitle (Err fault) = refl
-
+-- The faults of a subtitle are such.
 follow-of_subtitle : (national : National) (before : Option Times) (t : SubtitleValue)
     → list_all is_of_subtitle (follow_faults national before t) ≡ true
-follow-of_subtitle national before t =
-    list_all-append is_of_subtitle (order_faults before (times_of t))
-    (row_faults (drawn national t))
-    ∙ rw (order-of_subtitle before (times_of t), row-of_subtitle (drawn national t)) refl
+follow-of_subtitle national before t = go before (drawn national t)
+  where
+    go : (before : Option Times) (r : Result Rows RowFault)
+        → list_all is_of_subtitle (order_faults before (times_of t) ++ row_faults r) ≡ true
+    go before r = grind (arith, nat_tests)
 
--- at their block
-at_block : (block : ℕ) (kinds : List LoadFaultKind)
-    → list_all is_of_subtitle kinds ≡ true
-    → list_all (is_told_by block) (map (load_fault block) kinds) ≡ true
-at_block block [] h = refl
-at_block block (k ∷ ks) h = grind (arith, nat_tests, at_block block ks)
+-- At their block.
+at_block : (national : National) (before : Option Times) (t : SubtitleValue) (block : ℕ)
+    → All (IsToldBy block) (map (load_fault block) (follow_faults national before t))
+at_block national before t block =
+    let kinds : List LoadFaultKind = follow_faults national before t in
+    All-map (IsToldBy block) (load_fault block) kinds
+    (All-weaker (λ k. is_of_subtitle k ≡ true) (λ k. IsToldBy block (load_fault block k))
+    (λ k h. (h, omega arith)) kinds
+    (AllPass-from_list_all is_of_subtitle kinds (follow-of_subtitle national before t)))
 
--- and at later ones
-still_told : (from to : ℕ) (early : List LoadFault)
-    → from ≤ to
-    → list_all (is_told_by from) early ≡ true
-    → list_all (is_told_by to) early ≡ true
-still_told from to [] le h = refl
-still_told from to (f ∷ fs) le h = grind (arith, nat_tests, still_told from to fs)
-
--- what was told of the subtitles so far, and of one more
+-- What was told of the subtitles so far, and of one more.
 pub told-next : (national : National) (before : Option Times) (t : SubtitleValue) (from to : ℕ)
     (early : List LoadFault)
     → from ≤ to
-    → list_all (is_told_by from) early ≡ true
-    → list_all (is_told_by to)
-    (early ++ map (load_fault to) (follow_faults national before t)) ≡ true
+    → All (IsToldBy from) early
+    → All (IsToldBy to) (early ++ map (load_fault to) (follow_faults national before t))
 told-next national before t from to early le h =
-    list_all-append (is_told_by to) early (map (load_fault to) (follow_faults national before t))
-    ∙ rw (
-      still_told from to early le h,
-      at_block to (follow_faults national before t) (follow-of_subtitle national before t),
-    ) refl
+    All-append (IsToldBy to) early (map (load_fault to) (follow_faults national before t))
+    (All-weaker (IsToldBy from) (IsToldBy to) (λ f told. (told.0, omega (arith, le, told.1))) early h)
+    (at_block national before t to)
 
--- these are faults of the file
+-- These are faults of the file.
 of_file : (kind : LoadFaultKind) → is_of_subtitle kind ≡ true → is_of_file kind ≡ true
-of_file OutOfOrder h = refl
-of_file Overlap h = refl
-of_file (Row fault) h = refl
-of_file (File fault) h = absurd cc
-of_file Memory h = absurd cc
+of_file kind h = grind (arith, nat_tests)
 
 pub told-of_file : (block : ℕ) (early : List LoadFault)
-    → list_all (is_told_by block) early ≡ true
+    → All (IsToldBy block) early
     → list_all (λ (f : LoadFault). is_of_file f.kind) early ≡ true
-told-of_file block [] h = refl
-told-of_file block (f ∷ fs) h = grind (arith, nat_tests, of_file f.kind, told-of_file block fs)
+told-of_file block early h =
+    list_all-from_AllPass (λ (f : LoadFault). is_of_file f.kind) early
+    (All-weaker (IsToldBy block) (λ (f : LoadFault). is_of_file f.kind ≡ true)
+    (λ f told. of_file f.kind told.0) early h)
 
--- what was told of a subtitle is all that is wrong with it: where the device said stop at its last
--- fault
+-- What was told of a subtitle is all that is wrong with it: where the device said stop at its last
+-- fault.
 order_alone : (before : Option Times) (t : Times)
     → first_alone (first_of (order_faults before t)) ≡ order_faults before t
-order_alone None t = refl
-order_alone (Some before) t = grind (arith, nat_tests)
+order_alone before t = grind (arith, nat_tests)
 
-stops-whole : {D : Type 0} {IsTold : D → LoadFault → D → Type 0} (old new : D)
-    (items : List LoadFault)
+stops-whole : {D : Type 0} {IsTold : D → LoadFault → D → Type 0} {old new : D}
+    {items : List LoadFault}
     → 0 < length items
     → Tells IsTold old new items
     → StopsWithin IsTold old new items
-stops-whole {IsTold = IsTold} old new items some told =
-    (length items, some, omega arith, subst (Tells IsTold old new) (sym (take-length items)) told)
+stops-whole {items = items} some told =
+    (length items, some, omega arith, rw take-length told)
 
 pub stops-last : (national : National) (before : Option Times) (t : SubtitleValue) (block : ℕ)
     {D : Type 0} {IsTold : D → LoadFault → D → Type 0} (old mid new : D)
@@ -142,25 +125,18 @@ pub stops-last : (national : National) (before : Option Times) (t : SubtitleValu
     → Tells IsTold old mid (map (load_fault block) (first_alone order))
     → Tells IsTold mid new (map (load_fault block) (first_alone row))
     → StopsWithin IsTold old new (map (load_fault block) (follow_faults national before t))
-stops-last national before t block {IsTold = IsTold} old mid new order None is_order is_row
-    some p q = absurd cc
+stops-last national before t block old mid new order None is_order is_row some p q = absurd cc
 stops-last national before t block {IsTold = IsTold} old mid new order (Some kind) is_order is_row
     some p q =
     let orders : List LoadFaultKind = order_faults before (times_of t) in
     let first : Tells IsTold old mid (map (load_fault block) orders) =
     rw (is_order, order_alone before (times_of t)) at p in
-    let same : map (load_fault block) (orders ++ kind ∷ [])
-    ≡ map (load_fault block) orders ++ load_fault block kind ∷ [] =
-    map-append (load_fault block) orders (kind ∷ []) in
-    let whole : Tells IsTold old new (map (load_fault block) (orders ++ kind ∷ [])) =
-    rw same (Tells-trans old mid new (map (load_fault block) orders) _ first q) in
-    rw (sym is_row)
-    (stops-whole old new (map (load_fault block) (orders ++ kind ∷ []))
+    rw (sym is_row, map-append (load_fault block) orders (kind ∷ []))
+    (stops-whole
     (omega (
       arith,
-      length-map (orders ++ kind ∷ []) (load_fault block),
-      length-append orders (kind ∷ []),
-    )) whole)
+      length-append (map (load_fault block) orders) (load_fault block kind ∷ []),
+    )) (Tells-trans old mid new (map (load_fault block) orders) _ first q))
 
 -- ---- what is left
 
@@ -177,19 +153,20 @@ pub record GoesOn (national : National) (outcome left : Outcome) (before : Optio
       → EndsRecord national records at left
       → EndsRecord national [] at outcome
 
--- all subtitles so far are kept: nothing was told of any
-pub record AreKept (before : Option Times) (early : List LoadFault) (records : List SubtitleValue)
-    : Type 0 where
+-- All subtitles so far are kept: they are a programme, and nothing was told of any.
+pub record AreKept (national : National) (before : Option Times) (early : List LoadFault)
+    (records : List SubtitleValue) : Type 0 where
   pub before_is : before ≡ times_before records
   pub none : early ≡ []
+  pub programme : IsProgramme national records
 
--- no faults are the first where there is none
-pub none-first : {A : Type 0} (xs : List A) → is_none (first_of xs) ≡ true → xs ≡ []
+-- No faults are the first where there is none.
+none-first : {A : Type 0} (xs : List A) → is_none (first_of xs) ≡ true → xs ≡ []
 none-first [] h = refl
 none-first (x ∷ xs) h = absurd cc
 
--- what was kept before, where something is kept
-pub kept_before : (clean : Bool) (t : SubtitleValue) (kept : Option (List SubtitleValue))
+-- What was kept before, where something is kept.
+kept_before : (clean : Bool) (t : SubtitleValue) (kept : Option (List SubtitleValue))
     (records : List SubtitleValue)
     → kept_after clean t kept ≡ Some records
     → (clean ≡ true) × (ts : List SubtitleValue) × (kept ≡ Some ts) × (records ≡ ts ++ t ∷ [])
@@ -197,175 +174,178 @@ kept_before false t kept records h = absurd cc
 kept_before true t None records h = absurd cc
 kept_before true t (Some ts) records h = (refl, ts, refl, cc)
 
--- one subtitle more
-pub goes_on-next : (national : National) (outcome rest : Outcome) (before : Option Times)
-    (kept : Option (List SubtitleValue)) (early : List LoadFault) (t : SubtitleValue) (block : ℕ)
-    (clean : Bool)
-    → clean ≡ is_none (first_of (follow_faults national before t))
-    → ((records : List SubtitleValue) → kept ≡ Some records → AreKept before early records)
-    → GoesOn national outcome (gives t block rest) before kept early
-    → GoesOn national outcome rest (Some (times_of t)) (kept_after clean t kept)
-    (early ++ map (load_fault block) (follow_faults national before t))
-unfolding faults_behind
-goes_on-next national outcome rest before kept early t block clean is_clean are_kept on =
-    record {
-      same = on.same ∙ sym (append_assoc early _ _);
-      loads = λ records h.
-          let k = kept_before clean t kept records h in
-          let none = none-first (follow_faults national before t) (sym is_clean ∙ k.0) in
-          let was = (are_kept k.1 k.2).before_is in
-          rw k.3 (rw (rw was at none) at (on.loads k.1 k.2));
-      ends_record = λ records at h e.
-          let k = kept_before clean t kept records h in
-          let none = none-first (follow_faults national before t) (sym is_clean ∙ k.0) in
-          let was = (are_kept k.1 k.2).before_is in
-          on.ends_record k.1 at k.2 (rw was at none, inr (rw k.3 at e));
-    }
+-- Something stays kept with a subtitle with which nothing is wrong.
+still_kept : (clean : Bool) (t : SubtitleValue) (kept : Option (List SubtitleValue))
+    → clean ≡ true
+    → is_none kept ≡ false
+    → (records : List SubtitleValue) × (kept_after clean t kept ≡ Some records)
+still_kept false t kept clean some = absurd cc
+still_kept true t None clean some = absurd cc
+still_kept true t (Some ts) clean some = (ts ++ t ∷ [], refl)
 
--- what is kept then
-pub programme-next : (national : National) (before : Option Times)
-    (kept : Option (List SubtitleValue)) (early : List LoadFault) (t : SubtitleValue) (clean : Bool)
-    → clean ≡ is_none (first_of (follow_faults national before t))
-    → IsSubtitle t
-    → ((records : List SubtitleValue) → kept ≡ Some records → AreKept before early records)
-    → ((records : List SubtitleValue) → kept ≡ Some records → IsProgramme national records)
-    → (records : List SubtitleValue)
-    → kept_after clean t kept ≡ Some records
-    → IsProgramme national records
-programme-next national before kept early t clean is_clean subtitle are_kept programme records h =
-    let k = kept_before clean t kept records h in
-    let none = none-first (follow_faults national before t) (sym is_clean ∙ k.0) in
-    let was = (are_kept k.1 k.2).before_is in
-    rw k.3 (IsProgramme-push national k.1 t (programme k.1 k.2) subtitle (rw was at none))
-
-pub are_kept-next : (national : National) (before : Option Times)
-    (kept : Option (List SubtitleValue)) (early : List LoadFault) (t : SubtitleValue) (block : ℕ)
-    (clean : Bool)
-    → clean ≡ is_none (first_of (follow_faults national before t))
-    → ((records : List SubtitleValue) → kept ≡ Some records → AreKept before early records)
-    → (records : List SubtitleValue)
-    → kept_after clean t kept ≡ Some records
-    → AreKept (Some (times_of t))
-    (early ++ map (load_fault block) (follow_faults national before t)) records
-are_kept-next national before kept early t block clean is_clean are_kept records h =
-    let k = kept_before clean t kept records h in
-    let none = none-first (follow_faults national before t) (sym is_clean ∙ k.0) in
-    let was = are_kept k.1 k.2 in
-    record {
-      before_is = rw (k.3, ap (option_map times_of) (last_of-push k.1 t)) refl;
-      none = rw (none, was.none) refl;
-    }
-
--- where nothing is, faults were told
-pub some-next : (national : National) (before : Option Times)
-    (kept : Option (List SubtitleValue)) (early : List LoadFault) (t : SubtitleValue) (block : ℕ)
-    (clean : Bool)
-    → clean ≡ is_none (first_of (follow_faults national before t))
+-- Where nothing is, faults were told.
+some_more : (kinds : List LoadFaultKind) (kept : Option (List SubtitleValue))
+    (early : List LoadFault) (t : SubtitleValue) (block : ℕ) (clean : Bool)
+    → clean ≡ is_none (first_of kinds)
     → (kept ≡ None → 0 < length early)
     → kept_after clean t kept ≡ None
-    → 0 < length (early ++ map (load_fault block) (follow_faults national before t))
-some-next national before kept early t block clean is_clean some h =
-    some_more (follow_faults national before t) kept early t block clean is_clean some h
-  where
-    some_more : (kinds : List LoadFaultKind) (kept : Option (List SubtitleValue))
-        (early : List LoadFault) (t : SubtitleValue) (block : ℕ) (clean : Bool)
-        → clean ≡ is_none (first_of kinds)
-        → (kept ≡ None → 0 < length early)
-        → kept_after clean t kept ≡ None
-        → 0 < length (early ++ map (load_fault block) kinds)
-    some_more (k ∷ ks) kept early t block clean is_clean some h =
-        omega (arith, length-append early (load_fault block k ∷ map (load_fault block) ks))
-    some_more [] None early t block clean is_clean some h =
-        omega (arith, some refl, length-append early [])
-    some_more [] (Some ts) early t block true is_clean some h = absurd cc
-    some_more [] (Some ts) early t block false is_clean some h = absurd cc
+    → 0 < length (early ++ map (load_fault block) kinds)
+some_more (k ∷ ks) kept early t block clean is_clean some h =
+    omega (arith, length-append early (load_fault block k ∷ map (load_fault block) ks))
+some_more [] kept early t block clean is_clean some h = grind (arith, nat_tests, append-nil)
 
--- a subtitle that can't be kept ends a record
-pub ends-here : (national : National) (outcome rest : Outcome) (before : Option Times)
-    (kept : Option (List SubtitleValue)) (early : List LoadFault) (t : SubtitleValue) (block : ℕ)
-    → is_none (first_of (follow_faults national before t)) ≡ true
-    → is_none kept ≡ false
-    → ((records : List SubtitleValue) → kept ≡ Some records → AreKept before early records)
-    → GoesOn national outcome (gives t block rest) before kept early
-    → EndsRecord national [] block outcome
-ends-here national outcome rest before None early t block clean some are_kept on = absurd cc
-ends-here national outcome rest before (Some ts) early t block clean some are_kept on =
-    let none = none-first (follow_faults national before t) clean in
-    let was = (are_kept ts refl).before_is in
-    on.ends_record ts block refl (rw was at none, inl refl)
+-- One subtitle more.
+module _ {national : National} {before : Option Times} {kept : Option (List SubtitleValue)}
+    {early : List LoadFault} (t : SubtitleValue) (block : ℕ) {clean : Bool}
+    (is_clean : clean ≡ is_none (first_of (follow_faults national before t)))
+    (are_kept : (records : List SubtitleValue) → kept ≡ Some records
+    → AreKept national before early records) where
+  -- All that was told of the subtitles then.
+  abbrev told_then : List LoadFault
+  told_then = early ++ map (load_fault block) (follow_faults national before t)
+
+  -- Where something is kept nothing is wrong with it.
+  was_kept : (records : List SubtitleValue)
+      → kept_after clean t kept ≡ Some records
+      → (ts : List SubtitleValue) × (kept ≡ Some ts) × (records ≡ ts ++ t ∷ [])
+      × (follow_faults national (times_before ts) t ≡ [])
+  was_kept records h =
+      let k = kept_before clean t kept records h in
+      let none = none-first (follow_faults national before t) (sym is_clean ∙ k.0) in
+      (k.1, k.2, k.3, rw (are_kept k.1 k.2).before_is at none)
+
+  -- Nothing was told while something is kept.
+  none_told : (records : List SubtitleValue) → kept_after clean t kept ≡ Some records
+      → told_then ≡ []
+  none_told records h =
+      let was = was_kept records h in
+      let own = are_kept was.0 was.1 in
+      rw (own.before_is, was.3, own.none) refl
+
+  -- What is left goes on.
+  pub goes_on-next : {outcome rest : Outcome}
+      → GoesOn national outcome (gives t block rest) before kept early
+      → GoesOn national outcome rest (Some (times_of t)) (kept_after clean t kept) told_then
+  unfolding faults_behind
+  goes_on-next on = record {
+    same = on.same ∙ sym (append_assoc early _ _);
+    loads = λ records h.
+        let was = was_kept records h in rw was.2 (rw was.3 at (on.loads was.0 was.1));
+    ends_record = λ records at h e.
+        let was = was_kept records h in
+        on.ends_record was.0 at was.1 (was.3, inr (rw was.2 at e));
+  }
+
+  -- What is kept then is a programme.
+  pub are_kept-next : IsSubtitle t
+      → (records : List SubtitleValue)
+      → kept_after clean t kept ≡ Some records
+      → AreKept national (Some (times_of t)) told_then records
+  are_kept-next subtitle records h =
+      let was = was_kept records h in
+      let before = (are_kept was.0 was.1).programme in
+      record {
+        before_is = rw (was.2, ap (option_map times_of) (last_of-push was.0 t)) refl;
+        none = none_told records h;
+        programme = rw was.2 (IsProgramme-push national was.0 t before subtitle was.3);
+      }
+
+  -- Where nothing is, faults were told.
+  pub some-next : (kept ≡ None → 0 < length early)
+      → kept_after clean t kept ≡ None
+      → 0 < length told_then
+  some-next some h =
+      some_more (follow_faults national before t) kept early t block clean is_clean some h
+
+  -- A subtitle that can't be kept ends a record.
+  pub ends-here : {outcome rest : Outcome}
+      → clean ≡ true
+      → is_none kept ≡ false
+      → GoesOn national outcome (gives t block rest) before kept early
+      → EndsRecord national [] block outcome
+  ends-here is_true some on =
+      let kept_then = still_kept clean t kept is_true some in
+      let was = was_kept kept_then.0 kept_then.1 in
+      on.ends_record was.0 block was.1 (was.3, inl refl)
+
+  -- Nothing was told before it.
+  pub told-none : clean ≡ true → is_none kept ≡ false → told_then ≡ []
+  told-none is_true some =
+      let kept_then = still_kept clean t kept is_true some in none_told kept_then.0 kept_then.1
 
 -- ---- what was told in all
 
--- all faults
-pub tells-all : {D : Type 0} {IsTold : D → LoadFault → D → Type 0} (old new : D)
-    (stopped : Bool) (early all : List LoadFault)
+-- All faults.
+tells-all : {D : Type 0} {IsTold : D → LoadFault → D → Type 0} {old new : D} {stopped : Bool}
+    {early all : List LoadFault}
     → all ≡ early
     → 0 < length early
     → Tells IsTold old new early
     → TellsFaults IsTold old new stopped all
-tells-all old new stopped early all same some told =
-    rw same (record {
-      all = λ no. told;
-      prefix = (length early, some, omega arith, rw take-length told);
-    })
+tells-all same some told = rw same (record { all = λ no. told; prefix = stops-whole some told })
 
--- those up to where the device said stop
-pub tells-stopped : {D : Type 0} {IsTold : D → LoadFault → D → Type 0} (old mid new : D)
-    (early items rest all : List LoadFault)
-    → all ≡ early ++ (items ++ rest)
-    → Tells IsTold old mid early
-    → StopsWithin IsTold mid new items
-    → TellsFaults IsTold old new true all
-tells-stopped old mid new early items rest all same told s =
-    let bound : s.0 ≤ length items = s.2 in
-    let here : take (length early + s.0) (early ++ (items ++ rest)) ≡ early ++ take s.0 items =
-    take-append-add early (items ++ rest) s.0
-    ∙ ap (λ l. early ++ l) (take-append-le s.0 items rest bound) in
-    rw same (record {
-      all = λ no. absurd cc;
-      prefix = (
+module _ {D : Type 0} {IsTold : D → LoadFault → D → Type 0} {old mid new : D} where
+  -- Those up to where the device said stop.
+  stops-more : (early items rest : List LoadFault)
+      → Tells IsTold old mid early
+      → StopsWithin IsTold mid new items
+      → StopsWithin IsTold old new (early ++ (items ++ rest))
+  stops-more early items rest told s =
+      let bound : s.0 ≤ length items = s.2 in
+      let here : take (length early + s.0) (early ++ (items ++ rest)) ≡ early ++ take s.0 items =
+      take-append-add early (items ++ rest) s.0
+      ∙ ap (λ l. early ++ l) (take-append-le s.0 items rest bound) in (
         length early + s.0,
         omega (arith, s.1),
         omega (arith, s.2, length-append early (items ++ rest), length-append items rest),
         rw here (Tells-trans old mid new early (take s.0 items) told s.3),
-      );
-    })
+      )
 
--- the faults that were told where the device said stop are faults of the file
-take-of_file : (n : ℕ) (items : List LoadFault)
-    → list_all (λ (f : LoadFault). is_of_file f.kind) items ≡ true
-    → list_all (λ (f : LoadFault). is_of_file f.kind) (take n items) ≡ true
-take-of_file zero items h = refl
-take-of_file (suc n) [] h = refl
-take-of_file (suc n) (f ∷ fs) h = grind (arith, nat_tests, take-of_file n fs)
+  -- They are faults of the file.
+  pub of_file-stopped : (early items : List LoadFault) {block : ℕ}
+      → All (IsToldBy block) (early ++ items)
+      → Tells IsTold old mid early
+      → StopsWithin IsTold mid new items
+      → TellsOfFile IsTold old new
+  of_file-stopped early items {block} h told s =
+      let stops = stops-more early items [] told s in
+      let all : List LoadFault = early ++ (items ++ []) in
+      record {
+        faults = take stops.0 all;
+        some = omega (arith, stops.1, stops.2, length-take stops.0 all);
+        of_file = told-of_file block (take stops.0 all)
+            (All-take (IsToldBy block) stops.0 all (rw append-nil h));
+        told = stops.3;
+      }
 
-pub of_file-stopped : {D : Type 0} {IsTold : D → LoadFault → D → Type 0} (old mid new : D)
-    (early : List LoadFault)
-    (national : National) (before : Option Times) (t : SubtitleValue) (from block : ℕ)
-    → list_all (is_told_by from) early ≡ true
-    → Tells IsTold old mid early
-    → StopsWithin IsTold mid new (map (load_fault block) (follow_faults national before t))
-    → TellsOfFile IsTold old new
-of_file-stopped old mid new early national before t from block early_told told s =
-    let items : List LoadFault = map (load_fault block) (follow_faults national before t) in
-    let items_told = at_block block (follow_faults national before t)
-    (follow-of_subtitle national before t) in
-    let bound : s.0 ≤ length items = s.2 in
-    record {
-      faults = early ++ take s.0 items;
-      some = omega (arith, s.1, length-append early (take s.0 items), length-take s.0 items);
-      of_file =
-          list_all-append (λ (f : LoadFault). is_of_file f.kind) early (take s.0 items)
-          ∙ rw (
-            told-of_file from early early_told,
-            take-of_file s.0 items (told-of_file block items items_told),
-          ) refl;
-      told = Tells-trans old mid new early (take s.0 items) told s.3;
-    }
+  -- So is the fault that ends reading.
+  pub of_file-end : (early : List LoadFault) (fault : StlFault) {from block : ℕ}
+      → All (IsToldBy from) early
+      → is_read fault ≡ false
+      → fault ≢ Ended
+      → Tells IsTold old mid early
+      → Tells IsTold mid new (load_fault block (File fault) ∷ [])
+      → TellsOfFile IsTold old new
+  of_file-end early fault {from} {block} early_told read ended p q =
+      let last : List LoadFault = load_fault block (File fault) ∷ [] in
+      record {
+        faults = early ++ last;
+        some = omega (arith, length-append early last);
+        of_file =
+            list_all-append (λ (f : LoadFault). is_of_file f.kind) early last
+            ∙ rw (told-of_file from early early_told, file-of_file fault read ended) refl;
+        told = Tells-trans old mid new early last p q;
+      }
+    where
+      file-of_file : (fault : StlFault) → is_read fault ≡ false → fault ≢ Ended
+          → is_of_file (File fault) ≡ true
+      file-of_file Read read ended = absurd cc
+      file-of_file Ended read ended = absurd (ended refl)
+      file-of_file fault read ended = refl
 
 -- ---- each way out
 
--- nothing was read yet
+-- Nothing was read yet.
 pub goes_on-start : (national : National) (outcome : Outcome)
     → GoesOn national outcome outcome None (Some []) []
 unfolding faults
@@ -375,80 +355,45 @@ goes_on-start national outcome = record {
   ends_record = λ records at h e. let none : [] ≡ records = cc in rw none e;
 }
 
--- no faults were told, and nothing is wrong with the file
-pub tells-none : (national : National) (outcome : Outcome) (before : Option Times)
-    (kept : Option (List SubtitleValue)) (early : List LoadFault)
-    {D : Type 0} {IsTold : D → LoadFault → D → Type 0} (old new : D) (stopped : Bool)
-    → GoesOn national outcome ends before kept early
-    → 0 < length early
-    → Tells IsTold old new early
-    → TellsFaults IsTold old new stopped (faults national outcome)
-unfolding faults_behind
-tells-none national outcome before kept early old new stopped on some told =
-    tells-all old new stopped early (faults national outcome) (on.same ∙ append-nil early) some told
+module _ {D : Type 0} {IsTold : D → LoadFault → D → Type 0} {old mid : D} {national : National}
+    {outcome left : Outcome} {before : Option Times} {kept : Option (List SubtitleValue)}
+    {early : List LoadFault} (on : GoesOn national outcome left before kept early)
+    (told : Tells IsTold old mid early) where
+  -- Faults were told, and nothing is wrong with the rest of the file.
+  pub tells-none : {stopped : Bool}
+      → left ≡ ends
+      → 0 < length early
+      → TellsFaults IsTold old mid stopped (faults national outcome)
+  unfolding faults_behind
+  tells-none is some = tells-all (rw is at on.same ∙ append-nil early) some told
 
--- the fault that ends reading was told last
-pub tells-end : (national : National) (outcome left : Outcome) (before : Option Times)
-    (kept : Option (List SubtitleValue)) (early : List LoadFault) (fault : StlFault) (block : ℕ)
-    {D : Type 0} {IsTold : D → LoadFault → D → Type 0} (old mid new : D) (stopped : Bool)
-    → GoesOn national outcome left before kept early
-    → left ≡ fails fault block
-    → Tells IsTold old mid early
-    → Tells IsTold mid new (load_fault block (File fault) ∷ [])
-    → TellsFaults IsTold old new stopped (faults national outcome)
-unfolding faults_behind
-tells-end national outcome left before kept early fault block old mid new stopped on is p q =
-    let last : List LoadFault = load_fault block (File fault) ∷ [] in
-    tells-all old new stopped (early ++ last) (faults national outcome) (rw is at on.same)
-    (omega (arith, length-append early last)) (Tells-trans old mid new early last p q)
+  -- The fault that ends reading was told last.
+  pub tells-end : {new : D} {stopped : Bool} {fault : StlFault} {block : ℕ}
+      → left ≡ fails fault block
+      → Tells IsTold mid new (load_fault block (File fault) ∷ [])
+      → TellsFaults IsTold old new stopped (faults national outcome)
+  unfolding faults_behind
+  tells-end {new} {stopped} {fault} {block} is q =
+      let last : List LoadFault = load_fault block (File fault) ∷ [] in
+      tells-all (rw is at on.same) (omega (arith, length-append early last))
+      (Tells-trans old mid new early last told q)
 
--- that is a fault of the file
-file-of_file : (fault : StlFault)
-    → is_read fault ≡ false
-    → fault ≢ Ended
-    → is_of_file (File fault) ≡ true
-file-of_file Read read ended = absurd cc
-file-of_file Ended read ended = absurd (ended refl)
-file-of_file fault read ended = refl
+  -- The device said stop at a fault of a subtitle.
+  pub tells-stop : {new : D} {rest : Outcome} {t : SubtitleValue} {block : ℕ} (stopped : Bool)
+      → left ≡ gives t block rest
+      → stopped ≡ true
+      → StopsWithin IsTold mid new (map (load_fault block) (follow_faults national before t))
+      → TellsFaults IsTold old new stopped (faults national outcome)
+  unfolding faults_behind
+  tells-stop {rest = rest} {t} {block} stopped is is_stopped q =
+      rw is_stopped (record {
+        all = λ no. absurd cc;
+        prefix = rw (rw is at on.same)
+            (stops-more early (map (load_fault block) (follow_faults national before t))
+            (faults_behind national (Some (times_of t)) rest) told q);
+      })
 
-pub of_file-end : (from : ℕ) (early : List LoadFault) (fault : StlFault) (block : ℕ)
-    {D : Type 0} {IsTold : D → LoadFault → D → Type 0} (old mid new : D)
-    → list_all (is_told_by from) early ≡ true
-    → is_read fault ≡ false
-    → fault ≢ Ended
-    → Tells IsTold old mid early
-    → Tells IsTold mid new (load_fault block (File fault) ∷ [])
-    → TellsOfFile IsTold old new
-of_file-end from early fault block old mid new early_told read ended p q =
-    let last : List LoadFault = load_fault block (File fault) ∷ [] in
-    record {
-      faults = early ++ last;
-      some = omega (arith, length-append early last);
-      of_file =
-          list_all-append (λ (f : LoadFault). is_of_file f.kind) early last
-          ∙ rw (told-of_file from early early_told, file-of_file fault read ended) refl;
-      told = Tells-trans old mid new early last p q;
-    }
-
--- the device said stop at a fault of a subtitle
-pub tells-stop : (national : National) (outcome left rest : Outcome) (before : Option Times)
-    (kept : Option (List SubtitleValue)) (early : List LoadFault) (t : SubtitleValue) (block : ℕ)
-    {D : Type 0} {IsTold : D → LoadFault → D → Type 0} (old mid new : D) (stopped : Bool)
-    → GoesOn national outcome left before kept early
-    → left ≡ gives t block rest
-    → stopped ≡ true
-    → Tells IsTold old mid early
-    → StopsWithin IsTold mid new (map (load_fault block) (follow_faults national before t))
-    → TellsFaults IsTold old new stopped (faults national outcome)
-unfolding faults_behind
-tells-stop national outcome left rest before kept early t block old mid new stopped on is
-    is_stopped p q =
-    rw is_stopped
-    (tells-stopped old mid new early (map (load_fault block) (follow_faults national before t))
-    (faults_behind national (Some (times_of t)) rest) (faults national outcome)
-    (rw is at on.same) p q)
-
--- what is kept, where something is
+-- What is kept, where something is.
 pub if_kept : {V : Type 0} (items : V → List SubtitleValue) (P : List SubtitleValue → Type 0)
     (kept : Option V)
     → ((records : List SubtitleValue) → option_map items kept ≡ Some records → P records)
@@ -464,23 +409,21 @@ some_items items (Some v) h = refl
 
 -- ---- where the source failed
 
--- what was told before comes before this block
+-- What was told before comes before this block.
 not_unfinished : (kind : LoadFaultKind) → is_of_subtitle kind ≡ true → is_unfinished kind ≡ false
-not_unfinished OutOfOrder h = refl
-not_unfinished Overlap h = refl
-not_unfinished (Row fault) h = refl
-not_unfinished (File fault) h = absurd cc
-not_unfinished Memory h = absurd cc
+not_unfinished kind h = grind (arith, nat_tests)
 
 filter-early : (from block : ℕ) (early : List LoadFault)
     → from < block
-    → list_all (is_told_by from) early ≡ true
+    → All (IsToldBy from) early
     → filter (is_before block) early ≡ early
 filter-early from block [] lt h = refl
 filter-early from block (f ∷ fs) lt h =
-    grind (arith, nat_tests, not_unfinished f.kind, filter-early from block fs)
+    let one = All-head (IsToldBy from) f fs h in
+    let rest = filter-early from block fs lt (All-tail (IsToldBy from) f fs h) in
+    grind (arith, nat_tests, not_unfinished f.kind, one.0, one.1)
 
--- what names this block or a later one does not
+-- What names this block or a later one does not.
 late_kinds : (block at : ℕ) (kinds : List LoadFaultKind)
     → block ≤ at
     → filter (is_before block) (map (load_fault at) kinds) ≡ []
@@ -507,21 +450,22 @@ late national before block (gives t at left) names =
       late national (Some (times_of t)) block left names.1,
     ) refl
 
--- the faults before the block at which the source failed were told
-pub tells-unread : (national : National) (outcome left : Outcome) (before : Option Times)
-    (kept : Option (List SubtitleValue)) (early : List LoadFault) (from block : ℕ)
-    {D : Type 0} {IsTold : D → LoadFault → D → Type 0} (old new : D)
+-- The faults before the block at which the source failed were told.
+pub tells-unread : {D : Type 0} {IsTold : D → LoadFault → D → Type 0} {old new : D}
+    {national : National} {outcome left : Outcome} {before : Option Times}
+    {kept : Option (List SubtitleValue)} {early : List LoadFault} (from block : ℕ)
     → from < block
-    → list_all (is_told_by from) early ≡ true
+    → All (IsToldBy from) early
     → NamesFrom block left
     → GoesOn national outcome left before kept early
     → Tells IsTold old new early
     → Tells IsTold old new (filter (is_before block) (faults national outcome))
-tells-unread national outcome left before kept early from block old new lt early_told names on told
-    =
-    let none = late national before block left names in
-    let all : filter (is_before block) (faults national outcome) ≡ early =
-    ap (filter (is_before block)) on.same
-    ∙ filter-append (is_before block) early (faults_behind national before left)
-    ∙ rw (filter-early from block early lt early_told, none) (append-nil early) in
-    rw all told
+tells-unread {national = national} {left = left} {before} {early = early} from block lt early_told
+    names on told =
+    rw (
+      on.same,
+      filter-append (is_before block) early (faults_behind national before left),
+      filter-early from block early lt early_told,
+      late national before block left names,
+      append-nil,
+    ) told

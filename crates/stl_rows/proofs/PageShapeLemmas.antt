@@ -26,38 +26,34 @@ use Rattle.stl_rows.proofs.LineLemmas.{Small, holds_at, holds_map, row_length, r
 
 -- ---- the cells of a text
 
--- a cell, if there is one, is a code
+-- A cell, if there is one, is a code.
 abbrev SmallCode : Option ℕ → Type 0
 SmallCode cell = IfSome cell IsCode
 
--- each entry of a table gives cells below 128
+-- Each entry of a table gives cells below 128.
 abbrev SmallEntries : List CellEntry → Type 0
 SmallEntries entries = AllByRecursion (λ (e : CellEntry). e.cell + (e.last - e.first) < 128) entries
 
--- a table whose entries give codes gives codes
+-- A table whose entries give codes gives codes.
 cell_in-small : (entries : List CellEntry) (byte : ℕ)
     → SmallEntries entries
     → SmallCode (cell_in entries byte)
 cell_in-small [] byte h = tt
 cell_in-small (entry ∷ entries) byte h =
-    cond_both (nat_le entry.first byte && nat_le byte entry.last) _ _ SmallCode
-    (λ within. grind (arith, nat_tests, h.0)) (λ _. cell_in-small entries byte h.1)
+    grind (arith, nat_tests, h.0, cell_in-small entries byte h.1)
 
--- the tables of both options give codes
+-- The tables of both options give codes.
 cell_of-small : (national : National) (b : ℕ) → SmallCode (cell_of national b)
 unfolding cell_of
 cell_of-small English b = cell_in-small (cells English) b (omega arith)
 cell_of-small German b = cell_in-small (cells German) b (omega arith)
 
--- a byte with no entry gives no cell, and so no cell that is no code
+-- A byte with no entry gives no cell, and so no cell that is no code.
 other_small : (byte : ℕ) → HasSevenBits (code_of_other byte)
 unfolding code_of_other
-other_small byte =
-    cond_both (is_no_cell byte) _ _ HasSevenBits (λ _. tt)
-    (λ _. cond_both (byte == new_line) _ _ HasSevenBits (λ _. tt)
-    (λ _. cond_both (is_control byte) _ _ HasSevenBits (λ _. tt) (λ _. tt)))
+other_small byte = grind (arith, nat_tests)
 
--- the cell of a byte by itself is a code
+-- The cell of a byte by itself is a code.
 code_small : (national : National) (byte : ℕ) → HasSevenBits (text_code national byte)
 code_small national byte = go (cell_of national byte) (cell_of-small national byte)
   where
@@ -65,17 +61,16 @@ code_small national byte = go (cell_of national byte) (cell_of-small national by
     go None h = other_small byte
     go (Some code) h = h
 
--- the cell of a pair is a code
+-- The cell of a pair is a code.
 pair_small : (national : National) (b : ℕ) (next : Option ℕ)
     → SmallCode (cell_of_pair national b next)
 unfolding cell_of_pair cell_of_letter
 pair_small English b next = tt
-pair_small German b None = cond_both (b == diaeresis) _ _ SmallCode (λ _. tt) (λ _. tt)
+pair_small German b None = grind (arith, nat_tests)
 pair_small German b (Some c) =
-    cond_both (b == diaeresis) _ _ SmallCode
-    (λ _. cell_in-small diaeresis_cells c (omega arith)) (λ _. tt)
+    let small = cell_in-small diaeresis_cells c (omega arith) in grind (arith, nat_tests)
 
--- the cell of a pair or of a byte by itself is a code
+-- The cell of a pair or of a byte by itself is a code.
 by_small : (pair : Option ℕ) (alone : TextCode)
     → SmallCode pair
     → HasSevenBits alone
@@ -83,7 +78,7 @@ by_small : (pair : Option ℕ) (alone : TextCode)
 by_small None alone h k = k
 by_small (Some code) alone h k = h
 
--- a text code before lines of codes
+-- A text code before lines of codes.
 with_small : (s : TextCode) (ls : List (List ℕ))
     → HasSevenBits s
     → AllByRecursion Small ls
@@ -94,7 +89,7 @@ with_small NoCell ls l h = h
 with_small NewLine ls l h = (tt, h)
 with_small (Refused kind) ls l h = h
 
--- all cells of a text are codes
+-- All cells of a text are codes.
 cells_small : (national : National) (at skip : ℕ) (bytes : List ℕ)
     → AllByRecursion Small (lines_of (codes_after national at skip bytes))
 cells_small national at skip [] = (tt, tt)
@@ -106,19 +101,19 @@ cells_small national at zero (b ∷ bytes) =
     (pair_small national b (first_of bytes)) (code_small national b))
     (cells_small national (at + 1) s.1 bytes)
 
--- two lines of codes joined
+-- Two lines of codes joined.
 append_small : (xs ys : List ℕ) → Small xs → Small ys → Small (xs ++ ys)
 append_small [] ys h k = k
 append_small (x ∷ xs) ys h k = (h.0, append_small xs ys h.1 k)
 
--- a prepared line of codes holds codes alone
+-- A prepared line of codes holds codes alone.
 prepared_small : (cells : List ℕ) → Small cells → Small (prepared cells)
 unfolding prepared
 prepared_small cells h =
     cond_both (has_cells cells && not (is_boxed cells)) _ cells Small
     (λ _. (lit< tt, (lit< tt, append_small cells (0x0A ∷ 0x0A ∷ []) h (omega arith)))) (λ _. h)
 
--- prepared lines of codes hold codes alone
+-- Prepared lines of codes hold codes alone.
 all_prepared : (ls : List (List ℕ))
     → AllByRecursion Small ls
     → AllByRecursion Small (map prepared ls)
@@ -127,7 +122,7 @@ all_prepared (l ∷ ls) h = (prepared_small l h.0, all_prepared ls h.1)
 
 -- ---- the rows of a page
 
--- the page that shows lines of codes is a page
+-- The page that shows lines of codes is a page.
 page_is :
     (jc vp : ℕ) (ls : List (List ℕ))
     → AllByRecursion Small ls
@@ -152,7 +147,7 @@ page_is jc vp ls h =
     line_small row =
         cond_both (nat_lt row vp) [] _ Small (λ _. tt) (λ _. holds_at Small ls (row - vp) [] tt h)
 
--- each due page is a page: for `law_of_due_pages`
+-- Each due page is a page: for `law_of_due_pages`.
 pub due_is_page : (national : National) (ts : List SubtitleValue) (f : ℕ)
     → IsPage (due national ts f)
 due_is_page national ts f =

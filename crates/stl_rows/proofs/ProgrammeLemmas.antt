@@ -1,6 +1,6 @@
 -- A programme with one more subtitle that has no fault is one: IsProgramme-push.
-use Rattle.std.proofs.Common.{◌≡◌, ℕ, ◌-◌, ◌<◌, ◌≤◌, List, [], ◌∷◌, ◌++◌, Result, Ok, Err}
-use Rattle.std.proofs.Common.{◌∙◌, ap, Some, length, get_or, arith, rules, inl, inr, length-append}
+use Rattle.std.proofs.Common.{◌≡◌, ℕ, ◌-◌, ◌<◌, ◌≤◌, List, [], ◌∷◌, ◌++◌, Result, Ok, Err, ◌∙◌, ap}
+use Rattle.std.proofs.Common.{Some, length, get_or, arith, rules, inl, inr, length-append}
 use Rattle.std.proofs.lemmas.Bool.{cases_lt}
 use Rattle.std.proofs.lemmas.Bool.Decides.{nat_tests}
 use Rattle.std.proofs.lemmas.List.{get_or_append_left, get_or_push}
@@ -13,22 +13,21 @@ use Rattle.stl_rows.specs.declared.fault.RowFault.{RowFault}
 use Rattle.stl_rows.specs.declared.national.National.{National}
 use Rattle.stl_rows.specs.DrawnPage.{drawn}
 use Rattle.stl_rows.specs.Programme.{AreInOrder, IsProgramme, follow_faults, last_of, order_faults}
-use Rattle.stl_rows.specs.Programme.{row_faults}
-use Rattle.stl_rows.specs.Programme.{times_before, times_of}
+use Rattle.stl_rows.specs.Programme.{row_faults, times_before, times_of}
 use Rattle.stl_rows.proofs.FaultlessLemmas.{empty_parts}
 
--- a subtitle with no fault of its rows draws a page
+-- A subtitle with no fault of its rows draws a page.
 draws : (r : Result Rows RowFault) → row_faults r ≡ [] → IsOk r
 draws (Ok page) h = search rules
 draws (Err f) h = cc
 
--- a subtitle with no fault of its times starts at the TCO of the one before, or later
+-- A subtitle with no fault of its times starts at the TCO of the one before, or later.
 after_last : (last t : SubtitleValue)
     → order_faults (Some (times_of last)) (times_of t) ≡ []
     → last.tco ≤ t.tci
 after_last last t h = grind (arith, nat_tests)
 
--- it starts at the TCO of each one before, or later
+-- It starts at the TCO of each one before, or later.
 last_before : (ts : List SubtitleValue) (t : SubtitleValue) (i : ℕ) (d : SubtitleValue)
     → All IsSubtitle ts
     → AreInOrder ts
@@ -49,7 +48,7 @@ last_before ts t i d each ordered h inside =
       | inr same ↦ let z : i ≡ at = omega arith in rw z after
     ]
 
--- subtitles in order stay so with it
+-- Subtitles in order stay so with it.
 in_order-push : (ts : List SubtitleValue) (t : SubtitleValue)
     → All IsSubtitle ts
     → AreInOrder ts
@@ -64,7 +63,7 @@ in_order-push ts t each ordered h i j d below inside =
           (last_before ts t i d each ordered h (omega arith))
     ]
 
--- a programme stays one with a subtitle that has no fault: for `put`
+-- A programme stays one with a subtitle that has no fault: for `put`.
 pub IsProgramme-push : (n : National) (ts : List SubtitleValue) (t : SubtitleValue)
     → IsProgramme n ts
     → IsSubtitle t
@@ -79,7 +78,7 @@ IsProgramme-push n ts t ok subtitle h =
       drawable = All-push (λ x. IsOk (drawn n x)) ts t ok.drawable (draws (drawn n t) parts.1);
     }
 
--- the last of a list is what was put after the others
+-- The last of a list is what was put after the others.
 pub last_of-push : {A : Type 0} (xs : List A) (x : A) → last_of (xs ++ x ∷ []) ≡ Some x
 last_of-push xs x =
     let size = length-append xs (x ∷ []) in
@@ -87,7 +86,7 @@ last_of-push xs x =
     slice_get-get_or (xs ++ x ∷ []) at x (omega (arith, size))
     ∙ ap Some (get_or_push xs x x at (omega (arith, size)))
 
--- no subtitles are a programme: for `load_in`
+-- No subtitles are a programme: for `load_in`.
 pub IsProgramme-none : (n : National) → IsProgramme n []
 IsProgramme-none n = record {
   each = All-nil IsSubtitle;

@@ -6,13 +6,13 @@ use Rattle.stl_rows.specs.declared.text_code.TextCode.{TextCode}
 use Rattle.stl_rows.specs.declared.text_code.TextCode.TheVariants.{Cell}
 use Rattle.stl_rows.specs.TextCode.{cell_of_pair, codes_after, first_of, text_codes}
 
--- a text from a place on begins with the byte there
+-- A text from a place on begins with the byte there.
 cut_at : (text : List ℕ) (at : ℕ)
     → at < length text
     → drop at text ≡ get_or text at 0 ∷ drop (at + 1) text
 cut_at text at h = rw (add-one, drop-cons text at 0) refl
 
--- after a pair the text goes on two bytes further
+-- After a pair the text goes on two bytes further.
 after_pair : (n : National) (at : ℕ) (text : List ℕ)
     → at + 1 < length text
     → codes_after n (at + 1) 1 (drop (at + 1) text) ≡ text_codes n (at + 2) (drop (at + 2) text)
@@ -21,7 +21,7 @@ after_pair n at text h =
     ap (codes_after n (at + 1) 1) (cut_at text (at + 1) h)
     ∙ ap (λ (k : ℕ). text_codes n k (drop k text)) e
 
--- a pair of bytes is one text code: for `text_code_at`
+-- A pair of bytes is one text code: for `text_code_at`.
 pub text_codes-pair : (n : National) (at : ℕ) (text : List ℕ) (code : ℕ) → at + 1 < length text
     → Some code ≡ cell_of_pair n (get_or text at 0) (first_of (drop (at + 1) text))
     → text_codes n at (drop at text) ≡ (at, Cell code) ∷ text_codes n (at + 2) (drop (at + 2) text)

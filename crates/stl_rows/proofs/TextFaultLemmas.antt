@@ -23,12 +23,12 @@ use Rattle.stl_rows.proofs.LineByLineLemmas.{onto_code, onto_line_end}
 
 -- ---- shapes
 
--- no cells
+-- No cells.
 shape-none : (number row : ℕ) (under : Bool) → HasShape [] (empty_line number row under)
 unfolding is_boxed is_double
 shape-none number row under = record { count = refl; box = refl; height = refl }
 
--- a cell more
+-- A cell more.
 shape-push : (cells : List ℕ) (code : ℕ) (line : OpenLine)
     → HasShape cells line
     → HasShape (cells ++ code ∷ []) (with_cell line code)
@@ -41,7 +41,7 @@ shape-push cells code line h = record {
 
 -- ---- what a shape tells
 
--- a prepared line has the double height of its cells
+-- A prepared line has the double height of its cells.
 double_prepared : (cells : List ℕ) → is_double (prepared cells) ≡ is_double cells
 unfolding prepared is_double
 double_prepared cells =
@@ -50,7 +50,7 @@ double_prepared cells =
     (λ _. list_any-append (λ c. c == double_height) cells (0x0A ∷ 0x0A ∷ []) ∙ or-false _)
     (λ _. refl)
 
--- how long a line with cells is
+-- How long a line with cells is.
 length_prepared : (c : ℕ) (cs : List ℕ)
     → length (prepared (c ∷ cs)) ≡ cond (is_boxed (c ∷ cs)) (length (c ∷ cs)) (length (c ∷ cs) + 4)
 unfolding prepared
@@ -62,21 +62,21 @@ length_prepared c cs = go (is_boxed (c ∷ cs))
     go true = refl
     go false = omega (arith, length-append cs (0x0A ∷ 0x0A ∷ []))
 
--- it has cells
+-- It has cells.
 cells_prepared : (c : ℕ) (cs : List ℕ) → has_cells (prepared (c ∷ cs)) ≡ true
 unfolding prepared
 cells_prepared c cs =
     cond_both (not (is_boxed (c ∷ cs))) _ (c ∷ cs) (λ line. has_cells line ≡ true) (λ _. refl)
     (λ _. refl)
 
--- a line without cells has no double height, nor a box
+-- A line without cells has no double height, nor a box.
 kinds_of_none : (line : OpenLine)
     → HasShape [] line
     → line_fault_kinds line.row line.is_under_double (prepared []) ≡ shape_fault_kinds line
 unfolding line_fault_kinds shape_fault_kinds prepared is_boxed is_double
 kinds_of_none line h = rw (← h.count, ← h.box, ← h.height) refl
 
--- the faults of a line by its shape
+-- The faults of a line by its shape.
 shape_kinds : (cells : List ℕ) (line : OpenLine)
     → HasShape cells line
     → line_fault_kinds line.row line.is_under_double (prepared cells) ≡ shape_fault_kinds line
@@ -95,19 +95,19 @@ shape_kinds (c ∷ cs) line h =
 
 -- ---- the first fault of the lines
 
--- the first of two lists
+-- The first of two lists.
 first_of-append : {A : Type 0} (xs ys : List A)
     → first_of (xs ++ ys) ≡ option_or (first_of xs) (first_of ys)
 first_of-append [] ys = refl
 first_of-append (x ∷ xs) ys = refl
 
--- one of three
+-- One of three.
 option_or_assoc : {A : Type 0} (a b c : Option A)
     → option_or (option_or a b) c ≡ option_or a (option_or b c)
 option_or_assoc None b c = refl
 option_or_assoc (Some x) b c = refl
 
--- the faults of the open line come before those of the lines under it
+-- The faults of the open line come before those of the lines under it.
 told_line : (before : Option RowFault) (cells : List ℕ) (line : OpenLine) (ls : List (List ℕ))
     → HasShape cells line
     → option_or (told_first before line)
@@ -132,7 +132,7 @@ IsTold ss =
     ≡ option_or (first_of (refusals ss)) (option_or before (first_of
     (line_faults line.number line.row line.is_under_double (prepared_lines cells ss))))
 
--- of one text code and those after it
+-- Of one text code and those after it.
 told-code : (at : ℕ) (s : TextCode) (ss : List (ℕ × TextCode)) → IsTold ss → IsTold ((at, s) ∷ ss)
 told-code at (Cell code) ss after before cells line h =
     rw (onto_code cells code (lines_of ss))
@@ -145,13 +145,13 @@ told-code at NewLine ss after before cells line h =
     (told_line before cells line (prepared_lines [] ss) h))
 told-code at (Refused kind) ss after before cells line h = refl
 
--- of all
+-- Of all.
 told-is : (ss : List (ℕ × TextCode)) → IsTold ss
 told-is [] before cells line h =
     rw (onto_line_end cells [], shape_kinds cells line h, append-nil) refl
 told-is (c ∷ ss) before cells line h = told-code c.0 c.1 ss (told-is ss) before cells line h
 
--- the first fault of a subtitle. For `first_fault`
+-- The first fault of a subtitle. For `first_fault`.
 pub told-faults : (n : National) (t : SubtitleValue)
     → told None (empty_line 0 t.vp false) (text_codes n 0 t.text) ≡ first_of (faults n t)
 told-faults n t =

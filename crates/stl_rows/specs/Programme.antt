@@ -1,6 +1,5 @@
 -- A programme: subtitles in order and disjoint, each of which draws a page.
-use Rattle.std.specs.Prelude.{ℕ, ◌-◌, ◌<◌, ◌≤◌, List, [], ◌∷◌, ◌++◌, Option, Some, None}
-use Rattle.std.specs.Prelude.{option_map}
+use Rattle.std.specs.Prelude.{ℕ, ◌-◌, ◌<◌, ◌≤◌, List, [], ◌∷◌, ◌++◌, Option, Some, None, option_map}
 use Rattle.std.specs.Prelude.{Result, Ok, Err, nat_lt, if◌then◌else◌, length, slice_get}
 use Rattle.std.specs.Prelude.{slice_index_or, All, IsOk}
 use Rattle.ttx_page.specs.Page.{Rows}

@@ -32,57 +32,57 @@ gives byte cell = record { first = byte; last = byte; cell = cell }
 -- left, EN 300 706 on the right.
 abbrev pub common_cells : List CellEntry
 common_cells =
-    -- alpha colours, flash, steady, end box, start box, normal height, double height
+    -- Alpha colours, flash, steady, end box, start box, normal height, double height.
     same 0x01 0x0D
-    -- black background, new background
+    -- Black background, new background.
     ∷ same 0x1C 0x1D
-    -- space, exclamation mark, quotation mark
+    -- Space, exclamation mark, quotation mark.
     ∷ same 0x20 0x22
     -- (own) lenient: 24 is read as dollar, whatever an edition of the code table names it, since
     -- files from the field have it so
     ∷ gives 0x24 0x24
-    -- percent sign to full stop, solidus, digits, colon to question mark
+    -- Percent sign to full stop, solidus, digits, colon to question mark.
     ∷ same 0x25 0x3F
-    -- capital letters
+    -- Capital letters.
     ∷ same 0x41 0x5A
-    -- small letters
+    -- Small letters.
     ∷ same 0x61 0x7A
-    -- dollar
+    -- Dollar.
     ∷ gives 0xA4 0x24
     ∷ []
 
 -- English option: C12, C13 and C14 are 0 0 0.
 abbrev pub english_cells : List CellEntry
 english_cells =
-    -- number sign
+    -- Number sign.
     gives 0x23 0x5F
-    -- commercial at
+    -- Commercial at.
     ∷ gives 0x40 0x40
-    -- pound
+    -- Pound.
     ∷ gives 0xA3 0x23
     ∷ []
 
 -- German option: C12, C13 and C14 are 0 0 1.
 abbrev pub german_cells : List CellEntry
 german_cells =
-    -- number sign
+    -- Number sign.
     gives 0x23 0x23
-    -- section sign
+    -- Section sign.
     ∷ gives 0xA7 0x40
-    -- degree
+    -- Degree.
     ∷ gives 0xB0 0x60
-    -- sharp s
+    -- Sharp s.
     ∷ gives 0xFB 0x7E
     ∷ []
 
 -- German option: the letters that may stand after the byte C8 (diaeresis), and the cell of the two.
 abbrev pub diaeresis_cells : List CellEntry
 diaeresis_cells =
-    -- capital A, O, U
+    -- Capital A, O, U.
     gives 0x41 0x5B
     ∷ gives 0x4F 0x5C
     ∷ gives 0x55 0x5D
-    -- small a, o, u
+    -- Small a, o, u.
     ∷ gives 0x61 0x7B
     ∷ gives 0x6F 0x7C
     ∷ gives 0x75 0x7D

@@ -5,15 +5,18 @@ use Rattle.std.proofs.Common.{sym, drop, map, ◌∙◌, arith}
 use Rattle.std.proofs.lemmas.Bool.{lt-ltb}
 use Rattle.std.specs.Prelude.{◌≢◌, option_map}
 use Rattle.sub_io.proofs.TellingLemmas.{Tells-none, Tells-trans}
+use Rattle.sub_io.specs.Telling.{Tells}
 use Rattle.stl_file.specs.declared.fault.StlFault.TheVariants.{Ended}
 use Rattle.stl_file.specs.Gsi.{gsi_size}
 use Rattle.stl_file.specs.Reader.{outcome_left, outcome_of}
 use Rattle.stl_rows.specs.Loading.{load_fault, loaded}
-use Rattle.stl_rows.specs.Programme.{follow_faults}
+use Rattle.stl_rows.specs.Programme.{IsProgramme, follow_faults}
+use Rattle.std.proofs.lemmas.List.Elements.{All-nil}
 use Rattle.stl_rows.proofs.FailedReadLemmas.{fails-next, has_taken-next, reads-nothing}
 use Rattle.stl_rows.proofs.LoadingLemmas.{are_kept-next, ends-here, goes_on-next, goes_on-start}
 use Rattle.stl_rows.proofs.LoadingLemmas.{if_kept, of_file-end, of_file-stopped, outcome_of-opened}
-use Rattle.stl_rows.proofs.LoadingLemmas.{programme-next, some-next, some_items, tells-end}
+use Rattle.stl_rows.proofs.LoadingLemmas.{IsToldBy, some-next, some_items, tells-end}
+use Rattle.stl_rows.proofs.LoadingLemmas.{told-none}
 use Rattle.stl_rows.proofs.LoadingLemmas.{tells-none, tells-stop, told-next, told-of_file}
 use Rattle.stl_rows.proofs.ProgrammeLemmas.{IsProgramme-none}
 use Rattle.stl_rows.proofs.every_fault.load_all_in.Goals as goal
@@ -22,13 +25,11 @@ pub subtitles-init : goal.subtitles-init
 subtitles-init g c = rw c.new.ensures.items (record {
   early = [];
   told = Tells-none _;
-  early_told = refl;
-  programme = λ records h.
-      let none : [] ≡ records = cc in
-      rw (sym none) (IsProgramme-none c.args.national);
+  early_told = All-nil (IsToldBy c.in-Ok.reader.block);
   are_kept = λ records h.
       let none : [] ≡ records = cc in
-      rw (sym none) (record { before_is = refl; none = refl });
+      rw (sym none)
+      (record { before_is = refl; none = refl; programme = IsProgramme-none c.args.national });
   some = λ h. absurd cc;
   listens = c.requires.listens;
   reading = search rules;
@@ -52,42 +53,34 @@ subtitles-preserved g c =
     let t = c.next_into.new.subtitle in
     let here = c.next_into.new.self.block in
     let read = c.in-Ok-true.ensures.subtitle i.reading (ap Ok c.in-Ok-true.field-0-test) in
-    let block = c.block-block.ensures.value in
-    let before = c.subtitles.before in
-    let kept = option_map (λ v. v.items) c.subtitles.kept in
-    let clean = c.in-Ok-tell_faults.clean in
     let is_clean = c.in-Ok-tell_faults.ensures.clean in
-    let is_kept = c.in_default-keep.ensures.all in
-    rw (is_kept, c.of.ensures.value) (record {
-      early = i.early ++ map (load_fault here) (follow_faults c.args.national before t);
-      told = Tells-trans _ _ _ i.early _ i.told (rw block at c.in-Ok-tell_faults.ensures.told);
-      early_told = told-next c.args.national before t c.subtitles.reader.block here i.early
-          (omega (arith, read.counted)) i.early_told;
-      programme = programme-next c.args.national before kept i.early t clean is_clean
-          c.of.ensures.subtitle i.are_kept i.programme;
-      are_kept = are_kept-next c.args.national before kept i.early t here clean is_clean i.are_kept;
-      some = some-next c.args.national before kept i.early t here clean is_clean i.some;
+    rw (c.in_default-keep.ensures.all, c.of.ensures.value) (record {
+      early = i.early ++ map (load_fault here) (follow_faults c.args.national c.subtitles.before t);
+      told = Tells-trans _ _ _ i.early _ i.told
+          (rw c.block-block.ensures.value at c.in-Ok-tell_faults.ensures.told);
+      early_told = told-next c.args.national c.subtitles.before t c.subtitles.reader.block here
+          i.early (omega (arith, read.counted)) i.early_told;
+      are_kept = are_kept-next t here is_clean i.are_kept c.of.ensures.subtitle;
+      some = some-next t here is_clean i.are_kept i.some;
       listens = search rules;
       reading = rw c.in-Ok-true.field-0-test at c.in-Ok-true.ensures.progress ∙ i.reading;
       count = search rules;
-      taken = has_taken-next _ _ _ _ _ t read i.taken;
+      taken = has_taken-next read i.taken;
       goes_on = λ bytes e.
           let was = i.goes_on bytes e in
           let answer =
           rw c.in-Ok-true.field-0-test at (c.in-Ok-true.ensures.exact was.0 was.1 refl) in (
             answer.rest,
             answer.rest_is,
-            goes_on-next c.args.national _ _ before kept i.early t here clean is_clean i.are_kept
-                (rw answer.outcome at was.2),
+            goes_on-next t here is_clean i.are_kept (rw answer.outcome at was.2),
           );
     })
 
 pub returns-in-Ok-tell_end-clause-told : goal.returns-in-Ok-tell_end-clause-told
 returns-in-Ok-tell_end-clause-told g c = λ bytes e none.
     let opened = c.in-Err.ensures.exact bytes e c.in-Ok-tell_end.ensures.file in
-    tells-end c.args.national (outcome_of bytes) _ None (Some []) [] c.in-Err.fault 0 _ _ _ _
-    (goes_on-start c.args.national (outcome_of bytes)) (outcome_of-opened bytes _ opened)
-    (Tells-none _) c.in-Ok-tell_end.ensures.told
+    tells-end (goes_on-start c.args.national (outcome_of bytes)) (Tells-none _)
+    (outcome_of-opened bytes _ opened) c.in-Ok-tell_end.ensures.told
 
 pub returns-in-Err-tell_end-clause-read : goal.returns-in-Err-tell_end-clause-read
 returns-in-Err-tell_end-clause-read g c = λ is.
@@ -105,8 +98,7 @@ returns-in-Ok-tell_end-2-clause-told g c = λ bytes e none.
     let i = c.subtitles.invariant in
     let here = i.goes_on bytes e in
     let answer = c.in-Err-next_into.ensures.exact here.0 here.1 c.in-Ok-tell_end-2.ensures.file in
-    tells-end c.args.national (outcome_of bytes) (outcome_left c.subtitles.reader here.0)
-    c.subtitles.before _ i.early c.in-Err-next_into.fault _ _ _ _ _ here.2 answer.outcome i.told
+    tells-end here.2 i.told answer.outcome
     (rw c.block.ensures.value at c.in-Ok-tell_end-2.ensures.told)
 
 pub returns-in-Ok-tell_end-2-clause-some : goal.returns-in-Ok-tell_end-2-clause-some
@@ -115,16 +107,15 @@ returns-in-Ok-tell_end-2-clause-some g c = λ none.
     let ended : c.in-Err-next_into.fault ≢ Ended =
     λ same. let broken = rw i.reading at (c.in-Err-next_into.ensures.ended.1 (ap Err same)) in
     absurd cc in
-    of_file-end c.subtitles.reader.block i.early c.in-Err-next_into.fault _ _ _ _ i.early_told
-    c.in-Ok-tell_end-2.ensures.file ended i.told c.in-Ok-tell_end-2.ensures.told
+    of_file-end i.early c.in-Err-next_into.fault i.early_told c.in-Ok-tell_end-2.ensures.file ended
+    i.told c.in-Ok-tell_end-2.ensures.told
 
 pub returns-in-Err-tell_end-2-clause-read : goal.returns-in-Err-tell_end-2-clause-read
 returns-in-Err-tell_end-2-clause-read g c = λ is.
     let i = c.subtitles.invariant in
     let failed = c.in-Err-tell_end-2.ensures.read in
     rw (failed.1, failed.2, c.block.ensures.value)
-    (fails-next c.args.national _ _ _ c.subtitles.before _ i.early _ _ c.subtitles.reader _ i.taken
-    i.reading i.early_told i.told i.goes_on
+    (fails-next c.subtitles.reader i.taken i.reading i.early_told i.told i.goes_on
     (c.in-Err-next_into.ensures.failed i.reading (rw failed.0 refl)))
 
 pub returns-in_default-clause-told : goal.returns-in_default-clause-told
@@ -132,16 +123,17 @@ returns-in_default-clause-told g c = λ bytes e none.
     let i = c.subtitles.invariant in
     let here = i.goes_on bytes e in
     let answer = rw c.in-Ok-true.field-0-test at (c.in-Ok-true.ensures.exact here.0 here.1 refl) in
-    tells-stop c.args.national (outcome_of bytes) (outcome_left c.subtitles.reader here.0) _
-    c.subtitles.before _ i.early c.next_into.new.subtitle _ _ _ _ _ here.2 answer.outcome
-    c.in_default.ensures.stopped i.told
+    tells-stop here.2 i.told _ answer.outcome c.in_default.ensures.stopped
     (rw c.block-block.ensures.value at c.in_default.ensures.stops)
 
 pub returns-in_default-clause-some : goal.returns-in_default-clause-some
 returns-in_default-clause-some g c = λ none.
     let i = c.subtitles.invariant in
-    of_file-stopped _ _ _ i.early c.args.national c.subtitles.before c.next_into.new.subtitle
-    c.subtitles.reader.block _ i.early_told i.told c.in_default.ensures.stops
+    let read = c.in-Ok-true.ensures.subtitle i.reading (ap Ok c.in-Ok-true.field-0-test) in
+    of_file-stopped i.early _
+    (told-next c.args.national c.subtitles.before c.next_into.new.subtitle
+    c.subtitles.reader.block c.next_into.new.self.block i.early (omega (arith, read.counted))
+    i.early_told) i.told (rw c.block-block.ensures.value at c.in_default.ensures.stops)
 
 pub returns-in-Err-keep-clause-memory : goal.returns-in-Err-keep-clause-memory
 returns-in-Err-keep-clause-memory g c = λ bytes e is.
@@ -150,16 +142,40 @@ returns-in-Err-keep-clause-memory g c = λ bytes e is.
     let answer = rw c.in-Ok-true.field-0-test at (c.in-Ok-true.ensures.exact here.0 here.1 refl) in
     let refused = c.in-Err-keep.ensures.some in
     rw c.block-block.ensures.value
-    (ends-here c.args.national (outcome_of bytes) _ c.subtitles.before
-    (option_map (λ v. v.items) c.subtitles.kept) i.early c.next_into.new.subtitle _
-    (sym c.in-Ok-tell_faults.ensures.clean ∙ refused.1)
-    (some_items (λ v. v.items) c.subtitles.kept refused.2) i.are_kept
-    (rw answer.outcome at here.2))
+    (ends-here c.next_into.new.subtitle _ c.in-Ok-tell_faults.ensures.clean i.are_kept refused.1
+    (some_items (λ v. v.items) c.subtitles.kept refused.2) (rw answer.outcome at here.2))
+
+pub returns-in-Err-keep-clause-none_before : goal.returns-in-Err-keep-clause-none_before
+returns-in-Err-keep-clause-none_before g c = λ is.
+    let i = c.subtitles.invariant in
+    let refused = c.in-Err-keep.ensures.some in
+    let none =
+    told-none c.next_into.new.subtitle c.block-block.result c.in-Ok-tell_faults.ensures.clean
+    i.are_kept refused.1 (some_items (λ v. v.items) c.subtitles.kept refused.2) in
+    rw none at (Tells-trans _ _ _ i.early _ i.told c.in-Ok-tell_faults.ensures.told)
+
+pub returns-in-Err-keep-clause-some_before : goal.returns-in-Err-keep-clause-some_before
+returns-in-Err-keep-clause-some_before g c =
+    let i = c.subtitles.invariant in
+    record {
+      items = _;
+      told = Tells-trans _ _ _ i.early _ i.told c.in-Ok-tell_faults.ensures.told;
+    }
+
+pub returns-in-Ok-false-clause-none : goal.returns-in-Ok-false-clause-none
+returns-in-Ok-false-clause-none g c =
+    let i = c.subtitles.invariant in
+    if_kept (λ v. v.items) (λ _. Tells _ _ _ []) c.subtitles.kept
+    (λ records h. rw (i.are_kept records h).none at i.told)
+
+pub returns-in-Ok-false-clause-programme : goal.returns-in-Ok-false-clause-programme
+returns-in-Ok-false-clause-programme g c =
+    if_kept (λ v. v.items) (IsProgramme c.args.national) c.subtitles.kept
+    (λ records h. (c.subtitles.invariant.are_kept records h).programme)
 
 pub returns-in-Ok-false-clause-exact : goal.returns-in-Ok-false-clause-exact
 returns-in-Ok-false-clause-exact g c = λ bytes e.
-    let i = c.subtitles.invariant in
-    let here = i.goes_on bytes e in
+    let here = c.subtitles.invariant.goes_on bytes e in
     let answer =
     rw c.in-Ok-false.field-0-test at (c.in-Ok-false.ensures.exact here.0 here.1 refl) in
     let on = rw answer.outcome at here.2 in
@@ -175,8 +191,7 @@ returns-in-Ok-false-clause-told g c = λ bytes e none.
     let answer =
     rw c.in-Ok-false.field-0-test at (c.in-Ok-false.ensures.exact here.0 here.1 refl) in
     let is : c.subtitles.kept ≡ None = cc in
-    tells-none c.args.national (outcome_of bytes) c.subtitles.before _ i.early _ _ _
-    (rw answer.outcome at here.2) (i.some (rw is refl)) i.told
+    tells-none here.2 i.told answer.outcome (i.some (rw is refl))
 
 pub returns-in-Ok-false-clause-some : goal.returns-in-Ok-false-clause-some
 returns-in-Ok-false-clause-some g c = λ none.

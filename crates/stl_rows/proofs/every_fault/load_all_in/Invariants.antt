@@ -2,28 +2,24 @@
 -- the file; what is kept is a programme.
 use Rattle.std.proofs.Common.{◌≡◌, ◌-◌, ◌<◌, ℕ, true, false, List, length, Some, None}
 use Rattle.std.specs.Prelude.{option_map}
-use Rattle.std.specs.List.{list_all}
+use Rattle.std.specs.List.{All}
 use Rattle.sub_io.specs.Telling.{Tells}
 use Rattle.stl_file.specs.declared.progress.Progress.TheVariants.{Reading}
 use Rattle.stl_file.specs.Reader.{outcome_left, outcome_of}
 use Rattle.stl_file.specs.Subtitle.{SubtitleValue}
 use Rattle.stl_rows.specs.declared.fault.LoadFault.{LoadFault}
-use Rattle.stl_rows.specs.Programme.{IsProgramme}
 use Rattle.stl_rows.proofs.FailedReadLemmas.{HasTaken}
-use Rattle.stl_rows.proofs.LoadingLemmas.{AreKept, GoesOn, is_told_by}
+use Rattle.stl_rows.proofs.LoadingLemmas.{AreKept, GoesOn, IsToldBy}
 use Rattle.stl_rows.proofs.every_fault.load_all_in.Given as goal
 
 abbrev pub invariant-subtitles : goal.invariant-subtitles
 invariant-subtitles g l = record {
   early : List LoadFault;
   told : Tells g.D.Audience.is_told l.fn.audience l.audience early;
-  early_told : list_all (is_told_by l.reader.block) early ≡ true;
-  programme : (records : List SubtitleValue)
-      → option_map (λ v. v.items) l.kept ≡ Some records
-      → IsProgramme l.national records;
+  early_told : All (IsToldBy l.reader.block) early;
   are_kept : (records : List SubtitleValue)
       → option_map (λ v. v.items) l.kept ≡ Some records
-      → AreKept l.before early records;
+      → AreKept l.national l.before early records;
   some : option_map (λ v. v.items) l.kept ≡ None → 0 < length early;
   listens : g.D.Audience.has_stopped l.audience ≡ false;
   reading : l.reader.progress ≡ Reading;
