@@ -121,8 +121,8 @@ pub record IsDrawn (jc vp row : ℕ) (page : Rows) (all left : List (List ℕ)) 
   pub all_are : all ≡ done ++ left
 
 -- The blank page has none of them.
-pub is_drawn-start : (jc vp : ℕ) (all : List (List ℕ)) → IsDrawn jc vp vp blank all all
-is_drawn-start jc vp all = record {
+pub is_drawn-start : {jc vp : ℕ} {all : List (List ℕ)} → IsDrawn jc vp vp blank all all
+is_drawn-start {jc} {vp} = record {
   done = [];
   shown = page_of_none jc vp;
   next = omega arith;
@@ -130,49 +130,41 @@ is_drawn-start jc vp all = record {
 }
 
 -- Where no line has a fault the next is on the page.
-pub is_drawn-on_page : (jc vp row : ℕ) (page : Rows) (all left : List (List ℕ))
+pub is_drawn-on_page : {jc vp row : ℕ} {page : Rows} {all left : List (List ℕ)}
     → IsDrawn jc vp row page all left
     → line_faults 0 vp false all ≡ []
     → IsOnPage row (get_or left 0 [])
-is_drawn-on_page jc vp row page all left h none =
+is_drawn-on_page {vp = vp} {row} {all = all} {left} h none =
     rw (h.all_are, get_or-append-add h.done left 0 [])
     at (on_page 0 vp row false all (length h.done + 0) (omega (arith, h.next)) none)
 
--- So it fits its row.
-pub is_drawn-fits : (jc vp row : ℕ) (page : Rows) (all left : List (List ℕ)) (cells : List ℕ)
-    → 1 ≤ vp
-    → IsDrawn jc vp row page all (prepared cells ∷ left)
-    → line_faults 0 vp false all ≡ []
-    → FitsRow row cells
-is_drawn-fits jc vp row page all left cells first h none =
-    let on = is_drawn-on_page jc vp row page all (prepared cells ∷ left) h none in
-    record {
-      first = omega (arith, first, h.next);
-      last = λ some. on.last (omega (arith, some, prepared_longer cells));
-      few = on.few;
-    }
+module _ {jc vp row : ℕ} {page : Rows} {all left : List (List ℕ)} (cells : List ℕ) (first : 1 ≤ vp)
+    (h : IsDrawn jc vp row page all (prepared cells ∷ left))
+    (none : line_faults 0 vp false all ≡ []) where
+  -- So it fits its row.
+  pub is_drawn-fits : FitsRow row cells
+  is_drawn-fits =
+      let on = is_drawn-on_page h none in
+      record {
+        first = omega (arith, first, h.next);
+        last = λ some. on.last (omega (arith, some, prepared_longer cells));
+        few = on.few;
+      }
 
--- It is put.
-pub is_drawn-next : (jc vp row : ℕ) (page : Rows) (all left : List (List ℕ)) (cells : List ℕ)
-    → 1 ≤ vp
-    → IsDrawn jc vp row page all (prepared cells ∷ left)
-    → line_faults 0 vp false all ≡ []
-    → IsDrawn jc vp (row + 1) (put_line jc row cells page) all left
-is_drawn-next jc vp row page all left cells first h none =
-    let fits = is_drawn-fits jc vp row page all left cells first h none in
-    record {
-      done = h.done ++ prepared cells ∷ [];
-      shown =
-          rw (h.next, h.shown) (put_line-page jc vp h.done cells (rw h.next at fits));
-      next = omega (arith, h.next, length-append h.done (prepared cells ∷ []));
-      all_are = h.all_are ∙ sym (append_assoc h.done (prepared cells ∷ []) left);
-    }
+  -- It is put.
+  pub is_drawn-next : IsDrawn jc vp (row + 1) (put_line jc row cells page) all left
+  is_drawn-next = record {
+    done = h.done ++ prepared cells ∷ [];
+    shown = rw (h.next, h.shown) (put_line-page jc vp h.done cells (rw h.next at is_drawn-fits));
+    next = omega (arith, h.next, length-append h.done (prepared cells ∷ []));
+    all_are = h.all_are ∙ sym (append_assoc h.done (prepared cells ∷ []) left);
+  }
 
 -- Where none is left the page shows all.
-pub is_drawn-end : (jc vp row : ℕ) (page : Rows) (all : List (List ℕ))
+pub is_drawn-end : {jc vp row : ℕ} {page : Rows} {all : List (List ℕ)}
     → IsDrawn jc vp row page all []
     → page_of_lines jc vp all ≡ page
-is_drawn-end jc vp row page all h = rw (h.all_are, append-nil) (sym h.shown)
+is_drawn-end h = rw (h.all_are, append-nil) (sym h.shown)
 
 -- ---- faults
 

@@ -1,8 +1,8 @@
 -- The first of all faults is the one that `load` tells; main lemmas: every_fault, tells-first,
 -- none-told.
-use Rattle.std.proofs.Common.{◌≡◌, ℕ, List, [], ◌∷◌, ◌++◌, map, Option, Some, None}
+use Rattle.std.proofs.Common.{◌≡◌, ℕ, List, ◌∷◌, ◌++◌, map, Option, Some, None, []}
 use Rattle.std.proofs.Common.{Result, Ok, Err, refl, ap, sym, zero, suc, ◌<◌, ◌≤◌, ◌⊎◌, Bool, true}
-use Rattle.std.proofs.Common.{false, inl, inr, arith, take, cond}
+use Rattle.std.proofs.Common.{false, inl, inr, arith, take}
 use Rattle.std.proofs.lemmas.Bool.Decides.{nat_tests}
 use Rattle.std.specs.Prelude.{◌↔◌, ◌≢◌, IsOk, is_some, option_map}
 use Rattle.std.specs.List.{filter, list_all}

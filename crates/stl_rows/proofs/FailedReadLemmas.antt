@@ -1,5 +1,5 @@
 -- Where the source fails, and what was told before; main lemma: fails-next.
-use Rattle.std.proofs.Common.{◌≡◌, ℕ, ◌+◌, ◌*◌, ◌/◌, true, List, [], ◌∷◌, ◌++◌, length, Option}
+use Rattle.std.proofs.Common.{◌≡◌, ℕ, ◌+◌, ◌*◌, ◌/◌, List, ◌∷◌, ◌++◌, length, Option, []}
 use Rattle.std.proofs.Common.{Some, None, refl, ◌∙◌, arith, length-append}
 use Rattle.std.specs.Io.KnownBytes.{Consumes}
 use Rattle.std.specs.List.{All, filter}

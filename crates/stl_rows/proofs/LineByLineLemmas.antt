@@ -1,6 +1,6 @@
 -- The lines of a text as its text codes are read one by one: what each code does to them, as
 -- prepared_lines-cell.
-use Rattle.std.proofs.Common.{◌≡◌, ℕ, zero, suc, ◌≤◌, List, [], ◌∷◌, ◌++◌, map, length, drop, refl}
+use Rattle.std.proofs.Common.{◌≡◌, ℕ, zero, suc, ◌≤◌, List, ◌∷◌, ◌++◌, map, length, drop, refl, []}
 use Rattle.std.proofs.Common.{ap, arith, length-append, lit<, ◌∙◌}
 use Rattle.std.proofs.lemmas.Bool.Decides.{nat_tests}
 use Rattle.std.proofs.lemmas.List.{at_drop_all}
@@ -30,21 +30,21 @@ onto_code (c ∷ cells) code lines = ap (onto_first c) (onto_code cells code lin
 -- ---- one text code
 
 -- A cell comes after those before it.
-pub prepared_lines-cell : (cells : List ℕ) (at code : ℕ) (s : TextCode)
-    (ss rest : List (ℕ × TextCode))
+pub prepared_lines-cell : (cells : List ℕ) {at code : ℕ} {s : TextCode}
+    {ss rest : List (ℕ × TextCode)}
     → ss ≡ (at, s) ∷ rest
     → s ≡ Cell code
     → prepared_lines cells ss ≡ prepared_lines (cells ++ code ∷ []) rest
-prepared_lines-cell cells at code s ss rest step is =
-    rw (step, is) (ap (map prepared) (onto_code cells code (lines_of rest)))
+prepared_lines-cell cells {rest = rest} step is =
+    rw (step, is) (ap (map prepared) (onto_code cells _ (lines_of rest)))
 
 -- A new line ends the line.
-pub prepared_lines-line_end : (cells : List ℕ) (at : ℕ) (s : TextCode)
-    (ss rest : List (ℕ × TextCode))
+pub prepared_lines-line_end : (cells : List ℕ) {at : ℕ} {s : TextCode}
+    {ss rest : List (ℕ × TextCode)}
     → ss ≡ (at, s) ∷ rest
     → s ≡ NewLine
     → prepared_lines cells ss ≡ prepared cells ∷ prepared_lines [] rest
-prepared_lines-line_end cells at s ss rest step is =
+prepared_lines-line_end cells {rest = rest} step is =
     rw (step, is) (ap (map prepared) (onto_line_end cells (lines_of rest)))
 
 -- The end of the text ends the last line.

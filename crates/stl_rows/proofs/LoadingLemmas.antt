@@ -1,8 +1,8 @@
 -- What is left of a file after some of its subtitles, and what was told of these; main lemmas:
 -- goes_on-next, tells-stopped, tells-unread.
-use Rattle.std.proofs.Common.{◌≡◌, ◌<◌, ◌≤◌, ◌+◌, ℕ, suc, Bool, true, false, List, [], ◌∷◌, ◌++◌}
-use Rattle.std.proofs.Common.{drop, take, length, map, Option, Some, None, Result, Ok, Err, refl}
-use Rattle.std.proofs.Common.{sym, ◌∙◌, ap, inl, inr, arith, zero, length-take, subst}
+use Rattle.std.proofs.Common.{◌≡◌, ◌<◌, ◌≤◌, ◌+◌, ℕ, Bool, true, false, List, ◌∷◌, ◌++◌, []}
+use Rattle.std.proofs.Common.{drop, take, length, map, Option, Some, None, Result, refl}
+use Rattle.std.proofs.Common.{sym, ◌∙◌, ap, inl, inr, arith, length-take}
 use Rattle.std.proofs.Common.{append_assoc, append-nil, length-append}
 use Rattle.std.proofs.Math.Seq.{take-append-add, take-length}
 use Rattle.std.proofs.lemmas.Bool.Decides.{nat_tests}
@@ -11,7 +11,7 @@ use Rattle.std.proofs.lemmas.List.Elements.{All-weaker, filter-append}
 use Rattle.std.proofs.lemmas.List.Sums.{AllPass-from_list_all, list_all-from_AllPass}
 use Rattle.std.proofs.lemmas.List.Folds.{list_all-append}
 use Rattle.std.specs.Prelude.{All, ◌≢◌, is_none, option_map, IfSome}
-use Rattle.std.proofs.lemmas.List.{length-map, map-append}
+use Rattle.std.proofs.lemmas.List.{map-append}
 use Rattle.std.specs.List.{filter, list_all}
 use lib.Seq.{take-append-le}
 use Rattle.sub_io.specs.Telling.{Tells, first_alone}
@@ -27,7 +27,7 @@ use Rattle.ttx_page.specs.Page.{Rows}
 use Rattle.stl_rows.specs.declared.national.National.{National}
 use Rattle.stl_rows.specs.declared.fault.LoadFault.{LoadFault}
 use Rattle.stl_rows.specs.declared.fault.LoadFaultKind.{LoadFaultKind}
-use Rattle.stl_rows.specs.declared.fault.LoadFaultKind.TheVariants.{File, Memory, OutOfOrder}
+use Rattle.stl_rows.specs.declared.fault.LoadFaultKind.TheVariants.{File, OutOfOrder}
 use Rattle.stl_rows.specs.declared.fault.LoadFaultKind.TheVariants.{Overlap, Row}
 use Rattle.stl_rows.specs.declared.fault.RowFault.{RowFault}
 use Rattle.stl_rows.specs.declared.times.Times.{Times}
@@ -87,7 +87,8 @@ pub told-next : (national : National) (before : Option Times) (t : SubtitleValue
     → All (IsToldBy to) (early ++ map (load_fault to) (follow_faults national before t))
 told-next national before t from to early le h =
     All-append (IsToldBy to) early (map (load_fault to) (follow_faults national before t))
-    (All-weaker (IsToldBy from) (IsToldBy to) (λ f told. (told.0, omega (arith, le, told.1))) early h)
+    (All-weaker (IsToldBy from) (IsToldBy to) (λ f told. (told.0, omega (arith, le, told.1))) early
+    h)
     (at_block national before t to)
 
 -- These are faults of the file.

@@ -1,6 +1,6 @@
 -- Each due page is a page, 24 rows of 40 codes below 128: due_is_page.
-use Rattle.std.proofs.Common.{ℕ, zero, suc, ◌+◌, ◌-◌, ◌<◌, not, ◌&&◌, ◌==◌, nat_le, nat_lt, List}
-use Rattle.std.proofs.Common.{[], ◌∷◌, ◌++◌, map, get_or, Option, Some, None, refl, arith, lit<}
+use Rattle.std.proofs.Common.{ℕ, zero, suc, ◌+◌, ◌-◌, ◌<◌, not, ◌&&◌, nat_lt, List, []}
+use Rattle.std.proofs.Common.{◌∷◌, ◌++◌, map, get_or, Option, Some, None, refl, arith, lit<}
 use Rattle.std.specs.List.{range_with_len, AllByRecursion}
 use Rattle.std.specs.Prelude.{IfSome}
 use Rattle.std.proofs.lemmas.Bool.{cond_both}
@@ -16,8 +16,8 @@ use Rattle.stl_rows.specs.DuePage.{due}
 use Rattle.stl_rows.specs.Line.{has_cells, is_boxed, prepared, row_of}
 use Rattle.stl_rows.specs.TextCode.{CellEntry, HasSevenBits, cell_in, cell_of, cell_of_letter}
 use Rattle.stl_rows.specs.TextCode.{cell_of_pair, cell_or_other, cells, code_before, text_code}
-use Rattle.stl_rows.specs.TextCode.{code_of_other, codes_after, diaeresis, diaeresis_cells}
-use Rattle.stl_rows.specs.TextCode.{first_of, is_control, is_no_cell, lines_of, new_line}
+use Rattle.stl_rows.specs.TextCode.{code_of_other, codes_after, diaeresis_cells}
+use Rattle.stl_rows.specs.TextCode.{first_of, lines_of}
 use Rattle.stl_rows.specs.TextCode.{pair_or_single, text_codes, with_code}
 use Rattle.stl_rows.specs.declared.national.National.{National}
 use Rattle.stl_rows.specs.declared.national.National.TheVariants.{English, German}

@@ -1,5 +1,5 @@
 -- Where the loop meets a cell, a new line or the end: the lemmas of DrawnPageLemmas.
-use Rattle.std.proofs.Common.{arith, rules, length-append, [], ◌∷◌, ◌++◌}
+use Rattle.std.proofs.Common.{arith, rules, length-append, ◌∷◌, ◌++◌, []}
 use Rattle.stl_rows.proofs.DrawnPageLemmas.{is_drawn-end, is_drawn-fits, is_drawn-next}
 use Rattle.stl_rows.proofs.DrawnPageLemmas.{is_drawn-on_page, is_drawn-start}
 use Rattle.stl_rows.proofs.FaultlessLemmas.{few_cells}
@@ -13,16 +13,14 @@ loop-at-init c = record {
   rows = omega arith;
   codes = search rules;
   drawn =
-      rw (c.blank-page.ensures, c.from-row.ensures, c.new-cells.ensures)
-      (is_drawn-start c.args.jc c.args.vp _);
+      rw (c.blank-page.ensures, c.from-row.ensures, c.new-cells.ensures) is_drawn-start;
 }
 
 pub push_cell-requires : goal.push_cell-requires
 push_cell-requires c =
     let cells = c.loop-at.cells.items in
-    let lines = prepared_lines-cell cells _ _ _ _ _ c.text_code_at-code.ensures.step c.in-Cell.is in
-    let on =
-    is_drawn-on_page _ _ _ _ _ _ (rw lines at c.loop-at.invariant.drawn) c.requires.whole in
+    let lines = prepared_lines-cell cells c.text_code_at-code.ensures.step c.in-Cell.is in
+    let on = is_drawn-on_page (rw lines at c.loop-at.invariant.drawn) c.requires.whole in
     let code = c.in-Cell.cell ∷ [] in
     omega (arith, few_cells _ (cells ++ code) _ on, length-append cells code)
 
@@ -30,7 +28,7 @@ pub loop-at-preserved-in-Cell : goal.loop-at-preserved-in-Cell
 loop-at-preserved-in-Cell c =
     let i = c.loop-at.invariant in
     let code = c.text_code_at-code.ensures in
-    let lines = prepared_lines-cell c.loop-at.cells.items _ _ _ _ _ code.step c.in-Cell.is in
+    let lines = prepared_lines-cell c.loop-at.cells.items code.step c.in-Cell.is in
     rw c.push_cell.ensures (record {
       within = search rules;
       rows = omega (arith, i.rows, code.rises);
@@ -41,10 +39,9 @@ loop-at-preserved-in-Cell c =
 pub put_line-requires-clause-fits : goal.put_line-requires-clause-fits
 put_line-requires-clause-fits c =
     let cells = c.loop-at.cells.items in
-    let lines =
-    prepared_lines-line_end cells _ _ _ _ c.text_code_at-code.ensures.step c.in-NewLine.is in
+    let lines = prepared_lines-line_end cells c.text_code_at-code.ensures.step c.in-NewLine.is in
     rw c.as_slice.ensures.value
-    (is_drawn-fits _ _ _ _ _ _ cells c.requires.first (rw lines at c.loop-at.invariant.drawn)
+    (is_drawn-fits cells c.requires.first (rw lines at c.loop-at.invariant.drawn)
     c.requires.whole)
 
 pub loop-at-preserved-in-NewLine : goal.loop-at-preserved-in-NewLine
@@ -52,14 +49,12 @@ loop-at-preserved-in-NewLine c =
     let i = c.loop-at.invariant in
     let code = c.text_code_at-code.ensures in
     let cells = c.loop-at.cells.items in
-    let lines = prepared_lines-line_end cells _ _ _ _ code.step c.in-NewLine.is in
+    let lines = prepared_lines-line_end cells code.step c.in-NewLine.is in
     rw (c.clear.ensures, c.put_line.ensures, c.as_slice.ensures.value) (record {
       within = search rules;
       rows = omega (arith, i.rows, code.rises);
       codes = search rules;
-      drawn =
-          is_drawn-next _ _ _ _ _ _ cells c.requires.first (rw lines at i.drawn)
-          c.requires.whole;
+      drawn = is_drawn-next cells c.requires.first (rw lines at i.drawn) c.requires.whole;
     })
 
 pub put_line-requires-2-clause-fits : goal.put_line-requires-2-clause-fits
@@ -68,7 +63,7 @@ put_line-requires-2-clause-fits c =
     let lines = prepared_lines-end c.args.national cells c.loop-at.at c.args.text.now
     (omega arith) in
     rw c.as_slice-2.ensures.value
-    (is_drawn-fits _ _ _ _ _ _ cells c.requires.first (rw lines at c.loop-at.invariant.drawn)
+    (is_drawn-fits cells c.requires.first (rw lines at c.loop-at.invariant.drawn)
     c.requires.whole)
 
 pub returns : goal.returns
@@ -77,6 +72,6 @@ returns c =
     let lines = prepared_lines-end c.args.national cells c.loop-at.at c.args.text.now
     (omega arith) in
     rw (c.put_line-2.ensures, c.as_slice-2.ensures.value)
-    (is_drawn-end _ _ _ _ _
-    (is_drawn-next _ _ _ _ _ _ cells c.requires.first (rw lines at c.loop-at.invariant.drawn)
+    (is_drawn-end
+    (is_drawn-next cells c.requires.first (rw lines at c.loop-at.invariant.drawn)
     c.requires.whole))

@@ -1,14 +1,14 @@
 -- What was told and what is left to be told, at each step of the loop and at each way out:
 -- goes_on-next, tells-end, tells-stop, fails-next.
-use Rattle.std.proofs.Common.{◌≡◌, [], ◌++◌, Some, None, Ok, Err, refl, rules, ap}
+use Rattle.std.proofs.Common.{◌≡◌, ◌++◌, None, Ok, Err, refl, rules, ap, []}
 use Rattle.std.proofs.Common.{sym, drop, map, ◌∙◌, arith}
 use Rattle.std.proofs.lemmas.Bool.{lt-ltb}
-use Rattle.std.specs.Prelude.{◌≢◌, option_map}
+use Rattle.std.specs.Prelude.{◌≢◌}
 use Rattle.sub_io.proofs.TellingLemmas.{Tells-none, Tells-trans}
 use Rattle.sub_io.specs.Telling.{Tells}
 use Rattle.stl_file.specs.declared.fault.StlFault.TheVariants.{Ended}
 use Rattle.stl_file.specs.Gsi.{gsi_size}
-use Rattle.stl_file.specs.Reader.{outcome_left, outcome_of}
+use Rattle.stl_file.specs.Reader.{outcome_of}
 use Rattle.stl_rows.specs.Loading.{load_fault, loaded}
 use Rattle.stl_rows.specs.Programme.{IsProgramme, follow_faults}
 use Rattle.std.proofs.lemmas.List.Elements.{All-nil}

@@ -1,6 +1,6 @@
 -- What was told of the subtitles so far, and what is wrong with the rest, is all that is wrong with
 -- the file; what is kept is a programme.
-use Rattle.std.proofs.Common.{◌≡◌, ◌-◌, ◌<◌, ℕ, true, false, List, length, Some, None}
+use Rattle.std.proofs.Common.{◌≡◌, ◌-◌, ◌<◌, ℕ, false, List, length, Some, None}
 use Rattle.std.specs.Prelude.{option_map}
 use Rattle.std.specs.List.{All}
 use Rattle.sub_io.specs.Telling.{Tells}

@@ -1,6 +1,6 @@
 -- The first fault that is told is what comes of the file: tells-first; and where the source failed
 -- there is none before: none-told.
-use Rattle.std.proofs.Common.{ap, ◌∙◌, sym}
+use Rattle.std.proofs.Common.{ap, ◌∙◌, rules, sym}
 use Rattle.std.specs.Prelude.{None, Ok}
 use Rattle.stl_file.specs.Reader.{outcome_of}
 use Rattle.stl_rows.proofs.EveryFaultLemmas.{first-not_read, first-of_file, none-told, tells-first}
@@ -20,36 +20,24 @@ unreachable-requires g c =
     let none = one.1 in
     cc
 
-pub returns-in-Some-clause-never : goal.returns-in-Some-clause-never
-returns-in-Some-clause-never g c =
-    (first-not_read _ _ c.in-Some.fault c.new-first.ensures
-    (sym c.into_first.ensures ∙ c.in-Some.is)
-    (c.in-Ok-None.ensures.some (ap Ok c.in-Ok-None.field-0-is))).0
-
-pub returns-in-Some-clause-read : goal.returns-in-Some-clause-read
-returns-in-Some-clause-read g c = λ is.
-    let no =
-    first-not_read _ _ c.in-Some.fault c.new-first.ensures
-    (sym c.into_first.ensures ∙ c.in-Some.is)
-    (c.in-Ok-None.ensures.some (ap Ok c.in-Ok-None.field-0-is)) in
-    let not_read = no.1 in
-    cc
-
-pub returns-in-Some-clause-count : goal.returns-in-Some-clause-count
-returns-in-Some-clause-count g c =
-    let no =
-    first-not_read _ _ c.in-Some.fault c.new-first.ensures
-    (sym c.into_first.ensures ∙ c.in-Some.is)
-    (c.in-Ok-None.ensures.some (ap Ok c.in-Ok-None.field-0-is)) in
-    rw no.1 c.in-Ok-None.ensures.count
-
-pub returns-in-Some-clause-fault : goal.returns-in-Some-clause-fault
-returns-in-Some-clause-fault g c = λ bytes e.
-    let told = sym c.into_first.ensures ∙ c.in-Some.is in
+pub returns-in-Some : goal.returns-in-Some
+returns-in-Some g c =
+    let first = sym c.into_first.ensures ∙ c.in-Some.is in
     let none = ap Ok c.in-Ok-None.field-0-is in
-    tells-first c.args.national (outcome_of bytes) c.in-Some.fault _
-    (rw (c.new-first.ensures, told) at (c.in-Ok-None.ensures.told bytes e none))
-    (rw (c.new-first.ensures, told) at (c.in-Ok-None.ensures.some none))
+    let of_file = c.in-Ok-None.ensures.some none in
+    let own = first-not_read _ _ c.in-Some.fault c.new-first.ensures first of_file in
+    let not_read = own.1 in
+    record {
+      exact = search rules;
+      fault = λ bytes e.
+          tells-first c.args.national (outcome_of bytes) c.in-Some.fault _
+          (rw (c.new-first.ensures, first) at (c.in-Ok-None.ensures.told bytes e none))
+          (rw (c.new-first.ensures, first) at of_file);
+      never = own.0;
+      programme = search rules;
+      read = λ is. absurd cc;
+      count = rw own.1 c.in-Ok-None.ensures.count;
+    }
 
 pub returns-in-Err-clause-read : goal.returns-in-Err-clause-read
 returns-in-Err-clause-read g c = λ is.
