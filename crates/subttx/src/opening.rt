@@ -2,7 +2,8 @@
 //!
 //! What is opened is handed on as files alone, so that no function that asks the system for files
 //! has a device or the lines in it.
-ghost use Rattle.std.specs.Prelude.{◌≡◌, ◌≤◌, IfSome, vec_len};
+ghost use Rattle.std.specs.Prelude.{◌≡◌, ◌≤◌, IfSome, true, vec_len};
+ghost use Rattle.subttx.specs.Opening.{are_of};
 
 use crate::apart::{is_apart, look_up};
 use std::alloc::Global;
@@ -45,7 +46,9 @@ pub fn size_of_rooms(names: &FileNames<'_>) -> usize
 
 /// Opens the files, in the order of the words, and creates the one that is written. At the first
 /// that fails it opens no more, and answers `None`.
-pub fn open<R: Files>(rt: &R, names: &FileNames<'_>) -> Option<Opened<R::File>> {
+pub fn open<R: Files>(rt: &R, names: &FileNames<'_>) -> Option<Opened<R::File>>
+    ensures { IfSome result (λ files. are_of names.now files ≡ true) }
+{
     match names {
         FileNames::None => Some(Opened::Nothing),
         FileNames::ReadStl(stl) => Some(Opened::Read(open_stl(rt, stl)?)),
