@@ -1,5 +1,7 @@
 -- What is answered over sources, told without what they are.
-use Rattle.std.proofs.Common.{ℕ, List, true, false, refl}
+use Rattle.std.proofs.Common.{◌≡◌, ℕ, List, [], Option, None, Some, true, false, ap, refl}
+use Rattle.std.proofs.lemmas.List.{append-nil}
+use Rattle.std.specs.Io.KnownBytes.{append_known}
 use Rattle.stl_rows.specs.declared.national.National.{National}
 use Rattle.sub_plan.specs.Options.{OptionsValue}
 use Rattle.sub_answer.specs.Answering.{Answers, AnswersCheck, EndsWork}
@@ -10,7 +12,13 @@ use Rattle.sub_answer.specs.Writing.{Work}
 use Rattle.sub_answer.specs.declared.status.Status.{Status}
 use Rattle.sub_request.specs.declared.request.Request.{Request}
 use Rattle.sub_request.specs.declared.request.Request.TheVariants as ask
-use Rattle.subttx.specs.Ending.{Ends, EndsFrom, EndsWith, Lines, forgotten}
+use Rattle.subttx.specs.Ending.{EndsFrom, EndsFromBoth, EndsOver, EndsWith, EndsWithFile, Given}
+use Rattle.subttx.specs.Ending.{Lines, forgotten}
+
+-- Nothing after the bytes that are known: so a sink tells that holds none back.
+pub append_known-nil : (known : Option (List ℕ)) → append_known known [] ≡ known
+append_known-nil None = refl
+append_known-nil (Some bytes) = ap Some (append-nil bytes)
 
 -- What is listed of a source, without what the source is.
 listing-forgotten :
@@ -159,40 +167,88 @@ second-forgotten (ask.Check stl pes options national false) first second file ou
     check-second-forgotten national options first second out status is
 second-forgotten (ask.Listen pes listening) first second file out status is = is
 
--- How a run ends, of its first source alone.
-pub ends_from :
+-- How a run ends, without what the second source is.
+ends-second_forgotten :
     {S T : Type 0} (request : Request) (first : SourceCall S) (second : SourceCall T)
     (file : SinkCall) (old new : Lines) (result : Status)
     → EndsWith request first second file old new result
-    → EndsFrom request first old new result
-ends_from request first second file old new result is = record {
-  second = forgotten second;
-  file = file;
-  ends = record {
-    status = is.status;
-    written = is.written;
-    printed = is.printed;
-    answers = second-forgotten request first second _ _ is.status is.answers;
-    handed_on = is.handed_on;
-  };
+    → EndsWith request first (forgotten second) file old new result
+ends-second_forgotten request first second file old new result is = record {
+  status = is.status;
+  written = is.written;
+  printed = is.printed;
+  answers = second-forgotten request first second _ _ is.status is.answers;
+  handed_on = is.handed_on;
 }
 
--- How a run ends, of its lines alone.
-pub ends_at_all :
-    {S : Type 0} (request : Request) (first : SourceCall S) (old new : Lines) (result : Status)
+-- How a run ends, without what the first source is.
+ends-first_forgotten :
+    {S T : Type 0} (request : Request) (first : SourceCall S) (second : SourceCall T)
+    (file : SinkCall) (old new : Lines) (result : Status)
+    → EndsWith request first second file old new result
+    → EndsWith request (forgotten first) second file old new result
+ends-first_forgotten request first second file old new result is = record {
+  status = is.status;
+  written = is.written;
+  printed = is.printed;
+  answers = first-forgotten request first second _ _ is.status is.answers;
+  handed_on = is.handed_on;
+}
+
+-- How a run ends whose file was empty, of its two sources.
+pub ends_from_both :
+    {S T : Type 0} (request : Request) (first : SourceCall S) (second : SourceCall T)
+    (file : SinkCall) (old new : Lines) (result : Status)
+    → EndsWith request first second file old new result
+    → file.old ≡ Some []
+    → EndsFromBoth request first second old new result
+ends_from_both request first second file old new result is is_empty =
+    record { file = file; file_is_empty = is_empty; ends = is }
+
+-- How a run ends whose second source and file were empty, of the first source.
+pub ends_from :
+    {S T : Type 0} (request : Request) (first : SourceCall S) (second : SourceCall T)
+    (old new : Lines) (result : Status)
+    → EndsFromBoth request first second old new result
+    → second.told ≡ Some []
     → EndsFrom request first old new result
-    → Ends request old new result
-ends_at_all request first old new result is = (
-  forgotten first,
-  record {
-    second = is.second;
-    file = is.file;
-    ends = record {
-      status = is.ends.status;
-      written = is.ends.written;
-      printed = is.ends.printed;
-      answers = first-forgotten request first is.second _ _ is.ends.status is.ends.answers;
-      handed_on = is.ends.handed_on;
-    };
-  },
-)
+ends_from request first second old new result is is_empty = record {
+  second = forgotten second;
+  second_is_empty = is_empty;
+  file = is.file;
+  file_is_empty = is.file_is_empty;
+  ends = ends-second_forgotten request first second is.file old new result is.ends;
+}
+
+-- How a run ends whose second source was empty, of the first source and of the file.
+pub ends_with_file :
+    {S T : Type 0} (request : Request) (first : SourceCall S) (second : SourceCall T)
+    (file : SinkCall) (old new : Lines) (result : Status)
+    → EndsWith request first second file old new result
+    → second.told ≡ Some []
+    → EndsWithFile request first file old new result
+ends_with_file request first second file old new result is is_empty = record {
+  second = forgotten second;
+  second_is_empty = is_empty;
+  ends = ends-second_forgotten request first second file old new result is;
+}
+
+-- How a run ends, of what its devices told before.
+pub ends_over :
+    {S T : Type 0} (request : Request) (first : SourceCall S) (second : SourceCall T)
+    (file : SinkCall) (given : Given) (old new : Lines) (result : Status)
+    → EndsWith request first second file old new result
+    → first.told ≡ given.first
+    → second.told ≡ given.second
+    → file.old ≡ given.file
+    → EndsOver request given old new result
+ends_over request first second file given old new result is first_is second_is file_is = record {
+  first = forgotten first;
+  first_is = first_is;
+  second = forgotten second;
+  second_is = second_is;
+  file = file;
+  file_is = file_is;
+  ends = ends-first_forgotten request first (forgotten second) file old new result
+      (ends-second_forgotten request first second file old new result is);
+}

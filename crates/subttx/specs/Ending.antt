@@ -1,5 +1,5 @@
 -- How a run of the program ends: what was answered, what was handed on, and the status.
-use Rattle.std.specs.Prelude.{◌≡◌, ◌⊎◌, ⊤, ℕ, ◌+◌, List, [], Option}
+use Rattle.std.specs.Prelude.{◌≡◌, ◌⊎◌, ⊤, ℕ, ◌+◌, List, [], Option, Some}
 use Rattle.std.specs.Io.KnownBytes.{Keeps, append_known}
 use Rattle.clap.specs.Words.{Text}
 use Rattle.sub_io.specs.Buffered.{HeldBack, failures_and_refused}
@@ -9,6 +9,8 @@ use Rattle.sub_answer.specs.Answering.{Answers}
 use Rattle.sub_answer.specs.DeviceCall.{SinkCall, SourceCall, sink_call}
 use Rattle.sub_answer.specs.declared.status.Status.{Status}
 use Rattle.sub_answer.specs.declared.status.Status.TheVariants.{Fault}
+use Rattle.subttx.specs.declared.opening.Opened.{Opened}
+use Rattle.subttx.specs.declared.opening.Opened.TheVariants.{Nothing, Read, ReadBoth, Write}
 
 -- A sink behind a buffer, by what it has taken, what it holds back of that, and how often it has
 -- failed.
@@ -61,6 +63,16 @@ pub record EndsWith
       status
   pub handed_on : HandsOnLines printed status new result
 
+-- A request was answered of two sources and of a file that was empty, and then the lines were
+-- handed on.
+pub record EndsFromBoth
+    {S T : Type 0} (request : Request) (first : SourceCall S) (second : SourceCall T)
+    (old new : Lines) (result : Status)
+    : Type 0 where
+  pub file : SinkCall
+  pub file_is_empty : file.old ≡ Some []
+  pub ends : EndsWith request first second file old new result
+
 -- A source of which only what it told and how often it failed is kept.
 abbrev pub forgotten : {S : Type 0} → SourceCall S → SourceCall ⊤
 forgotten s = record {
@@ -72,17 +84,62 @@ forgotten s = record {
   new_count = s.new_count;
 }
 
--- The same, of a first source alone: what the others are is forgotten.
+-- A request was answered of one source, beside an empty one and a file that was empty, and then the
+-- lines were handed on.
 pub record EndsFrom
     {S : Type 0} (request : Request) (first : SourceCall S) (old new : Lines) (result : Status)
     : Type 0 where
   pub second : SourceCall ⊤
+  pub second_is_empty : second.told ≡ Some []
   pub file : SinkCall
+  pub file_is_empty : file.old ≡ Some []
   pub ends : EndsWith request first second file old new result
 
--- The same of no device but the lines.
+-- A request was answered of one source, beside an empty one, and of a file, and then the lines were
+-- handed on.
+pub record EndsWithFile
+    {S : Type 0} (request : Request) (first : SourceCall S) (file : SinkCall) (old new : Lines)
+    (result : Status)
+    : Type 0 where
+  pub second : SourceCall ⊤
+  pub second_is_empty : second.told ≡ Some []
+  pub ends : EndsWith request first second file old new result
+
+-- What devices tell before a request is answered of them: the bytes that the sources have to give,
+-- and those that the file has taken.
+pub record Given : Type 0 where
+  pub first : Option (List ℕ)
+  pub second : Option (List ℕ)
+  pub file : Option (List ℕ)
+
+-- A request was answered of devices of which no more is kept than what they told before, and then
+-- the lines were handed on.
+pub record EndsOver (request : Request) (given : Given) (old new : Lines) (result : Status)
+    : Type 0 where
+  pub first : SourceCall ⊤
+  pub first_is : first.told ≡ given.first
+  pub second : SourceCall ⊤
+  pub second_is : second.told ≡ given.second
+  pub file : SinkCall
+  pub file_is : file.old ≡ given.file
+  pub ends : EndsWith request first second file old new result
+
+-- What is told of the files that were opened, by what a file tells that is read, and one that is
+-- written. An empty device stands for each that was not.
+abbrev pub given_by :
+    {F : Type 0} → (F → Option (List ℕ)) → (F → Option (List ℕ)) → Opened F → Given
+given_by remaining contents Nothing =
+    record { first = Some []; second = Some []; file = Some [] }
+given_by remaining contents (Read file) =
+    record { first = remaining file; second = Some []; file = Some [] }
+given_by remaining contents (ReadBoth stl pes) =
+    record { first = remaining stl; second = remaining pes; file = Some [] }
+given_by remaining contents (Write stl output) =
+    record { first = remaining stl; second = Some []; file = contents output }
+
+-- A request was answered of some devices, and then the lines were handed on.
 abbrev pub Ends : Request → Lines → Lines → Status → Type 0
-Ends request old new result = (first : SourceCall ⊤) × EndsFrom request first old new result
+Ends request old new result = (given : Given) × EndsOver request given old new result
 
 -- Words asked for a request, and it was answered so.
 pub record Answered (old new : Lines) (result : Status) : Type 0 where

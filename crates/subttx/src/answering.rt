@@ -1,7 +1,7 @@
 //! Answers a request over the files that it names: a function for each way of opening them.
-ghost use Rattle.std.specs.Prelude.{◌≡◌, ◌≤◌, length};
+ghost use Rattle.std.specs.Prelude.{◌≡◌, ◌≤◌, [], Some, length};
 ghost use Rattle.sub_io.specs.Buffered.{failures_and_refused};
-ghost use Rattle.subttx.specs.Ending.{Ends, lines_of};
+ghost use Rattle.subttx.specs.Ending.{EndsOver, given_by, lines_of};
 
 use crate::ending::{answer_from, answer_pair, answer_with_file};
 use crate::opening::Opened;
@@ -21,7 +21,8 @@ pub fn answer_opened<F: Read + Write + Drop, K: Sink>(
 ) -> Status
     requires rooms { 2 ≤ length rooms.old }
     requires out { failures_and_refused (K.failure_count out.old.device) out.old.refused ≡ 0 }
-    ensures { Ends request.now (lines_of K.contents K.failure_count out.old)
+    ensures { EndsOver request.now (given_by F.remaining F.contents files)
+        (lines_of K.contents K.failure_count out.old)
         (lines_of K.contents K.failure_count out.new) result }
 {
     match files {
@@ -39,7 +40,9 @@ fn read_nothing<K: Sink>(
     out: &mut BufferedSink<'_, K>,
 ) -> Status
     requires { failures_and_refused (K.failure_count out.old.device) out.old.refused ≡ 0 }
-    ensures { Ends request.now (lines_of K.contents K.failure_count out.old)
+    ensures { EndsOver request.now
+        (record { first = Some []; second = Some []; file = Some [] })
+        (lines_of K.contents K.failure_count out.old)
         (lines_of K.contents K.failure_count out.new) result }
 {
     answer_from(alloc, request, &mut MemSource::new(&[]), out)
@@ -55,7 +58,9 @@ fn read_one<F: Read + Drop, K: Sink>(
 ) -> Status
     requires room { 2 ≤ length room.old }
     requires out { failures_and_refused (K.failure_count out.old.device) out.old.refused ≡ 0 }
-    ensures { Ends request.now (lines_of K.contents K.failure_count out.old)
+    ensures { EndsOver request.now
+        (record { first = F.remaining file; second = Some []; file = Some [] })
+        (lines_of K.contents K.failure_count out.old)
         (lines_of K.contents K.failure_count out.new) result }
 {
     let mut first = BufferedSource::new(FromRead::new(file), room);
@@ -73,7 +78,9 @@ fn read_both<F: Read + Drop, K: Sink>(
 ) -> Status
     requires rooms { 2 ≤ length rooms.old }
     requires out { failures_and_refused (K.failure_count out.old.device) out.old.refused ≡ 0 }
-    ensures { Ends request.now (lines_of K.contents K.failure_count out.old)
+    ensures { EndsOver request.now
+        (record { first = F.remaining stl; second = F.remaining pes; file = Some [] })
+        (lines_of K.contents K.failure_count out.old)
         (lines_of K.contents K.failure_count out.new) result }
 {
     let half = rooms.len() / 2;
@@ -94,7 +101,9 @@ fn read_and_write<F: Read + Drop, W: Write + Drop, K: Sink>(
 ) -> Status
     requires rooms { 2 ≤ length rooms.old }
     requires out { failures_and_refused (K.failure_count out.old.device) out.old.refused ≡ 0 }
-    ensures { Ends request.now (lines_of K.contents K.failure_count out.old)
+    ensures { EndsOver request.now
+        (record { first = F.remaining stl; second = Some []; file = W.contents output })
+        (lines_of K.contents K.failure_count out.old)
         (lines_of K.contents K.failure_count out.new) result }
 {
     let half = rooms.len() / 2;

@@ -5,7 +5,8 @@ ghost use Rattle.std.specs.Prelude.{◌≡◌, true, []};
 ghost use Rattle.sub_io.specs.Buffered.{HandsOn, failures_and_refused};
 ghost use Rattle.sub_io.specs.Device.{CanFail};
 ghost use Rattle.sub_answer.specs.DeviceCall.{source_call};
-ghost use Rattle.subttx.specs.Ending.{EndsFrom, EndsWith, HandsOnLines, buffered_call, lines_of};
+ghost use Rattle.subttx.specs.Ending.{EndsFrom, EndsFromBoth, EndsWith, EndsWithFile, HandsOnLines};
+ghost use Rattle.subttx.specs.Ending.{buffered_call, lines_of};
 
 use std::alloc::Global;
 use sub_answer::{Status, answer};
@@ -40,8 +41,9 @@ pub fn answer_pair<S: Source, T: Source, K: Sink>(
     requires first { CanFail (S.failure_count first.old) }
     requires second { CanFail (T.failure_count second.old) }
     requires out { failures_and_refused (K.failure_count out.old.device) out.old.refused ≡ 0 }
-    ensures { EndsFrom request.now
+    ensures { EndsFromBoth request.now
         (source_call S.remaining S.failure_count first.old first.new)
+        (source_call T.remaining T.failure_count second.old second.new)
         (lines_of K.contents K.failure_count out.old)
         (lines_of K.contents K.failure_count out.new) result }
 {
@@ -63,10 +65,13 @@ pub fn answer_with_file<S: Source, F: Close, K: Sink>(
         × (file.old.held ≡ []) }
     requires out { failures_and_refused (K.failure_count out.old.device) out.old.refused ≡ 0 }
     ensures closed { F.is_closed file.new.device ≡ true }
-    ensures ends { EndsFrom request.now
+    ensures ends { EndsWithFile request.now
         (source_call S.remaining S.failure_count first.old first.new)
+        (buffered_call F.contents F.failure_count file.old file.new)
         (lines_of K.contents K.failure_count out.old)
         (lines_of K.contents K.failure_count out.new) result }
+    ensures done { result ≡ Status.Done → HandsOn F.failure_count file.old file.new
+        × HandsOn K.failure_count out.old out.new }
 {
     answer_and_hand_on(alloc, request, first, &mut MemSource::new(&[]), file, out)
 }

@@ -1,5 +1,10 @@
-use Rattle.subttx.proofs.EndingLemmas.{ends_at_all}
+use Rattle.std.proofs.KnownBytes.{prepend_known-nil}
+use Rattle.subttx.proofs.EndingLemmas.{append_known-nil, ends_over}
 use Rattle.subttx.proofs.answering.read_and_write.Goals as goal
 
 pub returns : goal.returns
-returns g c = ends_at_all _ _ _ _ _ c.answer_with_file.ensures.ends
+returns g c =
+    ends_over _ _ _ _ _ _ _ _ c.answer_with_file.ensures.ends.ends
+    (rw (c.new-first.ensures, c.new.ensures) (prepend_known-nil _))
+    c.answer_with_file.ensures.ends.second_is_empty
+    (rw (c.new-file.ensures, c.new-2.ensures) (append_known-nil _))

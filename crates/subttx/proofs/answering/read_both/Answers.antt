@@ -1,5 +1,10 @@
-use Rattle.subttx.proofs.EndingLemmas.{ends_at_all}
+use Rattle.std.proofs.KnownBytes.{prepend_known-nil}
+use Rattle.subttx.proofs.EndingLemmas.{ends_over}
 use Rattle.subttx.proofs.answering.read_both.Goals as goal
 
 pub returns : goal.returns
-returns g c = ends_at_all _ _ _ _ _ c.answer_pair.ensures
+returns g c =
+    ends_over _ _ _ _ _ _ _ _ c.answer_pair.ensures.ends
+    (rw (c.new-first.ensures, c.new.ensures) (prepend_known-nil _))
+    (rw (c.new-second.ensures, c.new-2.ensures) (prepend_known-nil _))
+    c.answer_pair.ensures.file_is_empty

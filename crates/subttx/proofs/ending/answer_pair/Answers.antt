@@ -1,5 +1,8 @@
-use Rattle.subttx.proofs.EndingLemmas.{ends_from}
+use Rattle.std.proofs.Common.{refl}
+use Rattle.subttx.proofs.EndingLemmas.{ends_from_both}
 use Rattle.subttx.proofs.ending.answer_pair.Goals as goal
 
 pub returns : goal.returns
-returns g c = ends_from _ _ _ _ _ _ _ c.answer_and_hand_on.ensures.ends
+returns g c =
+    ends_from_both _ _ _ _ _ _ _ c.answer_and_hand_on.ensures.ends
+    (rw (c.new-file.ensures, c.new.ensures) refl)
