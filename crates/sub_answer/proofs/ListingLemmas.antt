@@ -9,8 +9,10 @@ use Rattle.sub_io.specs.Device.{AppendsPrefix, RisesIf}
 use Rattle.sub_io.specs.Reading.{IfTold}
 use Rattle.sub_io.proofs.DeviceLemmas.{AppendsPrefix-first, AppendsPrefix-second}
 use Rattle.ttx_pes.specs.PesPacket.{PesValue}
+use Rattle.ttx_pes.specs.Reader.{TellsPacket}
 use Rattle.ttx_pes.specs.Reading.{answer_at, most_packets, rest_after}
 use Rattle.ttx_pes.specs.declared.fault.PesFault.{PesFault}
+use Rattle.ttx_pes.specs.declared.progress.Progress.TheVariants.{Reading}
 use Rattle.stl_file.specs.Fault as stl_fault
 use Rattle.stl_file.specs.Gsi.{IsGsi, gsi_size}
 use Rattle.stl_file.specs.Reader.{EndsKept, ReaderValue, RefusesOpening, TakesSubtitle, opened_at}
@@ -22,7 +24,9 @@ use Rattle.sub_answer.specs.Faults.{kind_by, stl_told}
 use Rattle.sub_answer.specs.DeviceCall.{SinkCall, SourceCall}
 use Rattle.sub_answer.specs.Listing.{Gives, IsListed, Listing, Lists, PrintsListing, PrintsOrFails}
 use Rattle.sub_answer.specs.Listing.{followed, has_failed}
-use Rattle.sub_answer.specs.PacketsListing.{answer_then, packets_from}
+use Rattle.sub_answer.specs.PacketsListing as packets
+use Rattle.sub_answer.specs.PacketsListing.{ReadsPackets, answer_then, frame_lines, packets_from}
+use Rattle.sub_answer.specs.PacketsListing.{pes_listing}
 use Rattle.sub_answer.specs.ShowListing.{ListsFrom, ReadsFile, ReadsSubtitles, subtitles_listing}
 use Rattle.sub_answer.specs.Told.{line_of, status_of}
 use Rattle.sub_answer.specs.declared.status.Status.{Status}
@@ -230,6 +234,29 @@ pub packets_from-next :
 packets_from-next index bytes answer few is =
     let less : most_packets - (index + 1) ≡ most_packets - index - 1 = omega arith in
     rw (less, ← is) (packets_from-room (most_packets - index) index bytes (omega arith))
+
+-- A PES packet was read, and what is read after it is listed then. For `PacketLister`.
+pub gives-packet :
+    (index : ℕ) (v : PesValue) (told left : Option (List ℕ)) (text : List ℕ)
+    → index ≤ most_packets
+    → TellsPacket (Reading index) told left (Ok (Some v))
+    → text ≡ frame_lines index v
+    → Gives (Lists (pes_listing index) (packets_from (most_packets - index) index) ReadsPackets)
+    (Lists (pes_listing (index + 1)) (packets_from (most_packets - (index + 1)) (index + 1))
+    ReadsPackets) told left text None
+gives-packet index v told left text few tells lines =
+    gives-next _ (pes_listing index) (pes_listing (index + 1))
+    (packets_from (most_packets - index) index)
+    (packets_from (most_packets - (index + 1)) (index + 1)) ReadsPackets ReadsPackets
+    (packets.gives v) told left text
+    (λ o. ap (λ t. followed t (pes_listing (index + 1) o)) (sym lines))
+    (λ o failed end reads. (left, tells.packet, reads))
+    (λ bytes is. (
+      rest_after bytes,
+      tells.left index refl bytes is,
+      packets_from-next index bytes (Ok (Some v)) few (tells.exact index refl bytes is refl),
+    ))
+    packets.ends
 
 -- ---- subtitles
 

@@ -3,7 +3,8 @@
 use Rattle.std.proofs.lemmas.Bool.Decides.{nat_tests}
 use Rattle.std.proofs.Common.{◌≡◌, ◌≢◌, ℕ, zero, suc, ◌+◌, ◌-◌, ◌<◌}
 use Rattle.std.proofs.Common.{◌≤◌, inl, inr, List, [], ◌∷◌, length, drop, get_or, MatchOption}
-use Rattle.std.proofs.Common.{Option, Some, None, Ok, refl, sym, ap, ◌∙◌, arith}
+use Rattle.std.proofs.Common.{Option, Some, None, Result, Ok, Err, refl, sym, ap, ◌∙◌, arith}
+use Rattle.std.specs.Prelude.{OnOk}
 use Rattle.std.proofs.lemmas.List.{get_or-map, get_or-drop, length-drop, drop-drop}
 use Rattle.std.proofs.lemmas.Bool.{cases_lt}
 use Rattle.ttx_pes.specs.PesPacket.{PesValue}
@@ -18,6 +19,11 @@ use Rattle.sub_check.specs.PesFrames.{IsSentAs}
 use Rattle.sub_check.specs.PesReading.{EndsReading, PesFileValue, ReadsAs, file_at, file_by}
 use Rattle.sub_check.specs.PesReading.{file_with, frame_below, frame_of_pts}
 use Rattle.sub_check.specs.Transmission.{SentFrame, Transmission}
+
+-- What holds in any case holds where there is a value. For `next_sending`.
+pub where_ok : {X E P : Type 0} (r : Result X E) → P → OnOk r P
+where_ok (Ok x) p = p
+where_ok (Err e) p = tt
 
 -- A frame of the list, from what stands after those before it.
 is_sent :

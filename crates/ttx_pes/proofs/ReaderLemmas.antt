@@ -1,7 +1,7 @@
 -- What a reader that was given a packet or a fault knows of the bytes of its source. Main lemmas:
--- packet_left, excluded.
-use Rattle.std.proofs.Common.{◌≡◌, ℕ, ◌<◌, true, false, List, [], ◌∷◌, ◌++◌}
-use Rattle.std.proofs.Common.{length, Option, Some, None, Result, Ok, Err, refl, sym, ap}
+-- packet_left, answers_say.
+use Rattle.std.proofs.Common.{◌≡◌, ℕ, true, false, List, [], ◌∷◌, ◌++◌}
+use Rattle.std.proofs.Common.{Option, Some, None, Result, Ok, Err, refl, sym, ap}
 use Rattle.std.proofs.Common.{◌∙◌, arith}
 use Rattle.std.proofs.lemmas.Bool.Decides.{nat_tests}
 use Rattle.std.proofs.lemmas.Option.{same_Some}
@@ -12,7 +12,8 @@ use Rattle.ttx_pes.specs.declared.fault.PesFault.{PesFault}
 use Rattle.ttx_pes.specs.declared.fault.PesFault.TheVariants as fault
 use Rattle.ttx_pes.specs.PesPacket.{PesValue}
 use Rattle.ttx_pes.specs.Reading.{packet_at, answer_at, rest_after, is_format_fault}
-use Rattle.ttx_pes.specs.Reader.{TakesPesPacket, BeginsNone}
+use Rattle.ttx_pes.specs.Laws.{LawOfAnswers}
+use Rattle.ttx_pes.specs.Reader.{TakesPesPacket}
 use Rattle.ttx_pes.proofs.ReadingLemmas.{packet_is_read, rest_after-packet}
 use Rattle.ttx_pes.specs.Fault.{is_read}
 
@@ -63,20 +64,16 @@ unfolding answer_at
 answer_err given [] f k e = absurd cc
 answer_err given (x ∷ b) f k e = grind (arith, nat_tests, answer_cases)
 
--- A fault of the format: no packet begins the bytes.
-pub excluded : (given : ℕ) (bytes : List ℕ) (f : PesFault)
-    → is_format_fault f ≡ true
-    → answer_at given bytes ≡ Err f
-    → BeginsNone bytes
-excluded given bytes f k e v b rest h parts =
-    let bad = answer_err given bytes f k e in
-    let good = ap packet_at parts ∙ packet_is_read v b rest h in
-    absurd cc
-
--- A fault for too many packets: a byte is left.
-pub byte_is_left : (given : ℕ) (bytes : List ℕ)
-    → answer_at given bytes ≡ Err fault.TooMany
-    → 0 < length bytes
+-- The end, a fault of the format and a byte too many: the law.
+pub answers_say : LawOfAnswers
 unfolding answer_at
-byte_is_left given [] e = absurd cc
-byte_is_left given (x ∷ b) e = omega arith
+answers_say given [] =
+    (λ e. refl, λ f k e. absurd cc, λ e. absurd cc)
+answers_say given (x ∷ b) = (
+  λ e. grind (arith, nat_tests, answer_cases),
+  λ f k e v packet rest h parts.
+      let bad = answer_err given (x ∷ b) f k e in
+      let good = ap packet_at parts ∙ packet_is_read v packet rest h in
+      absurd cc,
+  λ e. omega arith,
+)

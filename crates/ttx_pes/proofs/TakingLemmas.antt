@@ -1,28 +1,31 @@
--- What the bytes that were taken of a packet settle, NAME_settles, and what is known by that:
--- settled_NAME.
-use Rattle.std.proofs.Common.{◌≡◌, ℕ, ◌<◌, ◌≤◌, List, [], ◌++◌, length, take, drop, Option}
-use Rattle.std.proofs.Common.{Some, Result, Ok, Err, refl, sym, ap, subst, ◌∙◌, append_assoc}
-use Rattle.std.proofs.Common.{arith, inr, length-append, length-take, length-drop}
+-- What the bytes that were taken of a packet settle, NAME_settles, what is known by that,
+-- settled_NAME, and what a reader then tells, tells_NAME.
+use Rattle.std.proofs.Common.{◌≡◌, ◌≢◌, ℕ, ◌<◌, ◌≤◌, List, [], ◌++◌, length, take, drop, Option}
+use Rattle.std.proofs.Common.{None, Some, Result, Ok, Err, refl, sym, ap, subst, ◌∙◌, append_assoc}
+use Rattle.std.proofs.Common.{arith, inr, length-append, length-take, length-drop, true}
 use Rattle.std.proofs.lemmas.List.{take-append-drop, append-nil, take-take, drop-drop}
 use Rattle.std.proofs.lemmas.List.{length-take-le}
+use Rattle.std.specs.Prelude.{IfErr, IfOk}
 use Rattle.std.specs.Io.KnownBytes.{Consumes, IsAtEnd}
 use lib.Seq.{take-append-le}
 use Rattle.sub_io.specs.Reading.{◌>>=◌, AreBytes}
 use Rattle.ttx_pes.specs.declared.fault.PesFault.{PesFault}
 use Rattle.ttx_pes.specs.declared.fault.PesFault.TheVariants as fault
+use Rattle.ttx_pes.specs.declared.progress.Progress.TheVariants.{Reading}
 use Rattle.ttx_pes.specs.PesPacket.{PesValue, IsPesPacket}
 use Rattle.ttx_pes.specs.Reading.{most_packets, size_at, value_at, packet_at, answer_at, rest_after}
-use Rattle.ttx_pes.specs.Reader.{FailsWithin, TakesPesPacket, TakesRefused}
+use Rattle.ttx_pes.specs.Reading.{is_format_fault}
+use Rattle.ttx_pes.specs.Reader.{FailsWithin, TakesPesPacket, TakesRefused, TellsPacket}
 use Rattle.ttx_pes.specs.Comparing.{TakesDataField}
 use Rattle.ttx_pes.specs.Taking.{Settles, StopsBelow}
 use Rattle.ttx_pes.proofs.ReadingLemmas.{answer_full, answer_packet, packet_short, packet_size}
 use Rattle.ttx_pes.proofs.ReadingLemmas.{packet_cut, packet_parts, read_is_packet}
-use Rattle.ttx_pes.proofs.ReaderLemmas.{left, value_in}
+use Rattle.ttx_pes.proofs.ReaderLemmas.{format_not_read, left, nothing, packet_left, value_in}
 
--- ---- where no packet is taken, for `take_packet`
+-- ---- where no packet is taken
 
 -- The end of the source, where no byte was taken.
-pub none_taken : (old new : Option (List ℕ)) (bytes taken : List ℕ)
+none_taken : (old new : Option (List ℕ)) (bytes taken : List ℕ)
     → Consumes old new taken
     → old ≡ Some bytes
     → taken ≡ []
@@ -36,7 +39,7 @@ none_taken old new bytes taken h told none end =
     (all, rw all (new_is ∙ ap (λ (x : List ℕ). Some x) ends))
 
 -- A byte after the most packets.
-pub too_many : (given : ℕ) (old new : Option (List ℕ)) (bytes taken : List ℕ)
+too_many : (given : ℕ) (old new : Option (List ℕ)) (bytes taken : List ℕ)
     → Consumes old new taken
     → old ≡ Some bytes
     → 0 < length taken
@@ -209,3 +212,95 @@ failed_second old mid new got size room taken le fits sized s =
       consumed = s.takes old taken;
       begun = inr (size, ap size_at head ∙ sized, s.few);
     }
+
+-- ---- what is told of it
+
+-- The end of the source, where no byte was taken.
+pub tells_end : (given : ℕ) (old new : Option (List ℕ)) (taken : List ℕ)
+    → Consumes old new taken
+    → taken ≡ []
+    → IsAtEnd new
+    → TellsPacket (Reading given) old new (Ok None)
+tells_end given old new taken h none end = record {
+  packet = tt;
+  exact = λ n _ bytes told _. nothing n bytes (none_taken old new bytes taken h told none end).0;
+  left = λ n _ bytes told. (none_taken old new bytes taken h told none end).1;
+  refused = tt;
+  too_many = tt;
+  within = λ e. absurd cc;
+  at_end = λ e. absurd cc;
+  ended = (λ e. absurd cc, λ e. absurd cc);
+  no_write = tt;
+}
+
+-- A byte after the most packets.
+pub tells_too_many : (given : ℕ) (old new : Option (List ℕ)) (taken : List ℕ)
+    → Consumes old new taken
+    → 0 < length taken
+    → given ≡ most_packets
+    → TellsPacket (Reading given) old new (Err fault.TooMany)
+tells_too_many given old new taken h some full = record {
+  packet = tt;
+  exact = λ n is bytes told _. too_many n old new bytes taken h told some (cc);
+  left = λ n is bytes told. tt;
+  refused = λ e. absurd cc;
+  too_many = λ _. ap (λ (n : ℕ). Reading n) full;
+  within = λ e. absurd cc;
+  at_end = λ e. absurd cc;
+  ended = (λ e. absurd cc, λ e. absurd cc);
+  no_write = λ e. absurd cc;
+}
+
+-- The source failed.
+pub tells_failed : (given : ℕ) (old new : Option (List ℕ))
+    → FailsWithin old new
+    → TellsPacket (Reading given) old new (Err fault.Read)
+tells_failed given old new h = record {
+  packet = tt;
+  exact = λ n is bytes told e. absurd cc;
+  left = λ n is bytes told. tt;
+  refused = λ e. absurd cc;
+  too_many = λ e. absurd cc;
+  within = λ _. h;
+  at_end = λ e. absurd cc;
+  ended = (λ e. absurd cc, λ e. absurd cc);
+  no_write = λ e. absurd cc;
+}
+
+-- What the bytes that were taken settle.
+pub tells_settled : (given : ℕ) (old new : Option (List ℕ)) (taken : List ℕ)
+    (r : Result PesValue PesFault)
+    → Settles old new taken r
+    → given ≢ most_packets
+    → IfOk r (λ _. AreBytes taken)
+    → IfErr r (λ f. is_format_fault f ≡ true)
+    → TellsPacket (Reading given) old new (r >>= λ v. Ok (Some v))
+tells_settled given old new taken (Ok v) h ne fit kind =
+    let packet = settled_packet old new taken v h fit in
+    record {
+      packet = packet;
+      exact = λ n is bytes told _.
+          settled_answer n old new taken bytes (Ok v) h (λ full. ne (cc)) told;
+      left = λ n is bytes told. packet_left old new v bytes packet told;
+      refused = tt;
+      too_many = tt;
+      within = λ e. absurd cc;
+      at_end = λ e. absurd cc;
+      ended = (λ e. absurd cc, λ e. absurd cc);
+      no_write = tt;
+    }
+tells_settled given old new taken (Err f) h ne fit kind = record {
+  packet = tt;
+  exact = λ n is bytes told _.
+      settled_answer n old new taken bytes (Err f) h (λ full. ne (cc)) told;
+  left = λ n is bytes told. tt;
+  refused = λ _. settled_refusal old new taken f h;
+  too_many = λ e. let none = rw e at kind in absurd cc;
+  within = λ e. let none = format_not_read PesValue f kind in absurd cc;
+  at_end = λ e. absurd cc;
+  ended = (
+    λ e. absurd cc,
+    λ e. let same : f ≡ fault.Ended = cc in let none = rw same at kind in absurd cc,
+  );
+  no_write = λ e. let none = rw e at kind in absurd cc;
+}

@@ -1,6 +1,6 @@
 -- Laws of the format, over plain lists of bytes.
-use Rattle.std.specs.Prelude.{◌≡◌, ◌≢◌, ◌↔◌, ℕ, ◌^◌, ◌<◌, ◌≤◌, List, ◌++◌, length, map, Some}
-use Rattle.std.specs.Prelude.{Ok, Err}
+use Rattle.std.specs.Prelude.{◌≡◌, ◌≢◌, ◌↔◌, ℕ, ◌^◌, ◌<◌, ◌≤◌, List, [], ◌++◌, length, map, Some}
+use Rattle.std.specs.Prelude.{None, Ok, Err, true}
 use Rattle.std.specs.List.{AllByRecursion, AllPairs}
 use Rattle.sub_io.specs.Reading.{AreBytes}
 use Rattle.ttx_packet.specs.PacketAddress.{IsPacket}
@@ -8,9 +8,11 @@ use Rattle.ttx_pes.specs.DataUnit.{UnitValue}
 use Rattle.ttx_pes.specs.LineOrder.{numbered_units, AreInLineOrder, RisesTo}
 use Rattle.ttx_pes.specs.PesPacket.{PesValue, IsPesPacket, IsPesValue, canonical_packet}
 use Rattle.ttx_pes.specs.PesPacket.{numbered_frame}
-use Rattle.ttx_pes.specs.Reading.{packet_at, answer_at, rest_after, most_packets}
+use Rattle.ttx_pes.specs.Reader.{BeginsNone}
+use Rattle.ttx_pes.specs.Reading.{packet_at, answer_at, rest_after, is_format_fault, most_packets}
 use Rattle.ttx_pes.specs.Refusal.{told_fault, FailFirst}
 use Rattle.ttx_pes.specs.declared.fault.PesFault.{PesFault}
+use Rattle.ttx_pes.specs.declared.fault.PesFault.TheVariants.{TooMany}
 
 -- A packet has one value, and no packet is a proper prefix of another.
 -- So a file falls into PES packets in one way.
@@ -58,6 +60,20 @@ LawOfRefusal =
     → packet_at bytes ≡ Err f
     → (question : ℕ) × (told_fault question ≡ f) × FailFirst question bytes)
     × ((question : ℕ) → FailFirst question bytes → (f : PesFault) × (packet_at bytes ≡ Err f))
+
+-- An answer says of the bytes to come, in the words of the grammar: at the end there are none, a
+-- fault of the format means that no PES packet begins them, and more than a day has frames that
+-- one is left.
+-- So who knows that bytes decide an answer knows what it says of them.
+abbrev pub LawOfAnswers : Type 0
+LawOfAnswers =
+    (given : ℕ) (bytes : List ℕ)
+    → (answer_at given bytes ≡ Ok None → bytes ≡ [])
+    × ((f : PesFault)
+    → is_format_fault f ≡ true
+    → answer_at given bytes ≡ Err f
+    → BeginsNone bytes)
+    × (answer_at given bytes ≡ Err TooMany → 0 < length bytes)
 
 -- What was written of a frame is read as that frame, whatever follows, and what follows is left.
 -- So a schedule that was written is the schedule that is read.

@@ -1,13 +1,19 @@
 -- What a reader of PES packets takes and gives, and how it goes on.
-use Rattle.std.specs.Prelude.{◌≡◌, ℕ, ◌+◌, ◌<◌, ◌≤◌, ◌⊎◌, Bool, true, false, Option, Some, None}
-use Rattle.std.specs.Prelude.{Result, Ok, Err, List, ◌++◌, length, take}
+use Rattle.std.specs.Prelude.{◌≡◌, ◌≢◌, ◌↔◌, ℕ, ◌+◌, ◌<◌, ◌≤◌, ◌⊎◌, Bool, true, false, Option}
+use Rattle.std.specs.Prelude.{Some, None, Result, Ok, Err, IfOk, IfErr, IfSome, OnOk, List, ◌++◌}
+use Rattle.std.specs.Prelude.{length, take}
 use Rattle.std.specs.Io.KnownBytes.{Consumes}
 use Rattle.std.specs.List.{AllByRecursion, concat}
+use Rattle.sub_io.specs.Device.{failed}
+use Rattle.sub_io.specs.Reading.{IfTold}
 use Rattle.ttx_pes.specs.declared.fault.PesFault.{PesFault}
+use Rattle.ttx_pes.specs.declared.fault.PesFault.TheVariants.{Ended, TooMany, Write}
 use Rattle.ttx_pes.specs.declared.progress.Progress.{Progress}
 use Rattle.ttx_pes.specs.declared.progress.Progress.TheVariants.{Reading, AtEnd, Broken}
+use Rattle.ttx_pes.specs.Fault.{is_read}
 use Rattle.ttx_pes.specs.PesPacket.{PesValue, IsPesPacket}
-use Rattle.ttx_pes.specs.Reading.{packet_at, size_at}
+use Rattle.ttx_pes.specs.Reading.{answer_at, is_format_fault, most_packets, packet_at, rest_after}
+use Rattle.ttx_pes.specs.Reading.{size_at}
 
 -- A packet that is given is counted; the end stays, and so does a fault.
 abbrev pub progress_after : Progress → Result (Option PesValue) PesFault → Progress
@@ -53,6 +59,34 @@ pub record TakesRefused (old new : Option (List ℕ)) (f : PesFault) : Type 0 wh
   pub bytes : List ℕ
   pub consumed : Consumes old new bytes
   pub refused : packet_at bytes ≡ Err f
+
+-- What each reader of PES packets tells: its answer to a call, by how far it had come, and what
+-- was taken of its source, which told its bytes before and tells those that are left, or nothing.
+pub record TellsPacket
+    (before : Progress)
+    (old new : Option (List ℕ))
+    (answer : Result (Option PesValue) PesFault)
+    : Type 0 where
+  -- What is given is the value of exactly the bytes that were taken.
+  pub packet : IfOk answer (λ given. IfSome given (TakesPesPacket old new))
+  -- Where the source tells its bytes and does not fail, they decide the answer, and what is left.
+  pub exact :
+      (given : ℕ)
+      → before ≡ Reading given
+      → IfTold old (λ bytes. failed is_read answer ≡ false → answer_at given bytes ≡ answer)
+  pub left :
+      (given : ℕ)
+      → before ≡ Reading given
+      → IfTold old (λ bytes. OnOk answer (new ≡ Some (rest_after bytes)))
+  -- Bytes that were taken show a fault of the format, also where the source tells nothing.
+  pub refused : IfErr answer (λ fault. is_format_fault fault ≡ true → TakesRefused old new fault)
+  pub too_many : IfErr answer (λ fault. fault ≡ TooMany → before ≡ Reading most_packets)
+  -- A source that failed failed within this packet, whose bytes so far hold no fault.
+  pub within : failed is_read answer ≡ true → FailsWithin old new
+  pub at_end : before ≡ AtEnd → answer ≡ Ok None
+  pub ended : (before ≡ Broken) ↔ (answer ≡ Err Ended)
+  -- Nothing is written, so no sink fails: also where the source tells nothing.
+  pub no_write : IfErr answer (λ fault. fault ≢ Write)
 
 -- So many PES packets were taken.
 pub record TakesPackets (n : ℕ) (old new : Option (List ℕ)) : Type 0 where

@@ -1,5 +1,6 @@
 //! Laws of the format, each as a call whose contract is the law.
-ghost use Rattle.ttx_pes.specs.Laws.{LawOfCanonicalPacket, LawOfGrammar, LawOfNumberedFrame};
+ghost use Rattle.ttx_pes.specs.Laws.{LawOfAnswers, LawOfCanonicalPacket, LawOfGrammar};
+ghost use Rattle.ttx_pes.specs.Laws.{LawOfNumberedFrame};
 ghost use Rattle.ttx_pes.specs.Laws.{LawOfLineOrder, LawOfOneValue, LawOfPacketValue, LawOfReading};
 ghost use Rattle.ttx_pes.specs.Laws.{LawOfReadingBack, LawOfRefusal};
 
@@ -38,6 +39,12 @@ pub fn law_of_grammar()
 /// Where they fail in a question no packet is read.
 pub fn law_of_refusal()
     ensures { LawOfRefusal }
+{}
+
+/// An answer of a reader says of the bytes to come: at the end there are none, a fault of the
+/// format means that no PES packet begins them, and `TooMany` that one is left.
+pub fn law_of_answers()
+    ensures { LawOfAnswers }
 {}
 
 /// What was written of a frame is read as that frame, and what follows it is left.

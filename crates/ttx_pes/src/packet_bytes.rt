@@ -1,16 +1,14 @@
 //! The bytes of the next PES packet, taken from a source.
-ghost use Rattle.std.specs.Prelude.{◌≡◌, ◌+◌, ◌%◌, ◌<◌, ◌≤◌, ◌≢◌, true, false, [], length, take};
-ghost use Rattle.std.specs.Prelude.{drop, Some};
-ghost use Rattle.std.specs.Prelude.{None, Ok, Err, IfOk, IfErr, IfSome, IsSome, OnErr};
+ghost use Rattle.std.specs.Prelude.{◌≡◌, ◌+◌, ◌%◌, ◌<◌, ◌≤◌, ◌≢◌, length, take};
+ghost use Rattle.std.specs.Prelude.{drop, None, Ok, Err, IfOk, IfErr, IfSome, IsSome, OnErr};
 ghost use Rattle.std.specs.Io.KnownBytes.{IsAtEnd};
 ghost use Rattle.sub_io.specs.Device.{CanFail, CountsFailure, CountsIf, failed};
-ghost use Rattle.sub_io.specs.Reading.{AreBytes, IfTold};
+ghost use Rattle.sub_io.specs.Reading.{AreBytes};
 ghost use Rattle.ttx_pes.specs.Fault.{is_read};
-ghost use Rattle.ttx_pes.specs.declared.fault.PesFault.TheVariants.{Ended, Read, TooMany, Write};
+ghost use Rattle.ttx_pes.specs.declared.progress.Progress.TheVariants.{Reading};
 ghost use Rattle.ttx_pes.specs.PesPacket.{longest_packet, payload_size};
-ghost use Rattle.ttx_pes.specs.Reading.{answer_at, is_format_fault, most_packets, rest_after};
-ghost use Rattle.ttx_pes.specs.Reading.{value_at};
-ghost use Rattle.ttx_pes.specs.Reader.{FailsWithin, TakesRefused};
+ghost use Rattle.ttx_pes.specs.Reading.{most_packets, value_at};
+ghost use Rattle.ttx_pes.specs.Reader.{TellsPacket};
 ghost use Rattle.ttx_pes.specs.Taking.{Settles, StopsBelow, TakesOn};
 
 use crate::fault::PesFault;
@@ -70,23 +68,16 @@ pub(crate) fn take_packet<S: Source>(
     room: &mut Room,
 ) -> Result<Option<usize>, PesFault>
     requires { CanFail (S.failure_count source.old) }
-    ensures refused { IfErr result (λ fault. IfTold (S.remaining source.old) (λ bytes.
-        fault ≢ Read → answer_at given bytes ≡ Err fault)) }
-    ensures shown { IfErr result (λ fault. is_format_fault fault ≡ true
-        → TakesRefused (S.remaining source.old) (S.remaining source.new) fault) }
-    ensures end { result ≡ Ok None → IfTold (S.remaining source.old) (λ bytes.
-        (bytes ≡ []) × (S.remaining source.new ≡ Some (rest_after bytes))) }
+    ensures end { result ≡ Ok None → TellsPacket (Reading given) (S.remaining source.old)
+        (S.remaining source.new) (Ok None) }
+    ensures fault { IfErr result (λ fault. TellsPacket (Reading given) (S.remaining source.old)
+        (S.remaining source.new) (Err fault)) }
     ensures taken { IfOk result (λ taken. IfSome taken (λ size.
         Settles (S.remaining source.old) (S.remaining source.new) (take size room.new)
         (value_at (drop 6 (take size room.new))))) }
     ensures range { IfOk result (λ taken. IfSome taken (λ size.
         (payload_size ≤ size) × (size ≤ longest_packet) × (size % payload_size ≡ 0))) }
-    ensures failed { failed is_read result ≡ true
-        → FailsWithin (S.remaining source.old) (S.remaining source.new) }
     ensures below { IfOk result (λ taken. IsSome taken → given ≢ most_packets) }
-    ensures too_many { IfErr result (λ fault. fault ≡ TooMany → given ≡ most_packets) }
-    ensures no_ended { IfErr result (λ fault. fault ≢ Ended) }
-    ensures no_write { IfErr result (λ fault. fault ≢ Write) }
     ensures count { CountsIf S.failure_count source.old (failed is_read result) source.new }
 {
     let most = if given == MOST_PACKETS { HEAD } else { PAYLOAD };

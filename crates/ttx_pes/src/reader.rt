@@ -1,17 +1,11 @@
 //! Reading PES packets.
-ghost use Rattle.std.specs.Prelude.{◌≡◌, ℕ, ◌+◌, ◌%◌, ◌<◌, ◌≤◌, ◌≢◌, ◌↔◌, true, false, []};
-ghost use Rattle.std.specs.Prelude.{if◌then◌else◌, length, Some, None, Ok, Err, IfOk, OnOk, IfErr};
-ghost use Rattle.std.specs.Prelude.{IfSome, OnSome};
+ghost use Rattle.std.specs.Prelude.{◌≡◌, ℕ, ◌+◌, ◌%◌, ◌≤◌, ◌≢◌, true, length, Ok, Err, OnOk, IfErr};
 ghost use Rattle.sub_io.specs.Device.{CanFail, CountsIf, failed};
-ghost use Rattle.sub_io.specs.Reading.{IfTold};
 ghost use Rattle.ttx_pes.specs.Fault.{is_read};
-ghost use Rattle.ttx_pes.specs.declared.fault.PesFault.TheVariants.{Ended, TooMany, Write};
 ghost use Rattle.ttx_pes.specs.declared.progress.Progress.TheVariants.{Reading, AtEnd, Broken};
 ghost use Rattle.ttx_pes.specs.PesPacket.{empty_value, longest_packet, payload_size};
-ghost use Rattle.ttx_pes.specs.Reading.{answer_at, value_at, is_format_fault, most_packets};
-ghost use Rattle.ttx_pes.specs.Reading.{rest_after};
-ghost use Rattle.ttx_pes.specs.Reader.{BeginsNone, FailsWithin, TakesPesPacket, TakesRefused};
-ghost use Rattle.ttx_pes.specs.Reader.{given_frame, progress_after};
+ghost use Rattle.ttx_pes.specs.Reading.{value_at, is_format_fault, most_packets};
+ghost use Rattle.ttx_pes.specs.Reader.{TellsPacket, given_frame, progress_after};
 
 use crate::data_unit::{DATA_UNIT, take_units};
 use crate::fault::PesFault;
@@ -65,19 +59,8 @@ fn read_packet<S: Source>(
     frame: &mut PesFrame,
 ) -> Result<bool, PesFault>
     requires { CanFail (S.failure_count source.old) }
-    ensures exact { IfTold (S.remaining source.old) (λ bytes.
-        failed is_read result ≡ false → answer_at given bytes ≡ given_frame result frame.new) }
-    ensures frame { result ≡ Ok true
-        → TakesPesPacket (S.remaining source.old) (S.remaining source.new) frame.new }
-    ensures end { result ≡ Ok false → IfTold (S.remaining source.old) (λ bytes.
-        (bytes ≡ []) × (S.remaining source.new ≡ Some (rest_after bytes))) }
-    ensures failed { failed is_read result ≡ true
-        → FailsWithin (S.remaining source.old) (S.remaining source.new) }
-    ensures shown { IfErr result (λ fault. is_format_fault fault ≡ true
-        → TakesRefused (S.remaining source.old) (S.remaining source.new) fault) }
-    ensures too_many { IfErr result (λ fault. fault ≡ TooMany → given ≡ most_packets) }
-    ensures never { IfErr result (λ fault. fault ≢ Ended) }
-    ensures no_write { IfErr result (λ fault. fault ≢ Write) }
+    ensures tells { TellsPacket (Reading given) (S.remaining source.old) (S.remaining source.new)
+        (given_frame result frame.new) }
     ensures below { result ≡ Ok true → given ≢ most_packets }
     ensures count { CountsIf S.failure_count source.old (failed is_read result) source.new }
 {
@@ -113,43 +96,12 @@ impl PesReader {
     /// After any of them each call answers `Ended` and takes nothing.
     pub fn next<S: Source>(&mut self, source: &mut S) -> Result<Option<PesFrame>, PesFault>
         requires { CanFail (S.failure_count source.old) }
-        // A frame is the value of exactly the bytes that were taken.
-        ensures frame { IfOk result (λ frame. IfSome frame
-            (TakesPesPacket (S.remaining source.old) (S.remaining source.new))) }
-
-        // Where the source tells its bytes and does not fail, they decide the answer, and what is
-        // left.
-        ensures exact { (given : ℕ) → self.old ≡ Reading given
-            → IfTold (S.remaining source.old) (λ bytes.
-            failed is_read result ≡ false → answer_at given bytes ≡ result) }
-        ensures left { (given : ℕ) → self.old ≡ Reading given
-            → IfTold (S.remaining source.old) (λ bytes.
-            OnOk result (S.remaining source.new ≡ Some (rest_after bytes))) }
-
-        // What the bytes decide, in the words of the grammar.
-        ensures none { (given : ℕ) → self.old ≡ Reading given
-            → IfTold (S.remaining source.old) (λ bytes. result ≡ Ok None → bytes ≡ []) }
-        ensures excluded { (given : ℕ) → self.old ≡ Reading given
-            → IfTold (S.remaining source.old) (λ bytes.
-            IfErr result (λ fault. is_format_fault fault ≡ true → BeginsNone bytes)) }
-        // Also where the source tells nothing: bytes that it gave show the fault.
-        ensures refused { IfErr result (λ fault. is_format_fault fault ≡ true
-            → TakesRefused (S.remaining source.old) (S.remaining source.new) fault) }
-        ensures too_many { IfErr result (λ fault.
-            fault ≡ TooMany → self.old ≡ Reading most_packets) }
-        ensures byte_left { (given : ℕ) → self.old ≡ Reading given
-            → IfTold (S.remaining source.old) (λ bytes. result ≡ Err TooMany → 0 < length bytes) }
-        // A source that failed failed within this packet, whose bytes so far hold no fault.
-        ensures failed { failed is_read result ≡ true
-            → FailsWithin (S.remaining source.old) (S.remaining source.new) }
-
-        // How the reader goes on.
+        ensures tells { TellsPacket self.old (S.remaining source.old) (S.remaining source.new)
+            result }
         ensures progress { self.new ≡ progress_after self.old result }
-        ensures at_end { self.old ≡ AtEnd → (result ≡ Ok None) × (source.new ≡ source.old) }
-        ensures ended { (self.old ≡ Broken) ↔ (result ≡ Err Ended) }
+        // After the end and after a fault nothing is taken.
+        ensures at_end { self.old ≡ AtEnd → source.new ≡ source.old }
         ensures broken { self.old ≡ Broken → source.new ≡ source.old }
-        // Nothing is written, so no sink fails: also where the source tells nothing.
-        ensures no_write { IfErr result (λ fault. fault ≢ Write) }
         ensures count { CountsIf S.failure_count source.old (failed is_read result) source.new }
     {
         let mut frame = PesFrame::new(0);
@@ -175,46 +127,14 @@ impl PesReader {
         frame: &mut PesFrame,
     ) -> Result<bool, PesFault>
         requires { CanFail (S.failure_count source.old) }
-        // A frame is the value of exactly the bytes that were taken.
-        ensures frame { result ≡ Ok true
-            → TakesPesPacket (S.remaining source.old) (S.remaining source.new) frame.new }
+        ensures tells { TellsPacket self.old (S.remaining source.old) (S.remaining source.new)
+            (given_frame result frame.new) }
         ensures empty { result ≢ Ok true → frame.new ≡ empty_value }
-
-        // Where the source tells its bytes and does not fail, they decide the answer, and what is
-        // left.
-        ensures exact { (given : ℕ) → self.old ≡ Reading given
-            → IfTold (S.remaining source.old) (λ bytes.
-            failed is_read result ≡ false
-            → answer_at given bytes ≡ given_frame result frame.new) }
-        ensures left { (given : ℕ) → self.old ≡ Reading given
-            → IfTold (S.remaining source.old) (λ bytes.
-            OnOk result (S.remaining source.new ≡ Some (rest_after bytes))) }
-
-        // What the bytes decide, in the words of the grammar.
-        ensures none { (given : ℕ) → self.old ≡ Reading given
-            → IfTold (S.remaining source.old) (λ bytes. result ≡ Ok false → bytes ≡ []) }
-        ensures excluded { (given : ℕ) → self.old ≡ Reading given
-            → IfTold (S.remaining source.old) (λ bytes.
-            IfErr result (λ fault. is_format_fault fault ≡ true → BeginsNone bytes)) }
-        // Also where the source tells nothing: bytes that it gave show the fault.
-        ensures refused { IfErr result (λ fault. is_format_fault fault ≡ true
-            → TakesRefused (S.remaining source.old) (S.remaining source.new) fault) }
-        ensures too_many { IfErr result (λ fault.
-            fault ≡ TooMany → self.old ≡ Reading most_packets) }
-        ensures byte_left { (given : ℕ) → self.old ≡ Reading given
-            → IfTold (S.remaining source.old) (λ bytes. result ≡ Err TooMany → 0 < length bytes) }
-        // A source that failed failed within this packet, whose bytes so far hold no fault.
-        ensures failed { failed is_read result ≡ true
-            → FailsWithin (S.remaining source.old) (S.remaining source.new) }
-
-        // How the reader goes on.
         ensures progress { self.new ≡ progress_after self.old (given_frame result frame.new) }
         ensures few { (given : ℕ) → self.new ≡ Reading given → given ≤ most_packets }
-        ensures at_end { self.old ≡ AtEnd → (result ≡ Ok false) × (source.new ≡ source.old) }
-        ensures ended { (self.old ≡ Broken) ↔ (result ≡ Err Ended) }
+        // After the end and after a fault nothing is taken.
+        ensures at_end { self.old ≡ AtEnd → source.new ≡ source.old }
         ensures broken { self.old ≡ Broken → source.new ≡ source.old }
-        // Nothing is written, so no sink fails: also where the source tells nothing.
-        ensures no_write { IfErr result (λ fault. fault ≢ Write) }
         ensures count { CountsIf S.failure_count source.old (failed is_read result) source.new }
     {
         let given = match self.progress {

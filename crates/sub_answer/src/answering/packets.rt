@@ -1,5 +1,5 @@
 //! `packets PES`: lists PES packets and their Teletext units.
-ghost use Rattle.std.specs.Prelude.{◌≡◌, ◌+◌, ◌-◌, ◌≤◌, ◌++◌, []};
+ghost use Rattle.std.specs.Prelude.{◌≡◌, ◌+◌, ◌-◌, ◌<◌, ◌≤◌, ◌++◌, [], None};
 ghost use Rattle.arrayvec.specs.ArrayVec.{array_vec_len};
 ghost use Rattle.ttx_pes.specs.Reading.{most_packets};
 ghost use Rattle.ttx_pes.specs.declared.progress.Progress.TheVariants.{Reading};
@@ -14,13 +14,12 @@ use crate::listing::{Lister, PIECE, Text, end_at, end_with};
 use crate::status::Status;
 use sub_check::CheckFault;
 use sub_io::Source;
-use ttx_pes::{MOST_UNITS, PesFrame, PesReader, Unit};
+use ttx_pes::{Compared, ComparingReader, MOST_UNITS, PesFrame, Unit};
 
 /// Lists the PES packets of a file (EN 300 472).
 #[derive(Drop)]
 pub struct PacketLister {
-    reader: PesReader,
-    frame: PesFrame,
+    reader: ComparingReader,
     index: u32,
 }
 
@@ -28,18 +27,31 @@ impl PacketLister {
     /// A lister at the start of a file.
     pub fn new() -> PacketLister
         ensures start { result.index ≡ 0 }
-        ensures ready { result.reader ≡ Reading 0 }
+        ensures ready { result.reader.progress ≡ Reading 0 }
     {
         PacketLister {
-            reader: PesReader::new(),
-            frame: PesFrame::new(0),
+            reader: ComparingReader::new(),
             index: 0,
         }
+    }
+
+    // Makes the lines of the PES packet that was read last.
+    fn list_read(&mut self, text: &mut Text) -> Option<Status>
+        requires few { self.old.index < most_packets }
+        requires empty { text.old.items ≡ [] }
+        ensures lines { text.new.items ≡ frame_lines self.old.index self.old.reader.frame }
+        ensures index { self.new.index ≡ self.old.index + 1 }
+        ensures reader { self.new.reader ≡ self.old.reader }
+        ensures more { result ≡ None }
+    {
+        push_frame(text, self.index, self.reader.frame());
+        self.index += 1;
+        None
     }
 }
 
 impl Lister for PacketLister {
-    ghost ready = { λ l. (l.reader ≡ Reading l.index) × (l.index ≤ most_packets) };
+    ghost ready = { λ l. (l.reader.progress ≡ Reading l.index) × (l.index ≤ most_packets) };
 
     ghost pieces = { λ l. most_packets - l.index };
 
@@ -47,13 +59,10 @@ impl Lister for PacketLister {
         (packets_from (most_packets - l.index) l.index) ReadsPackets };
 
     fn next<S: Source>(&mut self, source: &mut S, text: &mut Text) -> Option<Status> {
-        match self.reader.next_into(source, &mut self.frame) {
-            Ok(true) => {
-                push_frame(text, self.index, &self.frame);
-                self.index += 1;
-                None
-            }
-            Ok(false) => end_at(text, self.index, b" pes\n"),
+        match self.reader.next(source) {
+            Ok(Compared::End) => end_at(text, self.index, b" pes\n"),
+            Ok(Compared::Same) => self.list_read(text),
+            Ok(Compared::Other) => self.list_read(text),
             Err(fault) => {
                 let pes = self.index;
                 end_with(text, &told_of_check(CheckFault::Pes { fault, pes }))

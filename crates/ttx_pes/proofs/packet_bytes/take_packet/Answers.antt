@@ -4,85 +4,56 @@ use Rattle.std.proofs.lemmas.List.{length-take-le}
 use Rattle.std.proofs.lemmas.Result.{err_from_is_err_and}
 use Rattle.std.proofs.KnownBytes.{Consumes-nil}
 use Rattle.ttx_pes.specs.Reading.{size_at}
-use Rattle.ttx_pes.proofs.TakingLemmas.{cut_settles, failed_second, none_taken}
-use Rattle.ttx_pes.proofs.TakingLemmas.{settled_answer, settled_refusal, short_settles, size_kept}
-use Rattle.ttx_pes.proofs.TakingLemmas.{size_settles, too_many, whole_settles}
+use Rattle.ttx_pes.proofs.TakingLemmas.{cut_settles, failed_second, short_settles, size_kept}
+use Rattle.ttx_pes.proofs.TakingLemmas.{size_settles, tells_end, tells_failed, tells_settled}
+use Rattle.ttx_pes.proofs.TakingLemmas.{tells_too_many, whole_settles}
 use Rattle.ttx_pes.proofs.packet_bytes.take_packet.Goals as goal
 
 pub returns-then-got-eq0-clause-end : goal.returns-then-got-eq0-clause-end
-returns-then-got-eq0-clause-end g c = λ _ bytes is.
-    none_taken _ _ bytes _ (c.in_ok-got.ensures.bytes _ (Consumes-nil _)) is
+returns-then-got-eq0-clause-end g c = λ _.
+    tells_end _ _ _ _ (c.in_ok-got.ensures.bytes _ (Consumes-nil _))
     (ap (λ k. take k c.fill_on.new.room) c.if-got-eq0.true) (c.in_ok-got.ensures.end (omega arith))
 
-pub returns-then-given-eq-MOST_PACKETS-2-clause-refused :
-    goal.returns-then-given-eq-MOST_PACKETS-2-clause-refused
-returns-then-given-eq-MOST_PACKETS-2-clause-refused g c = λ bytes is _.
+pub returns-then-given-eq-MOST_PACKETS-2-clause-fault :
+    goal.returns-then-given-eq-MOST_PACKETS-2-clause-fault
+returns-then-given-eq-MOST_PACKETS-2-clause-fault g c =
     let len = length-take-le c.in_ok-got.got c.fill_on.new.room c.in_ok-got.ensures.room in
-    too_many c.args.given _ _ bytes _ (c.in_ok-got.ensures.bytes _ (Consumes-nil _)) is
-    (omega arith) c.if-given-eq-MOST_PACKETS-2.true
+    tells_too_many _ _ _ _ (c.in_ok-got.ensures.bytes _ (Consumes-nil _)) (omega arith)
+    c.if-given-eq-MOST_PACKETS-2.true
 
-pub returns-then-got-lt-HEAD-clause-refused : goal.returns-then-got-lt-HEAD-clause-refused
-returns-then-got-lt-HEAD-clause-refused g c = λ bytes is _.
+pub returns-then-got-lt-HEAD-clause-fault : goal.returns-then-got-lt-HEAD-clause-fault
+returns-then-got-lt-HEAD-clause-fault g c =
     let len = length-take-le c.in_ok-got.got c.fill_on.new.room c.in_ok-got.ensures.room in
-    settled_answer c.args.given _ _ _ bytes _
+    tells_settled c.args.given _ _ _ _
     (short_settles _ _ _ (c.in_ok-got.ensures.bytes _ (Consumes-nil _))
     (c.in_ok-got.ensures.end (omega arith)) (omega arith) (omega arith))
-    c.if-given-eq-MOST_PACKETS-2.false is
+    c.if-given-eq-MOST_PACKETS-2.false tt refl
 
-pub returns-then-got-lt-HEAD-clause-shown : goal.returns-then-got-lt-HEAD-clause-shown
-returns-then-got-lt-HEAD-clause-shown g c = λ _.
-    let len = length-take-le c.in_ok-got.got c.fill_on.new.room c.in_ok-got.ensures.room in
-    settled_refusal _ _ _ _ (short_settles _ _ _ (c.in_ok-got.ensures.bytes _ (Consumes-nil _))
-    (c.in_ok-got.ensures.end (omega arith)) (omega arith) (omega arith))
-
-pub returns-in_err-size-clause-refused : goal.returns-in_err-size-clause-refused
-returns-in_err-size-clause-refused g c =
+pub returns-in_err-size-clause-fault : goal.returns-in_err-size-clause-fault
+returns-in_err-size-clause-fault g c =
     let p = err_from_is_err_and c.from_residual-in_err-size.result
     c.from_residual-in_err-size.ensures.1 in
     let len = length-take-le c.in_ok-got.got c.fill_on.new.room c.in_ok-got.ensures.room in
     let bad = size_kept c.in_ok-got.got c.in_ok-got.got c.fill_on.new.room c.fill_on.new.room
     c.unwrap.result.now _ (omega arith) (omega arith) refl (search rules)
     c.in_err-size.ensures.exact in
-    rw (p.1, p.2) (λ bytes is _. settled_answer c.args.given _ _ _ bytes _
+    rw (p.1, p.2) (tells_settled c.args.given _ _ _ _
     (size_settles _ _ _ _ (c.in_ok-got.ensures.bytes _ (Consumes-nil _)) (omega arith) bad)
-    c.if-given-eq-MOST_PACKETS-2.false is)
+    c.if-given-eq-MOST_PACKETS-2.false tt c.in_err-size.ensures.kind)
 
-pub returns-in_err-size-clause-shown : goal.returns-in_err-size-clause-shown
-returns-in_err-size-clause-shown g c =
-    let p = err_from_is_err_and c.from_residual-in_err-size.result
-    c.from_residual-in_err-size.ensures.1 in
-    let len = length-take-le c.in_ok-got.got c.fill_on.new.room c.in_ok-got.ensures.room in
-    let bad = size_kept c.in_ok-got.got c.in_ok-got.got c.fill_on.new.room c.fill_on.new.room
-    c.unwrap.result.now _ (omega arith) (omega arith) refl (search rules)
-    c.in_err-size.ensures.exact in
-    rw (p.1, p.2) (λ _. settled_refusal _ _ _ _
-    (size_settles _ _ _ _ (c.in_ok-got.ensures.bytes _ (Consumes-nil _)) (omega arith) bad))
-
-pub returns-then-branch-size-clause-refused : goal.returns-then-branch-size-clause-refused
-returns-then-branch-size-clause-refused g c = λ bytes is _.
+pub returns-then-branch-size-clause-fault : goal.returns-then-branch-size-clause-fault
+returns-then-branch-size-clause-fault g c =
     let n = c.in_ok-fill_on.field-0 in
     let len = length-take-le n c.fill_on-2.new.room c.in_ok-fill_on.ensures.room in
     let from = c.in_ok-fill_on.ensures.from in
     let sized = size_kept c.in_ok-got.got n c.fill_on.new.room c.fill_on-2.new.room
     c.unwrap.result.now _ (omega arith) from c.in_ok-fill_on.ensures.kept (search rules)
     c.in_ok-size.ensures.exact in
-    settled_answer c.args.given _ _ _ bytes _
+    tells_settled c.args.given _ _ _ _
     (cut_settles _ _ _ _
     (c.in_ok-fill_on.ensures.bytes _ (c.in_ok-got.ensures.bytes _ (Consumes-nil _)))
     (c.in_ok-fill_on.ensures.end (omega arith)) (omega arith) (omega arith) sized)
-    c.if-given-eq-MOST_PACKETS-2.false is
-
-pub returns-then-branch-size-clause-shown : goal.returns-then-branch-size-clause-shown
-returns-then-branch-size-clause-shown g c = λ _.
-    let n = c.in_ok-fill_on.field-0 in
-    let len = length-take-le n c.fill_on-2.new.room c.in_ok-fill_on.ensures.room in
-    let from = c.in_ok-fill_on.ensures.from in
-    let sized = size_kept c.in_ok-got.got n c.fill_on.new.room c.fill_on-2.new.room
-    c.unwrap.result.now _ (omega arith) from c.in_ok-fill_on.ensures.kept (search rules)
-    c.in_ok-size.ensures.exact in
-    settled_refusal _ _ _ _ (cut_settles _ _ _ _
-    (c.in_ok-fill_on.ensures.bytes _ (c.in_ok-got.ensures.bytes _ (Consumes-nil _)))
-    (c.in_ok-fill_on.ensures.end (omega arith)) (omega arith) (omega arith) sized)
+    c.if-given-eq-MOST_PACKETS-2.false tt refl
 
 pub returns-clause-taken : goal.returns-clause-taken
 returns-clause-taken g c =
@@ -97,18 +68,22 @@ returns-clause-taken g c =
     (c.in_ok-fill_on.ensures.bytes _ (c.in_ok-got.ensures.bytes _ (Consumes-nil _)))
     (omega arith) (sized ∙ ap (λ (k : ℕ). Ok k) (sym all ∙ sym len)))
 
-pub returns-in_err-got-clause-failed : goal.returns-in_err-got-clause-failed
-returns-in_err-got-clause-failed g c = λ _.
+pub returns-in_err-got-clause-fault : goal.returns-in_err-got-clause-fault
+returns-in_err-got-clause-fault g c =
+    let p = err_from_is_err_and c.from_residual.result c.from_residual.ensures.1 in
     let stopped = c.in_err-got.ensures.err in
-    record {
+    rw (p.1, p.2) (tells_failed c.args.given _ _ (record {
       bytes = stopped.taken;
       consumed = stopped.takes _ (Consumes-nil _);
       begun = inl stopped.few;
-    }
+    }))
 
-pub returns-in_err-fill_on-clause-failed : goal.returns-in_err-fill_on-clause-failed
-returns-in_err-fill_on-clause-failed g c = λ _.
+pub returns-in_err-fill_on-clause-fault : goal.returns-in_err-fill_on-clause-fault
+returns-in_err-fill_on-clause-fault g c =
+    let p = err_from_is_err_and c.from_residual-in_err-fill_on.result
+    c.from_residual-in_err-fill_on.ensures.1 in
     let same : c.unwrap.result.now ≡ take 6 c.fill_on.new.room = search rules in
-    failed_second _ _ _ c.in_ok-got.got c.in_ok-size.size c.fill_on.new.room
+    rw (p.1, p.2) (tells_failed c.args.given _ _
+    (failed_second _ _ _ c.in_ok-got.got c.in_ok-size.size c.fill_on.new.room
     (c.in_ok-got.ensures.bytes _ (Consumes-nil _)) (omega arith) c.in_ok-got.ensures.room
-    (ap size_at (sym same) ∙ c.in_ok-size.ensures.exact) c.in_err-fill_on.ensures.err
+    (ap size_at (sym same) ∙ c.in_ok-size.ensures.exact) c.in_err-fill_on.ensures.err))

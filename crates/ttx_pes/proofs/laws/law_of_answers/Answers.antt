@@ -1,0 +1,6 @@
+-- The law answers_say.
+use Rattle.ttx_pes.proofs.ReaderLemmas.{answers_say}
+use Rattle.ttx_pes.proofs.laws.law_of_answers.Goals as goal
+
+pub returns : goal.returns
+returns c = answers_say
