@@ -21,14 +21,14 @@ use Rattle.sub_request.specs.declared.listening.Listening.{Listening}
 -- ---- faults
 
 -- The source failed.
-abbrev pub is_read : ListenFault → Bool
-is_read (fault.File f) = check_number.is_pes_read f
-is_read (fault.LostHeader frame packet) = false
+abbrev pub is_failed_read : ListenFault → Bool
+is_failed_read (fault.File f) = check_number.is_pes_read f
+is_failed_read (fault.LostHeader frame packet) = false
 
 -- The fault is one of a subtitle file, which is not read here.
-abbrev pub is_of_subtitles : ListenFault → Bool
-is_of_subtitles (fault.File f) = check_number.is_subtitle_fault f
-is_of_subtitles (fault.LostHeader frame packet) = false
+abbrev pub is_stl_fault : ListenFault → Bool
+is_stl_fault (fault.File f) = check_number.is_subtitle_fault f
+is_stl_fault (fault.LostHeader frame packet) = false
 
 -- ---- what is heard
 

@@ -4,7 +4,8 @@ ghost use Rattle.sub_io.specs.Device.{CanFail, CountsIf, failed};
 ghost use Rattle.sub_io.specs.Reading.{IfTold};
 ghost use Rattle.ttx_page.specs.Screen.{display};
 ghost use Rattle.sub_check.specs.FrameRules.{Unread};
-ghost use Rattle.sub_check.specs.ListeningRun.{FailsListening, HearsFile, is_of_subtitles, is_read};
+ghost use Rattle.sub_check.specs.ListeningRun.{FailsListening, HearsFile, is_failed_read};
+ghost use Rattle.sub_check.specs.ListeningRun.{is_stl_fault};
 ghost use Rattle.sub_check.specs.PesReading.{ReadsAs};
 ghost use Rattle.sub_check.specs.Transmission.{Transmission};
 ghost use Rattle.sub_check.specs.declared.listening_run.ListenFault.TheVariants.{File};
@@ -63,15 +64,15 @@ pub fn listen<R: Receiver, S: Source>(
     ensures exact { (frames : Transmission) (unread : Option Unread)
         → IfTold (S.remaining pes.old) (λ bytes.
         ReadsAs listening.now.options.origin 0 bytes frames unread
-        → failed is_read result ≡ false
+        → failed is_failed_read result ≡ false
         → HearsFile R.leaves listening.now frames unread (S.remaining pes.old)
         (S.remaining pes.new) (R.tuned_to receiver.old)
         (display (R.state receiver.old) screen.old)
         (display (R.state receiver.new) screen.new) result) }
-    ensures failed { IfErr result (λ f. is_read f ≡ true
+    ensures failed { IfErr result (λ f. is_failed_read f ≡ true
         → FailsListening listening.now (S.remaining pes.old) (S.remaining pes.new) f) }
-    ensures own { IfErr result (λ f. is_of_subtitles f ≡ false) }
-    ensures count { CountsIf S.failure_count pes.old (failed is_read result) pes.new }
+    ensures own { IfErr result (λ f. is_stl_fault f ≡ false) }
+    ensures count { CountsIf S.failure_count pes.old (failed is_failed_read result) pes.new }
 {
     let mut reader = ComparingReader::new();
     let mut least = 0;

@@ -1,7 +1,7 @@
 -- What is printed is that of the run; by listens_from.
 use Rattle.std.proofs.Common.{None, refl, ◌∙◌, ap, arith, Ok, Err}
 use Rattle.ttx_page.specs.Screen.{display}
-use Rattle.sub_check.specs.ListeningRun.{is_read}
+use Rattle.sub_check.specs.ListeningRun.{is_failed_read}
 use Rattle.sub_answer.specs.ListenListing.{listing_of}
 use Rattle.sub_answer.proofs.ListenListingLemmas.{listens_from}
 use Rattle.sub_answer.proofs.PrintingLemmas.{did_not_rise, did_rise}
@@ -37,13 +37,13 @@ returns-clause-exact g c = record {
         (ap (λ s. display s None) c.tune-receiver.ensures.state)
         c.old_page.ensures
         (c.in-Err.ensures.exact frames unread bytes told reads
-        (did_not_rise (is_read c.in-Err.fault) _ _ c.in-Err.ensures.count same)) tt,
+        (did_not_rise (is_failed_read c.in-Err.fault) _ _ c.in-Err.ensures.count same)) tt,
     rw c.told_of_listen.ensures at c.print_told.ensures.printed,
   );
   read = λ other. (
     c.in-Err.fault,
     c.in-Err.ensures.failed
-        (did_rise (is_read c.in-Err.fault) _ _ c.in-Err.ensures.count other),
+        (did_rise (is_failed_read c.in-Err.fault) _ _ c.in-Err.ensures.count other),
     rw c.told_of_listen.ensures at c.print_told.ensures.printed,
   );
 }
