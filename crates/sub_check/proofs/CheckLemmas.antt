@@ -19,18 +19,15 @@ use Rattle.stl_rows.specs.declared.national.National.{National}
 use Rattle.ttx_pes.specs.PesPacket.{IsPesPacket}
 use Rattle.sub_plan.specs.Options.{OptionsValue, IsOptions}
 use Rattle.sub_plan.specs.Schedule.{plan}
-use Rattle.sub_check.specs.CheckedFiles.{AreAccepted, IsChecked, Mean}
+use Rattle.sub_check.specs.CheckedFiles.{AreAccepted, IsChecked, Mean, ServesReceivers}
 use Rattle.sub_check.specs.Checking.{Accepts, HasCounts}
 use Rattle.sub_check.specs.FirstBroken.{IsReadUpTo, NamesFirst}
 use Rattle.sub_check.specs.FrameRules.{Unread, task_of}
 use Rattle.sub_check.specs.Good.{Good}
-use Rattle.sub_check.specs.LostRows.{RobustToMarkedLoss}
-use Rattle.sub_check.specs.OnScreen.{Complete, Shown}
+use Rattle.sub_check.specs.OnScreen.{Complete}
 use Rattle.sub_check.specs.PesFrames.{Carries, IsSentAs}
 use Rattle.sub_check.specs.PesReading.{ReadsAs, pes_file_of}
 use Rattle.sub_check.specs.Planned.{planned}
-use Rattle.sub_check.specs.Recovery.{Recovers}
-use Rattle.sub_check.specs.Robust.{Robust}
 use Rattle.sub_check.specs.Transmission.{Transmission}
 use Rattle.sub_check.specs.declared.checker.Accepted.{Accepted}
 use Rattle.sub_check.specs.declared.fault.CheckFault.{CheckFault}
@@ -41,10 +38,8 @@ use Rattle.sub_check.proofs.GoodLemmas.{Good-from_frames, whole-is, GoodFrames-f
 use Rattle.sub_check.proofs.PrefixLemmas.{first-same, last-same}
 use Rattle.sub_check.proofs.PesFileLemmas.{carried_is_read}
 use Rattle.sub_check.proofs.PlaceLemmas.{Good-from_holds, refuted}
-use Rattle.sub_check.proofs.OnScreenLemmas.{law_of_good_and_complete}
 use Rattle.sub_check.proofs.PlanLemmas.{law_of_complete_plan, law_of_plan, law_of_plan_read}
-use Rattle.sub_check.proofs.RecoveryLemmas.{law_of_good_and_recovery}
-use Rattle.sub_check.proofs.RobustLemmas.{law_of_good, law_of_good_and_marked_loss}
+use Rattle.sub_check.proofs.RobustLemmas.{promised}
 use Rattle.sub_check.specs.Fault.{is_failure, is_failure_kind, is_pes_read, is_subtitle_fault}
 use Rattle.ttx_pes.specs.declared.fault.PesFault.TheVariants as Pes
 use Rattle.sub_check.specs.declared.fault.CheckFault.TheVariants as fault
@@ -215,14 +210,17 @@ module _ (programme : ProgrammeValue) (options : OptionsValue) (is : IsOptions o
       → IsChecked programme options bytes result
   checked_from bytes result p decides failed = record {
     accepted = λ looked fine. accepted_from bytes result (decides fine);
-    robust = λ t carries ok. law_of_good programme t options (good t carries ok);
-    robust_to_loss = λ t carries ok.
-        law_of_good_and_marked_loss programme t options (good t carries ok);
-    recovers = λ t carries ok. law_of_good_and_recovery programme t options (good t carries ok);
-    shown = λ t carries ok asks.
+    serves = λ t carries ok.
         let accepts = accepts_carried bytes t result decides carries ok in
-        law_of_good_and_complete programme t options (good t carries ok)
-        (complete_from_places bytes None t accepts.0 accepts.1 asks);
+        let promises =
+        promised programme t options (good_from bytes None t accepts.0 accepts.1) in
+        record {
+          robust = promises.robust;
+          robust_to_loss = promises.to_loss;
+          recovers = promises.recovers;
+          shown = λ asks.
+              promises.shown (complete_from_places bytes None t accepts.0 accepts.1 asks);
+        };
     counts = λ t carries. counts_from bytes t result decides carries;
     first = λ looked fine. first_from bytes result (decides fine);
     read = λ pes e.
@@ -236,12 +234,6 @@ module _ (programme : ProgrammeValue) (options : OptionsValue) (is : IsOptions o
         plan_accepted serial result p some
         (subst (λ b. Decides programme options b result) planned (decides fine));
   }
-    where
-      good : (t : Transmission) → Carries options.origin bytes t → IsOk result
-          → Good programme t options
-      good t carries ok =
-          let accepts = accepts_carried bytes t result decides carries ok in
-          good_from bytes None t accepts.0 accepts.1
 
 -- ---- both files
 
@@ -310,18 +302,9 @@ module _ (national : National) (options : OptionsValue) (stl pes : List ℕ)
                     exactly.1
                     (grind (arith, nat_tests, carries_of g.0 g.1 g.2, programme_is g.0 g.1 g.2)),
               );
-          robust = λ s t mean ok.
-              subst (λ (p : ProgrammeValue). Robust p t options) (programme_is s t mean)
-              (checked.robust t (carries_of s t mean) ok);
-          robust_to_loss = λ s t mean ok.
-              subst (λ (p : ProgrammeValue). RobustToMarkedLoss p t options)
-              (programme_is s t mean) (checked.robust_to_loss t (carries_of s t mean) ok);
-          recovers = λ s t mean ok.
-              subst (λ (p : ProgrammeValue). Recovers p t options) (programme_is s t mean)
-              (checked.recovers t (carries_of s t mean) ok);
-          shown = λ s t mean ok asks.
-              subst (λ (p : ProgrammeValue). Shown p t options) (programme_is s t mean)
-              (checked.shown t (carries_of s t mean) ok asks);
+          serves = λ s t mean ok.
+              subst (λ (p : ProgrammeValue). ServesReceivers p t options) (programme_is s t mean)
+              (checked.serves t (carries_of s t mean) ok);
         }
 
 -- A fault of loading that is no failure is the file's own.
@@ -347,8 +330,5 @@ files_refused national options stl pes f loading told = record {
         absurd (own_fault national stl _ f.block f.kind told fine
         (loads national options.origin stl pes g.0 g.1 loading g.2)),
   );
-  robust = λ subtitles transmission mean ok. cc;
-  robust_to_loss = λ subtitles transmission mean ok. cc;
-  recovers = λ subtitles transmission mean ok. cc;
-  shown = λ subtitles transmission mean ok asks. cc;
+  serves = λ subtitles transmission mean ok. cc;
 }

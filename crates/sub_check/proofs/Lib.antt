@@ -2,9 +2,7 @@ pub mod TransmissionLemmas
 pub mod AllKept
 pub mod StretchLemmas
 pub mod RobustLemmas
-pub mod RecoveryLemmas
 pub mod CleanStretchLemmas
-pub mod OnScreenLemmas
 pub mod RunningLemmas
 pub mod StepByStepLemmas
 pub mod RuleLemmas

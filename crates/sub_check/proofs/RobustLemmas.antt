@@ -12,6 +12,8 @@ use Rattle.sub_plan.specs.Options.{OptionsValue}
 use Rattle.sub_check.specs.Transmission.{Transmission, first_frame, last_frame, on_air_until}
 use Rattle.sub_check.specs.Good.{Good, IsCleanSpan}
 use Rattle.sub_check.specs.Laws.{LawOfWindow, LawOfGood, LawOfGoodAndMarkedLoss}
+use Rattle.sub_check.specs.OnScreen.{LawOfGoodAndComplete, LawOfGoodDroppingAndComplete}
+use Rattle.sub_check.specs.Recovery.{LawOfGoodAndRecovery, LawOfGoodDroppingAndRecovery}
 use Rattle.sub_check.specs.Stretch.{HasPromises}
 use Rattle.sub_check.specs.Sufficient.{IsSufficient, LawOfSufficientParts}
 use Rattle.sub_check.proofs.StretchLemmas.{law_of_stretch, law_of_whole_stretch, window}
@@ -73,6 +75,26 @@ law_of_good programme transmission options good =
 pub law_of_good_and_marked_loss : LawOfGoodAndMarkedLoss
 law_of_good_and_marked_loss programme transmission options good =
     (promised programme transmission options good).to_loss
+
+-- By it receivers recover.
+pub law_of_good_and_recovery : LawOfGoodAndRecovery
+law_of_good_and_recovery programme transmission options good =
+    (promised programme transmission options good).recovers
+
+-- So do receivers that drop rows.
+pub law_of_good_dropping_and_recovery : LawOfGoodDroppingAndRecovery
+law_of_good_dropping_and_recovery programme transmission options good =
+    (promised programme transmission options good).dropping
+
+-- Where its pages are complete, it is shown.
+pub law_of_good_and_complete : LawOfGoodAndComplete
+law_of_good_and_complete programme transmission options good =
+    (promised programme transmission options good).shown
+
+-- And by receivers that drop rows.
+pub law_of_good_dropping_and_complete : LawOfGoodDroppingAndComplete
+law_of_good_dropping_and_complete programme transmission options good =
+    (promised programme transmission options good).shown_dropping
 
 -- The law of the window.
 pub law_of_window : LawOfWindow

@@ -37,6 +37,21 @@ use Rattle.sub_check.specs.declared.checker.Accepted.{Accepted}
 use Rattle.sub_check.specs.declared.fault.CheckFault.{CheckFault}
 use Rattle.sub_check.specs.declared.fault.CheckFault.TheVariants as fault
 
+-- ---- what acceptance promises
+
+-- What every receiver makes of an accepted transmission.
+pub record ServesReceivers
+    (programme : ProgrammeValue) (transmission : Transmission) (options : OptionsValue)
+    : Type 0 where
+  -- It is robust.
+  pub robust : Robust programme transmission options
+  -- With lost rows too.
+  pub robust_to_loss : RobustToMarkedLoss programme transmission options
+  -- By it receivers recover from whatever they held before.
+  pub recovers : Recovers programme transmission options
+  -- Where complete pages are asked for, it is shown by every receiver that waits for a page's end.
+  pub shown : IsTrue options.asks_complete → Shown programme transmission options
+
 -- ---- both files
 
 -- The bytes of a subtitle file and of a PES file mean these subtitles and this transmission.
@@ -72,33 +87,12 @@ pub record AreAccepted
       × Mean national options.origin stl pes subtitles transmission
       × Good (record { national = national; records = subtitles }) transmission options
       × (IsTrue options.asks_complete → Complete transmission options))
-  -- What is accepted is robust.
-  pub robust :
+  -- What is accepted serves receivers.
+  pub serves :
       (subtitles : List SubtitleValue) (transmission : Transmission)
       → Mean national options.origin stl pes subtitles transmission
       → IsOk answer
-      → Robust (record { national = national; records = subtitles }) transmission options
-  -- What is accepted is robust with lost rows too.
-  pub robust_to_loss :
-      (subtitles : List SubtitleValue) (transmission : Transmission)
-      → Mean national options.origin stl pes subtitles transmission
-      → IsOk answer
-      → RobustToMarkedLoss (record { national = national; records = subtitles }) transmission
-      options
-  -- By what is accepted receivers recover from whatever they held before.
-  pub recovers :
-      (subtitles : List SubtitleValue) (transmission : Transmission)
-      → Mean national options.origin stl pes subtitles transmission
-      → IsOk answer
-      → Recovers (record { national = national; records = subtitles }) transmission options
-  -- Where complete pages are asked for, what is accepted is shown by every receiver that waits for
-  -- a page's end.
-  pub shown :
-      (subtitles : List SubtitleValue) (transmission : Transmission)
-      → Mean national options.origin stl pes subtitles transmission
-      → IsOk answer
-      → IsTrue options.asks_complete
-      → Shown (record { national = national; records = subtitles }) transmission options
+      → ServesReceivers (record { national = national; records = subtitles }) transmission options
 
 -- ---- a PES file, against a programme
 
@@ -119,32 +113,12 @@ pub record IsChecked
       × Carries options.origin bytes transmission
       × Good programme transmission options
       × (IsTrue options.asks_complete → Complete transmission options))
-  -- What is accepted is robust.
-  pub robust :
+  -- What is accepted serves receivers.
+  pub serves :
       (transmission : Transmission)
       → Carries options.origin bytes transmission
       → IsOk answer
-      → Robust programme transmission options
-  -- What is accepted is robust with lost rows too.
-  pub robust_to_loss :
-      (transmission : Transmission)
-      → Carries options.origin bytes transmission
-      → IsOk answer
-      → RobustToMarkedLoss programme transmission options
-  -- By what is accepted receivers recover from whatever they held before.
-  pub recovers :
-      (transmission : Transmission)
-      → Carries options.origin bytes transmission
-      → IsOk answer
-      → Recovers programme transmission options
-  -- Where complete pages are asked for, what is accepted is shown by every receiver that waits for
-  -- a page's end.
-  pub shown :
-      (transmission : Transmission)
-      → Carries options.origin bytes transmission
-      → IsOk answer
-      → IsTrue options.asks_complete
-      → Shown programme transmission options
+      → ServesReceivers programme transmission options
   -- The counts of what is accepted are those of the transmission.
   pub counts :
       (transmission : Transmission)

@@ -9,7 +9,7 @@ ghost use Rattle.sub_check.specs.Reception.{LawOfListening};
 /// Whatever a receiver held and showed before, at every frame's end from the next header of its
 /// page on the page that is due is on its screen, but for spaces where a byte was hit or a row
 /// lost.
-#[tactic(auto, using(crate::proofs::OnScreenLemmas::law_of_good_and_complete))]
+#[tactic(auto, using(crate::proofs::RobustLemmas::law_of_good_and_complete))]
 pub fn law_of_good_and_complete()
     ensures { LawOfGoodAndComplete }
 {}

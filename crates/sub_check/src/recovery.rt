@@ -5,7 +5,7 @@ ghost use Rattle.sub_check.specs.Recovery.{LawOfGoodAndRecovery, LawOfGoodDroppi
 
 /// Whatever a receiver held before, at every frame's end from the next header of its page on each
 /// cell holds the due page's code or, where its byte was hit or its row lost, a space.
-#[tactic(auto, using(crate::proofs::RecoveryLemmas::law_of_good_and_recovery))]
+#[tactic(auto, using(crate::proofs::RobustLemmas::law_of_good_and_recovery))]
 pub fn law_of_good_and_recovery()
     ensures { LawOfGoodAndRecovery }
 {}

@@ -1,5 +1,5 @@
--- The law: OnScreenLemmas.
-use Rattle.sub_check.proofs.OnScreenLemmas.{law_of_good_dropping_and_complete}
+-- The law: RobustLemmas.
+use Rattle.sub_check.proofs.RobustLemmas.{law_of_good_dropping_and_complete}
 use Rattle.sub_check.proofs.on_screen.law_of_good_dropping_and_complete.Goals as goal
 
 pub returns : goal.returns

@@ -1,5 +1,5 @@
--- The law: RecoveryLemmas.
-use Rattle.sub_check.proofs.RecoveryLemmas.{law_of_good_dropping_and_recovery}
+-- The law: RobustLemmas.
+use Rattle.sub_check.proofs.RobustLemmas.{law_of_good_dropping_and_recovery}
 use Rattle.sub_check.proofs.recovery.law_of_good_dropping_and_recovery.Goals as goal
 
 pub returns : goal.returns
