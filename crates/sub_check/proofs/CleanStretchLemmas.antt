@@ -307,6 +307,5 @@ law_of_clean_stretch programme transmission options unread a b clean =
     record {
       trusted = trusted;
       shown = λ asks ended.
-          let pages = complete programme transmission options unread a b clean asks ended in
-          (trusted.shown pages, trusted.shown_dropping pages);
+          trusted.shown (complete programme transmission options unread a b clean asks ended);
     }

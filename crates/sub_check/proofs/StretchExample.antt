@@ -9,6 +9,8 @@ use Rattle.ttx_packet.specs.PageHeader.{header, coded_header}
 use Rattle.ttx_packet.specs.Parity.{is_odd}
 use Rattle.ttx_page.specs.Page.{blank, blank_row}
 use Rattle.ttx_page.specs.PacketKind.{kind}
+use Rattle.ttx_page.specs.Receiver.ReceiverClass.{Storing}
+use Rattle.ttx_page.proofs.NoiseLaws.{all_kept, may_all}
 use Rattle.stl_rows.specs.DrawnPage.{drawn, page_of_lines, line_fault_kinds}
 use Rattle.stl_rows.specs.DuePage.{due}
 use Rattle.stl_rows.specs.Line.{is_boxed, is_double, prepared, row_of}
@@ -19,7 +21,6 @@ use Rattle.sub_check.specs.Examples.{header_888}
 use Rattle.sub_check.specs.Examples.{later_subtitle, row_22}
 use Rattle.sub_check.specs.FrameRules.{task_of}
 use Rattle.sub_check.specs.Good.{Good}
-use Rattle.sub_check.proofs.AllKept.{all_kept, may_all}
 use Rattle.sub_check.proofs.CleanStretchLemmas.{law_of_clean_stretch}
 use Rattle.sub_check.specs.Rules.Rule.{SubtitleControl}
 use Rattle.sub_check.proofs.RobustTests.{clean_by_test, listening}
@@ -53,7 +54,7 @@ example_of_clean_stretch = record {
       let trusted = (law_of_clean_stretch later_subtitle damaged_first (each 1) None 900001 900002
       clean).trusted in
       let restored =
-      (trusted.recovers 900001 0 900001 (all_kept sent) got old new
+      (trusted.recovers Storing 900001 0 900001 (all_kept sent) got old new
       (listening damaged_first 900001 0 900001 refl) (omega arith) (omega arith) (may_all sent) near
       hears).restored in
       elim (restored.cells refl 22 19 (omega arith, omega arith, omega arith)) [

@@ -1,25 +1,22 @@
 -- What may be trusted of a stretch of frames that has what suffices, `law_of_stretch`; and of all
 -- frames that is what is promised of a transmission, `law_of_whole_stretch`.
 use Rattle.std.proofs.lemmas.Bool.Decides.{nat_tests}
-use Rattle.std.proofs.Common.{◌≡◌, ℕ, ◌+◌, ◌≤◌, inl, inr, Bool, true, false, List, ◌++◌}
+use Rattle.std.proofs.Common.{◌≡◌, ℕ, ◌+◌, ◌≤◌, inl, inr, true, false, List, ◌++◌}
 use Rattle.std.proofs.Common.{drop, take, IsFalse, sym, ap, ◌∙◌, subst, arith, append_assoc}
 use Rattle.std.proofs.Common.{take-append-drop, le_trans}
-use Rattle.std.specs.List.{AllZip, items_where_true}
 use Rattle.std.proofs.lemmas.List.{drop-append-le}
 use Rattle.std.proofs.lemmas.List.Elements.{recursion_from_All}
-use Rattle.ttx_packet.specs.OneBit.{AreNear}
 use Rattle.ttx_page.specs.declared.packet_kind.PacketKind.{PacketKind}
-use Rattle.ttx_page.specs.LostRows.{arrivals_of, MayBeMarked}
 use Rattle.ttx_page.specs.Noise.{EndsAs, IsSound}
 use Rattle.ttx_page.specs.Page.{cell, IsCell}
 use Rattle.ttx_page.specs.PacketKind.{kind}
-use Rattle.ttx_page.specs.Receiver.{HearsDropping, State}
+use Rattle.ttx_page.specs.Receiver.{ReceiverClass, State}
+use Rattle.ttx_page.specs.Receiver.ReceiverClass.{Dropping, Storing}
 use Rattle.ttx_page.specs.Recovery.{EndsAfresh}
 use Rattle.ttx_page.specs.Shown.{shown}
 use Rattle.ttx_page.specs.Span.{holds_header, is_unended}
 use Rattle.ttx_page.proofs.LateStart.{shown-later, sound-later, unended-later}
 use Rattle.ttx_page.proofs.NoiseLaws as noise
-use Rattle.ttx_page.proofs.DropLaws as drops
 use Rattle.ttx_page.proofs.ScreenLaws as screens
 use Rattle.ttx_page.proofs.SpanLists.{holds-append_left, holds-append_right}
 use Rattle.stl_rows.specs.Programme.{ProgrammeValue}
@@ -28,8 +25,8 @@ use Rattle.sub_plan.specs.Schedule.{due_in}
 use Rattle.sub_check.specs.Transmission.{Transmission, first_frame, last_frame, packets_between}
 use Rattle.sub_check.specs.Transmission.{on_air, on_air_until, packets_of}
 use Rattle.sub_check.specs.LostRows.{RobustToMarkedLoss}
-use Rattle.sub_check.specs.OnScreen.{CompleteWithin, ShownForDroppingWithin, ShownWithin}
-use Rattle.sub_check.specs.Recovery.{IsRestoredFrom, RecoversForDroppingWithin, RecoversWithin}
+use Rattle.sub_check.specs.OnScreen.{CompleteWithin, ShownWithin}
+use Rattle.sub_check.specs.Recovery.{IsRestoredFrom, RecoversWithin}
 use Rattle.sub_check.specs.Robust.{IsListening, Robust}
 use Rattle.sub_check.specs.Stretch.{LawOfWholeStretch}
 use Rattle.sub_check.specs.Sufficient.{IsSufficient, LawOfStretch}
@@ -151,104 +148,58 @@ module _ (programme : ProgrammeValue) (transmission : Transmission) (options : O
       (ap (holds_header K) so_far
       ∙ holds-append_right K (before (first_frame transmission)) sent holds)
 
-  -- A header of the page is got.
-  header_got :
-      (marks : List Bool) (got : List (List ℕ))
-      → AllZip MayBeMarked sent marks
-      → AllZip AreNear (items_where_true marks sent) got
-      → holds_header K sent ≡ true
-      → holds_header K got ≡ true
-  header_got marks got may near holds =
-      subst (λ ps. holds_header K ps ≡ true) (noise.arrived_marked sent marks got may near)
-      (screens.header_arrives options.page sent (arrivals_of marks got)
-      (recursion_from_All _ sent sound.exact) (noise.arrives_marked sent marks got may near) holds)
-
 -- ---- a stretch that has what suffices
 
 module _ (programme : ProgrammeValue) (transmission : Transmission) (options : OptionsValue)
-    (a b : ℕ) (enough : IsSufficient programme transmission options a b) where
-  -- Receivers recover in it: by the laws of recovery and of lost rows.
-  recovers : RecoversWithin programme transmission options a b
-  recovers g j f marks got old new listening from to may near hears =
-      let heard : List (List ℕ) = on_air transmission g j f in
-      let clean = sound programme transmission options a b enough g j f listening from to in
-      restored programme transmission options a b enough g j f listening from to _ old new
-      (λ holds.
-      noise.law_of_marked_recovery options.page heard marks got old new clean may near holds hears)
-      (λ unheard shut.
-      noise.law_of_marked_loss options.page heard marks got old new clean may near unheard shut
-      hears)
+    (a b : ℕ) (enough : IsSufficient programme transmission options a b) (class : ReceiverClass)
+  where
+    -- Receivers recover in it: by the laws of recovery and of lost rows.
+    recovers : RecoversWithin class programme transmission options a b
+    recovers g j f marks got old new listening from to may near hears =
+        let heard : List (List ℕ) = on_air transmission g j f in
+        let clean = sound programme transmission options a b enough g j f listening from to in
+        restored programme transmission options a b enough g j f listening from to _ old new
+        (λ holds.
+        noise.law_of_recovery class options.page heard marks got old new clean may near holds
+        hears)
+        (λ unheard shut.
+        noise.law_of_lost_rows class options.page heard marks got old new clean may near unheard
+        shut hears)
 
-  -- So do receivers that drop rows: by the same laws for them.
-  dropping : RecoversForDroppingWithin programme transmission options a b
-  dropping g j f marks got old new listening from to may near hears =
-      let heard : List (List ℕ) = on_air transmission g j f in
-      let clean = sound programme transmission options a b enough g j f listening from to in
-      let arrives = noise.arrives_marked heard marks got may near in
-      let arrived =
-      subst (λ ps. HearsDropping options.page old ps new)
-      (sym (noise.arrived_marked heard marks got may near)) hears in
-      restored programme transmission options a b enough g j f listening from to _ old new
-      (λ holds.
-      drops.law_of_dropping_recovery options.page heard (arrivals_of marks got) old new clean
-      arrives holds arrived)
-      (λ unheard shut.
-      drops.law_of_dropped_rows options.page heard (arrivals_of marks got) old new clean arrives
-      unheard shut arrived)
-
-  -- What is due is on their screens: by the law of the screen.
-  on_screen :
-      CompleteWithin transmission options a b
-      → ShownWithin programme transmission options a b
-  on_screen complete g j f marks got old new listening from to may near run holds =
-      let held =
-      (recovers g j f marks got old.held new.held listening from to may near
-      (screens.held_by options.page got old new run)).restored in
-      record {
-        page = new.held.page;
-        is =
-            screens.law_of_screen options.page got old new run
-            (header_got programme transmission options a b enough g j f listening from to marks got
-            may near holds)
-            (held.is_open holds
-            ∙ ended programme transmission options a b enough g j f listening from to complete
-            holds);
-        cells = held.cells holds;
-      }
-
-  -- And on those of receivers that drop rows.
-  on_screen_dropping :
-      CompleteWithin transmission options a b
-      → ShownForDroppingWithin programme transmission options a b
-  on_screen_dropping complete g j f marks got old new listening from to may near run holds =
-      let held =
-      (dropping g j f marks got old.held new.held listening from to may near
-      (screens.held_by_dropping options.page got old new run)).restored in
-      record {
-        page = new.held.page;
-        is =
-            screens.law_of_dropping_screen options.page got old new run
-            (header_got programme transmission options a b enough g j f listening from to marks got
-            may near holds)
-            (held.is_open holds
-            ∙ ended programme transmission options a b enough g j f listening from to complete
-            holds);
-        cells = held.cells holds;
-      }
+    -- What is due is on their screens: by the law of the screen.
+    on_screen :
+        CompleteWithin transmission options a b
+        → ShownWithin class programme transmission options a b
+    on_screen complete g j f marks got old new listening from to may near run holds =
+        let heard : List (List ℕ) = on_air transmission g j f in
+        let clean = sound programme transmission options a b enough g j f listening from to in
+        let held =
+        (recovers g j f marks got old.held new.held listening from to may near
+        (screens.held_by class options.page got old new run)).restored in
+        record {
+          page = new.held.page;
+          is =
+              screens.law_of_screen class options.page got old new run
+              (screens.header_got options.page heard marks got
+              (recursion_from_All _ heard clean.exact) may near holds)
+              (held.is_open holds
+              ∙ ended programme transmission options a b enough g j f listening from to complete
+              holds);
+          cells = held.cells holds;
+        }
 
 -- A stretch that has what suffices may be trusted.
 pub law_of_stretch : LawOfStretch
 law_of_stretch programme transmission options a b enough = record {
   recovers = recovers programme transmission options a b enough;
-  dropping = dropping programme transmission options a b enough;
-  shown = on_screen programme transmission options a b enough;
-  shown_dropping = on_screen_dropping programme transmission options a b enough;
+  shown = λ complete class.
+      on_screen programme transmission options a b enough class complete;
 }
 
 -- ---- all frames
 
 module _ (programme : ProgrammeValue) (transmission : Transmission) (options : OptionsValue)
-    (recovers : RecoversWithin programme transmission options (first_frame transmission)
+    (recovers : RecoversWithin Storing programme transmission options (first_frame transmission)
     (last_frame transmission)) where
   -- Where receivers recover in all frames, the transmission is robust to lost rows.
   to_loss : RobustToMarkedLoss programme transmission options
@@ -270,14 +221,14 @@ module _ (programme : ProgrammeValue) (transmission : Transmission) (options : O
 -- What may be trusted of all frames is what is promised of the transmission.
 pub law_of_whole_stretch : LawOfWholeStretch
 law_of_whole_stretch programme transmission options trusted = record {
-  robust = robust_of_recovers programme transmission options trusted.recovers;
-  to_loss = to_loss programme transmission options trusted.recovers;
+  robust = robust_of_recovers programme transmission options (trusted.recovers Storing);
+  to_loss = to_loss programme transmission options (trusted.recovers Storing);
   recovers = λ g j f marks got old new listening may near hears.
-      (trusted.recovers g j f marks got old new listening listening.not_before listening.not_after
-      may near hears).restored;
-  dropping = trusted.dropping;
+      (trusted.recovers Storing g j f marks got old new listening listening.not_before
+      listening.not_after may near hears).restored;
+  dropping = trusted.recovers Dropping;
   shown = λ complete g j f marks got old new listening.
-      trusted.shown complete g j f marks got old new listening listening.not_before
+      trusted.shown complete Storing g j f marks got old new listening listening.not_before
       listening.not_after;
-  shown_dropping = trusted.shown_dropping;
+  shown_dropping = λ complete. trusted.shown complete Dropping;
 }

@@ -6,13 +6,14 @@ use Rattle.std.specs.Prelude.{slice_index_or, Option, IsTrue}
 use Rattle.ttx_page.specs.declared.packet_kind.PacketKind.TheVariants.{Row}
 use Rattle.ttx_page.specs.Page.{IsCell}
 use Rattle.ttx_page.specs.PacketKind.{is_row, kind}
+use Rattle.ttx_page.specs.Receiver.{ReceiverClass}
 use Rattle.ttx_page.specs.Span.{is_open_after, span}
 use Rattle.stl_rows.specs.Programme.{ProgrammeValue}
 use Rattle.sub_plan.specs.Options.{OptionsValue}
 use Rattle.sub_check.specs.Events.{standing_at}
 use Rattle.sub_check.specs.FrameRules.{IsCovered, IsEnded, ShowsDue, Task, Unread, frame_at}
 use Rattle.sub_check.specs.FrameRules.{packets_before, packets_of_frame, task_of}
-use Rattle.sub_check.specs.OnScreen.{ShownForDroppingWithin, ShownWithin}
+use Rattle.sub_check.specs.OnScreen.{ShownWithin}
 use Rattle.sub_check.specs.PacketRules.{codes_of, KeepsRule}
 use Rattle.sub_check.specs.PacketTests.{breaks}
 use Rattle.sub_check.specs.Stretch.{MayBeTrusted}
@@ -135,8 +136,8 @@ pub record IsTrusted
   pub shown :
       IsTrue options.asks_complete
       → AtEnds (λ n f. IsEnded (task_of programme options unread) transmission n) transmission a b
-      → ShownWithin programme transmission options a b
-      × ShownForDroppingWithin programme transmission options a b
+      → (class : ReceiverClass)
+      → ShownWithin class programme transmission options a b
 
 -- A clean stretch may be trusted.
 -- So who reads what is told of a refused transmission knows what to trust of the rest: where frames

@@ -5,6 +5,7 @@ use Rattle.std.specs.List.{AllZip}
 use Rattle.ttx_packet.specs.OneBit.{AreNear}
 use Rattle.ttx_page.specs.Page.{cell, space}
 use Rattle.ttx_page.specs.Receiver.{Hears, State}
+use Rattle.ttx_page.specs.Receiver.ReceiverClass.{Storing}
 use Rattle.stl_rows.specs.declared.national.National.TheVariants.{English, German}
 use Rattle.stl_rows.specs.Programme.{ProgrammeValue}
 use Rattle.sub_plan.specs.Examples.{page_888}
@@ -307,7 +308,7 @@ pub record IsNeeded
       (first_frame transmission) (last_frame transmission)
   pub not_robust : Robust programme transmission options → ⊥
   pub not_trusted :
-      RecoversWithin programme transmission options (first_frame transmission)
+      RecoversWithin Storing programme transmission options (first_frame transmission)
       (last_frame transmission)
       → ⊥
 

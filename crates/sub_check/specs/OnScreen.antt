@@ -3,12 +3,13 @@
 use Rattle.std.specs.Prelude.{◌≡◌, ℕ, ◌≤◌, ◌⊎◌, Bool, List, [], Option, Some, IsTrue, IsFalse}
 use Rattle.std.specs.List.{AllZip, items_where_true}
 use Rattle.ttx_packet.specs.OneBit.{AreNear}
-use Rattle.ttx_packet.specs.PageId.{PageIdValue}
-use Rattle.ttx_page.specs.DroppedRows.{SomewhereInRow}
+use Rattle.ttx_page.specs.DroppedRows.{ExcusedBy}
 use Rattle.ttx_page.specs.LostRows.{IsHitOrLost, MayBeMarked, arrivals_of}
 use Rattle.ttx_page.specs.Page.{Rows, space, cell, IsCell}
 use Rattle.ttx_page.specs.PacketKind.{kind}
-use Rattle.ttx_page.specs.Screen.{Display, Shows, ShowsDropping}
+use Rattle.ttx_page.specs.Receiver.{ReceiverClass}
+use Rattle.ttx_page.specs.Receiver.ReceiverClass.{Dropping}
+use Rattle.ttx_page.specs.Screen.{Display, Shows, ShowsBy}
 use Rattle.ttx_page.specs.Span.{holds_header, is_unended}
 use Rattle.stl_rows.specs.Programme.{IsProgramme, ProgrammeValue}
 use Rattle.sub_plan.specs.Options.{IsOptions, OptionsValue}
@@ -65,41 +66,23 @@ Shown programme transmission options =
 
 -- ---- in a stretch of frames
 
--- The frames from a to b are shown by receivers that go on by this relation: as above, with start
--- and stop in these frames. A cell is excused by what `Widens` makes of a hit byte or a lost row.
-abbrev pub ShownBy :
-    (PageIdValue → Display → List (List ℕ) → Display → Type 0)
-    → ((ℕ → ℕ → Type 0) → ℕ → ℕ → Type 0)
-    → ProgrammeValue → Transmission → OptionsValue → ℕ → ℕ → Type 0
-ShownBy ShowsSo Widens programme transmission options a b =
+-- The frames from a to b are shown by receivers of the class: as above, with start and stop in these
+-- frames. Where rows are dropped, a space is excused where any byte of its row was hit, or the row
+-- lost.
+abbrev pub ShownWithin :
+    ReceiverClass → ProgrammeValue → Transmission → OptionsValue → ℕ → ℕ → Type 0
+ShownWithin class programme transmission options a b =
     (g j f : ℕ) (marks : List Bool) (got : List (List ℕ)) (old new : Display)
     → IsListening transmission g j f
     → a ≤ g
     → f ≤ b
     → AllZip MayBeMarked (on_air transmission g j f) marks
     → AllZip AreNear (items_where_true marks (on_air transmission g j f)) got
-    → ShowsSo options.page old got new
+    → ShowsBy class options.page old got new
     → IsTrue (holds_header (kind options.page) (on_air transmission g j f))
     → HasDuePage programme f
-    (Widens (IsHitOrLost options.page (on_air transmission g j f) (arrivals_of marks got)))
+    (ExcusedBy class (IsHitOrLost options.page (on_air transmission g j f) (arrivals_of marks got)))
     new.screen
-
--- They are shown by every receiver.
-abbrev pub ShownWithin : ProgrammeValue → Transmission → OptionsValue → ℕ → ℕ → Type 0
-ShownWithin programme transmission options a b =
-    ShownBy Shows (λ IsExcused. IsExcused) programme transmission options a b
-
--- And by every receiver that drops rows: a space is excused where any byte of its row was hit, or
--- the row lost.
-abbrev pub ShownForDroppingWithin : ProgrammeValue → Transmission → OptionsValue → ℕ → ℕ → Type 0
-ShownForDroppingWithin programme transmission options a b =
-    ShownBy ShowsDropping SomewhereInRow programme transmission options a b
-
--- A transmission that is shown by receivers that drop rows.
-abbrev pub ShownForDropping : ProgrammeValue → Transmission → OptionsValue → Type 0
-ShownForDropping programme transmission options =
-    ShownForDroppingWithin programme transmission options (first_frame transmission)
-    (last_frame transmission)
 
 -- ---- good transmissions
 
@@ -118,7 +101,8 @@ LawOfGoodDroppingAndComplete =
     (programme : ProgrammeValue) (transmission : Transmission) (options : OptionsValue)
     → Good programme transmission options
     → Complete transmission options
-    → ShownForDropping programme transmission options
+    → ShownWithin Dropping programme transmission options (first_frame transmission)
+    (last_frame transmission)
 
 -- The schedule of a programme that has a subtitle is one of complete pages, in both modes.
 abbrev pub LawOfCompletePlan : Type 0

@@ -3,12 +3,12 @@
 use Rattle.std.specs.Prelude.{◌≡◌, ◌↔◌, ℕ, ◌+◌, ◌≤◌, ◌⊎◌, Bool, List, IsTrue, IsFalse}
 use Rattle.std.specs.List.{AllZip, items_where_true}
 use Rattle.ttx_packet.specs.OneBit.{AreNear}
-use Rattle.ttx_packet.specs.PageId.{PageIdValue}
-use Rattle.ttx_page.specs.DroppedRows.{SomewhereInRow}
+use Rattle.ttx_page.specs.DroppedRows.{ExcusedBy}
 use Rattle.ttx_page.specs.LostRows.{IsHitOrLost, MayBeMarked, arrivals_of}
 use Rattle.ttx_page.specs.Page.{space, cell, IsCell}
 use Rattle.ttx_page.specs.PacketKind.{kind}
-use Rattle.ttx_page.specs.Receiver.{State, Hears, HearsDropping}
+use Rattle.ttx_page.specs.Receiver.{Hears, HearsBy, ReceiverClass, State}
+use Rattle.ttx_page.specs.Receiver.ReceiverClass.{Dropping}
 use Rattle.ttx_page.specs.Span.{holds_header, is_unended}
 use Rattle.stl_rows.specs.Programme.{ProgrammeValue}
 use Rattle.sub_plan.specs.Options.{OptionsValue}
@@ -69,40 +69,22 @@ pub record IsRestoredFrom
       → IsTrue new.heard
       ↔ IsTrue (holds_header (kind options.page) sent)
 
--- Receivers that hear by this relation recover in the frames from a to b: as above, with start and
--- stop in these frames. A cell is excused by what `Widens` makes of a hit byte or a lost row.
-abbrev pub RecoversBy :
-    (PageIdValue → State → List (List ℕ) → State → Type 0)
-    → ((ℕ → ℕ → Type 0) → ℕ → ℕ → Type 0)
-    → ProgrammeValue → Transmission → OptionsValue → ℕ → ℕ → Type 0
-RecoversBy HearsSo Widens programme transmission options a b =
+-- Receivers of the class recover in the frames from a to b: as above, with start and stop in these
+-- frames. Where rows are dropped, a space is excused where any byte of its row was hit, or the row
+-- lost.
+abbrev pub RecoversWithin :
+    ReceiverClass → ProgrammeValue → Transmission → OptionsValue → ℕ → ℕ → Type 0
+RecoversWithin class programme transmission options a b =
     (g j f : ℕ) (marks : List Bool) (got : List (List ℕ)) (old new : State)
     → IsListening transmission g j f
     → a ≤ g
     → f ≤ b
     → AllZip MayBeMarked (on_air transmission g j f) marks
     → AllZip AreNear (items_where_true marks (on_air transmission g j f)) got
-    → HearsSo options.page old got new
+    → HearsBy class options.page old got new
     → IsRestoredFrom programme options g f (on_air transmission g j f)
-    (Widens (IsHitOrLost options.page (on_air transmission g j f) (arrivals_of marks got))) old new
-
--- Every receiver recovers in the frames from a to b.
-abbrev pub RecoversWithin : ProgrammeValue → Transmission → OptionsValue → ℕ → ℕ → Type 0
-RecoversWithin programme transmission options a b =
-    RecoversBy Hears (λ IsExcused. IsExcused) programme transmission options a b
-
--- And so does every receiver that drops rows: a space is excused where any byte of its row was hit,
--- or the row lost.
-abbrev pub RecoversForDroppingWithin :
-    ProgrammeValue → Transmission → OptionsValue → ℕ → ℕ → Type 0
-RecoversForDroppingWithin programme transmission options a b =
-    RecoversBy HearsDropping SomewhereInRow programme transmission options a b
-
--- A transmission from which receivers that drop rows recover.
-abbrev pub RecoversForDropping : ProgrammeValue → Transmission → OptionsValue → Type 0
-RecoversForDropping programme transmission options =
-    RecoversForDroppingWithin programme transmission options (first_frame transmission)
-    (last_frame transmission)
+    (ExcusedBy class (IsHitOrLost options.page (on_air transmission g j f) (arrivals_of marks got)))
+    old new
 
 -- ---- good transmissions
 
@@ -119,4 +101,5 @@ abbrev pub LawOfGoodDroppingAndRecovery : Type 0
 LawOfGoodDroppingAndRecovery =
     (programme : ProgrammeValue) (transmission : Transmission) (options : OptionsValue)
     → Good programme transmission options
-    → RecoversForDropping programme transmission options
+    → RecoversWithin Dropping programme transmission options (first_frame transmission)
+    (last_frame transmission)

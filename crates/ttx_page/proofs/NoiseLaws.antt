@@ -2,11 +2,11 @@
 -- cell, `cell_shown`, gives `law_of_recovery` and `law_of_lost_rows`; the others follow.
 use Rattle.std.proofs.Common.{◌≡◌, ℕ, ◌<◌, ◌⊎◌, inl, inr, Bool, true, false, not, ◌||◌, List, []}
 use Rattle.std.proofs.Common.{◌∷◌, map, zip, find, Option, Some, None, option_map, unwrap_or, All}
-use Rattle.std.proofs.Common.{Contains, refl, sym, ap, ◌∙◌, arith}
-use Rattle.std.specs.List.{list_any, AllZip, items_where_true}
+use Rattle.std.proofs.Common.{Contains, IsTrue, refl, sym, ap, ◌∙◌, arith}
+use Rattle.std.specs.List.{AllByRecursion, list_any, AllZip, items_where_true}
 use Rattle.std.proofs.lemmas.Bool.Decides.{nat_tests}
 use Rattle.std.proofs.lemmas.List.{length-map, get_or-map}
-use Rattle.std.proofs.lemmas.List.Elements.{recursion_from_All, All-contains}
+use Rattle.std.proofs.lemmas.List.Elements.{recursion_from_All, All-cons, All-contains, All-nil}
 use Rattle.std.proofs.lemmas.List.Folds.{list_any_at}
 use Rattle.std.proofs.lemmas.Slice.Zip.{firsts-zip, AllZip-long}
 use Rattle.ttx_packet.specs.OneBit.{AreNear}
@@ -17,16 +17,19 @@ use Rattle.ttx_page.specs.Page.{space, cell, IsCell}
 use Rattle.ttx_page.specs.declared.packet_kind.PacketKind.{PacketKind}
 use Rattle.ttx_page.specs.declared.packet_kind.PacketKind.TheVariants.{Row}
 use Rattle.ttx_page.specs.PacketKind.{kind, is_this_page, ends_page, is_row}
-use Rattle.ttx_page.specs.Receiver.{State, Hears}
+use Rattle.ttx_page.specs.DroppedRows.{ExcusedBy}
+use Rattle.ttx_page.specs.Receiver.{HearsBy, ReceiverClass, State}
+use Rattle.ttx_page.specs.Receiver.ReceiverClass.{Storing}
 use Rattle.ttx_page.specs.Span.{holds_header, is_unended, is_open_after, after_last_header, span}
 use Rattle.ttx_page.specs.Shown.{shown, IsHit}
 use Rattle.ttx_page.specs.Noise.{HasSameCodes, IsOddRow, IsSound, LawOfNoise, LawOfQuiet}
-use Rattle.ttx_page.specs.LostRows.{LawOfMarkedLoss, LawOfNothingLost, Arrives, arrived}
-use Rattle.ttx_page.specs.LostRows.{IsHitOrLost, LawOfLostRows, MayBeMarked, arrivals_of}
-use Rattle.ttx_page.specs.Recovery.{LawOfMarkedRecovery, LawOfRecovery}
+use Rattle.ttx_page.specs.LostRows.{IsHitOrLost, LawOfLostRows, LawOfNothingLost, MayBeMarked}
+use Rattle.ttx_page.specs.LostRows.{arrivals_of}
+use Rattle.ttx_page.specs.Recovery.{LawOfRecovery}
 use Rattle.ttx_page.proofs.SpanLists.{Any-map, map-Any, find_is, find_none, none_pass}
 use Rattle.ttx_page.proofs.SpanLists.{list_any-map, after-map, span-map, zip-map}
-use Rattle.ttx_page.proofs.NoiseSteps.{Item, kind_of_item, Becomes, over, row_from_test}
+use Rattle.ttx_page.proofs.NoiseSteps.{Arrives, Item, kind_of_item, Becomes, arrived, excused_as}
+use Rattle.ttx_page.proofs.NoiseSteps.{over, row_from_test}
 
 -- Each packet of a row in the span has the code that is shown. Also for `LateStart`.
 pub shown_is :
@@ -61,8 +64,8 @@ shown_is w sent row column packet sound within is below = go (find test spanned)
         row column (row_from_test row (kind w first) found.0) is below)
 
 -- What is sent, with what arrives of it.
-module _ (w : PageIdValue) (sent : List (List ℕ)) (arrivals : List (Option (List ℕ)))
-    (near : AllZip Arrives sent arrivals) where
+module _ (class : ReceiverClass) (w : PageIdValue) (sent : List (List ℕ))
+    (arrivals : List (Option (List ℕ))) (near : AllZip Arrives sent arrivals) where
   abbrev items : List Item
   items = zip sent arrivals
 
@@ -77,8 +80,8 @@ module _ (w : PageIdValue) (sent : List (List ℕ)) (arrivals : List (Option (Li
   span-items : span (kind w) sent ≡ map sent_of (span (kind_of_item w) items)
   span-items = ap (span (kind w)) sent-items ∙ span-map (kind w) sent_of items
 
-  -- The packet of an item in the span is in the span. Also for `DropLaws`.
-  pub sent-in_span :
+  -- The packet of an item in the span is in the span.
+  sent-in_span :
       (item : Item)
       → Contains (span (kind_of_item w) items) item
       → Contains (span (kind w) sent) item.0
@@ -117,11 +120,12 @@ module _ (w : PageIdValue) (sent : List (List ℕ)) (arrivals : List (Option (Li
       (old new : State) (row column : ℕ)
       → IsSound w sent
       → IsCell row column
-      → Hears w old (arrived arrivals) new
-      → Becomes w row column (shown w sent row column) (IsHitOrLost w sent arrivals row column)
+      → HearsBy class w old (arrived arrivals) new
+      → Becomes class w row column (shown w sent row column)
+      (ExcusedBy class (IsHitOrLost w sent arrivals) row column)
       old items new
   becomes old new row column sound named hears =
-      over w row column _ _ old [] sent arrivals old new named
+      over class w row column _ _ old [] sent arrivals old new named
       (recursion_from_All _ sent sound.exact) (recursion_from_All _ sent sound.erases) near hears
       (grind (arith, nat_tests))
 
@@ -129,7 +133,7 @@ module _ (w : PageIdValue) (sent : List (List ℕ)) (arrivals : List (Option (Li
   flags :
       (old new : State)
       → IsSound w sent
-      → Hears w old (arrived arrivals) new
+      → HearsBy class w old (arrived arrivals) new
       → (new.heard ≡ (holds_header (kind w) sent || old.heard))
       × ((holds_header (kind w) sent || not old.is_open) ≡ true
       → new.is_open ≡ is_open_after (kind w) sent)
@@ -142,51 +146,30 @@ module _ (w : PageIdValue) (sent : List (List ℕ)) (arrivals : List (Option (Li
       (old new : State)
       → IsSound w sent
       → holds_header (kind w) sent ≡ true
-      → Hears w old (arrived arrivals) new
+      → HearsBy class w old (arrived arrivals) new
       → (row column : ℕ)
       → IsCell row column
       → (cell new.page row column ≡ shown w sent row column)
-      ⊎ ((cell new.page row column ≡ space) × IsHitOrLost w sent arrivals row column)
+      ⊎ ((cell new.page row column ≡ space)
+      × ExcusedBy class (IsHitOrLost w sent arrivals) row column)
   cell_shown old new sound holds hears row column named =
       let end =
       (becomes old new row column sound named hears).cell_is (rw (← holds-items) holds)
       (λ item within is.
       let sent_within = sent-in_span item within in (
-        All-contains (IsOddRow w) _ item.0 sound.odd sent_within row is column named.2,
+        All-contains (IsOddRow w) _ item.0 sound.odd sent_within row is,
         shown_is w sent row column item.0 sound sent_within is named.2,
-        λ lost_byte. (within.0, item, within.1, within.2, (is, lost_byte)),
+        excused_as class _ _ row column
+            (λ other lost_byte. (within.0, item, within.1, within.2, (is, lost_byte))),
       )) in
       let rows = row-items row in
       let no_row = find_none (λ p. is_row row (kind w p)) (span (kind w) sent) in
       grind (arith, nat_tests)
 
--- ---- the laws
-
--- The law of recovery.
-pub law_of_recovery : LawOfRecovery
-law_of_recovery w sent arrivals old new sound near holds hears =
-    let end = flags w sent arrivals near old new sound hears in
-    record {
-      heard = grind (arith, nat_tests);
-      is_open = grind (arith, nat_tests);
-      cells = cell_shown w sent arrivals near old new sound holds hears;
-    }
-
--- The law of lost rows.
-pub law_of_lost_rows : LawOfLostRows
-law_of_lost_rows w sent arrivals old new sound near unheard shut hears =
-    let end = flags w sent arrivals near old new sound hears in
-    record {
-      heard = grind (arith, nat_tests);
-      is_open = grind (arith, nat_tests);
-      cells = λ now_heard.
-          cell_shown w sent arrivals near old new sound (grind (arith, nat_tests)) hears;
-    }
-
 -- ---- marks
 
 -- What is near the packets that are kept arrives.
-pub arrives_marked :
+arrives_marked :
     (sent : List (List ℕ)) (marks : List Bool) (got : List (List ℕ))
     → AllZip MayBeMarked sent marks
     → AllZip AreNear (items_where_true marks sent) got
@@ -201,7 +184,7 @@ arrives_marked (p ∷ ps) (true ∷ ms) (g ∷ gs) may near =
     (near.0, arrives_marked ps ms gs may.1 near.1)
 
 -- What arrives by marks is what was got.
-pub arrived_marked :
+arrived_marked :
     (sent : List (List ℕ)) (marks : List Bool) (got : List (List ℕ))
     → AllZip MayBeMarked sent marks
     → AllZip AreNear (items_where_true marks sent) got
@@ -215,42 +198,66 @@ arrived_marked (p ∷ ps) (true ∷ ms) [] may near = elim near [ ]
 arrived_marked (p ∷ ps) (true ∷ ms) (g ∷ gs) may near =
     ap (λ xs. g ∷ xs) (arrived_marked ps ms gs may.1 near.1)
 
--- The law of recovery by marks: that by arrivals.
-pub law_of_marked_recovery : LawOfMarkedRecovery
-law_of_marked_recovery w sent marks got old new sound may near holds hears =
-    law_of_recovery w sent (arrivals_of marks got) old new sound
-    (arrives_marked sent marks got may near) holds
-    (rw (arrived_marked sent marks got may near) hears)
+-- ---- the laws
 
--- The law of lost rows by marks: that by arrivals.
-pub law_of_marked_loss : LawOfMarkedLoss
-law_of_marked_loss w sent marks got old new sound may near unheard shut hears =
-    law_of_lost_rows w sent (arrivals_of marks got) old new sound
-    (arrives_marked sent marks got may near) unheard shut
-    (rw (arrived_marked sent marks got may near) hears)
+-- The law of recovery.
+pub law_of_recovery : LawOfRecovery
+law_of_recovery class w sent marks got old new sound may near holds hears =
+    let arrivals : List (Option (List ℕ)) = arrivals_of marks got in
+    let arrives = arrives_marked sent marks got may near in
+    let heard = rw (← arrived_marked sent marks got may near) at hears in
+    let end = flags class w sent arrivals arrives old new sound heard in
+    record {
+      heard = grind (arith, nat_tests);
+      is_open = grind (arith, nat_tests);
+      cells = cell_shown class w sent arrivals arrives old new sound holds heard;
+    }
+
+-- The law of lost rows.
+pub law_of_lost_rows : LawOfLostRows
+law_of_lost_rows class w sent marks got old new sound may near unheard shut hears =
+    let arrivals : List (Option (List ℕ)) = arrivals_of marks got in
+    let arrives = arrives_marked sent marks got may near in
+    let heard = rw (← arrived_marked sent marks got may near) at hears in
+    let end = flags class w sent arrivals arrives old new sound heard in
+    record {
+      heard = grind (arith, nat_tests);
+      is_open = grind (arith, nat_tests);
+      cells = λ now_heard.
+          cell_shown class w sent arrivals arrives old new sound (grind (arith, nat_tests)) heard;
+    }
 
 -- ---- with nothing lost
 
--- What is near arrives, where all is got.
-pub Arrives-from_near :
-    (sent got : List (List ℕ)) → AllZip AreNear sent got → AllZip Arrives sent (map Some got)
-Arrives-from_near [] [] near = tt
-Arrives-from_near [] (g ∷ gs) near = elim near [ ]
-Arrives-from_near (p ∷ ps) [] near = elim near [ ]
-Arrives-from_near (p ∷ ps) (g ∷ gs) near = (near.0, Arrives-from_near ps gs near.1)
+-- Marks that are all true keep all packets.
+items-all_true :
+    (sent : List (List ℕ)) (marks : List Bool)
+    → AllByRecursion IsTrue marks
+    → AllZip MayBeMarked sent marks
+    → items_where_true marks sent ≡ sent
+items-all_true [] [] all may = refl
+items-all_true [] (m ∷ marks) all may = elim may [ ]
+items-all_true (p ∷ sent) [] all may = elim may [ ]
+items-all_true (p ∷ sent) (true ∷ marks) all may =
+    ap (λ ps. p ∷ ps) (items-all_true sent marks all.1 may.1)
+items-all_true (p ∷ sent) (false ∷ marks) all may = let h : false ≡ true = all.0 in cc
 
--- And the other way round.
-near-from_Arrives :
-    (sent got : List (List ℕ)) → AllZip Arrives sent (map Some got) → AllZip AreNear sent got
-near-from_Arrives [] [] near = tt
-near-from_Arrives [] (g ∷ gs) near = elim near [ ]
-near-from_Arrives (p ∷ ps) [] near = elim near [ ]
-near-from_Arrives (p ∷ ps) (g ∷ gs) near = (near.0, near-from_Arrives ps gs near.1)
-
--- What arrives is what is got, where all is got.
-pub arrived-map_Some : (got : List (List ℕ)) → arrived (map Some got) ≡ got
-arrived-map_Some [] = refl
-arrived-map_Some (g ∷ gs) = ap (λ xs. g ∷ xs) (arrived-map_Some gs)
+-- And then nothing of what was got is lost.
+arrivals_of-all_true :
+    (sent got : List (List ℕ)) (marks : List Bool)
+    → AllByRecursion IsTrue marks
+    → AllZip MayBeMarked sent marks
+    → AllZip AreNear sent got
+    → arrivals_of marks got ≡ map Some got
+arrivals_of-all_true [] [] [] all may near = refl
+arrivals_of-all_true [] (g ∷ got) marks all may near = elim near [ ]
+arrivals_of-all_true [] [] (m ∷ marks) all may near = elim may [ ]
+arrivals_of-all_true (p ∷ sent) [] marks all may near = elim near [ ]
+arrivals_of-all_true (p ∷ sent) (g ∷ got) [] all may near = elim may [ ]
+arrivals_of-all_true (p ∷ sent) (g ∷ got) (true ∷ marks) all may near =
+    ap (λ fs. Some g ∷ fs) (arrivals_of-all_true sent got marks all.1 may.1 near.1)
+arrivals_of-all_true (p ∷ sent) (g ∷ got) (false ∷ marks) all may near =
+    let h : false ≡ true = all.0 in cc
 
 -- The span of the items where all is got: that of the pairs.
 span-zip_map_Some :
@@ -261,37 +268,44 @@ span-zip_map_Some :
 span-zip_map_Some w sent got =
     ap (span (kind_of_item w)) (zip-map Some sent got) ∙ span-map (kind_of_item w) _ (zip sent got)
 
--- A cell that is hit or lost is hit, where all is got.
-pub hit_from_hit_or_lost :
-    (w : PageIdValue) (sent got : List (List ℕ)) (row column : ℕ)
-    → IsHitOrLost w sent (map Some got) row column
-    → IsHit w sent got row column
-hit_from_hit_or_lost w sent got row column hit =
-    Any-map _ _ _ (rw (span-zip_map_Some w sent got) at hit)
-
 -- The law of lost rows with nothing lost is the law of noise.
 pub law_of_nothing_lost : LawOfNothingLost
-law_of_nothing_lost w sent got = record {
-  near = (near-from_Arrives sent got, Arrives-from_near sent got);
-  packets = arrived-map_Some got;
-  hits = λ row column. (
-    hit_from_hit_or_lost w sent got row column,
-    λ hit. rw (span-zip_map_Some w sent got) (map-Any _ _ _ hit),
-  );
+law_of_nothing_lost w sent marks all may = record {
+  kept = items-all_true sent marks (recursion_from_All IsTrue marks all) may;
+  hits = λ got near row column.
+      rw (arrivals_of-all_true sent got marks (recursion_from_All IsTrue marks all) may near) (
+        λ hit. Any-map _ _ _ (rw (span-zip_map_Some w sent got) at hit),
+        λ hit. rw (span-zip_map_Some w sent got) (map-Any _ _ _ hit),
+      );
 }
 
--- The law of noise: that of lost rows, where all is got.
+-- A mark for each packet, all true.
+abbrev pub all_kept : List (List ℕ) → List Bool
+all_kept sent = map (λ p. true) sent
+
+-- They are true.
+pub all_true : (sent : List (List ℕ)) → All IsTrue (all_kept sent)
+all_true [] = All-nil _
+all_true (p ∷ sent) = All-cons IsTrue true (all_kept sent) refl (all_true sent)
+
+-- And no page header is lost by them.
+pub may_all : (sent : List (List ℕ)) → AllZip MayBeMarked sent (all_kept sent)
+may_all [] = tt
+may_all (p ∷ sent) = (λ h a is. let e : true ≡ false = h in absurd (cc), may_all sent)
+
+-- The law of noise: that of lost rows, where all packets are kept.
 pub law_of_noise : LawOfNoise
 law_of_noise w sent got old new sound near unheard shut hears =
+    let nothing = law_of_nothing_lost w sent (all_kept sent) (all_true sent) (may_all sent) in
     let ends =
-    law_of_lost_rows w sent (map Some got) old new sound (Arrives-from_near sent got near) unheard
-    shut (rw (arrived-map_Some got) hears) in
+    law_of_lost_rows Storing w sent (all_kept sent) got old new sound (may_all sent)
+    (rw nothing.kept near) unheard shut hears in
     record {
       heard = ends.heard;
       is_open = ends.is_open;
       cells = λ now_heard row column named. elim (ends.cells now_heard row column named) [
         | inl coded ↦ inl coded
-        | inr hit ↦ inr (hit.0, hit_from_hit_or_lost w sent got row column hit.1)
+        | inr hit ↦ inr (hit.0, (nothing.hits got near row column).0 hit.1)
       ];
     }
 

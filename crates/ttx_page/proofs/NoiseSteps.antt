@@ -2,6 +2,7 @@
 -- packet, `at_item`, and by a run over many, `over`.
 use Rattle.std.proofs.Common.{◌≡◌, ℕ, ◌+◌, ◌-◌, ◌<◌, ◌⊎◌, inl, inr, true, false, not, ◌&&◌, ◌||◌}
 use Rattle.std.proofs.Common.{List, [], ◌∷◌, ◌++◌, zip, slice_index, replicate, Option, Some, None}
+use Rattle.std.proofs.Common.{is_some}
 use Rattle.std.proofs.Common.{Contains, IsTrue, refl, ap, ◌∙◌, arith}
 use Rattle.std.specs.List.{list_any, AllByRecursion, AllZip}
 use Rattle.std.proofs.lemmas.Bool.{cases_Bool}
@@ -13,16 +14,19 @@ use Rattle.ttx_packet.specs.OneBit.{AreNear}
 use Rattle.ttx_packet.specs.Parity.{code_of, is_odd}
 use Rattle.ttx_packet.specs.PageHeader.{HasExactWords}
 use Rattle.ttx_packet.specs.PageId.{PageIdValue}
-use Rattle.ttx_packet.specs.RowPacket.{text_byte}
+use Rattle.ttx_packet.specs.RowPacket.{HasOddText, first_even_byte, text_byte}
+use Rattle.ttx_packet.proofs.OneBitLemmas.{first_below_is}
 use Rattle.ttx_packet.proofs.ParityLemmas.{even_from_changed}
 use Rattle.ttx_packet.proofs.NearPackets.{address-near, header-near, near_at}
 use Rattle.ttx_page.specs.Page.{space, blank, blank_row, cell, IsCell}
 use Rattle.ttx_page.specs.declared.packet_kind.PacketKind.{PacketKind}
 use Rattle.ttx_page.specs.declared.packet_kind.PacketKind.TheVariants.{Row}
 use Rattle.ttx_page.specs.PacketKind.{kind, is_this_page, ends_page, is_row}
-use Rattle.ttx_page.specs.Receiver.{State, Step, Hears}
+use Rattle.ttx_page.specs.DroppedRows.{ExcusedBy}
+use Rattle.ttx_page.specs.Receiver.{HearsBy, ReceiverClass, State, Step, StepBy, is_dropped}
+use Rattle.ttx_page.specs.Receiver.ReceiverClass.{Dropping, Storing}
 use Rattle.ttx_page.specs.Noise.{ErasesPage}
-use Rattle.ttx_page.specs.LostRows.{MayBeLost, Arrives, arrived, LosesByte}
+use Rattle.ttx_page.specs.LostRows.{MayBeLost, LosesByte}
 use Rattle.ttx_page.specs.Span.{holds_header, is_open_after, span}
 use Rattle.ttx_page.proofs.SpanPush.{holds-push, span-push, open-this, open-other}
 
@@ -37,6 +41,17 @@ Item = List ℕ × Option (List ℕ)
 -- The kind of an item is that of the packet that is sent.
 abbrev pub kind_of_item : PageIdValue → Item → PacketKind
 kind_of_item w item = kind w item.0
+
+-- What was got of a packet has at most one wrong bit in each byte, and no page header is lost.
+abbrev pub Arrives : List ℕ → Option (List ℕ) → Type 0
+Arrives sent (Some got) = AreNear sent got
+Arrives sent None = MayBeLost sent
+
+-- The packets that were got, in order.
+abbrev pub arrived : List (Option (List ℕ)) → List (List ℕ)
+arrived [] = []
+arrived (None ∷ arrivals) = arrived arrivals
+arrived (Some got ∷ arrivals) = got ∷ arrived arrivals
 
 -- A packet that may be lost is no header.
 pub lost_is_no_header :
@@ -56,17 +71,81 @@ unfolding kind
 kind-near w sent got exact near =
     rw (address-near sent got exact.0 near, header-near sent got exact near)
 
+-- ---- what excuses a space
+
+-- What is so of a cell excuses a space in it.
+excused_here :
+    (class : ReceiverClass) (P : ℕ → ℕ → Type 0) (row column : ℕ)
+    → column < 40
+    → P row column
+    → ExcusedBy class P row column
+excused_here Storing P row column below here = here
+excused_here Dropping P row column below here = (column, below, here)
+
+-- An excuse goes over to what each cell of the row gives. Also for `NoiseLaws`.
+pub excused_as :
+    (class : ReceiverClass) (P Q : ℕ → ℕ → Type 0) (row column : ℕ)
+    → ((other : ℕ) → P row other → Q row other)
+    → ExcusedBy class P row column
+    → ExcusedBy class Q row column
+excused_as Storing P Q row column gives excused = gives column excused
+excused_as Dropping P Q row column gives excused =
+    (excused.0, excused.1, gives excused.0 excused.2)
+
+-- The byte is lost, by what arrives of a packet.
+abbrev pub Loses : List ℕ → Option (List ℕ) → ℕ → ℕ → Type 0
+Loses sent arrival row column = LosesByte sent arrival column
+
+-- A dropped row has an even byte.
+even_byte_of :
+    (packet : List ℕ)
+    → is_some (first_even_byte packet) ≡ true
+    → (column : ℕ) × (column < 40) × (is_odd (text_byte packet column) ≡ false)
+unfolding first_even_byte
+even_byte_of packet some = go (first_even_byte packet) refl some
+  where
+    go :
+        (o : Option ℕ)
+        → first_even_byte packet ≡ o
+        → is_some o ≡ true
+        → (column : ℕ) × (column < 40) × (is_odd (text_byte packet column) ≡ false)
+    go None e h = grind arith
+    go (Some column) e h =
+        let found = first_below_is 40 (λ column. not (is_odd (text_byte packet column))) column e in
+        (column, found.0, grind (arith, nat_tests))
+
+-- So a row that was odd, and is dropped, has lost a byte.
+dropped_loses :
+    (w : PageIdValue) (sent got : List ℕ) (row column : ℕ)
+    → HasOddText sent
+    → is_dropped w got ≡ true
+    → ExcusedBy Dropping (Loses sent (Some got)) row column
+dropped_loses w sent got row column odd drop =
+    let even = even_byte_of got (grind (arith, nat_tests)) in
+    let sent_odd = odd even.0 even.1 in
+    (even.0, even.1, λ same. grind (arith, nat_tests))
+
 -- ---- one step
 
 -- A receiver goes on at an item: by a step where something is got, and else it stays.
-abbrev Goes : PageIdValue → Option (List ℕ) → State → State → Type 0
-Goes w (Some got) old new = Step w old got new
-Goes w None old new = new ≡ old
+abbrev Goes : ReceiverClass → PageIdValue → Option (List ℕ) → State → State → Type 0
+Goes class w (Some got) old new = StepBy class w old got new
+Goes class w None old new = new ≡ old
+
+-- A cell gets the code that was sent; or the packet loses its byte, and the cell stays or becomes a
+-- space.
+abbrev TakesCode :
+    ReceiverClass → ℕ → ℕ → List ℕ → Option (List ℕ) → State → State → Type 0
+TakesCode class row column sent arrival old new =
+    (cell new.page row column ≡ code_of (text_byte sent column))
+    ⊎ (ExcusedBy class (Loses sent arrival) row column
+    × ((cell new.page row column ≡ cell old.page row column)
+    ⊎ (cell new.page row column ≡ space)))
 
 -- What becomes of a receiver, and of one cell of its page, at an item.
 record AtItem
-    (w : PageIdValue) (row column : ℕ) (sent : List ℕ) (arrival : Option (List ℕ))
-    (old new : State)
+    (class : ReceiverClass) (w : PageIdValue) (row column : ℕ) (sent : List ℕ)
+    (arrival : Option (List ℕ)) (old new : State)
     : Type 0 where
   heard : new.heard ≡ (is_this_page (kind w sent) || old.heard)
   is_open :
@@ -79,34 +158,87 @@ record AtItem
       is_this_page (kind w sent) ≡ false
       → (old.is_open && is_row row (kind w sent)) ≡ false
       → cell new.page row column ≡ cell old.page row column
-  -- There it gets the code that was sent, or the packet loses its byte, and it stays or becomes a
-  -- space.
+  -- There it takes the code that was sent.
   stores :
       kind w sent ≡ Row row
       → old.is_open ≡ true
-      → IsTrue (is_odd (text_byte sent column))
-      → (cell new.page row column ≡ code_of (text_byte sent column))
-      ⊎ (LosesByte sent arrival column
-      × ((cell new.page row column ≡ cell old.page row column)
-      ⊎ (cell new.page row column ≡ space)))
+      → HasOddText sent
+      → TakesCode class row column sent arrival old new
+
+-- It is so of a packet that is got and not dropped.
+at_step :
+    (w : PageIdValue) (row column : ℕ) (sent got : List ℕ) (old new : State)
+    → IsCell row column
+    → HasExactWords sent
+    → ErasesPage w sent
+    → AreNear sent got
+    → Step w old got new
+    → AtItem Storing w row column sent (Some got) old new
+at_step w row column sent got old new named exact erases near step =
+    let same = kind-near w sent got exact near in
+    let near_byte = near_at sent got (column + 2) near in
+    let even = even_from_changed (text_byte sent column) (text_byte got column) in
+    record {
+      heard = grind (arith, nat_tests);
+      is_open = grind (arith, nat_tests);
+      erased = grind (arith, nat_tests);
+      stays = grind (arith, nat_tests);
+      stores = λ is up odd. let here = odd column named.2 in grind (arith, nat_tests);
+    }
 
 -- It is so of each item that arrives.
 at_item :
-    (w : PageIdValue) (row column : ℕ) (sent : List ℕ) (arrival : Option (List ℕ))
-    (old new : State)
+    (class : ReceiverClass) (w : PageIdValue) (row column : ℕ) (sent : List ℕ)
+    (arrival : Option (List ℕ)) (old new : State)
     → IsCell row column
     → HasExactWords sent
     → ErasesPage w sent
     → Arrives sent arrival
-    → Goes w arrival old new
-    → AtItem w row column sent arrival old new
-at_item w row column sent None old new named exact erases near goes =
-    let no_header = lost_is_no_header w sent near in grind (arith, nat_tests)
-at_item w row column sent (Some got) old new named exact erases near goes =
-    let same = kind-near w sent got exact near in
-    let near_byte = near_at sent got (column + 2) near in
-    let even = even_from_changed (text_byte sent column) (text_byte got column) in
-    grind (arith, nat_tests)
+    → Goes class w arrival old new
+    → AtItem class w row column sent arrival old new
+at_item class w row column sent None old new named exact erases near goes =
+    let no_header = lost_is_no_header w sent near in
+    let excused = excused_here class (Loses sent None) row column named.2 tt in
+    record {
+      heard = grind (arith, nat_tests);
+      is_open = grind (arith, nat_tests);
+      erased = grind (arith, nat_tests);
+      stays = grind (arith, nat_tests);
+      stores = λ is up odd. inr (excused, inl (ap (λ (s : State). cell s.page row column) goes));
+    }
+at_item Storing w row column sent (Some got) old new named exact erases near goes =
+    at_step w row column sent got old new named exact erases near goes
+at_item Dropping w row column sent (Some got) old new named exact erases near goes =
+    elim (cases_Bool (is_dropped w got)) [
+      | inl drop ↦
+          let stays = rw drop at goes in
+          let same = kind-near w sent got exact near in
+          record {
+            heard = grind (arith, nat_tests);
+            is_open = grind (arith, nat_tests);
+            erased = grind (arith, nat_tests);
+            stays = grind (arith, nat_tests);
+            stores = λ is up odd.
+                inr (
+                  dropped_loses w sent got row column odd drop,
+                  inl (ap (λ (s : State). cell s.page row column) stays),
+                );
+          }
+      | inr hear ↦
+          let at =
+          at_step w row column sent got old new named exact erases near (rw hear at goes) in
+          record {
+            heard = at.heard;
+            is_open = at.is_open;
+            erased = at.erased;
+            stays = at.stays;
+            stores = λ is up odd. elim (at.stores is up odd) [
+              | inl coded ↦ inl coded
+              | inr lost ↦
+                  inr (excused_here Dropping (Loses sent (Some got)) row column named.2 lost.0, lost.1)
+            ];
+          }
+    ]
 
 -- Each cell of the blank page is a space.
 cell-blank : (row column : ℕ) → IsCell row column → cell blank row column ≡ space
@@ -120,17 +252,17 @@ cell-blank row column named =
 -- ---- a run
 
 -- One cell of the page, the code that it is to show, and what excuses a space in its place.
-module _ (w : PageIdValue) (row column code : ℕ) (Excuse : Type 0) where
-  -- Each packet of the row is odd at the column, has the code there, and gives an excuse where it
-  -- loses its byte.
+module _ (class : ReceiverClass) (w : PageIdValue) (row column code : ℕ) (Excuse : Type 0) where
+  -- Each packet of the row is odd, has the code at the column, and gives an excuse where it loses
+  -- its byte.
   abbrev pub AreTargets : List Item → Type 0
   AreTargets items =
       (item : Item)
       → Contains items item
       → kind w item.0 ≡ Row row
-      → IsTrue (is_odd (text_byte item.0 column))
+      → HasOddText item.0
       × (code_of (text_byte item.0 column) ≡ code)
-      × (LosesByte item.0 item.1 column → Excuse)
+      × (ExcusedBy class (Loses item.0 item.1) row column → Excuse)
 
   -- What has become of a receiver by these items.
   pub record Becomes (start : State) (items : List Item) (now : State) : Type 0 where
@@ -154,7 +286,7 @@ module _ (w : PageIdValue) (row column code : ℕ) (Excuse : Type 0) where
       (start : State) (items : List Item) (sent : List ℕ) (arrival : Option (List ℕ))
       (old new : State)
       → IsCell row column
-      → AtItem w row column sent arrival old new
+      → AtItem class w row column sent arrival old new
       → Becomes start items old
       → Becomes start (items ++ (sent, arrival) ∷ []) new
   Becomes-push start items sent arrival old new named at was =
@@ -178,6 +310,11 @@ module _ (w : PageIdValue) (row column code : ℕ) (Excuse : Type 0) where
                     grind (arith, nat_tests) in
                     let among = rw more at targets in
                     let here = among item (Contains-push old_span item) in
+                    let stores :
+                    kind w sent ≡ Row row
+                    → old.is_open ≡ true
+                    → TakesCode class row column sent arrival old new =
+                    λ is up. at.stores is up (here is).0 in
                     let cell_was = was.cell_is (grind (arith, nat_tests))
                     (λ x within. among x (Contains-append_left old_span (item ∷ []) x within)) in
                     let rows =
@@ -199,7 +336,7 @@ module _ (w : PageIdValue) (row column code : ℕ) (Excuse : Type 0) where
       → AllByRecursion HasExactWords sent
       → AllByRecursion (ErasesPage w) sent
       → AllZip Arrives sent arrivals
-      → Hears w old (arrived arrivals) new
+      → HearsBy class w old (arrived arrivals) new
       → Becomes start items old
       → Becomes start (items ++ zip sent arrivals) new
   over start items [] [] old new named exact erases near hears was =
@@ -210,9 +347,9 @@ module _ (w : PageIdValue) (row column code : ℕ) (Excuse : Type 0) where
       rw (← append_assoc items ((p, None) ∷ []) (zip ps os))
       (over start _ ps os old new named exact.1 erases.1 near.1 hears
       (Becomes-push start items p None old old named
-      (at_item w row column p None old old named exact.0 erases.0 near.0 refl) was))
+      (at_item class w row column p None old old named exact.0 erases.0 near.0 refl) was))
   over start items (p ∷ ps) (Some got ∷ os) old new named exact erases near hears was =
       rw (← append_assoc items ((p, Some got) ∷ []) (zip ps os))
       (over start _ ps os hears.0 new named exact.1 erases.1 near.1 hears.2
       (Becomes-push start items p (Some got) old hears.0 named
-      (at_item w row column p (Some got) old hears.0 named exact.0 erases.0 near.0 hears.1) was))
+      (at_item class w row column p (Some got) old hears.0 named exact.0 erases.0 near.0 hears.1) was))

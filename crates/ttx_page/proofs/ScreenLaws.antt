@@ -1,17 +1,17 @@
--- The laws of receivers with a screen, `law_of_screen`, and their steps.
-use Rattle.std.proofs.Common.{◌≡◌, ℕ, true, false, List, [], ◌∷◌, ◌++◌, Option, Some, None, IsFalse}
-use Rattle.std.proofs.Common.{refl, ap, arith}
-use Rattle.std.specs.List.{AllByRecursion, AllZip}
+-- The law of receivers with a screen, `law_of_screen`, and their steps.
+use Rattle.std.proofs.Common.{◌≡◌, ℕ, Bool, true, false, List, [], ◌∷◌, ◌++◌, Some, IsFalse, refl}
+use Rattle.std.proofs.Common.{ap, arith}
+use Rattle.std.specs.List.{AllByRecursion, AllZip, items_where_true}
 use Rattle.std.proofs.lemmas.Bool.Decides.{nat_tests}
+use Rattle.ttx_packet.specs.OneBit.{AreNear}
 use Rattle.ttx_packet.specs.PageHeader.{HasExactWords}
 use Rattle.ttx_packet.specs.PageId.{PageIdValue}
-use Rattle.ttx_page.specs.LostRows.{Arrives, arrived}
+use Rattle.ttx_page.specs.LostRows.{MayBeMarked}
 use Rattle.ttx_page.specs.declared.packet_kind.PacketKind.{PacketKind}
 use Rattle.ttx_page.specs.PacketKind.{kind, is_this_page}
-use Rattle.ttx_page.specs.Receiver.{State, StepAt, Step, StepDropping, Hears, HearsDropping}
+use Rattle.ttx_page.specs.Receiver.{HearsBy, ReceiverClass, State, StepAt, Step, StepBy}
 use Rattle.ttx_page.specs.Span.{holds_header}
-use Rattle.ttx_page.specs.Screen.{Display, ShowsAt, ShowsBy, Shows, ShowsDropping, LawOfScreen}
-use Rattle.ttx_page.specs.Screen.{LawOfDroppingScreen}
+use Rattle.ttx_page.specs.Screen.{Display, ShowsAt, ShowsBy, Shows, LawOfScreen}
 use Rattle.ttx_page.proofs.NoiseSteps.{lost_is_no_header, kind-near}
 
 -- ---- one step
@@ -29,12 +29,12 @@ leaves_at :
     → Leaves k old new
 leaves_at k packet old new step = grind (arith, nat_tests)
 
--- And of each step that drops rows.
-leaves_dropping :
-    (w : PageIdValue) (packet : List ℕ) (old new : State)
-    → StepDropping w old packet new
+-- And of each step of a class.
+leaves_by :
+    (class : ReceiverClass) (w : PageIdValue) (packet : List ℕ) (old new : State)
+    → StepBy class w old packet new
     → Leaves (kind w packet) old new
-leaves_dropping w packet old new step =
+leaves_by class w packet old new step =
     let leaves = leaves_at (kind w packet) packet old new in grind (arith, nat_tests)
 
 -- ---- a run
@@ -43,37 +43,22 @@ leaves_dropping w packet old new step =
 abbrev IsSettled : Display → Type 0
 IsSettled d = IsFalse d.held.is_open → d.screen ≡ Some d.held.page
 
--- The steps of a receiver leave the page as above.
-module _
-    (StepsBy : PageIdValue → State → List ℕ → State → Type 0)
-    (leaves :
-    (w : PageIdValue) (packet : List ℕ) (old new : State)
-    → StepsBy w old packet new
-    → Leaves (kind w packet) old new)
-  where
-    -- A header of the page settles the screen, and it stays settled.
-    settles :
-        (w : PageIdValue) (packets : List (List ℕ)) (old new : Display)
-        → ShowsBy StepsBy w old packets new
-        → (holds_header (kind w) packets ≡ false → IsSettled old)
-        → IsSettled new
-    settles w [] old new run was = rw run (was refl)
-    settles w (p ∷ ps) old new run was =
-        let left = leaves w p old.held run.0.held run.1 in
-        let shows = run.2 in
-        settles w ps run.0 new run.3 (λ none shut. grind (arith, nat_tests))
+-- A header of the page settles the screen, and it stays settled.
+settles :
+    (class : ReceiverClass) (w : PageIdValue) (packets : List (List ℕ)) (old new : Display)
+    → ShowsBy class w old packets new
+    → (holds_header (kind w) packets ≡ false → IsSettled old)
+    → IsSettled new
+settles class w [] old new run was = rw run (was refl)
+settles class w (p ∷ ps) old new run was =
+    let left = leaves_by class w p old.held run.0.held run.1 in
+    let shows = run.2 in
+    settles class w ps run.0 new run.3 (λ none shut. grind (arith, nat_tests))
 
 -- The law of the screen.
 pub law_of_screen : LawOfScreen
-law_of_screen w packets old new run holds shut =
-    settles Step (λ v packet. leaves_at (kind v packet) packet) w packets old new run
-    (λ none. grind (arith, nat_tests)) shut
-
--- For receivers that drop rows.
-pub law_of_dropping_screen : LawOfDroppingScreen
-law_of_dropping_screen w packets old new run holds shut =
-    settles StepDropping leaves_dropping w packets old new run (λ none. grind (arith, nat_tests))
-    shut
+law_of_screen class w packets old new run holds shut =
+    settles class w packets old new run (λ none. grind (arith, nat_tests)) shut
 
 -- ---- one packet more
 
@@ -90,37 +75,29 @@ Shows-push w (p ∷ ps) packet old mid new run step shows =
 
 -- ---- for a checker's laws
 
--- What is held goes by the receiver relation.
+-- What is held goes by the relation of the class.
 pub held_by :
-    (w : PageIdValue) (packets : List (List ℕ)) (old new : Display)
-    → Shows w old packets new
-    → Hears w old.held packets new.held
-held_by w [] old new run = ap (λ (d : Display). d.held) run
-held_by w (p ∷ ps) old new run = (run.0.held, run.1, held_by w ps run.0 new run.3)
+    (class : ReceiverClass) (w : PageIdValue) (packets : List (List ℕ)) (old new : Display)
+    → ShowsBy class w old packets new
+    → HearsBy class w old.held packets new.held
+held_by class w [] old new run = ap (λ (d : Display). d.held) run
+held_by class w (p ∷ ps) old new run = (run.0.held, run.1, held_by class w ps run.0 new run.3)
 
--- Or by that of receivers that drop rows.
-pub held_by_dropping :
-    (w : PageIdValue) (packets : List (List ℕ)) (old new : Display)
-    → ShowsDropping w old packets new
-    → HearsDropping w old.held packets new.held
-held_by_dropping w [] old new run = ap (λ (d : Display). d.held) run
-held_by_dropping w (p ∷ ps) old new run =
-    (run.0.held, run.1, held_by_dropping w ps run.0 new run.3)
-
--- Where a header of the page is sent, one arrives.
-pub header_arrives :
-    (w : PageIdValue) (sent : List (List ℕ)) (arrivals : List (Option (List ℕ)))
+-- Where a header of the page is sent, one is got.
+pub header_got :
+    (w : PageIdValue) (sent : List (List ℕ)) (marks : List Bool) (got : List (List ℕ))
     → AllByRecursion HasExactWords sent
-    → AllZip Arrives sent arrivals
+    → AllZip MayBeMarked sent marks
+    → AllZip AreNear (items_where_true marks sent) got
     → holds_header (kind w) sent ≡ true
-    → holds_header (kind w) (arrived arrivals) ≡ true
-header_arrives w [] os exact near holds = grind arith
-header_arrives w (p ∷ ps) [] exact near holds = elim near [ ]
-header_arrives w (p ∷ ps) (None ∷ os) exact near holds =
-    let no_header = lost_is_no_header w p near.0 in
-    let rest = header_arrives w ps os exact.1 near.1 in
-    grind (arith, nat_tests)
-header_arrives w (p ∷ ps) (Some got ∷ os) exact near holds =
-    let same = kind-near w p got exact.0 near.0 in
-    let rest = header_arrives w ps os exact.1 near.1 in
+    → holds_header (kind w) got ≡ true
+header_got w [] marks got exact may near holds = grind arith
+header_got w (p ∷ ps) [] got exact may near holds = elim may [ ]
+header_got w (p ∷ ps) (false ∷ ms) got exact may near holds =
+    let no_header = lost_is_no_header w p (may.0 refl) in
+    header_got w ps ms got exact.1 may.1 near (grind (arith, nat_tests))
+header_got w (p ∷ ps) (true ∷ ms) [] exact may near holds = elim near [ ]
+header_got w (p ∷ ps) (true ∷ ms) (g ∷ gs) exact may near holds =
+    let same = kind-near w p g exact.0 near.0 in
+    let rest = header_got w ps ms gs exact.1 may.1 near.1 in
     grind (arith, nat_tests)

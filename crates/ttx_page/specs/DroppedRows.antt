@@ -1,11 +1,10 @@
--- The laws of receivers that drop rows: a dropped row is a lost one, so the law of lost rows covers
--- them.
-use Rattle.std.specs.Prelude.{◌↔◌, ℕ, ◌<◌, not, List, Option, IsFalse}
-use Rattle.std.specs.List.{filter, AllZip}
+-- Receivers that drop rows: what they hear, and what excuses a space in their pages. A dropped row
+-- is a lost one.
+use Rattle.std.specs.Prelude.{◌↔◌, ℕ, ◌<◌, not, List}
+use Rattle.std.specs.List.{filter}
 use Rattle.ttx_packet.specs.PageId.{PageIdValue}
-use Rattle.ttx_page.specs.LostRows.{Arrives, arrived, IsHitOrLost}
-use Rattle.ttx_page.specs.Noise.{IsSound, EndsAs}
-use Rattle.ttx_page.specs.Receiver.{State, Hears, HearsDropping, is_dropped}
+use Rattle.ttx_page.specs.Receiver.{HearsBy, ReceiverClass, State, Hears, is_dropped}
+use Rattle.ttx_page.specs.Receiver.ReceiverClass.{Dropping, Storing}
 
 -- The packets, with the rows that are dropped left out.
 abbrev pub without_dropped : PageIdValue → List (List ℕ) → List (List ℕ)
@@ -16,23 +15,15 @@ without_dropped w packets = filter (λ packet. not (is_dropped w packet)) packet
 abbrev pub LawOfDropping : Type 0
 LawOfDropping =
     (w : PageIdValue) (packets : List (List ℕ)) (old new : State)
-    → HearsDropping w old packets new
+    → HearsBy Dropping w old packets new
     ↔ Hears w old (without_dropped w packets) new
 
--- What is said of some cell of the row: where a receiver drops rows, one byte that was hit excuses
--- each cell of its row.
+-- What is said of some cell of the row.
 abbrev pub SomewhereInRow : (ℕ → ℕ → Type 0) → ℕ → ℕ → Type 0
 SomewhereInRow IsExcused row column = (other : ℕ) × (other < 40) × IsExcused row other
 
--- The law of lost rows for receivers that drop rows: a cell counts as hit where any byte of a
--- packet of its row in the span was hit, or the packet was lost.
--- So here too noise never puts a wrong character on the screen.
-abbrev pub LawOfDroppedRows : Type 0
-LawOfDroppedRows =
-    (w : PageIdValue) (sent : List (List ℕ)) (arrivals : List (Option (List ℕ))) (old new : State)
-    → IsSound w sent
-    → AllZip Arrives sent arrivals
-    → IsFalse old.heard
-    → IsFalse old.is_open
-    → HearsDropping w old (arrived arrivals) new
-    → EndsAs w sent (SomewhereInRow (IsHitOrLost w sent arrivals)) new
+-- What excuses a space in a receiver of the class, by what excuses it where rows are stored: where
+-- rows are dropped, one byte that was hit excuses each cell of its row.
+abbrev pub ExcusedBy : ReceiverClass → (ℕ → ℕ → Type 0) → ℕ → ℕ → Type 0
+ExcusedBy Storing IsExcused = IsExcused
+ExcusedBy Dropping IsExcused = SomewhereInRow IsExcused

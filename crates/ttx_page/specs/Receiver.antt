@@ -1,5 +1,5 @@
 -- The model receiver of one page: what it may do at each packet. It restates level 1 of EN 300 706;
--- the choice at a byte of even parity is (own). Beside it, in the same words: a receiver that drops
+-- the choice at a byte of even parity is (own). Beside it, in the same words: receivers that drop
 -- rows.
 use Rattle.std.specs.Prelude.{◌≡◌, ◌≢◌, ℕ, ◌⊎◌, Bool, true, false, List, [], ◌∷◌, MatchBool}
 use Rattle.std.specs.Prelude.{if◌then◌else◌, ◌&&◌, is_some, IsTrue, IsFalse}
@@ -94,17 +94,28 @@ StepLeaving leaves w old packet new = Step w old packet new × LeavesCells leave
 abbrev pub HearsLeaving : (ℕ → ℕ) → PageIdValue → State → List (List ℕ) → State → Type 0
 HearsLeaving leaves w old packets new = RunsBy (StepLeaving leaves w) old packets new
 
--- ---- receivers that drop rows
+-- ---- two classes of receivers
+
+-- The laws speak of receivers of two classes: those that store the odd bytes of each row, whatever
+-- the others are, and those that drop a row with an even byte.
+pub data ReceiverClass : Type 0 where
+  Storing : ReceiverClass
+  Dropping : ReceiverClass
 
 -- The packet is a row of the page, and one of its 40 data bytes has even parity.
 abbrev pub is_dropped : PageIdValue → List ℕ → Bool
 is_dropped w packet = is_some_row (kind w packet) && is_some (first_even_byte packet)
 
--- A receiver of page w that drops rows may go from one state to the other: it passes over a row
--- with an even byte, and takes a step of the receiver relation at every other packet.
-abbrev pub StepDropping : PageIdValue → State → List ℕ → State → Type 0
-StepDropping w old packet new = MatchBool (is_dropped w packet) (new ≡ old) (Step w old packet new)
+-- A receiver of page w and of the class drops the packet.
+abbrev pub drops : ReceiverClass → PageIdValue → List ℕ → Bool
+drops Storing w packet = false
+drops Dropping w packet = is_dropped w packet
+
+-- A receiver of the class may go from one state to the other: it passes over a packet that it
+-- drops, and takes a step of the receiver relation at every other one.
+abbrev pub StepBy : ReceiverClass → PageIdValue → State → List ℕ → State → Type 0
+StepBy class w old packet new = MatchBool (drops class w packet) (new ≡ old) (Step w old packet new)
 
 -- It may go from one state to the other by hearing these packets.
-abbrev pub HearsDropping : PageIdValue → State → List (List ℕ) → State → Type 0
-HearsDropping w old packets new = RunsBy (StepDropping w) old packets new
+abbrev pub HearsBy : ReceiverClass → PageIdValue → State → List (List ℕ) → State → Type 0
+HearsBy class w old packets new = RunsBy (StepBy class w) old packets new

@@ -1,16 +1,16 @@
 -- The law of noise for any state before. A receiver on air has always heard something: another
 -- transmission, a burst of noise, a page whose header was lost. From the next header of its page on
 -- nothing of that is left.
-use Rattle.std.specs.Prelude.{◌≡◌, ℕ, ◌⊎◌, Bool, List, Option, IsTrue}
+use Rattle.std.specs.Prelude.{◌≡◌, ℕ, ◌⊎◌, Bool, List, IsTrue}
 use Rattle.std.specs.List.{AllZip, items_where_true}
 use Rattle.ttx_packet.specs.OneBit.{AreNear}
 use Rattle.ttx_packet.specs.PageId.{PageIdValue}
-use Rattle.ttx_page.specs.DroppedRows.{SomewhereInRow}
-use Rattle.ttx_page.specs.LostRows.{Arrives, arrived, IsHitOrLost, MayBeMarked, arrivals_of}
+use Rattle.ttx_page.specs.DroppedRows.{ExcusedBy}
+use Rattle.ttx_page.specs.LostRows.{IsHitOrLost, MayBeMarked, arrivals_of}
 use Rattle.ttx_page.specs.Noise.{IsSound}
 use Rattle.ttx_page.specs.Page.{space, cell, IsCell}
 use Rattle.ttx_page.specs.PacketKind.{kind}
-use Rattle.ttx_page.specs.Receiver.{State, Hears, HearsDropping}
+use Rattle.ttx_page.specs.Receiver.{HearsBy, ReceiverClass, State}
 use Rattle.ttx_page.specs.Shown.{shown}
 use Rattle.ttx_page.specs.Span.{holds_header, is_unended}
 
@@ -30,34 +30,14 @@ pub record EndsAfresh
       ⊎ ((cell new.page row column ≡ space) × IsExcused row column)
 
 -- Whatever a receiver held before, heard or not, open or not, with any page: once a header of its
--- page was sent, it holds what the law of noise says. Any packets but page headers may be lost.
+-- page was sent, it holds what the law of lost rows says.
 abbrev pub LawOfRecovery : Type 0
 LawOfRecovery =
-    (w : PageIdValue) (sent : List (List ℕ)) (arrivals : List (Option (List ℕ))) (old new : State)
-    → IsSound w sent
-    → AllZip Arrives sent arrivals
-    → IsTrue (holds_header (kind w) sent)
-    → Hears w old (arrived arrivals) new
-    → EndsAfresh w sent (IsHitOrLost w sent arrivals) new
-
--- Recovery by marks: what was got is near the list of the packets that are kept.
-abbrev pub LawOfMarkedRecovery : Type 0
-LawOfMarkedRecovery =
-    (w : PageIdValue) (sent : List (List ℕ)) (marks : List Bool)
+    (class : ReceiverClass) (w : PageIdValue) (sent : List (List ℕ)) (marks : List Bool)
     → (got : List (List ℕ)) (old new : State)
     → IsSound w sent
     → AllZip MayBeMarked sent marks
     → AllZip AreNear (items_where_true marks sent) got
     → IsTrue (holds_header (kind w) sent)
-    → Hears w old got new
-    → EndsAfresh w sent (IsHitOrLost w sent (arrivals_of marks got)) new
-
--- Recovery of receivers that drop rows: a cell counts as hit where any byte of its row was.
-abbrev pub LawOfDroppingRecovery : Type 0
-LawOfDroppingRecovery =
-    (w : PageIdValue) (sent : List (List ℕ)) (arrivals : List (Option (List ℕ))) (old new : State)
-    → IsSound w sent
-    → AllZip Arrives sent arrivals
-    → IsTrue (holds_header (kind w) sent)
-    → HearsDropping w old (arrived arrivals) new
-    → EndsAfresh w sent (SomewhereInRow (IsHitOrLost w sent arrivals)) new
+    → HearsBy class w old got new
+    → EndsAfresh w sent (ExcusedBy class (IsHitOrLost w sent (arrivals_of marks got))) new

@@ -5,7 +5,8 @@ use Rattle.std.specs.Prelude.{IsFalse, if◌then◌else◌}
 use Rattle.ttx_packet.specs.PageId.{PageIdValue}
 use Rattle.ttx_page.specs.Page.{Rows}
 use Rattle.ttx_page.specs.PacketKind.{kind, is_this_page}
-use Rattle.ttx_page.specs.Receiver.{RunsBy, State, Step, StepDropping, StepLeaving}
+use Rattle.ttx_page.specs.Receiver.{ReceiverClass, RunsBy, State, StepBy, StepLeaving}
+use Rattle.ttx_page.specs.Receiver.ReceiverClass.{Storing}
 use Rattle.ttx_page.specs.Span.{holds_header}
 
 -- What a receiver holds, and what is on its screen: nothing yet, or a page.
@@ -57,42 +58,28 @@ ShowsWaiting leaves w old packets new =
     × (after.screen ≡ screen_after before after.held))
     old packets new
 
--- A receiver of page w with a screen that hears these packets may go from one display to the other:
--- what it holds goes by steps of the relation, and the screen follows.
+-- A receiver of page w and of the class, with a screen, that hears these packets may go from one
+-- display to the other: what it holds goes by steps of its class, and the screen follows.
 abbrev pub ShowsBy :
-    (PageIdValue → State → List ℕ → State → Type 0)
-    → PageIdValue → Display → List (List ℕ) → Display → Type 0
-ShowsBy StepsBy w old [] new = new ≡ old
-ShowsBy StepsBy w old (packet ∷ packets) new =
+    ReceiverClass → PageIdValue → Display → List (List ℕ) → Display → Type 0
+ShowsBy class w old [] new = new ≡ old
+ShowsBy class w old (packet ∷ packets) new =
     (mid : Display)
-    × StepsBy w old.held packet mid.held
+    × StepBy class w old.held packet mid.held
     × ShowsAt w old packet mid
-    × ShowsBy StepsBy w mid packets new
+    × ShowsBy class w mid packets new
 
 -- A receiver of the relation, with a screen.
 abbrev pub Shows : PageIdValue → Display → List (List ℕ) → Display → Type 0
-Shows w old packets new = ShowsBy Step w old packets new
-
--- A receiver that drops rows, with a screen.
-abbrev pub ShowsDropping : PageIdValue → Display → List (List ℕ) → Display → Type 0
-ShowsDropping w old packets new = ShowsBy StepDropping w old packets new
+Shows w old packets new = ShowsBy Storing w old packets new
 
 -- Whatever a receiver held and showed before: where it has heard a header of its page, and the page
 -- is not open, the page that it holds is on the screen.
 -- So what is proved of what a receiver holds is proved of its screen.
 abbrev pub LawOfScreen : Type 0
 LawOfScreen =
-    (w : PageIdValue) (packets : List (List ℕ)) (old new : Display)
-    → Shows w old packets new
-    → IsTrue (holds_header (kind w) packets)
-    → IsFalse new.held.is_open
-    → new.screen ≡ Some new.held.page
-
--- What a receiver that drops rows has on its screen, where its page has ended.
-abbrev pub LawOfDroppingScreen : Type 0
-LawOfDroppingScreen =
-    (w : PageIdValue) (packets : List (List ℕ)) (old new : Display)
-    → ShowsDropping w old packets new
+    (class : ReceiverClass) (w : PageIdValue) (packets : List (List ℕ)) (old new : Display)
+    → ShowsBy class w old packets new
     → IsTrue (holds_header (kind w) packets)
     → IsFalse new.held.is_open
     → new.screen ≡ Some new.held.page

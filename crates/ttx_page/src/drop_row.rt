@@ -1,6 +1,7 @@
 //! The receiver that drops a row where one of its bytes has even parity.
 ghost use Rattle.std.specs.Prelude.{◌≡◌, false};
-ghost use Rattle.ttx_page.specs.Receiver.{HearsDropping, StepDropping, is_dropped};
+ghost use Rattle.ttx_page.specs.Receiver.{HearsBy, StepBy, is_dropped};
+ghost use Rattle.ttx_page.specs.Receiver.ReceiverClass.{Dropping};
 
 use crate::memory::{EvenByte, Memory};
 use crate::packet_kind::PacketKind;
@@ -72,7 +73,7 @@ impl DropRow {
 
     /// Hears a packet: one step of the relation of receivers that drop rows.
     pub fn hear(&mut self, packet: &Packet)
-        ensures step { StepDropping self.old.watched self.old.state packet.now self.new.state }
+        ensures step { StepBy Dropping self.old.watched self.old.state packet.now self.new.state }
         ensures tuned { self.new.watched ≡ self.old.watched }
     {
         if !is_dropped(self.memory.watched, packet) {
@@ -82,7 +83,7 @@ impl DropRow {
 
     /// Hears packets, one after another.
     pub fn hear_all(&mut self, packets: &[Packet])
-        ensures run { HearsDropping self.old.watched self.old.state packets.now self.new.state }
+        ensures run { HearsBy Dropping self.old.watched self.old.state packets.now self.new.state }
         ensures tuned { self.new.watched ≡ self.old.watched }
     {
         for packet in packets {

@@ -2,12 +2,11 @@
 //! lost.
 //!
 //! The functions do nothing: the contract of each is a law over the definitions of `specs/`.
-ghost use Rattle.ttx_page.specs.DroppedRows.{LawOfDroppedRows, LawOfDropping};
-ghost use Rattle.ttx_page.specs.LostRows.{LawOfLostRows, LawOfMarkedLoss, LawOfNothingLost};
+ghost use Rattle.ttx_page.specs.DroppedRows.{LawOfDropping};
+ghost use Rattle.ttx_page.specs.LostRows.{LawOfLostRows, LawOfNothingLost};
 ghost use Rattle.ttx_page.specs.Noise.{LawOfNoise, LawOfQuiet};
-ghost use Rattle.ttx_page.specs.Recovery.{LawOfDroppingRecovery, LawOfMarkedRecovery};
 ghost use Rattle.ttx_page.specs.Recovery.{LawOfRecovery};
-ghost use Rattle.ttx_page.specs.Screen.{LawOfDroppingScreen, LawOfScreen};
+ghost use Rattle.ttx_page.specs.Screen.{LawOfScreen};
 ghost use Rattle.ttx_page.specs.Span.{LawOfSpan};
 
 /// The span is the part of a list from the place after the last header of the page to the first
@@ -32,17 +31,12 @@ pub fn law_of_quiet()
     ensures { LawOfQuiet }
 {}
 
-/// The law of noise where any packets but page headers are lost: a cell of a lost row counts as
-/// hit.
+/// The law of noise where any packets but page headers are lost, a mark beside each packet says
+/// whether it is kept, and receivers may drop rows. A cell of a lost row counts as hit, and where
+/// rows are dropped each cell of a row of which a byte was hit.
 #[tactic(auto, using(crate::proofs::NoiseLaws::law_of_lost_rows))]
 pub fn law_of_lost_rows()
     ensures { LawOfLostRows }
-{}
-
-/// The law of lost rows with a mark beside each packet: kept or lost.
-#[tactic(auto, using(crate::proofs::NoiseLaws::law_of_marked_loss))]
-pub fn law_of_marked_loss()
-    ensures { LawOfMarkedLoss }
 {}
 
 /// The law of lost rows with nothing lost is the law of noise.
@@ -57,13 +51,6 @@ pub fn law_of_dropping()
     ensures { LawOfDropping }
 {}
 
-/// So the law of lost rows covers receivers that drop rows: a cell counts as hit where any byte of
-/// its row was hit, or the row was lost.
-#[tactic(auto, using(crate::proofs::DropLaws::law_of_dropped_rows))]
-pub fn law_of_dropped_rows()
-    ensures { LawOfDroppedRows }
-{}
-
 /// The law of lost rows for any state before: whatever a receiver held, once a header of its page
 /// was sent, each cell holds what was sent, or a space where the cell's byte was hit or lost.
 #[tactic(auto, using(crate::proofs::NoiseLaws::law_of_recovery))]
@@ -71,28 +58,9 @@ pub fn law_of_recovery()
     ensures { LawOfRecovery }
 {}
 
-/// The law of recovery with a mark beside each packet: kept or lost.
-#[tactic(auto, using(crate::proofs::NoiseLaws::law_of_marked_recovery))]
-pub fn law_of_marked_recovery()
-    ensures { LawOfMarkedRecovery }
-{}
-
-/// The law of recovery for receivers that drop rows: a cell counts as hit where any byte of its row
-/// was hit, or the row was lost.
-#[tactic(auto, using(crate::proofs::DropLaws::law_of_dropping_recovery))]
-pub fn law_of_dropping_recovery()
-    ensures { LawOfDroppingRecovery }
-{}
-
 /// Whatever a receiver held and showed before: where it has heard a header of its page, and the
 /// page is not open, the page that it holds is on its screen.
 #[tactic(auto, using(crate::proofs::ScreenLaws::law_of_screen))]
 pub fn law_of_screen()
     ensures { LawOfScreen }
-{}
-
-/// The law of the screen for receivers that drop rows.
-#[tactic(auto, using(crate::proofs::ScreenLaws::law_of_dropping_screen))]
-pub fn law_of_dropping_screen()
-    ensures { LawOfDroppingScreen }
 {}

@@ -26,9 +26,8 @@ pub use differing::differing_columns;
 pub use drop_row::{DropRow, is_dropped};
 pub use keep::Keep;
 pub use laws::{
-    law_of_dropped_rows, law_of_dropping, law_of_dropping_recovery, law_of_dropping_screen,
-    law_of_lost_rows, law_of_marked_loss, law_of_marked_recovery, law_of_noise,
-    law_of_nothing_lost, law_of_quiet, law_of_recovery, law_of_screen, law_of_span,
+    law_of_dropping, law_of_lost_rows, law_of_noise, law_of_nothing_lost, law_of_quiet,
+    law_of_recovery, law_of_screen, law_of_span,
 };
 pub use packet_kind::PacketKind;
 pub use page::Page;
