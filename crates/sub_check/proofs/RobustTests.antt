@@ -1,13 +1,13 @@
 -- A transmission is not robust, by a receiver that computes: `refuted`. And it is not though all
 -- that is asked of a clean stretch but one part holds, which is needed then: `needed`.
 use Rattle.std.proofs.lemmas.Bool.Decides.{nat_tests}
-use Rattle.std.proofs.Common.{◌≡◌, ℕ, suc, ◌+◌, ◌-◌, ◌<◌, ◌≤◌, inl, inr, ◌==◌, Bool, true}
-use Rattle.std.proofs.Common.{false, not}
+use Rattle.std.proofs.Common.{◌≡◌, ◌↔◌, ◌⊎◌, ℕ, suc, ◌+◌, ◌-◌, ◌<◌, ◌≤◌, inl, inr, ◌==◌, Bool}
+use Rattle.std.proofs.Common.{true, false, not}
 use Rattle.std.proofs.Common.{◌&&◌, ◌||◌, nat_le, nat_lt, List, [], ◌++◌, length, take, refl, sym}
-use Rattle.std.proofs.Common.{ap, ◌∙◌, arith, eq-eqb, eqb-true, find, None, Some, slice_index}
+use Rattle.std.proofs.Common.{ap, ◌∙◌, arith, eqb-true, find, None, Some, slice_index}
 use Rattle.std.proofs.Common.{slice_index_or}
 use Rattle.std.proofs.Common.{replicate, subst, zero}
-use Rattle.std.proofs.lemmas.Bool.{and_parts, or_cases, not-true, leb-true}
+use Rattle.std.proofs.lemmas.Bool.{and_parts, or_cases, leb-true}
 use Rattle.std.specs.Bool.{Decides}
 use Rattle.std.proofs.lemmas.Bool.Decides.{Decides-and, Decides-eqb, Decides-like, Decides-ltb}
 use Rattle.std.proofs.lemmas.Bool.Decides.{Decides-or}
@@ -17,7 +17,8 @@ use Rattle.ttx_page.specs.Page.{space, cell, IsCell}
 use Rattle.ttx_page.specs.PacketKind.{is_row, kind}
 use Rattle.ttx_page.specs.Receiver.{State}
 use Rattle.ttx_page.specs.Span.{holds_header, is_open_after, span}
-use Rattle.ttx_page.proofs.ComputedReceiver.{heard_so, near_packets, packets_tested, steps}
+use Rattle.ttx_page.specs.ComputedReceiver.{state_after}
+use Rattle.ttx_page.proofs.ComputedReceiver.{heard_so, near_packets, packets_tested}
 use Rattle.stl_rows.specs.Programme.{ProgrammeValue}
 use Rattle.sub_plan.specs.Options.{OptionsValue}
 use Rattle.sub_plan.specs.Schedule.{due_in}
@@ -82,7 +83,18 @@ abbrev pub is_refuted :
 is_refuted programme frames o g j f got =
     may_listen frames g j f
     && (near_packets (on_air frames g j f) got
-    && is_unserved programme o g f (on_air frames g j f) (steps o.page before got))
+    && is_unserved programme o g f (on_air frames g j f) (state_after o.page before got))
+
+-- Who is not served so is not served.
+not_served :
+    (late has heard : Bool) (code due : ℕ)
+    → (late && not has || (not (agree heard has) || (has && is_wrong code due))) ≡ true
+    → (late ≡ true → has ≡ true)
+    → (heard ≡ true ↔ has ≡ true)
+    → (has ≡ true → (code ≡ due) ⊎ (code ≡ space))
+    → ⊥
+not_served late has heard code due e in_time hears cells =
+    let agrees = agreed heard has in grind (arith, nat_tests)
 
 -- So the transmission is not robust.
 pub refuted :
@@ -95,41 +107,17 @@ refuted programme frames o g j f got e robust =
     let a = and_parts (may_listen frames g j f) _ e in
     let b = and_parts (near_packets (on_air frames g j f) got) _ a.1 in
     let sent : List (List ℕ) = on_air frames g j f in
-    let new : State = steps o.page before got in
+    let new : State = state_after o.page before got in
     let served =
     robust g j f got before new (listening frames g j f a.0) (packets_tested sent got b.0) refl refl
     (heard_so o.page before got) in
-    let has : Bool = holds_header (kind o.page) sent in
-    elim (or_cases (nat_le (g + o.every) f && not has) _ b.1) [
-      | inl late ↦
-          let parts = and_parts (nat_le (g + o.every) f) (not has) late in
-          let none : has ≡ false = not-true has parts.1 in
-          let some : has ≡ true = served.in_time (leb-true (g + o.every) f parts.0) in
-          absurd (let t : false ≡ true = sym none ∙ some in cc)
-      | inr rest ↦ elim (or_cases (not (agree new.heard has)) _ rest) [
-        | inl other ↦
-            let differ : agree new.heard has ≡ false = not-true (agree new.heard has) other in
-            let same : agree new.heard has ≡ true =
-            (agreed new.heard has).1 (same_truth new.heard has served.heard.0 served.heard.1) in
-            absurd (let t : false ≡ true = sym differ ∙ same in cc)
-        | inr wrong ↦
-            let parts = and_parts has _ wrong in
-            let both =
-            and_parts (not (cell new.page 1 0 == cell (due_in programme f) 1 0)) _ parts.1 in
-            elim (served.cells parts.0 1 0 (omega arith, omega arith, omega arith)) [
-              | inl is ↦ differs (cell new.page 1 0) (cell (due_in programme f) 1 0) both.0 is
-              | inr hit ↦ differs (cell new.page 1 0) space both.1 hit.0
-            ]
-      ]
-    ]
-  where
-    same_truth : (a b : Bool) → (a ≡ true → b ≡ true) → (b ≡ true → a ≡ true) → a ≡ b
-    same_truth true b to back = sym (to refl)
-    same_truth false true to back = back refl
-    same_truth false false to back = refl
-
-    differs : (x y : ℕ) → not (x == y) ≡ true → x ≡ y → ⊥
-    differs x y e is = absurd (let t : not (x == y) ≡ false = ap not (eq-eqb x y is) in cc)
+    not_served (nat_le (g + o.every) f) (holds_header (kind o.page) sent) new.heard
+    (cell new.page 1 0) (cell (due_in programme f) 1 0) b.1
+    (λ late. served.in_time (leb-true (g + o.every) f late)) served.heard
+    (λ holds. elim (served.cells holds 1 0 (omega arith, omega arith, omega arith)) [
+      | inl is ↦ inl is
+      | inr hit ↦ inr hit.0
+    ])
 
 -- ---- all parts but one of what is asked of a clean stretch
 

@@ -1,20 +1,20 @@
--- A receiver as a function that computes: one that keeps the cells of even bytes, `steps`, which is
--- one of the relation, `heard_so`. And a test of near packets: `packets_tested`. For examples.
-use Rattle.std.proofs.Common.{◌≡◌, ℕ, ◌-◌, inl, ◌==◌, Bool, true, false, ◌&&◌, cond, List, [], ◌∷◌}
-use Rattle.std.proofs.Common.{map, get_or, MatchBool, refl, ap, ◌∙◌, arith, eq-eqb, ne_eqb}
+-- A receiver that computes is one of the relation: `heard_so`. And a test of near packets:
+-- `packets_tested`. For examples.
+use Rattle.std.proofs.Common.{◌≡◌, ℕ, ◌-◌, Bool, true, false, ◌&&◌, List, [], ◌∷◌, map, get_or}
+use Rattle.std.proofs.Common.{refl, ap, ◌∙◌, arith, inl, inr}
 use Rattle.std.specs.List.{range_with_len, AllZip}
-use Rattle.std.proofs.lemmas.Bool.{and_parts, cond-true, cond-false}
+use Rattle.std.proofs.lemmas.Bool.{and_parts, cases_Bool}
+use Rattle.std.proofs.lemmas.Bool.Decides.{nat_tests}
 use Rattle.std.proofs.lemmas.List.FromFn.{get_or-map-range_with_len}
 use Rattle.ttx_packet.specs.OneBit.{AreNear, is_near}
-use Rattle.ttx_packet.specs.PageHeader.{c4}
 use Rattle.ttx_packet.specs.PageId.{PageIdValue}
-use Rattle.ttx_packet.specs.Parity.{code_of, is_odd}
-use Rattle.ttx_packet.specs.RowPacket.{text_byte}
 use Rattle.ttx_packet.proofs.OneBitLemmas.{near_from_test}
+use Rattle.ttx_page.specs.ComputedReceiver.{code_stored, page_of_cells, row_stored, state_after}
+use Rattle.ttx_page.specs.ComputedReceiver.{state_at}
 use Rattle.ttx_page.specs.declared.packet_kind.PacketKind.{PacketKind}
 use Rattle.ttx_page.specs.declared.packet_kind.PacketKind.TheVariants.{ThisPage, EndsPage, Row}
 use Rattle.ttx_page.specs.declared.packet_kind.PacketKind.TheVariants.{Other}
-use Rattle.ttx_page.specs.Page.{Rows, blank, cell, IsCell}
+use Rattle.ttx_page.specs.Page.{Rows, cell, IsCell}
 use Rattle.ttx_page.specs.PacketKind.{kind}
 use Rattle.ttx_page.specs.Receiver.{State, StepAt, Hears, StoresRow}
 
@@ -53,11 +53,6 @@ packets_tested (s ∷ sent) (g ∷ got) e =
 
 -- ---- a receiver that keeps the cells of even bytes
 
--- The page with these codes in its cells.
-abbrev page_of_cells : (ℕ → ℕ → ℕ) → Rows
-page_of_cells code =
-    map (λ row. map (λ column. code row column) (range_with_len 0 40)) (range_with_len 1 24)
-
 cell-page_of_cells :
     (code : ℕ → ℕ → ℕ) (row column : ℕ)
     → IsCell row column
@@ -69,71 +64,31 @@ cell-page_of_cells code row column named =
     ∙ get_or-map-range_with_len (λ column. code row column) 0 40 column column 0 named.2
     (omega arith)
 
--- The code of a cell after a byte of its row.
-abbrev kept_code : ℕ → ℕ → ℕ
-kept_code byte was = cond (is_odd byte) (code_of byte) was
+-- A row is stored as it may be.
+row_is_stored :
+    (packet : List ℕ) (y : ℕ) (page : Rows) → StoresRow packet y page (row_stored packet y page)
+row_is_stored packet y page row column named =
+    let at = cell-page_of_cells (code_stored packet y page) row column named in
+    grind (arith, nat_tests)
 
--- The page after row y was stored.
-abbrev stored : List ℕ → ℕ → Rows → Rows
-stored packet y page =
-    page_of_cells
-    (λ row column. cond (row == y) (kept_code (text_byte packet column) (cell page row column))
-    (cell page row column))
-
-stores_row :
-    (packet : List ℕ) (y : ℕ) (page : Rows) → StoresRow packet y page (stored packet y page)
-stores_row packet y page row column named =
-    let code : ℕ → ℕ → ℕ = λ row column.
-    cond (row == y) (kept_code (text_byte packet column) (cell page row column))
-    (cell page row column) in
-    let at = cell-page_of_cells code row column named in (
-      λ same.
-          let here = at ∙ cond-true (row == y) _ _ (eq-eqb row y same) in (
-            λ odd. here ∙ cond-true (is_odd (text_byte packet column)) _ _ odd,
-            λ even. inl (here ∙ cond-false (is_odd (text_byte packet column)) _ _ even),
-          ),
-      λ other. at ∙ cond-false (row == y) _ _ (ne_eqb row y other),
-    )
-
--- Its state after a packet of each kind.
-abbrev step : PacketKind → List ℕ → State → State
-step (ThisPage h) packet old =
-    record { heard = true; is_open = true; page = cond (c4 h) blank old.page }
-step EndsPage packet old = record old { is_open = false }
-step (Row y) packet old =
-    cond old.is_open (record old { page = stored packet y old.page }) old
-step Other packet old = old
-
-stepped : (k : PacketKind) (packet : List ℕ) (old : State) → StepAt k packet old (step k packet old)
+-- Each packet is a step of the relation.
+stepped :
+    (k : PacketKind) (packet : List ℕ) (old : State)
+    → StepAt k packet old (state_at k packet old)
 stepped (ThisPage h) packet old = refl
 stepped EndsPage packet old = refl
-stepped (Row y) packet old = go old.is_open
-  where
-    more : State
-    more = record old { page = stored packet y old.page }
-
-    go :
-        (b : Bool)
-        → MatchBool b
-        (((cond b more old).heard ≡ old.heard)
-        × ((cond b more old).is_open ≡ old.is_open)
-        × StoresRow packet y old.page (cond b more old).page)
-        (cond b more old ≡ old)
-    go true = (refl, refl, stores_row packet y old.page)
-    go false = refl
+stepped (Row y) packet old = elim (cases_Bool old.is_open) [
+  | inl up ↦ rw up (grind arith, grind arith, row_is_stored packet y old.page)
+  | inr shut ↦ rw shut refl
+]
 stepped Other packet old = refl
-
--- Its state after a list of packets.
-abbrev pub steps : PageIdValue → State → List (List ℕ) → State
-steps w old [] = old
-steps w old (packet ∷ packets) = steps w (step (kind w packet) packet old) packets
 
 pub heard_so :
     (w : PageIdValue) (old : State) (packets : List (List ℕ))
-    → Hears w old packets (steps w old packets)
+    → Hears w old packets (state_after w old packets)
 heard_so w old [] = refl
 heard_so w old (packet ∷ packets) = (
-  step (kind w packet) packet old,
+  state_at (kind w packet) packet old,
   stepped (kind w packet) packet old,
-  heard_so w (step (kind w packet) packet old) packets,
+  heard_so w (state_at (kind w packet) packet old) packets,
 )

@@ -1,1 +1,0 @@
--- The packet is received or not; by runs_received and runs_passed.

@@ -1,1 +1,0 @@
--- One packet more, by runs_further; a run through none, by runs-none.

@@ -1,1 +1,0 @@
--- The packet is dropped, shown or heard; by runs_dropped, runs_taken, runs_shown, runs_heard.
