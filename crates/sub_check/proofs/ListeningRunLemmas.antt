@@ -2,13 +2,14 @@
 use Rattle.std.proofs.lemmas.Bool.Decides.{nat_tests}
 use Rattle.std.proofs.Common.{◌≡◌, ◌∙◌, ap, refl, subst, arith, ℕ, ◌+◌, ◌<◌, ◌≤◌, inl}
 use Rattle.std.proofs.Common.{inr, Bool, true, false, not, List, [], ◌∷◌, ◌++◌, length, drop}
-use Rattle.std.proofs.Common.{Option, Some, None, option_map, Ok, Err}
+use Rattle.std.proofs.Common.{MatchResult, Option, Result, Some, None, option_map, Ok, Err}
 use Rattle.std.proofs.lemmas.List.{length-append, length-map}
 use Rattle.std.proofs.lemmas.List.Elements.{filter-append}
 use Rattle.std.proofs.lemmas.Bool.{and_right, cases_lt}
 use Rattle.sub_io.specs.Reading.{IfTold}
 use Rattle.ttx_packet.specs.PageId.{PageIdValue}
 use Rattle.ttx_page.specs.Screen.{Display}
+use Rattle.ttx_page.proofs.RunLemmas.{RunsBy-append}
 use Rattle.ttx_pes.specs.DataUnit.{UnitValue}
 use Rattle.ttx_pes.specs.PesPacket.{PesValue}
 use Rattle.ttx_pes.specs.Reader.{FailsWithin, TakesPackets}
@@ -23,14 +24,15 @@ use Rattle.sub_check.specs.Transmission.{Transmission}
 use Rattle.sub_check.specs.declared.fault.CheckFault.{CheckFault}
 use Rattle.sub_check.proofs.PesReadingLemmas.{ReadsNext, reads-below, reads_end, reads_next}
 use Rattle.sub_check.proofs.ShownLemmas.{joined_more}
-use Rattle.sub_check.specs.ListeningRun.{AreHeard, FailsListening, HearsFile, IsHeard, RefusesAfter}
-use Rattle.sub_check.specs.ListeningRun.{least_frame}
+use Rattle.sub_check.specs.ListeningRun.{AreHeard, EndsAfter, FailsListening, HearsFile, IsHeard}
+use Rattle.sub_check.specs.ListeningRun.{RefusesAfter, least_frame}
 use Rattle.sub_check.specs.Reception.{Reception, RunsThrough, as_heard, as_received}
 use Rattle.sub_check.specs.Reception.{first_lost_header}
 use Rattle.sub_check.specs.Reception.{reception_of}
 use Rattle.sub_request.specs.declared.listening.Listening.{Listening}
 use Rattle.ttx_pes.specs.declared.fault.PesFault.TheVariants as pes
 use Rattle.sub_check.specs.declared.fault.CheckFault.TheVariants as check
+use Rattle.sub_check.specs.declared.listening_run.ListenFault.{ListenFault}
 use Rattle.sub_check.specs.declared.listening_run.ListenFault.TheVariants as fault
 
 -- ---- lists of packets
@@ -52,7 +54,7 @@ first_lost_header-none r number (packet ∷ packets) e =
       first_lost_header-none r (number + 1) packets e,
     )
 
--- what is received of two lists of packets, one after the other
+-- What is received of two lists of packets, one after the other.
 pub as_received-append : (r : Reception) (number : ℕ) (first more : List (List ℕ))
     → as_received r number (first ++ more)
     ≡ as_received r number first ++ as_received r (number + length first) more
@@ -68,23 +70,12 @@ as_received-append r number (p ∷ ps) more =
       false,
     )
 
--- what is heard of two lists of packets, one after the other
+-- What is heard of two lists of packets, one after the other.
 as_heard-append : (l : Listening) (number : ℕ) (first more : List (List ℕ))
     → as_heard l number (first ++ more)
     ≡ as_heard l number first ++ as_heard l (number + length first) more
 as_heard-append l number first more =
     grind (arith, as_received-append, filter-append)
-
--- two runs, one after the other
-runs-append : (b : Bool) (leaves : ℕ → ℕ) (w : PageIdValue) (first more : List (List ℕ))
-    → (old mid new : Display)
-    → RunsThrough b leaves w old first mid
-    → RunsThrough b leaves w mid more new
-    → RunsThrough b leaves w old (first ++ more) new
-runs-append b leaves w [] more old mid new run next =
-    subst (λ (d : Display). RunsThrough b leaves w d more new) run next
-runs-append b leaves w (p ∷ ps) more old mid new run next =
-    (run.0, run.1, runs-append b leaves w ps more run.0 mid new run.2 next)
 
 -- ---- what is reached after n frames
 
@@ -106,7 +97,7 @@ pub record Reaches
   pub number_is : number ≡ length (packets_before frames n)
   pub least_is : least ≡ least_frame frames n
 
--- the source failed after the packets that were heard. For `hear_file`.
+-- The source failed after the packets that were heard.
 pub fails_listening : (l : Listening) (n : ℕ) (f : CheckFault) (old mid new : Option (List ℕ))
     → TakesPackets n old mid
     → (is_pes_read f ≡ true → f ≡ check.Pes n pes.Read)
@@ -128,8 +119,20 @@ module _
         (reached : Reaches leaves l frames unread w old remaining n number least now)
         (left : Option (List ℕ))
       where
-        -- the file ends
-        pub ends_at_end : (v : PesValue)
+        -- What is heard ends here.
+        ends_so :
+            (result : Result (Unit {0}) ListenFault)
+            → MatchResult result (λ _. EndsAfter l frames unread n) (RefusesAfter l frames unread n)
+            → (n < length frames → TakesPackets (n + 1) told left)
+            → HearsFile leaves l frames unread told left w old now result
+        ends_so result ends stops = record {
+          runs = record { n = n; heard = reached.heard; run = reached.run; ends = ends };
+          stops = stops;
+        }
+
+        -- The file ends.
+        pub ends_at_end :
+            (v : PesValue)
             → TellsFrame l.options.origin n reached.rest v (Ok None)
             → HearsFile leaves l frames unread told left w old now (Ok tt)
         ends_at_end v is =
@@ -137,18 +140,12 @@ module _
             reads_end l.options.origin n reached.rest frames unread None reached.few reached.left
             is in
             let within = reached.within in
-            record {
-              runs = record {
-                n = n;
-                heard = reached.heard;
-                run = reached.run;
-                ends = inl (omega (arith, at.0), at.1);
-              };
-              stops = λ more. absurd (omega (arith, more, at.0));
-            }
+            ends_so (Ok tt) (inl (omega (arith, at.0), at.1))
+            (λ more. absurd (omega (arith, more, at.0)))
 
-        -- it is not read on
-        pub ends_unread : (v : PesValue) (f : CheckFault)
+        -- It is not read on.
+        pub ends_unread :
+            (v : PesValue) (f : CheckFault)
             → TellsFrame l.options.origin n reached.rest v (Err f)
             → HearsFile leaves l frames unread told left w old now (Err (fault.File f))
         ends_unread v f (u, is, ends) =
@@ -157,17 +154,10 @@ module _
             reached.left ends in
             let within = reached.within in
             let all : n ≡ length frames = omega (arith, at.0) in
-            record {
-              runs = record {
-                n = n;
-                heard = reached.heard;
-                run = reached.run;
-                ends = grind arith;
-              };
-              stops = λ more. absurd (omega (arith, more, all));
-            }
+            ends_so (Err (fault.File f)) (grind arith) (λ more. absurd (omega (arith, more, all)))
           where
-            refuses : (x : Unread)
+            refuses :
+                (x : Unread)
                 → n ≡ length frames
                 → unread ≡ Some x
                 → RefusesAfter l frames unread n (fault.File (unread_fault n (Some x)))
@@ -183,42 +173,30 @@ module _
                 reads_next l.options.origin n reached.rest frames unread v frame reached.few
                 reached.left is.0 is.1
 
-            -- its frame is not after the one before
-            pub ends_order : frame < least
+            -- Its frame is not after the one before.
+            pub ends_order :
+                frame < least
                 → HearsFile leaves l frames unread told left w old now
                 (Err (fault.File (check.Order n)))
             ends_order early =
                 let frame_is = next.sent.frame_is in
                 let least_is = reached.least_is in
-                record {
-                  runs = record {
-                    n = n;
-                    heard = reached.heard;
-                    run = reached.run;
-                    ends = (refl, next.sent.there, omega arith);
-                  };
-                  stops = λ there. taken;
-                }
+                ends_so (Err (fault.File (check.Order n))) (refl, next.sent.there, omega arith)
+                (λ there. taken)
 
-            -- it is after TIME
-            pub ends_late : least ≤ frame
+            -- It is after TIME.
+            pub ends_late :
+                least ≤ frame
                 → l.at < frame
                 → HearsFile leaves l frames unread told left w old now (Ok tt)
             ends_late rises late =
                 let frame_is = next.sent.frame_is in
                 let least_is = reached.least_is in
-                record {
-                  runs = record {
-                    n = n;
-                    heard = reached.heard;
-                    run = reached.run;
-                    ends = inr (next.sent.there, omega arith, omega arith);
-                  };
-                  stops = λ there. taken;
-                }
+                ends_so (Ok tt) (inr (next.sent.there, omega arith, omega arith)) (λ there. taken)
 
-            -- a page header of it is lost
-            pub ends_lost : (packet : ℕ)
+            -- A page header of it is lost.
+            pub ends_lost :
+                (packet : ℕ)
                 → least ≤ frame
                 → frame ≤ l.at
                 → first_lost_header (reception_of l) number (packets_of_units v.units) ≡ Some packet
@@ -226,19 +204,13 @@ module _
                 (Err (fault.LostHeader frame packet))
             ends_lost packet rises in_time lost =
                 let least_is = reached.least_is in
-                record {
-                  runs = record {
-                    n = n;
-                    heard = reached.heard;
-                    run = reached.run;
-                    ends =
-                        grind (arith, next.sent.there, next.sent.frame_is, next.sent.packets_are);
-                  };
-                  stops = λ there. taken;
-                }
+                ends_so (Err (fault.LostHeader frame packet))
+                (grind (arith, next.sent.there, next.sent.frame_is, next.sent.packets_are))
+                (λ there. taken)
 
-            -- it is heard
-            pub reaches_next : (after : Display)
+            -- It is heard.
+            pub reaches_next :
+                (after : Display)
                 → least ≤ frame
                 → frame ≤ l.at
                 → first_lost_header (reception_of l) number (packets_of_units v.units) ≡ None
@@ -266,6 +238,7 @@ module _
                 ∙ length-append (packets_before frames n) (packets_of_units v.units) in
                 let units = length-map v.units (λ (u : UnitValue). u.packet) in
                 let number_is = reached.number_is in
+                let place : 0 + length (packets_before frames n) ≡ number = omega arith in
                 record {
                   few = omega (arith, below);
                   within = omega arith;
@@ -278,11 +251,11 @@ module _
                         | inr h ↦ subst (IsHeard l frames) (omega arith) here
                       ];
                   run =
-                      grind (
-                        arith,
+                      rw (
+                        more,
                         as_heard-append l 0 (packets_before frames n) (packets_of_units v.units),
-                        runs-append,
-                      );
+                        place,
+                      ) (RunsBy-append _ _ _ _ _ _ reached.run run);
                   number_is = omega (arith, size, units, number_is);
                   least_is = grind arith;
                 }

@@ -106,17 +106,15 @@ example_of_page_begun_again = record {
   shown = open_with (Some blank);
   shows = (
     open_with None,
-    opens (unheard None).held,
-    first_header,
-    (open_with (Some blank), opens on_blank, shows_again, refl),
+    (opens (unheard None).held, first_header),
+    (open_with (Some blank), (opens on_blank, shows_again), refl),
   );
   is_shown = refl;
   other = open_with None;
   waits = (
     open_with None,
-    opens (unheard None).held,
-    first_header,
-    (open_with None, opens on_blank, waits_again, refl),
+    (opens (unheard None).held, first_header),
+    (open_with None, (opens on_blank, waits_again), refl),
   );
   is_nothing = refl;
 }
@@ -162,6 +160,6 @@ example_of_no_end = record {
       let due =
       shown 900000 0 900000 (true ∷ []) sent (unheard None) (open_with None) listening
       ((λ e. absurd (true≢false e)), tt) (AreNear-themselves sent)
-      (open_with None, opens (unheard None).held, first_header, refl) holds in
+      (open_with None, (opens (unheard None).held, first_header), refl) holds in
       none-some due.page due.is;
 }

@@ -66,9 +66,9 @@ Shown programme transmission options =
 
 -- ---- in a stretch of frames
 
--- The frames from a to b are shown by receivers of the class: as above, with start and stop in these
--- frames. Where rows are dropped, a space is excused where any byte of its row was hit, or the row
--- lost.
+-- The frames from a to b are shown by receivers of the class: as above, with start and stop in
+-- these frames. Where rows are dropped, a space is excused where any byte of its row was hit, or
+-- the row lost.
 abbrev pub ShownWithin :
     ReceiverClass → ProgrammeValue → Transmission → OptionsValue → ℕ → ℕ → Type 0
 ShownWithin class programme transmission options a b =

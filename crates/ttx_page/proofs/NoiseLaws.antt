@@ -1,8 +1,8 @@
 -- The laws of noise and of lost rows: what a run over items leaves of the flags, `flags`, and of a
 -- cell, `cell_shown`, gives `law_of_recovery` and `law_of_lost_rows`; the others follow.
-use Rattle.std.proofs.Common.{◌≡◌, ℕ, ◌<◌, ◌⊎◌, inl, inr, Bool, true, false, not, ◌||◌, List, []}
-use Rattle.std.proofs.Common.{◌∷◌, map, zip, find, Option, Some, None, option_map, unwrap_or, All}
-use Rattle.std.proofs.Common.{Contains, IsTrue, refl, sym, ap, ◌∙◌, arith}
+use Rattle.std.proofs.Common.{◌≡◌, ℕ, suc, ◌<◌, ◌⊎◌, inl, inr, Bool, true, false, not, ◌||◌, List}
+use Rattle.std.proofs.Common.{[], ◌∷◌, length, map, zip, find, Option, Some, None, option_map, All}
+use Rattle.std.proofs.Common.{unwrap_or, Contains, IsTrue, refl, sym, ap, ◌∙◌, arith}
 use Rattle.std.specs.List.{AllByRecursion, list_any, AllZip, items_where_true}
 use Rattle.std.proofs.lemmas.Bool.Decides.{nat_tests}
 use Rattle.std.proofs.lemmas.List.{length-map, get_or-map}
@@ -28,8 +28,8 @@ use Rattle.ttx_page.specs.LostRows.{arrivals_of}
 use Rattle.ttx_page.specs.Recovery.{LawOfRecovery}
 use Rattle.ttx_page.proofs.SpanLists.{Any-map, map-Any, find_is, find_none, none_pass}
 use Rattle.ttx_page.proofs.SpanLists.{list_any-map, after-map, span-map, zip-map}
-use Rattle.ttx_page.proofs.NoiseSteps.{Arrives, Item, kind_of_item, Becomes, arrived, excused_as}
-use Rattle.ttx_page.proofs.NoiseSteps.{over, row_from_test}
+use Rattle.ttx_page.proofs.NoiseSteps.{Item, kind_of_item, Becomes, excused_as, over}
+use Rattle.ttx_page.proofs.NoiseSteps.{row_from_test}
 
 -- Each packet of a row in the span has the code that is shown. Also for `LateStart`.
 pub shown_is :
@@ -63,9 +63,21 @@ shown_is w sent row column packet sound within is below = go (find test spanned)
         (All-contains (λ p. All (HasSameCodes w p) spanned) spanned first sound.same found.1) within
         row column (row_from_test row (kind w first) found.0) is below)
 
+-- There is an arrival for each mark.
+length-arrivals_of :
+    (marks : List Bool) (got : List (List ℕ)) → length (arrivals_of marks got) ≡ length marks
+length-arrivals_of [] got = refl
+length-arrivals_of (false ∷ ms) got = ap suc (length-arrivals_of ms got)
+length-arrivals_of (true ∷ ms) [] = ap suc (length-arrivals_of ms [])
+length-arrivals_of (true ∷ ms) (g ∷ gs) = ap suc (length-arrivals_of ms gs)
+
 -- What is sent, with what arrives of it.
-module _ (class : ReceiverClass) (w : PageIdValue) (sent : List (List ℕ))
-    (arrivals : List (Option (List ℕ))) (near : AllZip Arrives sent arrivals) where
+module _ (class : ReceiverClass) (w : PageIdValue) (sent : List (List ℕ)) (marks : List Bool)
+    (got : List (List ℕ)) (may : AllZip MayBeMarked sent marks)
+    (near : AllZip AreNear (items_where_true marks sent) got) where
+  abbrev arrivals : List (Option (List ℕ))
+  arrivals = arrivals_of marks got
+
   abbrev items : List Item
   items = zip sent arrivals
 
@@ -74,7 +86,10 @@ module _ (class : ReceiverClass) (w : PageIdValue) (sent : List (List ℕ))
 
   -- The packets of the items are those that were sent.
   sent-items : sent ≡ map sent_of items
-  sent-items = sym (firsts-zip sent arrivals (AllZip-long Arrives sent arrivals near))
+  sent-items =
+      sym
+      (firsts-zip sent arrivals
+      (length-arrivals_of marks got ∙ AllZip-long MayBeMarked sent marks may))
 
   -- So are those of their span.
   span-items : span (kind w) sent ≡ map sent_of (span (kind_of_item w) items)
@@ -120,20 +135,20 @@ module _ (class : ReceiverClass) (w : PageIdValue) (sent : List (List ℕ))
       (old new : State) (row column : ℕ)
       → IsSound w sent
       → IsCell row column
-      → HearsBy class w old (arrived arrivals) new
+      → HearsBy class w old got new
       → Becomes class w row column (shown w sent row column)
       (ExcusedBy class (IsHitOrLost w sent arrivals) row column)
       old items new
   becomes old new row column sound named hears =
-      over class w row column _ _ old [] sent arrivals old new named
-      (recursion_from_All _ sent sound.exact) (recursion_from_All _ sent sound.erases) near hears
-      (grind (arith, nat_tests))
+      over class w row column _ _ old [] sent marks got old new named
+      (recursion_from_All _ sent sound.exact) (recursion_from_All _ sent sound.erases) may near
+      hears (grind (arith, nat_tests))
 
   -- The two flags.
   flags :
       (old new : State)
       → IsSound w sent
-      → HearsBy class w old (arrived arrivals) new
+      → HearsBy class w old got new
       → (new.heard ≡ (holds_header (kind w) sent || old.heard))
       × ((holds_header (kind w) sent || not old.is_open) ≡ true
       → new.is_open ≡ is_open_after (kind w) sent)
@@ -146,7 +161,7 @@ module _ (class : ReceiverClass) (w : PageIdValue) (sent : List (List ℕ))
       (old new : State)
       → IsSound w sent
       → holds_header (kind w) sent ≡ true
-      → HearsBy class w old (arrived arrivals) new
+      → HearsBy class w old got new
       → (row column : ℕ)
       → IsCell row column
       → (cell new.page row column ≡ shown w sent row column)
@@ -166,65 +181,27 @@ module _ (class : ReceiverClass) (w : PageIdValue) (sent : List (List ℕ))
       let no_row = find_none (λ p. is_row row (kind w p)) (span (kind w) sent) in
       grind (arith, nat_tests)
 
--- ---- marks
-
--- What is near the packets that are kept arrives.
-arrives_marked :
-    (sent : List (List ℕ)) (marks : List Bool) (got : List (List ℕ))
-    → AllZip MayBeMarked sent marks
-    → AllZip AreNear (items_where_true marks sent) got
-    → AllZip Arrives sent (arrivals_of marks got)
-arrives_marked [] [] got may near = tt
-arrives_marked [] (m ∷ ms) got may near = elim may [ ]
-arrives_marked (p ∷ ps) [] got may near = elim may [ ]
-arrives_marked (p ∷ ps) (false ∷ ms) got may near =
-    (may.0 refl, arrives_marked ps ms got may.1 near)
-arrives_marked (p ∷ ps) (true ∷ ms) [] may near = elim near [ ]
-arrives_marked (p ∷ ps) (true ∷ ms) (g ∷ gs) may near =
-    (near.0, arrives_marked ps ms gs may.1 near.1)
-
--- What arrives by marks is what was got.
-arrived_marked :
-    (sent : List (List ℕ)) (marks : List Bool) (got : List (List ℕ))
-    → AllZip MayBeMarked sent marks
-    → AllZip AreNear (items_where_true marks sent) got
-    → arrived (arrivals_of marks got) ≡ got
-arrived_marked [] [] [] may near = refl
-arrived_marked [] [] (g ∷ gs) may near = elim near [ ]
-arrived_marked [] (m ∷ ms) got may near = elim may [ ]
-arrived_marked (p ∷ ps) [] got may near = elim may [ ]
-arrived_marked (p ∷ ps) (false ∷ ms) got may near = arrived_marked ps ms got may.1 near
-arrived_marked (p ∷ ps) (true ∷ ms) [] may near = elim near [ ]
-arrived_marked (p ∷ ps) (true ∷ ms) (g ∷ gs) may near =
-    ap (λ xs. g ∷ xs) (arrived_marked ps ms gs may.1 near.1)
-
 -- ---- the laws
 
 -- The law of recovery.
 pub law_of_recovery : LawOfRecovery
 law_of_recovery class w sent marks got old new sound may near holds hears =
-    let arrivals : List (Option (List ℕ)) = arrivals_of marks got in
-    let arrives = arrives_marked sent marks got may near in
-    let heard = rw (← arrived_marked sent marks got may near) at hears in
-    let end = flags class w sent arrivals arrives old new sound heard in
+    let end = flags class w sent marks got may near old new sound hears in
     record {
       heard = grind (arith, nat_tests);
       is_open = grind (arith, nat_tests);
-      cells = cell_shown class w sent arrivals arrives old new sound holds heard;
+      cells = cell_shown class w sent marks got may near old new sound holds hears;
     }
 
 -- The law of lost rows.
 pub law_of_lost_rows : LawOfLostRows
 law_of_lost_rows class w sent marks got old new sound may near unheard shut hears =
-    let arrivals : List (Option (List ℕ)) = arrivals_of marks got in
-    let arrives = arrives_marked sent marks got may near in
-    let heard = rw (← arrived_marked sent marks got may near) at hears in
-    let end = flags class w sent arrivals arrives old new sound heard in
+    let end = flags class w sent marks got may near old new sound hears in
     record {
       heard = grind (arith, nat_tests);
       is_open = grind (arith, nat_tests);
       cells = λ now_heard.
-          cell_shown class w sent arrivals arrives old new sound (grind (arith, nat_tests)) heard;
+          cell_shown class w sent marks got may near old new sound (grind (arith, nat_tests)) hears;
     }
 
 -- ---- with nothing lost

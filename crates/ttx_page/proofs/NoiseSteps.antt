@@ -1,10 +1,10 @@
 -- What becomes of a receiver by packets that are sent, each got with wrong bits or lost: at one
--- packet, `at_item`, and by a run over many, `over`.
+-- packet, `at_lost` and `at_got`, and by a run over many, `over`.
 use Rattle.std.proofs.Common.{◌≡◌, ℕ, ◌+◌, ◌-◌, ◌<◌, ◌⊎◌, inl, inr, true, false, not, ◌&&◌, ◌||◌}
 use Rattle.std.proofs.Common.{List, [], ◌∷◌, ◌++◌, zip, slice_index, replicate, Option, Some, None}
-use Rattle.std.proofs.Common.{is_some}
+use Rattle.std.proofs.Common.{Bool, is_some}
 use Rattle.std.proofs.Common.{Contains, IsTrue, refl, ap, ◌∙◌, arith}
-use Rattle.std.specs.List.{list_any, AllByRecursion, AllZip}
+use Rattle.std.specs.List.{list_any, AllByRecursion, AllZip, items_where_true}
 use Rattle.std.proofs.lemmas.Bool.{cases_Bool}
 use Rattle.std.proofs.lemmas.Bool.Decides.{nat_tests}
 use Rattle.std.proofs.lemmas.List.{append-nil, append_assoc, get_or-replicate}
@@ -26,7 +26,7 @@ use Rattle.ttx_page.specs.DroppedRows.{ExcusedBy}
 use Rattle.ttx_page.specs.Receiver.{HearsBy, ReceiverClass, State, Step, StepBy, is_dropped}
 use Rattle.ttx_page.specs.Receiver.ReceiverClass.{Dropping, Storing}
 use Rattle.ttx_page.specs.Noise.{ErasesPage}
-use Rattle.ttx_page.specs.LostRows.{MayBeLost, LosesByte}
+use Rattle.ttx_page.specs.LostRows.{LosesByte, MayBeLost, MayBeMarked, arrivals_of}
 use Rattle.ttx_page.specs.Span.{holds_header, is_open_after, span}
 use Rattle.ttx_page.proofs.SpanPush.{holds-push, span-push, open-this, open-other}
 
@@ -41,17 +41,6 @@ Item = List ℕ × Option (List ℕ)
 -- The kind of an item is that of the packet that is sent.
 abbrev pub kind_of_item : PageIdValue → Item → PacketKind
 kind_of_item w item = kind w item.0
-
--- What was got of a packet has at most one wrong bit in each byte, and no page header is lost.
-abbrev pub Arrives : List ℕ → Option (List ℕ) → Type 0
-Arrives sent (Some got) = AreNear sent got
-Arrives sent None = MayBeLost sent
-
--- The packets that were got, in order.
-abbrev pub arrived : List (Option (List ℕ)) → List (List ℕ)
-arrived [] = []
-arrived (None ∷ arrivals) = arrived arrivals
-arrived (Some got ∷ arrivals) = got ∷ arrived arrivals
 
 -- A packet that may be lost is no header.
 pub lost_is_no_header :
@@ -127,11 +116,6 @@ dropped_loses w sent got row column odd drop =
 
 -- ---- one step
 
--- A receiver goes on at an item: by a step where something is got, and else it stays.
-abbrev Goes : ReceiverClass → PageIdValue → Option (List ℕ) → State → State → Type 0
-Goes class w (Some got) old new = StepBy class w old got new
-Goes class w None old new = new ≡ old
-
 -- A cell gets the code that was sent; or the packet loses its byte, and the cell stays or becomes a
 -- space.
 abbrev TakesCode :
@@ -178,52 +162,41 @@ at_step w row column sent got old new named exact erases near step =
     let same = kind-near w sent got exact near in
     let near_byte = near_at sent got (column + 2) near in
     let even = even_from_changed (text_byte sent column) (text_byte got column) in
-    record {
-      heard = grind (arith, nat_tests);
-      is_open = grind (arith, nat_tests);
-      erased = grind (arith, nat_tests);
-      stays = grind (arith, nat_tests);
-      stores = λ is up odd. let here = odd column named.2 in grind (arith, nat_tests);
-    }
+    let is_odd_here : HasOddText sent → IsTrue (is_odd (text_byte sent column)) =
+    λ odd. odd column named.2 in
+    grind (arith, nat_tests)
 
--- It is so of each item that arrives.
-at_item :
-    (class : ReceiverClass) (w : PageIdValue) (row column : ℕ) (sent : List ℕ)
-    (arrival : Option (List ℕ)) (old new : State)
+-- It is so of a packet that is lost.
+at_lost :
+    (class : ReceiverClass) (w : PageIdValue) (row column : ℕ) (sent : List ℕ) (old : State)
+    → IsCell row column
+    → MayBeLost sent
+    → AtItem class w row column sent None old old
+at_lost class w row column sent old named may =
+    let no_header = lost_is_no_header w sent may in
+    let excused = excused_here class (Loses sent None) row column named.2 tt in
+    grind (arith, nat_tests)
+
+-- And of each that is got.
+at_got :
+    (class : ReceiverClass) (w : PageIdValue) (row column : ℕ) (sent got : List ℕ)
+    (old new : State)
     → IsCell row column
     → HasExactWords sent
     → ErasesPage w sent
-    → Arrives sent arrival
-    → Goes class w arrival old new
-    → AtItem class w row column sent arrival old new
-at_item class w row column sent None old new named exact erases near goes =
-    let no_header = lost_is_no_header w sent near in
-    let excused = excused_here class (Loses sent None) row column named.2 tt in
-    record {
-      heard = grind (arith, nat_tests);
-      is_open = grind (arith, nat_tests);
-      erased = grind (arith, nat_tests);
-      stays = grind (arith, nat_tests);
-      stores = λ is up odd. inr (excused, inl (ap (λ (s : State). cell s.page row column) goes));
-    }
-at_item Storing w row column sent (Some got) old new named exact erases near goes =
+    → AreNear sent got
+    → StepBy class w old got new
+    → AtItem class w row column sent (Some got) old new
+at_got Storing w row column sent got old new named exact erases near goes =
     at_step w row column sent got old new named exact erases near goes
-at_item Dropping w row column sent (Some got) old new named exact erases near goes =
+at_got Dropping w row column sent got old new named exact erases near goes =
     elim (cases_Bool (is_dropped w got)) [
       | inl drop ↦
           let stays = rw drop at goes in
           let same = kind-near w sent got exact near in
-          record {
-            heard = grind (arith, nat_tests);
-            is_open = grind (arith, nat_tests);
-            erased = grind (arith, nat_tests);
-            stays = grind (arith, nat_tests);
-            stores = λ is up odd.
-                inr (
-                  dropped_loses w sent got row column odd drop,
-                  inl (ap (λ (s : State). cell s.page row column) stays),
-                );
-          }
+          let excused : HasOddText sent → ExcusedBy Dropping (Loses sent (Some got)) row column =
+          λ odd. dropped_loses w sent got row column odd drop in
+          grind (arith, nat_tests)
       | inr hear ↦
           let at =
           at_step w row column sent got old new named exact erases near (rw hear at goes) in
@@ -235,7 +208,8 @@ at_item Dropping w row column sent (Some got) old new named exact erases near go
             stores = λ is up odd. elim (at.stores is up odd) [
               | inl coded ↦ inl coded
               | inr lost ↦
-                  inr (excused_here Dropping (Loses sent (Some got)) row column named.2 lost.0, lost.1)
+                  inr
+                  (excused_here Dropping (Loses sent (Some got)) row column named.2 lost.0, lost.1)
             ];
           }
     ]
@@ -328,28 +302,32 @@ module _ (class : ReceiverClass) (w : PageIdValue) (row column code : ℕ) (Excu
         ];
       }
 
-  -- What arrives more: by induction from the front, after any items.
+  -- What is sent more, and kept or lost: by induction from the front, after any items.
   pub over :
-      (start : State) (items : List Item) (sent : List (List ℕ))
-      (arrivals : List (Option (List ℕ))) (old new : State)
+      (start : State) (items : List Item) (sent : List (List ℕ)) (marks : List Bool)
+      (got : List (List ℕ)) (old new : State)
       → IsCell row column
       → AllByRecursion HasExactWords sent
       → AllByRecursion (ErasesPage w) sent
-      → AllZip Arrives sent arrivals
-      → HearsBy class w old (arrived arrivals) new
+      → AllZip MayBeMarked sent marks
+      → AllZip AreNear (items_where_true marks sent) got
+      → HearsBy class w old got new
       → Becomes start items old
-      → Becomes start (items ++ zip sent arrivals) new
-  over start items [] [] old new named exact erases near hears was =
+      → Becomes start (items ++ zip sent (arrivals_of marks got)) new
+  over start items [] [] [] old new named exact erases may near hears was =
       rw (append-nil, hears) was
-  over start items [] (o ∷ os) old new named exact erases near hears was = elim near [ ]
-  over start items (p ∷ ps) [] old new named exact erases near hears was = elim near [ ]
-  over start items (p ∷ ps) (None ∷ os) old new named exact erases near hears was =
-      rw (← append_assoc items ((p, None) ∷ []) (zip ps os))
-      (over start _ ps os old new named exact.1 erases.1 near.1 hears
+  over start items [] [] (g ∷ gs) old new named exact erases may near hears was = elim near [ ]
+  over start items [] (m ∷ ms) got old new named exact erases may near hears was = elim may [ ]
+  over start items (p ∷ ps) [] got old new named exact erases may near hears was = elim may [ ]
+  over start items (p ∷ ps) (false ∷ ms) got old new named exact erases may near hears was =
+      rw (← append_assoc items ((p, None) ∷ []) (zip ps (arrivals_of ms got)))
+      (over start _ ps ms got old new named exact.1 erases.1 may.1 near hears
       (Becomes-push start items p None old old named
-      (at_item class w row column p None old old named exact.0 erases.0 near.0 refl) was))
-  over start items (p ∷ ps) (Some got ∷ os) old new named exact erases near hears was =
-      rw (← append_assoc items ((p, Some got) ∷ []) (zip ps os))
-      (over start _ ps os hears.0 new named exact.1 erases.1 near.1 hears.2
-      (Becomes-push start items p (Some got) old hears.0 named
-      (at_item class w row column p (Some got) old hears.0 named exact.0 erases.0 near.0 hears.1) was))
+      (at_lost class w row column p old named (may.0 refl)) was))
+  over start items (p ∷ ps) (true ∷ ms) [] old new named exact erases may near hears was =
+      elim near [ ]
+  over start items (p ∷ ps) (true ∷ ms) (g ∷ gs) old new named exact erases may near hears was =
+      rw (← append_assoc items ((p, Some g) ∷ []) (zip ps (arrivals_of ms gs)))
+      (over start _ ps ms gs hears.0 new named exact.1 erases.1 may.1 near.1 hears.2
+      (Becomes-push start items p (Some g) old hears.0 named
+      (at_got class w row column p g old hears.0 named exact.0 erases.0 near.0 hears.1) was))

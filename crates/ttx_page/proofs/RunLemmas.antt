@@ -1,20 +1,22 @@
--- Runs that go on by one packet: `RunsBy-push`, and `run_more` for loops over packets.
+-- Runs that are joined, `RunsBy-append`, and go on by one packet, `run_more`; and runs of which
+-- each step is one of another kind: `RunsBy-as`.
 use Rattle.std.proofs.Common.{◌≡◌, ℕ, ◌+◌, ◌<◌, List, [], ◌∷◌, ◌++◌, length, take, get_or, refl}
+use Rattle.std.proofs.Common.{ap}
 use Rattle.std.proofs.lemmas.List.{take_more}
 use Rattle.ttx_page.specs.Receiver.{RunsBy}
 
--- A run goes on by one step.
-RunsBy-push :
-    {S : Type 0} (StepsBy : S → List ℕ → S → Type 0) (packets : List (List ℕ)) (packet : List ℕ)
-    (old mid new : S)
-    → RunsBy StepsBy old packets mid
-    → StepsBy mid packet new
-    → RunsBy StepsBy old (packets ++ packet ∷ []) new
-RunsBy-push StepsBy [] packet old mid new run step = (new, rw run at step, refl)
-RunsBy-push StepsBy (p ∷ ps) packet old mid new run step =
-    (run.0, run.1, RunsBy-push StepsBy ps packet run.0 mid new run.2 step)
+-- Two runs, one after the other. For runs over a file.
+pub RunsBy-append :
+    {S : Type 0} (StepsBy : S → List ℕ → S → Type 0) (first more : List (List ℕ)) (old mid new : S)
+    → RunsBy StepsBy old first mid
+    → RunsBy StepsBy mid more new
+    → RunsBy StepsBy old (first ++ more) new
+RunsBy-append StepsBy [] more old mid new run next = rw run at next
+RunsBy-append StepsBy (p ∷ ps) more old mid new run next =
+    (run.0, run.1, RunsBy-append StepsBy ps more run.0 mid new run.2 next)
 
--- The run of a loop over packets goes on by one. For `hear_all`, of receivers and of `DropRow`.
+-- The run of a loop over packets goes on by one. For `hear_all`, of receivers and of `DropRow`, and
+-- `show_all`.
 pub run_more :
     {S : Type 0} (StepsBy : S → List ℕ → S → Type 0) (packets : List (List ℕ)) (i : ℕ)
     (packet : List ℕ) (old mid new : S)
@@ -25,4 +27,17 @@ pub run_more :
     → RunsBy StepsBy old (take (i + 1) packets) new
 run_more StepsBy packets i packet old mid new below is run step =
     rw (take_more packets i packet below, ← is)
-    (RunsBy-push StepsBy (take i packets) packet old mid new run step)
+    (RunsBy-append StepsBy (take i packets) (packet ∷ []) old mid new run (new, step, refl))
+
+-- A run is one of other steps, by what is seen of its states, where each step is one.
+pub RunsBy-as :
+    {S T : Type 0} (StepsBy : S → List ℕ → S → Type 0) (GoesBy : T → List ℕ → T → Type 0)
+    (seen : S → T) (packets : List (List ℕ)) (old new : S)
+    → ((before : S) (packet : List ℕ) (after : S)
+    → StepsBy before packet after
+    → GoesBy (seen before) packet (seen after))
+    → RunsBy StepsBy old packets new
+    → RunsBy GoesBy (seen old) packets (seen new)
+RunsBy-as StepsBy GoesBy seen [] old new goes run = ap seen run
+RunsBy-as StepsBy GoesBy seen (p ∷ ps) old new goes run =
+    (seen run.0, goes old p run.0 run.1, RunsBy-as StepsBy GoesBy seen ps run.0 new goes run.2)

@@ -1,5 +1,5 @@
--- The law of receivers with a screen, `law_of_screen`, and their steps.
-use Rattle.std.proofs.Common.{◌≡◌, ℕ, Bool, true, false, List, [], ◌∷◌, ◌++◌, Some, IsFalse, refl}
+-- The law of receivers with a screen, `law_of_screen`.
+use Rattle.std.proofs.Common.{◌≡◌, ℕ, Bool, true, false, List, [], ◌∷◌, Some, IsFalse, refl}
 use Rattle.std.proofs.Common.{ap, arith}
 use Rattle.std.specs.List.{AllByRecursion, AllZip, items_where_true}
 use Rattle.std.proofs.lemmas.Bool.Decides.{nat_tests}
@@ -9,10 +9,11 @@ use Rattle.ttx_packet.specs.PageId.{PageIdValue}
 use Rattle.ttx_page.specs.LostRows.{MayBeMarked}
 use Rattle.ttx_page.specs.declared.packet_kind.PacketKind.{PacketKind}
 use Rattle.ttx_page.specs.PacketKind.{kind, is_this_page}
-use Rattle.ttx_page.specs.Receiver.{HearsBy, ReceiverClass, State, StepAt, Step, StepBy}
+use Rattle.ttx_page.specs.Receiver.{HearsBy, ReceiverClass, State, StepAt, StepBy}
 use Rattle.ttx_page.specs.Span.{holds_header}
-use Rattle.ttx_page.specs.Screen.{Display, ShowsAt, ShowsBy, Shows, LawOfScreen}
+use Rattle.ttx_page.specs.Screen.{Display, ShowsBy, LawOfScreen}
 use Rattle.ttx_page.proofs.NoiseSteps.{lost_is_no_header, kind-near}
+use Rattle.ttx_page.proofs.RunLemmas.{RunsBy-as}
 
 -- ---- one step
 
@@ -51,27 +52,14 @@ settles :
     → IsSettled new
 settles class w [] old new run was = rw run (was refl)
 settles class w (p ∷ ps) old new run was =
-    let left = leaves_by class w p old.held run.0.held run.1 in
-    let shows = run.2 in
-    settles class w ps run.0 new run.3 (λ none shut. grind (arith, nat_tests))
+    let left = leaves_by class w p old.held run.0.held run.1.0 in
+    let shows = run.1.1 in
+    settles class w ps run.0 new run.2 (λ none shut. grind (arith, nat_tests))
 
 -- The law of the screen.
 pub law_of_screen : LawOfScreen
 law_of_screen class w packets old new run holds shut =
     settles class w packets old new run (λ none. grind (arith, nat_tests)) shut
-
--- ---- one packet more
-
--- A run goes on by one packet. For `show_all`.
-pub Shows-push :
-    (w : PageIdValue) (packets : List (List ℕ)) (packet : List ℕ) (old mid new : Display)
-    → Shows w old packets mid
-    → Step w mid.held packet new.held
-    → ShowsAt w mid packet new
-    → Shows w old (packets ++ packet ∷ []) new
-Shows-push w [] packet old mid new run step shows = (new, rw run at step, rw run at shows, refl)
-Shows-push w (p ∷ ps) packet old mid new run step shows =
-    (run.0, run.1, run.2, Shows-push w ps packet run.0 mid new run.3 step shows)
 
 -- ---- for a checker's laws
 
@@ -80,8 +68,9 @@ pub held_by :
     (class : ReceiverClass) (w : PageIdValue) (packets : List (List ℕ)) (old new : Display)
     → ShowsBy class w old packets new
     → HearsBy class w old.held packets new.held
-held_by class w [] old new run = ap (λ (d : Display). d.held) run
-held_by class w (p ∷ ps) old new run = (run.0.held, run.1, held_by class w ps run.0 new run.3)
+held_by class w packets old new run =
+    RunsBy-as _ (StepBy class w) (λ (d : Display). d.held) packets old new
+    (λ before packet after step. step.0) run
 
 -- Where a header of the page is sent, one is got.
 pub header_got :

@@ -1,6 +1,6 @@
 -- A receiver with a screen (own). Of the receivers of `Receiver` it counts what page one holds.
 -- Decoders of the field show a page when it is complete: when a later header has ended it.
-use Rattle.std.specs.Prelude.{◌≡◌, ℕ, ◌⊎◌, Bool, ◌&&◌, not, List, [], ◌∷◌, Option, Some, IsTrue}
+use Rattle.std.specs.Prelude.{◌≡◌, ℕ, ◌⊎◌, Bool, ◌&&◌, not, List, Option, Some, IsTrue}
 use Rattle.std.specs.Prelude.{IsFalse, if◌then◌else◌}
 use Rattle.ttx_packet.specs.PageId.{PageIdValue}
 use Rattle.ttx_page.specs.Page.{Rows}
@@ -48,8 +48,8 @@ pub record ShowsAt (w : PageIdValue) (old : Display) (packet : List ℕ) (new : 
 abbrev pub screen_after : Display → State → Option Rows
 screen_after old new = if is_ended old.held new then Some old.held.page else old.screen
 
--- A receiver of page w that has chosen, with a screen that waits, goes from one display to the other
--- by hearing these packets.
+-- A receiver of page w that has chosen, with a screen that waits, goes from one display to the
+-- other by hearing these packets.
 abbrev pub ShowsWaiting :
     (ℕ → ℕ) → PageIdValue → Display → List (List ℕ) → Display → Type 0
 ShowsWaiting leaves w old packets new =
@@ -60,14 +60,12 @@ ShowsWaiting leaves w old packets new =
 
 -- A receiver of page w and of the class, with a screen, that hears these packets may go from one
 -- display to the other: what it holds goes by steps of its class, and the screen follows.
-abbrev pub ShowsBy :
-    ReceiverClass → PageIdValue → Display → List (List ℕ) → Display → Type 0
-ShowsBy class w old [] new = new ≡ old
-ShowsBy class w old (packet ∷ packets) new =
-    (mid : Display)
-    × StepBy class w old.held packet mid.held
-    × ShowsAt w old packet mid
-    × ShowsBy class w mid packets new
+abbrev pub ShowsBy : ReceiverClass → PageIdValue → Display → List (List ℕ) → Display → Type 0
+ShowsBy class w old packets new =
+    RunsBy
+    (λ before packet after. StepBy class w before.held packet after.held
+    × ShowsAt w before packet after)
+    old packets new
 
 -- A receiver of the relation, with a screen.
 abbrev pub Shows : PageIdValue → Display → List (List ℕ) → Display → Type 0
