@@ -30,6 +30,7 @@ pub fn law_of_good()
 /// Of the seven rules these parts suffice for it: frames rise; code words have no bit wrong;
 /// headers erase the page; rows are odd, and stay as they are; a header comes within the repeat
 /// bound; what is due is shown.
+#[tactic(auto, using(crate::proofs::RobustLemmas::law_of_sufficient_parts))]
 pub fn law_of_sufficient_parts()
     ensures { LawOfSufficientParts }
 {}
@@ -48,6 +49,7 @@ pub fn law_of_clean_stretch()
 
 /// A stretch is clean where nothing of the rules that a receiver depends on is told of its packets,
 /// and no wrong content and no gap stands at its ends.
+#[tactic(auto, using(crate::proofs::UntoldLemmas::law_of_untold_stretch))]
 pub fn law_of_untold_stretch()
     ensures { LawOfUntoldStretch }
 {}
@@ -55,6 +57,7 @@ pub fn law_of_untold_stretch()
 /// The list of all that is told is enough to find such stretches: it tells of no frame that is not
 /// after the one before, of no packet of the stretch that breaks a rule that a receiver depends on,
 /// and of wrong content and gaps only at frames outside it.
+#[tactic(auto, using(crate::proofs::ToldStretchLemmas::law_of_told_stretch))]
 pub fn law_of_told_stretch()
     ensures { LawOfToldStretch }
 {}
