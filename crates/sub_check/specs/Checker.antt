@@ -1,7 +1,7 @@
 -- How far the check has come, as the checker keeps it. Private functions alone cite this.
 use Rattle.std.specs.Prelude.{◌≡◌, ℕ, ◌+◌, ◌<◌, ◌≤◌, ◌&&◌, List, Option, Some, None, max, nat_le}
 use Rattle.std.specs.Prelude.{nat_lt}
-use Rattle.std.specs.Prelude.{Bool, true, if◌then◌else◌}
+use Rattle.std.specs.Prelude.{Bool, false, true, if◌then◌else◌}
 use Rattle.stl_file.specs.TimeCode.{day}
 use Rattle.stl_rows.specs.DuePage.{TellsNextEdge}
 use Rattle.stl_rows.specs.Programme.{ProgrammeValue}
@@ -15,6 +15,10 @@ use Rattle.sub_plan.specs.Schedule.{due_in}
 -- What stands broken, as it is kept.
 abbrev pub as_standing : StandingRules → Standing
 as_standing s = record { content = s.content; gap = s.gap; incomplete = s.incomplete }
+
+-- Nothing stands broken.
+abbrev pub none_stands : StandingRules
+none_stands = record { content = None; gap = false; incomplete = false }
 
 -- The programme, the repeat bound, what is kept of the packets, the frame of the first PES packet,
 -- the greatest one of all, the frame that a page is due at, that of the last end and what stood

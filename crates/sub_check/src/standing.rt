@@ -1,5 +1,6 @@
 //! What of the rules of a frame's end stands broken, and what is told where that changes.
-ghost use Rattle.std.specs.Prelude.{◌≡◌, ◌==◌, ◌&&◌, [], ◌∷◌, false, if◌then◌else◌, is_err};
+ghost use Rattle.std.specs.Prelude.{◌≡◌, ◌==◌, ◌&&◌, [], ◌∷◌, IsTrue, false, if◌then◌else◌};
+ghost use Rattle.std.specs.Prelude.{is_err};
 ghost use Rattle.sub_io.specs.Telling.{TellsUntilStopped};
 ghost use Rattle.sub_check.specs.Events.{content_events, end_events, nothing_stands, rule_events};
 
@@ -19,7 +20,7 @@ pub(crate) struct StandingRules {
 }
 
 impl StandingRules {
-    ghost use Rattle.sub_check.specs.Checker.{as_standing};
+    ghost use Rattle.sub_check.specs.Checker.{as_standing, none_stands};
 
     /// Nothing stands broken.
     pub fn none() -> Self
@@ -32,8 +33,17 @@ impl StandingRules {
         }
     }
 
+    /// Whether nothing stands broken.
+    #[inline(always)]
+    pub fn has_none(&self) -> bool
+        ensures { IsTrue result → self.now ≡ none_stands }
+    {
+        self.content.is_none() && !self.gap && !self.incomplete
+    }
+
     /// Tells what changes from an end of a frame `before`, where these stood, to one of another
     /// frame, where the others stand.
+    #[inline(never)]
     pub fn tell_change<A: Audience<Event>>(
         &self,
         before: u32,
