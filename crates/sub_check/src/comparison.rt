@@ -93,7 +93,18 @@ impl Comparison {
         differing_columns(self.page.row(row), &text_codes(packet)) != 0
     }
 
+    /// Whether the count tells that no cell differs from the due page.
+    #[inline(always)]
+    #[tactic(auto, using(ttx_page::proofs::DifferingLemmas::cells_same))]
+    pub fn is_known_right(&self) -> bool
+        ensures { IsTrue result → (row column : ℕ) → IsCell row column
+            → cell self.now.page row column ≡ cell self.now.due row column }
+    {
+        is_zero(self.wrong)
+    }
+
     /// The first cell that differs from the due page, found by the count where there is one.
+    #[tactic(auto, using(ttx_page::proofs::DifferingLemmas::cells_same))]
     pub fn first_wrong(&self) -> Option<(u8, u8)>
         ensures { MatchOption result
             ((row column : ℕ) → IsCell row column

@@ -2,7 +2,7 @@
 //! frame's end.
 ghost use Rattle.std.specs.Prelude.{◌≡◌, ℕ, ◌+◌, ◌-◌, ◌*◌, ◌<◌, ◌≤◌, ◌==◌, ◌&&◌, List, length};
 ghost use Rattle.std.specs.Prelude.{MatchOption, OnOk, IfErr, if◌then◌else◌, max, nat_le, nat_lt};
-ghost use Rattle.std.specs.Prelude.{Some, None, true, false, is_err};
+ghost use Rattle.std.specs.Prelude.{IsTrue, Some, None, true, false, is_err};
 ghost use Rattle.stl_file.specs.TimeCode.{day};
 ghost use Rattle.sub_io.specs.Telling.{TellsSome, TellsUntilStopped};
 ghost use Rattle.sub_check.specs.Checker.{is_before, later_by};
@@ -75,7 +75,7 @@ impl<'a> Model for Checker<'a> {
 
 impl<'a> Checker<'a> {
     ghost use Rattle.sub_check.specs.Checker.{after_end, as_standing, at_first, at_frame, at_next};
-    ghost use Rattle.sub_check.specs.Checker.{stands};
+    ghost use Rattle.sub_check.specs.Checker.{none_stands, stands};
     ghost use Rattle.sub_check.specs.Following.{Arrives, Follows, IsSentFrame, IsTaskOf, Waits};
     ghost use Rattle.sub_check.specs.Following.{arriving_events, ending_events, taking_events};
     ghost use Rattle.sub_check.specs.Following.{Remembers};
@@ -165,6 +165,20 @@ impl<'a> Checker<'a> {
         }
     }
 
+    // Whether it is known by a few comparisons that nothing stood broken at the last end, and that
+    // nothing does at the frame that was reached: so it is most often.
+    #[inline(always)]
+    fn is_quiet(&self) -> bool
+        requires day { self.now.frame < day }
+        ensures { (heard : List (List ℕ)) → Knows heard self.now.listener → IsTrue result
+            → (self.now.standing ≡ none_stands) × (stands heard self.now ≡ none_stands) }
+    {
+        self.standing.has_none()
+            && self.listener.is_known_right()
+            && self.frame + 1 < self.late_at
+            && !self.listener.is_incomplete()
+    }
+
     // The end of the frame that was reached: what changes of what stands broken is told.
     #[inline(always)]
     #[tactic(auto, using(sub_io::proofs::TellingLemmas::some))]
@@ -184,12 +198,11 @@ impl<'a> Checker<'a> {
             → OnOk result (self.new ≡ after_end heard self.old) }
     {
         let frame = self.frame;
-        let standing = self.standing_now();
-        // Most often nothing stood broken, and nothing is: that costs few comparisons.
-        if self.standing.has_none() && standing.has_none() {
+        if self.is_quiet() {
             self.last = frame;
             return Ok(());
         }
+        let standing = self.standing_now();
         self.standing
             .tell_change(self.last, &standing, frame, audience)?;
         self.standing = standing;

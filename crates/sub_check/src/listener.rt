@@ -1,6 +1,6 @@
 //! What is kept of the packets that were heard, and the rules that the next packet breaks.
 ghost use Rattle.std.specs.Prelude.{◌≡◌, ℕ, ◌+◌, ◌-◌, ◌<◌, ◌≤◌, ◌++◌, List, [], ◌∷◌, MatchResult};
-ghost use Rattle.std.specs.Prelude.{length, true, false, is_err, replicate, slice_set};
+ghost use Rattle.std.specs.Prelude.{length, IsTrue, true, false, is_err, replicate, slice_set};
 ghost use Rattle.std.specs.Prelude.{if◌then◌else◌, ◌&&◌, ◌==◌, not, Some, None, is_some};
 ghost use Rattle.std.specs.Prelude.{slice_index_or};
 ghost use Rattle.sub_io.specs.Telling.{Tells, TellsPrefix, TellsSome};
@@ -77,6 +77,15 @@ impl Listener {
             ≡ (self.now.watched.complete && is_open_after (kind self.now.watched.page) heard) }
     {
         self.watched.complete && self.is_open
+    }
+
+    /// Whether it is known without looking that no cell shows another code than is due.
+    #[inline(always)]
+    pub fn is_known_right(&self) -> bool
+        ensures { (heard : List (List ℕ)) → Knows heard self.now → IsTrue result
+            → wrong_after self.now.watched.page heard self.now.comparison.due ≡ None }
+    {
+        self.comparison.is_known_right()
     }
 
     /// The first cell that shows another code than is due.
