@@ -6,23 +6,37 @@ use Rattle.std.proofs.Common.{Err}
 use Rattle.std.proofs.Common.{min}
 use Rattle.std.proofs.lemmas.Bool.{true≢false}
 use Rattle.std.proofs.lemmas.Bool.Decides.{nat_tests}
-use Rattle.std.specs.Prelude.{IfErr}
+use Rattle.std.specs.Prelude.{IfErr, IsOk, IsTrue, ◌<◌}
 use Rattle.std.specs.Io.KnownBytes.{Appends}
 use Rattle.std.proofs.KnownBytes.{Appends-trans}
 use Rattle.sub_io.proofs.DeviceLemmas.{AppendsPrefix-first, AppendsPrefix-second}
 use Rattle.sub_io.specs.Device.{AppendsPrefix, RisesIf, failed}
 use Rattle.sub_io.specs.Reading.{IfTold}
+use Rattle.stl_file.specs.Reader.{outcome_of}
+use Rattle.stl_rows.specs.EveryFault.{faults}
 use Rattle.stl_rows.specs.Fault.{is_read, is_read_kind}
+use Rattle.stl_rows.specs.Loading.{loaded}
+use Rattle.stl_rows.specs.Programme.{ProgrammeValue}
+use Rattle.stl_rows.proofs.EveryFaultLemmas.{every_fault}
 use Rattle.stl_rows.specs.declared.fault.LoadFaultKind.{LoadFaultKind}
 use Rattle.stl_rows.specs.declared.fault.LoadFaultKind.TheVariants as load
 use Rattle.stl_rows.specs.declared.national.National.{National}
 use Rattle.sub_plan.specs.Options.{OptionsValue}
 use Rattle.sub_check.specs.CheckedFiles.{IsChecked, first_answer}
+use Rattle.sub_check.specs.Events as pes_events
+use Rattle.sub_check.specs.FrameRules.{task_of}
+use Rattle.sub_check.specs.Good.{Good}
+use Rattle.sub_check.specs.PesFrames.{Carries}
+use Rattle.sub_check.specs.PesReading.{pes_file_of}
+use Rattle.sub_check.specs.OnScreen.{Complete}
+use Rattle.sub_check.specs.Transmission.{Transmission}
+use Rattle.sub_check.proofs.FirstToldLemmas.{first_of_pes, first_own, none_first}
 use Rattle.sub_check.specs.declared.event.Event.TheVariants.{Ended, Told}
 use Rattle.sub_answer.specs.declared.told.Kind.{Kind}
 use Rattle.sub_answer.specs.declared.told.Kind.TheVariants as kind
 use Rattle.std.proofs.Common.{◌∷◌}
 use Rattle.sub_check.specs.Fault.{is_failure, is_failure_kind, is_pes_read, is_stl_read}
+use Rattle.sub_check.specs.Fault.{is_subtitle_fault}
 use Rattle.sub_check.specs.declared.checker.Accepted.{Accepted}
 use Rattle.sub_check.specs.declared.event.Event.{Event}
 use Rattle.sub_check.specs.declared.fault.CheckFault.{CheckFault}
@@ -31,7 +45,7 @@ use Rattle.sub_answer.specs.DeviceCall.{Counts, SinkCall, SourceCall}
 use Rattle.sub_answer.specs.EveryFault.{AnswersAll, AreListed, AreListedBefore, CanEnd}
 use Rattle.sub_answer.specs.EveryFault.{IsAccepted, IsVerdict, TellsBoth}
 use Rattle.sub_answer.specs.FaultListing.{all_listing, last_listing, lines_of, most_counted}
-use Rattle.sub_answer.specs.FaultListing.{refusals}
+use Rattle.sub_answer.specs.FaultListing.{refusals, subtitle_events}
 use Rattle.sub_answer.specs.Faults.{kind_by, load_told}
 use Rattle.sub_answer.specs.Listing.{Listing, PrintsOrFails, followed}
 use Rattle.sub_answer.specs.Printer.{PrinterValue, counted}
@@ -178,14 +192,100 @@ accepted-is national options file bytes pes events (Ok (Some a)) is are verdict 
       complete = good.3;
     }
 
+-- A failed read of the subtitle file is a failure, whatever its kind.
+kind-fails : (kind : LoadFaultKind) → is_read_kind kind ≡ true
+    → status_of (kind_by (is_failure_kind kind)) ≡ Fault
+kind-fails load.Memory is = refl
+kind-fails kind is = ap (λ b. status_of (kind_by b)) is
+
+stl-fails : (f : CheckFault) → is_stl_read f ≡ true → status_of (kind_by (is_failure f)) ≡ Fault
+stl-fails (fault.Subtitles f) is = kind-fails f.kind is
+stl-fails f is = absurd (true≢false (sym is))
+
+pes-fails : (f : CheckFault) → is_pes_read f ≡ true → status_of (kind_by (is_failure f)) ≡ Fault
+pes-fails (fault.Subtitles f) is = absurd (true≢false (sym is))
+pes-fails f is = ap (λ b. status_of (kind_by b)) is
+
+-- Want of memory is a failure.
+memory-fails : (kind : LoadFaultKind) → kind ≡ load.Memory
+    → status_of (kind_by (is_failure_kind kind)) ≡ Fault
+memory-fails load.Memory is = refl
+memory-fails kind is = cc
+
+-- What ends the listing before its end is a failure.
+ended-fails : (events : List Event) (f : CheckFault) → CanEnd events f
+    → status_of (kind_by (is_failure f)) ≡ Fault
+ended-fails events (fault.Subtitles f) can =
+    elim can [
+      | inl read ↦ kind-fails f.kind read
+      | inr memory ↦ memory-fails f.kind memory.0
+    ]
+ended-fails events f can = pes-fails f can
+
+-- A subtitle file that gives a programme has no fault.
+no-fault : (national : National) (file : List ℕ) (programme : ProgrammeValue)
+    → loaded national (outcome_of file) ≡ Ok programme
+    → faults national (outcome_of file) ≡ []
+no-fault national file programme loads =
+    (every_fault national file).1.1 (subst IsOk (sym loads) refl)
+
+-- Of a good transmission nothing is told.
+nothing-told :
+    (options : OptionsValue) (bytes : List ℕ) (p : ProgrammeValue) (frames : Transmission)
+    (events : List Event) (a : Accepted)
+    → events ≡ pes_events.events (task_of p options (pes_file_of options.origin bytes).unread)
+    (pes_file_of options.origin bytes).frames
+    → IsChecked p options bytes (first_answer events a)
+    → Carries options.origin bytes frames
+    → Good p frames options
+    → (IsTrue options.asks_complete → Complete frames options)
+    → events ≡ []
+nothing-told options bytes p frames events a are checked carries good complete =
+    let file = pes_file_of options.origin bytes in
+    let g = task_of p options file.unread in
+    let of_pes : failed is_subtitle_fault (first_answer events a) ≡ false =
+    rw are (first_of_pes g options.origin bytes file.frames refl a) in
+    let no_source : failed is_pes_read (first_answer events a) ≡ false =
+    rw are (first_own g options.origin bytes file.frames refl a) in
+    let accepted : IsOk (first_answer events a) =
+    (checked.accepted of_pes no_source).1 (frames, carries, good, complete) in
+    are ∙ none_first g options.origin bytes file.frames refl a (rw are at accepted)
+
+-- Where the files are accepted and nothing failed, the last line says so.
+accepted-done :
+    (national : National) (options : OptionsValue) (file bytes : List ℕ) (pes : Option (List ℕ))
+    (events : List Event) (answer : Result (Option Accepted) CheckFault)
+    → pes ≡ Some bytes
+    → (all_listing events answer).status ≢ Fault
+    → IfErr answer (CanEnd events)
+    → AreListed national options file pes events answer
+    → IsVerdict national options file bytes events answer
+    → IsAccepted national options file bytes
+    → (all_listing events answer).status ≡ Done
+accepted-done national options file bytes pes events (Err f) known runs ended are verdict is =
+    absurd (runs (ended-fails events f ended))
+accepted-done national options file bytes pes events (Ok None) known runs ended are verdict is =
+    let none : events ≡ [] =
+    are.0 ∙ ap subtitle_events (no-fault national file is.programme is.loads) in
+    let some : 0 < 0 = rw none at are.1 in
+    absurd (omega (arith, some))
+accepted-done national options file bytes pes events (Ok (Some a)) known runs ended are verdict
+    is =
+    let one : is.programme ≡ are.programme = let both = sym is.loads ∙ are.loads in cc in
+    let none =
+    nothing-told options bytes are.programme is.frames events a (are.listed bytes known).0
+    (verdict are.programme are.loads) is.carries
+    (subst (λ (p : ProgrammeValue). Good p is.frames options) one is.good) is.complete in
+    subst (λ (es : List Event). (all_listing es (Ok (Some a))).status ≡ Done) (sym none) refl
+
 -- A status other than `Fault` is that of the listing.
 listing-status : (out : SinkCall) (listing : Listing) (status : Status)
     → PrintsOrFails out listing status
-    → status ≡ Done
-    → listing.status ≡ Done
+    → status ≢ Fault
+    → status ≡ listing.status
 unfolding PrintsOrFails
-listing-status out listing status (inl p) is = sym p.2 ∙ is
-listing-status out listing status (inr p) is = let both = sym p.2 ∙ is in cc
+listing-status out listing status (inl p) runs = p.2
+listing-status out listing status (inr p) runs = absurd (runs p.2)
 
 -- ---- the answer
 
@@ -211,7 +311,7 @@ answers_cut national options stl pes old new given t failing = record {
   before = t.before;
   listed = t.listed;
   checked = λ other. absurd (other refl);
-  accepted = λ is. cc;
+  done = λ file heard bytes known other. absurd (other refl);
   fault = λ is stl_same pes_same out_same.
       let risen = t.prints.cut_count failing in absurd (omega (arith, risen, out_same));
 }
@@ -252,11 +352,18 @@ answers_end national options stl pes old new given end end_count status t holds 
       before = t.before;
       listed = t.listed;
       checked = λ other. t.checked holds;
-      accepted = λ is file heard bytes known.
-          accepted-is national options file bytes pes.told t.events t.answer
-          (listing-status (sink old.contents old.count end end_count)
-          (all_listing t.events t.answer) status printed is)
-          (t.listed file heard) (t.checked holds file heard bytes known);
+      done = λ file heard bytes known runs.
+          let same =
+          listing-status (sink old.contents old.count end end_count)
+          (all_listing t.events t.answer) status printed runs in
+          let verdict = t.checked holds file heard bytes known in (
+            (λ is.
+                accepted-is national options file bytes pes.told t.events t.answer (sym same ∙ is)
+                (t.listed file heard) verdict),
+            (λ is.
+                same ∙ accepted-done national options file bytes pes.told t.events t.answer known
+                (λ fails. runs (same ∙ fails)) t.ended (t.listed file heard) verdict is),
+          );
       fault = λ is stl_same pes_same out_same.
           let whole =
           printed-whole (sink old.contents old.count end end_count)
@@ -303,20 +410,6 @@ printed-fault : (out : SinkCall) (listing : Listing) (status : Status)
 unfolding PrintsOrFails
 printed-fault out listing status (inl p) is = p.2 ∙ is
 printed-fault out listing status (inr p) is = p.2
-
--- A failed read of the subtitle file is a failure, whatever its kind.
-kind-fails : (kind : LoadFaultKind) → is_read_kind kind ≡ true
-    → status_of (kind_by (is_failure_kind kind)) ≡ Fault
-kind-fails load.Memory is = refl
-kind-fails kind is = ap (λ b. status_of (kind_by b)) is
-
-stl-fails : (f : CheckFault) → is_stl_read f ≡ true → status_of (kind_by (is_failure f)) ≡ Fault
-stl-fails (fault.Subtitles f) is = kind-fails f.kind is
-stl-fails f is = absurd (true≢false (sym is))
-
-pes-fails : (f : CheckFault) → is_pes_read f ≡ true → status_of (kind_by (is_failure f)) ≡ Fault
-pes-fails (fault.Subtitles f) is = absurd (true≢false (sym is))
-pes-fails f is = ap (λ b. status_of (kind_by b)) is
 
 stl-status : (events : List Event) (answer : Result (Option Accepted) CheckFault)
     → failed is_stl_read answer ≡ true

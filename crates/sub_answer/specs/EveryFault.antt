@@ -1,5 +1,5 @@
 -- What is said of the answer to `check --all`.
-use Rattle.std.specs.Prelude.{◌≡◌, ◌≢◌, ⊤, ℕ, ◌<◌, ◌≤◌, length, Bool, true, false, List, [], Option}
+use Rattle.std.specs.Prelude.{◌≡◌, ◌≢◌, ◌↔◌, ⊤, ℕ, ◌<◌, ◌≤◌, length, Bool, true, false, List, [], Option}
 use Rattle.std.specs.Prelude.{Some, None, Result, Ok, Err, IfErr, IsOk, IsTrue, ◌⊎◌}
 use Rattle.std.specs.List.{filter}
 use Rattle.std.specs.Io.KnownBytes.{Consumes}
@@ -193,11 +193,13 @@ pub record AnswersAll
       status ≢ Fault
       → IfTold stl.told (λ file.
       IfTold pes.told (λ bytes. IsVerdict national options file bytes events answer))
-  -- The status is `Done` only where the files are accepted.
-  pub accepted :
-      status ≡ Done
-      → IfTold stl.told (λ file.
-      IfTold pes.told (λ bytes. IsAccepted national options file bytes))
+  -- Failing devices and want of memory aside, the status is `Done` exactly where the files are
+  -- accepted.
+  pub done :
+      IfTold stl.told (λ file.
+      IfTold pes.told (λ bytes.
+      status ≢ Fault
+      → (status ≡ Done) ↔ IsAccepted national options file bytes))
   -- The status is `Fault` only where a device failed, or want of memory is printed.
   pub fault :
       status ≡ Fault

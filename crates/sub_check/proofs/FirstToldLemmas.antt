@@ -22,6 +22,7 @@ use Rattle.sub_check.specs.FirstBroken.Place.{AtCell, AtFrame, AtOpen, AtUnread,
 use Rattle.sub_check.specs.Following.{AreOk}
 use Rattle.stl_rows.specs.Programme.{IsProgramme, ProgrammeValue}
 use Rattle.sub_plan.specs.Options.{IsOptions, OptionsValue}
+use Rattle.std.specs.Prelude.{IsOk}
 use Rattle.sub_check.specs.CheckedFiles.{IsChecked, TellsEvents, first_answer}
 use Rattle.sub_check.specs.FrameRules.{Task, Unread, end_frame, frame_at, task_of}
 use Rattle.sub_check.specs.FrameRules.Unread.{BadPacket, NoFrame}
@@ -36,7 +37,7 @@ use Rattle.sub_check.specs.declared.packet_rules.PacketRule.{PacketRule}
 use Rattle.sub_check.specs.declared.packet_rules.PacketRule.TheVariants as rule
 use Rattle.sub_io.specs.Device.{failed}
 use Rattle.std.proofs.lemmas.Bool.{true≢false}
-use Rattle.sub_check.specs.Fault.{is_pes_read}
+use Rattle.sub_check.specs.Fault.{is_pes_read, is_subtitle_fault}
 use Rattle.sub_check.proofs.CheckLemmas.{checked_from}
 use Rattle.sub_check.proofs.EventLemmas.{frames_told, law_of_first_event, none_told}
 use Rattle.sub_check.proofs.OrderLemmas.{holds_before}
@@ -215,6 +216,34 @@ module _ (g : Task) (origin : ℕ) (bytes : List ℕ) (frames : Transmission)
         go (x ∷ more) e =
             let t = (law_of_first_event g frames whole).first x more e in
             rw t.1 (own t.0 t.2).no_source
+
+    -- Nor a refusal of the subtitle file.
+    pub first_of_pes : (a : Accepted)
+        → failed is_subtitle_fault (first_answer (events g frames) a) ≡ false
+    first_of_pes a = go (events g frames) refl
+      where
+        go :
+            (es : List Event)
+            → events g frames ≡ es
+            → failed is_subtitle_fault (first_answer es a) ≡ false
+        go [] e = refl
+        go (x ∷ more) e =
+            let t = (law_of_first_event g frames whole).first x more e in
+            rw t.1 (own t.0 t.2).no_subtitle
+
+    -- Where the first event refuses nothing, there is none.
+    pub none_first : (a : Accepted) → IsOk (first_answer (events g frames) a) → events g frames ≡ []
+    none_first a accepted = go (events g frames) refl accepted
+      where
+        go :
+            (es : List Event)
+            → events g frames ≡ es
+            → IsOk (first_answer es a)
+            → es ≡ []
+        go [] e accepted = refl
+        go (x ∷ more) e accepted =
+            let t = (law_of_first_event g frames whole).first x more e in
+            let refused = rw t.1 at accepted in cc
 
 -- What is told first is what `check` refuses the bytes for, and it accepts them where nothing is.
 checked_first :

@@ -103,7 +103,7 @@ all-forgotten national options stl pes out status is = record {
   before = is.before;
   listed = is.listed;
   checked = is.checked;
-  accepted = is.accepted;
+  done = is.done;
   fault = is.fault;
 }
 
@@ -124,7 +124,7 @@ all-second-forgotten national options stl pes out status is = record {
   before = λ refused. refl;
   listed = is.listed;
   checked = is.checked;
-  accepted = is.accepted;
+  done = is.done;
   fault = is.fault;
 }
 
