@@ -2,7 +2,7 @@
 -- none-told.
 use Rattle.std.proofs.Common.{◌≡◌, ℕ, List, ◌∷◌, ◌++◌, map, Option, Some, None, []}
 use Rattle.std.proofs.Common.{Result, Ok, Err, refl, ap, sym, zero, suc, ◌<◌, ◌≤◌, ◌⊎◌, Bool, true}
-use Rattle.std.proofs.Common.{false, inl, inr, arith, take}
+use Rattle.std.proofs.Common.{false, arith, take}
 use Rattle.std.proofs.lemmas.Bool.Decides.{nat_tests}
 use Rattle.std.specs.Prelude.{◌↔◌, ◌≢◌, IsOk, is_some, option_map}
 use Rattle.std.specs.List.{filter, list_all}
@@ -156,8 +156,7 @@ not_before block (f ∷ fs) fault first none =
 is_late : (block at : ℕ) (kind : LoadFaultKind)
     → is_before block (load_fault at kind) ≡ false
     → (kind ≡ File Unfinished) ⊎ (block ≤ at)
-is_late block at (File Unfinished) h = inl refl
-is_late block at kind h = inr (grind (arith, nat_tests))
+is_late block at kind h = grind (arith, nat_tests)
 
 -- Where the source failed and nothing was told, no fault comes before.
 pub none-told : (national : National) (old new : Option (List ℕ)) (block : ℕ)

@@ -60,8 +60,7 @@ few_cells row cells lines on =
   where
     first_longer : (c : ℕ) (ls : List (List ℕ))
         → suc (length (get_or ls 0 [])) ≤ length (get_or (onto_first c ls) 0 [])
-    first_longer c [] = omega arith
-    first_longer c (line ∷ ls) = omega arith
+    first_longer c ls = grind arith
 
     first_cells : (cs : List ℕ) → length cs ≤ length (get_or (onto cs lines) 0 [])
     first_cells [] = omega arith

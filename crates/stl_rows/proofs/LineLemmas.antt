@@ -1,7 +1,6 @@
 -- The row that shows a line: row_of-put says what it holds, row_small that it holds codes alone.
-use Rattle.std.proofs.Common.{◌≡◌, ℕ, zero, suc, ◌+◌, ◌-◌, ◌<◌, ◌≤◌, nat_le, List, [], ◌∷◌, ◌++◌}
+use Rattle.std.proofs.Common.{◌≡◌, ℕ, zero, suc, ◌+◌, ◌-◌, ◌<◌, ◌≤◌, List, [], ◌∷◌, ◌++◌}
 use Rattle.std.proofs.Common.{length, map, get_or, take, drop, replicate, arith, lit<, ap, ◌∙◌}
-use Rattle.std.proofs.lemmas.Bool.{cond_both}
 use Rattle.std.proofs.lemmas.Bool.Decides.{nat_tests}
 use Rattle.std.proofs.lemmas.List.{get_or-replicate, get_or_past, length-replicate, places}
 use Rattle.std.proofs.lemmas.List.Elements.{All-from_get_or, recursion_from_All}
@@ -51,8 +50,8 @@ cell_small : (start column : ℕ) (line : List ℕ)
     → Small line
     → code_in_column start line column < 128
 cell_small start column line h =
-    cond_both (nat_le start column) _ space (λ c. c < 128)
-    (λ _. holds_at (λ c. c < 128) line (column - start) space (lit< tt) h) (λ _. lit< tt)
+    let small = holds_at (λ c. c < 128) line (column - start) space (lit< tt) h in
+    grind (arith, nat_tests)
 
 -- A row has 40 cells.
 pub row_length : (jc : ℕ) (line : List ℕ) → length (row_of jc line) ≡ 40

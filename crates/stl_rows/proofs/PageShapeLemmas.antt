@@ -1,5 +1,5 @@
 -- Each due page is a page, 24 rows of 40 codes below 128: due_is_page.
-use Rattle.std.proofs.Common.{ℕ, zero, suc, ◌+◌, ◌-◌, ◌<◌, not, ◌&&◌, nat_lt, List, []}
+use Rattle.std.proofs.Common.{ℕ, zero, suc, ◌+◌, ◌-◌, ◌<◌, nat_lt, List, []}
 use Rattle.std.proofs.Common.{◌∷◌, ◌++◌, map, get_or, Option, Some, None, refl, arith, lit<}
 use Rattle.std.specs.List.{range_with_len, AllByRecursion}
 use Rattle.std.specs.Prelude.{IfSome}
@@ -13,7 +13,7 @@ use Rattle.stl_rows.specs.declared.text_code.TextCode.{TextCode}
 use Rattle.stl_rows.specs.declared.text_code.TextCode.TheVariants.{Cell, NoCell, NewLine, Refused}
 use Rattle.stl_rows.specs.DrawnPage.{line_on, lines, page_of_lines}
 use Rattle.stl_rows.specs.DuePage.{due}
-use Rattle.stl_rows.specs.Line.{has_cells, is_boxed, prepared, row_of}
+use Rattle.stl_rows.specs.Line.{prepared, row_of}
 use Rattle.stl_rows.specs.TextCode.{CellEntry, HasSevenBits, cell_in, cell_of, cell_of_letter}
 use Rattle.stl_rows.specs.TextCode.{cell_of_pair, cell_or_other, cells, code_before, text_code}
 use Rattle.stl_rows.specs.TextCode.{code_of_other, codes_after, diaeresis_cells}
@@ -75,8 +75,7 @@ by_small : (pair : Option ℕ) (alone : TextCode)
     → SmallCode pair
     → HasSevenBits alone
     → HasSevenBits (pair_or_single pair alone).0
-by_small None alone h k = k
-by_small (Some code) alone h k = h
+by_small pair alone h k = grind (arith, nat_tests)
 
 -- A text code before lines of codes.
 with_small : (s : TextCode) (ls : List (List ℕ))
@@ -110,8 +109,7 @@ append_small (x ∷ xs) ys h k = (h.0, append_small xs ys h.1 k)
 prepared_small : (cells : List ℕ) → Small cells → Small (prepared cells)
 unfolding prepared
 prepared_small cells h =
-    cond_both (has_cells cells && not (is_boxed cells)) _ cells Small
-    (λ _. (lit< tt, (lit< tt, append_small cells (0x0A ∷ 0x0A ∷ []) h (omega arith)))) (λ _. h)
+    let boxed = append_small cells (0x0A ∷ 0x0A ∷ []) h (omega arith) in grind (arith, nat_tests)
 
 -- Prepared lines of codes hold codes alone.
 all_prepared : (ls : List (List ℕ))

@@ -1,12 +1,12 @@
 -- The first fault of a text whose codes are read one by one, by the shape of each line:
 -- told-faults.
-use Rattle.std.proofs.Common.{◌≡◌, ℕ, suc, ◌+◌, Bool, true, false, ◌&&◌, ◌==◌, not, cond, List, []}
+use Rattle.std.proofs.Common.{◌≡◌, ℕ, suc, ◌+◌, Bool, true, false, cond, List, []}
 use Rattle.std.proofs.Common.{◌∷◌, ◌++◌, Option, Some, None, map, length, refl, sym, ap, ◌∙◌, arith}
 use Rattle.std.proofs.Common.{length-append, append-nil}
 use Rattle.std.proofs.Math.Bool.{or-false}
-use Rattle.std.proofs.lemmas.Bool.{cond_both, lt-ltb}
+use Rattle.std.proofs.lemmas.Bool.{lt-ltb}
+use Rattle.std.proofs.lemmas.Bool.Decides.{nat_tests}
 use Rattle.std.proofs.lemmas.List.Folds.{list_any-append}
-use Rattle.std.specs.List.{list_any}
 use Rattle.std.specs.Option.{option_or}
 use Rattle.stl_file.specs.Subtitle.{SubtitleValue}
 use Rattle.stl_rows.specs.declared.fault.RowFault.{RowFault}
@@ -15,7 +15,7 @@ use Rattle.stl_rows.specs.declared.text_code.TextCode.{TextCode}
 use Rattle.stl_rows.specs.declared.text_code.TextCode.TheVariants.{Cell, NoCell, NewLine, Refused}
 use Rattle.stl_rows.specs.declared.text_faults.OpenLine.{OpenLine}
 use Rattle.stl_rows.specs.DrawnPage.{faults, line_fault_kinds, line_faults}
-use Rattle.stl_rows.specs.Line.{double_height, has_cells, is_boxed, is_double, prepared}
+use Rattle.stl_rows.specs.Line.{has_cells, is_boxed, is_double, prepared}
 use Rattle.stl_rows.specs.LineByLine.{HasShape, empty_line, line_under, prepared_lines}
 use Rattle.stl_rows.specs.LineByLine.{shape_fault_kinds, told, told_first, with_cell}
 use Rattle.stl_rows.specs.TextCode.{fault_of, first_of, lines_of, refusals, text_codes}
@@ -44,30 +44,18 @@ shape-push cells code line h = record {
 -- A prepared line has the double height of its cells.
 double_prepared : (cells : List ℕ) → is_double (prepared cells) ≡ is_double cells
 unfolding prepared is_double
-double_prepared cells =
-    cond_both (has_cells cells && not (is_boxed cells)) _ cells
-    (λ line. list_any (λ c. c == double_height) line ≡ is_double cells)
-    (λ _. list_any-append (λ c. c == double_height) cells (0x0A ∷ 0x0A ∷ []) ∙ or-false _)
-    (λ _. refl)
+double_prepared cells = grind (arith, nat_tests, list_any-append, or-false)
 
 -- How long a line with cells is.
 length_prepared : (c : ℕ) (cs : List ℕ)
     → length (prepared (c ∷ cs)) ≡ cond (is_boxed (c ∷ cs)) (length (c ∷ cs)) (length (c ∷ cs) + 4)
 unfolding prepared
-length_prepared c cs = go (is_boxed (c ∷ cs))
-  where
-    go : (b : Bool)
-        → length (cond (not b) (0x0B ∷ 0x0B ∷ (c ∷ cs ++ (0x0A ∷ 0x0A ∷ []))) (c ∷ cs))
-        ≡ cond b (length (c ∷ cs)) (length (c ∷ cs) + 4)
-    go true = refl
-    go false = omega (arith, length-append cs (0x0A ∷ 0x0A ∷ []))
+length_prepared c cs = grind (arith, nat_tests, length-append)
 
 -- It has cells.
 cells_prepared : (c : ℕ) (cs : List ℕ) → has_cells (prepared (c ∷ cs)) ≡ true
 unfolding prepared
-cells_prepared c cs =
-    cond_both (not (is_boxed (c ∷ cs))) _ (c ∷ cs) (λ line. has_cells line ≡ true) (λ _. refl)
-    (λ _. refl)
+cells_prepared c cs = grind (arith, nat_tests)
 
 -- A line without cells has no double height, nor a box.
 kinds_of_none : (line : OpenLine)
