@@ -17,7 +17,7 @@ use Rattle.stl_file.proofs.SubtitleBlocksLemmas.{linked_cons, linked_text, block
 
 -- ---- one block
 
--- a block is its head, a piece of text, and what is left of a field of unused space
+-- A block is its head, a piece of text, and what is left of a field of unused space.
 pub block_parts : (s : SubtitleValue) (e : ℕ) (piece : List ℕ)
     → block_of s e piece
     ≡ (block_head s e ++ piece) ++ drop (length piece) (replicate 112 unused_space)
@@ -26,17 +26,17 @@ block_parts s e piece =
     rw (drop-replicate (length piece) 112 unused_space)
     (sym (append_assoc (block_head s e) piece _))
 
--- what `push_block` needs
+-- What `push_block` needs.
 pub ruleset pushed = (append_assoc, block_parts)
 
--- a block that was made has its EBN and its text
+-- A block that was made has its EBN and its text.
 block_fields : (s : SubtitleValue) (e : ℕ) (piece : List ℕ)
     → has_no_unused piece ≡ true
     → (ebn (block_of s e piece) ≡ e) × (text_of (block_of s e piece) ≡ piece)
 unfolding block_of
 block_fields s e piece h = (refl, before_clean piece (112 - length piece) h)
 
--- it belongs to the subtitle
+-- It belongs to the subtitle.
 block_belongs : (s : SubtitleValue) (e : ℕ) (piece : List ℕ)
     → length piece ≤ 112
     → BelongsTo s.sgn s.sn (block_of s e piece)
@@ -49,7 +49,7 @@ block_belongs s e piece le = record {
   same_sn = omega arith;
 }
 
--- a block that was made begins the subtitle
+-- A block that was made begins the subtitle.
 block_begins : (s : SubtitleValue) (e : ℕ) (piece : List ℕ)
     → IsSubtitle s
     → Begins s (block_of s e piece)
@@ -71,13 +71,13 @@ block_begins s e piece h =
 
 -- ---- the blocks of a subtitle, as they are written
 
--- a long text has one piece more than what is after its first piece
+-- A long text has one piece more than what is after its first piece.
 pieces_more : (text : List ℕ)
     → 112 < length text
     → full_pieces text ≡ suc (full_pieces (drop 112 text))
 pieces_more text lt = omega (arith, length-drop 112 text)
 
--- the bytes of a full block, and of the blocks after it
+-- The bytes of a full block, and of the blocks after it.
 pub joined_more : (s : SubtitleValue) (ebn : ℕ) (text : List ℕ)
     → 112 < length text
     → joined (blocks_from s (full_pieces text) ebn text)
@@ -86,7 +86,7 @@ pub joined_more : (s : SubtitleValue) (ebn : ℕ) (text : List ℕ)
 unfolding blocks_from
 joined_more s ebn text lt = rw (pieces_more text lt) refl
 
--- the bytes of the last block
+-- The bytes of the last block.
 pub joined_end : (s : SubtitleValue) (ebn : ℕ) (text : List ℕ)
     → length text ≤ 112
     → joined (blocks_from s (full_pieces text) ebn text) ≡ block_of s 255 text
@@ -95,19 +95,19 @@ joined_end s ebn text le =
     let none : full_pieces text ≡ 0 = omega arith in
     rw none (append-nil (block_of s 255 text))
 
--- how many blocks
+-- How many blocks.
 pub blocks_count : (s : SubtitleValue) (full ebn : ℕ) (text : List ℕ)
     → length (blocks_from s full ebn text) ≡ suc full
 unfolding blocks_from
 blocks_count s zero ebn text = refl
 blocks_count s (suc full) ebn text = ap suc (blocks_count s full (ebn + 1) (drop 112 text))
 
--- what `spell` needs
+-- What `spell` needs.
 pub ruleset spelled = (append_assoc, length-drop, joined_more, joined_end, blocks_count)
 
 -- ---- they are its blocks
 
--- the blocks that are made are linked
+-- The blocks that are made are linked.
 blocks_linked : (s : SubtitleValue) (full e : ℕ) (text : List ℕ)
     → length text ≤ 112 * suc full
     → e + full ≤ 240
@@ -125,7 +125,7 @@ blocks_linked s (suc full) e text le few h =
     (blocks_linked s full (e + 1) (drop 112 text) (omega (arith, length-drop 112 text))
     (omega arith) (clean_drop 112 text h))
 
--- their joined text is the text
+-- Their joined text is the text.
 blocks_text : (s : SubtitleValue) (full e : ℕ) (text : List ℕ)
     → has_no_unused text ≡ true
     → flat_map text_of (blocks_from s full e text) ≡ text
@@ -136,7 +136,7 @@ blocks_text s (suc full) e text h = rw (
   blocks_text s full (e + 1) (drop 112 text) (clean_drop 112 text h),
 ) (take-append-drop 112 text)
 
--- the first one begins the subtitle
+-- The first one begins the subtitle.
 blocks_begin : (s : SubtitleValue) (full e : ℕ) (text : List ℕ)
     → IsSubtitle s
     → (first : List ℕ) × ((others : List (List ℕ)) × (blocks_from s full e text ≡ first ∷ others)
@@ -148,7 +148,7 @@ blocks_begin s (suc full) e text h = (
   (blocks_from s full (e + 1) (drop 112 text), refl, block_begins s e (take 112 text) h),
 )
 
--- the blocks of a subtitle are blocks of it
+-- The blocks of a subtitle are blocks of it.
 blocks_made : (s : SubtitleValue) → IsSubtitle s → AreBlocksOf s (blocks_of s)
 blocks_made s h =
     let full = full_pieces s.text in
@@ -164,7 +164,7 @@ blocks_made s h =
       text_is = sym (blocks_text s full 0 s.text h.text);
     }
 
--- the blocks of a subtitle of a file can be written again, in no more of them
+-- The blocks of a subtitle of a file can be written again, in no more of them.
 pub blocks_again : (s : SubtitleValue) (g : List (List ℕ))
     → AreBlocksOf s g
     → AreBlocksOf s (blocks_of s) × (length (blocks_of s) ≤ length g)

@@ -4,8 +4,7 @@ use Rattle.std.proofs.Common.{◌≡◌, ◌*◌, ℕ, false, List, [], ◌++◌
 use Rattle.std.proofs.Common.{length-append, rules, take, drop, None, Result, Ok, Err, subst, ◌+◌}
 use Rattle.std.proofs.Common.{◌≤◌, inl, inr, length-take-le, ltb}
 use Rattle.std.specs.Prelude.{◌↔◌}
-use Rattle.std.proofs.lemmas.List.{take_all, take-take, drop-take, take-append-drop}
-use Rattle.std.proofs.lemmas.List.{drop_at}
+use Rattle.std.proofs.lemmas.List.{take_all, take-take, drop-take, take-append-drop, drop_at}
 use Rattle.std.proofs.lemmas.Bool.{cases_lt, le-ltb}
 use Rattle.stl_file.specs.declared.fault.StlFault.{StlFault}
 use Rattle.stl_file.specs.Tti.{most_blocks}
@@ -22,14 +21,14 @@ use Rattle.stl_file.proofs.RestLemmas.{outcome_complete, outcome_sound}
 use Rattle.stl_file.proofs.GsiLemmas.{gsi_complete}
 use Rattle.stl_file.proofs.OpeningLemmas.{good, opened_sound, file_gsi}
 
--- a file that was read was opened
+-- A file that was read was opened.
 judged_ok : (b : List ℕ) (o : Result ReaderValue StlFault) (ts : List SubtitleValue)
     → subtitles_of (outcome_opened b o) ≡ Ok ts
     → (r : ReaderValue) × (o ≡ good r) × (subtitles_of (outcome_left r b) ≡ Ok ts)
 judged_ok b (Ok r) ts e = (r, refl, e)
 judged_ok b (Err f) ts e = absurd cc
 
--- the bytes after a GSI block that is taken
+-- The bytes after a GSI block that is taken.
 pub body_sound : (s : List ℕ) (ts : List SubtitleValue)
     → 1024 ≤ length s
     → IsGsi (take 1024 s)
@@ -44,7 +43,7 @@ body_sound s ts le g e =
       rest = search rules;
     }
 
--- bytes that are read without a fault are a file
+-- Bytes that are read without a fault are a file.
 pub file_sound : (s : List ℕ) (ts : List SubtitleValue)
     → subtitles_of (outcome_of s) ≡ Ok ts
     → IsFile s (take 1024 s) ts
@@ -55,7 +54,7 @@ file_sound s ts e =
     body_sound s ts o.0 o.1
     (ap (λ (r : ReaderValue). subtitles_of (outcome_left r (drop 1024 s))) (sym o.2) ∙ j.2)
 
--- a file is read without a fault
+-- A file is read without a fault.
 pub file_complete : (s g : List ℕ) (ts : List SubtitleValue)
     → IsFile s g ts
     → (take 1024 s ≡ g) × (subtitles_of (outcome_of s) ≡ Ok ts)
@@ -73,7 +72,7 @@ file_complete s g ts h =
           (outcome_complete h.blocks most_blocks ts h.rest),
     )
 
--- a file is what is read
+-- A file is what is read.
 pub file_read : (s g : List ℕ) (ts : List SubtitleValue)
     → IsFile s g ts ↔ ((g ≡ take 1024 s) × (subtitles_of (outcome_of s) ≡ Ok ts))
 file_read s g ts = (
@@ -81,7 +80,7 @@ file_read s g ts = (
   λ h. subst (λ (x : List ℕ). IsFile s x ts) (sym h.0) (file_sound s ts h.1),
 )
 
--- a file has one GSI block and one list of subtitles
+-- A file has one GSI block and one list of subtitles.
 pub one_file : (s g h : List ℕ) (ts us : List SubtitleValue)
     → IsFile s g ts
     → IsFile s h us
@@ -93,13 +92,13 @@ one_file s g h ts us a b =
 
 -- ---- the first bytes
 
--- one byte more than the longest file has decides what a file that was opened gives
+-- One byte more than the longest file has decides what a file that was opened gives.
 opened-first : (r : Result (List ℕ) StlFault) (b : List ℕ)
     → outcome_opened (take (128 * 99999 + 1) b) (opened r) ≡ outcome_opened b (opened r)
 opened-first (Err e) b = refl
 opened-first (Ok g) b = outcome_at-first 99999 None b
 
--- so what any bytes give
+-- So what any bytes give.
 pub outcome_of-first : (s : List ℕ) → outcome_of (take 12800897 s) ≡ outcome_of s
 unfolding outcome_of opened_at
 outcome_of-first s = elim (cases_lt 12800897 (length s)) [

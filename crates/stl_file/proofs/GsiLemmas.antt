@@ -1,30 +1,29 @@
 -- The GSI block as it is read, and with other counts; main lemmas: gsi_sound, gsi_complete,
 -- counted_is_gsi.
-use Rattle.std.proofs.Common.{◌≡◌, ℕ, List, ◌++◌, length, refl, sym, ap}
-use Rattle.std.proofs.Common.{◌∙◌, append_assoc, arith, length-append, take, drop, Ok}
-use Rattle.std.proofs.Common.{◌+◌, ◌≤◌}
+use Rattle.std.proofs.Common.{◌≡◌, ℕ, List, ◌++◌, length, refl, sym, ap, ◌∙◌, append_assoc, arith}
+use Rattle.std.proofs.Common.{length-append, take, drop, Ok, ◌+◌, ◌≤◌}
 use Rattle.std.proofs.lemmas.List.{drop-take, take-append-drop, length-drop, length-take}
-use Rattle.std.proofs.lemmas.List.{length-take-le}
-use Rattle.std.proofs.lemmas.List.{take_at, drop_at, take-append-le, take-take, get_or-take}
+use Rattle.std.proofs.lemmas.List.{length-take-le, take_at, drop_at, take-append-le, take-take}
+use Rattle.std.proofs.lemmas.List.{get_or-take}
 use Rattle.std.proofs.lemmas.Bool.Decides.{nat_tests}
 use Rattle.std.proofs.lemmas.Slice.Eq.{bytes_eq-Decides}
 use Rattle.std.proofs.lemmas.Slice.{take-put_mid, drop-put_mid}
 use borrow.Rule.Slice.PartMut.{put_mid}
 use Rattle.stl_file.specs.Gsi.{with_counts, gsi_at, IsGsi, field, five_digits, dsc}
 
--- a GSI block without a fault is taken, as it is
+-- A GSI block without a fault is taken, as it is.
 pub gsi_sound : (g h : List ℕ) → length g ≡ 1024 → gsi_at g ≡ Ok h → (h ≡ g) × IsGsi g
 unfolding gsi_at
 gsi_sound g h size e = grind (arith, nat_tests, bytes_eq-Decides)
 
--- a block that is taken is read as itself
+-- A block that is taken is read as itself.
 pub gsi_complete : (g : List ℕ) → IsGsi g → gsi_at g ≡ Ok g
 unfolding gsi_at
 gsi_complete g h = grind (arith, nat_tests, bytes_eq-Decides)
 
 -- ---- the counts
 
--- ten bytes are written at 238. For `set_counts`.
+-- Ten bytes are written at 238. For `set_counts`.
 pub counts_put : (xs ys : List ℕ)
     → length ys ≡ 10
     → 248 ≤ length xs
@@ -37,7 +36,7 @@ counts_put xs ys size le =
       append_assoc,
     ) refl
 
--- counts that are set twice
+-- Counts that are set twice.
 pub counts_twice : (tnb tns : ℕ) (g : List ℕ)
     → length g ≡ 1024
     → with_counts tnb tns (with_counts tnb tns g) ≡ with_counts tnb tns g
@@ -50,7 +49,7 @@ counts_twice tnb tns g size =
     (omega (arith, length-append (take 238 g) digits)) in
     rw (take_at (take 238 g) (digits ++ drop 248 g) 238 front, back) refl
 
--- a field that lies in front of place n is one of the bytes there
+-- A field that lies in front of place n is one of the bytes there.
 front_field : (at len n : ℕ) (g rest : List ℕ)
     → at + len ≤ n
     → n ≤ length g
@@ -63,7 +62,7 @@ front_field at len n g rest le size =
       take-take (at + len) n g le,
     ) refl
 
--- a GSI block is taken with other counts too
+-- A GSI block is taken with other counts too.
 pub counted_is_gsi : (tnb tns : ℕ) (g : List ℕ) → IsGsi g → IsGsi (with_counts tnb tns g)
 counted_is_gsi tnb tns g h =
     let counts = five_digits tnb ++ (five_digits tns ++ drop 248 g) in

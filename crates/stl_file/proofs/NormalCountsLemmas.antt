@@ -1,32 +1,30 @@
--- `counted` and `given`: a pass of `normal` over the blocks after the GSI block; main lemmas:
+-- `normal_counts` and `given`: a pass of `normal` over the blocks after the GSI block; main lemmas:
 -- left_is, took, counted_cons, written_cons.
-use Rattle.std.proofs.Common.{◌≡◌, ℕ, true, false, Bool, cond, List, length, refl}
-use Rattle.std.proofs.Common.{arith, length-append, Option, Some, Result, Ok, Err, ◌+◌, ◌≤◌}
-use Rattle.std.proofs.Common.{is_ok}
+use Rattle.std.proofs.Common.{◌≡◌, ℕ, true, false, Bool, cond, List, length, refl, arith}
+use Rattle.std.proofs.Common.{length-append, Option, Some, Result, Ok, Err, ◌+◌, ◌≤◌, is_ok}
 use Rattle.std.specs.Io.KnownBytes.{Appends}
 use Rattle.std.proofs.lemmas.Grind.{flat_map-append}
 use Rattle.std.proofs.lemmas.Option.{same_Some}
-use Rattle.sub_io.specs.Device.{Writes}
-use Rattle.sub_io.proofs.DeviceLemmas.{Writes-after}
+use Rattle.sub_io.specs.Device.{AppendsPrefix, Writes}
+use Rattle.sub_io.proofs.DeviceLemmas.{AppendsPrefix-first, Writes-after}
 use Rattle.stl_file.specs.declared.counts.Counts.{Counts}
 use Rattle.stl_file.specs.declared.fault.StlFault.{StlFault}
 use Rattle.stl_file.specs.SubtitleBlocks.{joined}
-use Rattle.stl_file.specs.Reader.{ReaderValue, outcome_left, Answers, given_subtitle}
-use Rattle.stl_file.specs.Reader.{TakesSubtitle}
+use Rattle.stl_file.specs.Reader.{ReaderValue, outcome_left, Answers, given_subtitle, TakesSubtitle}
 use Rattle.stl_file.specs.Subtitle.{SubtitleValue}
 use Rattle.stl_file.specs.NormalForm.{Judged, all_blocks, subtitles_of, blocks_of, cons_all}
-use Rattle.stl_file.specs.NormalCounts.{counted, counted_on, given, judged_on}
+use Rattle.stl_file.specs.NormalCounts.{counted_on, given, judged_on, normal_counts}
 use Rattle.stl_file.proofs.SubtitleBlocksLemmas.{kept_few}
 use Rattle.stl_file.proofs.BlocksOfLemmas.{blocks_again, blocks_count}
 
 -- ---- one subtitle. For `read_on`
 
--- the count of failures of a source that never fails says that this call did not
+-- The count of failures of a source that never fails says that this call did not.
 pub no_failure : (b : Bool) → 0 ≡ 0 + cond b 1 0 → b ≡ false
 no_failure true e = cc
 no_failure false e = refl
 
--- what was left, by the answer and what is left now
+-- What was left, by the answer and what is left now.
 pub left_is : (old new : ReaderValue) (rest next : List ℕ) (r : Result Bool StlFault)
     (s : SubtitleValue)
     → Answers old rest new (Some next) (given_subtitle r s)
@@ -37,7 +35,7 @@ left_is old new rest next r s a =
     let o = a.outcome in
     grind arith
 
--- a subtitle is written in no more blocks than were taken for it
+-- A subtitle is written in no more blocks than were taken for it.
 pub took : (from to : ℕ) (old new : Option (List ℕ)) (s : SubtitleValue)
     → TakesSubtitle from to old new s
     → from + length (blocks_of s) ≤ to
@@ -46,27 +44,27 @@ took from to old new s t =
 
 -- ---- the first pass
 
--- counts before any subtitle
+-- Counts before any subtitle.
 pub counted_none : (j : Judged)
-    → counted_on (record { tnb = 0; tns = 0 }) (counted j) ≡ counted j
+    → counted_on (record { tnb = 0; tns = 0 }) (normal_counts j) ≡ normal_counts j
 counted_none j = grind arith
 
--- counts with one subtitle more
+-- Counts with one subtitle more.
 pub counted_cons : (c : Counts) (s : SubtitleValue) (j : Judged)
-    → counted_on c (counted (cons_all s j))
-    ≡ counted_on (record { tnb = c.tnb + length (blocks_of s); tns = c.tns + 1 }) (counted j)
+    → counted_on c (normal_counts (cons_all s j))
+    ≡ counted_on (record { tnb = c.tnb + length (blocks_of s); tns = c.tns + 1 }) (normal_counts j)
 counted_cons c s j = grind (arith, length-append)
 
--- what `judge` needs
+-- What `judge` needs.
 pub ruleset judging = (counted_none, counted_cons, blocks_count)
 
 -- ---- the second pass
 
--- no fault follows a subtitle where there is none
+-- No fault follows a subtitle where there is none.
 pub ok_cons : (s : SubtitleValue) (j : Judged) → is_ok (cons_all s j) ≡ true → is_ok j ≡ true
 ok_cons s j e = grind arith
 
--- what is written of the subtitles that are left, after this one
+-- What is written of the subtitles that are left, after this one.
 pub written_cons : {E : Type 0} (old mid new : Option (List ℕ)) (s : SubtitleValue) (j : Judged)
     (result : Result (Unit {0}) E)
     → is_ok (cons_all s j) ≡ true
@@ -77,3 +75,13 @@ written_cons old mid new s (Ok ss) result ok p q =
     rw (flat_map-append (λ (b : List ℕ). b) (blocks_of s) (all_blocks ss))
     (Writes-after old mid new (joined (blocks_of s)) (joined (all_blocks ss)) result p q)
 written_cons old mid new s (Err f) result ok p q = absurd cc
+
+-- The same where this one was not written whole.
+pub prefix_cons : (old new : Option (List ℕ)) (s : SubtitleValue) (j : Judged)
+    → is_ok (cons_all s j) ≡ true
+    → AppendsPrefix old new (joined (blocks_of s))
+    → AppendsPrefix old new (joined (all_blocks (given (cons_all s j))))
+prefix_cons old new s (Ok ss) ok p =
+    rw (flat_map-append (λ (b : List ℕ). b) (blocks_of s) (all_blocks ss))
+    (AppendsPrefix-first old new (joined (blocks_of s)) (joined (all_blocks ss)) p)
+prefix_cons old new s (Err f) ok p = absurd cc

@@ -14,14 +14,13 @@ use Rattle.stl_file.specs.declared.fault.NormalFault.{NormalFault}
 use Rattle.stl_file.specs.declared.fault.NormalFault.TheVariants.{Refused, Write}
 use Rattle.stl_file.specs.Tti.{is_kept, most_blocks, is_passed}
 use Rattle.stl_file.specs.SubtitleBlocks.{IsBlock, joined, AreLinked, AreBlocksOfEach, IsRest}
-use Rattle.stl_file.specs.Reader.{ReaderValue, outcome_from, outcome_of}
-use Rattle.stl_file.specs.Reader.{opened_at}
+use Rattle.stl_file.specs.Reader.{ReaderValue, outcome_from, outcome_of, opened_at}
 use Rattle.stl_file.specs.Gsi.{with_counts}
 use Rattle.stl_file.specs.Subtitle.{SubtitleValue}
 use Rattle.stl_file.specs.File.{IsFile}
 use Rattle.stl_file.specs.NormalForm.{Judged, all_blocks, counted_gsi, normal_form, subtitles_of}
 use Rattle.stl_file.specs.NormalForm.{WritesNormal, WritesPrefix, NormalAnswers, blocks_of}
-use Rattle.stl_file.specs.NormalCounts.{counted, given}
+use Rattle.stl_file.specs.NormalCounts.{normal_counts, given}
 use Rattle.stl_file.proofs.SubtitleBlocksLemmas.{kept_few}
 use Rattle.stl_file.proofs.GsiLemmas.{counted_is_gsi, counts_twice}
 use Rattle.stl_file.proofs.OpeningLemmas.{good, opened_sound}
@@ -31,7 +30,7 @@ use Rattle.stl_file.proofs.BlocksOfLemmas.{blocks_again}
 
 -- ---- blocks of subtitles
 
--- linked blocks have 128 bytes each, and are no comments and no user data
+-- Linked blocks have 128 bytes each, and are no comments and no user data.
 linked_kept : (sgn_is sn_is : ℕ) (g : List (List ℕ))
     → AreLinked sgn_is sn_is g
     → AllByRecursion IsBlock g × (filter is_kept g ≡ g)
@@ -44,7 +43,7 @@ linked_kept sgn_is sn_is (b ∷ x ∷ g) c =
     let rest = linked_kept sgn_is sn_is (x ∷ g) c.2 in
     ((c.0.size, rest.0), rw kept (ap (λ (y : List (List ℕ)). b ∷ y) rest.1))
 
--- blocks, one after the other
+-- Blocks, one after the other.
 each_append : (xs ys : List (List ℕ))
     → AllByRecursion IsBlock xs
     → AllByRecursion IsBlock ys
@@ -52,7 +51,7 @@ each_append : (xs ys : List (List ℕ))
 each_append [] ys h k = k
 each_append (x ∷ xs) ys h k = (h.0, each_append xs ys h.1 k)
 
--- the subtitles of a file have blocks of their own, and no more than the file has
+-- The subtitles of a file have blocks of their own, and no more than the file has.
 respelled : (ss : List SubtitleValue) (gs : List (List (List ℕ)))
     → AreBlocksOfEach ss gs
     → IsRest (length (groups_of gs)) (all_blocks ss) ss
@@ -77,7 +76,7 @@ respelled (s ∷ ss) (g ∷ gs) h =
       are_of = (one.0, rest.are_of);
     }
 
--- the blocks that are made for the subtitles of a file are those of a file
+-- The blocks that are made for the subtitles of a file are those of a file.
 own_rest : (bs : List (List ℕ)) (ts : List SubtitleValue)
     → IsRest most_blocks bs ts
     → IsRest most_blocks (all_blocks ts) ts
@@ -93,7 +92,7 @@ own_rest bs ts r =
 
 -- ---- the laws
 
--- the normal form of a file is a file of the same subtitles
+-- The normal form of a file is a file of the same subtitles.
 pub normal_is_file : (s g : List ℕ) (ts : List SubtitleValue)
     → IsFile s g ts
     → IsFile (normal_form g ts) (counted_gsi g ts) ts
@@ -104,7 +103,7 @@ normal_is_file s g ts h = record {
   rest = own_rest h.blocks ts h.rest;
 }
 
--- the normal form of a normal form is itself
+-- The normal form of a normal form is itself.
 pub normal_twice : (s g h : List ℕ) (ts us : List SubtitleValue)
     → IsFile s g ts
     → IsFile (normal_form g ts) h us
@@ -117,36 +116,36 @@ normal_twice s g h ts us a b =
 
 -- ---- the returns of `normal`
 
--- a sink that was not touched keeps its bytes
+-- A sink that was not touched keeps its bytes.
 keeps_same : (o : Option (List ℕ)) → Keeps o o
 keeps_same None = tt
 keeps_same (Some xs) = refl
 
--- a file whose GSI block is refused, as `normal` answers it
+-- A file whose GSI block is refused, as `normal` answers it.
 pub refused_open : (s : List ℕ) (f : StlFault) (old : Option (List ℕ))
     → opened_at s ≡ Err f
     → NormalAnswers s old old (Err (Refused f 0))
 unfolding outcome_of
 refused_open s f old e = (rw e refl, keeps_same old)
 
--- after a GSI block that is taken, a file gives what its body gives
+-- After a GSI block that is taken, a file gives what its body gives.
 file_body : (s : List ℕ) (r : ReaderValue)
     → opened_at s ≡ good r
     → subtitles_of (outcome_of s) ≡ subtitles_of (outcome_from 0 (drop 1024 s))
 unfolding outcome_of
 file_body s r e = let o = opened_sound s r e in rw (e, o.2) refl
 
--- a file whose blocks are refused, as `normal` answers it
+-- A file whose blocks are refused, as `normal` answers it.
 pub refused_body : (s : List ℕ) (r : ReaderValue) (f : NormalFault) (old : Option (List ℕ))
     → opened_at s ≡ good r
     → (f ≡ Write → ⊥)
-    → counted (subtitles_of (outcome_from 0 (drop 1024 s))) ≡ Err f
+    → normal_counts (subtitles_of (outcome_from 0 (drop 1024 s))) ≡ Err f
     → NormalAnswers s old old (Err f)
 refused_body s r Write old e never c = absurd (never refl)
 refused_body s r (Refused f b) old e never c =
     (let body = file_body s r e in grind arith, keeps_same old)
 
--- a file that is not refused: its subtitles, their counts and the bytes of its normal form
+-- A file that is not refused: its subtitles, their counts and the bytes of its normal form.
 record Accepted (s : List ℕ) (r : ReaderValue) (c : Counts) : Type 0 where
   ts : List SubtitleValue
   is_file : IsFile s (take 1024 s) ts
@@ -156,18 +155,18 @@ record Accepted (s : List ℕ) (r : ReaderValue) (c : Counts) : Type 0 where
       ++ joined (all_blocks (given (subtitles_of (outcome_from 0 (drop 1024 s)))))
       ≡ normal_form (take 1024 s) ts
 
--- the subtitles that were counted
+-- The subtitles that were counted.
 counted_ok : (j : Judged) (c : Counts)
-    → counted j ≡ Ok c
+    → normal_counts j ≡ Ok c
     → (ts : List SubtitleValue) × (j ≡ Ok ts) × (c.tnb ≡ length (all_blocks ts))
     × (c.tns ≡ length ts)
 counted_ok (Ok ts) c e = (ts, refl, cc, cc)
 counted_ok (Err f) c e = absurd cc
 
--- a file that was opened and counted is accepted
+-- A file that was opened and counted is accepted.
 accepted : (s : List ℕ) (r : ReaderValue) (c : Counts)
     → opened_at s ≡ good r
-    → counted (subtitles_of (outcome_from 0 (drop 1024 s))) ≡ Ok c
+    → normal_counts (subtitles_of (outcome_from 0 (drop 1024 s))) ≡ Ok c
     → Accepted s r c
 accepted s r c opened judged =
     let o = opened_sound s r opened in
@@ -180,9 +179,9 @@ accepted s r c opened judged =
     }
 
 module _ (s : List ℕ) (r : ReaderValue) (c : Counts) (g : List ℕ) (opened : opened_at s ≡ good r)
-    (judged : counted (subtitles_of (outcome_from 0 (drop 1024 s))) ≡ Ok c)
+    (judged : normal_counts (subtitles_of (outcome_from 0 (drop 1024 s))) ≡ Ok c)
     (set : g ≡ with_counts c.tnb c.tns r.gsi) (old new : Option (List ℕ)) where
-  -- all was written
+  -- All was written.
   pub whole_written :
       Appends old new
       (g ++ joined (all_blocks (given (subtitles_of (outcome_from 0 (drop 1024 s))))))
@@ -196,7 +195,7 @@ module _ (s : List ℕ) (r : ReaderValue) (c : Counts) (g : List ℕ) (opened : 
         wrote = subst (Appends old new) (rw set a.form) w;
       }
 
-  -- the sink failed
+  -- The sink failed.
   pub prefix_written :
       AppendsPrefix old new
       (g ++ joined (all_blocks (given (subtitles_of (outcome_from 0 (drop 1024 s))))))

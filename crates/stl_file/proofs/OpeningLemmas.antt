@@ -1,8 +1,7 @@
 -- `opened_at`, and that no file begins with what `open` refuses; main lemmas: opened_sound,
 -- open_whole, bad_opening.
-use Rattle.std.proofs.Common.{◌≡◌, ℕ, List, ◌++◌, length, refl, sym, ap}
-use Rattle.std.proofs.Common.{◌∙◌, arith, length-append, take, drop, Option, Some, Result, Ok, Err}
-use Rattle.std.proofs.Common.{◌<◌, ◌≤◌, length-take}
+use Rattle.std.proofs.Common.{◌≡◌, ℕ, List, ◌++◌, length, refl, sym, ap, ◌∙◌, arith, length-append}
+use Rattle.std.proofs.Common.{take, drop, Option, Some, Result, Ok, Err, ◌<◌, ◌≤◌, length-take}
 use Rattle.std.proofs.lemmas.List.{take_all, length-take-le, take_at, drop_at}
 use Rattle.std.proofs.lemmas.Bool.{le-ltb}
 use Rattle.std.proofs.lemmas.Bool.Decides.{nat_tests}
@@ -17,18 +16,18 @@ use Rattle.stl_file.specs.Subtitle.{SubtitleValue}
 use Rattle.stl_file.specs.File.{IsFile}
 use Rattle.stl_file.proofs.GsiLemmas.{gsi_sound, gsi_complete}
 
--- a reader without a fault
+-- A reader without a fault.
 abbrev pub good : ReaderValue → Result ReaderValue StlFault
 good r = Ok r
 
--- a reader that was opened has a GSI block that is taken
+-- A reader that was opened has a GSI block that is taken.
 opened_good : (g : List ℕ) (r : ReaderValue)
     → length g ≡ 1024
     → opened (gsi_at g) ≡ good r
     → IsGsi g × (r ≡ record { gsi = g; block = 0; progress = Reading })
 opened_good g r size e = grind (arith, gsi_sound g)
 
--- a file that was opened begins with a GSI block that is taken
+-- A file that was opened begins with a GSI block that is taken.
 pub opened_sound : (s : List ℕ) (r : ReaderValue)
     → opened_at s ≡ good r
     → (1024 ≤ length s) × IsGsi (take 1024 s)
@@ -39,13 +38,13 @@ opened_sound s r e =
     let o = opened_good (take 1024 s) r (length-take-le 1024 s le) (rw (le-ltb _ _ le) at e) in
     (le, o.0, o.1)
 
--- a file begins with its GSI block
+-- A file begins with its GSI block.
 pub file_gsi : (s g : List ℕ) (ts : List SubtitleValue) → IsFile s g ts → take 1024 s ≡ g
 file_gsi s g ts h = ap (take 1024) h.bytes ∙ take_at g (joined h.blocks) 1024 h.gsi.size
 
 module _ {old new : Option (List ℕ)} {n : ℕ} {block : List ℕ} (f : Fills old n new block)
     (size : length block ≡ 1024) where
-  -- fewer bytes than a GSI block are no file
+  -- Fewer bytes than a GSI block are no file.
   pub short_opening : n < 1024 → RefusesOpening old new fault.Truncated
   short_opening lt = record {
     bytes = take n block;
@@ -62,7 +61,7 @@ module _ {old new : Option (List ℕ)} {n : ℕ} {block : List ℕ} (f : Fills o
         );
   }
 
-  -- a GSI block with a fault begins no file
+  -- A GSI block with a fault begins no file.
   pub bad_opening : (x : StlFault) → 1024 ≤ n → gsi_at block ≡ Err x → RefusesOpening old new x
   bad_opening x le bad =
       let bound = f.bound in
@@ -77,12 +76,12 @@ module _ {old new : Option (List ℕ)} {n : ℕ} {block : List ℕ} (f : Fills o
 
 module _ {bytes : List ℕ} {n : ℕ} {new : Option (List ℕ)} {block : List ℕ}
     (t : Told bytes n new block) (bound : n ≤ length block) (size : length block ≡ 1024) where
-  -- fewer bytes than a GSI block
+  -- Fewer bytes than a GSI block.
   pub open_short : n < 1024 → opened_at bytes ≡ Err fault.Truncated
   unfolding opened_at
   open_short lt = grind (arith, nat_tests, length-append, length-take)
 
-  -- what a whole GSI block is read as
+  -- What a whole GSI block is read as.
   pub open_whole : (r : Result (List ℕ) StlFault)
       → 1024 ≤ n
       → gsi_at block ≡ r
@@ -99,7 +98,7 @@ module _ {bytes : List ℕ} {n : ℕ} {new : Option (List ℕ)} {block : List �
         e,
       ) refl
 
-  -- what is left after it
+  -- What is left after it.
   pub open_rest : 1024 ≤ n → new ≡ Some (drop 1024 bytes)
   open_rest le =
       rw (t.parts, take_all n block (omega arith), drop_at block t.rest 1024 size) t.new_is

@@ -15,25 +15,25 @@ use Rattle.stl_file.specs.Reading.{outcome_at, step_at, ends, fails}
 
 -- ---- the function by cases
 
--- what no bytes give
+-- What no bytes give.
 abbrev pub outcome_nil : ℕ → Option Begun → Outcome
 outcome_nil room None = ends
 outcome_nil room (Some begun) = fails fault.Unfinished (most_blocks - room)
 
--- no byte is left
+-- No byte is left.
 pub outcome_end : (room : ℕ) (begun : Option Begun)
     → outcome_at room begun [] ≡ outcome_nil room begun
 unfolding outcome_at
 outcome_end room begun = grind arith
 
--- one block too many
+-- One block too many.
 pub outcome_full : (begun : Option Begun) (b : List ℕ)
     → 0 < length b
     → outcome_at 0 begun b ≡ fails fault.TooManyBlocks (most_blocks + 1)
 unfolding outcome_at
 outcome_full begun b h = grind arith
 
--- a block that is cut
+-- A block that is cut.
 pub outcome_short : (room : ℕ) (begun : Option Begun) (b : List ℕ)
     → 0 < length b
     → length b < 128
@@ -41,7 +41,7 @@ pub outcome_short : (room : ℕ) (begun : Option Begun) (b : List ℕ)
 unfolding outcome_at
 outcome_short room begun b h lt = grind (arith, nat_tests)
 
--- a whole block
+-- A whole block.
 pub outcome_step : (room : ℕ) (begun : Option Begun) (b : List ℕ)
     → 128 ≤ length b
     → outcome_at (suc room) begun b
@@ -50,7 +50,7 @@ pub outcome_step : (room : ℕ) (begun : Option Begun) (b : List ℕ)
 unfolding outcome_at
 outcome_step room begun b le = grind (arith, nat_tests)
 
--- a block in front of other bytes
+-- A block in front of other bytes.
 pub outcome_block : (room next : ℕ) (begun : Option Begun) (b rest : List ℕ)
     → room ≡ suc next
     → length b ≡ 128
@@ -66,20 +66,20 @@ outcome_block room next begun b rest e size =
 
 -- ---- the blocks that are named
 
--- what names no block before the next one names none before this one
+-- What names no block before the next one names none before this one.
 names-before : (block : ℕ) (o : Outcome) → NamesFrom (block + 1) o → NamesFrom block o
 names-before block ends h = tt
 names-before block (fails f at) h = grind arith
 names-before block (gives s at o) h = (grind arith, names-before block o h.1)
 
--- what comes of a block, where all after it names no block before the next one
+-- What comes of a block, where all after it names no block before the next one.
 names-after : (room block : ℕ) (next : Option Begun → Outcome) (r : Result BlockStep StlFault)
     → block ≤ most_blocks - room
     → ((begun : Option Begun) → NamesFrom (block + 1) (next begun))
     → NamesFrom block (outcome_after room next r)
 names-after room block next r le n = grind (arith, names-before)
 
--- what bytes give after `block` blocks names none of these
+-- What bytes give after `block` blocks names none of these.
 pub names_from : (room block : ℕ) (begun : Option Begun) (b : List ℕ)
     → block + room ≡ most_blocks
     → NamesFrom (block + 1) (outcome_at room begun b)
@@ -94,7 +94,7 @@ names_from (suc room) block begun (x ∷ b) e = elim (cases_lt (length (x ∷ b)
 
 -- ---- the bytes that decide
 
--- one byte more than `room` blocks have decides what they give
+-- One byte more than `room` blocks have decides what they give.
 pub outcome_at-first : (room : ℕ) (begun : Option Begun) (b : List ℕ)
     → outcome_at room begun (take (128 * room + 1) b) ≡ outcome_at room begun b
 outcome_at-first zero begun [] = refl

@@ -18,8 +18,7 @@ use Rattle.stl_file.specs.Reader.{outcome_by, outcome_from, Leads, LastIsKept, T
 use Rattle.stl_file.specs.Reader.{TakesPassed, block_after, Refuses, FailsReading, EndsKept}
 use Rattle.stl_file.specs.Reader.{ReaderValue, Answers, progress_after, tells_end}
 use Rattle.stl_file.specs.Subtitle.{SubtitleValue}
-use Rattle.stl_file.specs.Reading.{Begun, More, Give, outcome_after, outcome_at}
-use Rattle.stl_file.specs.Reading.{step_at}
+use Rattle.stl_file.specs.Reading.{Begun, More, Give, outcome_after, outcome_at, step_at}
 use Rattle.stl_file.specs.Fault.{is_cut, is_of_block}
 use Rattle.stl_file.proofs.SubtitleBlocksLemmas.{length-joined}
 use Rattle.stl_file.proofs.StepLemmas.{step_gives}
@@ -40,7 +39,7 @@ pub record HasRead (from : ℕ) (old now : Option (List ℕ)) (block : ℕ) (beg
       (more : List ℕ)
       → outcome_from from (bytes ++ more) ≡ outcome_at (most_blocks - block) begun more
 
--- fewer than 128 bytes were taken after them, and the source failed
+-- Fewer than 128 bytes were taken after them, and the source failed.
 pub fails_reading : (from block : ℕ) (old mid new : Option (List ℕ)) (begun : Option Begun)
     (bytes : List ℕ)
     → HasRead from old mid block begun
@@ -62,11 +61,11 @@ fails_reading from block old mid new begun bytes h few lt c = record {
 module _ {from : ℕ} {old mid new : Option (List ℕ)} {n block : ℕ} {begun : Option Begun}
     {buffer : List ℕ} (h : HasRead from old mid block begun) (f : Fills mid n new buffer)
     (size : length buffer ≡ 128) where
-  -- n bytes came
+  -- The bytes that came.
   length_front : length (take n buffer) ≡ n
   length_front = let le = f.bound in omega (arith, length-take n buffer)
 
-  -- the answer, by what the bytes of this turn give with those that are left
+  -- The answer, by what the bytes of this turn give with those that are left.
   leads : (to : ℕ) (r : Result (Option SubtitleValue) StlFault)
       → to ≡ block + (n + 127) / 128
       → (tells_end r ≡ true → n < 128)
@@ -89,7 +88,7 @@ module _ {from : ℕ} {old mid new : Option (List ℕ)} {n block : ℕ} {begun :
         kept = kept;
       }
 
-  -- nothing came: the end of the file, or its end within a subtitle
+  -- Nothing came: the end of the file, or its end within a subtitle.
   pub leads_end : (r : Result (Option SubtitleValue) StlFault)
       → n ≡ 0
       → block ≤ most_blocks
@@ -102,7 +101,7 @@ module _ {from : ℕ} {old mid new : Option (List ℕ)} {n block : ℕ} {begun :
       leads block r (omega arith) (λ _. omega arith) (λ more none. rw (empty, none cut) gives)
       (λ s e. absurd (never s e))
 
-  -- a byte came, and no block may follow
+  -- A byte came, and no block may follow.
   pub leads_too_many : (n ≡ 0 → ⊥)
       → block ≡ most_blocks
       → Leads from (block + 1) old new (Err fault.TooManyBlocks)
@@ -113,7 +112,7 @@ module _ {from : ℕ} {old mid new : Option (List ℕ)} {n block : ℕ} {begun :
       (λ more _. rw full (outcome_full begun (take n buffer ++ more)
       (omega (arith, length-append (take n buffer) more)))) (λ s e. absurd cc)
 
-  -- a block that is cut
+  -- A block that is cut.
   pub leads_truncated : (n ≡ 0 → ⊥)
       → block < most_blocks
       → n < 128
@@ -134,7 +133,7 @@ module _ {from : ℕ} {old mid new : Option (List ℕ)} {n block : ℕ} {begun :
       (λ s e. absurd cc)
 
   module _ (few : block < most_blocks) (long : 128 ≤ n) where
-    -- what a whole block gives
+    -- What a whole block gives.
     one_block : (more : List ℕ)
         → outcome_at (most_blocks - block) begun (take n buffer ++ more)
         ≡ outcome_after (most_blocks - (block + 1))
@@ -143,11 +142,11 @@ module _ {from : ℕ} {old mid new : Option (List ℕ)} {n block : ℕ} {begun :
         (outcome_block (most_blocks - block) (most_blocks - (block + 1)) begun buffer more
         (omega arith) size)
 
-    -- its number
+    -- Its number.
     number : most_blocks - (most_blocks - (block + 1)) ≡ block + 1
     number = omega arith
 
-    -- a block with a fault
+    -- A block with a fault.
     pub leads_refused : (x : StlFault)
         → is_of_block x ≡ true
         → step_at begun buffer ≡ Err x
@@ -159,7 +158,7 @@ module _ {from : ℕ} {old mid new : Option (List ℕ)} {n block : ℕ} {begun :
         rw same (leads (block + 1) (Err x) (omega arith) whole
         (λ more _. one_block more ∙ rw (step, number) refl) (λ s e. absurd cc))
 
-    -- the last block of a subtitle
+    -- The last block of a subtitle.
     pub leads_given : (s : SubtitleValue)
         → step_at begun buffer ≡ Ok (Give s)
         → Leads from (block + 1) old new (Ok (Some s))
@@ -176,7 +175,7 @@ module _ {from : ℕ} {old mid new : Option (List ℕ)} {n block : ℕ} {begun :
         ∙ ap (drop (length front)) e ∙ drop_at front last (length front) refl in
         rw (← take_all n buffer (omega arith), same) at (step_gives begun buffer s step))
 
-    -- the blocks go on
+    -- The blocks go on.
     pub reads_on : (next : Option Begun)
         → step_at begun buffer ≡ Ok (More next)
         → HasRead from old new (block + 1) next
@@ -199,7 +198,7 @@ module _ {from : ℕ} {old mid new : Option (List ℕ)} {n block : ℕ} {begun :
 
 -- ---- what an answer says
 
--- the answer of a reader whose fields are known
+-- The answer of a reader whose fields are known.
 pub answers : (old new : ReaderValue) (bytes : List ℕ) (now : Option (List ℕ))
     (r : Result (Option SubtitleValue) StlFault)
     → old.progress ≡ Reading
@@ -211,7 +210,7 @@ answers old new bytes (Some rest) r is goes l =
     let gives = l.outcome rest l.ended in
     record { rest = rest; rest_is = refl; outcome = grind arith }
 
--- no file goes on with a first fault
+-- No file goes on with a first fault.
 pub refuses : (from to : ℕ) (old new : Option (List ℕ)) (x : StlFault)
     → Leads from to old new (Err x)
     → Refuses from to old new x
@@ -225,7 +224,7 @@ refuses from to old new x l = record {
       grind arith;
 }
 
--- one subtitle has one list of blocks
+-- One subtitle has one list of blocks.
 one_group : (s : SubtitleValue) (gs : List (List (List ℕ)))
     → AreBlocksOfEach (s ∷ []) gs
     → AreBlocksOf s (groups_of gs)
@@ -233,12 +232,12 @@ one_group s [] h = absurd h
 one_group s (g ∷ []) h = rw append-nil h.0
 one_group s (g ∷ x ∷ gs) h = absurd h.1
 
--- and none has none
+-- And none has none.
 no_group : (gs : List (List (List ℕ))) → AreBlocksOfEach [] gs → groups_of gs ≡ []
 no_group [] h = refl
 no_group (g ∷ gs) h = absurd h
 
--- blocks whose last one is kept
+-- Blocks whose last one is kept.
 ends_kept : (front b : List ℕ) (bs : List (List ℕ))
     → AllByRecursion IsBlock (b ∷ bs)
     → LastIsKept (front ++ joined (b ∷ bs))
@@ -247,7 +246,7 @@ ends_kept front b [] h k = k front b (ap (λ (x : List ℕ). front ++ x) (append
 ends_kept front b (c ∷ bs) h k = ends_kept (front ++ b) c bs h.1
     (λ start last e size. k start last (sym (append_assoc front b (joined (c ∷ bs))) ∙ e) size)
 
--- the blocks of a subtitle end with a kept one
+-- The blocks of a subtitle end with a kept one.
 ends_group : (s : SubtitleValue) (bs : List (List ℕ))
     → AreBlocksOf s (filter is_kept bs)
     → AllByRecursion IsBlock bs
@@ -256,7 +255,7 @@ ends_group : (s : SubtitleValue) (bs : List (List ℕ))
 ends_group s [] a h k = let no = a.blocks in absurd cc
 ends_group s (b ∷ bs) a h k = ends_kept [] b bs h k
 
--- a subtitle is that of the blocks that were taken
+-- A subtitle is that of the blocks that were taken.
 pub takes_subtitle : (from to : ℕ) (old new : Option (List ℕ)) (s : SubtitleValue)
     → Leads from to old new (Ok (Some s))
     → TakesSubtitle from to old new s
@@ -275,7 +274,7 @@ takes_subtitle from to old new s l =
       consumed = rw r.bytes at l.consumed;
     }
 
--- no subtitle is that of passed blocks alone
+-- No subtitle is that of passed blocks alone.
 pub takes_passed : (from to : ℕ) (old new : Option (List ℕ))
     → Leads from to old new (Ok None)
     → TakesPassed from to old new
@@ -292,5 +291,11 @@ takes_passed from to old new l =
       ended = l.ended refl;
     }
 
--- what bytes that lead to an answer say of it. For `next_into`.
+-- A fault names at most one block more than a file may have. For `next_into`.
+pub after_few : (block : ℕ) (f : StlFault)
+    → block ≤ most_blocks
+    → block_after block f ≤ most_blocks + 1
+after_few block f le = grind arith
+
+-- What bytes that lead to an answer say of it. For `next_into`.
 pub ruleset led = (answers, takes_subtitle, takes_passed, refuses)

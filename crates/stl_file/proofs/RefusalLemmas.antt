@@ -1,12 +1,11 @@
 -- The first question that the bytes of a file fail decides the refusal; main lemmas: refused_gsi,
 -- refused_block.
-use Rattle.std.proofs.Common.{◌≡◌, ℕ, zero, suc, ◌-◌, ◌≤◌, ◌⊎◌, Bool, true, false, List, []}
-use Rattle.std.proofs.Common.{◌∷◌, length, take, Option, Some, None, Result, Ok, Err, refl, sym}
-use Rattle.std.proofs.Common.{◌∙◌, ap, inl, inr, arith, get_or}
+use Rattle.std.proofs.Common.{◌≡◌, ℕ, zero, suc, ◌-◌, ◌≤◌, ◌⊎◌, Bool, true, false, List, [], ◌∷◌}
+use Rattle.std.proofs.Common.{length, take, Option, Some, None, Result, Ok, Err, refl, sym, ◌∙◌, ap}
+use Rattle.std.proofs.Common.{inl, inr, arith, get_or}
 use Rattle.std.proofs.lemmas.Bool.Decides.{nat_tests}
 use Rattle.std.proofs.lemmas.Slice.Eq.{bytes_eq-Decides}
-use Rattle.std.specs.Prelude.{◌&&◌, ◌==◌, not, nat_le, nat_lt, bytes_eq, IsOk}
-use Rattle.std.specs.Prelude.{if◌then◌else◌}
+use Rattle.std.specs.Prelude.{◌&&◌, ◌==◌, not, nat_le, nat_lt, bytes_eq, IsOk, if◌then◌else◌}
 use Rattle.std.specs.List.{AllByRecursion}
 use Rattle.sub_io.specs.Reading.{◌>>=◌}
 use Rattle.stl_file.specs.declared.fault.StlFault.{StlFault}
@@ -14,8 +13,8 @@ use Rattle.stl_file.specs.declared.fault.StlFault.TheVariants as fault
 use Rattle.stl_file.specs.Gsi.{cct, dfc, dsc, gsi_at, gsi_size, latin, level_1, level_2, stl_25}
 use Rattle.stl_file.specs.Gsi.{stl_30}
 use Rattle.stl_file.specs.Reader.{opened, opened_at}
-use Rattle.stl_file.specs.Reading.{Begun, More, closed, fails, first_at, kept_at}
-use Rattle.stl_file.specs.Reading.{outcome_at, step_at, time_at}
+use Rattle.stl_file.specs.Reading.{Begun, More, closed, fails, first_at, kept_at, outcome_at}
+use Rattle.stl_file.specs.Reading.{step_at, time_at}
 use Rattle.stl_file.specs.Refusal.{HasFewBlocks, HasTimes, IsRight, IsRightOfGsi, LawOfRefusedBlock}
 use Rattle.stl_file.specs.Refusal.{LawOfRefusedGsi, TellsFirst, asked, asked_of_block, asked_of_gsi}
 use Rattle.stl_file.specs.Refusal.{asked_of_kept, named_block}

@@ -2,8 +2,7 @@
 -- outcome_complete, outcome_sound.
 use Rattle.std.proofs.Common.{◌≡◌, ℕ, cond, List, [], ◌∷◌, ◌++◌, length, refl, sym, ap, ◌∙◌}
 use Rattle.std.proofs.Common.{append_assoc, arith, take, drop, Option, Some, None, Result, Ok, Err}
-use Rattle.std.proofs.Common.{subst, zero, suc, ◌+◌, ◌-◌, ◌<◌, ◌≤◌, length-append}
-use Rattle.std.proofs.Common.{inl, inr}
+use Rattle.std.proofs.Common.{subst, zero, suc, ◌+◌, ◌-◌, ◌<◌, ◌≤◌, length-append, inl, inr}
 use Rattle.std.specs.Prelude.{filter}
 use Rattle.std.specs.List.{AllByRecursion, flat_map}
 use Rattle.std.proofs.lemmas.Grind.{flat_map-append}
@@ -18,18 +17,18 @@ use Rattle.stl_file.specs.NormalForm.{Judged, subtitles_of, cons_all}
 use Rattle.stl_file.specs.Reading.{Begun, BlockStep, More, Give, Outcome, outcome_after, outcome_at}
 use Rattle.stl_file.specs.Reading.{step_at, closed, kept_at}
 use Rattle.stl_file.proofs.SubtitleBlocksLemmas.{kept_few, first_linked}
-use Rattle.stl_file.proofs.StepLemmas.{first_kept, further_kept, step_kept, step_passed}
-use Rattle.stl_file.proofs.StepLemmas.{Represents, step_sound}
+use Rattle.stl_file.proofs.StepLemmas.{first_kept, further_kept, step_kept, step_passed, Represents}
+use Rattle.stl_file.proofs.StepLemmas.{step_sound}
 use Rattle.stl_file.proofs.OutcomeLemmas.{outcome_full, outcome_step, outcome_end, outcome_short}
 use Rattle.stl_file.proofs.OutcomeLemmas.{outcome_block}
 
--- the blocks of each subtitle, one after the other
+-- The blocks of each subtitle, one after the other.
 abbrev pub groups_of : List (List (List ℕ)) → List (List ℕ)
 groups_of gs = flat_map (λ (g : List (List ℕ)). g) gs
 
 -- ---- completeness: the blocks of a file give its subtitles
 
--- what a step gives, it gives wherever what follows gives no less
+-- What a step gives, it gives wherever what follows gives no less.
 after_enough : (few room : ℕ) (f g : Option Begun → Outcome) (r : Result BlockStep StlFault)
     (ss : List SubtitleValue)
     → ((next : Option Begun) (ts : List SubtitleValue)
@@ -39,7 +38,7 @@ after_enough : (few room : ℕ) (f g : Option Begun → Outcome) (r : Result Blo
     → subtitles_of (outcome_after room g r) ≡ Ok ss
 after_enough few room f g r ss same e = grind arith
 
--- what the kept blocks give, they give with passed ones between them
+-- What the kept blocks give, they give with passed ones between them.
 kept_enough : (bs : List (List ℕ)) (begun : Option Begun) (few room : ℕ) (ss : List SubtitleValue)
     → AllByRecursion IsBlock bs
     → length bs ≤ few
@@ -62,7 +61,7 @@ kept_enough (b ∷ bs) begun few room ss h f le e =
           ) at e)
     ])
 
--- the blocks of a subtitle, from one on that was read, give it, and then what follows them
+-- The blocks of a subtitle, from one on that was read, give it, and then what follows them.
 blocks_give : (tail : List (List ℕ)) (room : ℕ) (begun : Option Begun) (b rest : List ℕ)
     (s : SubtitleValue) (count : ℕ)
     → kept_at begun b ≡ Ok (closed (ebn b) s count)
@@ -87,7 +86,7 @@ blocks_give (c ∷ tail) room begun b rest s count step linked few le =
     (omega arith) in
     grind (arith, nat_tests, append_assoc)
 
--- the blocks of subtitles give them
+-- The blocks of subtitles give them.
 groups_give : (ss : List SubtitleValue) (gs : List (List (List ℕ))) (room : ℕ)
     → AreBlocksOfEach ss gs
     → length (groups_of gs) ≤ room
@@ -106,7 +105,7 @@ groups_give (s ∷ ss) (g ∷ gs) room h le =
     (rw i.blocks at i.linked) (omega arith) (omega arith) in
     grind (arith, flat_map-append, append_assoc)
 
--- the blocks of a file from where a subtitle may begin give its subtitles and no fault
+-- The blocks of a file from where a subtitle may begin give its subtitles and no fault.
 pub outcome_complete : (bs : List (List ℕ)) (room : ℕ) (ss : List SubtitleValue)
     → IsRest room bs ss
     → subtitles_of (outcome_at room None (joined bs)) ≡ Ok ss
@@ -118,7 +117,7 @@ outcome_complete bs room ss r =
 
 -- ---- soundness: bytes that give subtitles are the blocks of them
 
--- the blocks that were read, where some of a subtitle were read before
+-- The blocks that were read, where some of a subtitle were read before.
 pub record Reads (room : ℕ) (before : List (List ℕ)) (b : List ℕ) (ss : List SubtitleValue) : Type 0
   where
     pub blocks : List (List ℕ)
@@ -129,7 +128,7 @@ pub record Reads (room : ℕ) (before : List (List ℕ)) (b : List ℕ) (ss : Li
     pub kept : before ++ filter is_kept blocks ≡ groups_of groups
     pub are_groups : AreBlocksOfEach ss groups
 
--- one block in front
+-- One block in front.
 in_front : (room : ℕ) (before k : List (List ℕ)) (b : List ℕ) (ss ts : List SubtitleValue)
     (groups : List (List (List ℕ)))
     → 128 ≤ length b
@@ -148,14 +147,14 @@ in_front room before k b ss ts groups le r kept are = record {
   are_groups = are;
 }
 
--- a list with a first subtitle
+-- A list with a first subtitle.
 cons_ok : (s : SubtitleValue) (j : Judged) (ss : List SubtitleValue)
     → cons_all s j ≡ Ok ss
     → (rest : List SubtitleValue) × (j ≡ Ok rest) × (ss ≡ s ∷ rest)
 cons_ok s (Ok rest) ss e = (rest, refl, cc)
 cons_ok s (Err f) ss e = absurd cc
 
--- one block that was read, and what follows
+-- One block that was read, and what follows.
 step_reads : (room : ℕ) (begun : Option Begun) (before : List (List ℕ)) (b : List ℕ)
     (ss : List SubtitleValue) (r : Result BlockStep StlFault)
     → 128 ≤ length b
@@ -180,7 +179,7 @@ step_reads room begun before b ss (Ok (Give s)) le rep e go all =
     (subst (λ (x : List SubtitleValue). AreBlocksOfEach x (own ∷ r.groups)) (sym c.2)
     (t, r.are_groups))
 
--- bytes that give subtitles and no fault are blocks of them
+-- Bytes that give subtitles and no fault are blocks of them.
 pub outcome_sound : (room : ℕ) (begun : Option Begun) (before : List (List ℕ)) (b : List ℕ)
     (ss : List SubtitleValue)
     → Represents begun before

@@ -1,8 +1,7 @@
 -- `step_at`: the blocks that are read without a fault are those of subtitles; main lemmas:
 -- step_sound, first_kept, further_kept, step_kept, step_passed.
-use Rattle.std.proofs.Common.{◌≡◌, ℕ, true, cond, List, [], ◌∷◌, ◌++◌, length}
-use Rattle.std.proofs.Common.{refl, arith, rules, length-append, Option, Some, None, Ok}
-use Rattle.std.proofs.Common.{◌+◌, ◌<◌, ◌≤◌, ◌⊎◌}
+use Rattle.std.proofs.Common.{◌≡◌, ℕ, true, cond, List, [], ◌∷◌, ◌++◌, length, refl, arith, rules}
+use Rattle.std.proofs.Common.{length-append, Option, Some, None, Ok, ◌+◌, ◌<◌, ◌≤◌, ◌⊎◌}
 use Rattle.std.specs.List.{AllByRecursion, flat_map}
 use Rattle.std.proofs.lemmas.Grind.{flat_map-append}
 use Rattle.std.proofs.lemmas.List.{append-nil}
@@ -16,7 +15,7 @@ use Rattle.stl_file.proofs.TimeCodeLemmas.{time_sound, time_complete}
 
 -- ---- a first block
 
--- a first block that was read begins the subtitle that was read
+-- A first block that was read begins the subtitle that was read.
 pub first_sound : (b : List ℕ) (s : SubtitleValue)
     → first_at b ≡ Ok s
     → Begins s b × (s.text ≡ text_of b)
@@ -29,21 +28,21 @@ first_sound b s e =
     let times : (time_at b 5 ≡ Ok s.tci) × (time_at b 9 ≡ Ok s.tco) = grind (arith, nat_tests) in
     search (rules, time_sound)
 
--- a block that begins a subtitle is read as its first
+-- A block that begins a subtitle is read as its first.
 first_complete : (b : List ℕ) (s : SubtitleValue)
     → Begins s b
     → first_at b ≡ Ok (record s { text = text_of b })
 unfolding first_at
 first_complete b s h = grind (arith, nat_tests, time_complete)
 
--- so it is kept
+-- So it is kept.
 pub first_kept : (s : SubtitleValue) (b : List ℕ)
     → Begins s b
     → kept_at None b ≡ Ok (closed (ebn b) (record s { text = text_of b }) 1)
 unfolding kept_at
 first_kept s b h = rw (first_complete b s h) refl
 
--- a further block of a subtitle is kept
+-- A further block of a subtitle is kept.
 pub further_kept : (o : Begun) (b : List ℕ)
     → BelongsTo o.subtitle.sgn o.subtitle.sn b
     → o.blocks < 9
@@ -55,11 +54,11 @@ further_kept o b belongs few = grind (arith, nat_tests)
 
 -- ---- subtitles that are not whole
 
--- a block of this SGN and SN that is not the last
+-- A block of this SGN and SN that is not the last.
 abbrev pub Within : ℕ → ℕ → List ℕ → Type 0
 Within sgn_is sn_is b = BelongsTo sgn_is sn_is b × (ebn b < 240)
 
--- the blocks of a subtitle before its last one
+-- The blocks of a subtitle before its last one.
 pub record IsOpen (s : SubtitleValue) (g : List (List ℕ)) : Type 0 where
   pub first : List ℕ
   pub others : List (List ℕ)
@@ -68,17 +67,17 @@ pub record IsOpen (s : SubtitleValue) (g : List (List ℕ)) : Type 0 where
   pub each : AllByRecursion (Within s.sgn s.sn) g
   pub text_is : s.text ≡ flat_map text_of g
 
--- the blocks so far of the subtitle that was begun
+-- The blocks so far of the subtitle that was begun.
 abbrev pub Represents : Option Begun → List (List ℕ) → Type 0
 Represents None kept = kept ≡ []
 Represents (Some o) kept = IsOpen o.subtitle kept × (length kept ≡ o.blocks) × (o.blocks ≤ 9)
 
--- what a step makes of the kept blocks
+-- What a step makes of the kept blocks.
 abbrev pub Reaches : List (List ℕ) → BlockStep → Type 0
 Reaches kept (More begun) = Represents begun kept
 Reaches kept (Give s) = AreBlocksOf s kept
 
--- one block more that is not the last
+-- One block more that is not the last.
 all_push : (sgn_is sn_is : ℕ) (g : List (List ℕ)) (b : List ℕ)
     → AllByRecursion (Within sgn_is sn_is) g
     → Within sgn_is sn_is b
@@ -86,7 +85,7 @@ all_push : (sgn_is sn_is : ℕ) (g : List (List ℕ)) (b : List ℕ)
 all_push sgn_is sn_is [] b h w = (w, tt)
 all_push sgn_is sn_is (x ∷ g) b h w = (h.0, all_push sgn_is sn_is g b h.1 w)
 
--- the last block links them
+-- The last block links them.
 chain_push : (sgn_is sn_is : ℕ) (g : List (List ℕ)) (b : List ℕ)
     → AllByRecursion (Within sgn_is sn_is) g
     → BelongsTo sgn_is sn_is b
@@ -97,7 +96,7 @@ chain_push sgn_is sn_is (x ∷ []) b h w e = (h.0.0, h.0.1, (w, e))
 chain_push sgn_is sn_is (x ∷ y ∷ g) b h w e =
     (h.0.0, h.0.1, chain_push sgn_is sn_is (y ∷ g) b h.1 w e)
 
--- a kept block that was read belongs to the subtitle
+-- A kept block that was read belongs to the subtitle.
 kept_sound : (begun : Option Begun) (kept : List (List ℕ)) (b : List ℕ) (r : BlockStep)
     → length b ≡ 128
     → cf b ≡ 0
@@ -118,7 +117,7 @@ kept_sound begun kept b r size none e h k =
       append-nil,
     )
 
--- a block that was read without a fault goes with the kept ones, or is passed over
+-- A block that was read without a fault goes with the kept ones, or is passed over.
 pub step_sound : (begun : Option Begun) (kept : List (List ℕ)) (b : List ℕ) (r : BlockStep)
     → length b ≡ 128
     → Represents begun kept
@@ -127,14 +126,14 @@ pub step_sound : (begun : Option Begun) (kept : List (List ℕ)) (b : List ℕ) 
 unfolding step_at
 step_sound begun kept b r size h e = grind (arith, nat_tests, append-nil, kept_sound)
 
--- a subtitle is given at a kept block
+-- A subtitle is given at a kept block.
 pub step_gives : (begun : Option Begun) (b : List ℕ) (s : SubtitleValue)
     → step_at begun b ≡ Ok (Give s)
     → is_kept b ≡ true
 unfolding step_at
 step_gives begun b s e = grind (arith, nat_tests)
 
--- a block of a subtitle is kept
+-- A block of a subtitle is kept.
 pub step_kept : (begun : Option Begun) (b : List ℕ)
     → (ebn b < 240) ⊎ (ebn b ≡ 255)
     → cf b ≡ 0
@@ -142,7 +141,7 @@ pub step_kept : (begun : Option Begun) (b : List ℕ)
 unfolding step_at
 step_kept begun b e c = grind (arith, nat_tests)
 
--- a comment or user data is passed over
+-- A comment or user data is passed over.
 pub step_passed : (begun : Option Begun) (b : List ℕ)
     → is_passed b ≡ true
     → step_at begun b ≡ Ok (More begun)

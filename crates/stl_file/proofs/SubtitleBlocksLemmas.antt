@@ -14,7 +14,7 @@ use Rattle.stl_file.proofs.SubtitleLemmas.{text_short, has_no_unused-texts}
 
 -- ---- lists of blocks
 
--- blocks have 128 bytes each
+-- Blocks have 128 bytes each.
 pub length-joined : (bs : List (List ℕ))
     → AllByRecursion IsBlock bs
     → length (joined bs) ≡ 128 * length bs
@@ -22,20 +22,20 @@ length-joined [] h = refl
 length-joined (x ∷ bs) h =
     omega (arith, h.0, length-append x (joined bs), length-joined bs h.1)
 
--- no more blocks are kept than there are
+-- No more blocks are kept than there are.
 pub kept_few : (bs : List (List ℕ)) → length (filter is_kept bs) ≤ length bs
 kept_few bs = omega (arith, length-filter is_kept bs, count_by-le-length is_kept bs)
 
 -- ---- linked blocks
 
--- the first of linked blocks
+-- The first of linked blocks.
 pub first_linked : (sgn_is sn_is : ℕ) (b : List ℕ) (bs : List (List ℕ))
     → AreLinked sgn_is sn_is (b ∷ bs)
     → BelongsTo sgn_is sn_is b
 first_linked sgn_is sn_is b [] h = h.0
 first_linked sgn_is sn_is b (c ∷ bs) h = h.0
 
--- one block in front of linked ones
+-- One block in front of linked ones.
 pub linked_cons : (sgn_is sn_is : ℕ) (b : List ℕ) (bs : List (List ℕ))
     → BelongsTo sgn_is sn_is b
     → ebn b < 240
@@ -44,7 +44,7 @@ pub linked_cons : (sgn_is sn_is : ℕ) (b : List ℕ) (bs : List (List ℕ))
 linked_cons sgn_is sn_is b [] h lt c = absurd c
 linked_cons sgn_is sn_is b (x ∷ bs) h lt c = (h, lt, c)
 
--- linked blocks have at most 112 bytes of text each
+-- Linked blocks have at most 112 bytes of text each.
 pub linked_text : (sgn_is sn_is : ℕ) (g : List (List ℕ))
     → AreLinked sgn_is sn_is g
     → length (flat_map text_of g) ≤ 112 * length g
@@ -57,7 +57,7 @@ linked_text sgn_is sn_is (b ∷ x ∷ g) c =
     let r = linked_text sgn_is sn_is (x ∷ g) c.2 in
     omega arith
 
--- the subtitle of a file's blocks is one
+-- The subtitle of a file's blocks is one.
 pub blocks_subtitle : (s : SubtitleValue) (g : List (List ℕ)) → AreBlocksOf s g → IsSubtitle s
 blocks_subtitle s g h =
     let size = linked_text s.sgn s.sn g h.linked in

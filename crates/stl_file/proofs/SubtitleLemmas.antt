@@ -1,7 +1,6 @@
 -- Texts without unused space; main lemmas: used, before_clean, text_short.
-use Rattle.std.proofs.Common.{◌≡◌, ℕ, true, List, [], ◌∷◌, ◌++◌, length, refl}
-use Rattle.std.proofs.Common.{append_assoc, arith, take, drop, zero, suc, ◌+◌, ◌<◌, ◌≤◌}
-use Rattle.std.proofs.Common.{get_or, replicate}
+use Rattle.std.proofs.Common.{◌≡◌, ℕ, true, List, [], ◌∷◌, ◌++◌, length, refl, append_assoc, arith}
+use Rattle.std.proofs.Common.{take, drop, zero, suc, ◌+◌, ◌<◌, ◌≤◌, get_or, replicate}
 use Rattle.std.specs.List.{flat_map}
 use Rattle.std.proofs.lemmas.List.{append-nil, length-drop, drop_all, drop_more, take_all}
 use Rattle.std.proofs.lemmas.List.{take_more}
@@ -10,7 +9,7 @@ use Rattle.std.proofs.lemmas.Bool.Decides.{nat_tests}
 use Rattle.stl_file.specs.Tti.{text_of, unused_space, tf, before_unused}
 use Rattle.stl_file.specs.Subtitle.{has_no_unused}
 
--- up to a byte that is no unused space a byte more is used
+-- Up to a byte that is no unused space a byte more is used.
 pub used_more : (xs : List ℕ) (i : ℕ)
     → i < length xs
     → (get_or xs i 0 ≡ unused_space → ⊥)
@@ -18,24 +17,24 @@ pub used_more : (xs : List ℕ) (i : ℕ)
 used_more xs i lt ne =
     rw (take_more xs i 0 lt, append_assoc, drop_more xs i 0 lt, ne_eqb _ unused_space ne) refl
 
--- nothing is used from an unused space on
+-- Nothing is used from an unused space on.
 pub used_up : (xs : List ℕ) (i : ℕ)
     → i < length xs
     → get_or xs i 0 ≡ unused_space
     → take i xs ++ before_unused (drop i xs) ≡ take i xs
 used_up xs i lt e = rw (drop_more xs i 0 lt, e) (append-nil (take i xs))
 
--- all is used where there is none
+-- All is used where there is none.
 pub used_all : (xs : List ℕ) (i : ℕ)
     → length xs ≤ i
     → take i xs ++ before_unused (drop i xs) ≡ take (length xs) xs
 used_all xs i le =
     rw (drop_all i xs le, take_all i xs le, take_all (length xs) xs (omega arith)) (append-nil xs)
 
--- what `used_of` needs
+-- What `used_of` needs.
 pub ruleset used = (used_more, used_up, used_all)
 
--- the two parts of a text
+-- The two parts of a text.
 pub has_no_unused-append : (xs ys : List ℕ)
     → has_no_unused xs ≡ true
     → has_no_unused ys ≡ true
@@ -43,22 +42,22 @@ pub has_no_unused-append : (xs ys : List ℕ)
 has_no_unused-append [] ys h k = k
 has_no_unused-append (x ∷ xs) ys h k = grind (arith, nat_tests, has_no_unused-append xs ys)
 
--- what stands before the first unused space has none
+-- What stands before the first unused space has none.
 pub has_no_unused-before_unused : (xs : List ℕ) → has_no_unused (before_unused xs) ≡ true
 has_no_unused-before_unused [] = refl
 has_no_unused-before_unused (x ∷ xs) = grind (arith, nat_tests, has_no_unused-before_unused xs)
 
--- what `push_text` needs
+-- What `push_text` needs.
 pub ruleset cleaned = (has_no_unused-append, has_no_unused-before_unused)
 
--- so the joined text of blocks has none
+-- So the joined text of blocks has none.
 pub has_no_unused-texts : (g : List (List ℕ)) → has_no_unused (flat_map text_of g) ≡ true
 has_no_unused-texts [] = refl
 has_no_unused-texts (b ∷ g) =
     has_no_unused-append (text_of b) (flat_map text_of g) (has_no_unused-before_unused (tf b))
     (has_no_unused-texts g)
 
--- the front of a text has none
+-- The front of a text has none.
 pub clean_take : (n : ℕ) (xs : List ℕ)
     → has_no_unused xs ≡ true
     → has_no_unused (take n xs) ≡ true
@@ -66,7 +65,7 @@ clean_take zero xs h = refl
 clean_take (suc n) [] h = refl
 clean_take (suc n) (x ∷ xs) h = grind (arith, nat_tests, clean_take n xs)
 
--- the back of a text has none
+-- The back of a text has none.
 pub clean_drop : (n : ℕ) (xs : List ℕ)
     → has_no_unused xs ≡ true
     → has_no_unused (drop n xs) ≡ true
@@ -74,7 +73,7 @@ clean_drop zero xs h = h
 clean_drop (suc n) [] h = refl
 clean_drop (suc n) (x ∷ xs) h = clean_drop n xs (grind (arith, nat_tests))
 
--- a text after which unused space was put comes back
+-- A text after which unused space was put comes back.
 pub before_clean : (xs : List ℕ) (k : ℕ)
     → has_no_unused xs ≡ true
     → before_unused (xs ++ replicate k unused_space) ≡ xs
@@ -82,11 +81,11 @@ before_clean [] zero h = refl
 before_clean [] (suc k) h = refl
 before_clean (x ∷ xs) k h = grind (arith, nat_tests, before_clean xs k)
 
--- what stands before the first unused space is no longer
+-- What stands before the first unused space is no longer.
 before_short : (xs : List ℕ) → length (before_unused xs) ≤ length xs
 before_short [] = omega arith
 before_short (x ∷ xs) = grind (arith, nat_tests, before_short xs)
 
--- a block has at most 112 bytes of text
+-- A block has at most 112 bytes of text.
 pub text_short : (b : List ℕ) → length b ≡ 128 → length (text_of b) ≤ 112
 text_short b size = omega (arith, before_short (tf b), length-drop 16 b)

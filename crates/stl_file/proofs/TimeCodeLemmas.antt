@@ -8,34 +8,34 @@ use Rattle.stl_file.specs.Gsi.{field}
 use Rattle.stl_file.specs.Reading.{time_at}
 use Rattle.stl_file.specs.TimeCode.{day, frame_of, is_time_code}
 
--- a byte of a field
+-- A byte of a field.
 field_byte : (b : List ℕ) (place i : ℕ)
     → i < 4
     → get_or (field place 4 b) i 0 ≡ get_or b (place + i) 0
 field_byte b place i lt = get_or-take 4 (drop place b) i 0 lt ∙ get_or-drop place b i 0
 
--- the time code at a place, by the field there. For `time_in` and `time_out`.
+-- The time code at a place, by the field there. For `time_in` and `time_out`.
 pub time_at_field : (b : List ℕ) (place : ℕ) → time_at b place ≡ time_at (field place 4 b) 0
 unfolding time_at
 time_at_field b place = grind (arith, field_byte b place)
 
--- a time code that was read stands there
+-- A time code that was read stands there.
 pub time_sound : (b : List ℕ) (place frame : ℕ) → time_at b place ≡ Ok frame
     → IsTimeAt b place frame
 unfolding time_at
 time_sound b place frame e = grind (arith, nat_tests)
 
--- a time code that stands there is read
+-- A time code that stands there is read.
 pub time_complete : (b : List ℕ) (place frame : ℕ) → IsTimeAt b place frame
     → time_at b place ≡ Ok frame
 unfolding time_at
 time_complete b place frame h = grind (arith, nat_tests)
 
--- the frame of a time code is one of the day
+-- The frame of a time code is one of the day.
 pub in_day : (h m s f : ℕ) → is_time_code h m s f ≡ true → frame_of h m s f < day
 in_day h m s f e = grind (arith, nat_tests)
 
--- the bytes of a time code are one
+-- The bytes of a time code are one.
 pub time_in_range : (f : ℕ)
     → f < day
     → is_time_code (f / 90000) ((f / 1500) % 60) ((f / 25) % 60) (f % 25) ≡ true

@@ -32,23 +32,23 @@ abbrev pub normal_number_and_name : NormalFault → ℕ × List ℕ
 normal_number_and_name (Refused fault block) = number_and_name fault
 normal_number_and_name Write = (29, codes "Write")
 
--- the bytes of the file are at fault, and neither the device nor a fault before
+-- The bytes of the file are at fault, and neither the device nor a fault before.
 abbrev pub is_format : StlFault → Bool
 is_format fault.Read = false
 is_format fault.Ended = false
 is_format _ = true
 
--- the source failed
+-- The source failed.
 abbrev pub is_read : StlFault → Bool
 is_read fault.Read = true
 is_read _ = false
 
--- the sink failed
+-- The sink failed.
 abbrev pub is_write : NormalFault → Bool
 is_write Write = true
 is_write _ = false
 
--- a block's own bytes or its place among the blocks of its subtitle are at fault
+-- A block's own bytes or its place among the blocks of its subtitle are at fault.
 abbrev pub is_of_block : StlFault → Bool
 is_of_block fault.Extension = true
 is_of_block fault.Cumulative = true
@@ -61,7 +61,7 @@ is_of_block fault.Sequence = true
 is_of_block fault.TooLong = true
 is_of_block _ = false
 
--- the file ends too early: only its end is at fault, and more bytes might cure it
+-- The file ends too early: only its end is at fault, and more bytes might cure it.
 abbrev pub is_cut : StlFault → Bool
 is_cut fault.Truncated = true
 is_cut fault.Unfinished = true

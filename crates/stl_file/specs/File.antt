@@ -6,7 +6,7 @@ use Rattle.stl_file.specs.Subtitle.{SubtitleValue}
 use Rattle.stl_file.specs.SubtitleBlocks.{joined, IsRest}
 use Rattle.stl_file.specs.Gsi.{IsGsi}
 
--- the bytes s are a file with the GSI block g and the subtitles ts
+-- The bytes s are a file with the GSI block g and the subtitles ts.
 pub record IsFile (s g : List ℕ) (ts : List SubtitleValue) : Type 0 where
   pub gsi : IsGsi g
   pub blocks : List (List ℕ)

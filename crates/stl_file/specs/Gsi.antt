@@ -20,13 +20,12 @@
 --   TNS  243   5   number of subtitles
 --
 -- DFC, DSC and CCT decide whether a file is taken; all other bytes are kept and not looked at.
-use Rattle.std.specs.Prelude.{◌≡◌, ℕ, ◌+◌, ◌/◌, ◌%◌, not, ◌&&◌, ◌==◌, if◌then◌else◌, ◌⊎◌}
-use Rattle.std.specs.Prelude.{List, [], ◌∷◌, ◌++◌, length, take, drop, slice_index, bytes_eq}
-use Rattle.std.specs.Prelude.{Result, Ok, Err}
+use Rattle.std.specs.Prelude.{◌≡◌, ℕ, ◌+◌, ◌/◌, ◌%◌, not, ◌&&◌, ◌==◌, if◌then◌else◌, ◌⊎◌, List, []}
+use Rattle.std.specs.Prelude.{◌∷◌, ◌++◌, length, take, drop, slice_index, bytes_eq, Result, Ok, Err}
 use Rattle.stl_file.specs.declared.fault.StlFault.{StlFault}
 use Rattle.stl_file.specs.declared.fault.StlFault.TheVariants as fault
 
--- bytes of a GSI block
+-- Bytes of a GSI block.
 abbrev pub gsi_size : ℕ
 gsi_size = 1024
 
@@ -46,34 +45,34 @@ dsc g = slice_index g 11
 abbrev pub cct : List ℕ → List ℕ
 cct g = field 12 2 g
 
--- the DFC "STL25.01": 25 frames a second
+-- The DFC "STL25.01": 25 frames a second.
 abbrev pub stl_25 : List ℕ
 stl_25 = 0x53 ∷ 0x54 ∷ 0x4C ∷ 0x32 ∷ 0x35 ∷ 0x2E ∷ 0x30 ∷ 0x31 ∷ []
 
--- the DFC "STL30.01": 30 frames a second
+-- The DFC "STL30.01": 30 frames a second.
 abbrev pub stl_30 : List ℕ
 stl_30 = 0x53 ∷ 0x54 ∷ 0x4C ∷ 0x33 ∷ 0x30 ∷ 0x2E ∷ 0x30 ∷ 0x31 ∷ []
 
--- the DSC "1": level 1 Teletext
+-- The DSC "1": level 1 Teletext.
 abbrev pub level_1 : ℕ
 level_1 = 0x31
 
--- the DSC "2": level 2 Teletext
+-- The DSC "2": level 2 Teletext.
 abbrev pub level_2 : ℕ
 level_2 = 0x32
 
--- the CCT "00": the Latin table
+-- The CCT "00": the Latin table.
 abbrev pub latin : List ℕ
 latin = 0x30 ∷ 0x30 ∷ []
 
--- a GSI block that is taken: 25 frames a second, Teletext of level 1 or 2, the Latin table
+-- A GSI block that is taken: 25 frames a second, Teletext of level 1 or 2, the Latin table.
 pub record IsGsi (g : List ℕ) : Type 0 where
   pub size : length g ≡ gsi_size
   pub format : dfc g ≡ stl_25
   pub display : (dsc g ≡ level_1) ⊎ (dsc g ≡ level_2)
   pub alphabet : cct g ≡ latin
 
--- the block itself, or its first fault
+-- The block itself, or its first fault.
 unfoldable pub gsi_at : List ℕ → Result (List ℕ) StlFault
 gsi_at g =
     if not (bytes_eq (dfc g) stl_25) && not (bytes_eq (dfc g) stl_30) then Err fault.Format
@@ -82,11 +81,11 @@ gsi_at g =
     else if not (bytes_eq (cct g) latin) then Err fault.Alphabet
     else Ok g
 
--- the ASCII digit of a number below ten
+-- The ASCII digit of a number below ten.
 abbrev pub digit : ℕ → ℕ
 digit n = 0x30 + n
 
--- five decimal digits, with zeros in front
+-- Five decimal digits, with zeros in front.
 abbrev pub five_digits : ℕ → List ℕ
 five_digits n =
     digit (n / 10000) ∷ digit ((n / 1000) % 10) ∷ digit ((n / 100) % 10)

@@ -107,7 +107,7 @@ en g = field 309 32 g
 abbrev pub ecd : List ℕ → List ℕ
 ecd g = field 341 32 g
 
--- the spare bytes
+-- The spare bytes.
 abbrev pub spare : List ℕ → List ℕ
 spare g = field 373 75 g
 

@@ -1,4 +1,5 @@
--- What the two passes of `normal` need to know of the subtitles of a file.
+-- What the two passes of `normal` need to know of the subtitles of a file. No public clause cites
+-- this.
 use Rattle.std.specs.Prelude.{ℕ, ◌+◌, List, [], length, Bool, true, false, Result, Ok, Err}
 use Rattle.stl_file.specs.declared.counts.Counts.{Counts}
 use Rattle.stl_file.specs.declared.fault.StlFault.{StlFault}
@@ -7,17 +8,17 @@ use Rattle.stl_file.specs.declared.fault.NormalFault.TheVariants.{Refused}
 use Rattle.stl_file.specs.Subtitle.{SubtitleValue}
 use Rattle.stl_file.specs.NormalForm.{Judged, all_blocks, cons_all}
 
--- the subtitles of a file that was not refused
+-- The subtitles of a file that was not refused.
 abbrev pub given : Judged → List SubtitleValue
 given (Ok ts) = ts
 given (Err f) = []
 
--- how many blocks and subtitles the normal form has
-abbrev pub counted : Judged → Result Counts NormalFault
-counted (Ok ts) = Ok (record { tnb = length (all_blocks ts); tns = length ts })
-counted (Err f) = Err f
+-- How many blocks and subtitles the normal form has.
+abbrev pub normal_counts : Judged → Result Counts NormalFault
+normal_counts (Ok ts) = Ok (record { tnb = length (all_blocks ts); tns = length ts })
+normal_counts (Err f) = Err f
 
--- counts with those of what is left
+-- Counts with those of what is left.
 abbrev pub counted_on : Counts → Result Counts NormalFault → Result Counts NormalFault
 counted_on c (Ok d) = Ok (record { tnb = c.tnb + d.tnb; tns = c.tns + d.tns })
 counted_on c (Err f) = Err f

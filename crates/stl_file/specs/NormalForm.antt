@@ -1,11 +1,10 @@
 -- The normal form of a subtitle file (own): its GSI block with the counts of what follows, and each
 -- subtitle in the fewest blocks, without comments and user data.
-use Rattle.std.specs.Prelude.{◌≡◌, ℕ, zero, suc, ◌-◌, ◌+◌, ◌/◌, ◌%◌, List, [], ◌∷◌, ◌++◌}
-use Rattle.std.specs.Prelude.{length, take, drop, replicate, Option, Result, Ok, Err}
+use Rattle.std.specs.Prelude.{◌≡◌, ℕ, zero, suc, ◌-◌, ◌+◌, ◌/◌, ◌%◌, List, [], ◌∷◌, ◌++◌, length}
+use Rattle.std.specs.Prelude.{take, drop, replicate, Option, Result, Ok, Err}
 use Rattle.std.specs.List.{flat_map}
-use Rattle.std.specs.Io.KnownBytes.{Keeps}
+use Rattle.std.specs.Io.KnownBytes.{Keeps, Appends}
 use Rattle.sub_io.specs.Device.{AppendsPrefix}
-use Rattle.std.specs.Io.KnownBytes.{Appends}
 use Rattle.stl_file.specs.declared.fault.NormalFault.{NormalFault}
 use Rattle.stl_file.specs.declared.fault.NormalFault.TheVariants.{Refused, Write}
 use Rattle.stl_file.specs.TimeCode.{time_bytes}
@@ -25,11 +24,11 @@ block_head s ebn =
     s.sgn ∷ (s.sn % 256) ∷ (s.sn / 256) ∷ ebn ∷ not_cumulative
     ∷ (time_bytes s.tci ++ (time_bytes s.tco ++ (s.vp ∷ s.jc ∷ no_comment ∷ [])))
 
--- a text field: a piece of text, and unused space up to 112 bytes
+-- A text field: a piece of text, and unused space up to 112 bytes.
 abbrev pub text_field : List ℕ → List ℕ
 text_field piece = piece ++ replicate (112 - length piece) unused_space
 
--- a block of a subtitle with this EBN and this piece of its text
+-- A block of a subtitle with this EBN and this piece of its text.
 unfoldable pub block_of : SubtitleValue → ℕ → List ℕ → List ℕ
 block_of s ebn piece = block_head s ebn ++ text_field piece
 
@@ -39,40 +38,40 @@ blocks_from s zero ebn text = block_of s last_block text ∷ []
 blocks_from s (suc full) ebn text =
     block_of s ebn (take 112 text) ∷ blocks_from s full (ebn + 1) (drop 112 text)
 
--- the pieces of 112 bytes before the last piece of a text
+-- The pieces of 112 bytes before the last piece of a text.
 abbrev pub full_pieces : List ℕ → ℕ
 full_pieces text = (length text - 1) / 112
 
--- the fewest blocks that hold a subtitle, at least one
+-- The fewest blocks that hold a subtitle, at least one.
 abbrev pub blocks_of : SubtitleValue → List (List ℕ)
 blocks_of s = blocks_from s (full_pieces s.text) 0x00 s.text
 
 -- ---- the whole file
 
--- the blocks of all subtitles
+-- The blocks of all subtitles.
 abbrev pub all_blocks : List SubtitleValue → List (List ℕ)
 all_blocks ts = flat_map blocks_of ts
 
--- the GSI block with TNB and TNS as the subtitles have them
+-- The GSI block with TNB and TNS as the subtitles have them.
 abbrev pub counted_gsi : List ℕ → List SubtitleValue → List ℕ
 counted_gsi g ts = with_counts (length (all_blocks ts)) (length ts) g
 
--- the normal form
+-- The normal form.
 abbrev pub normal_form : List ℕ → List SubtitleValue → List ℕ
 normal_form g ts = counted_gsi g ts ++ joined (all_blocks ts)
 
 -- ---- what is given, as one list
 
--- all subtitles of a file, or its first fault with its block
+-- All subtitles of a file, or its first fault with its block.
 abbrev pub Judged : Type 0
 Judged = Result (List SubtitleValue) NormalFault
 
--- one subtitle in front
+-- One subtitle in front.
 abbrev pub cons_all : SubtitleValue → Judged → Judged
 cons_all s (Ok ss) = Ok (s ∷ ss)
 cons_all s (Err f) = Err f
 
--- all subtitles, or the first fault with its block
+-- All subtitles, or the first fault with its block.
 abbrev pub subtitles_of : Outcome → Judged
 subtitles_of ends = Ok []
 subtitles_of (fails f block) = Err (Refused f block)
@@ -80,14 +79,14 @@ subtitles_of (gives s block o) = cons_all s (subtitles_of o)
 
 -- ---- what `normal` does
 
--- the normal form of the file s was written, with n subtitles
+-- The normal form of the file s was written, with n subtitles.
 pub record WritesNormal (s : List ℕ) (old new : Option (List ℕ)) (n : ℕ) : Type 0 where
   pub subtitles : List SubtitleValue
   pub is_file : IsFile s (take gsi_size s) subtitles
   pub count : n ≡ length subtitles
   pub wrote : Appends old new (normal_form (take gsi_size s) subtitles)
 
--- a prefix of the normal form of the file s was written
+-- A prefix of the normal form of the file s was written.
 pub record WritesPrefix (s : List ℕ) (old new : Option (List ℕ)) : Type 0 where
   pub subtitles : List SubtitleValue
   pub is_file : IsFile s (take gsi_size s) subtitles

@@ -1,7 +1,6 @@
 -- A reader of a subtitle file, and what each of its calls takes and leaves.
 use Rattle.std.specs.Prelude.{◌≡◌, ⊤, ℕ, ◌+◌, ◌-◌, ◌/◌, ◌≤◌, Bool, true, false, nat_lt}
-use Rattle.std.specs.Prelude.{if◌then◌else◌}
-use Rattle.std.specs.Prelude.{List, [], ◌∷◌, ◌++◌, length, take, drop, filter}
+use Rattle.std.specs.Prelude.{if◌then◌else◌, List, [], ◌∷◌, ◌++◌, length, take, drop, filter}
 use Rattle.std.specs.Prelude.{Option, Some, None, Result, Ok, Err}
 use Rattle.std.specs.Io.KnownBytes.{Consumes, IsAtEnd}
 use Rattle.std.specs.List.{AllByRecursion}
@@ -17,14 +16,14 @@ use Rattle.stl_file.specs.SubtitleBlocks.{joined, IsBlock, AreBlocksOf, IsRest}
 use Rattle.stl_file.specs.Reading.{Outcome, ends, fails, gives, outcome_at}
 use Rattle.stl_file.specs.File.{IsFile}
 
--- a reader: the GSI block, the last TTI block that was read or begun (0 before the first), and how
--- far it has come
+-- A reader: the GSI block, the last TTI block that was read or begun (0 before the first), and how
+-- far it has come.
 pub record ReaderValue : Type 0 where
   pub gsi : List ℕ
   pub block : ℕ
   pub progress : Progress
 
--- a reader counts up to 99,999 blocks; only a fault can name one more
+-- A reader counts up to 99,999 blocks; only a fault can name one more.
 abbrev pub HasPlace : Progress → ℕ → Type 0
 HasPlace Broken block = block ≤ most_blocks + 1
 HasPlace _ block = block ≤ most_blocks
@@ -38,21 +37,21 @@ given_subtitle (Err f) s = Err f
 
 -- ---- what is left to be given
 
--- what these bytes give after `block` TTI blocks, where the next one begins a subtitle
+-- What these bytes give after `block` TTI blocks, where the next one begins a subtitle.
 abbrev pub outcome_from : ℕ → List ℕ → Outcome
 outcome_from block b = outcome_at (most_blocks - block) None b
 
--- what a reader has still to give, where these bytes are left
+-- What a reader has still to give, where these bytes are left.
 abbrev pub outcome_in : Progress → ℕ → List ℕ → Outcome
 outcome_in Reading block b = outcome_from block b
 outcome_in AtEnd block b = ends
 outcome_in Broken block b = fails fault.Ended block
 
--- what is left to be given by a reader
+-- What is left to be given by a reader.
 abbrev pub outcome_left : ReaderValue → List ℕ → Outcome
 outcome_left r b = outcome_in r.progress r.block b
 
--- what an answer says of all that was left, where the reader and the bytes are left so
+-- What an answer says of all that was left, where the reader and the bytes are left so.
 abbrev pub outcome_with : ReaderValue → List ℕ → Result (Option SubtitleValue) StlFault → Outcome
 outcome_with r rest (Err f) = fails f r.block
 outcome_with r rest (Ok None) = ends
@@ -68,31 +67,31 @@ pub record Answers (old : ReaderValue) (bytes : List ℕ) (new : ReaderValue) (n
 
 -- ---- the same within one call
 
--- the block that a fault names: one block too many and the block of a byte that could not be read
--- come after the last block
+-- The block that a fault names: one block too many and the block of a byte that could not be read
+-- come after the last block.
 abbrev pub block_after : ℕ → StlFault → ℕ
 block_after block fault.TooManyBlocks = block + 1
 block_after block fault.Read = block + 1
 block_after block _ = block
 
--- the block that an answer names, where this is the last block that was read or begun
+-- The block that an answer names, where this is the last block that was read or begun.
 abbrev pub block_by : ℕ → Result (Option SubtitleValue) StlFault → ℕ
 block_by block (Err f) = block_after block f
 block_by block (Ok found) = block
 
--- what an answer that names this block says of all that was left, where `rest` is left after it
+-- What an answer that names this block says of all that was left, where `rest` is left after it.
 abbrev pub outcome_by : ℕ → List ℕ → Result (Option SubtitleValue) StlFault → Outcome
 outcome_by block rest (Err f) = fails f block
 outcome_by block rest (Ok None) = ends
 outcome_by block rest (Ok (Some s)) = gives s block (outcome_from block rest)
 
--- the answer is told of the end of the file, and more bytes might change it
+-- The answer is told of the end of the file, and more bytes might change it.
 abbrev pub tells_end : Result (Option SubtitleValue) StlFault → Bool
 tells_end (Err f) = is_cut f
 tells_end (Ok None) = true
 tells_end (Ok (Some s)) = false
 
--- the last block of these bytes is no passed block
+-- The last block of these bytes is no passed block.
 abbrev pub LastIsKept : List ℕ → Type 0
 LastIsKept bytes =
     (front last : List ℕ) → bytes ≡ front ++ last → IsBlock last → is_kept last ≡ true
@@ -131,7 +130,7 @@ pub record TakesSubtitle (from to : ℕ) (old new : Option (List ℕ)) (s : Subt
     pub ends : EndsKept blocks
     pub consumed : Consumes old new (joined blocks)
 
--- the bytes taken are passed blocks alone, and the end of the file comes after them
+-- The bytes taken are passed blocks alone, and the end of the file comes after them.
 pub record TakesPassed (from to : ℕ) (old new : Option (List ℕ)) : Type 0 where
   pub blocks : List (List ℕ)
   pub counted : from + length blocks ≡ to
@@ -164,7 +163,7 @@ NamesFrom block (fails fault.Unfinished at) = block ≤ at + 1
 NamesFrom block (fails f at) = block ≤ at
 NamesFrom block (gives s at outcome) = (block ≤ at) × NamesFrom block outcome
 
--- the block of the byte that stands after n bytes of a file: 0 is the GSI block
+-- The block of the byte that stands after n bytes of a file: 0 is the GSI block.
 abbrev pub block_of_byte : ℕ → ℕ
 block_of_byte n = if nat_lt n gsi_size then 0 else (n - gsi_size) / 128 + 1
 
@@ -177,7 +176,7 @@ pub record FailsReading (from to : ℕ) (old new : Option (List ℕ)) : Type 0 w
   pub block : to ≡ from + length bytes / 128 + 1
   pub none : (more : List ℕ) → NamesFrom to (outcome_from from (bytes ++ more))
 
--- how far a reader has come after an answer
+-- How far a reader has come after an answer.
 abbrev pub progress_after : Progress → Result (Option SubtitleValue) StlFault → Progress
 progress_after p (Err f) = Broken
 progress_after p (Ok None) = AtEnd
@@ -185,12 +184,12 @@ progress_after p (Ok (Some s)) = p
 
 -- ---- opening a file
 
--- a reader after the GSI block
+-- A reader after the GSI block.
 abbrev pub opened : Result (List ℕ) StlFault → Result ReaderValue StlFault
 opened (Err f) = Err f
 opened (Ok g) = Ok (record { gsi = g; block = 0; progress = Reading })
 
--- what `open` answers over these bytes
+-- What `open` answers over these bytes.
 unfoldable pub opened_at : List ℕ → Result ReaderValue StlFault
 opened_at s =
     if nat_lt (length s) gsi_size then Err fault.Truncated else opened (gsi_at (take gsi_size s))
@@ -208,11 +207,11 @@ pub record RefusesOpening (old new : Option (List ℕ)) (f : StlFault) : Type 0 
       → IsFile (bytes ++ more) g ts
       → ⊥
 
--- what the bytes of a whole file give: a fault of the GSI block names block 0
+-- What the bytes of a whole file give: a fault of the GSI block names block 0.
 abbrev pub outcome_opened : List ℕ → Result ReaderValue StlFault → Outcome
 outcome_opened b (Err f) = fails f 0
 outcome_opened b (Ok r) = outcome_left r b
 
--- what reading the bytes of a whole file gives
+-- What reading the bytes of a whole file gives.
 unfoldable pub outcome_of : List ℕ → Outcome
 outcome_of s = outcome_opened (drop gsi_size s) (opened_at s)

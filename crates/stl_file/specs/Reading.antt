@@ -2,34 +2,33 @@
 --
 -- The suffix `_at` means: as read at the front of these bytes, or the first fault in the order of
 -- the lines below.
-use Rattle.std.specs.Prelude.{ℕ, zero, suc, ◌+◌, ◌-◌, ◌*◌, ◌≤◌, Bool, true, false, not, ◌==◌}
-use Rattle.std.specs.Prelude.{◌&&◌, nat_lt, nat_le}
-use Rattle.std.specs.Prelude.{List, [], ◌∷◌, ◌++◌, length, take, drop, slice_index, if◌then◌else◌}
-use Rattle.std.specs.Prelude.{Option, Some, None, Result, Ok, Err}
+use Rattle.std.specs.Prelude.{ℕ, zero, suc, ◌+◌, ◌-◌, ◌*◌, ◌≤◌, Bool, true, false, not, ◌==◌, ◌&&◌}
+use Rattle.std.specs.Prelude.{nat_lt, nat_le, List, [], ◌∷◌, ◌++◌, length, take, drop, slice_index}
+use Rattle.std.specs.Prelude.{if◌then◌else◌, Option, Some, None, Result, Ok, Err}
 use Rattle.sub_io.specs.Reading.{◌>>=◌}
 use Rattle.stl_file.specs.declared.fault.StlFault.{StlFault}
 use Rattle.stl_file.specs.declared.fault.StlFault.TheVariants as fault
 use Rattle.stl_file.specs.TimeCode.{frame_of, is_time_code}
-use Rattle.stl_file.specs.Tti.{block_size, most_blocks, most_of_subtitle}
-use Rattle.stl_file.specs.Tti.{first_reserved, user_data, last_block, not_cumulative, is_comment}
-use Rattle.stl_file.specs.Tti.{sgn, sn, ebn, cs, vp, jc, cf, text_of, tci_place, tco_place}
+use Rattle.stl_file.specs.Tti.{block_size, most_blocks, most_of_subtitle, first_reserved, user_data}
+use Rattle.stl_file.specs.Tti.{last_block, not_cumulative, is_comment, sgn, sn, ebn, cs, vp, jc, cf}
+use Rattle.stl_file.specs.Tti.{text_of, tci_place, tco_place}
 use Rattle.stl_file.specs.Subtitle.{SubtitleValue}
 
 -- ---- one block
 
--- a subtitle whose last block was not read yet: its fields, the text so far, and its blocks so far,
--- 1 to 9
+-- A subtitle whose last block was not read yet: its fields, the text so far, and its blocks so far,
+-- 1 to 9.
 pub record Begun : Type 0 where
   pub subtitle : SubtitleValue
   pub blocks : ℕ
 
--- what a block brings: the blocks go on, within a subtitle or between two, or the block was the
--- last of this subtitle
+-- What a block brings: the blocks go on, within a subtitle or between two, or the block was the
+-- last of this subtitle.
 pub data BlockStep : Type 0 where
   More : Option Begun → BlockStep
   Give : SubtitleValue → BlockStep
 
--- the frame of the time code at a place
+-- The frame of the time code at a place.
 unfoldable pub time_at : List ℕ → ℕ → Result ℕ StlFault
 time_at b place =
     let hours = slice_index b place in
@@ -40,7 +39,7 @@ time_at b place =
     then Ok (frame_of hours minutes seconds frames)
     else Err fault.Time
 
--- the subtitle that a first block begins, with the text of that block
+-- The subtitle that a first block begins, with the text of that block.
 unfoldable pub first_at : List ℕ → Result SubtitleValue StlFault
 first_at b =
     if not (cs b == not_cumulative) then Err fault.Cumulative
@@ -66,7 +65,7 @@ abbrev pub closed : ℕ → SubtitleValue → ℕ → BlockStep
 closed n s blocks =
     if n == last_block then Give s else More (Some (record { subtitle = s; blocks = blocks }))
 
--- a block of a subtitle: its first, or a further one of the subtitle that was begun
+-- A block of a subtitle: its first, or a further one of the subtitle that was begun.
 unfoldable pub kept_at : Option Begun → List ℕ → Result BlockStep StlFault
 kept_at None b = do
   s ← first_at b
@@ -89,7 +88,7 @@ step_in s count (Err f) = Err f
 step_in s count (Ok true) = Ok (Give s)
 step_in s count (Ok false) = Ok (More (begun_in s count))
 
--- any block: user data and comments leave what was begun as it is
+-- Any block: user data and comments leave what was begun as it is.
 unfoldable pub step_at : Option Begun → List ℕ → Result BlockStep StlFault
 step_at begun b =
     if ebn b == user_data then Ok (More begun)
@@ -107,7 +106,7 @@ pub data Outcome : Type 0 where
   fails : StlFault → ℕ → Outcome
   gives : SubtitleValue → ℕ → Outcome → Outcome
 
--- what comes of a block after which `room` blocks may still follow
+-- What comes of a block after which `room` blocks may still follow.
 abbrev pub outcome_after : ℕ → (Option Begun → Outcome) → Result BlockStep StlFault → Outcome
 outcome_after room next (Err f) = fails f (most_blocks - room)
 outcome_after room next (Ok (Give s)) = gives s (most_blocks - room) (next None)
@@ -127,13 +126,13 @@ outcome_at (suc room) begun (x ∷ b) =
 
 -- ---- what a subtitle that was begun keeps
 
--- each of its blocks, nine at most, brought at most 112 bytes of text
+-- Each of its blocks, nine at most, brought at most 112 bytes of text.
 abbrev pub BegunFits : Option Begun → Type 0
 BegunFits None = Unit {0}
 BegunFits (Some begun) =
     (length begun.subtitle.text ≤ 112 * begun.blocks) × (begun.blocks ≤ most_of_subtitle)
 
--- what was begun, if the step leaves something begun, keeps that after a block too
+-- What was begun, if the step leaves something begun, keeps that after a block too.
 abbrev pub StepFits : BlockStep → Type 0
 StepFits (Give s) = Unit {0}
 StepFits (More begun) = BegunFits begun

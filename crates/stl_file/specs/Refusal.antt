@@ -11,10 +11,9 @@ use Rattle.stl_file.specs.Gsi.{cct, dfc, dsc, gsi_size, latin, level_1, level_2,
 use Rattle.stl_file.specs.Reader.{opened_at}
 use Rattle.stl_file.specs.Reading.{Begun, fails, outcome_at, step_at}
 use Rattle.stl_file.specs.SubtitleBlocks.{IsTimeAt}
-use Rattle.stl_file.specs.Tti.{block_size, cf, cs, ebn, first_reserved, is_comment, jc}
-use Rattle.stl_file.specs.Tti.{last_block, most_blocks}
-use Rattle.stl_file.specs.Tti.{most_of_subtitle, not_cumulative, sgn, sn, tci_place, tco_place}
-use Rattle.stl_file.specs.Tti.{user_data, vp}
+use Rattle.stl_file.specs.Tti.{block_size, cf, cs, ebn, first_reserved, is_comment, jc, last_block}
+use Rattle.stl_file.specs.Tti.{most_blocks, most_of_subtitle, not_cumulative, sgn, sn, tci_place}
+use Rattle.stl_file.specs.Tti.{tco_place, user_data, vp}
 
 -- The first of these questions whose answer is wrong is the one for which this fault is told.
 abbrev pub TellsFirst : (StlFault → Type 0) → List StlFault → StlFault → Type 0

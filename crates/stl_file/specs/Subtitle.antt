@@ -16,21 +16,21 @@ pub record SubtitleValue : Type 0 where
   pub jc : ℕ
   pub text : List ℕ
 
--- a subtitle without text, in row 1 of the day's first frame (own)
+-- A subtitle without text, in row 1 of the day's first frame (own).
 abbrev pub empty_subtitle : SubtitleValue
 empty_subtitle = record { sgn = 0; sn = 0; tci = 0; tco = 1; vp = 1; jc = 0; text = [] }
 
--- bytes of text that nine blocks have room for
+-- Bytes of text that nine blocks have room for.
 abbrev pub most_text : ℕ
 most_text = 1008
 
--- a text has no unused space, since it ends before the first one
+-- A text has no unused space, since it ends before the first one.
 abbrev pub has_no_unused : List ℕ → Bool
 has_no_unused [] = true
 has_no_unused (x ∷ xs) = if x == unused_space then false else has_no_unused xs
 
--- what a subtitle can be: shown for some time within the day (TCI before TCO), from a row 1 to 23
--- on, with a justification code 0 to 3 and a text that nine blocks can hold
+-- What a subtitle can be: shown for some time within the day (TCI before TCO), from a row 1 to 23
+-- on, with a justification code 0 to 3 and a text that nine blocks can hold.
 pub record IsSubtitle (s : SubtitleValue) : Type 0 where
   pub times : s.tci < s.tco
   pub in_day : s.tco < day

@@ -10,15 +10,15 @@ use Rattle.stl_file.specs.Tti.{not_cumulative, no_comment, tci_place, tco_place}
 use Rattle.stl_file.specs.Tti.{sgn, sn, ebn, cs, vp, jc, cf, text_of, is_kept}
 use Rattle.stl_file.specs.Subtitle.{SubtitleValue}
 
--- the bytes of blocks, one after the other
+-- The bytes of blocks, one after the other.
 abbrev pub joined : List (List ℕ) → List ℕ
 joined bs = flat_map (λ b. b) bs
 
--- a block has 128 bytes
+-- A block has 128 bytes.
 abbrev pub IsBlock : List ℕ → Type 0
 IsBlock b = length b ≡ block_size
 
--- the four bytes from a place are the time code of a frame
+-- The four bytes from a place are the time code of a frame.
 pub record IsTimeAt (b : List ℕ) (place frame : ℕ) : Type 0 where
   pub in_range :
       is_time_code (slice_index b place) (slice_index b (place + 1)) (slice_index b (place + 2))
@@ -29,7 +29,7 @@ pub record IsTimeAt (b : List ℕ) (place frame : ℕ) : Type 0 where
       ≡ frame_of (slice_index b place) (slice_index b (place + 1)) (slice_index b (place + 2))
       (slice_index b (place + 3))
 
--- a block with this subtitle group and subtitle number, and no comment
+-- A block with this subtitle group and subtitle number, and no comment.
 pub record BelongsTo (sgn_is sn_is : ℕ) (b : List ℕ) : Type 0 where
   pub size : length b ≡ block_size
   pub is_subtitle : cf b ≡ no_comment
@@ -44,7 +44,7 @@ AreLinked sgn_is sn_is (b ∷ []) = BelongsTo sgn_is sn_is b × (ebn b ≡ last_
 AreLinked sgn_is sn_is (b ∷ c ∷ bs) =
     BelongsTo sgn_is sn_is b × (ebn b < first_reserved) × AreLinked sgn_is sn_is (c ∷ bs)
 
--- what the first block of a subtitle says of it: all but the text of its other blocks
+-- What the first block of a subtitle says of it: all but the text of its other blocks.
 pub record Begins (s : SubtitleValue) (b : List ℕ) : Type 0 where
   pub cumulative : cs b ≡ not_cumulative
   pub sgn_is : sgn b ≡ s.sgn
@@ -57,8 +57,8 @@ pub record Begins (s : SubtitleValue) (b : List ℕ) : Type 0 where
   pub vp_range : (1 ≤ s.vp) × (s.vp ≤ 23)
   pub jc_range : s.jc ≤ 3
 
--- these 1 to 9 blocks are the blocks of the subtitle s: the first says its fields, and its text
--- joins the text of each
+-- These 1 to 9 blocks are the blocks of the subtitle s: the first says its fields, and its text
+-- joins the text of each.
 pub record AreBlocksOf (s : SubtitleValue) (bs : List (List ℕ)) : Type 0 where
   pub first : List ℕ
   pub others : List (List ℕ)
@@ -68,7 +68,7 @@ pub record AreBlocksOf (s : SubtitleValue) (bs : List (List ℕ)) : Type 0 where
   pub linked : AreLinked s.sgn s.sn bs
   pub text_is : s.text ≡ flat_map text_of bs
 
--- one list of blocks for each subtitle, in order
+-- One list of blocks for each subtitle, in order.
 abbrev pub AreBlocksOfEach : List SubtitleValue → List (List (List ℕ)) → Type 0
 AreBlocksOfEach [] [] = Unit {0}
 AreBlocksOfEach [] (g ∷ gs) = ⊥

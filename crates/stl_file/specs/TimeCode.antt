@@ -2,20 +2,20 @@
 -- day: 0 to 2,159,999.
 use Rattle.std.specs.Prelude.{ℕ, ◌+◌, ◌*◌, ◌/◌, ◌%◌, Bool, ◌&&◌, nat_lt, List, [], ◌∷◌}
 
--- frames of a day
+-- Frames of a day.
 abbrev pub day : ℕ
 day = 2160000
 
--- the frame of the day that a time code names
+-- The frame of the day that a time code names.
 abbrev pub frame_of : ℕ → ℕ → ℕ → ℕ → ℕ
 frame_of hours minutes seconds frames = ((hours * 60 + minutes) * 60 + seconds) * 25 + frames
 
--- hours up to 23, minutes and seconds up to 59, frames up to 24
+-- Hours up to 23, minutes and seconds up to 59, frames up to 24.
 abbrev pub is_time_code : ℕ → ℕ → ℕ → ℕ → Bool
 is_time_code hours minutes seconds frames =
     nat_lt hours 24 && nat_lt minutes 60 && nat_lt seconds 60 && nat_lt frames 25
 
--- hours, minutes, seconds and frames of a frame of the day, in a byte each
+-- Hours, minutes, seconds and frames of a frame of the day, in a byte each.
 abbrev pub time_bytes : ℕ → List ℕ
 time_bytes frame =
     (frame / 90000) ∷ ((frame / 1500) % 60) ∷ ((frame / 25) % 60) ∷ (frame % 25) ∷ []

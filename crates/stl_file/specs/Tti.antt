@@ -16,7 +16,7 @@
 use Rattle.std.specs.Prelude.{ℕ, ◌+◌, ◌*◌, Bool, not, ◌==◌, ◌||◌, ◌&&◌, nat_lt}
 use Rattle.std.specs.Prelude.{List, drop, slice_index, [], ◌∷◌, if◌then◌else◌}
 
--- bytes of a TTI block
+-- Bytes of a TTI block.
 abbrev pub block_size : ℕ
 block_size = 128
 
@@ -24,35 +24,35 @@ block_size = 128
 abbrev pub most_blocks : ℕ
 most_blocks = 99999
 
--- blocks that a subtitle may have (own)
+-- Blocks that a subtitle may have (own).
 abbrev pub most_of_subtitle : ℕ
 most_of_subtitle = 9
 
--- the first EBN that is reserved: a subtitle goes on after each EBN below
+-- The first EBN that is reserved: a subtitle goes on after each EBN below.
 abbrev pub first_reserved : ℕ
 first_reserved = 0xF0
 
--- the EBN of user data
+-- The EBN of user data.
 abbrev pub user_data : ℕ
 user_data = 0xFE
 
--- the EBN of a subtitle's last block
+-- The EBN of a subtitle's last block.
 abbrev pub last_block : ℕ
 last_block = 0xFF
 
--- the CS of a subtitle that is not part of a cumulative set
+-- The CS of a subtitle that is not part of a cumulative set.
 abbrev pub not_cumulative : ℕ
 not_cumulative = 0x00
 
--- the CF of a subtitle
+-- The CF of a subtitle.
 abbrev pub no_comment : ℕ
 no_comment = 0x00
 
--- the CF of a comment
+-- The CF of a comment.
 abbrev pub is_comment : ℕ
 is_comment = 0x01
 
--- the byte of a text field that stands for nothing: the text ends before the first one
+-- The byte of a text field that stands for nothing: the text ends before the first one.
 abbrev pub unused_space : ℕ
 unused_space = 0x8F
 
@@ -72,11 +72,11 @@ ebn b = slice_index b 3
 abbrev pub cs : List ℕ → ℕ
 cs b = slice_index b 4
 
--- the place of TCI
+-- The place of TCI.
 abbrev pub tci_place : ℕ
 tci_place = 5
 
--- the place of TCO
+-- The place of TCO.
 abbrev pub tco_place : ℕ
 tco_place = 9
 
@@ -96,21 +96,21 @@ cf b = slice_index b 15
 abbrev pub tf : List ℕ → List ℕ
 tf b = drop 16 b
 
--- the bytes before the first unused space
+-- The bytes before the first unused space.
 abbrev pub before_unused : List ℕ → List ℕ
 before_unused [] = []
 before_unused (x ∷ xs) = if x == unused_space then [] else x ∷ before_unused xs
 
--- the text of a block
+-- The text of a block.
 abbrev pub text_of : List ℕ → List ℕ
 text_of b = before_unused (tf b)
 
--- user data, whatever its CF, and comments are passed over: they are no part of a subtitle
+-- User data, whatever its CF, and comments are passed over: they are no part of a subtitle.
 abbrev pub is_passed : List ℕ → Bool
 is_passed b =
     (ebn b == user_data)
     || ((nat_lt (ebn b) first_reserved || (ebn b == last_block)) && (cf b == is_comment))
 
--- the blocks that are left where the passed ones are taken out
+-- The blocks that are left where the passed ones are taken out.
 abbrev pub is_kept : List ℕ → Bool
 is_kept b = not (is_passed b)

@@ -7,7 +7,7 @@ ghost use Rattle.stl_file.specs.declared.fault.NormalFault.TheVariants.{Write};
 ghost use Rattle.stl_file.specs.declared.progress.Progress.TheVariants.{Reading};
 ghost use Rattle.stl_file.specs.Fault.{is_write};
 ghost use Rattle.stl_file.specs.NormalForm.{NormalAnswers, all_blocks, blocks_of, subtitles_of};
-ghost use Rattle.stl_file.specs.NormalCounts.{counted, given, judged_on};
+ghost use Rattle.stl_file.specs.NormalCounts.{given, judged_on, normal_counts};
 ghost use Rattle.stl_file.specs.Reader.{outcome_from, outcome_left};
 ghost use Rattle.stl_file.specs.SubtitleBlocks.{joined};
 ghost use Rattle.stl_file.specs.Tti.{most_blocks};
@@ -51,7 +51,7 @@ pub fn normal<K: Sink>(file: &[u8], sink: &mut K) -> Result<u32, NormalFault>
 // Reads all blocks after the GSI block, and counts what the normal form will have.
 #[tactic(auto, using(crate::proofs::NormalCountsLemmas::judging))]
 fn judge(gsi: Gsi, body: &[u8]) -> Result<Counts, NormalFault>
-    ensures exact { counted (subtitles_of (outcome_from 0 body.now)) ≡ result }
+    ensures exact { normal_counts (subtitles_of (outcome_from 0 body.now)) ≡ result }
     ensures kind { IfErr result (λ fault. fault ≢ Write) }
     ensures few { IfOk result (λ counts. (counts.tnb < 100000) × (counts.tns < 100000)) }
 {

@@ -1,6 +1,6 @@
 -- What the first pass keeps: the counts so far, with those of what is left, are those of the whole.
 use Rattle.std.proofs.Common.{◌≡◌, ◌≤◌, ◌-◌}
-use Rattle.stl_file.specs.NormalCounts.{counted, counted_on}
+use Rattle.stl_file.specs.NormalCounts.{normal_counts, counted_on}
 use Rattle.stl_file.specs.NormalForm.{subtitles_of}
 use Rattle.stl_file.specs.Reader.{outcome_from, outcome_left}
 use Rattle.stl_file.specs.Tti.{most_blocks}
@@ -9,8 +9,8 @@ use Rattle.stl_file.proofs.normal_form.judge.Given as goal
 
 abbrev pub invariant-subtitles : goal.invariant-subtitles
 invariant-subtitles l = record {
-  whole : counted (subtitles_of (outcome_from 0 l.body))
-      ≡ counted_on l.counts (counted (subtitles_of (outcome_left l.reader l.source)));
+  whole : normal_counts (subtitles_of (outcome_from 0 l.body))
+      ≡ counted_on l.counts (normal_counts (subtitles_of (outcome_left l.reader l.source)));
   reading : l.reader.progress ≡ Reading;
   few : l.reader.block ≤ most_blocks;
   blocks : l.counts.tnb ≤ l.reader.block;
