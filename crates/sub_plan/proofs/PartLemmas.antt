@@ -1,6 +1,6 @@
 -- Sendings that are put one after another: part-more where they were put, prefix-more where a put
 -- failed.
-use Rattle.std.proofs.Common.{◌≡◌, ℕ, ◌+◌, ◌-◌, ◌%◌, ◌==◌, Bool, List, [], ◌∷◌, ◌++◌, Option, All}
+use Rattle.std.proofs.Common.{◌≡◌, ℕ, ◌+◌, ◌-◌, ◌%◌, ◌==◌, Bool, List, ◌∷◌, ◌++◌, Option, All, []}
 use Rattle.std.proofs.Common.{length, refl, sym, ap, ◌∙◌, arith, append_assoc, append-nil, filter}
 use Rattle.std.proofs.Common.{length-append}
 use Rattle.std.proofs.lemmas.Grind.{flat_map-append}
@@ -28,76 +28,60 @@ pub record IsPartDone (u v : Option (List ℕ)) (bytes_of : ℕ → List ℕ) (c
   pub bytes : Appends u v (flat_map bytes_of done)
 
 -- At the start nothing is done.
-pub part-start : (u : Option (List ℕ)) (bytes_of : ℕ → List ℕ) (all : List ℕ)
+pub part-start : {u : Option (List ℕ)} {bytes_of : ℕ → List ℕ} {all : List ℕ}
     → IsPartDone u u bytes_of 0 all all
-part-start u bytes_of all =
-    record { done = []; whole = refl; counted = refl; bytes = Appends-nil u }
+part-start {u} = record { done = []; whole = refl; counted = refl; bytes = Appends-nil u }
 
--- More frames are done.
-pub part-more :
-    (u v w : Option (List ℕ)) (bytes_of : ℕ → List ℕ) (count : ℕ) (more left left' all : List ℕ)
-    → left ≡ more ++ left'
-    → IsPartDone u v bytes_of count left all
-    → Appends v w (flat_map bytes_of more)
-    → IsPartDone u w bytes_of (count + length more) left' all
-part-more u v w bytes_of count more left left' all e part goes = record {
-  done = part.done ++ more;
-  whole = append_assoc part.done more left' ∙ rw e at part.whole;
-  counted = omega (arith, part.counted, length-append part.done more);
-  bytes = rw (flat_map-append bytes_of part.done more)
-      (Appends-trans u v w _ _ part.bytes goes);
-}
+module _ {u v : Option (List ℕ)} {bytes_of : ℕ → List ℕ} {count : ℕ} {left all : List ℕ}
+    (part : IsPartDone u v bytes_of count left all) where
+  -- More frames are done.
+  pub part-more : {w : Option (List ℕ)} (more : List ℕ) {left' : List ℕ}
+      → left ≡ more ++ left'
+      → Appends v w (flat_map bytes_of more)
+      → IsPartDone u w bytes_of (count + length more) left' all
+  part-more {w} more {left'} e goes = record {
+    done = part.done ++ more;
+    whole = append_assoc part.done more left' ∙ rw e at part.whole;
+    counted = omega (arith, part.counted, length-append part.done more);
+    bytes = rw (flat_map-append bytes_of part.done more)
+        (Appends-trans u v w _ _ part.bytes goes);
+  }
 
--- All are done.
-pub part-end :
-    (u v : Option (List ℕ)) (bytes_of : ℕ → List ℕ) (count : ℕ) (left all : List ℕ)
-    → left ≡ []
-    → IsPartDone u v bytes_of count left all
-    → (count ≡ length all) × Appends u v (flat_map bytes_of all)
-part-end u v bytes_of count left all e part =
-    let same : part.done ≡ all = rw (e, append-nil) at part.whole in
-    rw (← same) (part.counted, part.bytes)
+  -- All are done.
+  pub part-end : left ≡ [] → (count ≡ length all) × Appends u v (flat_map bytes_of all)
+  part-end e =
+      let same : part.done ≡ all = rw (e, append-nil) at part.whole in
+      rw (← same) (part.counted, part.bytes)
 
--- A prefix of the next ones was put.
-pub prefix-more :
-    (u v w : Option (List ℕ)) (bytes_of : ℕ → List ℕ) (count : ℕ) (more left left' all : List ℕ)
-    → left ≡ more ++ left'
-    → IsPartDone u v bytes_of count left all
-    → AppendsPrefix v w (flat_map bytes_of more)
-    → AppendsPrefix u w (flat_map bytes_of all)
-prefix-more u v w bytes_of count more left left' all e part p =
-    let s : List ℕ → List ℕ = flat_map bytes_of in
-    rw (
-      ← part.whole,
-      e,
-      flat_map-append bytes_of part.done (more ++ left'),
-      flat_map-append bytes_of more left',
-    ) (AppendsPrefix-second u v w (s part.done) (s more ++ s left') part.bytes
-    (AppendsPrefix-first v w (s more) (s left') p))
+  -- A prefix of the next ones was put.
+  pub prefix-more : (w : Option (List ℕ)) (more left' : List ℕ)
+      → left ≡ more ++ left'
+      → AppendsPrefix v w (flat_map bytes_of more)
+      → AppendsPrefix u w (flat_map bytes_of all)
+  prefix-more w more left' e p =
+      let s : List ℕ → List ℕ = flat_map bytes_of in
+      rw (
+        ← part.whole,
+        e,
+        flat_map-append bytes_of part.done (more ++ left'),
+        flat_map-append bytes_of more left',
+      ) (AppendsPrefix-second u v w (s part.done) (s more ++ s left') part.bytes
+      (AppendsPrefix-first v w (s more) (s left') p))
 
--- ---- one frame
+  -- One frame more is done.
+  pub part-one : {w : Option (List ℕ)} {f : ℕ} {left' : List ℕ}
+      → left ≡ f ∷ left'
+      → Appends v w (bytes_of f)
+      → IsPartDone u w bytes_of (count + 1) left' all
+  part-one {w} {f} e goes = part-more (f ∷ []) e (rw (append-nil (bytes_of f)) goes)
 
--- One frame more is done.
-pub part-one :
-    (u v w : Option (List ℕ)) (bytes_of : ℕ → List ℕ) (count f : ℕ) (left left' all : List ℕ)
-    → left ≡ f ∷ left'
-    → IsPartDone u v bytes_of count left all
-    → Appends v w (bytes_of f)
-    → IsPartDone u w bytes_of (count + 1) left' all
-part-one u v w bytes_of count f left left' all e part goes =
-    part-more u v w bytes_of count (f ∷ []) left left' all e part
-    (rw (append-nil (bytes_of f)) goes)
-
--- A prefix of the next frame's bytes was put.
-pub prefix-one :
-    (u v w : Option (List ℕ)) (bytes_of : ℕ → List ℕ) (count f : ℕ) (left left' all : List ℕ)
-    → left ≡ f ∷ left'
-    → IsPartDone u v bytes_of count left all
-    → AppendsPrefix v w (bytes_of f)
-    → AppendsPrefix u w (flat_map bytes_of all)
-prefix-one u v w bytes_of count f left left' all e part p =
-    prefix-more u v w bytes_of count (f ∷ []) left left' all e part
-    (rw (append-nil (bytes_of f)) p)
+  -- A prefix of the next frame's bytes was put.
+  pub prefix-one : (w : Option (List ℕ)) {f : ℕ} {left' : List ℕ}
+      → left ≡ f ∷ left'
+      → AppendsPrefix v w (bytes_of f)
+      → AppendsPrefix u w (flat_map bytes_of all)
+  prefix-one w {f} {left'} e p =
+      prefix-more w (f ∷ []) left' e (rw (append-nil (bytes_of f)) p)
 
 -- ---- one stretch
 

@@ -1,9 +1,9 @@
 -- From base to base: sendings-step splits off the sendings of a stretch, steps-more the first of
 -- them.
-use Rattle.std.proofs.Common.{◌≡◌, ℕ, zero, suc, ◌+◌, ◌-◌, ◌%◌, ◌<◌, ◌≤◌, ◌==◌, Bool, true, false}
-use Rattle.std.proofs.Common.{List, [], ◌∷◌, ◌++◌, refl, sym, ap, ◌∙◌, arith, filter, inl, inr}
+use Rattle.std.proofs.Common.{◌≡◌, ℕ, zero, suc, ◌+◌, ◌-◌, ◌%◌, ◌<◌, ◌≤◌, ◌==◌, Bool, false, []}
+use Rattle.std.proofs.Common.{List, ◌∷◌, ◌++◌, refl, sym, ap, ◌∙◌, arith, filter, inl, inr, eq-eqb}
+use Rattle.std.proofs.Common.{ne_eqb}
 use Rattle.std.proofs.Math.Nat.{add-mod_right, mod-eq_of_lt}
-use Rattle.std.proofs.lemmas.Bool.Decides.{nat_tests}
 use Rattle.std.proofs.lemmas.List.Elements.{filter-append}
 use Rattle.std.specs.List.{range_with_len}
 use Rattle.ttx_page.specs.Page.{Rows}
@@ -58,7 +58,7 @@ steps-more every from end some inside =
     filter_skip (test from) (every - 1) (from + 1) n
     (λ j a c.
     let small : (j - from) % every ≡ j - from = mod-eq_of_lt (omega arith) in
-    rw small (grind (arith, nat_tests))) in
+    rw small (ne_eqb (j - from) 0 (λ e. absurd (omega arith)))) in
     let same =
     filter_same (test from) (test (from + every)) (from + every) (end - (from + every))
     (λ j a c.
@@ -96,8 +96,7 @@ is_sending-in : (due : ℕ → Rows) (every first b end last f : ℕ) → IsStre
     → b ≤ f → f < end → is_sending due every first last f ≡ ((f - b) % every == 0)
 unfolding is_sending
 is_sending-in due every first b end last f s low high =
-    let e : (f == last) ≡ false =
-    (let ne : f < last = omega (arith, s.high) in grind (arith, nat_tests)) in
+    let e : (f == last) ≡ false = ne_eqb f last (λ same. absurd (omega (arith, s.high, same))) in
     rw (e, base-last due first f b (last_base-in due first b end last f s low high)) refl
 
 -- The sendings from a base on: the steps of its stretch, and those from the next base on.
@@ -121,5 +120,4 @@ pub sendings-last : (due : ℕ → Rows) (every first last : ℕ)
 unfolding sendings_from is_sending
 sendings-last due every first last =
     let n : last + 1 - last ≡ suc 0 = omega arith in
-    let e : (last == last) ≡ true = grind (arith, nat_tests) in
-    rw n (rw e refl)
+    rw (n, eq-eqb last last refl) refl

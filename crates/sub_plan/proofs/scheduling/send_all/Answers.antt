@@ -1,7 +1,7 @@
 -- Stretch by stretch, by sendings-step and part-more; then the last frame, by part-one.
 use Rattle.std.proofs.Common.{◌≡◌, arith, refl, rules, ◌∙◌, inl, inr, []}
 use Rattle.std.proofs.lemmas.Result.{err_from_is_err_and}
-use Rattle.sub_plan.specs.Schedule.{due_in, sending_at}
+use Rattle.sub_plan.specs.Schedule.{due_in}
 use Rattle.sub_plan.specs.Sending.{sending}
 use Rattle.sub_plan.proofs.StepLemmas.{IsStretch, sendings-last, sendings-step}
 use Rattle.sub_plan.proofs.PartLemmas.{part-end, part-more, part-one, part-start, prefix-more}
@@ -17,7 +17,7 @@ loop-frame-init g c = record {
   starts = λ h. inl refl;
   few = omega arith;
   failures = refl;
-  part = part-start _ _ _;
+  part = part-start;
 }
 
 pub returns-in_err-count-clause-bytes : goal.returns-in_err-count-clause-bytes
@@ -32,8 +32,7 @@ returns-in_err-count-clause-bytes g c =
     (due_in p c.loop-frame.frame) = search rules in
     let e = err_from_is_err_and c.from_residual.result c.from_residual.ensures.1 in
     rw (e.1)
-    (prefix-more _ _ _ (sending_at (due_in p) o p.national c.args.serial) _ _ _ _ _
-    (sendings-step (due_in p) o.every c.args.first _ _ _ s) i.part
+    (prefix-more i.part _ _ _ (sendings-step (due_in p) o.every c.args.first _ _ _ s)
     (rw (packets, stretch-bytes (due_in p) o p.national c.args.serial c.args.first _ _ _ s)
     at c.in_err-count.ensures.bytes))
 
@@ -57,8 +56,7 @@ loop-frame-preserved g c =
       few = omega (arith, e.few, i.few, n.after, i.low);
       failures = search rules;
       part = rw e.number
-          (part-more _ _ _ _ _ _ _ _ _ (sendings-step (due_in p) o.every c.args.first _ _ _ s)
-          i.part
+          (part-more i.part _ (sendings-step (due_in p) o.every c.args.first _ _ _ s)
           (rw (packets, stretch-bytes (due_in p) o p.national c.args.serial c.args.first _ _ _ s)
           at e.bytes));
     }
@@ -71,10 +69,10 @@ returns g c =
     let packets : c.packets-2.result.now ≡ sending o.page p.national c.args.serial
     (due_in p c.loop-frame.frame) = search rules in
     let all =
-    part-end _ _ _ _ _ _ refl
-    (part-one _ _ _ _ _ c.args.last _ [] _
+    part-end
+    (part-one c.loop-frame.invariant.part {f = c.args.last} {left' = []}
     (rw at_end (sendings-last (due_in p) o.every c.args.first c.args.last))
-    c.loop-frame.invariant.part (rw (packets, at_end) at c.in_ok-put_at.ensures.bytes)) in
+    (rw (packets, at_end) at c.in_ok-put_at.ensures.bytes)) refl in
     record { number = all.0; bytes = all.1; count = search rules }
 
 pub returns-in_err-put_at-clause-bytes : goal.returns-in_err-put_at-clause-bytes
@@ -87,6 +85,6 @@ returns-in_err-put_at-clause-bytes g c =
     let e = err_from_is_err_and c.from_residual-in_err-put_at.result
     c.from_residual-in_err-put_at.ensures.1 in
     rw (e.1)
-    (prefix-one _ _ _ _ _ c.args.last _ [] _
+    (prefix-one c.loop-frame.invariant.part _ {f = c.args.last} {left' = []}
     (rw at_end (sendings-last (due_in p) o.every c.args.first c.args.last))
-    c.loop-frame.invariant.part (rw (packets, at_end) at c.in_err-put_at.ensures.bytes))
+    (rw (packets, at_end) at c.in_err-put_at.ensures.bytes))

@@ -12,7 +12,7 @@ loop-frame-init g c = record {
   fewer = λ h. omega arith;
   units = search rules;
   failures = refl;
-  part = part-start _ _ _;
+  part = part-start;
 }
 
 pub loop-frame-preserved : goal.loop-frame-preserved
@@ -27,21 +27,21 @@ loop-frame-preserved g c =
       units = search rules;
       failures = search rules;
       part = rw every.value
-          (part-one _ _ _ _ _ c.loop-frame.frame _ _ _
+          (part-one i.part
           (steps-more c.args.options.now.every c.loop-frame.frame c.args.end
-          (omega (arith, every.value)) c.loop-frame-test.true) i.part
+          (omega (arith, every.value)) c.loop-frame-test.true)
           (c.in_ok-repeat_at.ensures.bytes c.args.packets.now i.units));
     }
 
 pub returns-clause-number : goal.returns-clause-number
 returns-clause-number g c =
-    (part-end _ _ _ _ _ _ (steps-none c.args.options.now.every c.loop-frame.frame c.args.end
-    c.loop-frame-test.false) c.loop-frame.invariant.part).0
+    (part-end c.loop-frame.invariant.part
+    (steps-none c.args.options.now.every c.loop-frame.frame c.args.end c.loop-frame-test.false)).0
 
 pub returns-clause-bytes : goal.returns-clause-bytes
 returns-clause-bytes g c =
-    (part-end _ _ _ _ _ _ (steps-none c.args.options.now.every c.loop-frame.frame c.args.end
-    c.loop-frame-test.false) c.loop-frame.invariant.part).1
+    (part-end c.loop-frame.invariant.part
+    (steps-none c.args.options.now.every c.loop-frame.frame c.args.end c.loop-frame-test.false)).1
 
 pub returns-in_err-repeat_at-clause-bytes : goal.returns-in_err-repeat_at-clause-bytes
 returns-in_err-repeat_at-clause-bytes g c =
@@ -49,7 +49,7 @@ returns-in_err-repeat_at-clause-bytes g c =
     let p = err_from_is_err_and c.from_residual.result c.from_residual.ensures.1 in
     let least = c.step_of-every.ensures.least in
     rw (p.1)
-    (prefix-one _ _ _ _ _ c.loop-frame.frame _ _ _
+    (prefix-one i.part _
     (steps-more c.args.options.now.every c.loop-frame.frame c.args.end
-    (omega (arith, c.step_of-every.ensures.value)) c.loop-frame-test.true) i.part
+    (omega (arith, c.step_of-every.ensures.value)) c.loop-frame-test.true)
     (c.in_err-repeat_at.ensures.bytes c.args.packets.now i.units))
