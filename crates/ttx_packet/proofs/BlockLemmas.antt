@@ -1,10 +1,8 @@
 -- Lists gone over in blocks: block_of, what a store of a block leaves (block_more) and of a byte
 -- (byte_more), and the first item that passes a test, by the masks of blocks (first_so_far).
 use Rattle.std.proofs.Common.{◌≡◌, ℕ, zero, suc, ◌+◌, ◌*◌, ◌/◌, ◌^◌, ◌<◌, ◌≤◌, Bool, true, false}
-use Rattle.std.proofs.Common.{not}
-use Rattle.std.proofs.Common.{List, [], ◌∷◌, ◌++◌, map, length, get_or, take, drop, sym, ap, ap₂}
-use Rattle.std.proofs.Common.{◌∙◌}
-use Rattle.std.proofs.Common.{take_all, arith, w16}
+use Rattle.std.proofs.Common.{not, List, [], ◌∷◌, ◌++◌, map, length, get_or, take, drop, sym, ap}
+use Rattle.std.proofs.Common.{ap₂, ◌∙◌, take_all, arith, w16}
 use Rattle.std.proofs.lemmas.List.{map-append, drop-drop, get_or_past, length-map, length-drop}
 use Rattle.std.proofs.lemmas.List.{length-set, take_more, take_more_set}
 use Rattle.std.proofs.Math.ListN.{set}
@@ -85,7 +83,7 @@ block_more f xs out ys n a w k m e width size room block to =
           ∙ ap (map f) (sym (take-add a w xs) ∙ ap (λ n. take n xs) (sym e));
     }
 
--- f of the next byte makes them one more.
+-- The next byte, made by f, makes them one more.
 pub byte_more : (f : ℕ → ℕ) (xs out : List ℕ) (n a m y : ℕ)
     → m ≡ a + 1
     → length xs ≡ n

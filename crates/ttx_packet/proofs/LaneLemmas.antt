@@ -1,8 +1,7 @@
 -- The kernels on lanes, byte by byte: mirror_lanes, even_lanes, odd_lanes.
 use Rattle.std.proofs.Common.{◌≡◌, ℕ, zero, suc, ◌*◌, ◌/◌, ◌%◌, ◌^◌, ◌-◌, ◌<◌, true, cond, List, []}
 use Rattle.std.proofs.Common.{◌∷◌, map, length, get_or, replicate, refl, sym, ap, ap₂, ◌∙◌, arith}
-use Rattle.std.proofs.Common.{w8}
-use Rattle.std.proofs.Common.{Fits, nat_eq, eqb-true}
+use Rattle.std.proofs.Common.{w8, Fits, nat_eq, eqb-true}
 use Rattle.std.proofs.lemmas.List.{map-id, length-map}
 use Rattle.std.specs.Prelude.{bit_xor, bit_and, bit_or}
 use Rattle.std.specs.Int.RustNames.{count_ones}

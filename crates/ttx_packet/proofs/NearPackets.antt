@@ -59,3 +59,6 @@ header-near sent got exact near = rw (address-near sent got exact.0 near) (go (a
     go (Some a) p =
         let coded = λ (z : a.packet_number ≡ 0). coded_header-near sent got (exact.1 a p z) near in
         grind (arith, nat_tests)
+
+-- For `law_of_address` and `law_of_header`.
+pub ruleset near_laws = (address-near, header-near)

@@ -1,9 +1,7 @@
 -- Odd parity: one changed bit makes the count of ones even (even_from_changed), and what odd_byte
 -- gives.
-use Rattle.std.proofs.Common.{◌≡◌, ◌≢◌, ℕ, zero, suc, ◌+◌, ◌*◌, ◌/◌, ◌%◌, ◌^◌, ◌<◌, inl, inr}
-use Rattle.std.proofs.Common.{true, bit_xor}
-use Rattle.std.proofs.Common.{refl, subst, arith, IsTrue, IsFalse}
-use Rattle.std.proofs.Common.{div-add-mod', pow-suc}
+use Rattle.std.proofs.Common.{◌≡◌, ◌≢◌, ℕ, zero, suc, ◌+◌, ◌*◌, ◌/◌, ◌%◌, ◌^◌, ◌<◌, inl, inr, true}
+use Rattle.std.proofs.Common.{bit_xor, refl, subst, arith, IsTrue, IsFalse, div-add-mod', pow-suc}
 use Rattle.std.specs.Int.RustNames.{count_ones}
 use Rattle.std.proofs.lemmas.Bool.{agree_below_at}
 use Rattle.std.proofs.lemmas.Bool.Decides.{nat_tests}

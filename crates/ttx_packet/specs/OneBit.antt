@@ -1,7 +1,6 @@
 -- At most one wrong bit in a byte: the noise that every layer of the product speaks of (own).
 use Rattle.std.specs.Prelude.{◌≡◌, ℕ, zero, suc, ◌^◌, ◌<◌, ◌⊎◌, Bool, ◌||◌, List, Option, Some}
-use Rattle.std.specs.Prelude.{None}
-use Rattle.std.specs.Prelude.{is_some, ◌==◌, if◌then◌else◌, bit_xor}
+use Rattle.std.specs.Prelude.{None, is_some, ◌==◌, if◌then◌else◌, bit_xor}
 use Rattle.std.specs.List.{AllZip}
 use Rattle.std.specs.Option.{option_or}
 

@@ -14,9 +14,8 @@
 -- C4 erase page, C5 newsflash, C6 subtitle, C7 suppress header, C8 update indicator, C9 interrupted
 -- sequence, C10 inhibit display, C11 magazine serial, C12 to C14 national option character sub-set.
 use Rattle.std.specs.Prelude.{◌≡◌, ℕ, ◌+◌, ◌*◌, ◌/◌, ◌%◌, ◌<◌, ◌≤◌, Bool, true, false, List, []}
-use Rattle.std.specs.Prelude.{◌∷◌, ◌++◌}
-use Rattle.std.specs.Prelude.{Option, Some, None, ◌==◌, map, replicate, slice_index, bit_and}
-use Rattle.std.specs.Prelude.{if◌then◌else◌, IsTrue}
+use Rattle.std.specs.Prelude.{◌∷◌, ◌++◌, Option, Some, None, ◌==◌, map, replicate, slice_index}
+use Rattle.std.specs.Prelude.{bit_and, if◌then◌else◌, IsTrue}
 use Rattle.ttx_packet.specs.Hamming84.{IsCodeWord, code_word}
 use Rattle.ttx_packet.specs.Parity.{is_odd}
 use Rattle.ttx_packet.specs.PacketAddress.{◌>>=◌, PacketAddress, decoded_at, address}

@@ -9,11 +9,13 @@ pub fn law_of_decoding()
 {}
 
 /// One wrong bit in each byte leaves an address of code words as it was.
+#[tactic(auto, using(crate::proofs::NearPackets::near_laws))]
 pub fn law_of_address()
     ensures { LawOfAddress }
 {}
 
 /// One wrong bit in each byte leaves the header of a packet of code words as it was.
+#[tactic(auto, using(crate::proofs::NearPackets::near_laws))]
 pub fn law_of_header()
     ensures { LawOfHeader }
 {}

@@ -1,7 +1,6 @@
 -- The masks of blocks tell the first: none_so_far, first_so_far.
 use Rattle.std.proofs.Common.{◌≡◌, ◌+◌, ◌*◌, ◌/◌, ◌<◌, length, get_or, drop, false, not, arith}
-use Rattle.std.proofs.Common.{rules}
-use Rattle.std.proofs.Common.{◌∙◌, ap, sym}
+use Rattle.std.proofs.Common.{rules, ◌∙◌, ap, sym}
 use Rattle.std.proofs.lemmas.Bool.{not-false}
 use Rattle.std.proofs.lemmas.List.{get_or-drop}
 use Rattle.ttx_packet.specs.Lanes.{is_even, evens_mask}
