@@ -1,6 +1,6 @@
 //! Answers a request over devices, closes the file and hands on the lines.
 //!
-//! For a device that the request does not name, an empty one is handed in, by a function of its own.
+//! For a device that the request does not name an empty one is handed in, by a function of its own.
 ghost use Rattle.std.specs.Prelude.{◌≡◌, true, []};
 ghost use Rattle.sub_io.specs.Buffered.{HandsOn, failures_and_refused};
 ghost use Rattle.sub_io.specs.Device.{CanFail};

@@ -10,8 +10,9 @@ mod apart;
 mod ending;
 mod opening;
 
-ghost use Rattle.std.specs.Prelude.{◌≡◌, IfErr, IfOk};
+ghost use Rattle.std.specs.Prelude.{◌≡◌, IfErr, IfOk, IfSome, map, string_bytes};
 ghost use Rattle.sub_io.specs.Buffered.{failures_and_refused};
+ghost use Rattle.sub_words.specs.Commands.{texts_of};
 ghost use Rattle.subttx.specs.Ending.{Answered, Ends, lines_of};
 
 use crate::answering::answer_opened;
@@ -73,9 +74,17 @@ fn words_of<R: AllocGlobal + Env>(rt: &R) -> Result<Vec<String>, UsageFault> {
 }
 
 // The words as texts, `None` where memory runs out.
-fn texts_of(alloc: Global, words: &[String]) -> Option<Vec<&str>> {
-    let texts = words.iter().map(|word| word.as_str());
-    texts.collect(alloc).ok()
+fn texts_of(alloc: Global, words: &[String]) -> Option<Vec<&str>>
+    ensures { IfSome result (λ texts.
+        texts_of texts.items ≡ map (λ word. string_bytes word) words.now) }
+{
+    let mut texts = Vec::new(alloc);
+    for word in words {
+        let Ok(()) = texts.push(word.as_str()) else {
+            return None;
+        };
+    }
+    Some(texts)
 }
 
 // Opens the files that the request names, and answers it over them. Where a file can't be opened,
