@@ -8,11 +8,13 @@ use Rattle.std.proofs.KnownBytes.{Appends-nil, Appends-trans}
 use Rattle.sub_io.specs.Device.{AppendsPrefix, RisesIf}
 use Rattle.sub_io.specs.Reading.{IfTold}
 use Rattle.sub_io.proofs.DeviceLemmas.{AppendsPrefix-first, AppendsPrefix-second}
+use Rattle.ttx_pes.specs.Outcome as pes
+use Rattle.ttx_pes.specs.Outcome.{ReadsPackets, outcome_after}
 use Rattle.ttx_pes.specs.PesPacket.{PesValue}
 use Rattle.ttx_pes.specs.Reader.{TellsPacket}
-use Rattle.ttx_pes.specs.Reading.{answer_at, most_packets, rest_after}
-use Rattle.ttx_pes.specs.declared.fault.PesFault.{PesFault}
+use Rattle.ttx_pes.specs.Reading.{most_packets, rest_after}
 use Rattle.ttx_pes.specs.declared.progress.Progress.TheVariants.{Reading}
+use Rattle.ttx_pes.proofs.OutcomeLemmas.{outcome_after-next}
 use Rattle.stl_file.specs.Fault as stl_fault
 use Rattle.stl_file.specs.Gsi.{IsGsi, gsi_size}
 use Rattle.stl_file.specs.Reader.{EndsKept, ReaderValue, RefusesOpening, TakesSubtitle, opened_at}
@@ -24,9 +26,7 @@ use Rattle.sub_answer.specs.Faults.{kind_by, stl_told}
 use Rattle.sub_answer.specs.DeviceCall.{SinkCall, SourceCall}
 use Rattle.sub_answer.specs.Listing.{Gives, IsListed, Listing, Lists, PrintsListing, PrintsOrFails}
 use Rattle.sub_answer.specs.Listing.{followed, has_failed}
-use Rattle.sub_answer.specs.PacketsListing as packets
-use Rattle.sub_answer.specs.PacketsListing.{ReadsPackets, answer_then, frame_lines, packets_from}
-use Rattle.sub_answer.specs.PacketsListing.{pes_listing}
+use Rattle.sub_answer.specs.PacketsListing.{frame_lines, pes_listing}
 use Rattle.sub_answer.specs.ShowListing.{ListsFrom, ReadsFile, ReadsSubtitles, subtitles_listing}
 use Rattle.sub_answer.specs.Told.{line_of, status_of}
 use Rattle.sub_answer.specs.declared.status.Status.{Status}
@@ -210,53 +210,25 @@ gives-last O listing_of given Takes told left o text failed line is exact taken 
 
 -- ---- PES packets
 
--- The next answer of a reader, by the packets that may still come.
-packets_from-room : (room index : ℕ) (bytes : List ℕ)
-    → index + room ≡ most_packets
-    → packets_from room index bytes
-    ≡ answer_then (answer_at index bytes)
-    (packets_from (room - 1) (index + 1) (rest_after bytes))
-unfolding packets_from answer_at
-packets_from-room zero index [] e = refl
-packets_from-room zero index (x ∷ b) e =
-    let last : index ≡ most_packets = omega arith in rw last refl
-packets_from-room (suc room) index bytes e =
-    let less : suc room - 1 ≡ room = omega arith in rw less refl
-
--- The same after `index` of them, by the answer. For `PacketLister`.
-pub packets_from-next :
-    (index : ℕ) (bytes : List ℕ) (answer : Result (Option PesValue) PesFault)
-    → index ≤ most_packets
-    → answer_at index bytes ≡ answer
-    → packets_from (most_packets - index) index bytes
-    ≡ answer_then answer
-    (packets_from (most_packets - (index + 1)) (index + 1) (rest_after bytes))
-packets_from-next index bytes answer few is =
-    let less : most_packets - (index + 1) ≡ most_packets - index - 1 = omega arith in
-    rw (less, ← is) (packets_from-room (most_packets - index) index bytes (omega arith))
-
 -- A PES packet was read, and what is read after it is listed then. For `PacketLister`.
 pub gives-packet :
     (index : ℕ) (v : PesValue) (told left : Option (List ℕ)) (text : List ℕ)
     → index ≤ most_packets
     → TellsPacket (Reading index) told left (Ok (Some v))
     → text ≡ frame_lines index v
-    → Gives (Lists (pes_listing index) (packets_from (most_packets - index) index) ReadsPackets)
-    (Lists (pes_listing (index + 1)) (packets_from (most_packets - (index + 1)) (index + 1))
-    ReadsPackets) told left text None
+    → Gives (Lists (pes_listing index) (outcome_after index) ReadsPackets)
+    (Lists (pes_listing (index + 1)) (outcome_after (index + 1)) ReadsPackets) told left text None
 gives-packet index v told left text few tells lines =
-    gives-next _ (pes_listing index) (pes_listing (index + 1))
-    (packets_from (most_packets - index) index)
-    (packets_from (most_packets - (index + 1)) (index + 1)) ReadsPackets ReadsPackets
-    (packets.gives v) told left text
+    gives-next _ (pes_listing index) (pes_listing (index + 1)) (outcome_after index)
+    (outcome_after (index + 1)) ReadsPackets ReadsPackets (pes.gives v) told left text
     (λ o. ap (λ t. followed t (pes_listing (index + 1) o)) (sym lines))
     (λ o failed end reads. (left, tells.packet, reads))
     (λ bytes is. (
       rest_after bytes,
       tells.left index refl bytes is,
-      packets_from-next index bytes (Ok (Some v)) few (tells.exact index refl bytes is refl),
+      outcome_after-next index bytes (Ok (Some v)) few (tells.exact index refl bytes is refl),
     ))
-    packets.ends
+    pes.ends
 
 -- ---- subtitles
 

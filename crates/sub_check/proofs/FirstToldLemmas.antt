@@ -58,7 +58,7 @@ module _ (origin : ℕ) (bytes : List ℕ) (frames : Transmission) (unread : Opt
     (reads : ReadsAs origin 0 bytes frames unread)
   where
     sound : IsSoundFile (record { frames = frames; unread = unread })
-    sound = subst IsSoundFile reads (file_sound origin (most_packets - 0) bytes)
+    sound = subst IsSoundFile reads (file_sound origin 0 bytes)
 
     packets_whole : EachPacket IsPacket frames
     packets_whole =

@@ -33,7 +33,7 @@ use Rattle.sub_check.specs.Transmission.{SentFrame, Transmission}
 use Rattle.sub_check.specs.declared.checker.Accepted.{Accepted}
 use Rattle.sub_check.specs.declared.event.Event.{Event}
 use Rattle.sub_check.proofs.PacketLists.{Each-push}
-use Rattle.sub_check.proofs.PesFileLemmas.{no_bytes}
+use Rattle.ttx_pes.proofs.ReaderLemmas.{answers_say}
 use Rattle.sub_check.proofs.PesReadingLemmas.{reads_next, reads_end, reads-below}
 
 -- ---- what is told
@@ -297,7 +297,7 @@ module _
       where
         none_left : (u : Option Unread) → EndsReading options.origin n reads.rest u → u ≡ None
             → AreTaken options.origin bytes (take n frames) []
-        none_left None ends e = grind (arith, nat_tests, no_bytes n reads.rest ends)
+        none_left None ends e = grind (arith, nat_tests, (answers_say n reads.rest).0 ends)
         none_left (Some x) ends e = cc
 
     -- What is counted at the end.

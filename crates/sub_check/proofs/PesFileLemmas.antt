@@ -17,17 +17,12 @@ use Rattle.ttx_pes.proofs.ReadingLemmas.{rest_after-packet}
 use Rattle.stl_file.specs.TimeCode.{day}
 use Rattle.sub_check.specs.PacketRules.{packets_of_units}
 use Rattle.sub_check.specs.PesFrames.{Carries, IsSentAs}
-use Rattle.sub_check.specs.PesReading.{LawOfPesFiles, PesFileValue, ReadsAs, file_at, file_by}
+use Rattle.sub_check.specs.PesReading.{LawOfPesFiles, PesFileValue, ReadsAs, file_at}
 use Rattle.sub_check.specs.PesReading.{file_with, frame_of_pts}
 use Rattle.sub_check.specs.Transmission.{Transmission}
-use Rattle.sub_check.proofs.PesReadingLemmas.{found_below, reads-below, reads_ended, reads_more}
-use Rattle.sub_check.proofs.PesReadingLemmas.{step, step_last}
-use Rattle.ttx_pes.proofs.ReaderLemmas.{nothing}
-
--- Where nothing is read and no fault is told, no byte is left. For `sent_of`.
-pub no_bytes : (given : ℕ) (bytes : List ℕ) → answer_at given bytes ≡ Ok None → bytes ≡ []
-unfolding answer_at
-no_bytes given bytes e = grind (arith, nat_tests)
+use Rattle.sub_check.proofs.PesReadingLemmas.{file_at-next, file_by, found_below, reads-below}
+use Rattle.sub_check.proofs.PesReadingLemmas.{reads_ended, reads_more}
+use Rattle.ttx_pes.proofs.ReaderLemmas.{answers_say, nothing}
 
 -- Where a value is read, a packet of it begins the bytes. For `sent_of`.
 packet_of :
@@ -72,7 +67,7 @@ nothing_sent origin given bytes frames few at e =
       packets = [];
       each = tt;
       few = omega arith;
-      joined = no_bytes given bytes at;
+      joined = (answers_say given bytes).0 at;
       sent = tt;
     })
 
@@ -103,47 +98,58 @@ with_packet origin given bytes v frame frames fit at found others_of =
       sent = (record { in_day = is.0; pts = sym is.1; packets = refl }, others.sent);
     }
 
--- What is read to the end are PES packets that are sent as the frames.
-sent_of :
-    (origin m given : ℕ) (bytes : List ℕ) (frames : Transmission)
-    → AreBytes bytes
-    → given + m ≡ most_packets
-    → file_at origin m bytes ≡ record { frames = frames; unread = None }
-    → AreSent origin given bytes frames
-sent_of origin zero given bytes frames fit all reads =
-    grind (arith, step_last, nothing_sent, reads-below)
-sent_of origin (suc m) given bytes frames fit all reads =
-    go (answer_at given bytes) refl (sym (step origin m given bytes all) ∙ reads)
-    (λ fits e.
-    sent_of origin m (given + 1) (rest_after bytes) (file_at origin m (rest_after bytes)).frames
-    fits (omega arith) e)
-  where
-    Others : Type 0
-    Others =
-        AreBytes (rest_after bytes)
-        → file_at origin m (rest_after bytes)
-        ≡ record { frames = (file_at origin m (rest_after bytes)).frames; unread = None }
-        → AreSent origin (given + 1) (rest_after bytes)
-        (file_at origin m (rest_after bytes)).frames
+-- What is read after one more PES packet is sent. For `sent_of`.
+abbrev OthersAreSent : ℕ → ℕ → List ℕ → Type 0
+OthersAreSent origin given bytes =
+    let others = file_at origin (given + 1) (rest_after bytes) in
+    AreBytes (rest_after bytes)
+    → others ≡ record { frames = others.frames; unread = None }
+    → AreSent origin (given + 1) (rest_after bytes) others.frames
 
+-- What is read to the end is sent, where what follows its first packet is. For `sent_of`.
+sent_by :
+    (origin given : ℕ) (bytes : List ℕ) (frames : Transmission)
+    → AreBytes bytes
+    → given ≤ most_packets
+    → file_at origin given bytes ≡ record { frames = frames; unread = None }
+    → ((v : PesValue) → answer_at given bytes ≡ Ok (Some v) → OthersAreSent origin given bytes)
+    → AreSent origin given bytes frames
+sent_by origin given bytes frames fit few reads others =
+    go (answer_at given bytes) refl (sym (file_at-next origin given bytes few) ∙ reads)
+  where
     found :
         (v : PesValue) (o : Option ℕ)
         → answer_at given bytes ≡ Ok (Some v)
         → frame_of_pts origin v.pts ≡ o
-        → file_with o (packets_of_units v.units) (file_at origin m (rest_after bytes))
+        → file_with o (packets_of_units v.units) (file_at origin (given + 1) (rest_after bytes))
         ≡ record { frames = frames; unread = None }
-        → Others
+        → OthersAreSent origin given bytes
         → AreSent origin given bytes frames
     found v o at is e others = grind (arith, nat_tests, with_packet)
 
     go :
         (r : Result (Option PesValue) PesFault)
         → answer_at given bytes ≡ r
-        → file_by origin r (file_at origin m (rest_after bytes))
+        → file_by origin r (file_at origin (given + 1) (rest_after bytes))
         ≡ record { frames = frames; unread = None }
-        → Others
         → AreSent origin given bytes frames
-    go r at e others = grind (arith, nat_tests, nothing_sent, found)
+    go (Ok None) at e = nothing_sent origin given bytes frames few at e
+    go (Ok (Some v)) at e = found v (frame_of_pts origin v.pts) at refl e (others v at)
+    go (Err f) at e = let unread = ap (λ (x : PesFileValue). x.unread) e in absurd cc
+
+-- What is read to the end are PES packets that are sent as the frames.
+sent_of :
+    (origin m given : ℕ) (bytes : List ℕ) (frames : Transmission)
+    → AreBytes bytes
+    → given + m ≡ most_packets
+    → file_at origin given bytes ≡ record { frames = frames; unread = None }
+    → AreSent origin given bytes frames
+sent_of origin zero given bytes frames fit all reads =
+    sent_by origin given bytes frames fit (omega arith) reads
+    (λ v at. absurd (reads-below given bytes v at (omega arith)))
+sent_of origin (suc m) given bytes frames fit all reads =
+    sent_by origin given bytes frames fit (omega arith) reads
+    (λ v at fits e. sent_of origin m (given + 1) (rest_after bytes) _ fits (omega arith) e)
 
 -- PES packets that are sent as frames are read as these.
 reads_of :

@@ -6,9 +6,11 @@ use Rattle.std.proofs.Common.{◌≤◌, inl, inr, List, [], ◌∷◌, length, 
 use Rattle.std.proofs.Common.{Option, Some, None, Result, Ok, Err, refl, sym, ap, ◌∙◌, arith}
 use Rattle.std.specs.Prelude.{OnOk}
 use Rattle.std.proofs.lemmas.List.{get_or-map, get_or-drop, length-drop, drop-drop}
-use Rattle.std.proofs.lemmas.Bool.{cases_lt}
+use Rattle.ttx_pes.specs.Outcome.{PesOutcome, answer_then, outcome_after}
 use Rattle.ttx_pes.specs.PesPacket.{PesValue}
 use Rattle.ttx_pes.specs.Reading.{answer_at, rest_after, most_packets}
+use Rattle.ttx_pes.specs.declared.fault.PesFault.{PesFault}
+use Rattle.ttx_pes.proofs.OutcomeLemmas.{outcome_after-next}
 use Rattle.sub_check.specs.Checking.{IsFrameOf}
 use Rattle.sub_check.specs.Following.{IsSentFrame}
 use Rattle.sub_check.specs.FrameRules.{Unread}
@@ -16,7 +18,8 @@ use Rattle.sub_check.specs.PacketRules.{packets_of_units}
 use Rattle.stl_file.specs.TimeCode.{day}
 use Rattle.sub_plan.specs.FrameTime.{pts_of}
 use Rattle.sub_check.specs.PesFrames.{IsSentAs}
-use Rattle.sub_check.specs.PesReading.{EndsReading, PesFileValue, ReadsAs, file_at, file_by}
+use Rattle.sub_check.specs.FrameRules.Unread.{BadPacket}
+use Rattle.sub_check.specs.PesReading.{EndsReading, PesFileValue, ReadsAs, file_at, file_of}
 use Rattle.sub_check.specs.PesReading.{file_with, frame_below, frame_of_pts}
 use Rattle.sub_check.specs.Transmission.{SentFrame, Transmission}
 
@@ -79,46 +82,31 @@ no_frame_found origin pts none =
 
 -- ---- the value of a file, one PES packet on
 
+-- What a reader of PES packets answers, and then a file.
+abbrev pub file_by : ℕ → Result (Option PesValue) PesFault → PesFileValue → PesFileValue
+file_by origin (Err f) rest = record { frames = []; unread = Some (BadPacket f) }
+file_by origin (Ok None) rest = record { frames = []; unread = None }
+file_by origin (Ok (Some v)) rest =
+    file_with (frame_of_pts origin v.pts) (packets_of_units v.units) rest
+
+-- The file of an answer and of what comes then.
+pub file_of-then :
+    (origin : ℕ) (answer : Result (Option PesValue) PesFault) (more : PesOutcome)
+    → file_of origin (answer_then answer more) ≡ file_by origin answer (file_of origin more)
+file_of-then origin (Err f) more = refl
+file_of-then origin (Ok None) more = refl
+file_of-then origin (Ok (Some v)) more = refl
+
 -- A file is what its first PES packet is, and then the file of the others.
-pub step :
-    (origin m given : ℕ) (bytes : List ℕ)
-    → given + suc m ≡ most_packets
-    → file_at origin (suc m) bytes
-    ≡ file_by origin (answer_at given bytes) (file_at origin m (rest_after bytes))
-unfolding file_at
-step origin m given bytes e = grind arith
-
--- The same after `given` PES packets.
-step_after :
-    (origin given : ℕ) (bytes : List ℕ)
-    → given < most_packets
-    → file_at origin (most_packets - given) bytes
-    ≡ file_by origin (answer_at given bytes)
-    (file_at origin (most_packets - (given + 1)) (rest_after bytes))
-step_after origin given bytes l = grind (arith, step)
-
--- The same where no more may follow.
-pub step_last :
-    (origin : ℕ) (bytes : List ℕ)
-    → file_at origin zero bytes
-    ≡ file_by origin (answer_at most_packets bytes) (record { frames = []; unread = None })
-unfolding file_at
-step_last origin bytes = refl
-
--- The same with some file for the others.
-some_step :
+pub file_at-next :
     (origin given : ℕ) (bytes : List ℕ)
     → given ≤ most_packets
-    → (rest : PesFileValue)
-    × (file_at origin (most_packets - given) bytes
-    ≡ file_by origin (answer_at given bytes) rest)
-some_step origin given bytes l =
-    elim (cases_lt given most_packets) [
-      | inl below ↦ (grind (arith, nat_tests, step_after origin given bytes below))
-      | inr here ↦ let is : given ≡ most_packets = omega arith in
-          let none : most_packets - given ≡ zero = omega arith in
-          (grind (arith, nat_tests, step_last origin bytes))
-    ]
+    → file_at origin given bytes
+    ≡ file_by origin (answer_at given bytes) (file_at origin (given + 1) (rest_after bytes))
+unfolding file_at
+file_at-next origin given bytes few =
+    ap (file_of origin) (outcome_after-next given bytes (answer_at given bytes) few refl)
+    ∙ file_of-then origin (answer_at given bytes) (outcome_after (given + 1) (rest_after bytes))
 
 -- What a file is of which no frame is read.
 ended :
@@ -134,7 +122,7 @@ pub reads_ended :
     → EndsReading origin given bytes u
     → ReadsAs origin given bytes [] u
 reads_ended origin given bytes u few ends =
-    let s = some_step origin given bytes few in s.1 ∙ ended origin given bytes u s.0 ends
+    file_at-next origin given bytes few ∙ ended origin given bytes u _ ends
 
 -- A PES packet is read only after fewer than the most.
 pub reads-below :
@@ -151,11 +139,15 @@ begins :
     → answer_at given bytes ≡ Ok (Some v)
     → frame < day
     → pts_of origin frame ≡ v.pts
-    → file_at origin (most_packets - given) bytes
+    → file_at origin given bytes
     ≡ file_with (Some frame) (packets_of_units v.units)
-    (file_at origin (most_packets - (given + 1)) (rest_after bytes))
+    (file_at origin (given + 1) (rest_after bytes))
 begins origin given bytes v frame few is in_day pts =
-    grind (arith, reads-below, step_after, frame_found)
+    let rest = file_at origin (given + 1) (rest_after bytes) in
+    file_at-next origin given bytes few
+    ∙ ap (λ (r : Result (Option PesValue) PesFault). file_by origin r rest) is
+    ∙ ap (λ (o : Option ℕ). file_with o (packets_of_units v.units) rest)
+    (frame_found origin v.pts frame in_day pts)
 
 -- A PES packet that is sent as a frame comes before the others.
 pub reads_more :
@@ -192,7 +184,7 @@ pub reads_next :
     → IsFrameOf origin v.pts frame
     → ReadsNext origin n bytes frames unread v frame
 reads_next origin n bytes frames unread v frame few reads is of =
-    let rest = file_at origin (most_packets - (n + 1)) (rest_after bytes) in
+    let rest = file_at origin (n + 1) (rest_after bytes) in
     let s : SentFrame = record { frame = frame; packets = packets_of_units v.units } in
     let whole = sym reads ∙ begins origin n bytes v frame few is of.in_day of.is in
     let all : drop n frames ≡ s ∷ rest.frames = ap (λ (f : PesFileValue). f.frames) whole in

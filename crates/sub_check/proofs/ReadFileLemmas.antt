@@ -1,9 +1,9 @@
 -- What is read of any bytes: packets are whole, and no fault is a device's. Main lemma: `file_sound`.
-use Rattle.std.proofs.Common.{◌≡◌, ℕ, zero, suc, ◌-◌, ◌*◌, ◌/◌, ◌%◌, ◌<◌, ◌≤◌, Bool, true, false}
+use Rattle.std.proofs.Common.{◌≡◌, ℕ, zero, suc, ◌+◌, ◌-◌, ◌*◌, ◌/◌, ◌%◌, ◌<◌, ◌≤◌, Bool, true, false}
 use Rattle.std.proofs.Common.{List, [], ◌∷◌, ◌++◌, length, map, take, drop, slice_index}
 use Rattle.std.proofs.Common.{Option, None, Some, Result, Ok, Err, MatchResult, IfSome, cond, refl}
 use Rattle.std.proofs.Common.{◌==◌, ◌&&◌, not, nat_le, nat_lt, if◌then◌else◌}
-use Rattle.std.proofs.Common.{◌∙◌, subst, arith, length-take, length-drop}
+use Rattle.std.proofs.Common.{◌∙◌, sym, subst, arith, length-take, length-drop}
 use Rattle.std.proofs.lemmas.List.{length-map}
 use Rattle.std.specs.List.{AllByRecursion}
 use Rattle.std.specs.Prelude.{⊤}
@@ -13,6 +13,7 @@ use Rattle.ttx_packet.specs.PacketAddress.{IsPacket}
 use Rattle.ttx_pes.specs.DataUnit.{UnitValue, data_unit_length, framing_code, is_teletext}
 use Rattle.ttx_pes.specs.LineOrder.{last_place, stands_after}
 use Rattle.ttx_pes.specs.Fault.{is_read, is_write}
+use Rattle.ttx_pes.specs.Outcome.{packets_from}
 use Rattle.ttx_pes.specs.PesPacket.{PesValue, header_data_length, longest_packet, payload_size}
 use Rattle.ttx_pes.specs.Reading.{answer_at, byte_at, has_markers, is_start, most_packets}
 use Rattle.ttx_pes.specs.Reading.{packet_at}
@@ -22,9 +23,10 @@ use Rattle.ttx_pes.specs.declared.fault.PesFault.{PesFault}
 use Rattle.ttx_pes.specs.declared.fault.PesFault.TheVariants as fault
 use Rattle.sub_check.specs.FrameRules.Unread.{BadPacket}
 use Rattle.sub_check.specs.PacketRules.{packets_of_units}
-use Rattle.sub_check.specs.PesReading.{PesFileValue, file_at, file_by, file_with, frame_of_pts}
+use Rattle.sub_check.specs.PesReading.{PesFileValue, file_at, file_of, file_with, frame_of_pts}
 use Rattle.sub_check.specs.Transmission.{SentFrame}
 use Rattle.sub_check.proofs.PacketLists.{Each-push}
+use Rattle.sub_check.proofs.PesReadingLemmas.{file_by, file_of-then}
 
 -- ---- answers
 
@@ -232,11 +234,19 @@ by_sound origin (Ok (Some v)) rest h sound = go (frame_of_pts origin v.pts)
       fault = sound.fault;
     }
 
-pub file_sound : (origin n : ℕ) (b : List ℕ) → IsSoundFile (file_at origin n b)
+-- What comes of bytes.
+outcome_sound : (origin room given : ℕ) (b : List ℕ)
+    → IsSoundFile (file_of origin (packets_from room given b))
+unfolding packets_from
+outcome_sound origin zero given [] = record { whole = tt; fault = λ g e. cc }
+outcome_sound origin zero given (x ∷ b) =
+    by_sound origin (Err fault.TooMany) (record { frames = []; unread = None })
+    (refused IsWholeAnswer fault.TooMany refl refl) (record { whole = tt; fault = λ g e. cc })
+outcome_sound origin (suc room) given b =
+    subst IsSoundFile (sym (file_of-then origin (answer_at given b) _))
+    (by_sound origin (answer_at given b) _ (answer_sound given b)
+    (outcome_sound origin room (given + 1) (rest_after b)))
+
+pub file_sound : (origin given : ℕ) (b : List ℕ) → IsSoundFile (file_at origin given b)
 unfolding file_at
-file_sound origin zero b =
-    by_sound origin (answer_at most_packets b) _ (answer_sound most_packets b)
-    (record { whole = tt; fault = λ g e. cc })
-file_sound origin (suc n) b =
-    by_sound origin (answer_at (most_packets - suc n) b) _ (answer_sound (most_packets - suc n) b)
-    (file_sound origin n (rest_after b))
+file_sound origin given b = outcome_sound origin (most_packets - given) given b

@@ -1,11 +1,11 @@
 -- A PES file as one value: the frames that its bytes are read as, by the PTS of frame 0 (EN 300
 -- 472, PTS), and what keeps it from being read to its end.
-use Rattle.std.specs.Prelude.{◌≡◌, ◌≢◌, ◌↔◌, ℕ, zero, suc, ◌-◌, ◌<◌, ◌==◌, if◌then◌else◌, List, []}
-use Rattle.std.specs.Prelude.{◌∷◌, Option, Some, None, Result, Ok, Err}
+use Rattle.std.specs.Prelude.{◌≡◌, ◌≢◌, ◌↔◌, ℕ, zero, suc, ◌<◌, ◌==◌, if◌then◌else◌, List, []}
+use Rattle.std.specs.Prelude.{◌∷◌, Option, Some, None, Ok, Err}
 use Rattle.sub_io.specs.Reading.{AreBytes}
 use Rattle.ttx_pes.specs.PesPacket.{PesValue}
-use Rattle.ttx_pes.specs.Reading.{answer_at, most_packets, rest_after}
-use Rattle.ttx_pes.specs.declared.fault.PesFault.{PesFault}
+use Rattle.ttx_pes.specs.Outcome.{PesOutcome, ends, fails, gives, outcome_after}
+use Rattle.ttx_pes.specs.Reading.{answer_at}
 use Rattle.stl_file.specs.TimeCode.{day}
 use Rattle.sub_plan.specs.FrameTime.{pts_of}
 use Rattle.sub_check.specs.FrameRules.{Unread}
@@ -39,29 +39,25 @@ file_with (Some frame) packets rest = record {
   unread = rest.unread;
 }
 
--- What a reader of PES packets answers, and then a file.
-abbrev pub file_by : ℕ → Result (Option PesValue) PesFault → PesFileValue → PesFileValue
-file_by origin (Err f) rest = record { frames = []; unread = Some (BadPacket f) }
-file_by origin (Ok None) rest = record { frames = []; unread = None }
-file_by origin (Ok (Some v)) rest =
-    file_with (frame_of_pts origin v.pts) (packets_of_units v.units) rest
+-- What comes of PES bytes, as a file.
+abbrev pub file_of : ℕ → PesOutcome → PesFileValue
+file_of origin ends = record { frames = []; unread = None }
+file_of origin (fails f) = record { frames = []; unread = Some (BadPacket f) }
+file_of origin (gives v more) =
+    file_with (frame_of_pts origin v.pts) (packets_of_units v.units) (file_of origin more)
 
--- What these bytes are read as, where as many more PES packets may follow as the first number says.
+-- What the bytes that are left after `given` PES packets are read as.
 unfoldable pub file_at : ℕ → ℕ → List ℕ → PesFileValue
-file_at origin zero bytes =
-    file_by origin (answer_at most_packets bytes) (record { frames = []; unread = None })
-file_at origin (suc more) bytes =
-    file_by origin (answer_at (most_packets - suc more) bytes)
-    (file_at origin more (rest_after bytes))
+file_at origin given bytes = file_of origin (outcome_after given bytes)
 
 -- What the bytes of a PES file are read as.
 abbrev pub pes_file_of : ℕ → List ℕ → PesFileValue
-pes_file_of origin bytes = file_at origin most_packets bytes
+pes_file_of origin bytes = file_at origin 0 bytes
 
 -- After `given` PES packets the bytes are read as these frames, up to what is unread.
 abbrev pub ReadsAs : ℕ → ℕ → List ℕ → Transmission → Option Unread → Type 0
 ReadsAs origin given bytes frames unread =
-    file_at origin (most_packets - given) bytes ≡ record { frames = frames; unread = unread }
+    file_at origin given bytes ≡ record { frames = frames; unread = unread }
 
 -- After `given` PES packets no frame is read of the bytes: they are at their end, or no PES
 -- packet begins them, by this fault, or one does whose PTS is that of no frame of the day.

@@ -9,5 +9,6 @@ pub mod RefusalLemmas
 pub mod TakingLemmas
 pub mod KeptFrameLemmas
 pub mod ReaderLemmas
+pub mod OutcomeLemmas
 pub mod SameBytesLemmas
 pub mod TakenPackets

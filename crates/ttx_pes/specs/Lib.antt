@@ -4,6 +4,7 @@ pub mod PesPacket
 pub mod Reading
 pub mod Refusal
 pub mod Reader
+pub mod Outcome
 pub mod Laws
 pub mod Fault
 pub mod Taking

@@ -1,12 +1,12 @@
 //! `packets PES`: lists PES packets and their Teletext units.
 ghost use Rattle.std.specs.Prelude.{◌≡◌, ◌+◌, ◌-◌, ◌<◌, ◌≤◌, ◌++◌, [], None};
 ghost use Rattle.arrayvec.specs.ArrayVec.{array_vec_len};
+ghost use Rattle.ttx_pes.specs.Outcome.{ReadsPackets, outcome_after};
 ghost use Rattle.ttx_pes.specs.Reading.{most_packets};
 ghost use Rattle.ttx_pes.specs.declared.progress.Progress.TheVariants.{Reading};
 ghost use Rattle.sub_answer.specs.Lines.{unit_line};
 ghost use Rattle.sub_answer.specs.Listing.{Lists};
-ghost use Rattle.sub_answer.specs.PacketsListing.{ReadsPackets, frame_lines, packets_from};
-ghost use Rattle.sub_answer.specs.PacketsListing.{pes_listing};
+ghost use Rattle.sub_answer.specs.PacketsListing.{frame_lines, pes_listing};
 
 use crate::faults::told_of_check;
 use crate::lines::{push_lower_hex, push_number, push_text};
@@ -55,8 +55,7 @@ impl Lister for PacketLister {
 
     ghost pieces = { λ l. most_packets - l.index };
 
-    ghost lists = { λ l. Lists (pes_listing l.index)
-        (packets_from (most_packets - l.index) l.index) ReadsPackets };
+    ghost lists = { λ l. Lists (pes_listing l.index) (outcome_after l.index) ReadsPackets };
 
     fn next<S: Source>(&mut self, source: &mut S, text: &mut Text) -> Option<Status> {
         match self.reader.next(source) {

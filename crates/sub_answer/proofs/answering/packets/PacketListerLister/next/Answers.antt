@@ -1,10 +1,10 @@
--- The lines of one PES packet more, and the last ones: gives-packet, gives-last, packets_from-next.
+-- The lines of one PES packet more, and the last ones: gives-packet, gives-last, outcome_after-next.
 use Rattle.std.proofs.Common.{◌≡◌, ◌-◌, refl, rules, sym, Err, None, Ok, Some, false}
 use Rattle.ttx_pes.specs.Fault.{is_read}
-use Rattle.ttx_pes.specs.Reading.{most_packets}
-use Rattle.sub_answer.specs.PacketsListing.{ReadsPackets, ends, fails, packets_from, pes_listing}
+use Rattle.ttx_pes.specs.Outcome.{ReadsPackets, ends, fails, outcome_after}
+use Rattle.ttx_pes.proofs.OutcomeLemmas.{outcome_after-next}
+use Rattle.sub_answer.specs.PacketsListing.{pes_listing}
 use Rattle.sub_answer.proofs.ListingLemmas.{gives-last, gives-packet, kind_by-failed}
-use Rattle.sub_answer.proofs.ListingLemmas.{packets_from-next}
 use Rattle.sub_answer.proofs.answering.packets.PacketListerLister.next.Goals as goal
 
 pub returns-in-Ok-End-clause-gives : goal.returns-in-Ok-End-clause-gives
@@ -12,10 +12,10 @@ returns-in-Ok-End-clause-gives g c =
     let index = c.args.self.now.index in
     let tells = rw (c.in-Ok-End.field-0-is, c.requires.ready.0) at c.in-Ok-End.ensures.tells in
     rw c.end_at.ensures.end
-    (gives-last _ (pes_listing index) (packets_from (most_packets - index) index) ReadsPackets _ _
+    (gives-last _ (pes_listing index) (outcome_after index) ReadsPackets _ _
     ends _ false c.end_at.ensures.line refl
     (λ bytes told ok.
-    sym (packets_from-next index bytes (Ok None) c.requires.ready.1
+    sym (outcome_after-next index bytes (Ok None) c.requires.ready.1
     (tells.exact index refl bytes told refl)))
     refl)
 
@@ -40,9 +40,9 @@ returns-in-Err-clause-gives g c =
     let tells = rw c.requires.ready.0 at c.in-Err.ensures.tells in
     let end : c.end_with.result ≡ Some (pes_listing index (fails f)).status = search rules in
     rw end
-    (gives-last _ (pes_listing index) (packets_from (most_packets - index) index) ReadsPackets _ _
+    (gives-last _ (pes_listing index) (outcome_after index) ReadsPackets _ _
     (fails f) c.end_with.new.text.items (is_read f) (search rules) (kind_by-failed (is_read f))
     (λ bytes told ok.
-    sym (packets_from-next index bytes (Err f) c.requires.ready.1
+    sym (outcome_after-next index bytes (Err f) c.requires.ready.1
     (tells.exact index refl bytes told ok)))
     (refl, tells.within, tells.refused))
