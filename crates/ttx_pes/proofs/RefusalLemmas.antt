@@ -44,29 +44,21 @@ held_if_read : (b : List ℕ) (r : PesValue × List ℕ)
     → packet_at b ≡ Ok r
     → (j : ℕ) → get_or (tests b (told_units b)) j true ≡ true
 held_if_read b r read =
-    let asked = packet_asked b in
+    let asked = sym (packet_asked b) ∙ ap refusal read in
     elim (tests_cases 0 (tests b (told_units b))) [
       | inl all ↦ all.0
-      | inr found ↦
-          let none : refusal (packet_at b) ≡ None = ap refusal read in
-          let told = found.told in
-          absurd cc
+      | inr found ↦ let told = found.told in absurd cc
     ]
 
 read_if_held : (b : List ℕ)
     → ((j : ℕ) → get_or (tests b (told_units b)) j true ≡ true)
     → (r : PesValue × List ℕ) × (packet_at b ≡ Ok r)
-read_if_held b all = elim (tests_cases 0 (tests b (told_units b))) [
-  | inr found ↦ let held = all found.at in let wrong = found.wrong in absurd cc
-  | inl none ↦ elim (answer_cases (packet_at b)) [
-    | inl read ↦ read
-    | inr (f, bad) ↦
-        let asked = packet_asked b in
-        let told : refusal (packet_at b) ≡ Some f = ap refusal bad in
-        let nothing = none.1 in
-        absurd cc
-  ]
-]
+read_if_held b all =
+    let asked = packet_asked b in
+    elim (tests_cases 0 (tests b (told_units b))) [
+      | inr found ↦ let held = all found.at in let wrong = found.wrong in absurd cc
+      | inl none ↦ let nothing = none.1 in grind (arith, nat_tests, answer_cases (packet_at b))
+    ]
 
 -- ---- bytes that agree hold the same tests
 

@@ -3,6 +3,7 @@
 use Rattle.std.proofs.Common.{◌≡◌, ◌≢◌, ℕ, ◌<◌, ◌≤◌, List, [], ◌++◌, length, take, drop, Option}
 use Rattle.std.proofs.Common.{None, Some, Result, Ok, Err, refl, sym, ap, subst, ◌∙◌, append_assoc}
 use Rattle.std.proofs.Common.{arith, inr, length-append, length-take, length-drop, true}
+use Rattle.std.proofs.lemmas.Bool.Decides.{nat_tests}
 use Rattle.std.proofs.lemmas.List.{take-append-drop, append-nil, take-take, drop-drop}
 use Rattle.std.proofs.lemmas.List.{length-take-le}
 use Rattle.std.specs.Prelude.{IfErr, IfOk}
@@ -221,17 +222,12 @@ pub tells_end : (given : ℕ) (old new : Option (List ℕ)) (taken : List ℕ)
     → taken ≡ []
     → IsAtEnd new
     → TellsPacket (Reading given) old new (Ok None)
-tells_end given old new taken h none end = record {
-  packet = tt;
-  exact = λ n _ bytes told _. nothing n bytes (none_taken old new bytes taken h told none end).0;
-  left = λ n _ bytes told. (none_taken old new bytes taken h told none end).1;
-  refused = tt;
-  too_many = tt;
-  within = λ e. absurd cc;
-  at_end = λ e. absurd cc;
-  ended = (λ e. absurd cc, λ e. absurd cc);
-  no_write = tt;
-}
+tells_end given old new taken h none end =
+    let ends : (bytes : List ℕ)
+    → old ≡ Some bytes
+    → (bytes ≡ []) × (new ≡ Some (rest_after bytes)) =
+    λ bytes told. none_taken old new bytes taken h told none end in
+    grind (arith, nat_tests, ends, nothing)
 
 -- A byte after the most packets.
 pub tells_too_many : (given : ℕ) (old new : Option (List ℕ)) (taken : List ℕ)
@@ -239,33 +235,13 @@ pub tells_too_many : (given : ℕ) (old new : Option (List ℕ)) (taken : List �
     → 0 < length taken
     → given ≡ most_packets
     → TellsPacket (Reading given) old new (Err fault.TooMany)
-tells_too_many given old new taken h some full = record {
-  packet = tt;
-  exact = λ n is bytes told _. too_many n old new bytes taken h told some (cc);
-  left = λ n is bytes told. tt;
-  refused = λ e. absurd cc;
-  too_many = λ _. ap (λ (n : ℕ). Reading n) full;
-  within = λ e. absurd cc;
-  at_end = λ e. absurd cc;
-  ended = (λ e. absurd cc, λ e. absurd cc);
-  no_write = λ e. absurd cc;
-}
+tells_too_many given old new taken h some full = grind (arith, nat_tests, too_many)
 
 -- The source failed.
 pub tells_failed : (given : ℕ) (old new : Option (List ℕ))
     → FailsWithin old new
     → TellsPacket (Reading given) old new (Err fault.Read)
-tells_failed given old new h = record {
-  packet = tt;
-  exact = λ n is bytes told e. absurd cc;
-  left = λ n is bytes told. tt;
-  refused = λ e. absurd cc;
-  too_many = λ e. absurd cc;
-  within = λ _. h;
-  at_end = λ e. absurd cc;
-  ended = (λ e. absurd cc, λ e. absurd cc);
-  no_write = λ e. absurd cc;
-}
+tells_failed given old new h = grind (arith, nat_tests)
 
 -- What the bytes that were taken settle.
 pub tells_settled : (given : ℕ) (old new : Option (List ℕ)) (taken : List ℕ)
@@ -277,30 +253,13 @@ pub tells_settled : (given : ℕ) (old new : Option (List ℕ)) (taken : List �
     → TellsPacket (Reading given) old new (r >>= λ v. Ok (Some v))
 tells_settled given old new taken (Ok v) h ne fit kind =
     let packet = settled_packet old new taken v h fit in
-    record {
-      packet = packet;
-      exact = λ n is bytes told _.
-          settled_answer n old new taken bytes (Ok v) h (λ full. ne (cc)) told;
-      left = λ n is bytes told. packet_left old new v bytes packet told;
-      refused = tt;
-      too_many = tt;
-      within = λ e. absurd cc;
-      at_end = λ e. absurd cc;
-      ended = (λ e. absurd cc, λ e. absurd cc);
-      no_write = tt;
-    }
-tells_settled given old new taken (Err f) h ne fit kind = record {
-  packet = tt;
-  exact = λ n is bytes told _.
-      settled_answer n old new taken bytes (Err f) h (λ full. ne (cc)) told;
-  left = λ n is bytes told. tt;
-  refused = λ _. settled_refusal old new taken f h;
-  too_many = λ e. let none = rw e at kind in absurd cc;
-  within = λ e. let none = format_not_read PesValue f kind in absurd cc;
-  at_end = λ e. absurd cc;
-  ended = (
-    λ e. absurd cc,
-    λ e. let same : f ≡ fault.Ended = cc in let none = rw same at kind in absurd cc,
-  );
-  no_write = λ e. let none = rw e at kind in absurd cc;
-}
+    let exact : (bytes : List ℕ) → old ≡ Some bytes → answer_at given bytes ≡ Ok (Some v) =
+    λ bytes. settled_answer given old new taken bytes (Ok v) h ne in
+    let left : (bytes : List ℕ) → old ≡ Some bytes → new ≡ Some (rest_after bytes) =
+    λ bytes. packet_left old new v bytes packet in
+    grind (arith, nat_tests, exact, left)
+tells_settled given old new taken (Err f) h ne fit kind =
+    let exact : (bytes : List ℕ) → old ≡ Some bytes → answer_at given bytes ≡ Err f =
+    λ bytes. settled_answer given old new taken bytes (Err f) h ne in
+    let refused = settled_refusal old new taken f h in
+    grind (arith, nat_tests, exact)
