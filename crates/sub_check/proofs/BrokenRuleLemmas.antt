@@ -1,8 +1,7 @@
 -- The first of the rules that a packet breaks, as tests tell it: `broken_first`.
-use Rattle.std.proofs.Common.{◌≡◌, ℕ, zero, suc, ◌<◌, inl, inr, Bool, true, false}
-use Rattle.std.proofs.Common.{not, ◌&&◌, List, [], ◌∷◌, Option, Some, None, option_map, refl}
-use Rattle.std.proofs.Common.{sym, ap, ◌∙◌, arith, length, get_or, subst, is_some}
-use Rattle.std.proofs.Common.{All, IsTrue, if◌then◌else◌}
+use Rattle.std.proofs.Common.{◌≡◌, ℕ, zero, suc, ◌<◌, inl, inr, Bool, true, false, not, ◌&&◌, List}
+use Rattle.std.proofs.Common.{[], ◌∷◌, Option, Some, None, option_map, refl, sym, ap, ◌∙◌, arith}
+use Rattle.std.proofs.Common.{length, get_or, subst, is_some, All, IsTrue, drop, if◌then◌else◌}
 use Rattle.std.specs.Bool.{Decides}
 use Rattle.std.specs.List.{AllByRecursion, filter, list_any}
 use Rattle.std.proofs.lemmas.Bool.{cases_Bool, true≢false}
@@ -24,12 +23,10 @@ use Rattle.ttx_page.proofs.SpanLists.{find_none}
 use Rattle.ttx_page.specs.PacketKind.{is_row, is_some_row, kind}
 use Rattle.ttx_page.specs.Span.{is_open_after, span}
 use Rattle.ttx_page.specs.declared.packet_kind.PacketKind.{PacketKind}
-use Rattle.ttx_page.specs.declared.packet_kind.PacketKind.TheVariants.{EndsPage, Other, Row}
-use Rattle.ttx_page.specs.declared.packet_kind.PacketKind.TheVariants.{ThisPage}
+use Rattle.ttx_page.specs.declared.packet_kind.PacketKind.TheVariants.{Row, ThisPage}
 use Rattle.stl_rows.specs.declared.national.National.{National}
 use Rattle.sub_check.specs.Good.{IsCleanSpan, IsEnhancement, IsSubtitleHeader}
-use Rattle.sub_check.specs.PacketRules.{KeepsRule, codes_of, first_header}
-use Rattle.sub_check.specs.PacketRules.{rank}
+use Rattle.sub_check.specs.PacketRules.{KeepsRule, codes_of, first_header, rank}
 use Rattle.sub_check.specs.PacketTests.{are_code_words, breaks, broken_rules, is_of_header}
 use Rattle.sub_check.specs.PacketTests.{is_of_enhancement, is_other_mode, is_other_row}
 use Rattle.sub_check.specs.PacketTests.{is_other_text, is_same_bit, is_subtitle_header}
@@ -72,15 +69,7 @@ one_mode : (this first : Option Header)
 one_mode None None = (λ e h f a b. grind arith, λ h. refl)
 one_mode None (Some f) = (λ e h f a b. grind arith, λ h. ap not (mode-none (Some (c11 f))))
 one_mode (Some h) None = (λ e h f a b. grind arith, λ h. refl)
-one_mode (Some h) (Some f) = both (c11 h) (c11 f) refl refl
-  where
-    both : (x y : Bool) → c11 h ≡ x → c11 f ≡ y
-        → Refutes (is_other_mode (Some (c11 f)) (Some (c11 h)))
-        ((a b : Header) → Some h ≡ Some a → Some f ≡ Some b → c11 a ≡ c11 b)
-    both true true e d = (λ _ a b i j. grind arith, λ _. grind arith)
-    both false false e d = (λ _ a b i j. grind arith, λ _. grind arith)
-    both true false e d = (λ n a b i j. grind arith, λ k. let s = k h f refl refl in grind arith)
-    both false true e d = (λ n a b i j. grind arith, λ k. let s = k h f refl refl in grind arith)
+one_mode (Some h) (Some f) = grind (arith, nat_tests)
 
 -- Two bits are the same.
 same_bit : (a b : Bool) → Decides (is_same_bit a b) (a ≡ b)
@@ -93,14 +82,10 @@ subtitle_header national h =
     grind (arith, nat_tests, Decides-like, is_subtitle_header, Decides-and, holds, fails, same_bit)
 
 pub controlled : (national : National) (k : PacketKind)
-    → Refutes (is_wrong_header national k) ((h : Header) → k ≡ ThisPage h → IsSubtitleHeader national h)
-controlled national (ThisPage h) = let d = subtitle_header national h in (
-  λ e other is. grind (arith, nat_tests),
-  λ k. let s = k h refl in grind (arith, nat_tests),
-)
-controlled national EndsPage = (λ e h is. grind arith, λ h. refl)
-controlled national (Row row) = (λ e h is. grind arith, λ h. refl)
-controlled national Other = (λ e h is. grind arith, λ h. refl)
+    → Refutes (is_wrong_header national k)
+    ((h : Header) → k ≡ ThisPage h → IsSubtitleHeader national h)
+controlled national (ThisPage h) = grind (arith, nat_tests, subtitle_header)
+controlled national k = (λ e h is. grind arith, λ h. refl)
 
 -- The text's parity.
 pub odd_text : (p : List ℕ) → Refutes (is_some (first_even_byte p)) (HasOddText p)
@@ -222,7 +207,8 @@ module _ (w : Watched) (packets : List (List ℕ)) (s : IsSoundSpan w packets) (
         (recursion_from_All (IsSameRow w.page q.0) packets q.3.2))
         (λ all. let other = Each-find (λ q. is_row row (kind w.page q))
         (λ x. kind w.page x ≡ Row row → x ≡ p) packets e all in
-        same_Some _ _ (sym q.1 ∙ other.1) ∙ other.3 (row_from_test row (kind w.page other.0) other.2))
+        same_Some _ _ (sym q.1 ∙ other.1)
+        ∙ other.3 (row_from_test row (kind w.page other.0) other.2))
         (found q.0 k q.3))
     | inr e ↦
         subst (λ o. Refutes (is_other_text o (codes_of p)) EachSame)
@@ -258,34 +244,15 @@ module _ (test : PacketRule → Bool) (Keeps : PacketRule → Type 0)
       go true e = (λ k. let d = (each r lower).1 k in absurd (grind (arith, nat_tests)), lower)
       go false e = next ((each r lower).0 (ap not e))
 
-  -- The rules after each, the last of them first.
-  abbrev after_row_changed : List PacketRule
-  after_row_changed = rule.Enhancement ∷ []
-
-  abbrev after_parity : List PacketRule
-  after_parity = rule.RowChanged ∷ after_row_changed
-
-  abbrev after_control : List PacketRule
-  after_control = rule.Parity ∷ after_parity
-
-  abbrev after_mode : List PacketRule
-  after_mode = rule.Control ∷ after_control
-
-  abbrev after_header_code : List PacketRule
-  after_header_code = rule.Mode ∷ after_mode
-
-  abbrev after_address : List PacketRule
-  after_address = rule.HeaderCode ∷ after_header_code
-
   pub first_rule : FirstRule Keeps (filter test packet_rules)
   unfolding packet_rules
   first_rule =
-      one_rule rule.Address (λ other l. absurd (omega arith)) after_address (λ k0.
-      one_rule rule.HeaderCode (grind arith) after_header_code (λ k1.
-      one_rule rule.Mode (grind arith) after_mode (λ k2.
-      one_rule rule.Control (grind arith) after_control (λ k3.
-      one_rule rule.Parity (grind arith) after_parity (λ k4.
-      one_rule rule.RowChanged (grind arith) after_row_changed (λ k5.
+      one_rule rule.Address (λ other l. absurd (omega arith)) (drop 1 packet_rules) (λ k0.
+      one_rule rule.HeaderCode (grind arith) (drop 2 packet_rules) (λ k1.
+      one_rule rule.Mode (grind arith) (drop 3 packet_rules) (λ k2.
+      one_rule rule.Control (grind arith) (drop 4 packet_rules) (λ k3.
+      one_rule rule.Parity (grind arith) (drop 5 packet_rules) (λ k4.
+      one_rule rule.RowChanged (grind arith) (drop 6 packet_rules) (λ k5.
       one_rule rule.Enhancement (grind arith) [] (λ k6. grind arith)))))))
 
 -- What is told first of a packet that is sent after these, where their span is sound.
@@ -302,9 +269,7 @@ module _ (w : Watched) (before : List (List ℕ)) (p : List ℕ) (whole : IsPack
         → Refutes (is_some_row k && is_some (first_even_byte p))
         ((row : ℕ) → k ≡ Row row → HasOddText p)
     odd_row (Row y) = (λ e row is. (odd_text p).0 e, λ h. (odd_text p).1 (h y refl))
-    odd_row (ThisPage h) = (λ e row is. grind arith, λ h. refl)
-    odd_row EndsPage = (λ e row is. grind arith, λ h. refl)
-    odd_row Other = (λ e row is. grind arith, λ h. refl)
+    odd_row k = (λ e row is. grind arith, λ h. refl)
 
     same_row : (k : PacketKind) → kind w.page p ≡ k
         → KeepsRule rule.Address w before p → KeepsRule rule.Parity w before p
@@ -321,9 +286,7 @@ module _ (w : Watched) (before : List (List ℕ)) (p : List ℕ) (whole : IsPack
               (span (kind w.page) before)) same (d.0 f),
           λ h. d.1 (h y refl),
         )
-    same_row (ThisPage h) e exact odd is_open = (λ f row is. grind arith, λ h. refl)
-    same_row EndsPage e exact odd is_open = (λ f row is. grind arith, λ h. refl)
-    same_row Other e exact odd is_open = (λ f row is. grind arith, λ h. refl)
+    same_row k e exact odd is_open = (λ f row is. grind arith, λ h. refl)
 
     -- A packet that no page of level 1 has.
     no_enhancement : (o : Option PacketAddress) → address p ≡ o
@@ -341,7 +304,8 @@ module _ (w : Watched) (before : List (List ℕ)) (p : List ℕ) (whole : IsPack
     unfolding breaks
     decided rule.Address lower = twice (are_code_words 0 2 p) (address_decided p)
       where
-        twice : (b : Bool) → Decides b (HasExactAddress p) → Decides (not (not b)) (HasExactAddress p)
+        twice : (b : Bool) → Decides b (HasExactAddress p)
+            → Decides (not (not b)) (HasExactAddress p)
         twice true d = d
         twice false d = d
     decided rule.HeaderCode lower =
@@ -350,15 +314,10 @@ module _ (w : Watched) (before : List (List ℕ)) (p : List ℕ) (whole : IsPack
     decided rule.Control lower = controlled w.national (kind w.page p)
     decided rule.Parity lower =
         subst (λ b. Refutes b (KeepsRule rule.Parity w before p))
-        (regroup (is_open_after (kind w.page) before) (is_some_row (kind w.page p))
-        (is_some (first_even_byte p)))
+        (grind (arith, nat_tests))
         (opened (is_open_after (kind w.page) before)
         (is_some_row (kind w.page p) && is_some (first_even_byte p))
         ((row : ℕ) → kind w.page p ≡ Row row → HasOddText p) (λ t. odd_row (kind w.page p)))
-      where
-        regroup : (a b c : Bool) → (a && (b && c)) ≡ (a && b && c)
-        regroup true b c = refl
-        regroup false b c = refl
     decided rule.RowChanged lower =
         opened (is_open_after (kind w.page) before) _ _
         (same_row (kind w.page p) refl (lower rule.Address (omega arith))

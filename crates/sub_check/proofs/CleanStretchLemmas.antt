@@ -1,9 +1,8 @@
 -- A clean stretch has what suffices, and so may be trusted: `law_of_clean_stretch`.
 use Rattle.std.proofs.lemmas.Bool.Decides.{nat_tests}
-use Rattle.std.proofs.Common.{◌≡◌, ℕ, zero, suc, ◌+◌, ◌-◌, ◌<◌, ◌≤◌, ◌⊎◌, inl, inr}
-use Rattle.std.proofs.Common.{List, [], ◌∷◌, ◌++◌, length, take, drop, map}
-use Rattle.std.proofs.Common.{slice_index_or, Option, refl, sym, ap, ◌∙◌, subst, arith}
-use Rattle.std.proofs.Common.{append_assoc, IsTrue, get_or, le_refl}
+use Rattle.std.proofs.Common.{◌≡◌, ℕ, suc, ◌+◌, ◌-◌, ◌<◌, ◌≤◌, ◌⊎◌, inl, inr, List, [], ◌∷◌, ◌++◌}
+use Rattle.std.proofs.Common.{length, take, slice_index_or, Option, refl, sym, ap, ◌∙◌, subst}
+use Rattle.std.proofs.Common.{arith, append_assoc, IsTrue, get_or, le_refl}
 use Rattle.std.specs.List.{AllByRecursion}
 use Rattle.std.proofs.lemmas.Bool.{cases_eq, cases_lt}
 use Rattle.std.proofs.lemmas.List.{append-nil, get_or-drop}
@@ -26,6 +25,7 @@ use Rattle.sub_check.specs.PacketRules.{codes_of}
 use Rattle.sub_check.specs.Sufficient.{IsSufficient}
 use Rattle.sub_check.specs.Transmission.{IsRising, SentFrame, Transmission, first_frame}
 use Rattle.sub_check.specs.Transmission.{on_air_until, packets_between}
+use Rattle.sub_check.proofs.WrongCellLemmas.{code_at}
 use Rattle.sub_check.proofs.GoodLemmas.{any_sent, number_at}
 use Rattle.sub_check.proofs.PrefixLemmas.{first-same, last-same, locate, on_air_at, on_air_is}
 use Rattle.sub_check.proofs.PrefixLemmas.{rises_to}
@@ -110,12 +110,7 @@ module _ (page : PageIdValue) (a b : ℕ) where
       → IsRising frames
       → AreFit before frames
       → IsSound page (packets_between frames a (f + 1))
-  sound_between before [] f high rising fit = record {
-    exact = All-nil _;
-    erases = All-nil _;
-    odd = All-nil _;
-    same = All-nil _;
-  }
+  sound_between before [] f high rising fit = grind (arith, nat_tests, All-nil)
   sound_between before (s ∷ frames) f high rising fit =
       elim (cases_lt s.frame a) [
         | inl early ↦
@@ -134,18 +129,10 @@ module _ (page : PageIdValue) (a b : ℕ) where
 
 -- ---- a clean stretch
 
--- The code of a column, among the codes of bytes.
-code_in : (bytes : List ℕ) (k : ℕ) → get_or (map code_of bytes) k 0 ≡ code_of (get_or bytes k 0)
-code_in [] k = refl
-code_in (x ∷ bytes) zero = refl
-code_in (x ∷ bytes) (suc k) = code_in bytes k
-
--- And among the codes of a packet.
+-- The code of a column, among the codes of a packet.
 code_of_column :
     (p : List ℕ) (k : ℕ) → get_or (codes_of p) k 0 ≡ code_of (get_or p (k + 2) 0)
-code_of_column p k =
-    code_in (drop 2 p) k
-    ∙ ap code_of (get_or-drop 2 p k 0 ∙ ap (λ n. get_or p n 0) (omega arith))
+code_of_column p k = grind (arith, nat_tests, code_at, get_or-drop)
 
 module _ (programme : ProgrammeValue) (transmission : Transmission) (options : OptionsValue)
     (unread : Option Unread) (a b : ℕ)

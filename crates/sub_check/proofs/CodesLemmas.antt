@@ -10,8 +10,7 @@ use Rattle.std.specs.Int.RustNames.{count_ones}
 use lib.Count.{ones_in}
 use Rattle.ttx_packet.specs.Hamming84.{code_word}
 use Rattle.ttx_packet.specs.Parity.{is_odd, code_of}
-use Rattle.ttx_packet.specs.PacketAddress.{PacketAddress, address, HasExactAddress}
-use Rattle.ttx_packet.specs.PacketAddress.{IsPacket}
+use Rattle.ttx_packet.specs.PacketAddress.{PacketAddress, address, HasExactAddress, IsPacket}
 use Rattle.ttx_packet.specs.RowPacket.{HasOddText}
 use Rattle.ttx_packet.proofs.Hamming84Lemmas.{decoded-code_word}
 

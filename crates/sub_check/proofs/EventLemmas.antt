@@ -2,8 +2,7 @@
 use Rattle.std.proofs.Common.{◌≡◌, ℕ, zero, suc, ◌+◌, ◌-◌, ◌<◌, ◌≤◌, inl, inr, Bool, true, false}
 use Rattle.std.proofs.Common.{List, [], ◌∷◌, ◌++◌, length, take, Option, Some, None, refl, sym, ap}
 use Rattle.std.proofs.Common.{◌∙◌, subst, arith, nat_lt, nat_le, not, ◌||◌, ◌==◌, get_or, is_some}
-use Rattle.std.proofs.Common.{if◌then◌else◌}
-use Rattle.std.proofs.Common.{IsTrue, map, option_map}
+use Rattle.std.proofs.Common.{append_assoc, if◌then◌else◌, IsTrue, map, option_map}
 use Rattle.std.specs.Prelude.{option_and_then}
 use Rattle.std.specs.List.{AllByRecursion, list_any}
 use Rattle.std.proofs.lemmas.Bool.{cases_lt, leb-true, ltb-false, ltb-true, true≢false}
@@ -24,11 +23,10 @@ use Rattle.ttx_page.specs.declared.packet_kind.PacketKind.{PacketKind}
 use Rattle.sub_check.specs.Events.{Standing, closing_events, covers, end_before, end_events, events}
 use Rattle.sub_check.specs.Events.{events_at_end, events_of_first, first_cell, first_header_events}
 use Rattle.sub_check.specs.Events.{frame_events, gap_events, gap_length, is_gap, is_incomplete}
-use Rattle.sub_check.specs.Events.{latest}
-use Rattle.sub_check.specs.Events.{content_events, endings, is_early, late_events, rest_events}
-use Rattle.sub_check.specs.Events.{rule_events}
-use Rattle.sub_check.specs.Events.{nothing_stands, order_events, packet_events, rules_told}
-use Rattle.sub_check.specs.Events.{standing_at, standing_before, wrong_after, wrong_cell}
+use Rattle.sub_check.specs.Events.{latest, content_events, endings, is_early, late_events}
+use Rattle.sub_check.specs.Events.{rest_events, rule_events, nothing_stands, order_events}
+use Rattle.sub_check.specs.Events.{packet_events, rules_told, standing_at, standing_before}
+use Rattle.sub_check.specs.Events.{wrong_after, wrong_cell}
 use Rattle.sub_check.specs.FirstEvent.{LawOfFirstEvent}
 use Rattle.sub_check.specs.FirstBroken.{HoldsEverywhere, IsInGap, IsThere, NamesFirst}
 use Rattle.sub_check.specs.FirstBroken.{packet_fault, unread_fault}
@@ -44,17 +42,18 @@ use Rattle.sub_check.specs.Following.{AreOk, FrameOk, GapOk, Keeps, OrderOk, Pac
 use Rattle.sub_check.specs.Transmission.{EachPacket, SentFrame, Transmission}
 use Rattle.sub_check.specs.declared.event.EndRule.TheVariants as end
 use Rattle.sub_check.specs.declared.event.Event.{Event}
-use Rattle.sub_check.specs.declared.event.Event.TheVariants.{Ended, Told}
+use Rattle.sub_check.specs.declared.event.Event.TheVariants.{Told}
 use Rattle.sub_check.specs.declared.fault.CheckFault.{CheckFault}
 use Rattle.sub_check.specs.declared.fault.CheckFault.TheVariants as fault
 use Rattle.sub_check.proofs.OrderLemmas.{first_early, first_frame, first_gap, first_gap_cell}
-use Rattle.sub_check.proofs.OrderLemmas.{first_cell as first_cell_at}
-use Rattle.sub_check.proofs.OrderLemmas.{first_header_missing, first_late, first_nothing}
-use Rattle.sub_check.proofs.OrderLemmas.{first_open}
-use Rattle.sub_check.proofs.OrderLemmas.{first_order, first_packet, first_unread, holds_but_end}
+use Rattle.sub_check.proofs.OrderLemmas.{first_cell as first_cell_at, first_header_missing}
+use Rattle.sub_check.proofs.OrderLemmas.{first_late, first_nothing, first_open, first_order}
+use Rattle.sub_check.proofs.OrderLemmas.{first_packet, first_unread, holds_but_end}
 use Rattle.sub_check.proofs.BrokenRuleLemmas.{FirstRule, IsSoundSpan, broken_first}
 use Rattle.sub_check.proofs.PacketLists.{Each-push}
 use Rattle.sub_check.proofs.PlaceLemmas.{fair_step}
+use Rattle.sub_check.proofs.FollowingLemmas.{standing_before_is}
+use Rattle.sub_check.proofs.RisingEndLemmas.{gap_length-is, latest_at}
 use Rattle.sub_check.proofs.PrefixLemmas.{at_start, before, before_more, each_at, packet_at}
 use Rattle.sub_check.proofs.StepByStepLemmas.{clean_nil}
 use Rattle.sub_check.proofs.ShownLemmas.{WrongFirst}
@@ -62,49 +61,51 @@ use Rattle.sub_check.proofs.TestLemmas.{below_before, below_none, holds}
 
 -- ---- what is told first
 
--- Of a list of events: nothing, and then this holds; or first a broken rule, which is so named.
-abbrev pub FirstOf : (CheckFault → Type 0) → Type 0 → List Event → Type 0
-FirstOf Named Holds [] = Holds
-FirstOf Named Holds (Told f ∷ events) = Named f
-FirstOf Named Holds (Ended rule frame ∷ events) = ⊥
+-- Of a list of events: where nothing is told, this holds; what is told first is a broken rule, so
+-- named.
+pub record FirstOf (Named : CheckFault → Type 0) (Holds : Type 0) (told : List Event) : Type 0
+  where
+    pub none : told ≡ [] → Holds
+    pub first :
+        (event : Event) (rest : List Event)
+        → told ≡ event ∷ rest
+        → (f : CheckFault) × (event ≡ Told f) × Named f
 
-module _ (Named : CheckFault → Type 0) where
+module _ {Named : CheckFault → Type 0} where
+  -- Nothing is told.
+  pub nothing_told : {A : Type 0} → A → FirstOf Named A []
+  nothing_told a = record { none = λ e. a; first = λ event rest e. absurd (grind arith) }
+
+  -- A broken rule is told.
+  pub rule_told : {A : Type 0} {rest : List Event} (f : CheckFault) → Named f
+      → FirstOf Named A (Told f ∷ rest)
+  rule_told f is = grind (arith, nat_tests)
+
   -- One list after another.
-  pub FirstOf-append : (A B : Type 0) (xs ys : List Event) → FirstOf Named A xs
+  pub FirstOf-append : {A B : Type 0} {xs ys : List Event} → FirstOf Named A xs
       → (A → FirstOf Named B ys) → FirstOf Named B (xs ++ ys)
-  FirstOf-append A B [] ys a f = f a
-  FirstOf-append A B (Told x ∷ xs) ys a f = a
-  FirstOf-append A B (Ended rule frame ∷ xs) ys a f = absurd a
+  FirstOf-append {xs = []} a f = f (a.none refl)
+  FirstOf-append {xs = x ∷ xs} a f = record {
+    none = λ e. absurd (grind arith);
+    first = λ event rest e. a.first event xs (grind arith);
+  }
 
   -- What follows where nothing is told.
-  pub FirstOf-map : (A B : Type 0) (xs : List Event) → (A → B) → FirstOf Named A xs
+  pub FirstOf-map : {A B : Type 0} {xs : List Event} → (A → B) → FirstOf Named A xs
       → FirstOf Named B xs
-  FirstOf-map A B [] f a = f a
-  FirstOf-map A B (Told x ∷ xs) f a = a
-  FirstOf-map A B (Ended rule frame ∷ xs) f a = absurd a
-
-  -- Where nothing is told, that holds.
-  pub none_told : (A : Type 0) (xs : List Event) → FirstOf Named A xs → xs ≡ [] → A
-  none_told A [] h e = h
-  none_told A (x ∷ xs) h e = absurd (grind arith)
-
-  -- What is told first is a broken rule, so named.
-  pub first_told : (A : Type 0) (x : Event) (xs : List Event) → FirstOf Named A (x ∷ xs)
-      → (f : CheckFault) × (x ≡ Told f) × Named f
-  first_told A (Told f) xs h = (f, refl, h)
-  first_told A (Ended rule frame) xs h = absurd h
+  FirstOf-map f a = record { none = λ e. f (a.none e); first = a.first }
 
   -- A broken rule, where a test says so.
-  pub told_if : (A : Type 0) (b : Bool) (f : CheckFault) → (b ≡ true → Named f) → (b ≡ false → A)
+  pub told_if : {A : Type 0} (b : Bool) (f : CheckFault) → (b ≡ true → Named f) → (b ≡ false → A)
       → FirstOf Named A (if b then Told f ∷ [] else [])
-  told_if A true f broken holds = broken refl
-  told_if A false f broken holds = holds refl
+  told_if true f broken holds = rule_told f (broken refl)
+  told_if false f broken holds = nothing_told (holds refl)
 
   -- A broken rule, where a test does not say that it holds.
-  pub told_unless : (A : Type 0) (b : Bool) (f : CheckFault) → (b ≡ false → Named f)
+  pub told_unless : {A : Type 0} (b : Bool) (f : CheckFault) → (b ≡ false → Named f)
       → (b ≡ true → A) → FirstOf Named A (if b then [] else Told f ∷ [])
-  told_unless A true f broken holds = holds refl
-  told_unless A false f broken holds = broken refl
+  told_unless true f broken holds = nothing_told (holds refl)
+  told_unless false f broken holds = rule_told f (broken refl)
 
 -- ---- the first cell
 
@@ -218,14 +219,7 @@ module _ (g : Task) (frames : Transmission) (n f : ℕ) where
   -- The first that is.
   first_wrong : (x : ℕ × ℕ) → wrong_cell g frames n f ≡ Some x → WrongFirst g frames n f x.0 x.1
   unfolding wrong_after
-  first_wrong x e =
-      let found = cell_found is_wrong x e in
-      record {
-        is_cell = found.is_cell;
-        broken = let passes = found.passes in grind (arith, nat_tests);
-        above = λ r k is l. let right = found.above r k is l in grind (arith, nat_tests);
-        before = λ k l. let right = found.before k l in grind (arith, nat_tests);
-      }
+  first_wrong x e = grind (arith, nat_tests, cell_found, before)
 
   -- Where all show what is due, none is wrong.
   no_wrong : ((row column : ℕ) → IsCell row column → ShowsDue g frames n f row column)
@@ -247,12 +241,7 @@ module _ (g : Task) (frames : Transmission) (n f : ℕ) where
       → Decides (covers g f (get_or frames i d))
       (HasHeader g frames i × (f < frame_at frames i + g.every))
   covers_at i d l =
-      let number = get_or-map (λ (s : SentFrame). s.frame) frames i d 0 l in
-      let packets = get_or-map (λ (s : SentFrame). s.packets) frames i d [] l in
-      Decides-like _ (λ h. (ap (holds_header (kind g.watched.page)) packets ∙ h.0, omega (arith, h.1)))
-      (λ h. (ap (holds_header (kind g.watched.page)) (sym packets) ∙ h.0, omega (arith, h.1)))
-      (Decides-and _ _ (holds (holds_header (kind g.watched.page) (get_or frames i d).packets))
-      (Decides-ltb f ((get_or frames i d).frame + g.every)))
+      grind (arith, nat_tests, get_or-map, Decides-like, Decides-and, holds, Decides-ltb)
 
   near_decided : (m : ℕ) → m ≤ length frames
       → Decides (list_any (covers g f) (take m frames)) (IsHeaderNear m)
@@ -273,7 +262,8 @@ module _ (g : Task) (frames : Transmission) (n f : ℕ) where
       (λ h. elim (cases_lt h.0 m) [
         | inl near ↦ inl (h.0, near, h.2, h.3)
         | inr here ↦ let e : h.0 ≡ m = omega (arith, h.1) in
-            inr (subst (HasHeader g frames) e h.3, subst (λ j. f < frame_at frames j + g.every) e h.2)
+            inr
+            (subst (HasHeader g frames) e h.3, subst (λ j. f < frame_at frames j + g.every) e h.2)
       ])
       (Decides-or _ _ (near_decided m (omega arith)) (covers_at m d (omega arith))))
 
@@ -309,22 +299,26 @@ module _ (g : Task) (frames : Transmission) (n f : ℕ) where
           (content_events None before o f
           ++ rule_events end.Gap (fault.Gap f) false before late
           ++ rule_events end.Incomplete (fault.Incomplete f) false before is_open)
-      go (Some x) e late gaps is_open ends = wrong x.0 x.1 (first_wrong x e)
+      go (Some x) e late gaps is_open ends = rule_told _ (wrong x.0 x.1 (first_wrong x e))
       go None e true gaps is_open ends =
-          gap (none_wrong e) (λ c. true≢false (sym (gaps.1 c)))
+          rule_told _ (gap (none_wrong e) (λ c. true≢false (sym (gaps.1 c))))
       go None e false gaps true ends =
-          unended (none_wrong e) (gaps.0 refl) (λ c. true≢false (sym (ends.1 c)))
+          rule_told _ (unended (none_wrong e) (gaps.0 refl) (λ c. true≢false (sym (ends.1 c))))
       go None e false gaps false ends =
-          record { shows = none_wrong e; covered = gaps.0 refl; ended = ends.0 refl }
+          nothing_told
+          (record { shows = none_wrong e; covered = gaps.0 refl; ended = ends.0 refl })
 
   -- Where nothing stands broken.
   pub quiet_stands : n ≤ length frames → IsQuiet → standing_at g frames n f ≡ nothing_stands
   unfolding standing_at
   quiet_stands l quiet =
-      let gaps = (gap_decided l).1 quiet.covered in
-      let ends = incomplete_decided.1 quiet.ended in
-      let right = no_wrong quiet.shows in
-      grind (arith, nat_tests)
+      grind (
+        arith,
+        nat_tests,
+        gap_decided l,
+        incomplete_decided.1 quiet.ended,
+        no_wrong quiet.shows,
+      )
 
 -- ---- the span
 
@@ -361,21 +355,6 @@ module _ (g : Task) (frames : Transmission) where
   abbrev pub Tells : Type 0 → List Event → Type 0
   Tells Holds xs = FirstOf (NamesFirst g frames) Holds xs
 
-  -- Where frames rise so far, the last of them is the latest.
-  latest_is : (n : ℕ) → 0 < n → n ≤ length frames → AreOk g frames n
-      → latest frames n ≡ frame_at frames (n - 1)
-  unfolding latest
-  latest_is zero some l past = absurd (omega arith)
-  latest_is (suc zero) some l past = let e : suc zero - 1 ≡ 0 = omega arith in
-      let f = ap (frame_at frames) e in omega arith
-  latest_is (suc (suc m)) some l past =
-      let ih = latest_is (suc m) (omega arith) (omega arith) (λ j k. past j (omega arith)) in
-      let order = (past (suc m) (omega arith)).order.order (omega arith, omega arith) in
-      let e : suc (suc m) - 1 ≡ suc m = omega arith in
-      let f = ap (frame_at frames) e in
-      let d : suc m - 1 ≡ m = omega arith in
-      omega arith
-
   -- The number of a frame.
   order_told : (n : ℕ) → AreOk g frames n → n < length frames
       → Tells (OrderOk g frames n) (order_events g frames n)
@@ -387,52 +366,26 @@ module _ (g : Task) (frames : Transmission) where
 
       go : (o : Option ℕ) → g.first_in ≡ o
           → Tells (OrderOk g frames 0)
-          (if is_early o (frame_at frames 0) then Told (fault.Early (frame_at frames 0)) ∷ [] else [])
-      go None e = record {
+          (if is_early o (frame_at frames 0)
+          then Told (fault.Early (frame_at frames 0)) ∷ []
+          else [])
+      go None e = nothing_told (record {
         order = λ t. none_before _ t;
         start = λ z t first is. absurd (none-some first (sym e ∙ is));
-      }
+      })
       go (Some first) e =
-          told_if (NamesFirst g frames) (OrderOk g frames 0) (nat_lt first (frame_at frames 0)) _
+          told_if (nat_lt first (frame_at frames 0)) _
           (λ early. first_early g frames there
           (λ fine. let l = ltb-true first (frame_at frames 0) early in
           let m = fine first e in omega arith))
           (λ fine. record {
             order = λ t. none_before _ t;
-            start = λ z t other is.
-                let same = same_Some _ _ (sym e ∙ is) in
-                let m = ltb-false first (frame_at frames 0) fine in
-                omega arith;
+            start = λ z t other is. grind (arith, nat_tests, same_Some, ltb-false);
           })
   order_told (suc i) past there =
-      let back : suc i - 1 ≡ i = omega arith in
-      told_unless (NamesFirst g frames) (OrderOk g frames (suc i))
-      (nat_lt (frame_at frames i) (frame_at frames (suc i))) (fault.Order (suc i))
-      (λ falls. first_order g frames (suc i) past (omega arith) there
-      (λ l. let m = ltb-false (frame_at frames i) (frame_at frames (suc i)) falls in
-      let e = ap (frame_at frames) back in omega arith))
-      (λ rises. record {
-        order = λ t.
-            let m = ltb-true (frame_at frames i) (frame_at frames (suc i)) rises in
-            let e = ap (frame_at frames) back in omega arith;
-        start = λ z. absurd (omega arith);
-      })
+      grind (arith, nat_tests, told_unless, first_order, ltb-false, ltb-true)
 
   -- ---- the frames of the day before it
-
-  -- What stood broken at the end before.
-  before_is : (n f : ℕ) → 0 < n
-      → standing_before g frames n f ≡ standing_at g frames n (end_before frames n f)
-  unfolding standing_before
-  before_is zero f some = absurd (omega arith)
-  before_is (suc i) f some = refl
-
-  -- How many frames there are.
-  length_is : (n : ℕ) → 0 < n
-      → gap_length frames n ≡ frame_at frames n - (latest frames n + 1)
-  unfolding gap_length
-  length_is zero some = absurd (omega arith)
-  length_is (suc i) some = refl
 
   module _ (n : ℕ) (past : AreOk g frames n) (there : n < length frames) (some : 0 < n)
       (order : OrderOk g frames n) where
@@ -444,7 +397,8 @@ module _ (g : Task) (frames : Transmission) where
       pub quiet : IsQuiet g frames n (end_before frames n (latest frames n + suc m))
 
     last_is : latest frames n ≡ frame_at frames (n - 1)
-    last_is = latest_is n some (omega arith) past
+    last_is =
+        latest_at frames n (λ i a b. (past i b).order.order (a, omega arith)) some
 
     -- Before the first of them.
     gap_begins : GapDone 0
@@ -474,13 +428,16 @@ module _ (g : Task) (frames : Transmission) where
         let f : ℕ = latest frames n + suc m in
         let before : ℕ = end_before frames n f in
         let last = last_is in
-        let long = length_is n some in
+        let long = gap_length-is frames n some in
         let in_gap : IsInGap frames n f = (some, there, omega arith, omega arith) in
         let nothing : standing_before g frames n f ≡ nothing_stands =
-        before_is n f some ∙ quiet_stands g frames n before (omega arith) done.quiet in
-        subst (λ (s : Standing). Tells (GapDone (suc m)) (end_events s before (standing_at g frames n f) f))
+        standing_before_is g frames n f some
+        ∙ quiet_stands g frames n before (omega arith) done.quiet in
+        subst
+        (λ (s : Standing).
+        Tells (GapDone (suc m)) (end_events s before (standing_at g frames n f) f))
         (sym nothing)
-        (FirstOf-map (NamesFirst g frames) (IsQuiet g frames n f) (GapDone (suc m)) _
+        (FirstOf-map
         (λ quiet. record {
           cells = λ d row column k. elim (cases_lt d f) [
             | inl earlier ↦ done.cells d row column earlier
@@ -489,58 +446,39 @@ module _ (g : Task) (frames : Transmission) where
                 subst (λ x. Keeps g frames (AtGapCell n x row column)) e
                 (λ t. quiet.shows row column t.1)
           ];
-          gaps = λ d k. elim (cases_lt d f) [
-            | inl earlier ↦ done.gaps d earlier
-            | inr here ↦ let e : f ≡ d = omega arith in
-                subst (λ x. Keeps g frames (AtGap n x)) e (λ t. quiet.covered)
-          ];
+          gaps = λ d k. grind (arith, nat_tests, cases_lt);
           quiet =
               let e : f ≡ end_before frames n (latest frames n + suc (suc m)) =
               grind (arith, nat_tests) in
               subst (IsQuiet g frames n) e quiet;
         })
         (told_at_end g frames n f (omega arith) before (NamesFirst g frames)
-        (λ row column w. first_gap_cell g frames n past f order done.cells done.gaps in_gap row column
-        w)
+        (λ row column w.
+        first_gap_cell g frames n past f order done.cells done.gaps in_gap row column w)
         (λ shows broken. first_gap g frames n past f order done.cells done.gaps in_gap shows broken)
         (λ shows covered broken. absurd (broken done.quiet.ended))))
 
     -- And one after another.
     gap_told : (m : ℕ) → m ≤ gap_length frames n → Tells (GapDone m) (gap_events g frames n m)
     unfolding gap_events
-    gap_told zero l = gap_begins
-    gap_told (suc m) l =
-        FirstOf-append (NamesFirst g frames) (GapDone m) (GapDone (suc m)) (gap_events g frames n m)
-        (events_at_end g frames n n (latest frames n + suc m)) (gap_told m (omega arith))
-        (gap_next m l)
+    gap_told zero l = nothing_told gap_begins
+    gap_told (suc m) l = FirstOf-append (gap_told m (omega arith)) (gap_next m l)
 
     -- All of them.
     pub GapOk-from_done : GapDone (gap_length frames n) → GapOk g frames n
-    GapOk-from_done done =
-        let last = last_is in
-        let long = length_is n some in
-        record {
-          cells = λ f row column t. done.cells f row column (let in_gap = t.0 in omega arith) t;
-          covered = λ f t. done.gaps f (omega (arith, t.3)) t;
-        }
+    GapOk-from_done done = grind (arith, nat_tests, last_is, gap_length-is)
 
     -- What stood broken at the end before the frame's own.
     pub nothing_before : GapDone (gap_length frames n)
         → standing_before g frames n (frame_at frames n) ≡ nothing_stands
     nothing_before done =
-        let last = last_is in
-        let long = length_is n some in
-        let rises = order.order (some, there) in
-        let e : latest frames n + suc (gap_length frames n) ≡ frame_at frames n = omega arith in
-        before_is n (frame_at frames n) some
-        ∙ quiet_stands g frames n (end_before frames n (frame_at frames n)) (omega arith)
-        (subst (λ f. IsQuiet g frames n (end_before frames n f)) e done.quiet)
+        grind (arith, nat_tests, last_is, gap_length-is, standing_before_is, quiet_stands)
 
   -- ---- its packets
 
   module _ (whole : EachPacket IsPacket frames) where
-    -- What is kept of packets that keep the rules: the span is clean, and each packet is whole, with
-    -- an exact address.
+    -- What is kept of packets that keep the rules: the span is clean, and each packet is whole,
+    -- with an exact address.
     abbrev IsSoundList : List (List ℕ) → Type 0
     IsSoundList xs =
         IsCleanSpan g.watched.page (span (kind g.watched.page) xs)
@@ -553,8 +491,8 @@ module _ (g : Task) (frames : Transmission) where
         → IsSoundList (before frames i k ++ packet_at frames i k ∷ [])
     sound_more i k l m clean (fair, each) = (
       fair_step g.watched (before frames i k) (packet_at frames i k) clean fair,
-      Each-push (λ q. IsPacket q × HasExactAddress q) (before frames i k) (packet_at frames i k) each
-          (each_at IsPacket frames i k whole l m, clean rule.Address),
+      Each-push (λ q. IsPacket q × HasExactAddress q) (before frames i k) (packet_at frames i k)
+          each (each_at IsPacket frames i k whole l m, clean rule.Address),
     )
 
     -- After the frames before, and the first packets of this one.
@@ -596,7 +534,8 @@ module _ (g : Task) (frames : Transmission) where
           → IsSoundSpan g.watched (span (kind g.watched.page) heard) =
           λ t. record {
             clean = list.0;
-            whole = Each-span (kind g.watched.page) (λ q. IsPacket q × HasExactAddress q) heard list.1;
+            whole =
+                Each-span (kind g.watched.page) (λ q. IsPacket q × HasExactAddress q) heard list.1;
           } in
           go (broken_rules g.watched heard p)
           (broken_first g.watched heard p (each_at IsPacket frames n k whole there l) sound)
@@ -605,34 +544,31 @@ module _ (g : Task) (frames : Transmission) where
               → FirstRule (λ r. KeepsRule r g.watched (before frames n k) (packet_at frames n k)) rs
               → Tells (AreClean g.watched (packets_before frames n) ps (suc k))
               (map (λ (r : PacketRule). Told (packet_fault r (frame_at frames n) k)) rs)
-          go [] keeps = λ j m. elim (cases_lt j k) [
+          go [] keeps = nothing_told (λ j m. elim (cases_lt j k) [
             | inl earlier ↦ clean j earlier
-            | inr here ↦ let e : k ≡ j = omega arith in
-                subst (λ x. IsClean g.watched (packets_before frames n ++ take x ps) (get_or ps x []))
-                e keeps
-          ]
+            | inr here ↦
+                let e : k ≡ j = omega arith in
+                subst
+                (λ x. IsClean g.watched (packets_before frames n ++ take x ps) (get_or ps x [])) e
+                keeps
+          ])
           go (r ∷ rs) first =
-              first_packet g frames n past k r there order gap
+              rule_told _
+              (first_packet g frames n past k r there order gap
               (record {
                 exists = l;
                 clean = clean;
                 first = record { broken = first.0; earlier = first.1 };
-              })
+              }))
 
       -- All of them.
       packets_told : (k : ℕ) → k ≤ length ps
           → Tells (AreClean g.watched (packets_before frames n) ps k)
           (packet_events g.watched (frame_at frames n) (packets_before frames n) ps k)
       unfolding packet_events
-      packets_told zero l = λ j m. absurd (omega arith)
+      packets_told zero l = nothing_told (λ j m. absurd (omega arith))
       packets_told (suc k) l =
-          FirstOf-append (NamesFirst g frames)
-          (AreClean g.watched (packets_before frames n) ps k)
-          (AreClean g.watched (packets_before frames n) ps (suc k))
-          (packet_events g.watched (frame_at frames n) (packets_before frames n) ps k)
-          (rules_told g.watched (frame_at frames n) k (packets_before frames n ++ take k ps)
-          (get_or ps k []))
-          (packets_told k (omega arith)) (packet_told k (omega arith))
+          FirstOf-append (packets_told k (omega arith)) (packet_told k (omega arith))
 
   -- ---- its header, its end, and all of it
 
@@ -641,12 +577,11 @@ module _ (g : Task) (frames : Transmission) where
       → Tells (n ≡ 0 → HasHeader g frames 0) (first_header_events g frames n)
   unfolding first_header_events
   header_told zero there order packets =
-      told_unless (NamesFirst g frames) (zero ≡ 0 → HasHeader g frames 0)
-      (holds_header (kind g.watched.page) (packets_of_frame frames 0)) _
+      told_unless (holds_header (kind g.watched.page) (packets_of_frame frames 0)) _
       (λ none. first_header_missing g frames there order packets
       (λ has. true≢false (sym has ∙ none)))
       (λ has z. has)
-  header_told (suc i) there order packets = λ z. absurd (omega arith)
+  header_told (suc i) there order packets = nothing_told (λ z. absurd (omega arith))
 
   -- The end of a frame, where nothing stood broken before.
   end_told : (n : ℕ) → AreOk g frames n → (there : n < length frames) → OrderOk g frames n
@@ -660,7 +595,7 @@ module _ (g : Task) (frames : Transmission) where
       subst (λ (s : Standing).
       Tells (FrameOk g frames n) (end_events s before (standing_at g frames (suc n) f) f))
       (sym nothing)
-      (FirstOf-map (NamesFirst g frames) (IsQuiet g frames (suc n) f) (FrameOk g frames n) _
+      (FirstOf-map
       (λ quiet. let back = subst (λ k. IsQuiet g frames k f) (sym one) quiet in record {
         order = order;
         gap = gap;
@@ -676,12 +611,12 @@ module _ (g : Task) (frames : Transmission) where
       (λ row column w. first_cell_at g frames n past there order gap packets head row column
       (subst (λ k. WrongFirst g frames k f row column) (sym one) w))
       (λ shows broken. first_frame g frames n past there order gap packets head
-      (subst (λ k. (row column : ℕ) → IsCell row column → ShowsDue g frames k f row column) (sym one)
-      shows)
+      (subst (λ k. (row column : ℕ) → IsCell row column → ShowsDue g frames k f row column)
+      (sym one) shows)
       (subst (λ k. IsCovered g frames k f → ⊥) (sym one) broken))
       (λ shows covered broken. first_open g frames n past there order gap packets head
-      (subst (λ k. (row column : ℕ) → IsCell row column → ShowsDue g frames k f row column) (sym one)
-      shows)
+      (subst (λ k. (row column : ℕ) → IsCell row column → ShowsDue g frames k f row column)
+      (sym one) shows)
       (subst (λ k. IsCovered g frames k f) (sym one) covered)
       (subst (λ k. IsEnded g frames k → ⊥) (sym one) broken))))
 
@@ -691,7 +626,7 @@ module _ (g : Task) (frames : Transmission) where
       (GapOk g frames n × (standing_before g frames n (frame_at frames n) ≡ nothing_stands))
       (gap_events g frames n (gap_length frames n))
   unfolding gap_length gap_events standing_before
-  gap_part zero past there order = (
+  gap_part zero past there order = nothing_told (
     record {
       cells = λ f row column t. absurd (let none = t.0.0 in omega arith);
       covered = λ f t. absurd (let none = t.0 in omega arith);
@@ -699,9 +634,7 @@ module _ (g : Task) (frames : Transmission) where
     refl,
   )
   gap_part (suc i) past there order =
-      FirstOf-map (NamesFirst g frames)
-      (GapDone (suc i) past there (omega arith) order (gap_length frames (suc i))) _
-      (gap_events g frames (suc i) (gap_length frames (suc i)))
+      FirstOf-map
       (λ done. (
         GapOk-from_done (suc i) past there (omega arith) order done,
         nothing_before (suc i) past there (omega arith) order done,
@@ -711,67 +644,39 @@ module _ (g : Task) (frames : Transmission) where
   -- ---- the whole
 
   module _ (whole : EachPacket IsPacket frames) where
-    -- What is known before the packets of a frame, and after them.
-    record BeforePackets (n : ℕ) : Type 0 where
-      pub order : OrderOk g frames n
-      pub gap : GapOk g frames n
-      pub nothing : standing_before g frames n (frame_at frames n) ≡ nothing_stands
+    -- What is told of a frame, from part to part.
+    parts_told : (n : ℕ) → AreOk g frames n → n < length frames
+        → Tells (FrameOk g frames n)
+        (order_events g frames n
+        ++ (gap_events g frames n (gap_length frames n)
+        ++ (packet_events g.watched (frame_at frames n) (packets_before frames n)
+        (packets_of_frame frames n) (length (packets_of_frame frames n))
+        ++ (first_header_events g frames n
+        ++ events_at_end g frames n (suc n) (frame_at frames n)))))
+    parts_told n past there =
+        FirstOf-append (order_told n past there) (λ order.
+        FirstOf-append (gap_part n past there order) (λ gap.
+        FirstOf-append
+        (packets_told whole n past there order gap.0 (length (packets_of_frame frames n))
+        (omega arith)) (λ clean.
+        let packets : PacketsOk g frames n = record { each = λ k rule t. clean k t.1 rule } in
+        FirstOf-append (header_told n there order packets) (λ head.
+        end_told n past there order gap.0 packets head gap.1))))
 
-    record AfterPackets (n : ℕ) : Type 0 where
-      pub before : BeforePackets n
-      pub packets : PacketsOk g frames n
-
-    record AtEndOf (n : ℕ) : Type 0 where
-      pub after : AfterPackets n
-      pub head : n ≡ 0 → HasHeader g frames 0
-
-    -- A frame.
     frame_told : (n : ℕ) → AreOk g frames n → n < length frames
         → Tells (FrameOk g frames n) (frame_events g frames n)
     unfolding frame_events
     frame_told n past there =
-        FirstOf-append (NamesFirst g frames) (AtEndOf n) (FrameOk g frames n)
-        (order_events g frames n ++ gaps ++ packets ++ first_header_events g frames n) _
-        (FirstOf-append (NamesFirst g frames) (AfterPackets n) (AtEndOf n)
-        (order_events g frames n ++ gaps ++ packets) (first_header_events g frames n)
-        (FirstOf-append (NamesFirst g frames) (BeforePackets n) (AfterPackets n)
-        (order_events g frames n ++ gaps) packets
-        (FirstOf-append (NamesFirst g frames) (OrderOk g frames n) (BeforePackets n)
-        (order_events g frames n) gaps (order_told n past there)
-        (λ order. FirstOf-map (NamesFirst g frames) _ (BeforePackets n) gaps
-        (λ gap. record { order = order; gap = gap.0; nothing = gap.1 })
-        (gap_part n past there order)))
-        (λ b. FirstOf-map (NamesFirst g frames) _ (AfterPackets n) packets
-        (λ clean. record {
-          before = b;
-          packets = record { each = λ k rule t. clean k t.1 rule };
-        })
-        (packets_told whole n past there b.order b.gap (length (packets_of_frame frames n))
-        (omega arith))))
-        (λ a. FirstOf-map (NamesFirst g frames) _ (AtEndOf n) (first_header_events g frames n)
-        (λ head. record { after = a; head = head })
-        (header_told n there a.before.order a.packets)))
-        (λ e. end_told n past there e.after.before.order e.after.before.gap e.after.packets e.head
-        e.after.before.nothing)
-      where
-        gaps : List Event
-        gaps = gap_events g frames n (gap_length frames n)
-
-        packets : List Event
-        packets =
-            packet_events g.watched (frame_at frames n) (packets_before frames n)
-            (packets_of_frame frames n) (length (packets_of_frame frames n))
+        rw (append_assoc, append_assoc, append_assoc) (parts_told n past there)
 
     -- The first frames of the list.
     pub frames_told : (n : ℕ) → n ≤ length frames
         → Tells (AreOk g frames n) (events_of_first g frames n)
     unfolding events_of_first
-    frames_told zero l = λ j m. absurd (omega arith)
+    frames_told zero l = nothing_told (λ j m. absurd (omega arith))
     frames_told (suc n) l =
-        FirstOf-append (NamesFirst g frames) (AreOk g frames n) (AreOk g frames (suc n))
-        (events_of_first g frames n) (frame_events g frames n) (frames_told n (omega arith))
-        (λ past. FirstOf-map (NamesFirst g frames) (FrameOk g frames n) (AreOk g frames (suc n))
-        (frame_events g frames n)
+        FirstOf-append (frames_told n (omega arith))
+        (λ past. FirstOf-map
         (λ ok j m. elim (cases_lt j n) [
           | inl earlier ↦ past j earlier
           | inr here ↦ let e : n ≡ j = omega arith in subst (FrameOk g frames) e ok
@@ -781,16 +686,17 @@ module _ (g : Task) (frames : Transmission) where
     -- What follows the last of them.
     rest_told : AreOk g frames (length frames) → 0 < length frames → (o : Option Unread)
         → g.unread ≡ o → Tells (HoldsEverywhere g frames) (rest_events g frames o)
-    rest_told past some (Some u) e = first_unread g frames past u e
+    rest_told past some (Some u) e = rule_told _ (first_unread g frames past u e)
     rest_told past some None e = go g.last_out refl
       where
         go : (o : Option ℕ) → g.last_out ≡ o
             → Tells (HoldsEverywhere g frames) (late_events o (end_frame frames))
         go None is =
-            holds_but_end g frames past e some (λ t last of. absurd (none-some last (sym is ∙ of)))
+            nothing_told
+            (holds_but_end g frames past e some
+            (λ t last of. absurd (none-some last (sym is ∙ of))))
         go (Some last) is =
-            told_unless (NamesFirst g frames) (HoldsEverywhere g frames)
-            (nat_le last (end_frame frames)) (fault.Late (end_frame frames))
+            told_unless (nat_le last (end_frame frames)) (fault.Late (end_frame frames))
             (λ late. first_late g frames past e some
             (λ over. let l = over last is in grind (arith, nat_tests)))
             (λ over. holds_but_end g frames past e some
@@ -805,10 +711,11 @@ module _ (g : Task) (frames : Transmission) where
       where
         go : (o : Option Unread) → g.unread ≡ o
             → Tells (HoldsEverywhere g frames) (Told (unread_fault 0 o) ∷ [])
-        go None is = first_nothing g frames past is (omega arith)
+        go None is = rule_told _ (first_nothing g frames past is (omega arith))
         go (Some u) is =
-            subst (λ m. NamesFirst g frames (unread_fault m (Some u))) (sym e)
-            (first_unread g frames past u is)
+            rule_told _
+            (subst (λ m. NamesFirst g frames (unread_fault m (Some u))) (sym e)
+            (first_unread g frames past u is))
     closing_told (suc m) e past =
         subst (λ xs. Tells (HoldsEverywhere g frames) (xs ++ rest_events g frames g.unread))
         (sym none) (rest_told past (omega arith) g.unread refl)
@@ -841,28 +748,18 @@ module _ (g : Task) (frames : Transmission) where
     pub all_told : Tells (HoldsEverywhere g frames) (events g frames)
     unfolding events
     all_told =
-        FirstOf-append (NamesFirst g frames) (AreOk g frames (length frames))
-        (HoldsEverywhere g frames) (events_of_first g frames (length frames))
-        (closing_events g frames (length frames)) (frames_told (length frames) (omega arith))
+        FirstOf-append (frames_told (length frames) (omega arith))
         (λ past. closing_told (length frames) refl past)
 
 -- The first of all that is told is the first place that is broken.
 pub law_of_first_event : LawOfFirstEvent
-law_of_first_event g frames whole = record {
-  none = (
-    none_told (NamesFirst g frames) (HoldsEverywhere g frames) (events g frames) told,
-    λ holds. quiet (events g frames) told holds,
-  );
-  first = λ event rest e.
-      first_told (NamesFirst g frames) (HoldsEverywhere g frames) event rest
-      (subst (FirstOf (NamesFirst g frames) (HoldsEverywhere g frames)) e told);
-}
+law_of_first_event g frames whole =
+    let told = all_told g frames whole in
+    record { none = (told.none, λ holds. quiet _ told holds); first = told.first }
   where
-    told : FirstOf (NamesFirst g frames) (HoldsEverywhere g frames) (events g frames)
-    told = all_told g frames whole
-
     quiet : (xs : List Event) → FirstOf (NamesFirst g frames) (HoldsEverywhere g frames) xs
         → HoldsEverywhere g frames → xs ≡ []
     quiet [] t holds = refl
-    quiet (Told f ∷ xs) (x, is, first) holds = absurd (first.broken (holds x first.there))
-    quiet (Ended rule frame ∷ xs) t holds = absurd t
+    quiet (x ∷ xs) t holds =
+        let named = (t.first x xs refl).2 in
+        absurd (named.2.broken (holds named.0 named.2.there))

@@ -1,10 +1,7 @@
 -- Examples by the tests of all rules: good_by_test, and by_test for one that breaks a rule alone.
-use Rattle.std.proofs.lemmas.Bool.Decides.{nat_tests}
-use Rattle.std.proofs.Common.{arith}
-use Rattle.std.proofs.Common.{◌≡◌, ℕ, inl, inr, ◌==◌, Bool, true, not, ◌&&◌, ◌||◌, cond, eqb-true}
-use Rattle.std.proofs.Common.{refl, sym, ap, ◌∙◌}
+use Rattle.std.proofs.lemmas.Bool.Decides.{nat_tests, not_from_Decides}
+use Rattle.std.proofs.Common.{arith, ◌≡◌, ℕ, inl, inr, ◌==◌, Bool, true, not, ◌&&◌, ◌||◌}
 use Rattle.std.proofs.lemmas.Bool.{and_parts, or_cases, not-true}
-use Rattle.std.proofs.lemmas.Bool.Decides.{not_from_Decides}
 use Rattle.stl_rows.specs.Programme.{ProgrammeValue}
 use Rattle.sub_plan.specs.Options.{OptionsValue}
 use Rattle.sub_check.specs.Transmission.{Transmission}
@@ -36,7 +33,7 @@ good_by_test programme frames o e =
     (λ rule. (rule_decided rule programme frames o).0
     (each_rule (λ rule. passes rule programme frames o) e rule))
 
--- The place of a rule among the seven, and the rule at a place.
+-- The place of a rule among the seven.
 abbrev rank : Rule → ℕ
 rank Frames = 0
 rank ExactWords = 1
@@ -46,22 +43,8 @@ rank CleanSpans = 4
 rank RepeatBound = 5
 rank DuePages = 6
 
-abbrev at_rank : ℕ → Rule
-at_rank n =
-    cond (n == 0) Frames
-    (cond (n == 1) ExactWords
-    (cond (n == 2) OneMode
-    (cond (n == 3) SubtitleControl
-    (cond (n == 4) CleanSpans (cond (n == 5) RepeatBound DuePages)))))
-
-ranked : (rule : Rule) → at_rank (rank rule) ≡ rule
-ranked Frames = refl
-ranked ExactWords = refl
-ranked OneMode = refl
-ranked SubtitleControl = refl
-ranked CleanSpans = refl
-ranked RepeatBound = refl
-ranked DuePages = refl
+same_rank : (a b : Rule) → (rank a == rank b) ≡ true → a ≡ b
+same_rank a b e = grind (arith, nat_tests)
 
 -- The test of this rule fails, and no other.
 abbrev pub fails_alone : Rule → ProgrammeValue → Transmission → OptionsValue → Bool
@@ -83,9 +66,6 @@ by_test rule programme frames o e =
     elim (or_cases (rank other == rank rule) _
     (each_rule (λ other. (rank other == rank rule) || passes other programme frames o) parts.1
     other)) [
-      | inl same ↦
-          absurd
-          (d (sym (ranked other) ∙ ap at_rank (eqb-true (rank other) (rank rule) same)
-          ∙ ranked rule))
+      | inl same ↦ absurd (d (same_rank other rule same))
       | inr kept ↦ (rule_decided other programme frames o).0 kept
     ])

@@ -1,9 +1,9 @@
 -- What a device was told that stops at the first event decides the answer of `check`: `decided`,
 -- `read_up_to`; and what any device was told, `tells_events`.
+use Rattle.std.proofs.lemmas.Bool.Decides.{nat_tests}
 use Rattle.std.proofs.Common.{◌≡◌, ℕ, zero, suc, ◌+◌, ◌-◌, ◌<◌, List, [], ◌∷◌, ◌++◌, length, take}
 use Rattle.std.proofs.Common.{drop, Option, Some, None, is_some, Result, MatchResult, Ok, Err, refl}
-use Rattle.std.proofs.Common.{sym}
-use Rattle.std.proofs.Common.{ap, ◌∙◌, subst, arith, All, Bool, false}
+use Rattle.std.proofs.Common.{sym, ap, ◌∙◌, subst, arith, All, Bool, false}
 use Rattle.std.specs.List.{AllByRecursion}
 use Rattle.std.proofs.lemmas.List.{take-append-drop}
 use Rattle.std.proofs.lemmas.List.Elements.{All-from_recursion}
@@ -39,7 +39,7 @@ use Rattle.sub_io.specs.Device.{failed}
 use Rattle.std.proofs.lemmas.Bool.{true≢false}
 use Rattle.sub_check.specs.Fault.{is_pes_read, is_subtitle_fault}
 use Rattle.sub_check.proofs.CheckLemmas.{checked_from}
-use Rattle.sub_check.proofs.EventLemmas.{frames_told, law_of_first_event, none_told}
+use Rattle.sub_check.proofs.EventLemmas.{frames_told, law_of_first_event}
 use Rattle.sub_check.proofs.OrderLemmas.{holds_before}
 use Rattle.sub_check.proofs.ReadFileLemmas.{IsOfBytes, IsSoundFile, file_sound}
 
@@ -61,9 +61,7 @@ module _ (origin : ℕ) (bytes : List ℕ) (frames : Transmission) (unread : Opt
     sound = subst IsSoundFile reads (file_sound origin 0 bytes)
 
     packets_whole : EachPacket IsPacket frames
-    packets_whole =
-        All-from_recursion (λ (s : SentFrame). All IsPacket s.packets) frames
-        (each_whole frames sound.whole)
+    packets_whole = grind (arith, nat_tests, each_whole frames sound.whole, All-from_recursion)
 
     no_device : (f : PesFault) → unread ≡ Some (BadPacket f) → IsOfBytes f
     no_device f e = sound.fault f e
@@ -83,9 +81,7 @@ of_unread : (pes : ℕ) (u : Option Unread) → ((f : PesFault) → u ≡ Some (
     → IsRuleFault (unread_fault pes u)
 of_unread pes None h = record { no_source = refl; no_write = refl; no_subtitle = refl }
 of_unread pes (Some NoFrame) h = record { no_source = refl; no_write = refl; no_subtitle = refl }
-of_unread pes (Some (BadPacket f)) h =
-    let is = h f refl in
-    record { no_source = is.no_source; no_write = is.no_sink; no_subtitle = refl }
+of_unread pes (Some (BadPacket f)) h = grind (arith, nat_tests)
 
 of_place : (g : Task) (frames : Transmission)
     → ((f : PesFault) → g.unread ≡ Some (BadPacket f) → IsOfBytes f) → (x : Place)
@@ -183,8 +179,7 @@ module _ (g : Task) (origin : ℕ) (bytes : List ℕ) (frames : Transmission)
         let same : fault.Pes n Read ≡ fault.Pes pes Read = sym is ∙ failed in
         let at : n ≡ pes = cc in
         let past : AreOk g frames n =
-        none_told (NamesFirst g frames) (AreOk g frames n) (events_of_first g frames n)
-        (frames_told g frames whole n l)
+        (frames_told g frames whole n l).none
         (sym (first_is None (events_of_first g frames n) told)) in
         subst (IsReadUpTo g frames) at
         (record { within = l; holds = holds_before g frames n past })

@@ -1,9 +1,8 @@
 -- What is kept, one frame of the list on, and what is told on the way.
 use Rattle.std.proofs.lemmas.Bool.Decides.{nat_tests}
-use Rattle.std.proofs.Common.{◌≡◌, ℕ, zero, suc, ◌+◌, ◌-◌, ◌<◌, ◌≤◌, inl, inr, Bool}
-use Rattle.std.proofs.Common.{◌&&◌, nat_le, nat_lt, max, cond, List, [], ◌∷◌, ◌++◌, length}
-use Rattle.std.proofs.Common.{Option, Some, None, refl, sym, ap, ap₂, ◌∙◌, subst, arith}
-use Rattle.std.proofs.Common.{append_assoc, append-nil, ◌==◌}
+use Rattle.std.proofs.Common.{◌≡◌, ℕ, zero, suc, ◌+◌, ◌-◌, ◌<◌, ◌≤◌, Bool, ◌&&◌, nat_le, nat_lt}
+use Rattle.std.proofs.Common.{cond, List, [], ◌∷◌, ◌++◌, length, Option, Some, None, refl, sym, ap}
+use Rattle.std.proofs.Common.{◌∙◌, subst, arith, append_assoc, append-nil, ◌==◌}
 use Rattle.std.proofs.lemmas.Bool.{cases_lt}
 use Rattle.std.proofs.lemmas.List.{get_or-map}
 use Rattle.std.proofs.lemmas.List.Folds.{list_any_more}
@@ -12,21 +11,18 @@ use Rattle.sub_plan.specs.Schedule.{due_in}
 use Rattle.ttx_page.specs.PacketKind.{kind}
 use Rattle.ttx_page.specs.Span.{holds_header}
 use Rattle.sub_check.specs.Checker.{CheckerValue, after_end, as_standing, at_first, at_frame}
-use Rattle.sub_check.specs.Checker.{at_next}
-use Rattle.sub_check.specs.Checker.{later_by, stands}
+use Rattle.sub_check.specs.Checker.{at_next, later_by, stands}
 use Rattle.sub_check.specs.Checking.{ending_fault, fault_events, last_fault}
 use Rattle.sub_check.specs.Events.{Standing, closing_events, content_events, covers, end_before}
-use Rattle.sub_check.specs.Events.{end_events, events_at_end, first_header_events}
-use Rattle.sub_check.specs.Events.{frame_events, gap_events, gap_length, is_early, is_gap}
-use Rattle.sub_check.specs.Events.{is_incomplete, late_events, latest, nothing_stands, order_events}
-use Rattle.sub_check.specs.Events.{packet_events, rest_events, rule_events, standing_at}
-use Rattle.sub_check.specs.Events.{standing_before}
+use Rattle.sub_check.specs.Events.{end_events, events_at_end, first_header_events, frame_events}
+use Rattle.sub_check.specs.Events.{gap_events, gap_length, is_early, is_gap, is_incomplete, latest}
+use Rattle.sub_check.specs.Events.{nothing_stands, order_events, packet_events, rest_events}
+use Rattle.sub_check.specs.Events.{rule_events, standing_at, standing_before}
 use Rattle.sub_check.specs.Following.{Arrives, Follows, HasBegun, IsTaskOf, Remembers, Waits}
 use Rattle.sub_check.specs.Following.{arriving_events, ending_events, taking_events}
 use Rattle.sub_check.specs.FrameRules.{Task, Unread, frame_at, packets_before, packets_of_frame}
 use Rattle.sub_check.specs.FrameRules.{end_frame}
 use Rattle.sub_check.specs.FirstBroken.{unread_fault}
-use Rattle.sub_check.specs.declared.packet_rules.Watched.{Watched}
 use Rattle.sub_check.specs.Listening.{Knows, KnowsLast}
 use Rattle.sub_check.specs.PacketRules.{header_count}
 use Rattle.sub_check.specs.Transmission.{SentFrame, Transmission}
@@ -49,10 +45,7 @@ pub end_events_are :
     ++ (rule_events end.Gap (fault.Gap f) old.gap before new.gap
     ++ rule_events end.Incomplete (fault.Incomplete f) old.incomplete before new.incomplete)
 unfolding end_events
-end_events_are old before new f =
-    append_assoc (content_events old.content before new.content f)
-    (rule_events end.Gap (fault.Gap f) old.gap before new.gap)
-    (rule_events end.Incomplete (fault.Incomplete f) old.incomplete before new.incomplete)
+end_events_are old before new f = grind (arith, nat_tests)
 
 -- ---- what stands
 
@@ -65,13 +58,7 @@ pub stands_at :
     → c.listener.comparison.due ≡ due_in c.programme c.frame
     → as_standing (stands (packets_before frames n) c) ≡ standing_at g frames n f
 unfolding standing_at is_incomplete
-stands_at g frames n f c known late at due =
-    let t = known.task_is in
-    let due_is : c.listener.comparison.due ≡ g.due f =
-    due ∙ ap (due_in c.programme) at ∙ sym (t.due_is f) in
-    let gap = late f in
-    let watched = known.watched_is in
-    grind (arith, nat_tests)
+stands_at g frames n f c known late at due = grind (arith, nat_tests)
 
 -- The end before, where the frame is not after the one after the latest.
 end_before_low : (frames : Transmission) (n f : ℕ) → f ≤ latest frames n + 1
@@ -84,7 +71,7 @@ end_before_high : (frames : Transmission) (n f : ℕ) → latest frames n < f
 end_before_high frames n f l = grind (arith, nat_tests)
 
 -- What stood broken at the end before.
-standing_before_is :
+pub standing_before_is :
     (g : Task) (frames : Transmission) (n f : ℕ)
     → 0 < n
     → standing_before g frames n f ≡ standing_at g frames n (end_before frames n f)
@@ -114,14 +101,7 @@ pub Follows-none :
     → c.headers ≡ 0
     → as_standing c.standing ≡ nothing_stands
     → Follows g frames 0 c
-Follows-none g frames c task watched knows none stood = record {
-  known = record { task_is = task; watched_is = watched; knows = knows; count = none };
-  none = λ e. stood;
-  begun = λ l. absurd (omega arith);
-  latest_is = λ l. absurd (omega arith);
-  standing_is = λ l. absurd (omega arith);
-  last_is = λ l. absurd (omega arith);
-}
+Follows-none g frames c task watched knows none stood = grind (arith, nat_tests)
 
 -- Another page is due: the rest stays.
 remembers_at : (g : Task) (frames : Transmission) (n f : ℕ) (c : CheckerValue)
@@ -135,27 +115,7 @@ pub arrives_first :
     → frame_at frames 0 ≡ f
     → Arrives g frames 0 (at_first f c)
 unfolding is_gap latest standing_before
-arrives_first g frames f c follows is =
-    let known = remembers_at g frames 0 f c follows.known in
-    let task = follows.known.task_is in
-    record {
-      waits = record {
-        known = record {
-          task_is = known.task_is;
-          watched_is = known.watched_is;
-          knows = known.knows;
-          count = known.count;
-        };
-        begun = record {
-          first_is = sym is;
-          late_is = λ d. let every = task.every_is in grind (arith, nat_tests);
-        };
-        standing_is = follows.none refl;
-        last_is = λ l. absurd (omega arith);
-      };
-      frame_is = sym is;
-      latest_is = omega (arith, is);
-    }
+arrives_first g frames f c follows is = grind (arith, nat_tests, remembers_at)
 
 -- What is told of it. For `begin`.
 pub first_arriving :
@@ -167,10 +127,7 @@ pub first_arriving :
     → told ≡ is_early out f
     → arriving_events g frames 0 ≡ cond told (Told (fault.Early f) ∷ []) []
 unfolding order_events gap_events gap_length
-first_arriving g frames f c out told follows is from e =
-    let task = follows.known.task_is in
-    let first = task.first_is in
-    grind (arith, nat_tests)
+first_arriving g frames f c out told follows is from e = grind (arith, nat_tests)
 
 -- ---- the frames of the day before another one
 
@@ -182,17 +139,7 @@ pub follows_waits :
     → f ≤ c.latest + 1
     → Waits g frames n f c
 follows_waits g frames n f c follows some l =
-    let latest_is = follows.latest_is some in
-    let low = end_before_low frames n f (omega (arith, latest_is)) in
-    record {
-      known = follows.known;
-      begun = follows.begun some;
-      standing_is =
-          follows.standing_is some
-          ∙ ap (standing_at g frames n) (sym low)
-          ∙ sym (standing_before_is g frames n f some);
-      last_is = λ l. follows.last_is some ∙ sym low;
-    }
+    grind (arith, nat_tests, end_before_low, standing_before_is)
 
 -- It may be any of these.
 waits_lower :
@@ -203,18 +150,7 @@ waits_lower :
     → e ≤ latest frames n + 1
     → Waits g frames n e c
 waits_lower g frames n f e c waits some l m =
-    let same : end_before frames n f ≡ end_before frames n e =
-    end_before_low frames n f l ∙ sym (end_before_low frames n e m) in
-    record {
-      known = waits.known;
-      begun = waits.begun;
-      standing_is =
-          waits.standing_is
-          ∙ standing_before_is g frames n f some
-          ∙ ap (standing_at g frames n) same
-          ∙ sym (standing_before_is g frames n e some);
-      last_is = λ l. waits.last_is some ∙ same;
-    }
+    grind (arith, nat_tests, end_before_low, standing_before_is)
 
 -- One end more. For `cross_gap`.
 module _ (g : Task) (frames : Transmission) (n f : ℕ) (v b : CheckerValue)
@@ -229,9 +165,7 @@ module _ (g : Task) (frames : Transmission) (n f : ℕ) (v b : CheckerValue)
     at_there = ap (λ (c : CheckerValue). c.frame) moved
 
     begun_there : HasBegun g frames n b
-    begun_there =
-        subst (HasBegun g frames n) (sym moved)
-        (record { first_is = waits.begun.first_is; late_is = waits.begun.late_is })
+    begun_there = grind (arith, nat_tests)
 
     stands_there : as_standing (stands (packets_before frames n) b) ≡ standing_at g frames n f
     stands_there = stands_at g frames n f b known_there begun_there.late_is at_there due
@@ -240,14 +174,7 @@ module _ (g : Task) (frames : Transmission) (n f : ℕ) (v b : CheckerValue)
         end_events (as_standing b.standing) b.last
         (as_standing (stands (packets_before frames n) b)) b.frame
         ≡ events_at_end g frames n n f
-    gap_told =
-        let standing =
-        ap (λ (c : CheckerValue). as_standing c.standing) moved ∙ waits.standing_is in
-        let last = ap (λ (c : CheckerValue). c.last) moved ∙ waits.last_is some in
-        ap (λ e. end_events (as_standing b.standing) b.last
-        (as_standing (stands (packets_before frames n) b)) e) at_there
-        ∙ ends_are g frames n n f (as_standing b.standing)
-        (as_standing (stands (packets_before frames n) b)) b.last standing (λ l. last) stands_there
+    gap_told = grind (arith, nat_tests, at_there, ends_are, stands_there)
 
     pub gap_knows : Knows (packets_before frames n) b.listener
     gap_knows = known_there.knows.knows
@@ -255,21 +182,7 @@ module _ (g : Task) (frames : Transmission) (n f : ℕ) (v b : CheckerValue)
     pub gap_waits : (e : ℕ) → e ≡ f + 1
         → Waits g frames n e (after_end (packets_before frames n) b)
     gap_waits e is =
-        let before = ap (end_before frames n) is ∙ end_before_high frames n f later in
-        record {
-          known = record {
-            task_is = known_there.task_is;
-            watched_is = known_there.watched_is;
-            knows = known_there.knows;
-            count = known_there.count;
-          };
-          begun = record { first_is = begun_there.first_is; late_is = begun_there.late_is };
-          standing_is =
-              stands_there
-              ∙ ap (standing_at g frames n) (sym before)
-              ∙ sym (standing_before_is g frames n e some);
-          last_is = λ l. at_there ∙ sym before;
-        }
+        grind (arith, nat_tests, end_before_high, stands_there, standing_before_is, at_there)
 
 -- What is told at the ends so far, one end more.
 pub gap_more :
@@ -279,10 +192,7 @@ pub gap_more :
     → gap_events g frames n (e - (latest frames n + 1))
     ≡ gap_events g frames n (f - (latest frames n + 1)) ++ events_at_end g frames n n f
 unfolding gap_events
-gap_more g frames n f e later is =
-    let k : e - (latest frames n + 1) ≡ suc (f - (latest frames n + 1)) = omega arith in
-    let at : latest frames n + suc (f - (latest frames n + 1)) ≡ f = omega arith in
-    rw (k, at) refl
+gap_more g frames n f e later is = grind (arith, nat_tests)
 
 -- Before the first of them nothing is told.
 pub gap_start : (g : Task) (frames : Transmission) (n latest_is : ℕ)
@@ -314,10 +224,7 @@ pub gap_split :
     → m ≤ whole
     → (rest : List Event)
     × (gap_events g frames n whole ≡ gap_events g frames n m ++ rest)
-gap_split g frames n m whole l =
-    let r = gap_rest g frames n m (whole - m) in
-    let is : whole - m + m ≡ whole = omega arith in
-    (r.0, ap (gap_events g frames n) (sym is) ∙ r.1)
+gap_split g frames n m whole l = grind (arith, nat_tests, gap_rest g frames n m (whole - m))
 
 -- How many there are.
 pub gap_length_is :
@@ -340,12 +247,7 @@ pub gap_ended :
     → (known + 1 < f → f ≤ to)
     → (to - (latest frames n + 1) ≡ f - (latest frames n + 1)) × Waits g frames n to c
 gap_ended g frames n f to known c waits some is later done upto =
-    elim (cases_lt (known + 1) f) [
-      | inl past ↦ let e : f ≡ to = let l = upto past in omega arith in
-          (ap (λ x. x - (latest frames n + 1)) (sym e), subst (λ x. Waits g frames n x c) e waits)
-      | inr here ↦
-          (omega arith, waits_lower g frames n f to c waits some (omega arith) (omega arith))
-    ]
+    grind (arith, nat_tests, cases_lt, waits_lower)
 
 -- The frame is reached. For `go_to`.
 pub arrives_next :
@@ -355,24 +257,7 @@ pub arrives_next :
     → c.latest ≡ latest frames n
     → Arrives g frames n (at_next f c)
 unfolding latest
-arrives_next g frames n f c waits is latest_is =
-    let known = remembers_at g frames n f c waits.known in
-    let there = sym is in
-    record {
-      waits = subst (λ e. Waits g frames n e (at_next f c)) there (record {
-        known = record {
-          task_is = known.task_is;
-          watched_is = known.watched_is;
-          knows = known.knows;
-          count = known.count;
-        };
-        begun = record { first_is = waits.begun.first_is; late_is = waits.begun.late_is };
-        standing_is = waits.standing_is;
-        last_is = waits.last_is;
-      });
-      frame_is = there;
-      latest_is = ap₂ max latest_is there;
-    }
+arrives_next g frames n f c waits is latest_is = grind (arith, nat_tests, remembers_at)
 
 -- What is told of its order. For `go_to`.
 pub order_are :
@@ -421,16 +306,7 @@ module _ (g : Task) (frames : Transmission) (n : ℕ) (c : CheckerValue)
         first_header_events g frames n
         ≡ cond ((n == 0) && (headers == 0)) (Told (fault.NoFirstHeader c.frame) ∷ []) []
     unfolding first_header_events
-    first_told = go n refl
-      where
-        go : (m : ℕ) → n ≡ m
-            → first_header_events g frames m
-            ≡ cond ((m == 0) && (headers == 0)) (Told (fault.NoFirstHeader c.frame) ∷ []) []
-        go zero e =
-            let at = arrives.frame_is ∙ ap (frame_at frames) e in
-            let packets = ap (packets_of_frame frames) (sym e) ∙ packets_are in
-            grind (arith, nat_tests, has_header)
-        go (suc m) e = grind (arith, nat_tests)
+    first_told = grind (arith, nat_tests, has_header)
 
     -- What is kept after them.
     abbrev counted : CheckerValue
@@ -441,18 +317,7 @@ module _ (g : Task) (frames : Transmission) (n : ℕ) (c : CheckerValue)
     }
 
     known_then : Remembers g frames (n + 1) counted
-    known_then =
-        let known = arrives.waits.known in
-        record {
-          task_is = known.task_is;
-          watched_is = kept ∙ known.watched_is;
-          knows = grind (arith, joined);
-          count =
-              ap₂ (λ x y. x + y) known.count
-              (headers_are ∙ ap (λ (w : Watched). header_count w.page ps) known.watched_is)
-              ∙ sym (ap (header_count g.watched.page) (sym joined)
-              ∙ header_count-append g.watched.page (packets_before frames n) ps);
-        }
+    known_then = grind (arith, nat_tests, joined, header_count-append)
 
     late_then : (d : ℕ) → is_gap g frames (n + 1) d ≡ nat_le counted.late_at (d + 1)
     unfolding is_gap
@@ -478,17 +343,7 @@ module _ (g : Task) (frames : Transmission) (n : ℕ) (c : CheckerValue)
           end_events (as_standing counted.standing) counted.last
           (as_standing (stands (packets_before frames n ++ ps) counted)) counted.frame
           ≡ events_at_end g frames n (suc n) (frame_at frames n)
-      end_told =
-          let heard_then : List (List ℕ) = packets_before frames n ++ ps in
-          let now =
-          ap (λ qs. as_standing (stands qs counted)) joined
-          ∙ stands_then
-          ∙ ap (λ m. standing_at g frames m (frame_at frames n)) (omega arith) in
-          ap (λ e. end_events (as_standing counted.standing) counted.last
-          (as_standing (stands heard_then counted)) e) arrives.frame_is
-          ∙ ends_are g frames n (suc n) (frame_at frames n) (as_standing counted.standing)
-          (as_standing (stands heard_then counted)) c.last arrives.waits.standing_is
-          arrives.waits.last_is now
+      end_told = grind (arith, nat_tests, joined, stands_then, ends_are)
 
       -- What is kept there. For `take`.
       pub follows_then :
@@ -503,14 +358,9 @@ module _ (g : Task) (frames : Transmission) (n : ℕ) (c : CheckerValue)
               count = known_then.count;
             };
             none = λ e. absurd (omega (arith, e));
-            begun = λ l. record {
-              first_is = arrives.waits.begun.first_is;
-              late_is = late_then;
-            };
+            begun = λ l. grind (arith, nat_tests, late_then);
             latest_is = λ l. arrives.latest_is ∙ ap (latest frames) (omega arith);
-            standing_is = λ l.
-                stands_then
-                ∙ ap (λ m. standing_at g frames (n + 1) (frame_at frames m)) (sym here);
+            standing_is = λ l. grind (arith, nat_tests, stands_then);
             last_is = λ l. arrives.frame_is ∙ ap (frame_at frames) (sym here);
           })
 
@@ -532,12 +382,7 @@ pub closing_none :
     → last ≡ last_fault given last_out pes frame
     → closing_events g frames pes ≡ fault_events last
 unfolding closing_events
-closing_none g frames pes given last last_out frame is none e = rw (e, is, none) (go g.unread)
-  where
-    go : (u : Option Unread) → Told (unread_fault 0 u) ∷ []
-        ≡ fault_events (last_fault (ending_fault 0 u) last_out 0 frame)
-    go None = refl
-    go (Some u) = refl
+closing_none g frames pes given last last_out frame is none e = grind (arith, nat_tests)
 
 -- What follows the last frame.
 rest_are :
@@ -546,13 +391,7 @@ rest_are :
     → end_frame frames ≡ frame
     → 0 < pes
     → rest_events g frames u ≡ fault_events (last_fault (ending_fault pes u) g.last_out pes frame)
-rest_are g frames pes None frame all at some = by (g.last_out) pes some
-  where
-    by : (out : Option ℕ) (m : ℕ) → 0 < m
-        → late_events out (end_frame frames) ≡ fault_events (last_fault None out m frame)
-    by None (suc m) l = refl
-    by (Some x) (suc m) l = grind (arith, nat_tests)
-    by out zero l = absurd (omega arith)
+rest_are g frames pes None frame all at some = grind (arith, nat_tests)
 rest_are g frames pes (Some u) frame all at some =
     ap (λ m. Told (unread_fault m (Some u)) ∷ []) all
 
@@ -572,11 +411,4 @@ unfolding closing_events
 closing_some g frames zero c given last out none follows all is some from e nothing =
     absurd (omega arith)
 closing_some g frames (suc n) c given last out none follows all is some from e nothing =
-    let at : end_frame frames ≡ c.last =
-    ap (λ m. frame_at frames (m - 1)) all ∙ sym (follows.last_is some) in
-    let stood : standing_at g frames (suc n) (end_frame frames) ≡ as_standing c.standing =
-    ap (λ m. standing_at g frames (suc n) (frame_at frames (m - 1))) all
-    ∙ sym (follows.standing_is some) in
-    let out_is : g.last_out ≡ out = follows.known.task_is.last_is ∙ sym from in
-    let rest = rest_are g frames (suc n) g.unread c.last all at some in
-    rw (nothing, e, is, stood, at, rest, out_is) refl
+    grind (arith, nat_tests, rest_are)

@@ -75,9 +75,7 @@ any_sent w (s ∷ ss) (suc j) n l e h =
 -- A list joined to another, cut after its end.
 pub take-over : (xs ys : List (List ℕ)) (n : ℕ) → length xs ≤ n
     → take n (xs ++ ys) ≡ xs ++ take (n - length xs) ys
-take-over xs ys n h =
-    let e : n ≡ length xs + (n - length xs) = omega arith in
-    ap (λ k. take k (xs ++ ys)) e ∙ take-append-add xs ys (n - length xs)
+take-over xs ys n h = grind (arith, nat_tests, take-append-add xs ys (n - length xs))
 
 -- The number of a frame of the list.
 pub number_at : (t : Transmission) (i : ℕ) (d : SentFrame) → i < length t
@@ -149,11 +147,8 @@ module _ (programme : ProgrammeValue) (options : OptionsValue) (unread : Option 
       let first = first-same t in
       let last = last-same t in
       let r = h.repeats start (omega arith) (omega arith) in
-      (grind (
-        arith,
-        nat_tests,
-        any_sent (watched_of programme options) t r.0 (frame_at t r.0) r.1 refl r.4,
-      ))
+      let any = any_sent (watched_of programme options) t r.0 (frame_at t r.0) r.1 refl r.4 in
+      grind (arith, nat_tests)
 
   -- The frames rise.
   rising_of : (i j : ℕ) (d : SentFrame) → i < j → j < length t
@@ -233,11 +228,8 @@ module _ (programme : ProgrammeValue) (options : OptionsValue) (t : Transmission
       let cut :
       take n (packets_before t i ++ packets_of_frame t i)
       ≡ packets_before t i ++ take k (packets_of_frame t i) =
-      grind (
-        arith,
-        nat_tests,
-        take-over (packets_before t i) (packets_of_frame t i) n (omega arith),
-      ) in
+      let over = take-over (packets_before t i) (packets_of_frame t i) n (omega arith) in
+      grind (arith, nat_tests) in
       subst (λ xs. IsCleanSpan options.page (span (kind options.page) xs))
       (ap (take n) (on_air_at t rising_back i l ∙ joined_more t i l) ∙ cut)
       (h.spans f n (omega arith))

@@ -1,9 +1,8 @@
 -- A receiver that has heard packets of which the first erases the page is what it is when it has
 -- heard them again, at once: `runs_again`.
 use Rattle.std.proofs.lemmas.Bool.Decides.{nat_tests}
-use Rattle.std.proofs.Common.{arith}
-use Rattle.std.proofs.Common.{◌≡◌, ℕ, ◌&&◌, Bool, true, false, not, List, [], ◌∷◌}
-use Rattle.std.proofs.Common.{Option, refl, ap, subst, if◌then◌else◌}
+use Rattle.std.proofs.Common.{arith, ◌≡◌, ℕ, ◌&&◌, Bool, true, false, List, [], ◌∷◌, Option, refl}
+use Rattle.std.proofs.Common.{ap, subst, if◌then◌else◌}
 use Rattle.ttx_packet.specs.PageId.{PageIdValue}
 use Rattle.ttx_page.specs.Page.{Rows}
 use Rattle.ttx_page.specs.Receiver.{LeavesCells, State, Step}
@@ -56,25 +55,8 @@ module _ (b : Bool) (leaves : ℕ → ℕ) (w : PageIdValue) where
           → (b && is_ended old.held mid.held) ≡ c
           → RunsThrough b leaves w (display mid.held new.screen) ps new
           → RunsThrough b leaves w (display old.held new.screen) (p ∷ ps) new
-      go true put carried = (
-        mid,
-        record {
-          step = takes.step;
-          cells = takes.cells;
-          screen =
-              screen_put b old.held mid.held old.screen new.screen mid.screen put takes.screen;
-        },
-        rest,
-      )
-      go false none carried = (
-        display mid.held new.screen,
-        record {
-          step = takes.step;
-          cells = takes.cells;
-          screen = screen_kept b old.held mid.held new.screen none;
-        },
-        carried,
-      )
+      go true put carried = grind (arith, nat_tests, screen_put)
+      go false none carried = grind (arith, nat_tests, screen_kept)
 
   -- So a receiver may be left as it is where they are sent again. For `heard_again`.
   pub runs_again :
@@ -83,13 +65,12 @@ module _ (b : Bool) (leaves : ℕ → ℕ) (w : PageIdValue) where
       → RunsThrough b leaves w old (first ∷ others) new
       → RunsThrough b leaves w new (first ∷ others) new
   runs_again first others old new e (mid, takes, rest) =
-      let open_is = stays_open w first e old.held mid.held takes.step in
-      let none : (b && is_ended new.held mid.held) ≡ false = grind (arith, nat_tests, not) in (
-        display mid.held new.screen,
-        record {
-          step = same_step w first e old.held new.held mid.held takes.step;
-          cells = no_choice w first e leaves new.held mid.held;
-          screen = screen_kept b new.held mid.held new.screen none;
-        },
+      grind (
+        arith,
+        nat_tests,
+        stays_open w first e old.held mid.held takes.step,
+        same_step w first e old.held new.held mid.held takes.step,
+        no_choice w first e leaves new.held mid.held,
         carry others mid new rest,
+        screen_kept,
       )

@@ -2,9 +2,8 @@
 -- `at_end`, `is_read`, `counts_read`; and of what is told, `told_to_end`, `told_to_stop`.
 use Rattle.std.proofs.lemmas.Bool.Decides.{nat_tests}
 use Rattle.std.proofs.Common.{◌≡◌, ℕ, zero, suc, ◌+◌, ◌-◌, ◌<◌, ◌≤◌, Bool, List, [], ◌∷◌, ◌++◌}
-use Rattle.std.proofs.Common.{length, drop, take, get_or, Option, Some, None, Result, Ok, Err}
-use Rattle.std.proofs.Common.{All, sym, ap, refl, ◌∙◌, subst, arith, append_assoc, append-nil}
-use Rattle.std.proofs.Common.{add-one}
+use Rattle.std.proofs.Common.{length, drop, take, get_or, Option, Some, Result, Ok, Err, sym, ap}
+use Rattle.std.proofs.Common.{refl, ◌∙◌, subst, arith, append_assoc, append-nil, add-one}
 use Rattle.std.specs.List.{AllByRecursion, AllZip}
 use Rattle.std.specs.Prelude.{is_err}
 use Rattle.std.proofs.lemmas.List.Folds.{concat-append}
@@ -25,9 +24,8 @@ use Rattle.sub_check.specs.Events.{closing_events, events, events_of_first, fram
 use Rattle.sub_check.specs.Following.{Follows, IsSentFrame, IsTaskOf}
 use Rattle.ttx_packet.specs.PageId.{PageIdValue}
 use Rattle.stl_rows.specs.declared.national.National.{National}
-use Rattle.sub_check.specs.FrameRules.{watched_of}
-use Rattle.sub_check.specs.FrameRules.{Task, Unread, packets_before, task_of, packets_of_frame}
-use Rattle.sub_check.specs.PacketRules.{header_count, packets_of_units}
+use Rattle.sub_check.specs.FrameRules.{watched_of, Task, Unread, task_of, packets_of_frame}
+use Rattle.sub_check.specs.PacketRules.{packets_of_units}
 use Rattle.sub_check.specs.PesReading.{EndsReading, ReadsAs}
 use Rattle.sub_check.specs.Transmission.{SentFrame, Transmission}
 use Rattle.sub_check.specs.declared.checker.Accepted.{Accepted}
@@ -130,17 +128,8 @@ whole_more frames n v l same is before =
     let packets : (get_or frames n d).packets ≡ packets_of_units v.units =
     sym (get_or-map (λ (s : SentFrame). s.packets) frames n d [] l) ∙ same in
     subst AreWhole (sym (take_more frames n d l))
-    (grind (
-      arith,
-      nat_tests,
-      Each-push,
-      All,
-      length,
-      take n frames,
-      get_or frames n d,
-      All-from_recursion,
-      whole_units v.units is.each,
-    ))
+    (let whole = whole_units v.units is.each in
+    grind (arith, nat_tests, Each-push, All-from_recursion))
 
 -- ---- packets of the grammar
 
@@ -309,16 +298,7 @@ module _
         → (0 < n → a.frames + c.first ≡ c.latest + 1)
         → a.transmissions ≡ c.headers
         → CountsRead options.page frames a
-    counts_read c a follows all none some headers = record {
-      none = λ e. none (sym all ∙ e);
-      frames_are = λ l.
-          let some_n : 0 < n = omega (arith, all, l) in
-          let first_is = (follows.begun some_n).first_is in
-          let latest_is = follows.latest_is some_n ∙ ap (latest frames) (sym all) in
-          omega (arith, some some_n, first_is, latest_is);
-      transmissions_are = headers ∙ follows.known.count
-          ∙ ap (λ m. header_count options.page (packets_before frames m)) (sym all);
-    }
+    counts_read c a follows all none some headers = grind (arith, nat_tests)
 
 -- ---- before the first PES packet
 

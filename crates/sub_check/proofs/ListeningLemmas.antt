@@ -1,8 +1,7 @@
 -- What is kept of the packets, one packet on: `knows_this`, `knows_still`, `knows_row`.
-use Rattle.std.proofs.Common.{◌≡◌, ℕ, ◌-◌, ◌≤◌, Bool, true, false, not, ◌&&◌, cond}
-use Rattle.std.proofs.Common.{List, [], ◌∷◌, ◌++◌, Option, Some, None, option_map, find}
-use Rattle.std.proofs.Common.{length, get_or, set, replicate}
-use Rattle.std.proofs.Common.{refl, sym, ap, ◌∙◌, arith, get_or-set_other}
+use Rattle.std.proofs.Common.{◌≡◌, ℕ, ◌-◌, ◌≤◌, Bool, true, false, not, ◌&&◌, cond, List, [], ◌∷◌}
+use Rattle.std.proofs.Common.{◌++◌, Option, Some, None, option_map, find, length, get_or, set}
+use Rattle.std.proofs.Common.{replicate, refl, sym, arith, get_or-set_other}
 use Rattle.std.proofs.lemmas.Bool.Decides.{nat_tests}
 use Rattle.std.proofs.lemmas.Grind.{get_or-set_at}
 use Rattle.std.specs.Option.{option_or}
@@ -41,16 +40,7 @@ pub knows_none :
     → s.comparison.page ≡ blank
     → Knows [] s
 unfolding blank blank_row
-knows_none s serial opened sent page = record {
-  serial_is = serial;
-  open_is = opened;
-  sent_is = λ row low high.
-      ap (λ xs. get_or xs (row - 1) false) sent
-      ∙ get_or-replicate 24 (row - 1) false false (omega arith);
-  page_is = λ row low high.
-      ap (λ xs. get_or xs (row - 1) []) page
-      ∙ get_or-replicate 24 (row - 1) (replicate 40 space) [] (omega arith);
-}
+knows_none s serial opened sent page = grind (arith, nat_tests, get_or-replicate)
 
 -- The first that passes a test in a span, one packet on.
 find-push :
@@ -76,10 +66,7 @@ first_of_row-push :
     (cond (is_open_after (kind page) heard && is_row row (kind page p))
     (option_or (first_of_row page (span (kind page) heard) row) (Some p))
     (first_of_row page (span (kind page) heard) row))
-first_of_row-push page heard p row =
-    ap (λ xs. first_of_row page xs row) (span-push (kind page) heard p)
-    ∙ find-push (kind page p) row (is_open_after (kind page) heard) (span (kind page) heard) p
-    (λ q. is_row row (kind page q)) refl
+first_of_row-push page heard p row = grind (arith, nat_tests, span-push, find-push)
 
 module _ (heard : List (List ℕ)) (p : List ℕ) (s : Listener) (read : Option Header)
     (serial : Option Bool) (known : Knows heard s) (is_read : read ≡ header p)
@@ -116,21 +103,7 @@ module _ (heard : List (List ℕ)) (p : List ℕ) (s : Listener) (read : Option 
         → ((row : ℕ) → 1 ≤ row → row ≤ 24 → s.is_open ≡ true
         → is_row row (kind s.watched.page p) ≡ true → get_or s.sent (row - 1) false ≡ true)
         → Knows (heard ++ p ∷ []) (record s { serial = serial; is_open = opened })
-    knows_still opened e sent = record {
-      serial_is = serial_more;
-      open_is = grind (arith, nat_tests, open-other, known.open_is);
-      sent_is = λ row low high.
-          let more = first_of_row-push s.watched.page heard p row in
-          let before = known.sent_is row low high in
-          let there = sent row low high in
-          grind (arith, nat_tests, known.open_is);
-      page_is = λ row low high.
-          let more = first_of_row-push s.watched.page heard p row in
-          let marks = known.sent_is row low high in
-          let before = known.page_is row low high in
-          let there = sent row low high in
-          grind (arith, nat_tests, known.open_is);
-    }
+    knows_still opened e sent = grind (arith, nat_tests, serial_more, open-other, first_of_row-push)
 
     -- A row of the open page that was not sent before is sent, and held.
     pub knows_row : (y : ℕ) → 1 ≤ y → y ≤ 24 → kind s.watched.page p ≡ Row y

@@ -1,8 +1,8 @@
 -- What is told of the packets of a frame, one packet on: `told_one`, `told_part`; and where they
 -- break no rule, `packet_events-none`.
-use Rattle.std.proofs.Common.{◌≡◌, ℕ, zero, suc, ◌+◌, ◌<◌, ◌≤◌, inl, inr, List, [], ◌++◌}
-use Rattle.std.proofs.Common.{map, take, get_or, refl, sym, ap, ◌∙◌, arith, append_assoc}
-use Rattle.std.proofs.Common.{append-nil, add-one}
+use Rattle.std.proofs.lemmas.Bool.Decides.{nat_tests}
+use Rattle.std.proofs.Common.{◌≡◌, ℕ, zero, suc, ◌+◌, ◌<◌, ◌≤◌, inl, inr, List, [], ◌++◌, map, take}
+use Rattle.std.proofs.Common.{get_or, refl, sym, ap, ◌∙◌, arith, append_assoc, append-nil}
 use Rattle.std.specs.List.{filter}
 use Rattle.std.proofs.lemmas.Bool.{cases_eq}
 use Rattle.sub_io.specs.Telling.{Tells, TellsPrefix}
@@ -35,19 +35,14 @@ module _ (w : Watched) (frame : ℕ) (before ps : List (List ℕ)) where
       → packet_events w frame before ps (k + 1)
       ≡ packet_events w frame before ps k ++ told_by w frame k (before ++ take k ps) p
   unfolding packet_events
-  packet_events-more k p e =
-      rw (add-one, ← e)
-      (ap (λ xs. packet_events w frame before ps k ++ xs)
-      (told_by-is w frame k (before ++ take k ps) (get_or ps k [])))
+  packet_events-more k p e = grind (arith, nat_tests, told_by-is)
 
   -- What is told of some packets is a prefix of what is told of more.
   packet_events-prefix : (n m : ℕ) → n ≤ m
       → (rest : List Event) × (packet_events w frame before ps m
       ≡ packet_events w frame before ps n ++ rest)
   unfolding packet_events
-  packet_events-prefix n zero l =
-      let same : n ≡ 0 = omega arith in
-      ([], rw same (sym (append-nil (packet_events w frame before ps 0))))
+  packet_events-prefix n zero l = grind (arith, nat_tests)
   packet_events-prefix n (suc m) l = elim (cases_eq n (suc m)) [
     | inl same ↦ ([], rw same (sym (append-nil (packet_events w frame before ps (suc m)))))
     | inr other ↦
@@ -90,7 +85,4 @@ module _ (w : Watched) (frame : ℕ) (before ps : List (List ℕ)) where
       → rule_set (λ r. breaks r w (before ++ take k ps) p) ≡ 0
       → BreakNone w before ps (k + 1)
   unfolding broken_rules
-  clean_one k p at clean empty j l = elim (cases_eq j k) [
-    | inl same ↦ rw (same, at) (no_rules (λ r. breaks r w (before ++ take k ps) p) empty)
-    | inr other ↦ clean j (omega (arith, other))
-  ]
+  clean_one k p at clean empty j l = grind (arith, nat_tests, cases_eq, no_rules)

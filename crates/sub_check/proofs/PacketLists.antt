@@ -2,7 +2,7 @@
 -- `first_header-append`.
 use Rattle.std.proofs.lemmas.Bool.Decides.{nat_tests}
 use Rattle.std.proofs.Common.{◌≡◌, ℕ, Bool, true, false, ◌||◌, List, [], ◌∷◌, ◌++◌, refl, ap}
-use Rattle.std.proofs.Common.{◌∙◌, arith, cond, find, filter, nat_lt, length, take}
+use Rattle.std.proofs.Common.{◌∙◌, arith, cond, find, nat_lt, length, take}
 use Rattle.std.proofs.Common.{get_or, ◌+◌, ◌<◌, Some, None, Option}
 use Rattle.std.specs.List.{AllByRecursion, list_any}
 use Rattle.std.proofs.lemmas.Bool.{or_parts, eq-eqb, both_ways}
@@ -11,8 +11,7 @@ use Rattle.std.proofs.lemmas.List.Elements.{filter-append}
 use Rattle.ttx_packet.specs.PageId.{PageIdValue}
 use Rattle.ttx_page.specs.Span.{holds_header}
 use Rattle.ttx_pes.specs.DataUnit.{UnitValue}
-use Rattle.sub_check.specs.PacketRules.{header_count, packets_of_units}
-use Rattle.sub_check.specs.PacketRules.{first_header}
+use Rattle.sub_check.specs.PacketRules.{header_count, packets_of_units, first_header}
 use Rattle.ttx_page.specs.declared.packet_kind.PacketKind.{PacketKind}
 use Rattle.ttx_page.specs.declared.packet_kind.PacketKind.TheVariants.{Row}
 use Rattle.ttx_page.specs.PacketKind.{is_row, is_this_page, kind}
@@ -86,9 +85,7 @@ units_more units k u l e = grind (arith, length-map, take_more, unit_at)
 pub header_count-append :
     (page : PageIdValue) (ps qs : List (List ℕ))
     → header_count page (ps ++ qs) ≡ header_count page ps + header_count page qs
-header_count-append page ps qs =
-    let f : List ℕ → Bool = λ p. is_this_page (kind page p) in
-    ap length (filter-append f ps qs) ∙ length-append (filter f ps) (filter f qs)
+header_count-append page ps qs = grind (arith, nat_tests, filter-append, length-append)
 
 -- And one packet on.
 pub header_count-push :

@@ -71,12 +71,6 @@ pub wrong_header : (p : List ℕ) (r : Bool) → Decides r (HasExactHeader p)
     → not r ≡ not (are_code_words 2 8 p)
 wrong_header p r d = turned r (are_code_words 2 8 p) d (header_decided p)
 
--- A packet with a page header is X/0. For `has_wrong_codes`.
-pub header_is_zero :
-    (p : List ℕ) (h : Header) → header p ≡ Some h → is_of_header (address p) ≡ true
-unfolding header
-header_is_zero p h e = grind (arith, nat_tests)
-
 -- ---- a packet by what it is
 
 -- A packet 25 to 28 is neither a header nor a row.
@@ -131,16 +125,14 @@ module _ (w : Watched) (heard : List (List ℕ)) (p : List ℕ) (set : ℕ) wher
       → o ≡ first_of_row w.page (span (kind w.page) heard) y
       → later_set (λ r. breaks r w heard p) set
       ≡ (let even : ℕ =
-      cond (is_open_after (kind w.page) heard && is_some (first_even_byte p)) (bit_or set 0x10) set in
+      cond (is_open_after (kind w.page) heard && is_some (first_even_byte p)) (bit_or set 0x10)
+      set in
       cond
       (is_open_after (kind w.page) heard && is_some o
       && not (row_differing (held o) (codes_of p) == 0))
       (bit_or even 0x20) even)
   unfolding breaks
-  later_row y o k e =
-      let none = no_enhancement w p (λ e. let both = sym k ∙ e in cc) in
-      let other = other_text o (codes_of p) in
-      rw (k, none, ← e, other) (grind (arith, nat_tests))
+  later_row y o k e = grind (arith, nat_tests, no_enhancement, other_text)
 
 -- The rules of every packet, and then the later ones. For `broken_rules`.
 pub rules_are :

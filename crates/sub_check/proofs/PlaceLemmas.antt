@@ -1,4 +1,5 @@
 -- A transmission is good exactly where what is asked holds at each place.
+use Rattle.std.proofs.lemmas.Bool.Decides.{nat_tests}
 use Rattle.std.proofs.Common.{◌≡◌, ℕ, ◌+◌, ◌-◌, ◌<◌, ◌≤◌, inl, inr, true, false, List, [], ◌∷◌}
 use Rattle.std.proofs.Common.{◌++◌, Option, Some, None, length, refl, sym, ap, ◌∙◌, subst, arith}
 use Rattle.std.specs.Option.{option_or}
@@ -181,9 +182,7 @@ module _ (g : Task) (t : Transmission) (some_frames : 0 < g.every) (h : HoldsEve
     exact = each_from HasExactWords t
         (λ i k l m. (clean_at i k l m rule.Address, clean_at i k l m rule.HeaderCode));
     serial = λ i d l k e m i' d' l' k' e' m' a b is too.
-        let x = agreed i d l k e m a is in
-        let y = agreed i' d' l' k' e' m' b too in
-        x.2 ∙ ap (λ (z : Header). c11 z) (same_Some x.0 y.0 (sym x.1 ∙ y.1)) ∙ sym y.2;
+        grind (arith, nat_tests, agreed, same_Some);
     headers = each_from (IsControlled g.watched.national g.watched.page) t
         (λ i k l m. clean_at i k l m rule.Control);
     fair = at_packet t (length t) (omega arith)

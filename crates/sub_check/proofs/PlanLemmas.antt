@@ -1,18 +1,18 @@
 -- A schedule is a good transmission, and its bytes are read to their end as it: `law_of_plan`,
 -- `law_of_plan_read`.
-use Rattle.sub_plan.proofs.ScheduleBases.{range_split}
-use Rattle.std.proofs.lemmas.List.Elements.{filter-append}
+use Rattle.sub_plan.proofs.ScheduleBases.{range_split, last_sending, sending_in_gap, sends-first}
+use Rattle.sub_plan.proofs.ScheduleBases.{sends-last}
+use Rattle.std.proofs.lemmas.List.Elements.{filter-append, All-weaker, recursion_from_All}
 use Rattle.std.proofs.lemmas.List.{map-append}
 use Rattle.std.proofs.lemmas.Bool.Decides.{nat_tests}
 use Rattle.std.proofs.Common.{◌≡◌, ℕ, suc, ◌+◌, ◌-◌, ◌<◌, ◌≤◌, Bool, true, List, [], ◌∷◌}
 use Rattle.std.proofs.Common.{◌++◌, length, map, filter, take, flat_map, All, refl, sym, ap, ap₂}
 use Rattle.std.proofs.Common.{◌∙◌, subst, arith, IsTrue, append-nil, Option, Some, None, ◌*◌, lit<}
 use Rattle.std.specs.List.{range_with_len, AllByRecursion}
-use Rattle.std.proofs.lemmas.List.Elements.{All-weaker, recursion_from_All}
 use Rattle.std.specs.Prelude.{IfSome}
 use Rattle.std.proofs.lemmas.Option.{same_Some}
 use Rattle.ttx_packet.specs.declared.header.Header.{Header}
-use Rattle.ttx_packet.specs.PacketAddress.{PacketAddress, address, IsPacket}
+use Rattle.ttx_packet.specs.PacketAddress.{IsPacket}
 use Rattle.ttx_packet.specs.PageHeader.{c11, header, HasExactWords}
 use Rattle.ttx_packet.specs.PageId.{PageIdValue}
 use Rattle.ttx_packet.specs.RowPacket.{HasOddText}
@@ -30,7 +30,6 @@ use Rattle.sub_plan.specs.Schedule.{due_in, is_sending, sendings_from, pes_value
 use Rattle.sub_plan.specs.Schedule.{sendings_at, sendings_between}
 use Rattle.sub_plan.specs.Sending.{sending, watched_header}
 use Rattle.sub_plan.specs.Laws.{AreRowsOfOnePage, IsLastSending, IsRowOf, IsSentPacket}
-use Rattle.sub_plan.proofs.ScheduleBases.{last_sending, sending_in_gap, sends-first, sends-last}
 use Rattle.sub_plan.proofs.SentPackets.{kind_row, made_row, row_of}
 use Rattle.sub_plan.proofs.SendingLemmas.{all_sent, ended_after, law_of_cut_sendings, sending_holds}
 use Rattle.sub_plan.proofs.SendingLemmas.{shown_after}
@@ -70,10 +69,13 @@ module _ (w : PageIdValue) (ok : IsWatchable w) where
   same_row : (page : Rows) → IsPage page → (p q : List ℕ) → IsRowOf w page p → IsRowOf w page q
       → IsSameRow w p q
   same_row page shape p q one other row k l =
-      let a : Row row ≡ Row one.row = sym k ∙ kind_of_row page p shape one in
-      let b : Row row ≡ Row other.row = sym l ∙ kind_of_row page q shape other in
-      let e : one.row ≡ other.row = cc in
-      one.is ∙ ap (row_of w page) e ∙ sym other.is
+      grind (
+        arith,
+        nat_tests,
+        kind_of_row page p shape one,
+        kind_of_row page q shape other,
+        row_of w page,
+      )
 
   -- A row has 40 odd bytes.
   odd_row : (page : Rows) → IsPage page → (p : List ℕ) → IsRowOf w page p → IsOddRow w p
@@ -84,22 +86,11 @@ module _ (w : PageIdValue) (ok : IsWatchable w) where
   no_enhancement : (page : Rows) → IsPage page → (p : List ℕ) → IsRowOf w page p → IsEnhancement w p
       → ⊥
   no_enhancement page shape p is (a, at, m, low, high) =
-      let e : Some a ≡ Some (record { magazine = w.magazine; packet_number = is.row }) = sym at
-      ∙ ap address is.is ∙ (made_row w page is.row ok shape is.low is.high).address in
-      let n : a.packet_number ≡ is.row =
-      ap (λ (x : PacketAddress). x.packet_number) (same_Some a _ e) in
-      absurd (omega (arith, n, is.high, low))
+      grind (arith, nat_tests, made_row w page is.row ok shape is.low is.high, same_Some)
 
   -- So a span of them is clean.
   clean_rows : (packets : List (List ℕ)) → AreRowsOfOnePage w packets → IsCleanSpan w packets
-  clean_rows packets are =
-      record {
-        odd = All-weaker (IsRowOf w are.page) (IsOddRow w)
-            (odd_row are.page are.shape) packets are.rows;
-        same = λ k d l i e b. same_row are.page are.shape _ _ (are.rows k d l) (are.rows i e b);
-        plain = All-weaker (IsRowOf w are.page) (λ p. IsEnhancement w p → ⊥)
-            (no_enhancement are.page are.shape) packets are.rows;
-      }
+  clean_rows packets are = grind (arith, nat_tests, All-weaker, odd_row, same_row, no_enhancement)
 
 -- The header of a sending has the control bits of a subtitle's.
 subtitle_header : (w : PageIdValue) (national : National) (serial : Bool)
@@ -231,9 +222,7 @@ module _
       → shown w (on_air_until T f) row column ≡ cell (due f) row column
   content f row column low high named =
       let (before, page, same, good, is) = so_far f low high in
-      ap (λ ps. shown w ps row column) is
-      ∙ shown_after w programme.national serial page ok.page good before row column named
-      ∙ ap (λ q. cell q row column) same
+      grind (arith, nat_tests, shown_after)
 
   -- Cut anywhere, the span is clean.
   spans : (f n : ℕ) → IsCleanSpan w (span (kind w) (take n (on_air_until T f)))
@@ -302,12 +291,7 @@ plan_between programme o serial (Some a) None h k is some ok =
 plan_between programme o serial (Some a) (Some b) h k is some ok =
     let s = span-rises programme.national programme.records a b is h k in
     let order : a ≤ b = omega (arith, s.rises) in
-    grind (
-      arith,
-      nat_tests,
-      good programme o serial a b h k ok order,
-      complete programme o serial a b h k ok order,
-    )
+    (good programme o serial a b h k ok order, complete programme o serial a b h k ok order)
 
 -- The schedule of a programme with a subtitle is good.
 pub law_of_plan : LawOfPlan
@@ -335,14 +319,8 @@ module _
     is_sent f in_day =
         let packets : List (List ℕ) = sending o.page national serial (due f) in
         let each : All IsPacket packets =
-        grind (
-          arith,
-          nat_tests,
-          All-weaker,
-          all_sent o.page national serial (due f) ok.page (shape f),
-          due f,
-          shape f,
-        ) in
+        let sent = all_sent o.page national serial (due f) ok.page (shape f) in
+        grind (arith, nat_tests, All-weaker) in
         record {
           in_day = in_day;
           pts = refl;
@@ -385,12 +363,13 @@ unfolding sendings_from
 few_between programme every None b h k is = omega arith
 few_between programme every (Some a) None h k is = omega arith
 few_between programme every (Some a) (Some b) h k is =
-    let s = span-rises programme.national programme.records a b is h k in
-    let short =
-    short_filter (is_sending (due_in programme) every a b) (range_with_len a (b + 1 - a)) in
-    let long = length-range_with_len a (b + 1 - a) in
-    let in_day = s.in_day in
-    omega (arith, short, long)
+    grind (
+      arith,
+      nat_tests,
+      span-rises programme.national programme.records a b is h k,
+      short_filter (is_sending (due_in programme) every a b) (range_with_len a (b + 1 - a)),
+      length-range_with_len a (b + 1 - a),
+    )
 
 -- The bytes of a schedule are read as its transmission.
 pub law_of_plan_read : LawOfPlanRead

@@ -44,14 +44,9 @@ module _ (t : Transmission) (m : ℕ) (fits : m ≤ length t) (Q : List (List �
       → Q (before t i k)
   within i l base zero h = subst Q (sym (before_none t i)) base
   within i l base (suc k) h =
-      grind (
-        arith,
-        nat_tests,
-        suc k,
-        before,
-        before_more t i k (omega arith),
-        within i l base k (omega arith),
-      )
+      let more_is = before_more t i k (omega arith) in
+      let so_far = within i l base k (omega arith) in
+      grind (arith, nat_tests, before)
 
   -- At the start of each frame.
   pub at_start : (n : ℕ) → n ≤ m → Q (packets_before t n)
@@ -128,9 +123,7 @@ first-same t = grind arith
 pub last-same : (t : Transmission) → last_frame t ≡ end_frame t
 last-same [] = refl
 last-same (s ∷ []) = refl
-last-same (s ∷ u ∷ us) = last-same (u ∷ us)
-    ∙ let e : suc (suc (length us) - 1) ≡ suc (suc (length us)) - 1 = omega arith in
-    ap (frame_at (s ∷ u ∷ us)) e
+last-same (s ∷ u ∷ us) = grind (arith, nat_tests, last-same (u ∷ us))
 
 -- The packets between two numbers within which the first n frames are, and no other.
 between_take : (t : Transmission) (n a b : ℕ)

@@ -15,41 +15,46 @@ abbrev pub RiseByPlace : Transmission → Type 0
 RiseByPlace frames =
     (i : ℕ) → 0 < i → i < length frames → frame_at frames (i - 1) < frame_at frames i
 
+-- Where the first frames rise, the last of them is the latest.
+pub latest_at :
+    (frames : Transmission) (n : ℕ)
+    → ((i : ℕ) → 0 < i → i < n → frame_at frames (i - 1) < frame_at frames i)
+    → 0 < n
+    → latest frames n ≡ frame_at frames (n - 1)
+unfolding latest
+latest_at frames zero rises some = absurd (omega arith)
+latest_at frames (suc zero) rises some = let e : suc zero - 1 ≡ 0 = omega arith in
+    let f = ap (frame_at frames) e in omega arith
+latest_at frames (suc (suc m)) rises some =
+    let ih = latest_at frames (suc m) (λ i a b. rises i a (omega arith)) (omega arith) in
+    let r = rises (suc m) (omega arith) (omega arith) in
+    let e : suc (suc m) - 1 ≡ suc m = omega arith in
+    let f = ap (frame_at frames) e in
+    omega arith
+
+-- How many frames of the day lie before a frame of the list.
+pub gap_length-is :
+    (frames : Transmission) (n : ℕ)
+    → 0 < n
+    → gap_length frames n ≡ frame_at frames n - (latest frames n + 1)
+unfolding gap_length
+gap_length-is frames zero some = absurd (omega arith)
+gap_length-is frames (suc i) some = refl
+
 module _ (frames : Transmission) (rises : RiseByPlace frames) where
   -- An end is not before the frames that count, before the next one, and not after the last.
   pub end_low : (n f : ℕ) → IsEnd frames n f → frame_at frames (n - 1) ≤ f
-  end_low n f at = elim at.2 [
-    | inl is ↦ omega arith
-    | inr gap ↦ let l = gap.2 (n - 1) (omega (arith, at.0)) in omega arith
-  ]
+  end_low n f at = grind (arith, nat_tests)
 
   end_high : (n f : ℕ) → IsEnd frames n f → n < length frames → f < frame_at frames n
-  end_high n f at l = elim at.2 [
-    | inl is ↦ let r = rises n at.0 l in omega arith
-    | inr gap ↦ gap.1
-  ]
+  end_high n f at l = grind (arith, nat_tests)
 
   pub end_last : (n f : ℕ) → IsEnd frames n f → f ≤ end_frame frames
-  end_last n f at = elim at.2 [
-    | inl is ↦
-        let r = rises_to frames rises (n - 1) (length frames - 1) (omega (arith, at.0, at.1))
-        (omega (arith, at.0, at.1)) in
-        omega arith
-    | inr gap ↦
-        let l = gap.0 in
-        let h = gap.1 in
-        let r = rises_to frames rises n (length frames - 1) (omega arith) (omega arith) in
-        omega arith
-  ]
+  end_last n f at = grind (arith, nat_tests, rises_to)
 
   -- The ends of one frame are one.
   not_less : (m n f : ℕ) → IsEnd frames m f → IsEnd frames n f → m < n → ⊥
-  not_less m n f one other l =
-      let within = other.1 in
-      let high = end_high m f one (omega arith) in
-      let low = end_low n f other in
-      let r = rises_to frames rises m (n - 1) (omega arith) (omega arith) in
-      omega arith
+  not_less m n f one other l = grind (arith, nat_tests, end_high, end_low, rises_to)
 
   pub same_end : (m n f : ℕ) → IsEnd frames m f → IsEnd frames n f → m ≡ n
   same_end m n f one other = elim (cases_lt m n) [
@@ -62,31 +67,12 @@ module _ (frames : Transmission) (rises : RiseByPlace frames) where
 
   -- The last of the first frames is the latest.
   pub latest_is : (n : ℕ) → 0 < n → n ≤ length frames → latest frames n ≡ frame_at frames (n - 1)
-  unfolding latest
-  latest_is zero some l = absurd (omega arith)
-  latest_is (suc zero) some l = let e : suc zero - 1 ≡ 0 = omega arith in
-      let f = ap (frame_at frames) e in omega arith
-  latest_is (suc (suc m)) some l =
-      let ih = latest_is (suc m) (omega arith) (omega arith) in
-      let r = rises (suc m) (omega arith) (omega arith) in
-      let e : suc (suc m) - 1 ≡ suc m = omega arith in
-      let f = ap (frame_at frames) e in
-      omega arith
-
-  -- How many frames of the day lie before a frame of the list.
-  pub gap_length-is : (n : ℕ) → 0 < n
-      → gap_length frames n ≡ frame_at frames n - (latest frames n + 1)
-  unfolding gap_length
-  gap_length-is zero some = absurd (omega arith)
-  gap_length-is (suc i) some = refl
+  latest_is n some l = latest_at frames n (λ i a b. rises i a (omega arith)) some
 
   -- The end before the next frame of the day is this one.
   pub before_next : (n f : ℕ) → 0 < n → n ≤ length frames → frame_at frames (n - 1) ≤ f
       → end_before frames n (suc f) ≡ f
-  before_next n f some l low =
-      let last = latest_is n some l in
-      let back : suc f - 1 ≡ f = omega arith in
-      grind (arith, nat_tests)
+  before_next n f some l low = grind (arith, nat_tests, latest_is)
 
   -- The end before is not after.
   pub before_not_after : (n f : ℕ) → frame_at frames (n - 1) ≤ f → end_before frames n f ≤ f

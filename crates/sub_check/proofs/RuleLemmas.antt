@@ -1,6 +1,6 @@
 -- The rules by name: a good transmission keeps each of them (law_of_rules).
-use Rattle.std.proofs.Common.{arith}
-use Rattle.std.proofs.Common.{◌≢◌}
+use Rattle.std.proofs.lemmas.Bool.Decides.{nat_tests}
+use Rattle.std.proofs.Common.{arith, ◌≢◌}
 use Rattle.stl_rows.specs.Programme.{ProgrammeValue}
 use Rattle.sub_plan.specs.Options.{OptionsValue}
 use Rattle.sub_check.specs.Transmission.{Transmission}
@@ -23,7 +23,9 @@ good_from_rules :
     → ((rule : Rule) → IsKept rule programme transmission options)
     → Good programme transmission options
 good_from_rules programme transmission options kept =
-    assumption (
+    grind (
+      arith,
+      nat_tests,
       kept Frames,
       kept ExactWords,
       kept OneMode,

@@ -106,15 +106,7 @@ pub no_rules : (test : PacketRule → Bool) → rule_set test ≡ 0 → filter t
 unfolding packet_rules
 no_rules test e =
     let none = none_passes test e in
-    rw (
-      none rule.Address,
-      none rule.HeaderCode,
-      none rule.Mode,
-      none rule.Control,
-      none rule.Parity,
-      none rule.RowChanged,
-      none rule.Enhancement,
-    )
+    grind (arith, nat_tests)
 
 -- ---- what is told of a set
 
@@ -143,19 +135,14 @@ module _ {A : Type 0} (tell : PacketRule → A) (test : PacketRule → Bool) whe
   -- What is told of two lists of rules.
   told-append : (rs ss : List PacketRule)
       → map tell (filter test (rs ++ ss)) ≡ map tell (filter test rs) ++ map tell (filter test ss)
-  told-append rs ss =
-      ap (map tell) (filter-append test rs ss)
-      ∙ map-append tell (filter test rs) (filter test ss)
+  told-append rs ss = grind (arith, nat_tests, filter-append, map-append)
 
   -- What is told of one rule more.
   pub told_more : (i : ℕ) (r : PacketRule) → i < 7 → r ≡ get_or packet_rules i r
       → map tell (filter test (take (i + 1) packet_rules))
       ≡ map tell (filter test (take i packet_rules)) ++ map tell (filter test (r ∷ []))
   unfolding packet_rules
-  told_more i r l e =
-      ap (λ rs. map tell (filter test rs))
-      (take_more packet_rules i r l ∙ ap (λ x. take i packet_rules ++ x ∷ []) (sym e))
-      ∙ told-append (take i packet_rules) (r ∷ [])
+  told_more i r l e = grind (arith, nat_tests, take_more, told-append)
 
   -- What is told of the first rules, and then of the others.
   pub told_rest : (n : ℕ)

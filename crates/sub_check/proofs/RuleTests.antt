@@ -1,6 +1,7 @@
 -- Each of the seven rules as a test that computes: rule_decided. Below each test stands what it
 -- decides.
-use Rattle.std.proofs.lemmas.Bool.Decides.{nat_tests}
+use Rattle.std.proofs.lemmas.Bool.Decides.{nat_tests, Decides-and, Decides-not, Decides-like}
+use Rattle.std.proofs.lemmas.Bool.Decides.{Decides-eqb, Decides-ltb}
 use Rattle.std.proofs.Common.{◌≡◌, ℕ, zero, suc, ◌+◌, ◌-◌, ◌<◌, ◌≤◌, inl, inr, ◌==◌, Bool, true}
 use Rattle.std.proofs.Common.{not, ◌&&◌, ◌||◌, nat_lt, nat_le, List, [], ◌∷◌, length}
 use Rattle.std.proofs.Common.{take, slice_index, Option, Some, find, option_map, unwrap_or, All}
@@ -10,8 +11,6 @@ use Rattle.std.specs.List.{list_all}
 use Rattle.std.specs.Str.{bytes_eq}
 use Rattle.std.proofs.Math.Seq.{take-nil}
 use Rattle.std.proofs.lemmas.Bool.{cases_lt}
-use Rattle.std.proofs.lemmas.Bool.Decides.{Decides-and, Decides-not, Decides-like, Decides-eqb}
-use Rattle.std.proofs.lemmas.Bool.Decides.{Decides-ltb}
 use Rattle.std.proofs.lemmas.List.{take_all}
 use Rattle.std.proofs.lemmas.List.Kept.{AllPairs-cons}
 use Rattle.std.proofs.lemmas.Slice.Eq.{bytes_eq-Decides}
@@ -183,36 +182,13 @@ same_decided :
     (if_some (λ y. if_some (λ z. not (y == z) || bytes_eq p q) (row_of_kind (kind page q)))
     (row_of_kind (kind page p))) (IsSameRow page p q)
 same_decided page p q =
-    grind (
-      arith,
-      nat_tests,
-      Decides-like,
-      if_row,
-      if_some,
-      not,
-      row_of_kind,
-      ℕ,
-      implied,
-      Decides-eqb,
-      bytes_eq-Decides,
-    )
+    grind (arith, nat_tests, Decides-like, if_row, implied, Decides-eqb, bytes_eq-Decides)
 
 plain_decided :
     (page : PageIdValue) (p : List ℕ)
     → Decides (if_some (λ a. not (is_enhancement page a)) (address p)) (IsEnhancement page p → ⊥)
 plain_decided page p =
-    grind (
-      arith,
-      nat_tests,
-      Decides-like,
-      value_of,
-      not,
-      is_enhancement,
-      Decides-not,
-      Decides-and,
-      Decides-eqb,
-      at_most,
-    )
+    grind (arith, nat_tests, Decides-like, value_of, Decides-not, Decides-and, Decides-eqb, at_most)
 
 clean_decided :
     (page : PageIdValue) (ps : List (List ℕ)) → Decides (is_clean page ps) (IsCleanSpan page ps)

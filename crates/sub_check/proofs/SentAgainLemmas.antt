@@ -2,7 +2,7 @@
 -- `law_of_sent_again`, `heard_again`, `kept_last`.
 use Rattle.std.proofs.lemmas.Bool.Decides.{nat_tests}
 use Rattle.std.proofs.Common.{◌≡◌, ℕ, zero, suc, ◌<◌, Bool, true, false, ◌&&◌, cond, List, [], ◌∷◌}
-use Rattle.std.proofs.Common.{◌++◌, Option, Some, None, option_map, length, take, get_or}
+use Rattle.std.proofs.Common.{◌++◌, Option, Some, None, option_map, length, get_or}
 use Rattle.std.proofs.Common.{refl, sym, ap, ◌∙◌, subst, arith, append-nil}
 use Rattle.std.specs.List.{filter}
 use Rattle.std.specs.Option.{option_or}
@@ -62,12 +62,7 @@ breaks_alike w b c p same rule.Enhancement = rw same.open_is refl
 -- What is kept after one list is what is kept after another that looks alike.
 knows_alike :
     (b c : List (List ℕ)) (s : Listener) → LookAlike s.watched.page b c → Knows b s → Knows c s
-knows_alike b c s same k = record {
-  serial_is = rw (← same.header_is) k.serial_is;
-  open_is = rw (← same.open_is) k.open_is;
-  sent_is = rw (← same.span_is) k.sent_is;
-  page_is = rw (← same.span_is) k.page_is;
-}
+knows_alike b c s same k = grind (arith, nat_tests)
 
 -- With the same header again, the first stays.
 same_first : (o : Option Header) (h : Header)
@@ -78,11 +73,7 @@ same_first o h = grind arith
 same_mode : (o : Option Header) (h : Header)
     → is_other_mode (option_map (λ (x : Header). c11 x) (option_or o (Some h))) (Some (c11 h))
     ≡ is_other_mode (option_map (λ (x : Header). c11 x) o) (Some (c11 h))
-same_mode None h = one (c11 h)
-  where
-    one : (b : Bool) → is_other_mode (Some b) (Some b) ≡ is_other_mode None (Some b)
-    one true = refl
-    one false = refl
+same_mode None h = grind (arith, nat_tests)
 same_mode (Some x) h = refl
 
 module _
@@ -114,12 +105,7 @@ module _
               ∙ sym
               (first_after (heard ++ first ∷ others) more h.0 h.1
               ∙ ap (λ o. option_or o (Some h.0)) (first_after heard others h.0 h.1));
-          open_is =
-              grind (
-                arith,
-                holds-append_right (kind w.page) heard (first ∷ more) held,
-                holds-append_right (kind w.page) (heard ++ first ∷ others) (first ∷ more) held,
-              );
+          open_is = grind (arith, nat_tests, holds-append_right);
           span_is = ap (before_end (kind w.page)) after;
         }
 
@@ -138,21 +124,16 @@ module _
         let h = header_of w first is in rw h.2 (grind (arith, nat_tests))
     first_again others rule.RowChanged =
         let h = header_of w first is in rw h.2 (grind (arith, nat_tests))
-    first_again others rule.Enhancement =
-        let h = header_of w first is in
-        let none = no_enhancement w first (λ e. let both = sym h.2 ∙ e in cc) in
-        rw none (grind (arith, nat_tests))
+    first_again others rule.Enhancement = grind (arith, nat_tests, header_of, no_enhancement)
 
     -- And so does each of the packets.
     breaks_again : (others : List (List ℕ))
         → BreakAlike w heard (heard ++ first ∷ others) (first ∷ others)
     breaks_again others zero l =
         rules_alike w (heard ++ []) ((heard ++ first ∷ others) ++ []) first
-        (λ r. rw (append-nil heard, append-nil (heard ++ first ∷ others)) (sym (first_again others r)))
-    breaks_again others (suc k) l =
-        rules_alike w (heard ++ first ∷ take k others)
-        ((heard ++ first ∷ others) ++ first ∷ take k others) (get_or others k [])
-        (breaks_alike w _ _ (get_or others k []) (alike others (take k others)))
+        (λ r.
+        rw (append-nil heard, append-nil (heard ++ first ∷ others)) (sym (first_again others r)))
+    breaks_again others (suc k) l = grind (arith, nat_tests, rules_alike, breaks_alike, alike)
 
 -- Packets that begin with a header of the page break the same rules again.
 pub law_of_sent_again : LawOfSentAgain
@@ -185,26 +166,7 @@ heard_again heard last ps headers s known is same =
     (λ k l. sym (law.0 k l) ∙ j.clean k l) in
     let alike : LookAlike s.watched.page heard (heard ++ last) =
     subst (λ xs. LookAlike s.watched.page xs (xs ++ last)) (sym j.heard_is) law.1 in
-    subst
-    (λ xs.
-    BreakNone s.watched heard xs (length xs)
-    × KnowsLast (heard ++ xs) xs s
-    × (headers ≡ header_count s.watched.page xs)) same (
-      clean,
-      record {
-        knows = knows_alike heard (heard ++ last) s alike known.knows;
-        last_is = λ m e.
-            let k = known.last_is m e in
-            record {
-              before = heard;
-              heard_is = refl;
-              begins = k.begins;
-              clean = clean;
-              count = k.count;
-            };
-      },
-      sym j.count,
-    )
+    grind (arith, nat_tests, knows_alike, alike)
 
 -- What is kept of the packets heard last, where they were heard just now. For `hear_all`.
 pub kept_last :

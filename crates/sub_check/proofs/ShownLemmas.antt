@@ -79,17 +79,7 @@ pub IsAtFrame-later :
     → IsAtFrame p every s first latest f edge
 IsAtFrame-later p every s first latest frame edge f is low before =
     let k : frame + (f - frame) ≡ f = omega arith in
-    record {
-      due_is =
-          is.due_is
-          ∙ sym (due_until p.national p.records frame edge (f - frame) is.edge_is
-          (ap (λ x. is_before x edge) k ∙ before))
-          ∙ ap (due_in p) k;
-      edge_is = same_edge p.records frame f edge is.edge_is low before;
-      first_before = is.first_before;
-      in_day = is.in_day;
-      bound = is.bound;
-    }
+    grind (arith, nat_tests, due_until, same_edge)
 
 -- What is kept as due is due at this frame. For `move_to`.
 pub at_frame-stays :

@@ -17,8 +17,7 @@ use Rattle.stl_rows.specs.Line.{is_boxed, is_double, prepared, row_of}
 use Rattle.stl_rows.specs.TextCode.{cell_of, cell_of_pair}
 use Rattle.sub_check.specs.CleanStretch.{IsClean}
 use Rattle.sub_check.specs.Examples.{ExampleOfCleanStretch, closing, damaged_first, each}
-use Rattle.sub_check.specs.Examples.{header_888}
-use Rattle.sub_check.specs.Examples.{later_subtitle, row_22}
+use Rattle.sub_check.specs.Examples.{header_888, later_subtitle, row_22}
 use Rattle.sub_check.specs.FrameRules.{task_of}
 use Rattle.sub_check.specs.Good.{Good}
 use Rattle.sub_check.proofs.CleanStretchLemmas.{law_of_clean_stretch}

@@ -1,6 +1,7 @@
 -- Events that are told in parts, one part after another: `told_whole`, `told_same`, `told_then`,
 -- `stopped_first`, `stopped_then`, `all_same`, `prefix_same`; `ok_map`.
-use Rattle.std.proofs.Common.{◌≡◌, List, ◌++◌, Result, Ok, Err, sym, subst}
+use Rattle.std.proofs.Common.{arith, ◌≡◌, List, ◌++◌, Result, Ok, Err, sym, subst}
+use Rattle.std.proofs.lemmas.Bool.Decides.{nat_tests}
 use Rattle.sub_io.proofs.TellingLemmas.{TellsPrefix-first, TellsPrefix-second}
 use Rattle.sub_io.proofs.TellingLemmas.{TellsPrefix-whole, TellsUntilStopped-after}
 use Rattle.std.specs.Prelude.{OnOk}
@@ -24,9 +25,7 @@ module _ {A D X E : Type 0} {IsTold : D → A → D → Type 0} where
   pub told_then : (a b c : D) (xs ys whole : List A) (r : Result X E)
       → whole ≡ xs ++ ys → Tells IsTold a b xs → TellsUntilStopped IsTold b c ys r
       → TellsUntilStopped IsTold a c whole r
-  told_then a b c xs ys whole r is p q =
-      subst (λ l. TellsUntilStopped IsTold a c l r) (sym is)
-      (TellsUntilStopped-after a b c xs ys r p q)
+  told_then a b c xs ys whole r is p q = grind (arith, nat_tests, TellsUntilStopped-after)
 
 module _ {A D : Type 0} {IsTold : D → A → D → Type 0} where
   -- The device said stop in the one part, or in the other.

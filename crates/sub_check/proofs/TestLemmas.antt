@@ -7,8 +7,7 @@ use Rattle.std.specs.Bool.{Decides}
 use Rattle.std.specs.List.{list_all}
 use Rattle.std.proofs.lemmas.Bool.{leb-true, le-leb}
 use Rattle.std.proofs.lemmas.Bool.Decides.{Decides-like, Decides-by_and, Decides-below_and}
-use Rattle.std.proofs.lemmas.Bool.Decides.{Decides-below_or}
-use Rattle.std.proofs.lemmas.Bool.Decides.{nat_tests}
+use Rattle.std.proofs.lemmas.Bool.Decides.{Decides-below_or, nat_tests}
 use Rattle.ttx_packet.proofs.OneBitLemmas.{first_below_is}
 use Rattle.ttx_packet.specs.OneBit.{first_below}
 use Rattle.ttx_packet.specs.declared.header.Header.{Header}
@@ -80,10 +79,7 @@ pub below_before : (n : ℕ) (test : ℕ → Bool) (x : ℕ) → first_below n t
     → (k : ℕ) → k < x → test k ≡ false
 below_before zero test x e k l = grind arith
 below_before (suc n) test x e k l =
-    let before = below_before n test x in
-    let none = below_none n test in
-    let is = first_below_is n test x in
-    grind (arith, nat_tests)
+    grind (arith, nat_tests, below_before n test x, below_none n test, first_below_is n test x)
 
 -- A test of each element.
 pub each_of :

@@ -1,8 +1,9 @@
 -- What the list of all that is told of a transmission holds of its frames and of their packets:
 -- `rising`, `none_broken`.
+use Rattle.std.proofs.lemmas.Bool.Decides.{nat_tests}
 use Rattle.std.proofs.Common.{◌≡◌, ℕ, zero, suc, ◌-◌, ◌<◌, ◌≤◌, inl, inr, Bool, true, false, nat_lt}
 use Rattle.std.proofs.Common.{if◌then◌else◌, cond, List, [], ◌∷◌, ◌++◌, length, map, Contains}
-use Rattle.std.proofs.Common.{IsTrue, refl, sym, ap, ◌∙◌, subst, arith}
+use Rattle.std.proofs.Common.{IsTrue, refl, sym, subst, arith}
 use Rattle.std.specs.List.{filter}
 use Rattle.std.proofs.lemmas.Bool.{cases_lt, ltb-true, true≢false}
 use Rattle.std.proofs.lemmas.List.Elements.{Contains-append_left, Contains-append_right}
@@ -49,12 +50,7 @@ in_else false e f = (0, omega arith, refl)
 in_told : (test : PacketRule → Bool) (h : PacketRule → Event) (rs : List PacketRule)
     (r : PacketRule) → Contains rs r → test r ≡ true → Contains (map h (filter test rs)) (h r)
 in_told test h [] r (k, l, e) t = absurd (omega arith)
-in_told test h (q ∷ qs) r (zero, l, e) t = go (test q) (ap test e ∙ t)
-  where
-    go : (b : Bool) → b ≡ true
-        → Contains (map h (cond b (q ∷ filter test qs) (filter test qs))) (h r)
-    go true p = (0, omega arith, ap h e)
-    go false p = absurd (true≢false (sym p))
+in_told test h (q ∷ qs) r (zero, l, e) t = grind (arith, nat_tests, true≢false)
 in_told test h (q ∷ qs) r (suc k, l, e) t =
     go (test q) (in_told test h qs r (k, omega arith, e) t)
   where
@@ -139,10 +135,7 @@ module _ (g : Task) (frames : Transmission) where
       go false is = absurd (told (suc i) (in_order i l is))
 
   pub is_rising : TellsRising (events g frames) → IsRising frames
-  is_rising told i j d l m =
-      let a = number_at frames i d (omega arith) in
-      let b = number_at frames j d m in
-      let r = rises_strictly frames (rising told) i j l m in omega arith
+  is_rising told i j d l m = grind (arith, nat_tests, number_at, rises_strictly, rising)
 
   -- Where none is told of the stretch, no packet there breaks a rule that a receiver depends on.
   pub none_broken : (a b : ℕ) → TellsNothingOf (events g frames) a b → (r : PacketRule)

@@ -1,8 +1,9 @@
 -- Of a stretch of which the list of all that is told tells nothing, nothing is told:
 -- `law_of_told_stretch`.
+use Rattle.std.proofs.lemmas.Bool.Decides.{nat_tests}
 use Rattle.std.proofs.Common.{◌≡◌, ℕ, zero, suc, ◌+◌, ◌-◌, ◌<◌, ◌≤◌, inl, inr, Bool, true, false}
 use Rattle.std.proofs.Common.{List, [], ◌∷◌, ◌++◌, length, All, Option, Some, None, is_some, IsTrue}
-use Rattle.std.proofs.Common.{refl, sym, ap, ◌∙◌, subst, arith, le_refl}
+use Rattle.std.proofs.Common.{refl, sym, ap, ◌∙◌, subst, arith}
 use Rattle.std.specs.List.{AllByRecursion, fold}
 use Rattle.std.proofs.lemmas.Bool.{cases_lt, true≢false}
 use Rattle.std.proofs.lemmas.List.Elements.{recursion_from_All}
@@ -73,32 +74,17 @@ module _ (g : Task) (frames : Transmission) (rises : RiseByPlace frames) (r : En
 
     -- The rule is told there.
     told_known : (s : Noted) → Known f s.over → IsNoted true f (suc f) (noted_told f s)
-    told_known s known = (
-      f,
-      refl,
-      le_refl f,
-      one_more ((f, f) ∷ s.over) (λ m h end l broken. inr (known m h end l broken))
-          (λ broken. inl (le_refl f, le_refl f)),
-    )
+    told_known s known = grind (arith, nat_tests, one_more)
 
     -- It goes on.
     goes_on : (before : ℕ) (s : Noted) → before ≤ f → IsNoted true before f s
         → IsNoted true f (suc f) s
-    goes_on before s l (told, is, low, known) = (
-      told,
-      is,
-      omega arith,
-      one_more ((told, f) ∷ s.over)
-          (λ m h end k broken. longer told before f h s.over l (known m h end k broken))
-          (λ broken. inl (omega arith, le_refl f)),
-    )
+    goes_on before s l (told, is, low, known) = grind (arith, nat_tests, one_more, longer, before)
 
     -- What is noted after the end.
     noted_after : (stood now : Bool) (before : ℕ) (s t : Noted) → before ≤ f → stands_at n f ≡ now
         → IsChange stood now before f s t → IsNoted stood before f s → IsNoted now f (suc f) t
-    noted_after false false before s t l is e h =
-        subst (λ (u : Noted). IsNoted false f (suc f) u) (sym e)
-        (one_more s.over h (λ broken. absurd (true≢false (sym broken ∙ is))))
+    noted_after false false before s t l is e h = grind (arith, nat_tests, one_more, true≢false)
     noted_after false true before s t l is e h =
         subst (λ (u : Noted). IsNoted true f (suc f) u) (sym e) (told_known s h)
     noted_after true false before s t l is e h =
@@ -132,9 +118,7 @@ module _ (g : Task) (frames : Transmission) (rises : RiseByPlace frames) (r : En
       → After n f s → Before n (suc f) s
   unfolding standing_before
   next_step zero f s some l low h = absurd (omega arith)
-  next_step (suc i) f s some l low h =
-      subst (λ b. IsNoted (stands_at (suc i) b) b (suc f) s)
-      (sym (before_next frames rises (suc i) f some l low)) h
+  next_step (suc i) f s some l low h = grind (arith, nat_tests, before_next)
 
   -- The frames of the day before a frame of the list.
   gap_steps : (n : ℕ) → 0 < n → n < length frames → (k : ℕ) → k ≤ gap_length frames n → (s : Noted)
@@ -146,7 +130,7 @@ module _ (g : Task) (frames : Transmission) (rises : RiseByPlace frames) (r : En
       let f : ℕ = latest frames n + suc k in
       let t : Noted = fold (note r) s (gap_events g frames n k) in
       let last = latest_is frames rises n some (omega arith) in
-      let long = gap_length-is frames rises n some in
+      let long = gap_length-is frames n some in
       let more : suc f ≡ latest frames n + suc (suc k) = omega arith in
       let low : frame_at frames (n - 1) ≤ f = omega arith in
       let at : IsEnd frames n f = (
@@ -181,13 +165,10 @@ module _ (g : Task) (frames : Transmission) (rises : RiseByPlace frames) (r : En
       let same : frame_at frames (n - 1) ≡ frame_at frames i = ap (frame_at frames) back in
       let last = latest_is frames rises n (omega arith) (omega arith) in
       let up = rises n (omega arith) there in
-      let long = gap_length-is frames rises n (omega arith) in
+      let long = gap_length-is frames n (omega arith) in
       let begins : suc (frame_at frames i) ≡ latest frames n + 1 = omega arith in
       let ends : latest frames n + suc (gap_length frames n) ≡ frame_at frames n = omega arith in
-      subst (λ x. Before n x (fold (note r) s (gap_events g frames n (gap_length frames n)))) ends
-      (gap_steps n (omega arith) there (gap_length frames n) (le_refl _) s
-      (subst (λ x. Before n x s) begins
-      (next_step n (frame_at frames i) s (omega arith) (omega arith) (omega arith) h)))
+      grind (arith, nat_tests, gap_steps, next_step)
 
   -- A frame of the list.
   frame_step : (n : ℕ) (s : Noted) → n < length frames → Start n s
@@ -222,14 +203,7 @@ module _ (g : Task) (frames : Transmission) (rises : RiseByPlace frames) (r : En
   first_steps : (n : ℕ) → n ≤ length frames
       → Start n (fold (note r) nothing_noted (events_of_first g frames n))
   unfolding events_of_first standing_before
-  first_steps zero l =
-      let f : ℕ = frame_at frames 0 in
-      subst (λ b. IsNoted b (end_before frames 0 f) f nothing_noted)
-      (sym (none_stands r))
-      (λ m h at k broken.
-      let low = end_low frames rises m h at in
-      let up = rises_to frames rises 0 (m - 1) (omega arith) (omega (arith, at.0, at.1)) in
-      absurd (omega arith))
+  first_steps zero l = grind (arith, nat_tests, none_stands, end_low, rises_to)
   first_steps (suc n) l =
       subst (λ (u : Noted). Start (suc n) u)
       (sym (fold-append (note r) nothing_noted (events_of_first g frames n)
@@ -285,10 +259,7 @@ module _ (g : Task) (frames : Transmission) where
       → AllByRecursion (IsOutside a b) xs → HoldFrame xs f → ⊥
   none_held a b f low high [] out held = held
   none_held a b f low high (x ∷ xs) out (inr held) = none_held a b f low high xs out.1 held
-  none_held a b f low high (x ∷ xs) out (inl held) = elim out.0 [
-    | inl before ↦ omega (arith, held.1)
-    | inr after ↦ omega (arith, held.0)
-  ]
+  none_held a b f low high (x ∷ xs) out (inl held) = grind (arith, nat_tests, before)
 
   -- So a rule of which no stretch is told there stands broken at no end there.
   none_stand : TellsRising (events g frames) → (r : EndRule) (a b : ℕ)

@@ -1,10 +1,7 @@
 -- A stretch of which nothing is told is clean: `law_of_untold_stretch`.
-use Rattle.std.proofs.Common.{◌≡◌, ℕ, Bool, true, false, not, ◌&&◌, List, Some, refl}
-use Rattle.std.proofs.Common.{sym}
-use Rattle.std.proofs.Common.{ap, ◌∙◌, eqb-true, is_some}
-use Rattle.std.proofs.Common.{IsFalse}
-use Rattle.ttx_packet.specs.PacketAddress.{address}
-use Rattle.ttx_packet.specs.PageHeader.{HasExactHeader}
+use Rattle.std.proofs.Common.{arith, ◌≡◌, ℕ, Bool, true, false, not, ◌&&◌, List, Some, refl, sym}
+use Rattle.std.proofs.Common.{ap, ◌∙◌, eqb-true, is_some, IsFalse}
+use Rattle.std.proofs.lemmas.Bool.Decides.{nat_tests}
 use Rattle.ttx_packet.specs.RowPacket.{first_even_byte}
 use Rattle.ttx_page.specs.Differing.{row_differing}
 use Rattle.ttx_page.specs.PacketKind.{is_some_row, kind}
@@ -49,9 +46,7 @@ module _ (w : Watched) (before : List (List ℕ)) (p : List ℕ) where
 
   exact_codes : IsFalse (breaks rule.HeaderCode w before p) → KeepsRule rule.HeaderCode w before p
   unfolding breaks
-  exact_codes untold =
-      (coded (address p) (are_code_words 2 8 p) (HasExactHeader p) (header_decided p)).0
-      (ap not untold)
+  exact_codes untold = grind (arith, nat_tests, coded, header_decided)
 
   control_bits : IsFalse (breaks rule.Control w before p) → KeepsRule rule.Control w before p
   unfolding breaks

@@ -1,26 +1,24 @@
 -- What is kept is what is shown, `shown_is`; the first cell that shows another code, `wrong_is`.
 use Rattle.std.proofs.lemmas.Bool.Decides.{nat_tests}
-use Rattle.std.proofs.Common.{◌≡◌, ℕ, zero, suc, ◌+◌, ◌-◌, ◌<◌, ◌≤◌, Bool, true, false}
+use Rattle.std.proofs.Common.{◌≡◌, ℕ, zero, suc, ◌+◌, ◌<◌, Bool, true, false}
 use Rattle.std.proofs.Common.{List, [], ◌∷◌, Option, None, Some, MatchOption, option_map, unwrap_or}
-use Rattle.std.proofs.Common.{is_some, map, drop, get_or, refl, sym, ap, ◌∙◌, arith}
+use Rattle.std.proofs.Common.{is_some, map, get_or, refl, sym, ap, arith}
 use Rattle.std.proofs.lemmas.List.{get_or-drop, get_or-replicate}
 use Rattle.ttx_packet.specs.OneBit.{first_below}
 use Rattle.ttx_packet.proofs.OneBitLemmas.{first_below-at, first_below-none}
 use Rattle.ttx_packet.specs.Parity.{code_of}
 use Rattle.ttx_packet.specs.RowPacket.{text_byte}
 use Rattle.ttx_page.specs.Page.{DiffersFirst, IsCell, blank_row, cell, space}
-use Rattle.ttx_page.specs.PacketKind.{kind}
 use Rattle.ttx_page.specs.Shown.{shown}
-use Rattle.ttx_page.specs.Span.{span}
 use Rattle.sub_check.specs.Events.{first_cell, wrong_after}
 use Rattle.sub_check.specs.Listening.{Knows, held}
-use Rattle.sub_check.specs.PacketTests.{first_of_row}
 use Rattle.sub_check.specs.declared.listener.Listener.{Listener}
 
 -- ---- what is kept is what is shown
 
 -- The code of a byte, in a list of any length.
-code_at : (bytes : List ℕ) (k : ℕ) → get_or (map code_of bytes) k 0 ≡ code_of (get_or bytes k 0)
+pub code_at : (bytes : List ℕ) (k : ℕ)
+    → get_or (map code_of bytes) k 0 ≡ code_of (get_or bytes k 0)
 code_at [] k = refl
 code_at (b ∷ bytes) zero = refl
 code_at (b ∷ bytes) (suc k) = code_at bytes k
@@ -33,10 +31,7 @@ code_held :
     ≡ unwrap_or (option_map (λ p. code_of (text_byte p column)) o) space
 unfolding blank_row
 code_held None column l = get_or-replicate 40 column space 0 l
-code_held (Some p) column l =
-    let swap : 2 + column ≡ column + 2 = omega arith in
-    code_at (drop 2 p) column
-    ∙ ap code_of (get_or-drop 2 p column 0 ∙ ap (λ n. get_or p n 0) swap)
+code_held (Some p) column l = grind (arith, nat_tests, code_at, get_or-drop)
 
 -- A cell of the page that is kept is what the packets show.
 pub shown_is :
@@ -45,9 +40,7 @@ pub shown_is :
     → (row column : ℕ)
     → IsCell row column
     → cell s.comparison.page row column ≡ shown s.watched.page heard row column
-shown_is heard s known row column is =
-    ap (λ r. get_or r column 0) (known.page_is row is.0 is.1)
-    ∙ code_held (first_of_row s.watched.page (span (kind s.watched.page) heard) row) column is.2
+shown_is heard s known row column is = grind (arith, nat_tests, code_held)
 
 -- ---- the first cell that passes a test
 
@@ -82,13 +75,7 @@ module _ (test : ℕ → ℕ → Bool) where
       → ((r c : ℕ) → IsCell r c → r < row → test r c ≡ false)
       → ((c : ℕ) → c < column → test row c ≡ false)
       → first_cell test ≡ Some (row, column)
-  first_cell-at row column is passes rows cells =
-      let low : 1 ≤ row = is.0 in
-      let high : row ≤ 24 = is.1 in
-      let on : row - 1 + 1 ≡ row = omega arith in
-      first_cell-below (row - 1) column (omega arith) is.2 (rw on passes)
-      (λ r c cell less. rows r c cell (omega arith)) (λ c l. rw on (cells c l))
-      ∙ ap (λ n. Some (n, column)) on
+  first_cell-at row column is passes rows cells = grind (arith, nat_tests, first_cell-below)
 
 -- ---- the first cell that shows another code
 
@@ -103,12 +90,7 @@ pub wrong_is :
     (λ place. DiffersFirst s.comparison.page s.comparison.due place.0 place.1)
     → o ≡ wrong_after s.watched.page heard s.comparison.due
 unfolding wrong_after
-wrong_is heard s None known same =
-    sym
-    (first_cell-none _
-    (λ row column is.
-    let kept = shown_is heard s known row column is in
-    let due = same row column is in grind (arith, nat_tests)))
+wrong_is heard s None known same = grind (arith, nat_tests, first_cell-none, shown_is)
 wrong_is heard s (Some place) known d =
     let kept = shown_is heard s known in
     sym

@@ -12,10 +12,9 @@ use Rattle.sub_check.specs.FrameRules.{packets_of_frame, task_of}
 use Rattle.sub_check.specs.PacketRules.{packets_of_units}
 use Rattle.sub_check.specs.declared.fault.CheckFault.{CheckFault}
 use Rattle.sub_check.specs.declared.sending.Sending.{Sending}
-use Rattle.sub_check.proofs.JudgeLemmas.{Reads-none, again_is, at_end, counts_read}
-use Rattle.sub_check.proofs.JudgeLemmas.{is_read, next_read, next_sent, none_of_first}
-use Rattle.sub_check.proofs.JudgeLemmas.{one_more, task_is, told_to_end, told_to_stop}
-use Rattle.sub_check.proofs.JudgeLemmas.{watched_is}
+use Rattle.sub_check.proofs.JudgeLemmas.{Reads-none, again_is, at_end, counts_read, is_read}
+use Rattle.sub_check.proofs.JudgeLemmas.{next_read, next_sent, none_of_first, one_more, task_is}
+use Rattle.sub_check.proofs.JudgeLemmas.{told_to_end, told_to_stop, watched_is}
 use Rattle.sub_check.proofs.TellingSteps.{all_same}
 use Rattle.sub_check.proofs.checker.tell_all.Goals as goal
 

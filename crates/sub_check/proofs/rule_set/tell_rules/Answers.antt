@@ -1,11 +1,8 @@
 -- One rule more: RuleSetLemmas.
-use Rattle.std.proofs.Common.{◌+◌, sym, ◌∙◌, arith}
-use Rattle.std.proofs.Common.{eqb-true}
+use Rattle.std.proofs.Common.{◌+◌, sym, ◌∙◌, arith, eqb-true}
 use Rattle.sub_io.proofs.TellingLemmas.{TellsSome-none, TellsSome-trans, Tells-trans, Tells-none}
-use Rattle.sub_io.proofs.TellingLemmas.{TellsPrefix-first}
-use Rattle.sub_io.proofs.TellingLemmas.{TellsPrefix-second}
-use Rattle.sub_check.proofs.RuleSetLemmas.{no_rules, told_all, told_more, told_rest}
-use Rattle.sub_check.proofs.RuleSetLemmas.{stopped}
+use Rattle.sub_io.proofs.TellingLemmas.{TellsPrefix-first, TellsPrefix-second}
+use Rattle.sub_check.proofs.RuleSetLemmas.{no_rules, told_all, told_more, told_rest, stopped}
 use Rattle.sub_check.specs.FirstBroken.{packet_fault}
 use Rattle.sub_check.specs.declared.event.Event.{Event}
 use Rattle.sub_check.specs.declared.event.Event.TheVariants.{Told}

@@ -6,8 +6,7 @@ use Rattle.sub_check.specs.Events.{gap_events, latest}
 use Rattle.sub_check.specs.Following.{Follows, Waits}
 use Rattle.sub_check.specs.FrameRules.{packets_before}
 use Rattle.sub_check.proofs.FollowingLemmas.{follows_waits, gap_knows, gap_length_is, gap_more}
-use Rattle.sub_check.proofs.FollowingLemmas.{gap_split, gap_start, gap_told, gap_waits}
-use Rattle.sub_check.proofs.FollowingLemmas.{gap_ended}
+use Rattle.sub_check.proofs.FollowingLemmas.{gap_split, gap_start, gap_told, gap_waits, gap_ended}
 use Rattle.sub_check.proofs.TellingSteps.{all_same, prefix_same, stopped_first, stopped_then}
 use Rattle.sub_check.proofs.frame_rules.Checker.cross_gap.Goals as goal
 
