@@ -2,11 +2,11 @@
 use Rattle.std.proofs.Common.{◌≡◌, ℕ, zero, suc, ◌+◌, ◌-◌, ◌<◌, ◌≤◌, inl, inr, Bool, true, false}
 use Rattle.std.proofs.Common.{not, ◌==◌, cond, List, [], ◌∷◌, ◌++◌, length, map, filter, take, find}
 use Rattle.std.proofs.Common.{flat_map, option_map, unwrap_or, slice_index, All, refl, sym, ap, ◌∙◌}
-use Rattle.std.proofs.Common.{arith, lit≤, eq-eqb, ne_eqb, append-nil, ◌↔◌, replicate, nat_le}
+use Rattle.std.proofs.Common.{arith, lit≤, append-nil, ◌↔◌, replicate, nat_le}
 use Rattle.std.proofs.Common.{nat_lt, ◌&&◌}
 use Rattle.std.specs.List.{range_with_len, AllByRecursion}
 use Rattle.std.proofs.Math.Seq.{take-append-add}
-use Rattle.std.proofs.lemmas.Bool.{cases_eq, cases_lt, or_parts, or_left, false≢true}
+use Rattle.std.proofs.lemmas.Bool.{cases_lt, or_parts, or_left, false≢true}
 use Rattle.std.proofs.lemmas.Bool.{true_from_ne_false}
 use Rattle.std.proofs.lemmas.List.{take_all, take-append-le, length_push, ext_get_or}
 use Rattle.std.proofs.lemmas.List.{get_or-replicate, length-replicate}
@@ -102,23 +102,12 @@ module _ (w : PageIdValue) (page : Rows) (ok : IsWatchable w) (shape : IsPage pa
           → in_cell w row column (map (row_of w page) (cond b (a ∷ later) later))
           ≡ cond (nat_le a row && nat_lt row (a + suc n)) (cell page row column) space
       rest true sent ih =
-          elim (cases_eq a row) [
-            | inl here ↦
-                rw (is_row_at ∙ eq-eqb a row here)
-                ((made_row w page a ok shape one (omega arith)).text column in_row
-                ∙ ap (λ (r : ℕ). cell page r column) here ∙ grind (arith, nat_tests, here))
-            | inr other ↦
-                rw (is_row_at ∙ ne_eqb a row other) (ih ∙ grind (arith, nat_tests, other))
-          ]
+          let text = (made_row w page a ok shape one (omega arith)).text column in_row in
+          grind (arith, nat_tests, is_row_at)
       rest false sent ih =
-          elim (cases_eq a row) [
-            | inl here ↦
-                let long = row_length page a shape one (omega arith) in
-                let blank : cell page row column ≡ space =
-                rw here at (empty_cell (row_at page a) column sent (omega (arith, long))) in
-                ih ∙ grind (arith, nat_tests, here, blank)
-            | inr other ↦ ih ∙ grind (arith, nat_tests, other)
-          ]
+          let long = row_length page a shape one (omega arith) in
+          let blank = empty_cell (row_at page a) column sent (omega (arith, long)) in
+          grind (arith, nat_tests)
 
   -- Each cell of the page is that of the rows that are sent.
   page_found : (row column : ℕ) → IsCell row column

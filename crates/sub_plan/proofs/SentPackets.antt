@@ -1,8 +1,9 @@
 -- The packets of a sending, one by one: what is read of them, made_row, and their kinds, kind_row.
 use Rattle.std.proofs.Common.{◌≡◌, ℕ, ◌+◌, ◌-◌, ◌*◌, ◌/◌, ◌%◌, ◌<◌, ◌≤◌, Bool, false, ◌==◌, List}
 use Rattle.std.proofs.Common.{[], ◌∷◌, ◌++◌, length, map, replicate, slice_index_or, slice_index}
-use Rattle.std.proofs.Common.{All, refl, arith, lit<, eq-eqb, ne_eqb, inl, inr}
-use Rattle.std.proofs.lemmas.Bool.{cases_lt, cond_both, le-leb, ltb-true}
+use Rattle.std.proofs.Common.{All, refl, arith, lit<, eq-eqb, ne_eqb}
+use Rattle.std.proofs.lemmas.Bool.{le-leb, ltb-true}
+use Rattle.std.proofs.lemmas.Bool.Decides.{nat_tests}
 use Rattle.std.proofs.lemmas.List.{get_or_past}
 use Rattle.std.proofs.lemmas.List.Sums.{AllPass-from_list_all}
 use Rattle.std.specs.Prelude.{nat_lt}
@@ -13,7 +14,7 @@ use Rattle.ttx_packet.specs.Hamming84.{code_word, code_words}
 use Rattle.ttx_packet.specs.PacketAddress.{IsPacket, address_words}
 use Rattle.ttx_packet.specs.PageHeader.{header_numbers, header_packet, IsHeader}
 use Rattle.ttx_packet.specs.PageId.{PageIdValue}
-use Rattle.ttx_packet.specs.Parity.{is_odd, odd_byte}
+use Rattle.ttx_packet.specs.Parity.{odd_byte}
 use Rattle.ttx_packet.specs.RowPacket.{row_packet}
 use Rattle.ttx_packet.specs.Laws.{IsMadeHeader, IsMadeRow}
 use Rattle.ttx_packet.proofs.ControlLemmas.{bit_small}
@@ -34,10 +35,7 @@ IsByte b = b < 0x100
 -- Each place of a list of bytes, past its end too.
 byte_at : (xs : List ℕ) → All IsByte xs → (n : ℕ) → slice_index xs n < 0x100
 byte_at xs all n =
-    elim (cases_lt n (length xs)) [
-      | inl h ↦ all n 0 h
-      | inr h ↦ rw (get_or_past xs n 0 h) (lit< tt)
-    ]
+    let inside = all n 0 in let past = get_or_past xs n 0 in grind arith
 
 -- A code word is a byte: 16 entries, computed.
 code_word_small : (n : ℕ) → code_word n < 0x100
@@ -53,8 +51,7 @@ code_words_small numbers =
 
 -- So is a byte of odd parity.
 odd_byte_small : (code : ℕ) → code < 0x80 → odd_byte code < 0x100
-odd_byte_small code l =
-    cond_both (is_odd code) code (code + 0x80) IsByte (λ _. omega arith) (λ _. omega arith)
+odd_byte_small code l = grind (arith, nat_tests)
 
 -- 42 bytes, of which the first two are the address, are a packet.
 packet_from : (magazine y : ℕ) (rest : List ℕ) → length (address_words magazine y ++ rest) ≡ 42
