@@ -1,6 +1,6 @@
 -- `blocks_of`: the blocks that are written for a subtitle are blocks of it; main lemmas:
 -- joined_more, joined_end, blocks_made, blocks_again.
-use Rattle.std.proofs.Common.{◌≡◌, ◌*◌, ℕ, true, List, [], ◌∷◌, ◌++◌, length, refl, sym, ap, ◌∙◌}
+use Rattle.std.proofs.Common.{◌≡◌, ◌*◌, ℕ, true, List, [], ◌∷◌, ◌++◌, length, refl, sym, ap}
 use Rattle.std.proofs.Common.{append_assoc, arith, length-append, take, drop, zero, suc, ◌+◌, ◌-◌}
 use Rattle.std.proofs.Common.{◌<◌, ◌≤◌, replicate, length-take}
 use Rattle.std.specs.List.{flat_map}
@@ -41,13 +41,7 @@ block_belongs : (s : SubtitleValue) (e : ℕ) (piece : List ℕ)
     → length piece ≤ 112
     → BelongsTo s.sgn s.sn (block_of s e piece)
 unfolding block_of
-block_belongs s e piece le = record {
-  size = let pad = replicate (112 - length piece) unused_space in
-      omega (arith, length-append piece pad, length-replicate (112 - length piece) unused_space);
-  is_subtitle = refl;
-  same_sgn = refl;
-  same_sn = omega arith;
-}
+block_belongs s e piece le = grind (arith, length-append, length-replicate)
 
 -- A block that was made begins the subtitle.
 block_begins : (s : SubtitleValue) (e : ℕ) (piece : List ℕ)
@@ -56,18 +50,9 @@ block_begins : (s : SubtitleValue) (e : ℕ) (piece : List ℕ)
 unfolding block_of
 block_begins s e piece h =
     let early : s.tci < day = let d = h.in_day in let t = h.times in omega arith in
-    record {
-      cumulative = refl;
-      sgn_is = refl;
-      sn_is = omega arith;
-      vp_is = refl;
-      jc_is = refl;
-      tci = record { in_range = time_in_range s.tci early; is = omega arith };
-      tco = record { in_range = time_in_range s.tco h.in_day; is = omega arith };
-      times = h.times;
-      vp_range = h.vp;
-      jc_range = h.jc;
-    }
+    let tci = time_in_range s.tci early in
+    let tco = time_in_range s.tco h.in_day in
+    grind arith
 
 -- ---- the blocks of a subtitle, as they are written
 

@@ -2,7 +2,7 @@
 -- refused_block.
 use Rattle.std.proofs.Common.{◌≡◌, ℕ, zero, suc, ◌-◌, ◌≤◌, ◌⊎◌, Bool, true, false, List, [], ◌∷◌}
 use Rattle.std.proofs.Common.{length, take, Option, Some, None, Result, Ok, Err, refl, sym, ◌∙◌, ap}
-use Rattle.std.proofs.Common.{inl, inr, arith, get_or}
+use Rattle.std.proofs.Common.{inl, inr, arith}
 use Rattle.std.proofs.lemmas.Bool.Decides.{nat_tests}
 use Rattle.std.proofs.lemmas.Slice.Eq.{bytes_eq-Decides}
 use Rattle.std.specs.Prelude.{◌&&◌, ◌==◌, not, nat_le, nat_lt, bytes_eq, IsOk, if◌then◌else◌}
@@ -97,13 +97,7 @@ format_told xs = grind (arith, nat_tests, bytes_eq-Decides)
 rate_told : (xs : List ℕ)
     → (xs ≡ stl_25) ⊎ (xs ≡ stl_30)
     → Tells (bytes_eq xs stl_30) (xs ≡ stl_25)
-rate_told xs (inl h) = rw h (λ never _. absurd cc, λ _. refl)
-rate_told xs (inr h) = rw h (
-  λ _ right.
-      let fourth : ◌≡◌ {A = ℕ} 0x33 0x32 = ap (λ (l : List ℕ). get_or l 3 0) right in
-      absurd (omega (arith, fourth)),
-  λ never. absurd cc,
-)
+rate_told xs h = grind (arith, nat_tests, bytes_eq-Decides)
 
 -- The display standard, and the code table.
 display_told : (d : ℕ)
@@ -206,10 +200,7 @@ kept_asked room None bytes few =
     let b : List ℕ = take block_size bytes in
     given (IsRight room None bytes) _ (first_at b)
     (λ r. r >>= λ s. Ok (closed (ebn b) s 1)) (λ e. refl) (λ s. refl) (first_asked room bytes)
-kept_asked room (Some o) bytes few = record {
-  told = λ f t. grind (arith, nat_tests);
-  taken = λ all. grind (arith, nat_tests);
-}
+kept_asked room (Some o) bytes few = grind (arith, nat_tests)
 
 -- Any block.
 step_asked : (room : ℕ) (begun : Option Begun) (bytes : List ℕ)

@@ -49,8 +49,8 @@ pub linked_text : (sgn_is sn_is : ℕ) (g : List (List ℕ))
     → AreLinked sgn_is sn_is g
     → length (flat_map text_of g) ≤ 112 * length g
 linked_text sgn_is sn_is [] c = absurd c
-linked_text sgn_is sn_is (b ∷ []) c = let t = text_short b c.0.size in let l =
-    ap length (append-nil (text_of b)) in omega arith
+linked_text sgn_is sn_is (b ∷ []) c =
+    let t = text_short b c.0.size in simp append-nil (omega arith)
 linked_text sgn_is sn_is (b ∷ x ∷ g) c =
     let t = text_short b c.0.size in
     let l = length-append (text_of b) (flat_map text_of (x ∷ g)) in
