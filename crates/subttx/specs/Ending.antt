@@ -4,9 +4,12 @@ use Rattle.std.specs.Io.KnownBytes.{Keeps, append_known}
 use Rattle.clap.specs.Words.{Text}
 use Rattle.sub_io.specs.Buffered.{HeldBack, failures_and_refused}
 use Rattle.sub_request.specs.declared.request.Request.{Request}
+use Rattle.sub_request.specs.declared.request.UsageFault.{UsageFault}
 use Rattle.sub_words.specs.Requests.{AsksFor}
 use Rattle.sub_answer.specs.Answering.{Answers}
 use Rattle.sub_answer.specs.DeviceCall.{SinkCall, SourceCall, sink_call}
+use Rattle.sub_answer.specs.Faults.{usage_told}
+use Rattle.sub_answer.specs.Listing.{PrintsOrFails, told_listing}
 use Rattle.sub_answer.specs.declared.status.Status.{Status}
 use Rattle.sub_answer.specs.declared.status.Status.TheVariants.{Fault}
 use Rattle.subttx.specs.declared.opening.Opened.{Opened}
@@ -147,3 +150,23 @@ pub record Answered (old new : Lines) (result : Status) : Type 0 where
   pub request : Request
   pub asked : AsksFor words request
   pub ends : Ends request old new result
+
+-- Words asked for no request, or its files could not be opened or memory ran out: the line of this
+-- fault was printed, and then handed on.
+pub record Said (old new : Lines) (result : Status) : Type 0 where
+  pub fault : UsageFault
+  pub status : Status
+  pub printed : Lines
+  pub line :
+      PrintsOrFails (record {
+        old = old.taken;
+        new = printed.taken;
+        old_count = old.count;
+        new_count = printed.count;
+      })
+      (told_listing (usage_told fault)) status
+  pub handed_on : HandsOnLines printed status new result
+
+-- How a run ends, of what is printed and of the status.
+abbrev pub EndsRun : Lines → Lines → Status → Type 0
+EndsRun old new result = Answered old new result ⊎ Said old new result

@@ -13,7 +13,7 @@ mod opening;
 ghost use Rattle.std.specs.Prelude.{◌≡◌, IfErr, IfOk, IfSome, map, string_bytes};
 ghost use Rattle.sub_io.specs.Buffered.{failures_and_refused};
 ghost use Rattle.sub_words.specs.Commands.{texts_of};
-ghost use Rattle.subttx.specs.Ending.{Answered, Ends, lines_of};
+ghost use Rattle.subttx.specs.Ending.{Answered, Ends, EndsRun, lines_of};
 
 use crate::answering::answer_opened;
 use crate::ending::hand_on;
@@ -38,9 +38,25 @@ fn run<R: AllocGlobal + Env + Files + Print>(rt: &R) -> Status {
         return say(&UsageFault::Memory, &mut standard_output);
     };
     let mut out = BufferedSink::new(standard_output, room.as_mut_slice());
-    match answer_words(rt, &mut out) {
+    answer_or_say(rt, &mut out)
+}
+
+// Answers the words of the command line, or else prints the line that tells why they are not
+// answered.
+fn answer_or_say<R: AllocGlobal + Env + Files, K: Sink>(
+    rt: &R,
+    out: &mut BufferedSink<'_, K>,
+) -> Status
+    requires { failures_and_refused (K.failure_count out.old.device) out.old.refused ≡ 0 }
+    ensures { EndsRun (lines_of K.contents K.failure_count out.old)
+        (lines_of K.contents K.failure_count out.new) result }
+{
+    match answer_words(rt, out) {
         Ok(status) => status,
-        Err(fault) => hand_on(say(&fault, &mut out), &mut out),
+        Err(fault) => {
+            let status = say(&fault, out);
+            hand_on(status, out)
+        }
     }
 }
 
