@@ -10,7 +10,6 @@ use Rattle.std.proofs.lemmas.List.Elements.{All-from_recursion}
 use Rattle.sub_io.specs.Telling.{KeepsFirst}
 use Rattle.sub_io.proofs.TellingLemmas.{first_is}
 use Rattle.ttx_packet.specs.PacketAddress.{IsPacket}
-use Rattle.ttx_pes.specs.Reading.{most_packets}
 use Rattle.ttx_pes.specs.declared.fault.PesFault.{PesFault}
 use Rattle.ttx_pes.specs.declared.fault.PesFault.TheVariants.{Read}
 use Rattle.sub_check.specs.Checking.{Accepts, IsRead, IsRuleFault, TellsAll}

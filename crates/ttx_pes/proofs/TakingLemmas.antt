@@ -21,7 +21,7 @@ use Rattle.ttx_pes.specs.Comparing.{TakesDataField}
 use Rattle.ttx_pes.specs.Taking.{Settles, StopsBelow}
 use Rattle.ttx_pes.proofs.ReadingLemmas.{answer_full, answer_packet, packet_short, packet_size}
 use Rattle.ttx_pes.proofs.ReadingLemmas.{packet_cut, packet_parts, read_is_packet}
-use Rattle.ttx_pes.proofs.ReaderLemmas.{format_not_read, left, nothing, packet_left, value_in}
+use Rattle.ttx_pes.proofs.ReaderLemmas.{left, nothing, packet_left, value_in}
 
 -- ---- where no packet is taken
 
