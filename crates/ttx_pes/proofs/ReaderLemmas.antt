@@ -1,21 +1,17 @@
 -- What a reader that was given a packet or a fault knows of the bytes of its source. Main lemmas:
 -- packet_left, answers_say.
-use Rattle.std.proofs.Common.{◌≡◌, ℕ, true, false, List, [], ◌∷◌, ◌++◌}
-use Rattle.std.proofs.Common.{Option, Some, None, Result, Ok, Err, refl, sym, ap}
-use Rattle.std.proofs.Common.{◌∙◌, arith}
+use Rattle.std.proofs.Common.{◌≡◌, ℕ, true, List, [], ◌∷◌, ◌++◌, Option, Some, None, Result, Ok}
+use Rattle.std.proofs.Common.{Err, refl, sym, ap, ◌∙◌, arith}
 use Rattle.std.proofs.lemmas.Bool.Decides.{nat_tests}
 use Rattle.std.proofs.lemmas.Option.{same_Some}
 use Rattle.std.specs.Io.KnownBytes.{Consumes}
 use Rattle.ttx_pes.proofs.ReadingLemmas.{answer_cases}
-use Rattle.sub_io.specs.Device.{failed}
 use Rattle.ttx_pes.specs.declared.fault.PesFault.{PesFault}
-use Rattle.ttx_pes.specs.declared.fault.PesFault.TheVariants as fault
 use Rattle.ttx_pes.specs.PesPacket.{PesValue}
 use Rattle.ttx_pes.specs.Reading.{packet_at, answer_at, rest_after, is_format_fault}
 use Rattle.ttx_pes.specs.Laws.{LawOfAnswers}
 use Rattle.ttx_pes.specs.Reader.{TakesPesPacket}
 use Rattle.ttx_pes.proofs.ReadingLemmas.{packet_is_read, rest_after-packet}
-use Rattle.ttx_pes.specs.Fault.{is_read}
 
 -- The answer of a value that was read.
 abbrev pub value_in : PesValue × List ℕ → Result (Option PesValue) PesFault
@@ -48,13 +44,6 @@ packet_left old new v bytes h e =
 
 -- ---- faults in the words of the grammar
 
--- A fault of the format is not that of the source.
-pub format_not_read : (X : Type 0) (f : PesFault)
-    → is_format_fault f ≡ true
-    → failed {X = X} is_read (Err f) ≡ false
-format_not_read X fault.Read e = absurd cc
-format_not_read X _ e = refl
-
 -- A fault of the format is met in the packet.
 answer_err : (given : ℕ) (b : List ℕ) (f : PesFault)
     → is_format_fault f ≡ true
@@ -67,8 +56,7 @@ answer_err given (x ∷ b) f k e = grind (arith, nat_tests, answer_cases)
 -- The end, a fault of the format and a byte too many: the law.
 pub answers_say : LawOfAnswers
 unfolding answer_at
-answers_say given [] =
-    (λ e. refl, λ f k e. absurd cc, λ e. absurd cc)
+answers_say given [] = (λ e. refl, λ f k e. absurd cc, λ e. absurd cc)
 answers_say given (x ∷ b) = (
   λ e. grind (arith, nat_tests, answer_cases),
   λ f k e v packet rest h parts.

@@ -60,8 +60,8 @@ pub record TakesRefused (old new : Option (List ℕ)) (f : PesFault) : Type 0 wh
   pub consumed : Consumes old new bytes
   pub refused : packet_at bytes ≡ Err f
 
--- What each reader of PES packets tells: its answer to a call, by how far it had come, and what
--- was taken of its source, which told its bytes before and tells those that are left, or nothing.
+-- What each reader of PES packets tells by an answer. `before` is how far it had come; `old` and
+-- `new` are the bytes that its source told before the call and tells after it, if it tells any.
 pub record TellsPacket
     (before : Progress)
     (old new : Option (List ℕ))
