@@ -1,7 +1,7 @@
 -- The first of the rules that a packet breaks, as tests tell it: `broken_first`.
 use Rattle.std.proofs.Common.{◌≡◌, ℕ, zero, suc, ◌<◌, inl, inr, Bool, true, false, not, ◌&&◌, List}
 use Rattle.std.proofs.Common.{[], ◌∷◌, Option, Some, None, option_map, refl, sym, ap, ◌∙◌, arith}
-use Rattle.std.proofs.Common.{length, get_or, subst, is_some, All, IsTrue, drop, if◌then◌else◌}
+use Rattle.std.proofs.Common.{length, get_or, subst, is_some, All, IsTrue}
 use Rattle.std.specs.Bool.{Decides}
 use Rattle.std.specs.List.{AllByRecursion, filter, list_any}
 use Rattle.std.proofs.lemmas.Bool.{cases_Bool, true≢false}
@@ -180,18 +180,7 @@ module _ (w : Watched) (packets : List (List ℕ)) (s : IsSoundSpan w packets) (
   found : (q : List ℕ) → kind w.page q ≡ Row row → IsSoundPacket w packets q
       → Refutes (is_other_text (Some q) (codes_of p)) (q ≡ p)
   found q k sound =
-      let zero_is = Decides-eqb (row_differing (codes_of q) (codes_of p)) 0 in (
-        λ e.
-            let none : row_differing (codes_of q) (codes_of p) ≡ 0 = grind (arith, nat_tests) in
-            same_packet q p sound.0.0 whole sound.0.1 exact
-            (address-row w q row k ∙ sym (address-row w p row is_row_of)) (sound.1 row k) odd
-            (same_codes q p sound.0.0.size whole.size none),
-        λ e.
-            let none : row_differing (codes_of q) (codes_of p) ≡ 0 =
-            subst (λ x. row_differing (codes_of q) (codes_of x) ≡ 0) e
-            (columns_same 40 (codes_of q)) in
-            grind (arith, nat_tests),
-      )
+      grind (arith, nat_tests, Decides-eqb, same_packet, address-row, same_codes, columns_same)
 
   -- The test of the row.
   pub row_decided : Refutes (is_other_text (first_of_row w.page packets row) (codes_of p)) EachSame
@@ -237,23 +226,11 @@ module _ (test : PacketRule → Bool) (Keeps : PacketRule → Type 0)
   one_rule : (r : PacketRule) → ((other : PacketRule) → rank other < rank r → Keeps other)
       → (rest : List PacketRule) → (Keeps r → FirstRule Keeps (filter test rest))
       → FirstRule Keeps (filter test (r ∷ rest))
-  one_rule r lower rest next = go (test r) refl
-    where
-      go : (b : Bool) → test r ≡ b
-          → FirstRule Keeps (if b then r ∷ filter test rest else filter test rest)
-      go true e = (λ k. let d = (each r lower).1 k in absurd (grind (arith, nat_tests)), lower)
-      go false e = next ((each r lower).0 (ap not e))
+  one_rule r lower rest next = grind (arith, nat_tests)
 
   pub first_rule : FirstRule Keeps (filter test packet_rules)
   unfolding packet_rules
-  first_rule =
-      one_rule rule.Address (λ other l. absurd (omega arith)) (drop 1 packet_rules) (λ k0.
-      one_rule rule.HeaderCode (grind arith) (drop 2 packet_rules) (λ k1.
-      one_rule rule.Mode (grind arith) (drop 3 packet_rules) (λ k2.
-      one_rule rule.Control (grind arith) (drop 4 packet_rules) (λ k3.
-      one_rule rule.Parity (grind arith) (drop 5 packet_rules) (λ k4.
-      one_rule rule.RowChanged (grind arith) (drop 6 packet_rules) (λ k5.
-      one_rule rule.Enhancement (grind arith) [] (λ k6. grind arith)))))))
+  first_rule = grind (arith, nat_tests, one_rule)
 
 -- What is told first of a packet that is sent after these, where their span is sound.
 module _ (w : Watched) (before : List (List ℕ)) (p : List ℕ) (whole : IsPacket p)
@@ -278,13 +255,10 @@ module _ (w : Watched) (before : List (List ℕ)) (p : List ℕ) (whole : IsPack
         ((row : ℕ) → k ≡ Row row
         → AllByRecursion (λ q. kind w.page q ≡ Row row → q ≡ p) (span (kind w.page) before))
     same_row (Row y) e exact odd is_open =
-        let d = row_decided w (span (kind w.page) before) (s is_open) p y e whole exact
-        (odd is_open y e) in (
-          λ f row is.
-              let same : y ≡ row = grind arith in
-              subst (λ x. AllByRecursion (λ q. kind w.page q ≡ Row x → q ≡ p)
-              (span (kind w.page) before)) same (d.0 f),
-          λ h. d.1 (h y refl),
+        grind (
+          arith,
+          nat_tests,
+          row_decided w (span (kind w.page) before) (s is_open) p y e whole exact (odd is_open y e),
         )
     same_row k e exact odd is_open = (λ f row is. grind arith, λ h. refl)
 
@@ -292,22 +266,14 @@ module _ (w : Watched) (before : List (List ℕ)) (p : List ℕ) (whole : IsPack
     no_enhancement : (o : Option PacketAddress) → address p ≡ o
         → Refutes (is_of_enhancement w.page o) (IsEnhancement w.page p → ⊥)
     no_enhancement None e = (λ f is. none-some is.0 (sym e ∙ is.1), λ h. refl)
-    no_enhancement (Some a) e = (
-      λ f is. let same = same_Some _ _ (sym e ∙ is.1) in grind (arith, nat_tests),
-      λ h. grind (arith, nat_tests),
-    )
+    no_enhancement (Some a) e = grind (arith, nat_tests, same_Some)
 
     -- Each rule, where those of a lower rank are kept.
     pub decided : (r : PacketRule)
         → ((other : PacketRule) → rank other < rank r → KeepsRule other w before p)
         → Refutes (breaks r w before p) (KeepsRule r w before p)
     unfolding breaks
-    decided rule.Address lower = twice (are_code_words 0 2 p) (address_decided p)
-      where
-        twice : (b : Bool) → Decides b (HasExactAddress p)
-            → Decides (not (not b)) (HasExactAddress p)
-        twice true d = d
-        twice false d = d
+    decided rule.Address lower = grind (arith, nat_tests, address_decided)
     decided rule.HeaderCode lower =
         coded (address p) (are_code_words 2 8 p) (HasExactHeader p) (header_decided p)
     decided rule.Mode lower = one_mode (header p) (first_header before)

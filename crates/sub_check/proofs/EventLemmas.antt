@@ -447,10 +447,7 @@ module _ (g : Task) (frames : Transmission) where
                 (λ t. quiet.shows row column t.1)
           ];
           gaps = λ d k. grind (arith, nat_tests, cases_lt);
-          quiet =
-              let e : f ≡ end_before frames n (latest frames n + suc (suc m)) =
-              grind (arith, nat_tests) in
-              subst (IsQuiet g frames n) e quiet;
+          quiet = grind (arith, nat_tests);
         })
         (told_at_end g frames n f (omega arith) before (NamesFirst g frames)
         (λ row column w.
@@ -577,10 +574,7 @@ module _ (g : Task) (frames : Transmission) where
       → Tells (n ≡ 0 → HasHeader g frames 0) (first_header_events g frames n)
   unfolding first_header_events
   header_told zero there order packets =
-      told_unless (holds_header (kind g.watched.page) (packets_of_frame frames 0)) _
-      (λ none. first_header_missing g frames there order packets
-      (λ has. true≢false (sym has ∙ none)))
-      (λ has z. has)
+      grind (arith, nat_tests, told_unless, first_header_missing, true≢false)
   header_told (suc i) there order packets = nothing_told (λ z. absurd (omega arith))
 
   -- The end of a frame, where nothing stood broken before.
@@ -592,33 +586,27 @@ module _ (g : Task) (frames : Transmission) where
       let f : ℕ = frame_at frames n in
       let before : ℕ = end_before frames n f in
       let one : n + 1 ≡ suc n = omega arith in
-      subst (λ (s : Standing).
-      Tells (FrameOk g frames n) (end_events s before (standing_at g frames (suc n) f) f))
+      subst (λ m. Tells (FrameOk g frames n) (events_at_end g frames n m f)) one
+      (subst
+      (λ (s : Standing).
+      Tells (FrameOk g frames n) (end_events s before (standing_at g frames (n + 1) f) f))
       (sym nothing)
       (FirstOf-map
-      (λ quiet. let back = subst (λ k. IsQuiet g frames k f) (sym one) quiet in record {
+      (λ quiet. record {
         order = order;
         gap = gap;
         packets = packets;
         end = record {
           first = λ z t. head z;
-          cells = λ row column t. back.shows row column t.1;
-          covered = λ t. back.covered;
-          ended = λ t. back.ended;
+          cells = λ row column t. quiet.shows row column t.1;
+          covered = λ t. quiet.covered;
+          ended = λ t. quiet.ended;
         };
       })
-      (told_at_end g frames (suc n) f there before (NamesFirst g frames)
-      (λ row column w. first_cell_at g frames n past there order gap packets head row column
-      (subst (λ k. WrongFirst g frames k f row column) (sym one) w))
-      (λ shows broken. first_frame g frames n past there order gap packets head
-      (subst (λ k. (row column : ℕ) → IsCell row column → ShowsDue g frames k f row column)
-      (sym one) shows)
-      (subst (λ k. IsCovered g frames k f → ⊥) (sym one) broken))
-      (λ shows covered broken. first_open g frames n past there order gap packets head
-      (subst (λ k. (row column : ℕ) → IsCell row column → ShowsDue g frames k f row column)
-      (sym one) shows)
-      (subst (λ k. IsCovered g frames k f) (sym one) covered)
-      (subst (λ k. IsEnded g frames k → ⊥) (sym one) broken))))
+      (told_at_end g frames (n + 1) f (omega arith) before (NamesFirst g frames)
+      (first_cell_at g frames n past there order gap packets head)
+      (first_frame g frames n past there order gap packets head)
+      (first_open g frames n past there order gap packets head))))
 
   -- The frames of the day before a frame.
   gap_part : (n : ℕ) → AreOk g frames n → n < length frames → OrderOk g frames n
@@ -626,13 +614,7 @@ module _ (g : Task) (frames : Transmission) where
       (GapOk g frames n × (standing_before g frames n (frame_at frames n) ≡ nothing_stands))
       (gap_events g frames n (gap_length frames n))
   unfolding gap_length gap_events standing_before
-  gap_part zero past there order = nothing_told (
-    record {
-      cells = λ f row column t. absurd (let none = t.0.0 in omega arith);
-      covered = λ f t. absurd (let none = t.0 in omega arith);
-    },
-    refl,
-  )
+  gap_part zero past there order = grind (arith, nat_tests, nothing_told)
   gap_part (suc i) past there order =
       FirstOf-map
       (λ done. (
@@ -663,6 +645,7 @@ module _ (g : Task) (frames : Transmission) where
         FirstOf-append (header_told n there order packets) (λ head.
         end_told n past there order gap.0 packets head gap.1))))
 
+    -- A frame.
     frame_told : (n : ℕ) → AreOk g frames n → n < length frames
         → Tells (FrameOk g frames n) (frame_events g frames n)
     unfolding frame_events

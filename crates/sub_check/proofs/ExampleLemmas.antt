@@ -43,6 +43,7 @@ rank CleanSpans = 4
 rank RepeatBound = 5
 rank DuePages = 6
 
+-- Rules of one place are one.
 same_rank : (a b : Rule) → (rank a == rank b) ≡ true → a ≡ b
 same_rank a b e = grind (arith, nat_tests)
 

@@ -25,7 +25,7 @@ use Rattle.std.specs.Prelude.{IsOk}
 use Rattle.sub_check.specs.CheckedFiles.{IsChecked, TellsEvents, first_answer}
 use Rattle.sub_check.specs.FrameRules.{Task, Unread, end_frame, frame_at, task_of}
 use Rattle.sub_check.specs.FrameRules.Unread.{BadPacket, NoFrame}
-use Rattle.sub_check.specs.PesReading.{PesFileValue, ReadsAs, pes_file_of}
+use Rattle.sub_check.specs.PesReading.{ReadsAs, pes_file_of}
 use Rattle.sub_check.specs.Transmission.{EachPacket, SentFrame, Transmission}
 use Rattle.sub_check.specs.declared.checker.Accepted.{Accepted}
 use Rattle.sub_check.specs.declared.event.Event.{Event}
@@ -255,17 +255,7 @@ checked_first programme options bytes a fine p is =
     let file = pes_file_of options.origin bytes in
     let g = task_of programme options file.unread in
     let whole = is file.frames file.unread refl in
-    checked_from programme options fine bytes (first_answer (events g file.frames) a) p
-    (λ no frames unread reads.
-    subst (λ (es : List Event). MatchResult (first_answer es a)
-    (Accepts (task_of programme options unread) options.origin bytes frames)
-    (NamesFirst (task_of programme options unread) frames))
-    (sym (ap (λ (f : PesFileValue). events (task_of programme options f.unread) f.frames) reads))
-    (first_decides (task_of programme options unread) options.origin bytes frames reads a
-    (is frames unread reads)))
-    (λ frames unread pes reads e.
-    let none = first_own g options.origin bytes file.frames refl a in
-    absurd (true≢false (rw e at none)))
+    grind (arith, nat_tests, checked_from, first_decides, first_own, true≢false)
 
 -- What was told of the file as one value. For `check_all`.
 pub tells_events :

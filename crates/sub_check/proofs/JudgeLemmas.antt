@@ -2,8 +2,8 @@
 -- `at_end`, `is_read`, `counts_read`; and of what is told, `told_to_end`, `told_to_stop`.
 use Rattle.std.proofs.lemmas.Bool.Decides.{nat_tests}
 use Rattle.std.proofs.Common.{◌≡◌, ℕ, zero, suc, ◌+◌, ◌-◌, ◌<◌, ◌≤◌, Bool, List, [], ◌∷◌, ◌++◌}
-use Rattle.std.proofs.Common.{length, drop, take, get_or, Option, Some, Result, Ok, Err, sym, ap}
-use Rattle.std.proofs.Common.{refl, ◌∙◌, subst, arith, append_assoc, append-nil, add-one}
+use Rattle.std.proofs.Common.{length, drop, take, get_or, Option, Some, None, Result, Ok, Err, sym}
+use Rattle.std.proofs.Common.{ap, refl, ◌∙◌, subst, arith, append_assoc, append-nil, add-one}
 use Rattle.std.specs.List.{AllByRecursion, AllZip}
 use Rattle.std.specs.Prelude.{is_err}
 use Rattle.std.proofs.lemmas.List.Folds.{concat-append}
@@ -20,7 +20,7 @@ use Rattle.sub_plan.specs.Options.{OptionsValue}
 use Rattle.sub_check.specs.Checker.{CheckerValue}
 use Rattle.sub_check.specs.Checking.{AreTaken, AreWhole, CountsRead, IsFrameOf, IsRead, TellsFrame}
 use Rattle.sub_check.specs.Checking.{TellsOrStops}
-use Rattle.sub_check.specs.Events.{closing_events, events, events_of_first, frame_events, latest}
+use Rattle.sub_check.specs.Events.{closing_events, events, events_of_first, frame_events}
 use Rattle.sub_check.specs.Following.{Follows, IsSentFrame, IsTaskOf}
 use Rattle.ttx_packet.specs.PageId.{PageIdValue}
 use Rattle.stl_rows.specs.declared.national.National.{National}

@@ -71,6 +71,12 @@ pub wrong_header : (p : List ℕ) (r : Bool) → Decides r (HasExactHeader p)
     → not r ≡ not (are_code_words 2 8 p)
 wrong_header p r d = turned r (are_code_words 2 8 p) d (header_decided p)
 
+-- A packet with a page header is X/0. For `has_wrong_codes`.
+pub header_is_zero :
+    (p : List ℕ) (h : Header) → header p ≡ Some h → is_of_header (address p) ≡ true
+unfolding header
+header_is_zero p h e = grind (arith, nat_tests)
+
 -- ---- a packet by what it is
 
 -- A packet 25 to 28 is neither a header nor a row.

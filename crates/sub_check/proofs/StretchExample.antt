@@ -1,5 +1,6 @@
 -- A refused transmission with a clean stretch, by the tests of all parts.
-use Rattle.std.proofs.Common.{ℕ, inl, inr, List, [], ◌∷◌, None, refl, sym, arith, true≢false}
+use Rattle.std.proofs.lemmas.Bool.Decides.{nat_tests}
+use Rattle.std.proofs.Common.{ℕ, inl, inr, List, [], ◌∷◌, None, refl, arith}
 use Rattle.std.specs.Int.RustNames.{count_ones}
 use lib.Count.{ones_in}
 use Rattle.ttx_packet.specs.Hamming84.{decoded}
@@ -30,10 +31,12 @@ use Rattle.sub_check.proofs.RuleTests.{rule_decided}
 refused : Good later_subtitle damaged_first (each 1) → ⊥
 unfolding kind address header coded_header decoded is_near
 refused good =
-    true≢false
-    (sym
-    ((rule_decided SubtitleControl later_subtitle damaged_first (each 1)).1
-    ((law_of_rules later_subtitle damaged_first (each 1)).0 good SubtitleControl)))
+    grind (
+      arith,
+      nat_tests,
+      rule_decided SubtitleControl later_subtitle damaged_first (each 1),
+      law_of_rules later_subtitle damaged_first (each 1),
+    )
 
 clean : IsClean (task_of later_subtitle (each 1) None) damaged_first 900001 900002
 unfolding kind address header coded_header decoded is_near is_odd count_ones ones_in due blank

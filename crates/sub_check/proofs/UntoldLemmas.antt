@@ -1,20 +1,16 @@
 -- A stretch of which nothing is told is clean: `law_of_untold_stretch`.
-use Rattle.std.proofs.Common.{arith, ◌≡◌, ℕ, Bool, true, false, not, ◌&&◌, List, Some, refl, sym}
-use Rattle.std.proofs.Common.{ap, ◌∙◌, eqb-true, is_some, IsFalse}
+use Rattle.std.proofs.Common.{arith, ◌≡◌, ℕ, Bool, true, false, not, ◌&&◌, List, refl, sym}
+use Rattle.std.proofs.Common.{ap, IsFalse}
 use Rattle.std.proofs.lemmas.Bool.Decides.{nat_tests}
-use Rattle.ttx_packet.specs.RowPacket.{first_even_byte}
-use Rattle.ttx_page.specs.Differing.{row_differing}
-use Rattle.ttx_page.specs.PacketKind.{is_some_row, kind}
-use Rattle.ttx_page.specs.Span.{is_open_after, span}
+use Rattle.ttx_page.specs.PacketKind.{kind}
 use Rattle.sub_check.specs.CleanStretch.{IsKeptWithin, IsUntold, KeepsCodes}
 use Rattle.sub_check.specs.CleanStretch.{LawOfUntoldStretch, Part}
 use Rattle.sub_check.specs.CleanStretch.Part.{DueContent, ExactAddresses, ExactHeaders, FramesRise}
 use Rattle.sub_check.specs.CleanStretch.Part.{HeadersInTime, OddRows, SameRows, SubtitleHeaders}
 use Rattle.sub_check.specs.Events.{standing_at}
 use Rattle.sub_check.specs.FrameRules.{Task}
-use Rattle.sub_check.specs.PacketRules.{KeepsRule, codes_of}
-use Rattle.sub_check.specs.PacketTests.{are_code_words, breaks, first_of_row, is_other_row}
-use Rattle.sub_check.specs.PacketTests.{is_other_text}
+use Rattle.sub_check.specs.PacketRules.{KeepsRule}
+use Rattle.sub_check.specs.PacketTests.{are_code_words, breaks}
 use Rattle.sub_check.specs.Transmission.{Transmission}
 use Rattle.sub_check.specs.declared.packet_rules.PacketRule.TheVariants as rule
 use Rattle.sub_check.specs.declared.packet_rules.Watched.{Watched}
@@ -54,24 +50,12 @@ module _ (w : Watched) (before : List (List ℕ)) (p : List ℕ) where
 
   odd_row : IsFalse (breaks rule.Parity w before p) → KeepsRule rule.Parity w before p
   unfolding breaks
-  odd_row untold up row is =
-      (odd_text p).0
-      (ap not
-      (last_of_three (is_open_after (kind w.page) before) (is_some_row (kind w.page p))
-      (is_some (first_even_byte p)) untold up (ap is_some_row is)))
+  odd_row untold up row is = grind (arith, nat_tests, odd_text, last_of_three)
 
   same_row : IsFalse (breaks rule.RowChanged w before p) → KeepsCodes w before p
   unfolding breaks
   same_row untold up row first is found column below =
-      let spanned : List (List ℕ) = span (kind w.page) before in
-      let other : is_other_row w.page spanned p (kind w.page p) ≡ false =
-      last_of_two (is_open_after (kind w.page) before) _ untold up in
-      let text : is_other_text (first_of_row w.page spanned row) (codes_of p) ≡ false =
-      ap (is_other_row w.page spanned p) (sym is) ∙ other in
-      let none : is_other_text (Some first) (codes_of p) ≡ false =
-      ap (λ o. is_other_text o (codes_of p)) (sym found) ∙ text in
-      columns_zero 40 (codes_of first) (codes_of p)
-      (eqb-true (row_differing (codes_of first) (codes_of p)) 0 (not_false _ none)) column below
+      grind (arith, nat_tests, last_of_two, columns_zero, not_false)
 
 -- ---- a stretch
 
@@ -97,10 +81,7 @@ module _ (g : Task) (frames : Transmission) (a b : ℕ) (untold : IsUntold g fra
 pub law_of_untold_stretch : LawOfUntoldStretch
 unfolding standing_at
 law_of_untold_stretch g frames a b = record {
-  clean = λ untold. record {
-    stretch = untold.stretch;
-    kept = kept g frames a b untold;
-  };
+  clean = λ untold. grind (arith, nat_tests, kept);
   ended = λ shut n f end low high.
       (incomplete_decided g frames n f).0 (ap not (shut n f end low high));
 }

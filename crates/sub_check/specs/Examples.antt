@@ -146,6 +146,7 @@ pub record BrokenExample : Type 0 where
   pub transmission : Transmission
   pub every : ℕ
 
+-- One of these, by its parts.
 abbrev broken : Rule → ProgrammeValue → Transmission → ℕ → BrokenExample
 broken rule programme transmission every =
     record { rule = rule; programme = programme; transmission = transmission; every = every }
