@@ -1,6 +1,6 @@
 -- With all packets kept, robust to lost rows is robust: `law_of_all_kept`.
-use Rattle.std.proofs.Common.{ℕ, List, Bool, sym, subst, arith}
-use Rattle.std.specs.List.{AllZip, items_where_true}
+use Rattle.std.proofs.Common.{ℕ, List, sym, subst, arith}
+use Rattle.std.specs.List.{AllZip}
 use Rattle.ttx_packet.specs.OneBit.{AreNear}
 use Rattle.ttx_page.specs.Receiver.{State}
 use Rattle.ttx_page.proofs.NoiseLaws.{all_kept, all_true, law_of_nothing_lost, may_all}

@@ -1,7 +1,6 @@
 -- A receiver that drops rows hears what is left of the packets: `law_of_dropping`.
-use Rattle.std.proofs.Common.{◌≡◌, true, false, not, cond, List, [], ◌∷◌, inl, inr, refl}
+use Rattle.std.proofs.Common.{[], ◌∷◌, inl, inr, refl}
 use Rattle.std.proofs.lemmas.Bool.{cases_Bool}
-use Rattle.ttx_packet.specs.PageId.{PageIdValue}
 use Rattle.ttx_page.specs.DroppedRows.{LawOfDropping}
 use Rattle.ttx_page.specs.Receiver.{is_dropped}
 

@@ -1,6 +1,6 @@
 -- The law of receivers with a screen, `law_of_screen`.
 use Rattle.std.proofs.Common.{◌≡◌, ℕ, Bool, true, false, List, [], ◌∷◌, Some, IsFalse, refl}
-use Rattle.std.proofs.Common.{ap, arith}
+use Rattle.std.proofs.Common.{arith}
 use Rattle.std.specs.List.{AllByRecursion, AllZip, items_where_true}
 use Rattle.std.proofs.lemmas.Bool.Decides.{nat_tests}
 use Rattle.ttx_packet.specs.OneBit.{AreNear}
