@@ -1,21 +1,78 @@
 -- A receiver that drops rows hears what is left of the packets: `law_of_dropping`.
-use Rattle.std.proofs.Common.{[], ◌∷◌, inl, inr, refl}
+use Rattle.std.proofs.Common.{◌≡◌, ◌↔◌, ℕ, Bool, true, false, not, List, [], ◌∷◌, filter, inl, inr}
+use Rattle.std.proofs.Common.{refl, ap₂, arith}
 use Rattle.std.proofs.lemmas.Bool.{cases_Bool}
+use Rattle.std.proofs.lemmas.Bool.Decides.{nat_tests}
+use Rattle.ttx_packet.specs.PageId.{PageIdValue}
 use Rattle.ttx_page.specs.DroppedRows.{LawOfDropping}
-use Rattle.ttx_page.specs.Receiver.{is_dropped}
+use Rattle.ttx_page.specs.Receiver.{RunsBy, Step, StepBy, is_dropped}
+use Rattle.ttx_page.specs.Receiver.ReceiverClass.{Dropping}
+use Rattle.ttx_page.specs.Screen.{Display, ShowsAt, display}
 
--- A run that drops rows is one without them.
+-- A run of steps that pass over dropped packets is one of other steps without these.
+module _
+    {S : Type 0} (StepsBy PassesBy : S → List ℕ → S → Type 0) (dropped : List ℕ → Bool)
+    (over :
+    (old : S) (packet : List ℕ) (new : S)
+    → dropped packet ≡ true
+    → PassesBy old packet new ↔ (new ≡ old))
+    (other :
+    (old : S) (packet : List ℕ) (new : S)
+    → dropped packet ≡ false
+    → PassesBy old packet new ↔ StepsBy old packet new)
+  where
+    runs_without :
+        (packets : List (List ℕ)) (old new : S)
+        → RunsBy PassesBy old packets new
+        ↔ RunsBy StepsBy old (filter (λ packet. not (dropped packet)) packets) new
+    runs_without [] old new = (λ run. run, λ run. run)
+    runs_without (p ∷ ps) old new = elim (cases_Bool (dropped p)) [
+      | inl drop ↦
+          rw drop (
+            λ run.
+                let same : run.0 ≡ old = (over old p run.0 drop).0 run.1 in
+                (runs_without ps old new).0 (rw same at run.2),
+            λ run. (old, (over old p old drop).1 refl, (runs_without ps old new).1 run),
+          )
+      | inr hear ↦
+          rw hear (
+            λ run.
+                (run.0, (other old p run.0 hear).0 run.1, (runs_without ps run.0 new).0 run.2),
+            λ run.
+                (run.0, (other old p run.0 hear).1 run.1, (runs_without ps run.0 new).1 run.2),
+          )
+    ]
+
+-- A dropped row leaves what is held and the screen as they are.
+shows_over :
+    (w : PageIdValue) (old : Display) (packet : List ℕ) (new : Display)
+    → is_dropped w packet ≡ true
+    → StepBy Dropping w old.held packet new.held × ShowsAt w old packet new ↔ (new ≡ old)
+shows_over w old packet new drop = (
+  λ both.
+      let held : new.held ≡ old.held = rw drop at both.0 in
+      let stays = both.1.stays in
+      let open_or_not = cases_Bool old.held.is_open in
+      let screen : new.screen ≡ old.screen =
+      stays (grind (arith, nat_tests)) (grind (arith, nat_tests)) in
+      ap₂ display held screen,
+  λ same.
+      rw same (
+        rw drop refl,
+        record {
+          ended = λ ended. grind (arith, nat_tests);
+          again = λ again. grind (arith, nat_tests);
+          stays = λ ended again. refl;
+        },
+      ),
+)
+
+-- The law of dropping.
 pub law_of_dropping : LawOfDropping
-law_of_dropping w [] old new = (λ run. run, λ run. run)
-law_of_dropping w (p ∷ ps) old new = elim (cases_Bool (is_dropped w p)) [
-  | inl drops ↦
-      rw drops (
-        λ run. (law_of_dropping w ps old new).0 (rw run.1 at run.2),
-        λ run. (old, refl, (law_of_dropping w ps old new).1 run),
-      )
-  | inr hears ↦
-      rw hears (
-        λ run. (run.0, run.1, (law_of_dropping w ps run.0 new).0 run.2),
-        λ run. (run.0, run.1, (law_of_dropping w ps run.0 new).1 run.2),
-      )
-]
+law_of_dropping w packets = (
+  runs_without (Step w) (StepBy Dropping w) (is_dropped w)
+      (λ old packet new drop. rw drop (λ same. same, λ same. same))
+      (λ old packet new hear. rw hear (λ step. step, λ step. step)) packets,
+  runs_without _ _ (is_dropped w) (shows_over w)
+      (λ old packet new hear. rw hear (λ step. step, λ step. step)) packets,
+)

@@ -44,9 +44,8 @@ pub fn law_of_nothing_lost()
     ensures { LawOfNothingLost }
 {}
 
-/// What a receiver that drops rows holds is what a receiver of the relation holds of the same list
-/// with the dropped rows left out.
-#[tactic(auto, using(crate::proofs::DropLaws::law_of_dropping))]
+/// What a receiver that drops rows holds and shows is what a receiver of the relation holds and
+/// shows of the same list with the dropped rows left out.
 pub fn law_of_dropping()
     ensures { LawOfDropping }
 {}
