@@ -1,7 +1,6 @@
 -- The first TCI and the last TCO of a programme: span-rises, law_of_day.
 use Rattle.std.proofs.Common.{◌≡◌, ℕ, ◌+◌, ◌-◌, ◌<◌, ◌≤◌, List, [], ◌∷◌, Option, Some, None, length}
-use Rattle.std.proofs.Common.{get_or, refl, ap, ◌∙◌, arith, inl, inr, All}
-use Rattle.std.proofs.lemmas.Bool.{cases_lt}
+use Rattle.std.proofs.Common.{get_or, refl, ap, ◌∙◌, arith, All}
 use Rattle.std.proofs.lemmas.List.Elements.{All-nil, All-filter, All-weaker}
 use Rattle.std.proofs.lemmas.Option.{slice_get-get_or, same_Some}
 use Rattle.std.specs.List.{range_with_len}
@@ -51,21 +50,11 @@ span-rises national (t ∷ ts) a b ok h k =
     let each_last = ok.each n t (omega arith) in
     let each_first = ok.each 0 t (omega arith) in
     record {
-      rises = elim (cases_lt 0 n) [
-        | inl more ↦
-            omega (
-              arith,
-              f,
-              g,
-              ok.in_order 0 n t more (omega arith),
-              each_last.times,
-              each_first.times,
-            )
-        | inr one ↦
-            let z : n ≡ 0 = omega arith in
-            let same = ap (λ (i : ℕ). (get_or (t ∷ ts) i t).tco) z in
-            omega (arith, f, g, same, each_first.times)
-      ];
+      rises =
+          let order = ok.in_order 0 n t in
+          let times = each_last.times in
+          let own = each_first.times in
+          grind arith;
       in_day = omega (arith, f, each_last.in_day);
     }
 

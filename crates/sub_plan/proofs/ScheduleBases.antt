@@ -4,7 +4,7 @@ use Rattle.std.proofs.Common.{◌≡◌, ℕ, zero, suc, ◌+◌, ◌-◌, ◌%�
 use Rattle.std.proofs.Common.{not, List, ◌∷◌, ◌++◌, refl, sym, ap, ◌∙◌, arith, inl, inr, All}
 use Rattle.std.proofs.Common.{Decides}
 use Rattle.std.proofs.Math.Nat.{add-mod_right, mod-eq_of_lt}
-use Rattle.std.proofs.lemmas.Bool.{cases_Bool, cases_lt, false≢true, false_from_ne_true, or_left}
+use Rattle.std.proofs.lemmas.Bool.{cases_lt, false≢true, false_from_ne_true, or_left}
 use Rattle.std.proofs.lemmas.Bool.Decides.{nat_tests, Decides-eqb, Decides-not, Decides-or}
 use Rattle.std.proofs.lemmas.List.Elements.{All-cons, All-nil}
 use Rattle.std.proofs.lemmas.Slice.Eq.{slice_eq-Decides}
@@ -112,11 +112,7 @@ no_base due first f none =
 -- It has the page of the frame before it.
 same_unless_base : (due : ℕ → Rows) (first f : ℕ) → (IsBase due first f → ⊥) → due f ≡ due (f - 1)
 same_unless_base due first f none =
-    elim (cases_Bool (is_same_page (due f) (due (f - 1)))) [
-      | inl same ↦ (same_page-Decides (due f) (due (f - 1))).0 same
-      | inr other ↦ absurd (none (inr (λ e. false≢true
-          (sym other ∙ (same_page-Decides (due f) (due (f - 1))).1 e))))
-    ]
+    let same = same_page-Decides (due f) (due (f - 1)) in grind (arith, nat_tests)
 
 -- At a base the last base is the base itself.
 base-at : (due : ℕ → Rows) (first b : ℕ) → IsBase due first b → base due first b ≡ b
