@@ -100,19 +100,11 @@ module _ (n : National) (ts : List SubtitleValue) (f at : ℕ) (t : SubtitleValu
       → Contains ts x
       → (x.tco ≤ f) ⊎ ((x ≡ t) ⊎ (t.tco ≤ x.tci))
   placed x member =
-      let k : ℕ = member.0 in
       let own : t ≡ get_or ts at x = get_or_read ts at t inside is x in
-      elim (cases_lt k at) [
-        | inl low ↦ inl (rw member.2 at (first.before k x low))
-        | inr high ↦
-            elim (cases_lt at k) [
-              | inl later ↦ inr (inr (rw (← own, member.2)
-                  at (ok.in_order at k x later member.1)))
-              | inr same ↦
-                  let z : k ≡ at = omega arith in
-                  inr (inl (sym (own ∙ rw z at member.2)))
-            ]
-      ]
+      let there : get_or ts member.0 x ≡ x = member.2 in
+      let ended = first.before member.0 x in
+      let later = λ (after : at < member.0). ok.in_order at member.0 x after member.1 in
+      grind arith
 
   -- It ends after the frame.
   pub ends_after : f < t.tco
@@ -124,11 +116,9 @@ module _ (n : National) (ts : List SubtitleValue) (f at : ℕ) (t : SubtitleValu
       → k < length ts
       → (f < (get_or ts k d).tci) ⊎ ((get_or ts k d).tco ≤ f)
   none-between gap k d b =
-      elim (placed (get_or ts k d) (Contains-get_or ts k d b)) [
-        | inl ended ↦ inr ended
-        | inr (inl same) ↦ inl (rw same gap)
-        | inr (inr later) ↦ inl (omega (arith, later, ends_after))
-      ]
+      let cases = placed (get_or ts k d) (Contains-get_or ts k d b) in
+      let after = ends_after in
+      grind arith
 
   -- An edge after the frame is its TCI, or not before its TCO.
   later_edge : (x : ℕ) → IsEdge ts x → f < x → (x ≡ t.tci) ⊎ (t.tco ≤ x)

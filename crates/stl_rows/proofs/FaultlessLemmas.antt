@@ -31,11 +31,7 @@ on_page_faultless : (row : ℕ) (under : Bool) (line : List ℕ)
     → IsOnPage row line
 unfolding line_fault_kinds
 on_page_faultless row under [] e = record { few = omega arith; last = λ some. omega arith }
-on_page_faultless row under (c ∷ cells) e =
-    record {
-      few = grind (arith, nat_tests);
-      last = λ some. grind (arith, nat_tests);
-    }
+on_page_faultless row under (c ∷ cells) e = grind (arith, nat_tests)
 
 -- So is each of lines without a fault; the line `k` goes to row `at`.
 pub on_page : (number row at : ℕ) (under : Bool) (lines : List (List ℕ)) (k : ℕ)

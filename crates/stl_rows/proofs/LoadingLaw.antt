@@ -1,7 +1,7 @@
 -- A file is loaded exactly where it is a file whose subtitles are in order, disjoint and drawable:
 -- loading_is.
 use Rattle.std.proofs.Common.{◌≡◌, ℕ, suc, ◌-◌, ◌<◌, ◌≤◌, List, [], ◌∷◌, ◌++◌, Some, Result, Ok}
-use Rattle.std.proofs.Common.{Err, length, get_or, take, refl, sym, ap, arith, rules, append_assoc}
+use Rattle.std.proofs.Common.{Err, length, get_or, take, refl, sym, ap, arith, append_assoc}
 use Rattle.std.proofs.Common.{append-nil, length-append}
 use Rattle.std.proofs.lemmas.Bool.Decides.{nat_tests}
 use Rattle.std.proofs.lemmas.List.{get_or_append_left}
@@ -80,8 +80,7 @@ loaded_given n records (gives t block o) p h =
 
 -- A drawable subtitle has no fault of its rows.
 no_row_fault : (r : Result Rows RowFault) → IsOk r → row_faults r ≡ []
-no_row_fault (Ok page) h = refl
-no_row_fault (Err f) h = search rules
+no_row_fault r h = grind arith
 
 -- A subtitle that starts at the TCO of the one before, or later, has no fault of its times.
 no_order_fault : (before t : SubtitleValue) → before.tci < before.tco → before.tco ≤ t.tci

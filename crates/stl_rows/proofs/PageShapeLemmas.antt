@@ -10,7 +10,6 @@ use Rattle.ttx_page.specs.Page.{IsCode, IsPage}
 use Rattle.ttx_page.proofs.PageLemmas.{is_page_blank}
 use Rattle.stl_file.specs.Subtitle.{SubtitleValue}
 use Rattle.stl_rows.specs.declared.text_code.TextCode.{TextCode}
-use Rattle.stl_rows.specs.declared.text_code.TextCode.TheVariants.{Cell, NoCell, NewLine, Refused}
 use Rattle.stl_rows.specs.DrawnPage.{line_on, lines, page_of_lines}
 use Rattle.stl_rows.specs.DuePage.{due}
 use Rattle.stl_rows.specs.Line.{prepared, row_of}
@@ -82,11 +81,8 @@ with_small : (s : TextCode) (ls : List (List ℕ))
     → HasSevenBits s
     → AllByRecursion Small ls
     → AllByRecursion Small (with_code s ls)
-with_small (Cell code) [] l h = ((l, tt), tt)
-with_small (Cell code) (line ∷ ls) l h = ((l, h.0), h.1)
-with_small NoCell ls l h = h
-with_small NewLine ls l h = (tt, h)
-with_small (Refused kind) ls l h = h
+with_small s [] l h = grind arith
+with_small s (line ∷ ls) l h = grind arith
 
 -- All cells of a text are codes.
 cells_small : (national : National) (at skip : ℕ) (bytes : List ℕ)

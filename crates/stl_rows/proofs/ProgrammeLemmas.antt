@@ -1,6 +1,6 @@
 -- A programme with one more subtitle that has no fault is one: IsProgramme-push.
-use Rattle.std.proofs.Common.{◌≡◌, ℕ, ◌-◌, ◌<◌, ◌≤◌, List, [], ◌∷◌, ◌++◌, Result, Ok, Err, ◌∙◌, ap}
-use Rattle.std.proofs.Common.{Some, length, get_or, arith, rules, inl, inr, length-append}
+use Rattle.std.proofs.Common.{◌≡◌, ℕ, ◌-◌, ◌<◌, ◌≤◌, List, [], ◌∷◌, ◌++◌, Result, ◌∙◌, ap}
+use Rattle.std.proofs.Common.{Some, length, get_or, arith, inl, inr, length-append}
 use Rattle.std.proofs.lemmas.Bool.{cases_lt}
 use Rattle.std.proofs.lemmas.Bool.Decides.{nat_tests}
 use Rattle.std.proofs.lemmas.List.{get_or_append_left, get_or_push}
@@ -18,8 +18,7 @@ use Rattle.stl_rows.proofs.FaultlessLemmas.{empty_parts}
 
 -- A subtitle with no fault of its rows draws a page.
 draws : (r : Result Rows RowFault) → row_faults r ≡ [] → IsOk r
-draws (Ok page) h = search rules
-draws (Err f) h = cc
+draws r h = grind arith
 
 -- A subtitle with no fault of its times starts at the TCO of the one before, or later.
 after_last : (last t : SubtitleValue)
@@ -38,15 +37,10 @@ last_before ts t i d each ordered h inside =
     let at : ℕ = length ts - 1 in
     let after =
     after_last (get_or ts at d) t (rw (slice_get-get_or ts at d (omega arith)) at h) in
-    elim (cases_lt i at) [
-      | inl before ↦ omega (
-        arith,
-        after,
-        ordered i at d before (omega arith),
-        (each at d (omega arith)).times,
-      )
-      | inr same ↦ let z : i ≡ at = omega arith in rw z after
-    ]
+    let order = ordered i at d in
+    let times = (each at d (omega arith)).times in
+    let same = λ (last : i ≡ at). ap (λ (k : ℕ). (get_or ts k d).tco) last in
+    grind arith
 
 -- Subtitles in order stay so with it.
 in_order-push : (ts : List SubtitleValue) (t : SubtitleValue)

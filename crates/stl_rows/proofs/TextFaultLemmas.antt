@@ -1,10 +1,9 @@
 -- The first fault of a text whose codes are read one by one, by the shape of each line:
 -- told-faults.
-use Rattle.std.proofs.Common.{◌≡◌, ℕ, suc, ◌+◌, Bool, true, false, cond, List, []}
+use Rattle.std.proofs.Common.{◌≡◌, ℕ, ◌+◌, Bool, true, false, cond, List, []}
 use Rattle.std.proofs.Common.{◌∷◌, ◌++◌, Option, Some, None, map, length, refl, sym, ap, ◌∙◌, arith}
 use Rattle.std.proofs.Common.{length-append, append-nil}
 use Rattle.std.proofs.Math.Bool.{or-false}
-use Rattle.std.proofs.lemmas.Bool.{lt-ltb}
 use Rattle.std.proofs.lemmas.Bool.Decides.{nat_tests}
 use Rattle.std.proofs.lemmas.List.Folds.{list_any-append}
 use Rattle.std.specs.Option.{option_or}
@@ -71,15 +70,10 @@ shape_kinds : (cells : List ℕ) (line : OpenLine)
 unfolding line_fault_kinds shape_fault_kinds
 shape_kinds [] line h = kinds_of_none line h
 shape_kinds (c ∷ cs) line h =
-    rw (
-      ← h.count,
-      ← h.box,
-      ← h.height,
-      length_prepared c cs,
-      cells_prepared c cs,
-      double_prepared (c ∷ cs),
-      lt-ltb 0 (suc (length cs)) (omega arith),
-    ) refl
+    let size = length_prepared c cs in
+    let some = cells_prepared c cs in
+    let double = double_prepared (c ∷ cs) in
+    grind (arith, nat_tests)
 
 -- ---- the first fault of the lines
 
