@@ -17,6 +17,9 @@ pub const CHECK: [&str; 4] = ["subttx", "check", "a", "b"];
 /// The same with all that is told.
 pub const CHECK_ALL: [&str; 5] = ["subttx", "check", "--all", "a", "b"];
 
+/// The line of a check of `Hi` and its schedule, of two sendings.
+pub const ACCEPTED: &str = "accepted 51 frames 2 transmissions\n";
+
 /// The words of a schedule by the defaults of its options.
 pub const SCHEDULE: [&str; 4] = ["subttx", "schedule", "a", "b"];
 

@@ -1,16 +1,14 @@
 //! `check`: verdicts on transmissions of `Hi` with one thing changed.
-use crate::answers::{CHECK, assert_fills, assert_prints, assert_tells};
+use crate::answers::{ACCEPTED, CHECK, assert_fills, assert_prints, assert_tells};
 use crate::asserting::assert_same_in;
 use fixtures::{
-    CLOSING, FIRST, HEADER, ROW, SECOND, TEN, file_of_hi, gsi, in_serial_mode, packet_of, push_pes,
-    schedule_of_hi,
+    CLOSING, HEADER, OTHER_HEADER, ROW, SECOND, TEN, file_of_hi, gsi, in_serial_mode, packet_of,
+    push_pes, schedule_of_hi, two_sendings,
 };
 use std::alloc::Global;
 use std::process::Abort;
 use std::test::Fail;
 use sub_io::MemSource;
-
-const ACCEPTED: &str = "accepted 51 frames 2 transmissions\n";
 
 // Asserts the line of a check of the subtitle file of `Hi` and these bytes.
 fn assert_judges(rt: &(impl Abort + Alloc<A = Global>), pes: &[u8], want: &str) {
@@ -31,6 +29,13 @@ fn checks_a_programme_without_subtitles(rt: HostRuntime) -> Result<(), Fail> {
     let accepted = "accepted 1 frames 1 transmissions\n";
     assert_tells(&rt, &CHECK, &gsi(), pes.as_slice(), accepted);
     assert_tells(&rt, &CHECK, &gsi(), &[], "refused 60 Empty\n");
+    assert_tells(
+        &rt,
+        &CHECK,
+        &gsi(),
+        &[0, 0, 1],
+        "refused 30 Truncated pes 0\n",
+    );
     Ok(())
 }
 
@@ -132,7 +137,7 @@ fn judges_every_other_value_of_a_byte(rt: HostRuntime) {
 }
 
 #[test]
-fn takes_the_length_of_a_longer_packet(rt: HostRuntime) {
+fn takes_the_length_of_a_longer_pes_packet(rt: HostRuntime) {
     let mut pes = schedule_of_hi();
     (pes[4], pes[5]) = (0x01, 0x6A);
     // The fourth unit begins with 00 00.
@@ -140,61 +145,26 @@ fn takes_the_length_of_a_longer_packet(rt: HostRuntime) {
 }
 
 #[test]
-fn refuses_an_end_too_early_and_a_frame_twice(rt: HostRuntime) -> Result<(), Fail> {
-    assert_judges(&rt, &FIRST, "refused 74 Late frame 10:00:00:00\n");
-    let mut twice = Vec::new(rt.alloc());
-    twice.extend_from_slice(&schedule_of_hi())?;
-    twice.extend_from_slice(&schedule_of_hi())?;
-    assert_judges(&rt, twice.as_slice(), "refused 62 Order pes 2\n");
-    Ok(())
-}
-
-#[rattlefmt::skip]
-#[test]
-fn reads_a_schedule_by_other_options(rt: HostRuntime) -> Result<(), Fail> {
-    // words, and the line as the last of them
-    let rows: [&[&str]; 7] = [
-        &["subttx", "check", "a", "b", "--every", "50", ACCEPTED],
-        &["subttx", "check", "a", "b", "--every", "49", "refused 73 Gap frame 10:00:01:24\n"],
-        &["subttx", "check", "a", "b", "--every", "25", "refused 73 Gap frame 10:00:01:00\n"],
-        &["subttx", "check", "a", "b", "--page", "100", NO_HEADER],
-        &["subttx", "check", "a", "b", "--origin", "1", "refused 61 OffFrame pes 0\n"],
-        // frame 0 is sent a frame later, and a frame earlier
-        &["subttx", "check", "a", "b", "--origin", "3600",
-            "refused 72 Content frame 09:59:59:24 row 22 column 16\n"],
-        &["subttx", "check", "a", "b", "--origin", "8589930992",
-            "refused 63 Early frame 10:00:00:01\n"],
-    ];
-    for row in rows {
-        let (want, words) = row.split_last().ok_or("a row")?;
-        assert_tells(&rt, words, &file_of_hi(), &schedule_of_hi(), want);
-    }
-    Ok(())
-}
-
-// Asserts the line of a check of packets at 10:00:00:00, and others two seconds later.
-fn assert_judges_sent(
-    rt: &(impl Abort + Alloc<A = Global>),
-    first: &[[u8; 42]],
-    last: &[[u8; 42]],
-    want: &str,
-) -> Result<(), Fail> {
-    let mut pes = Vec::new(rt.alloc());
-    push_pes(&mut pes, TEN, first)?;
-    push_pes(&mut pes, TEN + 50, last)?;
-    assert_judges(rt, pes.as_slice(), want);
-    Ok(())
+fn asks_for_a_header_in_as_many_frames_as_the_bound(rt: HostRuntime) {
+    let (stl, pes) = (file_of_hi(), schedule_of_hi());
+    let gap = "refused 73 Gap frame 10:00:01:24\n";
+    let words = ["subttx", "check", "a", "b", "--every", "50"];
+    assert_tells(&rt, &words, &stl, &pes, ACCEPTED);
+    let words = ["subttx", "check", "a", "b", "--every", "49"];
+    assert_tells(&rt, &words, &stl, &pes, gap);
 }
 
 #[test]
 fn hears_a_header_of_another_page_by_its_mode(rt: HostRuntime) -> Result<(), Fail> {
-    let other = packet_of(&[0x02, 0x15, 0x15, 0x15, 0x15, 0x15, 0x15, 0x15, 0x15, 0x15]);
-    let sent = [HEADER, other, ROW, CLOSING];
-    assert_judges_sent(&rt, &sent, &[HEADER, CLOSING], ACCEPTED)?;
+    let sent = [HEADER, OTHER_HEADER, ROW, CLOSING];
+    let pes = two_sendings(rt.alloc(), &sent, &[HEADER, CLOSING])?;
+    assert_judges(&rt, pes.as_slice(), ACCEPTED);
     let (header, closing) = (in_serial_mode(&HEADER), in_serial_mode(&CLOSING));
-    let sent = [header, in_serial_mode(&other), ROW, closing];
+    let sent = [header, in_serial_mode(&OTHER_HEADER), ROW, closing];
+    let pes = two_sendings(rt.alloc(), &sent, &[header, closing])?;
     let refused = "refused 72 Content frame 10:00:00:00 row 22 column 16\n";
-    assert_judges_sent(&rt, &sent, &[header, closing], refused)
+    assert_judges(&rt, pes.as_slice(), refused);
+    Ok(())
 }
 
 #[test]
@@ -206,7 +176,8 @@ fn compares_packets_of_one_row(rt: HostRuntime) -> Result<(), Fail> {
     let enhanced = "refused 70 Enhancement frame 10:00:00:00 packet 2\n";
     for (packet, want) in [(ROW, ACCEPTED), (other, changed), (enhancement, enhanced)] {
         let sent = [HEADER, ROW, packet, CLOSING];
-        assert_judges_sent(&rt, &sent, &[HEADER, CLOSING], want)?;
+        let pes = two_sendings(rt.alloc(), &sent, &[HEADER, CLOSING])?;
+        assert_judges(&rt, pes.as_slice(), want);
     }
     Ok(())
 }

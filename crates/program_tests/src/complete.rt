@@ -1,14 +1,12 @@
 //! Complete pages, asked for by `--complete`, and pages that are spread over frames.
-use crate::answers::{CHECK, assert_tells};
+use crate::answers::{ACCEPTED, CHECK, assert_tells};
 use fixtures::{
-    CLOSING, FIRST, HEADER, ROW, TEN, block, file_of, file_of_hi, head, in_serial_mode, packet_of,
-    push_pes, row_of, schedule_of_hi,
+    CLOSING, FIRST, HEADER, OTHER_HEADER, ROW, TEN, TWO_ROWS, block, file_of, file_of_hi, head,
+    in_serial_mode, push_pes, row_of, schedule_of_hi, two_sendings,
 };
 use std::alloc::Global;
 use std::process::Abort;
 use std::test::Fail;
-
-const ACCEPTED: &str = "accepted 51 frames 2 transmissions\n";
 
 const OPEN: &str = "refused 77 Incomplete frame 10:00:00:00\n";
 
@@ -60,48 +58,23 @@ fn tells_an_open_page_before_an_early_end_and_a_gap_before_it(rt: HostRuntime) {
     assert_tells(&rt, &words, &file_of_hi(), &schedule_of_hi(), gap);
 }
 
-// Asserts the lines of checks of packets at 10:00:00:00 and others two seconds later.
-fn assert_checks_sent(
-    rt: &(impl Abort + Alloc<A = Global>),
-    first: &[[u8; 42]],
-    last: &[[u8; 42]],
-    plain: &str,
-    complete: &str,
-) -> Result<(), Fail> {
-    let mut pes = Vec::new(rt.alloc());
-    push_pes(&mut pes, TEN, first)?;
-    push_pes(&mut pes, TEN + 50, last)?;
-    assert_checks(rt, &file_of_hi(), pes.as_slice(), plain, complete);
-    Ok(())
-}
-
 #[test]
 fn counts_a_header_that_ends_the_page_alone(rt: HostRuntime) -> Result<(), Fail> {
+    let (stl, alloc) = (file_of_hi(), rt.alloc());
     // a header of page 100 after the row, in parallel mode and in serial mode
-    let other = packet_of(&[0x02, 0x15, 0x15, 0x15, 0x15, 0x15, 0x15, 0x15, 0x15, 0x15]);
-    assert_checks_sent(
-        &rt,
-        &[HEADER, ROW, other],
-        &[HEADER, CLOSING],
-        ACCEPTED,
-        OPEN,
-    )?;
-    let (header, other) = (in_serial_mode(&HEADER), in_serial_mode(&other));
-    assert_checks_sent(
-        &rt,
-        &[header, ROW, other],
-        &[header, other],
-        ACCEPTED,
-        ACCEPTED,
-    )?;
+    let sent = [HEADER, ROW, OTHER_HEADER];
+    let pes = two_sendings(alloc, &sent, &[HEADER, CLOSING])?;
+    assert_checks(&rt, &stl, pes.as_slice(), ACCEPTED, OPEN);
+    let (header, other) = (in_serial_mode(&HEADER), in_serial_mode(&OTHER_HEADER));
+    let pes = two_sendings(alloc, &[header, ROW, other], &[header, other])?;
+    assert_checks(&rt, &stl, pes.as_slice(), ACCEPTED, ACCEPTED);
     // a header of the page after the closing one
     let again = [HEADER, ROW, CLOSING, HEADER, ROW];
+    let pes = two_sendings(alloc, &again, &[HEADER, CLOSING])?;
     let three = "accepted 51 frames 3 transmissions\n";
-    assert_checks_sent(&rt, &again, &[HEADER, CLOSING], three, OPEN)
+    assert_checks(&rt, &stl, pes.as_slice(), three, OPEN);
+    Ok(())
 }
-
-// The text `A` two rows above `B`, both of double height.
-const TWO_ROWS: [u8; 6] = [0x0D, 0x41, 0x8A, 0x8A, 0x0D, 0x42];
 
 #[test]
 fn judges_a_page_that_is_spread_over_two_frames(rt: HostRuntime) -> Result<(), Fail> {

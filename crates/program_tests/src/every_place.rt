@@ -1,5 +1,5 @@
 //! `check --all`: all that is told of a transmission, one line after another.
-use crate::answers::{CHECK, assert_all, assert_tells};
+use crate::answers::{ACCEPTED, CHECK, assert_all, assert_tells};
 use crate::asserting::assert_same_in;
 use fixtures::{
     CLOSING, HEADER, ROW, TEN, file_of_hi, packet_of, push_pes, row_of, schedule_of_hi,
@@ -27,8 +27,8 @@ fn assert_told(
 #[test]
 fn tells_all_of_a_schedule_read_by_other_options(rt: HostRuntime) -> Result<(), Fail> {
     let rows: [&[&str]; 8] = [
-        &["accepted 51 frames 2 transmissions\n"],
-        &["--complete", "accepted 51 frames 2 transmissions\n"],
+        &[ACCEPTED],
+        &["--complete", ACCEPTED],
         &["--every", "25",
             "refused 73 Gap frame 10:00:01:00\n\
             ended 73 Gap frame 10:00:01:24\n\

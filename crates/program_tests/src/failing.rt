@@ -1,23 +1,107 @@
-//! `check` where a source fails, gives a byte at a time, or never ends.
-use crate::answers::{CHECK, assert_prints};
+//! Sources that fail at one call, give a byte at a time, or never end: the line names the block or
+//! the PES packet of the byte that was asked for, or tells a fault that was found before.
+use crate::answers::{ACCEPTED, CHECK, SCHEDULE, answer_words, assert_prints};
 use crate::asserting::{assert_same, assert_same_in};
-use fixtures::{Counting, Drip, Endless, FIRST, file_of_hi, gsi, schedule_of_hi};
+use fixtures::{
+    Counting, Drip, Endless, FIRST, SECOND, file_of_hi, file_of_three, gsi, schedule_of_hi,
+};
 use std::alloc::Global;
 use std::process::Abort;
-use sub_io::{FailAt, MemSource, Source};
+use sub_answer::Status;
+use sub_io::{FailAt, MemSink, MemSource, Source};
 
-// Asserts the line of a check of `Hi` and its schedule whose sources give a byte a pull and fail
-// at these pulls. Gives how often each was pulled and failed.
+// What is told of a subtitle file whose source fails at the call of this number. A call gives the
+// GSI block or a TTI block, and the last one is at the end.
+const BLOCKS: [&[u8]; 5] = [
+    b"fault 26 Read block 0\n",
+    b"fault 26 Read block 1\n",
+    b"fault 26 Read block 2\n",
+    b"fault 26 Read block 3\n",
+    b"fault 26 Read block 4\n",
+];
+
+// The same of a PES file. A call gives a PES packet.
+const PACKETS: [&[u8]; 4] = [
+    b"fault 41 Read pes 0\n",
+    b"fault 41 Read pes 1\n",
+    b"fault 41 Read pes 2\n",
+    b"fault 41 Read pes 3\n",
+];
+
+// Asserts what is told last of a file whose source fails at each call in turn: the fault of that
+// call, and from the call on at which a fault of the file is found before it, that one.
+fn assert_tells_last<'a>(
+    rt: &(impl Abort + Alloc<A = Global>),
+    words: &'a [&'a str],
+    bytes: &[u8],
+    reads: &[&[u8]],
+    found: usize,
+    refusal: &[u8],
+) {
+    for call in 0..reads.len() {
+        let mut first = FailAt::new(MemSource::new(bytes), call as u64);
+        let mut second = MemSource::new(&[]);
+        let mut file = MemSink::new(&mut []);
+        let mut room = [0; 1024];
+        let mut out = MemSink::new(&mut room);
+        let alloc = rt.alloc();
+        let given = answer_words(alloc, words, &mut first, &mut second, &mut file, &mut out);
+        let (want, status) = if call < found {
+            (reads[call], Status::Fault)
+        } else {
+            (refusal, Status::Refused)
+        };
+        assert!(rt; out.written().ends_with(want), "{words:?}, call {call}");
+        assert_same_in(rt, &given, &status, &(words, call));
+    }
+}
+
+#[test]
+fn a_reader_of_subtitles_names_the_block_or_tells_a_fault_before(rt: HostRuntime) {
+    let show = ["subttx", "show", "a.stl"];
+    let good = file_of_three(2, 0);
+    assert_tells_last(&rt, &show, &good, &BLOCKS, 5, b"");
+    assert_tells_last(&rt, &SCHEDULE, &good, &BLOCKS, 5, b"");
+    let cumulative = file_of_three(2, 1);
+    let refused = b"refused 16 Cumulative block 2\n";
+    assert_tells_last(&rt, &show, &cumulative, &BLOCKS, 3, refused);
+    let early = file_of_three(1, 0);
+    let refused = b"refused 57 Overlap block 2\n";
+    assert_tells_last(&rt, &SCHEDULE, &early, &BLOCKS, 3, refused);
+}
+
+#[test]
+fn a_reader_of_pes_packets_names_the_pes_packet_or_tells_a_fault_before(rt: HostRuntime) {
+    let mut good = [0; 552];
+    good[..184].copy_from_slice(&FIRST);
+    good[184..368].copy_from_slice(&SECOND);
+    good[368..].copy_from_slice(&FIRST);
+    let mut wrong = good;
+    wrong[184] = 1;
+    let packets = ["subttx", "packets", "a.pes"];
+    let start = b"refused 31 Start pes 1\n";
+    assert_tells_last(&rt, &packets, &good, &PACKETS, 4, b"");
+    assert_tells_last(&rt, &packets, &wrong, &PACKETS, 2, start);
+    let listen = ["subttx", "listen", "a.pes", "--at", "10:00:04:00"];
+    // The third PES packet is not after the second.
+    let order = b"refused 62 Order pes 2\n";
+    assert_tells_last(&rt, &listen, &good, &PACKETS, 3, order);
+    assert_tells_last(&rt, &listen, &wrong, &PACKETS, 2, start);
+}
+
+// Asserts the line of a check of `Hi` and these bytes whose sources give a byte a pull and fail at
+// these pulls. Gives how often each was pulled and failed.
 fn assert_fails(
     rt: &(impl Abort + Alloc<A = Global>),
+    pes: &[u8],
     stl_pull: u64,
     pes_pull: u64,
     want: &str,
 ) -> (u64, u64, u64, u64) {
-    let (stl, pes) = (file_of_hi(), schedule_of_hi());
+    let stl = file_of_hi();
     let inner = FailAt::new(Drip { rest: &stl }, stl_pull);
     let mut stl = Counting { inner, pulls: 0 };
-    let inner = FailAt::new(Drip { rest: &pes }, pes_pull);
+    let inner = FailAt::new(Drip { rest: pes }, pes_pull);
     let mut pes = Counting { inner, pulls: 0 };
     assert_prints(rt, &CHECK, &mut stl, &mut pes, &[], want.as_bytes());
     (stl.pulls, stl.failures(), pes.pulls, pes.failures())
@@ -25,16 +109,17 @@ fn assert_fails(
 
 #[test]
 fn tells_the_pes_packet_of_a_failing_pull(rt: HostRuntime) {
+    let pes = schedule_of_hi();
     // 368 pulls give a byte each, and one the end. The first pull, the one after the last, line
     for (begin, end, want) in [
         (0, 184, "fault 41 Read pes 0\n"),
         (184, 368, "fault 41 Read pes 1\n"),
         (368, 369, "fault 41 Read pes 2\n"),
-        (369, 370, "accepted 51 frames 2 transmissions\n"),
+        (369, 370, ACCEPTED),
     ] {
         for k in begin..end {
             // 1152 pulls of the subtitle source give a byte each, and one the end.
-            let counts = assert_fails(&rt, 1153, k, want);
+            let counts = assert_fails(&rt, &pes, 1153, k, want);
             let fails = u64::from(k < 369);
             assert_same_in(&rt, &counts, &(1153, 0, (k + 1).min(369), fails), &k);
         }
@@ -42,7 +127,18 @@ fn tells_the_pes_packet_of_a_failing_pull(rt: HostRuntime) {
 }
 
 #[test]
+fn tells_a_broken_rule_before_the_pull_that_fails_after_it(rt: HostRuntime) {
+    let mut pes = schedule_of_hi();
+    pes[98] ^= 1; // a bit of the row's first text byte
+    let even = "refused 68 Parity frame 10:00:00:00 packet 1\n";
+    for (pull, want) in [(183, "fault 41 Read pes 0\n"), (184, even), (368, even)] {
+        assert_fails(&rt, &pes, 1153, pull, want);
+    }
+}
+
+#[test]
 fn tells_the_block_of_a_failing_pull(rt: HostRuntime) {
+    let pes = schedule_of_hi();
     // 1152 pulls give a byte each, and one the end. The first pull, the one after the last, line
     for (begin, end, want) in [
         (0, 1024, "fault 26 Read block 0\n"),
@@ -51,7 +147,7 @@ fn tells_the_block_of_a_failing_pull(rt: HostRuntime) {
     ] {
         for k in begin..end {
             // The PES source would fail too.
-            let counts = assert_fails(&rt, k, 0, want);
+            let counts = assert_fails(&rt, &pes, k, 0, want);
             assert_same_in(&rt, &counts, &(k + 1, 1, 0, 0), &k);
         }
     }
@@ -64,7 +160,7 @@ fn ends_on_sources_that_do_not(rt: HostRuntime) {
         (&[], &[0; 64], b"refused 11 Format block 0\n"),
         (
             &gsi(),
-            &[1; 128],
+            &[1; 128], // a comment
             b"refused 25 TooManyBlocks block 100000\n",
         ),
     ];

@@ -18,8 +18,6 @@ mod every_fault;
 #[cfg(test)]
 mod every_place;
 #[cfg(test)]
-mod failed_reads;
-#[cfg(test)]
 mod failing;
 #[cfg(test)]
 mod listen;

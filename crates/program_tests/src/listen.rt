@@ -170,7 +170,7 @@ fn tells_faults_of_a_file_as_far_as_it_is_read(rt: HostRuntime) -> Result<(), Fa
     twice.extend_from_slice(pes.as_slice())?;
     let cut = pes.as_slice().get(..194).ok_or("a cut file")?;
     let (pes, twice) = (pes.as_slice(), twice.as_slice());
-    // the packet after the time, and not read so far
+    // the PES packet after the time, and not read so far
     assert_hears(
         &rt,
         cut,
@@ -206,7 +206,7 @@ fn calls_no_device_after_its_failure_or_the_time(rt: HostRuntime) {
     let pes = schedule_of_hi();
     let words = ["subttx", "listen", "a", "--at", "10:00:00:10"];
     assert_fills(&rt, &words, (&pes, &[]), &[], HI.as_bytes());
-    // The call that fails would give the packet after the second one.
+    // The call that fails would give the PES packet after the second one.
     let mut source = FailAt::new(MemSource::new(&pes), 2);
     assert_prints(
         &rt,

@@ -21,7 +21,7 @@ const LINES: &[u8] = b"pes 0 pts 3240000000\n\
     2020202020202020202020202020202020202020202020202020202020202020\n";
 
 #[test]
-fn lists_the_whole_packets_of_a_cut_file(rt: HostRuntime) {
+fn lists_the_whole_pes_packets_of_a_cut_file(rt: HostRuntime) {
     let pes = schedule_of_hi();
     let (first, _) = LINES.split_at(360);
     // the first length and the one after the last, the lines before the last, the last

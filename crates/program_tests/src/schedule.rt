@@ -1,7 +1,9 @@
 //! `schedule`: what is written and printed of subtitle files, and that `check` accepts it.
-use crate::answers::{CHECK, SCHEDULE, assert_tells, schedule_of};
+use crate::answers::{ACCEPTED, CHECK, SCHEDULE, assert_tells, schedule_of};
 use crate::asserting::{assert_same, assert_same_in};
-use fixtures::{HEAD, HI, TEN, block, file_of, file_of_hi, file_of_two, gsi, head, schedule_of_hi};
+use fixtures::{
+    HEAD, HI, TEN, TWO_ROWS, block, file_of, file_of_hi, file_of_two, gsi, head, schedule_of_hi,
+};
 use std::alloc::Global;
 use std::process::Abort;
 use std::test::Fail;
@@ -25,15 +27,11 @@ fn assert_schedules<'a>(
 
 const WRITTEN: &str = "written 2 transmissions\n";
 
-const ACCEPTED: &str = "accepted 51 frames 2 transmissions\n";
-
 #[test]
 fn schedules_one_subtitle(rt: HostRuntime) -> Result<(), Fail> {
     let hi = file_of_hi();
     let no_cells = file_of(&block(&HEAD, &[]));
-    // `A` two rows above `B`, both of double height
-    let text = [0x0D, 0x41, 0x8A, 0x8A, 0x0D, 0x42];
-    let rows = file_of(&block(&head(TEN, TEN + 50, 20), &text));
+    let rows = file_of(&block(&head(TEN, TEN + 50, 20), &TWO_ROWS));
     let text = b"A\x8AA\x8AA\x8AA\x8AA\x8AA\x8AA\x8AA\x8AA\x8AA\x8AA\x8AA\x8A\
         A\x8AA\x8AA\x8AA\x8AA\x8AA\x8AA\x8AA\x8AA\x8AA\x8AA";
     let all_rows = file_of(&block(&head(TEN, TEN + 50, 1), text));
@@ -90,14 +88,30 @@ fn refuses_files(rt: HostRuntime) {
     let later = block(&head(TEN + 50, TEN + 100, 22), &HI);
     let overlap = file_of_two(&block(&head(TEN, TEN + 51, 22), &HI), &later);
     let before = file_of_two(&hi, &block(&head(TEN - 90_000, TEN + 100, 22), &HI));
-    let control = file_of(&block(&HEAD, &[0x0E]));
+    // The order is told before the text, the text before a later block.
+    let early = block(&head(TEN - 90_000, TEN - 50, 22), &[0x0E]);
+    let control = block(&HEAD, &[0x0E]);
+    let character = block(&HEAD, &[0xC2, 0x65]);
+    let low = block(&head(TEN, TEN + 50, 24), &[0x0E]);
     let mut cumulative = file_of_two(&hi, &later);
     cumulative[1156] = 1;
+    let mut open = file_of_two(&hi, &later);
+    open[1155] = 0x00; // EBN
     for (file, want) in [
-        (&overlap[..], "refused 57 Overlap block 2\n"),
+        (&overlap, "refused 57 Overlap block 2\n"),
         (&before, "refused 56 OutOfOrder block 2\n"),
-        (&control, "refused 51 Control block 1 at 0\n"),
+        (&file_of_two(&hi, &early), "refused 56 OutOfOrder block 2\n"),
+        (
+            &file_of_two(&control, &early),
+            "refused 51 Control block 1 at 0\n",
+        ),
+        (
+            &file_of_two(&character, &hi),
+            "refused 50 Character block 1 at 0\n",
+        ),
+        (&file_of_two(&low, &hi), "refused 19 Row block 1\n"),
         (&cumulative, "refused 16 Cumulative block 2\n"),
+        (&open, "refused 24 Unfinished block 2\n"),
     ] {
         assert_tells(&rt, &SCHEDULE, file, &[], want);
         assert_tells(&rt, &CHECK, file, &[], want);

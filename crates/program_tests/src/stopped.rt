@@ -1,6 +1,6 @@
 //! `check --all` where a device fails, or gives no end: what was found before is told, and last of
 //! all the fault, where the output takes it.
-use crate::answers::{CHECK_ALL, answer_words, assert_fills, assert_prints, first_lines};
+use crate::answers::{ACCEPTED, CHECK_ALL, answer_words, assert_fills, assert_prints, first_lines};
 use crate::asserting::{assert_same, assert_same_in};
 use crate::every_fault::OF_FIVE;
 use fixtures::{Counting, Drip, Endless, FIRST, file_of_five, file_of_hi, schedule_of_hi};
@@ -24,7 +24,7 @@ fn fills_an_output_that_has_less_room(rt: HostRuntime) -> Result<(), Fail> {
     let (stl, pes) = (file_of_hi(), schedule_of_hi());
     let lines = format!(in rt.alloc(); "{AT_FIRST}{AT_SECOND}2 faults\n")?;
     assert_fills(&rt, &PAGE_100, (&stl, &pes), &[], lines.as_bytes());
-    let accepted = b"accepted 51 frames 2 transmissions\n";
+    let accepted = ACCEPTED.as_bytes();
     assert_fills(&rt, &CHECK_ALL, (&stl, &pes), &[], accepted);
     let stl = file_of_five(rt.alloc())?;
     let lines = format!(in rt.alloc(); "{OF_FIVE}4 faults\n")?;

@@ -8,8 +8,6 @@ mod asserting;
 #[cfg(test)]
 mod buffers;
 #[cfg(test)]
-mod checks;
-#[cfg(test)]
 mod closing;
 #[cfg(test)]
 mod compared_packets;
@@ -19,12 +17,6 @@ mod devices;
 mod drawings;
 #[cfg(test)]
 mod dropped_rows;
-#[cfg(test)]
-mod events;
-#[cfg(test)]
-mod every_fault;
-#[cfg(test)]
-mod failed_reads;
 #[cfg(test)]
 mod libzvbi;
 #[cfg(test)]
@@ -41,5 +33,7 @@ mod programmes;
 mod receivers;
 #[cfg(test)]
 mod schedules;
+#[cfg(test)]
+mod stopping;
 #[cfg(test)]
 mod subtitle_files;

@@ -1,43 +1,13 @@
-//! Codes, packets and page numbers.
+//! Packets, page numbers, and codes of which libzvbi printed no table.
 use crate::asserting::{assert_same, assert_same_in};
 use bitflags::Flags;
 use fixtures::HEADER;
-use ttx_packet::{
-    Control, Header, Packet, PageId, ham, is_odd, is_word, mirror, mirrored, par, unham,
-};
-
-#[test]
-fn decodes_hamming_8_4(rt: HostRuntime) {
-    // byte, number
-    for (byte, want) in [
-        (0x15, Some(0)), // the code word of 0
-        (0x14, Some(0)), // P1 wrong: corrected
-        (0xD1, Some(8)), // P1 wrong in the code word of 8
-        (0x16, None), // two bits wrong: refused
-    ] {
-        assert_same_in(&rt, &unham(byte), &want, &byte);
-    }
-    let mut nothing = 0u16;
-    for byte in 0..=255u8 {
-        if unham(byte).is_none() {
-            nothing = nothing.saturating_add(1);
-        }
-    }
-    assert_same(&rt, &nothing, &112);
-}
+use ttx_packet::{Control, Header, Packet, PageId, ham, is_odd, is_word, mirror, mirrored};
 
 #[test]
 fn codes_hamming_8_4(rt: HostRuntime) {
     assert_same(&rt, &ham(8), &0xD0);
     assert!(rt; is_word(0xD0) && !is_word(0xD1));
-}
-
-#[test]
-fn mirrors_bytes(rt: HostRuntime) {
-    // byte, mirrored
-    for (byte, want) in [(0x27, 0xE4), (0x15, 0xA8), (0xD0, 0x0B)] {
-        assert_same_in(&rt, &mirror(byte), &want, &byte);
-    }
 }
 
 // The plain form of `mirrored`, byte by byte.
@@ -62,16 +32,6 @@ fn mirrors_42_bytes_as_the_plain_form(rt: HostRuntime) {
     assert_same(&rt, &mirrored(&places), &plain_mirrored(&places));
     assert_same(&rt, &mirrored(&places)[1], &0x80);
     assert_same(&rt, &mirrored(&places)[41], &0x94);
-}
-
-#[test]
-fn makes_odd_bytes(rt: HostRuntime) {
-    // code, byte
-    for (code, want) in [(0x20, 0x20), (0x41, 0xC1), (0x0A, 0x8A), (0x0D, 0x0D)] {
-        assert_same_in(&rt, &par(code), &want, &code);
-        assert!(rt; is_odd(want));
-    }
-    assert!(rt; !is_odd(0xA0));
 }
 
 #[test]

@@ -1,9 +1,9 @@
-//! Subtitle files and the programmes that they give; files and memory that are refused.
+//! Subtitle files and the programmes that they give; memory that is refused. Files that are refused
+//! are tested by the lines that the program prints.
 use crate::asserting::{assert_same, assert_same_in};
 use fixtures::{HEAD, HI, TEN, block, file_of_two, gsi, head};
 use linked_list_allocator::LocalHeap;
 use std::test::Fail;
-use stl_file::StlFault;
 use stl_rows::{LoadFault, LoadFaultKind, National, RowFault, RowFaultKind, load, load_in};
 use sub_io::MemSource;
 use ttx_page::Page;
@@ -54,36 +54,6 @@ fn loads_a_file_without_subtitles(rt: HostRuntime) -> Result<(), Fail> {
     assert_same(&rt, &programme.next_edge(0), &None);
     assert_same(&rt, &programme.due_page(0), &Page::blank());
     Ok(())
-}
-
-#[rattlefmt::skip]
-#[test]
-fn refuses_files(rt: HostRuntime) {
-    let hi = block(&HEAD, &HI);
-    let overlap = block(&head(TEN + 25, TEN + 100, 22), &HI);
-    // The order is told before the text, the text before a later block.
-    let early = block(&head(TEN - 90_000, TEN - 50, 22), &[0x0E]);
-    let control = block(&HEAD, &[0x0E]);
-    let character = block(&HEAD, &[0xC2, 0x65]);
-    let low = block(&head(TEN, TEN + 50, 24), &[0x0E]);
-    let mut open = head(TEN + 50, TEN + 100, 22);
-    open[3] = 0x00; // EBN
-    let open = block(&open, &HI);
-    let file = |kind| LoadFaultKind::File(kind);
-    let row = |kind, at| LoadFaultKind::Row(RowFault { kind, at });
-    let cases: [(&[u8; 128], &[u8; 128], u32, LoadFaultKind); 6] = [
-        (&hi, &overlap, 2, LoadFaultKind::Overlap),
-        (&hi, &early, 2, LoadFaultKind::OutOfOrder),
-        (&control, &early, 1, row(RowFaultKind::Control, 0)),
-        (&character, &hi, 1, row(RowFaultKind::Character, 0)),
-        (&low, &hi, 1, file(StlFault::Row)),
-        (&hi, &open, 2, file(StlFault::Unfinished)),
-    ];
-    for (first, second, block, kind) in cases {
-        let file = file_of_two(first, second);
-        let fault = load(rt.alloc(), &mut MemSource::new(&file), National::English).err();
-        assert_same_in(&rt, &fault, &Some(LoadFault { block, kind }), &block);
-    }
 }
 
 #[test]

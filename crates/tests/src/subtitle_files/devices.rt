@@ -1,8 +1,9 @@
-//! Sources that give a byte at a time, fail, or never end.
+//! Sources that give a byte at a time, or fail; those that never end are tested by the lines that
+//! the program prints.
 
 use super::files::{a_file, read_all};
 use crate::asserting::{assert_same, assert_same_in};
-use fixtures::{Drip, Endless, gsi};
+use fixtures::Drip;
 use stl_file::{StlFault, StlReader};
 use sub_io::{FailAt, Source};
 
@@ -48,20 +49,4 @@ fn answers_ended_after_a_failure(rt: HostRuntime) {
     assert!(rt; reader.next(&mut source).err() == Some(StlFault::Ended));
     assert!(rt; reader.next(&mut source).err() == Some(StlFault::Ended));
     assert_same(&rt, &(reader.block(), source.failures()), &(1, 1));
-}
-
-#[test]
-fn ends_on_sources_that_do_not(rt: HostRuntime) {
-    let zeroes = read_all(&mut Endless {
-        rest: &[],
-        again: &[0; 128],
-    });
-    assert_same(&rt, &zeroes, &(0, Some(StlFault::Format), 0));
-    // A block of ones is a comment.
-    let front = gsi();
-    let comments = read_all(&mut Endless {
-        rest: &front,
-        again: &[1; 128],
-    });
-    assert_same(&rt, &comments, &(0, Some(StlFault::TooManyBlocks), 100_000));
 }
