@@ -39,7 +39,7 @@ fn tells_a_data_field_that_is_sent_again(rt: HostRuntime) -> Result<(), Fail> {
     Ok(())
 }
 
-/// What is answered to the second packet, where the lowest bit of a byte of it is another.
+/// What is answered to the second PES packet, where the lowest bit of a byte of it is another.
 fn second_answer(rt: &impl Abort, place: usize) -> Result<Compared, PesFault> {
     let mut file = twice()?;
     assert!(rt; place < 184);
@@ -67,7 +67,7 @@ fn compares_bytes_45_to_the_end(rt: HostRuntime) {
     assert_same(&rt, &second_answer(&rt, 183), &other); // the last byte, of stuffing
 }
 
-/// The fault of a first packet with another byte, where the pull after that many bytes fails.
+/// The fault of a first PES packet with another byte, where the pull after that many bytes fails.
 fn fault_before(rt: &impl Abort, place: usize, bytes: u64) -> Result<Compared, PesFault> {
     let mut file = twice()?;
     assert!(rt; place < 184);

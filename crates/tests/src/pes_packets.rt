@@ -20,10 +20,10 @@ fn twice() -> [u8; 368]
 }
 
 #[test]
-fn reads_and_writes_a_schedules_first_packet(rt: HostRuntime) -> Result<(), Fail> {
+fn reads_and_writes_a_schedules_first_pes_packet(rt: HostRuntime) -> Result<(), Fail> {
     let mut source = MemSource::new(&FIRST);
     let mut reader = PesReader::new();
-    let frame = reader.next(&mut source)?.ok_or("a packet is there")?;
+    let frame = reader.next(&mut source)?.ok_or("a PES packet is there")?;
     assert_same(&rt, &frame.pts(), &3_240_000_000);
     assert!(rt; frame.units().len() == 3);
     assert_same(
@@ -42,7 +42,7 @@ fn reads_and_writes_a_schedules_first_packet(rt: HostRuntime) -> Result<(), Fail
 }
 
 #[test]
-fn an_empty_file_has_no_packet(rt: HostRuntime) -> Result<(), Fail> {
+fn an_empty_file_has_no_pes_packet(rt: HostRuntime) -> Result<(), Fail> {
     let mut source = MemSource::new(&[]);
     let mut reader = PesReader::new();
     let mut frame = PesFrame::new(1);
@@ -53,7 +53,7 @@ fn an_empty_file_has_no_packet(rt: HostRuntime) -> Result<(), Fail> {
 }
 
 #[test]
-fn refuses_a_byte_after_the_packets_of_a_day(rt: HostRuntime) {
+fn refuses_a_byte_after_the_pes_packets_of_a_day(rt: HostRuntime) {
     let mut source = Endless {
         rest: &[],
         again: &FIRST,
@@ -87,7 +87,7 @@ fn puts_25_packets_in_seven_payloads(rt: HostRuntime) -> Result<(), Fail> {
     let mut source = MemSource::new(bytes);
     let frame = PesReader::new()
         .next(&mut source)?
-        .ok_or("a packet is there")?;
+        .ok_or("a PES packet is there")?;
     assert_same(&rt, &frame.units().len(), &25);
     for (i, unit) in frame.units().iter().enumerate() {
         let line = if i < 16 { (1, 7 + i) } else { (2, i - 9) };
@@ -103,7 +103,9 @@ fn puts_25_packets_in_seven_payloads(rt: HostRuntime) -> Result<(), Fail> {
 }
 
 #[test]
-fn a_repeated_packet_is_put_with_the_pts_that_was_set_last(rt: HostRuntime) -> Result<(), Fail> {
+fn a_repeated_pes_packet_is_put_with_the_pts_that_was_set_last(
+    rt: HostRuntime,
+) -> Result<(), Fail> {
     let mut packet = RepeatedPacket::of_packets(&[Packet::new(ROW); 25]);
     packet.set_pts(1);
     packet.set_pts(3_240_000_000);
@@ -173,7 +175,7 @@ fn a_failing_push_leaves_a_prefix_and_ends_the_writer(rt: HostRuntime) -> Result
     let mut source = MemSource::new(&FIRST);
     let frame = PesReader::new()
         .next(&mut source)?
-        .ok_or("a packet is there")?;
+        .ok_or("a PES packet is there")?;
     for k in 0..=184u64 {
         let mut sink = FailAt::new(Trickle, k);
         let mut writer = PesWriter::new();
