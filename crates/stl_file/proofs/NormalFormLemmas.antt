@@ -1,6 +1,6 @@
 -- The normal form: a file of the same subtitles, and what `normal` answers; main lemmas:
 -- normal_is_file, normal_twice, refused_body, whole_written.
-use Rattle.std.proofs.Common.{◌≡◌, ℕ, false, List, [], ◌∷◌, ◌++◌, length, refl, ap, ◌∙◌, arith}
+use Rattle.std.proofs.Common.{◌≡◌, ℕ, List, [], ◌∷◌, ◌++◌, length, refl, ap, ◌∙◌, arith}
 use Rattle.std.proofs.Common.{length-append, take, drop, Option, Some, None, Ok, Err, subst}
 use Rattle.std.specs.Prelude.{filter}
 use Rattle.std.specs.List.{AllByRecursion}
@@ -12,7 +12,7 @@ use Rattle.stl_file.specs.declared.counts.Counts.{Counts}
 use Rattle.stl_file.specs.declared.fault.StlFault.{StlFault}
 use Rattle.stl_file.specs.declared.fault.NormalFault.{NormalFault}
 use Rattle.stl_file.specs.declared.fault.NormalFault.TheVariants.{Refused, Write}
-use Rattle.stl_file.specs.Tti.{is_kept, most_blocks, is_passed}
+use Rattle.stl_file.specs.Tti.{is_kept, most_blocks}
 use Rattle.stl_file.specs.SubtitleBlocks.{IsBlock, joined, AreLinked, AreBlocksOfEach, IsRest}
 use Rattle.stl_file.specs.Reader.{ReaderValue, outcome_from, outcome_of, opened_at}
 use Rattle.stl_file.specs.Gsi.{with_counts}
@@ -35,13 +35,9 @@ linked_kept : (sgn_is sn_is : ℕ) (g : List (List ℕ))
     → AreLinked sgn_is sn_is g
     → AllByRecursion IsBlock g × (filter is_kept g ≡ g)
 linked_kept sgn_is sn_is [] c = absurd c
-linked_kept sgn_is sn_is (b ∷ []) c =
-    let kept : is_passed b ≡ false = grind (arith, nat_tests) in
-    ((c.0.size, tt), rw kept refl)
+linked_kept sgn_is sn_is (b ∷ []) c = grind (arith, nat_tests)
 linked_kept sgn_is sn_is (b ∷ x ∷ g) c =
-    let kept : is_passed b ≡ false = grind (arith, nat_tests) in
-    let rest = linked_kept sgn_is sn_is (x ∷ g) c.2 in
-    ((c.0.size, rest.0), rw kept (ap (λ (y : List (List ℕ)). b ∷ y) rest.1))
+    let rest = linked_kept sgn_is sn_is (x ∷ g) c.2 in grind (arith, nat_tests)
 
 -- Blocks, one after the other.
 each_append : (xs ys : List (List ℕ))

@@ -291,11 +291,5 @@ takes_passed from to old new l =
       ended = l.ended refl;
     }
 
--- A fault names at most one block more than a file may have. For `next_into`.
-pub after_few : (block : ℕ) (f : StlFault)
-    → block ≤ most_blocks
-    → block_after block f ≤ most_blocks + 1
-after_few block f le = grind arith
-
 -- What bytes that lead to an answer say of it. For `next_into`.
 pub ruleset led = (answers, takes_subtitle, takes_passed, refuses)

@@ -1,7 +1,7 @@
 -- The first question that the bytes of a file fail decides the refusal; main lemmas: refused_gsi,
 -- refused_block.
 use Rattle.std.proofs.Common.{◌≡◌, ℕ, zero, suc, ◌-◌, ◌≤◌, ◌⊎◌, Bool, true, false, List, [], ◌∷◌}
-use Rattle.std.proofs.Common.{length, take, Option, Some, None, Result, Ok, Err, refl, sym, ◌∙◌, ap}
+use Rattle.std.proofs.Common.{length, take, Option, Some, None, Result, Ok, Err, refl, sym, ◌∙◌}
 use Rattle.std.proofs.Common.{inl, inr, arith}
 use Rattle.std.proofs.lemmas.Bool.Decides.{nat_tests}
 use Rattle.std.proofs.lemmas.Slice.Eq.{bytes_eq-Decides}
@@ -45,22 +45,9 @@ ask : {X : Type 0} (P : StlFault → Type 0) (q : StlFault) (qs : List StlFault)
     → Tells bad (P q)
     → (P q → Asks P qs next)
     → Asks P (q ∷ qs) (if bad then Err (q) else next)
-ask P q qs true next test others = record {
-  told = λ f t. elim t [
-    | inl wrong ↦ ap Err (sym wrong.1)
-    | inr later ↦ absurd (test.0 refl later.0)
-  ];
-  taken = λ all. absurd (test.0 refl all.0);
-}
+ask P q qs true next test others = let wrong = test.0 refl in grind arith
 ask P q qs false next test others =
-    let right = test.1 refl in
-    record {
-      told = λ f t. elim t [
-        | inl wrong ↦ absurd (wrong.0 right)
-        | inr later ↦ (others right).told f later.1
-      ];
-      taken = λ all. (others right).taken all.1;
-    }
+    let right = test.1 refl in let rest = others right in grind arith
 
 -- Nothing is asked of what is passed over.
 skip : {X : Type 0} (P : StlFault → Type 0) (qs : List StlFault) (pass : Bool) (step : X)
@@ -77,14 +64,8 @@ given : {X Y : Type 0} (P : StlFault → Type 0) (qs : List StlFault) (r : Resul
     → ((x : X) → IsOk (next (Ok x)))
     → Asks P qs r
     → Asks P qs (next r)
-given P qs (Ok x) next keeps goes h = record {
-  told = λ f t. let never = h.told f t in absurd cc;
-  taken = λ _. goes x;
-}
-given P qs (Err e) next keeps goes h = record {
-  told = λ f t. let told = h.told f t in let same : e ≡ f = cc in keeps e ∙ ap Err same;
-  taken = λ all. let never = h.taken all in absurd cc;
-}
+given P qs (Ok x) next keeps goes h = let value = goes x in grind arith
+given P qs (Err e) next keeps goes h = let fault = keeps e in grind arith
 
 -- ---- the GSI block
 
@@ -224,14 +205,9 @@ told_rest : (n : ℕ) (begun : Option Begun) (x : ℕ) (b : List ℕ) (f : StlFa
     (fault.Truncated ∷ asked_of_block begun (take block_size (x ∷ b))) f
     → outcome_at (suc n) begun (x ∷ b) ≡ fails f (100000 - suc n)
 unfolding outcome_at
-told_rest n begun x b f le few (inl t) =
-    let short : nat_lt (length (x ∷ b)) 128 ≡ true = grind (arith, nat_tests) in
-    let same : 100000 - suc n ≡ 99999 - n = omega arith in
-    rw (short, t.1, same) refl
+told_rest n begun x b f le few (inl t) = grind (arith, nat_tests)
 told_rest n begun x b f le few (inr t) =
-    let whole : nat_lt (length (x ∷ b)) 128 ≡ false = grind (arith, nat_tests) in
-    let same : 100000 - suc n ≡ 99999 - n = omega arith in
-    rw (whole, (step_asked (suc n) begun (x ∷ b) few).told f t.1, same) refl
+    let told = (step_asked (suc n) begun (x ∷ b) few).told f t.1 in grind (arith, nat_tests)
 
 -- Whether there may or not.
 told_block : (room : ℕ) (begun : Option Begun) (bytes : List ℕ) (f : StlFault)
@@ -240,12 +216,8 @@ told_block : (room : ℕ) (begun : Option Begun) (bytes : List ℕ) (f : StlFaul
     → TellsFirst (IsRight room begun bytes) (asked begun bytes) f
     → outcome_at room begun bytes ≡ fails f (named_block room bytes)
 unfolding outcome_at
-told_block room None [] f le few (inl t) = absurd (t.0 refl)
-told_block room None [] f le few (inr t) = absurd t.1
-told_block room (Some o) [] f le few (inl t) = rw t.1 refl
-told_block room (Some o) [] f le few (inr t) = absurd t.1
-told_block zero begun (x ∷ b) f le few (inl t) = rw t.1 refl
-told_block zero begun (x ∷ b) f le few (inr t) = absurd (omega (arith, t.0))
+told_block room begun [] f le few t = grind arith
+told_block zero begun (x ∷ b) f le few t = grind arith
 told_block (suc n) begun (x ∷ b) f le few (inl t) = absurd (t.0 (omega arith))
 told_block (suc n) begun (x ∷ b) f le few (inr t) = told_rest n begun x b f le few t.1
 

@@ -82,6 +82,11 @@ returns-in-Ok-tell_end-clause-told g c = λ bytes e none.
     tells-end (goes_on-start c.args.national (outcome_of bytes)) (Tells-none _)
     (outcome_of-opened bytes _ opened) c.in-Ok-tell_end.ensures.told
 
+pub returns-in-Ok-tell_end-clause-some : goal.returns-in-Ok-tell_end-clause-some
+returns-in-Ok-tell_end-clause-some g c = λ none.
+    of_file-end [] c.in-Err.fault {from = 0} (All-nil (IsToldBy 0)) c.in-Ok-tell_end.ensures.file
+    c.in-Err.ensures.never (Tells-none _) c.in-Ok-tell_end.ensures.told
+
 pub returns-in-Err-tell_end-clause-read : goal.returns-in-Err-tell_end-clause-read
 returns-in-Err-tell_end-clause-read g c = λ is.
     let failed = c.in-Err-tell_end.ensures.read in
