@@ -14,7 +14,7 @@ use Rattle.ttx_page.specs.Page.{Rows}
 use Rattle.sub_check.specs.declared.listening_run.ListenFault.{ListenFault}
 use Rattle.sub_request.specs.declared.listening.Listening.{Listening}
 
--- what is printed of a run of a receiver that was tuned. For `listen`.
+-- What is printed of a run of a receiver that was tuned. For `listen`.
 pub listens_from : (leaves : ℕ → ℕ) (l : Listening) (frames : Transmission)
     → (unread : Option Unread) (told left : Option (List ℕ)) (w : PageIdValue)
     → (old end : Display) (result : Result (Unit {0}) ListenFault) (page : Rows)
@@ -43,7 +43,7 @@ listens_from
       page_is = subst (λ (b : Bool). IfOk result (λ _. IsSeenWhole b end)) asks seen;
     }
 
--- what is answered by what a receiver leaves in a cell whose byte has even parity. For `answer`.
+-- What is answered by what a receiver leaves in a cell whose byte has even parity. For `answer`.
 pub answers_as : {S : Type 0} (leaves left : ℕ → ℕ) (l : Listening) (pes : SourceCall S)
     → (out : SinkCall) (status : Status)
     → leaves ≡ left

@@ -21,14 +21,14 @@ use Rattle.sub_answer.specs.declared.answering.normal.InputFault.TheVariants as 
 
 -- ---- what was written
 
--- a file whose first bytes are a file is one
+-- A file whose first bytes are a file is one.
 first-is_file : (s : List ℕ) (ts : List SubtitleValue)
     → IsFile (take most_read s) (take gsi_size (take most_read s)) ts
     → IsFile s (take gsi_size s) ts
 first-is_file s ts is =
     file_sound s ts (ap subtitles_of (sym (outcome_of-first s)) ∙ (file_complete _ _ ts is).1)
 
--- the bytes that are read decide what all of them do
+-- The bytes that are read decide what all of them do.
 pub answers_first : (s read : List ℕ) (old new : Option (List ℕ)) (answer : Result ℕ NormalFault)
     → read ≡ take most_read s
     → NormalAnswers read old new answer
@@ -58,7 +58,7 @@ answers_first s read old new answer first answers =
 
 -- ---- reading the input
 
--- the next piece goes after those before it
+-- The next piece goes after those before it.
 pub Consumes-next : (x y z : Option (List ℕ)) (n : ℕ) (xs ps vs : List ℕ)
     → vs ≡ xs ++ take n ps
     → Consumes x y xs
@@ -67,7 +67,7 @@ pub Consumes-next : (x y z : Option (List ℕ)) (n : ℕ) (xs ps vs : List ℕ)
 Consumes-next x y z n xs ps vs is p q =
     subst (Consumes x z) (sym is) (Consumes-trans x y z _ _ p q)
 
--- the last pull gave nothing
+-- The last pull gave nothing.
 pub taken-at_end : (x y z : Option (List ℕ)) (n : ℕ) (xs ps : List ℕ)
     → n ≡ 0
     → Consumes x y xs
@@ -93,7 +93,7 @@ taken-at_end x y z n xs ps none p q end few =
         sym (same_Some b bytes e) ∙ p ∙ ap (λ l. xs ++ l) end ∙ append-nil xs in
         sym (ap (take most_read) all ∙ take_all most_read xs few)
 
--- the bytes that were taken, where no more are read
+-- The bytes that were taken, where no more are read.
 pub taken-to_most : (x y : Option (List ℕ)) (xs : List ℕ)
     → Consumes x y xs
     → length xs ≡ most_read
@@ -104,7 +104,7 @@ taken-to_most (Some b) (Some ys) xs p size bytes e =
     let all : bytes ≡ xs ++ ys = sym (same_Some b bytes e) ∙ p in
     sym (ap (take most_read) all ∙ take_at xs ys most_read size)
 
--- memory is wanted for a piece that was taken
+-- Memory is wanted for a piece that was taken.
 pub memory-wanted : (x y z : Option (List ℕ)) (n : ℕ) (xs ps : List ℕ)
     → n ≤ length ps
     → n ≢ 0
@@ -116,7 +116,7 @@ memory-wanted x y z n xs ps room some p q =
     let part = length-take-le n ps room in
     (xs ++ take n ps, Consumes-next x y z n xs ps _ refl p q, omega (arith, long, part, some))
 
--- the block of a byte that could not be read
+-- The block of a byte that could not be read.
 pub block-at : (x y z : Option (List ℕ)) (block : ℕ) (xs : List ℕ)
     → Consumes x y xs
     → Keeps y z

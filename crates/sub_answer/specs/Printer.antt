@@ -1,4 +1,4 @@
--- What a device does that prints a line for each event.
+-- What a device does that prints a line for each event. Private functions alone cite this.
 use Rattle.std.specs.Prelude.{◌≡◌, ℕ, ◌+◌, min, nat_lt, Bool, true, false, List, Option}
 use Rattle.std.specs.Io.KnownBytes.{Appends}
 use Rattle.sub_io.specs.Device.{AppendsPrefix}

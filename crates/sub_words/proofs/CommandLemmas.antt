@@ -26,22 +26,22 @@ use Rattle.sub_request.specs.declared.request.Request.{Request}
 use Rattle.sub_request.specs.declared.request.UsageFault.{UsageFault}
 use Rattle.sub_request.specs.declared.request.UsageFault.TheVariants as fault
 
--- the exactness of the matches is promised of a simple command, as the program's is
+-- The exactness of the matches is promised of a simple command, as the program's is.
 is_simple-subttx : is_simple subttx_app ≡ true
 unfolding subttx_app clap_on_literals
 is_simple-subttx = refl
 
--- the exactness of refusals is promised where no argument has a rule on another, as here
+-- The exactness of refusals is promised where no argument has a rule on another, as here.
 is_free-subttx : is_simple_and_free subttx_app ≡ true
 unfolding subttx_app clap_on_literals
 is_free-subttx = refl
 
--- no words are those of no command
+-- No words are those of no command.
 none-refused : (clap_refusals [] ≢ []) × (are_sound [] ≢ true)
 unfolding clap_refusals are_sound subttx_app clap_on_literals
 none-refused = (λ e. cc, λ e. cc)
 
--- no words at all
+-- No words at all.
 pub no-words : (words : List (Bor (List ℕ)))
     → (length words == 0) ≡ true
     → IsFaultOf (texts_of words) fault.Words
@@ -49,14 +49,14 @@ no-words [] none = none-refused
 no-words (w ∷ ws) none =
     let more : 0 < length (w ∷ ws) = omega arith in absurd (grind (arith, nat_tests))
 
--- words as texts are as many
+-- Words as texts are as many.
 pub some-texts : (words : List (Bor (List ℕ)))
     → (length words == 0) ≡ false
     → texts_of words ≢ []
 some-texts [] some e = cc
 some-texts (w ∷ ws) some e = cc
 
--- a fault of a command's arguments is one of the words
+-- A fault of a command's arguments is one of the words.
 fault-read : (words : List Text) (asked : Result Asked UsageFault) (f : UsageFault)
     → words ≢ []
     → clap_refusals words ≡ []
@@ -69,7 +69,7 @@ fault-read words asked fault.Open some taken is read = cc
 fault-read words asked f some taken is read =
     record { taken = taken; broken = is ∙ ap Some read.0 }
 
--- what the arguments of the words' command are read as
+-- What the arguments of the words' command are read as.
 pub fault-of_read :
     (words : List Text) (asked : Result Asked UsageFault) (result : Result Request UsageFault)
     → words ≢ []
@@ -83,7 +83,7 @@ fault-of_read words asked (Err f) some taken is read =
 
 -- ---- what a parse of the program's command gives
 
--- the matches are exact, since the command is simple
+-- The matches are exact, since the command is simple.
 pub command_in-parsed : (app : App) (words : List Text) (m : ArgMatches)
     → app ≡ subttx_app
     → HasMatchesOf app words m
@@ -93,7 +93,7 @@ command_in-parsed app words m is_program has =
     let P : App → Type 0 = λ a. HasMatchesOf a words m in
     (subst P is_program has is_simple-subttx).1
 
--- a command is among them, since the program wants one
+-- A command is among them, since the program wants one.
 pub has_subcommand-parsed : (c : Command) (m : ArgMatches)
     → app_of c ≡ subttx_app
     → IsParsedFrom c m
@@ -107,7 +107,7 @@ has_subcommand-parsed c m is_program from =
     (from.parsed (from.from.globals ∙ local)).checked.subcommand
     (from.from.needs_subcommand ∙ required)
 
--- an `Ok` comes only where nothing refuses, since no argument has a rule on another
+-- An `Ok` comes only where nothing refuses, since no argument has a rule on another.
 pub refusals-parsed : (app : App) (words : List Text) (m : ArgMatches)
     → app ≡ subttx_app
     → (is_simple_and_free app ≡ true → FailsBy {T = ArgMatches} (fault_of app words) (Ok m))
@@ -117,7 +117,7 @@ refusals-parsed app words m is_program fails =
     let P : App → Type 0 = λ a. is_simple_and_free a ≡ true → fault_of a words ≡ [] in
     subst P is_program fails is_free-subttx
 
--- an error of another kind than memory has a kind that refuses
+-- An error of another kind than memory has a kind that refuses.
 kind_among : (kinds : Kinds) (e : Error)
     → HasKind kinds e
     → kind_of e ≢ OutOfMemory
@@ -127,7 +127,7 @@ kind_among kinds e has other none = elim has [
   | inr among ↦ subst (IsAmong (kind_of e)) none among
 ]
 
--- words that are refused for another cause than memory
+-- Words that are refused for another cause than memory.
 pub IsFaultOf-refused : (app : App) (words : List Text) (e : Error)
     → app ≡ subttx_app
     → (is_simple_and_free app ≡ true → FailsBy {T = ArgMatches} (fault_of app words) (Err e))
@@ -142,7 +142,7 @@ IsFaultOf-refused app words e is_program fails passes other =
       λ sound. other (subst Q is_program passes sound),
     )
 
--- what the command that was met is asked for: its name and its rows stand beside each other
+-- What the command that was met is asked for: its name and its rows stand beside each other.
 pub asked_for-met : {Z : Type 0} (words : List Text) (met : Option (Box SubCommand Z))
     → (name : Text) (rows : List Row)
     → subcommand_rows met ≡ command_in words
@@ -152,5 +152,5 @@ pub asked_for-met : {Z : Type 0} (words : List Text) (met : Option (Box SubComma
 asked_for-met words None name rows is e f = cc
 asked_for-met words (Some sub) name rows is e f = rw (← is) cc
 
--- the value that `clap` gives for an id is the first of its row: for the arguments
+-- The value that `clap` gives for an id is the first of its row: for the arguments.
 pub ruleset values = (first_value-rows)

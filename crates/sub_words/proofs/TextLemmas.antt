@@ -9,12 +9,12 @@ use Rattle.std.specs.Str.Parse.{ParsesUnsigned, digits_value}
 use Rattle.std.proofs.lemmas.Str.Parse.{digits_value_short, numerals_by_value, parse_gives}
 use Rattle.std.proofs.lemmas.Str.Parse.{tells_all_ascii_digits}
 
--- two words for digits alone
+-- Two words for digits alone.
 all_digits : (text : List ℕ) → list_all is_ascii_digit text ≡ all_ascii_digits text
 all_digits [] = refl
 all_digits (c ∷ cs) = ap (λ others. is_ascii_digit c && others) (all_digits cs)
 
--- what `parse` reads of one to ten digits, and its bound
+-- What `parse` reads of one to ten digits, and its bound.
 pub parse-digits : {E : Type 0} (text : List ℕ) (result : Result ℕ E)
     → 1 ≤ length text
     → length text ≤ 10

@@ -11,7 +11,7 @@ pub loop-command-init : goal.loop-command-init
 unfolding subttx_app
 loop-command-init c = search rules
 
--- a fold over what is left of a list goes one step on
+-- A fold over what is left of a list goes one step on.
 fold_more : {A B X : Type 0} (f : B → A → B) (of : X → A) (xs : List X) (i : ℕ) (d : X)
     → (b new all : B)
     → i < length xs
