@@ -9,7 +9,7 @@ use Rattle.std.specs.Io.KnownBytes.{Appends, Keeps, append_known, prepend_known}
 use lib.Seq.{paste, take-add, take-append_seam}
 use Rattle.sub_io.specs.Device.{Pulls}
 
--- the first n of the bytes from a to e, and those after them
+-- The first n of the bytes from a to e, and those after them.
 slice_range-split : (xs : List ℕ) (a e n : ℕ)
     → a + n ≤ e
     → slice_range xs a e ≡ slice_range xs a (a + n) ++ slice_range xs (a + n) e
@@ -21,7 +21,7 @@ slice_range-split xs a e n within =
     ∙ ap (λ l. take n (drop a xs) ++ take (e - (a + n)) l) (drop-drop n a xs)
     ∙ ap (λ k. take k (drop a xs) ++ slice_range xs (a + n) e) (sym first)
 
--- the first n bytes that are held were copied to the front of `to`
+-- The first n bytes that are held were copied to the front of `to`.
 pub held-split : (xs ys copied rest : List ℕ) (a e n : ℕ)
     → ys ≡ xs
     → a + n ≤ e
@@ -34,7 +34,7 @@ held-split xs ys copied rest a e n kept within long same =
     (sym same ∙ sym (take-append_seam copied rest) ∙ ap (λ k. take k (copied ++ rest)) long)
     ∙ ap (λ l. take n (copied ++ rest) ++ slice_range l (a + n) e) (sym kept)
 
--- a pull while no byte is held is one of the source inside
+-- A pull while no byte is held is one of the source inside.
 pub Pulls-past : {E : Type 0} (x y : Option (List ℕ)) (old new to : List ℕ) (r : Result ℕ E)
     → old ≡ []
     → new ≡ []
@@ -43,7 +43,7 @@ pub Pulls-past : {E : Type 0} (x y : Option (List ℕ)) (old new to : List ℕ) 
 Pulls-past x y old new to r none still p =
     rw (none, still, prepend_known-nil x, prepend_known-nil y) p
 
--- the bytes that the sink inside did not take were moved to the front of the room
+-- The bytes that the sink inside did not take were moved to the front of the room.
 held-rest : (room : List ℕ) (n len : ℕ)
     → n ≤ len
     → len ≤ length room
@@ -59,7 +59,7 @@ held-rest room n len some within =
     (sym (take-paste room 0 (drop n room) left (omega arith) fits)
     ∙ ap (λ k. take k (paste room 0 (drop n room) left)) same)
 
--- the sink inside took the first n of the bytes that were held back, and the rest still is
+-- The sink inside took the first n of the bytes that were held back, and the rest still is.
 pub held-moved : (x y : Option (List ℕ)) (old room moved : List ℕ) (n len : ℕ)
     → n ≤ len
     → len ≤ length room

@@ -6,7 +6,7 @@ use Rattle.std.proofs.lemmas.List.{nil_from_length}
 use Rattle.sub_io.specs.Calls.{FillsByPulls, PutsByPushes}
 
 module _ {D : Type 0} (IsPull : D → ℕ → Option ℕ → D → Type 0) where
-  -- a pull that gave bytes, and what follows it
+  -- A pull that gave bytes, and what follows it.
   pub fills-more : (old mid new : D) (lent room n left : ℕ) (ok : Bool)
       → IsPull old lent (Some n) mid
       → lent ≡ room
@@ -18,11 +18,11 @@ module _ {D : Type 0} (IsPull : D → ℕ → Option ℕ → D → Type 0) where
       let then = rw is at rest in
       record { given = n ∷ then.given; pulls = (mid, some, rw whole at pull, then.pulls) }
 
-  -- a full buffer
+  -- A full buffer.
   pub fills-full : (old : D) (room : ℕ) → room ≡ 0 → FillsByPulls IsPull old room true old
   fills-full old room none = record { given = []; pulls = inl (none, refl) }
 
-  -- the end of the source
+  -- The end of the source.
   pub fills-end : (old new : D) (lent room : ℕ)
       → IsPull old lent (Some 0) new
       → lent ≡ room
@@ -31,7 +31,7 @@ module _ {D : Type 0} (IsPull : D → ℕ → Option ℕ → D → Type 0) where
   fills-end old new lent room pull whole some =
       record { given = []; pulls = inr (some, rw whole at pull) }
 
-  -- a failure
+  -- A failure.
   pub fills-failed : (old new : D) (lent room : ℕ)
       → IsPull old lent None new
       → lent ≡ room
@@ -41,7 +41,7 @@ module _ {D : Type 0} (IsPull : D → ℕ → Option ℕ → D → Type 0) where
       record { given = []; pulls = (some, rw whole at pull) }
 
 module _ {D : Type 0} (IsPush : D → List ℕ → Option ℕ → D → Type 0) where
-  -- a push that took bytes, and what follows it
+  -- A push that took bytes, and what follows it.
   pub puts-more : (old mid new : D) (lent bytes : List ℕ) (n at : ℕ) (ok : Bool)
       → IsPush old lent (Some n) mid
       → lent ≡ drop at bytes
@@ -56,7 +56,7 @@ module _ {D : Type 0} (IsPush : D → List ℕ → Option ℕ → D → Type 0) 
         pushes = (mid, omega (arith, some, left), rw whole at push, then.pushes);
       }
 
-  -- no byte is left
+  -- No byte is left.
   pub puts-none : (old : D) (at : ℕ) (bytes : List ℕ)
       → length bytes ≤ at
       → PutsByPushes IsPush old (drop at bytes) true old
@@ -67,7 +67,7 @@ module _ {D : Type 0} (IsPush : D → List ℕ → Option ℕ → D → Type 0) 
         pushes = (nil_from_length (drop at bytes) (omega (arith, over, left)), refl);
       }
 
-  -- a failure
+  -- A failure.
   pub puts-failed : (old new : D) (lent bytes : List ℕ) (at : ℕ)
       → IsPush old lent None new
       → lent ≡ drop at bytes

@@ -15,7 +15,7 @@ use Rattle.sub_io.specs.Device.{AppendsPrefix, Fills, Told, Writes}
 use Rattle.sub_io.specs.Reading.{IfTold}
 use Rattle.sub_io.specs.declared.source.Failed.{Failed}
 
--- the first bytes of a slice whose part from a on was written
+-- The first bytes of a slice whose part from a on was written.
 take-put_mid : (a k n : ℕ) (xs ys : List ℕ)
     → a ≤ length xs
     → n ≤ length ys
@@ -30,7 +30,7 @@ take-put_mid a k n xs ys within fits =
     ∙ ap (λ l. take a xs ++ take n l) back
     ∙ ap (λ l. take a xs ++ l) (take-append-le n ys after fits)
 
--- the next piece that went into the buffer
+-- The next piece that went into the buffer.
 pub Consumes-more : (x y z : Option (List ℕ)) (a k n : ℕ) (xs ys : List ℕ)
     → a ≤ length xs
     → n ≤ length ys
@@ -40,7 +40,7 @@ pub Consumes-more : (x y z : Option (List ℕ)) (a k n : ℕ) (xs ys : List ℕ)
 Consumes-more x y z a k n xs ys within fits p q =
     subst (Consumes x z) (sym (take-put_mid a k n xs ys within fits)) (Consumes-trans x y z _ _ p q)
 
--- the next piece of the bytes that are written
+-- The next piece of the bytes that are written.
 pub Appends-more : (x y z : Option (List ℕ)) (a m n : ℕ) (xs : List ℕ)
     → m ≡ length xs - a
     → Appends x y (take a xs)
@@ -51,7 +51,7 @@ Appends-more x y z a m n xs e p q =
     subst (Appends x z) (ap (λ l. take a xs ++ take n l) whole ∙ sym (take-add a n xs))
     (Appends-trans x y z _ _ p q)
 
--- what a filled buffer says of a source that tells its bytes
+-- What a filled buffer says of a source that tells its bytes.
 pub Told-from_fills : (old new : Option (List ℕ)) (n : ℕ) (buffer : List ℕ)
     → Fills old n new buffer
     → IfTold old (λ bytes. Told bytes n new buffer)
@@ -65,14 +65,14 @@ Told-from_fills (Some xs) (Some ys) n buffer f bytes e =
       ended = f.end;
     }
 
--- the same of a result: the clause `told` of `fill`
+-- The same of a result: the clause `told` of `fill`.
 pub Told-from_result : (old new : Option (List ℕ)) (buffer : List ℕ) (r : Result ℕ Failed)
     → IfOk r (λ n. Fills old n new buffer)
     → IfTold old (λ bytes. IfOk r (λ n. Told bytes n new buffer))
 Told-from_result old new buffer (Ok n) f = Told-from_fills old new n buffer f
 Told-from_result old new buffer (Err e) f = λ bytes is. tt
 
--- what was added of the first of two pieces is a prefix of both: where the first put failed
+-- What was added of the first of two pieces is a prefix of both: where the first put failed.
 pub AppendsPrefix-first : (old new : Option (List ℕ)) (xs ys : List ℕ)
     → AppendsPrefix old new xs
     → AppendsPrefix old new (xs ++ ys)
@@ -81,7 +81,7 @@ AppendsPrefix-first old new xs ys p =
     let same = sym (take-append-le p.0 xs ys room) in
     (p.0, omega (arith, length-append xs ys), subst (Appends old new) same p.2)
 
--- all of the first piece and a prefix of the second: where the second put failed
+-- All of the first piece and a prefix of the second: where the second put failed.
 pub AppendsPrefix-second : (old mid new : Option (List ℕ)) (xs ys : List ℕ)
     → Appends old mid xs
     → AppendsPrefix mid new ys
@@ -92,14 +92,14 @@ AppendsPrefix-second old mid new xs ys p q =
     let same = sym (take-append-add xs ys q.0) in
     (length xs + q.0, omega (arith, length-append xs ys), subst (Appends old new) same whole)
 
--- what was added is a prefix of itself
+-- What was added is a prefix of itself.
 pub AppendsPrefix-whole : (old new : Option (List ℕ)) (xs : List ℕ)
     → Appends old new xs
     → AppendsPrefix old new xs
 AppendsPrefix-whole old new xs p =
     (length xs, le_refl (length xs), subst (Appends old new) (sym (take-length xs)) p)
 
--- a put after one that added all its bytes: what the two together did
+-- A put after one that added all its bytes: what the two together did.
 pub Writes-after : {X E : Type 0} (old mid new : Option (List ℕ)) (xs ys : List ℕ)
     → (result : Result X E)
     → Appends old mid xs
@@ -108,6 +108,6 @@ pub Writes-after : {X E : Type 0} (old mid new : Option (List ℕ)) (xs ys : Lis
 Writes-after old mid new xs ys (Ok value) p q = Appends-trans old mid new xs ys p q
 Writes-after old mid new xs ys (Err fault) p q = AppendsPrefix-second old mid new xs ys p q
 
--- for a function of two or more puts: `using(sub_io::proofs::DeviceLemmas::prefixes)`
+-- For a function of two or more puts: `using(sub_io::proofs::DeviceLemmas::prefixes)`.
 pub ruleset prefixes =
     (AppendsPrefix-first, AppendsPrefix-second, AppendsPrefix-whole, Writes-after)

@@ -9,7 +9,7 @@ use lib.Seq.{take-append-le}
 use Rattle.sub_io.specs.Telling.{KeepsFirst, Tells, TellsInTurn, TellsPrefix, TellsUntilStopped}
 use Rattle.sub_io.specs.Telling.{TellsSome, first_alone}
 
--- one list after another
+-- One list after another.
 in_turn-trans : {A D : Type 0} (IsTold : D → A → D → Type 0) (a b c : D) (xs ys : List A)
     → TellsInTurn IsTold a b xs
     → TellsInTurn IsTold b c ys
@@ -19,7 +19,7 @@ in_turn-trans IsTold a b c (x ∷ xs) ys (mid, first, rest) q =
     (mid, first, in_turn-trans IsTold mid b c xs ys rest q)
 
 module _ {A D : Type 0} {IsTold : D → A → D → Type 0} where
-  -- one list after another
+  -- One list after another.
   pub Tells-trans : (a b c : D) (xs ys : List A)
       → Tells IsTold a b xs
       → Tells IsTold b c ys
@@ -27,15 +27,15 @@ module _ {A D : Type 0} {IsTold : D → A → D → Type 0} where
   Tells-trans a b c xs ys p q =
       record { in_turn = in_turn-trans IsTold a b c xs ys p.in_turn q.in_turn }
 
-  -- nothing was told yet
+  -- Nothing was told yet.
   pub Tells-none : (a : D) → Tells IsTold a a []
   Tells-none a = record { in_turn = refl }
 
-  -- one thing
+  -- One thing.
   pub Tells-one : (a b : D) (x : A) → IsTold a x b → Tells IsTold a b (x ∷ [])
   Tells-one a b x told = record { in_turn = (b, told, refl) }
 
-  -- what was told of the first of two lists is a prefix of both: where the device said stop in it
+  -- What was told of the first of two lists is a prefix of both: where the device said stop in it.
   pub TellsPrefix-first : (old new : D) (xs ys : List A)
       → TellsPrefix IsTold old new xs
       → TellsPrefix IsTold old new (xs ++ ys)
@@ -44,7 +44,7 @@ module _ {A D : Type 0} {IsTold : D → A → D → Type 0} where
       let same = sym (take-append-le p.0 xs ys room) in
       (p.0, omega (arith, length-append xs ys), subst (Tells IsTold old new) same p.2)
 
-  -- all of the first list and a prefix of the second: where the device said stop in the second
+  -- All of the first list and a prefix of the second: where the device said stop in the second.
   pub TellsPrefix-second : (old mid new : D) (xs ys : List A)
       → Tells IsTold old mid xs
       → TellsPrefix IsTold mid new ys
@@ -58,14 +58,14 @@ module _ {A D : Type 0} {IsTold : D → A → D → Type 0} where
         subst (Tells IsTold old new) same whole,
       )
 
-  -- what was told is a prefix of itself: where the device said stop at the last of a list
+  -- What was told is a prefix of itself: where the device said stop at the last of a list.
   pub TellsPrefix-whole : (old new : D) (xs : List A)
       → Tells IsTold old new xs
       → TellsPrefix IsTold old new xs
   TellsPrefix-whole old new xs p =
       (length xs, le_refl (length xs), subst (Tells IsTold old new) (sym (take-length xs)) p)
 
-  -- a list after one that was told whole: what was told of the two together
+  -- A list after one that was told whole: what was told of the two together.
   pub TellsUntilStopped-after : {X E : Type 0} (old mid new : D) (xs ys : List A)
       → (result : Result X E)
       → Tells IsTold old mid xs
@@ -78,17 +78,17 @@ module _ {A D : Type 0} {IsTold : D → A → D → Type 0} where
 -- ---- whatever was told
 
 module _ {A D : Type 0} {IsTold : D → A → D → Type 0} where
-  -- nothing
+  -- Nothing.
   pub TellsSome-none : (a : D) → TellsSome IsTold a a
   TellsSome-none a = record { items = []; told = Tells-none a }
 
-  -- the one and then the other
+  -- The one and then the other.
   pub TellsSome-trans : (a b c : D) → TellsSome IsTold a b → TellsSome IsTold b c
       → TellsSome IsTold a c
   TellsSome-trans a b c p q =
       record { items = p.items ++ q.items; told = Tells-trans a b c p.items q.items p.told q.told }
 
--- these, or a prefix of them
+-- These, or a prefix of them.
 pub TellsSome-until : {A D X E : Type 0} (IsTold : D → A → D → Type 0) (a b : D) (xs : List A)
     (result : Result X E)
     → TellsUntilStopped IsTold a b xs result
@@ -96,7 +96,7 @@ pub TellsSome-until : {A D X E : Type 0} (IsTold : D → A → D → Type 0) (a 
 TellsSome-until IsTold a b xs (Ok value) p = record { items = xs; told = p }
 TellsSome-until IsTold a b xs (Err fault) p = record { items = take p.0 xs; told = p.2 }
 
--- a device that keeps the first was told at most that
+-- A device that keeps the first was told at most that.
 pub first_is : {A : Type 0} (first : Option A) (xs : List A)
     → Tells KeepsFirst None first xs
     → first_alone first ≡ xs
@@ -104,7 +104,7 @@ first_is first [] told = let same = told.in_turn in cc
 first_is first (x ∷ []) told = let one = told.in_turn in cc
 first_is first (x ∷ y ∷ ys) told = let two = told.in_turn in cc
 
--- for a function that tells more than once: `using(sub_io::proofs::TellingLemmas::tellings)`
+-- For a function that tells more than once: `using(sub_io::proofs::TellingLemmas::tellings)`.
 pub ruleset tellings = (
   Tells-trans,
   Tells-none,
@@ -115,7 +115,7 @@ pub ruleset tellings = (
   TellsUntilStopped-after,
 )
 
--- for one of which it is only said that it told some: `using(sub_io::proofs::TellingLemmas::some)`
+-- For one of which it is only said that it told some: `using(sub_io::proofs::TellingLemmas::some)`.
 pub ruleset some = (
   TellsSome-none,
   TellsSome-trans,

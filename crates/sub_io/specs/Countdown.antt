@@ -1,26 +1,26 @@
 -- A device of which one call fails: a countdown beside the device inside.
 use Rattle.std.specs.Prelude.{ℕ, ◌+◌, min, Bool, true, false, Option, Some, None, zero, suc}
 
--- the device inside, and how many calls are still passed on before the one that fails: `Some 0`
--- where the next one fails, `None` once it has
+-- The device inside, and how many calls are still passed on before the one that fails: `Some 0`
+-- where the next one fails, `None` once it has.
 pub record CountingDown (D : Type 0) : Type 0 where
   pub device : D
   pub left : Option ℕ
 
--- the next call fails
+-- The next call fails.
 abbrev pub fails_next : Option ℕ → Bool
 fails_next None = false
 fails_next (Some zero) = true
 fails_next (Some (suc k)) = false
 
--- the countdown after a call
+-- The countdown after a call.
 abbrev pub left_after : Option ℕ → Option ℕ
 left_after None = None
 left_after (Some zero) = None
 left_after (Some (suc k)) = Some k
 
--- the failures of the device inside, and after the call that failed one more, as far as 64 bits
--- count
+-- The failures of the device inside, and after the call that failed one more, as far as 64 bits
+-- count.
 abbrev pub failures_with : Option ℕ → ℕ → ℕ
 failures_with None n = min (n + 1) 0xFFFF_FFFF_FFFF_FFFF
 failures_with (Some k) n = n

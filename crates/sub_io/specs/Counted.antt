@@ -1,12 +1,12 @@
 -- A reader or a writer of std as a device.
 use Rattle.std.specs.Prelude.{ℕ, List, None, Option, Some}
 
--- what it gives or takes bytes by, and how many of its calls have failed
+-- What it gives or takes bytes by, and how many of its calls have failed.
 pub record Counted (D : Type 0) : Type 0 where
   pub device : D
   pub failure_count : ℕ
 
--- what a device tells of its bytes, and nothing once it is closed
+-- What a device tells of its bytes, and nothing once it is closed.
 abbrev pub told_while_open : {D : Type 0} → (D → Option (List ℕ)) → Option D → Option (List ℕ)
 told_while_open told None = None
 told_while_open told (Some device) = told device

@@ -7,31 +7,31 @@ use Rattle.std.specs.Prelude.{◌≡◌, ℕ, ◌+◌, ◌<◌, ◌≤◌, List,
 use Rattle.std.specs.Prelude.{Bool, false, Result, Ok, Err, MatchResult, is_ok, if◌then◌else◌}
 use Rattle.std.specs.Io.KnownBytes.{Appends, Consumes, IsAtEnd, Keeps}
 
--- the count of failures can rise by one more: asked of a device before each call that may fail
+-- The count of failures can rise by one more: asked of a device before each call that may fail.
 abbrev pub CanFail : ℕ → Type 0
 CanFail count = count < 0xFFFF_FFFF_FFFF_FFFF
 
--- an `Ok` leaves the count of failures, an `Err` raises it by one
+-- An `Ok` leaves the count of failures, an `Err` raises it by one.
 abbrev pub CountsFailure : {X E : Type 0} → ℕ → Result X E → ℕ → Type 0
 CountsFailure old result new = new ≡ old + (if is_ok result then 0 else 1)
 
--- the call answers a fault that is one of these: each fault type says which of its faults are those
--- of a device
+-- The call answers a fault that is one of these: each fault type says which of its faults are those
+-- of a device.
 abbrev pub failed : {X E : Type 0} → (E → Bool) → Result X E → Bool
 failed is_one (Err fault) = is_one fault
 failed is_one (Ok _) = false
 
--- a count rises by one where that is so, and else stays
+-- A count rises by one where that is so, and else stays.
 abbrev pub RisesIf : ℕ → Bool → ℕ → Type 0
 RisesIf old is_so new = new ≡ old + (if is_so then 1 else 0)
 
--- the count of a device's failures rises by one where it has failed, and else stays
+-- The count of a device's failures rises by one where it has failed, and else stays.
 abbrev pub CountsIf : {D : Type 0} → (D → ℕ) → D → Bool → D → Type 0
 CountsIf failure_count old has_failed new =
     RisesIf (failure_count old) has_failed (failure_count new)
 
--- one pull: an `Ok` of n took the n bytes that now stand in front of the buffer, and an `Ok` of 0
--- for a buffer with room says that the source is at its end; an `Err` took nothing
+-- One pull: an `Ok` of n took the n bytes that now stand in front of the buffer, and an `Ok` of 0
+-- for a buffer with room says that the source is at its end; an `Err` took nothing.
 abbrev pub Pulls : {E : Type 0}
     → Option (List ℕ) → Option (List ℕ) → List ℕ → Result ℕ E → Type 0
 Pulls old new buffer result =
@@ -39,21 +39,22 @@ Pulls old new buffer result =
     (λ n. Consumes old new (take n buffer) × (n ≡ 0 → 0 < length buffer → IsAtEnd new))
     (λ _. Keeps old new)
 
--- one push: an `Ok` of n added the first n of the bytes, an `Err` added nothing
+-- One push: an `Ok` of n added the first n of the bytes, an `Err` added nothing.
 abbrev pub Pushes : {E : Type 0}
     → Option (List ℕ) → Option (List ℕ) → List ℕ → Result ℕ E → Type 0
 Pushes old new bytes result =
     MatchResult result (λ n. Appends old new (take n bytes)) (λ _. Keeps old new)
 
--- n bytes were taken and stand in front of the buffer, fewer than its room only at the end
+-- Exactly n bytes were taken and stand in front of the buffer; they are fewer than its room only at
+-- the end.
 pub record Fills
     (old : Option (List ℕ)) (n : ℕ) (new : Option (List ℕ)) (buffer : List ℕ) : Type 0 where
   pub bound : n ≤ length buffer
   pub bytes : Consumes old new (take n buffer)
   pub end : n < length buffer → IsAtEnd new
 
--- the same of a source that tells its bytes: n of them went to the front of the buffer, and the
--- rest is left
+-- The same of a source that tells its bytes: n of them went to the front of the buffer, and the
+-- rest is left.
 pub record Told
     (bytes : List ℕ) (n : ℕ) (new : Option (List ℕ)) (buffer : List ℕ) : Type 0 where
   pub rest : List ℕ
@@ -61,16 +62,16 @@ pub record Told
   pub new_is : new ≡ Some rest
   pub ended : n < length buffer → rest ≡ []
 
--- a prefix of the bytes was added
+-- A prefix of the bytes was added.
 abbrev pub AppendsPrefix : Option (List ℕ) → Option (List ℕ) → List ℕ → Type 0
 AppendsPrefix old new bytes = (n : ℕ) × (n ≤ length bytes) × Appends old new (take n bytes)
 
--- an `Ok` added all the bytes, an `Err` a prefix of them
+-- An `Ok` added all the bytes, an `Err` a prefix of them.
 abbrev pub Writes : {X E : Type 0}
     → Option (List ℕ) → Option (List ℕ) → List ℕ → Result X E → Type 0
 Writes old new bytes result =
     MatchResult result (λ _. Appends old new bytes) (λ _. AppendsPrefix old new bytes)
 
--- how many bytes a sink holds back that hands on at once what it takes
+-- How many bytes a sink holds back that hands on at once what it takes.
 abbrev pub holds_nothing : {D : Type 0} → D → ℕ
 holds_nothing device = 0

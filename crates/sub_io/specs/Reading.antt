@@ -2,15 +2,15 @@
 use Rattle.std.specs.Prelude.{◌≡◌, ℕ, ◌<◌, List, Option, Some, Result, Ok, Err, slice_index}
 
 infixl 10 ◌>>=◌
--- one step of a reading after another: the first fault ends it
+-- One step of a reading after another: the first fault ends it.
 abbrev pub ◌>>=◌ : {A B E : Type 0} → Result A E → (A → Result B E) → Result B E
 (Ok x) >>= f = f x
 (Err e) >>= f = Err e
 
--- what holds of a device's bytes where it tells them
+-- What holds of a device's bytes where it tells them.
 abbrev pub IfTold : Option (List ℕ) → (List ℕ → Type 0) → Type 0
 IfTold told P = (bytes : List ℕ) → told ≡ Some bytes → P bytes
 
--- each number of the list is a byte's
+-- Each number of the list is a byte's.
 abbrev pub AreBytes : List ℕ → Type 0
 AreBytes bytes = (i : ℕ) → slice_index bytes i < 256
