@@ -1,8 +1,8 @@
 -- A listing that is printed piece after piece. Main lemmas: front-more, front-end, front-cut,
 -- gives-next, gives-last.
-use Rattle.std.proofs.Common.{◌≡◌, ◌∙◌, ap, refl, sym, subst, arith, ℕ, zero, suc, ◌+◌, ◌-◌, ◌<◌}
+use Rattle.std.proofs.Common.{◌≡◌, ◌∙◌, ap, refl, sym, subst, arith, ℕ, ◌+◌, ◌<◌}
 use Rattle.std.proofs.Common.{◌≤◌, List, [], ◌∷◌, ◌++◌, append_assoc, drop, length, inl, inr, Bool}
-use Rattle.std.proofs.Common.{false, true, Option, Some, None, Result, Ok, Err}
+use Rattle.std.proofs.Common.{false, true, Option, Some, None, Ok, Err}
 use Rattle.std.specs.Io.KnownBytes.{Appends, Consumes}
 use Rattle.std.proofs.KnownBytes.{Appends-nil, Appends-trans}
 use Rattle.sub_io.specs.Device.{AppendsPrefix, RisesIf}

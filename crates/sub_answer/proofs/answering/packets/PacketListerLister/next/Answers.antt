@@ -1,6 +1,6 @@
 -- The lines of one PES packet more, and the last ones: gives-packet, gives-last,
 -- outcome_after-next.
-use Rattle.std.proofs.Common.{◌≡◌, ◌-◌, refl, rules, sym, Err, None, Ok, Some, false}
+use Rattle.std.proofs.Common.{◌≡◌, refl, rules, sym, Err, None, Ok, Some, false}
 use Rattle.ttx_pes.specs.Fault.{is_read}
 use Rattle.ttx_pes.specs.Outcome.{ReadsPackets, ends, fails, outcome_after}
 use Rattle.ttx_pes.proofs.OutcomeLemmas.{outcome_after-next}
