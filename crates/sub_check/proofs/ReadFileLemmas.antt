@@ -1,6 +1,7 @@
 -- What is read of any bytes: packets are whole, and no fault is a device's. Main lemma:
 -- `file_sound`.
-use Rattle.std.proofs.Common.{◌≡◌, ℕ, zero, suc, ◌+◌, ◌-◌, ◌*◌, ◌/◌, ◌%◌, ◌<◌, ◌≤◌, Bool, true, false}
+use Rattle.std.proofs.Common.{◌≡◌, ℕ, zero, suc, ◌+◌, ◌-◌, ◌*◌, ◌/◌, ◌%◌, ◌<◌, ◌≤◌, Bool, true}
+use Rattle.std.proofs.Common.{false}
 use Rattle.std.proofs.Common.{List, [], ◌∷◌, ◌++◌, length, map, take, drop, slice_index}
 use Rattle.std.proofs.Common.{Option, None, Some, Result, Ok, Err, MatchResult, IfSome, cond, refl}
 use Rattle.std.proofs.Common.{◌==◌, ◌&&◌, not, nat_le, nat_lt, if◌then◌else◌}
