@@ -30,14 +30,14 @@ use Rattle.sub_check.specs.PesFrames.{Carries}
 use Rattle.sub_check.specs.PesReading.{pes_file_of}
 use Rattle.sub_check.specs.OnScreen.{Complete}
 use Rattle.sub_check.specs.Transmission.{Transmission}
-use Rattle.sub_check.proofs.FirstToldLemmas.{first_of_pes, first_own, none_first}
+use Rattle.sub_check.proofs.CheckingLemmas.FirstTold.{first_of_pes, first_own, none_first}
 use Rattle.sub_check.specs.declared.event.Event.TheVariants.{Ended, Told}
 use Rattle.sub_answer.specs.declared.told.Kind.{Kind}
 use Rattle.sub_answer.specs.declared.told.Kind.TheVariants as kind
 use Rattle.std.proofs.Common.{◌∷◌}
 use Rattle.sub_check.specs.Fault.{is_failure, is_failure_kind, is_pes_read, is_stl_read}
 use Rattle.sub_check.specs.Fault.{is_subtitle_fault}
-use Rattle.sub_check.specs.declared.checker.Accepted.{Accepted}
+use Rattle.sub_check.specs.declared.checking.Accepted.{Accepted}
 use Rattle.sub_check.specs.declared.event.Event.{Event}
 use Rattle.sub_check.specs.declared.fault.CheckFault.{CheckFault}
 use Rattle.sub_check.specs.declared.fault.CheckFault.TheVariants as fault

@@ -19,10 +19,10 @@ use Rattle.stl_rows.specs.Loading.{FailsLoading, TellsFault, loaded}
 use Rattle.stl_rows.specs.Programme.{ProgrammeValue}
 use Rattle.sub_plan.specs.Options.{OptionsValue}
 use Rattle.sub_check.specs.CheckedFiles.{AreChecked}
-use Rattle.sub_check.specs.Checking.{TellsSubtitles}
+use Rattle.sub_check.specs.checking.Steps.{TellsSubtitles}
 use Rattle.sub_check.specs.Fault.{is_failure, is_failure_kind, is_pes_read, is_stl_read}
 use Rattle.sub_check.specs.Fault.{is_subtitle_fault}
-use Rattle.sub_check.specs.declared.checker.Accepted.{Accepted}
+use Rattle.sub_check.specs.declared.checking.Accepted.{Accepted}
 use Rattle.sub_check.specs.declared.fault.CheckFault.{CheckFault}
 use Rattle.sub_check.specs.declared.fault.CheckFault.TheVariants as fault
 use Rattle.sub_answer.specs.Answering.{AnswersCheck, IsAccepted, verdict}

@@ -19,7 +19,7 @@ use Rattle.stl_rows.specs.declared.national.National.{National}
 use Rattle.stl_file.specs.declared.fault.StlFault.TheVariants as stl_fault
 use Rattle.sub_plan.specs.Options.{OptionsValue}
 use Rattle.sub_check.specs.CheckedFiles.{IsChecked, first_answer}
-use Rattle.sub_check.specs.Checking.{CountsRead}
+use Rattle.sub_check.specs.checking.Steps.{CountsRead}
 use Rattle.sub_check.specs.Events as pes_events
 use Rattle.sub_check.specs.Fault.{is_pes_read, is_stl_read, is_subtitle_fault}
 use Rattle.sub_check.specs.FrameRules.{task_of}
@@ -28,7 +28,7 @@ use Rattle.sub_check.specs.OnScreen.{Complete}
 use Rattle.sub_check.specs.PesFrames.{Carries}
 use Rattle.sub_check.specs.PesReading.{pes_file_of}
 use Rattle.sub_check.specs.Transmission.{Transmission}
-use Rattle.sub_check.specs.declared.checker.Accepted.{Accepted}
+use Rattle.sub_check.specs.declared.checking.Accepted.{Accepted}
 use Rattle.sub_check.specs.declared.event.Event.{Event}
 use Rattle.sub_check.specs.declared.fault.CheckFault.{CheckFault}
 use Rattle.sub_check.specs.declared.fault.CheckFault.TheVariants.{Pes, Subtitles}

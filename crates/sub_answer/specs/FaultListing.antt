@@ -2,7 +2,7 @@
 use Rattle.std.specs.Prelude.{ℕ, ◌+◌, ◌==◌, min, List, [], ◌∷◌, ◌++◌, codes, decimal, map}
 use Rattle.std.specs.Prelude.{Option, Some, None, Result, Ok, Err, if◌then◌else◌}
 use Rattle.stl_rows.specs.declared.fault.LoadFault.{LoadFault}
-use Rattle.sub_check.specs.declared.checker.Accepted.{Accepted}
+use Rattle.sub_check.specs.declared.checking.Accepted.{Accepted}
 use Rattle.sub_check.specs.declared.event.EndRule.{EndRule}
 use Rattle.sub_check.specs.declared.event.EndRule.TheVariants as end
 use Rattle.sub_check.specs.declared.event.Event.{Event}

@@ -31,13 +31,13 @@ use Rattle.sub_check.specs.PacketTests.{are_code_words, breaks, broken_rules, is
 use Rattle.sub_check.specs.PacketTests.{is_of_enhancement, is_other_mode, is_other_row}
 use Rattle.sub_check.specs.PacketTests.{is_other_text, is_same_bit, is_subtitle_header}
 use Rattle.sub_check.specs.PacketTests.{first_of_row, is_wrong_header, packet_rules}
-use Rattle.sub_check.specs.declared.packet_rules.PacketRule.{PacketRule}
-use Rattle.sub_check.specs.declared.packet_rules.PacketRule.TheVariants as rule
-use Rattle.sub_check.specs.declared.packet_rules.Watched.{Watched}
+use Rattle.sub_check.specs.declared.checking.packet_rules.PacketRule.{PacketRule}
+use Rattle.sub_check.specs.declared.checking.packet_rules.PacketRule.TheVariants as rule
+use Rattle.sub_check.specs.declared.checking.packet_rules.Watched.{Watched}
 use Rattle.sub_check.proofs.TestLemmas.{below_none, fails, holds}
 use Rattle.sub_check.proofs.CodesLemmas.{same_packet}
 use Rattle.sub_check.proofs.PacketLists.{Each-find, Each-join, Each-map, Each-none, no_row}
-use Rattle.sub_check.proofs.PacketRuleLemmas.{address_decided, header_decided}
+use Rattle.sub_check.proofs.CheckingLemmas.PacketRules.{address_decided, header_decided}
 
 -- ---- each rule
 

@@ -25,7 +25,7 @@ use Rattle.sub_check.specs.PacketRules.{codes_of}
 use Rattle.sub_check.specs.Sufficient.{IsSufficient}
 use Rattle.sub_check.specs.Transmission.{IsRising, SentFrame, Transmission, first_frame}
 use Rattle.sub_check.specs.Transmission.{on_air_until, packets_between}
-use Rattle.sub_check.proofs.WrongCellLemmas.{code_at}
+use Rattle.sub_check.proofs.CheckingLemmas.WrongCell.{code_at}
 use Rattle.sub_check.proofs.GoodLemmas.{any_sent, number_at}
 use Rattle.sub_check.proofs.PrefixLemmas.{first-same, last-same, locate, on_air_at, on_air_is}
 use Rattle.sub_check.proofs.PrefixLemmas.{rises_to}

@@ -23,7 +23,7 @@ use Rattle.sub_check.specs.PacketRules.{IsClean, rank}
 use Rattle.sub_check.specs.Transmission.{IsRising, SentFrame, Transmission, last_frame}
 use Rattle.sub_check.specs.Transmission.{on_air_until}
 use Rattle.sub_check.specs.WrongContent.{IsWrongEverywhere}
-use Rattle.sub_check.specs.declared.packet_rules.Watched.{Watched}
+use Rattle.sub_check.specs.declared.checking.packet_rules.Watched.{Watched}
 use Rattle.sub_check.proofs.GoodLemmas.{number_at, whole-is}
 use Rattle.sub_check.proofs.PlaceLemmas.{fair_step}
 use Rattle.sub_check.proofs.PrefixLemmas.{at_start, before, last-same, on_air_is, packet_at}
@@ -33,7 +33,7 @@ use Rattle.sub_check.specs.Good.{IsCleanSpan}
 use Rattle.ttx_page.proofs.LateStart.{codes_of_same}
 use Rattle.ttx_page.proofs.SpanLists.{holds-append_left}
 use Rattle.sub_check.specs.declared.fault.CheckFault.TheVariants as fault
-use Rattle.sub_check.specs.declared.packet_rules.PacketRule.TheVariants as rule
+use Rattle.sub_check.specs.declared.checking.packet_rules.PacketRule.TheVariants as rule
 
 -- ---- packets that keep the rules
 

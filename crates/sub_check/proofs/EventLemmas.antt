@@ -33,12 +33,12 @@ use Rattle.sub_check.specs.FirstBroken.{packet_fault, unread_fault}
 use Rattle.sub_check.specs.Good.{IsCleanSpan}
 use Rattle.sub_check.specs.PacketRules.{AreClean, IsClean, KeepsRule}
 use Rattle.sub_check.specs.PacketTests.{broken_rules}
-use Rattle.sub_check.specs.declared.packet_rules.PacketRule.{PacketRule}
-use Rattle.sub_check.specs.declared.packet_rules.PacketRule.TheVariants as rule
+use Rattle.sub_check.specs.declared.checking.packet_rules.PacketRule.{PacketRule}
+use Rattle.sub_check.specs.declared.checking.packet_rules.PacketRule.TheVariants as rule
 use Rattle.sub_check.specs.FirstBroken.Place.{AtGap, AtGapCell, AtOrder}
 use Rattle.sub_check.specs.FrameRules.{HasHeader, IsCovered, IsEnded, ShowsDue, Task, Unread}
 use Rattle.sub_check.specs.FrameRules.{end_frame, frame_at, packets_before, packets_of_frame}
-use Rattle.sub_check.specs.Following.{AreOk, FrameOk, GapOk, Keeps, OrderOk, PacketsOk}
+use Rattle.sub_check.specs.checking.Following.{AreOk, FrameOk, GapOk, Keeps, OrderOk, PacketsOk}
 use Rattle.sub_check.specs.Transmission.{EachPacket, SentFrame, Transmission}
 use Rattle.sub_check.specs.declared.event.EndRule.TheVariants as end
 use Rattle.sub_check.specs.declared.event.Event.{Event}
@@ -52,7 +52,7 @@ use Rattle.sub_check.proofs.OrderLemmas.{first_packet, first_unread, holds_but_e
 use Rattle.sub_check.proofs.BrokenRuleLemmas.{FirstRule, IsSoundSpan, broken_first}
 use Rattle.sub_check.proofs.PacketLists.{Each-push}
 use Rattle.sub_check.proofs.PlaceLemmas.{fair_step}
-use Rattle.sub_check.proofs.FollowingLemmas.{standing_before_is}
+use Rattle.sub_check.proofs.CheckingLemmas.Following.{standing_before_is}
 use Rattle.sub_check.proofs.RisingEndLemmas.{gap_length-is, latest_at}
 use Rattle.sub_check.proofs.PrefixLemmas.{at_start, before, before_more, each_at, packet_at}
 use Rattle.sub_check.proofs.StepByStepLemmas.{clean_nil}

@@ -11,7 +11,7 @@ use Rattle.std.proofs.lemmas.List.Elements.{All-from_recursion}
 use Rattle.std.proofs.lemmas.Bool.{cases_lt, cases_eq}
 use Rattle.sub_check.specs.FrameRules.{Unread, task_of, watched_of, frame_at, packets_of_frame}
 use Rattle.sub_check.specs.FrameRules.{packets_before, end_frame, HasHeader}
-use Rattle.sub_check.specs.declared.packet_rules.Watched.{Watched}
+use Rattle.sub_check.specs.declared.checking.packet_rules.Watched.{Watched}
 use Rattle.ttx_page.specs.PacketKind.{kind, is_this_page}
 use Rattle.ttx_page.specs.Span.{span, holds_header}
 use Rattle.ttx_page.proofs.SpanLists.{holds-append_left, holds-append_right}

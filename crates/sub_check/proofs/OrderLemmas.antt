@@ -4,14 +4,14 @@ use Rattle.std.proofs.Common.{length, refl, sym, ap, ◌∙◌, subst, arith, So
 use Rattle.std.proofs.lemmas.Option.{none-some}
 use Rattle.ttx_page.specs.Page.{IsCell}
 use Rattle.sub_check.specs.Transmission.{Transmission}
-use Rattle.sub_check.specs.declared.packet_rules.PacketRule.{PacketRule}
+use Rattle.sub_check.specs.declared.checking.packet_rules.PacketRule.{PacketRule}
 use Rattle.sub_check.specs.PacketRules.{BreaksFirstAt, rank}
 use Rattle.sub_check.specs.FrameRules.{Task, Unread, frame_at, packets_of_frame, packets_before}
 use Rattle.sub_check.specs.FrameRules.{end_frame, HasHeader, ShowsDue, IsCovered, IsEnded}
 use Rattle.sub_check.specs.FirstBroken.{IsBefore, IsInGap, IsThere, HoldsThere, HoldsBefore, Place}
 use Rattle.sub_check.specs.FirstBroken.{HoldsEverywhere, NamesFirst, fault_at, key, packet_fault}
 use Rattle.sub_check.specs.FirstBroken.{unread_fault}
-use Rattle.sub_check.specs.Following.{AreOk, Keeps, OrderOk, GapOk, PacketsOk}
+use Rattle.sub_check.specs.checking.Following.{AreOk, Keeps, OrderOk, GapOk, PacketsOk}
 use Rattle.sub_check.specs.FirstBroken.Place.{AtOrder, AtStart, AtGapCell, AtGap, AtPacket, AtFirst}
 use Rattle.sub_check.specs.FirstBroken.Place.{AtCell, AtFrame, AtOpen, AtUnread, AtNothing, AtEnd}
 use Rattle.sub_check.specs.declared.fault.CheckFault.TheVariants as fault

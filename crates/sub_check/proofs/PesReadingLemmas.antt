@@ -11,8 +11,8 @@ use Rattle.ttx_pes.specs.PesPacket.{PesValue}
 use Rattle.ttx_pes.specs.Reading.{answer_at, rest_after, most_packets}
 use Rattle.ttx_pes.specs.declared.fault.PesFault.{PesFault}
 use Rattle.ttx_pes.proofs.OutcomeLemmas.{outcome_after-next}
-use Rattle.sub_check.specs.Checking.{IsFrameOf}
-use Rattle.sub_check.specs.Following.{IsSentFrame}
+use Rattle.sub_check.specs.checking.Steps.{IsFrameOf}
+use Rattle.sub_check.specs.checking.Following.{IsSentFrame}
 use Rattle.sub_check.specs.FrameRules.{Unread}
 use Rattle.sub_check.specs.PacketRules.{packets_of_units}
 use Rattle.stl_file.specs.TimeCode.{day}

@@ -9,7 +9,7 @@ use Rattle.std.proofs.lemmas.Bool.{cases_lt}
 use Rattle.std.proofs.lemmas.Option.{none-some, same_Some}
 use Rattle.ttx_packet.specs.PageHeader.{HasExactWords, header, c11}
 use Rattle.ttx_packet.specs.declared.header.Header.{Header}
-use Rattle.sub_check.specs.declared.packet_rules.Watched.{Watched}
+use Rattle.sub_check.specs.declared.checking.packet_rules.Watched.{Watched}
 use Rattle.ttx_page.specs.declared.packet_kind.PacketKind.TheVariants.{Other, Row}
 use Rattle.ttx_page.specs.PacketKind.{kind, is_this_page, ends_page}
 use Rattle.ttx_page.specs.Page.{cell, IsCell}
@@ -34,7 +34,7 @@ use Rattle.sub_check.proofs.PrefixLemmas.{before, packet_at, at_start, at_packet
 use Rattle.sub_check.proofs.PrefixLemmas.{each_from, before_more, rises_to, rises_strictly, locate}
 use Rattle.sub_check.proofs.PrefixLemmas.{first-same, last-same, on_air_at, on_air_is}
 use Rattle.sub_check.proofs.StepByStepLemmas.{clean_nil, last_clean, pushed}
-use Rattle.sub_check.specs.declared.packet_rules.PacketRule.TheVariants as rule
+use Rattle.sub_check.specs.declared.checking.packet_rules.PacketRule.TheVariants as rule
 
 -- ---- a packet of the span
 

@@ -33,8 +33,8 @@ use Rattle.sub_check.specs.Good.{IsSubtitleHeader}
 use Rattle.sub_check.specs.PacketRules.{codes_of, KeepsRule}
 use Rattle.sub_check.specs.Transmission.{Transmission, first_frame, last_frame, packets_of, on_air}
 use Rattle.sub_check.specs.Robust.{IsListening, Robust}
-use Rattle.sub_check.specs.declared.packet_rules.PacketRule.TheVariants as rule
-use Rattle.sub_check.specs.declared.packet_rules.Watched.{Watched}
+use Rattle.sub_check.specs.declared.checking.packet_rules.PacketRule.TheVariants as rule
+use Rattle.sub_check.specs.declared.checking.packet_rules.Watched.{Watched}
 use Rattle.sub_check.proofs.RuleTests.{exact_address_decided, exact_codes_decided}
 use Rattle.sub_check.proofs.RuleTests.{has_exact_address, has_exact_codes, is_odd_text}
 use Rattle.sub_check.proofs.RuleTests.{is_subtitles, odd_text_decided, rises, rising_decided}

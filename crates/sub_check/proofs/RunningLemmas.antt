@@ -5,7 +5,7 @@ use Rattle.ttx_packet.specs.PageId.{PageIdValue}
 use Rattle.ttx_page.specs.Receiver.{Step}
 use Rattle.ttx_page.specs.Screen.{Display, ShowsAt}
 use Rattle.ttx_page.proofs.RunLemmas.{RunsBy-as}
-use Rattle.sub_check.specs.Reception.{LawOfListening, RunsThrough, TakesPacket}
+use Rattle.sub_check.specs.listening.Reception.{LawOfListening, RunsThrough, TakesPacket}
 
 module _ (asks_complete : Bool) (leaves : ℕ → ℕ) (w : PageIdValue) where
   -- A screen that waits is one that a receiver may have.

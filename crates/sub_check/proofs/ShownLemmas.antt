@@ -11,10 +11,10 @@ use Rattle.stl_rows.specs.Programme.{ProgrammeValue}
 use Rattle.stl_rows.proofs.DuePageLemmas.{edges_alone}
 use Rattle.sub_plan.specs.Schedule.{due_in}
 use Rattle.ttx_page.specs.Page.{IsCell}
-use Rattle.sub_check.specs.Checker.{CheckerValue, IsAtFrame, at_frame, is_before}
+use Rattle.sub_check.specs.checking.Checker.{CheckerValue, IsAtFrame, at_frame, is_before}
 use Rattle.sub_check.specs.FrameRules.{Task, packets_of_frame, packets_before, ShowsDue}
 use Rattle.sub_check.specs.Transmission.{SentFrame, Transmission}
-use Rattle.sub_check.specs.declared.listener.Listener.{Listener}
+use Rattle.sub_check.specs.declared.checking.listener.Listener.{Listener}
 
 -- ---- one frame more
 

@@ -19,8 +19,8 @@ use Rattle.sub_check.specs.Transmission.{IsRising, Transmission}
 use Rattle.sub_check.specs.declared.event.Event.{Event}
 use Rattle.sub_check.specs.declared.event.Event.TheVariants.{Told}
 use Rattle.sub_check.specs.declared.fault.CheckFault.TheVariants as fault
-use Rattle.sub_check.specs.declared.packet_rules.PacketRule.{PacketRule}
-use Rattle.sub_check.specs.declared.packet_rules.PacketRule.TheVariants as rule
+use Rattle.sub_check.specs.declared.checking.packet_rules.PacketRule.{PacketRule}
+use Rattle.sub_check.specs.declared.checking.packet_rules.PacketRule.TheVariants as rule
 use Rattle.sub_check.proofs.GoodLemmas.{number_at}
 use Rattle.sub_check.proofs.PrefixLemmas.{before, packet_at, rises_strictly}
 

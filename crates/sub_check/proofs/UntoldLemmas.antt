@@ -12,11 +12,11 @@ use Rattle.sub_check.specs.FrameRules.{Task}
 use Rattle.sub_check.specs.PacketRules.{KeepsRule}
 use Rattle.sub_check.specs.PacketTests.{are_code_words, breaks}
 use Rattle.sub_check.specs.Transmission.{Transmission}
-use Rattle.sub_check.specs.declared.packet_rules.PacketRule.TheVariants as rule
-use Rattle.sub_check.specs.declared.packet_rules.Watched.{Watched}
+use Rattle.sub_check.specs.declared.checking.packet_rules.PacketRule.TheVariants as rule
+use Rattle.sub_check.specs.declared.checking.packet_rules.Watched.{Watched}
 use Rattle.sub_check.proofs.BrokenRuleLemmas.{coded, columns_zero, controlled, odd_text}
 use Rattle.sub_check.proofs.EventLemmas.{gap_decided, incomplete_decided, none_wrong}
-use Rattle.sub_check.proofs.PacketRuleLemmas.{address_decided, header_decided}
+use Rattle.sub_check.proofs.CheckingLemmas.PacketRules.{address_decided, header_decided}
 
 -- ---- a packet
 

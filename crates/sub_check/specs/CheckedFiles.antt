@@ -17,7 +17,7 @@ use Rattle.stl_rows.specs.declared.national.National.{National}
 use Rattle.sub_plan.specs.Options.{OptionsValue}
 use Rattle.sub_plan.specs.Schedule.{plan}
 use Rattle.sub_io.specs.Telling.{Tells}
-use Rattle.sub_check.specs.Checking.{CountsRead, HasCounts, TellsOrStops, TellsSubtitles}
+use Rattle.sub_check.specs.checking.Steps.{CountsRead, HasCounts, TellsOrStops, TellsSubtitles}
 use Rattle.sub_check.specs.Events.{events, events_of_first}
 use Rattle.sub_check.specs.declared.event.Event.{Event}
 use Rattle.sub_check.specs.declared.event.Event.TheVariants.{Told}
@@ -33,7 +33,7 @@ use Rattle.sub_check.specs.Recovery.{Recovers}
 use Rattle.sub_check.specs.Robust.{Robust}
 use Rattle.sub_check.specs.Transmission.{Transmission}
 use Rattle.sub_check.specs.WrongContent.{IsWrongEverywhere}
-use Rattle.sub_check.specs.declared.checker.Accepted.{Accepted}
+use Rattle.sub_check.specs.declared.checking.Accepted.{Accepted}
 use Rattle.sub_check.specs.declared.fault.CheckFault.{CheckFault}
 use Rattle.sub_check.specs.declared.fault.CheckFault.TheVariants as fault
 

@@ -18,9 +18,9 @@ use Rattle.sub_check.specs.PacketRules.{codes_of, KeepsRule}
 use Rattle.sub_check.specs.PacketTests.{breaks}
 use Rattle.sub_check.specs.Stretch.{MayBeTrusted}
 use Rattle.sub_check.specs.Transmission.{IsRising, Transmission, first_frame, last_frame}
-use Rattle.sub_check.specs.declared.packet_rules.PacketRule.{PacketRule}
-use Rattle.sub_check.specs.declared.packet_rules.PacketRule.TheVariants as rule
-use Rattle.sub_check.specs.declared.packet_rules.Watched.{Watched}
+use Rattle.sub_check.specs.declared.checking.packet_rules.PacketRule.{PacketRule}
+use Rattle.sub_check.specs.declared.checking.packet_rules.PacketRule.TheVariants as rule
+use Rattle.sub_check.specs.declared.checking.packet_rules.Watched.{Watched}
 
 -- ---- packets and ends of a stretch
 

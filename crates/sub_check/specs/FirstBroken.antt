@@ -12,8 +12,8 @@ use Rattle.sub_check.specs.PacketRules.{KeepsRule, rank}
 use Rattle.sub_check.specs.Transmission.{Transmission}
 use Rattle.sub_check.specs.declared.fault.CheckFault.{CheckFault}
 use Rattle.sub_check.specs.declared.fault.CheckFault.TheVariants as fault
-use Rattle.sub_check.specs.declared.packet_rules.PacketRule.{PacketRule}
-use Rattle.sub_check.specs.declared.packet_rules.PacketRule.TheVariants as rule
+use Rattle.sub_check.specs.declared.checking.packet_rules.PacketRule.{PacketRule}
+use Rattle.sub_check.specs.declared.checking.packet_rules.PacketRule.TheVariants as rule
 
 -- A place. Frames of the list are counted from 0, in pairs with PES packets; so are a frame's
 -- packets.

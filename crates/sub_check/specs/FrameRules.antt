@@ -12,7 +12,7 @@ use Rattle.stl_rows.specs.Programme.{ProgrammeValue, first_in, last_out}
 use Rattle.sub_plan.specs.Options.{OptionsValue}
 use Rattle.sub_plan.specs.Schedule.{due_in}
 use Rattle.sub_check.specs.Transmission.{SentFrame, Transmission}
-use Rattle.sub_check.specs.declared.packet_rules.Watched.{Watched}
+use Rattle.sub_check.specs.declared.checking.packet_rules.Watched.{Watched}
 
 -- Why the bytes of a PES file are not read as frames to their end: what follows the frames begins
 -- with no PES packet, by this fault, or with one whose PTS is that of no frame of the day.

@@ -19,9 +19,9 @@ use Rattle.ttx_page.specs.declared.packet_kind.PacketKind.TheVariants.{ThisPage}
 use Rattle.stl_rows.specs.declared.national.National.{National}
 use Rattle.sub_plan.specs.Sending.{has_c14}
 use Rattle.sub_check.specs.PacketRules.{codes_of, first_header}
-use Rattle.sub_check.specs.declared.packet_rules.PacketRule.{PacketRule}
-use Rattle.sub_check.specs.declared.packet_rules.PacketRule.TheVariants as rule
-use Rattle.sub_check.specs.declared.packet_rules.Watched.{Watched}
+use Rattle.sub_check.specs.declared.checking.packet_rules.PacketRule.{PacketRule}
+use Rattle.sub_check.specs.declared.checking.packet_rules.PacketRule.TheVariants as rule
+use Rattle.sub_check.specs.declared.checking.packet_rules.Watched.{Watched}
 
 -- A byte is one of the first n code words.
 unfoldable pub is_word_below : ℕ → ℕ → Bool

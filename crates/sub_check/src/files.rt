@@ -9,7 +9,7 @@ ghost use Rattle.stl_rows.specs.declared.fault.LoadFault.{LoadFault};
 ghost use Rattle.sub_check.specs.CheckedFiles.{AreAccepted, AreChecked};
 ghost use Rattle.sub_check.specs.Fault.{is_pes_read, is_pes_write, is_stl_read, is_subtitle_fault};
 
-use crate::checker::{Accepted, check};
+use crate::checking::{Accepted, check};
 use crate::fault::CheckFault;
 use std::alloc::Global;
 use stl_rows::{National, law_of_loading, load};

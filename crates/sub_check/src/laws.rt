@@ -8,7 +8,7 @@ ghost use Rattle.sub_check.specs.Laws.{LawOfWindow};
 ghost use Rattle.sub_check.specs.PesReading.{LawOfPesFiles};
 ghost use Rattle.sub_check.specs.Planned.{LawOfPlan, LawOfPlanRead};
 ghost use Rattle.sub_check.specs.Rules.{LawOfRules};
-ghost use Rattle.sub_check.specs.SentAgain.{LawOfSentAgain};
+ghost use Rattle.sub_check.specs.checking.SentAgain.{LawOfSentAgain};
 ghost use Rattle.sub_check.specs.StepByStep.{LawOfCleanSpans, LawOfRepeats, LawOfSpansByPacket};
 ghost use Rattle.sub_check.specs.Stretch.{LawOfWholeStretch};
 ghost use Rattle.sub_check.specs.Sufficient.{LawOfStretch, LawOfSufficientParts};

@@ -13,28 +13,21 @@
 //! ```
 #![tactic(auto)]
 
-mod checker;
-mod comparison;
+mod checking;
 mod event;
 mod examples;
 mod fault;
 mod fault_place;
 mod files;
-mod frame_rules;
-mod hearing;
 mod laws;
-mod listener;
-mod listening_run;
+mod listening;
 mod on_screen;
-mod packet_rules;
-mod reception;
 mod recovery;
-mod rule_set;
 mod screen_examples;
 mod sending;
-mod standing;
 
-pub use checker::{Accepted, check, check_all};
+pub use checking::packet_rules::{PacketRule, Watched};
+pub use checking::{Accepted, check, check_all};
 pub use event::{EndRule, Event};
 pub use examples::{
     example_of_clean_stretch, example_of_good, examples_of_broken_rules, examples_of_needed_parts,
@@ -49,11 +42,10 @@ pub use laws::{
     law_of_sufficient_parts, law_of_told_stretch, law_of_untold_stretch, law_of_whole_stretch,
     law_of_window,
 };
-pub use listening_run::{ListenFault, listen};
+pub use listening::{ListenFault, listen};
 pub use on_screen::{
     law_of_complete_plan, law_of_good_and_complete, law_of_good_dropping_and_complete,
     law_of_listening,
 };
-pub use packet_rules::{PacketRule, Watched};
 pub use recovery::{law_of_good_and_recovery, law_of_good_dropping_and_recovery};
 pub use screen_examples::{example_of_no_end, examples_of_screens};

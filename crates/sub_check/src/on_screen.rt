@@ -4,7 +4,7 @@
 //! The functions do nothing: the contract of each is a law over the definitions of `specs/`.
 ghost use Rattle.sub_check.specs.OnScreen.{LawOfCompletePlan, LawOfGoodAndComplete};
 ghost use Rattle.sub_check.specs.OnScreen.{LawOfGoodDroppingAndComplete};
-ghost use Rattle.sub_check.specs.Reception.{LawOfListening};
+ghost use Rattle.sub_check.specs.listening.Reception.{LawOfListening};
 
 /// Whatever a receiver held and showed before, at every frame's end from the next header of its
 /// page on the page that is due is on its screen, but for spaces where a byte was hit or a row

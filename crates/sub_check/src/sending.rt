@@ -8,7 +8,7 @@ ghost use Rattle.ttx_pes.specs.Reader.{FailsWithin, TakesPesPacket};
 ghost use Rattle.ttx_pes.specs.Reading.{answer_at, most_packets, rest_after};
 ghost use Rattle.ttx_pes.specs.declared.progress.Progress.TheVariants.{Reading};
 ghost use Rattle.stl_file.specs.TimeCode.{day};
-ghost use Rattle.sub_check.specs.Checking.{TellsFrame, as_frame};
+ghost use Rattle.sub_check.specs.checking.Steps.{TellsFrame, as_frame};
 ghost use Rattle.sub_check.specs.Fault.{is_pes_read, is_pes_write, is_subtitle_fault};
 
 use crate::fault::CheckFault;

@@ -1,5 +1,5 @@
--- The law: SentAgainLemmas.
-use Rattle.sub_check.proofs.SentAgainLemmas.{law_of_sent_again}
+-- The law: CheckingLemmas.SentAgain.
+use Rattle.sub_check.proofs.CheckingLemmas.SentAgain.{law_of_sent_again}
 use Rattle.sub_check.proofs.laws.law_of_sent_again.Goals as goal
 
 pub returns : goal.returns

@@ -1,0 +1,12 @@
+pub mod PacketRules
+pub mod RuleSet
+pub mod PacketEvents
+pub mod SentAgain
+pub mod Listener
+pub mod WrongCell
+pub mod Telling
+pub mod Following
+pub mod ReadFile
+pub mod WaysOut
+pub mod FirstTold
+pub mod Verdict

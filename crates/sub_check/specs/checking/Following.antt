@@ -1,0 +1,124 @@
+-- The parts of the check of one frame of the list, and what is kept after the first n frames.
+use Rattle.std.specs.Prelude.{◌≡◌, ℕ, suc, ◌+◌, ◌-◌, ◌<◌, List, ◌++◌, length, nat_le}
+use Rattle.sub_check.specs.Transmission.{Transmission}
+use Rattle.stl_rows.specs.Programme.{ProgrammeValue, first_in, last_out}
+use Rattle.sub_check.specs.checking.Checker.{CheckerValue, as_standing}
+use Rattle.sub_check.specs.declared.checking.packet_rules.PacketRule.{PacketRule}
+use Rattle.sub_check.specs.Events.{end_before, events_at_end, first_header_events, gap_events}
+use Rattle.sub_check.specs.Events.{gap_length, is_gap, latest, nothing_stands, order_events}
+use Rattle.sub_check.specs.Events.{packet_events, standing_at, standing_before}
+use Rattle.sub_check.specs.declared.event.Event.{Event}
+use Rattle.sub_check.specs.checking.Listener.{KnowsLast}
+use Rattle.sub_check.specs.FrameRules.{Task, frame_at, packets_of_frame, packets_before}
+use Rattle.sub_plan.specs.Schedule.{due_in}
+use Rattle.sub_check.specs.PacketRules.{header_count}
+use Rattle.sub_check.specs.FirstBroken.{Place, IsThere, HoldsThere}
+use Rattle.sub_check.specs.FirstBroken.Place.{AtOrder, AtStart, AtGapCell, AtGap, AtPacket, AtFirst}
+use Rattle.sub_check.specs.FirstBroken.Place.{AtCell, AtFrame, AtOpen}
+
+-- Where the transmission has the place, what is asked there holds.
+abbrev pub Keeps : Task → Transmission → Place → Type 0
+Keeps g frames y = IsThere frames y → HoldsThere g frames y
+
+-- The order of frame i of the list.
+pub record OrderOk (g : Task) (frames : Transmission) (i : ℕ) : Type 0 where
+  pub order : Keeps g frames (AtOrder i)
+  pub start : i ≡ 0 → Keeps g frames AtStart
+
+-- The frames of the day before frame i of the list.
+pub record GapOk (g : Task) (frames : Transmission) (i : ℕ) : Type 0 where
+  pub cells : (f row column : ℕ) → Keeps g frames (AtGapCell i f row column)
+  pub covered : (f : ℕ) → Keeps g frames (AtGap i f)
+
+-- The packets of frame i of the list.
+pub record PacketsOk (g : Task) (frames : Transmission) (i : ℕ) : Type 0 where
+  pub each : (k : ℕ) (rule : PacketRule) → Keeps g frames (AtPacket i k rule)
+
+-- The end of frame i of the list.
+pub record EndOk (g : Task) (frames : Transmission) (i : ℕ) : Type 0 where
+  pub first : i ≡ 0 → Keeps g frames AtFirst
+  pub cells : (row column : ℕ) → Keeps g frames (AtCell i row column)
+  pub covered : Keeps g frames (AtFrame i)
+  pub ended : Keeps g frames (AtOpen i)
+
+-- All that is asked of frame i of the list.
+pub record FrameOk (g : Task) (frames : Transmission) (i : ℕ) : Type 0 where
+  pub order : OrderOk g frames i
+  pub gap : GapOk g frames i
+  pub packets : PacketsOk g frames i
+  pub end : EndOk g frames i
+
+-- The task is that of the programme, with the repeat bound.
+pub record IsTaskOf (g : Task) (p : ProgrammeValue) (every : ℕ) : Type 0 where
+  pub due_is : (f : ℕ) → g.due f ≡ due_in p f
+  pub every_is : g.every ≡ every
+  pub first_is : g.first_in ≡ first_in p.records
+  pub last_is : g.last_out ≡ last_out p.records
+
+-- Frame i of the list has this number and these packets.
+pub record IsSentFrame (frames : Transmission) (i frame : ℕ) (packets : List (List ℕ)) : Type 0
+  where
+    pub there : i < length frames
+    pub frame_is : frame_at frames i ≡ frame
+    pub packets_are : packets_of_frame frames i ≡ packets
+
+-- All that is asked of the first n frames of the list holds.
+abbrev pub AreOk : Task → Transmission → ℕ → Type 0
+AreOk g frames n = (j : ℕ) → j < n → FrameOk g frames j
+
+-- ---- what is kept
+
+-- What is kept of the packets is what the first n frames of the list say.
+pub record Remembers (g : Task) (frames : Transmission) (n : ℕ) (c : CheckerValue) : Type 0 where
+  pub task_is : IsTaskOf g c.programme c.every
+  pub watched_is : c.listener.watched ≡ g.watched
+  pub knows : KnowsLast (packets_before frames n) (packets_of_frame frames (n - 1)) c.listener
+  pub count : c.headers ≡ header_count g.watched.page (packets_before frames n)
+
+-- What is kept from the first PES packet on: its frame, and from when on a header of the page is
+-- too long ago.
+pub record HasBegun (g : Task) (frames : Transmission) (n : ℕ) (c : CheckerValue) : Type 0 where
+  pub first_is : c.first ≡ frame_at frames 0
+  pub late_is : (f : ℕ) → is_gap g frames n f ≡ nat_le c.late_at (f + 1)
+
+-- What is kept after the first n frames of the list, at the end of the last of them.
+pub record Follows (g : Task) (frames : Transmission) (n : ℕ) (c : CheckerValue) : Type 0 where
+  pub known : Remembers g frames n c
+  pub none : n ≡ 0 → as_standing c.standing ≡ nothing_stands
+  pub begun : 0 < n → HasBegun g frames n c
+  pub latest_is : 0 < n → c.latest ≡ latest frames n
+  pub standing_is :
+      0 < n → as_standing c.standing ≡ standing_at g frames n (frame_at frames (n - 1))
+  pub last_is : 0 < n → c.last ≡ frame_at frames (n - 1)
+
+-- What is kept after the first n frames of the list, where the next end is that of frame f.
+pub record Waits (g : Task) (frames : Transmission) (n f : ℕ) (c : CheckerValue) : Type 0 where
+  pub known : Remembers g frames n c
+  pub begun : HasBegun g frames n c
+  pub standing_is : as_standing c.standing ≡ standing_before g frames n f
+  pub last_is : 0 < n → c.last ≡ end_before frames n f
+
+-- That, at frame n of the list, before its packets.
+pub record Arrives (g : Task) (frames : Transmission) (n : ℕ) (c : CheckerValue) : Type 0 where
+  pub waits : Waits g frames n (frame_at frames n) c
+  pub frame_is : c.frame ≡ frame_at frames n
+  pub latest_is : c.latest ≡ latest frames (suc n)
+
+-- ---- what is told
+
+-- What is told of frame i of the list before its packets.
+abbrev pub arriving_events : Task → Transmission → ℕ → List Event
+arriving_events g frames i =
+    order_events g frames i ++ gap_events g frames i (gap_length frames i)
+
+-- What is told of frame i of the list after its packets.
+abbrev pub ending_events : Task → Transmission → ℕ → List Event
+ending_events g frames i =
+    first_header_events g frames i ++ events_at_end g frames i (suc i) (frame_at frames i)
+
+-- What is told of the packets of frame i of the list, and then.
+abbrev pub taking_events : Task → Transmission → ℕ → List Event
+taking_events g frames i =
+    packet_events g.watched (frame_at frames i) (packets_before frames i)
+    (packets_of_frame frames i) (length (packets_of_frame frames i))
+    ++ ending_events g frames i

@@ -1,0 +1,3 @@
+pub mod Reception
+pub mod Untouched
+pub mod Run

@@ -1,0 +1,220 @@
+//! The exact checker: a PES file against a programme, one PES packet at a time.
+
+mod checker;
+mod comparison;
+mod listener;
+pub mod packet_rules;
+mod rule_set;
+mod standing;
+
+ghost use Rattle.std.specs.Prelude.{◌≡◌, ℕ, Ok, Err, Option, None, Some, IfErr, true, false};
+ghost use Rattle.sub_io.specs.Device.{CanFail, CountsIf, failed};
+ghost use Rattle.sub_io.specs.Reading.{IfTold};
+ghost use Rattle.sub_io.specs.Telling.{TellsSome};
+ghost use Rattle.stl_rows.specs.Programme.{IsProgramme};
+ghost use Rattle.ttx_pes.specs.Reader.{FailsAtPacket};
+ghost use Rattle.sub_plan.specs.Options.{IsOptions};
+ghost use Rattle.sub_check.specs.CheckedFiles.{IsChecked, TellsEvents};
+ghost use Rattle.sub_check.specs.checking.Steps.{IsRuleFault, TellsAll};
+ghost use Rattle.sub_check.specs.Fault.{is_pes_read, is_pes_write, is_subtitle_fault};
+ghost use Rattle.sub_check.specs.FrameRules.{Unread, task_of};
+ghost use Rattle.sub_check.specs.PesReading.{ReadsAs};
+ghost use Rattle.sub_check.specs.Transmission.{Transmission};
+
+use crate::checking::checker::Checker;
+use crate::checking::packet_rules::Watched;
+use crate::event::Event;
+use crate::fault::CheckFault;
+use crate::sending::{next_sending, units_of};
+use stl_rows::Programme;
+use sub_io::{Audience, FirstTold, Source};
+use sub_plan::Options;
+use ttx_pes::{ComparingReader, PesFault};
+
+/// What an accepted transmission holds.
+#[derive(Clone, Copy, Debug, PartialEq, Eq)]
+pub struct Accepted {
+    /// How many frames of the day there are from the first PES packet's to the latest one's.
+    pub frames: u64,
+    /// How many headers of the page there are.
+    pub transmissions: u64,
+}
+
+/// Checks a PES file against a programme: it is accepted exactly where it carries a good
+/// transmission of it, of complete pages if the options ask for them, and a refusal names the first
+/// place where what is asked is broken.
+///
+/// It reads one PES packet at a time and takes no memory: beside numbers it keeps one PES packet,
+/// one page, the page that is due, and a mark for each row sent since the last header of the page.
+/// The due page is drawn anew only where a subtitle begins or ends. Packets that begin with a
+/// header of the page and are those of the PES packet before, byte for byte, are not looked at
+/// again.
+///
+/// # Errors
+///
+/// For each PES packet in turn: its own fault as `Pes`, `OffFrame`, `Order`; `Early` for the first;
+/// at each frame before it `Content`, then `Gap`; its packets in order, `Address` to `Enhancement`;
+/// `NoFirstHeader` for the first; `Content`, `Gap`, and where complete pages are asked for
+/// `Incomplete`. At the end `Empty` or `Late`. `Pes` with `Read` where the source failed in this
+/// call, and only there.
+pub fn check<S: Source>(
+    programme: &Programme,
+    source: &mut S,
+    options: &Options,
+) -> Result<Accepted, CheckFault>
+    requires { CanFail (S.failure_count source.old) }
+    // Where the source tells its bytes, these decide the answer: they are accepted exactly where
+    // they are a PES file that carries a good transmission of the programme, which is then robust.
+    ensures checked { IfTold (S.remaining source.old) (λ bytes.
+        IsChecked programme.now options.now bytes result) }
+    // That the source failed is told at the PES packet within which it failed: those before it were
+    // taken.
+    ensures read { (pes : ℕ) → result ≡ Err (CheckFault.Pes pes PesFault.Read)
+        → FailsAtPacket pes (S.remaining source.old) (S.remaining source.new) }
+    // No answer refuses a subtitle file, nothing is written, and `Read` is told exactly where the
+    // source failed in this call.
+    ensures own { failed is_subtitle_fault result ≡ false }
+    ensures no_write { failed is_pes_write result ≡ false }
+    ensures count { CountsIf S.failure_count source.old (failed is_pes_read result) source.new }
+{
+    let mut first = FirstTold::new();
+    match tell_all(programme, source, options, &mut first) {
+        Err(fault) => Err(fault),
+        Ok(counts) => answer(first.into_first(), counts),
+    }
+}
+
+/// Checks a PES file against a programme, as `check` does, and tells all that is broken to a device
+/// of the caller's, one event after another, until it says stop.
+///
+/// The events are those of `check`'s list, each where it is broken: all rules that a packet breaks;
+/// of a rule that is asked at the end of each frame, where it begins to be broken and where it has
+/// ended. Where the bytes can't be read on, that is the last event. It counts what was read: the
+/// frames of the day from the first PES packet's to the latest one's, and the headers of the page.
+///
+/// It takes no memory, and reads as `check` does.
+///
+/// # Errors
+///
+/// `Pes` with `Read` where the source failed: then the events are those of the PES packets before.
+pub fn check_all<S: Source, A: Audience<Event>>(
+    programme: &Programme,
+    source: &mut S,
+    options: &Options,
+    audience: &mut A,
+) -> Result<Accepted, CheckFault>
+    requires failures { CanFail (S.failure_count source.old) }
+    requires goes_on { A.has_stopped audience.old ≡ false }
+    // Where the source tells its bytes, these decide what the device is told.
+    ensures told { IfTold (S.remaining source.old) (λ bytes.
+        TellsEvents programme.now options.now bytes A.is_told audience.old audience.new
+        (A.has_stopped audience.new) result) }
+    // Whatever the source tells, the device was told some events, and did not say stop where the
+    // source failed.
+    ensures some { TellsSome A.is_told audience.old audience.new }
+    ensures goes_on { IfErr result (λ _. A.has_stopped audience.new ≡ false) }
+    // That the source failed is told at the PES packet within which it failed: those before it were
+    // taken. There is no other `Err`.
+    ensures read { (pes : ℕ) → result ≡ Err (CheckFault.Pes pes PesFault.Read)
+        → FailsAtPacket pes (S.remaining source.old) (S.remaining source.new) }
+    ensures only { IfErr result (λ f. is_pes_read f ≡ true) }
+    ensures count { CountsIf S.failure_count source.old (failed is_pes_read result) source.new }
+{
+    tell_all(programme, source, options, audience)
+}
+
+// Tells all that is broken, PES packet by PES packet.
+#[tactic(auto, using(sub_io::proofs::TellingLemmas::some))]
+fn tell_all<S: Source, A: Audience<Event>>(
+    programme: &Programme,
+    source: &mut S,
+    options: &Options,
+    audience: &mut A,
+) -> Result<Accepted, CheckFault>
+    requires failures { CanFail (S.failure_count source.old) }
+    requires goes_on { A.has_stopped audience.old ≡ false }
+    ensures exact { (frames : Transmission) (unread : Option Unread)
+        → IfTold (S.remaining source.old) (λ bytes.
+        ReadsAs options.now.origin 0 bytes frames unread
+        → TellsAll (task_of programme.now options.now unread) options.now.origin bytes frames
+        A.is_told audience.old audience.new (A.has_stopped audience.new) result) }
+    ensures some { TellsSome A.is_told audience.old audience.new }
+    ensures goes_on { IfErr result (λ _. A.has_stopped audience.new ≡ false) }
+    ensures read { (pes : ℕ) → result ≡ Err (CheckFault.Pes pes PesFault.Read)
+        → FailsAtPacket pes (S.remaining source.old) (S.remaining source.new) }
+    ensures only { IfErr result (λ f. is_pes_read f ≡ true) }
+    ensures options { IsOptions options.now }
+    ensures programme { IsProgramme programme.now.national programme.now.records }
+    ensures count { CountsIf S.failure_count source.old (failed is_pes_read result) source.new }
+{
+    let every = options.every() as u32;
+    let watched = Watched {
+        page: options.page(),
+        national: programme.national(),
+        complete: options.asks_complete(),
+    };
+    let mut reader = ComparingReader::new();
+    let mut checker = Checker::new(programme, watched, every);
+    let mut pes = 0;
+    'packets: loop {
+        let more = match next_sending(&mut reader, source, options, pes) {
+            Err(fault) => {
+                if is_source_failure(&fault) {
+                    return Err(fault);
+                }
+                let _ = checker.close(pes, Some(fault), audience);
+                return Ok(checker.counts(pes));
+            }
+            Ok(more) => more,
+        };
+        let Some(sending) = more else {
+            let _ = checker.close(pes, None, audience);
+            return Ok(checker.counts(pes));
+        };
+        let units = units_of(&reader);
+        match checker.go_on(pes, sending, units, audience) {
+            Err(_) => return Ok(checker.counts(pes)),
+            Ok(()) => pes += 1,
+        }
+    }
+}
+
+// The answer, where this was told first, if anything was.
+fn answer(first: Option<Event>, counts: Accepted) -> Result<Accepted, CheckFault>
+    ensures none { first ≡ None → result ≡ Ok counts }
+    ensures some { (f : CheckFault) → first ≡ Some (Event.Told f) → IsRuleFault f
+        → result ≡ Err f }
+    ensures own { IfErr result IsRuleFault }
+{
+    match first {
+        None => Ok(counts),
+        Some(Event::Told(fault)) => Err(of_rule(fault)),
+        // Nothing ends before it is told.
+        Some(Event::Ended { .. }) => Err(CheckFault::Empty),
+    }
+}
+
+// A fault that is told by a rule, as it is. No other is told of a PES file.
+fn of_rule(fault: CheckFault) -> CheckFault
+    ensures same { IsRuleFault fault → result ≡ fault }
+    ensures own { IsRuleFault result }
+{
+    match fault {
+        CheckFault::Subtitles(_)
+        | CheckFault::Pes {
+            fault: PesFault::Read | PesFault::Write,
+            ..
+        } => CheckFault::Empty,
+        _ => fault,
+    }
+}
+
+// The source failed.
+fn is_source_failure(fault: &CheckFault) -> bool
+    ensures { result ≡ is_pes_read fault.now }
+{
+    match fault {
+        CheckFault::Pes { fault, .. } => *fault == PesFault::Read,
+        _ => false,
+    }
+}
