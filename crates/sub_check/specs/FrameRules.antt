@@ -40,16 +40,21 @@ watched_of programme options = record {
   complete = options.asks_complete;
 }
 
--- The task of a programme and options.
-abbrev pub task_of : ProgrammeValue → OptionsValue → Option Unread → Task
-task_of programme options unread = record {
-  watched = watched_of programme options;
-  every = options.every;
+-- The task of a programme, where this is watched with this repeat bound.
+abbrev pub task_with : ProgrammeValue → Watched → ℕ → Option Unread → Task
+task_with programme watched every unread = record {
+  watched = watched;
+  every = every;
   due = due_in programme;
   first_in = first_in programme.records;
   last_out = last_out programme.records;
   unread = unread;
 }
+
+-- The task of a programme and options.
+abbrev pub task_of : ProgrammeValue → OptionsValue → Option Unread → Task
+task_of programme options unread =
+    task_with programme (watched_of programme options) options.every unread
 
 -- The number of frame i of the list, from 0.
 abbrev pub frame_at : Transmission → ℕ → ℕ

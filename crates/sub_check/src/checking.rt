@@ -22,7 +22,6 @@ ghost use Rattle.sub_check.specs.PesReading.{ReadsAs};
 ghost use Rattle.sub_check.specs.Transmission.{Transmission};
 
 use crate::checking::checker::Checker;
-use crate::checking::packet_rules::Watched;
 use crate::event::Event;
 use crate::fault::CheckFault;
 use crate::sending::{next_sending, units_of};
@@ -147,14 +146,8 @@ fn tell_all<S: Source, A: Audience<Event>>(
     ensures programme { IsProgramme programme.now.national programme.now.records }
     ensures count { CountsIf S.failure_count source.old (failed is_pes_read result) source.new }
 {
-    let every = options.every() as u32;
-    let watched = Watched {
-        page: options.page(),
-        national: programme.national(),
-        complete: options.asks_complete(),
-    };
     let mut reader = ComparingReader::new();
-    let mut checker = Checker::new(programme, watched, every);
+    let mut checker = Checker::new(programme, options);
     let mut pes = 0;
     'packets: loop {
         let more = match next_sending(&mut reader, source, options, pes) {

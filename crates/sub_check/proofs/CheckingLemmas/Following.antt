@@ -19,11 +19,11 @@ use Rattle.sub_check.specs.Events.{end_events, events_at_end, first_header_event
 use Rattle.sub_check.specs.Events.{gap_events, gap_length, is_early, is_gap, is_incomplete, latest}
 use Rattle.sub_check.specs.Events.{nothing_stands, order_events, packet_events, rest_events}
 use Rattle.sub_check.specs.Events.{rule_events, standing_at, standing_before}
-use Rattle.sub_check.specs.checking.Following.{Arrives, Follows, HasBegun, IsTaskOf, Remembers}
+use Rattle.sub_check.specs.checking.Following.{Arrives, Follows, HasBegun, Remembers}
 use Rattle.sub_check.specs.checking.Following.{Waits}
 use Rattle.sub_check.specs.checking.Following.{arriving_events, ending_events, taking_events}
 use Rattle.sub_check.specs.FrameRules.{Task, Unread, frame_at, packets_before, packets_of_frame}
-use Rattle.sub_check.specs.FrameRules.{end_frame}
+use Rattle.sub_check.specs.FrameRules.{end_frame, task_with}
 use Rattle.sub_check.specs.FirstBroken.{unread_fault}
 use Rattle.sub_check.specs.checking.Listener.{Knows, KnowsLast}
 use Rattle.sub_check.specs.PacketRules.{header_count}
@@ -97,13 +97,12 @@ ends_are g frames (suc i) n f old new last is at now = rw (is, now, at (omega ar
 -- Nothing is kept. For `new`.
 pub Follows-none :
     (g : Task) (frames : Transmission) (c : CheckerValue)
-    → IsTaskOf g c.programme c.every
-    → c.listener.watched ≡ g.watched
+    → g ≡ task_with c.programme c.listener.watched c.every g.unread
     → KnowsLast [] (packets_of_frame frames 0) c.listener
     → c.headers ≡ 0
     → as_standing c.standing ≡ nothing_stands
     → Follows g frames 0 c
-Follows-none g frames c task watched knows none stood = grind (arith, nat_tests)
+Follows-none g frames c task knows none stood = grind (arith, nat_tests)
 
 -- Another page is due: the rest stays.
 remembers_at : (g : Task) (frames : Transmission) (n f : ℕ) (c : CheckerValue)
@@ -283,7 +282,8 @@ pub taking_are :
     ≡ packet_events c.listener.watched c.frame (packets_before frames n) ps (length ps)
     ++ ending_events g frames n
 taking_are g frames n c ps arrives packets_are =
-    rw (arrives.waits.known.watched_is, arrives.frame_is, sym packets_are) refl
+    let watched = ap (λ (t : Task). t.watched) arrives.waits.known.task_is in
+    rw (sym watched, arrives.frame_is, sym packets_are) refl
 
 module _ (g : Task) (frames : Transmission) (n : ℕ) (c : CheckerValue)
     (arrives : Arrives g frames n c) (there : n < length frames)
@@ -300,7 +300,7 @@ module _ (g : Task) (frames : Transmission) (n : ℕ) (c : CheckerValue)
     -- The headers among them.
     has_header : holds_header (kind g.watched.page) ps ≡ nat_lt 0 headers
     has_header =
-        let watched = arrives.waits.known.watched_is in
+        let watched = ap (λ (t : Task). t.watched) arrives.waits.known.task_is in
         grind (arith, holds-count)
 
     -- What is told of the first frame's. For `take`.
@@ -330,7 +330,7 @@ module _ (g : Task) (frames : Transmission) (n : ℕ) (c : CheckerValue)
         let before = arrives.waits.begun.late_is d in
         let more = list_any_more (covers g d) frames n none there in
         let at = arrives.frame_is in
-        let every = arrives.waits.known.task_is.every_is in
+        let every = ap (λ (t : Task). t.every) arrives.waits.known.task_is in
         grind (arith, nat_tests, has_header)
 
     module _ (due : s.comparison.due ≡ due_in c.programme c.frame) where
@@ -355,7 +355,6 @@ module _ (g : Task) (frames : Transmission) (n : ℕ) (c : CheckerValue)
           rw joined (record {
             known = record {
               task_is = known_then.task_is;
-              watched_is = known_then.watched_is;
               knows = known_then.knows;
               count = known_then.count;
             };

@@ -22,10 +22,8 @@ use Rattle.sub_check.specs.checking.Steps.{AreTaken, AreWhole, CountsRead, IsFra
 use Rattle.sub_check.specs.checking.Steps.{TellsFrame}
 use Rattle.sub_check.specs.checking.Steps.{TellsOrStops}
 use Rattle.sub_check.specs.Events.{closing_events, events, events_of_first, frame_events}
-use Rattle.sub_check.specs.checking.Following.{Follows, IsSentFrame, IsTaskOf}
-use Rattle.ttx_packet.specs.PageId.{PageIdValue}
-use Rattle.stl_rows.specs.declared.national.National.{National}
-use Rattle.sub_check.specs.FrameRules.{watched_of, Task, Unread, task_of, packets_of_frame}
+use Rattle.sub_check.specs.checking.Following.{Follows, IsSentFrame}
+use Rattle.sub_check.specs.FrameRules.{Task, Unread, task_of, packets_of_frame}
 use Rattle.sub_check.specs.PacketRules.{packets_of_units}
 use Rattle.sub_check.specs.PesReading.{EndsReading, ReadsAs}
 use Rattle.sub_check.specs.Transmission.{SentFrame, Transmission}
@@ -302,25 +300,6 @@ module _
     counts_read c a follows all none some headers = grind (arith, nat_tests)
 
 -- ---- before the first PES packet
-
--- The task of a programme and options, where the bound was read of the options, is that of the
--- programme. For `tell_all`.
-pub task_is :
-    (p : ProgrammeValue) (options : OptionsValue) (unread : Option Unread) (every : ℕ)
-    → every ≡ options.every
-    → IsTaskOf (task_of p options unread) p every
-task_is p options unread every e =
-    record { due_is = λ f. refl; every_is = sym e; first_is = refl; last_is = refl }
-
--- What is watched, from what was read. For `tell_all`.
-pub watched_is :
-    (p : ProgrammeValue) (options : OptionsValue) (page : PageIdValue) (national : National)
-    → (complete : Bool)
-    → page ≡ options.page
-    → national ≡ p.national
-    → complete ≡ options.asks_complete
-    → watched_of p options ≡ record { page = page; national = national; complete = complete }
-watched_is p options page national complete e f h = grind arith
 
 -- Of no frame nothing is told.
 pub none_of_first : (g : Task) (frames : Transmission) → events_of_first g frames 0 ≡ []

@@ -1,7 +1,6 @@
 -- The parts of the check of one frame of the list, and what is kept after the first n frames.
 use Rattle.std.specs.Prelude.{◌≡◌, ℕ, suc, ◌+◌, ◌-◌, ◌<◌, List, ◌++◌, length, nat_le}
 use Rattle.sub_check.specs.Transmission.{Transmission}
-use Rattle.stl_rows.specs.Programme.{ProgrammeValue, first_in, last_out}
 use Rattle.sub_check.specs.checking.Checker.{CheckerValue, as_standing}
 use Rattle.sub_check.specs.declared.checking.packet_rules.PacketRule.{PacketRule}
 use Rattle.sub_check.specs.Events.{end_before, events_at_end, first_header_events, gap_events}
@@ -9,8 +8,7 @@ use Rattle.sub_check.specs.Events.{gap_length, is_gap, latest, nothing_stands, o
 use Rattle.sub_check.specs.Events.{packet_events, standing_at, standing_before}
 use Rattle.sub_check.specs.declared.event.Event.{Event}
 use Rattle.sub_check.specs.checking.Listener.{KnowsLast}
-use Rattle.sub_check.specs.FrameRules.{Task, frame_at, packets_of_frame, packets_before}
-use Rattle.sub_plan.specs.Schedule.{due_in}
+use Rattle.sub_check.specs.FrameRules.{Task, frame_at, packets_of_frame, packets_before, task_with}
 use Rattle.sub_check.specs.PacketRules.{header_count}
 use Rattle.sub_check.specs.FirstBroken.{Place, IsThere, HoldsThere}
 use Rattle.sub_check.specs.FirstBroken.Place.{AtOrder, AtStart, AtGapCell, AtGap, AtPacket, AtFirst}
@@ -48,13 +46,6 @@ pub record FrameOk (g : Task) (frames : Transmission) (i : ℕ) : Type 0 where
   pub packets : PacketsOk g frames i
   pub end : EndOk g frames i
 
--- The task is that of the programme, with the repeat bound.
-pub record IsTaskOf (g : Task) (p : ProgrammeValue) (every : ℕ) : Type 0 where
-  pub due_is : (f : ℕ) → g.due f ≡ due_in p f
-  pub every_is : g.every ≡ every
-  pub first_is : g.first_in ≡ first_in p.records
-  pub last_is : g.last_out ≡ last_out p.records
-
 -- Frame i of the list has this number and these packets.
 pub record IsSentFrame (frames : Transmission) (i frame : ℕ) (packets : List (List ℕ)) : Type 0
   where
@@ -70,8 +61,7 @@ AreOk g frames n = (j : ℕ) → j < n → FrameOk g frames j
 
 -- What is kept of the packets is what the first n frames of the list say.
 pub record Remembers (g : Task) (frames : Transmission) (n : ℕ) (c : CheckerValue) : Type 0 where
-  pub task_is : IsTaskOf g c.programme c.every
-  pub watched_is : c.listener.watched ≡ g.watched
+  pub task_is : g ≡ task_with c.programme c.listener.watched c.every g.unread
   pub knows : KnowsLast (packets_before frames n) (packets_of_frame frames (n - 1)) c.listener
   pub count : c.headers ≡ header_count g.watched.page (packets_before frames n)
 

@@ -2,7 +2,7 @@
 //! frame's end.
 ghost use Rattle.std.specs.Prelude.{◌≡◌, ℕ, ◌+◌, ◌-◌, ◌*◌, ◌<◌, ◌≤◌, ◌==◌, ◌&&◌, List, length};
 ghost use Rattle.std.specs.Prelude.{MatchOption, OnOk, IfErr, if◌then◌else◌, max, nat_le, nat_lt};
-ghost use Rattle.std.specs.Prelude.{IsTrue, Some, None, true, false, is_err};
+ghost use Rattle.std.specs.Prelude.{IsTrue, Option, Some, None, true, false, is_err};
 ghost use Rattle.stl_file.specs.TimeCode.{day};
 ghost use Rattle.sub_io.specs.Telling.{TellsSome, TellsUntilStopped};
 ghost use Rattle.sub_check.specs.checking.Checker.{is_before, later_by};
@@ -10,7 +10,10 @@ ghost use Rattle.sub_check.specs.checking.Steps.{ending_fault, fault_events, las
 ghost use Rattle.sub_check.specs.checking.Steps.{late_fault};
 ghost use Rattle.sub_check.specs.Events.{closing_events, end_events, gap_events, gap_length};
 ghost use Rattle.sub_check.specs.Events.{is_early, latest};
-ghost use Rattle.sub_check.specs.FrameRules.{Task, frame_at, packets_before, packets_of_frame};
+ghost use Rattle.sub_check.specs.FrameRules.{Task, Unread, frame_at, packets_before};
+ghost use Rattle.sub_check.specs.FrameRules.{packets_of_frame, task_of};
+ghost use Rattle.stl_rows.specs.Programme.{IsProgramme};
+ghost use Rattle.sub_plan.specs.Options.{IsOptions};
 ghost use Rattle.sub_plan.specs.Schedule.{due_in};
 ghost use Rattle.ttx_pes.specs.PesPacket.{most_units};
 ghost use Rattle.sub_check.specs.PacketRules.{packets_of_units};
@@ -26,6 +29,7 @@ use crate::sending::Sending;
 use std::marker::Model;
 use stl_rows::Programme;
 use sub_io::{Audience, Stopped};
+use sub_plan::Options;
 use ttx_pes::Unit;
 
 /// How far the check has come.
@@ -78,7 +82,7 @@ impl<'a> Checker<'a> {
     ghost use Rattle.sub_check.specs.checking.Checker.{after_end, as_standing, at_first, at_frame};
     ghost use Rattle.sub_check.specs.checking.Checker.{at_next};
     ghost use Rattle.sub_check.specs.checking.Checker.{none_stands, stands};
-    ghost use Rattle.sub_check.specs.checking.Following.{Arrives, Follows, IsSentFrame, IsTaskOf};
+    ghost use Rattle.sub_check.specs.checking.Following.{Arrives, Follows, IsSentFrame};
     ghost use Rattle.sub_check.specs.checking.Following.{Waits};
     ghost use Rattle.sub_check.specs.checking.Following.{arriving_events, ending_events};
     ghost use Rattle.sub_check.specs.checking.Following.{taking_events};
@@ -87,16 +91,21 @@ impl<'a> Checker<'a> {
     ghost use Rattle.sub_check.specs.Events.{frame_events};
 
     /// Before the first PES packet: nothing was heard.
-    pub fn new(programme: &'a Programme, watched: Watched, every: u32) -> Self
-        requires bound { every ≤ 1500 }
+    pub fn new(programme: &'a Programme, options: &Options) -> Self
         ensures none { result.headers ≡ 0 }
-        ensures follows { (g : Task) (frames : Transmission)
-            → IsTaskOf g programme.now every → g.watched ≡ watched
-            → Follows g frames 0 result }
+        ensures follows { (frames : Transmission) (unread : Option Unread)
+            → Follows (task_of programme.now options.now unread) frames 0 result }
+        ensures options { IsOptions options.now }
+        ensures programme { IsProgramme programme.now.national programme.now.records }
     {
+        let watched = Watched {
+            page: options.page(),
+            national: programme.national(),
+            complete: options.asks_complete(),
+        };
         Checker {
             programme,
-            every,
+            every: options.every() as u32,
             listener: Listener::new(watched, programme.due_page(0)),
             first: 0,
             latest: 0,

@@ -15,8 +15,7 @@ use Rattle.sub_check.specs.declared.sending.Sending.{Sending}
 use Rattle.sub_check.proofs.CheckingLemmas.WaysOut.{Reads-none, again_is, at_end, counts_read}
 use Rattle.sub_check.proofs.CheckingLemmas.WaysOut.{is_read}
 use Rattle.sub_check.proofs.CheckingLemmas.WaysOut.{next_read, next_sent, none_of_first, one_more}
-use Rattle.sub_check.proofs.CheckingLemmas.WaysOut.{task_is}
-use Rattle.sub_check.proofs.CheckingLemmas.WaysOut.{told_to_end, told_to_stop, watched_is}
+use Rattle.sub_check.proofs.CheckingLemmas.WaysOut.{told_to_end, told_to_stop}
 use Rattle.sub_check.proofs.CheckingLemmas.Telling.{all_same}
 use Rattle.sub_check.proofs.checking.tell_all.Goals as goal
 
@@ -31,10 +30,7 @@ packets-init g c = record {
   headers = omega (arith, c.new-checker.ensures.none);
   told = λ frames unread bytes told reads. (
     Reads-none c.args.programme.now c.args.options.now bytes frames unread _ told reads,
-    c.new-checker.ensures.follows (task_of c.args.programme.now c.args.options.now unread) frames
-        (task_is c.args.programme.now c.args.options.now unread _ c.every-every.ensures.value)
-        (watched_is c.args.programme.now c.args.options.now _ _ _ c.page.ensures.value
-        c.national.ensures.value c.asks_complete.ensures.value),
+    c.new-checker.ensures.follows frames unread,
     λ some. absurd (omega arith),
     all_same _ _ _ _ (none_of_first (task_of c.args.programme.now c.args.options.now unread) frames)
         (Tells-none _),
