@@ -12,6 +12,7 @@ use Rattle.std.proofs.lemmas.List.{get_or_default, same_lists, length-drop, leng
 use Rattle.ttx_packet.specs.OneBit.{first_below}
 use Rattle.ttx_packet.specs.PacketAddress.{HasExactAddress, IsPacket, PacketAddress, address}
 use Rattle.ttx_packet.specs.PageHeader.{HasExactHeader, c11, header}
+use Rattle.ttx_packet.specs.PageId.{PageIdValue}
 use Rattle.ttx_packet.specs.Parity.{is_odd}
 use Rattle.ttx_packet.specs.RowPacket.{HasOddText, first_even_byte, text_byte}
 use Rattle.ttx_packet.specs.declared.header.Header.{Header}
@@ -34,7 +35,7 @@ use Rattle.sub_check.specs.PacketTests.{first_of_row, is_wrong_header, packet_ru
 use Rattle.sub_check.specs.declared.checking.packet_rules.PacketRule.{PacketRule}
 use Rattle.sub_check.specs.declared.checking.packet_rules.PacketRule.TheVariants as rule
 use Rattle.sub_check.specs.declared.checking.packet_rules.Watched.{Watched}
-use Rattle.sub_check.proofs.TestLemmas.{below_none, fails, holds}
+use Rattle.sub_check.proofs.TestLemmas.{below_none, fails, holds, same_bit}
 use Rattle.sub_check.proofs.CodesLemmas.{same_packet}
 use Rattle.sub_check.proofs.PacketLists.{Each-find, Each-join, Each-map, Each-none, no_row}
 use Rattle.sub_check.proofs.CheckingLemmas.PacketRules.{address_decided, header_decided}
@@ -61,7 +62,7 @@ mode-none (Some true) = refl
 mode-none (Some false) = refl
 
 -- One mode.
-one_mode : (this first : Option Header)
+pub one_mode : (this first : Option Header)
     → Refutes
     (is_other_mode (option_map (λ (h : Header). c11 h) first)
     (option_map (λ (h : Header). c11 h) this))
@@ -70,10 +71,6 @@ one_mode None None = (λ e h f a b. grind arith, λ h. refl)
 one_mode None (Some f) = (λ e h f a b. grind arith, λ h. ap not (mode-none (Some (c11 f))))
 one_mode (Some h) None = (λ e h f a b. grind arith, λ h. refl)
 one_mode (Some h) (Some f) = grind (arith, nat_tests)
-
--- Two bits are the same.
-same_bit : (a b : Bool) → Decides (is_same_bit a b) (a ≡ b)
-same_bit a b = grind arith
 
 -- The control bits.
 subtitle_header : (national : National) (h : Header)
@@ -107,6 +104,19 @@ odd_text p = go (first_below 40 (λ column. not (is_odd (text_byte p column)))) 
           let odd = h column even.0 in
           absurd (grind (arith, nat_tests)),
     )
+
+-- A row's.
+pub odd_row : (p : List ℕ) (k : PacketKind)
+    → Refutes (is_some_row k && is_some (first_even_byte p))
+    ((row : ℕ) → k ≡ Row row → HasOddText p)
+odd_row p (Row y) = (λ e row is. (odd_text p).0 e, λ h. (odd_text p).1 (h y refl))
+odd_row p k = (λ e row is. grind arith, λ h. refl)
+
+-- A packet that no page of level 1 has.
+pub no_enhancement : (page : PageIdValue) (p : List ℕ) (o : Option PacketAddress) → address p ≡ o
+    → Refutes (is_of_enhancement page o) (IsEnhancement page p → ⊥)
+no_enhancement page p None e = (λ f is. none-some is.0 (sym e ∙ is.1), λ h. refl)
+no_enhancement page p (Some a) e = grind (arith, nat_tests, same_Some)
 
 -- ---- rows
 
@@ -241,13 +251,6 @@ module _ (w : Watched) (before : List (List ℕ)) (p : List ℕ) (whole : IsPack
     opened true c P d = (λ e t. (d refl).0 e, λ h. (d refl).1 (h refl))
     opened false c P d = (λ e t. absurd (true≢false (sym t)), λ h. refl)
 
-    -- A rule of a row.
-    odd_row : (k : PacketKind)
-        → Refutes (is_some_row k && is_some (first_even_byte p))
-        ((row : ℕ) → k ≡ Row row → HasOddText p)
-    odd_row (Row y) = (λ e row is. (odd_text p).0 e, λ h. (odd_text p).1 (h y refl))
-    odd_row k = (λ e row is. grind arith, λ h. refl)
-
     same_row : (k : PacketKind) → kind w.page p ≡ k
         → KeepsRule rule.Address w before p → KeepsRule rule.Parity w before p
         → IsTrue (is_open_after (kind w.page) before)
@@ -261,12 +264,6 @@ module _ (w : Watched) (before : List (List ℕ)) (p : List ℕ) (whole : IsPack
           row_decided w (span (kind w.page) before) (s is_open) p y e whole exact (odd is_open y e),
         )
     same_row k e exact odd is_open = (λ f row is. grind arith, λ h. refl)
-
-    -- A packet that no page of level 1 has.
-    no_enhancement : (o : Option PacketAddress) → address p ≡ o
-        → Refutes (is_of_enhancement w.page o) (IsEnhancement w.page p → ⊥)
-    no_enhancement None e = (λ f is. none-some is.0 (sym e ∙ is.1), λ h. refl)
-    no_enhancement (Some a) e = grind (arith, nat_tests, same_Some)
 
     -- Each rule, where those of a lower rank are kept.
     pub decided : (r : PacketRule)
@@ -283,13 +280,13 @@ module _ (w : Watched) (before : List (List ℕ)) (p : List ℕ) (whole : IsPack
         (grind (arith, nat_tests))
         (opened (is_open_after (kind w.page) before)
         (is_some_row (kind w.page p) && is_some (first_even_byte p))
-        ((row : ℕ) → kind w.page p ≡ Row row → HasOddText p) (λ t. odd_row (kind w.page p)))
+        ((row : ℕ) → kind w.page p ≡ Row row → HasOddText p) (λ t. odd_row p (kind w.page p)))
     decided rule.RowChanged lower =
         opened (is_open_after (kind w.page) before) _ _
         (same_row (kind w.page p) refl (lower rule.Address (omega arith))
         (lower rule.Parity (omega arith)))
     decided rule.Enhancement lower =
-        opened (is_open_after (kind w.page) before) _ _ (λ t. no_enhancement (address p) refl)
+        opened (is_open_after (kind w.page) before) _ _ (λ t. no_enhancement w.page p (address p) refl)
 
     pub broken_first : FirstRule (λ r. KeepsRule r w before p)
         (broken_rules w before p)

@@ -11,6 +11,8 @@ use Rattle.ttx_packet.specs.PacketAddress.{address}
 use Rattle.ttx_packet.specs.PageHeader.{header, coded_header}
 use Rattle.ttx_packet.specs.Parity.{is_odd}
 use Rattle.ttx_page.specs.Page.{blank, blank_row}
+use Rattle.sub_check.specs.PacketTests.{are_code_words, is_word_below}
+use Rattle.ttx_packet.specs.RowPacket.{first_even_byte}
 use Rattle.ttx_page.specs.PacketKind.{kind}
 use Rattle.stl_rows.specs.DrawnPage.{drawn, page_of_lines, line_fault_kinds}
 use Rattle.stl_rows.specs.DuePage.{due}
@@ -32,7 +34,8 @@ by_tests (e ∷ es) passed =
     (by_test e.rule e.programme e.transmission (each e.every) parts.0, by_tests es parts.1)
 
 pub examples_of_broken_rules : ExamplesOfBrokenRules
-unfolding kind address header coded_header decoded is_near is_odd count_ones ones_in due blank
+unfolding are_code_words is_word_below first_even_byte kind address
+    header coded_header decoded is_near is_odd count_ones ones_in due blank
     blank_row drawn page_of_lines row_of line_fault_kinds prepared is_boxed is_double
     cell_of cell_of_pair
 examples_of_broken_rules =

@@ -9,6 +9,10 @@ use Rattle.ttx_packet.specs.PacketAddress.{address}
 use Rattle.ttx_packet.specs.PageHeader.{header, coded_header}
 use Rattle.ttx_packet.specs.Parity.{is_odd}
 use Rattle.ttx_page.specs.Page.{blank, blank_row}
+use Rattle.sub_check.specs.PacketTests.{are_code_words, breaks, is_word_below}
+use Rattle.ttx_packet.specs.RowPacket.{first_even_byte}
+use Rattle.ttx_page.specs.Differing.{columns_differing}
+use Rattle.sub_check.specs.Events.{is_gap}
 use Rattle.ttx_page.specs.PacketKind.{kind}
 use Rattle.stl_rows.specs.DuePage.{due}
 use Rattle.sub_check.specs.CleanStretch.Part.{DueContent, ExactAddresses, ExactHeaders, FramesRise}
@@ -22,7 +26,8 @@ abbrev mark : List (List ℕ)
 mark = header_888 ∷ row_1 0xA1 ∷ closing ∷ []
 
 pub examples_of_needed_parts : ExamplesOfNeededParts
-unfolding kind address header coded_header decoded is_near is_odd count_ones ones_in due blank
+unfolding are_code_words is_word_below first_even_byte breaks columns_differing is_gap
+    kind address header coded_header decoded is_near is_odd count_ones ones_in due blank
     blank_row
 -- Frames 900000 and 900001 are got as they were sent.
 examples_of_needed_parts FramesRise =

@@ -1,48 +1,41 @@
 -- A transmission is not robust, by a receiver that computes: `refuted`. And it is not though all
 -- that is asked of a clean stretch but one part holds, which is needed then: `needed`.
-use Rattle.std.proofs.lemmas.Bool.Decides.{nat_tests}
+use Rattle.std.proofs.lemmas.Bool.Decides.{nat_tests, Decides-and}
 use Rattle.std.proofs.Common.{◌≡◌, ◌↔◌, ◌⊎◌, ℕ, suc, ◌+◌, ◌-◌, ◌<◌, ◌≤◌, inl, inr, ◌==◌, Bool}
-use Rattle.std.proofs.Common.{true, false, not}
+use Rattle.std.proofs.Common.{true, not, None, IsFalse}
 use Rattle.std.proofs.Common.{◌&&◌, ◌||◌, nat_le, nat_lt, List, [], ◌++◌, length, take, refl, sym}
-use Rattle.std.proofs.Common.{ap, ◌∙◌, arith, eqb-true, find, None, Some, slice_index}
+use Rattle.std.proofs.Common.{ap, ◌∙◌, arith, eqb-true}
 use Rattle.std.proofs.Common.{slice_index_or}
-use Rattle.std.proofs.Common.{replicate, subst, zero}
+use Rattle.std.proofs.Common.{false, replicate, subst, zero}
 use Rattle.std.proofs.lemmas.Bool.{and_parts, or_cases, leb-true}
 use Rattle.std.specs.Bool.{Decides}
-use Rattle.std.proofs.lemmas.Bool.Decides.{Decides-and, Decides-eqb, Decides-like, Decides-ltb}
-use Rattle.std.proofs.lemmas.Bool.Decides.{Decides-or}
-use Rattle.ttx_packet.specs.PageId.{PageIdValue}
-use Rattle.ttx_packet.specs.RowPacket.{HasOddText}
-use Rattle.ttx_page.specs.Page.{space, cell, IsCell}
-use Rattle.ttx_page.specs.PacketKind.{is_row, kind}
+use Rattle.ttx_page.specs.Page.{space, cell}
+use Rattle.ttx_page.specs.PacketKind.{kind}
 use Rattle.ttx_page.specs.Receiver.{State}
-use Rattle.ttx_page.specs.Span.{holds_header, is_open_after, span}
+use Rattle.ttx_page.specs.Span.{holds_header, span}
 use Rattle.ttx_page.specs.ComputedReceiver.{state_after}
 use Rattle.ttx_page.proofs.ComputedReceiver.{heard_so, near_packets, packets_tested}
 use Rattle.stl_rows.specs.Programme.{ProgrammeValue}
 use Rattle.sub_plan.specs.Options.{OptionsValue}
 use Rattle.sub_plan.specs.Schedule.{due_in}
-use Rattle.sub_check.specs.CleanStretch.{AtEnds, AtPackets, IsClean, IsKeptWithin, KeepsCodes, Part}
-use Rattle.sub_check.specs.CleanStretch.{number_of}
+use Rattle.sub_check.specs.CleanStretch.{AtEnds, AtPackets, IsClean, IsKeptWithin, Part, number_of}
 use Rattle.sub_check.specs.CleanStretch.Part.{DueContent, ExactAddresses, ExactHeaders, FramesRise}
 use Rattle.sub_check.specs.CleanStretch.Part.{OddRows, HeadersInTime, SameRows, SubtitleHeaders}
+use Rattle.sub_check.specs.Events.{is_gap}
 use Rattle.sub_check.specs.Examples.{IsNeeded}
-use Rattle.sub_check.specs.FrameRules.{HasHeader, IsCovered, ShowsDue, Task, frame_at, task_of}
-use Rattle.sub_check.specs.FrameRules.{packets_before, packets_of_frame}
-use Rattle.sub_check.specs.Good.{IsSubtitleHeader}
-use Rattle.sub_check.specs.PacketRules.{codes_of, KeepsRule}
+use Rattle.sub_check.specs.FrameRules.{Task, frame_at, packets_before, packets_of_frame, task_of}
+use Rattle.sub_check.specs.PacketTests.{breaks, is_same_bit}
 use Rattle.sub_check.specs.Transmission.{Transmission, first_frame, last_frame, packets_of, on_air}
 use Rattle.sub_check.specs.Robust.{IsListening, Robust}
+use Rattle.sub_check.specs.declared.checking.packet_rules.PacketRule.{PacketRule}
 use Rattle.sub_check.specs.declared.checking.packet_rules.PacketRule.TheVariants as rule
-use Rattle.sub_check.specs.declared.checking.packet_rules.Watched.{Watched}
-use Rattle.sub_check.proofs.RuleTests.{exact_address_decided, exact_codes_decided}
-use Rattle.sub_check.proofs.RuleTests.{has_exact_address, has_exact_codes, is_odd_text}
-use Rattle.sub_check.proofs.RuleTests.{is_subtitles, odd_text_decided, rises, rising_decided}
-use Rattle.sub_check.proofs.RuleTests.{shows_decided, shows_page, subtitles_decided}
+use Rattle.sub_check.proofs.EventLemmas.{gap_decided}
+use Rattle.sub_check.proofs.RuleTests.{rises, rising_decided, shows_decided, shows_page}
 use Rattle.sub_check.proofs.StretchLemmas.{robust_of_recovers}
-use Rattle.sub_check.proofs.TestLemmas.{agree, agreed, all_below, any_below, at_most, below}
-use Rattle.sub_check.proofs.TestLemmas.{holds, if_row, if_some, if_this_page, implied, row_of_kind}
-use Rattle.sub_check.proofs.TestLemmas.{some_below, this_page, value_of}
+use Rattle.sub_check.proofs.TestLemmas.{all_below, at_most, each_below, fails, holds, implied}
+use Rattle.sub_check.proofs.TestLemmas.{same_bit}
+use Rattle.sub_check.proofs.UntoldLemmas.{control_bits, exact_address, exact_codes, odd_row}
+use Rattle.sub_check.proofs.UntoldLemmas.{same_row}
 
 -- It has heard nothing, and holds a page of question marks.
 abbrev before : State
@@ -73,7 +66,7 @@ is_wrong code due = not (code == due) && not (code == space)
 abbrev is_unserved : ProgrammeValue → OptionsValue → ℕ → ℕ → List (List ℕ) → State → Bool
 is_unserved programme o g f sent new =
     (nat_le (g + o.every) f && not (holds_header (kind o.page) sent))
-    || (not (agree new.heard (holds_header (kind o.page) sent))
+    || (not (is_same_bit new.heard (holds_header (kind o.page) sent))
     || (holds_header (kind o.page) sent
     && is_wrong (cell new.page 1 0) (cell (due_in programme f) 1 0)))
 
@@ -88,13 +81,13 @@ is_refuted programme frames o g j f got =
 -- Who is not served so is not served.
 not_served :
     (late has heard : Bool) (code due : ℕ)
-    → (late && not has || (not (agree heard has) || (has && is_wrong code due))) ≡ true
+    → (late && not has || (not (is_same_bit heard has) || (has && is_wrong code due))) ≡ true
     → (late ≡ true → has ≡ true)
     → (heard ≡ true ↔ has ≡ true)
     → (has ≡ true → (code ≡ due) ⊎ (code ≡ space))
     → ⊥
 not_served late has heard code due e in_time hears cells =
-    let agrees = agreed heard has in grind (arith, nat_tests)
+    let same = same_bit heard has in grind (arith, nat_tests)
 
 -- So the transmission is not robust.
 pub refuted :
@@ -140,24 +133,13 @@ packets_pass test frames a b =
     (length frames)
 
 at_packets :
-    (test : List (List ℕ) → List ℕ → Bool) (Holds : List (List ℕ) → List ℕ → Type 0)
-    → ((before : List (List ℕ)) (p : List ℕ) → Decides (test before p) (Holds before p))
-    → (frames : Transmission) (a b : ℕ)
+    (test : List (List ℕ) → List ℕ → Bool) (frames : Transmission) (a b : ℕ)
     → packets_pass test frames a b ≡ true
-    → AtPackets Holds frames a b
-at_packets test Holds decided frames a b e i k l m low high =
-    (below _
-    (λ i. (a ≤ frame_at frames i) × (frame_at frames i ≤ b)
-    → (k : ℕ)
-    → k < length (packets_of_frame frames i)
-    → Holds (packets_before frames i ++ take k (packets_of_frame frames i))
-    (slice_index_or (packets_of_frame frames i) k []))
-    (λ i. implied _ _ (in_stretch_decided a b (frame_at frames i))
-    (below _
-    (λ k. Holds (packets_before frames i ++ take k (packets_of_frame frames i))
-    (slice_index_or (packets_of_frame frames i) k []))
-    (λ k. decided _ _) (length (packets_of_frame frames i)))) (length frames)).0 e i l (low, high)
-    k m
+    → AtPackets (λ before p. test before p ≡ true) frames a b
+at_packets test frames a b e i k l m low high =
+    let frame = each_below _ (length frames) e i l in
+    each_below _ (length (packets_of_frame frames i))
+    ((implied _ _ (in_stretch_decided a b (frame_at frames i)) (holds _)).0 frame (low, high)) k m
 
 -- A test of each end at a frame of the stretch, and of some frames more.
 abbrev ends_pass : (ℕ → ℕ → Bool) → Transmission → ℕ → ℕ → Bool
@@ -172,138 +154,59 @@ ends_pass test frames a b =
     end_passes n f = not (in_stretch a b f) || test n f
 
 at_ends :
-    (test : ℕ → ℕ → Bool) (Holds : ℕ → ℕ → Type 0)
-    → ((n f : ℕ) → Decides (test n f) (Holds n f))
-    → (frames : Transmission) (a b : ℕ)
+    (test : ℕ → ℕ → Bool) (frames : Transmission) (a b : ℕ)
     → ends_pass test frames a b ≡ true
-    → AtEnds Holds frames a b
-at_ends test Holds decided frames a b e zero f end low high = absurd (omega (arith, end.0))
-at_ends test Holds decided frames a b e (suc m) f end low high =
+    → AtEnds (λ n f. test n f ≡ true) frames a b
+at_ends test frames a b e zero f end low high = absurd (omega (arith, end.0))
+at_ends test frames a b e (suc m) f end low high =
     let same : frame_at frames (suc m - 1) ≡ frame_at frames m =
     ap (frame_at frames) (omega arith) in
+    let all = and_parts _ _ (each_below _ (length frames) e m (omega (arith, end.1))) in
     elim end.2 [
-      | inl own ↦ subst Within (sym (own ∙ same)) all.0 (low, high)
+      | inl own ↦ within f (subst Passes (sym (own ∙ same)) all.0) low high
       | inr gap ↦
           let after = gap.2 m (omega arith) in
           let place : frame_at frames m + 1 + (f - (frame_at frames m + 1)) ≡ f =
           omega (arith, after) in
-          subst Within place (all.1 (f - (frame_at frames m + 1)) (omega (arith, after, gap.1)))
-          (low, high)
+          within f (subst Passes place
+          (each_below _ (frame_at frames (suc m) - (frame_at frames m + 1)) all.1
+          (f - (frame_at frames m + 1)) (omega (arith, after, gap.1)))) low high
     ]
   where
-    Within : ℕ → Type 0
-    Within g = (a ≤ g) × (g ≤ b) → Holds (suc m) g
+    Passes : ℕ → Type 0
+    Passes f = (not (in_stretch a b f) || test (suc m) f) ≡ true
 
-    each : (n g : ℕ) → Decides (not (in_stretch a b g) || test n g)
-        ((a ≤ g) × (g ≤ b) → Holds n g)
-    each n g = implied _ _ (in_stretch_decided a b g) (decided n g)
+    within : (f : ℕ) → Passes f → a ≤ f → f ≤ b → test (suc m) f ≡ true
+    within f passes low high =
+        (implied _ _ (in_stretch_decided a b f) (holds (test (suc m) f))).0 passes (low, high)
 
-    all :
-        Within (frame_at frames m)
-        × ((d : ℕ)
-        → d < frame_at frames (suc m) - (frame_at frames m + 1)
-        → Within (frame_at frames m + 1 + d))
-    all =
-        (below _
-        (λ m. ((a ≤ frame_at frames m) × (frame_at frames m ≤ b)
-        → Holds (suc m) (frame_at frames m))
-        × ((d : ℕ)
-        → d < frame_at frames (suc m) - (frame_at frames m + 1)
-        → (a ≤ frame_at frames m + 1 + d) × (frame_at frames m + 1 + d ≤ b)
-        → Holds (suc m) (frame_at frames m + 1 + d)))
-        (λ m. Decides-and _ _ (each (suc m) (frame_at frames m))
-        (below _
-        (λ d. (a ≤ frame_at frames m + 1 + d) × (frame_at frames m + 1 + d ≤ b)
-        → Holds (suc m) (frame_at frames m + 1 + d))
-        (λ d. each (suc m) (frame_at frames m + 1 + d))
-        (frame_at frames (suc m) - (frame_at frames m + 1)))) (length frames)).0 e m
-        (omega (arith, end.1))
+-- No packet at a frame of the stretch breaks the rule.
+abbrev unbroken : PacketRule → Task → Transmission → ℕ → ℕ → Bool
+unbroken r g frames a b = packets_pass (λ before p. not (breaks r g.watched before p)) frames a b
 
--- 40 codes are the same.
-abbrev same_codes : List ℕ → List ℕ → Bool
-same_codes one other = all_below (λ column. slice_index one column == slice_index other column) 40
+none_breaks :
+    (r : PacketRule) (g : Task) (frames : Transmission) (a b : ℕ)
+    → unbroken r g frames a b ≡ true
+    → AtPackets (λ before p. IsFalse (breaks r g.watched before p)) frames a b
+none_breaks r g frames a b e i k l m low high =
+    (fails _).0
+    (at_packets (λ before p. not (breaks r g.watched before p)) frames a b e i k l m low high)
 
--- While the page is open a row has the codes of the first packet of its row.
-abbrev keeps_codes : PageIdValue → List (List ℕ) → List ℕ → Bool
-keeps_codes page before p =
-    not (is_open_after (kind page) before)
-    || if_some
-    (λ row. if_some (λ first. same_codes (codes_of first) (codes_of p))
-    (find (λ q. is_row row (kind page q)) (span (kind page) before)))
-    (row_of_kind (kind page p))
-
-codes_decided :
-    (w : Watched) (before : List (List ℕ)) (p : List ℕ)
-    → Decides (keeps_codes w.page before p) (KeepsCodes w before p)
-codes_decided w before p =
-    Decides-like _
-    (λ h up row first is found. h up row is first found)
-    (λ h up row is first found. h up row first is found)
-    (implied _ _ (holds (is_open_after (kind w.page) before))
-    (if_row _
-    (λ row. (first : List ℕ)
-    → find (λ q. is_row row (kind w.page q)) (span (kind w.page) before) ≡ Some first
-    → (column : ℕ)
-    → column < 40
-    → slice_index (codes_of first) column ≡ slice_index (codes_of p) column)
-    (λ row. value_of _
-    (λ first. (column : ℕ)
-    → column < 40
-    → slice_index (codes_of first) column ≡ slice_index (codes_of p) column)
-    (λ first. below _ _ (λ column. Decides-eqb _ _) 40)
-    (find (λ q. is_row row (kind w.page q)) (span (kind w.page) before))) (kind w.page p)))
-
--- While the page is open a row is odd.
-abbrev keeps_odd : PageIdValue → List (List ℕ) → List ℕ → Bool
-keeps_odd page before p =
-    not (is_open_after (kind page) before)
-    || if_some (λ row. is_odd_text p) (row_of_kind (kind page p))
-
-odd_decided :
-    (w : Watched) (before : List (List ℕ)) (p : List ℕ)
-    → Decides (keeps_odd w.page before p) (KeepsRule rule.Parity w before p)
-odd_decided w before p =
-    implied _ _ (holds (is_open_after (kind w.page) before))
-    (if_row _ (λ row. HasOddText p) (λ row. odd_text_decided p) (kind w.page p))
-
--- A header of the page is less than the repeat bound ago.
-abbrev is_covered : Task → Transmission → ℕ → ℕ → Bool
-is_covered g frames n f =
-    nat_lt (f + 1) (frame_at frames 0 + g.every)
-    || any_below
-    (λ j. nat_lt f (frame_at frames j + g.every)
-    && holds_header (kind g.watched.page) (packets_of_frame frames j))
-    n
-
-covered_decided :
-    (g : Task) (frames : Transmission) (n f : ℕ)
-    → Decides (is_covered g frames n f) (IsCovered g frames n f)
-covered_decided g frames n f =
-    Decides-like (is_covered g frames n f)
-    (λ h. elim h [ inl early ↦ inl early | inr (j, l, both) ↦ inr (j, l, both.0, both.1) ])
-    (λ h. elim h [ inl early ↦ inl early | inr (j, l, late, has) ↦ inr (j, l, (late, has)) ])
-    (Decides-or _ _ (Decides-ltb (f + 1) (frame_at frames 0 + g.every))
-    (some_below _ (λ j. (f < frame_at frames j + g.every) × HasHeader g frames j)
-    (λ j. Decides-and _ _ (Decides-ltb f (frame_at frames j + g.every))
-    (holds (holds_header (kind g.watched.page) (packets_of_frame frames j)))) n))
+-- After n frames the page that is due at frame f is shown.
+abbrev shows_due : Task → Transmission → ℕ → ℕ → Bool
+shows_due g frames n f =
+    shows_page g.watched.page (span (kind g.watched.page) (packets_before frames n)) (g.due f)
 
 -- The part as a test of a stretch.
 abbrev keeps_part : Part → Task → Transmission → ℕ → ℕ → Bool
 keeps_part FramesRise g frames a b = rises frames
-keeps_part ExactAddresses g frames a b = packets_pass (λ before p. has_exact_address p) frames a b
-keeps_part ExactHeaders g frames a b = packets_pass (λ before p. has_exact_codes p) frames a b
-keeps_part SubtitleHeaders g frames a b =
-    packets_pass
-    (λ before p. if_some (is_subtitles g.watched.national) (this_page (kind g.watched.page p)))
-    frames a b
-keeps_part OddRows g frames a b = packets_pass (keeps_odd g.watched.page) frames a b
-keeps_part SameRows g frames a b = packets_pass (keeps_codes g.watched.page) frames a b
-keeps_part DueContent g frames a b =
-    ends_pass
-    (λ n f. shows_page g.watched.page (span (kind g.watched.page) (packets_before frames n))
-    (g.due f))
-    frames a b
-keeps_part HeadersInTime g frames a b = ends_pass (is_covered g frames) frames a b
+keeps_part ExactAddresses g frames a b = unbroken rule.Address g frames a b
+keeps_part ExactHeaders g frames a b = unbroken rule.HeaderCode g frames a b
+keeps_part SubtitleHeaders g frames a b = unbroken rule.Control g frames a b
+keeps_part OddRows g frames a b = unbroken rule.Parity g frames a b
+keeps_part SameRows g frames a b = unbroken rule.RowChanged g frames a b
+keeps_part DueContent g frames a b = ends_pass (shows_due g frames) frames a b
+keeps_part HeadersInTime g frames a b = ends_pass (λ n f. not (is_gap g frames n f)) frames a b
 
 -- What passes it is kept.
 kept_by_test :
@@ -311,25 +214,22 @@ kept_by_test :
     → keeps_part part g frames a b ≡ true
     → IsKeptWithin part g frames a b
 kept_by_test FramesRise g frames a b e = (rising_decided frames).0 e
-kept_by_test ExactAddresses g frames a b e =
-    at_packets _ (KeepsRule rule.Address g.watched) (λ before p. exact_address_decided p) frames a
-    b e
-kept_by_test ExactHeaders g frames a b e =
-    at_packets _ (KeepsRule rule.HeaderCode g.watched) (λ before p. exact_codes_decided p) frames a
-    b e
-kept_by_test SubtitleHeaders g frames a b e =
-    at_packets _ (KeepsRule rule.Control g.watched)
-    (λ before p. if_this_page _ (IsSubtitleHeader g.watched.national)
-    (subtitles_decided g.watched.national) (kind g.watched.page p)) frames a b e
-kept_by_test OddRows g frames a b e =
-    at_packets _ (KeepsRule rule.Parity g.watched) (odd_decided g.watched) frames a b e
-kept_by_test SameRows g frames a b e =
-    at_packets _ (KeepsCodes g.watched) (codes_decided g.watched) frames a b e
-kept_by_test DueContent g frames a b e =
-    at_ends _ (λ n f. (row column : ℕ) → IsCell row column → ShowsDue g frames n f row column)
-    (λ n f. shows_decided g.watched.page (packets_before frames n) (g.due f)) frames a b e
-kept_by_test HeadersInTime g frames a b e =
-    at_ends _ (IsCovered g frames) (covered_decided g frames) frames a b e
+kept_by_test ExactAddresses g frames a b e = λ i k l m low high.
+    exact_address g.watched _ _ (none_breaks rule.Address g frames a b e i k l m low high)
+kept_by_test ExactHeaders g frames a b e = λ i k l m low high.
+    exact_codes g.watched _ _ (none_breaks rule.HeaderCode g frames a b e i k l m low high)
+kept_by_test SubtitleHeaders g frames a b e = λ i k l m low high.
+    control_bits g.watched _ _ (none_breaks rule.Control g frames a b e i k l m low high)
+kept_by_test OddRows g frames a b e = λ i k l m low high.
+    odd_row g.watched _ _ (none_breaks rule.Parity g frames a b e i k l m low high)
+kept_by_test SameRows g frames a b e = λ i k l m low high.
+    same_row g.watched _ _ (none_breaks rule.RowChanged g frames a b e i k l m low high)
+kept_by_test DueContent g frames a b e = λ n f end low high.
+    (shows_decided g.watched.page (packets_before frames n) (g.due f)).0
+    (at_ends (shows_due g frames) frames a b e n f end low high)
+kept_by_test HeadersInTime g frames a b e = λ n f end low high.
+    (gap_decided g frames n f end.1).0
+    (at_ends (λ n f. not (is_gap g frames n f)) frames a b e n f end low high)
 
 -- A test of all parts.
 abbrev all_parts : (Part → Bool) → Bool

@@ -1,10 +1,10 @@
 -- Each of the seven rules as a test that computes: rule_decided. Below each test stands what it
 -- decides.
-use Rattle.std.proofs.lemmas.Bool.Decides.{nat_tests, Decides-and, Decides-not, Decides-like}
+use Rattle.std.proofs.lemmas.Bool.Decides.{nat_tests, Decides-and, Decides-like}
 use Rattle.std.proofs.lemmas.Bool.Decides.{Decides-eqb, Decides-ltb}
 use Rattle.std.proofs.Common.{◌≡◌, ℕ, zero, suc, ◌+◌, ◌-◌, ◌<◌, ◌≤◌, inl, inr, ◌==◌, Bool, true}
 use Rattle.std.proofs.Common.{not, ◌&&◌, ◌||◌, nat_lt, nat_le, List, [], ◌∷◌, length}
-use Rattle.std.proofs.Common.{take, slice_index, Option, Some, find, option_map, unwrap_or, All}
+use Rattle.std.proofs.Common.{take, slice_index, Option, find, is_some, option_map, unwrap_or, All}
 use Rattle.std.proofs.Common.{refl, sym, ap, ◌∙◌, subst, arith, le_refl}
 use Rattle.std.specs.Bool.{Decides}
 use Rattle.std.specs.List.{list_all}
@@ -15,34 +15,33 @@ use Rattle.std.proofs.lemmas.List.{take_all}
 use Rattle.std.proofs.lemmas.List.Kept.{AllPairs-cons}
 use Rattle.std.proofs.lemmas.Slice.Eq.{bytes_eq-Decides}
 use Rattle.ttx_packet.specs.declared.header.Header.{Header}
-use Rattle.ttx_packet.specs.Hamming84.{IsCodeWord, code_word}
-use Rattle.ttx_packet.specs.PacketAddress.{PacketAddress, address, HasExactAddress}
-use Rattle.ttx_packet.specs.PageHeader.{header, HasExactHeader, HasExactWords, c4, c5, c6, c7, c10}
-use Rattle.ttx_packet.specs.PageHeader.{c11, c12, c13, c14}
+use Rattle.ttx_packet.specs.PacketAddress.{address}
+use Rattle.ttx_packet.specs.PageHeader.{header, HasExactHeader, HasExactWords, c11}
 use Rattle.ttx_packet.specs.PageId.{PageIdValue}
-use Rattle.ttx_packet.specs.Parity.{code_of, is_odd}
-use Rattle.ttx_packet.specs.RowPacket.{text_byte, HasOddText}
+use Rattle.ttx_packet.specs.Parity.{code_of}
+use Rattle.ttx_packet.specs.RowPacket.{first_even_byte, text_byte}
 use Rattle.ttx_page.specs.Noise.{IsOddRow, IsSameRow}
 use Rattle.ttx_page.specs.Page.{Rows, space, cell, row_at, IsCell}
-use Rattle.ttx_page.specs.PacketKind.{kind, is_row}
+use Rattle.ttx_page.specs.PacketKind.{is_row, is_some_row, kind}
 use Rattle.ttx_page.specs.Shown.{shown}
 use Rattle.ttx_page.specs.Span.{holds_header, span}
-use Rattle.stl_rows.specs.declared.national.National.{National}
 use Rattle.stl_rows.specs.Programme.{ProgrammeValue, first_in, last_out}
 use Rattle.sub_plan.specs.Options.{OptionsValue}
 use Rattle.sub_plan.specs.Schedule.{due_in}
-use Rattle.sub_plan.specs.Sending.{has_c14}
 use Rattle.sub_check.specs.Transmission.{SentFrame, Transmission, IsRising, EachPacket, first_frame}
 use Rattle.sub_check.specs.Transmission.{last_frame, packets_of, on_air_until}
-use Rattle.sub_check.specs.Good.{IsInOneMode, IsSubtitleHeader, IsControlled, IsEnhancement}
+use Rattle.sub_check.specs.Good.{IsInOneMode, IsControlled, IsEnhancement}
 use Rattle.sub_check.specs.Good.{IsCleanSpan, HasCleanSpans, HoldsHeader, Repeats, ShowsDuePages}
+use Rattle.sub_check.specs.PacketTests.{are_code_words, is_of_enhancement, is_of_header}
+use Rattle.sub_check.specs.PacketTests.{is_other_mode, is_wrong_header}
 use Rattle.sub_check.specs.Rules.{Rule, IsKept}
 use Rattle.sub_check.specs.Rules.Rule.{Frames, ExactWords, OneMode, SubtitleControl, CleanSpans}
 use Rattle.sub_check.specs.Rules.Rule.{RepeatBound, DuePages}
+use Rattle.sub_check.proofs.BrokenRuleLemmas.{coded, controlled, no_enhancement, odd_row, one_mode}
+use Rattle.sub_check.proofs.CheckingLemmas.PacketRules.{address_decided, header_decided}
 use Rattle.sub_check.proofs.StepByStepLemmas.{clean_nil}
-use Rattle.sub_check.proofs.TestLemmas.{implied, agree, agreed, holds, fails, at_most, all_below}
-use Rattle.sub_check.proofs.TestLemmas.{any_below, below, some_below, each_of, if_some, value_of}
-use Rattle.sub_check.proofs.TestLemmas.{if_value, this_page, if_this_page, row_of_kind, if_row}
+use Rattle.sub_check.proofs.TestLemmas.{implied, holds, at_most, all_below, any_below, below}
+use Rattle.sub_check.proofs.TestLemmas.{some_below, each_of, if_some, if_value, row_of_kind, if_row}
 use Rattle.sub_check.proofs.TestLemmas.{each_packet, packets_decided, each_frame, frames_decided}
 use Rattle.sub_check.proofs.TransmissionLemmas.{packets_between-void}
 
@@ -77,104 +76,30 @@ are_frames programme frames =
     && (if_some (λ tci. nat_le (first_frame frames) tci) (first_in programme.records)
     && if_some (λ tco. nat_le tco (last_frame frames)) (last_out programme.records))))
 
--- A byte is a code word, and what follows from it for a packet.
-abbrev is_word : ℕ → Bool
-is_word b = any_below (λ n. b == code_word n) 16
-
-word_decided : (b : ℕ) → Decides (is_word b) (IsCodeWord b)
-word_decided b =
-    some_below (λ n. b == code_word n) (λ n. b ≡ code_word n) (λ n. Decides-eqb b (code_word n)) 16
-
-abbrev is_exact_header : List ℕ → Bool
-is_exact_header p = all_below (λ k. not (nat_le 2 k) || is_word (slice_index p k)) 10
-
--- The address is exact.
-abbrev pub has_exact_address : List ℕ → Bool
-has_exact_address p = all_below (λ k. is_word (slice_index p k)) 2
-
-pub exact_address_decided : (p : List ℕ) → Decides (has_exact_address p) (HasExactAddress p)
-exact_address_decided p =
-    below (λ k. is_word (slice_index p k)) (λ k. IsCodeWord (slice_index p k))
-    (λ k. word_decided (slice_index p k)) 2
-
--- So are the coded bytes, where they are those of a packet X/0.
-abbrev pub has_exact_codes : List ℕ → Bool
-has_exact_codes p =
-    if_some (λ (a : PacketAddress). not (a.packet_number == 0) || is_exact_header p) (address p)
-
-pub exact_codes_decided :
-    (p : List ℕ)
-    → Decides (has_exact_codes p)
-    ((a : PacketAddress) → address p ≡ Some a → a.packet_number ≡ 0 → HasExactHeader p)
-exact_codes_decided p =
-    (value_of (λ (a : PacketAddress). not (a.packet_number == 0) || is_exact_header p)
-    (λ (a : PacketAddress). a.packet_number ≡ 0 → HasExactHeader p)
-    (λ a. implied (a.packet_number == 0) (is_exact_header p) (Decides-eqb a.packet_number 0) coded)
-    (address p))
-  where
-    coded : Decides (is_exact_header p) (HasExactHeader p)
-    coded =
-        Decides-like (is_exact_header p) (λ h k l m. h k m l) (λ h k m l. h k l m)
-        (below (λ k. not (nat_le 2 k) || is_word (slice_index p k))
-        (λ k. 2 ≤ k → IsCodeWord (slice_index p k))
-        (λ k. implied (nat_le 2 k) (is_word (slice_index p k)) (at_most 2 k)
-        (word_decided (slice_index p k))) 10)
-
+-- The address is exact, and so are the coded bytes of a packet X/0.
 abbrev is_exact : List ℕ → Bool
-is_exact p = has_exact_address p && has_exact_codes p
+is_exact p = are_code_words 0 2 p && not (is_of_header (address p) && not (are_code_words 2 8 p))
 
 exact_decided : (p : List ℕ) → Decides (is_exact p) (HasExactWords p)
-exact_decided p = Decides-and _ _ (exact_address_decided p) (exact_codes_decided p)
+exact_decided p =
+    Decides-and _ _ (address_decided p)
+    (coded (address p) (are_code_words 2 8 p) (HasExactHeader p) (header_decided p))
 
--- Two packets are in one mode.
-abbrev is_one_mode : Option Header → Option Header → Bool
-is_one_mode one other = if_some (λ h. if_some (λ k. agree (c11 h) (c11 k)) other) one
-
-mode_decided :
-    (one other : List ℕ) → Decides (is_one_mode (header one) (header other)) (IsInOneMode one other)
-mode_decided one other =
-    grind (arith, nat_tests, Decides-like, is_one_mode, value_of, if_some, agree, Some, agreed)
-
--- The control bits of a subtitle's header.
-abbrev pub is_subtitles : National → Header → Bool
-is_subtitles national h =
-    c4 h
-    && (not (c5 h)
-    && (c6 h
-    && (c7 h
-    && (not (c10 h) && (not (c12 h) && (not (c13 h) && agree (c14 h) (has_c14 national)))))))
-
-pub subtitles_decided :
-    (national : National) (h : Header)
-    → Decides (is_subtitles national h) (IsSubtitleHeader national h)
-subtitles_decided national h =
-    grind (arith, nat_tests, Decides-like, is_subtitles, Decides-and, holds, fails, agreed)
+-- C11 of a page header.
+abbrev mode_of : List ℕ → Option Bool
+mode_of p = option_map (λ (h : Header). c11 h) (header p)
 
 -- ---- spans
-
--- The 40 bytes of text have odd parity.
-abbrev pub is_odd_text : List ℕ → Bool
-is_odd_text p = all_below (λ column. is_odd (text_byte p column)) 40
-
-pub odd_text_decided : (p : List ℕ) → Decides (is_odd_text p) (HasOddText p)
-odd_text_decided p =
-    below (λ column. is_odd (text_byte p column)) (λ column. is_odd (text_byte p column) ≡ true)
-    (λ column. holds (is_odd (text_byte p column))) 40
-
--- A packet X/25 to X/28 of the magazine.
-abbrev is_enhancement : PageIdValue → PacketAddress → Bool
-is_enhancement page a =
-    (a.magazine == page.magazine) && (nat_le 25 a.packet_number && nat_le a.packet_number 28)
 
 -- A clean span.
 abbrev is_clean : PageIdValue → List (List ℕ) → Bool
 is_clean page ps =
-    list_all (λ p. if_some (λ _. is_odd_text p) (row_of_kind (kind page p))) ps
+    list_all (λ p. not (is_some_row (kind page p) && is_some (first_even_byte p))) ps
     && (list_all
     (λ p. list_all
     (λ q. if_some (λ y. if_some (λ z. not (y == z) || bytes_eq p q) (row_of_kind (kind page q)))
     (row_of_kind (kind page p))) ps) ps
-    && list_all (λ p. if_some (λ a. not (is_enhancement page a)) (address p)) ps)
+    && list_all (λ p. not (is_of_enhancement page (address p))) ps)
 
 same_decided :
     (page : PageIdValue) (p q : List ℕ)
@@ -184,12 +109,6 @@ same_decided :
 same_decided page p q =
     grind (arith, nat_tests, Decides-like, if_row, implied, Decides-eqb, bytes_eq-Decides)
 
-plain_decided :
-    (page : PageIdValue) (p : List ℕ)
-    → Decides (if_some (λ a. not (is_enhancement page a)) (address p)) (IsEnhancement page p → ⊥)
-plain_decided page p =
-    grind (arith, nat_tests, Decides-like, value_of, Decides-not, Decides-and, Decides-eqb, at_most)
-
 clean_decided :
     (page : PageIdValue) (ps : List (List ℕ)) → Decides (is_clean page ps) (IsCleanSpan page ps)
 clean_decided page ps =
@@ -197,13 +116,11 @@ clean_decided page ps =
     (λ a. record { odd = a.0; same = a.1.0; plain = a.1.1 })
     (λ r. (r.odd, (r.same, r.plain)))
     (Decides-and _ _
-    (each_of (λ p. if_some (λ _. is_odd_text p) (row_of_kind (kind page p))) (IsOddRow page)
-    (λ p. if_row (λ _. is_odd_text p) (λ _. HasOddText p) (λ _. odd_text_decided p)
-    (kind page p)) ps)
+    (each_of _ (IsOddRow page) (λ p. odd_row p (kind page p)) ps)
     (Decides-and _ _
     (each_of _ (λ p. All (IsSameRow page p) ps)
     (λ p. each_of _ (IsSameRow page p) (same_decided page p) ps) ps)
-    (each_of _ (λ p. IsEnhancement page p → ⊥) (plain_decided page) ps)))
+    (each_of _ (λ p. IsEnhancement page p → ⊥) (λ p. no_enhancement page p (address p) refl) ps)))
 
 -- Cut anywhere, the span is clean.
 abbrev cuts_clean : PageIdValue → List (List ℕ) → Bool
@@ -361,10 +278,9 @@ passes Frames programme frames o = are_frames programme frames
 passes ExactWords programme frames o = each_packet is_exact frames
 passes OneMode programme frames o =
     each_packet
-    (λ one. each_packet (λ other. is_one_mode (header one) (header other)) frames) frames
+    (λ one. each_packet (λ other. not (is_other_mode (mode_of other) (mode_of one))) frames) frames
 passes SubtitleControl programme frames o =
-    each_packet
-    (λ p. if_some (is_subtitles programme.national) (this_page (kind o.page p))) frames
+    each_packet (λ p. not (is_wrong_header programme.national (kind o.page p))) frames
 passes CleanSpans programme frames o =
     each_frame (λ f. cuts_clean o.page (on_air_until frames f)) frames
 passes RepeatBound programme frames o =
@@ -396,11 +312,11 @@ rule_decided ExactWords programme frames o =
     packets_decided is_exact HasExactWords exact_decided frames
 rule_decided OneMode programme frames o =
     packets_decided _ (λ one. EachPacket (IsInOneMode one) frames)
-    (λ one. packets_decided _ (IsInOneMode one) (mode_decided one) frames) frames
+    (λ one. packets_decided _ (IsInOneMode one) (λ other. one_mode (header one) (header other))
+    frames) frames
 rule_decided SubtitleControl programme frames o =
     packets_decided _ (IsControlled programme.national o.page)
-    (λ p. if_this_page _ (IsSubtitleHeader programme.national)
-    (subtitles_decided programme.national) (kind o.page p)) frames
+    (λ p. controlled programme.national (kind o.page p)) frames
 rule_decided CleanSpans programme frames o = spans_decided o.page frames
 rule_decided RepeatBound programme frames o =
     grind (arith, nat_tests, Decides-like, repeats, Decides-and, holds, repeats_decided)

@@ -13,6 +13,8 @@ use Rattle.ttx_packet.specs.PageHeader.{header, coded_header}
 use Rattle.ttx_packet.specs.Parity.{is_odd}
 use Rattle.ttx_page.specs.declared.packet_kind.PacketKind.TheVariants.{ThisPage, EndsPage, Row}
 use Rattle.ttx_page.specs.Page.{Rows, blank, blank_row}
+use Rattle.sub_check.specs.PacketTests.{are_code_words, is_word_below}
+use Rattle.ttx_packet.specs.RowPacket.{first_even_byte}
 use Rattle.ttx_page.specs.PacketKind.{kind}
 use Rattle.ttx_page.specs.Receiver.{State, Step, StepAt}
 use Rattle.ttx_page.specs.Screen.{Display, ShowsAt}
@@ -127,7 +129,8 @@ no_end = one_frame (header_888 ∷ [])
 
 -- It passes the test of each rule.
 no_end_is_good : Good no_subtitles no_end (each 1)
-unfolding kind address header coded_header decoded is_near is_odd count_ones ones_in
+unfolding are_code_words is_word_below first_even_byte kind address
+    header coded_header decoded is_near is_odd count_ones ones_in
     due blank blank_row
 no_end_is_good = good_by_test _ _ _ refl
 

@@ -9,6 +9,10 @@ use Rattle.ttx_packet.specs.PacketAddress.{address}
 use Rattle.ttx_packet.specs.PageHeader.{header, coded_header}
 use Rattle.ttx_packet.specs.Parity.{is_odd}
 use Rattle.ttx_page.specs.Page.{blank, blank_row}
+use Rattle.sub_check.specs.PacketTests.{are_code_words, breaks, is_word_below}
+use Rattle.ttx_packet.specs.RowPacket.{first_even_byte}
+use Rattle.ttx_page.specs.Differing.{columns_differing}
+use Rattle.sub_check.specs.Events.{is_gap}
 use Rattle.ttx_page.specs.PacketKind.{kind}
 use Rattle.ttx_page.specs.Receiver.ReceiverClass.{Storing}
 use Rattle.ttx_page.proofs.NoiseLaws.{all_kept, may_all}
@@ -39,7 +43,8 @@ refused good =
     )
 
 clean : IsClean (task_of later_subtitle (each 1) None) damaged_first 900001 900002
-unfolding kind address header coded_header decoded is_near is_odd count_ones ones_in due blank
+unfolding are_code_words is_word_below first_even_byte breaks columns_differing is_gap
+    kind address header coded_header decoded is_near is_odd count_ones ones_in due blank
     blank_row drawn page_of_lines row_of line_fault_kinds prepared is_boxed is_double
     cell_of cell_of_pair
 clean = clean_by_test _ _ _ _ refl

@@ -14,6 +14,7 @@ use Rattle.ttx_packet.specs.declared.header.Header.{Header}
 use Rattle.ttx_page.specs.declared.packet_kind.PacketKind.{PacketKind}
 use Rattle.ttx_page.specs.declared.packet_kind.PacketKind.TheVariants.{ThisPage, EndsPage, Row}
 use Rattle.ttx_page.specs.declared.packet_kind.PacketKind.TheVariants.{Other}
+use Rattle.sub_check.specs.PacketTests.{is_same_bit}
 use Rattle.sub_check.specs.Transmission.{SentFrame, Transmission, EachPacket, first_frame}
 use Rattle.sub_check.specs.Transmission.{last_frame}
 
@@ -25,12 +26,8 @@ pub implied :
 implied a b p q = grind arith
 
 -- Two truth values are equal.
-abbrev pub agree : Bool → Bool → Bool
-agree true b = b
-agree false b = not b
-
-pub agreed : (a b : Bool) → Decides (agree a b) (a ≡ b)
-agreed a b = grind arith
+pub same_bit : (a b : Bool) → Decides (is_same_bit a b) (a ≡ b)
+same_bit a b = grind arith
 
 -- A truth value is true.
 pub holds : (a : Bool) → Decides a (a ≡ true)
@@ -60,6 +57,10 @@ pub below :
     → (n : ℕ)
     → Decides (all_below test n) ((k : ℕ) → k < n → P k)
 below test P each n = Decides-below_and test P (all_below test) each refl (λ _. refl) n
+
+pub each_below : (test : ℕ → Bool) (n : ℕ) → all_below test n ≡ true → (k : ℕ) → k < n
+    → test k ≡ true
+each_below test n = (below test (λ k. test k ≡ true) (λ k. holds (test k)) n).0
 
 pub some_below :
     (test : ℕ → Bool) (P : ℕ → Type 0)
@@ -94,34 +95,12 @@ abbrev pub if_some : {A : Type 0} → (A → Bool) → Option A → Bool
 if_some test None = true
 if_some test (Some x) = test x
 
-pub value_of :
-    {A : Type 0} (test : A → Bool) (P : A → Type 0)
-    → ((x : A) → Decides (test x) (P x))
-    → (o : Option A)
-    → Decides (if_some test o) ((x : A) → o ≡ Some x → P x)
-value_of test P each is = grind arith
-
 pub if_value :
     {A : Type 0} (test : A → Bool) (P : A → Type 0)
     → ((x : A) → Decides (test x) (P x))
     → (o : Option A)
     → Decides (if_some test o) (IfSome o P)
 if_value test P each is = grind arith
-
--- The header of a packet that is one of the page.
-abbrev pub this_page : PacketKind → Option Header
-this_page (ThisPage h) = Some h
-this_page EndsPage = None
-this_page (Row y) = None
-this_page Other = None
-
-pub if_this_page :
-    (test : Header → Bool) (P : Header → Type 0)
-    → ((h : Header) → Decides (test h) (P h))
-    → (k : PacketKind)
-    → Decides (if_some test (this_page k)) ((h : Header) → k ≡ ThisPage h → P h)
-if_this_page test P each k =
-    grind arith
 
 -- The row of a packet that is one.
 abbrev pub row_of_kind : PacketKind → Option ℕ

@@ -36,23 +36,23 @@ last_of_three true false z e one two = cc
 last_of_three false y z e one two = cc
 
 module _ (w : Watched) (before : List (List ℕ)) (p : List ℕ) where
-  exact_address : IsFalse (breaks rule.Address w before p) → KeepsRule rule.Address w before p
+  pub exact_address : IsFalse (breaks rule.Address w before p) → KeepsRule rule.Address w before p
   unfolding breaks
   exact_address untold = (address_decided p).0 (not_false (are_code_words 0 2 p) untold)
 
-  exact_codes : IsFalse (breaks rule.HeaderCode w before p) → KeepsRule rule.HeaderCode w before p
+  pub exact_codes : IsFalse (breaks rule.HeaderCode w before p) → KeepsRule rule.HeaderCode w before p
   unfolding breaks
   exact_codes untold = grind (arith, nat_tests, coded, header_decided)
 
-  control_bits : IsFalse (breaks rule.Control w before p) → KeepsRule rule.Control w before p
+  pub control_bits : IsFalse (breaks rule.Control w before p) → KeepsRule rule.Control w before p
   unfolding breaks
   control_bits untold = (controlled w.national (kind w.page p)).0 (ap not untold)
 
-  odd_row : IsFalse (breaks rule.Parity w before p) → KeepsRule rule.Parity w before p
+  pub odd_row : IsFalse (breaks rule.Parity w before p) → KeepsRule rule.Parity w before p
   unfolding breaks
   odd_row untold up row is = grind (arith, nat_tests, odd_text, last_of_three)
 
-  same_row : IsFalse (breaks rule.RowChanged w before p) → KeepsCodes w before p
+  pub same_row : IsFalse (breaks rule.RowChanged w before p) → KeepsCodes w before p
   unfolding breaks
   same_row untold up row first is found column below =
       grind (arith, nat_tests, last_of_two, columns_zero, not_false)

@@ -7,10 +7,10 @@ use Rattle.std.specs.List.{filter}
 use Rattle.std.proofs.lemmas.Bool.Decides.{nat_tests}
 use Rattle.std.proofs.lemmas.List.{map-append, take_more, take-append-drop}
 use Rattle.std.proofs.lemmas.List.Elements.{filter-append}
-use Rattle.sub_check.proofs.TestLemmas.{agree, agreed}
+use Rattle.sub_check.proofs.TestLemmas.{same_bit}
 use Rattle.sub_check.specs.FirstBroken.{packet_fault}
 use Rattle.sub_check.specs.checking.Listener.{bit_of, rule_set}
-use Rattle.sub_check.specs.PacketTests.{packet_rules}
+use Rattle.sub_check.specs.PacketTests.{is_same_bit, packet_rules}
 use Rattle.sub_check.specs.declared.event.Event.{Event}
 use Rattle.sub_check.specs.declared.event.Event.TheVariants.{Told}
 use Rattle.sub_check.specs.declared.fault.CheckFault.{CheckFault}
@@ -55,7 +55,7 @@ test_of bs rule.Enhancement = get_or bs 6 false
 
 -- A set of the rules that pass a test holds a rule where that passes.
 abbrev is_held : PacketRule → List Bool → Bool
-is_held r bs = agree (bit_and (rule_set (test_of bs)) (bit_of r) == bit_of r) (test_of bs r)
+is_held r bs = is_same_bit (bit_and (rule_set (test_of bs)) (bit_of r) == bit_of r) (test_of bs r)
 
 -- For each rule 128 cases, computed.
 all_held : (r : PacketRule) → every 7 (is_held r) ≡ true
@@ -89,7 +89,7 @@ pub holds_rule :
     → (bit_and set flag == flag) ≡ test r
 holds_rule test r set flag e f =
     rw (e, f, ← same_set test)
-    ((agreed _ _).0 (every_at 7 (is_held r) (values test) refl (all_held r)) ∙ same_test test r)
+    ((same_bit _ _).0 (every_at 7 (is_held r) (values test) refl (all_held r)) ∙ same_test test r)
 
 -- No rule passes a test whose set is empty.
 none_passes : (test : PacketRule → Bool) → rule_set test ≡ 0 → (r : PacketRule) → test r ≡ false
