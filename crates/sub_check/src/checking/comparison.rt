@@ -1,6 +1,6 @@
 //! The page that is shown beside the page that is due, and in how many cells they differ.
-ghost use Rattle.std.specs.Prelude.{◌≡◌, ℕ, ◌-◌, ◌≤◌, ◌==◌, not, IfSome, IsTrue, MatchOption, Some};
-ghost use Rattle.std.specs.Prelude.{slice_set};
+ghost use Rattle.std.specs.Prelude.{◌≡◌, ◌↔◌, ℕ, ◌-◌, ◌≤◌, ◌==◌, not, IfSome, IsTrue, MatchOption};
+ghost use Rattle.std.specs.Prelude.{Some, slice_set};
 ghost use Rattle.ttx_page.specs.Differing.{row_differing};
 ghost use Rattle.ttx_page.specs.Page.{AreCodes, DiffersFirst, IsCell, IsPage, IsRow, blank, cell};
 ghost use Rattle.ttx_page.specs.Page.{row_at};
@@ -133,7 +133,7 @@ fn recounted(wrong: Option<u16>, before: u16, after: u16) -> Option<u16>
 
 // Whether there is a count, and it is 0.
 fn is_zero(count: Option<u16>) -> bool
-    ensures { IsTrue result → count ≡ Some 0 }
+    ensures { IsTrue result ↔ (count ≡ Some 0) }
 {
     match count {
         Some(count) => count == 0,

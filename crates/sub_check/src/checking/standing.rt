@@ -1,5 +1,5 @@
 //! What of the rules of a frame's end stands broken, and what is told where that changes.
-ghost use Rattle.std.specs.Prelude.{◌≡◌, ◌==◌, ◌&&◌, [], ◌∷◌, IsTrue, false, if◌then◌else◌};
+ghost use Rattle.std.specs.Prelude.{◌≡◌, ◌↔◌, ◌==◌, ◌&&◌, [], ◌∷◌, IsTrue, false, if◌then◌else◌};
 ghost use Rattle.std.specs.Prelude.{is_err};
 ghost use Rattle.sub_io.specs.Telling.{TellsUntilStopped};
 ghost use Rattle.sub_check.specs.Events.{content_events, end_events, nothing_stands, rule_events};
@@ -36,7 +36,7 @@ impl StandingRules {
     /// Whether nothing stands broken.
     #[inline(always)]
     pub fn has_none(&self) -> bool
-        ensures { IsTrue result → self.now ≡ none_stands }
+        ensures { IsTrue result ↔ (self.now ≡ none_stands) }
     {
         self.content.is_none() && !self.gap && !self.incomplete
     }
