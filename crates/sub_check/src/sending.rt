@@ -49,6 +49,9 @@ pub(crate) fn next_sending<S: Source>(
     // What is sent again is what was sent before.
     ensures again { (sending : Sending) → result ≡ Ok (Some sending) → sending.again ≡ true
         → reader.new.frame.units ≡ reader.old.frame.units }
+    // What is not has another data field than what was sent before.
+    ensures other { (sending : Sending) → result ≡ Ok (Some sending) → sending.again ≡ false
+        → reader.new.data_field ≢ reader.old.data_field }
     ensures left { IfTold (S.remaining source.old) (λ bytes.
         OnOk result (S.remaining source.new ≡ Some (rest_after bytes))) }
     ensures own { failed is_subtitle_fault result ≡ false }
