@@ -90,6 +90,8 @@ pub fn check<S: Source>(
 /// of a rule that is asked at the end of each frame, where it begins to be broken and where it has
 /// ended. Where the bytes can't be read on, that is the last event. It counts what was read: the
 /// frames of the day from the first PES packet's to the latest one's, and the headers of the page.
+/// After the device said stop the counts are of no use: the PES packet at which it did may be
+/// counted in part.
 ///
 /// It takes no memory, and reads as `check` does.
 ///
