@@ -1,5 +1,5 @@
 //! What a receiver hears of the packets of a PES packet, and of those that are sent again.
-ghost use Rattle.std.specs.Prelude.{◌≡◌, ℕ, ◌+◌, ◌<◌, ◌≤◌, List, length, true};
+ghost use Rattle.std.specs.Prelude.{◌≡◌, ◌↔◌, ℕ, ◌+◌, ◌<◌, ◌≤◌, List, length, true};
 ghost use Rattle.std.specs.List.{list_any};
 ghost use Rattle.ttx_packet.specs.PageHeader.{c4};
 ghost use Rattle.ttx_page.specs.Screen.{display};
@@ -49,6 +49,11 @@ pub fn hear_sending<R: Receiver>(
         → (again ≡ true → last ≡ packets_of_units units.now)
         → result ≡ true → HeardLast R.leaves listening.now (R.tuned_to receiver.new)
         (packets_of_units units.now) (display (R.state receiver.new) screen.new) }
+    // Those that are sent again, untouched, are kept where the first of them erases the page.
+    ensures keeps { again ≡ true
+        → is_untouched (reception_of listening.now) number (length units.now) ≡ true
+        → BeginsErased listening.now.options.page (packets_of_units units.now)
+        → result ≡ true }
     ensures tuned { R.tuned_to receiver.new ≡ R.tuned_to receiver.old }
 {
     if !is_untouched(listening, number, units.len()) {
@@ -108,7 +113,7 @@ fn is_within(first: u64, end: u64, number: u64) -> bool
 
 // Whether the first of the packets erases the page.
 fn begins_erased(page: PageId, units: &[Unit]) -> bool
-    ensures { result ≡ true → BeginsErased page (packets_of_units units.now) }
+    ensures { (result ≡ true) ↔ BeginsErased page (packets_of_units units.now) }
 {
     match units.first() {
         Some(unit) => erases(page, unit.packet()),
@@ -118,7 +123,7 @@ fn begins_erased(page: PageId, units: &[Unit]) -> bool
 
 // Whether a packet is a header of the page that erases it.
 fn erases(page: PageId, packet: &Packet) -> bool
-    ensures { result ≡ true → ErasesPageAt page packet.now }
+    ensures { (result ≡ true) ↔ ErasesPageAt page packet.now }
 {
     match PacketKind::of(page, packet) {
         PacketKind::ThisPage(header) => is_erasing(&header),
