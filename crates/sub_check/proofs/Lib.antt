@@ -20,7 +20,6 @@ pub mod PacketLists
 pub mod CheckingLemmas
 pub mod ShownLemmas
 pub mod OrderLemmas
-pub mod GoodByPlace
 pub mod PrefixLemmas
 pub mod BrokenRuleLemmas
 pub mod PlaceLemmas

@@ -31,13 +31,11 @@ use Rattle.sub_check.specs.Planned.{planned}
 use Rattle.sub_check.specs.Transmission.{Transmission}
 use Rattle.sub_check.specs.declared.checking.Accepted.{Accepted}
 use Rattle.sub_check.specs.declared.fault.CheckFault.{CheckFault}
-use Rattle.sub_check.proofs.CompleteLemmas.{complete_from}
 use Rattle.sub_check.proofs.ContentLemmas.{wrong_everywhere}
-use Rattle.sub_check.proofs.GoodByPlace.{GoodFrames}
-use Rattle.sub_check.proofs.GoodLemmas.{Good-from_frames, whole-is, GoodFrames-from_good}
+use Rattle.sub_check.proofs.GoodLemmas.{whole-is}
 use Rattle.sub_check.proofs.PrefixLemmas.{first-same, last-same}
 use Rattle.sub_check.proofs.PesFileLemmas.{carried_is_read}
-use Rattle.sub_check.proofs.PlaceLemmas.{Good-from_holds, refuted}
+use Rattle.sub_check.proofs.PlaceLemmas.{Complete-from_holds, Good-from_holds, refuted}
 use Rattle.sub_check.proofs.PlanLemmas.{law_of_complete_plan, law_of_plan, law_of_plan_read}
 use Rattle.sub_check.proofs.RobustLemmas.{promised}
 use Rattle.sub_check.specs.Fault.{is_failure, is_failure_kind, is_pes_read, is_subtitle_fault}
@@ -58,17 +56,13 @@ module _ (programme : ProgrammeValue) (options : OptionsValue) (is : IsOptions o
   -- carry the frames.
   module _ (bytes : List ℕ) (unread : Option Unread) (frames : Transmission) (a : Accepted)
       (accepts : Accepts (task_of programme options unread) options.origin bytes frames a) where
-    places : GoodFrames (task_of programme options unread) frames
-    places = Good-from_holds (task_of programme options unread) frames is.least accepts.holds
-
     good_from : Good programme frames options
     good_from =
-        Good-from_frames programme options unread frames places
+        Good-from_holds programme options unread frames is.least accepts.holds
         (grind (arith, nat_tests, All-from_recursion, All, length))
 
-    complete_from_places : IsTrue options.asks_complete → Complete frames options
-    complete_from_places asks =
-        complete_from options frames places.rising places.some (λ i l. places.ended i l asks)
+    complete_pages : IsTrue options.asks_complete → Complete frames options
+    complete_pages = Complete-from_holds programme options unread frames is.least accepts.holds
 
     carried_from : Carries options.origin bytes frames
     carried_from =
@@ -96,8 +90,7 @@ module _ (programme : ProgrammeValue) (options : OptionsValue) (is : IsOptions o
       → (IsTrue options.asks_complete → Complete frames options)
       → ⊥
   not_refused bytes frames f named good complete =
-      refuted (task_of programme options None) frames f named
-      (GoodFrames-from_good programme options frames good complete)
+      refuted programme options frames good complete f named
 
   -- Accepted exactly where the bytes carry a good transmission.
   accepted_from :
@@ -116,7 +109,7 @@ module _ (programme : ProgrammeValue) (options : OptionsValue) (is : IsOptions o
         nat_tests,
         carried_from bytes file.unread file.frames a accepts,
         good_from bytes file.unread file.frames a accepts,
-        complete_from_places bytes file.unread file.frames a accepts,
+        complete_pages bytes file.unread file.frames a accepts,
       ))
   accepted_from bytes (Err f) decides = (
     λ ok. cc,
@@ -219,7 +212,7 @@ module _ (programme : ProgrammeValue) (options : OptionsValue) (is : IsOptions o
           robust_to_loss = promises.to_loss;
           recovers = promises.recovers;
           shown = λ asks.
-              promises.shown (complete_from_places bytes None t accepts.0 accepts.1 asks);
+              promises.shown (complete_pages bytes None t accepts.0 accepts.1 asks);
         };
     counts = λ t carries. counts_from bytes t result decides carries;
     first = λ looked fine. first_from bytes result (decides fine);
