@@ -1,6 +1,7 @@
 -- The order of bits: reverse_bits is the definition's mirror, and mirroring twice gives the byte.
-use Rattle.std.proofs.Common.{◌≡◌, ℕ, ◌<◌, List, length, map, slice_index, true, ◌==◌, arith, refl}
-use Rattle.std.proofs.Common.{sym, ◌∙◌, eqb-true}
+use Rattle.std.proofs.Common.{◌≡◌, ℕ, ◌<◌, List, length, map, slice_index, arith, sym, ◌∙◌}
+use Rattle.std.proofs.Common.{eqb-true}
+use Rattle.std.proofs.lemmas.Bool.Decides.{nat_tests}
 use Rattle.std.specs.Int.{reverse_bits_onto}
 use Rattle.std.proofs.lemmas.Bool.{agree_below_at}
 use Rattle.std.proofs.lemmas.List.{get_or-map, length-map, ext_get_or}
@@ -9,15 +10,12 @@ use Rattle.ttx_packet.specs.BitOrder.{mirror}
 -- What std calls the bits in the other order: 256 cases, computed.
 pub mirror_is_reversal : (b : ℕ) → b < 0x100 → reverse_bits_onto 8 b 0 ≡ mirror b
 unfolding reverse_bits_onto mirror
-mirror_is_reversal b l =
-    eqb-true _ _
-    (agree_below_at (λ b. reverse_bits_onto 8 b 0 == mirror b) (λ b. true) 0x100 b refl l)
+mirror_is_reversal b l = grind (arith, nat_tests, eqb-true, agree_below_at)
 
 -- Mirroring twice gives the byte: 256 cases, computed.
 pub mirror-mirror : (b : ℕ) → b < 0x100 → mirror (mirror b) ≡ b
 unfolding mirror
-mirror-mirror b l =
-    eqb-true _ _ (agree_below_at (λ b. mirror (mirror b) == b) (λ b. true) 0x100 b refl l)
+mirror-mirror b l = grind (arith, nat_tests, eqb-true, agree_below_at)
 
 -- A list that holds f of each element of another, place by place, is f mapped over it.
 pub map-from_places : (f : ℕ → ℕ) (xs ys : List ℕ) (n : ℕ)

@@ -3,6 +3,7 @@
 use Rattle.std.proofs.Common.{◌≡◌, ℕ, zero, suc, ◌+◌, ◌*◌, ◌/◌, ◌^◌, ◌<◌, ◌≤◌, Bool, true, false}
 use Rattle.std.proofs.Common.{not, List, [], ◌∷◌, ◌++◌, map, length, get_or, take, drop, sym, ap}
 use Rattle.std.proofs.Common.{ap₂, ◌∙◌, take_all, arith, w16}
+use Rattle.std.proofs.lemmas.Bool.Decides.{nat_tests}
 use Rattle.std.proofs.lemmas.List.{map-append, drop-drop, get_or_past, length-map, length-drop}
 use Rattle.std.proofs.lemmas.List.{length-set, take_more, take_more_set}
 use Rattle.std.proofs.Math.ListN.{set}
@@ -39,8 +40,7 @@ pub last_block : (a n : ℕ) (xs ys : List ℕ)
     → length xs ≡ a + n
     → ys ≡ drop a xs
     → ys ≡ chunk a n xs
-last_block a n xs ys size e =
-    e ∙ sym (take_all n (drop a xs) (omega (arith, length-drop a xs)))
+last_block a n xs ys size e = grind (arith, nat_tests, take_all, length-drop)
 
 -- What is so of all bytes of a list, and of 0, is so of those of a block.
 pub below_in_chunk : (b a n : ℕ) (xs : List ℕ)
@@ -106,10 +106,7 @@ pub made_whole : (f : ℕ → ℕ) (xs out : List ℕ) (n : ℕ)
     → length xs ≡ n
     → IsMadeTo f xs n n out
     → out ≡ map f xs
-made_whole f xs out n size to =
-    sym (take_all n out (omega (arith, to.size)))
-    ∙ to.done
-    ∙ ap (map f) (take_all n xs (omega (arith, size)))
+made_whole f xs out n size to = grind (arith, nat_tests, take_all)
 
 -- ---- the first item that passes a test, by the masks of blocks of 16
 
@@ -123,9 +120,7 @@ pub none_so_far : {X : Type 0} (p : X → Bool) (xs : List X) (a m : ℕ) (d : X
     → k < a + 16
     → p (get_or xs k d) ≡ false
 none_so_far p xs a m d room e zeroes before k l =
-    let earlier = before k in
-    let here = none_from_empty_mask p xs a 16 d room (sym e ∙ zeroes) k in
-    grind arith
+    grind (arith, nat_tests, none_from_empty_mask p xs a 16 d room (sym e ∙ zeroes) k)
 
 -- The item at a place passes, and none before it does.
 pub record IsFirst {X : Type 0} (p : X → Bool) (xs : List X) (place : ℕ) (d : X) : Type 0 where

@@ -1,22 +1,17 @@
 -- The control bits as numbers: control_is puts the bits of a header back together.
-use Rattle.std.proofs.Common.{◌≡◌, ℕ, ◌+◌, ◌*◌, ◌<◌, Bool, true, false, ◌==◌, arith, refl, eqb-true}
+use Rattle.std.proofs.Common.{◌≡◌, ℕ, ◌+◌, ◌*◌, ◌<◌, Bool, true, ◌==◌, arith, refl, eqb-true}
+use Rattle.std.proofs.lemmas.Bool.Decides.{nat_tests}
 use Rattle.std.specs.Prelude.{bit_and}
 use Rattle.std.proofs.lemmas.Bool.{agree_below_at}
 use Rattle.ttx_packet.specs.PageHeader.{bit, nibble}
 
 -- A bit is 0 or 1.
 pub bit_small : (b : Bool) → bit b < 2
-bit_small true = omega arith
-bit_small false = omega arith
+bit_small b = grind (arith, nat_tests)
 
 -- Four data bits make a number below 16.
 pub nibble_small : (a b c d : Bool) → nibble a b c d < 16
-nibble_small a b c d =
-    let p = bit_small a in
-    let q = bit_small b in
-    let r = bit_small c in
-    let s = bit_small d in
-    omega (arith, p, q, r, s)
+nibble_small a b c d = grind (arith, nat_tests, bit_small)
 
 -- Whether a control bit is set in a number.
 abbrev set_in : ℕ → ℕ → Bool

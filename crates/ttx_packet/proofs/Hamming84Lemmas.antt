@@ -1,7 +1,7 @@
 -- Hamming 8/4: the definition by nearness, the function, and what one wrong bit leaves
 -- (decoded-near).
-use Rattle.std.proofs.Common.{◌≡◌, ℕ, ◌^◌, ◌<◌, inl, inr, Bool, true, false, not, cond, ◌==◌, ◌||◌}
-use Rattle.std.proofs.Common.{Option, Some, None, bit_xor, ◌∙◌, ◌%◌, refl, sym, get_or, arith}
+use Rattle.std.proofs.Common.{rules, ◌≡◌, ℕ, ◌^◌, ◌<◌, inl, inr, Bool, true, false, not, cond, ◌==◌}
+use Rattle.std.proofs.Common.{◌||◌, Option, Some, None, bit_xor, ◌∙◌, ◌%◌, refl, sym, get_or, arith}
 use Rattle.std.proofs.Common.{nat_eq, nat_lt}
 use Rattle.std.proofs.lemmas.Bool.{agree_below, agree_below_at, ltb-true}
 use Rattle.std.proofs.lemmas.Bool.Decides.{nat_tests}
@@ -24,9 +24,7 @@ is_number_true o n e = grind (arith, nat_tests)
 -- A code word decodes to its number: 16 cases, computed.
 pub decoded-code_word : (n : ℕ) → n < 16 → decoded (code_word n) ≡ Some n
 unfolding decoded is_near
-decoded-code_word n l =
-    is_number_true _ n
-    (agree_below_at (λ n. is_number (decoded (code_word n)) n) (λ n. true) 16 n refl l)
+decoded-code_word n l = search (rules, is_number_true, agree_below_at)
 
 -- Each code word with one bit changed decodes to its number: 16 times 8 cases, computed.
 changed_code_words_decode : agree_below

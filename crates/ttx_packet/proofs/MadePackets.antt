@@ -1,7 +1,7 @@
 -- What is read of the packets that are made: law_of_header_packet, law_of_row_packet.
-use Rattle.std.proofs.Common.{◌≡◌, ℕ, [], zero, suc, ◌+◌, ◌*◌, ◌/◌, ◌%◌, ◌<◌, ◌≤◌, Bool, true, ◌==◌}
-use Rattle.std.proofs.Common.{List, ◌∷◌, ◌++◌, map, replicate, Some, slice_index, refl, sym}
-use Rattle.std.proofs.Common.{ap, ◌∙◌, subst, arith, ◌-◌, ◌^◌, bit_and, div-add-mod', All}
+use Rattle.std.proofs.Common.{rules, ◌≡◌, ℕ, [], zero, suc, ◌+◌, ◌*◌, ◌/◌, ◌%◌, ◌<◌, ◌≤◌, Bool}
+use Rattle.std.proofs.Common.{true, ◌==◌, List, ◌∷◌, ◌++◌, map, replicate, Some, slice_index, refl}
+use Rattle.std.proofs.Common.{sym, ap, ◌∙◌, subst, arith, ◌-◌, ◌^◌, bit_and, div-add-mod', All}
 use Rattle.std.specs.Int.{bit_at}
 use Rattle.std.specs.Int.RustNames.{count_ones}
 use lib.Count.{ones_in}
@@ -27,23 +27,13 @@ use Rattle.ttx_packet.proofs.ControlLemmas.{bit_small, nibble_small, control_is}
 
 -- The eight numbers of a header are below 16.
 numbers_small : (h : Header) → IsHeader h → All (λ n. n < 16) (header_numbers h)
-numbers_small h is =
-    let c7_c10 = nibble_small (c7 h) (c8 h) (c9 h) (c10 h) in
-    let c11_c14 = nibble_small (c11 h) (c12 h) (c13 h) (c14 h) in
-    let c4_small = bit_small (c4 h) in
-    let c5_small = bit_small (c5 h) in
-    let c6_small = bit_small (c6 h) in
-    let page = is.page in
-    All-from_recursion (λ n. n < 16) (header_numbers h) (grind arith)
+numbers_small h is = search (rules, nibble_small, bit_small, All-from_recursion)
 
 -- The sub-code, put together from its four numbers.
 subcode_is : (n : ℕ) (b c d : Bool) → n < 0x4000 → n / 128 % 2 ≡ 0
     → n % 16 + 16 * ((n / 16 % 8 + 8 * bit b) % 8) + 256 * (n / 256 % 16) + 4096 *
     ((n / 4096 % 4 + 4 * bit c + 8 * bit d) % 4) ≡ n
-subcode_is n b c d l gap =
-    let p : (n / 16 % 8 + 8 * bit b) % 8 ≡ n / 16 % 8 = omega arith in
-    let q : (n / 4096 % 4 + 4 * bit c + 8 * bit d) % 4 ≡ n / 4096 % 4 = omega arith in
-    rw (p, q) (omega arith)
+subcode_is n b c d l gap = grind (arith, nat_tests)
 
 -- The numbers of the control bits, from the numbers that hold them.
 control_of : (n s2 s4 : ℕ) (c4 c5 c6 : Bool) → s2 < 8 → s4 < 4
@@ -107,8 +97,7 @@ address_exact : (magazine y : ℕ) (rest : List ℕ) → magazine < 8 → y < 32
     → IsCodeWord (slice_index (address_words magazine y ++ rest) k)
 address_exact magazine y rest m l zero b =
     code_word_is_exact ((magazine + 8 * y) % 16) (omega arith)
-address_exact magazine y rest m l (suc zero) b =
-    code_word_is_exact ((magazine + 8 * y) / 16) (omega arith)
+address_exact magazine y rest m l (suc zero) b = search (rules, code_word_is_exact)
 address_exact magazine y rest m l (suc (suc k)) b = absurd (omega arith)
 
 -- ---- the two laws
@@ -133,18 +122,7 @@ header_text magazine h place from below =
 pub law_of_header_packet : LawOfHeaderPacket
 unfolding header_packet header
 law_of_header_packet magazine h m is =
-    let rest = map code_word (header_numbers h) ++ replicate 32 0x20 in
-    let at = address_is magazine 0 rest m (omega arith) in
-    record {
-      whole = refl;
-      address = at;
-      header = rw at (coded_is magazine h is);
-      exact = (
-        address_exact magazine 0 rest m (omega arith),
-        λ a e z. coded_exact magazine h is,
-      );
-      odd = header_text magazine h;
-    }
+    search (rules, address_is, coded_is, address_exact, coded_exact, header_text)
 
 -- A bit of the control bits, where those outside C4 to C14 are left out.
 placed_bit : (n k : ℕ)
@@ -154,8 +132,7 @@ placed_bit n k l =
     let same : bit_at (n % 0x800) k ≡ bit_at n k =
     sym (bit_at_cat_low (n / 0x800) 11 (n % 0x800) k l)
     ∙ ap (λ m. bit_at m k) (div-add-mod' n 0x800) in
-    ap (λ m. m == 2 ^ k)
-    (and_pow (n % 0x800) k ∙ ap (λ b. b * 2 ^ k) same ∙ sym (and_pow n k))
+    grind (arith, nat_tests, and_pow)
 
 -- Bits that have no place in a header are in no byte of the packet.
 header_packet-placed :
@@ -241,11 +218,7 @@ pub header_packet-from_words : (magazine : ℕ) (h : Header) (b0 b1 b2 b3 b4 b5 
     → b0 ∷ b1 ∷ b2 ∷ b3 ∷ b4 ∷ b5 ∷ b6 ∷ b7 ∷ b8 ∷ b9 ∷ replicate 32 0x20 ≡ header_packet magazine h
 unfolding header_packet
 header_packet-from_words magazine h b0 b1 b2 b3 b4 b5 b6 b7 b8 b9 l e0 e1 e2 e3 e4 e5 e6 e7 e8 e9 =
-    let low : magazine ≡ (magazine + 8 * 0) % 16 = omega arith in
-    let high : 0 ≡ (magazine + 8 * 0) / 16 = omega arith in
-    let f0 : b0 ≡ code_word ((magazine + 8 * 0) % 16) = e0 ∙ ap code_word low in
-    let f1 : b1 ≡ code_word ((magazine + 8 * 0) / 16) = e1 ∙ ap code_word high in
-    rw (f0, f1, e2, e3, e4, e5, e6, e7, e8, e9) refl
+    grind (arith, nat_tests)
 
 -- ---- a row that was made of two words and its text
 
@@ -256,5 +229,4 @@ pub row_packet-from_text : (magazine y low high : ℕ) (codes text : List ℕ)
     → text ≡ map odd_byte codes
     → low ∷ high ∷ (text ++ []) ≡ row_packet magazine y codes
 unfolding row_packet
-row_packet-from_text magazine y low high codes text l h t =
-    rw (append-nil text, l, h, t) refl
+row_packet-from_text magazine y low high codes text l h t = grind (arith, nat_tests, append-nil)

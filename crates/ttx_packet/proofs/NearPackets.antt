@@ -1,6 +1,6 @@
 -- A packet's address and header under one wrong bit in each byte: address-near, header-near.
-use Rattle.std.proofs.Common.{◌≡◌, ℕ, zero, suc, inl, ◌==◌, cond, List, [], ◌∷◌}
-use Rattle.std.proofs.Common.{slice_index, Option, Some, None, refl, arith, option_and_then}
+use Rattle.std.proofs.Common.{◌≡◌, ℕ, zero, suc, inl, ◌==◌, cond, List, [], ◌∷◌, slice_index}
+use Rattle.std.proofs.Common.{Option, Some, None, refl, arith, option_and_then}
 use Rattle.std.proofs.lemmas.Bool.Decides.{nat_tests}
 use Rattle.ttx_packet.specs.OneBit.{IsNear, AreNear}
 use Rattle.ttx_packet.specs.Hamming84.{IsCodeWord}
@@ -26,25 +26,13 @@ decoded_at-near sent got k near exact = decoded-near _ _ exact (near_at sent got
 pub address-near : (sent got : List ℕ) → HasExactAddress sent → AreNear sent got
     → address got ≡ address sent
 unfolding address
-address-near sent got exact near =
-    let low = decoded_at-near sent got 0 near (exact 0 (omega arith)) in
-    let high = decoded_at-near sent got 1 near (exact 1 (omega arith)) in
-    rw (low, high)
+address-near sent got exact near = grind (arith, nat_tests, decoded_at-near)
 
 -- Near coded bytes say the header of exact ones.
 coded_header-near : (sent got : List ℕ) → HasExactHeader sent → AreNear sent got
     → coded_header got ≡ coded_header sent
 unfolding coded_header
-coded_header-near sent got exact near =
-    let e2 = decoded_at-near sent got 2 near (exact 2 (omega arith) (omega arith)) in
-    let e3 = decoded_at-near sent got 3 near (exact 3 (omega arith) (omega arith)) in
-    let e4 = decoded_at-near sent got 4 near (exact 4 (omega arith) (omega arith)) in
-    let e5 = decoded_at-near sent got 5 near (exact 5 (omega arith) (omega arith)) in
-    let e6 = decoded_at-near sent got 6 near (exact 6 (omega arith) (omega arith)) in
-    let e7 = decoded_at-near sent got 7 near (exact 7 (omega arith) (omega arith)) in
-    let e8 = decoded_at-near sent got 8 near (exact 8 (omega arith) (omega arith)) in
-    let e9 = decoded_at-near sent got 9 near (exact 9 (omega arith) (omega arith)) in
-    rw (e2, e3, e4, e5, e6, e7, e8, e9)
+coded_header-near sent got exact near = grind (arith, nat_tests, decoded_at-near)
 
 -- A near packet has the header of a packet with exact words.
 pub header-near : (sent got : List ℕ) → HasExactWords sent → AreNear sent got

@@ -1,6 +1,5 @@
 -- Nearness as a test: what passes `is_near` is near (near_from_test).
-use Rattle.std.proofs.Common.{◌≡◌, ℕ, zero, suc, ◌^◌, ◌<◌, inl, inr, Bool, true, false, ◌==◌}
-use Rattle.std.proofs.Common.{Option, Some, None, bit_xor, refl, arith}
+use Rattle.std.proofs.Common.{◌≡◌, ℕ, zero, suc, ◌<◌, Bool, true, false, Some, None, refl, arith}
 use Rattle.std.proofs.lemmas.Bool.Decides.{nat_tests}
 use Rattle.ttx_packet.specs.OneBit.{IsNear, first_below, is_near}
 
@@ -27,19 +26,11 @@ pub first_below-at : (n : ℕ) (test : ℕ → Bool) (x : ℕ)
     → first_below n test ≡ Some x
 first_below-at zero test x l e before = absurd (omega arith)
 first_below-at (suc n) test x l e before =
-    let none = first_below-none x test before in
-    let below = first_below-at n test x in
-    grind (arith, nat_tests)
+    grind (arith, nat_tests, first_below-none x test before, first_below-at n test x)
 
 -- ---- nearness as a test
 
 -- A byte that passes the test is near.
 pub near_from_test : (c g : ℕ) → is_near c g ≡ true → IsNear c g
 unfolding is_near
-near_from_test c g e = bit_of (first_below 8 (λ bit. g == bit_xor c (2 ^ bit))) refl
-  where
-    bit_of : (o : Option ℕ) → first_below 8 (λ bit. g == bit_xor c (2 ^ bit)) ≡ o → IsNear c g
-    bit_of (Some bit) p =
-        let r = first_below_is 8 (λ bit. g == bit_xor c (2 ^ bit)) bit p in
-        inr (bit, r.0, grind (arith, nat_tests))
-    bit_of None p = inl (grind (arith, nat_tests))
+near_from_test c g e = grind (arith, nat_tests)

@@ -1,15 +1,12 @@
 -- Texts of three bytes and others: page_of_text-other_length, three_bytes.
 use Rattle.std.proofs.Common.{◌≡◌, ◌≢◌, ℕ, List, [], ◌∷◌, length, slice_index, None, refl, arith}
+use Rattle.std.proofs.lemmas.Bool.Decides.{nat_tests}
 use Rattle.ttx_packet.specs.PageId.{page_of_text}
 
 -- A text of another length than three names no page.
 pub page_of_text-other_length : (text : List ℕ) → length text ≢ 3 → page_of_text text ≡ None
 unfolding page_of_text
-page_of_text-other_length [] other = refl
-page_of_text-other_length (a ∷ []) other = refl
-page_of_text-other_length (a ∷ b ∷ []) other = refl
-page_of_text-other_length (a ∷ b ∷ c ∷ []) other = absurd (other refl)
-page_of_text-other_length (a ∷ b ∷ c ∷ d ∷ rest) other = refl
+page_of_text-other_length text other = grind (arith, nat_tests)
 
 -- A text of three bytes is the list of them.
 pub three_bytes : (text : List ℕ)

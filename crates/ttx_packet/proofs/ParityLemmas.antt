@@ -1,7 +1,7 @@
 -- Odd parity: one changed bit makes the count of ones even (even_from_changed), and what odd_byte
 -- gives.
 use Rattle.std.proofs.Common.{◌≡◌, ◌≢◌, ℕ, zero, suc, ◌+◌, ◌*◌, ◌/◌, ◌%◌, ◌^◌, ◌<◌, inl, inr, true}
-use Rattle.std.proofs.Common.{bit_xor, refl, subst, arith, IsTrue, IsFalse, div-add-mod', pow-suc}
+use Rattle.std.proofs.Common.{bit_xor, refl, arith, IsTrue, IsFalse, div-add-mod', pow-suc}
 use Rattle.std.specs.Int.RustNames.{count_ones}
 use Rattle.std.proofs.lemmas.Bool.{agree_below_at}
 use Rattle.std.proofs.lemmas.Bool.Decides.{nat_tests}
@@ -50,9 +50,7 @@ flip_higher q r m l h =
 
 -- A change in any bit makes the two counts of ones an odd sum.
 pub flip : (k b : ℕ) → (count_ones (bit_xor b (2 ^ k)) + count_ones b) % 2 ≡ 1
-flip zero b =
-    subst (λ n. (count_ones (bit_xor n 1) + count_ones n) % 2 ≡ 1) (div-add-mod' b 2)
-    (flip_lowest (b / 2) (b % 2) (omega arith))
+flip zero b = grind (arith, nat_tests, div-add-mod' b 2, flip_lowest)
 flip (suc k) b =
     let power : 2 ^ k * 2 ^ 1 + 0 ≡ 2 ^ suc k = omega (arith, pow-suc 2 k) in
     let P : ℕ → ℕ → Type 0 = λ n m. (count_ones (bit_xor n m) + count_ones n) % 2 ≡ 1 in

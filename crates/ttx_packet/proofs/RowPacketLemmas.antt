@@ -1,6 +1,6 @@
 -- The first byte of even parity, of a packet's data bytes, as Packet::first_even goes over them:
 -- first_even-at, first_even-none.
-use Rattle.std.proofs.Common.{◌≡◌, ℕ, ◌+◌, ◌<◌, List, Option, Some, None, IsNone, ◌↔◌, true, false}
+use Rattle.std.proofs.Common.{◌≡◌, ℕ, ◌<◌, List, Option, Some, None, IsNone, ◌↔◌, true, false}
 use Rattle.std.proofs.Common.{get_or, sym, refl, arith, drop}
 use Rattle.std.proofs.lemmas.Bool.Decides.{nat_tests}
 use Rattle.std.proofs.lemmas.List.{get_or-drop}
@@ -16,8 +16,7 @@ pub record IsFirstEven (packet : List ℕ) (found : Option ℕ) : Type 0 where
 
 -- The data bytes are the bytes of the columns.
 text_is : (packet : List ℕ) (k : ℕ) → get_or (drop 2 packet) k 0 ≡ text_byte packet k
-text_is packet k =
-    let two : 2 + k ≡ k + 2 = omega arith in rw (get_or-drop 2 packet k 0, two)
+text_is packet k = grind (arith, nat_tests, get_or-drop)
 
 -- The first of the data bytes with even parity is that of the columns.
 pub first_even-at : (packet : List ℕ) (column : ℕ)
