@@ -1,10 +1,9 @@
 -- A data unit that is read is one of the grammar, and the other way round. Main lemmas:
 -- units_sound, units_complete.
-use Rattle.std.proofs.Common.{◌≡◌, ℕ, zero, suc, ◌+◌, ◌-◌, ◌*◌, ◌/◌, ◌%◌, ◌<◌, ◌≤◌, true}
-use Rattle.std.proofs.Common.{cond, eqb, List, [], ◌∷◌, ◌++◌, length, take}
-use Rattle.std.proofs.Common.{get_or, drop, map, Option, Some, None, Ok, refl, sym, ap, subst}
-use Rattle.std.proofs.Common.{◌∙◌, append_assoc, arith, inl, inr, length-append, length-take}
-use Rattle.std.proofs.Common.{length-drop}
+use Rattle.std.proofs.Common.{rules, ◌≡◌, ℕ, zero, suc, ◌+◌, ◌-◌, ◌*◌, ◌/◌, ◌%◌, ◌<◌, ◌≤◌, true}
+use Rattle.std.proofs.Common.{cond, eqb, List, [], ◌∷◌, ◌++◌, length, take, get_or, drop, map}
+use Rattle.std.proofs.Common.{Option, Some, None, Ok, refl, sym, ap, subst, ◌∙◌, append_assoc}
+use Rattle.std.proofs.Common.{arith, inl, inr, length-append, length-take, length-drop}
 use Rattle.std.proofs.Math.Seq.{drop-cons}
 use Rattle.std.proofs.lemmas.Bool.{cases_Bool, cases_lt}
 use Rattle.std.proofs.lemmas.Bool.Decides.{nat_tests}
@@ -25,10 +24,7 @@ use Rattle.sub_io.proofs.ReadingLemmas.{step_gave, Ok-injective, given_as}
 
 -- Bytes in a prefix.
 pub AreBytes-take : (n : ℕ) (b : List ℕ) → AreBytes b → AreBytes (take n b)
-AreBytes-take n b h i = elim (cases_lt i n) [
-  | inl lt ↦ rw (get_or-take n b i 0 lt) (h i)
-  | inr le ↦ rw (get_or_past (take n b) i 0 (omega (arith, length-take n b))) (omega arith)
-]
+AreBytes-take n b h i = grind (arith, nat_tests, cases_lt, get_or-take, get_or_past, length-take)
 
 -- Bytes after a prefix.
 pub AreBytes-drop : (n : ℕ) (b : List ℕ) → AreBytes b → AreBytes (drop n b)
@@ -137,19 +133,8 @@ pub unit_complete : (u : Option UnitValue) (b : List ℕ)
     → IsDataUnit u b
     → (teletext_at b ≡ Ok u) × (length b ≡ 46)
 unfolding teletext_at
-unit_complete None b h = rw (h.bytes, h.other) (refl, ap suc (ap suc h.size))
-unit_complete (Some u) b h =
-    let id-is = teletext_id_is u.id h.is_unit.id.0 h.is_unit.id.1 in
-    let field-is =
-    field_back h.reserved u.field u.line h.is_unit.field.0 h.is_unit.field.1 h.is_unit.line in
-    let line-is : (64 * h.reserved + 32 * (2 - u.field) + u.line) % 32 ≡ u.line = let l =
-    h.is_unit.line in omega arith in
-    let packet-is = mirrored_twice u.packet h.is_unit.packet.bytes in
-    rw (h.bytes, id-is, field-is, line-is, packet-is) (
-      refl,
-      ap (λ (n : ℕ). suc (suc (suc (suc n)))) (length-map u.packet mirror
-          ∙ h.is_unit.packet.size),
-    )
+unit_complete u b h =
+    grind (arith, nat_tests, teletext_id_is, field_back, mirrored_twice, length-map)
 
 -- ---- data units one after another
 
@@ -163,18 +148,7 @@ pub record Adds (front us : List UnitValue) (u : Option UnitValue) : Type 0 wher
 with_unit_adds : (front us : List UnitValue) (u : Option UnitValue)
     → with_unit front u ≡ Ok us
     → Adds front us u
-with_unit_adds front us None e =
-    subst (λ (x : List UnitValue). Adds front x None) (Ok-injective front us e)
-    (record { is = sym (append-nil front); rises = λ more r. r })
-with_unit_adds front us (Some u) e =
-    let g : (stands_after (last_place 0 front) u ≡ true) × (front ++ u ∷ [] ≡ us) =
-    grind (arith, nat_tests) in
-    subst (λ (x : List UnitValue). Adds front x (Some u)) g.1
-    (record {
-      is = refl;
-      rises =
-          λ more r. (g.0, subst (λ (l : ℕ). AreInLineOrder l more) (last_place-push 0 front u) r);
-    })
+with_unit_adds front us u e = grind (arith, nat_tests, Ok-injective, append-nil, last_place-push)
 
 -- Data units that are read are those of the grammar, in order: for a value that is read.
 pub units_sound : (n : ℕ) (front us : List UnitValue) (b : List ℕ)
@@ -184,13 +158,7 @@ pub units_sound : (n : ℕ) (front us : List UnitValue) (b : List ℕ)
     → (more : List UnitValue) × (us ≡ front ++ more) × AreDataUnits n more b
     × AreInLineOrder (last_place 0 front) more
 unfolding units_at unit_at
-units_sound zero front us b len fit e = (
-  [],
-  sym (Ok-injective front us e)
-      ∙ sym (append-nil front),
-  (refl, nil_from_length b (omega arith)),
-  tt,
-)
+units_sound zero front us b len fit e = search (rules, Ok-injective, append-nil, nil_from_length)
 units_sound (suc n) front us b len fit e =
     let p = step_gave (unit_at front (take 46 b)) (λ x. units_at n x (drop 46 b)) us e in
     let q = step_gave (teletext_at (take 46 b)) (with_unit front) p.0 p.1 in
@@ -211,9 +179,7 @@ with_unit_takes : (front others : List UnitValue) (u : Option UnitValue)
     → AreInLineOrder (last_place 0 front) (option_to_list u ++ others)
     → (with_unit front u ≡ Ok (front ++ option_to_list u))
     × AreInLineOrder (last_place 0 (front ++ option_to_list u)) others
-with_unit_takes front others None r = rw (append-nil front) (refl, r)
-with_unit_takes front others (Some u) r =
-    (rw r.0 refl, subst (λ (l : ℕ). AreInLineOrder l others) (sym (last_place-push 0 front u)) r.1)
+with_unit_takes front others u r = grind (arith, nat_tests, append-nil, last_place-push)
 
 -- Data units of the grammar in order are read: for a packet that is read.
 pub units_complete : (n : ℕ) (front more : List UnitValue) (b : List ℕ)
@@ -229,11 +195,8 @@ units_complete (suc n) front more b (u, others, first, rest, held, after, us-is,
     let rises : AreInLineOrder (last_place 0 front) (option_to_list u ++ others) =
     subst (λ (x : List UnitValue). AreInLineOrder (last_place 0 front) x) us-is r in
     let t = with_unit_takes front others u rises in
-    let i = units_complete n (front ++ option_to_list u) others rest after t.1 in (
-      rw (front-is, back-is, c.0, t.0, i.0, us-is)
-          (ap (given_as PesFault) (append_assoc front (option_to_list u) others)),
-      rw b-is (omega (arith, length-append first rest, c.1, i.1)),
-    )
+    let i = units_complete n (front ++ option_to_list u) others rest after t.1 in
+    grind (arith, nat_tests, given_as, append_assoc, length-append)
 
 -- ---- the loop over data units
 
@@ -243,17 +206,14 @@ pub units_next : (count i : ℕ) (front : List UnitValue) (b : List ℕ)
     → units_at (count - i) front b
     ≡ (unit_at front (take 46 b) >>= λ units. units_at (count - (i + 1)) units (drop 46 b))
 unfolding units_at
-units_next count i front b lt =
-    let next : count - i ≡ suc (count - (i + 1)) = omega arith in
-    rw next refl
+units_next count i front b lt = grind (arith, nat_tests)
 
 -- No data unit is left.
 pub units_none : (count i : ℕ) (front : List UnitValue) (b : List ℕ)
     → count ≤ i
     → units_at (count - i) front b ≡ Ok front
 unfolding units_at
-units_none count i front b le = let none : count - i ≡ 0 = omega arith in
-    rw none refl
+units_none count i front b le = grind (arith, nat_tests)
 
 -- For the loop of `take_units`.
 pub ruleset units_left = (units_next, units_none)

@@ -1,8 +1,7 @@
 -- The order of lines, one unit on, and that numbered packets keep it. Main lemma:
 -- numbered_is_value.
-use Rattle.std.proofs.Common.{◌≡◌, ℕ, ◌+◌, ◌<◌, ◌≤◌, true, false, cond, eqb}
-use Rattle.std.proofs.Common.{ltb, List, [], ◌∷◌, ◌++◌, length, get_or, drop, map, refl}
-use Rattle.std.proofs.Common.{◌∙◌, append_assoc, arith}
+use Rattle.std.proofs.Common.{rules, ◌≡◌, ℕ, ◌+◌, ◌<◌, ◌≤◌, true, false, cond, eqb, ltb, List, []}
+use Rattle.std.proofs.Common.{◌∷◌, ◌++◌, length, get_or, drop, map, refl, ◌∙◌, append_assoc, arith}
 use Rattle.std.proofs.lemmas.Bool.{lt-ltb}
 use Rattle.std.proofs.lemmas.Bool.Decides.{nat_tests}
 use Rattle.std.proofs.lemmas.List.{drop_more}
@@ -50,19 +49,14 @@ pub numbered_more : (i : ℕ) (ps : List (List ℕ)) (p : List ℕ) (us all : Li
     → p ≡ get_or ps i p
     → us ++ numbered_units i (drop i ps) ≡ all
     → (us ++ numbered_unit i p ∷ []) ++ numbered_units (i + 1) (drop (i + 1) ps) ≡ all
-numbered_more i ps p us all lt is e =
-    append_assoc us (numbered_unit i p ∷ []) (numbered_units (i + 1) (drop (i + 1) ps))
-    ∙ rw (drop_more ps i p lt, ← is) at e
+numbered_more i ps p us all lt is e = grind (arith, nat_tests, append_assoc, drop_more)
 
 -- The last place after a numbered unit: the next number may stand there.
 pub last_numbered : (i : ℕ) (u : UnitValue) (us : List UnitValue)
     → eqb u.line 0 ≡ false
     → line_order_place u ≡ numbered_place i
     → last_place 0 (us ++ u ∷ []) < numbered_place (i + 1)
-last_numbered i u us line at =
-    let last : last_place 0 (us ++ u ∷ []) ≡ numbered_place i =
-    last_place-push 0 us u ∙ rw line at in
-    rw last (place_rises i)
+last_numbered i u us line at = grind (arith, nat_tests, last_place-push, place_rises)
 
 -- ---- numbered packets as a value
 
@@ -70,16 +64,12 @@ last_numbered i u us line at =
 packets-numbered_units : (i : ℕ) (ps : List (List ℕ))
     → map (λ (u : UnitValue). u.packet) (numbered_units i ps) ≡ ps
 packets-numbered_units i [] = refl
-packets-numbered_units i (p ∷ ps) =
-    let rest = packets-numbered_units (i + 1) ps in
-    grind (arith, nat_tests)
+packets-numbered_units i (p ∷ ps) = grind (arith, nat_tests, packets-numbered_units (i + 1) ps)
 
 -- As many units as packets.
 length-numbered_units : (i : ℕ) (ps : List (List ℕ)) → length (numbered_units i ps) ≡ length ps
 length-numbered_units i [] = refl
-length-numbered_units i (p ∷ ps) =
-    let r = length-numbered_units (i + 1) ps in
-    omega arith
+length-numbered_units i (p ∷ ps) = grind (arith, nat_tests, length-numbered_units (i + 1) ps)
 
 -- What is known of one numbered unit.
 record IsNumbered (i : ℕ) (p : List ℕ) : Type 0 where
@@ -116,12 +106,5 @@ numbered_order i last (p ∷ ps) few h lt =
 
 -- Packets that are sent as one frame make a value that a frame can hold: the law.
 pub numbered_is_value : LawOfNumberedFrame
-numbered_is_value pts ps lt few h = let all : 0 + length ps ≤ 32 = omega arith in (
-  record {
-    pts = lt;
-    few = let l = length-numbered_units 0 ps in omega arith;
-    each = numbered_each 0 ps all h;
-    in_order = numbered_order 0 0 ps all h (omega arith);
-  },
-  packets-numbered_units 0 ps,
-)
+numbered_is_value pts ps lt few h =
+    search (rules, length-numbered_units, numbered_each, numbered_order, packets-numbered_units)

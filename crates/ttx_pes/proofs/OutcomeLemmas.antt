@@ -1,6 +1,7 @@
 -- What comes of PES packets is the next answer and what comes then: outcome_after-next.
-use Rattle.std.proofs.Common.{◌≡◌, ℕ, zero, suc, ◌+◌, ◌-◌, ◌≤◌, List, [], ◌∷◌, Option, Result}
-use Rattle.std.proofs.Common.{refl, arith}
+use Rattle.std.proofs.Common.{rules, ◌≡◌, ℕ, zero, suc, ◌+◌, ◌-◌, ◌≤◌, List, [], ◌∷◌, Option}
+use Rattle.std.proofs.Common.{Result, refl, arith}
+use Rattle.std.proofs.lemmas.Bool.Decides.{nat_tests}
 use Rattle.ttx_pes.specs.declared.fault.PesFault.{PesFault}
 use Rattle.ttx_pes.specs.Outcome.{answer_then, outcome_after, packets_from}
 use Rattle.ttx_pes.specs.PesPacket.{PesValue}
@@ -13,19 +14,12 @@ packets_from-room : (room given : ℕ) (bytes : List ℕ)
     ≡ answer_then (answer_at given bytes)
     (packets_from (room - 1) (given + 1) (rest_after bytes))
 unfolding packets_from answer_at
-packets_from-room zero given [] e = refl
-packets_from-room zero given (x ∷ b) e =
-    let last : given ≡ most_packets = omega arith in rw last refl
-packets_from-room (suc room) given bytes e =
-    let less : suc room - 1 ≡ room = omega arith in rw less refl
+packets_from-room room given bytes e = grind (arith, nat_tests)
 
 -- The same after `given` of them, by the answer.
-pub outcome_after-next :
-    (given : ℕ) (bytes : List ℕ) (answer : Result (Option PesValue) PesFault)
+pub outcome_after-next : (given : ℕ) (bytes : List ℕ) (answer : Result (Option PesValue) PesFault)
     → given ≤ most_packets
     → answer_at given bytes ≡ answer
     → outcome_after given bytes
     ≡ answer_then answer (outcome_after (given + 1) (rest_after bytes))
-outcome_after-next given bytes answer few is =
-    let less : most_packets - (given + 1) ≡ most_packets - given - 1 = omega arith in
-    rw (less, ← is) (packets_from-room (most_packets - given) given bytes (omega arith))
+outcome_after-next given bytes answer few is = grind (arith, nat_tests, packets_from-room)

@@ -1,9 +1,8 @@
 -- The fields of a header that are read are those of the grammar, and the other way round. Main
 -- lemmas: body_sound, body_complete.
-use Rattle.std.proofs.Common.{◌≡◌, ℕ, ◌+◌, ◌-◌, ◌*◌, ◌/◌, ◌%◌, ◌^◌, ◌<◌, ◌≤◌}
-use Rattle.std.proofs.Common.{List, [], ◌∷◌, ◌++◌, length, get_or, take, drop, Ok}
-use Rattle.std.proofs.Common.{refl, sym, ap, ◌∙◌, append_assoc, arith, subst}
-use Rattle.std.proofs.Common.{length-append, length-take, length-drop}
+use Rattle.std.proofs.Common.{rules, ◌≡◌, ℕ, ◌+◌, ◌-◌, ◌*◌, ◌/◌, ◌%◌, ◌^◌, ◌<◌, ◌≤◌, List, [], ◌∷◌}
+use Rattle.std.proofs.Common.{◌++◌, length, get_or, take, drop, Ok, refl, sym, ap, ◌∙◌}
+use Rattle.std.proofs.Common.{append_assoc, arith, subst, length-append, length-take, length-drop}
 use Rattle.std.proofs.lemmas.Bool.Decides.{nat_tests}
 use Rattle.std.proofs.lemmas.List.{drop_at, take-append-drop, drop_more, drop-drop, get_or_at}
 use Rattle.std.proofs.lemmas.List.{nil_from_length}
@@ -12,10 +11,8 @@ use Rattle.sub_io.specs.Reading.{AreBytes}
 use Rattle.ttx_pes.specs.declared.fault.PesFault.{PesFault}
 use Rattle.ttx_pes.specs.DataUnit.{UnitValue}
 use Rattle.ttx_pes.specs.PesPacket.{IsPesPacket, PesValue, packet_length, packet_start, pts_bytes}
-use Rattle.ttx_pes.specs.Reading.{pts_bits, pts_at, units_at, value_at}
-use Rattle.ttx_pes.specs.Reading.{size_at, told_size}
-use Rattle.ttx_pes.proofs.DataUnitLemmas.{AreBytes-drop, list_of_bytes, units_sound}
-use Rattle.ttx_pes.proofs.DataUnitLemmas.{units_complete}
+use Rattle.ttx_pes.specs.Reading.{pts_bits, pts_at, units_at, value_at, size_at, told_size}
+use Rattle.ttx_pes.proofs.DataUnitLemmas.{AreBytes-drop, list_of_bytes, units_sound, units_complete}
 use Rattle.sub_io.proofs.ReadingLemmas.{step_gave, Ok-injective, given_as}
 
 -- ---- the first six bytes
@@ -33,7 +30,6 @@ head_sound b size len fit e =
     grind (arith, nat_tests) in
     let total : (told_size b % 184 ≡ 0) × (told_size b ≤ 1656) × (told_size b ≡ size) =
     grind (arith, nat_tests) in
-    let high = fit 4 in
     let low = fit 5 in
     let is-high : get_or b 4 0 ≡ ((184 * (size / 184) - 6) / 256) % 256 = omega arith in
     let is-low : get_or b 5 0 ≡ (184 * (size / 184) - 6) % 256 = omega arith in
@@ -45,10 +41,7 @@ pub head_complete : (n : ℕ)
     → n ≤ 9
     → size_at (0 ∷ 0 ∷ 1 ∷ 189 ∷ bytes_high_first 2 (184 * n - 6)) ≡ Ok (184 * n)
 unfolding size_at
-head_complete n lo hi =
-    let total : 256 * (((184 * n - 6) / 256) % 256) + (184 * n - 6) % 256 + 6 ≡ 184 * n =
-    omega arith in
-    rw total (grind (arith, nat_tests))
+head_complete n lo hi = grind (arith, nat_tests)
 
 -- ---- the bytes after them
 
@@ -78,26 +71,11 @@ pts_sound : (b : List ℕ) (t : ℕ)
     → (pts_bytes t
     ≡ get_or b 3 0 ∷ get_or b 4 0 ∷ get_or b 5 0 ∷ get_or b 6 0 ∷ get_or b 7 0 ∷ [])
     × (t < 2 ^ 33)
-pts_sound b t fit h =
-    let f3 = fit 3 in
-    let f4 = fit 4 in
-    let f5 = fit 5 in
-    let f6 = fit 6 in
-    let f7 = fit 7 in
-    let e3 : 33 + 2 * (t / 2 ^ 30) ≡ get_or b 3 0 = omega arith in
-    let e4 : (t / 2 ^ 22) % 256 ≡ get_or b 4 0 = omega arith in
-    let e5 : 1 + 2 * ((t / 2 ^ 15) % 128) ≡ get_or b 5 0 = omega arith in
-    let e6 : (t / 2 ^ 7) % 256 ≡ get_or b 6 0 = omega arith in
-    let e7 : 1 + 2 * (t % 128) ≡ get_or b 7 0 = omega arith in
-    (rw (e3, e4, e5, e6, e7) refl, omega arith)
+pts_sound b t fit h = grind (arith, nat_tests)
 
 -- A list in its parts, where 31 bytes are passed over.
 parted : (b : List ℕ) → 40 ≤ length b → drop 8 b ≡ take 31 (drop 8 b) ++ (get_or b 39 0 ∷ drop 40 b)
-parted b le =
-    let back : drop 31 (drop 8 b) ≡ drop 39 b = drop-drop 31 8 b in
-    let next : drop 39 b ≡ get_or b 39 0 ∷ drop 40 b = drop_more b 39 0 (omega arith) in
-    sym (take-append-drop 31 (drop 8 b))
-    ∙ ap (λ (x : List ℕ). take 31 (drop 8 b) ++ x) (back ∙ next)
+parted b le = grind (arith, nat_tests, drop-drop 31 8 b, drop_more, take-append-drop 31 (drop 8 b))
 
 -- A value of its parts.
 abbrev pub value_with : ℕ → List UnitValue → PesValue
@@ -123,7 +101,6 @@ body_sound n b v lo hi len fit e =
     let spelled = pts_sound b p.0 fit h in
     let first = list_of_bytes 8 0 b (omega arith) in
     let others = parted b (omega arith) in
-    let pts-same = spelled.0 in
     let length-is = h.len in
     let body : b ≡ (get_or b 0 0 ∷ get_or b 1 0 ∷ 36 ∷ [])
     ++ (pts_bytes p.0 ++ (take 31 (drop 8 b) ++ (get_or b 39 0 ∷ drop 40 b))) = cc in
@@ -171,27 +148,13 @@ packet_of_body v p h = h.bytes
 header_complete : (v : PesValue) (p : List ℕ) (h : IsPesPacket v p)
     → pts_at (body_of v p h) ≡ Ok v.pts
 unfolding pts_at body_of
-header_complete v p h =
-    let t = v.pts in
-    let lt = h.pts_fits in
-    let behind : get_or (h.header_stuffing ++ h.data_identifier ∷ h.data_units) 31 0
-    ≡ h.data_identifier =
-    get_or_at h.header_stuffing h.data_identifier h.data_units 0 31 h.header_filled in
-    let prefix : (33 + 2 * (t / 2 ^ 30)) / 16 ≡ 2 = omega arith in
-    let marker : (n : ℕ) → (1 + 2 * n) % 2 ≡ 1 = λ n. omega arith in
-    let first : (33 + 2 * (t / 2 ^ 30)) % 2 ≡ 1 = omega arith in
-    let third = marker ((t / 2 ^ 15) % 128) in
-    let fifth = marker (t % 128) in
-    let bits : pts_bits (128 ∷ 128 ∷ 36 ∷ pts_bytes t) ≡ t = omega arith in
-    rw (h.not_scrambled, h.pts_alone, prefix, first, third, fifth, behind, h.ebu_data)
-    (ap (given_as PesFault) bits)
+header_complete v p h = grind (arith, nat_tests, get_or_at, given_as)
 
 -- It is read.
 pub body_complete : (v : PesValue) (p : List ℕ) (h : IsPesPacket v p)
     → (value_at (body_of v p h) ≡ Ok v) × (length (body_of v p h) ≡ 184 * h.n - 6)
 unfolding body_of
 body_complete v p h =
-    let lo = h.size.0 in
     let filled = h.header_filled in
     let behind : drop 40 (body_of v p h) ≡ h.data_units =
     ap (drop 32) (sym (append_assoc h.header_stuffing (h.data_identifier ∷ []) h.data_units))

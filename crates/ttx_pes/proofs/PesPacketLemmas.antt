@@ -1,35 +1,32 @@
 -- The canonical packet is a packet of its value, and what is made of a frame is it. Main lemmas:
 -- canonical_is_packet, spelled.
-use Rattle.std.proofs.Common.{List, None, Some, [], append_assoc, arith, length, lit<}
-use Rattle.std.proofs.Common.{refl, subst, suc, sym, take, zero, ℕ, ◌*◌, ◌++◌, ◌+◌, ◌-◌, ◌/◌, ◌∙◌}
-use Rattle.std.proofs.Common.{◌∷◌, ◌≡◌, ◌≤◌, ◌<◌}
+use Rattle.std.proofs.Common.{rules, List, None, Some, [], append_assoc, arith, length, lit<, refl}
+use Rattle.std.proofs.Common.{subst, suc, sym, take, zero, ℕ, ◌*◌, ◌++◌, ◌+◌, ◌-◌, ◌/◌, ◌∙◌, ◌∷◌}
+use Rattle.std.proofs.Common.{◌≡◌, ◌≤◌, ◌<◌}
+use Rattle.std.proofs.lemmas.Bool.Decides.{nat_tests}
 use Rattle.std.specs.Prelude.{replicate}
 use Rattle.std.proofs.lemmas.List.{append-nil, take_all}
 use Rattle.std.specs.List.{flat_map, AllByRecursion}
 use Rattle.ttx_pes.specs.DataUnit.{UnitValue, IsUnit, IsPassedUnit, AreDataUnits, teletext_unit}
 use Rattle.ttx_pes.specs.DataUnit.{stuffing, stuffing_unit}
 use Rattle.ttx_pes.specs.Laws.{LawOfCanonicalPacket, LawOfPacketValue}
-use Rattle.ttx_pes.specs.PesPacket.{PesValue, canonical_packet}
-use Rattle.ttx_pes.specs.PesPacket.{pes_packet_header, payloads_for, repeated}
+use Rattle.ttx_pes.specs.PesPacket.{PesValue, canonical_packet, pes_packet_header, payloads_for}
+use Rattle.ttx_pes.specs.PesPacket.{repeated}
 
 -- A stuffing unit is passed over.
 stuffing_is_passed : IsPassedUnit stuffing_unit
-stuffing_is_passed =
-    record { id = 255; rest = replicate 44 255; bytes = refl; other = refl; size = refl }
+stuffing_is_passed = grind (arith, nat_tests)
 
 -- Stuffing units are data units without Teletext.
 pub stuffing_units : (n : ℕ) → AreDataUnits n [] (repeated n stuffing_unit)
 stuffing_units zero = (refl, refl)
-stuffing_units (suc n) =
-    let rest = repeated n stuffing_unit in
-    (None, [], stuffing_unit, rest, stuffing_is_passed, stuffing_units n, refl, refl)
+stuffing_units (suc n) = grind (arith, nat_tests, stuffing_is_passed, stuffing_units n)
 
 -- Units and stuffing units that are written are data units of the grammar.
 pub written_units : (us : List UnitValue) (n : ℕ)
     → AllByRecursion IsUnit us
     → AreDataUnits (length us + n) us (flat_map teletext_unit us ++ repeated n stuffing_unit)
-written_units [] n h = let none : n ≡ 0 + n = omega arith in
-    subst (λ (k : ℕ). AreDataUnits k [] (repeated n stuffing_unit)) none (stuffing_units n)
+written_units [] n h = grind (arith, nat_tests, stuffing_units)
 written_units (u ∷ us) n h =
     let one : AreDataUnits (suc (length us + n)) (u ∷ us)
     (flat_map teletext_unit (u ∷ us) ++ repeated n stuffing_unit) = (
@@ -43,14 +40,12 @@ written_units (u ∷ us) n h =
       append_assoc (teletext_unit u) (flat_map teletext_unit us) (repeated n stuffing_unit),
     ) in
     let more : suc (length us + n) ≡ suc (length us) + n = omega arith in
-    subst (λ (k : ℕ). AreDataUnits k (u ∷ us)
-    (flat_map teletext_unit (u ∷ us) ++ repeated n stuffing_unit)) more one
+    grind (arith, nat_tests)
 
 -- The canonical packet is a packet of its value: the law.
 pub canonical_is_packet : LawOfCanonicalPacket
 unfolding canonical_packet payloads_for pes_packet_header
 canonical_is_packet v h =
-    let few = h.few in
     let k = payloads_for (length v.units) in
     let count : length v.units + (4 * k - 1 - length v.units) ≡ 4 * k - 1 = omega arith in
     record {
@@ -79,8 +74,7 @@ pub stuffed_more : (count i : ℕ) (out all : List ℕ)
     → (out ++ stuffing_unit) ++ repeated (count - (i + 1)) stuffing_unit ≡ all
 stuffed_more count i out all lt e =
     let next : count - i ≡ suc (count - (i + 1)) = omega arith in
-    append_assoc out stuffing_unit (repeated (count - (i + 1)) stuffing_unit)
-    ∙ rw next at e
+    grind (arith, nat_tests, append_assoc)
 
 -- What packet_of has made is the canonical packet.
 pub spelled : (v : PesValue) (us : List UnitValue) (pts : ℕ) (out base head : List ℕ) (n i j : ℕ)
@@ -95,15 +89,7 @@ pub spelled : (v : PesValue) (us : List UnitValue) (pts : ℕ) (out base head : 
     → out ≡ canonical_packet v
 unfolding canonical_packet payloads_for
 spelled v us pts out base head n i j same pts-same e f le h k done =
-    let all : take i us ≡ us = take_all i us le in
-    let none : n - j ≡ 0 = omega arith in
-    let last : out ≡ base ++ repeated n stuffing_unit =
-    sym (append-nil out) ∙ rw none at e in
-    let joined = append_assoc head (flat_map teletext_unit us) (repeated n stuffing_unit) in
-    let made : out ≡ pes_packet_header (length v.units / 4 + 1) v.pts
-    ++ (flat_map teletext_unit v.units
-    ++ repeated (4 * (length v.units / 4 + 1) - 1 - length v.units) stuffing_unit) = cc in
-    made
+    grind (arith, nat_tests, take_all, append-nil, append_assoc)
 
 -- ---- the value of a packet
 
@@ -116,16 +102,10 @@ record Holds (n : ℕ) (units : List UnitValue) : Type 0 where
 units_hold : (n : ℕ) (units : List UnitValue) (b : List ℕ) → AreDataUnits n units b → Holds n units
 units_hold zero units b h = rw h.0 (record { few = omega arith; each = tt })
 units_hold (suc n) units b (None, others, first, rest, held, after, same, parts) =
-    let r = units_hold n others rest after in
-    rw same (record { few = let f = r.few in omega arith; each = r.each })
+    grind (arith, nat_tests, units_hold n others rest after)
 units_hold (suc n) units b (Some u, others, first, rest, held, after, same, parts) =
-    let r = units_hold n others rest after in
-    rw same (record { few = let f = r.few in omega arith; each = (held.is_unit, r.each) })
+    grind (arith, nat_tests, units_hold n others rest after)
 
 -- The value of a packet is one that a frame can hold: the law.
 pub value_of_packet : LawOfPacketValue
-value_of_packet v b h =
-    let u = units_hold (4 * h.n - 1) v.units h.data_units h.are_units in
-    let hi = h.size.1 in
-    let few = u.few in
-    record { pts = h.pts_fits; few = omega arith; each = u.each; in_order = h.in_order }
+value_of_packet v b h = grind (arith, nat_tests, units_hold)

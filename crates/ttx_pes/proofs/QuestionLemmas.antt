@@ -1,11 +1,11 @@
 -- The reading is the questions of the refusal asked in their order: what is asked of bytes alone
 -- says whether they are read, and which fault is told. Main lemmas: packet_asked, tests_cases.
-use Rattle.std.proofs.Common.{◌≡◌, ℕ, zero, suc, ◌+◌, ◌-◌, ◌*◌, ◌/◌, ◌%◌, ◌<◌, Bool, true}
+use Rattle.std.proofs.Common.{rules, ◌≡◌, ℕ, zero, suc, ◌+◌, ◌-◌, ◌*◌, ◌/◌, ◌%◌, ◌<◌, Bool, true}
 use Rattle.std.proofs.Common.{false, cond, not, eqb, leb, ltb, List, [], ◌∷◌, ◌++◌, length, get_or}
 use Rattle.std.proofs.Common.{take, drop, Option, Some, None, Result, Ok, Err, refl, sym, ap, ◌∙◌}
 use Rattle.std.proofs.Common.{arith, inl, inr, ◌⊎◌, length-take, length-drop}
-use Rattle.std.proofs.lemmas.Bool.{cases_Bool, cases_lt, and_parts, eqb-true, lt-ltb}
-use Rattle.std.proofs.lemmas.Bool.{le-ltb}
+use Rattle.std.proofs.lemmas.Bool.Decides.{nat_tests}
+use Rattle.std.proofs.lemmas.Bool.{cases_Bool, cases_lt, and_parts, eqb-true, lt-ltb, le-ltb}
 use Rattle.std.proofs.lemmas.List.{get_or-drop, get_or-take, get_or_past}
 use Rattle.std.specs.Prelude.{◌&&◌, ◌||◌}
 use Rattle.sub_io.specs.Reading.{◌>>=◌}
@@ -39,8 +39,7 @@ pub record FirstWrong (i : ℕ) (ts : List Bool) : Type 0 where
 
 -- One more before them holds.
 held_after : (ts : List Bool) (n : ℕ) → HoldBelow ts n → HoldBelow (true ∷ ts) (suc n)
-held_after ts n h zero lt = refl
-held_after ts n h (suc j) lt = h j (omega arith)
+held_after ts n h u lt = grind (arith, nat_tests)
 
 -- All hold, or one is the first that fails.
 pub tests_cases : (i : ℕ) (ts : List Bool)
@@ -134,9 +133,7 @@ refusal (Err f) = Some f
 -- The fault of a question of a data unit.
 unit_fault : (i k r : ℕ) → r < 3 → i ≡ 9 + 3 * k + r
     → told_fault i ≡ get_or unit_faults r fault.Truncated
-unit_fault i k r lt e =
-    let rest : i % 3 ≡ r = omega arith in
-    get_or_past packet_faults i _ (omega arith) ∙ rw rest refl
+unit_fault i k r lt e = grind (arith, nat_tests, get_or_past)
 
 -- n data units from number k on are read where their tests hold.
 units_asked : (n k i before : ℕ) (front : List UnitValue) (b d : List ℕ)
@@ -164,48 +161,22 @@ units_asked (suc n) k i before front b d number last same =
     → refusal (units_at n us (drop 46 d))
     ≡ first_wrong (i + 1 + 1 + 1) (units_tests b n (suc k) p) = λ us p e.
     units_asked n (suc k) (i + 1 + 1 + 1) p us b (drop 46 d) (omega arith) e rest in
-    elim (cases_Bool (eqb (get_or x 1 0) 44)) [
-      | inr wrong ↦ rw (e0, e1, e2, e3, f0, wrong) refl
-      | inl one ↦ elim (cases_Bool (is_teletext (get_or x 0 0))) [
-        | inr passed ↦ rw (e0, e1, e2, e3, one, passed) (on front before last)
-        | inl two ↦ elim (cases_Bool (eqb (get_or x 3 0) 228)) [
-          | inr wrong ↦ rw (e0, e1, e2, e3, f1, one, two, wrong) refl
-          | inl three ↦ elim (cases_Bool (stands_after (last_place 0 front) (unit_of x))) [
-            | inr wrong ↦ rw (e0, e1, e2, e3, f2, ← last, one, two, three, wrong) refl
-            | inl four ↦
-                let us = front ++ unit_of x ∷ [] in
-                rw (e0, e1, e2, e3, ← last, one, two, three, four)
-                (on us _ (last_place-push 0 front (unit_of x)))
-          ]
-        ]
-      ]
-    ]
+    grind (arith, nat_tests, cases_Bool, last_place-push)
 
 -- A step after a test is a step where the test let the reading go on.
 test_first : {A B : Type 0} (c : Bool) (f : PesFault) (r : Result A PesFault)
     (g : A → Result B PesFault)
     → (cond c (Err f) r >>= g) ≡ cond c (Err f) (r >>= g)
-test_first true f r g = refl
-test_first false f r g = refl
+test_first c f r g = grind (arith, nat_tests)
 
 -- The fault of a test and what follows it.
 refusal-test : {A : Type 0} (c : Bool) (f : PesFault) (r : Result A PesFault)
     → refusal (cond c (Err f) r) ≡ cond c (Some f) (refusal r)
-refusal-test true f r = refl
-refusal-test false f r = refl
+refusal-test c f r = grind (arith, nat_tests)
 
 -- A test that is denied twice.
 not-not : (c : Bool) → not (not c) ≡ c
-not-not true = refl
-not-not false = refl
-
--- The fault of a value is that of its units.
-refusal-value : (r : Result (List UnitValue) PesFault) (pts : ℕ) (rest : List ℕ)
-    → refusal {A = PesValue × List ℕ}
-    ((r >>= λ us. Ok (record { pts = pts; units = us })) >>= λ v. Ok (v, rest))
-    ≡ refusal r
-refusal-value (Ok x) pts rest = refl
-refusal-value (Err f) pts rest = refl
+not-not c = grind (arith, nat_tests)
 
 -- A body is read where its tests hold.
 body_asked : (n : ℕ) (b y rest : List ℕ)
@@ -218,16 +189,7 @@ body_asked n b y rest len same =
     let count : length (drop 40 y) / 46 ≡ n = rw length-drop (omega arith) in
     let units = units_asked n 0 9 0 [] b (drop 40 y) refl refl (λ i lt. get_or-drop 40 y i 0
     ∙ same (40 + i) (omega arith) ∙ ap (λ (j : ℕ). get_or b j 0) (omega arith)) in
-    rw (
-      count,
-      same 0 (omega arith),
-      same 1 (omega arith),
-      same 2 (omega arith),
-      same 3 (omega arith),
-      same 5 (omega arith),
-      same 7 (omega arith),
-      same 39 (omega arith),
-    ) (simp (test_first, refusal-test, refusal-value, units))
+    grind (arith, nat_tests)
 
 -- A packet is read where its tests hold.
 pub packet_asked : (b : List ℕ)

@@ -1,17 +1,16 @@
 -- What a reader that was given a packet or a fault knows of the bytes of its source. Main lemmas:
 -- packet_left, answers_say.
-use Rattle.std.proofs.Common.{◌≡◌, ℕ, true, List, [], ◌∷◌, ◌++◌, Option, Some, None, Result, Ok}
-use Rattle.std.proofs.Common.{Err, refl, sym, ap, ◌∙◌, arith}
+use Rattle.std.proofs.Common.{rules, ◌≡◌, ℕ, true, List, [], ◌∷◌, ◌++◌, Option, Some, None, Result}
+use Rattle.std.proofs.Common.{Ok, Err, refl, sym, ap, ◌∙◌, arith}
 use Rattle.std.proofs.lemmas.Bool.Decides.{nat_tests}
 use Rattle.std.proofs.lemmas.Option.{same_Some}
 use Rattle.std.specs.Io.KnownBytes.{Consumes}
-use Rattle.ttx_pes.proofs.ReadingLemmas.{answer_cases}
+use Rattle.ttx_pes.proofs.ReadingLemmas.{answer_cases, packet_is_read, rest_after-packet}
 use Rattle.ttx_pes.specs.declared.fault.PesFault.{PesFault}
 use Rattle.ttx_pes.specs.PesPacket.{PesValue}
 use Rattle.ttx_pes.specs.Reading.{packet_at, answer_at, rest_after, is_format_fault}
 use Rattle.ttx_pes.specs.Laws.{LawOfAnswers}
 use Rattle.ttx_pes.specs.Reader.{TakesPesPacket}
-use Rattle.ttx_pes.proofs.ReadingLemmas.{packet_is_read, rest_after-packet}
 
 -- The answer of a value that was read.
 abbrev pub value_in : PesValue × List ℕ → Result (Option PesValue) PesFault
@@ -27,9 +26,7 @@ pub left : (old new : Option (List ℕ)) (bytes taken : List ℕ)
     → Consumes old new taken
     → old ≡ Some bytes
     → (rest : List ℕ) × (bytes ≡ taken ++ rest) × (new ≡ Some rest)
-left None new bytes taken h e = absurd cc
-left (Some xs) None bytes taken h e = absurd h
-left (Some xs) (Some ys) bytes taken h e = (ys, sym (same_Some xs bytes e) ∙ h, refl)
+left old new bytes taken h e = grind (arith, nat_tests, same_Some)
 
 -- What is left after a packet that was taken.
 pub packet_left : (old new : Option (List ℕ)) (v : PesValue) (bytes : List ℕ)
@@ -39,8 +36,7 @@ pub packet_left : (old new : Option (List ℕ)) (v : PesValue) (bytes : List ℕ
 packet_left old new v bytes h e =
     let (rest, parts, new_is) = left old new bytes h.bytes h.consumed e in
     let read = packet_is_read v h.bytes rest h.is_packet in
-    new_is ∙ ap (λ (x : List ℕ). Some x)
-    (sym (rest_after-packet v bytes rest (ap packet_at parts ∙ read)))
+    grind (arith, nat_tests, rest_after-packet)
 
 -- ---- faults in the words of the grammar
 
@@ -50,8 +46,7 @@ answer_err : (given : ℕ) (b : List ℕ) (f : PesFault)
     → answer_at given b ≡ Err f
     → packet_at b ≡ Err f
 unfolding answer_at
-answer_err given [] f k e = absurd cc
-answer_err given (x ∷ b) f k e = grind (arith, nat_tests, answer_cases)
+answer_err given b f k e = grind (arith, nat_tests, answer_cases)
 
 -- The end, a fault of the format and a byte too many: the law.
 pub answers_say : LawOfAnswers

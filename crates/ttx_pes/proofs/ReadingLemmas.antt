@@ -1,13 +1,12 @@
 -- Reading agrees with the grammar. Main lemmas: packet_is_read, read_is_packet.
-use Rattle.std.proofs.Common.{◌≡◌, ◌≢◌, ℕ, ◌-◌, ◌+◌, ◌*◌, ◌<◌, ◌≤◌}
-use Rattle.std.proofs.Common.{List, [], ◌∷◌, ◌++◌, length, take, drop, Some}
-use Rattle.std.proofs.Common.{Result, Ok, Err, refl, sym, ap, subst, ◌∙◌, append_assoc, arith}
-use Rattle.std.proofs.Common.{inl, inr, ◌⊎◌, length-append, length-take, length-drop}
+use Rattle.std.proofs.Common.{rules, ◌≡◌, ◌≢◌, ℕ, ◌-◌, ◌+◌, ◌*◌, ◌<◌, ◌≤◌, List, [], ◌∷◌, ◌++◌}
+use Rattle.std.proofs.Common.{length, take, drop, Some, Result, Ok, Err, refl, sym, ap, subst, ◌∙◌}
+use Rattle.std.proofs.Common.{append_assoc, arith, inl, inr, ◌⊎◌, length-append, length-take}
+use Rattle.std.proofs.Common.{length-drop}
 use Rattle.std.proofs.lemmas.Bool.{cases_lt, le-ltb, lt-ltb}
 use Rattle.std.proofs.lemmas.Bool.Decides.{nat_tests}
 use Rattle.std.proofs.Math.Seq.{take-add}
-use Rattle.std.proofs.lemmas.List.{take-append-drop, append_cancel_right, take_at}
-use Rattle.std.proofs.lemmas.List.{drop_at}
+use Rattle.std.proofs.lemmas.List.{take-append-drop, append_cancel_right, take_at, drop_at}
 use Rattle.sub_io.specs.Reading.{◌>>=◌, AreBytes}
 use Rattle.ttx_pes.specs.declared.fault.PesFault.{PesFault}
 use Rattle.ttx_pes.specs.declared.fault.PesFault.TheVariants as fault
@@ -31,8 +30,7 @@ answer_cases (Err e) = inr (e, refl)
 -- The answer after the most packets.
 pub answer_full : (b : List ℕ) → 0 < length b → answer_at most_packets b ≡ Err fault.TooMany
 unfolding answer_at
-answer_full [] h = absurd (omega arith)
-answer_full (x ∷ b) h = refl
+answer_full b h = grind (arith, nat_tests)
 
 -- The answer before them is what is read of the packet.
 pub answer_packet : (given : ℕ) (b : List ℕ) (r : Result (PesValue × List ℕ) PesFault)
@@ -41,8 +39,7 @@ pub answer_packet : (given : ℕ) (b : List ℕ) (r : Result (PesValue × List �
     → packet_at b ≡ r
     → answer_at given b ≡ (r >>= λ p. Ok (Some p.0))
 unfolding answer_at
-answer_packet given [] r h ne e = absurd (omega arith)
-answer_packet given (x ∷ b) r h ne e = rw (← e) (grind (arith, nat_tests))
+answer_packet given b r h ne e = grind (arith, nat_tests)
 
 -- Fewer than six bytes.
 pub packet_short : (b : List ℕ) → length b < 6 → packet_at b ≡ Err fault.Truncated
@@ -102,9 +99,7 @@ pub answer_of_packet : (given : ℕ) (b : List ℕ) (v : PesValue) (rest : List 
     → packet_at b ≡ Ok (v, rest)
     → answer_at given b ≡ Ok (Some v)
 unfolding packet_at
-answer_of_packet given [] v rest ne e = absurd cc
-answer_of_packet given (x ∷ b) v rest ne e =
-    answer_packet given (x ∷ b) (Ok (v, rest)) (omega arith) ne e
+answer_of_packet given b v rest ne e = grind (arith, nat_tests, answer_packet)
 
 -- A packet of the grammar is read, whatever follows: the law.
 pub packet_is_read : LawOfReading
@@ -133,7 +128,6 @@ sound_from : (b : List ℕ) (size : ℕ) (v : PesValue)
     → IsPesPacket v (take size b)
 sound_from b size v fit e long le ev =
     let h = head_sound (take 6 b) size (length-take 6 b ∙ omega arith) (AreBytes-take 6 b fit) e in
-    let lo = h.1 in
     let is = h.3 in
     let body = take (size - 6) (drop 6 b) in
     let len : length body ≡ 184 * h.0 - 6 =
@@ -173,10 +167,8 @@ one_value a b x y v w p q e =
     let same =
     Ok-injective (v, x) (w, y) (sym (packet_is_read v a x p) ∙ ap packet_at e
     ∙ packet_is_read w b y q) in
-    let rests : x ≡ y = ap (λ (r : ValueAndRest). r.1) same in (
-      append_cancel_right a b y (subst (λ (z : List ℕ). a ++ z ≡ b ++ y) rests e),
-      ap (λ (r : ValueAndRest). r.0) same,
-    )
+    let rests : x ≡ y = ap (λ (r : ValueAndRest). r.1) same in
+    grind (arith, nat_tests, append_cancel_right)
 
 -- ---- what was written
 

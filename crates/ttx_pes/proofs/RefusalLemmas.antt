@@ -1,12 +1,10 @@
 -- Which refusal bytes get: that of the first question in which they fail. Main lemma:
 -- refusal_by_questions.
-use Rattle.std.proofs.Common.{◌≡◌, ℕ, zero, suc, ◌+◌, ◌-◌, ◌*◌, ◌/◌, ◌%◌, ◌<◌, ◌≤◌, true}
-use Rattle.std.proofs.Common.{false, cond, not, ltb, List, [], ◌∷◌, ◌++◌, length, get_or, map}
-use Rattle.std.proofs.Common.{Some, Ok, Err, refl, sym, ap, ◌∙◌, arith, inl, inr}
-use Rattle.std.proofs.Common.{length-append, subst}
+use Rattle.std.proofs.Common.{rules, ◌≡◌, ℕ, zero, suc, ◌+◌, ◌-◌, ◌*◌, ◌/◌, ◌%◌, ◌<◌, ◌≤◌, true}
+use Rattle.std.proofs.Common.{false, cond, not, ltb, List, [], ◌∷◌, ◌++◌, length, get_or, map, Some}
+use Rattle.std.proofs.Common.{Ok, Err, refl, sym, ap, ◌∙◌, arith, inl, inr, length-append, subst}
 use Rattle.std.proofs.Math.Bool.{or-true}
-use Rattle.std.proofs.lemmas.Bool.{cases_lt, eq-eqb, le-leb, le-ltb}
-use Rattle.std.proofs.lemmas.Bool.{lt-ltb}
+use Rattle.std.proofs.lemmas.Bool.{cases_lt, eq-eqb, le-leb, le-ltb, lt-ltb}
 use Rattle.std.proofs.lemmas.Bool.Decides.{nat_tests}
 use Rattle.std.proofs.lemmas.List.{append-nil, get_or_append_left, get_or_past}
 use Rattle.std.proofs.lemmas.List.FromFn.{get_or-map-range_with_len, length-map-range_with_len}
@@ -72,11 +70,7 @@ unit_asker k i lt =
 
 -- What agrees before a question agrees before an earlier one.
 agree_below : (i j : ℕ) (b c : List ℕ) → j ≤ i → AgreeBefore i b c → AgreeBefore j b c
-agree_below i j b c le h = record {
-  six = λ lt. h.six (omega arith);
-  all = λ lt. h.all (omega arith);
-  same = λ place lt. h.same place (omega arith);
-}
+agree_below i j b c le h = grind (arith, nat_tests)
 
 -- A byte of data unit k.
 same_byte : (i k j : ℕ) (b c : List ℕ)
@@ -85,8 +79,7 @@ same_byte : (i k j : ℕ) (b c : List ℕ)
     → get_or unit_askers j 114 + 3 * k < i
     → unit_place k j < length c
     → unit_byte b k j ≡ unit_byte c k j
-same_byte i k j b c h four lt =
-    let asked = unit_asker k j four in h.same (unit_place k j) (omega arith)
+same_byte i k j b c h four lt = grind (arith, nat_tests, unit_asker, unit_place)
 
 -- Tests of data units.
 same_units : (n k before j : ℕ) (b c : List ℕ)
@@ -94,16 +87,9 @@ same_units : (n k before j : ℕ) (b c : List ℕ)
     → 46 + 46 * (k + n) ≤ length c
     → get_or (units_tests b n k before) j true ≡ get_or (units_tests c n k before) j true
 same_units zero k before j b c h long = refl
-same_units (suc n) k before zero b c h long =
-    rw (same_byte _ k 1 b c h (omega arith) (omega arith) (omega arith)) refl
-same_units (suc n) k before (suc zero) b c h long = rw (
-  same_byte _ k 0 b c h (omega arith) (omega arith) (omega arith),
-  same_byte _ k 3 b c h (omega arith) (omega arith) (omega arith),
-) refl
-same_units (suc n) k before (suc (suc zero)) b c h long = rw (
-  same_byte _ k 0 b c h (omega arith) (omega arith) (omega arith),
-  same_byte _ k 2 b c h (omega arith) (omega arith) (omega arith),
-) refl
+same_units (suc n) k before zero b c h long = grind (arith, nat_tests, same_byte)
+same_units (suc n) k before (suc zero) b c h long = grind (arith, nat_tests, same_byte)
+same_units (suc n) k before (suc (suc zero)) b c h long = grind (arith, nat_tests, same_byte)
 same_units (suc n) k before (suc (suc (suc j))) b c h long = rw (
   same_byte _ k 0 b c h (omega arith) (omega arith) (omega arith),
   same_byte _ k 2 b c h (omega arith) (omega arith) (omega arith),
@@ -116,37 +102,18 @@ same_test : (j m n : ℕ) (b c : List ℕ)
     → 46 + 46 * n ≤ length c
     → told_size c ≤ length c
     → get_or (tests b m) j true ≡ get_or (tests c n) j true
-same_test zero m n b c h count long all =
-    rw (le-ltb (length b) 6 (h.six (omega arith)), le-ltb (length c) 6 (omega arith)) refl
-same_test (suc zero) m n b c h count long all = rw (
-  h.same 0 (omega arith) (omega arith),
-  h.same 1 (omega arith) (omega arith),
-  h.same 2 (omega arith) (omega arith),
-  h.same 3 (omega arith) (omega arith),
-) refl
-same_test (suc (suc zero)) m n b c h count long all =
-    rw (h.same 4 (omega arith) (omega arith), h.same 5 (omega arith) (omega arith)) refl
-same_test (suc (suc (suc zero))) m n b c h count long all =
-    let told : told_size b ≡ told_size c =
-    rw (h.same 4 (omega arith) (omega arith), h.same 5 (omega arith) (omega arith)) refl in
-    let more = h.all (omega arith) in
-    rw (le-ltb (length b) (told_size b) (omega arith), le-ltb (length c) (told_size c) all) refl
-same_test (suc (suc (suc (suc zero)))) m n b c h count long all =
-    rw (h.same 6 (omega arith) (omega arith)) refl
-same_test (suc (suc (suc (suc (suc zero))))) m n b c h count long all =
-    rw (h.same 7 (omega arith) (omega arith)) refl
-same_test (suc (suc (suc (suc (suc (suc zero)))))) m n b c h count long all =
-    rw (h.same 8 (omega arith) (omega arith)) refl
-same_test (suc (suc (suc (suc (suc (suc (suc zero))))))) m n b c h count long all = rw (
-  h.same 9 (omega arith) (omega arith),
-  h.same 11 (omega arith) (omega arith),
-  h.same 13 (omega arith) (omega arith),
-) refl
+same_test zero m n b c h count long all = grind (arith, nat_tests, le-ltb)
+same_test (suc zero) m n b c h count long all = grind (arith, nat_tests)
+same_test (suc (suc zero)) m n b c h count long all = grind (arith, nat_tests)
+same_test (suc (suc (suc zero))) m n b c h count long all = grind (arith, nat_tests, le-ltb)
+same_test (suc (suc (suc (suc zero)))) m n b c h count long all = grind (arith, nat_tests)
+same_test (suc (suc (suc (suc (suc zero))))) m n b c h count long all = grind (arith, nat_tests)
+same_test (suc (suc (suc (suc (suc (suc zero)))))) m n b c h count long all = search rules
+same_test (suc (suc (suc (suc (suc (suc (suc zero))))))) m n b c h count long all = search rules
 same_test (suc (suc (suc (suc (suc (suc (suc (suc zero)))))))) m n b c h count long all =
     rw (h.same 45 (omega arith) (omega arith)) refl
 same_test (suc (suc (suc (suc (suc (suc (suc (suc (suc j))))))))) m n b c h count long all =
-    rw (count (omega arith))
-    (same_units n 0 0 j b c (agree_below _ _ b c (omega arith) h) (omega arith))
+    grind (arith, nat_tests, same_units, agree_below)
 
 -- ---- a packet that agrees before a question
 
@@ -160,10 +127,7 @@ blank n i = get_or (blank_header n) i (get_or (0x10 ∷ 0x2C ∷ []) ((i - 46) %
 
 -- In a data unit.
 blank_unit : (n k i : ℕ) → i < 4 → blank n (unit_place k i) ≡ get_or (0x10 ∷ 0x2C ∷ []) i 0
-blank_unit n k i lt =
-    let place = unit_place k i in
-    let rest : (place - 46) % 46 ≡ i = omega arith in
-    get_or_past (blank_header n) place _ (omega arith) ∙ rw rest refl
+blank_unit n k i lt = grind (arith, nat_tests, unit_place, get_or_past)
 
 -- The bytes that are asked for before a question, and those of the blank packet.
 abbrev mixed : ℕ → ℕ → List ℕ → ℕ → ℕ
@@ -184,16 +148,11 @@ module _ (b : List ℕ) (fit : AreBytes b) (q n : ℕ) (lo : 1 ≤ n) (hi : n �
   made_byte i lt = get_or-map-range_with_len (mixed n q b) 0 (184 * n) i i 0 lt (omega arith)
 
   made_fits : AreBytes made
-  made_fits i = elim (cases_lt i (184 * n)) [
-    | inl lt ↦ rw (made_byte i lt) (omega arith)
-    | inr le ↦ rw (get_or_past made i 0 (omega (arith, length-made))) (omega arith)
-  ]
+  made_fits i = grind (arith, nat_tests, cases_lt, made_byte, get_or_past, length-made)
 
   -- A byte that is asked for before.
   kept_byte : (i : ℕ) → asker i < q → i < 184 * n → get_or made i 0 ≡ get_or b i 0
-  kept_byte i less lt =
-      let f = fit i in
-      made_byte i lt ∙ rw (lt-ltb (asker i) q less) (omega arith)
+  kept_byte i less lt = grind (arith, nat_tests, made_byte, lt-ltb)
 
   -- One that is not.
   blank_byte : (i : ℕ) → q ≤ asker i → i < 184 * n → get_or made i 0 ≡ blank n i % 256
@@ -216,10 +175,7 @@ module _ (b : List ℕ) (fit : AreBytes b) (q n : ℕ) (lo : 1 ≤ n) (hi : n �
 
   -- It tells its size.
   told-made : told_size made ≡ 184 * n
-  told-made = elim (cases_lt 2 q) [
-    | inl more ↦ rw (kept_byte 4 more (omega arith), kept_byte 5 more (omega arith)) (told more)
-    | inr le ↦ rw (blank_byte 4 le (omega arith), blank_byte 5 le (omega arith)) (omega arith)
-  ]
+  told-made = grind (arith, nat_tests, cases_lt, kept_byte, blank_byte)
 
   -- The tests of its data units from number k on hold where these are blank.
   blank_units : (m k before j : ℕ)
@@ -228,9 +184,7 @@ module _ (b : List ℕ) (fit : AreBytes b) (q n : ℕ) (lo : 1 ≤ n) (hi : n �
       → get_or (units_tests made m k before) j true ≡ true
   blank_units zero k before j le few = refl
   blank_units (suc m) k before zero le few =
-      let asked = unit_asker k 1 (omega arith) in
-      rw (blank_byte (unit_place k 1) (omega arith) (omega arith), blank_unit n k 1 (omega arith))
-      refl
+      grind (arith, nat_tests, unit_asker, blank_byte, unit_place, blank_unit)
   blank_units (suc m) k before (suc zero) le few =
       let asked = unit_asker k 0 (omega arith) in
       rw (blank_byte (unit_place k 0) (omega arith) (omega arith), blank_unit n k 0 (omega arith))
@@ -248,30 +202,14 @@ module _ (b : List ℕ) (fit : AreBytes b) (q n : ℕ) (lo : 1 ≤ n) (hi : n �
   -- Those from the question on hold.
   blank_tests : (j : ℕ) → q ≤ j → get_or (tests made (4 * n - 1)) j true ≡ true
   blank_tests zero le = rw (le-ltb (length made) 6 (omega (arith, length-made))) refl
-  blank_tests (suc zero) le = rw (
-    blank_byte 0 le (omega arith),
-    blank_byte 1 le (omega arith),
-    blank_byte 2 le (omega arith),
-    blank_byte 3 le (omega arith),
-  ) refl
-  blank_tests (suc (suc zero)) le =
-      let size = told-made in
-      rw (eq-eqb (told_size made % 184) 0 (omega arith), le-leb (told_size made) 1656 (omega arith))
-      refl
-  blank_tests (suc (suc (suc zero))) le =
-      let size = told-made in
-      let len = length-made in
-      rw (le-ltb (length made) (told_size made) (omega arith)) refl
+  blank_tests (suc zero) le = grind (arith, nat_tests, blank_byte)
+  blank_tests (suc (suc zero)) le = grind (arith, nat_tests, told-made, eq-eqb, le-leb)
+  blank_tests (suc (suc (suc zero))) le = grind (arith, nat_tests, told-made, length-made, le-ltb)
   blank_tests (suc (suc (suc (suc zero)))) le = rw (blank_byte 6 le (omega arith)) refl
   blank_tests (suc (suc (suc (suc (suc zero))))) le = rw (blank_byte 7 le (omega arith)) refl
   blank_tests (suc (suc (suc (suc (suc (suc zero)))))) le = rw (blank_byte 8 le (omega arith)) refl
-  blank_tests (suc (suc (suc (suc (suc (suc (suc zero))))))) le = rw (
-    blank_byte 9 le (omega arith),
-    blank_byte 11 le (omega arith),
-    blank_byte 13 le (omega arith),
-  ) refl
-  blank_tests (suc (suc (suc (suc (suc (suc (suc (suc zero)))))))) le =
-      rw (blank_byte 45 le (omega arith)) refl
+  blank_tests (suc (suc (suc (suc (suc (suc (suc zero))))))) le = search (rules, blank_byte)
+  blank_tests (suc (suc (suc (suc (suc (suc (suc (suc zero)))))))) le = search (rules, blank_byte)
   blank_tests (suc (suc (suc (suc (suc (suc (suc (suc (suc j))))))))) le =
       blank_units (4 * n - 1) 0 0 j (omega arith) (omega arith)
 
@@ -318,7 +256,6 @@ none_agrees b q v p wrong h agree =
     ap packet_at (sym (append-nil p)) ∙ packet_is_read v p [] h in
     let all = held_if_read p (v, []) read in
     let t = told_count p (all 2) in
-    let lo = t.1 in
     let size = t.3 in
     let full = not_below (length p) (told_size p) (all 3) in
     let count : 2 < q → told_units b ≡ told_units p = λ more.

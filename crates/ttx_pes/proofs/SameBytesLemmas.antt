@@ -1,8 +1,7 @@
 -- Slices compared in blocks: same_block for one, same_more for the next, same_whole at the end.
-use Rattle.std.proofs.Common.{◌≡◌, ◌↔◌, ℕ, ◌+◌, ◌*◌, ◌≤◌, ◌^◌, ◌%◌, ◌-◌, Bool, true}
-use Rattle.std.proofs.Common.{List, [], ◌∷◌, ◌++◌, map, length, take, drop, cond, nat_eq, refl, sym}
-use Rattle.std.proofs.Common.{ap, ap₂, ◌∙◌, arith, not, w8, eqb-true, eq-eqb}
-use Rattle.std.proofs.Common.{take-append-drop}
+use Rattle.std.proofs.Common.{rules, ◌≡◌, ◌↔◌, ℕ, ◌+◌, ◌*◌, ◌≤◌, ◌^◌, ◌%◌, ◌-◌, Bool, true, List}
+use Rattle.std.proofs.Common.{[], ◌∷◌, ◌++◌, map, length, take, drop, cond, nat_eq, refl, sym, ap}
+use Rattle.std.proofs.Common.{ap₂, ◌∙◌, arith, not, w8, eqb-true, eq-eqb, take-append-drop}
 use Rattle.std.proofs.lemmas.Bool.Decides.{nat_tests}
 use Rattle.std.proofs.lemmas.List.{take-take}
 use Rattle.std.proofs.lemmas.Simd.{length-zip2, mask_l-mod, tops_compared}
@@ -16,8 +15,7 @@ differ x y = not (nat_eq x y)
 -- No byte differs from itself.
 none_differ : (a : List ℕ) → mask_l (zip2 differ a a) ≡ 0
 none_differ [] = refl
-none_differ (x ∷ a) =
-    let rest = none_differ a in grind (arith, nat_tests)
+none_differ (x ∷ a) = grind (arith, nat_tests, none_differ a)
 
 -- Where no byte differs, the lists are the same.
 same_from_none : (a b : List ℕ) → length a ≡ length b → mask_l (zip2 differ a b) ≡ 0 → a ≡ b
@@ -38,10 +36,8 @@ same_block a b la lb =
     omega (arith, length-zip2 differ a b (la ∙ sym lb)) in
     let plain : mask_l (map (top 7) (zip2 (λ x y. cond (differ x y) (2 ^ 8 - 1) 0) a b)) % 2 ^ 64
     ≡ mask_l (zip2 differ a b) =
-    ap (λ m. mask_l m % 2 ^ 64) (tops_compared w8 differ a b) ∙ mask_l-mod _ 64 size in (
-      λ e. same_from_none a b (la ∙ sym lb) (sym plain ∙ eqb-true _ _ e),
-      λ e. eq-eqb _ _ (plain ∙ ap (λ l. mask_l (zip2 differ a l)) (sym e) ∙ none_differ a),
-    )
+    ap (λ m. mask_l m % 2 ^ 64) (tops_compared w8 differ a b) ∙ mask_l-mod _ 64 size in
+    grind (arith, nat_tests, same_from_none, eqb-true, eq-eqb, none_differ)
 
 -- A block more. For `is_same`.
 pub same_more : (a b : List ℕ) (i : ℕ)
@@ -49,9 +45,7 @@ pub same_more : (a b : List ℕ) (i : ℕ)
     → chunk (64 * i) 64 a ≡ chunk (64 * i) 64 b
     → take (64 * (i + 1)) a ≡ take (64 * (i + 1)) b
 same_more a b i front block =
-    let next : 64 * (i + 1) ≡ 64 * i + 64 = omega arith in
-    rw next (take-add (64 * i) 64 a ∙ ap₂ (λ (x y : List ℕ). x ++ y) front block
-    ∙ sym (take-add (64 * i) 64 b))
+    grind (arith, nat_tests, take-add (64 * i) 64 a, take-add (64 * i) 64 b)
 
 -- Blocks up to a place, and all from a place that is not after it. For `is_same`.
 pub same_whole : (a b : List ℕ) (m n : ℕ)

@@ -1,6 +1,7 @@
 -- PES packets that are taken one after the other, for loops over a reader: takes-none, takes-more.
-use Rattle.std.proofs.Common.{◌≡◌, ℕ, ◌+◌, List, [], ◌∷◌, ◌++◌, Option, refl, sym, ap}
-use Rattle.std.proofs.Common.{subst, ◌∙◌, arith, length-append}
+use Rattle.std.proofs.Common.{rules, ◌≡◌, ℕ, ◌+◌, List, [], ◌∷◌, ◌++◌, Option, refl, sym, ap, subst}
+use Rattle.std.proofs.Common.{◌∙◌, arith, length-append}
+use Rattle.std.proofs.lemmas.Bool.Decides.{nat_tests}
 use Rattle.std.proofs.lemmas.List.{append-nil}
 use Rattle.std.proofs.lemmas.List.Folds.{concat-append}
 use Rattle.std.specs.Io.KnownBytes.{Consumes}
@@ -19,8 +20,7 @@ each-more (x ∷ packets) b h p = (h.0, each-more packets b h.1 p)
 
 -- At first none was taken.
 pub takes-none : (old : Option (List ℕ)) → TakesPackets 0 old old
-takes-none old =
-    record { packets = []; number = refl; each = tt; consumed = Consumes-nil old }
+takes-none old = grind (arith, nat_tests, Consumes-nil)
 
 -- One more was.
 pub takes-more : (n : ℕ) (old mid new : Option (List ℕ)) (v : PesValue)
@@ -32,11 +32,4 @@ takes-more n old mid new v h t =
     let joined : concat (h.packets ++ t.bytes ∷ []) ≡ concat h.packets ++ t.bytes =
     concat-append h.packets (t.bytes ∷ [])
     ∙ ap (λ b. concat h.packets ++ b) (append-nil t.bytes) in
-    record {
-      packets = h.packets ++ t.bytes ∷ [];
-      number = length-append h.packets (t.bytes ∷ []) ∙ omega arith;
-      each = each-more h.packets t.bytes h.each (v, t.is_packet);
-      consumed =
-          subst (Consumes old new) (sym joined)
-          (Consumes-trans old mid new (concat h.packets) t.bytes h.consumed t.consumed);
-    }
+    grind (arith, nat_tests, length-append, each-more, Consumes-trans)

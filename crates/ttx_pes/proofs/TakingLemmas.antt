@@ -1,8 +1,9 @@
 -- What the bytes that were taken of a packet settle, NAME_settles, what is known by that,
 -- settled_NAME, and what a reader then tells, tells_NAME.
-use Rattle.std.proofs.Common.{◌≡◌, ◌≢◌, ℕ, ◌<◌, ◌≤◌, List, [], ◌++◌, length, take, drop, Option}
-use Rattle.std.proofs.Common.{None, Some, Result, Ok, Err, refl, sym, ap, subst, ◌∙◌, append_assoc}
-use Rattle.std.proofs.Common.{arith, inr, length-append, length-take, length-drop, true}
+use Rattle.std.proofs.Common.{rules, ◌≡◌, ◌≢◌, ℕ, ◌<◌, ◌≤◌, List, [], ◌++◌, length, take, drop}
+use Rattle.std.proofs.Common.{Option, None, Some, Result, Ok, Err, refl, sym, ap, subst, ◌∙◌}
+use Rattle.std.proofs.Common.{append_assoc, arith, inr, length-append, length-take, length-drop}
+use Rattle.std.proofs.Common.{true}
 use Rattle.std.proofs.lemmas.Bool.Decides.{nat_tests}
 use Rattle.std.proofs.lemmas.List.{take-append-drop, append-nil, take-take, drop-drop}
 use Rattle.std.proofs.lemmas.List.{length-take-le}
@@ -33,11 +34,7 @@ none_taken : (old new : Option (List ℕ)) (bytes taken : List ℕ)
     → IsAtEnd new
     → (bytes ≡ []) × (new ≡ Some (rest_after bytes))
 unfolding rest_after packet_at
-none_taken old new bytes taken h told none end =
-    let (rest, parts, new_is) = left old new bytes taken h told in
-    let ends : rest ≡ [] = subst IsAtEnd new_is end in
-    let all : bytes ≡ [] = cc in
-    (all, rw all (new_is ∙ ap (λ (x : List ℕ). Some x) ends))
+none_taken old new bytes taken h told none end = grind (arith, nat_tests, left)
 
 -- A byte after the most packets.
 too_many : (given : ℕ) (old new : Option (List ℕ)) (bytes taken : List ℕ)
@@ -47,8 +44,7 @@ too_many : (given : ℕ) (old new : Option (List ℕ)) (bytes taken : List ℕ)
     → given ≡ most_packets
     → answer_at given bytes ≡ Err fault.TooMany
 too_many given old new bytes taken h told some full =
-    let (rest, parts, _) = left old new bytes taken h told in
-    rw full (answer_full bytes (omega (arith, ap length parts, length-append taken rest)))
+    grind (arith, nat_tests, left, answer_full, length-append)
 
 -- ---- what the bytes that were taken settle
 
@@ -59,11 +55,7 @@ pub short_settles : (old new : Option (List ℕ)) (taken : List ℕ)
     → 0 < length taken
     → length taken < 6
     → Settles old new taken (Err fault.Truncated)
-short_settles old new taken h end some few = record {
-  consumed = h;
-  some = some;
-  answer = λ rest ends. rw (ends end, append-nil taken) (packet_short taken few);
-}
+short_settles old new taken h end some few = grind (arith, nat_tests, append-nil, packet_short)
 
 -- The first four bytes or the length are wrong.
 pub size_settles : (old new : Option (List ℕ)) (taken : List ℕ) (f : PesFault)
@@ -71,12 +63,8 @@ pub size_settles : (old new : Option (List ℕ)) (taken : List ℕ) (f : PesFaul
     → 6 ≤ length taken
     → size_at (take 6 taken) ≡ Err f
     → Settles old new taken (Err f)
-size_settles old new taken f h le bad = record {
-  consumed = h;
-  some = omega arith;
-  answer = λ rest _. packet_size (taken ++ rest) f (omega (arith, length-append taken rest))
-      (ap size_at (take-append-le 6 taken rest le) ∙ bad);
-}
+size_settles old new taken f h le bad =
+    grind (arith, nat_tests, packet_size, length-append, take-append-le)
 
 -- The bytes end within the packet.
 pub cut_settles : (old new : Option (List ℕ)) (taken : List ℕ) (size : ℕ)
@@ -86,12 +74,8 @@ pub cut_settles : (old new : Option (List ℕ)) (taken : List ℕ) (size : ℕ)
     → length taken < size
     → size_at (take 6 taken) ≡ Ok size
     → Settles old new taken (Err fault.Truncated)
-cut_settles old new taken size h end le lt sized = record {
-  consumed = h;
-  some = omega arith;
-  answer = λ rest ends.
-      rw (ends end, append-nil taken) (packet_cut taken size le sized lt);
-}
+cut_settles old new taken size h end le lt sized =
+    grind (arith, nat_tests, append-nil taken, packet_cut taken size le sized lt)
 
 -- The whole packet is there: its value, or its first fault.
 pub whole_settles : (old new : Option (List ℕ)) (taken : List ℕ)
@@ -99,17 +83,16 @@ pub whole_settles : (old new : Option (List ℕ)) (taken : List ℕ)
     → 6 ≤ length taken
     → size_at (take 6 taken) ≡ Ok (length taken)
     → Settles old new taken (value_at (drop 6 taken))
-whole_settles old new taken h le sized = record {
-  consumed = h;
-  some = omega arith;
-  answer = λ rest _.
-      let parts : taken ++ rest ≡ take 6 taken ++ (drop 6 taken ++ rest) =
-      ap (λ (x : List ℕ). x ++ rest) (sym (take-append-drop 6 taken))
-      ∙ append_assoc (take 6 taken) (drop 6 taken) rest in
-      ap packet_at parts
-      ∙ packet_parts (take 6 taken) (drop 6 taken) rest (length taken)
-      (length-take 6 taken ∙ omega arith) sized le (length-drop 6 taken);
-}
+whole_settles old new taken h le sized =
+    grind (
+      arith,
+      nat_tests,
+      take-append-drop 6 taken,
+      append_assoc,
+      packet_parts,
+      length-take 6 taken,
+      length-drop 6 taken,
+    )
 
 -- The same by what was read of the packet's bytes from byte 6 on.
 pub settles_as : (old new : Option (List ℕ)) (taken body : List ℕ) (r : Result PesValue PesFault)
@@ -117,16 +100,14 @@ pub settles_as : (old new : Option (List ℕ)) (taken body : List ℕ) (r : Resu
     → body ≡ drop 6 taken
     → value_at body ≡ r
     → Settles old new taken r
-settles_as old new taken body r h same e =
-    subst (Settles old new taken) (ap value_at (sym same) ∙ e) h
+settles_as old new taken body r h same e = grind (arith, nat_tests)
 
 -- ---- what is known by it
 
 -- The answer, by what was read of the packet.
 answered : (r : Result PesValue PesFault) (rest : List ℕ)
     → ((r >>= λ v. Ok (v, rest)) >>= value_in) ≡ (r >>= λ v. Ok (Some v))
-answered (Ok v) rest = refl
-answered (Err f) rest = refl
+answered r rest = grind (arith, nat_tests)
 
 -- The answer of a source that tells its bytes.
 pub settled_answer : (given : ℕ) (old new : Option (List ℕ)) (taken bytes : List ℕ)
@@ -136,22 +117,13 @@ pub settled_answer : (given : ℕ) (old new : Option (List ℕ)) (taken bytes : 
     → old ≡ Some bytes
     → answer_at given bytes ≡ (r >>= λ v. Ok (Some v))
 settled_answer given old new taken bytes r h ne told =
-    let (rest, parts, new_is) = left old new bytes taken h.consumed told in
-    let some = h.some in
-    answer_packet given bytes (r >>= λ v. Ok (v, rest))
-    (omega (arith, ap length parts, length-append taken rest)) ne
-    (ap packet_at parts ∙ h.answer rest (λ end. subst IsAtEnd new_is end))
-    ∙ answered r rest
+    grind (arith, nat_tests, left, answer_packet, length-append, answered)
 
 -- A fault: the bytes that were taken are refused for it, also where they are not told.
 pub settled_refusal : (old new : Option (List ℕ)) (taken : List ℕ) (f : PesFault)
     → Settles old new taken (Err f)
     → TakesRefused old new f
-settled_refusal old new taken f h = record {
-  bytes = taken;
-  consumed = h.consumed;
-  refused = ap packet_at (sym (append-nil taken)) ∙ h.answer [] (λ _. refl);
-}
+settled_refusal old new taken f h = grind (arith, nat_tests, append-nil taken)
 
 -- A value: the bytes that were taken are a packet of it.
 abbrev pub settled_packet : (old new : Option (List ℕ)) (taken : List ℕ) (v : PesValue)
@@ -222,12 +194,7 @@ pub tells_end : (given : ℕ) (old new : Option (List ℕ)) (taken : List ℕ)
     → taken ≡ []
     → IsAtEnd new
     → TellsPacket (Reading given) old new (Ok None)
-tells_end given old new taken h none end =
-    let ends : (bytes : List ℕ)
-    → old ≡ Some bytes
-    → (bytes ≡ []) × (new ≡ Some (rest_after bytes)) =
-    λ bytes told. none_taken old new bytes taken h told none end in
-    grind (arith, nat_tests, ends, nothing)
+tells_end given old new taken h none end = grind (arith, nat_tests, none_taken, nothing)
 
 -- A byte after the most packets.
 pub tells_too_many : (given : ℕ) (old new : Option (List ℕ)) (taken : List ℕ)

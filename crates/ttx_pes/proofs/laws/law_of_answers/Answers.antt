@@ -1,4 +1,3 @@
--- The law answers_say.
 use Rattle.ttx_pes.proofs.ReaderLemmas.{answers_say}
 use Rattle.ttx_pes.proofs.laws.law_of_answers.Goals as goal
 

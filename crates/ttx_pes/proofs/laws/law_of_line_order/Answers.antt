@@ -1,4 +1,3 @@
--- The law line_order.
 use Rattle.ttx_pes.proofs.LinePairLemmas.{line_order}
 use Rattle.ttx_pes.proofs.laws.law_of_line_order.Goals as goal
 

@@ -1,4 +1,3 @@
--- The law numbered_is_value.
 use Rattle.ttx_pes.proofs.LineOrderLemmas.{numbered_is_value}
 use Rattle.ttx_pes.proofs.laws.law_of_numbered_frame.Goals as goal
 

@@ -1,4 +1,3 @@
--- The law one_value.
 use Rattle.ttx_pes.proofs.ReadingLemmas.{one_value}
 use Rattle.ttx_pes.proofs.laws.law_of_one_value.Goals as goal
 

@@ -1,4 +1,3 @@
--- The law value_of_packet.
 use Rattle.ttx_pes.proofs.PesPacketLemmas.{value_of_packet}
 use Rattle.ttx_pes.proofs.laws.law_of_packet_value.Goals as goal
 

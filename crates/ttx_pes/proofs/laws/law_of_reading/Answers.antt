@@ -1,4 +1,3 @@
--- The law packet_is_read.
 use Rattle.ttx_pes.proofs.ReadingLemmas.{packet_is_read}
 use Rattle.ttx_pes.proofs.laws.law_of_reading.Goals as goal
 

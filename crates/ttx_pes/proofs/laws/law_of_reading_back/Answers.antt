@@ -1,4 +1,3 @@
--- The law written_is_read.
 use Rattle.ttx_pes.proofs.ReadingLemmas.{written_is_read}
 use Rattle.ttx_pes.proofs.laws.law_of_reading_back.Goals as goal
 

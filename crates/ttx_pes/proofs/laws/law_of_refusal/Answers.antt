@@ -1,4 +1,3 @@
--- The law refusal_by_questions.
 use Rattle.ttx_pes.proofs.RefusalLemmas.{refusal_by_questions}
 use Rattle.ttx_pes.proofs.laws.law_of_refusal.Goals as goal
 

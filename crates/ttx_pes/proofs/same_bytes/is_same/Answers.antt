@@ -1,6 +1,6 @@
 -- A block more, and all blocks and the last: by SameBytesLemmas.
-use Rattle.std.proofs.Common.{◌≡◌, ◌-◌, ◌*◌, ◌/◌, [], get_or, length, drop, arith, rules, true}
-use Rattle.std.proofs.Common.{sym, ap, ◌∙◌}
+use Rattle.std.proofs.Common.{◌≡◌, ◌-◌, ◌*◌, ◌/◌, [], get_or, length, drop, arith, rules, true, sym}
+use Rattle.std.proofs.Common.{ap, ◌∙◌}
 use lib.Lanes.{chunk}
 use Rattle.ttx_packet.proofs.BlockLemmas.{block_at}
 use Rattle.ttx_pes.proofs.SameBytesLemmas.{same_more, same_whole}
