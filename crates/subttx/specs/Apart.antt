@@ -3,6 +3,11 @@ use Rattle.std.specs.Prelude.{Bool, true, false, not, ◌&&◌, ◌==◌}
 use Rattle.subttx.specs.declared.apart.Found.{Found}
 use Rattle.subttx.specs.declared.apart.Found.TheVariants.{At, Nothing}
 
+-- A file was found.
+abbrev pub is_there : Found → Bool
+is_there (At device inode) = true
+is_there _ = false
+
 -- Nothing is there to be written over; or both are known, and differ in device or inode.
 abbrev pub is_apart : (input output : Found) → Bool
 is_apart input Nothing = true

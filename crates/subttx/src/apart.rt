@@ -1,7 +1,10 @@
 //! Whether the file that is written is another one than the file that is read.
-ghost use Rattle.std.specs.Prelude.{◌≡◌};
-ghost use Rattle.subttx.specs.Apart.{is_apart};
+ghost use Rattle.std.specs.Prelude.{◌≡◌, ◌≢◌, IfErr, IfOk, true};
+ghost use Rattle.std.specs.IoError.{error_kind};
+ghost use Rattle.subttx.specs.Apart.{is_apart, is_there};
 
+use std::fs::Metadata;
+use std::io::ErrorKind;
 use std::os::unix::fs::MetadataExt;
 use std::rt::Files;
 use std::{fs, io};
@@ -19,10 +22,22 @@ pub enum Found {
 
 /// What is at a name.
 pub fn look_up<R: Files>(rt: &R, name: &str) -> Found {
-    match fs::metadata(rt, name) {
+    found_by(fs::metadata(rt, name))
+}
+
+// What is at a name that was looked up so. One that can't be looked up is never taken for one at
+// which nothing is.
+fn found_by(looked_up: io::Result<Metadata>) -> Found
+    ensures there { IfOk looked_up (λ _. is_there result ≡ true) }
+    ensures nothing { IfErr looked_up (λ error.
+        error_kind error ≡ ErrorKind.NotFound → result ≡ Found.Nothing) }
+    ensures unknown { IfErr looked_up (λ error.
+        error_kind error ≢ ErrorKind.NotFound → result ≡ Found.Unknown) }
+{
+    match looked_up {
         Ok(there) => Found::At(there.dev(), there.ino()),
         Err(error) => match error.kind() {
-            io::ErrorKind::NotFound => Found::Nothing,
+            ErrorKind::NotFound => Found::Nothing,
             _ => Found::Unknown,
         },
     }

@@ -2,10 +2,12 @@
 //!
 //! What is opened is handed on as files alone, so that no function that asks the system for files
 //! has a device or the lines in it.
-ghost use Rattle.std.specs.Prelude.{◌≡◌, ◌≤◌, IfSome, true, vec_len};
+ghost use Rattle.std.specs.Prelude.{◌≡◌, ◌≤◌, IfNone, IfSome, OnSome, true, vec_len};
+ghost use Rattle.sub_request.specs.Files.{reads_one};
+ghost use Rattle.subttx.specs.Apart.{is_apart};
 ghost use Rattle.subttx.specs.Opening.{are_of};
 
-use crate::apart::{is_apart, look_up};
+use crate::apart::{Found, is_apart, look_up};
 use std::alloc::Global;
 use std::fs;
 use std::rt::Files;
@@ -47,7 +49,8 @@ pub fn size_of_rooms(names: &FileNames<'_>) -> usize
 /// Opens the files, in the order of the words, and creates the one that is written. At the first
 /// that fails it opens no more, and answers `None`.
 pub fn open<R: Files>(rt: &R, names: &FileNames<'_>) -> Option<Opened<R::File>>
-    ensures { IfSome result (λ files. are_of names.now files ≡ true) }
+    ensures files { IfSome result (λ files. are_of names.now files ≡ true) }
+    ensures none { IfNone result (reads_one names.now ≡ true) }
 {
     match names {
         FileNames::None => Some(Opened::Nothing),
@@ -59,7 +62,8 @@ pub fn open<R: Files>(rt: &R, names: &FileNames<'_>) -> Option<Opened<R::File>>
         }
         FileNames::Write(stl, output) => {
             let first = open_stl(rt, stl)?;
-            Some(Opened::Write(first, create_apart(rt, stl, output)?))
+            let (input, there) = (look_up(rt, stl.name()), look_up(rt, output.name()));
+            Some(Opened::Write(first, create_apart(rt, input, there, output)?))
         }
     }
 }
@@ -74,9 +78,17 @@ fn open_pes<R: Files>(rt: &R, pes: &PesInput<'_>) -> Option<R::File> {
     fs::open(rt, pes.name()).ok()
 }
 
-// Creates a file to be written where that can't empty the one that is read.
-fn create_apart<R: Files>(rt: &R, stl: &StlInput<'_>, output: &Output<'_>) -> Option<R::File> {
-    if !is_apart(look_up(rt, stl.name()), look_up(rt, output.name())) {
+// Creates a file to be written, where by what was found at both names that can't empty the one that
+// is read.
+fn create_apart<R: Files>(
+    rt: &R,
+    input: Found,
+    there: Found,
+    output: &Output<'_>,
+) -> Option<R::File>
+    ensures { OnSome result (is_apart input there ≡ true) }
+{
+    if !is_apart(input, there) {
         return None;
     }
     fs::create(rt, output.name()).ok()
