@@ -1,1 +1,2 @@
 pub mod EndingLemmas
+pub mod WordsLemmas

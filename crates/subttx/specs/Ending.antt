@@ -1,17 +1,20 @@
 -- How a run of the program ends: what was answered, what was handed on, and the status.
-use Rattle.std.specs.Prelude.{◌≡◌, ◌⊎◌, ⊤, ℕ, ◌+◌, List, [], Option, Some}
+use Rattle.std.specs.Prelude.{◌≡◌, ◌⊎◌, ⊤, ℕ, ◌+◌, true, List, [], Option, Some, Result, Ok, Err}
 use Rattle.std.specs.Io.KnownBytes.{Keeps, append_known}
 use Rattle.clap.specs.Words.{Text}
 use Rattle.sub_io.specs.Buffered.{HeldBack, failures_and_refused}
+use Rattle.sub_request.specs.Files.{files_of, reads_one}
 use Rattle.sub_request.specs.declared.request.Request.{Request}
 use Rattle.sub_request.specs.declared.request.UsageFault.{UsageFault}
-use Rattle.sub_words.specs.Requests.{AsksFor}
+use Rattle.sub_request.specs.declared.request.UsageFault.TheVariants as usage
+use Rattle.sub_words.specs.Requests.{AsksFor, IsFaultOf}
 use Rattle.sub_answer.specs.Answering.{Answers}
 use Rattle.sub_answer.specs.DeviceCall.{SinkCall, SourceCall, sink_call}
 use Rattle.sub_answer.specs.Faults.{usage_told}
 use Rattle.sub_answer.specs.Listing.{PrintsOrFails, told_listing}
 use Rattle.sub_answer.specs.declared.status.Status.{Status}
 use Rattle.sub_answer.specs.declared.status.Status.TheVariants.{Fault}
+use Rattle.subttx.specs.Opening.{are_of}
 use Rattle.subttx.specs.declared.opening.Opened.{Opened}
 use Rattle.subttx.specs.declared.opening.Opened.TheVariants.{Nothing, Read, ReadBoth, Write}
 
@@ -140,22 +143,42 @@ given_by remaining contents (ReadBoth stl pes) =
 given_by remaining contents (Write stl output) =
     record { first = remaining stl; second = Some []; file = contents output }
 
--- A request was answered of some devices, and then the lines were handed on.
-abbrev pub Ends : Request → Lines → Lines → Status → Type 0
-Ends request old new result = (given : Given) × EndsOver request given old new result
+-- The files that a request names were opened, and it was answered over them, by what a file tells
+-- that is read, and one that is written; and then the lines were handed on.
+pub record Ends
+    {F : Type 0} (remaining contents : F → Option (List ℕ)) (request : Request)
+    (old new : Lines) (result : Status)
+    : Type 0 where
+  pub files : Opened F
+  pub are_opened : are_of (files_of request) files ≡ true
+  pub ends : EndsOver request (given_by remaining contents files) old new result
 
--- Words asked for a request, and it was answered so.
-pub record Answered (old new : Lines) (result : Status) : Type 0 where
+-- The words that the system gave asked for a request, and it was answered so.
+pub record Answered
+    {F : Type 0} (remaining contents : F → Option (List ℕ)) (given : Result (List Text) UsageFault)
+    (old new : Lines) (result : Status)
+    : Type 0 where
   pub words : List Text
+  pub are_given : given ≡ Ok words
   pub request : Request
   pub asked : AsksFor words request
-  pub ends : Ends request old new result
+  pub ends : Ends remaining contents request old new result
 
--- Words asked for no request, or its files could not be opened or memory ran out: the line of this
--- fault was printed, and then handed on.
-pub record Said (old new : Lines) (result : Status) : Type 0 where
-  pub fault : UsageFault
-  pub status : Status
+-- Why words are not answered: memory ran out, or a file that they ask for can't be opened, or this
+-- is their fault.
+abbrev pub IsWhy : List Text → UsageFault → Type 0
+IsWhy words usage.Memory = ⊤
+IsWhy words usage.Open =
+    (request : Request) × AsksFor words request × (reads_one (files_of request) ≡ true)
+IsWhy words fault = IsFaultOf words fault
+
+-- Why a run answers no request, of the words that the system gave or why it gave none.
+abbrev pub IsCause : Result (List Text) UsageFault → UsageFault → Type 0
+IsCause (Ok words) fault = IsWhy words fault
+IsCause (Err why) fault = fault ≡ why
+
+-- The line of a fault was printed, and then handed on.
+pub record Says (fault : UsageFault) (old new : Lines) (result : Status) : Type 0 where
   pub printed : Lines
   pub line :
       PrintsOrFails (record {
@@ -164,9 +187,21 @@ pub record Said (old new : Lines) (result : Status) : Type 0 where
         old_count = old.count;
         new_count = printed.count;
       })
-      (told_listing (usage_told fault)) status
-  pub handed_on : HandsOnLines printed status new result
+      (told_listing (usage_told fault)) Fault
+  pub handed_on : HandsOnLines printed Fault new result
 
--- How a run ends, of what is printed and of the status.
-abbrev pub EndsRun : Lines → Lines → Status → Type 0
-EndsRun old new result = Answered old new result ⊎ Said old new result
+-- No request was answered, and the line of the fault was printed that tells why.
+pub record IsUnanswered (given : Result (List Text) UsageFault) (old new : Lines) (result : Status)
+    : Type 0 where
+  pub fault : UsageFault
+  pub cause : IsCause given fault
+  pub says : Says fault old new result
+
+-- How a run ends of what the system gave as words and what its files tell, by what is printed and
+-- the status.
+abbrev pub EndsRun :
+    {F : Type 0}
+    → (F → Option (List ℕ)) → (F → Option (List ℕ)) → Result (List Text) UsageFault
+    → Lines → Lines → Status → Type 0
+EndsRun remaining contents given old new result =
+    Answered remaining contents given old new result ⊎ IsUnanswered given old new result

@@ -1,4 +1,5 @@
-//! Answers a request over devices, closes the file and hands on the lines.
+//! Answers a request over devices, closes the file and hands on the lines; or says why none is
+//! answered.
 //!
 //! For a device that the request does not name an empty one is handed in, by a function of its own.
 ghost use Rattle.std.specs.Prelude.{◌≡◌, true, []};
@@ -6,12 +7,12 @@ ghost use Rattle.sub_io.specs.Buffered.{HandsOn, failures_and_refused};
 ghost use Rattle.sub_io.specs.Device.{CanFail};
 ghost use Rattle.sub_answer.specs.DeviceCall.{source_call};
 ghost use Rattle.subttx.specs.Ending.{EndsFrom, EndsFromBoth, EndsWith, EndsWithFile, HandsOnLines};
-ghost use Rattle.subttx.specs.Ending.{buffered_call, lines_of};
+ghost use Rattle.subttx.specs.Ending.{Says, buffered_call, lines_of};
 
 use std::alloc::Global;
-use sub_answer::{Status, answer};
+use sub_answer::{Status, answer, say};
 use sub_io::{BufferedSink, Close, Flush, MemSink, MemSource, Sink, Source};
-use sub_request::Request;
+use sub_request::{Request, UsageFault};
 
 /// Answers a request that reads one source.
 pub fn answer_from<S: Source, K: Sink>(
@@ -109,8 +110,18 @@ fn answer_and_hand_on<S: Source, T: Source, F: Close, K: Sink>(
     hand_on(status, out)
 }
 
-/// Hands on what is held back of the lines, for a run that ends with this status.
-pub fn hand_on<K: Sink>(status: Status, out: &mut BufferedSink<'_, K>) -> Status
+/// Prints the line of a fault, where no request is answered, and hands it on.
+pub fn say_and_hand_on<K: Sink>(fault: &UsageFault, out: &mut BufferedSink<'_, K>) -> Status
+    requires { failures_and_refused (K.failure_count out.old.device) out.old.refused ≡ 0 }
+    ensures says { Says fault.now (lines_of K.contents K.failure_count out.old)
+        (lines_of K.contents K.failure_count out.new) result }
+    ensures status { result ≡ Status.Fault }
+{
+    hand_on(say(fault, out), out)
+}
+
+// Hands on what is held back of the lines, for a run that ends with this status.
+fn hand_on<K: Sink>(status: Status, out: &mut BufferedSink<'_, K>) -> Status
     requires { CanFail (failures_and_refused
         (K.failure_count out.old.device) out.old.refused) }
     ensures { HandsOnLines (lines_of K.contents K.failure_count out.old) status

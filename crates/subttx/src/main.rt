@@ -9,16 +9,20 @@ mod answering;
 mod apart;
 mod ending;
 mod opening;
+mod words;
 
-ghost use Rattle.std.specs.Prelude.{◌≡◌, IfErr, IfOk, IfSome, map, string_bytes};
+ghost use Rattle.std.specs.Prelude.{◌≡◌, IfErr, IfOk};
 ghost use Rattle.sub_io.specs.Buffered.{failures_and_refused};
-ghost use Rattle.sub_words.specs.Commands.{texts_of};
-ghost use Rattle.subttx.specs.Ending.{Answered, Ends, EndsRun, lines_of};
+ghost use Rattle.sub_request.specs.Files.{files_of};
+ghost use Rattle.subttx.specs.Ending.{Answered, Ends, EndsRun, IsCause, lines_of};
+ghost use Rattle.subttx.specs.Opening.{IsUnopened};
+ghost use Rattle.subttx.specs.Words.{words_given};
 
 use crate::answering::answer_opened;
-use crate::ending::hand_on;
+use crate::ending::say_and_hand_on;
 use crate::opening::{BUFFER, open, room, size_of_rooms};
-use std::alloc::Global;
+use crate::words::{texts_of, words_of};
+use std::env::Args;
 use std::process::ExitCode;
 use std::rt::{Env, Files};
 use std::{env, io};
@@ -38,69 +42,46 @@ fn run<R: AllocGlobal + Env + Files + Print>(rt: &R) -> Status {
         return say(&UsageFault::Memory, &mut standard_output);
     };
     let mut out = BufferedSink::new(standard_output, room.as_mut_slice());
-    answer_or_say(rt, &mut out)
+    answer_or_say(rt, env::args(rt), &mut out)
 }
 
-// Answers the words of the command line, or else prints the line that tells why they are not
+// Answers the words that the system gave, or else prints the line that tells why they are not
 // answered.
-fn answer_or_say<R: AllocGlobal + Env + Files, K: Sink>(
+fn answer_or_say<R: AllocGlobal + Files, K: Sink>(
     rt: &R,
+    given: io::Result<Args>,
     out: &mut BufferedSink<'_, K>,
 ) -> Status
     requires { failures_and_refused (K.failure_count out.old.device) out.old.refused ≡ 0 }
-    ensures { EndsRun (lines_of K.contents K.failure_count out.old)
+    ensures { EndsRun R.File.remaining R.File.contents (words_given given)
+        (lines_of K.contents K.failure_count out.old)
         (lines_of K.contents K.failure_count out.new) result }
 {
-    match answer_words(rt, out) {
+    match answer_given(rt, given, out) {
         Ok(status) => status,
-        Err(fault) => {
-            let status = say(&fault, out);
-            hand_on(status, out)
-        }
+        Err(fault) => say_and_hand_on(&fault, out),
     }
 }
 
-// Answers the words of the command line.
-fn answer_words<R: AllocGlobal + Env + Files, K: Sink>(
+// Answers the words that the system gave.
+fn answer_given<R: AllocGlobal + Files, K: Sink>(
     rt: &R,
+    given: io::Result<Args>,
     out: &mut BufferedSink<'_, K>,
 ) -> Result<Status, UsageFault>
     requires { failures_and_refused (K.failure_count out.old.device) out.old.refused ≡ 0 }
-    ensures ends { IfOk result (Answered (lines_of K.contents K.failure_count out.old)
+    ensures ends { IfOk result (Answered R.File.remaining R.File.contents (words_given given)
+        (lines_of K.contents K.failure_count out.old)
         (lines_of K.contents K.failure_count out.new)) }
     ensures unanswered { IfErr result (λ _. out.new ≡ out.old) }
+    ensures cause { IfErr result (IsCause (words_given given)) }
 {
-    let words = words_of(rt)?;
-    let Some(words) = texts_of(rt.alloc(), words.as_slice()) else {
+    let words = words_of(rt.alloc(), given)?;
+    let Some(texts) = texts_of(rt.alloc(), words.as_slice()) else {
         return Err(UsageFault::Memory);
     };
-    let request = Request::parse(rt.alloc(), words.as_slice())?;
+    let request = Request::parse(rt.alloc(), texts.as_slice())?;
     open_and_answer(rt, &request, out)
-}
-
-// The words of the command line. A word that is no text is no word of a command.
-fn words_of<R: AllocGlobal + Env>(rt: &R) -> Result<Vec<String>, UsageFault> {
-    match env::args(rt) {
-        Ok(words) => words.collect(rt.alloc()).map_err(|_| UsageFault::Memory),
-        Err(error) => match error.kind() {
-            io::ErrorKind::OutOfMemory => Err(UsageFault::Memory),
-            _ => Err(UsageFault::Words),
-        },
-    }
-}
-
-// The words as texts, `None` where memory runs out.
-fn texts_of(alloc: Global, words: &[String]) -> Option<Vec<&str>>
-    ensures { IfSome result (λ texts.
-        texts_of texts.items ≡ map (λ word. string_bytes word) words.now) }
-{
-    let mut texts = Vec::new(alloc);
-    for word in words {
-        let Ok(()) = texts.push(word.as_str()) else {
-            return None;
-        };
-    }
-    Some(texts)
 }
 
 // Opens the files that the request names, and answers it over them. Where a file can't be opened,
@@ -111,9 +92,11 @@ fn open_and_answer<R: AllocGlobal + Files, K: Sink>(
     out: &mut BufferedSink<'_, K>,
 ) -> Result<Status, UsageFault>
     requires { failures_and_refused (K.failure_count out.old.device) out.old.refused ≡ 0 }
-    ensures ends { IfOk result (Ends request.now (lines_of K.contents K.failure_count out.old)
+    ensures ends { IfOk result (Ends R.File.remaining R.File.contents request.now
+        (lines_of K.contents K.failure_count out.old)
         (lines_of K.contents K.failure_count out.new)) }
     ensures unanswered { IfErr result (λ _. out.new ≡ out.old) }
+    ensures fault { IfErr result (IsUnopened (files_of request.now)) }
 {
     let names = request.files();
     let Some(mut rooms) = room(rt.alloc(), size_of_rooms(&names)) else {

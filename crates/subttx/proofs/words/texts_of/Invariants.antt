@@ -1,7 +1,7 @@
 -- The texts so far, and those of the words that are left, are those of all words.
 use Rattle.std.proofs.Common.{◌≡◌, ◌++◌, drop, map, string_bytes}
 use Rattle.sub_words.specs.Commands.{texts_of}
-use Rattle.subttx.proofs.texts_of.Given as goal
+use Rattle.subttx.proofs.words.texts_of.Given as goal
 
 abbrev pub invariant-loop-word : goal.invariant-loop-word
 invariant-loop-word l =

@@ -1,0 +1,47 @@
+//! The words of the command line, as the system gives them.
+ghost use Rattle.std.specs.Prelude.{◌≡◌, IfErr, IfOk, IfSome, Ok, map, string_bytes};
+ghost use Rattle.sub_words.specs.Commands.{texts_of};
+ghost use Rattle.subttx.specs.Words.{IsLost, words_given};
+
+use std::alloc::Global;
+use std::env::Args;
+use std::io;
+use std::io::ErrorKind;
+use sub_request::UsageFault;
+
+/// All words that the system gave, in their order.
+///
+/// # Errors
+///
+/// `Memory` where memory ran out, `Words` where the system gave no words: one that is no text is no
+/// word of a command.
+pub fn words_of(alloc: Global, given: io::Result<Args>) -> Result<Vec<String>, UsageFault>
+    ensures words { IfOk result (λ words.
+        words_given given ≡ Ok (map (λ word. string_bytes word) words.items)) }
+    ensures lost { IfErr result (IsLost (words_given given)) }
+{
+    match given {
+        Ok(words) => match words.collect(alloc) {
+            Ok(words) => Ok(words),
+            Err(_) => Err(UsageFault::Memory),
+        },
+        Err(error) => match error.kind() {
+            ErrorKind::OutOfMemory => Err(UsageFault::Memory),
+            _ => Err(UsageFault::Words),
+        },
+    }
+}
+
+/// The words as texts, `None` where memory runs out.
+pub fn texts_of(alloc: Global, words: &[String]) -> Option<Vec<&str>>
+    ensures { IfSome result (λ texts.
+        texts_of texts.items ≡ map (λ word. string_bytes word) words.now) }
+{
+    let mut texts = Vec::new(alloc);
+    for word in words {
+        let Ok(()) = texts.push(word.as_str()) else {
+            return None;
+        };
+    }
+    Some(texts)
+}
