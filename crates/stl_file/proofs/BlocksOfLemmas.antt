@@ -1,8 +1,9 @@
 -- `blocks_of`: the blocks that are written for a subtitle are blocks of it; main lemmas:
 -- joined_more, joined_end, blocks_made, blocks_again.
-use Rattle.std.proofs.Common.{◌≡◌, ◌*◌, ℕ, true, List, [], ◌∷◌, ◌++◌, length, refl, sym, ap}
+use Rattle.std.proofs.Common.{rules, ◌≡◌, ◌*◌, ℕ, true, List, [], ◌∷◌, ◌++◌, length, refl, sym, ap}
 use Rattle.std.proofs.Common.{append_assoc, arith, length-append, take, drop, zero, suc, ◌+◌, ◌-◌}
 use Rattle.std.proofs.Common.{◌<◌, ◌≤◌, replicate, length-take}
+use Rattle.std.proofs.lemmas.Bool.Decides.{nat_tests}
 use Rattle.std.specs.List.{flat_map}
 use Rattle.std.proofs.lemmas.List.{append-nil, take-append-drop, length-replicate, length-drop}
 use Rattle.std.proofs.lemmas.List.{drop-replicate}
@@ -22,9 +23,7 @@ pub block_parts : (s : SubtitleValue) (e : ℕ) (piece : List ℕ)
     → block_of s e piece
     ≡ (block_head s e ++ piece) ++ drop (length piece) (replicate 112 unused_space)
 unfolding block_of
-block_parts s e piece =
-    rw (drop-replicate (length piece) 112 unused_space)
-    (sym (append_assoc (block_head s e) piece _))
+block_parts s e piece = search (rules, drop-replicate, append_assoc)
 
 -- What `push_block` needs.
 pub ruleset pushed = (append_assoc, block_parts)
@@ -48,11 +47,7 @@ block_begins : (s : SubtitleValue) (e : ℕ) (piece : List ℕ)
     → IsSubtitle s
     → Begins s (block_of s e piece)
 unfolding block_of
-block_begins s e piece h =
-    let early : s.tci < day = let d = h.in_day in let t = h.times in omega arith in
-    let tci = time_in_range s.tci early in
-    let tco = time_in_range s.tco h.in_day in
-    grind arith
+block_begins s e piece h = grind (arith, nat_tests, time_in_range)
 
 -- ---- the blocks of a subtitle, as they are written
 
@@ -76,9 +71,7 @@ pub joined_end : (s : SubtitleValue) (ebn : ℕ) (text : List ℕ)
     → length text ≤ 112
     → joined (blocks_from s (full_pieces text) ebn text) ≡ block_of s 255 text
 unfolding blocks_from
-joined_end s ebn text le =
-    let none : full_pieces text ≡ 0 = omega arith in
-    rw none (append-nil (block_of s 255 text))
+joined_end s ebn text le = grind (arith, nat_tests, append-nil)
 
 -- How many blocks.
 pub blocks_count : (s : SubtitleValue) (full ebn : ℕ) (text : List ℕ)
@@ -139,27 +132,10 @@ blocks_made s h =
     let full = full_pieces s.text in
     let b = blocks_begin s full 0 s.text h in
     let few = h.few in
-    record {
-      first = b.0;
-      others = b.1.0;
-      blocks = b.1.1;
-      few = omega (arith, blocks_count s full 0 s.text);
-      begins = b.1.2;
-      linked = blocks_linked s full 0 s.text (omega arith) (omega arith) h.text;
-      text_is = sym (blocks_text s full 0 s.text h.text);
-    }
+    grind (arith, nat_tests, blocks_count, blocks_linked, blocks_text)
 
 -- The blocks of a subtitle of a file can be written again, in no more of them.
 pub blocks_again : (s : SubtitleValue) (g : List (List ℕ))
     → AreBlocksOf s g
     → AreBlocksOf s (blocks_of s) × (length (blocks_of s) ≤ length g)
-blocks_again s g h = (
-  blocks_made s (blocks_subtitle s g h),
-  omega (
-    arith,
-    linked_text s.sgn s.sn g h.linked,
-    ap length h.text_is,
-    ap length h.blocks,
-    blocks_count s (full_pieces s.text) 0 s.text,
-  ),
-)
+blocks_again s g h = search (rules, blocks_made, blocks_subtitle, linked_text, blocks_count)

@@ -3,6 +3,7 @@
 use Rattle.std.proofs.Common.{◌≡◌, ◌*◌, ℕ, false, List, [], ◌++◌, length, refl, sym, ap, ◌∙◌, arith}
 use Rattle.std.proofs.Common.{length-append, rules, take, drop, None, Result, Ok, Err, subst, ◌+◌}
 use Rattle.std.proofs.Common.{◌≤◌, inl, inr, length-take-le, ltb}
+use Rattle.std.proofs.lemmas.Bool.Decides.{nat_tests}
 use Rattle.std.specs.Prelude.{◌↔◌}
 use Rattle.std.proofs.lemmas.List.{take_all, take-take, drop-take, take-append-drop, drop_at}
 use Rattle.std.proofs.lemmas.Bool.{cases_lt, le-ltb}
@@ -25,8 +26,7 @@ use Rattle.stl_file.proofs.OpeningLemmas.{good, opened_sound, file_gsi}
 judged_ok : (b : List ℕ) (o : Result ReaderValue StlFault) (ts : List SubtitleValue)
     → subtitles_of (outcome_opened b o) ≡ Ok ts
     → (r : ReaderValue) × (o ≡ good r) × (subtitles_of (outcome_left r b) ≡ Ok ts)
-judged_ok b (Ok r) ts e = (r, refl, e)
-judged_ok b (Err f) ts e = absurd cc
+judged_ok b o ts e = grind (arith, nat_tests)
 
 -- The bytes after a GSI block that is taken.
 pub body_sound : (s : List ℕ) (ts : List SubtitleValue)
@@ -35,13 +35,12 @@ pub body_sound : (s : List ℕ) (ts : List SubtitleValue)
     → subtitles_of (outcome_at most_blocks None (drop 1024 s)) ≡ Ok ts
     → IsFile s (take 1024 s) ts
 body_sound s ts le g e =
-    let r = outcome_sound most_blocks None [] (drop 1024 s) ts refl e in
-    record {
-      gsi = g;
-      blocks = r.blocks;
-      bytes = sym (take-append-drop 1024 s) ∙ ap (λ (x : List ℕ). take 1024 s ++ x) r.bytes;
-      rest = search rules;
-    }
+    grind (
+      arith,
+      nat_tests,
+      outcome_sound most_blocks None [] (drop 1024 s) ts refl e,
+      take-append-drop 1024 s,
+    )
 
 -- Bytes that are read without a fault are a file.
 pub file_sound : (s : List ℕ) (ts : List SubtitleValue)
@@ -85,10 +84,7 @@ pub one_file : (s g h : List ℕ) (ts us : List SubtitleValue)
     → IsFile s g ts
     → IsFile s h us
     → (g ≡ h) × (ts ≡ us)
-one_file s g h ts us a b =
-    let x = file_complete s g ts a in
-    let y = file_complete s h us b in
-    (cc, cc)
+one_file s g h ts us a b = grind (arith, nat_tests, file_complete s g ts a, file_complete s h us b)
 
 -- ---- the first bytes
 

@@ -1,7 +1,7 @@
 -- The GSI block as it is read, and with other counts; main lemmas: gsi_sound, gsi_complete,
 -- counted_is_gsi.
-use Rattle.std.proofs.Common.{◌≡◌, ℕ, List, ◌++◌, length, refl, sym, ap, ◌∙◌, append_assoc, arith}
-use Rattle.std.proofs.Common.{length-append, take, drop, Ok, ◌+◌, ◌≤◌}
+use Rattle.std.proofs.Common.{rules, ◌≡◌, ℕ, List, ◌++◌, length, refl, sym, ap, ◌∙◌, append_assoc}
+use Rattle.std.proofs.Common.{arith, length-append, take, drop, Ok, ◌+◌, ◌≤◌}
 use Rattle.std.proofs.lemmas.List.{drop-take, take-append-drop, length-drop, length-take}
 use Rattle.std.proofs.lemmas.List.{length-take-le, take_at, drop_at, take-append-le, take-take}
 use Rattle.std.proofs.lemmas.List.{get_or-take}

@@ -1,7 +1,8 @@
 -- `normal_counts` and `given`: a pass of `normal` over the blocks after the GSI block; main lemmas:
 -- left_is, took, counted_cons, written_cons.
-use Rattle.std.proofs.Common.{◌≡◌, ℕ, true, false, Bool, cond, List, length, refl, arith}
+use Rattle.std.proofs.Common.{rules, ◌≡◌, ℕ, true, false, Bool, cond, List, length, refl, arith}
 use Rattle.std.proofs.Common.{length-append, Option, Some, Result, Ok, Err, ◌+◌, ◌≤◌, is_ok}
+use Rattle.std.proofs.lemmas.Bool.Decides.{nat_tests}
 use Rattle.std.specs.Io.KnownBytes.{Appends}
 use Rattle.std.proofs.lemmas.Grind.{flat_map-append}
 use Rattle.std.proofs.lemmas.Option.{same_Some}
@@ -21,8 +22,7 @@ use Rattle.stl_file.proofs.BlocksOfLemmas.{blocks_again, blocks_count}
 
 -- The count of failures of a source that never fails says that this call did not.
 pub no_failure : (b : Bool) → 0 ≡ 0 + cond b 1 0 → b ≡ false
-no_failure true e = cc
-no_failure false e = refl
+no_failure b e = grind (arith, nat_tests)
 
 -- What was left, by the answer and what is left now.
 pub left_is : (old new : ReaderValue) (rest next : List ℕ) (r : Result Bool StlFault)
@@ -30,10 +30,7 @@ pub left_is : (old new : ReaderValue) (rest next : List ℕ) (r : Result Bool St
     → Answers old rest new (Some next) (given_subtitle r s)
     → subtitles_of (outcome_left old rest)
     ≡ judged_on r s new.block (subtitles_of (outcome_left new next))
-left_is old new rest next r s a =
-    let same = same_Some next a.rest a.rest_is in
-    let o = a.outcome in
-    grind arith
+left_is old new rest next r s a = grind (arith, nat_tests, same_Some)
 
 -- A subtitle is written in no more blocks than were taken for it.
 pub took : (from to : ℕ) (old new : Option (List ℕ)) (s : SubtitleValue)
@@ -71,10 +68,7 @@ pub written_cons : {E : Type 0} (old mid new : Option (List ℕ)) (s : SubtitleV
     → Appends old mid (joined (blocks_of s))
     → Writes mid new (joined (all_blocks (given j))) result
     → Writes old new (joined (all_blocks (given (cons_all s j)))) result
-written_cons old mid new s (Ok ss) result ok p q =
-    rw (flat_map-append (λ (b : List ℕ). b) (blocks_of s) (all_blocks ss))
-    (Writes-after old mid new (joined (blocks_of s)) (joined (all_blocks ss)) result p q)
-written_cons old mid new s (Err f) result ok p q = absurd cc
+written_cons old mid new s j result ok p q = grind (arith, nat_tests, flat_map-append, Writes-after)
 
 -- The same where this one was not written whole.
 pub prefix_cons : (old new : Option (List ℕ)) (s : SubtitleValue) (j : Judged)

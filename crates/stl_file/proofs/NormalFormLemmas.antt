@@ -1,6 +1,6 @@
 -- The normal form: a file of the same subtitles, and what `normal` answers; main lemmas:
 -- normal_is_file, normal_twice, refused_body, whole_written.
-use Rattle.std.proofs.Common.{◌≡◌, ℕ, List, [], ◌∷◌, ◌++◌, length, refl, ap, ◌∙◌, arith}
+use Rattle.std.proofs.Common.{rules, ◌≡◌, ℕ, List, [], ◌∷◌, ◌++◌, length, refl, ap, ◌∙◌, arith}
 use Rattle.std.proofs.Common.{length-append, take, drop, Option, Some, None, Ok, Err, subst}
 use Rattle.std.specs.Prelude.{filter}
 use Rattle.std.specs.List.{AllByRecursion}
@@ -76,15 +76,7 @@ respelled (s ∷ ss) (g ∷ gs) h =
 own_rest : (bs : List (List ℕ)) (ts : List SubtitleValue)
     → IsRest most_blocks bs ts
     → IsRest most_blocks (all_blocks ts) ts
-own_rest bs ts r =
-    let own = respelled ts r.parts r.are_of in
-    record {
-      each = own.each;
-      few = omega (arith, own.few, ap length r.kept, kept_few bs, r.few);
-      parts = own.parts;
-      kept = own.kept;
-      are_of = own.are_of;
-    }
+own_rest bs ts r = grind (arith, nat_tests, respelled, kept_few)
 
 -- ---- the laws
 
@@ -92,12 +84,7 @@ own_rest bs ts r =
 pub normal_is_file : (s g : List ℕ) (ts : List SubtitleValue)
     → IsFile s g ts
     → IsFile (normal_form g ts) (counted_gsi g ts) ts
-normal_is_file s g ts h = record {
-  gsi = counted_is_gsi (length (all_blocks ts)) (length ts) g h.gsi;
-  blocks = all_blocks ts;
-  bytes = refl;
-  rest = own_rest h.blocks ts h.rest;
-}
+normal_is_file s g ts h = search (rules, counted_is_gsi, own_rest)
 
 -- The normal form of a normal form is itself.
 pub normal_twice : (s g h : List ℕ) (ts us : List SubtitleValue)
@@ -106,16 +93,13 @@ pub normal_twice : (s g h : List ℕ) (ts us : List SubtitleValue)
     → normal_form h us ≡ normal_form g ts
 normal_twice s g h ts us a b =
     let o = one_file (normal_form g ts) h (counted_gsi g ts) us ts b (normal_is_file s g ts a) in
-    ap (λ (x : List ℕ). normal_form x us) o.0 ∙ ap (normal_form (counted_gsi g ts)) o.1
-    ∙ ap (λ (x : List ℕ). x ++ joined (all_blocks ts))
-    (counts_twice (length (all_blocks ts)) (length ts) g a.gsi.size)
+    grind (arith, nat_tests, counts_twice)
 
 -- ---- the returns of `normal`
 
 -- A sink that was not touched keeps its bytes.
 keeps_same : (o : Option (List ℕ)) → Keeps o o
-keeps_same None = tt
-keeps_same (Some xs) = refl
+keeps_same o = grind (arith, nat_tests)
 
 -- A file whose GSI block is refused, as `normal` answers it.
 pub refused_open : (s : List ℕ) (f : StlFault) (old : Option (List ℕ))
@@ -137,17 +121,14 @@ pub refused_body : (s : List ℕ) (r : ReaderValue) (f : NormalFault) (old : Opt
     → (f ≡ Write → ⊥)
     → normal_counts (subtitles_of (outcome_from 0 (drop 1024 s))) ≡ Err f
     → NormalAnswers s old old (Err f)
-refused_body s r Write old e never c = absurd (never refl)
-refused_body s r (Refused f b) old e never c =
-    (let body = file_body s r e in grind arith, keeps_same old)
+refused_body s r f old e never c = grind (arith, nat_tests, file_body, keeps_same)
 
 -- A file that is not refused: its subtitles, their counts and the bytes of its normal form.
 record Accepted (s : List ℕ) (r : ReaderValue) (c : Counts) : Type 0 where
   ts : List SubtitleValue
   is_file : IsFile s (take 1024 s) ts
   count : c.tns ≡ length ts
-  form :
-      with_counts c.tnb c.tns r.gsi
+  form : with_counts c.tnb c.tns r.gsi
       ++ joined (all_blocks (given (subtitles_of (outcome_from 0 (drop 1024 s)))))
       ≡ normal_form (take 1024 s) ts
 
@@ -156,8 +137,7 @@ counted_ok : (j : Judged) (c : Counts)
     → normal_counts j ≡ Ok c
     → (ts : List SubtitleValue) × (j ≡ Ok ts) × (c.tnb ≡ length (all_blocks ts))
     × (c.tns ≡ length ts)
-counted_ok (Ok ts) c e = (ts, refl, cc, cc)
-counted_ok (Err f) c e = absurd cc
+counted_ok j c e = grind (arith, nat_tests)
 
 -- A file that was opened and counted is accepted.
 accepted : (s : List ℕ) (r : ReaderValue) (c : Counts)
@@ -178,28 +158,13 @@ module _ (s : List ℕ) (r : ReaderValue) (c : Counts) (g : List ℕ) (opened : 
     (judged : normal_counts (subtitles_of (outcome_from 0 (drop 1024 s))) ≡ Ok c)
     (set : g ≡ with_counts c.tnb c.tns r.gsi) (old new : Option (List ℕ)) where
   -- All was written.
-  pub whole_written :
-      Appends old new
+  pub whole_written : Appends old new
       (g ++ joined (all_blocks (given (subtitles_of (outcome_from 0 (drop 1024 s))))))
       → WritesNormal s old new c.tns
-  whole_written w =
-      let a = accepted s r c opened judged in
-      record {
-        subtitles = a.ts;
-        is_file = a.is_file;
-        count = a.count;
-        wrote = subst (Appends old new) (rw set a.form) w;
-      }
+  whole_written w = grind (arith, nat_tests, accepted s r c opened judged)
 
   -- The sink failed.
-  pub prefix_written :
-      AppendsPrefix old new
+  pub prefix_written : AppendsPrefix old new
       (g ++ joined (all_blocks (given (subtitles_of (outcome_from 0 (drop 1024 s))))))
       → WritesPrefix s old new
-  prefix_written w =
-      let a = accepted s r c opened judged in
-      record {
-        subtitles = a.ts;
-        is_file = a.is_file;
-        wrote = subst (AppendsPrefix old new) (rw set a.form) w;
-      }
+  prefix_written w = grind (arith, nat_tests, accepted s r c opened judged)

@@ -1,7 +1,8 @@
 -- `opened_at`, and that no file begins with what `open` refuses; main lemmas: opened_sound,
 -- open_whole, bad_opening.
-use Rattle.std.proofs.Common.{◌≡◌, ℕ, List, ◌++◌, length, refl, sym, ap, ◌∙◌, arith, length-append}
-use Rattle.std.proofs.Common.{take, drop, Option, Some, Result, Ok, Err, ◌<◌, ◌≤◌, length-take}
+use Rattle.std.proofs.Common.{rules, ◌≡◌, ℕ, List, ◌++◌, length, refl, sym, ap, ◌∙◌, arith}
+use Rattle.std.proofs.Common.{length-append, take, drop, Option, Some, Result, Ok, Err, ◌<◌, ◌≤◌}
+use Rattle.std.proofs.Common.{length-take}
 use Rattle.std.proofs.lemmas.List.{take_all, length-take-le, take_at, drop_at}
 use Rattle.std.proofs.lemmas.Bool.{le-ltb}
 use Rattle.std.proofs.lemmas.Bool.Decides.{nat_tests}
@@ -63,16 +64,14 @@ module _ {old new : Option (List ℕ)} {n : ℕ} {block : List ℕ} (f : Fills o
 
   -- A GSI block with a fault begins no file.
   pub bad_opening : (x : StlFault) → 1024 ≤ n → gsi_at block ≡ Err x → RefusesOpening old new x
-  bad_opening x le bad =
-      let bound = f.bound in
-      record {
-        bytes = block;
-        consumed = rw (take_all n block (omega arith)) at f.bytes;
-        none = λ more cut g ts h.
-            let same = sym (take_at block more 1024 size) ∙ file_gsi (block ++ more) g ts h in
-            let no = sym bad ∙ ap gsi_at same ∙ gsi_complete g h.gsi in
-            cc;
-      }
+  bad_opening x le bad = record {
+    bytes = block;
+    consumed = rw (take_all n block (omega arith)) at f.bytes;
+    none = λ more cut g ts h.
+        let same = sym (take_at block more 1024 size) ∙ file_gsi (block ++ more) g ts h in
+        let no = sym bad ∙ ap gsi_at same ∙ gsi_complete g h.gsi in
+        cc;
+  }
 
 module _ {bytes : List ℕ} {n : ℕ} {new : Option (List ℕ)} {block : List ℕ}
     (t : Told bytes n new block) (bound : n ≤ length block) (size : length block ≡ 1024) where
@@ -100,5 +99,4 @@ module _ {bytes : List ℕ} {n : ℕ} {new : Option (List ℕ)} {block : List �
 
   -- What is left after it.
   pub open_rest : 1024 ≤ n → new ≡ Some (drop 1024 bytes)
-  open_rest le =
-      rw (t.parts, take_all n block (omega arith), drop_at block t.rest 1024 size) t.new_is
+  open_rest le = grind (arith, nat_tests, take_all, drop_at block t.rest 1024 size)

@@ -1,8 +1,8 @@
 -- `outcome_at` by cases, the blocks that it names, and the bytes that decide it; main lemmas:
 -- outcome_step, names_from, outcome_at-first.
-use Rattle.std.proofs.Common.{◌≡◌, ◌*◌, ℕ, List, [], ◌∷◌, ◌++◌, length, refl, arith}
-use Rattle.std.proofs.Common.{length-append, take, drop, Option, Some, None, Result}
-use Rattle.std.proofs.Common.{zero, suc, ◌+◌, ◌-◌, ◌<◌, ◌≤◌, inl, inr, length-take}
+use Rattle.std.proofs.Common.{rules, ◌≡◌, ◌*◌, ℕ, List, [], ◌∷◌, ◌++◌, length, refl, arith}
+use Rattle.std.proofs.Common.{length-append, take, drop, Option, Some, None, Result, zero, suc, ◌+◌}
+use Rattle.std.proofs.Common.{◌-◌, ◌<◌, ◌≤◌, inl, inr, length-take}
 use Rattle.std.proofs.lemmas.List.{take_all, take-take, drop-take, take_at, drop_at}
 use Rattle.std.proofs.lemmas.Bool.{cases_lt}
 use Rattle.std.proofs.lemmas.Bool.Decides.{nat_tests}
@@ -10,8 +10,8 @@ use Rattle.stl_file.specs.declared.fault.StlFault.{StlFault}
 use Rattle.stl_file.specs.declared.fault.StlFault.TheVariants as fault
 use Rattle.stl_file.specs.Tti.{most_blocks}
 use Rattle.stl_file.specs.Reader.{NamesFrom}
-use Rattle.stl_file.specs.Reading.{Begun, BlockStep, Outcome, gives, outcome_after}
-use Rattle.stl_file.specs.Reading.{outcome_at, step_at, ends, fails}
+use Rattle.stl_file.specs.Reading.{Begun, BlockStep, Outcome, gives, outcome_after, outcome_at}
+use Rattle.stl_file.specs.Reading.{step_at, ends, fails}
 
 -- ---- the function by cases
 

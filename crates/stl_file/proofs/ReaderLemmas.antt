@@ -1,8 +1,9 @@
 -- What a call of a reader takes and answers; main lemmas: reads_on, leads_given, answers,
 -- takes_subtitle, refuses.
-use Rattle.std.proofs.Common.{◌≡◌, ◌*◌, ℕ, true, List, [], ◌∷◌, ◌++◌, length, refl, sym, ap, ◌∙◌}
-use Rattle.std.proofs.Common.{append_assoc, arith, length-append, take, drop, Option, Some, None}
-use Rattle.std.proofs.Common.{Result, Ok, Err, suc, ◌+◌, ◌-◌, ◌<◌, ◌≤◌, ◌/◌, length-take}
+use Rattle.std.proofs.Common.{rules, ◌≡◌, ◌*◌, ℕ, true, List, [], ◌∷◌, ◌++◌, length, refl, sym, ap}
+use Rattle.std.proofs.Common.{◌∙◌, append_assoc, arith, length-append, take, drop, Option, Some}
+use Rattle.std.proofs.Common.{None, Result, Ok, Err, suc, ◌+◌, ◌-◌, ◌<◌, ◌≤◌, ◌/◌, length-take}
+use Rattle.std.proofs.lemmas.Bool.Decides.{nat_tests}
 use Rattle.std.specs.Prelude.{filter}
 use Rattle.std.specs.List.{AllByRecursion}
 use Rattle.std.specs.Io.KnownBytes.{Consumes}
@@ -35,8 +36,7 @@ pub record HasRead (from : ℕ) (old now : Option (List ℕ)) (block : ℕ) (beg
   pub bytes : List ℕ
   pub consumed : Consumes old now bytes
   pub size : 128 * from + length bytes ≡ 128 * block
-  pub goes :
-      (more : List ℕ)
+  pub goes : (more : List ℕ)
       → outcome_from from (bytes ++ more) ≡ outcome_at (most_blocks - block) begun more
 
 -- Fewer than 128 bytes were taken after them, and the source failed.
@@ -63,7 +63,7 @@ module _ {from : ℕ} {old mid new : Option (List ℕ)} {n block : ℕ} {begun :
     (size : length buffer ≡ 128) where
   -- The bytes that came.
   length_front : length (take n buffer) ≡ n
-  length_front = let le = f.bound in omega (arith, length-take n buffer)
+  length_front = omega (arith, length-take n buffer)
 
   -- The answer, by what the bytes of this turn give with those that are left.
   leads : (to : ℕ) (r : Result (Option SubtitleValue) StlFault)
@@ -75,18 +75,14 @@ module _ {from : ℕ} {old mid new : Option (List ℕ)} {n block : ℕ} {begun :
       → ((s : SubtitleValue) → r ≡ Ok (Some s) → LastIsKept (h.bytes ++ take n buffer))
       → Leads from to old new r
   leads to r at cut gives kept =
-      let l = length_front in
-      let s = h.size in
-      record {
-        bytes = h.bytes ++ take n buffer;
-        consumed = Consumes-trans old mid new h.bytes (take n buffer) h.consumed f.bytes;
-        block = omega (arith, length-append h.bytes (take n buffer));
-        outcome = λ more none.
-            rw (append_assoc h.bytes (take n buffer) more, h.goes (take n buffer ++ more))
-            (gives more none);
-        ended = λ e. let lt = cut e in f.end (omega arith);
-        kept = kept;
-      }
+      grind (
+        arith,
+        nat_tests,
+        length_front,
+        Consumes-trans old mid new h.bytes (take n buffer) h.consumed f.bytes,
+        length-append h.bytes (take n buffer),
+        append_assoc,
+      )
 
   -- Nothing came: the end of the file, or its end within a subtitle.
   pub leads_end : (r : Result (Option SubtitleValue) StlFault)
@@ -96,21 +92,13 @@ module _ {from : ℕ} {old mid new : Option (List ℕ)} {n block : ℕ} {begun :
       → ((s : SubtitleValue) → r ≡ Ok (Some s) → ⊥)
       → outcome_at (most_blocks - block) begun [] ≡ outcome_by block [] r
       → Leads from block old new r
-  leads_end r z le cut never gives =
-      let empty = nil_from_length (take n buffer) (length_front ∙ z) in
-      leads block r (omega arith) (λ _. omega arith) (λ more none. rw (empty, none cut) gives)
-      (λ s e. absurd (never s e))
+  leads_end r z le cut never gives = grind (arith, nat_tests, nil_from_length, length_front, leads)
 
   -- A byte came, and no block may follow.
   pub leads_too_many : (n ≡ 0 → ⊥)
       → block ≡ most_blocks
       → Leads from (block + 1) old new (Err fault.TooManyBlocks)
-  leads_too_many some full =
-      let l = length_front in
-      let le = f.bound in
-      leads (block + 1) (Err fault.TooManyBlocks) (omega arith) (λ e. absurd cc)
-      (λ more _. rw full (outcome_full begun (take n buffer ++ more)
-      (omega (arith, length-append (take n buffer) more)))) (λ s e. absurd cc)
+  leads_too_many some full = search (rules, length_front, leads, outcome_full, length-append)
 
   -- A block that is cut.
   pub leads_truncated : (n ≡ 0 → ⊥)
@@ -121,16 +109,7 @@ module _ {from : ℕ} {old mid new : Option (List ℕ)} {n block : ℕ} {begun :
       let l = length_front in
       let room : most_blocks - block ≡ suc (most_blocks - (block + 1)) = omega arith in
       let at : most_blocks - (most_blocks - (block + 1)) ≡ block + 1 = omega arith in
-      leads (block + 1) (Err fault.Truncated) (omega arith) (λ _. lt)
-      (λ more none.
-      rw (
-        none refl,
-        append-nil,
-        room,
-        outcome_short (most_blocks - (block + 1)) begun (take n buffer) (omega arith) (omega arith),
-        at,
-      ) refl)
-      (λ s e. absurd cc)
+      grind (arith, nat_tests, leads, append-nil, outcome_short)
 
   module _ (few : block < most_blocks) (long : 128 ≤ n) where
     -- What a whole block gives.
@@ -152,7 +131,6 @@ module _ {from : ℕ} {old mid new : Option (List ℕ)} {n block : ℕ} {begun :
         → step_at begun buffer ≡ Err x
         → Leads from (block_after (block + 1) x) old new (Err x)
     leads_refused x own step =
-        let le = f.bound in
         let same : block_after (block + 1) x ≡ block + 1 = grind arith in
         let whole : is_cut x ≡ true → n < 128 = grind arith in
         rw same (leads (block + 1) (Err x) (omega arith) whole
@@ -163,7 +141,6 @@ module _ {from : ℕ} {old mid new : Option (List ℕ)} {n block : ℕ} {begun :
         → step_at begun buffer ≡ Ok (Give s)
         → Leads from (block + 1) old new (Ok (Some s))
     leads_given s step =
-        let le = f.bound in
         leads (block + 1) (Ok (Some s)) (omega arith) (λ e. absurd cc)
         (λ more _. one_block more ∙ rw (step, number) refl)
         (λ t _ front last e is.
@@ -180,21 +157,15 @@ module _ {from : ℕ} {old mid new : Option (List ℕ)} {n block : ℕ} {begun :
         → step_at begun buffer ≡ Ok (More next)
         → HasRead from old new (block + 1) next
     reads_on next step =
-        let le = f.bound in
-        let l = length_front in
-        let s = h.size in
-        record {
-          bytes = h.bytes ++ take n buffer;
-          consumed = Consumes-trans old mid new h.bytes (take n buffer) h.consumed f.bytes;
-          size = omega (arith, length-append h.bytes (take n buffer));
-          goes = λ more.
-              rw (
-                append_assoc h.bytes (take n buffer) more,
-                h.goes (take n buffer ++ more),
-                one_block more,
-                step,
-              ) refl;
-        }
+        grind (
+          arith,
+          nat_tests,
+          length_front,
+          Consumes-trans old mid new h.bytes (take n buffer) h.consumed f.bytes,
+          length-append h.bytes (take n buffer),
+          append_assoc,
+          one_block,
+        )
 
 -- ---- what an answer says
 
@@ -205,10 +176,7 @@ pub answers : (old new : ReaderValue) (bytes : List ℕ) (now : Option (List ℕ
     → new.progress ≡ progress_after Reading r
     → Leads old.block new.block (Some bytes) now r
     → Answers old bytes new now r
-answers old new bytes None r is goes l = absurd l.consumed
-answers old new bytes (Some rest) r is goes l =
-    let gives = l.outcome rest l.ended in
-    record { rest = rest; rest_is = refl; outcome = grind arith }
+answers old new bytes now r is goes l = grind (arith, nat_tests)
 
 -- No file goes on with a first fault.
 pub refuses : (from to : ℕ) (old new : Option (List ℕ)) (x : StlFault)
@@ -228,14 +196,11 @@ refuses from to old new x l = record {
 one_group : (s : SubtitleValue) (gs : List (List (List ℕ)))
     → AreBlocksOfEach (s ∷ []) gs
     → AreBlocksOf s (groups_of gs)
-one_group s [] h = absurd h
-one_group s (g ∷ []) h = rw append-nil h.0
-one_group s (g ∷ x ∷ gs) h = absurd h.1
+one_group s gs h = grind (arith, nat_tests, append-nil)
 
 -- And none has none.
 no_group : (gs : List (List (List ℕ))) → AreBlocksOfEach [] gs → groups_of gs ≡ []
-no_group [] h = refl
-no_group (g ∷ gs) h = absurd h
+no_group gs h = grind (arith, nat_tests)
 
 -- Blocks whose last one is kept.
 ends_kept : (front b : List ℕ) (bs : List (List ℕ))
@@ -252,7 +217,7 @@ ends_group : (s : SubtitleValue) (bs : List (List ℕ))
     → AllByRecursion IsBlock bs
     → LastIsKept (joined bs)
     → EndsKept bs
-ends_group s [] a h k = let no = a.blocks in absurd cc
+ends_group s [] a h k = absurd cc
 ends_group s (b ∷ bs) a h k = ends_kept [] b bs h k
 
 -- A subtitle is that of the blocks that were taken.
@@ -264,7 +229,6 @@ takes_subtitle from to old new s l =
     (let o = l.outcome [] (λ _. refl) in grind (arith, append-nil, outcome_end)) in
     let are_of : AreBlocksOf s (filter is_kept r.blocks) =
     rw r.kept (one_group s r.groups r.are_groups) in
-    let b = l.block in
     record {
       blocks = r.blocks;
       counted = omega (arith, length-joined r.blocks r.each, ap length r.bytes);
@@ -282,14 +246,7 @@ takes_passed from to old new l =
     let r = outcome_sound (most_blocks - from) None [] l.bytes [] refl
     (let o = l.outcome [] (λ _. refl) in grind (arith, append-nil)) in
     let b = l.block in
-    record {
-      blocks = r.blocks;
-      counted = omega (arith, length-joined r.blocks r.each, ap length r.bytes);
-      each = r.each;
-      passed = r.kept ∙ no_group r.groups r.are_groups;
-      consumed = rw r.bytes at l.consumed;
-      ended = l.ended refl;
-    }
+    grind (arith, nat_tests, length-joined, no_group)
 
 -- What bytes that lead to an answer say of it. For `next_into`.
 pub ruleset led = (answers, takes_subtitle, takes_passed, refuses)

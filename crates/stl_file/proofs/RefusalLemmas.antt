@@ -1,8 +1,8 @@
 -- The first question that the bytes of a file fail decides the refusal; main lemmas: refused_gsi,
 -- refused_block.
-use Rattle.std.proofs.Common.{◌≡◌, ℕ, zero, suc, ◌-◌, ◌≤◌, ◌⊎◌, Bool, true, false, List, [], ◌∷◌}
-use Rattle.std.proofs.Common.{length, take, Option, Some, None, Result, Ok, Err, refl, sym, ◌∙◌}
-use Rattle.std.proofs.Common.{inl, inr, arith}
+use Rattle.std.proofs.Common.{rules, ◌≡◌, ℕ, zero, suc, ◌-◌, ◌≤◌, ◌⊎◌, Bool, true, false, List, []}
+use Rattle.std.proofs.Common.{◌∷◌, length, take, Option, Some, None, Result, Ok, Err, refl, sym}
+use Rattle.std.proofs.Common.{◌∙◌, inl, inr, arith}
 use Rattle.std.proofs.lemmas.Bool.Decides.{nat_tests}
 use Rattle.std.proofs.lemmas.Slice.Eq.{bytes_eq-Decides}
 use Rattle.std.specs.Prelude.{◌&&◌, ◌==◌, not, nat_le, nat_lt, bytes_eq, IsOk, if◌then◌else◌}
@@ -45,17 +45,14 @@ ask : {X : Type 0} (P : StlFault → Type 0) (q : StlFault) (qs : List StlFault)
     → Tells bad (P q)
     → (P q → Asks P qs next)
     → Asks P (q ∷ qs) (if bad then Err (q) else next)
-ask P q qs true next test others = let wrong = test.0 refl in grind arith
-ask P q qs false next test others =
-    let right = test.1 refl in let rest = others right in grind arith
+ask P q qs bad next test others = grind (arith, nat_tests)
 
 -- Nothing is asked of what is passed over.
 skip : {X : Type 0} (P : StlFault → Type 0) (qs : List StlFault) (pass : Bool) (step : X)
     (next : Result X StlFault)
     → (pass ≡ false → Asks P qs next)
     → Asks P (if pass then [] else qs) (if pass then Ok step else next)
-skip P qs true step next others = none_asked P step
-skip P qs false step next others = others refl
+skip P qs pass step next others = grind (arith, nat_tests, none_asked)
 
 -- A value goes on to another, and a fault stays.
 given : {X Y : Type 0} (P : StlFault → Type 0) (qs : List StlFault) (r : Result X StlFault)
@@ -64,8 +61,7 @@ given : {X Y : Type 0} (P : StlFault → Type 0) (qs : List StlFault) (r : Resul
     → ((x : X) → IsOk (next (Ok x)))
     → Asks P qs r
     → Asks P qs (next r)
-given P qs (Ok x) next keeps goes h = let value = goes x in grind arith
-given P qs (Err e) next keeps goes h = let fault = keeps e in grind arith
+given P qs r next keeps goes h = grind (arith, nat_tests)
 
 -- ---- the GSI block
 
@@ -112,15 +108,13 @@ no_time : (b : List ℕ) (place : ℕ) (e : StlFault)
     → time_at b place ≡ Err e
     → (e ≡ fault.Time) × ((t : ℕ) → IsTimeAt b place t → ⊥)
 unfolding time_at
-no_time b place e h =
-    (grind (arith, nat_tests), λ t at. let read = time_complete b place t at in absurd cc)
+no_time b place e h = grind (arith, nat_tests, time_complete)
 
 -- That the time codes are in order.
 order_asked : {X : Type 0} (P : StlFault → Type 0) (x : X) (before : Bool)
     → Tells (not before) (P fault.EmptyTime)
     → Asks P (fault.EmptyTime ∷ []) (if before then Ok x else Err fault.EmptyTime)
-order_asked P x true test = ask P fault.EmptyTime [] false (Ok x) test (λ _. none_asked P x)
-order_asked P x false test = ask P fault.EmptyTime [] true (Ok x) test (λ _. none_asked P x)
+order_asked P x before test = grind (arith, nat_tests, ask, none_asked)
 
 -- The time codes, and then that they are in order.
 times_asked : (room : ℕ) (bytes : List ℕ) (in_at out_at : Result ℕ StlFault)
@@ -136,14 +130,12 @@ times_asked room bytes (Err e) out_at make r5 r9 =
     let none = no_time (take block_size bytes) 5 e r5 in
     let P : StlFault → Type 0 = IsRight room None bytes in
     let never : P fault.Time → ⊥ = λ at. none.1 at.0 at.2.tci_is in
-    rw none.0 (ask P fault.Time (fault.EmptyTime ∷ []) true (Err e) (λ _. never, λ no. absurd cc)
-    (λ at. absurd (never at)))
+    grind (arith, nat_tests)
 times_asked room bytes (Ok n) (Err e) make r5 r9 =
     let none = no_time (take block_size bytes) 9 e r9 in
     let P : StlFault → Type 0 = IsRight room None bytes in
     let never : P fault.Time → ⊥ = λ at. none.1 at.1 at.2.tco_is in
-    rw none.0 (ask P fault.Time (fault.EmptyTime ∷ []) true (Err e) (λ _. never, λ no. absurd cc)
-    (λ at. absurd (never at)))
+    grind (arith, nat_tests)
 times_asked room bytes (Ok n) (Ok m) make r5 r9 =
     let b : List ℕ = take block_size bytes in
     let P : StlFault → Type 0 = IsRight room None bytes in
@@ -190,12 +182,7 @@ step_asked : (room : ℕ) (begun : Option Begun) (bytes : List ℕ)
     (step_at begun (take block_size bytes))
 unfolding step_at
 step_asked room begun bytes few =
-    let b : List ℕ = take block_size bytes in
-    let P : StlFault → Type 0 = IsRight room begun bytes in
-    skip P _ (ebn b == 254) (More begun) _ (λ _.
-    ask P fault.Extension _ (nat_le 240 (ebn b) && not (ebn b == 255)) _ (grind (arith, nat_tests))
-    (λ _. ask P fault.CommentFlag _ (nat_lt 1 (cf b)) _ (grind (arith, nat_tests)) (λ _.
-    skip P _ (cf b == 1) (More begun) _ (λ _. kept_asked room begun bytes few))))
+    grind (arith, nat_tests, skip, ask, kept_asked room begun bytes few)
 
 -- A block and its place, where there may be one more.
 told_rest : (n : ℕ) (begun : Option Begun) (x : ℕ) (b : List ℕ) (f : StlFault)
@@ -231,5 +218,4 @@ taken_block room begun (x ∷ b) few all = inr ((step_asked room begun (x ∷ b)
 
 -- The law: for `law_of_refused_block`.
 pub refused_block : LawOfRefusedBlock
-refused_block room begun bytes le few =
-    ((λ f. told_block room begun bytes f le few), taken_block room begun bytes few)
+refused_block room begun bytes le few = search (rules, told_block, taken_block)

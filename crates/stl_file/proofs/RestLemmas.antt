@@ -1,6 +1,6 @@
 -- `IsRest`: bytes are read without a fault exactly when they are blocks of subtitles; main lemmas:
 -- outcome_complete, outcome_sound.
-use Rattle.std.proofs.Common.{◌≡◌, ℕ, cond, List, [], ◌∷◌, ◌++◌, length, refl, sym, ap, ◌∙◌}
+use Rattle.std.proofs.Common.{rules, ◌≡◌, ℕ, cond, List, [], ◌∷◌, ◌++◌, length, refl, sym, ap, ◌∙◌}
 use Rattle.std.proofs.Common.{append_assoc, arith, take, drop, Option, Some, None, Result, Ok, Err}
 use Rattle.std.proofs.Common.{subst, zero, suc, ◌+◌, ◌-◌, ◌<◌, ◌≤◌, length-append, inl, inr}
 use Rattle.std.specs.Prelude.{filter}
@@ -97,7 +97,6 @@ groups_give (s ∷ ss) [] room h le = absurd h
 groups_give (s ∷ ss) (g ∷ gs) room h le =
     let i = h.0 in
     let l = length-append g (groups_of gs) in
-    let few : length (i.first ∷ i.others) ≤ 9 = rw i.blocks at i.few in
     let size = ap length i.blocks in
     let on = groups_give ss gs (room - length g) h.1 (omega arith) in
     let one = blocks_give i.others room None i.first (joined (groups_of gs))
@@ -151,8 +150,7 @@ in_front room before k b ss ts groups le r kept are = record {
 cons_ok : (s : SubtitleValue) (j : Judged) (ss : List SubtitleValue)
     → cons_all s j ≡ Ok ss
     → (rest : List SubtitleValue) × (j ≡ Ok rest) × (ss ≡ s ∷ rest)
-cons_ok s (Ok rest) ss e = (rest, refl, cc)
-cons_ok s (Err f) ss e = absurd cc
+cons_ok s j ss e = grind (arith, nat_tests)
 
 -- One block that was read, and what follows.
 step_reads : (room : ℕ) (begun : Option Begun) (before : List (List ℕ)) (b : List ℕ)
@@ -185,16 +183,15 @@ pub outcome_sound : (room : ℕ) (begun : Option Begun) (before : List (List ℕ
     → Represents begun before
     → subtitles_of (outcome_at room begun b) ≡ Ok ss
     → Reads room before b ss
-outcome_sound room None before [] ss rep e =
-    record {
-      blocks = [];
-      each = tt;
-      few = omega arith;
-      bytes = refl;
-      groups = [];
-      kept = append-nil before ∙ rep;
-      are_groups = grind (arith, outcome_end);
-    }
+outcome_sound room None before [] ss rep e = record {
+  blocks = [];
+  each = tt;
+  few = omega arith;
+  bytes = refl;
+  groups = [];
+  kept = append-nil before ∙ rep;
+  are_groups = grind (arith, outcome_end);
+}
 outcome_sound room (Some o) before [] ss rep e = absurd (grind (arith, outcome_end))
 outcome_sound zero begun before (x ∷ b) ss rep e = absurd (grind (arith, outcome_full))
 outcome_sound (suc room) begun before (x ∷ b) ss rep e =

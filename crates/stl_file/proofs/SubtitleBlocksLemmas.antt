@@ -1,7 +1,8 @@
 -- The blocks of a subtitle, and lists of blocks; main lemmas: length-joined, linked_text,
 -- blocks_subtitle.
-use Rattle.std.proofs.Common.{◌≡◌, ◌*◌, ℕ, true, List, [], ◌∷◌, length, refl}
-use Rattle.std.proofs.Common.{sym, ap, arith, length-append, subst, ◌<◌, ◌≤◌}
+use Rattle.std.proofs.Common.{rules, ◌≡◌, ◌*◌, ℕ, true, List, [], ◌∷◌, length, refl, sym, ap, arith}
+use Rattle.std.proofs.Common.{length-append, subst, ◌<◌, ◌≤◌}
+use Rattle.std.proofs.lemmas.Bool.Decides.{nat_tests}
 use Rattle.std.proofs.lemmas.List.Sums.{count_by-le-length, length-filter}
 use Rattle.std.specs.Prelude.{filter}
 use Rattle.std.specs.List.{AllByRecursion, flat_map}
@@ -19,8 +20,7 @@ pub length-joined : (bs : List (List ℕ))
     → AllByRecursion IsBlock bs
     → length (joined bs) ≡ 128 * length bs
 length-joined [] h = refl
-length-joined (x ∷ bs) h =
-    omega (arith, h.0, length-append x (joined bs), length-joined bs h.1)
+length-joined (x ∷ bs) h = grind (arith, nat_tests, length-append, length-joined bs h.1)
 
 -- No more blocks are kept than there are.
 pub kept_few : (bs : List (List ℕ)) → length (filter is_kept bs) ≤ length bs
@@ -32,8 +32,7 @@ kept_few bs = omega (arith, length-filter is_kept bs, count_by-le-length is_kept
 pub first_linked : (sgn_is sn_is : ℕ) (b : List ℕ) (bs : List (List ℕ))
     → AreLinked sgn_is sn_is (b ∷ bs)
     → BelongsTo sgn_is sn_is b
-first_linked sgn_is sn_is b [] h = h.0
-first_linked sgn_is sn_is b (c ∷ bs) h = h.0
+first_linked sgn_is sn_is b bs h = grind (arith, nat_tests)
 
 -- One block in front of linked ones.
 pub linked_cons : (sgn_is sn_is : ℕ) (b : List ℕ) (bs : List (List ℕ))
@@ -41,33 +40,17 @@ pub linked_cons : (sgn_is sn_is : ℕ) (b : List ℕ) (bs : List (List ℕ))
     → ebn b < 240
     → AreLinked sgn_is sn_is bs
     → AreLinked sgn_is sn_is (b ∷ bs)
-linked_cons sgn_is sn_is b [] h lt c = absurd c
-linked_cons sgn_is sn_is b (x ∷ bs) h lt c = (h, lt, c)
+linked_cons sgn_is sn_is b bs h lt c = grind (arith, nat_tests)
 
 -- Linked blocks have at most 112 bytes of text each.
 pub linked_text : (sgn_is sn_is : ℕ) (g : List (List ℕ))
     → AreLinked sgn_is sn_is g
     → length (flat_map text_of g) ≤ 112 * length g
 linked_text sgn_is sn_is [] c = absurd c
-linked_text sgn_is sn_is (b ∷ []) c =
-    let t = text_short b c.0.size in simp append-nil (omega arith)
+linked_text sgn_is sn_is (b ∷ []) c = grind (arith, nat_tests, text_short, append-nil)
 linked_text sgn_is sn_is (b ∷ x ∷ g) c =
-    let t = text_short b c.0.size in
-    let l = length-append (text_of b) (flat_map text_of (x ∷ g)) in
-    let r = linked_text sgn_is sn_is (x ∷ g) c.2 in
-    omega arith
+    grind (arith, nat_tests, text_short, length-append, linked_text sgn_is sn_is (x ∷ g) c.2)
 
 -- The subtitle of a file's blocks is one.
 pub blocks_subtitle : (s : SubtitleValue) (g : List (List ℕ)) → AreBlocksOf s g → IsSubtitle s
-blocks_subtitle s g h =
-    let size = linked_text s.sgn s.sn g h.linked in
-    let same = ap length h.text_is in
-    let few = h.few in
-    record {
-      times = h.begins.times;
-      in_day = grind (arith, in_day);
-      vp = h.begins.vp_range;
-      jc = h.begins.jc_range;
-      text = subst (λ (x : List ℕ). has_no_unused x ≡ true) (sym h.text_is) (has_no_unused-texts g);
-      few = omega arith;
-    }
+blocks_subtitle s g h = grind (arith, nat_tests, linked_text, in_day, has_no_unused-texts)

@@ -1,6 +1,6 @@
 -- Texts without unused space; main lemmas: used, before_clean, text_short.
-use Rattle.std.proofs.Common.{◌≡◌, ℕ, true, List, [], ◌∷◌, ◌++◌, length, refl, append_assoc, arith}
-use Rattle.std.proofs.Common.{take, drop, zero, suc, ◌+◌, ◌<◌, ◌≤◌, get_or, replicate}
+use Rattle.std.proofs.Common.{rules, ◌≡◌, ℕ, true, List, [], ◌∷◌, ◌++◌, length, refl, append_assoc}
+use Rattle.std.proofs.Common.{arith, take, drop, zero, suc, ◌+◌, ◌<◌, ◌≤◌, get_or, replicate}
 use Rattle.std.specs.List.{flat_map}
 use Rattle.std.proofs.lemmas.List.{append-nil, length-drop, drop_all, drop_more, take_all}
 use Rattle.std.proofs.lemmas.List.{take_more}
@@ -28,8 +28,7 @@ used_up xs i lt e = rw (drop_more xs i 0 lt, e) (append-nil (take i xs))
 pub used_all : (xs : List ℕ) (i : ℕ)
     → length xs ≤ i
     → take i xs ++ before_unused (drop i xs) ≡ take (length xs) xs
-used_all xs i le =
-    rw (drop_all i xs le, take_all i xs le, take_all (length xs) xs (omega arith)) (append-nil xs)
+used_all xs i le = grind (arith, nat_tests, drop_all, take_all, append-nil)
 
 -- What `used_of` needs.
 pub ruleset used = (used_more, used_up, used_all)

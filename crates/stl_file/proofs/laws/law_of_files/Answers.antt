@@ -1,4 +1,3 @@
--- A file is what is read.
 use Rattle.stl_file.proofs.FileLemmas.{file_read}
 use Rattle.stl_file.proofs.laws.law_of_files.Goals as goal
 

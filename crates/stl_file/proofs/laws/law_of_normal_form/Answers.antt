@@ -1,4 +1,3 @@
--- The normal form of a file is a file.
 use Rattle.stl_file.proofs.NormalFormLemmas.{normal_is_file}
 use Rattle.stl_file.proofs.laws.law_of_normal_form.Goals as goal
 

@@ -1,4 +1,3 @@
--- The normal form of a normal form is itself.
 use Rattle.stl_file.proofs.NormalFormLemmas.{normal_twice}
 use Rattle.stl_file.proofs.laws.law_of_normal_form_again.Goals as goal
 

@@ -1,4 +1,3 @@
--- A file has one reading.
 use Rattle.stl_file.proofs.FileLemmas.{one_file}
 use Rattle.stl_file.proofs.laws.law_of_one_reading.Goals as goal
 

@@ -1,4 +1,3 @@
--- The law is refused_block.
 use Rattle.stl_file.proofs.RefusalLemmas.{refused_block}
 use Rattle.stl_file.proofs.laws.law_of_refused_block.Goals as goal
 

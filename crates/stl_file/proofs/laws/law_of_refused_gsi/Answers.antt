@@ -1,4 +1,3 @@
--- The law is refused_gsi.
 use Rattle.stl_file.proofs.RefusalLemmas.{refused_gsi}
 use Rattle.stl_file.proofs.laws.law_of_refused_gsi.Goals as goal
 

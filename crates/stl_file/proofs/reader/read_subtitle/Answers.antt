@@ -5,8 +5,8 @@ use Rattle.std.proofs.lemmas.Bool.{ne_eqb}
 use Rattle.stl_file.specs.declared.fault.StlFault.TheVariants as fault
 use Rattle.stl_file.specs.Reading.{fails}
 use Rattle.stl_file.proofs.OutcomeLemmas.{outcome_end}
-use Rattle.stl_file.proofs.ReaderLemmas.{leads_end, leads_too_many, leads_truncated}
-use Rattle.stl_file.proofs.ReaderLemmas.{leads_refused, leads_given, reads_on, fails_reading}
+use Rattle.stl_file.proofs.ReaderLemmas.{leads_end, leads_too_many, leads_truncated, leads_refused}
+use Rattle.stl_file.proofs.ReaderLemmas.{leads_given, reads_on, fails_reading}
 use Rattle.stl_file.proofs.reader.read_subtitle.Goals as goal
 
 pub returns-in_err-got-clause-failed : goal.returns-in_err-got-clause-failed

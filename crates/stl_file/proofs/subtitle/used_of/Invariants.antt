@@ -4,5 +4,4 @@ use Rattle.stl_file.specs.Tti.{before_unused}
 use Rattle.stl_file.proofs.subtitle.used_of.Given as goal
 
 abbrev pub invariant-loop-at : goal.invariant-loop-at
-invariant-loop-at l =
-    take l.at l.field ++ before_unused (drop l.at l.field) ≡ before_unused l.field
+invariant-loop-at l = take l.at l.field ++ before_unused (drop l.at l.field) ≡ before_unused l.field
