@@ -1,7 +1,8 @@
 -- The tables of bytes against the definitions, computed over all bytes: english_entry,
 -- german_entry.
-use Rattle.std.proofs.Common.{◌≡◌, ℕ, ◌<◌, Bool, true, false, ◌&&◌, nat_eq, nat_lt, get_or, refl}
-use Rattle.std.proofs.Common.{sym, inl, inr, eqb-true, ltb-true, true≢false}
+use Rattle.std.proofs.Common.{arith, rules, ◌≡◌, ℕ, ◌<◌, Bool, true, false, ◌&&◌, nat_eq, nat_lt}
+use Rattle.std.proofs.Common.{get_or, refl, sym, inl, inr, eqb-true, ltb-true, true≢false}
+use Rattle.std.proofs.lemmas.Bool.Decides.{nat_tests}
 use Rattle.std.proofs.lemmas.Bool.{agree_below_at, and_parts}
 use Rattle.stl_rows.specs.declared.text_code.TextCode.{TextCode}
 use Rattle.stl_rows.specs.declared.text_code.TextCode.TheVariants.{Cell, NoCell, NewLine, Refused}
@@ -27,14 +28,7 @@ is_entry (Refused kind) entry = is_refusal kind entry
 
 -- It tells an entry.
 of_test : (s : TextCode) (entry : ℕ) → is_entry s entry ≡ true → IsEntry s entry
-of_test (Cell code) entry h =
-    let parts = and_parts (nat_eq entry code) (nat_lt code 128) h in
-    (eqb-true entry code parts.0, ltb-true code 128 parts.1)
-of_test NoCell entry h = eqb-true entry 0x80 h
-of_test NewLine entry h = eqb-true entry 0x81 h
-of_test (Refused Character) entry h = inr (eqb-true entry 0x83 h, refl)
-of_test (Refused Control) entry h = inl (eqb-true entry 0x82 h, refl)
-of_test (Refused kind) entry h = absurd (true≢false (sym h))
+of_test s entry h = grind (arith, nat_tests, and_parts, eqb-true, ltb-true)
 
 -- The entries of the English table: 256 cases, computed. For `entry_of`.
 pub english_entry :

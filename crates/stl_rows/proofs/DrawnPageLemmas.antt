@@ -38,9 +38,7 @@ row_of-none jc = λ i. map (λ k. code_in_column-none (start_column jc 0) k i) (
 -- The page of no lines is blank.
 page_of_none : (jc vp : ℕ) → blank ≡ page_of_lines jc vp []
 unfolding blank page_of_lines
-page_of_none jc vp =
-    λ i. map (λ row. cond_both (nat_lt row vp) [] [] (λ line. blank_row ≡ row_of jc line)
-    (λ _. row_of-none jc) (λ _. row_of-none jc) i) (range_with_len 1 24)
+page_of_none jc vp = search (rules, cond_both, row_of-none)
 
 -- An empty line after others changes no line.
 get_or_push-none : (ls : List (List ℕ)) (k : ℕ) → get_or ls k [] ≡ get_or (ls ++ [] ∷ []) k []
@@ -59,15 +57,7 @@ line_on-last vp row done line e = grind (arith, nat_tests, get_or_push done line
 line_on-other : (vp row : ℕ) (done : List (List ℕ)) (line : List ℕ)
     → row ≢ vp + length done
     → line_on vp (done ++ line ∷ []) row ≡ line_on vp done row
-line_on-other vp row done line e =
-    grind (
-      arith,
-      nat_tests,
-      length-append done (line ∷ []),
-      get_or_append_left done (line ∷ []) [] (row - vp),
-      get_or_past (done ++ line ∷ []) (row - vp) [],
-      get_or_past done (row - vp) [],
-    )
+line_on-other vp row done line e = search (rules, length-append, get_or_append_left, get_or_past)
 
 -- No cells are no line.
 prepared_none : prepared [] ≡ []
@@ -80,10 +70,7 @@ put_line-page : (jc vp : ℕ) (done : List (List ℕ)) (cells : List ℕ)
     → put_line jc (vp + length done) cells (page_of_lines jc vp done)
     ≡ page_of_lines jc vp (done ++ prepared cells ∷ [])
 unfolding page_of_lines
-put_line-page jc vp done [] fits =
-    rw prepared_none
-    (λ i. map (λ row. row_of jc (cond (nat_lt row vp) [] (get_or_push-none done (row - vp) i)))
-    (range_with_len 1 24))
+put_line-page jc vp done [] fits = grind (arith, nat_tests, prepared_none, get_or_push-none)
 put_line-page jc vp done (c ∷ cs) fits =
     let line : List ℕ = prepared (c ∷ cs) in
     let at : ℕ = vp + length done - 1 in
@@ -122,12 +109,7 @@ pub record IsDrawn (jc vp row : ℕ) (page : Rows) (all left : List (List ℕ)) 
 
 -- The blank page has none of them.
 pub is_drawn-start : {jc vp : ℕ} {all : List (List ℕ)} → IsDrawn jc vp vp blank all all
-is_drawn-start {jc} {vp} = record {
-  done = [];
-  shown = page_of_none jc vp;
-  next = omega arith;
-  all_are = refl;
-}
+is_drawn-start {jc} {vp} = grind (arith, nat_tests, page_of_none)
 
 -- Where no line has a fault the next is on the page.
 pub is_drawn-on_page : {jc vp row : ℕ} {page : Rows} {all left : List (List ℕ)}
@@ -135,30 +117,18 @@ pub is_drawn-on_page : {jc vp row : ℕ} {page : Rows} {all left : List (List �
     → line_faults 0 vp false all ≡ []
     → IsOnPage row (get_or left 0 [])
 is_drawn-on_page {vp = vp} {row} {all = all} {left} h none =
-    rw (h.all_are, get_or-append-add h.done left 0 [])
-    at (on_page 0 vp row false all (length h.done + 0) (omega (arith, h.next)) none)
+    grind (arith, nat_tests, get_or-append-add, on_page)
 
 module _ {jc vp row : ℕ} {page : Rows} {all left : List (List ℕ)} (cells : List ℕ) (first : 1 ≤ vp)
     (h : IsDrawn jc vp row page all (prepared cells ∷ left))
     (none : line_faults 0 vp false all ≡ []) where
   -- So it fits its row.
   pub is_drawn-fits : FitsRow row cells
-  is_drawn-fits =
-      let on = is_drawn-on_page h none in
-      record {
-        first = omega (arith, first, h.next);
-        last = λ some. on.last (omega (arith, some, prepared_longer cells));
-        few = on.few;
-      }
+  is_drawn-fits = grind (arith, nat_tests, is_drawn-on_page h none, prepared_longer cells)
 
   -- It is put.
   pub is_drawn-next : IsDrawn jc vp (row + 1) (put_line jc row cells page) all left
-  is_drawn-next = record {
-    done = h.done ++ prepared cells ∷ [];
-    shown = rw (h.next, h.shown) (put_line-page jc vp h.done cells (rw h.next at is_drawn-fits));
-    next = omega (arith, h.next, length-append h.done (prepared cells ∷ []));
-    all_are = h.all_are ∙ sym (append_assoc h.done (prepared cells ∷ []) left);
-  }
+  is_drawn-next = search (rules, put_line-page, is_drawn-fits, length-append, append_assoc)
 
 -- Where none is left the page shows all.
 pub is_drawn-end : {jc vp row : ℕ} {page : Rows} {all : List (List ℕ)}
@@ -171,11 +141,7 @@ is_drawn-end h = rw (h.all_are, append-nil) (sym h.shown)
 -- A subtitle that draws a page has no fault.
 no_faults : (n : National) (t : SubtitleValue) → IsOk (drawn n t) → faults n t ≡ []
 unfolding drawn
-no_faults n t ok = go (faults n t) ok
-  where
-    go : (fs : List RowFault) → IsOk (unless fs (page_of_lines t.jc t.vp (lines n t))) → fs ≡ []
-    go [] h = refl
-    go (f ∷ fs) h = search rules
+no_faults n t ok = grind (arith, nat_tests)
 
 -- Nor have its lines. For `drawn_page`.
 pub no_line_faults : (n : National) (t : SubtitleValue)
@@ -194,10 +160,4 @@ drawn-page n t ok = rw (no_faults n t ok) refl
 pub drawn-first : (n : National) (t : SubtitleValue)
     → MatchOption (first_of (faults n t)) (IsOk (drawn n t)) (λ f. drawn n t ≡ Err f)
 unfolding drawn
-drawn-first n t = go (faults n t)
-  where
-    go : (fs : List RowFault)
-        → MatchOption (first_of fs) (IsOk (unless fs (page_of_lines t.jc t.vp (lines n t))))
-        (λ f. unless fs (page_of_lines t.jc t.vp (lines n t)) ≡ Err f)
-    go [] = search rules
-    go (f ∷ fs) = refl
+drawn-first n t = grind (arith, nat_tests)

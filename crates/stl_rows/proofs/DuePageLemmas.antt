@@ -1,7 +1,7 @@
 -- What is due, and the next edge, by the first subtitle whose TCO is after a frame: due_is_shown,
 -- none_is_blank and next_edge-tci.
-use Rattle.std.proofs.Common.{◌≡◌, ℕ, suc, ◌-◌, ◌<◌, ◌≤◌, Bool, false, List, [], ◌∷◌, Option, Some}
-use Rattle.std.proofs.Common.{None, length, get_or, refl, sym, ap, ◌∙◌, arith, ◌⊎◌, inl, inr}
+use Rattle.std.proofs.Common.{rules, ◌≡◌, ℕ, suc, ◌-◌, ◌<◌, ◌≤◌, Bool, false, List, [], ◌∷◌, Option}
+use Rattle.std.proofs.Common.{Some, None, length, get_or, refl, sym, ap, ◌∙◌, arith, ◌⊎◌, inl, inr}
 use Rattle.std.proofs.lemmas.Bool.{cases_lt}
 use Rattle.std.proofs.lemmas.Bool.Decides.{nat_tests}
 use Rattle.std.proofs.lemmas.List.{get_or_default, get_or_read}
@@ -58,14 +58,7 @@ find_same p q (x ∷ xs) h =
 -- The due page changes at edges alone: for `law_of_edges`.
 pub edges_alone : LawOfEdges
 unfolding due
-edges_alone n ts f first none =
-    ap (drawn_or_blank n)
-    (find_same (is_due f) (is_due (f - 1)) ts
-    (λ k d b.
-    let x : SubtitleValue = get_or ts k d in
-    let edge : (f ≡ x.tci) ⊎ (f ≡ x.tco) → ⊥ =
-    λ p. none (k, x, b, get_or_default ts k x d b, p) in
-    grind (arith, nat_tests, edge)))
+edges_alone n ts f first none = search (rules, find_same, get_or_default)
 
 -- What holds of the blank page, and of that of each subtitle without a fault, holds of each due
 -- page.
@@ -74,17 +67,7 @@ pub due_has : (P : Rows → Type 0) (n : National) (ts : List SubtitleValue) (f 
     → ((t : SubtitleValue) → faults n t ≡ [] → P (page_of_lines t.jc t.vp (lines n t)))
     → P (due n ts f)
 unfolding due drawn
-due_has P n ts f none some = shown (find (is_due f) ts)
-  where
-    of_faults : (t : SubtitleValue) (fs : List RowFault)
-        → faults n t ≡ fs
-        → P (result_unwrap_or (unless fs (page_of_lines t.jc t.vp (lines n t))) blank)
-    of_faults t [] e = some t e
-    of_faults t (fault ∷ fs) e = none
-
-    shown : (o : Option SubtitleValue) → P (drawn_or_blank n o)
-    shown None = none
-    shown (Some t) = of_faults t (faults n t) refl
+due_has P n ts f none some = grind (arith, nat_tests)
 
 -- ---- the first subtitle after a frame
 
@@ -101,7 +84,6 @@ module _ (n : National) (ts : List SubtitleValue) (f at : ℕ) (t : SubtitleValu
       → (x.tco ≤ f) ⊎ ((x ≡ t) ⊎ (t.tco ≤ x.tci))
   placed x member =
       let own : t ≡ get_or ts at x = get_or_read ts at t inside is x in
-      let there : get_or ts member.0 x ≡ x = member.2 in
       let ended = first.before member.0 x in
       let later = λ (after : at < member.0). ok.in_order at member.0 x after member.1 in
       grind arith
@@ -116,9 +98,7 @@ module _ (n : National) (ts : List SubtitleValue) (f at : ℕ) (t : SubtitleValu
       → k < length ts
       → (f < (get_or ts k d).tci) ⊎ ((get_or ts k d).tco ≤ f)
   none-between gap k d b =
-      let cases = placed (get_or ts k d) (Contains-get_or ts k d b) in
-      let after = ends_after in
-      grind arith
+      let cases = placed (get_or ts k d) (Contains-get_or ts k d b) in grind arith
 
   -- An edge after the frame is its TCI, or not before its TCO.
   later_edge : (x : ℕ) → IsEdge ts x → f < x → (x ≡ t.tci) ⊎ (t.tco ≤ x)
@@ -153,8 +133,4 @@ module _ (n : National) (ts : List SubtitleValue) (f at : ℕ) (t : SubtitleValu
 pub tco_rises : (n : National) (ts : List SubtitleValue)
     → IsProgramme n ts
     → IsNonDecreasingBy (λ (t : SubtitleValue). t.tco) ts
-tco_rises n ts ok i j d le inside =
-    elim (cases_lt i j) [
-      | inl below ↦ omega (arith, ok.in_order i j d below inside, (ok.each j d inside).times)
-      | inr same ↦ let e : i ≡ j = omega arith in rw e (omega arith)
-    ]
+tco_rises n ts ok i j d le inside = grind (arith, nat_tests, cases_lt)

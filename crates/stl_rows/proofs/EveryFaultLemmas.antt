@@ -1,8 +1,8 @@
 -- The first of all faults is the one that `load` tells; main lemmas: every_fault, tells-first,
 -- none-told.
-use Rattle.std.proofs.Common.{◌≡◌, ℕ, List, ◌∷◌, ◌++◌, map, Option, Some, None, []}
-use Rattle.std.proofs.Common.{Result, Ok, Err, refl, ap, sym, zero, suc, ◌<◌, ◌≤◌, ◌⊎◌, Bool, true}
-use Rattle.std.proofs.Common.{false, arith, take}
+use Rattle.std.proofs.Common.{rules, ◌≡◌, ℕ, List, ◌∷◌, ◌++◌, map, Option, Some, None, [], Result}
+use Rattle.std.proofs.Common.{Ok, Err, refl, ap, sym, zero, suc, ◌<◌, ◌≤◌, ◌⊎◌, Bool, true, false}
+use Rattle.std.proofs.Common.{arith, take}
 use Rattle.std.proofs.lemmas.Bool.Decides.{nat_tests}
 use Rattle.std.specs.Prelude.{◌↔◌, ◌≢◌, IsOk, is_some, option_map}
 use Rattle.std.specs.List.{filter, list_all}
@@ -68,11 +68,7 @@ first_fault national outcome = first_behind national [] outcome
 
 -- The law: for `law_of_every_fault`.
 pub every_fault : LawOfEveryFault
-every_fault national s =
-    let first = first_fault national (outcome_of s) in (
-      first,
-      none_is (loaded national (outcome_of s)) (faults national (outcome_of s)) first,
-    )
+every_fault national s = search (rules, first_fault, none_is)
 
 -- ---- `load`, which is told the first
 
@@ -81,41 +77,26 @@ first_taken : (n : ℕ) (all : List LoadFault) (fault : LoadFault)
     → 0 < n
     → fault ∷ [] ≡ take n all
     → first_of all ≡ Some fault
-first_taken zero all fault some h = absurd (omega (arith, some))
-first_taken (suc n) [] fault some h = absurd cc
-first_taken (suc n) (f ∷ fs) fault some h = cc
+first_taken n all fault some h = grind (arith, nat_tests)
 
 -- A fault of the file is told as `load` tells it.
 tells-kind : (national : National) (outcome : Outcome) (block : ℕ) (kind : LoadFaultKind)
     → is_of_file kind ≡ true
     → loaded national outcome ≡ Err (load_fault block kind)
     → TellsFault national outcome block kind
-tells-kind national outcome block (File Read) of_file h = tt
-tells-kind national outcome block Memory of_file h = absurd cc
-tells-kind national outcome block kind of_file h = h
+tells-kind national outcome block kind of_file h = grind (arith, nat_tests)
 
 -- What was told of the file by the first is one of its faults.
 pub first-of_file : (first : Option LoadFault)
     → TellsOfFile KeepsFirst None first
     → (fault : LoadFault) × (first ≡ Some fault) × (is_of_file fault.kind ≡ true)
-first-of_file None of_file =
-    let none = first_is None of_file.faults of_file.told in
-    let some : 0 < 0 = rw (sym none) at of_file.some in
-    absurd (omega (arith, some))
-first-of_file (Some fault) of_file =
-    let own : list_all (λ (f : LoadFault). is_of_file f.kind) (fault ∷ []) ≡ true =
-    rw (sym (first_is (Some fault) of_file.faults of_file.told)) at of_file.of_file in
-    (fault, refl, grind (arith, nat_tests))
+first-of_file first of_file = grind (arith, nat_tests, first_is)
 
 -- Neither the source's failure nor the end of the file.
 not_read : (kind : LoadFaultKind)
     → is_of_file kind ≡ true
     → (kind ≢ File Ended) × (is_read_kind kind ≡ false)
-not_read (File Read) of_file = cc
-not_read (File Ended) of_file = cc
-not_read Memory of_file = cc
-not_read (File f) of_file = ((λ e. cc), refl)
-not_read kind of_file = ((λ e. cc), refl)
+not_read kind of_file = grind (arith, nat_tests)
 
 -- What `load` was told first is no failure of the source.
 pub first-not_read : (new first : Option LoadFault) (fault : LoadFault)
@@ -124,10 +105,7 @@ pub first-not_read : (new first : Option LoadFault) (fault : LoadFault)
     → TellsOfFile KeepsFirst new first
     → (fault.kind ≢ File Ended) × (is_read fault ≡ false)
 first-not_read new first fault is_new is_first of_file =
-    let own = first-of_file first (rw is_new at of_file) in
-    let same = own.1 in
-    let is = own.2 in
-    not_read fault.kind cc
+    grind (arith, nat_tests, first-of_file first (rw is_new at of_file), not_read fault.kind)
 
 -- The one fault that was told is the one of the file.
 pub tells-first : (national : National) (outcome : Outcome) (fault : LoadFault) (stopped : Bool)
@@ -148,9 +126,7 @@ not_before : (block : ℕ) (all : List LoadFault) (fault : LoadFault)
     → first_of all ≡ Some fault
     → filter (is_before block) all ≡ []
     → is_before block fault ≡ false
-not_before block [] fault first none = absurd cc
-not_before block (f ∷ fs) fault first none =
-    let same : f ≡ fault = cc in rw (sym same) (grind (arith, nat_tests))
+not_before block all fault first none = grind (arith, nat_tests)
 
 -- What does not come before is the end inside a subtitle, or names this block or a later one.
 is_late : (block at : ℕ) (kind : LoadFaultKind)
@@ -165,14 +141,13 @@ pub none-told : (national : National) (old new : Option (List ℕ)) (block : ℕ
     → FailsTelling national old new KeepsFirst None told block
     → FailsLoading national old new block
 none-told national old new block (Some fault) none failed = absurd (none refl)
-none-told national old new block None none failed =
-    record {
-      bytes = failed.bytes;
-      consumed = failed.consumed;
-      block_is = failed.block_is;
-      none = λ all is fault e.
-          is_late block fault.block fault.kind
-          (not_before block (faults national (outcome_of all)) fault
-          ((first_fault national (outcome_of all) fault).0 e)
-          (sym (first_is None _ (failed.told all is))));
-    }
+none-told national old new block None none failed = record {
+  bytes = failed.bytes;
+  consumed = failed.consumed;
+  block_is = failed.block_is;
+  none = λ all is fault e.
+      is_late block fault.block fault.kind
+      (not_before block (faults national (outcome_of all)) fault
+      ((first_fault national (outcome_of all) fault).0 e)
+      (sym (first_is None _ (failed.told all is))));
+}

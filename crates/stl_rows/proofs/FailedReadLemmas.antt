@@ -1,5 +1,5 @@
 -- Where the source fails, and what was told before; main lemma: fails-next.
-use Rattle.std.proofs.Common.{◌≡◌, ℕ, ◌+◌, ◌*◌, ◌/◌, List, ◌∷◌, ◌++◌, length, Option, []}
+use Rattle.std.proofs.Common.{rules, ◌≡◌, ℕ, ◌+◌, ◌*◌, ◌/◌, List, ◌∷◌, ◌++◌, length, Option, []}
 use Rattle.std.proofs.Common.{Some, None, refl, ◌∙◌, arith, length-append}
 use Rattle.std.specs.Io.KnownBytes.{Consumes}
 use Rattle.std.specs.List.{All, filter}
@@ -32,12 +32,7 @@ pub has_taken-next : {old mid now : Option (List ℕ)} {from to : ℕ} {t : Subt
     → HasTaken old mid from
     → HasTaken old now to
 has_taken-next {old} {mid} {now} s h =
-    record {
-      bytes = h.bytes ++ joined s.blocks;
-      consumed = Consumes-trans old mid now h.bytes (joined s.blocks) h.consumed s.consumed;
-      long = length-append h.bytes (joined s.blocks)
-          ∙ omega (arith, h.long, s.counted, length-joined s.blocks s.each);
-    }
+    grind (arith, nat_tests, Consumes-trans, length-append, length-joined)
 
 -- ---- the source fails
 
@@ -45,8 +40,7 @@ has_taken-next {old} {mid} {now} s h =
 left_over : (rest : List ℕ) (new : Option (List ℕ)) (bytes : List ℕ)
     → Consumes (Some rest) new bytes
     → (more : List ℕ) × (rest ≡ bytes ++ more)
-left_over rest None bytes p = absurd p
-left_over rest (Some more) bytes p = (more, p)
+left_over rest new bytes p = grind (arith, nat_tests)
 
 -- After `from` TTI blocks.
 block-is : (bytes more : List ℕ) (from to : ℕ)
@@ -92,5 +86,4 @@ fails-next {start = start} {old} {new} reader {block} taken reading early_told t
 pub reads-nothing : (national : National) (outcome : Outcome)
     {D : Type 0} {IsTold : D → LoadFault → D → Type 0} (told : D)
     → Tells IsTold told told (filter (is_before 0) (faults national outcome))
-reads-nothing national outcome told =
-    rw (none_before-0 (faults national outcome)) (Tells-none told)
+reads-nothing national outcome told = grind (arith, nat_tests, none_before-0, Tells-none)

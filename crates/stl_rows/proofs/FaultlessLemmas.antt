@@ -1,7 +1,7 @@
 -- Lines without a fault: each is on the page (on_page), and where text codes are left to be read
 -- the cells before them are at most 40 (few_cells).
-use Rattle.std.proofs.Common.{◌≡◌, ℕ, zero, suc, ◌+◌, ◌<◌, ◌≤◌, Bool, List, [], ◌∷◌, ◌++◌, length}
-use Rattle.std.proofs.Common.{map, get_or, refl, arith}
+use Rattle.std.proofs.Common.{rules, ◌≡◌, ℕ, zero, suc, ◌+◌, ◌<◌, ◌≤◌, Bool, List, [], ◌∷◌, ◌++◌}
+use Rattle.std.proofs.Common.{length, map, get_or, refl, arith}
 use Rattle.std.proofs.lemmas.Bool.Decides.{nat_tests}
 use Rattle.std.specs.List.{onto_first}
 use Rattle.stl_rows.specs.DrawnPage.{last_row, line_fault_kinds, line_faults}
@@ -30,8 +30,7 @@ on_page_faultless : (row : ℕ) (under : Bool) (line : List ℕ)
     → line_fault_kinds row under line ≡ []
     → IsOnPage row line
 unfolding line_fault_kinds
-on_page_faultless row under [] e = record { few = omega arith; last = λ some. omega arith }
-on_page_faultless row under (c ∷ cells) e = grind (arith, nat_tests)
+on_page_faultless row under line e = grind (arith, nat_tests)
 
 -- So is each of lines without a fault; the line `k` goes to row `at`.
 pub on_page : (number row at : ℕ) (under : Bool) (lines : List (List ℕ)) (k : ℕ)
@@ -40,12 +39,10 @@ pub on_page : (number row at : ℕ) (under : Bool) (lines : List (List ℕ)) (k 
     → IsOnPage at (get_or lines k [])
 on_page number row at under [] k is e = record { few = omega arith; last = λ some. omega arith }
 on_page number row at under (line ∷ lines) zero is e =
-    let z : at ≡ row = omega arith in
-    rw z (on_page_faultless row under line
-    (map_empty (fault_of number) (line_fault_kinds row under line) (empty_parts _ _ e).0))
+    grind (arith, nat_tests, on_page_faultless, map_empty, empty_parts)
 on_page number row at under (line ∷ lines) (suc k) is e =
-    on_page (number + 1) (row + 1) at (is_double line) lines k (omega arith)
-    (empty_parts (map (fault_of number) (line_fault_kinds row under line)) _ e).1
+    let rest = on_page (number + 1) (row + 1) at (is_double line) lines k in
+    grind (arith, nat_tests, empty_parts)
 
 -- Where the first of prepared lines is on the page, the cells that come before all are at most 40.
 pub few_cells : (row : ℕ) (cells : List ℕ) (lines : List (List ℕ))

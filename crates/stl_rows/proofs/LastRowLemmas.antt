@@ -1,6 +1,7 @@
 -- Row 24 of each due page is blank: `last_row_blank`.
-use Rattle.std.proofs.Common.{◌≡◌, ℕ, ◌-◌, false, nat_lt, List, [], get_or, refl, sym, ap, ◌∙◌}
-use Rattle.std.proofs.Common.{arith}
+use Rattle.std.proofs.Common.{rules, ◌≡◌, ℕ, ◌-◌, false, nat_lt, List, [], get_or, refl, sym, ap}
+use Rattle.std.proofs.Common.{◌∙◌, arith}
+use Rattle.std.proofs.lemmas.Bool.Decides.{nat_tests}
 use Rattle.std.proofs.lemmas.Bool.{cond_both, ltb-false}
 use Rattle.std.proofs.lemmas.List.{nil_from_length}
 use Rattle.ttx_page.specs.Page.{blank, blank_row, row_at}
@@ -15,8 +16,7 @@ use Rattle.stl_rows.proofs.DuePageLemmas.{due_has}
 use Rattle.stl_rows.proofs.FaultlessLemmas.{empty_parts, on_page}
 
 -- No line of a subtitle without a fault goes to row 24.
-line_free :
-    (vp : ℕ) (ls : List (List ℕ))
+line_free : (vp : ℕ) (ls : List (List ℕ))
     → line_faults 0 vp false ls ≡ []
     → line_on vp ls 24 ≡ []
 line_free vp ls e =
@@ -27,8 +27,7 @@ line_free vp ls e =
     nil_from_length (get_or ls (24 - vp) []) (grind (arith, on.last)))
 
 -- Row 24 of the page of such lines is blank.
-row_free :
-    (jc vp : ℕ) (ls : List (List ℕ))
+row_free : (jc vp : ℕ) (ls : List (List ℕ))
     → line_faults 0 vp false ls ≡ []
     → row_at (page_of_lines jc vp ls) 24 ≡ blank_row
 unfolding page_of_lines
@@ -40,8 +39,7 @@ unfolding blank
 blank_free = refl
 
 -- Row 24 of each due page is blank.
-pub last_row_blank :
-    (national : National) (records : List SubtitleValue) (frame : ℕ)
+pub last_row_blank : (national : National) (records : List SubtitleValue) (frame : ℕ)
     → row_at (due national records frame) 24 ≡ blank_row
 last_row_blank national records frame =
     due_has (λ page. row_at page 24 ≡ blank_row) national records frame blank_free

@@ -1,7 +1,7 @@
 -- The lines of a text as its text codes are read one by one: what each code does to them, as
 -- prepared_lines-cell.
-use Rattle.std.proofs.Common.{◌≡◌, ℕ, zero, suc, ◌≤◌, List, ◌∷◌, ◌++◌, map, length, drop, refl, []}
-use Rattle.std.proofs.Common.{ap, arith, length-append, lit<, ◌∙◌}
+use Rattle.std.proofs.Common.{rules, ◌≡◌, ℕ, zero, suc, ◌≤◌, List, ◌∷◌, ◌++◌, map, length, drop}
+use Rattle.std.proofs.Common.{refl, [], ap, arith, length-append, lit<, ◌∙◌}
 use Rattle.std.proofs.lemmas.Bool.Decides.{nat_tests}
 use Rattle.std.proofs.lemmas.List.{at_drop_all}
 use Rattle.std.specs.List.{onto_first}
@@ -35,8 +35,7 @@ pub prepared_lines-cell : (cells : List ℕ) {at code : ℕ} {s : TextCode}
     → ss ≡ (at, s) ∷ rest
     → s ≡ Cell code
     → prepared_lines cells ss ≡ prepared_lines (cells ++ code ∷ []) rest
-prepared_lines-cell cells {rest = rest} step is =
-    rw (step, is) (ap (map prepared) (onto_code cells _ (lines_of rest)))
+prepared_lines-cell cells {rest = rest} step is = grind (arith, nat_tests, onto_code)
 
 -- A new line ends the line.
 pub prepared_lines-line_end : (cells : List ℕ) {at : ℕ} {s : TextCode}
@@ -44,8 +43,7 @@ pub prepared_lines-line_end : (cells : List ℕ) {at : ℕ} {s : TextCode}
     → ss ≡ (at, s) ∷ rest
     → s ≡ NewLine
     → prepared_lines cells ss ≡ prepared cells ∷ prepared_lines [] rest
-prepared_lines-line_end cells {rest = rest} step is =
-    rw (step, is) (ap (map prepared) (onto_line_end cells (lines_of rest)))
+prepared_lines-line_end cells {rest = rest} step is = grind (arith, nat_tests, onto_line_end)
 
 -- The end of the text ends the last line.
 pub prepared_lines-end : (n : National) (cells : List ℕ) (at : ℕ) (text : List ℕ)

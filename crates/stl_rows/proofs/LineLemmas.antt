@@ -1,5 +1,5 @@
 -- The row that shows a line: row_of-put says what it holds, row_small that it holds codes alone.
-use Rattle.std.proofs.Common.{◌≡◌, ℕ, zero, suc, ◌+◌, ◌-◌, ◌<◌, ◌≤◌, List, [], ◌∷◌, ◌++◌}
+use Rattle.std.proofs.Common.{rules, ◌≡◌, ℕ, zero, suc, ◌+◌, ◌-◌, ◌<◌, ◌≤◌, List, [], ◌∷◌, ◌++◌}
 use Rattle.std.proofs.Common.{length, map, get_or, take, drop, replicate, arith, lit<, ap, ◌∙◌}
 use Rattle.std.proofs.lemmas.Bool.Decides.{nat_tests}
 use Rattle.std.proofs.lemmas.List.{get_or-replicate, get_or_past, length-replicate, places}
@@ -18,7 +18,6 @@ pub row_of-put : (jc start : ℕ) (line row : List ℕ)
     ≡ row_of jc line
 unfolding row_of
 row_of-put jc start line row e room is =
-    let long : length row ≡ 40 = ap length is ∙ length-replicate 40 space in
     let blank : (k : ℕ) → k < 40 → get_or row k 0 ≡ space =
     λ k l. rw is (get_or-replicate 40 k space 0 l) in
     rw (← e)
@@ -49,23 +48,17 @@ holds_map P f (x ∷ xs) h = (h x, holds_map P f xs h)
 cell_small : (start column : ℕ) (line : List ℕ)
     → Small line
     → code_in_column start line column < 128
-cell_small start column line h =
-    let small = holds_at (λ c. c < 128) line (column - start) space (lit< tt) h in
-    grind (arith, nat_tests)
+cell_small start column line h = grind (arith, nat_tests, holds_at)
 
 -- A row has 40 cells.
 pub row_length : (jc : ℕ) (line : List ℕ) → length (row_of jc line) ≡ 40
 unfolding row_of
-row_length jc line =
-    length-map-range_with_len (code_in_column (start_column jc (length line)) line) 0 40
+row_length jc line = grind (arith, nat_tests, length-map-range_with_len)
 
 -- A row that shows a line of codes holds codes alone.
 pub row_small : (jc : ℕ) (line : List ℕ) → Small line → Small (row_of jc line)
 unfolding row_of
-row_small jc line h =
-    let start : ℕ = start_column jc (length line) in
-    holds_map (λ c. c < 128) (code_in_column start line) (range_with_len 0 40)
-    (λ column. cell_small start column line h)
+row_small jc line h = grind (arith, nat_tests, holds_map, cell_small)
 
 -- The same, where the codes of the line are told column by column: for `row_codes`.
 pub row_of-codes : (jc : ℕ) (line : List ℕ) → AreCodes line → AreCodes (row_of jc line)

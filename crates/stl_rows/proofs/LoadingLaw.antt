@@ -1,7 +1,7 @@
 -- A file is loaded exactly where it is a file whose subtitles are in order, disjoint and drawable:
 -- loading_is.
-use Rattle.std.proofs.Common.{◌≡◌, ℕ, suc, ◌-◌, ◌<◌, ◌≤◌, List, [], ◌∷◌, ◌++◌, Some, Result, Ok}
-use Rattle.std.proofs.Common.{Err, length, get_or, take, refl, sym, ap, arith, append_assoc}
+use Rattle.std.proofs.Common.{rules, ◌≡◌, ℕ, suc, ◌-◌, ◌<◌, ◌≤◌, List, [], ◌∷◌, ◌++◌, Some, Result}
+use Rattle.std.proofs.Common.{Ok, Err, length, get_or, take, refl, sym, ap, arith, append_assoc}
 use Rattle.std.proofs.Common.{append-nil, length-append}
 use Rattle.std.proofs.lemmas.Bool.Decides.{nat_tests}
 use Rattle.std.proofs.lemmas.List.{get_or_append_left}
@@ -46,21 +46,13 @@ none_told : (faults : List LoadFaultKind) (block : ℕ) (next : Result Programme
     (p : ProgrammeValue)
     → unless_told faults block next ≡ Ok p
     → (faults ≡ []) × (next ≡ Ok p)
-none_told [] block next p h = (refl, h)
-none_told (kind ∷ kinds) block next p h = cc
+none_told faults block next p h = grind (arith, nat_tests)
 
 -- What was loaded are the subtitles of the file, and each may follow those before it.
 loaded_given : (n : National) (records : List SubtitleValue) (o : Outcome) (p : ProgrammeValue)
     → loaded_behind n records o ≡ Ok p
     → IsLoaded n records o p
-loaded_given n records ends p h =
-    let same : record { national = n; records = records } ≡ p = cc in
-    record {
-      given = [];
-      all = refl;
-      is = rw append-nil (sym same);
-      programme = λ before each. rw append-nil before;
-    }
+loaded_given n records ends p h = grind (arith, nat_tests, append-nil)
 loaded_given n records (fails f block) p h = cc
 loaded_given n records (gives t block o) p h =
     let told = none_told (follow_faults n (times_before records) t) block _ p h in
@@ -98,9 +90,7 @@ times_follow n (r ∷ rs) ts t ok =
     let size = length-append records (t ∷ ts) in
     let old = get_or_append_left records (t ∷ ts) t at (omega arith) in
     let new = get_or-append_seam records t ts t in
-    rw (slice_get-get_or records at t (omega arith))
-    (no_order_fault (get_or records at t) t (rw old at (ok.each at t (omega (arith, size))).times)
-    (rw (old, new) at (ok.in_order at (length records) t (omega arith) (omega (arith, size)))))
+    grind (arith, nat_tests, slice_get-get_or, no_order_fault)
 
 -- It has none at all.
 none_follow : (n : National) (records ts : List SubtitleValue) (t : SubtitleValue)
@@ -116,17 +106,14 @@ none_follow n records ts t ok =
 first_given : (t : SubtitleValue) (r : Judged) (ts : List SubtitleValue)
     → cons_all t r ≡ Ok ts
     → (us : List SubtitleValue) × (r ≡ Ok us) × (ts ≡ t ∷ us)
-first_given t (Err f) ts h = cc
-first_given t (Ok us) ts h = (us, refl, cc)
+first_given t r ts h = grind (arith, nat_tests)
 
 -- Subtitles that are a programme are loaded.
 given_loaded : (n : National) (records : List SubtitleValue) (o : Outcome) (ts : List SubtitleValue)
     → subtitles_of o ≡ Ok ts
     → IsProgramme n (records ++ ts)
     → loaded_behind n records o ≡ programme_of n (records ++ ts)
-given_loaded n records ends ts h ok =
-    let none : ts ≡ [] = cc in
-    rw (none, append-nil) refl
+given_loaded n records ends ts h ok = grind (arith, nat_tests, append-nil)
 given_loaded n records (fails f block) ts h ok = cc
 given_loaded n records (gives t block o) ts h ok =
     let rest = first_given t (subtitles_of o) ts h in
@@ -146,8 +133,7 @@ all_subtitles (t ∷ ts) (g ∷ gs) e =
     All-cons IsSubtitle t ts (blocks_subtitle t g e.0) (all_subtitles ts gs e.1)
 
 -- The law, from what a file is: for `law_of_loading`.
-pub loading_is :
-    ((s g : List ℕ) (ts : List SubtitleValue)
+pub loading_is : ((s g : List ℕ) (ts : List SubtitleValue)
     → IsFile s g ts ↔ ((g ≡ take 1024 s) × (subtitles_of (outcome_of s) ≡ Ok ts)))
     → LawOfLoading
 loading_is file n s ts = (there, back)

@@ -1,9 +1,9 @@
 -- What is left of a file after some of its subtitles, and what was told of these; main lemmas:
 -- goes_on-next, tells-stopped, tells-unread.
-use Rattle.std.proofs.Common.{◌≡◌, ◌<◌, ◌≤◌, ◌+◌, ℕ, Bool, true, false, List, ◌∷◌, ◌++◌, []}
-use Rattle.std.proofs.Common.{drop, take, length, map, Option, Some, None, Result, refl}
-use Rattle.std.proofs.Common.{sym, ◌∙◌, ap, inl, inr, arith, length-take}
-use Rattle.std.proofs.Common.{append_assoc, append-nil, length-append}
+use Rattle.std.proofs.Common.{rules, ◌≡◌, ◌<◌, ◌≤◌, ◌+◌, ℕ, Bool, true, false, List, ◌∷◌, ◌++◌, []}
+use Rattle.std.proofs.Common.{drop, take, length, map, Option, Some, None, Result, refl, sym, ◌∙◌}
+use Rattle.std.proofs.Common.{ap, inl, inr, arith, length-take, append_assoc, append-nil}
+use Rattle.std.proofs.Common.{length-append}
 use Rattle.std.proofs.Math.Seq.{take-append-add, take-length}
 use Rattle.std.proofs.lemmas.Bool.Decides.{nat_tests}
 use Rattle.std.proofs.lemmas.List.Elements.{All-append, All-head, All-map, All-tail, All-take}
@@ -27,8 +27,7 @@ use Rattle.ttx_page.specs.Page.{Rows}
 use Rattle.stl_rows.specs.declared.national.National.{National}
 use Rattle.stl_rows.specs.declared.fault.LoadFault.{LoadFault}
 use Rattle.stl_rows.specs.declared.fault.LoadFaultKind.{LoadFaultKind}
-use Rattle.stl_rows.specs.declared.fault.LoadFaultKind.TheVariants.{File, OutOfOrder}
-use Rattle.stl_rows.specs.declared.fault.LoadFaultKind.TheVariants.{Overlap, Row}
+use Rattle.stl_rows.specs.declared.fault.LoadFaultKind.TheVariants.{File, OutOfOrder, Overlap, Row}
 use Rattle.stl_rows.specs.declared.fault.RowFault.{RowFault}
 use Rattle.stl_rows.specs.declared.times.Times.{Times}
 use Rattle.stl_rows.specs.DrawnPage.{drawn}
@@ -60,24 +59,10 @@ is_of_subtitle _ = false
 abbrev pub IsToldBy : ℕ → LoadFault → Type 0
 IsToldBy block fault = (is_of_subtitle fault.kind ≡ true) × (fault.block ≤ block)
 
--- The faults of a subtitle are such.
-follow-of_subtitle : (national : National) (before : Option Times) (t : SubtitleValue)
-    → list_all is_of_subtitle (follow_faults national before t) ≡ true
-follow-of_subtitle national before t = go before (drawn national t)
-  where
-    go : (before : Option Times) (r : Result Rows RowFault)
-        → list_all is_of_subtitle (order_faults before (times_of t) ++ row_faults r) ≡ true
-    go before r = grind (arith, nat_tests)
-
 -- At their block.
 at_block : (national : National) (before : Option Times) (t : SubtitleValue) (block : ℕ)
     → All (IsToldBy block) (map (load_fault block) (follow_faults national before t))
-at_block national before t block =
-    let kinds : List LoadFaultKind = follow_faults national before t in
-    All-map (IsToldBy block) (load_fault block) kinds
-    (All-weaker (λ k. is_of_subtitle k ≡ true) (λ k. IsToldBy block (load_fault block k))
-    (λ k h. (h, omega arith)) kinds
-    (AllPass-from_list_all is_of_subtitle kinds (follow-of_subtitle national before t)))
+at_block national before t block = grind (arith, nat_tests)
 
 -- What was told of the subtitles so far, and of one more.
 pub told-next : (national : National) (before : Option Times) (t : SubtitleValue) (from to : ℕ)
@@ -98,10 +83,7 @@ of_file kind h = grind (arith, nat_tests)
 pub told-of_file : (block : ℕ) (early : List LoadFault)
     → All (IsToldBy block) early
     → list_all (λ (f : LoadFault). is_of_file f.kind) early ≡ true
-told-of_file block early h =
-    list_all-from_AllPass (λ (f : LoadFault). is_of_file f.kind) early
-    (All-weaker (IsToldBy block) (λ (f : LoadFault). is_of_file f.kind ≡ true)
-    (λ f told. of_file f.kind told.0) early h)
+told-of_file block early h = grind (arith, nat_tests, list_all-from_AllPass, All-weaker, of_file)
 
 -- What was told of a subtitle is all that is wrong with it: where the device said stop at its last
 -- fault.
@@ -114,8 +96,7 @@ stops-whole : {D : Type 0} {IsTold : D → LoadFault → D → Type 0} {old new 
     → 0 < length items
     → Tells IsTold old new items
     → StopsWithin IsTold old new items
-stops-whole {items = items} some told =
-    (length items, some, omega arith, rw take-length told)
+stops-whole {items = items} some told = search (rules, take-length)
 
 pub stops-last : (national : National) (before : Option Times) (t : SubtitleValue) (block : ℕ)
     {D : Type 0} {IsTold : D → LoadFault → D → Type 0} (old mid new : D)
@@ -127,17 +108,8 @@ pub stops-last : (national : National) (before : Option Times) (t : SubtitleValu
     → Tells IsTold mid new (map (load_fault block) (first_alone row))
     → StopsWithin IsTold old new (map (load_fault block) (follow_faults national before t))
 stops-last national before t block old mid new order None is_order is_row some p q = absurd cc
-stops-last national before t block {IsTold = IsTold} old mid new order (Some kind) is_order is_row
-    some p q =
-    let orders : List LoadFaultKind = order_faults before (times_of t) in
-    let first : Tells IsTold old mid (map (load_fault block) orders) =
-    rw (is_order, order_alone before (times_of t)) at p in
-    rw (sym is_row, map-append (load_fault block) orders (kind ∷ []))
-    (stops-whole
-    (omega (
-      arith,
-      length-append (map (load_fault block) orders) (load_fault block kind ∷ []),
-    )) (Tells-trans old mid new (map (load_fault block) orders) _ first q))
+stops-last national before t block old mid new order (Some kind) is_order is_row some p q =
+    grind (arith, nat_tests, order_alone, map-append, stops-whole, length-append, Tells-trans)
 
 -- ---- what is left
 
@@ -163,17 +135,14 @@ pub record AreKept (national : National) (before : Option Times) (early : List L
 
 -- No faults are the first where there is none.
 none-first : {A : Type 0} (xs : List A) → is_none (first_of xs) ≡ true → xs ≡ []
-none-first [] h = refl
-none-first (x ∷ xs) h = absurd cc
+none-first xs h = grind (arith, nat_tests)
 
 -- What was kept before, where something is kept.
 kept_before : (clean : Bool) (t : SubtitleValue) (kept : Option (List SubtitleValue))
     (records : List SubtitleValue)
     → kept_after clean t kept ≡ Some records
     → (clean ≡ true) × (ts : List SubtitleValue) × (kept ≡ Some ts) × (records ≡ ts ++ t ∷ [])
-kept_before false t kept records h = absurd cc
-kept_before true t None records h = absurd cc
-kept_before true t (Some ts) records h = (refl, ts, refl, cc)
+kept_before clean t kept records h = grind (arith, nat_tests)
 
 -- Something stays kept with a subtitle with which nothing is wrong.
 still_kept : (clean : Bool) (t : SubtitleValue) (kept : Option (List SubtitleValue))
@@ -191,9 +160,8 @@ some_more : (kinds : List LoadFaultKind) (kept : Option (List SubtitleValue))
     → (kept ≡ None → 0 < length early)
     → kept_after clean t kept ≡ None
     → 0 < length (early ++ map (load_fault block) kinds)
-some_more (k ∷ ks) kept early t block clean is_clean some h =
-    omega (arith, length-append early (load_fault block k ∷ map (load_fault block) ks))
-some_more [] kept early t block clean is_clean some h = grind (arith, nat_tests, append-nil)
+some_more kinds kept early t block clean is_clean some h =
+    grind (arith, nat_tests, length-append, append-nil)
 
 -- One subtitle more.
 module _ {national : National} {before : Option Times} {kept : Option (List SubtitleValue)}
@@ -210,32 +178,19 @@ module _ {national : National} {before : Option Times} {kept : Option (List Subt
       → kept_after clean t kept ≡ Some records
       → (ts : List SubtitleValue) × (kept ≡ Some ts) × (records ≡ ts ++ t ∷ [])
       × (follow_faults national (times_before ts) t ≡ [])
-  was_kept records h =
-      let k = kept_before clean t kept records h in
-      let none = none-first (follow_faults national before t) (sym is_clean ∙ k.0) in
-      (k.1, k.2, k.3, rw (are_kept k.1 k.2).before_is at none)
+  was_kept records h = grind (arith, nat_tests, kept_before, none-first)
 
   -- Nothing was told while something is kept.
   none_told : (records : List SubtitleValue) → kept_after clean t kept ≡ Some records
       → told_then ≡ []
-  none_told records h =
-      let was = was_kept records h in
-      let own = are_kept was.0 was.1 in
-      rw (own.before_is, was.3, own.none) refl
+  none_told records h = grind (arith, nat_tests, was_kept)
 
   -- What is left goes on.
   pub goes_on-next : {outcome rest : Outcome}
       → GoesOn national outcome (gives t block rest) before kept early
       → GoesOn national outcome rest (Some (times_of t)) (kept_after clean t kept) told_then
   unfolding faults_behind
-  goes_on-next on = record {
-    same = on.same ∙ sym (append_assoc early _ _);
-    loads = λ records h.
-        let was = was_kept records h in rw was.2 (rw was.3 at (on.loads was.0 was.1));
-    ends_record = λ records at h e.
-        let was = was_kept records h in
-        on.ends_record was.0 at was.1 (was.3, inr (rw was.2 at e));
-  }
+  goes_on-next on = grind (arith, nat_tests, append_assoc, was_kept)
 
   -- What is kept then is a programme.
   pub are_kept-next : IsSubtitle t
@@ -243,20 +198,13 @@ module _ {national : National} {before : Option Times} {kept : Option (List Subt
       → kept_after clean t kept ≡ Some records
       → AreKept national (Some (times_of t)) told_then records
   are_kept-next subtitle records h =
-      let was = was_kept records h in
-      let before = (are_kept was.0 was.1).programme in
-      record {
-        before_is = rw (was.2, ap (option_map times_of) (last_of-push was.0 t)) refl;
-        none = none_told records h;
-        programme = rw was.2 (IsProgramme-push national was.0 t before subtitle was.3);
-      }
+      grind (arith, nat_tests, was_kept, last_of-push, none_told, IsProgramme-push)
 
   -- Where nothing is, faults were told.
   pub some-next : (kept ≡ None → 0 < length early)
       → kept_after clean t kept ≡ None
       → 0 < length told_then
-  some-next some h =
-      some_more (follow_faults national before t) kept early t block clean is_clean some h
+  some-next some h = grind (arith, nat_tests, some_more)
 
   -- A subtitle that can't be kept ends a record.
   pub ends-here : {outcome rest : Outcome}
@@ -271,8 +219,7 @@ module _ {national : National} {before : Option Times} {kept : Option (List Subt
 
   -- Nothing was told before it.
   pub told-none : clean ≡ true → is_none kept ≡ false → told_then ≡ []
-  told-none is_true some =
-      let kept_then = still_kept clean t kept is_true some in none_told kept_then.0 kept_then.1
+  told-none is_true some = grind (arith, nat_tests, still_kept, none_told)
 
 -- ---- what was told in all
 
@@ -350,11 +297,7 @@ module _ {D : Type 0} {IsTold : D → LoadFault → D → Type 0} {old mid new :
 pub goes_on-start : (national : National) (outcome : Outcome)
     → GoesOn national outcome outcome None (Some []) []
 unfolding faults
-goes_on-start national outcome = record {
-  same = refl;
-  loads = λ records h. let none : [] ≡ records = cc in rw (sym none) refl;
-  ends_record = λ records at h e. let none : [] ≡ records = cc in rw none e;
-}
+goes_on-start national outcome = grind (arith, nat_tests)
 
 module _ {D : Type 0} {IsTold : D → LoadFault → D → Type 0} {old mid : D} {national : National}
     {outcome left : Outcome} {before : Option Times} {kept : Option (List SubtitleValue)}
@@ -387,26 +330,22 @@ module _ {D : Type 0} {IsTold : D → LoadFault → D → Type 0} {old mid : D} 
       → TellsFaults IsTold old new stopped (faults national outcome)
   unfolding faults_behind
   tells-stop {rest = rest} {t} {block} stopped is is_stopped q =
-      rw is_stopped (record {
-        all = λ no. absurd cc;
-        prefix = rw (rw is at on.same)
-            (stops-more early (map (load_fault block) (follow_faults national before t))
-            (faults_behind national (Some (times_of t)) rest) told q);
-      })
+      let s =
+      stops-more early (map (load_fault block) (follow_faults national before t))
+      (faults_behind national (Some (times_of t)) rest) told q in
+      grind (arith, nat_tests)
 
 -- What is kept, where something is.
 pub if_kept : {V : Type 0} (items : V → List SubtitleValue) (P : List SubtitleValue → Type 0)
     (kept : Option V)
     → ((records : List SubtitleValue) → option_map items kept ≡ Some records → P records)
     → IfSome kept (λ v. P (items v))
-if_kept items P None h = tt
-if_kept items P (Some v) h = h (items v) refl
+if_kept items P kept h = grind (arith, nat_tests)
 
 pub some_items : {V : Type 0} (items : V → List SubtitleValue) (kept : Option V)
     → is_none kept ≡ false
     → is_none (option_map items kept) ≡ false
-some_items items None h = absurd cc
-some_items items (Some v) h = refl
+some_items items kept h = grind (arith, nat_tests)
 
 -- ---- where the source failed
 
@@ -434,8 +373,7 @@ late_kinds block at (k ∷ ks) le = grind (arith, nat_tests, late_kinds block at
 late_fault : (block at : ℕ) (f : StlFault)
     → NamesFrom block (fails f at)
     → is_before block (load_fault at (File f)) ≡ false
-late_fault block at Unfinished names = grind (arith, nat_tests)
-late_fault block at f names = let le : block ≤ at = names in grind (arith, nat_tests)
+late_fault block at f names = grind (arith, nat_tests)
 
 late : (national : National) (before : Option Times) (block : ℕ) (left : Outcome)
     → NamesFrom block left

@@ -1,6 +1,6 @@
 -- Each due page is a page, 24 rows of 40 codes below 128: due_is_page.
-use Rattle.std.proofs.Common.{ℕ, zero, suc, ◌+◌, ◌-◌, ◌<◌, nat_lt, List, []}
-use Rattle.std.proofs.Common.{◌∷◌, ◌++◌, map, get_or, Option, Some, None, refl, arith, lit<}
+use Rattle.std.proofs.Common.{rules, ℕ, zero, suc, ◌+◌, ◌-◌, ◌<◌, nat_lt, List, [], ◌∷◌, ◌++◌, map}
+use Rattle.std.proofs.Common.{get_or, Option, Some, None, refl, arith, lit<}
 use Rattle.std.specs.List.{range_with_len, AllByRecursion}
 use Rattle.std.specs.Prelude.{IfSome}
 use Rattle.std.proofs.lemmas.Bool.{cond_both}
@@ -15,8 +15,7 @@ use Rattle.stl_rows.specs.DuePage.{due}
 use Rattle.stl_rows.specs.Line.{prepared, row_of}
 use Rattle.stl_rows.specs.TextCode.{CellEntry, HasSevenBits, cell_in, cell_of, cell_of_letter}
 use Rattle.stl_rows.specs.TextCode.{cell_of_pair, cell_or_other, cells, code_before, text_code}
-use Rattle.stl_rows.specs.TextCode.{code_of_other, codes_after, diaeresis_cells}
-use Rattle.stl_rows.specs.TextCode.{first_of, lines_of}
+use Rattle.stl_rows.specs.TextCode.{code_of_other, codes_after, diaeresis_cells, first_of, lines_of}
 use Rattle.stl_rows.specs.TextCode.{pair_or_single, text_codes, with_code}
 use Rattle.stl_rows.specs.declared.national.National.{National}
 use Rattle.stl_rows.specs.declared.national.National.TheVariants.{English, German}
@@ -44,8 +43,7 @@ cell_in-small (entry ∷ entries) byte h =
 -- The tables of both options give codes.
 cell_of-small : (national : National) (b : ℕ) → SmallCode (cell_of national b)
 unfolding cell_of
-cell_of-small English b = cell_in-small (cells English) b (omega arith)
-cell_of-small German b = cell_in-small (cells German) b (omega arith)
+cell_of-small national b = grind (arith, nat_tests, cell_in-small)
 
 -- A byte with no entry gives no cell, and so no cell that is no code.
 other_small : (byte : ℕ) → HasSevenBits (code_of_other byte)
@@ -64,10 +62,7 @@ code_small national byte = go (cell_of national byte) (cell_of-small national by
 pair_small : (national : National) (b : ℕ) (next : Option ℕ)
     → SmallCode (cell_of_pair national b next)
 unfolding cell_of_pair cell_of_letter
-pair_small English b next = tt
-pair_small German b None = grind (arith, nat_tests)
-pair_small German b (Some c) =
-    let small = cell_in-small diaeresis_cells c (omega arith) in grind (arith, nat_tests)
+pair_small national b next = grind (arith, nat_tests, cell_in-small)
 
 -- The cell of a pair or of a byte by itself is a code.
 by_small : (pair : Option ℕ) (alone : TextCode)
@@ -81,8 +76,7 @@ with_small : (s : TextCode) (ls : List (List ℕ))
     → HasSevenBits s
     → AllByRecursion Small ls
     → AllByRecursion Small (with_code s ls)
-with_small s [] l h = grind arith
-with_small s (line ∷ ls) l h = grind arith
+with_small s ls l h = grind (arith, nat_tests)
 
 -- All cells of a text are codes.
 cells_small : (national : National) (at skip : ℕ) (bytes : List ℕ)
@@ -104,8 +98,7 @@ append_small (x ∷ xs) ys h k = (h.0, append_small xs ys h.1 k)
 -- A prepared line of codes holds codes alone.
 prepared_small : (cells : List ℕ) → Small cells → Small (prepared cells)
 unfolding prepared
-prepared_small cells h =
-    let boxed = append_small cells (0x0A ∷ 0x0A ∷ []) h (omega arith) in grind (arith, nat_tests)
+prepared_small cells h = grind (arith, nat_tests, append_small)
 
 -- Prepared lines of codes hold codes alone.
 all_prepared : (ls : List (List ℕ))
@@ -117,22 +110,20 @@ all_prepared (l ∷ ls) h = (prepared_small l h.0, all_prepared ls h.1)
 -- ---- the rows of a page
 
 -- The page that shows lines of codes is a page.
-page_is :
-    (jc vp : ℕ) (ls : List (List ℕ))
+page_is : (jc vp : ℕ) (ls : List (List ℕ))
     → AllByRecursion Small ls
     → IsPage (page_of_lines jc vp ls)
 unfolding page_of_lines
-page_is jc vp ls h =
-    record {
-      rows = length-map-range_with_len line_row 1 24;
-      columns = λ r l. rw (get_or-map-range_with_len line_row 1 24 r (1 + r) [] l refl)
-          (row_length jc (line_on vp ls (1 + r)));
-      codes = λ r c.
-          holds_at (λ n. n < 128) (get_or (map line_row (range_with_len 1 24)) r []) c 0 (lit< tt)
-          (holds_at Small (map line_row (range_with_len 1 24)) r [] tt
-          (holds_map Small line_row (range_with_len 1 24)
-          (λ row. row_small jc (line_on vp ls row) (line_small row))));
-    }
+page_is jc vp ls h = record {
+  rows = length-map-range_with_len line_row 1 24;
+  columns = λ r l. rw (get_or-map-range_with_len line_row 1 24 r (1 + r) [] l refl)
+      (row_length jc (line_on vp ls (1 + r)));
+  codes = λ r c.
+      holds_at (λ n. n < 128) (get_or (map line_row (range_with_len 1 24)) r []) c 0 (lit< tt)
+      (holds_at Small (map line_row (range_with_len 1 24)) r [] tt
+      (holds_map Small line_row (range_with_len 1 24)
+      (λ row. row_small jc (line_on vp ls row) (line_small row))));
+}
   where
     line_row : ℕ → List ℕ
     line_row row = row_of jc (line_on vp ls row)

@@ -1,5 +1,5 @@
 -- A programme with one more subtitle that has no fault is one: IsProgramme-push.
-use Rattle.std.proofs.Common.{◌≡◌, ℕ, ◌-◌, ◌<◌, ◌≤◌, List, [], ◌∷◌, ◌++◌, Result, ◌∙◌, ap}
+use Rattle.std.proofs.Common.{rules, ◌≡◌, ℕ, ◌-◌, ◌<◌, ◌≤◌, List, [], ◌∷◌, ◌++◌, Result, ◌∙◌, ap}
 use Rattle.std.proofs.Common.{Some, length, get_or, arith, inl, inr, length-append}
 use Rattle.std.proofs.lemmas.Bool.{cases_lt}
 use Rattle.std.proofs.lemmas.Bool.Decides.{nat_tests}
@@ -37,7 +37,6 @@ last_before ts t i d each ordered h inside =
     let at : ℕ = length ts - 1 in
     let after =
     after_last (get_or ts at d) t (rw (slice_get-get_or ts at d (omega arith)) at h) in
-    let order = ordered i at d in
     let times = (each at d (omega arith)).times in
     let same = λ (last : i ≡ at). ap (λ (k : ℕ). (get_or ts k d).tco) last in
     grind arith
@@ -49,13 +48,7 @@ in_order-push : (ts : List SubtitleValue) (t : SubtitleValue)
     → order_faults (times_before ts) (times_of t) ≡ []
     → AreInOrder (ts ++ t ∷ [])
 in_order-push ts t each ordered h i j d below inside =
-    let size = length-append ts (t ∷ []) in
-    let old_i = get_or_append_left ts (t ∷ []) d i (omega arith) in
-    elim (cases_lt j (length ts)) [
-      | inl old ↦ rw (old_i, get_or_append_left ts (t ∷ []) d j old) (ordered i j d below old)
-      | inr new ↦ rw (old_i, get_or_push ts t d j (omega arith))
-          (last_before ts t i d each ordered h (omega arith))
-    ]
+    grind (arith, nat_tests, length-append, get_or_append_left, cases_lt, get_or_push, last_before)
 
 -- A programme stays one with a subtitle that has no fault: for `put`.
 pub IsProgramme-push : (n : National) (ts : List SubtitleValue) (t : SubtitleValue)
@@ -82,8 +75,4 @@ last_of-push xs x =
 
 -- No subtitles are a programme: for `load_in`.
 pub IsProgramme-none : (n : National) → IsProgramme n []
-IsProgramme-none n = record {
-  each = All-nil IsSubtitle;
-  in_order = λ i j d below inside. absurd (omega arith);
-  drawable = All-nil (λ t. IsOk (drawn n t));
-}
+IsProgramme-none n = grind (arith, nat_tests, All-nil)

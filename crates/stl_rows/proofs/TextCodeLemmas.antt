@@ -1,6 +1,7 @@
 -- Two bytes of a text that are one text code: text_codes-pair.
-use Rattle.std.proofs.Common.{◌≡◌, ℕ, ◌+◌, ◌<◌, List, ◌∷◌, Some, length, get_or, drop, refl, ap}
-use Rattle.std.proofs.Common.{◌∙◌, arith, add-one, drop-cons}
+use Rattle.std.proofs.Common.{rules, ◌≡◌, ℕ, ◌+◌, ◌<◌, List, ◌∷◌, Some, length, get_or, drop, refl}
+use Rattle.std.proofs.Common.{ap, ◌∙◌, arith, add-one, drop-cons}
+use Rattle.std.proofs.lemmas.Bool.Decides.{nat_tests}
 use Rattle.stl_rows.specs.declared.national.National.{National}
 use Rattle.stl_rows.specs.declared.text_code.TextCode.{TextCode}
 use Rattle.stl_rows.specs.declared.text_code.TextCode.TheVariants.{Cell}
@@ -16,15 +17,10 @@ cut_at text at h = rw (add-one, drop-cons text at 0) refl
 after_pair : (n : National) (at : ℕ) (text : List ℕ)
     → at + 1 < length text
     → codes_after n (at + 1) 1 (drop (at + 1) text) ≡ text_codes n (at + 2) (drop (at + 2) text)
-after_pair n at text h =
-    let e : at + 1 + 1 ≡ at + 2 = omega arith in
-    ap (codes_after n (at + 1) 1) (cut_at text (at + 1) h)
-    ∙ ap (λ (k : ℕ). text_codes n k (drop k text)) e
+after_pair n at text h = grind (arith, nat_tests, cut_at)
 
 -- A pair of bytes is one text code: for `text_code_at`.
 pub text_codes-pair : (n : National) (at : ℕ) (text : List ℕ) (code : ℕ) → at + 1 < length text
     → Some code ≡ cell_of_pair n (get_or text at 0) (first_of (drop (at + 1) text))
     → text_codes n at (drop at text) ≡ (at, Cell code) ∷ text_codes n (at + 2) (drop (at + 2) text)
-text_codes-pair n at text code h e =
-    rw (cut_at text at (omega arith), ← e)
-    (ap (λ (xs : List (ℕ × TextCode)). (at, Cell code) ∷ xs) (after_pair n at text h))
+text_codes-pair n at text code h e = grind (arith, nat_tests, cut_at, after_pair)

@@ -1,7 +1,7 @@
 -- The first fault of a text whose codes are read one by one, by the shape of each line:
 -- told-faults.
-use Rattle.std.proofs.Common.{◌≡◌, ℕ, ◌+◌, Bool, true, false, cond, List, []}
-use Rattle.std.proofs.Common.{◌∷◌, ◌++◌, Option, Some, None, map, length, refl, sym, ap, ◌∙◌, arith}
+use Rattle.std.proofs.Common.{rules, ◌≡◌, ℕ, ◌+◌, Bool, true, false, cond, List, [], ◌∷◌, ◌++◌}
+use Rattle.std.proofs.Common.{Option, Some, None, map, length, refl, sym, ap, ◌∙◌, arith}
 use Rattle.std.proofs.Common.{length-append, append-nil}
 use Rattle.std.proofs.Math.Bool.{or-false}
 use Rattle.std.proofs.lemmas.Bool.Decides.{nat_tests}
@@ -32,11 +32,7 @@ shape-push : (cells : List ℕ) (code : ℕ) (line : OpenLine)
     → HasShape cells line
     → HasShape (cells ++ code ∷ []) (with_cell line code)
 unfolding is_boxed is_double
-shape-push cells code line h = record {
-  count = omega (arith, length-append cells (code ∷ []), h.count);
-  box = simp (list_any-append, or-false, h.box);
-  height = simp (list_any-append, or-false, h.height);
-}
+shape-push cells code line h = grind (arith, nat_tests, length-append, list_any-append, or-false)
 
 -- ---- what a shape tells
 
@@ -69,25 +65,19 @@ shape_kinds : (cells : List ℕ) (line : OpenLine)
     → line_fault_kinds line.row line.is_under_double (prepared cells) ≡ shape_fault_kinds line
 unfolding line_fault_kinds shape_fault_kinds
 shape_kinds [] line h = kinds_of_none line h
-shape_kinds (c ∷ cs) line h =
-    let size = length_prepared c cs in
-    let some = cells_prepared c cs in
-    let double = double_prepared (c ∷ cs) in
-    grind (arith, nat_tests)
+shape_kinds (c ∷ cs) line h = search (rules, length_prepared, cells_prepared, double_prepared)
 
 -- ---- the first fault of the lines
 
 -- The first of two lists.
 first_of-append : {A : Type 0} (xs ys : List A)
     → first_of (xs ++ ys) ≡ option_or (first_of xs) (first_of ys)
-first_of-append [] ys = refl
-first_of-append (x ∷ xs) ys = refl
+first_of-append xs ys = grind (arith, nat_tests)
 
 -- One of three.
 option_or_assoc : {A : Type 0} (a b c : Option A)
     → option_or (option_or a b) c ≡ option_or a (option_or b c)
-option_or_assoc None b c = refl
-option_or_assoc (Some x) b c = refl
+option_or_assoc a b c = grind (arith, nat_tests)
 
 -- The faults of the open line come before those of the lines under it.
 told_line : (before : Option RowFault) (cells : List ℕ) (line : OpenLine) (ls : List (List ℕ))
@@ -97,12 +87,7 @@ told_line : (before : Option RowFault) (cells : List ℕ) (line : OpenLine) (ls 
     ≡ option_or before
     (first_of (line_faults line.number line.row line.is_under_double (prepared cells ∷ ls)))
 told_line before cells line ls h =
-    rw (
-      shape_kinds cells line h,
-      double_prepared cells,
-      h.height,
-      first_of-append (map (fault_of line.number) (shape_fault_kinds line)) _,
-    ) (option_or_assoc before _ _)
+    grind (arith, nat_tests, shape_kinds, double_prepared, first_of-append, option_or_assoc)
 
 -- What is told: a refused code, or else a fault that was found before, or else the first of the
 -- lines that are left, where the open line has some cells of its shape.
@@ -116,9 +101,7 @@ IsTold ss =
 
 -- Of one text code and those after it.
 told-code : (at : ℕ) (s : TextCode) (ss : List (ℕ × TextCode)) → IsTold ss → IsTold ((at, s) ∷ ss)
-told-code at (Cell code) ss after before cells line h =
-    rw (onto_code cells code (lines_of ss))
-    (after before (cells ++ code ∷ []) (with_cell line code) (shape-push cells code line h))
+told-code at (Cell code) ss after before cells line h = search (rules, onto_code, shape-push)
 told-code at NoCell ss after before cells line h = after before cells line h
 told-code at NewLine ss after before cells line h =
     rw (onto_line_end cells (lines_of ss))
@@ -129,8 +112,7 @@ told-code at (Refused kind) ss after before cells line h = refl
 
 -- Of all.
 told-is : (ss : List (ℕ × TextCode)) → IsTold ss
-told-is [] before cells line h =
-    rw (onto_line_end cells [], shape_kinds cells line h, append-nil) refl
+told-is [] before cells line h = grind (arith, nat_tests, onto_line_end, shape_kinds, append-nil)
 told-is (c ∷ ss) before cells line h = told-code c.0 c.1 ss (told-is ss) before cells line h
 
 -- The first fault of a subtitle. For `first_fault`.

@@ -1,4 +1,3 @@
--- The law is every_fault.
 use Rattle.stl_rows.proofs.EveryFaultLemmas.{every_fault}
 use Rattle.stl_rows.proofs.every_fault.law_of_every_fault.Goals as goal
 

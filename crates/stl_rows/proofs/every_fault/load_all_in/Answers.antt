@@ -1,7 +1,7 @@
 -- What was told and what is left to be told, at each step of the loop and at each way out:
 -- goes_on-next, tells-end, tells-stop, fails-next.
-use Rattle.std.proofs.Common.{◌≡◌, ◌++◌, None, Ok, Err, refl, rules, ap, []}
-use Rattle.std.proofs.Common.{sym, drop, map, ◌∙◌, arith}
+use Rattle.std.proofs.Common.{◌≡◌, ◌++◌, None, Ok, Err, refl, rules, ap, [], sym, drop, map, ◌∙◌}
+use Rattle.std.proofs.Common.{arith}
 use Rattle.std.proofs.lemmas.Bool.{lt-ltb}
 use Rattle.std.specs.Prelude.{◌≢◌}
 use Rattle.sub_io.proofs.TellingLemmas.{Tells-none, Tells-trans}
@@ -15,8 +15,7 @@ use Rattle.std.proofs.lemmas.List.Elements.{All-nil}
 use Rattle.stl_rows.proofs.FailedReadLemmas.{fails-next, has_taken-next, reads-nothing}
 use Rattle.stl_rows.proofs.LoadingLemmas.{are_kept-next, ends-here, goes_on-next, goes_on-start}
 use Rattle.stl_rows.proofs.LoadingLemmas.{if_kept, of_file-end, of_file-stopped, outcome_of-opened}
-use Rattle.stl_rows.proofs.LoadingLemmas.{IsToldBy, some-next, some_items, tells-end}
-use Rattle.stl_rows.proofs.LoadingLemmas.{told-none}
+use Rattle.stl_rows.proofs.LoadingLemmas.{IsToldBy, some-next, some_items, tells-end, told-none}
 use Rattle.stl_rows.proofs.LoadingLemmas.{tells-none, tells-stop, told-next, told-of_file}
 use Rattle.stl_rows.proofs.ProgrammeLemmas.{IsProgramme-none}
 use Rattle.stl_rows.proofs.every_fault.load_all_in.Goals as goal

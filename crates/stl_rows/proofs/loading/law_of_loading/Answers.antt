@@ -1,4 +1,3 @@
--- The law is loading_is, by what a file is.
 use Rattle.stl_rows.proofs.LoadingLaw.{loading_is}
 use Rattle.stl_rows.proofs.loading.law_of_loading.Goals as goal
 

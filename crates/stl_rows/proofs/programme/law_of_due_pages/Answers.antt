@@ -1,4 +1,3 @@
--- The law is due_is_page.
 use Rattle.stl_rows.proofs.PageShapeLemmas.{due_is_page}
 use Rattle.stl_rows.proofs.programme.law_of_due_pages.Goals as goal
 
