@@ -1,7 +1,7 @@
 -- A receiver that computes is one of the relation: `heard_so`. And a test of near packets:
 -- `packets_tested`. For examples.
-use Rattle.std.proofs.Common.{◌≡◌, ℕ, ◌-◌, Bool, true, false, ◌&&◌, List, [], ◌∷◌, map, get_or}
-use Rattle.std.proofs.Common.{refl, ap, ◌∙◌, arith, inl, inr}
+use Rattle.std.proofs.Common.{rules, ◌≡◌, ℕ, ◌-◌, Bool, true, false, ◌&&◌, List, [], ◌∷◌, map}
+use Rattle.std.proofs.Common.{get_or, refl, ap, ◌∙◌, arith, inl, inr}
 use Rattle.std.specs.List.{range_with_len, AllZip}
 use Rattle.std.proofs.lemmas.Bool.{and_parts, cases_Bool}
 use Rattle.std.proofs.lemmas.Bool.Decides.{nat_tests}
@@ -28,12 +28,8 @@ near_bytes (s ∷ sent) [] = false
 near_bytes (s ∷ sent) (g ∷ got) = is_near s g && near_bytes sent got
 
 bytes_tested : (sent got : List ℕ) → near_bytes sent got ≡ true → AreNear sent got
-bytes_tested [] [] e = tt
-bytes_tested [] (g ∷ got) e = cc
-bytes_tested (s ∷ sent) [] e = cc
-bytes_tested (s ∷ sent) (g ∷ got) e =
-    let parts = and_parts (is_near s g) (near_bytes sent got) e in
-    (near_from_test s g parts.0, bytes_tested sent got parts.1)
+bytes_tested [] y e = grind (arith, nat_tests)
+bytes_tested (s ∷ sent) y e = grind (arith, nat_tests, and_parts, near_from_test, bytes_tested sent)
 
 -- The packets are near.
 abbrev pub near_packets : List (List ℕ) → List (List ℕ) → Bool
@@ -44,17 +40,13 @@ near_packets (s ∷ sent) (g ∷ got) = near_bytes s g && near_packets sent got
 
 pub packets_tested :
     (sent got : List (List ℕ)) → near_packets sent got ≡ true → AllZip AreNear sent got
-packets_tested [] [] e = tt
-packets_tested [] (g ∷ got) e = cc
-packets_tested (s ∷ sent) [] e = cc
-packets_tested (s ∷ sent) (g ∷ got) e =
-    let parts = and_parts (near_bytes s g) (near_packets sent got) e in
-    (bytes_tested s g parts.0, packets_tested sent got parts.1)
+packets_tested [] y e = grind (arith, nat_tests)
+packets_tested (s ∷ sent) y e =
+    grind (arith, nat_tests, and_parts, bytes_tested, packets_tested sent)
 
 -- ---- a receiver that keeps the cells of even bytes
 
-cell-page_of_cells :
-    (code : ℕ → ℕ → ℕ) (row column : ℕ)
+cell-page_of_cells : (code : ℕ → ℕ → ℕ) (row column : ℕ)
     → IsCell row column
     → cell (page_of_cells code) row column ≡ code row column
 cell-page_of_cells code row column named =
@@ -68,12 +60,10 @@ cell-page_of_cells code row column named =
 row_is_stored :
     (packet : List ℕ) (y : ℕ) (page : Rows) → StoresRow packet y page (row_stored packet y page)
 row_is_stored packet y page row column named =
-    let at = cell-page_of_cells (code_stored packet y page) row column named in
-    grind (arith, nat_tests)
+    grind (arith, nat_tests, cell-page_of_cells (code_stored packet y page) row column named)
 
 -- Each packet is a step of the relation.
-stepped :
-    (k : PacketKind) (packet : List ℕ) (old : State)
+stepped : (k : PacketKind) (packet : List ℕ) (old : State)
     → StepAt k packet old (state_at k packet old)
 stepped (ThisPage h) packet old = refl
 stepped EndsPage packet old = refl
@@ -83,12 +73,8 @@ stepped (Row y) packet old = elim (cases_Bool old.is_open) [
 ]
 stepped Other packet old = refl
 
-pub heard_so :
-    (w : PageIdValue) (old : State) (packets : List (List ℕ))
+pub heard_so : (w : PageIdValue) (old : State) (packets : List (List ℕ))
     → Hears w old packets (state_after w old packets)
 heard_so w old [] = refl
-heard_so w old (packet ∷ packets) = (
-  state_at (kind w packet) packet old,
-  stepped (kind w packet) packet old,
-  heard_so w (state_at (kind w packet) packet old) packets,
-)
+heard_so w old (packet ∷ packets) =
+    grind (arith, nat_tests, stepped, heard_so w (state_at (kind w packet) packet old) packets)

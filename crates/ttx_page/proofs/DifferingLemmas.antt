@@ -1,7 +1,7 @@
 -- The count of differing cells: `rows-set`, how a row that is set changes it, and `cells_same`.
-use Rattle.std.proofs.Common.{◌≡◌, ℕ, zero, suc, ◌+◌, ◌*◌, ◌-◌, ◌<◌, ◌≤◌, cond, ◌==◌, List, []}
-use Rattle.std.proofs.Common.{length, get_or, set, refl, arith, get_or-set_same, get_or-set_other}
-use Rattle.std.proofs.Common.{add-one}
+use Rattle.std.proofs.Common.{rules, ◌≡◌, ℕ, zero, suc, ◌+◌, ◌*◌, ◌-◌, ◌<◌, ◌≤◌, cond, ◌==◌, List}
+use Rattle.std.proofs.Common.{[], length, get_or, set, refl, arith, get_or-set_same}
+use Rattle.std.proofs.Common.{get_or-set_other, add-one}
 use Rattle.std.proofs.lemmas.Bool.Decides.{nat_tests}
 use Rattle.ttx_page.specs.Differing.{columns_differing, row_differing, rows_differing, differing}
 use Rattle.ttx_page.specs.Page.{cell, IsCell}
@@ -18,8 +18,7 @@ unfolding columns_differing
 columns_none xs ys = refl
 
 -- One column more.
-pub columns_more :
-    (n : ℕ) (xs ys : List ℕ)
+pub columns_more : (n : ℕ) (xs ys : List ℕ)
     → columns_differing (n + 1) xs ys
     ≡ columns_differing n xs ys + cond (get_or xs n 0 == get_or ys n 0) 0 1
 unfolding columns_differing
@@ -29,24 +28,19 @@ columns_more n xs ys = rw add-one refl
 pub rows_le : (n : ℕ) (xs ys : List (List ℕ)) → rows_differing n xs ys ≤ 40 * n
 unfolding rows_differing
 rows_le zero xs ys = omega arith
-rows_le (suc n) xs ys =
-    omega (arith, rows_le n xs ys, columns_le 40 (get_or xs n []) (get_or ys n []))
+rows_le (suc n) xs ys = grind (arith, nat_tests, columns_le, rows_le n xs ys)
 
 -- A row that is not counted changes no count.
-rows-set_above :
-    (n : ℕ) (xs ys : List (List ℕ)) (i : ℕ) (row : List ℕ)
+rows-set_above : (n : ℕ) (xs ys : List (List ℕ)) (i : ℕ) (row : List ℕ)
     → n ≤ i
     → rows_differing n (set xs i row) ys ≡ rows_differing n xs ys
 unfolding rows_differing
 rows-set_above zero xs ys i row h = refl
 rows-set_above (suc n) xs ys i row h =
-    let before = rows-set_above n xs ys i row in
-    let other = get_or-set_other xs i n row [] in
-    grind arith
+    grind (arith, nat_tests, get_or-set_other, rows-set_above n xs ys i row)
 
 -- A row that is set changes the count by what differs in it. For a checker that stores rows.
-pub rows-set :
-    (n : ℕ) (xs ys : List (List ℕ)) (i : ℕ) (row : List ℕ)
+pub rows-set : (n : ℕ) (xs ys : List (List ℕ)) (i : ℕ) (row : List ℕ)
     → i < n
     → i < length xs
     → rows_differing n (set xs i row) ys + row_differing (get_or xs i []) (get_or ys i [])
@@ -61,8 +55,7 @@ rows-set (suc n) xs ys i row h l =
     grind arith
 
 -- What differs in a row is at most what differs in all.
-pub row_le :
-    (n : ℕ) (xs ys : List (List ℕ)) (i : ℕ)
+pub row_le : (n : ℕ) (xs ys : List (List ℕ)) (i : ℕ)
     → i < n
     → row_differing (get_or xs i []) (get_or ys i []) ≤ rows_differing n xs ys
 unfolding rows_differing
@@ -70,24 +63,19 @@ row_le zero xs ys i h = absurd (omega arith)
 row_le (suc n) xs ys i h = let before = row_le n xs ys i in grind arith
 
 -- Where the count is 0 the codes are equal.
-columns_zero :
-    (n : ℕ) (xs ys : List ℕ)
+columns_zero : (n : ℕ) (xs ys : List ℕ)
     → columns_differing n xs ys ≡ 0
     → (k : ℕ)
     → k < n
     → get_or xs k 0 ≡ get_or ys k 0
 unfolding columns_differing
 columns_zero zero xs ys e k l = absurd (omega arith)
-columns_zero (suc n) xs ys e k l =
-    let before = columns_zero n xs ys in grind (arith, nat_tests)
+columns_zero (suc n) xs ys e k l = grind (arith, nat_tests, columns_zero n xs ys)
 
 -- Where no cell differs, each cell of the one page is that of the other.
-pub cells_same :
-    (xs ys : List (List ℕ))
+pub cells_same : (xs ys : List (List ℕ))
     → differing xs ys ≡ 0
     → (row column : ℕ)
     → IsCell row column
     → cell xs row column ≡ cell ys row column
-cells_same xs ys e row column is =
-    columns_zero 40 (get_or xs (row - 1) []) (get_or ys (row - 1) [])
-    (omega (arith, row_le 24 xs ys (row - 1) (omega (arith, is)))) column is.2
+cells_same xs ys e row column is = grind (arith, nat_tests, columns_zero, row_le)

@@ -1,6 +1,6 @@
 -- A receiver that drops rows hears what is left of the packets: `law_of_dropping`.
-use Rattle.std.proofs.Common.{◌≡◌, ◌↔◌, ℕ, Bool, true, false, not, List, [], ◌∷◌, filter, inl, inr}
-use Rattle.std.proofs.Common.{refl, ap₂, arith}
+use Rattle.std.proofs.Common.{rules, ◌≡◌, ◌↔◌, ℕ, Bool, true, false, not, List, [], ◌∷◌, filter}
+use Rattle.std.proofs.Common.{inl, inr, refl, ap₂, arith}
 use Rattle.std.proofs.lemmas.Bool.{cases_Bool}
 use Rattle.std.proofs.lemmas.Bool.Decides.{nat_tests}
 use Rattle.ttx_packet.specs.PageId.{PageIdValue}
@@ -12,17 +12,14 @@ use Rattle.ttx_page.specs.Screen.{Display, ShowsAt, display}
 -- A run of steps that pass over dropped packets is one of other steps without these.
 module _
     {S : Type 0} (StepsBy PassesBy : S → List ℕ → S → Type 0) (dropped : List ℕ → Bool)
-    (over :
-    (old : S) (packet : List ℕ) (new : S)
+    (over : (old : S) (packet : List ℕ) (new : S)
     → dropped packet ≡ true
     → PassesBy old packet new ↔ (new ≡ old))
-    (other :
-    (old : S) (packet : List ℕ) (new : S)
+    (other : (old : S) (packet : List ℕ) (new : S)
     → dropped packet ≡ false
     → PassesBy old packet new ↔ StepsBy old packet new)
   where
-    runs_without :
-        (packets : List (List ℕ)) (old new : S)
+    runs_without : (packets : List (List ℕ)) (old new : S)
         → RunsBy PassesBy old packets new
         ↔ RunsBy StepsBy old (filter (λ packet. not (dropped packet)) packets) new
     runs_without [] old new = (λ run. run, λ run. run)
@@ -44,28 +41,10 @@ module _
     ]
 
 -- A dropped row leaves what is held and the screen as they are.
-shows_over :
-    (w : PageIdValue) (old : Display) (packet : List ℕ) (new : Display)
+shows_over : (w : PageIdValue) (old : Display) (packet : List ℕ) (new : Display)
     → is_dropped w packet ≡ true
     → StepBy Dropping w old.held packet new.held × ShowsAt w old packet new ↔ (new ≡ old)
-shows_over w old packet new drop = (
-  λ both.
-      let held : new.held ≡ old.held = rw drop at both.0 in
-      let stays = both.1.stays in
-      let open_or_not = cases_Bool old.held.is_open in
-      let screen : new.screen ≡ old.screen =
-      stays (grind (arith, nat_tests)) (grind (arith, nat_tests)) in
-      ap₂ display held screen,
-  λ same.
-      rw same (
-        rw drop refl,
-        record {
-          ended = λ ended. grind (arith, nat_tests);
-          again = λ again. grind (arith, nat_tests);
-          stays = λ ended again. refl;
-        },
-      ),
-)
+shows_over w old packet new drop = grind (arith, nat_tests, cases_Bool)
 
 -- The law of dropping.
 pub law_of_dropping : LawOfDropping

@@ -1,14 +1,13 @@
 -- Rows compared in blocks: mask_compared, mask_of_block, column_of_test; and how many cells of a
 -- block differ: ones_compared, columns_in_chunk.
-use Rattle.std.proofs.Common.{◌≡◌, ◌≢◌, ℕ, zero, suc, ◌+◌, ◌-◌, ◌^◌, ◌%◌, ◌<◌, ◌≤◌, cond, false}
-use Rattle.std.proofs.Common.{List}
-use Rattle.std.proofs.Common.{map, length, get_or, take, take_all, sym, ap, ap₂, ◌∙◌, arith}
-use Rattle.std.proofs.Common.{add-one, w8}
+use Rattle.std.proofs.Common.{rules, ◌≡◌, ◌≢◌, ℕ, zero, suc, ◌+◌, ◌-◌, ◌^◌, ◌%◌, ◌<◌, ◌≤◌, cond}
+use Rattle.std.proofs.Common.{false, List, map, length, get_or, take, take_all, sym, ap, ap₂, ◌∙◌}
+use Rattle.std.proofs.Common.{arith, add-one, w8}
 use Rattle.std.proofs.lemmas.Bool.Decides.{nat_tests}
 use Rattle.std.proofs.lemmas.List.{map-id, ext_get_or}
 use Rattle.std.proofs.lemmas.List.Sums.{sum_by_more}
-use Rattle.std.proofs.lemmas.Simd.{length-zip2, get_or-zip2, length-chunk, get_or-chunk}
-use Rattle.std.proofs.lemmas.Simd.{mask_l-mod, tops_compared, ones-mask_l}
+use Rattle.std.proofs.lemmas.Simd.{length-zip2, get_or-zip2, length-chunk, get_or-chunk, mask_l-mod}
+use Rattle.std.proofs.lemmas.Simd.{tops_compared, ones-mask_l}
 use Rattle.std.specs.List.{count_by}
 use Rattle.std.specs.Int.RustNames.{count_ones}
 use lib.Lanes.{zip2, mask_l, top, chunk}
@@ -116,15 +115,7 @@ pub column_of_test : (xs ys : List ℕ) (column : ℕ)
     × ((k : ℕ) → k < column → get_or xs k 0 ≡ get_or ys k 0)
 column_of_test xs ys column long long-2 within first =
     let test = λ (k : ℕ). get_or-zip2 differ xs ys k 0 0 false in
-    let here = test column (omega arith) (omega arith) in
-    let passes = first.passes in (
-      within,
-      λ e. grind (arith, nat_tests),
-      λ k l.
-          let there = test k (omega arith) (omega arith) in
-          let fails = first.before k l in
-          grind (arith, nat_tests),
-    )
+    grind (arith, nat_tests, get_or-zip2)
 
 -- Where no test is true the rows are equal.
 pub rows_of_tests : (xs ys : List ℕ)

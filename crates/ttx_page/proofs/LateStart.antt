@@ -1,9 +1,8 @@
 -- Who starts late: what was sent before a header of the page does not matter, `sound-later` and
 -- `shown-later`. And packets that may follow what was sent before are sound: `sound-joined`.
-use Rattle.std.proofs.Common.{◌≡◌, ℕ, suc, ◌<◌, Bool, true, not, List}
-use Rattle.std.proofs.Common.{[], ◌∷◌, ◌++◌, length, take, slice_index_or, find, Option, Some, None}
-use Rattle.std.proofs.Common.{Contains}
-use Rattle.std.proofs.Common.{option_map, unwrap_or, All, IsTrue, refl, sym, ap, ◌∙◌, subst, arith}
+use Rattle.std.proofs.Common.{rules, ◌≡◌, ℕ, suc, ◌<◌, Bool, true, not, List, [], ◌∷◌, ◌++◌, length}
+use Rattle.std.proofs.Common.{take, slice_index_or, find, Option, Some, None, Contains, option_map}
+use Rattle.std.proofs.Common.{unwrap_or, All, IsTrue, refl, sym, ap, ◌∙◌, subst, arith}
 use Rattle.std.proofs.Common.{append_assoc}
 use Rattle.std.specs.List.{list_any}
 use Rattle.std.proofs.lemmas.Bool.Decides.{nat_tests}
@@ -25,25 +24,21 @@ use Rattle.ttx_page.proofs.SpanLists.{after-append, after-none, holds-append_rig
 use Rattle.ttx_page.proofs.SpanPush.{span-push}
 
 -- What holds of two lists joined holds of the second.
-All-later :
-    {A : Type 0} (P : A → Type 0) (xs ys : List A)
+All-later : {A : Type 0} (P : A → Type 0) (xs ys : List A)
     → All P (xs ++ ys)
     → All P ys
 All-later P [] ys all = all
 All-later P (x ∷ xs) ys all = All-later P xs ys (All-tail P x (xs ++ ys) all)
 
 -- Equal packets have the same codes.
-pub codes_of_same :
-    (w : PageIdValue) (packets : List (List ℕ))
+pub codes_of_same : (w : PageIdValue) (packets : List (List ℕ))
     → All (λ first. All (IsSameRow w first) packets) packets
     → All (λ first. All (HasSameCodes w first) packets) packets
-codes_of_same w packets same i d l j e m row column one two below =
-    ap (λ p. code_of (text_byte p column)) (same i d l j e m row one two)
+codes_of_same w packets same i d l j e m row column one two below = grind (arith, nat_tests)
 
 module _ (w : PageIdValue) (before heard : List (List ℕ)) where
   -- What is so of the span of all is so of the span of what is heard, where it is so of no packets.
-  of_span :
-      (P : List (List ℕ) → Type 0)
+  of_span : (P : List (List ℕ) → Type 0)
       → P []
       → P (span (kind w) (before ++ heard))
       → P (span (kind w) heard)
@@ -60,36 +55,21 @@ module _ (w : PageIdValue) (before heard : List (List ℕ)) where
   }
 
   -- With a header of the page among what is heard, it shows what all shows.
-  pub shown-later :
-      holds_header (kind w) heard ≡ true
+  pub shown-later : holds_header (kind w) heard ≡ true
       → (row column : ℕ)
       → shown w (before ++ heard) row column ≡ shown w heard row column
-  shown-later holds row column =
-      ap
-      (λ ps. unwrap_or
-      (option_map (λ p. code_of (text_byte p column))
-      (find (λ p. is_row row (kind w p)) (before_end (kind w) ps)))
-      space)
-      (after-append (kind w) before heard holds)
+  shown-later holds row column = grind (arith, nat_tests, unwrap_or, after-append)
 
   -- And it is ended where all is.
-  pub unended-later :
-      holds_header (kind w) heard ≡ true
+  pub unended-later : holds_header (kind w) heard ≡ true
       → is_unended (kind w) (before ++ heard) ≡ is_unended (kind w) heard
-  unended-later holds =
-      ap (λ ps. not (list_any (λ p. ends_page (kind w p)) ps))
-      (after-append (kind w) before heard holds)
+  unended-later holds = grind (arith, nat_tests, after-append)
 
   -- The page is open after all where it is open after what is heard, and the spans are the same.
-  pub open-later :
-      is_open_after (kind w) heard ≡ true
+  pub open-later : is_open_after (kind w) heard ≡ true
       → (is_open_after (kind w) (before ++ heard) ≡ true)
       × (span (kind w) (before ++ heard) ≡ span (kind w) heard)
-  open-later up =
-      let after = after-append (kind w) before heard in
-      let unended = unended-later in
-      let holds = holds-append_right (kind w) before heard in
-      grind (arith, nat_tests)
+  open-later up = grind (arith, nat_tests, after-append, unended-later, holds-append_right)
 
 -- ---- packets that may follow others
 
@@ -99,8 +79,7 @@ pub record MayFollow (w : PageIdValue) (before : List (List ℕ)) (packet : List
   pub exact : HasExactWords packet
   pub erases : ErasesPage w packet
   pub odd : IsTrue (is_open_after (kind w) before) → IsOddRow w packet
-  pub same :
-      IsTrue (is_open_after (kind w) before)
+  pub same : IsTrue (is_open_after (kind w) before)
       → (row column : ℕ) (first : List ℕ)
       → kind w packet ≡ Row row
       → find (λ p. is_row row (kind w p)) (span (kind w) before) ≡ Some first
@@ -108,19 +87,10 @@ pub record MayFollow (w : PageIdValue) (before : List (List ℕ)) (packet : List
       → code_of (text_byte first column) ≡ code_of (text_byte packet column)
 
 -- It may follow what is heard of them.
-follows-later :
-    (w : PageIdValue) (before heard : List (List ℕ)) (packet : List ℕ)
+follows-later : (w : PageIdValue) (before heard : List (List ℕ)) (packet : List ℕ)
     → MayFollow w (before ++ heard) packet
     → MayFollow w heard packet
-follows-later w before heard packet follows = record {
-  exact = follows.exact;
-  erases = follows.erases;
-  odd = λ up. follows.odd (open-later w before heard up).0;
-  same = λ up row column first is found.
-      let later = open-later w before heard up in
-      follows.same later.0 row column first is
-      (ap (find (λ p. is_row row (kind w p))) later.1 ∙ found);
-}
+follows-later w before heard packet follows = grind (arith, nat_tests, open-later)
 
 -- What is sound stays sound with a packet that may follow.
 module _ (w : PageIdValue) (heard : List (List ℕ)) (packet : List ℕ) (sound : IsSound w heard)
@@ -129,18 +99,15 @@ module _ (w : PageIdValue) (heard : List (List ℕ)) (packet : List ℕ) (sound 
   spanned = span (kind w) heard
 
   -- What becomes of the span.
-  of_pushed :
-      (P : List (List ℕ) → Type 0)
+  of_pushed : (P : List (List ℕ) → Type 0)
       → P []
       → P spanned
       → (is_open_after (kind w) heard ≡ true → P (spanned ++ packet ∷ []))
       → P (span (kind w) (heard ++ packet ∷ []))
-  of_pushed P none was more =
-      let pushed = span-push (kind w) heard packet in grind (arith, nat_tests)
+  of_pushed P none was more = grind (arith, nat_tests, span-push)
 
   -- Each packet of its row in the span has its codes.
-  same_codes :
-      is_open_after (kind w) heard ≡ true
+  same_codes : is_open_after (kind w) heard ≡ true
       → (earlier : List ℕ)
       → Contains spanned earlier
       → HasSameCodes w earlier packet
@@ -150,15 +117,13 @@ module _ (w : PageIdValue) (heard : List (List ℕ)) (packet : List ℕ) (sound 
       test : List ℕ → Bool
       test p = is_row row (kind w p)
 
-      go :
-          (o : Option (List ℕ))
+      go : (o : Option (List ℕ))
           → find test spanned ≡ o
           → unwrap_or (option_map (λ p. code_of (text_byte p column)) o) space
           ≡ code_of (text_byte packet column)
       go None e =
           let none = none_pass test spanned e in
-          let some = list_any_at test spanned within.0 earlier within.1 in
-          grind (arith, nat_tests)
+          grind (arith, nat_tests, none_pass, test, list_any_at)
       go (Some first) e = follows.same up row column first is_packet e below
 
   sound-push : IsSound w (heard ++ packet ∷ [])
@@ -184,8 +149,7 @@ module _ (w : PageIdValue) (heard : List (List ℕ)) (packet : List ℕ) (sound 
   }
 
 -- Packets that may each follow what was sent before are sound with what is heard of it.
-pub sound-joined :
-    (w : PageIdValue) (before heard more : List (List ℕ))
+pub sound-joined : (w : PageIdValue) (before heard more : List (List ℕ))
     → IsSound w heard
     → ((k : ℕ)
     → k < length more

@@ -1,8 +1,8 @@
 -- The laws of noise and of lost rows: what a run over items leaves of the flags, `flags`, and of a
 -- cell, `cell_shown`, gives `law_of_recovery` and `law_of_lost_rows`; the others follow.
-use Rattle.std.proofs.Common.{◌≡◌, ℕ, suc, ◌<◌, ◌⊎◌, inl, inr, Bool, true, false, not, ◌||◌, List}
-use Rattle.std.proofs.Common.{[], ◌∷◌, length, map, zip, find, Option, Some, None, option_map, All}
-use Rattle.std.proofs.Common.{unwrap_or, Contains, IsTrue, refl, sym, ap, ◌∙◌, arith}
+use Rattle.std.proofs.Common.{rules, ◌≡◌, ℕ, suc, ◌<◌, ◌⊎◌, inl, inr, Bool, true, false, not, ◌||◌}
+use Rattle.std.proofs.Common.{List, [], ◌∷◌, length, map, zip, find, Option, Some, None, option_map}
+use Rattle.std.proofs.Common.{All, unwrap_or, Contains, IsTrue, refl, sym, ap, ◌∙◌, arith}
 use Rattle.std.specs.List.{AllByRecursion, list_any, AllZip, items_where_true}
 use Rattle.std.proofs.lemmas.Bool.Decides.{nat_tests}
 use Rattle.std.proofs.lemmas.List.{length-map, get_or-map}
@@ -26,14 +26,12 @@ use Rattle.ttx_page.specs.Noise.{HasSameCodes, IsOddRow, IsSound, LawOfNoise, La
 use Rattle.ttx_page.specs.LostRows.{IsHitOrLost, LawOfLostRows, LawOfNothingLost, MayBeMarked}
 use Rattle.ttx_page.specs.LostRows.{arrivals_of}
 use Rattle.ttx_page.specs.Recovery.{LawOfRecovery}
-use Rattle.ttx_page.proofs.SpanLists.{Any-map, map-Any, find_is, find_none, none_pass}
-use Rattle.ttx_page.proofs.SpanLists.{list_any-map, after-map, span-map, zip-map}
-use Rattle.ttx_page.proofs.NoiseSteps.{Item, kind_of_item, Becomes, excused_as, over}
-use Rattle.ttx_page.proofs.NoiseSteps.{row_from_test}
+use Rattle.ttx_page.proofs.SpanLists.{Any-map, map-Any, find_is, find_none, none_pass, list_any-map}
+use Rattle.ttx_page.proofs.SpanLists.{after-map, span-map, zip-map}
+use Rattle.ttx_page.proofs.NoiseSteps.{Item, kind_of_item, Becomes, excused_as, over, row_from_test}
 
 -- Each packet of a row in the span has the code that is shown. Also for `LateStart`.
-pub shown_is :
-    (w : PageIdValue) (sent : List (List ℕ)) (row column : ℕ) (packet : List ℕ)
+pub shown_is : (w : PageIdValue) (sent : List (List ℕ)) (row column : ℕ) (packet : List ℕ)
     → IsSound w sent
     → Contains (span (kind w) sent) packet
     → kind w packet ≡ Row row
@@ -47,21 +45,14 @@ shown_is w sent row column packet sound within is below = go (find test spanned)
     test : List ℕ → Bool
     test p = is_row row (kind w p)
 
-    go :
-        (o : Option (List ℕ))
+    go : (o : Option (List ℕ))
         → find test spanned ≡ o
         → code_of (text_byte packet column)
         ≡ unwrap_or (option_map (λ p. code_of (text_byte p column)) o) space
     go None e =
         let none = none_pass test spanned e in
-        let some = list_any_at test spanned within.0 packet within.1 in
-        grind (arith, nat_tests)
-    go (Some first) e =
-        let found = find_is test spanned first e in
-        sym
-        (All-contains (HasSameCodes w first) spanned packet
-        (All-contains (λ p. All (HasSameCodes w p) spanned) spanned first sound.same found.1) within
-        row column (row_from_test row (kind w first) found.0) is below)
+        grind (arith, nat_tests, none_pass, test, spanned, list_any_at)
+    go (Some first) e = search (rules, find_is, test, spanned, All-contains, row_from_test)
 
 -- There is an arrival for each mark.
 length-arrivals_of :
@@ -86,53 +77,34 @@ module _ (class : ReceiverClass) (w : PageIdValue) (sent : List (List ℕ)) (mar
 
   -- The packets of the items are those that were sent.
   sent-items : sent ≡ map sent_of items
-  sent-items =
-      sym
-      (firsts-zip sent arrivals
-      (length-arrivals_of marks got ∙ AllZip-long MayBeMarked sent marks may))
+  sent-items = grind (arith, nat_tests, firsts-zip, length-arrivals_of, AllZip-long)
 
   -- So are those of their span.
   span-items : span (kind w) sent ≡ map sent_of (span (kind_of_item w) items)
   span-items = ap (span (kind w)) sent-items ∙ span-map (kind w) sent_of items
 
   -- The packet of an item in the span is in the span.
-  sent-in_span :
-      (item : Item)
+  sent-in_span : (item : Item)
       → Contains (span (kind_of_item w) items) item
       → Contains (span (kind w) sent) item.0
-  sent-in_span item within =
-      rw span-items (
-        within.0,
-        simp length-map within.1,
-        get_or-map sent_of _ within.0 item item.0 within.1 ∙ ap sent_of within.2,
-      )
+  sent-in_span item within = grind (arith, nat_tests, span-items, length-map, get_or-map)
 
   -- They hold a header of the page where the packets do.
   holds-items : holds_header (kind w) sent ≡ holds_header (kind_of_item w) items
-  holds-items =
-      ap (holds_header (kind w)) sent-items
-      ∙ list_any-map sent_of (λ p. is_this_page (kind w p)) items
+  holds-items = grind (arith, nat_tests, sent-items, list_any-map)
 
   -- Their span ends where that of the packets does.
   is_unended-items : is_unended (kind w) sent ≡ is_unended (kind_of_item w) items
-  is_unended-items =
-      ap (is_unended (kind w)) sent-items
-      ∙ ap (λ ps. not (list_any (λ p. ends_page (kind w p)) ps)) (after-map (kind w) sent_of items)
-      ∙ ap not
-      (list_any-map sent_of (λ p. ends_page (kind w p)) (after_last_header (kind_of_item w) items))
+  is_unended-items = grind (arith, nat_tests, sent-items, after-map, list_any-map, kind_of_item)
 
   -- Their span has a packet of a row where that of the packets does.
-  row-items :
-      (row : ℕ)
+  row-items : (row : ℕ)
       → list_any (λ p. is_row row (kind w p)) (span (kind w) sent)
       ≡ list_any (λ (item : Item). is_row row (kind w item.0)) (span (kind_of_item w) items)
-  row-items row =
-      ap (list_any (λ p. is_row row (kind w p))) span-items
-      ∙ list_any-map sent_of (λ p. is_row row (kind w p)) (span (kind_of_item w) items)
+  row-items row = grind (arith, nat_tests, span-items, list_any-map, kind_of_item)
 
   -- What has become of a receiver and of one cell.
-  becomes :
-      (old new : State) (row column : ℕ)
+  becomes : (old new : State) (row column : ℕ)
       → IsSound w sent
       → IsCell row column
       → HearsBy class w old got new
@@ -145,8 +117,7 @@ module _ (class : ReceiverClass) (w : PageIdValue) (sent : List (List ℕ)) (mar
       hears (grind (arith, nat_tests))
 
   -- The two flags.
-  flags :
-      (old new : State)
+  flags : (old new : State)
       → IsSound w sent
       → HearsBy class w old got new
       → (new.heard ≡ (holds_header (kind w) sent || old.heard))
@@ -157,8 +128,7 @@ module _ (class : ReceiverClass) (w : PageIdValue) (sent : List (List ℕ)) (mar
       rw (holds-items, is_unended-items) (end.heard, end.is_open)
 
   -- Each cell, after a header of the page.
-  cell_shown :
-      (old new : State)
+  cell_shown : (old new : State)
       → IsSound w sent
       → holds_header (kind w) sent ≡ true
       → HearsBy class w old got new
@@ -186,42 +156,26 @@ module _ (class : ReceiverClass) (w : PageIdValue) (sent : List (List ℕ)) (mar
 -- The law of recovery.
 pub law_of_recovery : LawOfRecovery
 law_of_recovery class w sent marks got old new sound may near holds hears =
-    let end = flags class w sent marks got may near old new sound hears in
-    record {
-      heard = grind (arith, nat_tests);
-      is_open = grind (arith, nat_tests);
-      cells = cell_shown class w sent marks got may near old new sound holds hears;
-    }
+    grind (arith, nat_tests, flags, cell_shown)
 
 -- The law of lost rows.
 pub law_of_lost_rows : LawOfLostRows
 law_of_lost_rows class w sent marks got old new sound may near unheard shut hears =
-    let end = flags class w sent marks got may near old new sound hears in
-    record {
-      heard = grind (arith, nat_tests);
-      is_open = grind (arith, nat_tests);
-      cells = λ now_heard.
-          cell_shown class w sent marks got may near old new sound (grind (arith, nat_tests)) hears;
-    }
+    grind (arith, nat_tests, flags, cell_shown)
 
 -- ---- with nothing lost
 
 -- Marks that are all true keep all packets.
-items-all_true :
-    (sent : List (List ℕ)) (marks : List Bool)
+items-all_true : (sent : List (List ℕ)) (marks : List Bool)
     → AllByRecursion IsTrue marks
     → AllZip MayBeMarked sent marks
     → items_where_true marks sent ≡ sent
 items-all_true [] [] all may = refl
 items-all_true [] (m ∷ marks) all may = elim may [ ]
-items-all_true (p ∷ sent) [] all may = elim may [ ]
-items-all_true (p ∷ sent) (true ∷ marks) all may =
-    ap (λ ps. p ∷ ps) (items-all_true sent marks all.1 may.1)
-items-all_true (p ∷ sent) (false ∷ marks) all may = let h : false ≡ true = all.0 in cc
+items-all_true (p ∷ sent) y all may = grind (arith, nat_tests, items-all_true sent)
 
 -- And then nothing of what was got is lost.
-arrivals_of-all_true :
-    (sent got : List (List ℕ)) (marks : List Bool)
+arrivals_of-all_true : (sent got : List (List ℕ)) (marks : List Bool)
     → AllByRecursion IsTrue marks
     → AllZip MayBeMarked sent marks
     → AllZip AreNear sent got
@@ -229,21 +183,15 @@ arrivals_of-all_true :
 arrivals_of-all_true [] [] [] all may near = refl
 arrivals_of-all_true [] (g ∷ got) marks all may near = elim near [ ]
 arrivals_of-all_true [] [] (m ∷ marks) all may near = elim may [ ]
-arrivals_of-all_true (p ∷ sent) [] marks all may near = elim near [ ]
-arrivals_of-all_true (p ∷ sent) (g ∷ got) [] all may near = elim may [ ]
-arrivals_of-all_true (p ∷ sent) (g ∷ got) (true ∷ marks) all may near =
-    ap (λ fs. Some g ∷ fs) (arrivals_of-all_true sent got marks all.1 may.1 near.1)
-arrivals_of-all_true (p ∷ sent) (g ∷ got) (false ∷ marks) all may near =
-    let h : false ≡ true = all.0 in cc
+arrivals_of-all_true (p ∷ sent) y marks all may near =
+    grind (arith, nat_tests, arrivals_of-all_true sent)
 
 -- The span of the items where all is got: that of the pairs.
-span-zip_map_Some :
-    (w : PageIdValue) (sent got : List (List ℕ))
+span-zip_map_Some : (w : PageIdValue) (sent got : List (List ℕ))
     → span (kind_of_item w) (zip sent (map Some got))
     ≡ map (λ pair. (pair.0, Some pair.1))
     (span (λ (pair : List ℕ × List ℕ). kind w pair.0) (zip sent got))
-span-zip_map_Some w sent got =
-    ap (span (kind_of_item w)) (zip-map Some sent got) ∙ span-map (kind_of_item w) _ (zip sent got)
+span-zip_map_Some w sent got = grind (arith, nat_tests, kind_of_item, zip-map, span-map)
 
 -- The law of lost rows with nothing lost is the law of noise.
 pub law_of_nothing_lost : LawOfNothingLost
@@ -308,8 +256,7 @@ zip-itself [] = refl
 zip-itself (p ∷ ps) = ap (λ xs. (p, p) ∷ xs) (zip-itself ps)
 
 -- Where nothing is wrong no cell is hit.
-no_hit :
-    (w : PageIdValue) (packets : List (List ℕ)) (row column : ℕ)
+no_hit : (w : PageIdValue) (packets : List (List ℕ)) (row column : ℕ)
     → IsHit w packets packets row column
     → ⊥
 no_hit w packets row column hit =

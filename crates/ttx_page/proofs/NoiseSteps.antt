@@ -1,9 +1,8 @@
 -- What becomes of a receiver by packets that are sent, each got with wrong bits or lost: at one
 -- packet, `at_lost` and `at_got`, and by a run over many, `over`.
-use Rattle.std.proofs.Common.{◌≡◌, ℕ, ◌+◌, ◌-◌, ◌<◌, ◌⊎◌, inl, inr, true, false, not, ◌&&◌, ◌||◌}
-use Rattle.std.proofs.Common.{List, [], ◌∷◌, ◌++◌, zip, slice_index, replicate, Option, Some, None}
-use Rattle.std.proofs.Common.{Bool, is_some}
-use Rattle.std.proofs.Common.{Contains, IsTrue, refl, ap, ◌∙◌, arith}
+use Rattle.std.proofs.Common.{rules, ◌≡◌, ℕ, ◌+◌, ◌-◌, ◌<◌, ◌⊎◌, inl, inr, true, false, not, ◌&&◌}
+use Rattle.std.proofs.Common.{◌||◌, List, [], ◌∷◌, ◌++◌, zip, slice_index, replicate, Option, Some}
+use Rattle.std.proofs.Common.{None, Bool, is_some, Contains, IsTrue, refl, ap, ◌∙◌, arith}
 use Rattle.std.specs.List.{list_any, AllByRecursion, AllZip, items_where_true}
 use Rattle.std.proofs.lemmas.Bool.{cases_Bool}
 use Rattle.std.proofs.lemmas.Bool.Decides.{nat_tests}
@@ -43,58 +42,49 @@ abbrev pub kind_of_item : PageIdValue → Item → PacketKind
 kind_of_item w item = kind w item.0
 
 -- A packet that may be lost is no header.
-pub lost_is_no_header :
-    (w : PageIdValue) (packet : List ℕ)
+pub lost_is_no_header : (w : PageIdValue) (packet : List ℕ)
     → MayBeLost packet
     → (is_this_page (kind w packet) ≡ false) × (ends_page (kind w packet) ≡ false)
 unfolding kind
 lost_is_no_header w packet may = grind (arith, nat_tests)
 
 -- One wrong bit in each byte leaves the kind of a packet of code words as it was.
-pub kind-near :
-    (w : PageIdValue) (sent got : List ℕ)
+pub kind-near : (w : PageIdValue) (sent got : List ℕ)
     → HasExactWords sent
     → AreNear sent got
     → kind w got ≡ kind w sent
 unfolding kind
-kind-near w sent got exact near =
-    rw (address-near sent got exact.0 near, header-near sent got exact near)
+kind-near w sent got exact near = grind (arith, nat_tests, address-near, header-near)
 
 -- ---- what excuses a space
 
 -- What is so of a cell excuses a space in it.
-excused_here :
-    (class : ReceiverClass) (P : ℕ → ℕ → Type 0) (row column : ℕ)
+excused_here : (class : ReceiverClass) (P : ℕ → ℕ → Type 0) (row column : ℕ)
     → column < 40
     → P row column
     → ExcusedBy class P row column
-excused_here Storing P row column below here = here
-excused_here Dropping P row column below here = (column, below, here)
+excused_here class P row column below here = grind (arith, nat_tests)
 
 -- An excuse goes over to what each cell of the row gives. Also for `NoiseLaws`.
-pub excused_as :
-    (class : ReceiverClass) (P Q : ℕ → ℕ → Type 0) (row column : ℕ)
+pub excused_as : (class : ReceiverClass) (P Q : ℕ → ℕ → Type 0) (row column : ℕ)
     → ((other : ℕ) → P row other → Q row other)
     → ExcusedBy class P row column
     → ExcusedBy class Q row column
 excused_as Storing P Q row column gives excused = gives column excused
-excused_as Dropping P Q row column gives excused =
-    (excused.0, excused.1, gives excused.0 excused.2)
+excused_as Dropping P Q row column gives excused = grind (arith, nat_tests)
 
 -- The byte is lost, by what arrives of a packet.
 abbrev pub Loses : List ℕ → Option (List ℕ) → ℕ → ℕ → Type 0
 Loses sent arrival row column = LosesByte sent arrival column
 
 -- A dropped row has an even byte.
-even_byte_of :
-    (packet : List ℕ)
+even_byte_of : (packet : List ℕ)
     → is_some (first_even_byte packet) ≡ true
     → (column : ℕ) × (column < 40) × (is_odd (text_byte packet column) ≡ false)
 unfolding first_even_byte
 even_byte_of packet some = go (first_even_byte packet) refl some
   where
-    go :
-        (o : Option ℕ)
+    go : (o : Option ℕ)
         → first_even_byte packet ≡ o
         → is_some o ≡ true
         → (column : ℕ) × (column < 40) × (is_odd (text_byte packet column) ≡ false)
@@ -104,15 +94,11 @@ even_byte_of packet some = go (first_even_byte packet) refl some
         (column, found.0, grind (arith, nat_tests))
 
 -- So a row that was odd, and is dropped, has lost a byte.
-dropped_loses :
-    (w : PageIdValue) (sent got : List ℕ) (row column : ℕ)
+dropped_loses : (w : PageIdValue) (sent got : List ℕ) (row column : ℕ)
     → HasOddText sent
     → is_dropped w got ≡ true
     → ExcusedBy Dropping (Loses sent (Some got)) row column
-dropped_loses w sent got row column odd drop =
-    let even = even_byte_of got (grind (arith, nat_tests)) in
-    let sent_odd = odd even.0 even.1 in
-    (even.0, even.1, λ same. grind (arith, nat_tests))
+dropped_loses w sent got row column odd drop = grind (arith, nat_tests, even_byte_of)
 
 -- ---- one step
 
@@ -132,26 +118,22 @@ record AtItem
     (arrival : Option (List ℕ)) (old new : State)
     : Type 0 where
   heard : new.heard ≡ (is_this_page (kind w sent) || old.heard)
-  is_open :
-      new.is_open
+  is_open : new.is_open
       ≡ (is_this_page (kind w sent) || (old.is_open && not (ends_page (kind w sent))))
   -- A header of the page erases it.
   erased : is_this_page (kind w sent) ≡ true → new.page ≡ blank
   -- The cell stays but at packets of its row while the page is open.
-  stays :
-      is_this_page (kind w sent) ≡ false
+  stays : is_this_page (kind w sent) ≡ false
       → (old.is_open && is_row row (kind w sent)) ≡ false
       → cell new.page row column ≡ cell old.page row column
   -- There it takes the code that was sent.
-  stores :
-      kind w sent ≡ Row row
+  stores : kind w sent ≡ Row row
       → old.is_open ≡ true
       → HasOddText sent
       → TakesCode class row column sent arrival old new
 
 -- It is so of a packet that is got and not dropped.
-at_step :
-    (w : PageIdValue) (row column : ℕ) (sent got : List ℕ) (old new : State)
+at_step : (w : PageIdValue) (row column : ℕ) (sent got : List ℕ) (old new : State)
     → IsCell row column
     → HasExactWords sent
     → ErasesPage w sent
@@ -159,27 +141,17 @@ at_step :
     → Step w old got new
     → AtItem Storing w row column sent (Some got) old new
 at_step w row column sent got old new named exact erases near step =
-    let same = kind-near w sent got exact near in
-    let near_byte = near_at sent got (column + 2) near in
-    let even = even_from_changed (text_byte sent column) (text_byte got column) in
-    let is_odd_here : HasOddText sent → IsTrue (is_odd (text_byte sent column)) =
-    λ odd. odd column named.2 in
-    grind (arith, nat_tests)
+    grind (arith, nat_tests, kind-near, near_at, even_from_changed)
 
 -- It is so of a packet that is lost.
-at_lost :
-    (class : ReceiverClass) (w : PageIdValue) (row column : ℕ) (sent : List ℕ) (old : State)
+at_lost : (class : ReceiverClass) (w : PageIdValue) (row column : ℕ) (sent : List ℕ) (old : State)
     → IsCell row column
     → MayBeLost sent
     → AtItem class w row column sent None old old
-at_lost class w row column sent old named may =
-    let no_header = lost_is_no_header w sent may in
-    let excused = excused_here class (Loses sent None) row column named.2 tt in
-    grind (arith, nat_tests)
+at_lost class w row column sent old named may = search (rules, lost_is_no_header, excused_here)
 
 -- And of each that is got.
-at_got :
-    (class : ReceiverClass) (w : PageIdValue) (row column : ℕ) (sent got : List ℕ)
+at_got : (class : ReceiverClass) (w : PageIdValue) (row column : ℕ) (sent got : List ℕ)
     (old new : State)
     → IsCell row column
     → HasExactWords sent
@@ -187,8 +159,7 @@ at_got :
     → AreNear sent got
     → StepBy class w old got new
     → AtItem class w row column sent (Some got) old new
-at_got Storing w row column sent got old new named exact erases near goes =
-    at_step w row column sent got old new named exact erases near goes
+at_got Storing w row column sent got old new named exact erases near goes = search (rules, at_step)
 at_got Dropping w row column sent got old new named exact erases near goes =
     elim (cases_Bool (is_dropped w got)) [
       | inl drop ↦
@@ -218,10 +189,7 @@ at_got Dropping w row column sent got old new named exact erases near goes =
 cell-blank : (row column : ℕ) → IsCell row column → cell blank row column ≡ space
 unfolding blank blank_row
 cell-blank row column named =
-    let in_rows : row - 1 < 24 = omega (arith, named) in
-    ap (λ (cells : List ℕ). slice_index cells column)
-    (get_or-replicate 24 (row - 1) (replicate 40 space) [] in_rows)
-    ∙ get_or-replicate 40 column space 0 named.2
+    grind (arith, nat_tests, get_or-replicate, get_or-replicate 40 column space 0 named.2)
 
 -- ---- a run
 
@@ -241,13 +209,11 @@ module _ (class : ReceiverClass) (w : PageIdValue) (row column code : ℕ) (Excu
   -- What has become of a receiver by these items.
   pub record Becomes (start : State) (items : List Item) (now : State) : Type 0 where
     pub heard : now.heard ≡ (holds_header (kind_of_item w) items || start.heard)
-    pub is_open :
-        (holds_header (kind_of_item w) items || not start.is_open) ≡ true
+    pub is_open : (holds_header (kind_of_item w) items || not start.is_open) ≡ true
         → now.is_open ≡ is_open_after (kind_of_item w) items
     -- After a header of the page, the cell is the code, or a space: excused, or since the span has
     -- no packet of the row.
-    pub cell_is :
-        holds_header (kind_of_item w) items ≡ true
+    pub cell_is : holds_header (kind_of_item w) items ≡ true
         → AreTargets (span (kind_of_item w) items)
         → (cell now.page row column ≡ code)
         ⊎ ((cell now.page row column ≡ space)
@@ -256,8 +222,7 @@ module _ (class : ReceiverClass) (w : PageIdValue) (row column code : ℕ) (Excu
         ≡ false)))
 
   -- One item more.
-  Becomes-push :
-      (start : State) (items : List Item) (sent : List ℕ) (arrival : Option (List ℕ))
+  Becomes-push : (start : State) (items : List Item) (sent : List ℕ) (arrival : Option (List ℕ))
       (old new : State)
       → IsCell row column
       → AtItem class w row column sent arrival old new
@@ -303,8 +268,7 @@ module _ (class : ReceiverClass) (w : PageIdValue) (row column code : ℕ) (Excu
       }
 
   -- What is sent more, and kept or lost: by induction from the front, after any items.
-  pub over :
-      (start : State) (items : List Item) (sent : List (List ℕ)) (marks : List Bool)
+  pub over : (start : State) (items : List Item) (sent : List (List ℕ)) (marks : List Bool)
       (got : List (List ℕ)) (old new : State)
       → IsCell row column
       → AllByRecursion HasExactWords sent

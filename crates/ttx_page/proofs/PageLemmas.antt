@@ -1,6 +1,7 @@
 -- What holds of pages: `is_page_blank`, and that pages with equal rows are equal.
-use Rattle.std.proofs.Common.{List, length, true, nat_lt, ltb-true, ◌≡◌, ℕ, ◌<◌, [], get_or}
+use Rattle.std.proofs.Common.{rules, List, length, true, nat_lt, ltb-true, ◌≡◌, ℕ, ◌<◌, [], get_or}
 use Rattle.std.proofs.Common.{replicate, arith, inl, inr, sym, ◌∙◌, lit<}
+use Rattle.std.proofs.lemmas.Bool.Decides.{nat_tests}
 use Rattle.std.proofs.lemmas.List.{get_or-replicate, get_or_past, length-replicate, ext_get_or}
 use Rattle.std.proofs.lemmas.Bool.{cases_lt}
 use Rattle.std.specs.List.{list_all}
@@ -9,27 +10,15 @@ use Rattle.ttx_page.specs.Page.{Rows, blank, blank_row, AreCodes, IsPage, space}
 
 -- Each code of rows of spaces is one. For `is_page_blank`.
 codes_of_rows : (n m r c : ℕ) → get_or (get_or (replicate n (replicate m space)) r []) c 0 < 128
-codes_of_rows n m r c =
-    let row = replicate m space in
-    let in_rows = get_or-replicate n r row [] in
-    let past_rows = get_or_past (replicate n row) r [] in
-    let in_row = get_or-replicate m c space 0 in
-    let past_row = get_or_past row c 0 in
-    grind (arith, length-replicate)
+codes_of_rows n m r c = grind (arith, nat_tests, get_or-replicate, get_or_past, length-replicate)
 
 -- The blank page has the shape of a page. For `Page::blank`.
 pub is_page_blank : IsPage blank
 unfolding blank blank_row
-is_page_blank = record {
-  rows = length-replicate 24 (replicate 40 space);
-  columns = λ r h.
-      rw (get_or-replicate 24 r (replicate 40 space) [] h) (length-replicate 40 space);
-  codes = λ r c. codes_of_rows 24 40 r c;
-}
+is_page_blank = search (rules, length-replicate, get_or-replicate, codes_of_rows)
 
 -- Pages with equal rows are equal; `x` and `y` are what their fields hold. For `first_difference`.
-pub same_pages :
-    (a b x y : Rows)
+pub same_pages : (a b x y : Rows)
     → x ≡ a
     → y ≡ b
     → IsPage x
@@ -37,17 +26,10 @@ pub same_pages :
     → ((i : ℕ) → i < 24 → get_or x i [] ≡ get_or y i [])
     → a ≡ b
 same_pages a b x y e f p q h =
-    sym e
-    ∙ ext_get_or [] x y (p.rows ∙ sym q.rows) (λ k below. h k (omega (arith, p.rows)))
-    ∙ f
+    sym e ∙ ext_get_or [] x y (p.rows ∙ sym q.rows) (λ k below. h k (omega (arith, p.rows))) ∙ f
 
 -- Codes that are written out are codes, by a test that computes. For literals, as in tests.
-pub codes_from_test :
-    (codes : List ℕ)
+pub codes_from_test : (codes : List ℕ)
     → list_all (λ c. nat_lt c 128) codes ≡ true
     → AreCodes codes
-codes_from_test codes e k =
-    elim (cases_lt k (length codes)) [
-      | inl h ↦ ltb-true _ 128 (AllPass-from_list_all (λ c. nat_lt c 128) codes e k 0 h)
-      | inr h ↦ rw (get_or_past codes k 0 h) (lit< tt)
-    ]
+codes_from_test codes e k = search (rules, cases_lt, ltb-true, AllPass-from_list_all, get_or_past)

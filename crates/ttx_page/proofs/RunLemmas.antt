@@ -1,7 +1,8 @@
 -- Runs that are joined, `RunsBy-append`, and go on by one packet, `run_more`; and runs of which
 -- each step is one of another kind: `RunsBy-as`.
-use Rattle.std.proofs.Common.{◌≡◌, ℕ, ◌+◌, ◌<◌, List, [], ◌∷◌, ◌++◌, length, take, get_or, refl}
-use Rattle.std.proofs.Common.{ap}
+use Rattle.std.proofs.Common.{arith, rules, ◌≡◌, ℕ, ◌+◌, ◌<◌, List, [], ◌∷◌, ◌++◌, length, take}
+use Rattle.std.proofs.Common.{get_or, refl, ap}
+use Rattle.std.proofs.lemmas.Bool.Decides.{nat_tests}
 use Rattle.std.proofs.lemmas.List.{take_more}
 use Rattle.ttx_page.specs.Receiver.{RunsBy}
 
@@ -17,8 +18,7 @@ RunsBy-append StepsBy (p ∷ ps) more old mid new run next =
 
 -- The run of a loop over packets goes on by one. For `hear_all`, of receivers and of `DropRow`, and
 -- `show_all`.
-pub run_more :
-    {S : Type 0} (StepsBy : S → List ℕ → S → Type 0) (packets : List (List ℕ)) (i : ℕ)
+pub run_more : {S : Type 0} (StepsBy : S → List ℕ → S → Type 0) (packets : List (List ℕ)) (i : ℕ)
     (packet : List ℕ) (old mid new : S)
     → i < length packets
     → packet ≡ get_or packets i packet

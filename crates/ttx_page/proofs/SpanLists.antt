@@ -1,7 +1,7 @@
 -- Lists, searches, and the span of a mapped list: `span-map`.
-use Rattle.std.proofs.Common.{◌≡◌, zero, suc, inl, inr, Bool, true, false, ◌||◌, cond, List, []}
-use Rattle.std.proofs.Common.{◌∷◌, ◌++◌, Some, None, map, zip, find, Any, Contains, refl, ap, ◌∙◌}
-use Rattle.std.proofs.Common.{arith}
+use Rattle.std.proofs.Common.{rules, ◌≡◌, zero, suc, inl, inr, Bool, true, false, ◌||◌, cond, List}
+use Rattle.std.proofs.Common.{[], ◌∷◌, ◌++◌, Some, None, map, zip, find, Any, Contains, refl, ap}
+use Rattle.std.proofs.Common.{◌∙◌, arith}
 use Rattle.std.specs.List.{list_any}
 use Rattle.std.proofs.lemmas.List.{length-map, get_or-map}
 use Rattle.std.proofs.lemmas.List.Folds.{list_any-append}
@@ -12,37 +12,31 @@ use Rattle.ttx_page.specs.PacketKind.{is_this_page}
 use Rattle.ttx_page.specs.Span.{holds_header, after_last_header, before_end, span}
 
 -- What holds of some element of a mapped list holds, through the map, of some element of the list.
-pub Any-map :
-    {A B : Type 0} (P : B → Type 0) (f : A → B) (xs : List A)
+pub Any-map : {A B : Type 0} (P : B → Type 0) (f : A → B) (xs : List A)
     → Any P (map f xs)
     → Any (λ x. P (f x)) xs
 Any-map P f [] h = grind arith
 Any-map P f (x ∷ xs) (zero, y, l, e, p) = (0, x, omega arith, refl, rw e p)
 Any-map P f (x ∷ xs) (suc k, y, l, e, p) =
-    let r = Any-map P f xs (k, y, omega arith, e, p) in
-    (suc r.0, r.1, omega (arith, r.2), r.3, r.4)
+    let r = Any-map P f xs (k, y, omega arith, e, p) in (suc r.0, r.1, omega (arith, r.2), r.3, r.4)
 
 -- What holds, through the map, of some element of a list holds of some element mapped.
-pub map-Any :
-    {A B : Type 0} (P : B → Type 0) (f : A → B) (xs : List A)
+pub map-Any : {A B : Type 0} (P : B → Type 0) (f : A → B) (xs : List A)
     → Any (λ x. P (f x)) xs
     → Any P (map f xs)
 map-Any P f xs (k, x, l, e, p) =
     (k, f x, simp length-map l, get_or-map f xs k x (f x) l ∙ ap f e, p)
 
 -- A list beside a mapped one.
-pub zip-map :
-    {A B C : Type 0} (f : B → C) (xs : List A) (ys : List B)
+pub zip-map : {A B C : Type 0} (f : B → C) (xs : List A) (ys : List B)
     → zip xs (map f ys) ≡ map (λ (pair : A × B). (pair.0, f pair.1)) (zip xs ys)
 zip-map f [] ys = refl
-zip-map f (x ∷ xs) [] = refl
-zip-map f (x ∷ xs) (y ∷ ys) = ap (λ ps. (x, f y) ∷ ps) (zip-map f xs ys)
+zip-map f (x ∷ xs) z = grind (arith, nat_tests, zip-map f xs)
 
 -- ---- searches
 
 -- What `find` gives passes the test, and is an element.
-pub find_is :
-    {X : Type 0} (test : X → Bool) (xs : List X) (z : X)
+pub find_is : {X : Type 0} (test : X → Bool) (xs : List X) (z : X)
     → find test xs ≡ Some z
     → (test z ≡ true) × Contains xs z
 find_is test [] z e = grind arith
@@ -69,28 +63,22 @@ none_pass test (x ∷ xs) e = let rest = none_pass test xs in grind (arith, nat_
 -- ---- the span of a mapped list
 
 -- Whether some element of a mapped list passes.
-pub list_any-map :
-    {A B : Type 0} (f : A → B) (test : B → Bool) (xs : List A)
+pub list_any-map : {A B : Type 0} (f : A → B) (test : B → Bool) (xs : List A)
     → list_any test (map f xs) ≡ list_any (λ x. test (f x)) xs
 list_any-map f test [] = refl
 list_any-map f test (x ∷ xs) = ap (λ b. test (f x) || b) (list_any-map f test xs)
 
 -- A choice between mapped lists.
-map-cond :
-    {A B : Type 0} (f : A → B) (b : Bool) (xs ys : List A)
+map-cond : {A B : Type 0} (f : A → B) (b : Bool) (xs ys : List A)
     → map f (cond b xs ys) ≡ cond b (map f xs) (map f ys)
-map-cond f true xs ys = refl
-map-cond f false xs ys = refl
+map-cond f b xs ys = grind (arith, nat_tests)
 
 module _ {A B : Type 0} (kind_of : B → PacketKind) (f : A → B) where
   -- What stands after the last header of a mapped list.
-  pub after-map :
-      (xs : List A)
+  pub after-map : (xs : List A)
       → after_last_header kind_of (map f xs) ≡ map f (after_last_header (λ x. kind_of (f x)) xs)
   after-map [] = refl
-  after-map (x ∷ xs) =
-      rw (list_any-map f (λ y. is_this_page (kind_of y)) xs, after-map xs)
-      (simp map-cond)
+  after-map (x ∷ xs) = grind (arith, nat_tests, list_any-map, map-cond, after-map xs)
 
   -- What stands before the end of a mapped list.
   before-map :
@@ -100,23 +88,19 @@ module _ {A B : Type 0} (kind_of : B → PacketKind) (f : A → B) where
 
   -- The span of a mapped list is that of the list, mapped. So one span serves packets and pairs.
   pub span-map : (xs : List A) → span kind_of (map f xs) ≡ map f (span (λ x. kind_of (f x)) xs)
-  span-map xs =
-      ap (before_end kind_of) (after-map xs)
-      ∙ before-map (after_last_header (λ x. kind_of (f x)) xs)
+  span-map xs = grind (arith, nat_tests, after-map, before-map)
 
 -- ---- after the last header, one packet on
 
 -- A header of the page in front, where none follows.
-pub after-here :
-    {A : Type 0} (kind_of : A → PacketKind) (x : A) (xs : List A)
+pub after-here : {A : Type 0} (kind_of : A → PacketKind) (x : A) (xs : List A)
     → holds_header kind_of xs ≡ false
     → is_this_page (kind_of x) ≡ true
     → after_last_header kind_of (x ∷ xs) ≡ xs
 after-here kind_of x xs e h = rw (e, h)
 
 -- Nothing stands after the last header, where there is none.
-pub after-none :
-    {A : Type 0} (kind_of : A → PacketKind) (xs : List A)
+pub after-none : {A : Type 0} (kind_of : A → PacketKind) (xs : List A)
     → holds_header kind_of xs ≡ false
     → after_last_header kind_of xs ≡ []
 after-none kind_of [] e = refl
@@ -125,22 +109,19 @@ after-none kind_of (x ∷ xs) e = grind (arith, nat_tests)
 -- ---- headers in joined lists
 
 -- A header of the page in the second of two lists is one in both, joined.
-pub holds-append_right :
-    {A : Type 0} (kind_of : A → PacketKind) (xs ys : List A)
+pub holds-append_right : {A : Type 0} (kind_of : A → PacketKind) (xs ys : List A)
     → holds_header kind_of ys ≡ true
     → holds_header kind_of (xs ++ ys) ≡ true
 holds-append_right kind_of xs ys e = rw (list_any-append, e) (or_right _ _ refl)
 
 -- And one in the first.
-pub holds-append_left :
-    {A : Type 0} (kind_of : A → PacketKind) (xs ys : List A)
+pub holds-append_left : {A : Type 0} (kind_of : A → PacketKind) (xs ys : List A)
     → holds_header kind_of xs ≡ true
     → holds_header kind_of (xs ++ ys) ≡ true
 holds-append_left kind_of xs ys e = rw (list_any-append, e)
 
 -- What stands before a list with a header of the page does not matter.
-pub after-append :
-    {A : Type 0} (kind_of : A → PacketKind) (xs ys : List A)
+pub after-append : {A : Type 0} (kind_of : A → PacketKind) (xs ys : List A)
     → holds_header kind_of ys ≡ true
     → after_last_header kind_of (xs ++ ys) ≡ after_last_header kind_of ys
 after-append kind_of [] ys e = refl

@@ -1,9 +1,7 @@
 -- The span by places: `law_of_span`.
-use Rattle.std.proofs.Common.{◌≡◌, ℕ, suc, ◌+◌, ◌-◌, ◌<◌, ◌≤◌, inl, inr, Bool, true, false, not}
-use Rattle.std.proofs.Common.{List}
-use Rattle.std.proofs.Common.{[], ◌∷◌, length, drop, take, get_or, slice_range, HoldsAt, IsTrue}
-use Rattle.std.proofs.Common.{All}
-use Rattle.std.proofs.Common.{refl, ap, arith}
+use Rattle.std.proofs.Common.{rules, ◌≡◌, ℕ, suc, ◌+◌, ◌-◌, ◌<◌, ◌≤◌, inl, inr, Bool, true, false}
+use Rattle.std.proofs.Common.{not, List, [], ◌∷◌, length, drop, take, get_or, slice_range, HoldsAt}
+use Rattle.std.proofs.Common.{IsTrue, All, refl, ap, arith}
 use Rattle.std.specs.List.{list_any, position_or_len}
 use Rattle.std.proofs.lemmas.Bool.{cases_Bool, cases_eq}
 use Rattle.std.proofs.lemmas.Bool.Decides.{nat_tests}
@@ -18,17 +16,14 @@ use Rattle.ttx_page.specs.Span.{LawOfSpan}
 use Rattle.ttx_page.proofs.SpanLists.{after-none}
 
 -- Where none passes a test, each fails.
-all_fail :
-    {A : Type 0} (test : A → Bool) (xs : List A)
+all_fail : {A : Type 0} (test : A → Bool) (xs : List A)
     → list_any test xs ≡ false
     → All (λ x. test x ≡ false) xs
-all_fail test xs none k d below =
-    let any = list_any_at test xs k d below in grind (arith, nat_tests)
+all_fail test xs none k d below = grind (arith, nat_tests, list_any_at)
 
 module _ {A : Type 0} (kind_of : A → PacketKind) where
   -- What stands before the end of the page, by its place.
-  before-is :
-      (xs : List A)
+  before-is : (xs : List A)
       → before_end kind_of xs ≡ take (position_or_len (λ x. ends_page (kind_of x)) xs) xs
   before-is [] = refl
   before-is (x ∷ xs) =
@@ -57,8 +52,7 @@ module _ {A : Type 0} (kind_of : A → PacketKind) where
   ]
 
   -- The span after the last header, by its places.
-  span-after :
-      (xs : List A) (h : ℕ)
+  span-after : (xs : List A) (h : ℕ)
       → IsLast xs h
       → (from to : ℕ) × IsSpan kind_of xs from to × (span kind_of xs ≡ slice_range xs from to)
   span-after xs h (below, here, none, after) = (
@@ -98,20 +92,9 @@ module _ {A : Type 0} (kind_of : A → PacketKind) where
       within = prefix_len-le-length (λ x. not (ends x)) rest
 
       at : (k : ℕ) (d : A) → suc h ≤ k → get_or xs k d ≡ get_or rest (k - suc h) d
-      at k d l =
-          let place : suc h + (k - suc h) ≡ k = omega arith in
-          rw (get_or-drop (suc h) xs (k - suc h) d, place)
+      at k d l = grind (arith, nat_tests, get_or-drop)
 
 -- The law of the span by places.
 pub law_of_span : (A : Type 0) → LawOfSpan A
 law_of_span A kind_of items =
-    elim (cases_Bool (holds_header kind_of items)) [
-      | inl some ↦
-          let last = last_header kind_of items some in
-          inr (span-after kind_of items last.0 last.1)
-      | inr none ↦
-          inl (
-            all_fail (λ x. is_this_page (kind_of x)) items none,
-            ap (before_end kind_of) (after-none kind_of items none),
-          )
-    ]
+    grind (arith, nat_tests, cases_Bool, last_header, span-after, all_fail, after-none)

@@ -1,44 +1,36 @@
 -- Lists that grow at their end: what one more packet makes of the span, `span-push`.
-use Rattle.std.proofs.Common.{◌≡◌, Bool, true, false, not, ◌&&◌, ◌||◌, cond, List, [], ◌∷◌, ◌++◌}
-use Rattle.std.proofs.Common.{refl, arith}
+use Rattle.std.proofs.Common.{rules, ◌≡◌, Bool, true, false, not, ◌&&◌, ◌||◌, cond, List, [], ◌∷◌}
+use Rattle.std.proofs.Common.{◌++◌, refl, arith}
 use Rattle.std.specs.List.{list_any}
 use Rattle.std.proofs.lemmas.Bool.Decides.{nat_tests}
 use Rattle.std.proofs.lemmas.List.Folds.{list_any-append}
 use Rattle.ttx_page.proofs.SpanLists.{after-none}
 use Rattle.ttx_page.specs.declared.packet_kind.PacketKind.{PacketKind}
 use Rattle.ttx_page.specs.PacketKind.{is_this_page, ends_page}
-use Rattle.ttx_page.specs.Span.{holds_header, after_last_header, before_end, is_open_after}
-use Rattle.ttx_page.specs.Span.{span}
+use Rattle.ttx_page.specs.Span.{holds_header, after_last_header, before_end, is_open_after, span}
 
 module _ {A : Type 0} (kind_of : A → PacketKind) where
   -- Whether some item passes a test, one item on.
-  pub list_any-push :
-      (test : A → Bool) (xs : List A) (x : A)
+  pub list_any-push : (test : A → Bool) (xs : List A) (x : A)
       → list_any test (xs ++ x ∷ []) ≡ (list_any test xs || test x)
-  list_any-push test xs x =
-      let joined = list_any-append test xs (x ∷ []) in grind (arith, nat_tests)
+  list_any-push test xs x = grind (arith, nat_tests, list_any-append)
 
   -- Whether there is a header of the page, one item on.
-  pub holds-push :
-      (xs : List A) (x : A)
+  pub holds-push : (xs : List A) (x : A)
       → holds_header kind_of (xs ++ x ∷ []) ≡ (is_this_page (kind_of x) || holds_header kind_of xs)
-  holds-push xs x =
-      let any = list_any-push (λ y. is_this_page (kind_of y)) xs x in grind (arith, nat_tests)
+  holds-push xs x = grind (arith, nat_tests, list_any-push)
 
   -- What stands after the last header: nothing after a header of the page; else, where there was
   -- one, one item more.
-  after-push :
-      (xs : List A) (x : A)
+  after-push : (xs : List A) (x : A)
       → after_last_header kind_of (xs ++ x ∷ [])
       ≡ cond (is_this_page (kind_of x)) []
       (cond (holds_header kind_of xs) (after_last_header kind_of xs ++ x ∷ []) [])
   after-push [] x = refl
-  after-push (y ∷ ys) x =
-      let holds = holds-push ys x in let rest = after-push ys x in grind (arith, nat_tests)
+  after-push (y ∷ ys) x = grind (arith, nat_tests, holds-push, after-push ys x)
 
   -- What stands before the end: one item more, as long as nothing ended it.
-  before-push :
-      (xs : List A) (x : A)
+  before-push : (xs : List A) (x : A)
       → before_end kind_of (xs ++ x ∷ [])
       ≡ cond (list_any (λ y. ends_page (kind_of y)) xs || ends_page (kind_of x))
       (before_end kind_of xs) (before_end kind_of xs ++ x ∷ [])
@@ -47,41 +39,28 @@ module _ {A : Type 0} (kind_of : A → PacketKind) where
 
   -- The span: nothing after a header of the page; else one item more, where the page is open and
   -- the item does not end it.
-  pub span-push :
-      (xs : List A) (x : A)
+  pub span-push : (xs : List A) (x : A)
       → span kind_of (xs ++ x ∷ [])
       ≡ cond (is_this_page (kind_of x)) []
       (cond (is_open_after kind_of xs && not (ends_page (kind_of x)))
       (span kind_of xs ++ x ∷ []) (span kind_of xs))
-  span-push xs x =
-      let after = after-push xs x in
-      let before = before-push (after_last_header kind_of xs) x in
-      let none = after-none kind_of xs in
-      rw after (grind (arith, nat_tests))
+  span-push xs x = grind (arith, nat_tests, after-push, before-push, after-none)
 
   -- The span after a header of the page is empty.
-  pub span-this :
-      (xs : List A) (x : A)
+  pub span-this : (xs : List A) (x : A)
       → is_this_page (kind_of x) ≡ true
       → span kind_of (xs ++ x ∷ []) ≡ []
   span-this xs x e = let pushed = span-push xs x in grind (arith, nat_tests)
 
   -- The page is open after a header of it.
-  pub open-this :
-      (xs : List A) (x : A)
+  pub open-this : (xs : List A) (x : A)
       → is_this_page (kind_of x) ≡ true
       → is_open_after kind_of (xs ++ x ∷ []) ≡ true
-  open-this xs x e =
-      let holds = holds-push xs x in let after = after-push xs x in rw (holds, after, e) refl
+  open-this xs x e = grind (arith, nat_tests, holds-push, after-push)
 
   -- The page is open after another item where it was, and the item does not end it.
-  pub open-other :
-      (xs : List A) (x : A)
+  pub open-other : (xs : List A) (x : A)
       → is_this_page (kind_of x) ≡ false
       → is_open_after kind_of (xs ++ x ∷ [])
       ≡ (is_open_after kind_of xs && not (ends_page (kind_of x)))
-  open-other xs x e =
-      let holds = holds-push xs x in
-      let after = after-push xs x in
-      let ends = list_any-push (λ y. ends_page (kind_of y)) (after_last_header kind_of xs) x in
-      rw (holds, after, e) (grind (arith, nat_tests))
+  open-other xs x e = grind (arith, nat_tests, holds-push, after-push, list_any-push)

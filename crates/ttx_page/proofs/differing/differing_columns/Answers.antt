@@ -1,6 +1,7 @@
 -- A block more, and the last: columns_in_chunk.
-use Rattle.std.proofs.Common.{◌≡◌, ◌+◌, ◌*◌, drop, arith, rules}
-use Rattle.std.proofs.Common.{sym, ap, ap₂, ◌∙◌}
+use Rattle.std.proofs.lemmas.Grind.{common_steps}
+use Rattle.std.proofs.lemmas.Bool.Decides.{nat_tests}
+use Rattle.std.proofs.Common.{◌≡◌, ◌+◌, ◌*◌, drop, arith, rules, sym, ap, ap₂, ◌∙◌}
 use lib.Lanes.{chunk}
 use Rattle.ttx_page.specs.Differing.{columns_differing}
 use Rattle.ttx_page.proofs.DifferingLemmas.{columns_le, columns_none}
@@ -22,11 +23,8 @@ loop-i-preserved c =
     ∙ ap₂ (columns_differing 16) (block_of _ 16 xs i c.as_chunks.ensures.front (omega arith))
     (block_of _ 16 ys i c.as_chunks-2.ensures.front (omega arith)) in
     let next : 16 * i + 16 ≡ 16 * (i + 1) = omega arith in
-    let more = columns_in_chunk xs ys (16 * i) 16 16 (omega arith) in (
-      omega arith,
-      omega (arith, c.loop-i.invariant.1, block, more)
-          ∙ ap (λ n. columns_differing n xs ys) next,
-    )
+    let more = columns_in_chunk xs ys (16 * i) 16 16 (omega arith) in
+    grind (arith, nat_tests)
 
 pub returns : goal.returns
 returns c =

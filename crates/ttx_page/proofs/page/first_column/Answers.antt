@@ -1,6 +1,5 @@
 -- The masks of blocks tell the first column: none_so_far, first_so_far.
-use Rattle.std.proofs.Common.{◌≡◌, ◌*◌, false, drop, ap₂, ◌∙◌, arith}
-use Rattle.std.proofs.Common.{rules}
+use Rattle.std.proofs.Common.{◌≡◌, ◌*◌, false, drop, ap₂, ◌∙◌, arith, rules}
 use Rattle.std.proofs.lemmas.Simd.{length-zip2}
 use lib.Lanes.{zip2}
 use Rattle.ttx_packet.proofs.BlockLemmas.{block_of, last_block, none_so_far, first_so_far}

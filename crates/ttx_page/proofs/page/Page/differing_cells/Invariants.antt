@@ -5,5 +5,4 @@ use Rattle.ttx_page.proofs.page.Page.differing_cells.Given as goal
 -- The count of the rows above.
 abbrev pub invariant-loop-row : goal.invariant-loop-row
 invariant-loop-row l =
-    (l.count ≤ 40 * l.row)
-    × (l.count ≡ rows_differing l.row l.self-inside.rows l.other-inside.rows)
+    (l.count ≤ 40 * l.row) × (l.count ≡ rows_differing l.row l.self-inside.rows l.other-inside.rows)
