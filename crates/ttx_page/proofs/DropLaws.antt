@@ -1,13 +1,13 @@
 -- A receiver that drops rows hears what is left of the packets: `law_of_dropping`.
-use Rattle.std.proofs.Common.{rules, ◌≡◌, ◌↔◌, ℕ, Bool, true, false, not, List, [], ◌∷◌, filter}
-use Rattle.std.proofs.Common.{inl, inr, refl, ap₂, arith}
+use Rattle.std.proofs.Common.{◌≡◌, ◌↔◌, ℕ, Bool, true, false, not, List, [], ◌∷◌, filter}
+use Rattle.std.proofs.Common.{inl, inr, refl, arith}
 use Rattle.std.proofs.lemmas.Bool.{cases_Bool}
 use Rattle.std.proofs.lemmas.Bool.Decides.{nat_tests}
 use Rattle.ttx_packet.specs.PageId.{PageIdValue}
 use Rattle.ttx_page.specs.DroppedRows.{LawOfDropping}
 use Rattle.ttx_page.specs.Receiver.{RunsBy, Step, StepBy, is_dropped}
 use Rattle.ttx_page.specs.Receiver.ReceiverClass.{Dropping}
-use Rattle.ttx_page.specs.Screen.{Display, ShowsAt, display}
+use Rattle.ttx_page.specs.Screen.{Display, ShowsAt}
 
 -- A run of steps that pass over dropped packets is one of other steps without these.
 module _

@@ -1,6 +1,6 @@
 -- Rows compared in blocks: mask_compared, mask_of_block, column_of_test; and how many cells of a
 -- block differ: ones_compared, columns_in_chunk.
-use Rattle.std.proofs.Common.{rules, ◌≡◌, ◌≢◌, ℕ, zero, suc, ◌+◌, ◌-◌, ◌^◌, ◌%◌, ◌<◌, ◌≤◌, cond}
+use Rattle.std.proofs.Common.{◌≡◌, ◌≢◌, ℕ, zero, suc, ◌+◌, ◌-◌, ◌^◌, ◌%◌, ◌<◌, ◌≤◌, cond}
 use Rattle.std.proofs.Common.{false, List, map, length, get_or, take, take_all, sym, ap, ap₂, ◌∙◌}
 use Rattle.std.proofs.Common.{arith, add-one, w8}
 use Rattle.std.proofs.lemmas.Bool.Decides.{nat_tests}

@@ -1,10 +1,9 @@
 -- Who starts late: what was sent before a header of the page does not matter, `sound-later` and
 -- `shown-later`. And packets that may follow what was sent before are sound: `sound-joined`.
-use Rattle.std.proofs.Common.{rules, ◌≡◌, ℕ, suc, ◌<◌, Bool, true, not, List, [], ◌∷◌, ◌++◌, length}
+use Rattle.std.proofs.Common.{◌≡◌, ℕ, suc, ◌<◌, Bool, true, List, [], ◌∷◌, ◌++◌, length}
 use Rattle.std.proofs.Common.{take, slice_index_or, find, Option, Some, None, Contains, option_map}
 use Rattle.std.proofs.Common.{unwrap_or, All, IsTrue, refl, sym, ap, ◌∙◌, subst, arith}
 use Rattle.std.proofs.Common.{append_assoc}
-use Rattle.std.specs.List.{list_any}
 use Rattle.std.proofs.lemmas.Bool.Decides.{nat_tests}
 use Rattle.std.proofs.lemmas.List.{append-nil, get_or_default}
 use Rattle.std.proofs.lemmas.List.Elements.{All-nil, All-push, All-tail}
@@ -15,9 +14,9 @@ use Rattle.ttx_packet.specs.Parity.{code_of}
 use Rattle.ttx_packet.specs.RowPacket.{text_byte}
 use Rattle.ttx_page.specs.Noise.{ErasesPage, HasSameCodes, IsOddRow, IsSameRow, IsSound}
 use Rattle.ttx_page.specs.Page.{space}
-use Rattle.ttx_page.specs.PacketKind.{kind, ends_page, is_row}
+use Rattle.ttx_page.specs.PacketKind.{kind, is_row}
 use Rattle.ttx_page.specs.Shown.{shown}
-use Rattle.ttx_page.specs.Span.{before_end, holds_header, is_open_after, is_unended, span}
+use Rattle.ttx_page.specs.Span.{holds_header, is_open_after, is_unended, span}
 use Rattle.ttx_page.specs.declared.packet_kind.PacketKind.TheVariants.{Row}
 use Rattle.ttx_page.proofs.NoiseLaws.{shown_is}
 use Rattle.ttx_page.proofs.SpanLists.{after-append, after-none, holds-append_right, none_pass}

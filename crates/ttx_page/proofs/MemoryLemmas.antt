@@ -1,7 +1,5 @@
 -- A row as the receivers of this crate store it, column by column: `stored_more`.
-use Rattle.std.proofs.Common.{rules, ◌≡◌, ℕ, ◌+◌, ◌<◌, ◌≤◌, List, length, slice_index, slice_set}
-use Rattle.std.proofs.Common.{arith, ◌∙◌, get_or-set_same, get_or-set_other, length-set}
-use Rattle.std.proofs.lemmas.Bool.Decides.{nat_tests}
+use Rattle.std.proofs.Common.{◌≡◌, ℕ, ◌+◌, ◌<◌, ◌≤◌, List, length, slice_index}
 use Rattle.ttx_page.specs.declared.memory.EvenByte.{EvenByte}
 use Rattle.ttx_page.specs.Page.{AreCodes}
 use Rattle.ttx_page.specs.Memory.{code_after}

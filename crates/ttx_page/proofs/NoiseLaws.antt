@@ -2,7 +2,7 @@
 -- cell, `cell_shown`, gives `law_of_recovery` and `law_of_lost_rows`; the others follow.
 use Rattle.std.proofs.Common.{rules, ◌≡◌, ℕ, suc, ◌<◌, ◌⊎◌, inl, inr, Bool, true, false, not, ◌||◌}
 use Rattle.std.proofs.Common.{List, [], ◌∷◌, length, map, zip, find, Option, Some, None, option_map}
-use Rattle.std.proofs.Common.{All, unwrap_or, Contains, IsTrue, refl, sym, ap, ◌∙◌, arith}
+use Rattle.std.proofs.Common.{All, unwrap_or, Contains, IsTrue, refl, ap, ◌∙◌, arith}
 use Rattle.std.specs.List.{AllByRecursion, list_any, AllZip, items_where_true}
 use Rattle.std.proofs.lemmas.Bool.Decides.{nat_tests}
 use Rattle.std.proofs.lemmas.List.{length-map, get_or-map}
@@ -16,13 +16,13 @@ use Rattle.ttx_packet.specs.RowPacket.{text_byte}
 use Rattle.ttx_page.specs.Page.{space, cell, IsCell}
 use Rattle.ttx_page.specs.declared.packet_kind.PacketKind.{PacketKind}
 use Rattle.ttx_page.specs.declared.packet_kind.PacketKind.TheVariants.{Row}
-use Rattle.ttx_page.specs.PacketKind.{kind, is_this_page, ends_page, is_row}
+use Rattle.ttx_page.specs.PacketKind.{kind, is_row}
 use Rattle.ttx_page.specs.DroppedRows.{ExcusedBy}
 use Rattle.ttx_page.specs.Receiver.{HearsBy, ReceiverClass, State}
 use Rattle.ttx_page.specs.Receiver.ReceiverClass.{Storing}
-use Rattle.ttx_page.specs.Span.{holds_header, is_unended, is_open_after, after_last_header, span}
+use Rattle.ttx_page.specs.Span.{holds_header, is_unended, is_open_after, span}
 use Rattle.ttx_page.specs.Shown.{shown, IsHit}
-use Rattle.ttx_page.specs.Noise.{HasSameCodes, IsOddRow, IsSound, LawOfNoise, LawOfQuiet}
+use Rattle.ttx_page.specs.Noise.{IsOddRow, IsSound, LawOfNoise, LawOfQuiet}
 use Rattle.ttx_page.specs.LostRows.{IsHitOrLost, LawOfLostRows, LawOfNothingLost, MayBeMarked}
 use Rattle.ttx_page.specs.LostRows.{arrivals_of}
 use Rattle.ttx_page.specs.Recovery.{LawOfRecovery}

@@ -1,8 +1,8 @@
 -- What becomes of a receiver by packets that are sent, each got with wrong bits or lost: at one
 -- packet, `at_lost` and `at_got`, and by a run over many, `over`.
-use Rattle.std.proofs.Common.{rules, ◌≡◌, ℕ, ◌+◌, ◌-◌, ◌<◌, ◌⊎◌, inl, inr, true, false, not, ◌&&◌}
-use Rattle.std.proofs.Common.{◌||◌, List, [], ◌∷◌, ◌++◌, zip, slice_index, replicate, Option, Some}
-use Rattle.std.proofs.Common.{None, Bool, is_some, Contains, IsTrue, refl, ap, ◌∙◌, arith}
+use Rattle.std.proofs.Common.{rules, ◌≡◌, ℕ, ◌<◌, ◌⊎◌, inl, inr, true, false, not, ◌&&◌}
+use Rattle.std.proofs.Common.{◌||◌, List, [], ◌∷◌, ◌++◌, zip, Option, Some}
+use Rattle.std.proofs.Common.{None, Bool, is_some, Contains, refl, arith}
 use Rattle.std.specs.List.{list_any, AllByRecursion, AllZip, items_where_true}
 use Rattle.std.proofs.lemmas.Bool.{cases_Bool}
 use Rattle.std.proofs.lemmas.Bool.Decides.{nat_tests}

@@ -1,6 +1,6 @@
 -- What holds of pages: `is_page_blank`, and that pages with equal rows are equal.
-use Rattle.std.proofs.Common.{rules, List, length, true, nat_lt, ltb-true, ◌≡◌, ℕ, ◌<◌, [], get_or}
-use Rattle.std.proofs.Common.{replicate, arith, inl, inr, sym, ◌∙◌, lit<}
+use Rattle.std.proofs.Common.{rules, List, true, nat_lt, ltb-true, ◌≡◌, ℕ, ◌<◌, [], get_or}
+use Rattle.std.proofs.Common.{replicate, arith, sym, ◌∙◌}
 use Rattle.std.proofs.lemmas.Bool.Decides.{nat_tests}
 use Rattle.std.proofs.lemmas.List.{get_or-replicate, get_or_past, length-replicate, ext_get_or}
 use Rattle.std.proofs.lemmas.Bool.{cases_lt}

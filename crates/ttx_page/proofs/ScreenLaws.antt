@@ -1,5 +1,5 @@
 -- The law of receivers with a screen, `law_of_screen`.
-use Rattle.std.proofs.Common.{rules, ◌≡◌, ℕ, Bool, true, false, List, [], ◌∷◌, Some, IsFalse, refl}
+use Rattle.std.proofs.Common.{◌≡◌, ℕ, Bool, true, false, List, [], ◌∷◌, Some, IsFalse, refl}
 use Rattle.std.proofs.Common.{arith}
 use Rattle.std.specs.List.{AllByRecursion, AllZip, items_where_true}
 use Rattle.std.proofs.lemmas.Bool.Decides.{nat_tests}
@@ -7,9 +7,8 @@ use Rattle.ttx_packet.specs.OneBit.{AreNear}
 use Rattle.ttx_packet.specs.PageHeader.{HasExactWords}
 use Rattle.ttx_packet.specs.PageId.{PageIdValue}
 use Rattle.ttx_page.specs.LostRows.{MayBeMarked}
-use Rattle.ttx_page.specs.declared.packet_kind.PacketKind.{PacketKind}
-use Rattle.ttx_page.specs.PacketKind.{kind, is_this_page}
-use Rattle.ttx_page.specs.Receiver.{HearsBy, ReceiverClass, State, StepAt, StepBy}
+use Rattle.ttx_page.specs.PacketKind.{kind}
+use Rattle.ttx_page.specs.Receiver.{HearsBy, ReceiverClass, StepBy}
 use Rattle.ttx_page.specs.Span.{holds_header}
 use Rattle.ttx_page.specs.Screen.{Display, ShowsBy, LawOfScreen}
 use Rattle.ttx_page.proofs.NoiseSteps.{lost_is_no_header, kind-near}

@@ -1,5 +1,5 @@
 -- Lists, searches, and the span of a mapped list: `span-map`.
-use Rattle.std.proofs.Common.{rules, ◌≡◌, zero, suc, inl, inr, Bool, true, false, ◌||◌, cond, List}
+use Rattle.std.proofs.Common.{◌≡◌, zero, suc, inl, inr, Bool, true, false, ◌||◌, cond, List}
 use Rattle.std.proofs.Common.{[], ◌∷◌, ◌++◌, Some, None, map, zip, find, Any, Contains, refl, ap}
 use Rattle.std.proofs.Common.{◌∙◌, arith}
 use Rattle.std.specs.List.{list_any}

@@ -1,6 +1,5 @@
 -- One packet more: a step of each run.
-use Rattle.std.proofs.lemmas.Grind.{common_steps}
-use Rattle.std.proofs.Common.{rules, ◌∙◌, arith}
+use Rattle.std.proofs.Common.{arith}
 use Rattle.std.proofs.lemmas.Bool.Decides.{nat_tests}
 use Rattle.ttx_page.proofs.RunLemmas.{run_more}
 use Rattle.ttx_page.proofs.screen.show_all.Goals as goal

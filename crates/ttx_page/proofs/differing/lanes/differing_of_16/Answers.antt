@@ -1,6 +1,5 @@
 -- The ones of the mask: ones_compared.
-use Rattle.std.proofs.lemmas.Grind.{common_steps}
-use Rattle.std.proofs.Common.{rules, arith}
+use Rattle.std.proofs.Common.{arith}
 use Rattle.std.proofs.lemmas.Bool.Decides.{nat_tests}
 use Rattle.ttx_page.proofs.DifferingLemmas.{columns_le}
 use Rattle.ttx_page.proofs.LaneLemmas.{ones_compared}
