@@ -21,6 +21,7 @@ use Rattle.sub_check.specs.declared.event.Event.TheVariants.{Told}
 use Rattle.sub_check.specs.declared.fault.CheckFault.TheVariants as fault
 use Rattle.sub_check.specs.declared.checking.packet_rules.PacketRule.{PacketRule}
 use Rattle.sub_check.specs.declared.checking.packet_rules.PacketRule.TheVariants as rule
+use Rattle.sub_check.proofs.CheckingLemmas.Telling.{grows_to}
 use Rattle.sub_check.proofs.GoodLemmas.{number_at}
 use Rattle.sub_check.proofs.PrefixLemmas.{before, packet_at, rises_strictly}
 
@@ -32,14 +33,11 @@ never_true false never = refl
 -- Lists that grow by pieces hold what is in a piece.
 in_joined : (whole piece : ℕ → List Event) → ((n : ℕ) → whole (suc n) ≡ whole n ++ piece n)
     → (e : Event) (i n : ℕ) → i < n → Contains (piece i) e → Contains (whole n) e
-in_joined whole piece more e i zero l h = absurd (omega arith)
-in_joined whole piece more e i (suc n) l h =
-    subst (λ xs. Contains xs e) (sym (more n)) (elim (cases_lt i n) [
-      | inl earlier ↦ Contains-append_left (whole n) (piece n) e
-          (in_joined whole piece more e i n earlier h)
-      | inr here ↦ let same : i ≡ n = omega arith in
-          Contains-append_right (whole n) (piece n) e (subst (λ k. Contains (piece k) e) same h)
-    ])
+in_joined whole piece more e i n l h =
+    let after = grows_to whole piece more (suc i) n l in
+    subst (λ xs. Contains xs e) (sym after.1)
+    (Contains-append_left (whole (suc i)) after.0 e
+    (subst (λ xs. Contains xs e) (sym (more i)) (Contains-append_right (whole i) (piece i) e h)))
 
 -- An event that is told where a test fails.
 in_else : (b : Bool) (e : Event) → b ≡ false → Contains (if b then [] else e ∷ []) e

@@ -40,6 +40,7 @@ use Rattle.sub_check.specs.Fault.{is_pes_read, is_subtitle_fault}
 use Rattle.sub_check.proofs.CheckingLemmas.Verdict.{checked_from}
 use Rattle.sub_check.proofs.EventLemmas.{frames_told, law_of_first_event}
 use Rattle.sub_check.proofs.OrderLemmas.{holds_before}
+use Rattle.sub_check.proofs.RisingEndLemmas.{latest_at}
 use Rattle.sub_check.proofs.CheckingLemmas.ReadFile.{IsOfBytes, IsSoundFile, file_sound}
 
 -- ---- what is read of any bytes
@@ -102,18 +103,6 @@ of_place g frames h AtEnd = record { no_source = refl; no_write = refl; no_subti
 
 -- ---- what is told
 
--- Where frames rise, the last one is the latest.
-latest_last : (frames : Transmission)
-    → ((i : ℕ) → 0 < i → i < length frames → frame_at frames (i - 1) < frame_at frames i)
-    → (n : ℕ) → n < length frames → latest frames (suc n) ≡ frame_at frames n
-unfolding latest
-latest_last frames rises zero l = omega arith
-latest_last frames rises (suc n) l =
-    let before = latest_last frames rises n (omega arith) in
-    let m = rises (suc n) (omega arith) l in
-    let at : frame_at frames (suc n - 1) ≡ frame_at frames n = ap (frame_at frames) (omega arith) in
-    omega (arith, before, m, at)
-
 module _ (g : Task) (origin : ℕ) (bytes : List ℕ) (frames : Transmission)
     (reads : ReadsAs origin 0 bytes frames g.unread)
   where
@@ -126,10 +115,7 @@ module _ (g : Task) (origin : ℕ) (bytes : List ℕ) (frames : Transmission)
     accepts a is none =
         let holds = (law_of_first_event g frames whole).none.0 none in
         let some : 0 < length frames = holds AtNothing tt in
-        let latest_is : latest frames (length frames) ≡ end_frame frames =
-        ap (latest frames) (omega (arith, some))
-        ∙ latest_last frames (λ i l m. holds (AtOrder i) (l, m)) (length frames - 1)
-        (omega (arith, some)) in
+        let latest_is = latest_at frames (length frames) (λ i l m. holds (AtOrder i) (l, m)) some in
         record {
           few = is.few;
           taken = is.taken (holds AtUnread tt);
@@ -183,61 +169,43 @@ module _ (g : Task) (origin : ℕ) (bytes : List ℕ) (frames : Transmission)
         subst (IsReadUpTo g frames) at
         (record { within = l; holds = holds_before g frames n past })
 
+    -- What is so of the counts where nothing is told, and else of the fault that is named, is so of
+    -- the answer of `check`.
+    by_first : (a : Accepted) (P : Result Accepted CheckFault → Type 0)
+        → (events g frames ≡ [] → P (Ok a))
+        → ((f : CheckFault) → NamesFirst g frames f → P (Err f))
+        → P (first_answer (events g frames) a)
+    by_first a P none named = go (events g frames) refl
+      where
+        go : (es : List Event) → events g frames ≡ es → P (first_answer es a)
+        go [] e = none e
+        go (x ∷ more) e =
+            let t = (law_of_first_event g frames whole).first x more e in rw t.1 (named t.0 t.2)
+
     -- All that is told decides the answer of `check` by its first.
     pub first_decides : (a : Accepted) → IsRead g origin bytes frames a
         → MatchResult (first_answer (events g frames) a) (Accepts g origin bytes frames)
         (NamesFirst g frames)
-    first_decides a is = go (events g frames) refl
-      where
-        go :
-            (es : List Event)
-            → events g frames ≡ es
-            → MatchResult (first_answer es a) (Accepts g origin bytes frames) (NamesFirst g frames)
-        go [] e = accepts a is e
-        go (x ∷ more) e =
-            let t = (law_of_first_event g frames whole).first x more e in
-            rw t.1 t.2
+    first_decides a is =
+        by_first a (λ r. MatchResult r (Accepts g origin bytes frames) (NamesFirst g frames))
+        (accepts a is) (λ f named. named)
 
     -- And no failure of the source is told.
     pub first_own : (a : Accepted) → failed is_pes_read (first_answer (events g frames) a) ≡ false
-    first_own a = go (events g frames) refl
-      where
-        go :
-            (es : List Event)
-            → events g frames ≡ es
-            → failed is_pes_read (first_answer es a) ≡ false
-        go [] e = refl
-        go (x ∷ more) e =
-            let t = (law_of_first_event g frames whole).first x more e in
-            rw t.1 (own t.0 t.2).no_source
+    first_own a =
+        by_first a (λ r. failed is_pes_read r ≡ false) (λ e. refl) (λ f named. (own f named).no_source)
 
     -- Nor a refusal of the subtitle file.
     pub first_of_pes : (a : Accepted)
         → failed is_subtitle_fault (first_answer (events g frames) a) ≡ false
-    first_of_pes a = go (events g frames) refl
-      where
-        go :
-            (es : List Event)
-            → events g frames ≡ es
-            → failed is_subtitle_fault (first_answer es a) ≡ false
-        go [] e = refl
-        go (x ∷ more) e =
-            let t = (law_of_first_event g frames whole).first x more e in
-            rw t.1 (own t.0 t.2).no_subtitle
+    first_of_pes a =
+        by_first a (λ r. failed is_subtitle_fault r ≡ false) (λ e. refl)
+        (λ f named. (own f named).no_subtitle)
 
     -- Where the first event refuses nothing, there is none.
     pub none_first : (a : Accepted) → IsOk (first_answer (events g frames) a) → events g frames ≡ []
-    none_first a accepted = go (events g frames) refl accepted
-      where
-        go :
-            (es : List Event)
-            → events g frames ≡ es
-            → IsOk (first_answer es a)
-            → es ≡ []
-        go [] e accepted = refl
-        go (x ∷ more) e accepted =
-            let t = (law_of_first_event g frames whole).first x more e in
-            let refused = rw t.1 at accepted in cc
+    none_first a =
+        by_first a (λ r. IsOk r → events g frames ≡ []) (λ e accepted. e) (λ f named accepted. cc)
 
 -- What is told first is what `check` refuses the bytes for, and it accepts them where nothing is.
 checked_first :

@@ -34,6 +34,7 @@ use Rattle.sub_check.specs.declared.event.Event.TheVariants.{Told}
 use Rattle.sub_check.specs.declared.fault.CheckFault.{CheckFault}
 use Rattle.sub_check.specs.declared.fault.CheckFault.TheVariants as fault
 use Rattle.sub_check.specs.declared.checking.listener.Listener.{Listener}
+use Rattle.sub_check.proofs.CheckingLemmas.Telling.{grows_to}
 use Rattle.sub_check.proofs.PacketLists.{header_count-append, holds-count}
 use Rattle.sub_check.proofs.ShownLemmas.{joined_more}
 
@@ -204,28 +205,15 @@ gap_start g frames n latest_is is =
     let none : latest_is + 1 - (latest frames n + 1) ≡ 0 = omega (arith, is) in rw none refl
 
 -- And the ends that follow.
-gap_rest :
-    (g : Task) (frames : Transmission) (n m k : ℕ)
-    → (rest : List Event)
-    × (gap_events g frames n (k + m) ≡ gap_events g frames n m ++ rest)
-unfolding gap_events
-gap_rest g frames n m zero = ([], grind (arith, append-nil))
-gap_rest g frames n m (suc k) =
-    let before = gap_rest g frames n m k in
-    let last = events_at_end g frames n n (latest frames n + suc (k + m)) in
-    let is : suc k + m ≡ suc (k + m) = omega arith in (
-      before.0 ++ last,
-      ap (gap_events g frames n) is
-          ∙ ap (λ xs. xs ++ last) before.1
-          ∙ append_assoc (gap_events g frames n m) before.0 last,
-    )
-
 pub gap_split :
     (g : Task) (frames : Transmission) (n m whole : ℕ)
     → m ≤ whole
     → (rest : List Event)
     × (gap_events g frames n whole ≡ gap_events g frames n m ++ rest)
-gap_split g frames n m whole l = grind (arith, nat_tests, gap_rest g frames n m (whole - m))
+unfolding gap_events
+gap_split g frames n m whole l =
+    grows_to (gap_events g frames n) (λ k. events_at_end g frames n n (latest frames n + suc k))
+    (λ k. refl) m whole l
 
 -- How many there are.
 pub gap_length_is :

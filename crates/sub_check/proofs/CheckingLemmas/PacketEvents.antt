@@ -7,6 +7,7 @@ use Rattle.std.specs.List.{filter}
 use Rattle.std.proofs.lemmas.Bool.{cases_eq}
 use Rattle.sub_io.specs.Telling.{Tells, TellsPrefix}
 use Rattle.sub_io.proofs.TellingLemmas.{Tells-trans, TellsPrefix-first, TellsPrefix-second}
+use Rattle.sub_check.proofs.CheckingLemmas.Telling.{grows_to}
 use Rattle.sub_check.proofs.CheckingLemmas.RuleSet.{no_rules}
 use Rattle.sub_check.specs.Events.{packet_events, rules_told}
 use Rattle.sub_check.specs.FirstBroken.{packet_fault}
@@ -42,17 +43,9 @@ module _ (w : Watched) (frame : ℕ) (before ps : List (List ℕ)) where
       → (rest : List Event) × (packet_events w frame before ps m
       ≡ packet_events w frame before ps n ++ rest)
   unfolding packet_events
-  packet_events-prefix n zero l = grind (arith, nat_tests)
-  packet_events-prefix n (suc m) l = elim (cases_eq n (suc m)) [
-    | inl same ↦ ([], rw same (sym (append-nil (packet_events w frame before ps (suc m)))))
-    | inr other ↦
-        let less = packet_events-prefix n m (omega (arith, other)) in
-        let more = rules_told w frame m (before ++ take m ps) (get_or ps m []) in (
-          less.0 ++ more,
-          ap (λ xs. xs ++ more) less.1
-              ∙ append_assoc (packet_events w frame before ps n) less.0 more,
-        )
-  ]
+  packet_events-prefix n m l =
+      grows_to (packet_events w frame before ps)
+      (λ k. rules_told w frame k (before ++ take k ps) (get_or ps k [])) (λ k. refl) n m l
 
   -- Where they break no rule nothing is told.
   pub packet_events-none : (n : ℕ) → BreakNone w before ps n

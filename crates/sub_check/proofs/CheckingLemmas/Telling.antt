@@ -1,6 +1,7 @@
 -- Events that are told in parts, one part after another: `told_whole`, `told_same`, `told_then`,
--- `stopped_first`, `stopped_then`, `all_same`, `prefix_same`; `ok_map`.
-use Rattle.std.proofs.Common.{arith, ◌≡◌, List, ◌++◌, Result, Ok, Err, sym, subst}
+-- `stopped_first`, `stopped_then`, `all_same`, `prefix_same`; `ok_map`. Lists that grow: `grows_to`.
+use Rattle.std.proofs.Common.{arith, ◌≡◌, ℕ, zero, suc, ◌+◌, ◌-◌, ◌≤◌, List, [], ◌++◌, Result, Ok}
+use Rattle.std.proofs.Common.{Err, sym, subst, ap, ◌∙◌, append_assoc, append-nil}
 use Rattle.std.proofs.lemmas.Bool.Decides.{nat_tests}
 use Rattle.sub_io.proofs.TellingLemmas.{TellsPrefix-first, TellsPrefix-second}
 use Rattle.sub_io.proofs.TellingLemmas.{TellsPrefix-whole, TellsUntilStopped-after}
@@ -52,3 +53,28 @@ module _ {A D : Type 0} {IsTold : D → A → D → Type 0} where
 pub ok_map : {X E : Type 0} (P Q : Type 0) (r : Result X E) → OnOk r P → (P → Q) → OnOk r Q
 ok_map P Q (Ok x) p f = f p
 ok_map P Q (Err e) p f = tt
+
+-- ---- lists that grow
+
+-- Of lists that grow by pieces each begins those after it.
+grows : {A : Type 0} (whole piece : ℕ → List A)
+    → ((n : ℕ) → whole (suc n) ≡ whole n ++ piece n)
+    → (k m : ℕ) → (rest : List A) × (whole (k + m) ≡ whole m ++ rest)
+grows whole piece more zero m =
+    let none : 0 + m ≡ m = omega arith in ([], ap whole none ∙ sym (append-nil (whole m)))
+grows whole piece more (suc k) m =
+    let before = grows whole piece more k m in
+    let on : suc k + m ≡ suc (k + m) = omega arith in (
+      before.0 ++ piece (k + m),
+      ap whole on
+          ∙ more (k + m)
+          ∙ ap (λ xs. xs ++ piece (k + m)) before.1
+          ∙ append_assoc (whole m) before.0 (piece (k + m)),
+    )
+
+pub grows_to : {A : Type 0} (whole piece : ℕ → List A)
+    → ((n : ℕ) → whole (suc n) ≡ whole n ++ piece n)
+    → (m n : ℕ) → m ≤ n → (rest : List A) × (whole n ≡ whole m ++ rest)
+grows_to whole piece more m n l =
+    let rest = grows whole piece more (n - m) m in
+    let same : n ≡ n - m + m = omega arith in (rest.0, ap whole same ∙ rest.1)

@@ -29,43 +29,25 @@ use Rattle.sub_check.specs.PesReading.{EndsReading, ReadsAs}
 use Rattle.sub_check.specs.Transmission.{SentFrame, Transmission}
 use Rattle.sub_check.specs.declared.checking.Accepted.{Accepted}
 use Rattle.sub_check.specs.declared.event.Event.{Event}
+use Rattle.sub_check.proofs.CheckingLemmas.Telling.{grows_to}
 use Rattle.sub_check.proofs.PacketLists.{Each-push}
 use Rattle.ttx_pes.proofs.ReaderLemmas.{answers_say}
 use Rattle.sub_check.proofs.PesReadingLemmas.{reads_next, reads_end, reads-below}
 
 -- ---- what is told
 
--- One frame more, and more.
-events_more :
-    (g : Task) (frames : Transmission) (k m : ℕ)
-    → (rest : List Event)
-    × (events_of_first g frames (k + m) ≡ events_of_first g frames m ++ rest)
-unfolding events_of_first
-events_more g frames zero m =
-    let none : 0 + m ≡ m = omega arith in
-    ([], ap (events_of_first g frames) none ∙ sym (append-nil (events_of_first g frames m)))
-events_more g frames (suc k) m =
-    let before = events_more g frames k m in
-    let on : suc k + m ≡ suc (k + m) = omega arith in (
-      before.0 ++ frame_events g frames (k + m),
-      ap (events_of_first g frames) on
-          ∙ ap (λ xs. xs ++ frame_events g frames (k + m)) before.1
-          ∙ append_assoc (events_of_first g frames m) before.0 (frame_events g frames (k + m)),
-    )
-
 -- The events of some frames begin those of the whole.
 events_from :
     (g : Task) (frames : Transmission) (n : ℕ)
     → n ≤ length frames
     → (rest : List Event) × (events g frames ≡ events_of_first g frames n ++ rest)
-unfolding events
+unfolding events events_of_first
 events_from g frames n l =
-    let more = events_more g frames (length frames - n) n in
-    let all : length frames - n + n ≡ length frames = omega arith in
+    let more =
+    grows_to (events_of_first g frames) (frame_events g frames) (λ k. refl) n (length frames) l in
     let closing : List Event = closing_events g frames (length frames) in (
       more.0 ++ closing,
-      ap (λ m. events_of_first g frames m ++ closing) (sym all)
-          ∙ ap (λ xs. xs ++ closing) more.1
+      ap (λ xs. xs ++ closing) more.1
           ∙ append_assoc (events_of_first g frames n) more.0 closing,
     )
 
