@@ -1,36 +1,37 @@
 -- The number and the name by which a fault is told; which refusals are faults of the bytes, and
 -- which come of the device or of the reader's state.
-use Rattle.std.specs.Prelude.{ℕ, Bool, true, false, List, codes}
+use Rattle.std.specs.Prelude.{Bool, true, false, codes}
+use Rattle.sub_io.specs.FaultCode.{FaultCodeValue, fault_code}
 use Rattle.stl_file.specs.declared.fault.StlFault.{StlFault}
 use Rattle.stl_file.specs.declared.fault.StlFault.TheVariants as fault
 use Rattle.stl_file.specs.declared.fault.NormalFault.{NormalFault}
 use Rattle.stl_file.specs.declared.fault.NormalFault.TheVariants.{Refused, Write}
 
 -- The number and the name of a fault (own).
-abbrev pub number_and_name : StlFault → ℕ × List ℕ
-number_and_name fault.Truncated = (10, codes "Truncated")
-number_and_name fault.Format = (11, codes "Format")
-number_and_name fault.Rate = (12, codes "Rate")
-number_and_name fault.Display = (13, codes "Display")
-number_and_name fault.Alphabet = (14, codes "Alphabet")
-number_and_name fault.Extension = (15, codes "Extension")
-number_and_name fault.Cumulative = (16, codes "Cumulative")
-number_and_name fault.CommentFlag = (17, codes "CommentFlag")
-number_and_name fault.Justify = (18, codes "Justify")
-number_and_name fault.Row = (19, codes "Row")
-number_and_name fault.Time = (20, codes "Time")
-number_and_name fault.EmptyTime = (21, codes "EmptyTime")
-number_and_name fault.Sequence = (22, codes "Sequence")
-number_and_name fault.TooLong = (23, codes "TooLong")
-number_and_name fault.Unfinished = (24, codes "Unfinished")
-number_and_name fault.TooManyBlocks = (25, codes "TooManyBlocks")
-number_and_name fault.Read = (26, codes "Read")
-number_and_name fault.Ended = (27, codes "Ended")
+abbrev pub stl_code : StlFault → FaultCodeValue
+stl_code fault.Truncated = fault_code 10 (codes "Truncated")
+stl_code fault.Format = fault_code 11 (codes "Format")
+stl_code fault.Rate = fault_code 12 (codes "Rate")
+stl_code fault.Display = fault_code 13 (codes "Display")
+stl_code fault.Alphabet = fault_code 14 (codes "Alphabet")
+stl_code fault.Extension = fault_code 15 (codes "Extension")
+stl_code fault.Cumulative = fault_code 16 (codes "Cumulative")
+stl_code fault.CommentFlag = fault_code 17 (codes "CommentFlag")
+stl_code fault.Justify = fault_code 18 (codes "Justify")
+stl_code fault.Row = fault_code 19 (codes "Row")
+stl_code fault.Time = fault_code 20 (codes "Time")
+stl_code fault.EmptyTime = fault_code 21 (codes "EmptyTime")
+stl_code fault.Sequence = fault_code 22 (codes "Sequence")
+stl_code fault.TooLong = fault_code 23 (codes "TooLong")
+stl_code fault.Unfinished = fault_code 24 (codes "Unfinished")
+stl_code fault.TooManyBlocks = fault_code 25 (codes "TooManyBlocks")
+stl_code fault.Read = fault_code 26 (codes "Read")
+stl_code fault.Ended = fault_code 27 (codes "Ended")
 
 -- The number and the name of the fault of a normal form that is not written.
-abbrev pub normal_number_and_name : NormalFault → ℕ × List ℕ
-normal_number_and_name (Refused fault block) = number_and_name fault
-normal_number_and_name Write = (29, codes "Write")
+abbrev pub normal_code : NormalFault → FaultCodeValue
+normal_code (Refused fault block) = stl_code fault
+normal_code Write = fault_code 29 (codes "Write")
 
 -- The bytes of the file are at fault, and neither the device nor a fault before.
 abbrev pub is_format : StlFault → Bool

@@ -1,10 +1,10 @@
 //! Why a subtitle file is refused, or its normal form not written.
 
-ghost use Rattle.std.specs.Prelude.{◌≡◌, ◌≤◌, length};
+ghost use Rattle.std.specs.Prelude.{◌≡◌};
 ghost use Rattle.stl_file.specs.declared.fault.NormalFault.TheVariants.{Write};
 ghost use Rattle.stl_file.specs.declared.fault.StlFault.TheVariants.{Read};
 
-use sub_io::Failed;
+use sub_io::{Failed, FaultCode};
 
 /// Why a subtitle file could not be read, in the order of the refusals' numbers, 10 to 27.
 #[derive(Clone, Copy, Debug, PartialEq, Eq)]
@@ -48,48 +48,31 @@ pub enum StlFault {
 }
 
 impl StlFault {
-    ghost use Rattle.stl_file.specs.Fault.{number_and_name};
+    ghost use Rattle.stl_file.specs.Fault.{stl_code};
 
-    /// The number by which the fault is told (own).
-    pub fn number(self) -> u8
-        ensures { result ≡ (number_and_name self).0 }
-    {
-        self.number_and_name().0
-    }
-
-    /// The name by which the fault is told (own): at most 16 letters.
-    pub fn name(self) -> &'static str
-        ensures value { result.now ≡ (number_and_name self).1 }
-        ensures len { length result.now ≤ 16 }
-    {
-        self.number_and_name().1
-    }
-
-    // The number and the name.
-    fn number_and_name(self) -> (u8, &'static str)
-        ensures number { result.0 ≡ (number_and_name self).0 }
-        ensures name { result.1.now ≡ (number_and_name self).1 }
-        ensures len { length result.1.now ≤ 16 }
+    /// The number and the name by which the fault is told (own).
+    pub fn code(self) -> FaultCode
+        ensures { result ≡ stl_code self }
     {
         match self {
-            StlFault::Truncated => (10, "Truncated"),
-            StlFault::Format => (11, "Format"),
-            StlFault::Rate => (12, "Rate"),
-            StlFault::Display => (13, "Display"),
-            StlFault::Alphabet => (14, "Alphabet"),
-            StlFault::Extension => (15, "Extension"),
-            StlFault::Cumulative => (16, "Cumulative"),
-            StlFault::CommentFlag => (17, "CommentFlag"),
-            StlFault::Justify => (18, "Justify"),
-            StlFault::Row => (19, "Row"),
-            StlFault::Time => (20, "Time"),
-            StlFault::EmptyTime => (21, "EmptyTime"),
-            StlFault::Sequence => (22, "Sequence"),
-            StlFault::TooLong => (23, "TooLong"),
-            StlFault::Unfinished => (24, "Unfinished"),
-            StlFault::TooManyBlocks => (25, "TooManyBlocks"),
-            StlFault::Read => (26, "Read"),
-            StlFault::Ended => (27, "Ended"),
+            StlFault::Truncated => FaultCode::new(10, "Truncated"),
+            StlFault::Format => FaultCode::new(11, "Format"),
+            StlFault::Rate => FaultCode::new(12, "Rate"),
+            StlFault::Display => FaultCode::new(13, "Display"),
+            StlFault::Alphabet => FaultCode::new(14, "Alphabet"),
+            StlFault::Extension => FaultCode::new(15, "Extension"),
+            StlFault::Cumulative => FaultCode::new(16, "Cumulative"),
+            StlFault::CommentFlag => FaultCode::new(17, "CommentFlag"),
+            StlFault::Justify => FaultCode::new(18, "Justify"),
+            StlFault::Row => FaultCode::new(19, "Row"),
+            StlFault::Time => FaultCode::new(20, "Time"),
+            StlFault::EmptyTime => FaultCode::new(21, "EmptyTime"),
+            StlFault::Sequence => FaultCode::new(22, "Sequence"),
+            StlFault::TooLong => FaultCode::new(23, "TooLong"),
+            StlFault::Unfinished => FaultCode::new(24, "Unfinished"),
+            StlFault::TooManyBlocks => FaultCode::new(25, "TooManyBlocks"),
+            StlFault::Read => FaultCode::new(26, "Read"),
+            StlFault::Ended => FaultCode::new(27, "Ended"),
         }
     }
 }
@@ -117,32 +100,15 @@ pub enum NormalFault {
 }
 
 impl NormalFault {
-    ghost use Rattle.stl_file.specs.Fault.{normal_number_and_name};
+    ghost use Rattle.stl_file.specs.Fault.{normal_code};
 
-    /// The number by which the fault is told (own).
-    pub fn number(self) -> u8
-        ensures { result ≡ (normal_number_and_name self).0 }
-    {
-        self.number_and_name().0
-    }
-
-    /// The name by which the fault is told (own): at most 16 letters.
-    pub fn name(self) -> &'static str
-        ensures value { result.now ≡ (normal_number_and_name self).1 }
-        ensures len { length result.now ≤ 16 }
-    {
-        self.number_and_name().1
-    }
-
-    // The number and the name.
-    fn number_and_name(self) -> (u8, &'static str)
-        ensures number { result.0 ≡ (normal_number_and_name self).0 }
-        ensures name { result.1.now ≡ (normal_number_and_name self).1 }
-        ensures len { length result.1.now ≤ 16 }
+    /// The number and the name by which the fault is told (own).
+    pub fn code(self) -> FaultCode
+        ensures { result ≡ normal_code self }
     {
         match self {
-            NormalFault::Refused { fault, .. } => (fault.number(), fault.name()),
-            NormalFault::Write => (29, "Write"),
+            NormalFault::Refused { fault, .. } => fault.code(),
+            NormalFault::Write => FaultCode::new(29, "Write"),
         }
     }
 }

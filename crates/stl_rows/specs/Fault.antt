@@ -1,7 +1,9 @@
 -- The number and the name by which a fault of a text or of a programme is told (own), and which
 -- faults are that the source failed.
-use Rattle.std.specs.Prelude.{ℕ, Bool, false, List, codes}
+use Rattle.std.specs.Prelude.{Bool, false, codes}
+use Rattle.sub_io.specs.FaultCode.{FaultCodeValue, fault_code}
 use Rattle.stl_file.specs.Fault as stl
+use Rattle.stl_file.specs.Fault.{stl_code}
 use Rattle.stl_rows.specs.declared.fault.LoadFault.{LoadFault}
 use Rattle.stl_rows.specs.declared.fault.LoadFaultKind.{LoadFaultKind}
 use Rattle.stl_rows.specs.declared.fault.LoadFaultKind.TheVariants as load
@@ -9,21 +11,21 @@ use Rattle.stl_rows.specs.declared.fault.RowFaultKind.{RowFaultKind}
 use Rattle.stl_rows.specs.declared.fault.RowFaultKind.TheVariants as row
 
 -- A fault of the text of a subtitle.
-abbrev pub row_number_and_name : RowFaultKind → ℕ × List ℕ
-row_number_and_name row.Character = (50, codes "Character")
-row_number_and_name row.Control = (51, codes "Control")
-row_number_and_name row.RowTooLong = (52, codes "RowTooLong")
-row_number_and_name row.PastBottom = (53, codes "PastBottom")
-row_number_and_name row.DoubleRow = (54, codes "DoubleRow")
-row_number_and_name row.Hidden = (55, codes "Hidden")
+abbrev pub row_code : RowFaultKind → FaultCodeValue
+row_code row.Character = fault_code 50 (codes "Character")
+row_code row.Control = fault_code 51 (codes "Control")
+row_code row.RowTooLong = fault_code 52 (codes "RowTooLong")
+row_code row.PastBottom = fault_code 53 (codes "PastBottom")
+row_code row.DoubleRow = fault_code 54 (codes "DoubleRow")
+row_code row.Hidden = fault_code 55 (codes "Hidden")
 
 -- A fault of a programme.
-abbrev pub number_and_name : LoadFaultKind → ℕ × List ℕ
-number_and_name (load.File fault) = stl.number_and_name fault
-number_and_name load.OutOfOrder = (56, codes "OutOfOrder")
-number_and_name load.Overlap = (57, codes "Overlap")
-number_and_name (load.Row fault) = row_number_and_name fault.kind
-number_and_name load.Memory = (58, codes "Memory")
+abbrev pub load_code : LoadFaultKind → FaultCodeValue
+load_code (load.File fault) = stl_code fault
+load_code load.OutOfOrder = fault_code 56 (codes "OutOfOrder")
+load_code load.Overlap = fault_code 57 (codes "Overlap")
+load_code (load.Row fault) = row_code fault.kind
+load_code load.Memory = fault_code 58 (codes "Memory")
 
 -- The source failed.
 abbrev pub is_read_kind : LoadFaultKind → Bool

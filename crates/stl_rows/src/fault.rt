@@ -1,8 +1,9 @@
 //! Why a subtitle draws no page, and why a file is no programme.
 
-ghost use Rattle.std.specs.Prelude.{◌≡◌, ◌≤◌, length};
+ghost use Rattle.std.specs.Prelude.{◌≡◌};
 
 use stl_file::StlFault;
+use sub_io::FaultCode;
 
 /// What is wrong with the text of a subtitle, in the order in which it is told.
 #[derive(Clone, Copy, Debug, PartialEq, Eq)]
@@ -22,36 +23,19 @@ pub enum RowFaultKind {
 }
 
 impl RowFaultKind {
-    ghost use Rattle.stl_rows.specs.Fault.{row_number_and_name};
+    ghost use Rattle.stl_rows.specs.Fault.{row_code};
 
-    /// The number by which the fault is told (own).
-    pub fn number(self) -> u8
-        ensures { result ≡ (row_number_and_name self).0 }
-    {
-        self.number_and_name().0
-    }
-
-    /// The name by which the fault is told (own): at most 16 letters.
-    pub fn name(self) -> &'static str
-        ensures value { result.now ≡ (row_number_and_name self).1 }
-        ensures len { length result.now ≤ 16 }
-    {
-        self.number_and_name().1
-    }
-
-    // The number and the name.
-    fn number_and_name(self) -> (u8, &'static str)
-        ensures number { result.0 ≡ (row_number_and_name self).0 }
-        ensures name { result.1.now ≡ (row_number_and_name self).1 }
-        ensures len { length result.1.now ≤ 16 }
+    /// The number and the name by which the fault is told (own).
+    pub fn code(self) -> FaultCode
+        ensures { result ≡ row_code self }
     {
         match self {
-            RowFaultKind::Character => (50, "Character"),
-            RowFaultKind::Control => (51, "Control"),
-            RowFaultKind::RowTooLong => (52, "RowTooLong"),
-            RowFaultKind::PastBottom => (53, "PastBottom"),
-            RowFaultKind::DoubleRow => (54, "DoubleRow"),
-            RowFaultKind::Hidden => (55, "Hidden"),
+            RowFaultKind::Character => FaultCode::new(50, "Character"),
+            RowFaultKind::Control => FaultCode::new(51, "Control"),
+            RowFaultKind::RowTooLong => FaultCode::new(52, "RowTooLong"),
+            RowFaultKind::PastBottom => FaultCode::new(53, "PastBottom"),
+            RowFaultKind::DoubleRow => FaultCode::new(54, "DoubleRow"),
+            RowFaultKind::Hidden => FaultCode::new(55, "Hidden"),
         }
     }
 }
@@ -82,35 +66,18 @@ pub enum LoadFaultKind {
 }
 
 impl LoadFaultKind {
-    ghost use Rattle.stl_rows.specs.Fault.{number_and_name};
+    ghost use Rattle.stl_rows.specs.Fault.{load_code};
 
-    /// The number by which the fault is told (own).
-    pub fn number(self) -> u8
-        ensures { result ≡ (number_and_name self).0 }
-    {
-        self.number_and_name().0
-    }
-
-    /// The name by which the fault is told (own): at most 16 letters.
-    pub fn name(self) -> &'static str
-        ensures value { result.now ≡ (number_and_name self).1 }
-        ensures len { length result.now ≤ 16 }
-    {
-        self.number_and_name().1
-    }
-
-    // The number and the name.
-    fn number_and_name(self) -> (u8, &'static str)
-        ensures number { result.0 ≡ (number_and_name self).0 }
-        ensures name { result.1.now ≡ (number_and_name self).1 }
-        ensures len { length result.1.now ≤ 16 }
+    /// The number and the name by which the fault is told (own).
+    pub fn code(self) -> FaultCode
+        ensures { result ≡ load_code self }
     {
         match self {
-            LoadFaultKind::File(fault) => (fault.number(), fault.name()),
-            LoadFaultKind::OutOfOrder => (56, "OutOfOrder"),
-            LoadFaultKind::Overlap => (57, "Overlap"),
-            LoadFaultKind::Row(fault) => (fault.kind.number(), fault.kind.name()),
-            LoadFaultKind::Memory => (58, "Memory"),
+            LoadFaultKind::File(fault) => fault.code(),
+            LoadFaultKind::OutOfOrder => FaultCode::new(56, "OutOfOrder"),
+            LoadFaultKind::Overlap => FaultCode::new(57, "Overlap"),
+            LoadFaultKind::Row(fault) => fault.kind.code(),
+            LoadFaultKind::Memory => FaultCode::new(58, "Memory"),
         }
     }
 }

@@ -25,8 +25,8 @@ use Rattle.sub_check.specs.declared.listening.ListenFault.{ListenFault}
 use Rattle.sub_answer.specs.DeviceCall.{SinkCall, SourceCall}
 pub use Rattle.sub_answer.specs.EveryFault.{AnswersAll, IsAccepted}
 use Rattle.sub_answer.specs.FaultListing.{accepted_line}
-use Rattle.sub_answer.specs.Faults.{check_told}
-use Rattle.sub_answer.specs.ListenListing.{Listens, listen_told}
+use Rattle.sub_answer.specs.Faults.{check_told, listen_told}
+use Rattle.sub_answer.specs.ListenListing.{Listens}
 use Rattle.sub_answer.specs.Listing.{Listing, PrintsListing, PrintsOrFails, done, packet_listing}
 use Rattle.sub_answer.specs.Listing.{told_listing}
 use Rattle.sub_answer.specs.PacketsListing.{ListsPackets}

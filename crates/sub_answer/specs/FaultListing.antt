@@ -2,30 +2,24 @@
 use Rattle.std.specs.Prelude.{ℕ, ◌+◌, ◌==◌, min, List, [], ◌∷◌, ◌++◌, codes, decimal, map}
 use Rattle.std.specs.Prelude.{Option, Some, None, Result, Ok, Err, if◌then◌else◌}
 use Rattle.stl_rows.specs.declared.fault.LoadFault.{LoadFault}
+use Rattle.sub_check.specs.Fault.{rule_code}
 use Rattle.sub_check.specs.declared.checking.Accepted.{Accepted}
 use Rattle.sub_check.specs.declared.event.EndRule.{EndRule}
-use Rattle.sub_check.specs.declared.event.EndRule.TheVariants as end
 use Rattle.sub_check.specs.declared.event.Event.{Event}
 use Rattle.sub_check.specs.declared.event.Event.TheVariants.{Ended, Told}
 use Rattle.sub_check.specs.declared.fault.CheckFault.{CheckFault}
 use Rattle.sub_check.specs.declared.fault.CheckFault.TheVariants.{Subtitles}
 use Rattle.sub_answer.specs.Faults.{check_told}
 use Rattle.sub_answer.specs.Listing.{Listing, done, followed, told_listing}
-use Rattle.sub_answer.specs.Told.{frame_text, line_of}
+use Rattle.sub_answer.specs.Told.{code_text, frame_text, line_of}
 use Rattle.sub_answer.specs.declared.status.Status.TheVariants.{Refused}
 
 -- ---- a line for each event
 
--- The number and the name of a rule of a frame's end: those of its fault.
-abbrev pub rule_number_and_name : EndRule → ℕ × List ℕ
-rule_number_and_name end.Content = (72, codes "Content")
-rule_number_and_name end.Gap = (73, codes "Gap")
-rule_number_and_name end.Incomplete = (77, codes "Incomplete")
-
 -- A rule stood broken up to this frame, and does so no more.
 abbrev pub ended_line : EndRule → ℕ → List ℕ
-ended_line rule frame = codes "ended " ++ decimal (rule_number_and_name rule).0 ++ codes " "
-    ++ (rule_number_and_name rule).1 ++ frame_text frame ++ codes "\n"
+ended_line rule frame =
+    codes "ended " ++ code_text (rule_code rule) ++ frame_text frame ++ codes "\n"
 
 -- The line of an event.
 abbrev pub event_line : Event → List ℕ

@@ -1,24 +1,29 @@
 -- What is told of each fault: a failed device and want of memory are faults, wrong words are wrong
 -- usage, and all else is refused (own).
-use Rattle.std.specs.Prelude.{ℕ, Bool, if◌then◌else◌}
-use Rattle.stl_file.specs.Fault as stl_number
+use Rattle.std.specs.Prelude.{ℕ, Bool, codes, if◌then◌else◌}
+use Rattle.sub_io.specs.FaultCode.{FaultCodeValue, fault_code}
+use Rattle.stl_file.specs.Fault.{is_read, normal_code, stl_code}
 use Rattle.stl_file.specs.declared.fault.NormalFault.TheVariants as normal
 use Rattle.stl_file.specs.declared.fault.StlFault.{StlFault}
 use Rattle.stl_file.specs.declared.fault.StlFault.TheVariants as stl
 use Rattle.stl_rows.specs.declared.fault.LoadFaultKind.{LoadFaultKind}
-use Rattle.stl_rows.specs.declared.fault.LoadFaultKind.TheVariants as load
-use Rattle.sub_answer.specs.Told.{ToldValue, told_as}
+use Rattle.sub_answer.specs.Told.{told_as}
 use Rattle.sub_answer.specs.declared.answering.normal.InputFault.TheVariants as input
+use Rattle.sub_answer.specs.declared.answering.packet.PacketFault.{PacketFault}
+use Rattle.sub_answer.specs.declared.answering.packet.PacketFault.TheVariants as packet
 use Rattle.sub_answer.specs.declared.told.Kind.{Kind}
 use Rattle.sub_answer.specs.declared.told.Kind.TheVariants as kind
+use Rattle.sub_answer.specs.declared.told.Told.{Told}
 use Rattle.sub_answer.specs.declared.writing.WriteFault.{WriteFault}
 use Rattle.sub_answer.specs.declared.writing.WriteFault.TheVariants as write
-use Rattle.sub_check.specs.Fault as check_fault
+use Rattle.sub_check.specs.Fault.{check_code, is_failure, listen_code, place_of}
 use Rattle.sub_check.specs.declared.fault.CheckFault.{CheckFault}
 use Rattle.sub_check.specs.declared.fault.CheckFault.TheVariants as check
 use Rattle.sub_check.specs.declared.fault_place.FaultPlace.TheVariants as place
-use Rattle.sub_plan.specs.Fault as plan_fault
-use Rattle.sub_request.specs.Fault as usage_fault
+use Rattle.sub_check.specs.declared.listening.ListenFault.{ListenFault}
+use Rattle.sub_check.specs.declared.listening.ListenFault.TheVariants as listen
+use Rattle.sub_plan.specs.Fault.{is_write, plan_code}
+use Rattle.sub_request.specs.Fault.{usage_code}
 use Rattle.sub_request.specs.declared.request.UsageFault.{UsageFault}
 use Rattle.sub_request.specs.declared.request.UsageFault.TheVariants as usage
 
@@ -26,20 +31,36 @@ use Rattle.sub_request.specs.declared.request.UsageFault.TheVariants as usage
 
 -- What the line about a failure of a device or of memory begins with, or that about a refusal.
 abbrev pub kind_by : Bool → Kind
-kind_by is_failure = if is_failure then kind.Fault else kind.Refused
+kind_by fails = if fails then kind.Fault else kind.Refused
 
 -- A fault of a pair of files.
-abbrev pub check_told : CheckFault → ToldValue
-check_told f = told_as (kind_by (check_fault.is_failure f)) (check_fault.number_and_name f)
-    (check_fault.place_of f)
+abbrev pub check_told : CheckFault → Told
+check_told f = told_as (kind_by (is_failure f)) (check_code f) (place_of f)
 
 -- A fault of loading a subtitle file, at a TTI block. One of a text names its place in it too.
-abbrev pub load_told : LoadFaultKind → ℕ → ToldValue
+abbrev pub load_told : LoadFaultKind → ℕ → Told
 load_told f block = check_told (check.Subtitles (record { kind = f; block = block }))
 
 -- A fault of a subtitle file that is read, at a TTI block.
-abbrev pub stl_told : StlFault → ℕ → ToldValue
-stl_told f block = load_told (load.File f) block
+abbrev pub stl_told : StlFault → ℕ → Told
+stl_told f block = told_as (kind_by (is_read f)) (stl_code f) (place.Block block)
+
+-- A fault of a PES file that is not heard: a lost header is told at its packet.
+abbrev pub listen_told : ListenFault → Told
+listen_told (listen.File f) = check_told f
+listen_told (listen.LostHeader frame packet) =
+    told_as kind.Refused (listen_code (listen.LostHeader frame packet)) (place.Packet frame packet)
+
+-- ---- one packet
+
+-- The number and the name of a fault of a packet (own).
+abbrev pub packet_code : PacketFault → FaultCodeValue
+packet_code packet.BadAddress = fault_code 3 (codes "BadAddress")
+packet_code packet.BadHeader = fault_code 4 (codes "BadHeader")
+
+-- A fault of a packet: it has no place.
+abbrev pub packet_told : PacketFault → Told
+packet_told f = told_as kind.Refused (packet_code f) place.Nowhere
 
 -- ---- words
 
@@ -50,17 +71,16 @@ usage_kind usage.Memory = kind.Fault
 usage_kind _ = kind.Usage
 
 -- A fault of the words, or of the program itself: it has no place.
-abbrev pub usage_told : UsageFault → ToldValue
-usage_told f = told_as (usage_kind f) (usage_fault.number_and_name f) place.Nowhere
+abbrev pub usage_told : UsageFault → Told
+usage_told f = told_as (usage_kind f) (usage_code f) place.Nowhere
 
 -- ---- a file that is written
 
 -- A failing device and want of memory are faults.
-abbrev pub write_told : WriteFault → ToldValue
+abbrev pub write_told : WriteFault → Told
 write_told (write.Input (input.Read block)) = stl_told stl.Read block
 write_told (write.Input input.Memory) = usage_told usage.Memory
 write_told (write.Load f) = load_told f.kind f.block
 write_told (write.Normal (normal.Refused f block)) = stl_told f block
-write_told (write.Normal f) = told_as kind.Fault (stl_number.normal_number_and_name f) place.Nowhere
-write_told (write.Plan f) =
-    told_as (kind_by (plan_fault.is_write f)) (plan_fault.number_and_name f) place.Nowhere
+write_told (write.Normal f) = told_as kind.Fault (normal_code f) place.Nowhere
+write_told (write.Plan f) = told_as (kind_by (is_write f)) (plan_code f) place.Nowhere

@@ -10,13 +10,9 @@ use Rattle.sub_check.specs.listening.Run.{HearsFile}
 use Rattle.sub_check.specs.Transmission.{Transmission}
 use Rattle.sub_request.specs.declared.listening.Listening.{Listening}
 use Rattle.sub_check.specs.declared.listening.ListenFault.{ListenFault}
-use Rattle.sub_check.specs.declared.listening.ListenFault.TheVariants as fault
-use Rattle.sub_answer.specs.Faults.{check_told}
+use Rattle.sub_answer.specs.Faults.{listen_told}
 use Rattle.sub_answer.specs.Lines.{glyph, two_digits}
 use Rattle.sub_answer.specs.Listing.{Listing, done, told_listing}
-use Rattle.sub_answer.specs.Told.{ToldValue, told_as}
-use Rattle.sub_answer.specs.declared.told.Kind.TheVariants.{Refused}
-use Rattle.sub_check.specs.declared.fault_place.FaultPlace.TheVariants.{Packet}
 
 -- ---- a receiver: whether it has heard its page, whether the page is open, and the rows that hold
 -- a cell other than a space, of the page that it holds or of the one on its screen
@@ -70,12 +66,6 @@ display_text asks_complete d = if d.held.heard
     else codes "heard no\n"
 
 -- ---- a run
-
--- What is told of a fault (own).
-abbrev pub listen_told : ListenFault → ToldValue
-listen_told (fault.File f) = check_told f
-listen_told (fault.LostHeader frame packet) =
-    told_as Refused (76, codes "LostHeader") (Packet frame packet)
 
 -- The page that a receiver held before: 3F in every cell (own).
 abbrev pub IsOldPage : Rows → Type 0

@@ -1,6 +1,6 @@
 -- What the commands print, whole, and how they end.
 use Rattle.std.specs.Prelude.{◌≡◌, ◌≢◌, ◌⊎◌, ℕ, ◌+◌, ◌==◌, Bool, true, false, nat_le, List, ◌++◌}
-use Rattle.std.specs.Prelude.{codes, drop, Option, Some, None, option_map, if◌then◌else◌}
+use Rattle.std.specs.Prelude.{drop, Option, Some, None, option_map, if◌then◌else◌}
 use Rattle.ttx_packet.specs.PacketAddress.{address, address_pair}
 use Rattle.ttx_packet.specs.PageHeader.{header}
 use Rattle.ttx_packet.specs.declared.Header.{Header}
@@ -8,12 +8,14 @@ use Rattle.std.specs.Io.KnownBytes.{Appends}
 use Rattle.sub_io.specs.Device.{AppendsPrefix, RisesIf}
 use Rattle.sub_io.specs.Reading.{IfTold}
 use Rattle.sub_answer.specs.DeviceCall.{SinkCall, SourceCall}
+use Rattle.sub_answer.specs.Faults.{packet_told}
 use Rattle.sub_answer.specs.Lines.{address_line, header_line, text_line}
-use Rattle.sub_answer.specs.Told.{ToldValue, line_of, status_of, told_as}
+use Rattle.sub_answer.specs.Told.{line_of, status_of}
+use Rattle.sub_answer.specs.declared.answering.packet.PacketFault.TheVariants.{BadAddress}
+use Rattle.sub_answer.specs.declared.answering.packet.PacketFault.TheVariants.{BadHeader}
 use Rattle.sub_answer.specs.declared.status.Status.{Status}
 use Rattle.sub_answer.specs.declared.status.Status.TheVariants.{Done, Refused, Fault}
-use Rattle.sub_answer.specs.declared.told.Kind.TheVariants as kind
-use Rattle.sub_check.specs.declared.fault_place.FaultPlace.TheVariants.{Nowhere}
+use Rattle.sub_answer.specs.declared.told.Told.{Told}
 
 -- A text and the status that goes with it where all of it was printed.
 pub record Listing : Type 0 where
@@ -25,7 +27,7 @@ abbrev pub done : List ℕ → Listing
 done text = record { text = text; status = Done }
 
 -- The line of what is told of a fault.
-abbrev pub told_listing : ToldValue → Listing
+abbrev pub told_listing : Told → Listing
 told_listing t = record { text = line_of t; status = status_of t.kind }
 
 -- Lines, and what follows them.
@@ -34,17 +36,9 @@ followed text more = record { text = text ++ more.text; status = more.status }
 
 -- ---- one packet
 
--- One of the two address bytes of a packet means nothing.
-abbrev pub bad_address : ToldValue
-bad_address = told_as kind.Refused (3, codes "BadAddress") Nowhere
-
--- One of the eight coded bytes of a page header means nothing.
-abbrev pub bad_header : ToldValue
-bad_header = told_as kind.Refused (4, codes "BadHeader") Nowhere
-
 -- Packet X/0 (EN 300 706, page header): its eight coded bytes, then 32 text bytes.
 abbrev pub header_listing : ℕ → List ℕ → Option Header → Listing
-header_listing magazine packet None = told_listing bad_header
+header_listing magazine packet None = told_listing (packet_told BadHeader)
 header_listing magazine packet (Some h) =
     done (address_line magazine 0 ++ header_line h ++ text_line (drop 10 packet))
 
@@ -56,7 +50,7 @@ row_listing magazine packet_number packet = if nat_le packet_number 24
 
 -- The same by the magazine and the packet number that a packet has.
 abbrev pub addressed_listing : Option (ℕ × ℕ) → List ℕ → Listing
-addressed_listing None packet = told_listing bad_address
+addressed_listing None packet = told_listing (packet_told BadAddress)
 addressed_listing (Some a) packet = if a.1 == 0
     then header_listing a.0 packet (header packet)
     else row_listing a.0 a.1 packet

@@ -2,25 +2,20 @@
 -- refused, a device or memory failed, or the words are no request; number and name; the place. The
 -- status follows from it.
 use Rattle.std.specs.Prelude.{ℕ, ◌%◌, List, [], ◌++◌, codes, decimal}
+use Rattle.sub_io.specs.FaultCode.{FaultCodeValue}
 use Rattle.stl_file.specs.TimeCode.{day}
 use Rattle.sub_answer.specs.Lines.{time_text}
 use Rattle.sub_answer.specs.declared.status.Status.{Status}
 use Rattle.sub_answer.specs.declared.status.Status.TheVariants as status
 use Rattle.sub_answer.specs.declared.told.Kind.{Kind}
 use Rattle.sub_answer.specs.declared.told.Kind.TheVariants as kind
+use Rattle.sub_answer.specs.declared.told.Told.{Told}
 use Rattle.sub_check.specs.declared.fault_place.FaultPlace.{FaultPlace}
 use Rattle.sub_check.specs.declared.fault_place.FaultPlace.TheVariants as place
 
--- What is told of a fault: its kind, its number and its name, and its place.
-pub record ToldValue : Type 0 where
-  pub kind : Kind
-  pub number : ℕ
-  pub name : List ℕ
-  pub place : FaultPlace
-
--- A fault of this number and name.
-abbrev pub told_as : Kind → ℕ × List ℕ → FaultPlace → ToldValue
-told_as k n p = record { kind = k; number = n.0; name = n.1; place = p }
+-- What is told of a fault with this code.
+abbrev pub told_as : Kind → FaultCodeValue → FaultPlace → Told
+told_as k c p = record { kind = k; code = c; place = p }
 
 -- What the line begins with.
 abbrev pub kind_text : Kind → List ℕ
@@ -43,10 +38,13 @@ place_text (place.Packet frame packet) = frame_text frame ++ codes " packet " ++
 place_text (place.Cell frame row column) =
     frame_text frame ++ codes " row " ++ decimal row ++ codes " column " ++ decimal column
 
+-- The number and the name.
+abbrev pub code_text : FaultCodeValue → List ℕ
+code_text code = decimal code.number ++ codes " " ++ code.name
+
 -- The line.
-abbrev pub line_of : ToldValue → List ℕ
-line_of t = kind_text t.kind ++ decimal t.number ++ codes " " ++ t.name ++ place_text t.place
-    ++ codes "\n"
+abbrev pub line_of : Told → List ℕ
+line_of t = kind_text t.kind ++ code_text t.code ++ place_text t.place ++ codes "\n"
 
 -- The status that goes with it.
 abbrev pub status_of : Kind → Status

@@ -7,7 +7,7 @@ mod check;
 mod check_all;
 mod listen;
 pub mod normal;
-mod packet;
+pub mod packet;
 mod packets;
 mod schedule;
 mod show;

@@ -1,23 +1,36 @@
 //! What is told of each fault.
 ghost use Rattle.std.specs.Prelude.{◌≡◌};
-ghost use Rattle.sub_answer.specs.Faults.{check_told, stl_told, usage_told, write_told};
+ghost use Rattle.sub_answer.specs.Faults.{check_told, listen_told, packet_told, stl_told};
+ghost use Rattle.sub_answer.specs.Faults.{usage_told, write_told};
+ghost use Rattle.sub_answer.specs.Told.{told_as};
+ghost use Rattle.sub_check.specs.declared.fault_place.FaultPlace.TheVariants.{Nowhere};
 
 use crate::answering::normal::InputFault;
+use crate::answering::packet::PacketFault;
 use crate::told::{Kind, Told};
 use crate::writing::WriteFault;
 use stl_file::{NormalFault, StlFault};
-use stl_rows::{LoadFault, LoadFaultKind};
-use sub_check::{CheckFault, FaultPlace};
+use stl_rows::LoadFaultKind;
+use sub_check::{CheckFault, FaultPlace, ListenFault};
+use sub_io::FaultCode;
 use sub_plan::PlanFault;
 use sub_request::UsageFault;
 use ttx_pes::PesFault;
 
-/// A fault of a subtitle file that is read, with the TTI block that it names.
+/// A fault of a subtitle file that is read, with the TTI block that it names: a refusal, but for
+/// the failure of the source.
 pub fn told_of_stl(fault: StlFault, block: u32) -> Told
     ensures { result ≡ stl_told fault block }
 {
-    let kind = LoadFaultKind::File(fault);
-    told_of_check(CheckFault::Subtitles(LoadFault { block, kind }))
+    let kind = match fault {
+        StlFault::Read => Kind::Fault,
+        _ => Kind::Refused,
+    };
+    Told {
+        kind,
+        code: fault.code(),
+        place: FaultPlace::Block { block },
+    }
 }
 
 /// A fault of a pair of files: a refusal, but for the failure of a device and want of memory.
@@ -35,7 +48,34 @@ pub fn told_of_check(fault: CheckFault) -> Told
         },
         _ => Kind::Refused,
     };
-    Told::new(kind, fault.number(), fault.name(), fault.place())
+    Told {
+        kind,
+        code: fault.code(),
+        place: fault.place(),
+    }
+}
+
+/// A fault of a PES file that is not heard.
+pub fn told_of_listen(fault: ListenFault) -> Told
+    ensures { result ≡ listen_told fault }
+{
+    match fault {
+        ListenFault::File(fault) => told_of_check(fault),
+        ListenFault::LostHeader { frame, packet } => {
+            Told {
+                kind: Kind::Refused,
+                code: fault.code(),
+                place: FaultPlace::Packet { frame, packet },
+            }
+        }
+    }
+}
+
+/// A fault of a packet.
+pub fn told_of_packet(fault: PacketFault) -> Told
+    ensures { result ≡ packet_told fault }
+{
+    nowhere(Kind::Refused, fault.code())
 }
 
 /// A fault of a file that is not written.
@@ -47,20 +87,13 @@ pub fn told_of_write(fault: WriteFault) -> Told
         WriteFault::Input(InputFault::Memory) => told_of_usage(&UsageFault::Memory),
         WriteFault::Load(fault) => told_of_check(CheckFault::Subtitles(fault)),
         WriteFault::Normal(NormalFault::Refused { fault, block }) => told_of_stl(fault, block),
-        WriteFault::Normal(fault) => {
-            Told::new(
-                Kind::Fault,
-                fault.number(),
-                fault.name(),
-                FaultPlace::Nowhere,
-            )
-        }
+        WriteFault::Normal(fault) => nowhere(Kind::Fault, fault.code()),
         WriteFault::Plan(fault) => {
             let kind = match fault {
                 PlanFault::NoSubtitles => Kind::Refused,
                 PlanFault::Write => Kind::Fault,
             };
-            Told::new(kind, fault.number(), fault.name(), FaultPlace::Nowhere)
+            nowhere(kind, fault.code())
         }
     }
 }
@@ -73,5 +106,13 @@ pub fn told_of_usage(fault: &UsageFault) -> Told
         UsageFault::Open | UsageFault::Memory => Kind::Fault,
         _ => Kind::Usage,
     };
-    Told::new(kind, fault.number(), fault.name(), FaultPlace::Nowhere)
+    nowhere(kind, fault.code())
+}
+
+// What is told of a fault that has no place.
+fn nowhere(kind: Kind, code: FaultCode) -> Told
+    ensures { result ≡ told_as kind code Nowhere }
+{
+    let place = FaultPlace::Nowhere;
+    Told { kind, code, place }
 }

@@ -6,9 +6,9 @@
 ghost use Rattle.std.specs.Prelude.{◌≡◌, ◌+◌, ◌≤◌, ◌<◌, ◌++◌, length, decimal};
 ghost use Rattle.arrayvec.specs.ArrayVec.{array_vec_len};
 ghost use Rattle.hex.specs.Hex.{encode_lower};
-ghost use Rattle.sub_answer.specs.FaultListing.{ended_line, event_line, rule_number_and_name};
+ghost use Rattle.sub_answer.specs.FaultListing.{ended_line, event_line};
 ghost use Rattle.sub_answer.specs.Lines.{glyph, text_digits, time_text, two_digits};
-ghost use Rattle.sub_answer.specs.Told.{frame_text, line_of, place_text};
+ghost use Rattle.sub_answer.specs.Told.{code_text, frame_text, line_of, place_text};
 
 use crate::faults::told_of_check;
 use crate::hex_digits::digits_of_block;
@@ -16,6 +16,7 @@ use crate::told::{Kind, Told};
 use arrayvec::ArrayVec;
 use stl_file::TimeCode;
 use sub_check::{EndRule, Event, FaultPlace};
+use sub_io::FaultCode;
 use ttx_pes::MOST_PACKETS;
 
 /// Room for a number in decimal.
@@ -23,6 +24,9 @@ pub const NUMBER_ROOM: usize = 20;
 
 /// Room for the digits of a subtitle's text.
 pub const TEXT_DIGITS_ROOM: usize = 2016;
+
+/// Room for the number and the name of a fault: a space between them, and 16 letters.
+const CODE_ROOM: usize = NUMBER_ROOM + 17;
 
 /// Room for the place of a fault.
 const PLACE_ROOM: usize = 80;
@@ -140,9 +144,7 @@ pub fn push_told<const N: usize>(line: &mut ArrayVec<u8, N>, told: &Told)
         Kind::Fault => push_text(line, b"fault "),
         Kind::Usage => push_text(line, b"usage "),
     }
-    push_decimal(line, u64::from(told.number));
-    push_text(line, b" ");
-    push_text(line, told.name.as_bytes());
+    push_code(line, &told.code);
     push_place(line, told.place);
     push_text(line, b"\n");
 }
@@ -164,25 +166,21 @@ fn push_ended<const N: usize>(line: &mut ArrayVec<u8, N>, rule: EndRule, frame: 
     requires { array_vec_len line.old + LINE_ROOM ≤ N }
     ensures { line.new.items ≡ line.old.items ++ ended_line rule frame }
 {
-    let (number, name) = number_and_name(rule);
-    push_number(line, b"ended ", u64::from(number));
-    push_text(line, b" ");
-    push_text(line, name);
+    push_text(line, b"ended ");
+    push_code(line, &rule.code());
     push_frame(line, frame);
     push_text(line, b"\n");
 }
 
-// The number and the name of a rule of a frame's end: those of its fault.
-fn number_and_name(rule: EndRule) -> (u8, &'static [u8])
-    ensures number { result.0 ≡ (rule_number_and_name rule).0 }
-    ensures name { result.1.now ≡ (rule_number_and_name rule).1 }
-    ensures len { length result.1.now ≤ 16 }
+// Appends the number and the name of a fault.
+fn push_code<const N: usize>(line: &mut ArrayVec<u8, N>, code: &FaultCode)
+    requires { array_vec_len line.old + CODE_ROOM ≤ N }
+    ensures items { line.new.items ≡ line.old.items ++ code_text code.now }
+    ensures len { array_vec_len line.new ≤ array_vec_len line.old + CODE_ROOM }
 {
-    match rule {
-        EndRule::Content => (72, b"Content"),
-        EndRule::Gap => (73, b"Gap"),
-        EndRule::Incomplete => (77, b"Incomplete"),
-    }
+    push_decimal(line, u64::from(code.number()));
+    push_text(line, b" ");
+    push_text(line, code.name().as_bytes());
 }
 
 // Appends the place of a fault.

@@ -1,35 +1,53 @@
 -- The number and the name by which a fault of a pair of files is told (own), where it is, and which
 -- faults are those of a device, of memory or of the one file.
-use Rattle.std.specs.Prelude.{ℕ, Bool, true, false, List, codes}
+use Rattle.std.specs.Prelude.{ℕ, Bool, true, false, codes}
+use Rattle.sub_io.specs.FaultCode.{FaultCodeValue, fault_code}
 use Rattle.stl_rows.specs.Fault as load
+use Rattle.stl_rows.specs.Fault.{load_code}
 use Rattle.stl_rows.specs.declared.fault.LoadFaultKind.{LoadFaultKind}
 use Rattle.stl_rows.specs.declared.fault.LoadFaultKind.TheVariants.{Memory, Row}
+use Rattle.sub_check.specs.declared.event.EndRule.{EndRule}
+use Rattle.sub_check.specs.declared.event.EndRule.TheVariants as end
 use Rattle.sub_check.specs.declared.fault.CheckFault.{CheckFault}
 use Rattle.sub_check.specs.declared.fault.CheckFault.TheVariants as fault
 use Rattle.sub_check.specs.declared.fault_place.FaultPlace.{FaultPlace}
 use Rattle.sub_check.specs.declared.fault_place.FaultPlace.TheVariants as place
+use Rattle.sub_check.specs.declared.listening.ListenFault.{ListenFault}
+use Rattle.sub_check.specs.declared.listening.ListenFault.TheVariants as listen
 use Rattle.ttx_pes.specs.Fault as pes
+use Rattle.ttx_pes.specs.Fault.{pes_code}
 
--- The number and the name that a fault is told by.
-abbrev pub number_and_name : CheckFault → ℕ × List ℕ
-number_and_name (fault.Subtitles f) = load.number_and_name f.kind
-number_and_name (fault.Pes index f) = pes.number_and_name f
-number_and_name fault.Empty = (60, codes "Empty")
-number_and_name (fault.OffFrame pes) = (61, codes "OffFrame")
-number_and_name (fault.Order pes) = (62, codes "Order")
-number_and_name (fault.Early frame) = (63, codes "Early")
-number_and_name (fault.Address frame packet) = (64, codes "Address")
-number_and_name (fault.HeaderCode frame packet) = (65, codes "HeaderCode")
-number_and_name (fault.Mode frame packet) = (66, codes "Mode")
-number_and_name (fault.Control frame packet) = (67, codes "Control")
-number_and_name (fault.Parity frame packet) = (68, codes "Parity")
-number_and_name (fault.RowChanged frame packet) = (69, codes "RowChanged")
-number_and_name (fault.Enhancement frame packet) = (70, codes "Enhancement")
-number_and_name (fault.NoFirstHeader frame) = (71, codes "NoFirstHeader")
-number_and_name (fault.Content frame row column) = (72, codes "Content")
-number_and_name (fault.Gap frame) = (73, codes "Gap")
-number_and_name (fault.Incomplete frame) = (77, codes "Incomplete")
-number_and_name (fault.Late frame) = (74, codes "Late")
+-- A rule of a frame's end.
+abbrev pub rule_code : EndRule → FaultCodeValue
+rule_code end.Content = fault_code 72 (codes "Content")
+rule_code end.Gap = fault_code 73 (codes "Gap")
+rule_code end.Incomplete = fault_code 77 (codes "Incomplete")
+
+-- A fault of a pair of files.
+abbrev pub check_code : CheckFault → FaultCodeValue
+check_code (fault.Subtitles f) = load_code f.kind
+check_code (fault.Pes index f) = pes_code f
+check_code fault.Empty = fault_code 60 (codes "Empty")
+check_code (fault.OffFrame pes) = fault_code 61 (codes "OffFrame")
+check_code (fault.Order pes) = fault_code 62 (codes "Order")
+check_code (fault.Early frame) = fault_code 63 (codes "Early")
+check_code (fault.Address frame packet) = fault_code 64 (codes "Address")
+check_code (fault.HeaderCode frame packet) = fault_code 65 (codes "HeaderCode")
+check_code (fault.Mode frame packet) = fault_code 66 (codes "Mode")
+check_code (fault.Control frame packet) = fault_code 67 (codes "Control")
+check_code (fault.Parity frame packet) = fault_code 68 (codes "Parity")
+check_code (fault.RowChanged frame packet) = fault_code 69 (codes "RowChanged")
+check_code (fault.Enhancement frame packet) = fault_code 70 (codes "Enhancement")
+check_code (fault.NoFirstHeader frame) = fault_code 71 (codes "NoFirstHeader")
+check_code (fault.Content frame row column) = rule_code end.Content
+check_code (fault.Gap frame) = rule_code end.Gap
+check_code (fault.Incomplete frame) = rule_code end.Incomplete
+check_code (fault.Late frame) = fault_code 74 (codes "Late")
+
+-- A fault of a PES file that is not heard.
+abbrev pub listen_code : ListenFault → FaultCodeValue
+listen_code (listen.File f) = check_code f
+listen_code (listen.LostHeader frame packet) = fault_code 76 (codes "LostHeader")
 
 -- Where a fault of loading is: at a TTI block, and one of a text at its place in it too.
 abbrev pub load_place : LoadFaultKind → ℕ → FaultPlace

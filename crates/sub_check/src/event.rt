@@ -1,5 +1,8 @@
 //! What is told of a PES file, one event after another.
+ghost use Rattle.std.specs.Prelude.{◌≡◌};
+
 use crate::fault::CheckFault;
+use sub_io::FaultCode;
 
 /// A rule that is asked at the end of each frame. Once it is broken it may stay so for some frames.
 #[derive(Clone, Copy, Debug, PartialEq, Eq)]
@@ -10,6 +13,21 @@ pub enum EndRule {
     Gap,
     /// Where complete pages are asked for, the page is not open.
     Incomplete,
+}
+
+impl EndRule {
+    ghost use Rattle.sub_check.specs.Fault.{rule_code};
+
+    /// The number and the name of the fault that tells where the rule is broken (own).
+    pub fn code(self) -> FaultCode
+        ensures { result ≡ rule_code self }
+    {
+        match self {
+            EndRule::Content => FaultCode::new(72, "Content"),
+            EndRule::Gap => FaultCode::new(73, "Gap"),
+            EndRule::Incomplete => FaultCode::new(77, "Incomplete"),
+        }
+    }
 }
 
 /// What is told of a PES file that is checked: a rule that is broken, or one that is so no more.

@@ -1,8 +1,10 @@
 //! Why a pair of files is refused, and where.
-ghost use Rattle.std.specs.Prelude.{◌≡◌, ◌≤◌, length};
+ghost use Rattle.std.specs.Prelude.{◌≡◌};
 
+use crate::event::EndRule;
 use crate::fault_place::FaultPlace;
 use stl_rows::{LoadFault, LoadFaultKind};
+use sub_io::FaultCode;
 use ttx_pes::PesFault;
 
 /// Why a pair of files is refused, and where, in the order of the manual's table of refusals.
@@ -120,48 +122,31 @@ pub enum CheckFault {
 }
 
 impl CheckFault {
-    ghost use Rattle.sub_check.specs.Fault.{number_and_name, place_of};
+    ghost use Rattle.sub_check.specs.Fault.{check_code, place_of};
 
-    /// The number by which the fault is told (own).
-    pub fn number(self) -> u8
-        ensures { result ≡ (number_and_name self).0 }
-    {
-        self.number_and_name().0
-    }
-
-    /// The name by which the fault is told (own): at most 16 letters.
-    pub fn name(self) -> &'static str
-        ensures value { result.now ≡ (number_and_name self).1 }
-        ensures len { length result.now ≤ 16 }
-    {
-        self.number_and_name().1
-    }
-
-    // The number and the name.
-    fn number_and_name(self) -> (u8, &'static str)
-        ensures number { result.0 ≡ (number_and_name self).0 }
-        ensures name { result.1.now ≡ (number_and_name self).1 }
-        ensures len { length result.1.now ≤ 16 }
+    /// The number and the name by which the fault is told (own).
+    pub fn code(self) -> FaultCode
+        ensures { result ≡ check_code self }
     {
         match self {
-            CheckFault::Subtitles(fault) => (fault.kind.number(), fault.kind.name()),
-            CheckFault::Pes { fault, .. } => (fault.number(), fault.name()),
-            CheckFault::Empty => (60, "Empty"),
-            CheckFault::OffFrame { .. } => (61, "OffFrame"),
-            CheckFault::Order { .. } => (62, "Order"),
-            CheckFault::Early { .. } => (63, "Early"),
-            CheckFault::Address { .. } => (64, "Address"),
-            CheckFault::HeaderCode { .. } => (65, "HeaderCode"),
-            CheckFault::Mode { .. } => (66, "Mode"),
-            CheckFault::Control { .. } => (67, "Control"),
-            CheckFault::Parity { .. } => (68, "Parity"),
-            CheckFault::RowChanged { .. } => (69, "RowChanged"),
-            CheckFault::Enhancement { .. } => (70, "Enhancement"),
-            CheckFault::NoFirstHeader { .. } => (71, "NoFirstHeader"),
-            CheckFault::Content { .. } => (72, "Content"),
-            CheckFault::Gap { .. } => (73, "Gap"),
-            CheckFault::Incomplete { .. } => (77, "Incomplete"),
-            CheckFault::Late { .. } => (74, "Late"),
+            CheckFault::Subtitles(fault) => fault.kind.code(),
+            CheckFault::Pes { fault, .. } => fault.code(),
+            CheckFault::Empty => FaultCode::new(60, "Empty"),
+            CheckFault::OffFrame { .. } => FaultCode::new(61, "OffFrame"),
+            CheckFault::Order { .. } => FaultCode::new(62, "Order"),
+            CheckFault::Early { .. } => FaultCode::new(63, "Early"),
+            CheckFault::Address { .. } => FaultCode::new(64, "Address"),
+            CheckFault::HeaderCode { .. } => FaultCode::new(65, "HeaderCode"),
+            CheckFault::Mode { .. } => FaultCode::new(66, "Mode"),
+            CheckFault::Control { .. } => FaultCode::new(67, "Control"),
+            CheckFault::Parity { .. } => FaultCode::new(68, "Parity"),
+            CheckFault::RowChanged { .. } => FaultCode::new(69, "RowChanged"),
+            CheckFault::Enhancement { .. } => FaultCode::new(70, "Enhancement"),
+            CheckFault::NoFirstHeader { .. } => FaultCode::new(71, "NoFirstHeader"),
+            CheckFault::Content { .. } => EndRule::Content.code(),
+            CheckFault::Gap { .. } => EndRule::Gap.code(),
+            CheckFault::Incomplete { .. } => EndRule::Incomplete.code(),
+            CheckFault::Late { .. } => FaultCode::new(74, "Late"),
         }
     }
 

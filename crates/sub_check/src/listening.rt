@@ -18,7 +18,7 @@ use crate::fault::CheckFault;
 use crate::listening::hearing::hear_sending;
 use crate::listening::reception::first_lost_header;
 use crate::sending::next_sending;
-use sub_io::Source;
+use sub_io::{FaultCode, Source};
 use sub_request::Listening;
 use ttx_page::{Page, Receiver};
 use ttx_pes::ComparingReader;
@@ -28,13 +28,27 @@ use ttx_pes::ComparingReader;
 pub enum ListenFault {
     /// It is not read on, or a frame is not after the one before: what `check` tells of it.
     File(CheckFault),
-    /// 76: a packet that is listed as lost is a page header, or has no address.
+    /// A packet that is listed as lost is a page header, or has no address.
     LostHeader {
         /// The frame of the day.
         frame: u32,
         /// The packet, counted from 0 among the Teletext units of its PES packet.
         packet: u32,
     },
+}
+
+impl ListenFault {
+    ghost use Rattle.sub_check.specs.Fault.{listen_code};
+
+    /// The number and the name by which the fault is told (own).
+    pub fn code(self) -> FaultCode
+        ensures { result ≡ listen_code self }
+    {
+        match self {
+            ListenFault::File(fault) => fault.code(),
+            ListenFault::LostHeader { .. } => FaultCode::new(76, "LostHeader"),
+        }
+    }
 }
 
 impl From<CheckFault> for ListenFault {

@@ -3,6 +3,7 @@ pub mod Calls
 pub mod Countdown
 pub mod Counted
 pub mod Device
+pub mod FaultCode
 pub mod Memory
 pub mod Reading
 pub mod Telling

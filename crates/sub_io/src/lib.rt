@@ -21,12 +21,14 @@
 //! - `FailAt` makes one chosen call of another device fail.
 //! - `Audience` is the trait of devices that are told things one after another, and may stop;
 //!   `FirstTold` stops at the first.
+//! - `FaultCode` is the number and the name of a fault, of whichever crate.
 #![tactic(auto)]
 
 mod audience;
 mod buffered_sink;
 mod buffered_source;
 mod fail_at;
+mod fault_code;
 mod into_file;
 mod memory;
 mod sink;
@@ -37,6 +39,7 @@ pub use audience::{Audience, FirstTold, Stopped};
 pub use buffered_sink::BufferedSink;
 pub use buffered_source::BufferedSource;
 pub use fail_at::FailAt;
+pub use fault_code::FaultCode;
 pub use into_file::IntoFile;
 pub use memory::{MemSink, MemSource};
 pub use sink::{Close, Flush, Sink, put_all};

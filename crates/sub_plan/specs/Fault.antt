@@ -1,13 +1,14 @@
 -- The number and the name by which it is told that no schedule is written (own), and which fault is
 -- that the sink failed.
-use Rattle.std.specs.Prelude.{ℕ, Bool, true, false, List, codes}
+use Rattle.std.specs.Prelude.{Bool, true, false, codes}
+use Rattle.sub_io.specs.FaultCode.{FaultCodeValue, fault_code}
 use Rattle.sub_plan.specs.declared.fault.PlanFault.{PlanFault}
 use Rattle.sub_plan.specs.declared.fault.PlanFault.TheVariants as fault
 
 -- The number and the name that a fault is told by.
-abbrev pub number_and_name : PlanFault → ℕ × List ℕ
-number_and_name fault.NoSubtitles = (82, codes "NoSubtitles")
-number_and_name fault.Write = (42, codes "Write")
+abbrev pub plan_code : PlanFault → FaultCodeValue
+plan_code fault.NoSubtitles = fault_code 82 (codes "NoSubtitles")
+plan_code fault.Write = fault_code 42 (codes "Write")
 
 -- The sink failed.
 abbrev pub is_write : PlanFault → Bool

@@ -1,6 +1,7 @@
 //! Why there are no options, and why a schedule is not written.
-ghost use Rattle.std.specs.Prelude.{◌≡◌, ◌≤◌, length};
+ghost use Rattle.std.specs.Prelude.{◌≡◌};
 
+use sub_io::FaultCode;
 use thiserror::Error;
 
 /// What is wrong with options, in the order in which it is told (own).
@@ -26,32 +27,15 @@ pub enum PlanFault {
 }
 
 impl PlanFault {
-    ghost use Rattle.sub_plan.specs.Fault.{number_and_name};
+    ghost use Rattle.sub_plan.specs.Fault.{plan_code};
 
-    /// The number by which the fault is told (own).
-    pub fn number(self) -> u8
-        ensures { result ≡ (number_and_name self).0 }
-    {
-        self.number_and_name().0
-    }
-
-    /// The name by which the fault is told (own): at most 16 letters.
-    pub fn name(self) -> &'static str
-        ensures value { result.now ≡ (number_and_name self).1 }
-        ensures len { length result.now ≤ 16 }
-    {
-        self.number_and_name().1
-    }
-
-    // The number and the name.
-    fn number_and_name(self) -> (u8, &'static str)
-        ensures number { result.0 ≡ (number_and_name self).0 }
-        ensures name { result.1.now ≡ (number_and_name self).1 }
-        ensures len { length result.1.now ≤ 16 }
+    /// The number and the name by which the fault is told (own).
+    pub fn code(self) -> FaultCode
+        ensures { result ≡ plan_code self }
     {
         match self {
-            PlanFault::NoSubtitles => (82, "NoSubtitles"),
-            PlanFault::Write => (42, "Write"),
+            PlanFault::NoSubtitles => FaultCode::new(82, "NoSubtitles"),
+            PlanFault::Write => FaultCode::new(42, "Write"),
         }
     }
 }

@@ -1,21 +1,22 @@
 -- By which number and name each fault of the words is told (own).
-use Rattle.std.specs.Prelude.{ℕ, List, codes}
+use Rattle.std.specs.Prelude.{codes}
+use Rattle.sub_io.specs.FaultCode.{FaultCodeValue, fault_code}
 use Rattle.sub_request.specs.declared.request.UsageFault.{UsageFault}
 use Rattle.sub_request.specs.declared.request.UsageFault.TheVariants as fault
 
 -- The number and the name of a fault of the words, or of the program itself.
-abbrev pub number_and_name : UsageFault → ℕ × List ℕ
-number_and_name fault.Words = (0, codes "Words")
-number_and_name fault.BadHex = (2, codes "BadHex")
-number_and_name fault.SameFile = (7, codes "SameFile")
-number_and_name fault.BadPage = (1, codes "BadPage")
-number_and_name fault.Every = (80, codes "Every")
-number_and_name fault.Origin = (81, codes "Origin")
-number_and_name fault.BadOption = (83, codes "BadOption")
-number_and_name fault.BadTime = (6, codes "BadTime")
-number_and_name fault.BadSkip = (8, codes "BadSkip")
-number_and_name fault.BadFlip = (5, codes "BadFlip")
-number_and_name fault.BadLose = (84, codes "BadLose")
-number_and_name fault.BadReceiver = (9, codes "BadReceiver")
-number_and_name fault.Open = (90, codes "Open")
-number_and_name fault.Memory = (91, codes "Memory")
+abbrev pub usage_code : UsageFault → FaultCodeValue
+usage_code fault.Words = fault_code 0 (codes "Words")
+usage_code fault.BadHex = fault_code 2 (codes "BadHex")
+usage_code fault.SameFile = fault_code 7 (codes "SameFile")
+usage_code fault.BadPage = fault_code 1 (codes "BadPage")
+usage_code fault.Every = fault_code 80 (codes "Every")
+usage_code fault.Origin = fault_code 81 (codes "Origin")
+usage_code fault.BadOption = fault_code 83 (codes "BadOption")
+usage_code fault.BadTime = fault_code 6 (codes "BadTime")
+usage_code fault.BadSkip = fault_code 8 (codes "BadSkip")
+usage_code fault.BadFlip = fault_code 5 (codes "BadFlip")
+usage_code fault.BadLose = fault_code 84 (codes "BadLose")
+usage_code fault.BadReceiver = fault_code 9 (codes "BadReceiver")
+usage_code fault.Open = fault_code 90 (codes "Open")
+usage_code fault.Memory = fault_code 91 (codes "Memory")

@@ -1,8 +1,9 @@
 //! What the program is asked for, and why it can't be asked so.
-ghost use Rattle.std.specs.Prelude.{◌≡◌, ◌≤◌, length};
+ghost use Rattle.std.specs.Prelude.{◌≡◌};
 
 use crate::listening::Listening;
 use stl_rows::National;
+use sub_io::FaultCode;
 use sub_plan::Options;
 use thiserror::Error;
 
@@ -56,44 +57,27 @@ pub enum UsageFault {
 }
 
 impl UsageFault {
-    ghost use Rattle.sub_request.specs.Fault.{number_and_name};
+    ghost use Rattle.sub_request.specs.Fault.{usage_code};
 
-    /// The number by which the fault is told (own).
-    pub fn number(&self) -> u8
-        ensures { result ≡ (number_and_name self.now).0 }
-    {
-        self.number_and_name().0
-    }
-
-    /// The name by which the fault is told (own): at most 16 letters.
-    pub fn name(&self) -> &'static str
-        ensures value { result.now ≡ (number_and_name self.now).1 }
-        ensures len { length result.now ≤ 16 }
-    {
-        self.number_and_name().1
-    }
-
-    // The number and the name.
-    fn number_and_name(&self) -> (u8, &'static str)
-        ensures number { result.0 ≡ (number_and_name self.now).0 }
-        ensures name { result.1.now ≡ (number_and_name self.now).1 }
-        ensures len { length result.1.now ≤ 16 }
+    /// The number and the name by which the fault is told (own).
+    pub fn code(&self) -> FaultCode
+        ensures { result ≡ usage_code self.now }
     {
         match self {
-            UsageFault::Words => (0, "Words"),
-            UsageFault::BadHex => (2, "BadHex"),
-            UsageFault::SameFile => (7, "SameFile"),
-            UsageFault::BadPage => (1, "BadPage"),
-            UsageFault::Every => (80, "Every"),
-            UsageFault::Origin => (81, "Origin"),
-            UsageFault::BadOption => (83, "BadOption"),
-            UsageFault::BadTime => (6, "BadTime"),
-            UsageFault::BadSkip => (8, "BadSkip"),
-            UsageFault::BadFlip => (5, "BadFlip"),
-            UsageFault::BadLose => (84, "BadLose"),
-            UsageFault::BadReceiver => (9, "BadReceiver"),
-            UsageFault::Open => (90, "Open"),
-            UsageFault::Memory => (91, "Memory"),
+            UsageFault::Words => FaultCode::new(0, "Words"),
+            UsageFault::BadHex => FaultCode::new(2, "BadHex"),
+            UsageFault::SameFile => FaultCode::new(7, "SameFile"),
+            UsageFault::BadPage => FaultCode::new(1, "BadPage"),
+            UsageFault::Every => FaultCode::new(80, "Every"),
+            UsageFault::Origin => FaultCode::new(81, "Origin"),
+            UsageFault::BadOption => FaultCode::new(83, "BadOption"),
+            UsageFault::BadTime => FaultCode::new(6, "BadTime"),
+            UsageFault::BadSkip => FaultCode::new(8, "BadSkip"),
+            UsageFault::BadFlip => FaultCode::new(5, "BadFlip"),
+            UsageFault::BadLose => FaultCode::new(84, "BadLose"),
+            UsageFault::BadReceiver => FaultCode::new(9, "BadReceiver"),
+            UsageFault::Open => FaultCode::new(90, "Open"),
+            UsageFault::Memory => FaultCode::new(91, "Memory"),
         }
     }
 }

@@ -1,26 +1,27 @@
 -- The number and the name by which a fault of a PES packet is told (own), and which faults are
 -- those of a device.
-use Rattle.std.specs.Prelude.{ℕ, Bool, true, false, List, codes}
+use Rattle.std.specs.Prelude.{Bool, true, false, codes}
+use Rattle.sub_io.specs.FaultCode.{FaultCodeValue, fault_code}
 use Rattle.ttx_pes.specs.declared.fault.PesFault.{PesFault}
 use Rattle.ttx_pes.specs.declared.fault.PesFault.TheVariants as fault
 
 -- The number and the name that a fault is told by.
-abbrev pub number_and_name : PesFault → ℕ × List ℕ
-number_and_name fault.Truncated = (30, codes "Truncated")
-number_and_name fault.Start = (31, codes "Start")
-number_and_name fault.Length = (32, codes "Length")
-number_and_name fault.Flags = (33, codes "Flags")
-number_and_name fault.NoTime = (34, codes "NoTime")
-number_and_name fault.HeaderLength = (35, codes "HeaderLength")
-number_and_name fault.Time = (36, codes "Time")
-number_and_name fault.DataId = (37, codes "DataId")
-number_and_name fault.UnitLength = (38, codes "UnitLength")
-number_and_name fault.Framing = (39, codes "Framing")
-number_and_name fault.LineOrder = (40, codes "LineOrder")
-number_and_name fault.Read = (41, codes "Read")
-number_and_name fault.Write = (42, codes "Write")
-number_and_name fault.Ended = (43, codes "Ended")
-number_and_name fault.TooMany = (44, codes "TooMany")
+abbrev pub pes_code : PesFault → FaultCodeValue
+pes_code fault.Truncated = fault_code 30 (codes "Truncated")
+pes_code fault.Start = fault_code 31 (codes "Start")
+pes_code fault.Length = fault_code 32 (codes "Length")
+pes_code fault.Flags = fault_code 33 (codes "Flags")
+pes_code fault.NoTime = fault_code 34 (codes "NoTime")
+pes_code fault.HeaderLength = fault_code 35 (codes "HeaderLength")
+pes_code fault.Time = fault_code 36 (codes "Time")
+pes_code fault.DataId = fault_code 37 (codes "DataId")
+pes_code fault.UnitLength = fault_code 38 (codes "UnitLength")
+pes_code fault.Framing = fault_code 39 (codes "Framing")
+pes_code fault.LineOrder = fault_code 40 (codes "LineOrder")
+pes_code fault.Read = fault_code 41 (codes "Read")
+pes_code fault.Write = fault_code 42 (codes "Write")
+pes_code fault.Ended = fault_code 43 (codes "Ended")
+pes_code fault.TooMany = fault_code 44 (codes "TooMany")
 
 -- The source failed.
 abbrev pub is_read : PesFault → Bool

@@ -1,8 +1,8 @@
 //! Why a PES packet is not read or not written.
-ghost use Rattle.std.specs.Prelude.{◌≡◌, ◌≤◌, length};
+ghost use Rattle.std.specs.Prelude.{◌≡◌};
 ghost use Rattle.ttx_pes.specs.declared.fault.PesFault.TheVariants.{Read};
 
-use sub_io::Failed;
+use sub_io::{Failed, FaultCode};
 
 /// Why a PES packet is not read or not written (EN 300 472), in the order of the faults' numbers.
 /// `PesReader::next` says in which order a reader looks.
@@ -42,45 +42,28 @@ pub enum PesFault {
 }
 
 impl PesFault {
-    ghost use Rattle.ttx_pes.specs.Fault.{number_and_name};
+    ghost use Rattle.ttx_pes.specs.Fault.{pes_code};
 
-    /// The number by which the fault is told (own).
-    pub fn number(self) -> u8
-        ensures { result ≡ (number_and_name self).0 }
-    {
-        self.number_and_name().0
-    }
-
-    /// The name by which the fault is told (own): at most 16 letters.
-    pub fn name(self) -> &'static str
-        ensures value { result.now ≡ (number_and_name self).1 }
-        ensures len { length result.now ≤ 16 }
-    {
-        self.number_and_name().1
-    }
-
-    // The number and the name.
-    fn number_and_name(self) -> (u8, &'static str)
-        ensures number { result.0 ≡ (number_and_name self).0 }
-        ensures name { result.1.now ≡ (number_and_name self).1 }
-        ensures len { length result.1.now ≤ 16 }
+    /// The number and the name by which the fault is told (own).
+    pub fn code(self) -> FaultCode
+        ensures { result ≡ pes_code self }
     {
         match self {
-            PesFault::Truncated => (30, "Truncated"),
-            PesFault::Start => (31, "Start"),
-            PesFault::Length => (32, "Length"),
-            PesFault::Flags => (33, "Flags"),
-            PesFault::NoTime => (34, "NoTime"),
-            PesFault::HeaderLength => (35, "HeaderLength"),
-            PesFault::Time => (36, "Time"),
-            PesFault::DataId => (37, "DataId"),
-            PesFault::UnitLength => (38, "UnitLength"),
-            PesFault::Framing => (39, "Framing"),
-            PesFault::LineOrder => (40, "LineOrder"),
-            PesFault::Read => (41, "Read"),
-            PesFault::Write => (42, "Write"),
-            PesFault::Ended => (43, "Ended"),
-            PesFault::TooMany => (44, "TooMany"),
+            PesFault::Truncated => FaultCode::new(30, "Truncated"),
+            PesFault::Start => FaultCode::new(31, "Start"),
+            PesFault::Length => FaultCode::new(32, "Length"),
+            PesFault::Flags => FaultCode::new(33, "Flags"),
+            PesFault::NoTime => FaultCode::new(34, "NoTime"),
+            PesFault::HeaderLength => FaultCode::new(35, "HeaderLength"),
+            PesFault::Time => FaultCode::new(36, "Time"),
+            PesFault::DataId => FaultCode::new(37, "DataId"),
+            PesFault::UnitLength => FaultCode::new(38, "UnitLength"),
+            PesFault::Framing => FaultCode::new(39, "Framing"),
+            PesFault::LineOrder => FaultCode::new(40, "LineOrder"),
+            PesFault::Read => FaultCode::new(41, "Read"),
+            PesFault::Write => FaultCode::new(42, "Write"),
+            PesFault::Ended => FaultCode::new(43, "Ended"),
+            PesFault::TooMany => FaultCode::new(44, "TooMany"),
         }
     }
 }

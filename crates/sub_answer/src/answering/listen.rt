@@ -3,14 +3,13 @@ ghost use Rattle.std.specs.Prelude.{◌≡◌, ℕ, ◌+◌, ◌<◌, slice_inde
 ghost use Rattle.ttx_page.specs.Page.{AreCodes};
 ghost use Rattle.sub_answer.specs.Answering.{AnswersListen};
 ghost use Rattle.sub_answer.specs.DeviceCall.{CanFail, CountsFault, sink_call, source_call};
-ghost use Rattle.sub_answer.specs.ListenListing.{IsOldPage, listen_told};
+ghost use Rattle.sub_answer.specs.ListenListing.{IsOldPage};
 
 use crate::answering::state::print_state;
-use crate::faults::told_of_check;
+use crate::faults::told_of_listen;
 use crate::printing::print_told;
 use crate::status::Status;
-use crate::told::{Kind, Told};
-use sub_check::{FaultPlace, ListenFault, listen};
+use sub_check::listen;
 use sub_io::{Sink, Source};
 use sub_request::Listening;
 use ttx_page::{Page, Receiver};
@@ -67,17 +66,4 @@ fn old_row() -> [u8; 40]
     ensures value { (column : ℕ) → column < 40 → slice_index result column ≡ 0x3F }
 {
     [0x3F; 40]
-}
-
-// What is told of a fault.
-fn told_of_listen(fault: ListenFault) -> Told
-    ensures { result ≡ listen_told fault }
-{
-    match fault {
-        ListenFault::File(fault) => told_of_check(fault),
-        ListenFault::LostHeader { frame, packet } => {
-            let place = FaultPlace::Packet { frame, packet };
-            Told::new(Kind::Refused, 76, "LostHeader", place)
-        }
-    }
 }

@@ -2,19 +2,18 @@
 ghost use Rattle.std.specs.Prelude.{◌≡◌, ◌+◌, ◌≤◌, [], ◌++◌, IfErr, OnOk, length};
 ghost use Rattle.arrayvec.specs.ArrayVec.{array_vec_len};
 ghost use Rattle.sub_answer.specs.DeviceCall.{CanFail, CountsFault, sink_call};
+ghost use Rattle.sub_answer.specs.Faults.{packet_code, packet_told};
 ghost use Rattle.sub_answer.specs.Lines.{address_line, control_list, header_line, hex_two, marked};
 ghost use Rattle.sub_answer.specs.Lines.{text_line};
 ghost use Rattle.sub_answer.specs.Listing.{PrintsOrFails, done, packet_listing, told_listing};
-ghost use Rattle.sub_answer.specs.declared.told.Kind.TheVariants.{Refused};
 
+use crate::faults::told_of_packet;
 use crate::lines::{glyph, push_number, push_text};
 use crate::printing::{print_done, print_told};
 use crate::status::Status;
-use crate::told::{Kind, Told};
 use arrayvec::ArrayVec;
 use bitflags::Flags;
-use sub_check::FaultPlace;
-use sub_io::Sink;
+use sub_io::{FaultCode, Sink};
 use ttx_packet::{Control, Header, Packet, is_odd};
 
 // Room for the line of an address.
@@ -38,6 +37,27 @@ type Text = ArrayVec<u8, PACKET_ROOM>;
 
 const HEX_DIGITS: [u8; 16] = *b"0123456789ABCDEF";
 
+/// Why a packet is not shown.
+#[derive(Clone, Copy)]
+pub enum PacketFault {
+    /// One of the two address bytes is two bits or more away from each Hamming 8/4 code word.
+    BadAddress,
+    /// One of the eight coded bytes of a page header is.
+    BadHeader,
+}
+
+impl PacketFault {
+    /// The number and the name by which the fault is told (own).
+    pub fn code(self) -> FaultCode
+        ensures { result ≡ packet_code self }
+    {
+        match self {
+            PacketFault::BadAddress => FaultCode::new(3, "BadAddress"),
+            PacketFault::BadHeader => FaultCode::new(4, "BadHeader"),
+        }
+    }
+}
+
 /// Prints the address of a packet, its header and its text (EN 300 706, packets X/0 to X/31).
 ///
 /// Refuses a packet that has no address, or whose header means nothing.
@@ -51,24 +71,24 @@ pub fn show_packet<K: Sink>(bytes: &[u8; 42], out: &mut K) -> Status
     let mut text = Text::new();
     match push_packet(&mut text, &Packet::new(*bytes)) {
         Ok(()) => print_done(text.as_slice(), out),
-        Err(told) => print_told(&told, out),
+        Err(fault) => print_told(&told_of_packet(fault), out),
     }
 }
 
 // Appends what is printed of a packet.
-fn push_packet(text: &mut Text, packet: &Packet) -> Result<(), Told>
+fn push_packet(text: &mut Text, packet: &Packet) -> Result<(), PacketFault>
     requires { text.old.items ≡ [] }
     ensures ok { OnOk result (packet_listing packet.now ≡ done text.new.items) }
-    ensures err { IfErr result (λ told. (packet_listing packet.now ≡ told_listing told)
-        × (told.kind ≡ Refused)) }
+    ensures err { IfErr result
+        (λ fault. packet_listing packet.now ≡ told_listing (packet_told fault)) }
 {
     let Some((magazine, packet_number)) = packet.address() else {
-        return Err(Told::new(Kind::Refused, 3, "BadAddress", FaultPlace::Nowhere));
+        return Err(PacketFault::BadAddress);
     };
     push_address(text, magazine, packet_number);
     if packet_number == 0 {
         let Some(header) = packet.header() else {
-            return Err(Told::new(Kind::Refused, 4, "BadHeader", FaultPlace::Nowhere));
+            return Err(PacketFault::BadHeader);
         };
         push_header(text, &header);
         push_text_line(text, packet.bytes().split_at(10).1);

@@ -7,7 +7,7 @@ use Rattle.ttx_packet.specs.PageId.{PageIdValue}
 use Rattle.ttx_page.specs.Screen.{Display}
 use Rattle.ttx_pes.specs.Reader.{FailsAtPacket, TakesPackets}
 use Rattle.ttx_pes.specs.declared.fault.PesFault.TheVariants.{Read}
-use Rattle.sub_check.specs.Fault as check_number
+use Rattle.sub_check.specs.Fault.{is_pes_read, is_subtitle_fault}
 use Rattle.sub_check.specs.FirstBroken.{unread_fault}
 use Rattle.sub_check.specs.FrameRules.{Unread, frame_at, packets_before, packets_of_frame}
 use Rattle.sub_check.specs.PesReading.{ReadsAs}
@@ -23,12 +23,12 @@ use Rattle.sub_request.specs.declared.listening.Listening.{Listening}
 
 -- The source failed.
 abbrev pub is_failed_read : ListenFault → Bool
-is_failed_read (fault.File f) = check_number.is_pes_read f
+is_failed_read (fault.File f) = is_pes_read f
 is_failed_read (fault.LostHeader frame packet) = false
 
 -- The fault is one of a subtitle file, which is not read here.
 abbrev pub is_stl_fault : ListenFault → Bool
-is_stl_fault (fault.File f) = check_number.is_subtitle_fault f
+is_stl_fault (fault.File f) = is_subtitle_fault f
 is_stl_fault (fault.LostHeader frame packet) = false
 
 -- ---- what is heard
