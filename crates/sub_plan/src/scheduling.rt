@@ -18,7 +18,7 @@ use stl_rows::{Programme, law_of_edges};
 use sub_io::{Failed, Sink};
 use ttx_packet::Packet;
 use ttx_page::Page;
-use ttx_pes::{RepeatedPacket, put_frame};
+use ttx_pes::RepeatedPacket;
 
 // Writes packets as the PES packet of a frame.
 fn put_at<K: Sink>(
@@ -34,10 +34,8 @@ fn put_at<K: Sink>(
         (packets_at options.now.origin packets.now frame) result }
     ensures count { CountsFailure (K.failure_count sink.old) result (K.failure_count sink.new) }
 {
-    match put_frame(sink, options.pts_of(frame), packets) {
-        Ok(()) => Ok(()),
-        Err(_) => Err(Failed),
-    }
+    let mut once = RepeatedPacket::of_packets(packets);
+    repeat_at(sink, options, frame, &mut once)
 }
 
 // Writes a packet that is sent again, at a frame.
