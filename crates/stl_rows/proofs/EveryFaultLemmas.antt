@@ -17,7 +17,7 @@ use Rattle.stl_rows.specs.declared.fault.LoadFaultKind.{LoadFaultKind}
 use Rattle.stl_rows.specs.declared.national.National.{National}
 use Rattle.stl_rows.specs.declared.fault.LoadFaultKind.TheVariants.{File, Memory}
 use Rattle.stl_rows.specs.EveryFault.{FailsTelling, LawOfEveryFault, TellsFaults, TellsOfFile}
-use Rattle.stl_rows.specs.EveryFault.{faults, faults_behind, is_before, is_of_file}
+use Rattle.stl_rows.specs.EveryFault.{faults, faults_behind, is_told_before, is_of_file}
 use Rattle.stl_rows.specs.Loading.{FailsLoading, TellsFault, load_fault, loaded, loaded_behind}
 use Rattle.stl_rows.specs.Loading.{unless_told}
 use Rattle.stl_rows.specs.Fault.{is_read, is_read_kind}
@@ -124,13 +124,13 @@ tells-first national outcome fault stopped told of_file =
 -- The first of all does not come before this block, where none does.
 not_before : (block : ℕ) (all : List LoadFault) (fault : LoadFault)
     → first_of all ≡ Some fault
-    → filter (is_before block) all ≡ []
-    → is_before block fault ≡ false
+    → filter (is_told_before block) all ≡ []
+    → is_told_before block fault ≡ false
 not_before block all fault first none = grind (arith, nat_tests)
 
 -- What does not come before is the end inside a subtitle, or names this block or a later one.
 is_late : (block at : ℕ) (kind : LoadFaultKind)
-    → is_before block (load_fault at kind) ≡ false
+    → is_told_before block (load_fault at kind) ≡ false
     → (kind ≡ File Unfinished) ⊎ (block ≤ at)
 is_late block at kind h = grind (arith, nat_tests)
 

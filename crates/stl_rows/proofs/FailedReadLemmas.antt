@@ -17,7 +17,7 @@ use Rattle.stl_file.proofs.SubtitleBlocksLemmas.{length-joined}
 use Rattle.stl_rows.specs.declared.national.National.{National}
 use Rattle.stl_rows.specs.declared.fault.LoadFault.{LoadFault}
 use Rattle.stl_rows.specs.declared.times.Times.{Times}
-use Rattle.stl_rows.specs.EveryFault.{FailsTelling, faults, is_before}
+use Rattle.stl_rows.specs.EveryFault.{FailsTelling, faults, is_told_before}
 use Rattle.stl_rows.proofs.LoadingLemmas.{GoesOn, IsToldBy, tells-unread}
 
 -- The GSI block and `block` TTI blocks were taken.
@@ -50,7 +50,7 @@ block-is : (bytes more : List ℕ) (from to : ℕ)
 block-is bytes more from to long at = grind (arith, nat_tests, length-append bytes more)
 
 -- No fault comes before block 0.
-none_before-0 : (all : List LoadFault) → filter (is_before 0) all ≡ []
+none_before-0 : (all : List LoadFault) → filter (is_told_before 0) all ≡ []
 none_before-0 [] = refl
 none_before-0 (f ∷ fs) = grind (arith, nat_tests, none_before-0 fs)
 
@@ -85,5 +85,5 @@ fails-next {start = start} {old} {new} reader {block} taken reading early_told t
 -- While the GSI block is read: nothing was told.
 pub reads-nothing : (national : National) (outcome : Outcome)
     {D : Type 0} {IsTold : D → LoadFault → D → Type 0} (told : D)
-    → Tells IsTold told told (filter (is_before 0) (faults national outcome))
+    → Tells IsTold told told (filter (is_told_before 0) (faults national outcome))
 reads-nothing national outcome told = grind (arith, nat_tests, none_before-0, Tells-none)

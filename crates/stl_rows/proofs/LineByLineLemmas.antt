@@ -10,7 +10,7 @@ use Rattle.stl_rows.specs.declared.text_code.TextCode.{TextCode}
 use Rattle.stl_rows.specs.declared.text_code.TextCode.TheVariants.{Cell, NewLine}
 use Rattle.stl_rows.specs.Line.{prepared}
 use Rattle.stl_rows.specs.LineByLine.{onto, prepared_lines}
-use Rattle.stl_rows.specs.TextCode.{lines_of, text_codes}
+use Rattle.stl_rows.specs.TextCode.{lines_of_codes, text_codes}
 use Rattle.stl_rows.specs.declared.national.National.{National}
 
 -- ---- cells before the first line

@@ -32,7 +32,7 @@ use Rattle.stl_rows.specs.declared.fault.RowFault.{RowFault}
 use Rattle.stl_rows.specs.declared.times.Times.{Times}
 use Rattle.stl_rows.specs.DrawnPage.{drawn}
 use Rattle.stl_rows.specs.EveryFault.{StopsWithin, TellsFaults, TellsOfFile, faults, faults_behind}
-use Rattle.stl_rows.specs.EveryFault.{is_before, is_of_file, is_unfinished, kept_after}
+use Rattle.stl_rows.specs.EveryFault.{is_told_before, is_of_file, is_unfinished, kept_after}
 use Rattle.stl_rows.specs.Loading.{EndsRecord, load_fault, loaded, loaded_behind}
 use Rattle.stl_rows.specs.Programme.{IsProgramme, follow_faults, order_faults, row_faults}
 use Rattle.stl_rows.specs.Programme.{times_before, times_of}
@@ -356,7 +356,7 @@ not_unfinished kind h = grind (arith, nat_tests)
 filter-early : (from block : ℕ) (early : List LoadFault)
     → from < block
     → All (IsToldBy from) early
-    → filter (is_before block) early ≡ early
+    → filter (is_told_before block) early ≡ early
 filter-early from block [] lt h = refl
 filter-early from block (f ∷ fs) lt h =
     let one = All-head (IsToldBy from) f fs h in
@@ -366,23 +366,23 @@ filter-early from block (f ∷ fs) lt h =
 -- What names this block or a later one does not.
 late_kinds : (block at : ℕ) (kinds : List LoadFaultKind)
     → block ≤ at
-    → filter (is_before block) (map (load_fault at) kinds) ≡ []
+    → filter (is_told_before block) (map (load_fault at) kinds) ≡ []
 late_kinds block at [] le = refl
 late_kinds block at (k ∷ ks) le = grind (arith, nat_tests, late_kinds block at ks)
 
 late_fault : (block at : ℕ) (f : StlFault)
     → NamesFrom block (fails f at)
-    → is_before block (load_fault at (File f)) ≡ false
+    → is_told_before block (load_fault at (File f)) ≡ false
 late_fault block at f names = grind (arith, nat_tests)
 
 late : (national : National) (before : Option Times) (block : ℕ) (left : Outcome)
     → NamesFrom block left
-    → filter (is_before block) (faults_behind national before left) ≡ []
+    → filter (is_told_before block) (faults_behind national before left) ≡ []
 unfolding faults_behind
 late national before block ends names = refl
 late national before block (fails f at) names = rw (late_fault block at f names) refl
 late national before block (gives t at left) names =
-    filter-append (is_before block) (map (load_fault at) (follow_faults national before t))
+    filter-append (is_told_before block) (map (load_fault at) (follow_faults national before t))
     (faults_behind national (Some (times_of t)) left)
     ∙ rw (
       late_kinds block at (follow_faults national before t) names.0,
@@ -398,12 +398,12 @@ pub tells-unread : {D : Type 0} {IsTold : D → LoadFault → D → Type 0} {old
     → NamesFrom block left
     → GoesOn national outcome left before kept early
     → Tells IsTold old new early
-    → Tells IsTold old new (filter (is_before block) (faults national outcome))
+    → Tells IsTold old new (filter (is_told_before block) (faults national outcome))
 tells-unread {national = national} {left = left} {before} {early = early} from block lt early_told
     names on told =
     rw (
       on.same,
-      filter-append (is_before block) early (faults_behind national before left),
+      filter-append (is_told_before block) early (faults_behind national before left),
       filter-early from block early lt early_told,
       late national before block left names,
       append-nil,

@@ -15,7 +15,8 @@ use Rattle.stl_rows.specs.DuePage.{due}
 use Rattle.stl_rows.specs.Line.{prepared, row_of}
 use Rattle.stl_rows.specs.TextCode.{CellEntry, HasSevenBits, cell_in, cell_of, cell_of_letter}
 use Rattle.stl_rows.specs.TextCode.{cell_of_pair, cell_or_other, cells, code_before, text_code}
-use Rattle.stl_rows.specs.TextCode.{code_of_other, codes_after, diaeresis_cells, first_of, lines_of}
+use Rattle.stl_rows.specs.TextCode.{code_of_other, codes_after, diaeresis_cells, first_of}
+use Rattle.stl_rows.specs.TextCode.{lines_of_codes}
 use Rattle.stl_rows.specs.TextCode.{pair_or_single, text_codes, with_code}
 use Rattle.stl_rows.specs.declared.national.National.{National}
 use Rattle.stl_rows.specs.declared.national.National.TheVariants.{English, German}
@@ -80,12 +81,12 @@ with_small s ls l h = grind (arith, nat_tests)
 
 -- All cells of a text are codes.
 cells_small : (national : National) (at skip : ℕ) (bytes : List ℕ)
-    → AllByRecursion Small (lines_of (codes_after national at skip bytes))
+    → AllByRecursion Small (lines_of_codes (codes_after national at skip bytes))
 cells_small national at skip [] = (tt, tt)
 cells_small national at (suc skip) (b ∷ bytes) = cells_small national (at + 1) skip bytes
 cells_small national at zero (b ∷ bytes) =
     let s = code_before national b bytes in
-    with_small s.0 (lines_of (codes_after national (at + 1) s.1 bytes))
+    with_small s.0 (lines_of_codes (codes_after national (at + 1) s.1 bytes))
     (by_small (cell_of_pair national b (first_of bytes)) (text_code national b)
     (pair_small national b (first_of bytes)) (code_small national b))
     (cells_small national (at + 1) s.1 bytes)
@@ -138,4 +139,5 @@ pub due_is_page : (national : National) (ts : List SubtitleValue) (f : ℕ)
 due_is_page national ts f =
     due_has IsPage national ts f is_page_blank
     (λ t none. page_is t.jc t.vp (lines national t)
-    (all_prepared (lines_of (text_codes national 0 t.text)) (cells_small national 0 0 t.text)))
+    (all_prepared (lines_of_codes (text_codes national 0 t.text))
+    (cells_small national 0 0 t.text)))

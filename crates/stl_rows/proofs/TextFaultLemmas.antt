@@ -17,7 +17,7 @@ use Rattle.stl_rows.specs.DrawnPage.{faults, line_fault_kinds, line_faults}
 use Rattle.stl_rows.specs.Line.{has_cells, is_boxed, is_double, prepared}
 use Rattle.stl_rows.specs.LineByLine.{HasShape, empty_line, line_under, prepared_lines}
 use Rattle.stl_rows.specs.LineByLine.{shape_fault_kinds, told, told_first, with_cell}
-use Rattle.stl_rows.specs.TextCode.{fault_of, first_of, lines_of, refusals, text_codes}
+use Rattle.stl_rows.specs.TextCode.{fault_of, first_of, lines_of_codes, refusals, text_codes}
 use Rattle.stl_rows.proofs.LineByLineLemmas.{onto_code, onto_line_end}
 
 -- ---- shapes
@@ -104,7 +104,7 @@ told-code : (at : ℕ) (s : TextCode) (ss : List (ℕ × TextCode)) → IsTold s
 told-code at (Cell code) ss after before cells line h = search (rules, onto_code, shape-push)
 told-code at NoCell ss after before cells line h = after before cells line h
 told-code at NewLine ss after before cells line h =
-    rw (onto_line_end cells (lines_of ss))
+    rw (onto_line_end cells (lines_of_codes ss))
     (after (told_first before line) [] (line_under line) (shape-none _ _ _)
     ∙ ap (option_or (first_of (refusals ss)))
     (told_line before cells line (prepared_lines [] ss) h))

@@ -9,7 +9,7 @@ use Rattle.stl_rows.specs.declared.fault.RowFault.{RowFault}
 use Rattle.stl_rows.specs.declared.fault.RowFaultKind.{RowFaultKind}
 use Rattle.stl_rows.specs.declared.fault.RowFaultKind.TheVariants.{RowTooLong, PastBottom}
 use Rattle.stl_rows.specs.declared.fault.RowFaultKind.TheVariants.{DoubleRow, Hidden}
-use Rattle.stl_rows.specs.TextCode.{text_codes, refusals, lines_of, fault_of}
+use Rattle.stl_rows.specs.TextCode.{text_codes, refusals, lines_of_codes, fault_of}
 use Rattle.stl_rows.specs.Line.{columns, has_cells, is_double, prepared, row_of}
 
 -- The last row that a subtitle may use: row 24 is kept free (own).
@@ -18,7 +18,7 @@ last_row = 23
 
 -- The prepared lines of a subtitle.
 abbrev pub lines : National → SubtitleValue → List (List ℕ)
-lines national t = map prepared (lines_of (text_codes national 0 t.text))
+lines national t = map prepared (lines_of_codes (text_codes national 0 t.text))
 
 -- ---- what is refused
 

@@ -75,8 +75,8 @@ is_unfinished _ = false
 
 -- A fault that is found before this block is asked for. The end of the file inside a subtitle,
 -- which names the last whole block, is found only where the block after it is.
-abbrev pub is_before : ℕ → LoadFault → Bool
-is_before block fault = nat_lt fault.block block && not (is_unfinished fault.kind)
+abbrev pub is_told_before : ℕ → LoadFault → Bool
+is_told_before block fault = nat_lt fault.block block && not (is_unfinished fault.kind)
 
 -- The source failed: the block is that of the byte that was asked for, the first one after those
 -- that were taken. The device was told the faults that are found before it, and no others.
@@ -90,7 +90,7 @@ pub record FailsTelling
   pub told :
       IfTold old
       (λ all. Tells IsTold told_old told_new
-      (filter (is_before block) (faults national (outcome_of all))))
+      (filter (is_told_before block) (faults national (outcome_of all))))
 
 -- The first of all faults is the one for which `load` refuses the file, and there is none exactly
 -- where it loads it.

@@ -13,7 +13,7 @@ use Rattle.stl_rows.specs.declared.fault.RowFaultKind.TheVariants.{DoubleRow, Hi
 use Rattle.stl_rows.specs.declared.text_code.TextCode.{TextCode}
 use Rattle.stl_rows.specs.declared.text_code.TextCode.TheVariants.{Cell, NoCell, NewLine, Refused}
 use Rattle.stl_rows.specs.declared.text_faults.OpenLine.{OpenLine}
-use Rattle.stl_rows.specs.TextCode.{fault_of, first_of, lines_of}
+use Rattle.stl_rows.specs.TextCode.{fault_of, first_of, lines_of_codes}
 use Rattle.stl_rows.specs.Line.{columns, double_height, is_boxed, is_double, prepared, row_of}
 use Rattle.stl_rows.specs.Line.{start_box}
 use Rattle.stl_rows.specs.DrawnPage.{last_row, when}
@@ -27,7 +27,7 @@ onto (c ∷ cells) lines = onto_first c (onto cells lines)
 
 -- The prepared lines of text codes, with some cells before the first.
 abbrev pub prepared_lines : List ℕ → List (ℕ × TextCode) → List (List ℕ)
-prepared_lines cells codes = map prepared (onto cells (lines_of codes))
+prepared_lines cells codes = map prepared (onto cells (lines_of_codes codes))
 
 -- A page with a line, which is prepared, on a row; an empty line leaves it.
 abbrev pub put_line : ℕ → ℕ → List ℕ → Rows → Rows

@@ -212,6 +212,6 @@ with_code NewLine lines = [] ∷ lines
 with_code (Refused kind) lines = lines
 
 -- The lines of cells that text codes give: cut at each new line, so one line more than these.
-abbrev pub lines_of : List (ℕ × TextCode) → List (List ℕ)
-lines_of [] = [] ∷ []
-lines_of (c ∷ codes) = with_code c.1 (lines_of codes)
+abbrev pub lines_of_codes : List (ℕ × TextCode) → List (List ℕ)
+lines_of_codes [] = [] ∷ []
+lines_of_codes (c ∷ codes) = with_code c.1 (lines_of_codes codes)

@@ -44,7 +44,7 @@ use Rattle.sub_check.specs.declared.fault.CheckFault.TheVariants as fault
 use Rattle.sub_answer.specs.DeviceCall.{Counts, SinkCall, SourceCall}
 use Rattle.sub_answer.specs.EveryFault.{AnswersAll, AreListed, AreListedBefore, CanEnd}
 use Rattle.sub_answer.specs.EveryFault.{IsAccepted, IsVerdict, TellsBoth}
-use Rattle.sub_answer.specs.FaultListing.{all_listing, last_listing, lines_of, most_counted}
+use Rattle.sub_answer.specs.FaultListing.{all_listing, last_listing, event_lines, most_counted}
 use Rattle.sub_answer.specs.FaultListing.{refusals, subtitle_events}
 use Rattle.sub_answer.specs.Faults.{kind_by, load_told}
 use Rattle.sub_answer.specs.Listing.{Listing, PrintsOrFails, followed}
@@ -102,13 +102,13 @@ memory-alone :
     (kind : LoadFaultKind)
     → kind ≡ load.Memory
     → events ≡ []
-    → Appends old new (lines_of events ++ line_of (load_told kind block))
+    → Appends old new (event_lines events ++ line_of (load_told kind block))
     → IfTold told (λ file. AreListedBefore national file events block kind)
     → PrintsMemory national told old new
 memory-alone national told old new events block load.Memory is none text are = (
   block,
   subst (λ (es : List Event). Appends old new
-      (lines_of es ++ line_of (load_told load.Memory block)))
+      (event_lines es ++ line_of (load_told load.Memory block)))
       none text,
   λ file heard. (are file heard).1,
 )
@@ -125,7 +125,7 @@ memory-told :
     → sn ≡ so
     → RisesIf po (failed is_pes_read answer) pn
     → pn ≡ po
-    → Appends old new (lines_of events ++ (last_listing refused answer).text)
+    → Appends old new (event_lines events ++ (last_listing refused answer).text)
     → IfTold told (λ file. AreListed national options file pes events answer)
     → PrintsMemory national told old new
 memory-told national options told pes old new events (Ok None) refused so sn po pn is ended sc ss pc
@@ -301,7 +301,7 @@ answers_cut national options stl pes old new given t failing = record {
   events = t.events;
   answer = t.answer;
   printed =
-      printed-cut old.contents new.contents old.count new.count (lines_of t.events)
+      printed-cut old.contents new.contents old.count new.count (event_lines t.events)
       (last_listing (min (refusals t.events) most_counted) t.answer)
       (t.prints.cut failing) (t.prints.cut_count failing);
   stl_count = t.stl_count;
@@ -338,7 +338,7 @@ answers_end national options stl pes old new given end end_count status t holds 
     (last_listing (min (refusals t.events) most_counted) t.answer) status =
     rw (sym refused, t.same holds) last in
     let printed =
-    printed-after old.contents new.contents end old.count new.count end_count (lines_of t.events)
+    printed-after old.contents new.contents end old.count new.count end_count (event_lines t.events)
     (last_listing (min (refusals t.events) most_counted) t.answer) status (t.prints.put holds)
     (t.prints.put_count holds) line in
     record {

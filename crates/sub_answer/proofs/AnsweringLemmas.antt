@@ -19,7 +19,7 @@ use Rattle.stl_rows.specs.Loading.{FailsLoading, TellsFault, loaded}
 use Rattle.stl_rows.specs.Programme.{ProgrammeValue}
 use Rattle.sub_plan.specs.Options.{OptionsValue}
 use Rattle.sub_check.specs.CheckedFiles.{AreChecked}
-use Rattle.sub_check.specs.checking.Steps.{TellsSubtitles}
+use Rattle.sub_check.specs.CheckedFiles.{TellsSubtitles}
 use Rattle.sub_check.specs.Fault.{is_failure, is_failure_kind, is_pes_read, is_stl_read}
 use Rattle.sub_check.specs.Fault.{is_subtitle_fault}
 use Rattle.sub_check.specs.declared.checking.Accepted.{Accepted}

@@ -16,7 +16,8 @@ use Rattle.ttx_pes.specs.Reader.{FailsAtPacket}
 use Rattle.ttx_pes.specs.declared.fault.PesFault.TheVariants as pes_fault
 use Rattle.stl_file.specs.Reader.{outcome_of}
 use Rattle.stl_file.specs.declared.fault.StlFault.TheVariants as stl_fault
-use Rattle.stl_rows.specs.EveryFault.{FailsTelling, TellsFaults, TellsOfFile, faults, is_before}
+use Rattle.stl_rows.specs.EveryFault.{FailsTelling, TellsFaults, TellsOfFile, faults}
+use Rattle.stl_rows.specs.EveryFault.{is_told_before}
 use Rattle.stl_rows.specs.Fault.{is_read}
 use Rattle.stl_rows.specs.Loading.{EndsRecord, load_fault, loaded}
 use Rattle.stl_rows.specs.Programme.{ProgrammeValue}
@@ -26,7 +27,7 @@ use Rattle.stl_rows.specs.declared.fault.LoadFaultKind.TheVariants as load
 use Rattle.stl_rows.specs.declared.national.National.{National}
 use Rattle.sub_plan.specs.Options.{OptionsValue}
 use Rattle.sub_check.specs.CheckedFiles.{IsChecked, TellsEvents, first_answer}
-use Rattle.sub_check.specs.checking.Steps.{CountsRead}
+use Rattle.sub_check.specs.CheckedFiles.{CountsRead}
 use Rattle.sub_check.specs.Events as pes_events
 use Rattle.sub_check.specs.Fault.{is_pes_read}
 use Rattle.sub_check.specs.FrameRules.{frame_at, packets_before, task_of}
@@ -102,7 +103,7 @@ module _ {D N : Type 0} (IsTold : D → LoadFault → D → Type 0) (name : D �
         → RisesIf stl.old_count true stl.new_count
         → FailsAtBlock stl.told stl.left block
         → IfTold stl.told (λ file. items
-        ≡ filter (is_before block) (faults national (outcome_of file)))
+        ≡ filter (is_told_before block) (faults national (outcome_of file)))
         → TellsBoth national options stl pes (value old) (value new)
         (Err (fault.Subtitles (load_fault block (load.File stl_fault.Read))))
     failed_source block items told count fails are = record {
@@ -135,12 +136,12 @@ module _ {D N : Type 0} (IsTold : D → LoadFault → D → Type 0) (name : D �
         (record { bytes = read.bytes; consumed = read.consumed; block_is = read.block_is })
         (λ file told. cc)
     failed_at block (Some file) is some count read =
-        failed_source block (filter (is_before block) (faults national (outcome_of file)))
+        failed_source block (filter (is_told_before block) (faults national (outcome_of file)))
         (read.told file is) count
         (record { bytes = read.bytes; consumed = read.consumed; block_is = read.block_is })
         (λ other told.
         let same : file ≡ other = cc in
-        ap (λ b. filter (is_before block) (faults national (outcome_of b))) same)
+        ap (λ b. filter (is_told_before block) (faults national (outcome_of b))) same)
 
     -- The subtitle file can't be read on. For `tell_every_fault`.
     pub after_error : (block : ℕ) (kind : LoadFaultKind)

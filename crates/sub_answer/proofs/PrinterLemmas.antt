@@ -11,7 +11,7 @@ use Rattle.sub_io.proofs.DeviceLemmas.{AppendsPrefix-first, AppendsPrefix-second
 use Rattle.sub_io.specs.Device.{AppendsPrefix}
 use Rattle.sub_io.specs.Telling.{Tells, TellsInTurn}
 use Rattle.sub_check.specs.declared.event.Event.{Event}
-use Rattle.sub_answer.specs.FaultListing.{event_line, lines_of, most_counted, refusal, refusals}
+use Rattle.sub_answer.specs.FaultListing.{event_line, event_lines, most_counted, refusal, refusals}
 use Rattle.sub_answer.specs.Printer.{PrinterValue, PrintsEvent, PrintsEvents, can_fail, counted}
 
 -- More refusals after some.
@@ -47,7 +47,7 @@ prints-more : (a b c : PrinterValue) (e : Event) (events : List Event)
     → PrintsEvents a (e ∷ events) c
 prints-more a b c e events one goes more = record {
   put = λ holds.
-      Appends-trans a.contents b.contents c.contents (event_line e) (lines_of events)
+      Appends-trans a.contents b.contents c.contents (event_line e) (event_lines events)
       (one.put goes) (more.put holds);
   put_count = λ holds. more.put_count holds ∙ one.put_count goes;
   put_refused = λ holds.
@@ -55,7 +55,7 @@ prints-more a b c e events one goes more = record {
       ∙ ap (λ r. counted r (refusals events)) (one.put_refused goes)
       ∙ counted-twice a.refused (refusal e) (refusals events);
   cut = λ failing.
-      AppendsPrefix-second a.contents b.contents c.contents (event_line e) (lines_of events)
+      AppendsPrefix-second a.contents b.contents c.contents (event_line e) (event_lines events)
       (one.put goes) (more.cut failing);
   cut_count = λ failing. more.cut_count failing ∙ ap (λ n. n + 1) (one.put_count goes);
 }
@@ -70,15 +70,17 @@ prints-cut a b e events one failing = record {
   put_count = λ holds. absurd (true≢false (sym failing ∙ holds));
   put_refused = λ holds. absurd (true≢false (sym failing ∙ holds));
   cut = λ fails.
-      AppendsPrefix-first a.contents b.contents (event_line e) (lines_of events) (one.cut failing);
+      AppendsPrefix-first a.contents b.contents (event_line e) (event_lines events)
+      (one.cut failing);
   cut_count = λ fails. one.cut_count failing;
 }
 
-lines_of-append : (xs ys : List Event) → lines_of (xs ++ ys) ≡ lines_of xs ++ lines_of ys
-lines_of-append [] ys = refl
-lines_of-append (x ∷ xs) ys =
-    ap (λ (l : List ℕ). event_line x ++ l) (lines_of-append xs ys)
-    ∙ sym (append_assoc (event_line x) (lines_of xs) (lines_of ys))
+event_lines-append : (xs ys : List Event)
+    → event_lines (xs ++ ys) ≡ event_lines xs ++ event_lines ys
+event_lines-append [] ys = refl
+event_lines-append (x ∷ xs) ys =
+    ap (λ (l : List ℕ). event_line x ++ l) (event_lines-append xs ys)
+    ∙ sym (append_assoc (event_line x) (event_lines xs) (event_lines ys))
 
 -- Where the sink failed, more events might have followed.
 pub prints-prefix : (a b : PrinterValue) (events more : List Event)
@@ -90,8 +92,8 @@ prints-prefix a b events more failing prints = record {
   put_count = λ holds. absurd (true≢false (sym failing ∙ holds));
   put_refused = λ holds. absurd (true≢false (sym failing ∙ holds));
   cut = λ fails.
-      subst (AppendsPrefix a.contents b.contents) (sym (lines_of-append events more))
-      (AppendsPrefix-first a.contents b.contents (lines_of events) (lines_of more)
+      subst (AppendsPrefix a.contents b.contents) (sym (event_lines-append events more))
+      (AppendsPrefix-first a.contents b.contents (event_lines events) (event_lines more)
       (prints.cut fails));
   cut_count = λ fails. prints.cut_count failing;
 }

@@ -8,7 +8,7 @@ use Rattle.sub_io.specs.Reading.{IfTold}
 use Rattle.ttx_pes.specs.Reader.{FailsAtPacket}
 use Rattle.ttx_pes.specs.declared.fault.PesFault.TheVariants.{Read}
 use Rattle.stl_file.specs.Reader.{block_of_byte, outcome_of}
-use Rattle.stl_rows.specs.EveryFault.{faults, is_before}
+use Rattle.stl_rows.specs.EveryFault.{faults, is_told_before}
 use Rattle.stl_rows.specs.Fault.{is_read}
 use Rattle.stl_rows.specs.Loading.{EndsRecord, loaded}
 use Rattle.stl_rows.specs.Programme.{ProgrammeValue}
@@ -19,7 +19,7 @@ use Rattle.stl_rows.specs.declared.national.National.{National}
 use Rattle.stl_file.specs.declared.fault.StlFault.TheVariants as stl_fault
 use Rattle.sub_plan.specs.Options.{OptionsValue}
 use Rattle.sub_check.specs.CheckedFiles.{IsChecked, first_answer}
-use Rattle.sub_check.specs.checking.Steps.{CountsRead}
+use Rattle.sub_check.specs.CheckedFiles.{CountsRead}
 use Rattle.sub_check.specs.Events as pes_events
 use Rattle.sub_check.specs.Fault.{is_pes_read, is_stl_read, is_subtitle_fault}
 use Rattle.sub_check.specs.FrameRules.{task_of}
@@ -51,7 +51,7 @@ is_of_subtitles (Err f) = is_subtitle_fault f
 -- for a subtitle before which there is no fault.
 abbrev pub AreListedBefore : National → List ℕ → List Event → ℕ → LoadFaultKind → Type 0
 AreListedBefore national file events block (File stl_fault.Read) =
-    events ≡ subtitle_events (filter (is_before block) (faults national (outcome_of file)))
+    events ≡ subtitle_events (filter (is_told_before block) (faults national (outcome_of file)))
 AreListedBefore national file events block Memory =
     (events ≡ []) × EndsRecord national [] block (outcome_of file)
 AreListedBefore national file events block kind = ⊥

@@ -27,9 +27,9 @@ event_line (Told f) = line_of (check_told f)
 event_line (Ended rule frame) = ended_line rule frame
 
 -- The lines of events.
-abbrev pub lines_of : List Event → List ℕ
-lines_of [] = []
-lines_of (e ∷ events) = event_line e ++ lines_of events
+abbrev pub event_lines : List Event → List ℕ
+event_lines [] = []
+event_lines (e ∷ events) = event_line e ++ event_lines events
 
 -- Whether an event is a refusal: 1, or 0 where it is an end.
 abbrev pub refusal : Event → ℕ
@@ -78,4 +78,4 @@ last_listing refused (Ok (Some a)) =
 -- above it.
 abbrev pub all_listing : List Event → Result (Option Accepted) CheckFault → Listing
 all_listing events answer =
-    followed (lines_of events) (last_listing (min (refusals events) most_counted) answer)
+    followed (event_lines events) (last_listing (min (refusals events) most_counted) answer)

@@ -3,7 +3,7 @@ use Rattle.std.specs.Prelude.{◌≡◌, ℕ, ◌+◌, min, nat_lt, Bool, true, 
 use Rattle.std.specs.Io.KnownBytes.{Appends}
 use Rattle.sub_io.specs.Device.{AppendsPrefix}
 use Rattle.sub_check.specs.declared.event.Event.{Event}
-use Rattle.sub_answer.specs.FaultListing.{event_line, lines_of, most_counted, refusal, refusals}
+use Rattle.sub_answer.specs.FaultListing.{event_line, event_lines, most_counted, refusal, refusals}
 
 -- The device: what its sink has taken, where it tells that, and how often it has failed; how many
 -- refusals were counted; whether the sink failed while it printed.
@@ -44,8 +44,8 @@ pub record PrintsEvent (old : PrinterValue) (event : Event) (new : PrinterValue)
 -- prefix of them.
 pub record PrintsEvents (old : PrinterValue) (events : List Event) (new : PrinterValue) : Type 0
   where
-    pub put : new.failed ≡ false → Appends old.contents new.contents (lines_of events)
+    pub put : new.failed ≡ false → Appends old.contents new.contents (event_lines events)
     pub put_count : new.failed ≡ false → new.count ≡ old.count
     pub put_refused : new.failed ≡ false → new.refused ≡ counted old.refused (refusals events)
-    pub cut : new.failed ≡ true → AppendsPrefix old.contents new.contents (lines_of events)
+    pub cut : new.failed ≡ true → AppendsPrefix old.contents new.contents (event_lines events)
     pub cut_count : new.failed ≡ true → new.count ≡ old.count + 1

@@ -286,7 +286,8 @@ module _ (w : Watched) (before : List (List ℕ)) (p : List ℕ) (whole : IsPack
         (same_row (kind w.page p) refl (lower rule.Address (omega arith))
         (lower rule.Parity (omega arith)))
     decided rule.Enhancement lower =
-        opened (is_open_after (kind w.page) before) _ _ (λ t. no_enhancement w.page p (address p) refl)
+        opened (is_open_after (kind w.page) before) _ _
+        (λ t. no_enhancement w.page p (address p) refl)
 
     pub broken_first : FirstRule (λ r. KeepsRule r w before p)
         (broken_rules w before p)

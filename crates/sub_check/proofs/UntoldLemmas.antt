@@ -40,7 +40,8 @@ module _ (w : Watched) (before : List (List ℕ)) (p : List ℕ) where
   unfolding breaks
   exact_address untold = (address_decided p).0 (not_false (are_code_words 0 2 p) untold)
 
-  pub exact_codes : IsFalse (breaks rule.HeaderCode w before p) → KeepsRule rule.HeaderCode w before p
+  pub exact_codes :
+      IsFalse (breaks rule.HeaderCode w before p) → KeepsRule rule.HeaderCode w before p
   unfolding breaks
   exact_codes untold = grind (arith, nat_tests, coded, header_decided)
 

@@ -17,7 +17,15 @@ use Rattle.stl_rows.specs.declared.national.National.{National}
 use Rattle.sub_plan.specs.Options.{OptionsValue}
 use Rattle.sub_plan.specs.Schedule.{plan}
 use Rattle.sub_io.specs.Telling.{Tells}
-use Rattle.sub_check.specs.checking.Steps.{CountsRead, HasCounts, TellsOrStops, TellsSubtitles}
+use Rattle.std.specs.Prelude.{◌+◌, ◌<◌, flat_map, ⊤}
+use Rattle.sub_io.specs.Telling.{TellsPrefix}
+use Rattle.ttx_packet.specs.PageId.{PageIdValue}
+use Rattle.stl_file.specs.Reading.{Outcome}
+use Rattle.stl_rows.specs.Loading.{TellsFault}
+use Rattle.sub_check.specs.Events.{latest}
+use Rattle.sub_check.specs.FrameRules.{frame_at, packets_before}
+use Rattle.sub_check.specs.PacketRules.{header_count}
+use Rattle.sub_check.specs.Transmission.{SentFrame, first_frame, last_frame}
 use Rattle.sub_check.specs.Events.{events, events_of_first}
 use Rattle.sub_check.specs.declared.event.Event.{Event}
 use Rattle.sub_check.specs.declared.event.Event.TheVariants.{Told}
@@ -51,6 +59,36 @@ pub record ServesReceivers
   pub recovers : Recovers programme transmission options
   -- Where complete pages are asked for, it is shown by every receiver that waits for a page's end.
   pub shown : IsTrue options.asks_complete → Shown programme transmission options
+
+-- ---- what an answer tells, and counts
+
+-- What is told of the subtitle file by an answer that refuses it.
+abbrev pub TellsSubtitles : National → Outcome → Result Accepted CheckFault → Type 0
+TellsSubtitles national outcome (Err (fault.Subtitles f)) =
+    TellsFault national outcome f.block f.kind
+TellsSubtitles national outcome _ = ⊤
+
+-- What is told of an accepted transmission: the frames of the day from the first to the last, and
+-- the headers of the page.
+pub record HasCounts (page : PageIdValue) (frames : Transmission) (a : Accepted) : Type 0 where
+  pub frames_are : a.frames + first_frame frames ≡ last_frame frames + 1
+  pub transmissions_are :
+      a.transmissions ≡ header_count page (flat_map (λ (s : SentFrame). s.packets) frames)
+
+-- What is counted of the PES packets that were read: the frames of the day from the first one's to
+-- the latest one's, and the headers of the page.
+pub record CountsRead (page : PageIdValue) (frames : Transmission) (a : Accepted) : Type 0 where
+  pub none : length frames ≡ 0 → a.frames ≡ 0
+  pub frames_are :
+      0 < length frames → a.frames + frame_at frames 0 ≡ latest frames (length frames) + 1
+  pub transmissions_are :
+      a.transmissions ≡ header_count page (packets_before frames (length frames))
+
+-- A device was told all of these; or it said stop, and was told them up to there.
+abbrev pub TellsOrStops : {A D : Type 0}
+    → (D → A → D → Type 0) → D → D → List A → Bool → Type 0
+TellsOrStops IsTold old new items false = Tells IsTold old new items
+TellsOrStops IsTold old new items true = TellsPrefix IsTold old new items
 
 -- ---- both files
 

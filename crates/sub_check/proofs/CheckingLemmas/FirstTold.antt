@@ -193,7 +193,8 @@ module _ (g : Task) (origin : ℕ) (bytes : List ℕ) (frames : Transmission)
     -- And no failure of the source is told.
     pub first_own : (a : Accepted) → failed is_pes_read (first_answer (events g frames) a) ≡ false
     first_own a =
-        by_first a (λ r. failed is_pes_read r ≡ false) (λ e. refl) (λ f named. (own f named).no_source)
+        by_first a (λ r. failed is_pes_read r ≡ false)
+        (λ e. refl) (λ f named. (own f named).no_source)
 
     -- Nor a refusal of the subtitle file.
     pub first_of_pes : (a : Accepted)

@@ -1,5 +1,6 @@
 -- Events that are told in parts, one part after another: `told_whole`, `told_same`, `told_then`,
--- `stopped_first`, `stopped_then`, `all_same`, `prefix_same`; `ok_map`. Lists that grow: `grows_to`.
+-- `stopped_first`, `stopped_then`, `all_same`, `prefix_same`; `ok_map`. Lists that grow:
+-- `grows_to`.
 use Rattle.std.proofs.Common.{arith, ◌≡◌, ℕ, zero, suc, ◌+◌, ◌-◌, ◌≤◌, List, [], ◌++◌, Result, Ok}
 use Rattle.std.proofs.Common.{Err, sym, subst, ap, ◌∙◌, append_assoc, append-nil}
 use Rattle.std.proofs.lemmas.Bool.Decides.{nat_tests}

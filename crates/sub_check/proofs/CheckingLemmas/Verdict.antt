@@ -20,7 +20,8 @@ use Rattle.ttx_pes.specs.PesPacket.{IsPesPacket}
 use Rattle.sub_plan.specs.Options.{OptionsValue, IsOptions}
 use Rattle.sub_plan.specs.Schedule.{plan}
 use Rattle.sub_check.specs.CheckedFiles.{AreAccepted, IsChecked, Mean, ServesReceivers}
-use Rattle.sub_check.specs.checking.Steps.{Accepts, HasCounts}
+use Rattle.sub_check.specs.CheckedFiles.{HasCounts}
+use Rattle.sub_check.specs.checking.Steps.{Accepts}
 use Rattle.sub_check.specs.FirstBroken.{IsReadUpTo, NamesFirst}
 use Rattle.sub_check.specs.FrameRules.{Unread, task_of}
 use Rattle.sub_check.specs.Good.{Good}

@@ -18,9 +18,10 @@ use Rattle.ttx_pes.specs.Reader.{TakesPesPacket}
 use Rattle.ttx_pes.specs.Reading.{most_packets, rest_after}
 use Rattle.sub_plan.specs.Options.{OptionsValue}
 use Rattle.sub_check.specs.checking.Checker.{CheckerValue}
-use Rattle.sub_check.specs.checking.Steps.{AreTaken, AreWhole, CountsRead, IsFrameOf, IsRead}
+use Rattle.sub_check.specs.CheckedFiles.{CountsRead}
+use Rattle.sub_check.specs.checking.Steps.{AreTaken, AreWhole, IsFrameOf, IsRead}
 use Rattle.sub_check.specs.checking.Steps.{TellsFrame}
-use Rattle.sub_check.specs.checking.Steps.{TellsOrStops}
+use Rattle.sub_check.specs.CheckedFiles.{TellsOrStops}
 use Rattle.sub_check.specs.Events.{closing_events, events, events_of_first, frame_events}
 use Rattle.sub_check.specs.checking.Following.{Follows, IsSentFrame}
 use Rattle.sub_check.specs.FrameRules.{Task, Unread, task_of, packets_of_frame}

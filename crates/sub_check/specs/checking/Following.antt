@@ -1,4 +1,5 @@
 -- The parts of the check of one frame of the list, and what is kept after the first n frames.
+-- Private functions alone cite this.
 use Rattle.std.specs.Prelude.{◌≡◌, ℕ, suc, ◌+◌, ◌-◌, ◌<◌, List, ◌++◌, length, nat_le}
 use Rattle.sub_check.specs.Transmission.{Transmission}
 use Rattle.sub_check.specs.checking.Checker.{CheckerValue, as_standing}

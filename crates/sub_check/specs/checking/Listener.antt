@@ -1,5 +1,5 @@
 -- What the checker keeps of the packets that it heard, tied to the packets, whatever rules they
--- break.
+-- break. Private functions alone cite this.
 use Rattle.std.specs.Prelude.{◌≡◌, ℕ, ◌-◌, ◌<◌, ◌≤◌, Bool, false, List, [], ◌++◌, Option, None}
 use Rattle.std.specs.Prelude.{Some, bit_or, if◌then◌else◌, is_some, length, option_map}
 use Rattle.std.specs.Prelude.{slice_index_or, take}

@@ -1,4 +1,4 @@
--- What the checker's steps answer.
+-- What the checker's steps answer. Private functions alone cite this.
 use Rattle.std.specs.Prelude.{◌≡◌, ℕ, zero, suc, ◌+◌, ◌<◌, ◌≤◌, Bool, true, false, List, [], ◌∷◌}
 use Rattle.std.specs.Prelude.{◌++◌, length, nat_le, if◌then◌else◌}
 use Rattle.std.specs.Prelude.{Option, Some, None, ⊤}
@@ -14,6 +14,7 @@ use Rattle.ttx_pes.specs.Reading.{answer_at, most_packets}
 use Rattle.stl_file.specs.TimeCode.{day}
 use Rattle.sub_plan.specs.FrameTime.{pts_of}
 use Rattle.ttx_pes.specs.declared.fault.PesFault.TheVariants.{Read}
+use Rattle.sub_check.specs.CheckedFiles.{CountsRead, TellsOrStops}
 use Rattle.sub_check.specs.Events.{events, events_of_first, latest}
 use Rattle.sub_check.specs.declared.event.Event.{Event}
 use Rattle.sub_check.specs.declared.event.Event.TheVariants.{Told}
@@ -34,12 +35,6 @@ pub record IsRuleFault (f : CheckFault) : Type 0 where
   pub no_source : is_pes_read f ≡ false
   pub no_write : is_pes_write f ≡ false
   pub no_subtitle : is_subtitle_fault f ≡ false
-
--- What is told of the subtitle file by an answer that refuses it.
-abbrev pub TellsSubtitles : National → Outcome → Result Accepted CheckFault → Type 0
-TellsSubtitles national outcome (Err (fault.Subtitles f)) =
-    TellsFault national outcome f.block f.kind
-TellsSubtitles national outcome _ = ⊤
 
 -- A PTS is that of this frame of the day, and of no other.
 pub record IsFrameOf (origin pts frame : ℕ) : Type 0 where
@@ -109,22 +104,6 @@ pub record Accepts (g : Task) (origin : ℕ) (bytes : List ℕ) (frames : Transm
   pub transmissions_are :
       a.transmissions ≡ header_count g.watched.page (packets_before frames (length frames))
 
--- What is told of an accepted transmission: the frames of the day from the first to the last, and
--- the headers of the page.
-pub record HasCounts (page : PageIdValue) (frames : Transmission) (a : Accepted) : Type 0 where
-  pub frames_are : a.frames + first_frame frames ≡ last_frame frames + 1
-  pub transmissions_are :
-      a.transmissions ≡ header_count page (flat_map (λ (s : SentFrame). s.packets) frames)
-
--- What is counted of the PES packets that were read: the frames of the day from the first one's to
--- the latest one's, and the headers of the page.
-pub record CountsRead (page : PageIdValue) (frames : Transmission) (a : Accepted) : Type 0 where
-  pub none : length frames ≡ 0 → a.frames ≡ 0
-  pub frames_are :
-      0 < length frames → a.frames + frame_at frames 0 ≡ latest frames (length frames) + 1
-  pub transmissions_are :
-      a.transmissions ≡ header_count page (packets_before frames (length frames))
-
 -- The bytes were read up to what is unread: where nothing is, they are a PES file of the frames.
 pub record IsRead (g : Task) (origin : ℕ) (bytes : List ℕ) (frames : Transmission) (a : Accepted)
     : Type 0 where
@@ -132,12 +111,6 @@ pub record IsRead (g : Task) (origin : ℕ) (bytes : List ℕ) (frames : Transmi
   pub taken : g.unread ≡ None → AreTaken origin bytes frames []
   pub whole : AreWhole frames
   pub counts : CountsRead g.watched.page frames a
-
--- A device was told all of these; or it said stop, and was told them up to there.
-abbrev pub TellsOrStops : {A D : Type 0}
-    → (D → A → D → Type 0) → D → D → List A → Bool → Type 0
-TellsOrStops IsTold old new items false = Tells IsTold old new items
-TellsOrStops IsTold old new items true = TellsPrefix IsTold old new items
 
 -- What a device was told of a transmission that is read of these bytes.
 abbrev pub TellsAll : {D : Type 0} → Task → ℕ → List ℕ → Transmission
