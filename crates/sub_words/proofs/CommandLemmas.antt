@@ -21,7 +21,8 @@ use Rattle.clap.specs.declared.parser.matches.SubCommand.{SubCommand}
 use Rattle.clap.proofs.OnLiterals.{clap_on_literals}
 use Rattle.clap.proofs.WalkLemmas.{first_value-rows}
 use Rattle.sub_words.specs.Commands.{are_sound, command_in, clap_refusals, subttx_app, texts_of}
-use Rattle.sub_words.specs.Requests.{Asked, IsFaultIn, IsFaultOf, IsReadAs, asked_for, asked_in}
+use Rattle.sub_words.specs.Requests.{Asked, IsFaultIn, IsFaultOf, IsReadAs, IsReadExactly}
+use Rattle.sub_words.specs.Requests.{asked_for, asked_in, is_own}
 use Rattle.sub_request.specs.declared.request.Request.{Request}
 use Rattle.sub_request.specs.declared.request.UsageFault.{UsageFault}
 use Rattle.sub_request.specs.declared.request.UsageFault.TheVariants as fault
@@ -55,6 +56,20 @@ pub some-texts : (words : List (Bor (List ℕ)))
     → texts_of words ≢ []
 some-texts [] some e = cc
 some-texts (w ∷ ws) some e = cc
+
+-- A fault that the arguments have, where no memory is taken.
+own-fault : (asked : Result Asked UsageFault) (f : UsageFault)
+    → (asked ≡ Err f) × (is_own f ≡ true)
+    → IsFaultIn asked f
+own-fault asked fault.Memory is = tt
+own-fault asked f is = is
+
+-- What takes no memory is read so too where memory may run out.
+pub read_exactly : (asked : Result Asked UsageFault) (result : Result Request UsageFault)
+    → IsReadExactly asked result
+    → IsReadAs asked result
+read_exactly asked (Ok r) is = is
+read_exactly asked (Err f) is = own-fault asked f is
 
 -- A fault of a command's arguments is one of the words.
 fault-read : (words : List Text) (asked : Result Asked UsageFault) (f : UsageFault)

@@ -109,6 +109,12 @@ is_own fault.Memory = false
 is_own fault.Open = false
 is_own _ = true
 
+-- The result is what the arguments ask for, or their fault: memory never runs out.
+abbrev pub IsReadExactly : Result Asked UsageFault → Result Request UsageFault → Type 0
+IsReadExactly asked result =
+    MatchResult result (λ r. asked ≡ Ok (asked_by r))
+    (λ fault. (asked ≡ Err fault) × (is_own fault ≡ true))
+
 -- The fault is the one that the arguments have, or memory ran out before it was known.
 abbrev pub IsFaultIn : Result Asked UsageFault → UsageFault → Type 0
 IsFaultIn asked fault.Memory = ⊤

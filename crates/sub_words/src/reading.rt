@@ -1,7 +1,8 @@
 //! The arguments of each command, read as a request.
 ghost use Rattle.clap.specs.Words.{found_of, rows_of};
-ghost use Rattle.sub_words.specs.Requests.{IsReadAs, asked_in, check_asked, listen_asked};
-ghost use Rattle.sub_words.specs.Requests.{normal_asked, packet_asked, schedule_asked};
+ghost use Rattle.sub_words.specs.Requests.{IsReadAs, IsReadExactly, asked_in, check_asked};
+ghost use Rattle.sub_words.specs.Requests.{listen_asked, normal_asked, packet_asked};
+ghost use Rattle.sub_words.specs.Requests.{schedule_asked};
 
 use crate::arguments::{flag_at, list_at, options_at, text_at};
 use crate::numbers::parse_number;
@@ -16,7 +17,8 @@ use sub_request::{Listening, Request, UsageFault};
 /// # Errors
 ///
 /// The first fault of the arguments by the program's own rules, or `Memory` where memory ran out
-/// before that was known.
+/// before that was known: `listen` alone takes memory.
+#[tactic(auto, using(crate::proofs::CommandLemmas::read_exactly))]
 pub fn read_command<'a>(
     alloc: Global,
     name: &str,
@@ -41,7 +43,7 @@ pub fn read_command<'a>(
 
 // `packet HEX`
 fn read_packet<'a>(matches: &ArgMatches<'a>) -> Result<Request<'a>, UsageFault>
-    ensures { IsReadAs (packet_asked (rows_of (found_of matches.now))) result }
+    ensures { IsReadExactly (packet_asked (rows_of (found_of matches.now))) result }
 {
     let mut bytes = [0u8; 42];
     match hex::decode_to_slice(text_at(matches, "hex"), &mut bytes) {
@@ -52,7 +54,7 @@ fn read_packet<'a>(matches: &ArgMatches<'a>) -> Result<Request<'a>, UsageFault>
 
 // `normal IN OUT`
 fn read_normal<'a>(matches: &ArgMatches<'a>) -> Result<Request<'a>, UsageFault>
-    ensures { IsReadAs (normal_asked (rows_of (found_of matches.now))) result }
+    ensures { IsReadExactly (normal_asked (rows_of (found_of matches.now))) result }
 {
     let input = text_at(matches, "in");
     let output = text_at(matches, "out");
@@ -64,7 +66,7 @@ fn read_normal<'a>(matches: &ArgMatches<'a>) -> Result<Request<'a>, UsageFault>
 
 // `schedule STL PES [--page P] [--every N] [--origin T] [--option O] [--serial]`
 fn read_schedule<'a>(matches: &ArgMatches<'a>) -> Result<Request<'a>, UsageFault>
-    ensures { IsReadAs (schedule_asked (rows_of (found_of matches.now))) result }
+    ensures { IsReadExactly (schedule_asked (rows_of (found_of matches.now))) result }
 {
     let stl = text_at(matches, "stl");
     let pes = text_at(matches, "pes");
@@ -82,7 +84,7 @@ fn read_schedule<'a>(matches: &ArgMatches<'a>) -> Result<Request<'a>, UsageFault
 
 // `check STL PES [--page P] [--every N] [--origin T] [--option O] [--complete] [--all]`
 fn read_check<'a>(matches: &ArgMatches<'a>) -> Result<Request<'a>, UsageFault>
-    ensures { IsReadAs (check_asked (rows_of (found_of matches.now))) result }
+    ensures { IsReadExactly (check_asked (rows_of (found_of matches.now))) result }
 {
     Ok(Request::Check {
         stl: text_at(matches, "stl"),
