@@ -12,9 +12,8 @@ use Rattle.std.proofs.lemmas.List.{get_or-drop, get_or_past, append-nil, nil_fro
 use Rattle.std.specs.Option.{option_to_list}
 use Rattle.sub_io.specs.Reading.{◌>>=◌, AreBytes}
 use Rattle.ttx_packet.specs.BitOrder.{mirror}
-use Rattle.ttx_pes.specs.declared.fault.PesFault.{PesFault}
 use Rattle.ttx_pes.specs.DataUnit.{UnitValue, is_teletext, IsDataUnit, AreDataUnits}
-use Rattle.ttx_pes.specs.LineOrder.{last_place, stands_after, AreInLineOrder}
+use Rattle.ttx_pes.specs.LineOrder.{last_place, AreInLineOrder}
 use Rattle.ttx_pes.specs.Reading.{unit_of, with_unit, teletext_at, unit_at, units_at}
 use Rattle.ttx_packet.proofs.BitOrderLemmas.{mirror-mirror}
 use Rattle.ttx_pes.proofs.LineOrderLemmas.{last_place-push}

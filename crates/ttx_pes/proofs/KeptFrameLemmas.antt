@@ -1,6 +1,5 @@
 -- The units of a data field that is kept, and the value of a packet by them.
-use Rattle.std.proofs.Common.{arith, rules, ◌≡◌, ℕ, ◌/◌, ◌<◌, List, [], length, drop, Ok, refl}
-use Rattle.std.proofs.lemmas.Bool.Decides.{nat_tests}
+use Rattle.std.proofs.Common.{◌≡◌, ℕ, ◌/◌, ◌<◌, List, [], length, drop, Ok, refl}
 use Rattle.std.proofs.lemmas.List.{drop-drop}
 use Rattle.ttx_pes.specs.DataUnit.{UnitValue}
 use Rattle.ttx_pes.specs.PesPacket.{PesValue}

@@ -1,7 +1,7 @@
 -- The order of lines, one unit on, and that numbered packets keep it. Main lemma:
 -- numbered_is_value.
 use Rattle.std.proofs.Common.{rules, ◌≡◌, ℕ, ◌+◌, ◌<◌, ◌≤◌, true, false, cond, eqb, ltb, List, []}
-use Rattle.std.proofs.Common.{◌∷◌, ◌++◌, length, get_or, drop, map, refl, ◌∙◌, append_assoc, arith}
+use Rattle.std.proofs.Common.{◌∷◌, ◌++◌, length, get_or, drop, map, refl, append_assoc, arith}
 use Rattle.std.proofs.lemmas.Bool.{lt-ltb}
 use Rattle.std.proofs.lemmas.Bool.Decides.{nat_tests}
 use Rattle.std.proofs.lemmas.List.{drop_more}

@@ -1,6 +1,6 @@
 -- The fields of a header that are read are those of the grammar, and the other way round. Main
 -- lemmas: body_sound, body_complete.
-use Rattle.std.proofs.Common.{rules, ◌≡◌, ℕ, ◌+◌, ◌-◌, ◌*◌, ◌/◌, ◌%◌, ◌^◌, ◌<◌, ◌≤◌, List, [], ◌∷◌}
+use Rattle.std.proofs.Common.{◌≡◌, ℕ, ◌-◌, ◌*◌, ◌/◌, ◌%◌, ◌^◌, ◌<◌, ◌≤◌, List, [], ◌∷◌}
 use Rattle.std.proofs.Common.{◌++◌, length, get_or, take, drop, Ok, refl, sym, ap, ◌∙◌}
 use Rattle.std.proofs.Common.{append_assoc, arith, subst, length-append, length-take, length-drop}
 use Rattle.std.proofs.lemmas.Bool.Decides.{nat_tests}
@@ -8,7 +8,6 @@ use Rattle.std.proofs.lemmas.List.{drop_at, take-append-drop, drop_more, drop-dr
 use Rattle.std.proofs.lemmas.List.{nil_from_length}
 use Rattle.std.specs.Int.{bytes_high_first}
 use Rattle.sub_io.specs.Reading.{AreBytes}
-use Rattle.ttx_pes.specs.declared.fault.PesFault.{PesFault}
 use Rattle.ttx_pes.specs.DataUnit.{UnitValue}
 use Rattle.ttx_pes.specs.PesPacket.{IsPesPacket, PesValue, packet_length, packet_start, pts_bytes}
 use Rattle.ttx_pes.specs.Reading.{pts_bits, pts_at, units_at, value_at, size_at, told_size}
@@ -30,7 +29,6 @@ head_sound b size len fit e =
     grind (arith, nat_tests) in
     let total : (told_size b % 184 ≡ 0) × (told_size b ≤ 1656) × (told_size b ≡ size) =
     grind (arith, nat_tests) in
-    let low = fit 5 in
     let is-high : get_or b 4 0 ≡ ((184 * (size / 184) - 6) / 256) % 256 = omega arith in
     let is-low : get_or b 5 0 ≡ (184 * (size / 184) - 6) % 256 = omega arith in
     (size / 184, omega arith, omega arith, omega arith, parts ∙ cc)
@@ -101,7 +99,6 @@ body_sound n b v lo hi len fit e =
     let spelled = pts_sound b p.0 fit h in
     let first = list_of_bytes 8 0 b (omega arith) in
     let others = parted b (omega arith) in
-    let length-is = h.len in
     let body : b ≡ (get_or b 0 0 ∷ get_or b 1 0 ∷ 36 ∷ [])
     ++ (pts_bytes p.0 ++ (take 31 (drop 8 b) ++ (get_or b 39 0 ∷ drop 40 b))) = cc in
     subst (λ (x : PesValue). IsPesPacket x (six_of n ++ b))
@@ -155,7 +152,6 @@ pub body_complete : (v : PesValue) (p : List ℕ) (h : IsPesPacket v p)
     → (value_at (body_of v p h) ≡ Ok v) × (length (body_of v p h) ≡ 184 * h.n - 6)
 unfolding body_of
 body_complete v p h =
-    let filled = h.header_filled in
     let behind : drop 40 (body_of v p h) ≡ h.data_units =
     ap (drop 32) (sym (append_assoc h.header_stuffing (h.data_identifier ∷ []) h.data_units))
     ∙ drop_at (h.header_stuffing ++ h.data_identifier ∷ []) h.data_units 32

@@ -1,7 +1,7 @@
 -- The canonical packet is a packet of its value, and what is made of a frame is it. Main lemmas:
 -- canonical_is_packet, spelled.
-use Rattle.std.proofs.Common.{rules, List, None, Some, [], append_assoc, arith, length, lit<, refl}
-use Rattle.std.proofs.Common.{subst, suc, sym, take, zero, ℕ, ◌*◌, ◌++◌, ◌+◌, ◌-◌, ◌/◌, ◌∙◌, ◌∷◌}
+use Rattle.std.proofs.Common.{List, Some, [], append_assoc, arith, length, lit<, refl}
+use Rattle.std.proofs.Common.{suc, take, zero, ℕ, ◌*◌, ◌++◌, ◌+◌, ◌-◌, ◌/◌, ◌∷◌}
 use Rattle.std.proofs.Common.{◌≡◌, ◌≤◌, ◌<◌}
 use Rattle.std.proofs.lemmas.Bool.Decides.{nat_tests}
 use Rattle.std.specs.Prelude.{replicate}
@@ -101,10 +101,7 @@ record Holds (n : ℕ) (units : List UnitValue) : Type 0 where
 -- N data units hold n units at most.
 units_hold : (n : ℕ) (units : List UnitValue) (b : List ℕ) → AreDataUnits n units b → Holds n units
 units_hold zero units b h = rw h.0 (record { few = omega arith; each = tt })
-units_hold (suc n) units b (None, others, first, rest, held, after, same, parts) =
-    grind (arith, nat_tests, units_hold n others rest after)
-units_hold (suc n) units b (Some u, others, first, rest, held, after, same, parts) =
-    grind (arith, nat_tests, units_hold n others rest after)
+units_hold (suc n) units b u = grind (arith, nat_tests, units_hold n)
 
 -- The value of a packet is one that a frame can hold: the law.
 pub value_of_packet : LawOfPacketValue

@@ -1,7 +1,7 @@
 -- The reading is the questions of the refusal asked in their order: what is asked of bytes alone
 -- says whether they are read, and which fault is told. Main lemmas: packet_asked, tests_cases.
-use Rattle.std.proofs.Common.{rules, ◌≡◌, ℕ, zero, suc, ◌+◌, ◌-◌, ◌*◌, ◌/◌, ◌%◌, ◌<◌, Bool, true}
-use Rattle.std.proofs.Common.{false, cond, not, eqb, leb, ltb, List, [], ◌∷◌, ◌++◌, length, get_or}
+use Rattle.std.proofs.Common.{◌≡◌, ℕ, zero, suc, ◌+◌, ◌-◌, ◌*◌, ◌/◌, ◌%◌, ◌<◌, Bool, true}
+use Rattle.std.proofs.Common.{false, cond, not, eqb, leb, ltb, List, [], ◌∷◌, length, get_or}
 use Rattle.std.proofs.Common.{take, drop, Option, Some, None, Result, Ok, Err, refl, sym, ap, ◌∙◌}
 use Rattle.std.proofs.Common.{arith, inl, inr, ◌⊎◌, length-take, length-drop}
 use Rattle.std.proofs.lemmas.Bool.Decides.{nat_tests}
@@ -15,8 +15,8 @@ use Rattle.ttx_pes.specs.DataUnit.{UnitValue, is_teletext}
 use Rattle.ttx_pes.specs.LineOrder.{last_place, line_order_place, stands_after}
 use Rattle.ttx_pes.specs.PesPacket.{PesValue}
 use Rattle.ttx_pes.specs.Reading.{is_start, packet_at, pts_at, size_at, teletext_at, told_size}
-use Rattle.ttx_pes.specs.Reading.{unit_at, unit_of, units_at, value_at}
-use Rattle.ttx_pes.specs.Refusal.{packet_faults, told_fault, unit_faults}
+use Rattle.ttx_pes.specs.Reading.{unit_at, units_at, value_at}
+use Rattle.ttx_pes.specs.Refusal.{told_fault, unit_faults}
 use Rattle.ttx_pes.proofs.LineOrderLemmas.{last_place-push}
 
 -- ---- the first test that fails
@@ -147,7 +147,6 @@ units_asked (suc n) k i before front b d number last same =
     let x = take 46 d in
     let at : (j : ℕ) → j < 46 → unit_byte b k j ≡ get_or x j 0 = λ j lt.
     sym (get_or-take 46 d j 0 lt ∙ same j (omega arith)) in
-    let e0 = at 0 (omega arith) in
     let e1 = at 1 (omega arith) in
     let e2 = at 2 (omega arith) in
     let e3 = at 3 (omega arith) in
@@ -197,14 +196,10 @@ pub packet_asked : (b : List ℕ)
 unfolding packet_at size_at
 packet_asked b =
     simp (test_first, refusal-test, not-not)
-    (rw (
-      get_or-take 6 b 0 0 (omega arith),
-      get_or-take 6 b 1 0 (omega arith),
-      get_or-take 6 b 2 0 (omega arith),
-      get_or-take 6 b 3 0 (omega arith),
-      get_or-take 6 b 4 0 (omega arith),
-      get_or-take 6 b 5 0 (omega arith),
-    ) (elim (cases_Bool (size_is_right b)) [
+    (rw (get_or-take 6 b 0 0 (omega arith), get_or-take 6 b 1 0 (omega arith))
+    (rw (get_or-take 6 b 2 0 (omega arith), get_or-take 6 b 3 0 (omega arith))
+    (rw (get_or-take 6 b 4 0 (omega arith), get_or-take 6 b 5 0 (omega arith))
+    (elim (cases_Bool (size_is_right b)) [
       | inr wrong ↦ rw wrong refl
       | inl told ↦ elim (cases_lt (length b) (told_size b)) [
         | inl cut ↦ rw (told, lt-ltb (length b) (told_size b) cut) refl
@@ -218,4 +213,4 @@ packet_asked b =
             ∙ get_or-drop 6 b i 0) in
             rw (told, le-ltb (length b) (told_size b) all, body) refl
       ]
-    ]))
+    ]))))

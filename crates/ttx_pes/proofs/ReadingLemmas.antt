@@ -1,5 +1,5 @@
 -- Reading agrees with the grammar. Main lemmas: packet_is_read, read_is_packet.
-use Rattle.std.proofs.Common.{rules, ◌≡◌, ◌≢◌, ℕ, ◌-◌, ◌+◌, ◌*◌, ◌<◌, ◌≤◌, List, [], ◌∷◌, ◌++◌}
+use Rattle.std.proofs.Common.{◌≡◌, ◌≢◌, ℕ, ◌-◌, ◌+◌, ◌*◌, ◌<◌, ◌≤◌, List, ◌++◌}
 use Rattle.std.proofs.Common.{length, take, drop, Some, Result, Ok, Err, refl, sym, ap, subst, ◌∙◌}
 use Rattle.std.proofs.Common.{append_assoc, arith, inl, inr, ◌⊎◌, length-append, length-take}
 use Rattle.std.proofs.Common.{length-drop}
@@ -128,7 +128,6 @@ sound_from : (b : List ℕ) (size : ℕ) (v : PesValue)
     → IsPesPacket v (take size b)
 sound_from b size v fit e long le ev =
     let h = head_sound (take 6 b) size (length-take 6 b ∙ omega arith) (AreBytes-take 6 b fit) e in
-    let is = h.3 in
     let body = take (size - 6) (drop 6 b) in
     let len : length body ≡ 184 * h.0 - 6 =
     length-take (size - 6) (drop 6 b) ∙ omega (arith, length-drop 6 b) in
@@ -167,8 +166,7 @@ one_value a b x y v w p q e =
     let same =
     Ok-injective (v, x) (w, y) (sym (packet_is_read v a x p) ∙ ap packet_at e
     ∙ packet_is_read w b y q) in
-    let rests : x ≡ y = ap (λ (r : ValueAndRest). r.1) same in
-    grind (arith, nat_tests, append_cancel_right)
+    grind (arith, nat_tests, Ok-injective, packet_is_read, append_cancel_right)
 
 -- ---- what was written
 

@@ -43,10 +43,7 @@ held_if_read : (b : List ℕ) (r : PesValue × List ℕ)
     → (j : ℕ) → get_or (tests b (told_units b)) j true ≡ true
 held_if_read b r read =
     let asked = sym (packet_asked b) ∙ ap refusal read in
-    elim (tests_cases 0 (tests b (told_units b))) [
-      | inl all ↦ all.0
-      | inr found ↦ let told = found.told in absurd cc
-    ]
+    grind (arith, nat_tests, tests_cases, tests, told_units)
 
 read_if_held : (b : List ℕ)
     → ((j : ℕ) → get_or (tests b (told_units b)) j true ≡ true)
@@ -89,11 +86,8 @@ same_units : (n k before j : ℕ) (b c : List ℕ)
 same_units zero k before j b c h long = refl
 same_units (suc n) k before zero b c h long = grind (arith, nat_tests, same_byte)
 same_units (suc n) k before (suc zero) b c h long = grind (arith, nat_tests, same_byte)
-same_units (suc n) k before (suc (suc zero)) b c h long = grind (arith, nat_tests, same_byte)
-same_units (suc n) k before (suc (suc (suc j))) b c h long = rw (
-  same_byte _ k 0 b c h (omega arith) (omega arith) (omega arith),
-  same_byte _ k 2 b c h (omega arith) (omega arith) (omega arith),
-) (same_units n (suc k) _ j b c (agree_below _ _ b c (omega arith) h) (omega arith))
+same_units (suc n) k before u b c h long =
+    grind (arith, nat_tests, same_byte, agree_below, same_units n (suc k))
 
 -- A test that bytes and a packet of n data units agree up to.
 same_test : (j m n : ℕ) (b c : List ℕ)
@@ -186,16 +180,11 @@ module _ (b : List ℕ) (fit : AreBytes b) (q n : ℕ) (lo : 1 ≤ n) (hi : n �
   blank_units (suc m) k before zero le few =
       grind (arith, nat_tests, unit_asker, blank_byte, unit_place, blank_unit)
   blank_units (suc m) k before (suc zero) le few =
-      let asked = unit_asker k 0 (omega arith) in
-      rw (blank_byte (unit_place k 0) (omega arith) (omega arith), blank_unit n k 0 (omega arith))
-      refl
+      search (rules, unit_asker, blank_byte, unit_place, blank_unit)
   blank_units (suc m) k before (suc (suc zero)) le few =
       let asked = unit_asker k 2 (omega arith) in
-      rw (
-        blank_byte (unit_place k 2) (omega arith) (omega arith),
-        blank_unit n k 2 (omega arith),
-        or-true,
-      ) refl
+      rw (blank_byte (unit_place k 2) (omega arith) (omega arith))
+      (rw (blank_unit n k 2 (omega arith), or-true) refl)
   blank_units (suc m) k before (suc (suc (suc j))) le few =
       blank_units m (suc k) _ j (omega arith) (omega arith)
 
@@ -256,7 +245,6 @@ none_agrees b q v p wrong h agree =
     ap packet_at (sym (append-nil p)) ∙ packet_is_read v p [] h in
     let all = held_if_read p (v, []) read in
     let t = told_count p (all 2) in
-    let size = t.3 in
     let full = not_below (length p) (told_size p) (all 3) in
     let count : 2 < q → told_units b ≡ told_units p = λ more.
     let told : told_size b ≡ told_size p =

@@ -1,5 +1,5 @@
 -- Slices compared in blocks: same_block for one, same_more for the next, same_whole at the end.
-use Rattle.std.proofs.Common.{rules, ◌≡◌, ◌↔◌, ℕ, ◌+◌, ◌*◌, ◌≤◌, ◌^◌, ◌%◌, ◌-◌, Bool, true, List}
+use Rattle.std.proofs.Common.{◌≡◌, ◌↔◌, ℕ, ◌+◌, ◌*◌, ◌≤◌, ◌^◌, ◌%◌, ◌-◌, Bool, true, List}
 use Rattle.std.proofs.Common.{[], ◌∷◌, ◌++◌, map, length, take, drop, cond, nat_eq, refl, sym, ap}
 use Rattle.std.proofs.Common.{ap₂, ◌∙◌, arith, not, w8, eqb-true, eq-eqb, take-append-drop}
 use Rattle.std.proofs.lemmas.Bool.Decides.{nat_tests}
@@ -21,8 +21,7 @@ none_differ (x ∷ a) = grind (arith, nat_tests, none_differ a)
 same_from_none : (a b : List ℕ) → length a ≡ length b → mask_l (zip2 differ a b) ≡ 0 → a ≡ b
 same_from_none [] [] l e = refl
 same_from_none [] (y ∷ b) l e = absurd (omega arith)
-same_from_none (x ∷ a) [] l e = absurd (omega arith)
-same_from_none (x ∷ a) (y ∷ b) l e = grind (arith, nat_tests, same_from_none a b)
+same_from_none (x ∷ a) y l e = grind (arith, nat_tests, same_from_none a)
 
 -- A mask without a bit says that two blocks are the same. For `is_same_block`.
 pub same_block : (a b : List ℕ)

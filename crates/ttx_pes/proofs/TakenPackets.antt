@@ -1,10 +1,9 @@
 -- PES packets that are taken one after the other, for loops over a reader: takes-none, takes-more.
-use Rattle.std.proofs.Common.{rules, ◌≡◌, ℕ, ◌+◌, List, [], ◌∷◌, ◌++◌, Option, refl, sym, ap, subst}
+use Rattle.std.proofs.Common.{◌≡◌, ℕ, ◌+◌, List, [], ◌∷◌, ◌++◌, Option, ap}
 use Rattle.std.proofs.Common.{◌∙◌, arith, length-append}
 use Rattle.std.proofs.lemmas.Bool.Decides.{nat_tests}
 use Rattle.std.proofs.lemmas.List.{append-nil}
 use Rattle.std.proofs.lemmas.List.Folds.{concat-append}
-use Rattle.std.specs.Io.KnownBytes.{Consumes}
 use Rattle.std.specs.List.{AllByRecursion, concat}
 use Rattle.std.proofs.KnownBytes.{Consumes-nil, Consumes-trans}
 use Rattle.ttx_pes.specs.PesPacket.{PesValue, IsPesPacket}
@@ -28,8 +27,7 @@ pub takes-more : (n : ℕ) (old mid new : Option (List ℕ)) (v : PesValue)
     → TakesPesPacket mid new v
     → TakesPackets (n + 1) old new
 takes-more n old mid new v h t =
-    let number = h.number in
     let joined : concat (h.packets ++ t.bytes ∷ []) ≡ concat h.packets ++ t.bytes =
     concat-append h.packets (t.bytes ∷ [])
     ∙ ap (λ b. concat h.packets ++ b) (append-nil t.bytes) in
-    grind (arith, nat_tests, length-append, each-more, Consumes-trans)
+    grind (arith, nat_tests, concat-append, append-nil, length-append, each-more, Consumes-trans)

@@ -1,6 +1,6 @@
 -- What the bytes that were taken of a packet settle, NAME_settles, what is known by that,
 -- settled_NAME, and what a reader then tells, tells_NAME.
-use Rattle.std.proofs.Common.{rules, ◌≡◌, ◌≢◌, ℕ, ◌<◌, ◌≤◌, List, [], ◌++◌, length, take, drop}
+use Rattle.std.proofs.Common.{◌≡◌, ◌≢◌, ℕ, ◌<◌, ◌≤◌, List, [], length, take, drop}
 use Rattle.std.proofs.Common.{Option, None, Some, Result, Ok, Err, refl, sym, ap, subst, ◌∙◌}
 use Rattle.std.proofs.Common.{append_assoc, arith, inr, length-append, length-take, length-drop}
 use Rattle.std.proofs.Common.{true}
@@ -228,5 +228,4 @@ tells_settled given old new taken (Ok v) h ne fit kind =
 tells_settled given old new taken (Err f) h ne fit kind =
     let exact : (bytes : List ℕ) → old ≡ Some bytes → answer_at given bytes ≡ Err f =
     λ bytes. settled_answer given old new taken bytes (Err f) h ne in
-    let refused = settled_refusal old new taken f h in
-    grind (arith, nat_tests, exact)
+    grind (arith, nat_tests, settled_answer, settled_refusal)
