@@ -1,12 +1,10 @@
 -- Lists gone over in blocks: block_of, what a store of a block leaves (block_more) and of a byte
 -- (byte_more), and the first item that passes a test, by the masks of blocks (first_so_far).
 use Rattle.std.proofs.Common.{◌≡◌, ℕ, zero, suc, ◌+◌, ◌*◌, ◌/◌, ◌^◌, ◌<◌, ◌≤◌, Bool, true, false}
-use Rattle.std.proofs.Common.{not, List, [], ◌∷◌, ◌++◌, map, length, get_or, take, drop, sym, ap}
-use Rattle.std.proofs.Common.{ap₂, ◌∙◌, take_all, arith, w16}
+use Rattle.std.proofs.Common.{not, List, [], ◌++◌, map, length, get_or, take, drop, sym, ap, ap₂}
+use Rattle.std.proofs.Common.{◌∙◌, take_all, arith, w16}
 use Rattle.std.proofs.lemmas.Bool.Decides.{nat_tests}
 use Rattle.std.proofs.lemmas.List.{map-append, drop-drop, get_or_past, length-map, length-drop}
-use Rattle.std.proofs.lemmas.List.{length-set, take_more, take_more_set}
-use Rattle.std.proofs.Math.ListN.{set}
 use Rattle.std.proofs.lemmas.Nat.Bits.{bit_at-trailing_zeros}
 use Rattle.std.proofs.lemmas.Simd.{length-chunk, get_or-chunk, mask_l-lt, trailing_mask_l}
 use Rattle.std.proofs.lemmas.Simd.{none_from_empty_mask, run_in_chunk_stops, run_in_chunk_fails}
@@ -49,11 +47,7 @@ pub below_in_chunk : (b a n : ℕ) (xs : List ℕ)
     → (k : ℕ)
     → get_or (chunk a n xs) k 0 < b
 below_in_chunk b a n xs room below k =
-    let inside = get_or-chunk a n xs k 0 in
-    let past = get_or_past (chunk a n xs) k 0 in
-    let size = length-chunk a n xs room in
-    let here = below (a + k) in
-    grind arith
+    let here = below (a + k) in grind (arith, nat_tests, get_or-chunk, get_or_past, length-chunk)
 
 -- ---- lists that are made block by block
 
@@ -82,24 +76,6 @@ block_more f xs out ys n a w k m e width size room block to =
           ∙ sym (map-append f (take a xs) (chunk a w xs))
           ∙ ap (map f) (sym (take-add a w xs) ∙ ap (λ n. take n xs) (sym e));
     }
-
--- The next byte, made by f, makes them one more.
-pub byte_more : (f : ℕ → ℕ) (xs out : List ℕ) (n a m y : ℕ)
-    → m ≡ a + 1
-    → length xs ≡ n
-    → a < n
-    → y ≡ f (get_or xs a 0)
-    → IsMadeTo f xs n a out
-    → IsMadeTo f xs n m (set out a y)
-byte_more f xs out n a m y e size room byte to = record {
-  size = length-set out a y ∙ to.size;
-  done = ap (λ n. take n (set out a y)) e
-      ∙ take_more_set out a y (omega (arith, to.size))
-      ∙ ap₂ (λ x z. x ++ z ∷ []) to.done byte
-      ∙ sym (map-append f (take a xs) (get_or xs a 0 ∷ []))
-      ∙ ap (map f)
-      (sym (take_more xs a 0 (omega (arith, size))) ∙ ap (λ n. take n xs) (sym e));
-}
 
 -- Where all bytes are made, the list is f mapped over the other.
 pub made_whole : (f : ℕ → ℕ) (xs out : List ℕ) (n : ℕ)

@@ -1,7 +1,8 @@
 -- The kernels on lanes, byte by byte: mirror_lanes, even_lanes, odd_lanes.
-use Rattle.std.proofs.Common.{◌≡◌, ℕ, zero, suc, ◌*◌, ◌/◌, ◌%◌, ◌^◌, ◌-◌, ◌<◌, true, cond, List, []}
-use Rattle.std.proofs.Common.{◌∷◌, map, length, get_or, replicate, refl, sym, ap, ap₂, ◌∙◌, arith}
-use Rattle.std.proofs.Common.{w8, Fits, nat_eq, eqb-true}
+use Rattle.std.proofs.Common.{◌≡◌, ℕ, suc, ◌*◌, ◌/◌, ◌%◌, ◌^◌, ◌-◌, ◌<◌, true, cond, List, [], ◌∷◌}
+use Rattle.std.proofs.Common.{map, length, get_or, replicate, refl, sym, ap, ap₂, ◌∙◌, arith, w8}
+use Rattle.std.proofs.Common.{Fits, nat_eq, eqb-true}
+use Rattle.std.proofs.lemmas.Bool.Decides.{nat_tests}
 use Rattle.std.proofs.lemmas.List.{map-id, length-map}
 use Rattle.std.specs.Prelude.{bit_xor, bit_and, bit_or}
 use Rattle.std.specs.Int.RustNames.{count_ones}
@@ -24,8 +25,7 @@ up a b = a * 2 ^ b % 2 ^ 8
 -- Lanes that fit a byte are below 256.
 pub lane_below : (v : List ℕ) → Each1 (Fits w8) v → (i : ℕ) → get_or v i 0 < 0x100
 lane_below [] h i = omega arith
-lane_below (x ∷ xs) h zero = h.0.fits
-lane_below (x ∷ xs) h (suc i) = lane_below xs h.1 i
+lane_below (x ∷ xs) h i = grind (arith, nat_tests, lane_below xs h.1)
 
 -- Two functions that agree on bytes agree on lanes of bytes.
 same_lanes : {X : Type 0} (f g : ℕ → X) (v : List ℕ) (n : ℕ)

@@ -71,11 +71,9 @@ coded_exact magazine h is zero a b = absurd (omega arith)
 coded_exact magazine h is (suc zero) a b = absurd (omega arith)
 coded_exact magazine h is (suc (suc k)) a b =
     let words = map code_word (header_numbers h) in
-    rw (
-      get_or_append_left words (replicate 32 0x20) 0 k (omega arith),
-      get_or-map code_word (header_numbers h) k 0 0 (omega arith),
-    )
-    (code_word_is_exact _ (numbers_small h is k 0 (omega arith)))
+    rw (get_or_append_left words (replicate 32 0x20) 0 k (omega arith))
+    (rw (get_or-map code_word (header_numbers h) k 0 0 (omega arith))
+    (code_word_is_exact _ (numbers_small h is k 0 (omega arith))))
 
 -- ---- the address
 
@@ -86,11 +84,7 @@ pub address_is : (magazine y : ℕ) (rest : List ℕ) → magazine < 8 → y < 3
 unfolding address
 address_is magazine y rest m l =
     let low = decoded-code_word ((magazine + 8 * y) % 16) (omega arith) in
-    let high = decoded-code_word ((magazine + 8 * y) / 16) (omega arith) in
-    let p : ((magazine + 8 * y) % 16 + 16 * ((magazine + 8 * y) / 16)) % 8 ≡ magazine =
-    omega arith in
-    let q : ((magazine + 8 * y) % 16 + 16 * ((magazine + 8 * y) / 16)) / 8 ≡ y = omega arith in
-    rw (low, high, p, q) refl
+    grind (arith, nat_tests, decoded-code_word)
 
 -- They are code words.
 address_exact : (magazine y : ℕ) (rest : List ℕ) → magazine < 8 → y < 32 → (k : ℕ) → k < 2
@@ -147,23 +141,9 @@ header_packet-placed magazine h =
     let s4 : m / 0x1000 % 4 ≡ n / 0x1000 % 4 = omega arith in
     let at : (k : ℕ) → k < 11 → (bit_and (h.control.0 % 0x800) (2 ^ k) == 2 ^ k)
     ≡ (bit_and h.control.0 (2 ^ k) == 2 ^ k) = placed_bit h.control.0 in
-    rw (
-      s1,
-      s2,
-      s3,
-      s4,
-      at 0 (omega arith),
-      at 1 (omega arith),
-      at 2 (omega arith),
-      at 3 (omega arith),
-      at 4 (omega arith),
-      at 5 (omega arith),
-      at 6 (omega arith),
-      at 7 (omega arith),
-      at 8 (omega arith),
-      at 9 (omega arith),
-      at 10 (omega arith),
-    ) refl
+    rw (s1, s2, s3, s4, at 0 (omega arith), at 1 (omega arith), at 2 (omega arith))
+    (rw (at 3 (omega arith), at 4 (omega arith), at 5 (omega arith), at 6 (omega arith))
+    (rw (at 7 (omega arith), at 8 (omega arith), at 9 (omega arith), at 10 (omega arith)) refl))
 
 -- What is read of the packet of any header.
 pub made_placed : (magazine : ℕ) (h : Header) → magazine < 8 → h.page < 0x100

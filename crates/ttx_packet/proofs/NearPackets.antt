@@ -1,6 +1,6 @@
 -- A packet's address and header under one wrong bit in each byte: address-near, header-near.
-use Rattle.std.proofs.Common.{◌≡◌, ℕ, zero, suc, inl, ◌==◌, cond, List, [], ◌∷◌, slice_index}
-use Rattle.std.proofs.Common.{Option, Some, None, refl, arith, option_and_then}
+use Rattle.std.proofs.Common.{◌≡◌, ℕ, inl, ◌==◌, cond, List, [], ◌∷◌, slice_index, Option, Some}
+use Rattle.std.proofs.Common.{None, refl, arith, option_and_then}
 use Rattle.std.proofs.lemmas.Bool.Decides.{nat_tests}
 use Rattle.ttx_packet.specs.OneBit.{IsNear, AreNear}
 use Rattle.ttx_packet.specs.Hamming84.{IsCodeWord}
@@ -13,9 +13,7 @@ pub near_at : (sent got : List ℕ) (k : ℕ) → AreNear sent got
     → IsNear (slice_index sent k) (slice_index got k)
 near_at [] [] k near = inl refl
 near_at [] (g ∷ gs) k near = elim near [ ]
-near_at (c ∷ cs) [] k near = elim near [ ]
-near_at (c ∷ cs) (g ∷ gs) zero near = near.0
-near_at (c ∷ cs) (g ∷ gs) (suc k) near = near_at cs gs k near.1
+near_at (c ∷ cs) got k near = grind (arith, nat_tests, near_at cs)
 
 -- A code word at a place decodes to the same in a near list.
 decoded_at-near : (sent got : List ℕ) (k : ℕ) → AreNear sent got → IsCodeWord (slice_index sent k)

@@ -52,11 +52,10 @@ flip_higher q r m l h =
 pub flip : (k b : ℕ) → (count_ones (bit_xor b (2 ^ k)) + count_ones b) % 2 ≡ 1
 flip zero b = grind (arith, nat_tests, div-add-mod' b 2, flip_lowest)
 flip (suc k) b =
-    let power : 2 ^ k * 2 ^ 1 + 0 ≡ 2 ^ suc k = omega (arith, pow-suc 2 k) in
     let P : ℕ → ℕ → Type 0 = λ n m. (count_ones (bit_xor n m) + count_ones n) % 2 ≡ 1 in
     let h : P (b / 2 * 2 ^ 1 + b % 2) (2 ^ k * 2 ^ 1 + 0) =
     flip_higher (b / 2) (b % 2) (2 ^ k) (omega arith) (flip k (b / 2)) in
-    rw (div-add-mod' b 2, power) at h
+    grind (arith, nat_tests, pow-suc, flip_higher, div-add-mod', flip k (b / 2))
 
 -- A byte of odd parity with one bit changed has even parity.
 pub even_from_changed : (sent got : ℕ) → IsTrue (is_odd sent) → IsNear sent got → got ≢ sent

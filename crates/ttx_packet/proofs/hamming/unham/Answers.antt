@@ -1,4 +1,5 @@
-use Rattle.std.proofs.Common.{arith, ◌∙◌, sym, eq-eqb}
+use Rattle.std.proofs.Common.{arith, ◌∙◌, eq-eqb}
+use Rattle.std.proofs.lemmas.Bool.Decides.{nat_tests}
 use Rattle.std.proofs.lemmas.Bool.{cond-true, cond-false, ne_eqb}
 use Rattle.ttx_packet.proofs.Hamming84Lemmas.{decoded-by_table, decoded_from, decodes_from}
 use Rattle.ttx_packet.proofs.hamming.unham.Goals as goal
@@ -7,18 +8,10 @@ pub returns-then-number : goal.returns-then-number
 returns-then-number c =
     let b = c.args.byte in
     let none = decoded-by_table b (omega arith) ∙ cond-true _ _ _ (eq-eqb _ _ c.if-number.true) in
-    record {
-      value = sym none;
-      decodes = λ n. rw (← none) (decodes_from b n, decoded_from b n);
-      small = tt;
-    }
+    grind (arith, nat_tests, decodes_from, decoded_from)
 
 pub returns-else-number : goal.returns-else-number
 returns-else-number c =
     let b = c.args.byte in
     let some = decoded-by_table b (omega arith) ∙ cond-false _ _ _ (ne_eqb _ _ c.if-number.false) in
-    record {
-      value = sym some;
-      decodes = λ n. rw (← some) (decodes_from b n, decoded_from b n);
-      small = omega arith;
-    }
+    grind (arith, nat_tests, decodes_from, decoded_from)

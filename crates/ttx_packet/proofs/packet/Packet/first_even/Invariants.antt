@@ -4,10 +4,8 @@ use Rattle.ttx_packet.proofs.packet.Packet.first_even.Given as goal
 
 -- The data bytes of the blocks before are odd.
 abbrev pub invariant-loop-i : goal.invariant-loop-i
-invariant-loop-i l =
-    (k : ℕ) → k < 16 * l.i → is_odd (slice_index (drop 2 l.self) k) ≡ true
+invariant-loop-i l = (k : ℕ) → k < 16 * l.i → is_odd (slice_index (drop 2 l.self) k) ≡ true
 
 -- The data bytes before are odd.
 abbrev pub invariant-loop-j : goal.invariant-loop-j
-invariant-loop-j l =
-    (k : ℕ) → k < 32 + l.j → is_odd (slice_index (drop 2 l.self) k) ≡ true
+invariant-loop-j l = (k : ℕ) → k < 32 + l.j → is_odd (slice_index (drop 2 l.self) k) ≡ true

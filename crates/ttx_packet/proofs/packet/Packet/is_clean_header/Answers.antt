@@ -1,4 +1,5 @@
-use Rattle.std.proofs.Common.{refl, arith, inl, inr}
+use Rattle.std.proofs.Common.{refl, arith}
+use Rattle.std.proofs.lemmas.Bool.Decides.{nat_tests}
 use Rattle.std.proofs.lemmas.Bool.{cases_eq}
 use Rattle.ttx_packet.proofs.packet.Packet.is_clean_header.Goals as goal
 
@@ -16,8 +17,4 @@ returns c =
     (λ e. λ k low high. c.loop-place.invariant k low (omega arith), λ exact. refl)
 
 pub loop-place-preserved : goal.loop-place-preserved
-loop-place-preserved c k low high =
-    elim (cases_eq k c.loop-place.place) [
-      | inl same ↦ rw same (c.is_word.ensures.0 c.if-not-is_word.false)
-      | inr other ↦ c.loop-place.invariant k low (omega (arith, other))
-    ]
+loop-place-preserved c k low high = grind (arith, nat_tests, cases_eq k c.loop-place.place)
