@@ -1,7 +1,7 @@
 -- A receiver that computes is one of the relation: `heard_so`. And a test of near packets:
 -- `packets_tested`. For examples.
-use Rattle.std.proofs.Common.{◌≡◌, ℕ, ◌-◌, Bool, true, false, ◌&&◌, List, [], ◌∷◌, map}
-use Rattle.std.proofs.Common.{get_or, refl, ap, ◌∙◌, arith, inl, inr}
+use Rattle.std.proofs.Common.{◌≡◌, ℕ, ◌-◌, Bool, true, false, ◌&&◌, List, [], ◌∷◌, map, get_or}
+use Rattle.std.proofs.Common.{refl, ap, ◌∙◌, arith, inl, inr}
 use Rattle.std.specs.List.{range_with_len, AllZip}
 use Rattle.std.proofs.lemmas.Bool.{and_parts, cases_Bool}
 use Rattle.std.proofs.lemmas.Bool.Decides.{nat_tests}
@@ -28,7 +28,7 @@ near_bytes (s ∷ sent) [] = false
 near_bytes (s ∷ sent) (g ∷ got) = is_near s g && near_bytes sent got
 
 bytes_tested : (sent got : List ℕ) → near_bytes sent got ≡ true → AreNear sent got
-bytes_tested [] y e = grind (arith, nat_tests)
+bytes_tested [] got e = grind (arith, nat_tests)
 bytes_tested (s ∷ sent) y e = grind (arith, nat_tests, and_parts, near_from_test, bytes_tested sent)
 
 -- The packets are near.
@@ -40,8 +40,8 @@ near_packets (s ∷ sent) (g ∷ got) = near_bytes s g && near_packets sent got
 
 pub packets_tested :
     (sent got : List (List ℕ)) → near_packets sent got ≡ true → AllZip AreNear sent got
-packets_tested [] y e = grind (arith, nat_tests)
-packets_tested (s ∷ sent) y e =
+packets_tested [] got e = grind (arith, nat_tests)
+packets_tested (s ∷ sent) got e =
     grind (arith, nat_tests, and_parts, bytes_tested, packets_tested sent)
 
 -- ---- a receiver that keeps the cells of even bytes

@@ -1,7 +1,6 @@
 -- The count of differing cells: `rows-set`, how a row that is set changes it, and `cells_same`.
-use Rattle.std.proofs.Common.{◌≡◌, ℕ, zero, suc, ◌+◌, ◌*◌, ◌<◌, ◌≤◌, cond, ◌==◌, List}
-use Rattle.std.proofs.Common.{[], length, get_or, set, refl, arith, get_or-set_same}
-use Rattle.std.proofs.Common.{get_or-set_other, add-one}
+use Rattle.std.proofs.Common.{◌≡◌, ℕ, zero, suc, ◌+◌, ◌*◌, ◌<◌, ◌≤◌, cond, ◌==◌, List, [], length}
+use Rattle.std.proofs.Common.{get_or, set, refl, arith, get_or-set_same, get_or-set_other, add-one}
 use Rattle.std.proofs.lemmas.Bool.Decides.{nat_tests}
 use Rattle.ttx_page.specs.Differing.{columns_differing, row_differing, rows_differing, differing}
 use Rattle.ttx_page.specs.Page.{cell, IsCell}

@@ -1,8 +1,8 @@
 -- Rows compared in blocks: mask_compared, mask_of_block, column_of_test; and how many cells of a
 -- block differ: ones_compared, columns_in_chunk.
-use Rattle.std.proofs.Common.{◌≡◌, ◌≢◌, ℕ, zero, suc, ◌+◌, ◌-◌, ◌^◌, ◌%◌, ◌<◌, ◌≤◌, cond}
-use Rattle.std.proofs.Common.{false, List, map, length, get_or, take, take_all, sym, ap, ap₂, ◌∙◌}
-use Rattle.std.proofs.Common.{arith, add-one, w8}
+use Rattle.std.proofs.Common.{◌≡◌, ◌≢◌, ℕ, zero, suc, ◌+◌, ◌-◌, ◌^◌, ◌%◌, ◌<◌, ◌≤◌, cond, false}
+use Rattle.std.proofs.Common.{List, map, length, get_or, take, take_all, sym, ap, ap₂, ◌∙◌, arith}
+use Rattle.std.proofs.Common.{add-one, w8}
 use Rattle.std.proofs.lemmas.Bool.Decides.{nat_tests}
 use Rattle.std.proofs.lemmas.List.{map-id, ext_get_or}
 use Rattle.std.proofs.lemmas.List.Sums.{sum_by_more}
@@ -24,8 +24,7 @@ pub mask_compared : (a b : List ℕ) (n : ℕ)
     → mask_l (map (top 7) (zip2 (λ x y. cond (differ x y) (2 ^ 8 - 1) 0) a b)) % 2 ^ 64
     ≡ differing_mask a b
 mask_compared a b n p q l =
-    let size : length (zip2 differ a b) ≤ 64 =
-    omega (arith, length-zip2 differ a b (p ∙ sym q)) in
+    let size : length (zip2 differ a b) ≤ 64 = grind (arith, nat_tests, length-zip2) in
     ap (λ m. mask_l m % 2 ^ 64) (tops_compared w8 differ a b) ∙ mask_l-mod _ 64 size
 
 -- The first k tests are true as often as the first k cells differ.

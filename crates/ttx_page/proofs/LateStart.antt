@@ -1,7 +1,7 @@
 -- Who starts late: what was sent before a header of the page does not matter, `sound-later` and
 -- `shown-later`. And packets that may follow what was sent before are sound: `sound-joined`.
-use Rattle.std.proofs.Common.{◌≡◌, ℕ, suc, ◌<◌, Bool, true, List, [], ◌∷◌, ◌++◌, length}
-use Rattle.std.proofs.Common.{take, slice_index_or, find, Option, Some, None, Contains, option_map}
+use Rattle.std.proofs.Common.{◌≡◌, ℕ, suc, ◌<◌, Bool, true, List, [], ◌∷◌, ◌++◌, length, take}
+use Rattle.std.proofs.Common.{slice_index_or, find, Option, Some, None, Contains, option_map}
 use Rattle.std.proofs.Common.{unwrap_or, All, IsTrue, refl, sym, ap, ◌∙◌, subst, arith}
 use Rattle.std.proofs.Common.{append_assoc}
 use Rattle.std.proofs.lemmas.Bool.Decides.{nat_tests}

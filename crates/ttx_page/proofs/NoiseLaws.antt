@@ -172,7 +172,7 @@ items-all_true : (sent : List (List ℕ)) (marks : List Bool)
     → items_where_true marks sent ≡ sent
 items-all_true [] [] all may = refl
 items-all_true [] (m ∷ marks) all may = elim may [ ]
-items-all_true (p ∷ sent) y all may = grind (arith, nat_tests, items-all_true sent)
+items-all_true (p ∷ sent) marks all may = grind (arith, nat_tests, items-all_true sent)
 
 -- And then nothing of what was got is lost.
 arrivals_of-all_true : (sent got : List (List ℕ)) (marks : List Bool)
@@ -183,7 +183,7 @@ arrivals_of-all_true : (sent got : List (List ℕ)) (marks : List Bool)
 arrivals_of-all_true [] [] [] all may near = refl
 arrivals_of-all_true [] (g ∷ got) marks all may near = elim near [ ]
 arrivals_of-all_true [] [] (m ∷ marks) all may near = elim may [ ]
-arrivals_of-all_true (p ∷ sent) y marks all may near =
+arrivals_of-all_true (p ∷ sent) got marks all may near =
     grind (arith, nat_tests, arrivals_of-all_true sent)
 
 -- The span of the items where all is got: that of the pairs.

@@ -1,8 +1,8 @@
 -- What becomes of a receiver by packets that are sent, each got with wrong bits or lost: at one
 -- packet, `at_lost` and `at_got`, and by a run over many, `over`.
-use Rattle.std.proofs.Common.{rules, ◌≡◌, ℕ, ◌<◌, ◌⊎◌, inl, inr, true, false, not, ◌&&◌}
-use Rattle.std.proofs.Common.{◌||◌, List, [], ◌∷◌, ◌++◌, zip, Option, Some}
-use Rattle.std.proofs.Common.{None, Bool, is_some, Contains, refl, arith}
+use Rattle.std.proofs.Common.{rules, ◌≡◌, ℕ, ◌<◌, ◌⊎◌, inl, inr, true, false, not, ◌&&◌, ◌||◌, List}
+use Rattle.std.proofs.Common.{[], ◌∷◌, ◌++◌, zip, Option, Some, None, Bool, is_some, Contains, refl}
+use Rattle.std.proofs.Common.{arith}
 use Rattle.std.specs.List.{list_any, AllByRecursion, AllZip, items_where_true}
 use Rattle.std.proofs.lemmas.Bool.{cases_Bool}
 use Rattle.std.proofs.lemmas.Bool.Decides.{nat_tests}
@@ -176,12 +176,7 @@ at_got Dropping w row column sent got old new named exact erases near goes =
             is_open = at.is_open;
             erased = at.erased;
             stays = at.stays;
-            stores = λ is up odd. elim (at.stores is up odd) [
-              | inl coded ↦ inl coded
-              | inr lost ↦
-                  inr
-                  (excused_here Dropping (Loses sent (Some got)) row column named.2 lost.0, lost.1)
-            ];
+            stores = grind (arith, nat_tests, excused_here);
           }
     ]
 
@@ -245,24 +240,19 @@ module _ (class : ReceiverClass) (w : PageIdValue) (row column code : ℕ) (Excu
           | inr packet ↦
               elim (cases_Bool (is_open_after K items && not (ends_page (kind w sent)))) [
                 | inl on ↦
-                    let more : span K (items ++ item ∷ []) ≡ old_span ++ item ∷ [] =
-                    grind (arith, nat_tests) in
+                    let more : span K (items ++ item ∷ []) ≡ old_span ++ item ∷ [] = search rules in
                     let among = rw more at targets in
                     let here = among item (Contains-push old_span item) in
                     let stores :
                     kind w sent ≡ Row row
                     → old.is_open ≡ true
-                    → TakesCode class row column sent arrival old new =
-                    λ is up. at.stores is up (here is).0 in
+                    → TakesCode class row column sent arrival old new = grind (arith, nat_tests) in
                     let cell_was = was.cell_is (grind (arith, nat_tests))
                     (λ x within. among x (Contains-append_left old_span (item ∷ []) x within)) in
                     let rows =
                     list_any-append (λ (x : Item). is_row row (kind w x.0)) old_span (item ∷ []) in
                     rw more (grind (arith, nat_tests))
-                | inr off ↦
-                    let same : span K (items ++ item ∷ []) ≡ old_span = grind (arith, nat_tests) in
-                    let cell_was = was.cell_is (grind (arith, nat_tests)) (rw same at targets) in
-                    rw same (grind (arith, nat_tests))
+                | inr off ↦ grind (arith, nat_tests)
               ]
         ];
       }

@@ -1,7 +1,6 @@
 -- Runs that are joined, `RunsBy-append`, and go on by one packet, `run_more`; and runs of which
 -- each step is one of another kind: `RunsBy-as`.
-use Rattle.std.proofs.Common.{◌≡◌, ℕ, ◌+◌, ◌<◌, List, [], ◌∷◌, ◌++◌, length, take}
-use Rattle.std.proofs.Common.{get_or, refl, ap}
+use Rattle.std.proofs.Common.{◌≡◌, ℕ, ◌+◌, ◌<◌, List, [], ◌∷◌, ◌++◌, length, take, get_or, refl, ap}
 use Rattle.std.proofs.lemmas.List.{take_more}
 use Rattle.ttx_page.specs.Receiver.{RunsBy}
 

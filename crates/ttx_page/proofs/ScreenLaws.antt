@@ -1,6 +1,5 @@
 -- The law of receivers with a screen, `law_of_screen`.
-use Rattle.std.proofs.Common.{◌≡◌, ℕ, Bool, true, false, List, [], ◌∷◌, Some, IsFalse, refl}
-use Rattle.std.proofs.Common.{arith}
+use Rattle.std.proofs.Common.{◌≡◌, ℕ, Bool, true, false, List, [], ◌∷◌, Some, IsFalse, refl, arith}
 use Rattle.std.specs.List.{AllByRecursion, AllZip, items_where_true}
 use Rattle.std.proofs.lemmas.Bool.Decides.{nat_tests}
 use Rattle.ttx_packet.specs.OneBit.{AreNear}
@@ -52,5 +51,5 @@ pub header_got : (w : PageIdValue) (sent : List (List ℕ)) (marks : List Bool) 
     → holds_header (kind w) sent ≡ true
     → holds_header (kind w) got ≡ true
 header_got w [] marks got exact may near holds = grind arith
-header_got w (p ∷ ps) z got exact may near holds =
+header_got w (p ∷ ps) marks got exact may near holds =
     grind (arith, nat_tests, lost_is_no_header, kind-near, header_got w ps)

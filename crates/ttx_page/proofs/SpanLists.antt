@@ -1,7 +1,7 @@
 -- Lists, searches, and the span of a mapped list: `span-map`.
-use Rattle.std.proofs.Common.{◌≡◌, zero, suc, inl, inr, Bool, true, false, ◌||◌, cond, List}
-use Rattle.std.proofs.Common.{[], ◌∷◌, ◌++◌, Some, None, map, zip, find, Any, Contains, refl, ap}
-use Rattle.std.proofs.Common.{◌∙◌, arith}
+use Rattle.std.proofs.Common.{◌≡◌, zero, suc, inl, inr, Bool, true, false, ◌||◌, cond, List, []}
+use Rattle.std.proofs.Common.{◌∷◌, ◌++◌, Some, None, map, zip, find, Any, Contains, refl, ap, ◌∙◌}
+use Rattle.std.proofs.Common.{arith}
 use Rattle.std.specs.List.{list_any}
 use Rattle.std.proofs.lemmas.List.{length-map, get_or-map}
 use Rattle.std.proofs.lemmas.List.Folds.{list_any-append}
@@ -31,7 +31,7 @@ map-Any P f xs (k, x, l, e, p) =
 pub zip-map : {A B C : Type 0} (f : B → C) (xs : List A) (ys : List B)
     → zip xs (map f ys) ≡ map (λ (pair : A × B). (pair.0, f pair.1)) (zip xs ys)
 zip-map f [] ys = refl
-zip-map f (x ∷ xs) z = grind (arith, nat_tests, zip-map f xs)
+zip-map f (x ∷ xs) ys = grind (arith, nat_tests, zip-map f xs)
 
 -- ---- searches
 
@@ -41,8 +41,7 @@ pub find_is : {X : Type 0} (test : X → Bool) (xs : List X) (z : X)
     → (test z ≡ true) × Contains xs z
 find_is test [] z e = grind arith
 find_is test (x ∷ xs) z e = elim (cases_Bool (test x)) [
-  | inl passes ↦
-      let is : x ≡ z = grind (arith, nat_tests) in rw (← is) (passes, (0, omega arith, refl))
+  | inl passes ↦ grind (arith, nat_tests)
   | inr fails ↦
       let rest = find_is test xs z (grind (arith, nat_tests)) in
       (rest.0, (suc rest.1.0, omega (arith, rest.1.1), rest.1.2))

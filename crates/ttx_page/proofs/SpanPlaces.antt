@@ -1,6 +1,6 @@
 -- The span by places: `law_of_span`.
-use Rattle.std.proofs.Common.{◌≡◌, ℕ, suc, ◌+◌, ◌-◌, ◌<◌, ◌≤◌, inl, inr, Bool, true, false}
-use Rattle.std.proofs.Common.{not, List, [], ◌∷◌, length, drop, take, get_or, slice_range, HoldsAt}
+use Rattle.std.proofs.Common.{◌≡◌, ℕ, suc, ◌+◌, ◌-◌, ◌<◌, ◌≤◌, inl, inr, Bool, true, false, not}
+use Rattle.std.proofs.Common.{List, [], ◌∷◌, length, drop, take, get_or, slice_range, HoldsAt}
 use Rattle.std.proofs.Common.{IsTrue, All, refl, arith}
 use Rattle.std.specs.List.{list_any, position_or_len}
 use Rattle.std.proofs.lemmas.Bool.{cases_Bool, cases_eq}
@@ -46,9 +46,7 @@ module _ {A : Type 0} (kind_of : A → PacketKind) where
     | inl later ↦
         let last = last_header xs later in
         (suc last.0, (omega (arith, last.1.0), (λ d. last.1.1 d), last.1.2, rw later last.1.3))
-    | inr none ↦
-        let here : is_this_page (kind_of x) ≡ true = grind (arith, nat_tests) in
-        (0, (omega arith, (λ d. here), none, rw (none, here)))
+    | inr none ↦ grind (arith, nat_tests)
   ]
 
   -- The span after the last header, by its places.
@@ -61,11 +59,8 @@ module _ {A : Type 0} (kind_of : A → PacketKind) where
     record {
       order = (omega arith, omega arith, omega (arith, long, within));
       header = λ d. let e : suc h - 1 ≡ h = omega arith in rw e (here d);
-      no_later_header = λ k d l m.
-          rw (at k d l) (all_fail (λ x. is_this_page (kind_of x)) rest none (k - suc h) d
-          (omega (arith, long)));
-      no_earlier_end = λ k d l m.
-          rw (at k d l) (fails_before_first ends rest (k - suc h) d (omega arith));
+      no_later_header = grind (arith, nat_tests, at, all_fail, rest, long);
+      no_earlier_end = grind (arith, nat_tests, at, fails_before_first, ends, rest);
       end = elim (cases_eq (suc h + n) (length xs)) [
         | inl e ↦ inl e
         | inr other ↦
