@@ -2,8 +2,8 @@
 -- units_sound, units_complete.
 use Rattle.std.proofs.Common.{rules, ◌≡◌, ℕ, zero, suc, ◌+◌, ◌-◌, ◌*◌, ◌/◌, ◌%◌, ◌<◌, ◌≤◌, true}
 use Rattle.std.proofs.Common.{cond, eqb, List, [], ◌∷◌, ◌++◌, length, take, get_or, drop, map}
-use Rattle.std.proofs.Common.{Option, Some, None, Ok, refl, sym, ap, subst, ◌∙◌, append_assoc}
-use Rattle.std.proofs.Common.{arith, inl, inr, length-append, length-take, length-drop}
+use Rattle.std.proofs.Common.{Option, Some, Ok, refl, sym, ap, ◌∙◌, append_assoc, arith, inl, inr}
+use Rattle.std.proofs.Common.{length-append, length-take, length-drop}
 use Rattle.std.proofs.Math.Seq.{drop-cons}
 use Rattle.std.proofs.lemmas.Bool.{cases_Bool, cases_lt}
 use Rattle.std.proofs.lemmas.Bool.Decides.{nat_tests}
@@ -83,15 +83,7 @@ pub unit_sound : (b : List ℕ) (u : Option UnitValue)
     → IsDataUnit u b
 unfolding teletext_at
 unit_sound b u len fit e = elim (cases_Bool (is_teletext (get_or b 0 0))) [
-  | inr passed ↦
-      let read : (get_or b 1 0 ≡ 44) × (None ≡ u) = grind (arith, nat_tests) in
-      rw (← read.1) (record {
-        id = get_or b 0 0;
-        rest = drop 2 b;
-        bytes = list_of_bytes 2 0 b (omega arith) ∙ rw read.0 refl;
-        other = passed;
-        size = length-drop 2 b ∙ omega arith;
-      })
+  | inr passed ↦ grind (arith, nat_tests, list_of_bytes, length-drop)
   | inl held ↦
       let read : (get_or b 1 0 ≡ 44) × (get_or b 3 0 ≡ 228) × (Some (unit_of b) ≡ u) =
       grind (arith, nat_tests) in
@@ -100,18 +92,8 @@ unit_sound b u len fit e = elim (cases_Bool (is_teletext (get_or b 0 0))) [
       rw (← read.2) (record {
         reserved = get_or b 2 0 / 64;
         two_bits = let l = fit 2 in omega arith;
-        bytes =
-            list_of_bytes 4 0 b (omega arith)
-            ∙ rw (read.0, read.1, third.0, mirrored_twice (drop 4 b) fits) refl;
-        is_unit = record {
-          id = is_teletext_id (get_or b 0 0) held;
-          field = (third.1, third.2);
-          line = omega arith;
-          packet = record {
-            size = length-map (drop 4 b) mirror ∙ length-drop 4 b ∙ omega arith;
-            bytes = mirrored_fit (drop 4 b) fits;
-          };
-        };
+        bytes = grind (arith, nat_tests, list_of_bytes, mirrored_twice);
+        is_unit = grind (arith, nat_tests, is_teletext_id, length-map, length-drop, mirrored_fit);
       })
 ]
 
@@ -191,8 +173,7 @@ units_complete (suc n) front more b (u, others, first, rest, held, after, us-is,
     let c = unit_complete u first held in
     let front-is : take 46 b ≡ first = ap (take 46) b-is ∙ take_at first rest 46 c.1 in
     let back-is : drop 46 b ≡ rest = ap (drop 46) b-is ∙ drop_at first rest 46 c.1 in
-    let rises : AreInLineOrder (last_place 0 front) (option_to_list u ++ others) =
-    subst (λ (x : List UnitValue). AreInLineOrder (last_place 0 front) x) us-is r in
+    let rises : AreInLineOrder (last_place 0 front) (option_to_list u ++ others) = search rules in
     let t = with_unit_takes front others u rises in
     let i = units_complete n (front ++ option_to_list u) others rest after t.1 in
     grind (arith, nat_tests, given_as, append_assoc, length-append)

@@ -96,8 +96,7 @@ numbered_order : (i last : ℕ) (ps : List (List ℕ)) → i + length ps ≤ 32 
 numbered_order i last [] few h lt = tt
 numbered_order i last (p ∷ ps) few h lt =
     let one = numbered_one i p (omega arith) h.0 in
-    let stands : ltb last (line_order_place (numbered_unit i p)) ≡ true =
-    lt-ltb _ _ (rw one.place lt) in
+    let stands : ltb last (line_order_place (numbered_unit i p)) ≡ true = search (rules, lt-ltb) in
     let next : i + 1 + length ps ≤ 32 = omega arith in
     let rises : line_order_place (numbered_unit i p) < numbered_place (i + 1) =
     rw one.place (place_rises i) in

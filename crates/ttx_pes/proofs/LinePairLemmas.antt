@@ -1,6 +1,7 @@
 -- The order of lines as a fact of pairs. Main lemma: line_order.
-use Rattle.std.proofs.Common.{◌≡◌, ◌≢◌, ℕ, suc, ◌<◌, true, false, eqb, ltb, List, [], ◌∷◌}
-use Rattle.std.proofs.Common.{refl, arith, inl, inr, eq-eqb}
+use Rattle.std.proofs.Common.{◌≡◌, ◌≢◌, ℕ, suc, ◌<◌, true, false, eqb, ltb, List, [], ◌∷◌, refl}
+use Rattle.std.proofs.Common.{arith, inl, inr, eq-eqb}
+use Rattle.std.proofs.lemmas.Bool.Decides.{nat_tests}
 use Rattle.std.proofs.lemmas.Bool.{cases_eq, ne_eqb, lt-ltb, ltb-true}
 use Rattle.std.proofs.lemmas.List.Elements.{All-cons}
 use Rattle.std.proofs.lemmas.List.Kept.{AllPairs-cons}
@@ -53,8 +54,7 @@ order_from_pairs before (u ∷ us) all pairs = elim (cases_eq u.line 0) [
   | inr some ↦
       let t : eqb u.line 0 ≡ false = ne_eqb u.line 0 some in
       let here : before < line_order_place u = all 0 u (omega arith) some in
-      let past : ltb before (line_order_place u) ≡ true =
-      lt-ltb before (line_order_place u) here in
+      let past : ltb before (line_order_place u) ≡ true = grind (arith, nat_tests, lt-ltb) in
       let rest = order_from_pairs (line_order_place u) us
       (λ k d l more. pairs 0 (suc k) d (omega arith) (omega arith) some more)
       (λ i j d l m. pairs (suc i) (suc j) d (omega arith) (omega arith)) in

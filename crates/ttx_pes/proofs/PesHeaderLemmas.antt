@@ -1,8 +1,8 @@
 -- The fields of a header that are read are those of the grammar, and the other way round. Main
 -- lemmas: body_sound, body_complete.
-use Rattle.std.proofs.Common.{◌≡◌, ℕ, ◌-◌, ◌*◌, ◌/◌, ◌%◌, ◌^◌, ◌<◌, ◌≤◌, List, [], ◌∷◌}
-use Rattle.std.proofs.Common.{◌++◌, length, get_or, take, drop, Ok, refl, sym, ap, ◌∙◌}
-use Rattle.std.proofs.Common.{append_assoc, arith, subst, length-append, length-take, length-drop}
+use Rattle.std.proofs.Common.{rules, ◌≡◌, ℕ, ◌-◌, ◌*◌, ◌/◌, ◌%◌, ◌^◌, ◌<◌, ◌≤◌, List, [], ◌∷◌, ◌++◌}
+use Rattle.std.proofs.Common.{length, get_or, take, drop, Ok, refl, sym, ap, ◌∙◌, append_assoc}
+use Rattle.std.proofs.Common.{arith, subst, length-append, length-take, length-drop}
 use Rattle.std.proofs.lemmas.Bool.Decides.{nat_tests}
 use Rattle.std.proofs.lemmas.List.{drop_at, take-append-drop, drop_more, drop-drop, get_or_at}
 use Rattle.std.proofs.lemmas.List.{nil_from_length}
@@ -25,8 +25,7 @@ head_sound b size len fit e =
     let none = nil_from_length (drop 6 b) (length-drop 6 b ∙ omega arith) in
     let parts = list_of_bytes 6 0 b (omega arith) in
     let start : (get_or b 0 0 ≡ 0) × (get_or b 1 0 ≡ 0) × (get_or b 2 0 ≡ 1)
-    × (get_or b 3 0 ≡ 189) =
-    grind (arith, nat_tests) in
+    × (get_or b 3 0 ≡ 189) = search rules in
     let total : (told_size b % 184 ≡ 0) × (told_size b ≤ 1656) × (told_size b ≡ size) =
     grind (arith, nat_tests) in
     let is-high : get_or b 4 0 ≡ ((184 * (size / 184) - 6) / 256) % 256 = omega arith in

@@ -1,8 +1,7 @@
 -- The canonical packet is a packet of its value, and what is made of a frame is it. Main lemmas:
 -- canonical_is_packet, spelled.
-use Rattle.std.proofs.Common.{List, Some, [], append_assoc, arith, length, lit<, refl}
-use Rattle.std.proofs.Common.{suc, take, zero, ℕ, ◌*◌, ◌++◌, ◌+◌, ◌-◌, ◌/◌, ◌∷◌}
-use Rattle.std.proofs.Common.{◌≡◌, ◌≤◌, ◌<◌}
+use Rattle.std.proofs.Common.{List, Some, [], append_assoc, arith, length, lit<, refl, suc, take}
+use Rattle.std.proofs.Common.{zero, ℕ, ◌*◌, ◌++◌, ◌+◌, ◌-◌, ◌/◌, ◌∷◌, ◌≡◌, ◌≤◌, ◌<◌}
 use Rattle.std.proofs.lemmas.Bool.Decides.{nat_tests}
 use Rattle.std.specs.Prelude.{replicate}
 use Rattle.std.proofs.lemmas.List.{append-nil, take_all}
@@ -106,3 +105,6 @@ units_hold (suc n) units b u = grind (arith, nat_tests, units_hold n)
 -- The value of a packet is one that a frame can hold: the law.
 pub value_of_packet : LawOfPacketValue
 value_of_packet v b h = grind (arith, nat_tests, units_hold)
+
+-- For the loops of `packet_of`.
+pub ruleset packing = (stuffed_more, spelled)

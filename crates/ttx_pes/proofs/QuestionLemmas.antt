@@ -1,9 +1,9 @@
 -- The reading is the questions of the refusal asked in their order: what is asked of bytes alone
 -- says whether they are read, and which fault is told. Main lemmas: packet_asked, tests_cases.
-use Rattle.std.proofs.Common.{◌≡◌, ℕ, zero, suc, ◌+◌, ◌-◌, ◌*◌, ◌/◌, ◌%◌, ◌<◌, Bool, true}
-use Rattle.std.proofs.Common.{false, cond, not, eqb, leb, ltb, List, [], ◌∷◌, length, get_or}
-use Rattle.std.proofs.Common.{take, drop, Option, Some, None, Result, Ok, Err, refl, sym, ap, ◌∙◌}
-use Rattle.std.proofs.Common.{arith, inl, inr, ◌⊎◌, length-take, length-drop}
+use Rattle.std.proofs.Common.{◌≡◌, ℕ, zero, suc, ◌+◌, ◌-◌, ◌*◌, ◌/◌, ◌%◌, ◌<◌, Bool, true, false}
+use Rattle.std.proofs.Common.{cond, not, eqb, leb, ltb, List, [], ◌∷◌, length, get_or, take, drop}
+use Rattle.std.proofs.Common.{Option, Some, None, Result, Ok, Err, refl, sym, ap, ◌∙◌, arith, inl}
+use Rattle.std.proofs.Common.{inr, ◌⊎◌, length-take, length-drop}
 use Rattle.std.proofs.lemmas.Bool.Decides.{nat_tests}
 use Rattle.std.proofs.lemmas.Bool.{cases_Bool, cases_lt, and_parts, eqb-true, lt-ltb, le-ltb}
 use Rattle.std.proofs.lemmas.List.{get_or-drop, get_or-take, get_or_past}
@@ -59,9 +59,7 @@ tests_cases i (true ∷ ts) = elim (tests_cases (i + 1) ts) [
     at = suc found.at;
     held = held_after ts found.at found.held;
     wrong = found.wrong;
-    told =
-        let number : i + 1 + found.at ≡ i + suc found.at = omega arith in
-        found.told ∙ ap (λ (n : ℕ). Some (told_fault n)) number;
+    told = grind (arith, nat_tests);
   })
 ]
 

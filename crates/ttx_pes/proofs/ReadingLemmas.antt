@@ -1,8 +1,7 @@
 -- Reading agrees with the grammar. Main lemmas: packet_is_read, read_is_packet.
-use Rattle.std.proofs.Common.{◌≡◌, ◌≢◌, ℕ, ◌-◌, ◌+◌, ◌*◌, ◌<◌, ◌≤◌, List, ◌++◌}
-use Rattle.std.proofs.Common.{length, take, drop, Some, Result, Ok, Err, refl, sym, ap, subst, ◌∙◌}
-use Rattle.std.proofs.Common.{append_assoc, arith, inl, inr, ◌⊎◌, length-append, length-take}
-use Rattle.std.proofs.Common.{length-drop}
+use Rattle.std.proofs.Common.{rules, ◌≡◌, ◌≢◌, ℕ, ◌-◌, ◌+◌, ◌*◌, ◌<◌, ◌≤◌, List, ◌++◌, length, take}
+use Rattle.std.proofs.Common.{drop, Some, Result, Ok, Err, refl, sym, ap, subst, ◌∙◌, append_assoc}
+use Rattle.std.proofs.Common.{arith, inl, inr, ◌⊎◌, length-append, length-take, length-drop}
 use Rattle.std.proofs.lemmas.Bool.{cases_lt, le-ltb, lt-ltb}
 use Rattle.std.proofs.lemmas.Bool.Decides.{nat_tests}
 use Rattle.std.proofs.Math.Seq.{take-add}
@@ -85,11 +84,8 @@ packet_parts head body rest size six e le len =
     let back : drop 6 all ≡ body ++ rest = drop_at head (body ++ rest) 6 six in
     let middle : take (size - 6) (body ++ rest) ≡ body = take_at body rest (size - 6) len in
     let both : length (head ++ body) ≡ size = length-append head body ∙ omega arith in
-    let after : drop size all ≡ rest =
-    ap (drop size) (sym (append_assoc head body rest))
-    ∙ drop_at (head ++ body) rest size both in
-    let total : length all ≡ 6 + (size - 6 + length rest) =
-    omega (arith, length-append head (body ++ rest), length-append body rest) in
+    let after : drop size all ≡ rest = grind (arith, nat_tests, append_assoc, drop_at) in
+    let total : length all ≡ 6 + (size - 6 + length rest) = search (rules, length-append) in
     packet_whole all size (omega arith) (ap size_at front ∙ e) (omega arith)
     ∙ rw (back, middle, after) refl
 
@@ -129,10 +125,8 @@ sound_from : (b : List ℕ) (size : ℕ) (v : PesValue)
 sound_from b size v fit e long le ev =
     let h = head_sound (take 6 b) size (length-take 6 b ∙ omega arith) (AreBytes-take 6 b fit) e in
     let body = take (size - 6) (drop 6 b) in
-    let len : length body ≡ 184 * h.0 - 6 =
-    length-take (size - 6) (drop 6 b) ∙ omega (arith, length-drop 6 b) in
-    let parts : take size b ≡ take 6 b ++ body =
-    ap (λ (n : ℕ). take n b) (omega arith) ∙ take-add 6 (size - 6) b in
+    let len : length body ≡ 184 * h.0 - 6 = grind (arith, nat_tests, length-take, length-drop) in
+    let parts : take size b ≡ take 6 b ++ body = grind (arith, nat_tests, take-add) in
     rw (parts, h.4) (body_sound h.0 body v h.1 h.2 len
     (AreBytes-take (size - 6) (drop 6 b) (AreBytes-drop 6 b fit)) ev)
 

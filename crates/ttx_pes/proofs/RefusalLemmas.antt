@@ -86,7 +86,7 @@ same_units : (n k before j : ℕ) (b c : List ℕ)
 same_units zero k before j b c h long = refl
 same_units (suc n) k before zero b c h long = grind (arith, nat_tests, same_byte)
 same_units (suc n) k before (suc zero) b c h long = grind (arith, nat_tests, same_byte)
-same_units (suc n) k before u b c h long =
+same_units (suc n) k before j b c h long =
     grind (arith, nat_tests, same_byte, agree_below, same_units n (suc k))
 
 -- A test that bytes and a packet of n data units agree up to.
@@ -155,16 +155,14 @@ module _ (b : List ℕ) (fit : AreBytes b) (q n : ℕ) (lo : 1 ≤ n) (hi : n �
   -- Packets that begin it agree with the bytes before the question.
   made_agrees : (c rest : List ℕ) → made ≡ c ++ rest → AgreeBefore q b c
   made_agrees c rest parts =
-      let len : 184 * n ≡ length c + length rest =
-      sym length-made ∙ ap length parts ∙ length-append c rest in
+      let len : 184 * n ≡ length c + length rest = search (rules, length-made, length-append) in
       record {
         six = λ lt. not_below (length b) 6 (held 0 lt);
         all =
             λ lt. let all = not_below (length b) (told_size b) (held 3 lt) in
             let size = told (omega arith) in
             omega arith;
-        same = λ place asked lt. sym (kept_byte place asked (omega arith))
-            ∙ ap (λ (x : List ℕ). get_or x place 0) parts ∙ get_or_append_left c rest 0 place lt;
+        same = grind (arith, nat_tests, kept_byte, get_or_append_left);
       }
 
   -- It tells its size.
@@ -246,10 +244,7 @@ none_agrees b q v p wrong h agree =
     let all = held_if_read p (v, []) read in
     let t = told_count p (all 2) in
     let full = not_below (length p) (told_size p) (all 3) in
-    let count : 2 < q → told_units b ≡ told_units p = λ more.
-    let told : told_size b ≡ told_size p =
-    rw (agree.same 4 (omega arith) (omega arith), agree.same 5 (omega arith) (omega arith)) refl in
-    omega arith in
+    let count : 2 < q → told_units b ≡ told_units p = grind (arith, nat_tests) in
     let alike = same_test q (told_units b) (told_units p) b p agree count (omega arith) full in
     let yes = all q in
     absurd cc
@@ -296,8 +291,7 @@ refused_there b q fit h = elim (answer_cases (packet_at b)) [
       absurd (h.none v c packet (record {
         six = λ _. omega arith;
         all = λ _. omega arith;
-        same = λ place _ lt. ap (λ (x : List ℕ). get_or x place 0) parts
-            ∙ get_or_append_left c rest 0 place lt;
+        same = grind (arith, nat_tests, get_or_append_left);
       }))
 ]
 

@@ -1,6 +1,5 @@
 -- PES packets that are taken one after the other, for loops over a reader: takes-none, takes-more.
-use Rattle.std.proofs.Common.{◌≡◌, ℕ, ◌+◌, List, [], ◌∷◌, ◌++◌, Option, ap}
-use Rattle.std.proofs.Common.{◌∙◌, arith, length-append}
+use Rattle.std.proofs.Common.{◌≡◌, ℕ, ◌+◌, List, [], ◌∷◌, ◌++◌, Option, arith, length-append}
 use Rattle.std.proofs.lemmas.Bool.Decides.{nat_tests}
 use Rattle.std.proofs.lemmas.List.{append-nil}
 use Rattle.std.proofs.lemmas.List.Folds.{concat-append}
@@ -28,6 +27,5 @@ pub takes-more : (n : ℕ) (old mid new : Option (List ℕ)) (v : PesValue)
     → TakesPackets (n + 1) old new
 takes-more n old mid new v h t =
     let joined : concat (h.packets ++ t.bytes ∷ []) ≡ concat h.packets ++ t.bytes =
-    concat-append h.packets (t.bytes ∷ [])
-    ∙ ap (λ b. concat h.packets ++ b) (append-nil t.bytes) in
+    grind (arith, nat_tests, concat-append, append-nil) in
     grind (arith, nat_tests, concat-append, append-nil, length-append, each-more, Consumes-trans)

@@ -1,9 +1,8 @@
 -- What the bytes that were taken of a packet settle, NAME_settles, what is known by that,
 -- settled_NAME, and what a reader then tells, tells_NAME.
-use Rattle.std.proofs.Common.{◌≡◌, ◌≢◌, ℕ, ◌<◌, ◌≤◌, List, [], length, take, drop}
-use Rattle.std.proofs.Common.{Option, None, Some, Result, Ok, Err, refl, sym, ap, subst, ◌∙◌}
-use Rattle.std.proofs.Common.{append_assoc, arith, inr, length-append, length-take, length-drop}
-use Rattle.std.proofs.Common.{true}
+use Rattle.std.proofs.Common.{◌≡◌, ◌≢◌, ℕ, ◌<◌, ◌≤◌, List, [], length, take, drop, Option, None}
+use Rattle.std.proofs.Common.{Some, Result, Ok, Err, refl, sym, ap, subst, ◌∙◌, append_assoc, arith}
+use Rattle.std.proofs.Common.{inr, length-append, length-take, length-drop, true}
 use Rattle.std.proofs.lemmas.Bool.Decides.{nat_tests}
 use Rattle.std.proofs.lemmas.List.{take-append-drop, append-nil, take-take, drop-drop}
 use Rattle.std.proofs.lemmas.List.{length-take-le}
@@ -84,15 +83,8 @@ pub whole_settles : (old new : Option (List ℕ)) (taken : List ℕ)
     → size_at (take 6 taken) ≡ Ok (length taken)
     → Settles old new taken (value_at (drop 6 taken))
 whole_settles old new taken h le sized =
-    grind (
-      arith,
-      nat_tests,
-      take-append-drop 6 taken,
-      append_assoc,
-      packet_parts,
-      length-take 6 taken,
-      length-drop 6 taken,
-    )
+    let six = length-take 6 taken in let others = length-drop 6 taken in
+    grind (arith, nat_tests, take-append-drop 6 taken, append_assoc, packet_parts)
 
 -- The same by what was read of the packet's bytes from byte 6 on.
 pub settles_as : (old new : Option (List ℕ)) (taken body : List ℕ) (r : Result PesValue PesFault)

@@ -7,6 +7,7 @@ use self::lanes::is_same_block;
 
 // Whether two slices of one length hold the same bytes. The last block takes in bytes of the one
 // before it, so that none is left over.
+#[tactic(auto, using(crate::proofs::SameBytesLemmas::same_blocks))]
 pub(crate) fn is_same(a: &[u8], b: &[u8]) -> bool
     requires long { 64 ≤ length a.now }
     requires length { length a.now ≡ length b.now }

@@ -27,6 +27,7 @@ pub(crate) fn add(out: &mut Bytes, bytes: &[u8])
 }
 
 // The frame's canonical packet.
+#[tactic(auto, using(crate::proofs::PesPacketLemmas::packing))]
 pub(crate) fn packet_of(frame: &PesFrame) -> Bytes
     ensures { result.items ≡ canonical_packet frame.now }
 {

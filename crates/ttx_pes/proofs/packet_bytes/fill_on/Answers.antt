@@ -1,6 +1,7 @@
 -- Each turn of `fill_on` puts its piece after those before it, by Consumes-more; what was taken
 -- where a pull fails stands in the room.
-use Rattle.std.proofs.Common.{rules, ◌-◌, ◌∙◌, ap, arith, take}
+use Rattle.std.proofs.Common.{arith}
+use Rattle.std.proofs.lemmas.Bool.Decides.{nat_tests}
 use Rattle.std.proofs.KnownBytes.{Consumes-kept}
 use Rattle.std.proofs.lemmas.List.{length-take-le, take-take}
 use Rattle.std.proofs.lemmas.Result.{err_from_is_err_and}
@@ -9,16 +10,7 @@ use Rattle.sub_io.proofs.DeviceLemmas.{Consumes-more}
 use Rattle.ttx_pes.proofs.packet_bytes.fill_on.Goals as goal
 
 pub loop-at-preserved : goal.loop-at-preserved
-loop-at-preserved g c = record {
-  from = omega arith;
-  bound = search rules;
-  kept = take-put_mid_below c.loop-at.at (c.args.most - c.loop-at.at) c.loop-at.room c.pull.new.to
-      c.args.held (omega arith) (omega arith)
-      ∙ c.loop-at.invariant.kept;
-  bytes = λ before h. Consumes-more _ _ _ _ _ _ _ _ (omega arith) (search rules)
-      (c.loop-at.invariant.bytes before h) c.in_ok-n.ensures.bytes.0;
-  count = search rules;
-}
+loop-at-preserved g c = grind (arith, nat_tests, take-put_mid_below, Consumes-more)
 
 pub returns-in_err-n-clause-err : goal.returns-in_err-n-clause-err
 returns-in_err-n-clause-err g c =
@@ -28,13 +20,4 @@ returns-in_err-n-clause-err g c =
     let len = length-take-le at room (omega arith) in
     let held = length-take-le c.args.held old (omega arith) in
     let p = err_from_is_err_and c.from_residual.result c.from_residual.ensures.1 in
-    rw p.1 (record {
-      taken = take at room;
-      few = omega arith;
-      from = ap (λ k. take k (take at room)) held
-          ∙ take-take c.args.held at room c.loop-at.invariant.from
-          ∙ c.loop-at.invariant.kept;
-      takes = λ before h.
-          Consumes-kept _ _ _ (take at room) (c.loop-at.invariant.bytes before h)
-          c.in_err-n.ensures.bytes;
-    })
+    grind (arith, nat_tests, take-take, Consumes-kept)

@@ -1,9 +1,9 @@
 -- What the bytes of the source decide at each return: by TakingLemmas.
-use Rattle.std.proofs.Common.{◌≡◌, ℕ, ◌∙◌, take, Ok, refl, sym, ap, arith, rules, inl}
+use Rattle.std.proofs.Common.{◌≡◌, ℕ, ◌∙◌, take, Ok, refl, sym, ap, arith, rules}
+use Rattle.std.proofs.lemmas.Bool.Decides.{nat_tests}
 use Rattle.std.proofs.lemmas.List.{length-take-le}
 use Rattle.std.proofs.lemmas.Result.{err_from_is_err_and}
 use Rattle.std.proofs.KnownBytes.{Consumes-nil}
-use Rattle.ttx_pes.specs.Reading.{size_at}
 use Rattle.ttx_pes.proofs.TakingLemmas.{cut_settles, failed_second, short_settles, size_kept}
 use Rattle.ttx_pes.proofs.TakingLemmas.{size_settles, tells_end, tells_failed, tells_settled}
 use Rattle.ttx_pes.proofs.TakingLemmas.{tells_too_many, whole_settles}
@@ -68,22 +68,6 @@ returns-clause-taken g c =
     (c.in_ok-fill_on.ensures.bytes _ (c.in_ok-got.ensures.bytes _ (Consumes-nil _)))
     (omega arith) (sized ∙ ap (λ (k : ℕ). Ok k) (sym all ∙ sym len)))
 
-pub returns-in_err-got-clause-fault : goal.returns-in_err-got-clause-fault
-returns-in_err-got-clause-fault g c =
-    let p = err_from_is_err_and c.from_residual.result c.from_residual.ensures.1 in
-    let stopped = c.in_err-got.ensures.err in
-    rw (p.1, p.2) (tells_failed c.args.given _ _ (record {
-      bytes = stopped.taken;
-      consumed = stopped.takes _ (Consumes-nil _);
-      begun = inl stopped.few;
-    }))
-
 pub returns-in_err-fill_on-clause-fault : goal.returns-in_err-fill_on-clause-fault
 returns-in_err-fill_on-clause-fault g c =
-    let p = err_from_is_err_and c.from_residual-in_err-fill_on.result
-    c.from_residual-in_err-fill_on.ensures.1 in
-    let same : c.unwrap.result.now ≡ take 6 c.fill_on.new.room = search rules in
-    rw (p.1, p.2) (tells_failed c.args.given _ _
-    (failed_second _ _ _ c.in_ok-got.got c.in_ok-size.size c.fill_on.new.room
-    (c.in_ok-got.ensures.bytes _ (Consumes-nil _)) (omega arith) c.in_ok-got.ensures.room
-    (ap size_at (sym same) ∙ c.in_ok-size.ensures.exact) c.in_err-fill_on.ensures.err))
+    grind (arith, nat_tests, err_from_is_err_and, tells_failed, failed_second, Consumes-nil)
