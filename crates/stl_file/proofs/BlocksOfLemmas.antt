@@ -1,6 +1,6 @@
 -- `blocks_of`: the blocks that are written for a subtitle are blocks of it; main lemmas:
 -- joined_more, joined_end, blocks_made, blocks_again.
-use Rattle.std.proofs.Common.{rules, ◌≡◌, ◌*◌, ℕ, true, List, [], ◌∷◌, ◌++◌, length, refl, sym, ap}
+use Rattle.std.proofs.Common.{rules, ◌≡◌, ◌*◌, ℕ, true, List, [], ◌∷◌, ◌++◌, length, refl, ap}
 use Rattle.std.proofs.Common.{append_assoc, arith, length-append, take, drop, zero, suc, ◌+◌, ◌-◌}
 use Rattle.std.proofs.Common.{◌<◌, ◌≤◌, replicate, length-take}
 use Rattle.std.proofs.lemmas.Bool.Decides.{nat_tests}
@@ -11,7 +11,6 @@ use Rattle.stl_file.specs.Tti.{ebn, text_of, unused_space}
 use Rattle.stl_file.specs.SubtitleBlocks.{joined, BelongsTo, AreLinked, Begins, AreBlocksOf}
 use Rattle.stl_file.specs.Subtitle.{SubtitleValue, IsSubtitle, has_no_unused}
 use Rattle.stl_file.specs.NormalForm.{block_head, block_of, blocks_from, full_pieces, blocks_of}
-use Rattle.stl_file.specs.TimeCode.{day}
 use Rattle.stl_file.proofs.TimeCodeLemmas.{time_in_range}
 use Rattle.stl_file.proofs.SubtitleLemmas.{before_clean, clean_take, clean_drop}
 use Rattle.stl_file.proofs.SubtitleBlocksLemmas.{linked_cons, linked_text, blocks_subtitle}
@@ -131,8 +130,7 @@ blocks_made : (s : SubtitleValue) → IsSubtitle s → AreBlocksOf s (blocks_of 
 blocks_made s h =
     let full = full_pieces s.text in
     let b = blocks_begin s full 0 s.text h in
-    let few = h.few in
-    grind (arith, nat_tests, blocks_count, blocks_linked, blocks_text)
+    grind (arith, nat_tests, blocks_begin, blocks_count, blocks_linked, blocks_text)
 
 -- The blocks of a subtitle of a file can be written again, in no more of them.
 pub blocks_again : (s : SubtitleValue) (g : List (List ℕ))

@@ -1,8 +1,8 @@
 -- `IsFile`: a file is what is read, and its first bytes decide that; main lemmas: file_read,
 -- one_file, outcome_of-first.
-use Rattle.std.proofs.Common.{◌≡◌, ◌*◌, ℕ, false, List, [], ◌++◌, length, refl, sym, ap, ◌∙◌, arith}
-use Rattle.std.proofs.Common.{length-append, rules, take, drop, None, Result, Ok, Err, subst, ◌+◌}
-use Rattle.std.proofs.Common.{◌≤◌, inl, inr, length-take-le, ltb}
+use Rattle.std.proofs.Common.{◌≡◌, ◌*◌, ℕ, false, List, [], length, refl, sym, ap, ◌∙◌, arith}
+use Rattle.std.proofs.Common.{length-append, take, drop, None, Result, Ok, Err, subst, ◌+◌, ◌≤◌}
+use Rattle.std.proofs.Common.{inl, inr, length-take-le, ltb}
 use Rattle.std.proofs.lemmas.Bool.Decides.{nat_tests}
 use Rattle.std.specs.Prelude.{◌↔◌}
 use Rattle.std.proofs.lemmas.List.{take_all, take-take, drop-take, take-append-drop, drop_at}
@@ -35,12 +35,8 @@ pub body_sound : (s : List ℕ) (ts : List SubtitleValue)
     → subtitles_of (outcome_at most_blocks None (drop 1024 s)) ≡ Ok ts
     → IsFile s (take 1024 s) ts
 body_sound s ts le g e =
-    grind (
-      arith,
-      nat_tests,
-      outcome_sound most_blocks None [] (drop 1024 s) ts refl e,
-      take-append-drop 1024 s,
-    )
+    let sound = outcome_sound most_blocks None [] (drop 1024 s) ts refl e in
+    grind (arith, nat_tests, take-append-drop 1024 s)
 
 -- Bytes that are read without a fault are a file.
 pub file_sound : (s : List ℕ) (ts : List SubtitleValue)
@@ -101,10 +97,6 @@ outcome_of-first s = elim (cases_lt 12800897 (length s)) [
   | inr short ↦ ap outcome_of (take_all 12800897 s short)
   | inl long ↦
       let size : length (take 12800897 s) ≡ 12800897 = length-take-le 12800897 s (omega arith) in
-      rw (
-        size,
-        le-ltb (length s) 1024 (omega arith),
-        take-take 1024 12800897 s (omega arith),
-        drop-take 1024 (128 * 99999 + 1) s,
-      ) (opened-first (gsi_at (take 1024 s)) (drop 1024 s))
+      rw (size, le-ltb (length s) 1024 (omega arith), take-take 1024 12800897 s (omega arith))
+      (rw (drop-take 1024 (128 * 99999 + 1) s) (opened-first (gsi_at (take 1024 s)) (drop 1024 s)))
 ]

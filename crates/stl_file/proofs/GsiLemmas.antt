@@ -1,7 +1,7 @@
 -- The GSI block as it is read, and with other counts; main lemmas: gsi_sound, gsi_complete,
 -- counted_is_gsi.
-use Rattle.std.proofs.Common.{rules, ◌≡◌, ℕ, List, ◌++◌, length, refl, sym, ap, ◌∙◌, append_assoc}
-use Rattle.std.proofs.Common.{arith, length-append, take, drop, Ok, ◌+◌, ◌≤◌}
+use Rattle.std.proofs.Common.{◌≡◌, ℕ, List, ◌++◌, length, refl, sym, ap, ◌∙◌, append_assoc, arith}
+use Rattle.std.proofs.Common.{length-append, take, drop, Ok, ◌+◌, ◌≤◌}
 use Rattle.std.proofs.lemmas.List.{drop-take, take-append-drop, length-drop, length-take}
 use Rattle.std.proofs.lemmas.List.{length-take-le, take_at, drop_at, take-append-le, take-take}
 use Rattle.std.proofs.lemmas.List.{get_or-take}
@@ -9,7 +9,7 @@ use Rattle.std.proofs.lemmas.Bool.Decides.{nat_tests}
 use Rattle.std.proofs.lemmas.Slice.Eq.{bytes_eq-Decides}
 use Rattle.std.proofs.lemmas.Slice.{take-put_mid, drop-put_mid}
 use borrow.Rule.Slice.PartMut.{put_mid}
-use Rattle.stl_file.specs.Gsi.{with_counts, gsi_at, IsGsi, field, five_digits, dsc}
+use Rattle.stl_file.specs.Gsi.{with_counts, gsi_at, IsGsi, field, five_digits}
 
 -- A GSI block without a fault is taken, as it is.
 pub gsi_sound : (g h : List ℕ) → length g ≡ 1024 → gsi_at g ≡ Ok h → (h ≡ g) × IsGsi g
@@ -30,11 +30,8 @@ pub counts_put : (xs ys : List ℕ)
     → put_mid 238 10 xs ys ≡ take 238 xs ++ (ys ++ drop 248 xs)
 counts_put xs ys size le =
     sym (take-append-drop 248 (put_mid 238 10 xs ys))
-    ∙ rw (
-      take-put_mid 238 10 xs ys 248 (omega arith) (omega arith),
-      drop-put_mid 238 10 xs ys 248 (omega arith) (omega arith) size,
-      append_assoc,
-    ) refl
+    ∙ rw (take-put_mid 238 10 xs ys 248 (omega arith) (omega arith))
+    (rw (drop-put_mid 238 10 xs ys 248 (omega arith) (omega arith) size, append_assoc) refl)
 
 -- Counts that are set twice.
 pub counts_twice : (tnb tns : ℕ) (g : List ℕ)
@@ -55,25 +52,12 @@ front_field : (at len n : ℕ) (g rest : List ℕ)
     → n ≤ length g
     → field at len (take n g ++ rest) ≡ field at len g
 front_field at len n g rest le size =
-    rw (
-      ← drop-take at len (take n g ++ rest),
-      ← drop-take at len g,
-      take-append-le (at + len) (take n g) rest (omega (arith, length-take n g)),
-      take-take (at + len) n g le,
-    ) refl
+    rw (← drop-take at len (take n g ++ rest), ← drop-take at len g)
+    (rw (take-append-le (at + len) (take n g) rest (omega (arith, length-take n g)))
+    (rw (take-take (at + len) n g le) refl))
 
 -- A GSI block is taken with other counts too.
 pub counted_is_gsi : (tnb tns : ℕ) (g : List ℕ) → IsGsi g → IsGsi (with_counts tnb tns g)
 counted_is_gsi tnb tns g h =
-    let counts = five_digits tnb ++ (five_digits tns ++ drop 248 g) in
-    let size = h.size in
-    let same : dsc (with_counts tnb tns g) ≡ dsc g =
-    sym (get_or-take 238 (take 238 g ++ counts) 11 0 (omega arith))
-    ∙ rw (take_at (take 238 g) counts 238 (length-take-le 238 g (omega arith)))
-    (get_or-take 238 g 11 0 (omega arith)) in
-    record {
-      size = omega (arith, length-append (take 238 g) counts, length-drop 248 g, length-take 238 g);
-      format = front_field 3 8 238 g counts (omega arith) (omega arith) ∙ h.format;
-      display = rw same h.display;
-      alphabet = front_field 12 2 238 g counts (omega arith) (omega arith) ∙ h.alphabet;
-    }
+    let back = length-drop 248 g in let front = length-take 238 g in
+    grind (arith, nat_tests, get_or-take, take_at, length-take-le, length-append, front_field)

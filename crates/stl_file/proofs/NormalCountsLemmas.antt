@@ -1,13 +1,13 @@
 -- `normal_counts` and `given`: a pass of `normal` over the blocks after the GSI block; main lemmas:
 -- left_is, took, counted_cons, written_cons.
-use Rattle.std.proofs.Common.{rules, ◌≡◌, ℕ, true, false, Bool, cond, List, length, refl, arith}
-use Rattle.std.proofs.Common.{length-append, Option, Some, Result, Ok, Err, ◌+◌, ◌≤◌, is_ok}
+use Rattle.std.proofs.Common.{◌≡◌, ℕ, true, false, Bool, cond, List, length, arith, length-append}
+use Rattle.std.proofs.Common.{Option, Some, Result, ◌+◌, ◌≤◌, is_ok}
 use Rattle.std.proofs.lemmas.Bool.Decides.{nat_tests}
 use Rattle.std.specs.Io.KnownBytes.{Appends}
 use Rattle.std.proofs.lemmas.Grind.{flat_map-append}
 use Rattle.std.proofs.lemmas.Option.{same_Some}
-use Rattle.sub_io.specs.Device.{AppendsPrefix, Writes}
-use Rattle.sub_io.proofs.DeviceLemmas.{AppendsPrefix-first, Writes-after}
+use Rattle.sub_io.specs.Device.{Writes}
+use Rattle.sub_io.proofs.DeviceLemmas.{Writes-after}
 use Rattle.stl_file.specs.declared.counts.Counts.{Counts}
 use Rattle.stl_file.specs.declared.fault.StlFault.{StlFault}
 use Rattle.stl_file.specs.SubtitleBlocks.{joined}
@@ -69,13 +69,3 @@ pub written_cons : {E : Type 0} (old mid new : Option (List ℕ)) (s : SubtitleV
     → Writes mid new (joined (all_blocks (given j))) result
     → Writes old new (joined (all_blocks (given (cons_all s j)))) result
 written_cons old mid new s j result ok p q = grind (arith, nat_tests, flat_map-append, Writes-after)
-
--- The same where this one was not written whole.
-pub prefix_cons : (old new : Option (List ℕ)) (s : SubtitleValue) (j : Judged)
-    → is_ok (cons_all s j) ≡ true
-    → AppendsPrefix old new (joined (blocks_of s))
-    → AppendsPrefix old new (joined (all_blocks (given (cons_all s j))))
-prefix_cons old new s (Ok ss) ok p =
-    rw (flat_map-append (λ (b : List ℕ). b) (blocks_of s) (all_blocks ss))
-    (AppendsPrefix-first old new (joined (blocks_of s)) (joined (all_blocks ss)) p)
-prefix_cons old new s (Err f) ok p = absurd cc

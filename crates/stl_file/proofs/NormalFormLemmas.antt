@@ -1,7 +1,7 @@
 -- The normal form: a file of the same subtitles, and what `normal` answers; main lemmas:
 -- normal_is_file, normal_twice, refused_body, whole_written.
 use Rattle.std.proofs.Common.{rules, ◌≡◌, ℕ, List, [], ◌∷◌, ◌++◌, length, refl, ap, ◌∙◌, arith}
-use Rattle.std.proofs.Common.{length-append, take, drop, Option, Some, None, Ok, Err, subst}
+use Rattle.std.proofs.Common.{length-append, take, drop, Option, Ok, Err}
 use Rattle.std.specs.Prelude.{filter}
 use Rattle.std.specs.List.{AllByRecursion}
 use Rattle.std.specs.Io.KnownBytes.{Appends, Keeps}
@@ -51,8 +51,7 @@ each_append (x ∷ xs) ys h k = (h.0, each_append xs ys h.1 k)
 respelled : (ss : List SubtitleValue) (gs : List (List (List ℕ)))
     → AreBlocksOfEach ss gs
     → IsRest (length (groups_of gs)) (all_blocks ss) ss
-respelled [] [] h = record { each = tt; few = omega arith; parts = []; kept = refl; are_of = tt }
-respelled [] (g ∷ gs) h = absurd h
+respelled [] gs h = grind (arith, nat_tests)
 respelled (s ∷ ss) [] h = absurd h
 respelled (s ∷ ss) (g ∷ gs) h =
     let one = blocks_again s g h.0 in

@@ -1,8 +1,7 @@
 -- `opened_at`, and that no file begins with what `open` refuses; main lemmas: opened_sound,
 -- open_whole, bad_opening.
-use Rattle.std.proofs.Common.{rules, ◌≡◌, ℕ, List, ◌++◌, length, refl, sym, ap, ◌∙◌, arith}
-use Rattle.std.proofs.Common.{length-append, take, drop, Option, Some, Result, Ok, Err, ◌<◌, ◌≤◌}
-use Rattle.std.proofs.Common.{length-take}
+use Rattle.std.proofs.Common.{◌≡◌, ℕ, List, ◌++◌, length, refl, sym, ap, ◌∙◌, arith, length-append}
+use Rattle.std.proofs.Common.{take, drop, Option, Some, Result, Ok, Err, ◌<◌, ◌≤◌, length-take}
 use Rattle.std.proofs.lemmas.List.{take_all, length-take-le, take_at, drop_at}
 use Rattle.std.proofs.lemmas.Bool.{le-ltb}
 use Rattle.std.proofs.lemmas.Bool.Decides.{nat_tests}
@@ -45,23 +44,6 @@ file_gsi s g ts h = ap (take 1024) h.bytes ∙ take_at g (joined h.blocks) 1024 
 
 module _ {old new : Option (List ℕ)} {n : ℕ} {block : List ℕ} (f : Fills old n new block)
     (size : length block ≡ 1024) where
-  -- Fewer bytes than a GSI block are no file.
-  pub short_opening : n < 1024 → RefusesOpening old new fault.Truncated
-  short_opening lt = record {
-    bytes = take n block;
-    consumed = f.bytes;
-    none = λ more cut g ts h.
-        omega (
-          arith,
-          ap length (cut refl),
-          ap length h.bytes,
-          h.gsi.size,
-          length-take n block,
-          length-append (take n block) more,
-          length-append g (joined h.blocks),
-        );
-  }
-
   -- A GSI block with a fault begins no file.
   pub bad_opening : (x : StlFault) → 1024 ≤ n → gsi_at block ≡ Err x → RefusesOpening old new x
   bad_opening x le bad = record {
@@ -89,13 +71,8 @@ module _ {bytes : List ℕ} {n : ℕ} {new : Option (List ℕ)} {block : List �
   open_whole r le e =
       let long : 1024 ≤ length bytes =
       omega (arith, ap length t.parts, length-append (take n block) t.rest, length-take n block) in
-      rw (
-        le-ltb _ _ long,
-        t.parts,
-        take_all n block (omega arith),
-        take_at block t.rest 1024 size,
-        e,
-      ) refl
+      rw (le-ltb _ _ long, t.parts, take_all n block (omega arith))
+      (rw (take_at block t.rest 1024 size, e) refl)
 
   -- What is left after it.
   pub open_rest : 1024 ≤ n → new ≡ Some (drop 1024 bytes)

@@ -1,8 +1,8 @@
 -- `outcome_at` by cases, the blocks that it names, and the bytes that decide it; main lemmas:
 -- outcome_step, names_from, outcome_at-first.
-use Rattle.std.proofs.Common.{rules, ◌≡◌, ◌*◌, ℕ, List, [], ◌∷◌, ◌++◌, length, refl, arith}
-use Rattle.std.proofs.Common.{length-append, take, drop, Option, Some, None, Result, zero, suc, ◌+◌}
-use Rattle.std.proofs.Common.{◌-◌, ◌<◌, ◌≤◌, inl, inr, length-take}
+use Rattle.std.proofs.Common.{◌≡◌, ◌*◌, ℕ, List, [], ◌∷◌, ◌++◌, length, refl, arith, length-append}
+use Rattle.std.proofs.Common.{take, drop, Option, Some, None, Result, zero, suc, ◌+◌, ◌-◌, ◌<◌, ◌≤◌}
+use Rattle.std.proofs.Common.{inl, inr, length-take}
 use Rattle.std.proofs.lemmas.List.{take_all, take-take, drop-take, take_at, drop_at}
 use Rattle.std.proofs.lemmas.Bool.{cases_lt}
 use Rattle.std.proofs.lemmas.Bool.Decides.{nat_tests}
@@ -57,12 +57,8 @@ pub outcome_block : (room next : ℕ) (begun : Option Begun) (b rest : List ℕ)
     → outcome_at room begun (b ++ rest)
     ≡ outcome_after next (λ begun'. outcome_at next begun' rest) (step_at begun b)
 outcome_block room next begun b rest e size =
-    rw (
-      e,
-      outcome_step next begun (b ++ rest) (omega (arith, length-append b rest)),
-      take_at b rest 128 size,
-      drop_at b rest 128 size,
-    ) refl
+    rw (e, outcome_step next begun (b ++ rest) (omega (arith, length-append b rest)))
+    (rw (take_at b rest 128 size, drop_at b rest 128 size) refl)
 
 -- ---- the blocks that are named
 
@@ -97,19 +93,14 @@ names_from (suc room) block begun (x ∷ b) e = elim (cases_lt (length (x ∷ b)
 -- One byte more than `room` blocks have decides what they give.
 pub outcome_at-first : (room : ℕ) (begun : Option Begun) (b : List ℕ)
     → outcome_at room begun (take (128 * room + 1) b) ≡ outcome_at room begun b
-outcome_at-first zero begun [] = refl
-outcome_at-first zero begun (x ∷ b) = grind (arith, outcome_full)
+outcome_at-first zero begun b = grind (arith, nat_tests, outcome_full)
 outcome_at-first (suc room) begun b = elim (cases_lt (length b) 128) [
   | inl short ↦ rw (take_all (128 * suc room + 1) b (omega arith)) refl
   | inr long ↦
       let k : ℕ = 128 * room + 1 in
       let m : 128 * suc room + 1 ≡ 128 + k = omega arith in
       let size : 128 ≤ length (take (128 + k) b) = omega (arith, length-take (128 + k) b) in
-      rw (
-        m,
-        outcome_step room begun (take (128 + k) b) size,
-        outcome_step room begun b long,
-        take-take 128 (128 + k) b (omega arith),
-        drop-take 128 k b,
-      ) (simp (outcome_at-first room))
+      rw (m, outcome_step room begun (take (128 + k) b) size, outcome_step room begun b long)
+      (rw (take-take 128 (128 + k) b (omega arith), drop-take 128 k b)
+      (simp (outcome_at-first room)))
 ]

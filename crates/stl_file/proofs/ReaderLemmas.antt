@@ -75,14 +75,9 @@ module _ {from : ℕ} {old mid new : Option (List ℕ)} {n block : ℕ} {begun :
       → ((s : SubtitleValue) → r ≡ Ok (Some s) → LastIsKept (h.bytes ++ take n buffer))
       → Leads from to old new r
   leads to r at cut gives kept =
-      grind (
-        arith,
-        nat_tests,
-        length_front,
-        Consumes-trans old mid new h.bytes (take n buffer) h.consumed f.bytes,
-        length-append h.bytes (take n buffer),
-        append_assoc,
-      )
+      let both = Consumes-trans old mid new h.bytes (take n buffer) h.consumed f.bytes in
+      let l = length-append h.bytes (take n buffer) in
+      grind (arith, nat_tests, length_front, append_assoc)
 
   -- Nothing came: the end of the file, or its end within a subtitle.
   pub leads_end : (r : Result (Option SubtitleValue) StlFault)
@@ -106,10 +101,8 @@ module _ {from : ℕ} {old mid new : Option (List ℕ)} {n block : ℕ} {begun :
       → n < 128
       → Leads from (block + 1) old new (Err fault.Truncated)
   leads_truncated some few lt =
-      let l = length_front in
       let room : most_blocks - block ≡ suc (most_blocks - (block + 1)) = omega arith in
-      let at : most_blocks - (most_blocks - (block + 1)) ≡ block + 1 = omega arith in
-      grind (arith, nat_tests, leads, append-nil, outcome_short)
+      grind (arith, nat_tests, length_front, leads, append-nil, outcome_short)
 
   module _ (few : block < most_blocks) (long : 128 ≤ n) where
     -- What a whole block gives.
@@ -157,15 +150,9 @@ module _ {from : ℕ} {old mid new : Option (List ℕ)} {n block : ℕ} {begun :
         → step_at begun buffer ≡ Ok (More next)
         → HasRead from old new (block + 1) next
     reads_on next step =
-        grind (
-          arith,
-          nat_tests,
-          length_front,
-          Consumes-trans old mid new h.bytes (take n buffer) h.consumed f.bytes,
-          length-append h.bytes (take n buffer),
-          append_assoc,
-          one_block,
-        )
+        let both = Consumes-trans old mid new h.bytes (take n buffer) h.consumed f.bytes in
+        let l = length-append h.bytes (take n buffer) in
+        grind (arith, nat_tests, length_front, append_assoc, one_block)
 
 -- ---- what an answer says
 
@@ -245,8 +232,7 @@ pub takes_passed : (from to : ℕ) (old new : Option (List ℕ))
 takes_passed from to old new l =
     let r = outcome_sound (most_blocks - from) None [] l.bytes [] refl
     (let o = l.outcome [] (λ _. refl) in grind (arith, append-nil)) in
-    let b = l.block in
-    grind (arith, nat_tests, length-joined, no_group)
+    grind (arith, nat_tests, outcome_sound, append-nil, length-joined, no_group)
 
 -- What bytes that lead to an answer say of it. For `next_into`.
 pub ruleset led = (answers, takes_subtitle, takes_passed, refuses)

@@ -13,14 +13,14 @@ use Rattle.stl_file.specs.declared.fault.StlFault.TheVariants as fault
 use Rattle.stl_file.specs.Gsi.{cct, dfc, dsc, gsi_at, gsi_size, latin, level_1, level_2, stl_25}
 use Rattle.stl_file.specs.Gsi.{stl_30}
 use Rattle.stl_file.specs.Reader.{opened, opened_at}
-use Rattle.stl_file.specs.Reading.{Begun, More, closed, fails, first_at, kept_at, outcome_at}
-use Rattle.stl_file.specs.Reading.{step_at, time_at}
+use Rattle.stl_file.specs.Reading.{Begun, closed, fails, first_at, kept_at, outcome_at, step_at}
+use Rattle.stl_file.specs.Reading.{time_at}
 use Rattle.stl_file.specs.Refusal.{HasFewBlocks, HasTimes, IsRight, IsRightOfGsi, LawOfRefusedBlock}
 use Rattle.stl_file.specs.Refusal.{LawOfRefusedGsi, TellsFirst, asked, asked_of_block, asked_of_gsi}
 use Rattle.stl_file.specs.Refusal.{asked_of_kept, named_block}
 use Rattle.stl_file.specs.Subtitle.{SubtitleValue}
 use Rattle.stl_file.specs.SubtitleBlocks.{IsTimeAt}
-use Rattle.stl_file.specs.Tti.{block_size, cf, cs, ebn, jc, vp}
+use Rattle.stl_file.specs.Tti.{block_size, cs, ebn, jc, vp}
 use Rattle.stl_file.proofs.TimeCodeLemmas.{time_complete, time_sound}
 
 -- ---- one question after another

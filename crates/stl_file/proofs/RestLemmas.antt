@@ -1,6 +1,6 @@
 -- `IsRest`: bytes are read without a fault exactly when they are blocks of subtitles; main lemmas:
 -- outcome_complete, outcome_sound.
-use Rattle.std.proofs.Common.{rules, ◌≡◌, ℕ, cond, List, [], ◌∷◌, ◌++◌, length, refl, sym, ap, ◌∙◌}
+use Rattle.std.proofs.Common.{◌≡◌, ℕ, cond, List, [], ◌∷◌, ◌++◌, length, refl, sym, ap, ◌∙◌}
 use Rattle.std.proofs.Common.{append_assoc, arith, take, drop, Option, Some, None, Result, Ok, Err}
 use Rattle.std.proofs.Common.{subst, zero, suc, ◌+◌, ◌-◌, ◌<◌, ◌≤◌, length-append, inl, inr}
 use Rattle.std.specs.Prelude.{filter}
@@ -72,9 +72,8 @@ blocks_give : (tail : List (List ℕ)) (room : ℕ) (begun : Option Begun) (b re
     ≡ cons_all (record s { text = s.text ++ flat_map text_of tail })
     (subtitles_of (outcome_at (room - length (b ∷ tail)) None rest))
 blocks_give [] room begun b rest s count step linked few le =
-    let kept = step_kept begun b (inr linked.1) linked.0.is_subtitle in
     let one = outcome_block room (room - 1) begun b rest (omega arith) linked.0.size in
-    grind (arith, nat_tests, append-nil)
+    grind (arith, nat_tests, step_kept, outcome_block, append-nil)
 blocks_give (c ∷ tail) room begun b rest s count step linked few le =
     let kept = step_kept begun b (inl linked.1) linked.0.is_subtitle in
     let one = outcome_block room (room - 1) begun b (joined (c ∷ tail) ++ rest) (omega arith)
@@ -91,8 +90,7 @@ groups_give : (ss : List SubtitleValue) (gs : List (List (List ℕ))) (room : �
     → AreBlocksOfEach ss gs
     → length (groups_of gs) ≤ room
     → subtitles_of (outcome_at room None (joined (groups_of gs))) ≡ Ok ss
-groups_give [] [] room h le = grind (arith, outcome_end)
-groups_give [] (g ∷ gs) room h le = absurd h
+groups_give [] gs room h le = grind (arith, nat_tests, outcome_end)
 groups_give (s ∷ ss) [] room h le = absurd h
 groups_give (s ∷ ss) (g ∷ gs) room h le =
     let i = h.0 in
@@ -146,8 +144,8 @@ in_front room before k b ss ts groups le r kept are = record {
   are_groups = are;
 }
 
--- A list with a first subtitle.
-cons_ok : (s : SubtitleValue) (j : Judged) (ss : List SubtitleValue)
+-- A list with a first subtitle. Also for `stl_rows`.
+pub cons_ok : (s : SubtitleValue) (j : Judged) (ss : List SubtitleValue)
     → cons_all s j ≡ Ok ss
     → (rest : List SubtitleValue) × (j ≡ Ok rest) × (ss ≡ s ∷ rest)
 cons_ok s j ss e = grind (arith, nat_tests)

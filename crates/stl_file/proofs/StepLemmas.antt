@@ -1,6 +1,6 @@
 -- `step_at`: the blocks that are read without a fault are those of subtitles; main lemmas:
 -- step_sound, first_kept, further_kept, step_kept, step_passed.
-use Rattle.std.proofs.Common.{◌≡◌, ℕ, true, cond, List, [], ◌∷◌, ◌++◌, length, refl, arith, rules}
+use Rattle.std.proofs.Common.{◌≡◌, ℕ, true, cond, List, [], ◌∷◌, ◌++◌, length, refl, arith}
 use Rattle.std.proofs.Common.{length-append, Option, Some, None, Ok, ◌+◌, ◌<◌, ◌≤◌, ◌⊎◌}
 use Rattle.std.specs.List.{AllByRecursion, flat_map}
 use Rattle.std.proofs.lemmas.Grind.{flat_map-append}
@@ -9,8 +9,7 @@ use Rattle.std.proofs.lemmas.Bool.Decides.{nat_tests}
 use Rattle.stl_file.specs.Tti.{is_kept, sgn, sn, ebn, cs, vp, jc, cf, text_of, is_passed}
 use Rattle.stl_file.specs.SubtitleBlocks.{BelongsTo, AreLinked, Begins, AreBlocksOf}
 use Rattle.stl_file.specs.Subtitle.{SubtitleValue}
-use Rattle.stl_file.specs.Reading.{Begun, BlockStep, More, Give, step_at, closed, first_at, time_at}
-use Rattle.stl_file.specs.Reading.{kept_at}
+use Rattle.stl_file.specs.Reading.{Begun, BlockStep, More, Give, step_at, closed, first_at, kept_at}
 use Rattle.stl_file.proofs.TimeCodeLemmas.{time_sound, time_complete}
 
 -- ---- a first block
@@ -25,8 +24,7 @@ first_sound b s e =
     grind (arith, nat_tests) in
     let fields : (sgn b ≡ s.sgn) × (sn b ≡ s.sn) × (vp b ≡ s.vp) × (jc b ≡ s.jc)
     × (s.text ≡ text_of b) = grind (arith, nat_tests) in
-    let times : (time_at b 5 ≡ Ok s.tci) × (time_at b 9 ≡ Ok s.tco) = grind (arith, nat_tests) in
-    search (rules, time_sound)
+    grind (arith, nat_tests, time_sound)
 
 -- A block that begins a subtitle is read as its first.
 first_complete : (b : List ℕ) (s : SubtitleValue)

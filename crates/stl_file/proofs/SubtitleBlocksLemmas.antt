@@ -1,7 +1,7 @@
 -- The blocks of a subtitle, and lists of blocks; main lemmas: length-joined, linked_text,
 -- blocks_subtitle.
-use Rattle.std.proofs.Common.{rules, ◌≡◌, ◌*◌, ℕ, true, List, [], ◌∷◌, length, refl, sym, ap, arith}
-use Rattle.std.proofs.Common.{length-append, subst, ◌<◌, ◌≤◌}
+use Rattle.std.proofs.Common.{◌≡◌, ◌*◌, ℕ, List, [], ◌∷◌, length, refl, arith, length-append, ◌<◌}
+use Rattle.std.proofs.Common.{◌≤◌}
 use Rattle.std.proofs.lemmas.Bool.Decides.{nat_tests}
 use Rattle.std.proofs.lemmas.List.Sums.{count_by-le-length, length-filter}
 use Rattle.std.specs.Prelude.{filter}
@@ -9,7 +9,7 @@ use Rattle.std.specs.List.{AllByRecursion, flat_map}
 use Rattle.std.proofs.lemmas.List.{append-nil}
 use Rattle.stl_file.specs.Tti.{is_kept, ebn, text_of}
 use Rattle.stl_file.specs.SubtitleBlocks.{IsBlock, joined, BelongsTo, AreLinked, AreBlocksOf}
-use Rattle.stl_file.specs.Subtitle.{SubtitleValue, IsSubtitle, has_no_unused}
+use Rattle.stl_file.specs.Subtitle.{SubtitleValue, IsSubtitle}
 use Rattle.stl_file.proofs.TimeCodeLemmas.{in_day}
 use Rattle.stl_file.proofs.SubtitleLemmas.{text_short, has_no_unused-texts}
 

@@ -1,6 +1,6 @@
 -- Texts without unused space; main lemmas: used, before_clean, text_short.
-use Rattle.std.proofs.Common.{rules, ◌≡◌, ℕ, true, List, [], ◌∷◌, ◌++◌, length, refl, append_assoc}
-use Rattle.std.proofs.Common.{arith, take, drop, zero, suc, ◌+◌, ◌<◌, ◌≤◌, get_or, replicate}
+use Rattle.std.proofs.Common.{◌≡◌, ℕ, true, List, [], ◌∷◌, ◌++◌, length, refl, append_assoc, arith}
+use Rattle.std.proofs.Common.{take, drop, zero, suc, ◌+◌, ◌<◌, ◌≤◌, get_or, replicate}
 use Rattle.std.specs.List.{flat_map}
 use Rattle.std.proofs.lemmas.List.{append-nil, length-drop, drop_all, drop_more, take_all}
 use Rattle.std.proofs.lemmas.List.{take_more}
@@ -61,16 +61,14 @@ pub clean_take : (n : ℕ) (xs : List ℕ)
     → has_no_unused xs ≡ true
     → has_no_unused (take n xs) ≡ true
 clean_take zero xs h = refl
-clean_take (suc n) [] h = refl
-clean_take (suc n) (x ∷ xs) h = grind (arith, nat_tests, clean_take n xs)
+clean_take (suc n) xs h = grind (arith, nat_tests, clean_take n)
 
 -- The back of a text has none.
 pub clean_drop : (n : ℕ) (xs : List ℕ)
     → has_no_unused xs ≡ true
     → has_no_unused (drop n xs) ≡ true
 clean_drop zero xs h = h
-clean_drop (suc n) [] h = refl
-clean_drop (suc n) (x ∷ xs) h = clean_drop n xs (grind (arith, nat_tests))
+clean_drop (suc n) xs h = grind (arith, nat_tests, clean_drop n)
 
 -- A text after which unused space was put comes back.
 pub before_clean : (xs : List ℕ) (k : ℕ)

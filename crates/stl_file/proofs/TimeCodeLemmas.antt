@@ -1,7 +1,6 @@
 -- Time codes: the frames of the day that the fields of a block name; main lemmas: time_at_field,
 -- time_sound, time_complete.
-use Rattle.std.proofs.Common.{rules, ◌≡◌, ℕ, true, List, arith, Ok, ◌<◌, ◌/◌, ◌%◌, drop, ◌+◌, ◌∙◌}
-use Rattle.std.proofs.Common.{get_or}
+use Rattle.std.proofs.Common.{◌≡◌, ℕ, true, List, arith, Ok, ◌<◌, ◌/◌, ◌%◌, drop, ◌+◌, ◌∙◌, get_or}
 use Rattle.std.proofs.lemmas.List.{get_or-take, get_or-drop}
 use Rattle.std.proofs.lemmas.Bool.Decides.{nat_tests}
 use Rattle.stl_file.specs.SubtitleBlocks.{IsTimeAt}

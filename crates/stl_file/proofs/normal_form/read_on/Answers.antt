@@ -1,12 +1,11 @@
 -- The source never fails, so the answer is that of the bytes that are left.
-use Rattle.std.proofs.Common.{refl}
+use Rattle.std.proofs.Common.{arith}
+use Rattle.std.proofs.lemmas.Bool.Decides.{nat_tests}
 use Rattle.stl_file.proofs.NormalCountsLemmas.{left_is, no_failure, took}
 use Rattle.stl_file.proofs.normal_form.read_on.Goals as goal
 
 pub returns-clause-exact : goal.returns-clause-exact
-returns-clause-exact c =
-    left_is _ _ _ _ _ _
-    (c.next_into.ensures.exact c.args.source.now refl (no_failure _ c.next_into.ensures.count))
+returns-clause-exact c = grind (arith, nat_tests, left_is, no_failure)
 
 pub returns-clause-room : goal.returns-clause-room
 returns-clause-room c = λ is. took _ _ _ _ _ (c.next_into.ensures.subtitle c.requires is)

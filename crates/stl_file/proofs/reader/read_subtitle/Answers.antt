@@ -1,9 +1,9 @@
 -- Each return of the loop over blocks, and one block more.
-use Rattle.std.proofs.Common.{None, refl, rules, ap, arith}
+use Rattle.std.proofs.Common.{rules, arith}
+use Rattle.std.proofs.lemmas.Bool.Decides.{nat_tests}
 use Rattle.std.proofs.lemmas.Result.{err_from_is_err_and}
 use Rattle.std.proofs.lemmas.Bool.{ne_eqb}
 use Rattle.stl_file.specs.declared.fault.StlFault.TheVariants as fault
-use Rattle.stl_file.specs.Reading.{fails}
 use Rattle.stl_file.proofs.OutcomeLemmas.{outcome_end}
 use Rattle.stl_file.proofs.ReaderLemmas.{leads_end, leads_too_many, leads_truncated, leads_refused}
 use Rattle.stl_file.proofs.ReaderLemmas.{leads_given, reads_on, fails_reading}
@@ -17,17 +17,10 @@ returns-in_err-got-clause-failed g c = λ _.
     (let l = e.1 in let s = c.fill.auto.to in omega arith) e.2
 
 pub returns-then-count-eq0-clause-leads : goal.returns-then-count-eq0-clause-leads
-returns-then-count-eq0-clause-leads g c = λ _.
-    leads_end c.loop-got.invariant.read c.in_ok-got.ensures.fills (search rules) _
-    c.if-got-eq0.true c.loop-got.invariant.few refl (λ s e. absurd cc)
-    (rw c.if-count-eq0.true (outcome_end _ None))
+returns-then-count-eq0-clause-leads g c = grind (arith, nat_tests, leads_end, outcome_end)
 
 pub returns-else-count-eq0-clause-leads : goal.returns-else-count-eq0-clause-leads
-returns-else-count-eq0-clause-leads g c = λ _.
-    leads_end c.loop-got.invariant.read c.in_ok-got.ensures.fills (search rules) _
-    c.if-got-eq0.true c.loop-got.invariant.few refl (λ s e. absurd cc)
-    (let f = c.loop-got.invariant.few in
-    rw (outcome_end, ne_eqb _ 0 c.if-count-eq0.false) (ap (fails fault.Unfinished) (omega arith)))
+returns-else-count-eq0-clause-leads g c = grind (arith, nat_tests, leads_end, outcome_end, ne_eqb)
 
 pub returns-then-block-eq99999-clause-leads : goal.returns-then-block-eq99999-clause-leads
 returns-then-block-eq99999-clause-leads g c = λ _.
