@@ -1,6 +1,7 @@
 -- What `open` answers over told bytes, and that no file begins with bytes that it refused.
-use Rattle.std.proofs.Common.{rules, Ok, ap, sym, ◌∙◌}
+use Rattle.std.proofs.Common.{arith, rules, Ok, ap, sym, ◌∙◌}
 use Rattle.std.proofs.lemmas.Result.{err_from_is_err_and}
+use Rattle.std.proofs.lemmas.Grind.{common_steps}
 use Rattle.stl_file.proofs.OpeningLemmas.{open_short, open_whole, open_rest, bad_opening}
 use Rattle.stl_file.proofs.reader.StlReader.open.Goals as goal
 
@@ -27,6 +28,9 @@ pub returns-clause-left : goal.returns-clause-left
 returns-clause-left g c = λ bytes told.
     open_rest (c.in_ok-got.ensures.told bytes told) c.in_ok-got.ensures.bound (search rules)
     c.if-got-lt1024.false
+
+pub returns-then-got-lt1024-clause-refused : goal.returns-then-got-lt1024-clause-refused
+returns-then-got-lt1024-clause-refused g c = grind (arith, common_steps)
 
 pub returns-in_err-gsi-clause-refused : goal.returns-in_err-gsi-clause-refused
 returns-in_err-gsi-clause-refused g c =
