@@ -1,7 +1,7 @@
 -- The tables of bytes against the definitions, computed over all bytes: english_entry,
 -- german_entry.
-use Rattle.std.proofs.Common.{arith, rules, ◌≡◌, ℕ, ◌<◌, Bool, true, false, ◌&&◌, nat_eq, nat_lt}
-use Rattle.std.proofs.Common.{get_or, refl, sym, inl, inr, eqb-true, ltb-true, true≢false}
+use Rattle.std.proofs.Common.{arith, ◌≡◌, ℕ, ◌<◌, Bool, true, false, ◌&&◌, nat_eq, nat_lt, get_or}
+use Rattle.std.proofs.Common.{refl, eqb-true, ltb-true}
 use Rattle.std.proofs.lemmas.Bool.Decides.{nat_tests}
 use Rattle.std.proofs.lemmas.Bool.{agree_below_at, and_parts}
 use Rattle.stl_rows.specs.declared.text_code.TextCode.{TextCode}

@@ -1,9 +1,8 @@
 -- Lines put on the blank page one after another give the page that shows them: is_drawn-start,
 -- is_drawn-next. And what faults tell of the drawn page: drawn-first.
-use Rattle.std.proofs.Common.{◌≡◌, ◌≢◌, ℕ, zero, suc, ◌+◌, ◌-◌, ◌<◌, ◌≤◌, false, nat_lt, List, []}
-use Rattle.std.proofs.Common.{◌∷◌, ◌++◌, Ok, Err, length, map, get_or, refl, sym, ap, ◌∙◌, arith}
-use Rattle.std.proofs.Common.{inl, inr, cond, rules, get_or-set_other, length-append, append_assoc}
-use Rattle.std.proofs.Common.{append-nil}
+use Rattle.std.proofs.Common.{◌≡◌, ◌≢◌, ℕ, suc, ◌+◌, ◌-◌, ◌<◌, ◌≤◌, false, List, [], ◌∷◌, ◌++◌, Ok}
+use Rattle.std.proofs.Common.{Err, length, map, get_or, refl, sym, ap, ◌∙◌, arith, inl, inr, rules}
+use Rattle.std.proofs.Common.{get_or-set_other, length-append, append_assoc, append-nil}
 use Rattle.std.proofs.lemmas.Bool.{cases_eq, cond_both, lt-ltb}
 use Rattle.std.proofs.lemmas.Bool.Decides.{nat_tests}
 use Rattle.std.proofs.lemmas.Grind.{get_or-set_at}
@@ -14,10 +13,8 @@ use Rattle.std.specs.List.{range_with_len}
 use Rattle.std.specs.Prelude.{IsOk, MatchOption, slice_set}
 use Rattle.ttx_page.specs.Page.{Rows, blank, blank_row}
 use Rattle.stl_file.specs.Subtitle.{SubtitleValue}
-use Rattle.stl_rows.specs.declared.fault.RowFault.{RowFault}
 use Rattle.stl_rows.specs.declared.national.National.{National}
 use Rattle.stl_rows.specs.DrawnPage.{drawn, faults, line_faults, line_on, lines, page_of_lines}
-use Rattle.stl_rows.specs.DrawnPage.{unless}
 use Rattle.stl_rows.specs.Line.{code_in_column, prepared, row_of, start_column}
 use Rattle.stl_rows.specs.LineByLine.{FitsRow, put_line}
 use Rattle.stl_rows.specs.TextCode.{first_of, refusals, text_codes}
@@ -42,10 +39,8 @@ page_of_none jc vp = search (rules, cond_both, row_of-none)
 
 -- An empty line after others changes no line.
 get_or_push-none : (ls : List (List ℕ)) (k : ℕ) → get_or ls k [] ≡ get_or (ls ++ [] ∷ []) k []
-get_or_push-none [] zero = refl
-get_or_push-none [] (suc k) = refl
-get_or_push-none (l ∷ ls) zero = refl
-get_or_push-none (l ∷ ls) (suc k) = get_or_push-none ls k
+get_or_push-none [] k = grind (arith, nat_tests)
+get_or_push-none (l ∷ ls) k = grind (arith, nat_tests, get_or_push-none ls)
 
 -- The row after those of lines is that of one more.
 line_on-last : (vp row : ℕ) (done : List (List ℕ)) (line : List ℕ)

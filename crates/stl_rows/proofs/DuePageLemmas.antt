@@ -1,7 +1,7 @@
 -- What is due, and the next edge, by the first subtitle whose TCO is after a frame: due_is_shown,
 -- none_is_blank and next_edge-tci.
-use Rattle.std.proofs.Common.{rules, ◌≡◌, ℕ, suc, ◌-◌, ◌<◌, ◌≤◌, Bool, false, List, [], ◌∷◌, Option}
-use Rattle.std.proofs.Common.{Some, None, length, get_or, refl, sym, ap, ◌∙◌, arith, ◌⊎◌, inl, inr}
+use Rattle.std.proofs.Common.{rules, ◌≡◌, ℕ, suc, ◌<◌, ◌≤◌, Bool, false, List, [], ◌∷◌, Some, None}
+use Rattle.std.proofs.Common.{length, get_or, refl, sym, ap, ◌∙◌, arith, ◌⊎◌, inl, inr}
 use Rattle.std.proofs.lemmas.Bool.{cases_lt}
 use Rattle.std.proofs.lemmas.Bool.Decides.{nat_tests}
 use Rattle.std.proofs.lemmas.List.{get_or_default, get_or_read}
@@ -10,12 +10,10 @@ use Rattle.std.proofs.lemmas.List.Recursion.{found_at, found_nowhere}
 use Rattle.std.specs.List.{find}
 use Rattle.std.specs.List.Sorted.{IsNonDecreasingBy}
 use Rattle.std.specs.Prelude.{Contains}
-use Rattle.std.specs.Result.{result_unwrap_or}
 use Rattle.ttx_page.specs.Page.{Rows, blank}
 use Rattle.stl_file.specs.Subtitle.{SubtitleValue, IsSubtitle, empty_subtitle}
-use Rattle.stl_rows.specs.declared.fault.RowFault.{RowFault}
 use Rattle.stl_rows.specs.declared.national.National.{National}
-use Rattle.stl_rows.specs.DrawnPage.{drawn, faults, lines, page_of_lines, unless}
+use Rattle.stl_rows.specs.DrawnPage.{drawn, faults, lines, page_of_lines}
 use Rattle.stl_rows.specs.DuePage.{IsEdge, IsNextEdge, LawOfBlankPages, LawOfDueSubtitles}
 use Rattle.stl_rows.specs.DuePage.{LawOfEdges, drawn_or_blank, due, is_due}
 use Rattle.stl_rows.specs.Programme.{IsProgramme}
@@ -84,9 +82,7 @@ module _ (n : National) (ts : List SubtitleValue) (f at : ℕ) (t : SubtitleValu
       → (x.tco ≤ f) ⊎ ((x ≡ t) ⊎ (t.tco ≤ x.tci))
   placed x member =
       let own : t ≡ get_or ts at x = get_or_read ts at t inside is x in
-      let ended = first.before member.0 x in
-      let later = λ (after : at < member.0). ok.in_order at member.0 x after member.1 in
-      grind arith
+      grind (arith, nat_tests, get_or_read)
 
   -- It ends after the frame.
   pub ends_after : f < t.tco

@@ -1,21 +1,20 @@
 -- The first of all faults is the one that `load` tells; main lemmas: every_fault, tells-first,
 -- none-told.
 use Rattle.std.proofs.Common.{rules, ◌≡◌, ℕ, List, ◌∷◌, ◌++◌, map, Option, Some, None, [], Result}
-use Rattle.std.proofs.Common.{Ok, Err, refl, ap, sym, zero, suc, ◌<◌, ◌≤◌, ◌⊎◌, Bool, true, false}
-use Rattle.std.proofs.Common.{arith, take}
+use Rattle.std.proofs.Common.{Ok, Err, refl, ap, sym, ◌<◌, ◌≤◌, ◌⊎◌, Bool, true, false, arith, take}
 use Rattle.std.proofs.lemmas.Bool.Decides.{nat_tests}
 use Rattle.std.specs.Prelude.{◌↔◌, ◌≢◌, IsOk, is_some, option_map}
-use Rattle.std.specs.List.{filter, list_all}
+use Rattle.std.specs.List.{filter}
 use Rattle.sub_io.specs.Telling.{KeepsFirst}
 use Rattle.sub_io.proofs.TellingLemmas.{first_is}
-use Rattle.stl_file.specs.declared.fault.StlFault.TheVariants.{Ended, Read, Unfinished}
+use Rattle.stl_file.specs.declared.fault.StlFault.TheVariants.{Ended, Unfinished}
 use Rattle.stl_file.specs.Reading.{Outcome, ends, fails, gives}
 use Rattle.stl_file.specs.Reader.{outcome_of}
 use Rattle.stl_file.specs.Subtitle.{SubtitleValue}
 use Rattle.stl_rows.specs.declared.fault.LoadFault.{LoadFault}
 use Rattle.stl_rows.specs.declared.fault.LoadFaultKind.{LoadFaultKind}
 use Rattle.stl_rows.specs.declared.national.National.{National}
-use Rattle.stl_rows.specs.declared.fault.LoadFaultKind.TheVariants.{File, Memory}
+use Rattle.stl_rows.specs.declared.fault.LoadFaultKind.TheVariants.{File}
 use Rattle.stl_rows.specs.EveryFault.{FailsTelling, LawOfEveryFault, TellsFaults, TellsOfFile}
 use Rattle.stl_rows.specs.EveryFault.{faults, faults_behind, is_told_before, is_of_file}
 use Rattle.stl_rows.specs.Loading.{FailsLoading, TellsFault, load_fault, loaded, loaded_behind}

@@ -1,6 +1,6 @@
 -- Where the source fails, and what was told before; main lemma: fails-next.
-use Rattle.std.proofs.Common.{rules, ◌≡◌, ℕ, ◌+◌, ◌*◌, ◌/◌, List, ◌∷◌, ◌++◌, length, Option, []}
-use Rattle.std.proofs.Common.{Some, None, refl, ◌∙◌, arith, length-append}
+use Rattle.std.proofs.Common.{◌≡◌, ℕ, ◌+◌, ◌*◌, ◌/◌, List, ◌∷◌, ◌++◌, length, Option, [], Some}
+use Rattle.std.proofs.Common.{refl, arith, length-append}
 use Rattle.std.specs.Io.KnownBytes.{Consumes}
 use Rattle.std.specs.List.{All, filter}
 use Rattle.std.proofs.KnownBytes.{Consumes-trans}
@@ -10,7 +10,6 @@ use Rattle.sub_io.proofs.TellingLemmas.{Tells-none}
 use Rattle.stl_file.specs.declared.progress.Progress.TheVariants.{Reading}
 use Rattle.stl_file.specs.Subtitle.{SubtitleValue}
 use Rattle.stl_file.specs.Reading.{Outcome}
-use Rattle.stl_file.specs.SubtitleBlocks.{joined}
 use Rattle.stl_file.specs.Reader.{FailsReading, NamesFrom, ReaderValue, TakesSubtitle}
 use Rattle.stl_file.specs.Reader.{block_of_byte, outcome_left, outcome_of}
 use Rattle.stl_file.proofs.SubtitleBlocksLemmas.{length-joined}

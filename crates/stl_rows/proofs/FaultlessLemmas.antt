@@ -1,13 +1,12 @@
 -- Lines without a fault: each is on the page (on_page), and where text codes are left to be read
 -- the cells before them are at most 40 (few_cells).
-use Rattle.std.proofs.Common.{rules, ◌≡◌, ℕ, zero, suc, ◌+◌, ◌<◌, ◌≤◌, Bool, List, [], ◌∷◌, ◌++◌}
-use Rattle.std.proofs.Common.{length, map, get_or, refl, arith}
+use Rattle.std.proofs.Common.{◌≡◌, ℕ, zero, suc, ◌+◌, ◌<◌, ◌≤◌, Bool, List, [], ◌∷◌, ◌++◌, length}
+use Rattle.std.proofs.Common.{map, get_or, refl, arith}
 use Rattle.std.proofs.lemmas.Bool.Decides.{nat_tests}
 use Rattle.std.specs.List.{onto_first}
 use Rattle.stl_rows.specs.DrawnPage.{last_row, line_fault_kinds, line_faults}
 use Rattle.stl_rows.specs.Line.{is_double, prepared}
 use Rattle.stl_rows.specs.LineByLine.{onto}
-use Rattle.stl_rows.specs.TextCode.{fault_of}
 use Rattle.stl_rows.proofs.LineByLineLemmas.{prepared_longer}
 
 -- Two lists that join to none are none.

@@ -1,7 +1,6 @@
 -- Row 24 of each due page is blank: `last_row_blank`.
-use Rattle.std.proofs.Common.{rules, ◌≡◌, ℕ, ◌-◌, false, nat_lt, List, [], get_or, refl, sym, ap}
-use Rattle.std.proofs.Common.{◌∙◌, arith}
-use Rattle.std.proofs.lemmas.Bool.Decides.{nat_tests}
+use Rattle.std.proofs.Common.{◌≡◌, ℕ, ◌-◌, false, nat_lt, List, [], get_or, refl, sym, ap, ◌∙◌}
+use Rattle.std.proofs.Common.{arith}
 use Rattle.std.proofs.lemmas.Bool.{cond_both, ltb-false}
 use Rattle.std.proofs.lemmas.List.{nil_from_length}
 use Rattle.ttx_page.specs.Page.{blank, blank_row, row_at}

@@ -1,7 +1,7 @@
 -- The lines of a text as its text codes are read one by one: what each code does to them, as
 -- prepared_lines-cell.
-use Rattle.std.proofs.Common.{rules, ◌≡◌, ℕ, zero, suc, ◌≤◌, List, ◌∷◌, ◌++◌, map, length, drop}
-use Rattle.std.proofs.Common.{refl, [], ap, arith, length-append, lit<, ◌∙◌}
+use Rattle.std.proofs.Common.{◌≡◌, ℕ, zero, suc, ◌≤◌, List, ◌∷◌, ◌++◌, map, length, drop, refl, []}
+use Rattle.std.proofs.Common.{ap, arith, length-append, ◌∙◌}
 use Rattle.std.proofs.lemmas.Bool.Decides.{nat_tests}
 use Rattle.std.proofs.lemmas.List.{at_drop_all}
 use Rattle.std.specs.List.{onto_first}
@@ -10,7 +10,7 @@ use Rattle.stl_rows.specs.declared.text_code.TextCode.{TextCode}
 use Rattle.stl_rows.specs.declared.text_code.TextCode.TheVariants.{Cell, NewLine}
 use Rattle.stl_rows.specs.Line.{prepared}
 use Rattle.stl_rows.specs.LineByLine.{onto, prepared_lines}
-use Rattle.stl_rows.specs.TextCode.{lines_of_codes, text_codes}
+use Rattle.stl_rows.specs.TextCode.{text_codes}
 use Rattle.stl_rows.specs.declared.national.National.{National}
 
 -- ---- cells before the first line
@@ -63,7 +63,6 @@ pub codes_push : (cells : List ℕ) (code : ℕ)
     → AreCodes cells
     → IsCode code
     → AreCodes (cells ++ code ∷ [])
-codes_push [] code h low zero = low
-codes_push [] code h low (suc k) = lit< tt
+codes_push [] code h low v = grind (arith, nat_tests)
 codes_push (c ∷ cells) code h low zero = h 0
 codes_push (c ∷ cells) code h low (suc k) = codes_push cells code (λ j. h (suc j)) low k

@@ -1,11 +1,11 @@
 -- The row that shows a line: row_of-put says what it holds, row_small that it holds codes alone.
-use Rattle.std.proofs.Common.{rules, ◌≡◌, ℕ, zero, suc, ◌+◌, ◌-◌, ◌<◌, ◌≤◌, List, [], ◌∷◌, ◌++◌}
-use Rattle.std.proofs.Common.{length, map, get_or, take, drop, replicate, arith, lit<, ap, ◌∙◌}
+use Rattle.std.proofs.Common.{◌≡◌, ℕ, ◌+◌, ◌-◌, ◌<◌, ◌≤◌, List, [], ◌∷◌, ◌++◌, length, map, get_or}
+use Rattle.std.proofs.Common.{take, drop, replicate, arith, lit<}
 use Rattle.std.proofs.lemmas.Bool.Decides.{nat_tests}
-use Rattle.std.proofs.lemmas.List.{get_or-replicate, get_or_past, length-replicate, places}
+use Rattle.std.proofs.lemmas.List.{get_or-replicate, get_or_past, places}
 use Rattle.std.proofs.lemmas.List.Elements.{All-from_get_or, recursion_from_All}
 use Rattle.std.proofs.lemmas.List.FromFn.{fill_by_all, length-map-range_with_len}
-use Rattle.std.specs.List.{range_with_len, AllByRecursion}
+use Rattle.std.specs.List.{AllByRecursion}
 use Rattle.ttx_page.specs.Page.{AreCodes, space}
 use Rattle.stl_rows.specs.Line.{code_in_column, row_of, start_column}
 
@@ -34,8 +34,7 @@ pub holds_at : {X : Type 0} (P : X → Type 0) (xs : List X) (k : ℕ) (d : X)
     → AllByRecursion P xs
     → P (get_or xs k d)
 holds_at P [] k d none h = none
-holds_at P (x ∷ xs) zero d none h = h.0
-holds_at P (x ∷ xs) (suc k) d none h = holds_at P xs k d none h.1
+holds_at P (x ∷ xs) k d none h = grind (arith, nat_tests, holds_at P xs)
 
 -- What holds of all that a function gives holds of each of a list that is made by it.
 pub holds_map : {X Y : Type 0} (P : Y → Type 0) (f : X → Y) (xs : List X)

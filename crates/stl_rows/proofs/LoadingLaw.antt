@@ -1,8 +1,8 @@
 -- A file is loaded exactly where it is a file whose subtitles are in order, disjoint and drawable:
 -- loading_is.
-use Rattle.std.proofs.Common.{rules, ◌≡◌, ℕ, suc, ◌-◌, ◌<◌, ◌≤◌, List, [], ◌∷◌, ◌++◌, Some, Result}
-use Rattle.std.proofs.Common.{Ok, Err, length, get_or, take, refl, sym, ap, arith, append_assoc}
-use Rattle.std.proofs.Common.{append-nil, length-append}
+use Rattle.std.proofs.Common.{◌≡◌, ℕ, suc, ◌-◌, ◌<◌, ◌≤◌, List, [], ◌∷◌, ◌++◌, Some, Result, Ok}
+use Rattle.std.proofs.Common.{length, take, refl, ap, arith, append_assoc, append-nil}
+use Rattle.std.proofs.Common.{length-append}
 use Rattle.std.proofs.lemmas.Bool.Decides.{nat_tests}
 use Rattle.std.proofs.lemmas.List.{get_or_append_left}
 use Rattle.std.proofs.lemmas.List.Elements.{All-cons, All-nil}
@@ -11,11 +11,12 @@ use Rattle.std.proofs.Math.Seq.{get_or-append_seam}
 use Rattle.std.specs.Prelude.{◌↔◌, All, IsOk}
 use Rattle.ttx_page.specs.Page.{Rows}
 use Rattle.stl_file.specs.File.{IsFile}
-use Rattle.stl_file.specs.NormalForm.{Judged, cons_all, subtitles_of}
+use Rattle.stl_file.specs.NormalForm.{cons_all, subtitles_of}
 use Rattle.stl_file.specs.Reader.{outcome_of}
 use Rattle.stl_file.specs.Reading.{Outcome, ends, fails, gives}
 use Rattle.stl_file.specs.Subtitle.{IsSubtitle, SubtitleValue}
 use Rattle.stl_file.specs.SubtitleBlocks.{AreBlocksOfEach}
+use Rattle.stl_file.proofs.RestLemmas.{cons_ok}
 use Rattle.stl_file.proofs.SubtitleBlocksLemmas.{blocks_subtitle}
 use Rattle.stl_rows.specs.declared.fault.LoadFault.{LoadFault}
 use Rattle.stl_rows.specs.declared.fault.LoadFaultKind.{LoadFaultKind}
@@ -102,12 +103,6 @@ none_follow n records ts t ok =
     rw (get_or-append_seam records t ts t) at (ok.drawable (length records) t (omega arith)) in
     rw (times_follow n records ts t ok, no_row_fault (drawn n t) drawable) refl
 
--- The first of all subtitles, and the others.
-first_given : (t : SubtitleValue) (r : Judged) (ts : List SubtitleValue)
-    → cons_all t r ≡ Ok ts
-    → (us : List SubtitleValue) × (r ≡ Ok us) × (ts ≡ t ∷ us)
-first_given t r ts h = grind (arith, nat_tests)
-
 -- Subtitles that are a programme are loaded.
 given_loaded : (n : National) (records : List SubtitleValue) (o : Outcome) (ts : List SubtitleValue)
     → subtitles_of o ≡ Ok ts
@@ -116,7 +111,7 @@ given_loaded : (n : National) (records : List SubtitleValue) (o : Outcome) (ts :
 given_loaded n records ends ts h ok = grind (arith, nat_tests, append-nil)
 given_loaded n records (fails f block) ts h ok = cc
 given_loaded n records (gives t block o) ts h ok =
-    let rest = first_given t (subtitles_of o) ts h in
+    let rest = cons_ok t (subtitles_of o) ts h in
     let all : IsProgramme n (records ++ t ∷ rest.0) = rw rest.2 at ok in
     rw (rest.2, none_follow n records rest.0 t all)
     (rw append_assoc at (given_loaded n (records ++ t ∷ []) o rest.0 rest.1 (rw append_assoc all)))

@@ -1,14 +1,13 @@
 -- What is left of a file after some of its subtitles, and what was told of these; main lemmas:
 -- goes_on-next, tells-stopped, tells-unread.
 use Rattle.std.proofs.Common.{rules, ◌≡◌, ◌<◌, ◌≤◌, ◌+◌, ℕ, Bool, true, false, List, ◌∷◌, ◌++◌, []}
-use Rattle.std.proofs.Common.{drop, take, length, map, Option, Some, None, Result, refl, sym, ◌∙◌}
-use Rattle.std.proofs.Common.{ap, inl, inr, arith, length-take, append_assoc, append-nil}
-use Rattle.std.proofs.Common.{length-append}
+use Rattle.std.proofs.Common.{drop, take, length, map, Option, Some, None, Result, refl, ◌∙◌, ap}
+use Rattle.std.proofs.Common.{inl, arith, length-take, append_assoc, append-nil, length-append}
 use Rattle.std.proofs.Math.Seq.{take-append-add, take-length}
 use Rattle.std.proofs.lemmas.Bool.Decides.{nat_tests}
-use Rattle.std.proofs.lemmas.List.Elements.{All-append, All-head, All-map, All-tail, All-take}
-use Rattle.std.proofs.lemmas.List.Elements.{All-weaker, filter-append}
-use Rattle.std.proofs.lemmas.List.Sums.{AllPass-from_list_all, list_all-from_AllPass}
+use Rattle.std.proofs.lemmas.List.Elements.{All-append, All-head, All-tail, All-take, All-weaker}
+use Rattle.std.proofs.lemmas.List.Elements.{filter-append}
+use Rattle.std.proofs.lemmas.List.Sums.{list_all-from_AllPass}
 use Rattle.std.proofs.lemmas.List.Folds.{list_all-append}
 use Rattle.std.specs.Prelude.{All, ◌≢◌, is_none, option_map, IfSome}
 use Rattle.std.proofs.lemmas.List.{map-append}
@@ -17,18 +16,16 @@ use lib.Seq.{take-append-le}
 use Rattle.sub_io.specs.Telling.{Tells, first_alone}
 use Rattle.sub_io.proofs.TellingLemmas.{Tells-trans}
 use Rattle.stl_file.specs.declared.fault.StlFault.{StlFault}
-use Rattle.stl_file.specs.declared.fault.StlFault.TheVariants.{Ended, Read, Unfinished}
+use Rattle.stl_file.specs.declared.fault.StlFault.TheVariants.{Ended}
 use Rattle.stl_file.specs.Fault.{is_read}
 use Rattle.stl_file.specs.Gsi.{gsi_size}
 use Rattle.stl_file.specs.Subtitle.{IsSubtitle, SubtitleValue}
 use Rattle.stl_file.specs.Reading.{Outcome, ends, fails, gives}
 use Rattle.stl_file.specs.Reader.{NamesFrom, ReaderValue, opened_at, outcome_of, outcome_opened}
-use Rattle.ttx_page.specs.Page.{Rows}
 use Rattle.stl_rows.specs.declared.national.National.{National}
 use Rattle.stl_rows.specs.declared.fault.LoadFault.{LoadFault}
 use Rattle.stl_rows.specs.declared.fault.LoadFaultKind.{LoadFaultKind}
 use Rattle.stl_rows.specs.declared.fault.LoadFaultKind.TheVariants.{File, OutOfOrder, Overlap, Row}
-use Rattle.stl_rows.specs.declared.fault.RowFault.{RowFault}
 use Rattle.stl_rows.specs.declared.times.Times.{Times}
 use Rattle.stl_rows.specs.DrawnPage.{drawn}
 use Rattle.stl_rows.specs.EveryFault.{StopsWithin, TellsFaults, TellsOfFile, faults, faults_behind}
@@ -107,8 +104,7 @@ pub stops-last : (national : National) (before : Option Times) (t : SubtitleValu
     → Tells IsTold old mid (map (load_fault block) (first_alone order))
     → Tells IsTold mid new (map (load_fault block) (first_alone row))
     → StopsWithin IsTold old new (map (load_fault block) (follow_faults national before t))
-stops-last national before t block old mid new order None is_order is_row some p q = absurd cc
-stops-last national before t block old mid new order (Some kind) is_order is_row some p q =
+stops-last national before t block old mid new order row is_order is_row some p q =
     grind (arith, nat_tests, order_alone, map-append, stops-whole, length-append, Tells-trans)
 
 -- ---- what is left
@@ -287,9 +283,7 @@ module _ {D : Type 0} {IsTold : D → LoadFault → D → Type 0} {old mid new :
     where
       file-of_file : (fault : StlFault) → is_read fault ≡ false → fault ≢ Ended
           → is_of_file (File fault) ≡ true
-      file-of_file Read read ended = absurd cc
-      file-of_file Ended read ended = absurd (ended refl)
-      file-of_file fault read ended = refl
+      file-of_file fault read ended = grind (arith, nat_tests)
 
 -- ---- each way out
 
@@ -384,10 +378,8 @@ late national before block (fails f at) names = rw (late_fault block at f names)
 late national before block (gives t at left) names =
     filter-append (is_told_before block) (map (load_fault at) (follow_faults national before t))
     (faults_behind national (Some (times_of t)) left)
-    ∙ rw (
-      late_kinds block at (follow_faults national before t) names.0,
-      late national (Some (times_of t)) block left names.1,
-    ) refl
+    ∙ rw (late_kinds block at (follow_faults national before t) names.0)
+    (rw (late national (Some (times_of t)) block left names.1) refl)
 
 -- The faults before the block at which the source failed were told.
 pub tells-unread : {D : Type 0} {IsTold : D → LoadFault → D → Type 0} {old new : D}

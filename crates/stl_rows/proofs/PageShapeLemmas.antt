@@ -1,6 +1,6 @@
 -- Each due page is a page, 24 rows of 40 codes below 128: due_is_page.
-use Rattle.std.proofs.Common.{rules, ℕ, zero, suc, ◌+◌, ◌-◌, ◌<◌, nat_lt, List, [], ◌∷◌, ◌++◌, map}
-use Rattle.std.proofs.Common.{get_or, Option, Some, None, refl, arith, lit<}
+use Rattle.std.proofs.Common.{ℕ, zero, suc, ◌+◌, ◌-◌, ◌<◌, List, [], ◌∷◌, ◌++◌, map, get_or, Option}
+use Rattle.std.proofs.Common.{refl, arith, lit<}
 use Rattle.std.specs.List.{range_with_len, AllByRecursion}
 use Rattle.std.specs.Prelude.{IfSome}
 use Rattle.std.proofs.lemmas.Bool.{cond_both}
@@ -15,11 +15,10 @@ use Rattle.stl_rows.specs.DuePage.{due}
 use Rattle.stl_rows.specs.Line.{prepared, row_of}
 use Rattle.stl_rows.specs.TextCode.{CellEntry, HasSevenBits, cell_in, cell_of, cell_of_letter}
 use Rattle.stl_rows.specs.TextCode.{cell_of_pair, cell_or_other, cells, code_before, text_code}
-use Rattle.stl_rows.specs.TextCode.{code_of_other, codes_after, diaeresis_cells, first_of}
-use Rattle.stl_rows.specs.TextCode.{lines_of_codes}
-use Rattle.stl_rows.specs.TextCode.{pair_or_single, text_codes, with_code}
+use Rattle.stl_rows.specs.TextCode.{code_of_other, codes_after, first_of}
+use Rattle.stl_rows.specs.TextCode.{lines_of_codes, pair_or_single}
+use Rattle.stl_rows.specs.TextCode.{text_codes, with_code}
 use Rattle.stl_rows.specs.declared.national.National.{National}
-use Rattle.stl_rows.specs.declared.national.National.TheVariants.{English, German}
 use Rattle.stl_rows.proofs.DuePageLemmas.{due_has}
 use Rattle.stl_rows.proofs.LineLemmas.{Small, holds_at, holds_map, row_length, row_small}
 
@@ -56,8 +55,7 @@ code_small : (national : National) (byte : ℕ) → HasSevenBits (text_code nati
 code_small national byte = go (cell_of national byte) (cell_of-small national byte)
   where
     go : (o : Option ℕ) → SmallCode o → HasSevenBits (cell_or_other byte o)
-    go None h = other_small byte
-    go (Some code) h = h
+    go o h = grind (arith, nat_tests, other_small)
 
 -- The cell of a pair is a code.
 pair_small : (national : National) (b : ℕ) (next : Option ℕ)
@@ -130,8 +128,7 @@ page_is jc vp ls h = record {
     line_row row = row_of jc (line_on vp ls row)
 
     line_small : (row : ℕ) → Small (line_on vp ls row)
-    line_small row =
-        cond_both (nat_lt row vp) [] _ Small (λ _. tt) (λ _. holds_at Small ls (row - vp) [] tt h)
+    line_small row = grind (arith, nat_tests, cond_both, holds_at)
 
 -- Each due page is a page: for `law_of_due_pages`.
 pub due_is_page : (national : National) (ts : List SubtitleValue) (f : ℕ)
@@ -140,4 +137,4 @@ due_is_page national ts f =
     due_has IsPage national ts f is_page_blank
     (λ t none. page_is t.jc t.vp (lines national t)
     (all_prepared (lines_of_codes (text_codes national 0 t.text))
-    (cells_small national 0 0 t.text)))
+      (cells_small national 0 0 t.text)))

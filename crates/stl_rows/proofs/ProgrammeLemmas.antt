@@ -1,6 +1,6 @@
 -- A programme with one more subtitle that has no fault is one: IsProgramme-push.
-use Rattle.std.proofs.Common.{rules, ◌≡◌, ℕ, ◌-◌, ◌<◌, ◌≤◌, List, [], ◌∷◌, ◌++◌, Result, ◌∙◌, ap}
-use Rattle.std.proofs.Common.{Some, length, get_or, arith, inl, inr, length-append}
+use Rattle.std.proofs.Common.{◌≡◌, ℕ, ◌-◌, ◌<◌, ◌≤◌, List, [], ◌∷◌, ◌++◌, Result, ◌∙◌, ap, Some}
+use Rattle.std.proofs.Common.{length, get_or, arith, length-append}
 use Rattle.std.proofs.lemmas.Bool.{cases_lt}
 use Rattle.std.proofs.lemmas.Bool.Decides.{nat_tests}
 use Rattle.std.proofs.lemmas.List.{get_or_append_left, get_or_push}
@@ -35,11 +35,8 @@ last_before : (ts : List SubtitleValue) (t : SubtitleValue) (i : ℕ) (d : Subti
     → (get_or ts i d).tco ≤ t.tci
 last_before ts t i d each ordered h inside =
     let at : ℕ = length ts - 1 in
-    let after =
-    after_last (get_or ts at d) t (rw (slice_get-get_or ts at d (omega arith)) at h) in
     let times = (each at d (omega arith)).times in
-    let same = λ (last : i ≡ at). ap (λ (k : ℕ). (get_or ts k d).tco) last in
-    grind arith
+    grind (arith, nat_tests, after_last, slice_get-get_or)
 
 -- Subtitles in order stay so with it.
 in_order-push : (ts : List SubtitleValue) (t : SubtitleValue)

@@ -1,9 +1,8 @@
 -- Two bytes of a text that are one text code: text_codes-pair.
-use Rattle.std.proofs.Common.{rules, ◌≡◌, ℕ, ◌+◌, ◌<◌, List, ◌∷◌, Some, length, get_or, drop, refl}
-use Rattle.std.proofs.Common.{ap, ◌∙◌, arith, add-one, drop-cons}
+use Rattle.std.proofs.Common.{◌≡◌, ℕ, ◌+◌, ◌<◌, List, ◌∷◌, Some, length, get_or, drop, refl, arith}
+use Rattle.std.proofs.Common.{add-one, drop-cons}
 use Rattle.std.proofs.lemmas.Bool.Decides.{nat_tests}
 use Rattle.stl_rows.specs.declared.national.National.{National}
-use Rattle.stl_rows.specs.declared.text_code.TextCode.{TextCode}
 use Rattle.stl_rows.specs.declared.text_code.TextCode.TheVariants.{Cell}
 use Rattle.stl_rows.specs.TextCode.{cell_of_pair, codes_after, first_of, text_codes}
 

@@ -1,8 +1,8 @@
 -- The first fault of a text whose codes are read one by one, by the shape of each line:
 -- told-faults.
 use Rattle.std.proofs.Common.{rules, ◌≡◌, ℕ, ◌+◌, Bool, true, false, cond, List, [], ◌∷◌, ◌++◌}
-use Rattle.std.proofs.Common.{Option, Some, None, map, length, refl, sym, ap, ◌∙◌, arith}
-use Rattle.std.proofs.Common.{length-append, append-nil}
+use Rattle.std.proofs.Common.{Option, None, length, refl, sym, ap, ◌∙◌, arith, length-append}
+use Rattle.std.proofs.Common.{append-nil}
 use Rattle.std.proofs.Math.Bool.{or-false}
 use Rattle.std.proofs.lemmas.Bool.Decides.{nat_tests}
 use Rattle.std.proofs.lemmas.List.Folds.{list_any-append}
@@ -17,7 +17,7 @@ use Rattle.stl_rows.specs.DrawnPage.{faults, line_fault_kinds, line_faults}
 use Rattle.stl_rows.specs.Line.{has_cells, is_boxed, is_double, prepared}
 use Rattle.stl_rows.specs.LineByLine.{HasShape, empty_line, line_under, prepared_lines}
 use Rattle.stl_rows.specs.LineByLine.{shape_fault_kinds, told, told_first, with_cell}
-use Rattle.stl_rows.specs.TextCode.{fault_of, first_of, lines_of_codes, refusals, text_codes}
+use Rattle.stl_rows.specs.TextCode.{first_of, lines_of_codes, refusals, text_codes}
 use Rattle.stl_rows.proofs.LineByLineLemmas.{onto_code, onto_line_end}
 
 -- ---- shapes

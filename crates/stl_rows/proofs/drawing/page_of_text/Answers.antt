@@ -1,5 +1,6 @@
 -- Where the loop meets a cell, a new line or the end: the lemmas of DrawnPageLemmas.
-use Rattle.std.proofs.Common.{arith, rules, length-append, ◌∷◌, ◌++◌, []}
+use Rattle.std.proofs.Common.{arith, length-append, ◌∷◌, ◌++◌, []}
+use Rattle.std.proofs.lemmas.Bool.Decides.{nat_tests}
 use Rattle.stl_rows.proofs.DrawnPageLemmas.{is_drawn-end, is_drawn-fits, is_drawn-next}
 use Rattle.stl_rows.proofs.DrawnPageLemmas.{is_drawn-on_page, is_drawn-start}
 use Rattle.stl_rows.proofs.FaultlessLemmas.{few_cells}
@@ -8,13 +9,7 @@ use Rattle.stl_rows.proofs.LineByLineLemmas.{prepared_lines-line_end}
 use Rattle.stl_rows.proofs.drawing.page_of_text.Goals as goal
 
 pub loop-at-init : goal.loop-at-init
-loop-at-init c = record {
-  within = omega arith;
-  rows = omega arith;
-  codes = search rules;
-  drawn =
-      rw (c.blank-page.ensures, c.from-row.ensures, c.new-cells.ensures) is_drawn-start;
-}
+loop-at-init c = grind (arith, nat_tests, is_drawn-start)
 
 pub push_cell-requires : goal.push_cell-requires
 push_cell-requires c =
@@ -29,12 +24,7 @@ loop-at-preserved-in-Cell c =
     let i = c.loop-at.invariant in
     let code = c.text_code_at-code.ensures in
     let lines = prepared_lines-cell c.loop-at.cells.items code.step c.in-Cell.is in
-    rw c.push_cell.ensures (record {
-      within = search rules;
-      rows = omega (arith, i.rows, code.rises);
-      codes = codes_push c.loop-at.cells.items _ i.codes (rw c.in-Cell.is at code.small);
-      drawn = rw lines at i.drawn;
-    })
+    grind (arith, nat_tests, codes_push)
 
 pub put_line-requires-clause-fits : goal.put_line-requires-clause-fits
 put_line-requires-clause-fits c =
@@ -50,12 +40,7 @@ loop-at-preserved-in-NewLine c =
     let code = c.text_code_at-code.ensures in
     let cells = c.loop-at.cells.items in
     let lines = prepared_lines-line_end cells code.step c.in-NewLine.is in
-    rw (c.clear.ensures, c.put_line.ensures, c.as_slice.ensures.value) (record {
-      within = search rules;
-      rows = omega (arith, i.rows, code.rises);
-      codes = search rules;
-      drawn = is_drawn-next cells c.requires.first (rw lines at i.drawn) c.requires.whole;
-    })
+    grind (arith, nat_tests, is_drawn-next)
 
 pub put_line-requires-2-clause-fits : goal.put_line-requires-2-clause-fits
 put_line-requires-2-clause-fits c =

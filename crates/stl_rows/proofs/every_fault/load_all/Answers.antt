@@ -4,10 +4,3 @@ use Rattle.stl_rows.proofs.every_fault.load_all.Goals as goal
 pub returns-in-Ok-Some-clause-exact : goal.returns-in-Ok-Some-clause-exact
 returns-in-Ok-Some-clause-exact g c = λ bytes e.
     rw c.of.ensures (rw c.in-Ok-Some.field-0-is at (c.in-Ok-Some.ensures.exact bytes e))
-
-pub returns-in-Ok-Some-clause-programme : goal.returns-in-Ok-Some-clause-programme
-returns-in-Ok-Some-clause-programme g c =
-    rw c.of.ensures (rw c.in-Ok-Some.field-0-is at c.in-Ok-Some.ensures.programme)
-
-pub returns-in-Ok-Some-clause-none : goal.returns-in-Ok-Some-clause-none
-returns-in-Ok-Some-clause-none g c = rw c.in-Ok-Some.field-0-is at c.in-Ok-Some.ensures.none

@@ -1,16 +1,14 @@
 -- What was told and what is left to be told, at each step of the loop and at each way out:
 -- goes_on-next, tells-end, tells-stop, fails-next.
-use Rattle.std.proofs.Common.{◌≡◌, ◌++◌, None, Ok, Err, refl, rules, ap, [], sym, drop, map, ◌∙◌}
-use Rattle.std.proofs.Common.{arith}
+use Rattle.std.proofs.Common.{◌≡◌, ◌++◌, None, Ok, refl, rules, ap, [], sym, map, ◌∙◌, arith}
+use Rattle.std.proofs.lemmas.Bool.Decides.{nat_tests}
 use Rattle.std.proofs.lemmas.Bool.{lt-ltb}
 use Rattle.std.specs.Prelude.{◌≢◌}
 use Rattle.sub_io.proofs.TellingLemmas.{Tells-none, Tells-trans}
-use Rattle.sub_io.specs.Telling.{Tells}
 use Rattle.stl_file.specs.declared.fault.StlFault.TheVariants.{Ended}
-use Rattle.stl_file.specs.Gsi.{gsi_size}
 use Rattle.stl_file.specs.Reader.{outcome_of}
 use Rattle.stl_rows.specs.Loading.{load_fault, loaded}
-use Rattle.stl_rows.specs.Programme.{IsProgramme, follow_faults}
+use Rattle.stl_rows.specs.Programme.{follow_faults}
 use Rattle.std.proofs.lemmas.List.Elements.{All-nil}
 use Rattle.stl_rows.proofs.FailedReadLemmas.{fails-next, has_taken-next, reads-nothing}
 use Rattle.stl_rows.proofs.LoadingLemmas.{are_kept-next, ends-here, goes_on-next, goes_on-start}
@@ -25,25 +23,13 @@ subtitles-init g c = rw c.new.ensures.items (record {
   early = [];
   told = Tells-none _;
   early_told = All-nil (IsToldBy c.in-Ok.reader.block);
-  are_kept = λ records h.
-      let none : [] ≡ records = cc in
-      rw (sym none)
-      (record { before_is = refl; none = refl; programme = IsProgramme-none c.args.national });
+  are_kept = grind (arith, nat_tests, IsProgramme-none);
   some = λ h. absurd cc;
   listens = c.requires.listens;
   reading = search rules;
   count = search rules;
-  taken = record {
-    bytes = c.in-Ok.reader.gsi;
-    consumed = search rules;
-    long = search rules;
-  };
-  goes_on = λ bytes e. (
-    drop gsi_size bytes,
-    c.in-Ok.ensures.left bytes e,
-    rw (outcome_of-opened bytes _ (c.in-Ok.ensures.exact bytes e refl))
-        (goes_on-start c.args.national _),
-  );
+  taken = grind (arith, nat_tests);
+  goes_on = grind (arith, nat_tests, outcome_of-opened, goes_on-start);
 })
 
 pub subtitles-preserved : goal.subtitles-preserved
@@ -55,8 +41,7 @@ subtitles-preserved g c =
     let is_clean = c.in-Ok-tell_faults.ensures.clean in
     rw (c.in_default-keep.ensures.all, c.of.ensures.value) (record {
       early = i.early ++ map (load_fault here) (follow_faults c.args.national c.subtitles.before t);
-      told = Tells-trans _ _ _ i.early _ i.told
-          (rw c.block-block.ensures.value at c.in-Ok-tell_faults.ensures.told);
+      told = grind (arith, nat_tests, Tells-trans);
       early_told = told-next c.args.national c.subtitles.before t c.subtitles.reader.block here
           i.early (omega (arith, read.counted)) i.early_told;
       are_kept = are_kept-next t here is_clean i.are_kept c.of.ensures.subtitle;
@@ -81,21 +66,8 @@ returns-in-Ok-tell_end-clause-told g c = λ bytes e none.
     tells-end (goes_on-start c.args.national (outcome_of bytes)) (Tells-none _)
     (outcome_of-opened bytes _ opened) c.in-Ok-tell_end.ensures.told
 
-pub returns-in-Ok-tell_end-clause-some : goal.returns-in-Ok-tell_end-clause-some
-returns-in-Ok-tell_end-clause-some g c = λ none.
-    of_file-end [] c.in-Err.fault {from = 0} (All-nil (IsToldBy 0)) c.in-Ok-tell_end.ensures.file
-    c.in-Err.ensures.never (Tells-none _) c.in-Ok-tell_end.ensures.told
-
 pub returns-in-Err-tell_end-clause-read : goal.returns-in-Err-tell_end-clause-read
-returns-in-Err-tell_end-clause-read g c = λ is.
-    let failed = c.in-Err-tell_end.ensures.read in
-    let short = c.in-Err.ensures.failed (rw failed.0 refl) in
-    rw (failed.1, failed.2) (record {
-      bytes = short.0;
-      consumed = short.2;
-      block_is = rw (lt-ltb _ 1024 short.1) refl;
-      told = λ all is. reads-nothing c.args.national (outcome_of all) _;
-    })
+returns-in-Err-tell_end-clause-read g c = grind (arith, nat_tests, lt-ltb, reads-nothing)
 
 pub returns-in-Ok-tell_end-2-clause-told : goal.returns-in-Ok-tell_end-2-clause-told
 returns-in-Ok-tell_end-2-clause-told g c = λ bytes e none.
@@ -108,9 +80,7 @@ returns-in-Ok-tell_end-2-clause-told g c = λ bytes e none.
 pub returns-in-Ok-tell_end-2-clause-some : goal.returns-in-Ok-tell_end-2-clause-some
 returns-in-Ok-tell_end-2-clause-some g c = λ none.
     let i = c.subtitles.invariant in
-    let ended : c.in-Err-next_into.fault ≢ Ended =
-    λ same. let broken = rw i.reading at (c.in-Err-next_into.ensures.ended.1 (ap Err same)) in
-    absurd cc in
+    let ended : c.in-Err-next_into.fault ≢ Ended = grind (arith, nat_tests) in
     of_file-end i.early c.in-Err-next_into.fault i.early_told c.in-Ok-tell_end-2.ensures.file ended
     i.told c.in-Ok-tell_end-2.ensures.told
 
@@ -165,17 +135,6 @@ returns-in-Err-keep-clause-some_before g c =
       items = _;
       told = Tells-trans _ _ _ i.early _ i.told c.in-Ok-tell_faults.ensures.told;
     }
-
-pub returns-in-Ok-false-clause-none : goal.returns-in-Ok-false-clause-none
-returns-in-Ok-false-clause-none g c =
-    let i = c.subtitles.invariant in
-    if_kept (λ v. v.items) (λ _. Tells _ _ _ []) c.subtitles.kept
-    (λ records h. rw (i.are_kept records h).none at i.told)
-
-pub returns-in-Ok-false-clause-programme : goal.returns-in-Ok-false-clause-programme
-returns-in-Ok-false-clause-programme g c =
-    if_kept (λ v. v.items) (IsProgramme c.args.national) c.subtitles.kept
-    (λ records h. (c.subtitles.invariant.are_kept records h).programme)
 
 pub returns-in-Ok-false-clause-exact : goal.returns-in-Ok-false-clause-exact
 returns-in-Ok-false-clause-exact g c = λ bytes e.

@@ -1,7 +1,8 @@
 -- The first fault that is told is what comes of the file: tells-first; and where the source failed
 -- there is none before: none-told.
-use Rattle.std.proofs.Common.{ap, ◌∙◌, rules, sym}
-use Rattle.std.specs.Prelude.{None, Ok}
+use Rattle.std.proofs.Common.{arith, ap, ◌∙◌, rules, sym}
+use Rattle.std.proofs.lemmas.Bool.Decides.{nat_tests}
+use Rattle.std.specs.Prelude.{Ok}
 use Rattle.stl_file.specs.Reader.{outcome_of}
 use Rattle.stl_rows.proofs.EveryFaultLemmas.{first-not_read, first-of_file, none-told, tells-first}
 use Rattle.stl_rows.proofs.loading.load_in.Goals as goal
@@ -11,14 +12,7 @@ returns-in-Ok-Some-clause-exact g c = λ bytes e.
     rw c.in-Ok-Some.field-0-is at (c.in-Ok-Some.ensures.exact bytes e)
 
 pub unreachable-requires : goal.unreachable-requires
-unreachable-requires g c =
-    let told = sym c.into_first.ensures ∙ c.in-None.is in
-    let one =
-    first-of_file None
-    (rw (c.new-first.ensures, told)
-    at (c.in-Ok-None.ensures.some (ap Ok c.in-Ok-None.field-0-is))) in
-    let none = one.1 in
-    cc
+unreachable-requires g c = grind (arith, nat_tests, first-of_file)
 
 pub returns-in-Some : goal.returns-in-Some
 returns-in-Some g c =
@@ -26,7 +20,6 @@ returns-in-Some g c =
     let none = ap Ok c.in-Ok-None.field-0-is in
     let of_file = c.in-Ok-None.ensures.some none in
     let own = first-not_read _ _ c.in-Some.fault c.new-first.ensures first of_file in
-    let not_read = own.1 in
     record {
       exact = search rules;
       fault = λ bytes e.
@@ -40,7 +33,4 @@ returns-in-Some g c =
     }
 
 pub returns-in-Err-clause-read : goal.returns-in-Err-clause-read
-returns-in-Err-clause-read g c = λ is.
-    none-told c.args.national _ _ c.in-Err.fault.block c.load_all_in.new.audience
-    (λ stopped. let same = c.in-Err.ensures.stopped stopped in cc)
-    (rw c.new-first.ensures at (c.in-Err.ensures.read is))
+returns-in-Err-clause-read g c = grind (arith, nat_tests, none-told)

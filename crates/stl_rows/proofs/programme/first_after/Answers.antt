@@ -1,5 +1,5 @@
 -- The TCOs of a programme rise, so the partition point parts them: tco_rises.
-use Rattle.std.proofs.Common.{leb, leb-true, arith, rules}
+use Rattle.std.proofs.Common.{leb, arith, rules}
 use Rattle.std.proofs.lemmas.Bool.Decides.{nat_tests}
 use Rattle.std.proofs.lemmas.List.Sorted.{IsPartitionPoint-from_clause, IsPartitionedBy-leb}
 use Rattle.stl_rows.proofs.DuePageLemmas.{tco_rises}
@@ -11,8 +11,4 @@ returns c =
     let point =
     IsPartitionPoint-from_clause (λ t. leb t.tco c.args.frame) _ _
     c.partition_point.ensures.partitioned parted (λ a r q k. search rules) in
-    record {
-      bound = search rules;
-      before = λ k d h. leb-true _ _ (point.0 k d (omega arith) h);
-      after = λ k d h b. grind (arith, nat_tests, point.1 k d h b);
-    }
+    grind (arith, nat_tests)

@@ -1,15 +1,13 @@
 -- Past all or in a gap none is due; else the first subtitle after the frame is.
-use Rattle.std.proofs.Common.{arith, rules, ◌∙◌, ap, sym, inr}
+use Rattle.std.proofs.Common.{arith, rules, ◌∙◌, ap, sym}
+use Rattle.std.proofs.lemmas.Bool.Decides.{nat_tests}
 use Rattle.std.specs.Result.{result_unwrap_or}
 use Rattle.ttx_page.specs.Page.{blank}
 use Rattle.stl_rows.proofs.DuePageLemmas.{due_is_shown, ends_after, none-between, none_is_blank}
 use Rattle.stl_rows.proofs.programme.page_at.Goals as goal
 
 pub returns-then-at-subtitles : goal.returns-then-at-subtitles
-returns-then-at-subtitles c =
-    c.blank.ensures
-    ∙ sym (none_is_blank c.args.national c.args.subtitles.now c.args.frame
-    (λ k d b. inr (c.first_after-at.ensures.before k d (omega arith))))
+returns-then-at-subtitles c = grind (arith, nat_tests, none_is_blank)
 
 pub returns-then-frame-tci : goal.returns-then-frame-tci
 returns-then-frame-tci c =
