@@ -3,11 +3,12 @@
 use Rattle.std.proofs.Common.{◌≡◌, ℕ, ◌+◌, ◌-◌, ◌%◌, ◌==◌, Bool, List, ◌∷◌, ◌++◌, Option, All, []}
 use Rattle.std.proofs.Common.{length, refl, sym, ap, ◌∙◌, arith, append_assoc, append-nil, filter}
 use Rattle.std.proofs.Common.{length-append}
+use Rattle.std.proofs.lemmas.Bool.Decides.{nat_tests}
 use Rattle.std.proofs.lemmas.Grind.{flat_map-append}
 use Rattle.std.proofs.lemmas.List.Elements.{All-filter, All-head, All-tail}
 use Rattle.std.specs.List.{flat_map, range_with_len}
 use Rattle.std.specs.Io.KnownBytes.{Appends}
-use Rattle.std.proofs.KnownBytes.{Appends-nil, Appends-trans}
+use Rattle.std.proofs.KnownBytes.{Appends-trans}
 use Rattle.sub_io.specs.Device.{AppendsPrefix}
 use Rattle.sub_io.proofs.DeviceLemmas.{AppendsPrefix-first, AppendsPrefix-second}
 use Rattle.ttx_page.specs.Page.{Rows}
@@ -27,11 +28,6 @@ pub record IsPartDone (u v : Option (List ℕ)) (bytes_of : ℕ → List ℕ) (c
   pub counted : count ≡ length done
   pub bytes : Appends u v (flat_map bytes_of done)
 
--- At the start nothing is done.
-pub part-start : {u : Option (List ℕ)} {bytes_of : ℕ → List ℕ} {all : List ℕ}
-    → IsPartDone u u bytes_of 0 all all
-part-start {u} = record { done = []; whole = refl; counted = refl; bytes = Appends-nil u }
-
 module _ {u v : Option (List ℕ)} {bytes_of : ℕ → List ℕ} {count : ℕ} {left all : List ℕ}
     (part : IsPartDone u v bytes_of count left all) where
   -- More frames are done.
@@ -43,15 +39,12 @@ module _ {u v : Option (List ℕ)} {bytes_of : ℕ → List ℕ} {count : ℕ} {
     done = part.done ++ more;
     whole = append_assoc part.done more left' ∙ rw e at part.whole;
     counted = omega (arith, part.counted, length-append part.done more);
-    bytes = rw (flat_map-append bytes_of part.done more)
-        (Appends-trans u v w _ _ part.bytes goes);
+    bytes = grind (arith, nat_tests, flat_map-append, Appends-trans);
   }
 
   -- All are done.
   pub part-end : left ≡ [] → (count ≡ length all) × Appends u v (flat_map bytes_of all)
-  part-end e =
-      let same : part.done ≡ all = rw (e, append-nil) at part.whole in
-      rw (← same) (part.counted, part.bytes)
+  part-end e = grind (arith, nat_tests, append-nil)
 
   -- A prefix of the next ones was put.
   pub prefix-more : (w : Option (List ℕ)) (more left' : List ℕ)
@@ -60,13 +53,10 @@ module _ {u v : Option (List ℕ)} {bytes_of : ℕ → List ℕ} {count : ℕ} {
       → AppendsPrefix u w (flat_map bytes_of all)
   prefix-more w more left' e p =
       let s : List ℕ → List ℕ = flat_map bytes_of in
-      rw (
-        ← part.whole,
-        e,
-        flat_map-append bytes_of part.done (more ++ left'),
-        flat_map-append bytes_of more left',
-      ) (AppendsPrefix-second u v w (s part.done) (s more ++ s left') part.bytes
-      (AppendsPrefix-first v w (s more) (s left') p))
+      rw (← part.whole, e, flat_map-append bytes_of part.done (more ++ left'))
+      (rw (flat_map-append bytes_of more left')
+      (AppendsPrefix-second u v w (s part.done) (s more ++ s left') part.bytes
+      (AppendsPrefix-first v w (s more) (s left') p)))
 
   -- One frame more is done.
   pub part-one : {w : Option (List ℕ)} {f : ℕ} {left' : List ℕ}
@@ -80,8 +70,7 @@ module _ {u v : Option (List ℕ)} {bytes_of : ℕ → List ℕ} {count : ℕ} {
       → left ≡ f ∷ left'
       → AppendsPrefix v w (bytes_of f)
       → AppendsPrefix u w (flat_map bytes_of all)
-  prefix-one w {f} {left'} e p =
-      prefix-more w (f ∷ []) left' e (rw (append-nil (bytes_of f)) p)
+  prefix-one w {f} {left'} e p = prefix-more w (f ∷ []) left' e (rw (append-nil (bytes_of f)) p)
 
 -- ---- one stretch
 

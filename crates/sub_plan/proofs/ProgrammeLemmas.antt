@@ -1,10 +1,10 @@
 -- The first TCI and the last TCO of a programme: span-rises, law_of_day.
 use Rattle.std.proofs.Common.{◌≡◌, ℕ, ◌+◌, ◌-◌, ◌<◌, ◌≤◌, List, [], ◌∷◌, Option, Some, None, length}
-use Rattle.std.proofs.Common.{get_or, refl, ap, ◌∙◌, arith, All}
+use Rattle.std.proofs.Common.{get_or, refl, ◌∙◌, arith, All}
+use Rattle.std.proofs.lemmas.Bool.Decides.{nat_tests}
 use Rattle.std.proofs.lemmas.List.Elements.{All-nil, All-filter, All-weaker}
 use Rattle.std.proofs.lemmas.Option.{slice_get-get_or, same_Some}
 use Rattle.std.specs.List.{range_with_len}
-use Rattle.std.specs.Prelude.{option_map}
 use Rattle.ttx_page.specs.Page.{Rows}
 use Rattle.stl_file.specs.Subtitle.{SubtitleValue}
 use Rattle.stl_rows.specs.declared.national.National.{National}
@@ -23,9 +23,7 @@ none_in (t ∷ ts) h = cc
 -- The last of some subtitles.
 last_is : (t : SubtitleValue) (ts : List SubtitleValue)
     → last_out (t ∷ ts) ≡ Some ((get_or (t ∷ ts) (length (t ∷ ts) - 1) t).tco)
-last_is t ts =
-    ap (option_map (λ (r : SubtitleValue). r.tco))
-    (slice_get-get_or (t ∷ ts) (length (t ∷ ts) - 1) t (omega arith))
+last_is t ts = grind (arith, nat_tests, slice_get-get_or)
 
 -- With a first TCI there is a last TCO.
 pub some_out : (ts : List SubtitleValue) (a : ℕ) → Some a ≡ first_in ts → None ≡ last_out ts
@@ -46,7 +44,6 @@ span-rises national (t ∷ ts) a b ok h k =
     let n : ℕ = length (t ∷ ts) - 1 in
     let last : SubtitleValue = get_or (t ∷ ts) n t in
     let f : b ≡ last.tco = same_Some b last.tco (k ∙ last_is t ts) in
-    let g : a ≡ t.tci = same_Some a t.tci h in
     let each_last = ok.each n t (omega arith) in
     let each_first = ok.each 0 t (omega arith) in
     record {
@@ -84,12 +81,8 @@ day_between programme every None b h k ok = All-nil (λ frame. frame < day)
 day_between programme every (Some a) None h k ok = All-nil (λ frame. frame < day)
 day_between programme every (Some a) (Some b) h k ok =
     let s = span-rises programme.national programme.records a b ok h k in
-    All-weaker (λ f. f ≤ b) (λ frame. frame < day) (λ f l. omega (arith, s.in_day))
-    (sendings (due_in programme) every a b)
-    (within (due_in programme) every a b (omega (arith, s.rises)))
+    grind (arith, nat_tests, All-weaker, within)
 
 -- Each frame of the schedule is a frame of the day.
 pub law_of_day : LawOfDay
-law_of_day programme every ok =
-    day_between programme every (first_in programme.records)
-    (last_out programme.records) refl refl ok
+law_of_day programme every ok = grind (arith, nat_tests, day_between)

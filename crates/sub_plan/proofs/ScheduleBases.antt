@@ -1,8 +1,7 @@
 -- Bases of a schedule and the sendings that they make: last_base, last_sending, sending_in_gap.
-use Rattle.std.proofs.Math.Bool.{or-true}
 use Rattle.std.proofs.Common.{◌≡◌, ℕ, zero, suc, ◌+◌, ◌-◌, ◌%◌, ◌<◌, ◌≤◌, ◌==◌, Bool, true, false}
-use Rattle.std.proofs.Common.{not, List, ◌∷◌, ◌++◌, refl, sym, ap, ◌∙◌, arith, inl, inr, All}
-use Rattle.std.proofs.Common.{Decides}
+use Rattle.std.proofs.Common.{◌++◌, refl, sym, ap, ◌∙◌, arith, inl, inr, All, Decides}
+use Rattle.std.proofs.Math.Bool.{or-true}
 use Rattle.std.proofs.Math.Nat.{add-mod_right, mod-eq_of_lt}
 use Rattle.std.proofs.lemmas.Bool.{cases_lt, false≢true, false_from_ne_true, or_left}
 use Rattle.std.proofs.lemmas.Bool.Decides.{nat_tests, Decides-eqb, Decides-not, Decides-or}
@@ -19,12 +18,10 @@ use Rattle.sub_plan.specs.Schedule.{base, is_base, is_same_page, is_sending}
 -- A range in two parts.
 pub range_split : (a m n : ℕ) → range_with_len a (m + n) ≡ range_with_len a m
     ++ range_with_len (a + m) n
-range_split a zero n = let e : 0 + n ≡ n = omega arith in let f : a + 0 ≡ a = omega arith in
-    rw (e, f) refl
+range_split a zero n = grind (arith, nat_tests)
 range_split a (suc m) n =
     let e : suc m + n ≡ suc (m + n) = omega arith in
-    let f : a + 1 + m ≡ a + suc m = omega arith in
-    rw e (ap (λ (xs : List ℕ). a ∷ xs) (rw f at (range_split (a + 1) m n)))
+    grind (arith, nat_tests, range_split (a + 1) m n)
 
 -- What holds in a range holds of each number of the list.
 pub range_all : (P : ℕ → Type 0) (a n : ℕ) → ((j : ℕ) → a ≤ j → j < a + n → P j)
@@ -60,15 +57,7 @@ find_last : (test : ℕ → Bool) (first f : ℕ) → test first ≡ true → fi
 find_last test first f start low = go f (test f) refl low
   where
     go : (f : ℕ) (b : Bool) → test f ≡ b → first ≤ f → (g : ℕ) × IsLastOf test first f g
-    go f true h low = (
-      f,
-      record {
-        low = low;
-        high = omega arith;
-        passes = h;
-        none_after = λ k a c. absurd (omega arith);
-      },
-    )
+    go f true h low = grind (arith, nat_tests)
     go zero false h low = let e : first ≡ zero = omega arith in cc
     go (suc f) false h low =
         elim (cases_lt f first) [
@@ -80,11 +69,7 @@ find_last test first f start low = go f (test f) refl low
                   low = found.1.low;
                   high = omega (arith, found.1.high);
                   passes = found.1.passes;
-                  none_after = λ k a c.
-                      elim (cases_lt f k) [
-                        | inl next ↦ let e : k ≡ suc f = omega arith in ap test e ∙ h
-                        | inr old ↦ found.1.none_after k a old
-                      ];
+                  none_after = grind (arith, nat_tests, cases_lt);
                 },
               )
         ]
@@ -93,21 +78,18 @@ find_last test first f start low = go f (test f) refl low
 
 -- The test of equal pages decides it.
 same_page-Decides : (a b : Rows) → Decides (is_same_page a b) (a ≡ b)
-same_page-Decides a b =
-    slice_eq-Decides (λ x y. slice_eq-Decides (λ m n. Decides-eqb m n) x y _ refl) a b _ refl
+same_page-Decides a b = grind (arith, nat_tests, slice_eq-Decides, Decides-eqb)
 
 -- The test of a base decides it.
 is_base-Decides : (due : ℕ → Rows) (first f : ℕ) → Decides (is_base due first f)
     (IsBase due first f)
 unfolding is_base
 is_base-Decides due first f =
-    Decides-or (f == first) (not (is_same_page (due f) (due (f - 1)))) (Decides-eqb f first)
-    (Decides-not (is_same_page (due f) (due (f - 1))) (same_page-Decides (due f) (due (f - 1))))
+    grind (arith, nat_tests, Decides-or, Decides-eqb, Decides-not, same_page-Decides)
 
 -- A frame that is no base does not pass the test.
 no_base : (due : ℕ → Rows) (first f : ℕ) → (IsBase due first f → ⊥) → is_base due first f ≡ false
-no_base due first f none =
-    false_from_ne_true (is_base due first f) (λ b. none ((is_base-Decides due first f).0 b))
+no_base due first f none = grind (arith, nat_tests, false_from_ne_true, is_base-Decides)
 
 -- It has the page of the frame before it.
 same_unless_base : (due : ℕ → Rows) (first f : ℕ) → (IsBase due first f → ⊥) → due f ≡ due (f - 1)
@@ -117,17 +99,13 @@ same_unless_base due first f none =
 -- At a base the last base is the base itself.
 base-at : (due : ℕ → Rows) (first b : ℕ) → IsBase due first b → base due first b ≡ b
 unfolding base
-base-at due first zero h = refl
-base-at due first (suc b) h = rw ((is_base-Decides due first (suc b)).1 h) refl
+base-at due first b h = grind (arith, nat_tests, is_base-Decides)
 
 -- At a frame that is no base it is that of the frame before.
 base-before : (due : ℕ → Rows) (first f : ℕ) → (IsBase due first f → ⊥)
     → base due first f ≡ base due first (f - 1)
 unfolding base
-base-before due first zero none = refl
-base-before due first (suc f) none =
-    let back : suc f - 1 ≡ f = omega arith in
-    rw (no_base due first (suc f) none, back) refl
+base-before due first f none = grind (arith, nat_tests, no_base)
 
 -- Up to the next base the last base stays.
 base_stays : (due : ℕ → Rows) (first s f : ℕ) → s ≤ f
@@ -170,8 +148,7 @@ sends due every first last f b e whole = rw (e, whole) (or-true (f == last))
 -- At each base something is sent.
 sends-base : (due : ℕ → Rows) (every first last f : ℕ) → 1 ≤ every → IsBase due first f
     → is_sending due every first last f ≡ true
-sends-base due every first last f some is =
-    sends due every first last f f (base-at due first f is) (aligned-start f every some)
+sends-base due every first last f some is = grind (arith, nat_tests, sends, base-at, aligned-start)
 
 -- So it is at the first frame.
 pub sends-first : (due : ℕ → Rows) (every first last : ℕ) → 1 ≤ every
@@ -192,10 +169,8 @@ sends-again : (due : ℕ → Rows) (every first last s : ℕ) → first ≤ s �
 unfolding is_sending
 sends-again due every first last s low high sent none =
     let b : ℕ = base due first s in
-    let whole : (s - b) % every ≡ 0 = grind (arith, nat_tests) in
     let e : s + every - b ≡ s - b + every = omega (arith, (last_base due first s low).high) in
-    sends due every first last (s + every) b (base_stays due first s (s + every) (omega arith) none)
-    (rw e (add-mod_right (s - b) every ∙ whole))
+    grind (arith, nat_tests, last_base, sends, base_stays, add-mod_right)
 
 -- The last sending up to a frame, made from the page that is still due there.
 pub last_sending : (due : ℕ → Rows) (every first last f : ℕ) → 1 ≤ every → first ≤ f → (g : ℕ)
@@ -244,8 +219,4 @@ law_of_last_sending = last_sending
 
 -- A frame with the page of the frame before it is no base.
 pub law_of_equal_pages : LawOfEqualPages
-law_of_equal_pages due first f after same =
-    base-before due first f (λ b. elim b [
-      | inl here ↦ absurd (omega (arith, here))
-      | inr other ↦ other same
-    ])
+law_of_equal_pages due first f after same = grind (arith, nat_tests, base-before)

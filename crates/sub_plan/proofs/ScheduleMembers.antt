@@ -1,14 +1,14 @@
 -- The frames with a sending, without the way in which they are found: law_of_sendings, law_of_gaps.
-use Rattle.std.proofs.Common.{◌≡◌, ℕ, zero, suc, ◌+◌, ◌-◌, ◌%◌, ◌<◌, ◌≤◌, ◌==◌, Bool, true, List}
-use Rattle.std.proofs.Common.{[], ◌∷◌, ap, ◌∙◌, arith, inl, inr, filter, Decides}
+use Rattle.std.proofs.Common.{◌≡◌, ℕ, zero, suc, ◌+◌, ◌-◌, ◌<◌, ◌≤◌, Bool, true, List, [], ◌∷◌}
+use Rattle.std.proofs.Common.{arith, inl, inr, filter, Decides}
+use Rattle.std.proofs.lemmas.Bool.Decides.{nat_tests, Decides-eqb, Decides-like, Decides-or}
 use Rattle.std.proofs.lemmas.Bool.{cases_lt, cond_both}
-use Rattle.std.proofs.lemmas.Bool.Decides.{Decides-eqb, Decides-like, Decides-or}
 use Rattle.std.proofs.lemmas.List.Elements.{All-contains, All-filter, Contains-append_right}
 use Rattle.std.proofs.lemmas.List.Elements.{filter_passes}
 use Rattle.std.specs.List.{range_with_len, Contains}
 use Rattle.ttx_page.specs.Page.{Rows}
 use Rattle.sub_plan.specs.Laws.{IsSending, LawOfGaps, LawOfSendings}
-use Rattle.sub_plan.specs.Schedule.{base, is_sending, sendings_from}
+use Rattle.sub_plan.specs.Schedule.{is_sending, sendings_from}
 use Rattle.sub_plan.proofs.ScheduleBases.{base-last, last_base, range_all, sending_in_gap}
 
 -- ---- members of a filtered range
@@ -35,9 +35,7 @@ contains p a (suc n) x low high h =
           let found = contains p (a + 1) n x (omega arith) (omega arith) h in
           cond_both (p a) (a ∷ rest) rest (λ xs. Contains xs x)
           (λ _. Contains-append_right (a ∷ []) rest x found) (λ _. found)
-      | inr here ↦
-          let e : a ≡ x = omega arith in
-          rw (ap p e ∙ h) (0, omega arith, e)
+      | inr here ↦ grind (arith, nat_tests)
     ]
 
 -- ---- the law of sendings
@@ -47,11 +45,7 @@ is_sending-Decides : (due : ℕ → Rows) (every first last f : ℕ) → first �
     → Decides (is_sending due every first last f) (IsSending due every first last f)
 unfolding is_sending
 is_sending-Decides due every first last f low =
-    Decides-or (f == last) ((f - base due first f) % every == 0) (Decides-eqb f last)
-    (Decides-like ((f - base due first f) % every == 0)
-    (λ e. (base due first f, last_base due first f low, e))
-    (λ s. rw (base-last due first f s.0 s.1) s.2)
-    (Decides-eqb ((f - base due first f) % every) 0))
+    grind (arith, nat_tests, Decides-or, Decides-eqb, Decides-like, last_base, base-last)
 
 -- The frames with a sending are those of the words.
 pub law_of_sendings : LawOfSendings
@@ -71,11 +65,4 @@ law_of_sendings due every first last f = (
 pub law_of_gaps : LawOfGaps
 unfolding sendings_from
 law_of_gaps due every first last g some low room =
-    let found = sending_in_gap due every first last g some low room in
-    let f : ℕ = found.0 in (
-      f,
-      found.1,
-      found.2,
-      contains (is_sending due every first last) first (last + 1 - first) f
-          (omega (arith, found.1, low)) (omega (arith, found.2, room)) found.3,
-    )
+    grind (arith, nat_tests, sending_in_gap due every first last g some low room, contains)

@@ -1,13 +1,12 @@
 -- What a sending holds and shows: law_of_sending, all_sent, law_of_cut_sendings.
-use Rattle.std.proofs.Common.{◌≡◌, ℕ, zero, suc, ◌+◌, ◌-◌, ◌<◌, ◌≤◌, inl, inr, Bool, true, false}
-use Rattle.std.proofs.Common.{not, ◌==◌, cond, List, [], ◌∷◌, ◌++◌, length, map, filter, take, find}
-use Rattle.std.proofs.Common.{flat_map, option_map, unwrap_or, slice_index, All, refl, sym, ap, ◌∙◌}
-use Rattle.std.proofs.Common.{arith, lit≤, append-nil, ◌↔◌, replicate, nat_le}
-use Rattle.std.proofs.Common.{nat_lt, ◌&&◌}
+use Rattle.std.proofs.Common.{rules, ◌≡◌, ℕ, zero, suc, ◌+◌, ◌-◌, ◌<◌, ◌≤◌, inl, inr, Bool, true}
+use Rattle.std.proofs.Common.{false, not, ◌==◌, cond, List, [], ◌∷◌, ◌++◌, length, map, filter}
+use Rattle.std.proofs.Common.{take, find, flat_map, option_map, unwrap_or, slice_index, All, refl}
+use Rattle.std.proofs.Common.{sym, ap, ◌∙◌, arith, lit≤, append-nil, ◌↔◌, replicate, nat_le, nat_lt}
+use Rattle.std.proofs.Common.{◌&&◌}
 use Rattle.std.specs.List.{range_with_len, AllByRecursion}
 use Rattle.std.proofs.Math.Seq.{take-append-add}
-use Rattle.std.proofs.lemmas.Bool.{cases_lt, or_parts, or_left, false≢true}
-use Rattle.std.proofs.lemmas.Bool.{true_from_ne_false}
+use Rattle.std.proofs.lemmas.Bool.{cases_lt, or_parts, or_left, false≢true, true_from_ne_false}
 use Rattle.std.proofs.lemmas.List.{take_all, take-append-le, length_push, ext_get_or}
 use Rattle.std.proofs.lemmas.List.{get_or-replicate, length-replicate}
 use Rattle.std.proofs.lemmas.Bool.Decides.{nat_tests}
@@ -21,14 +20,13 @@ use Rattle.ttx_packet.specs.PageId.{PageIdValue}
 use Rattle.ttx_packet.specs.Parity.{code_of}
 use Rattle.ttx_packet.specs.RowPacket.{text_byte}
 use Rattle.ttx_page.specs.declared.packet_kind.PacketKind.{PacketKind}
-use Rattle.ttx_page.specs.declared.packet_kind.PacketKind.TheVariants.{ThisPage, EndsPage, Row}
+use Rattle.ttx_page.specs.declared.packet_kind.PacketKind.TheVariants.{Row}
 use Rattle.ttx_page.specs.Page.{Rows, space, cell, row_at, IsCell, IsPage}
 use Rattle.ttx_page.specs.PacketKind.{kind, is_this_page, ends_page, is_row}
 use Rattle.ttx_page.specs.Span.{after_last_header, before_end, holds_header, is_unended, span}
 use Rattle.ttx_page.specs.Shown.{shown}
 use Rattle.ttx_page.proofs.SpanLists.{after-here, after-append}
 use Rattle.stl_rows.specs.declared.national.National.{National}
-use Rattle.stl_rows.specs.declared.national.National.TheVariants.{English, German}
 use Rattle.sub_plan.specs.Options.{IsWatchable}
 use Rattle.sub_plan.specs.Sending.{is_sent_row, watched_header, closing_header, rows_from}
 use Rattle.sub_plan.specs.Sending.{sent_rows, sending}
@@ -62,9 +60,7 @@ in_cell w row column packets =
 empty_cell : (codes : List ℕ) (column : ℕ) → is_sent_row codes ≡ false → column < length codes
     → slice_index codes column ≡ space
 empty_cell [] column e l = absurd (omega arith)
-empty_cell (c ∷ cs) zero e l = grind (arith, nat_tests)
-empty_cell (c ∷ cs) (suc column) e l =
-    empty_cell cs column (or_parts (not (c == space)) (is_sent_row cs) e).1 (omega arith)
+empty_cell (c ∷ cs) column e l = grind (arith, nat_tests, or_parts, empty_cell cs)
 
 -- A row is sent where it is not blank. For `is_sent_row`.
 pub sent_by_blank : (b : Bool) (codes : List ℕ)
@@ -101,21 +97,14 @@ module _ (w : PageIdValue) (page : Rows) (ok : IsWatchable w) (shape : IsPage pa
           ≡ cond (nat_le (a + 1) row && nat_lt row (a + 1 + n)) (cell page row column) space
           → in_cell w row column (map (row_of w page) (cond b (a ∷ later) later))
           ≡ cond (nat_le a row && nat_lt row (a + suc n)) (cell page row column) space
-      rest true sent ih =
-          let text = (made_row w page a ok shape one (omega arith)).text column in_row in
-          grind (arith, nat_tests, is_row_at)
-      rest false sent ih =
-          let long = row_length page a shape one (omega arith) in
-          let blank = empty_cell (row_at page a) column sent (omega (arith, long)) in
-          grind (arith, nat_tests)
+      rest b sent ih = grind (arith, nat_tests, made_row, is_row_at, row_length, empty_cell)
 
   -- Each cell of the page is that of the rows that are sent.
   page_found : (row column : ℕ) → IsCell row column
       → in_cell w row column (sent_rows w.magazine page) ≡ cell page row column
   unfolding sent_rows
   page_found row column named =
-      cell_found row column 1 24 (lit≤ tt) (lit≤ tt) named.2
-      ∙ grind (arith, nat_tests, named.0, named.1)
+      grind (arith, nat_tests, cell_found row column 1 24 (lit≤ tt) (lit≤ tt) named.2)
 
 -- ---- the span of a sending
 
@@ -132,15 +121,11 @@ cut_end kind_of (r ∷ rows) c (suc m) go e =
 -- C11 of each header is that of the mode.
 mode_opener : (w : PageIdValue) (national : National) (serial : Bool)
     → c11 (watched_header w national serial) ≡ serial
-mode_opener w English true = refl
-mode_opener w English false = refl
-mode_opener w German true = refl
-mode_opener w German false = refl
+mode_opener w national serial = grind (arith, nat_tests)
 
 -- So it is of the closing header.
 mode_closer : (serial : Bool) → c11 (closing_header serial) ≡ serial
-mode_closer true = refl
-mode_closer false = refl
+mode_closer serial = grind (arith, nat_tests)
 
 module _ (w : PageIdValue) (national : National) (serial : Bool) (page : Rows) (ok : IsWatchable w)
     (shape : IsPage page) where
@@ -154,10 +139,7 @@ module _ (w : PageIdValue) (national : National) (serial : Bool) (page : Rows) (
 
   -- What the kind of a row says holds of all rows.
   of_rows : (P : PacketKind → Type 0) → ((row : ℕ) → P (Row row)) → All (λ p. P (kind w p)) rows
-  of_rows P h =
-      All-weaker (IsRowOf w page) (λ p. P (kind w p))
-      (λ p row. rw (row.is, kind_row w page row.row ok shape row.low row.high) (h row.row))
-      rows (sent_rows_are w page)
+  of_rows P h = grind (arith, nat_tests, All-weaker, kind_row, sent_rows_are w page)
 
   -- The first packet is a header of the page.
   opens : is_this_page (kind w (opener w national serial)) ≡ true
@@ -185,10 +167,7 @@ module _ (w : PageIdValue) (national : National) (serial : Bool) (page : Rows) (
 
   -- A sending cut short, but not of its header.
   cut_span : (m : ℕ) → span (kind w) (opener w national serial ∷ take m rest) ≡ take m rows
-  cut_span m =
-      ap (before_end (kind w))
-      (after-here (kind w) (opener w national serial) (take m rest) (no_header m) opens)
-      ∙ rows_before_end m
+  cut_span m = grind (arith, nat_tests, after-here, opener, rest, no_header, opens, rows_before_end)
 
   -- A sending holds a header of the page.
   pub sending_holds : holds_header (kind w) (sending w national serial page) ≡ true
@@ -222,19 +201,12 @@ module _ (w : PageIdValue) (national : National) (serial : Bool) (page : Rows) (
   -- So each cell that is shown is that of the page.
   pub shown_after : (before : List (List ℕ)) (row column : ℕ) → IsCell row column
       → shown w (before ++ sending w national serial page) row column ≡ cell page row column
-  shown_after before row column named = ap (in_cell w row column) (span_after before)
-      ∙ page_found w page ok shape row column named
+  shown_after before row column named = grind (arith, nat_tests, span_after, page_found)
 
   -- And the closing header ends the page.
   pub ended_after : (before : List (List ℕ))
       → is_unended (kind w) (before ++ sending w national serial page) ≡ false
-  ended_after before =
-      rw (
-        after_sending before,
-        list_any-append (λ p. ends_page (kind w p)) rows (closer w serial ∷ []),
-        closes,
-        or-true,
-      ) refl
+  ended_after before = search (rules, after_sending, list_any-append, closer, closes, or-true)
 
   -- ---- also cut short
 
@@ -243,12 +215,11 @@ module _ (w : PageIdValue) (national : National) (serial : Bool) (page : Rows) (
       → AreRowsOfOnePage w (span (kind w) (take n (sending w national serial page)))
   unfolding sending
   rows_cut zero = record { page = page; shape = shape; rows = All-nil (IsRowOf w page) }
-  rows_cut (suc m) =
-      record {
-        page = page;
-        shape = shape;
-        rows = rw (cut_span m) (All-take (IsRowOf w page) m rows (sent_rows_are w page));
-      }
+  rows_cut (suc m) = record {
+    page = page;
+    shape = shape;
+    rows = rw (cut_span m) (All-take (IsRowOf w page) m rows (sent_rows_are w page));
+  }
 
   -- ---- each packet of it
 
@@ -268,37 +239,19 @@ module _ (w : PageIdValue) (national : National) (serial : Bool) (page : Rows) (
   all_sent = each_packet (IsSentPacket w national serial) first last each
     where
       first : IsSentPacket w national serial (opener w national serial)
-      first = let made = made_opener w national serial ok in
-          record {
-            whole = packet_of_header w.magazine (watched_header w national serial) made.whole;
-            exact = made.exact;
-            mode = λ h e. ap c11 (same_Some h _ (sym e ∙ made.header))
-                ∙ mode_opener w national serial;
-            page_header = λ h e. let f : ThisPage (watched_header w national serial) ≡ ThisPage h =
-                sym (kind_opener w national serial ok) ∙ e in cc;
-          }
+      first =
+          let made = made_opener w national serial ok in
+          grind (arith, nat_tests, packet_of_header, same_Some, mode_opener, kind_opener)
 
       last : IsSentPacket w national serial (closer w serial)
-      last = let made = made_closer w serial ok in
-          record {
-            whole = packet_of_header w.magazine (closing_header serial) made.whole;
-            exact = made.exact;
-            mode = λ h e. ap c11 (same_Some h _ (sym e ∙ made.header)) ∙ mode_closer serial;
-            page_header = λ h e. absurd
-                (let f : EndsPage ≡ ThisPage h = sym (kind_closer w serial ok) ∙ e in cc);
-          }
+      last =
+          let made = made_closer w serial ok in
+          grind (arith, nat_tests, packet_of_header, same_Some, mode_closer, kind_closer)
 
       each : (row : ℕ) → 1 ≤ row → row ≤ 24 → IsSentPacket w national serial (row_of w page row)
-      each row one high = let made = made_row w page row ok shape one high in
-          record {
-            whole = packet_of_codes w.magazine row (row_at page row) made.whole
-                (row_codes page row shape);
-            exact = made.exact;
-            mode = λ h e. absurd (none-some h (sym made.header ∙ e));
-            page_header = λ h e. absurd
-                (let f : Row row ≡ ThisPage h = sym (kind_row w page row ok shape one high) ∙ e in
-                cc);
-          }
+      each row one high =
+          let made = made_row w page row ok shape one high in
+          grind (arith, nat_tests, packet_of_codes, row_codes, none-some, kind_row)
 
 -- ---- sendings one after another, cut anywhere
 
@@ -307,9 +260,7 @@ pub law_of_cut_sendings : LawOfCutSendings
 law_of_cut_sendings w national serial due [] n ok shape =
     rw (take_all {A = List ℕ} n [] (omega arith))
     (record { page = due 0; shape = shape 0; rows = All-nil (IsRowOf w (due 0)) })
-law_of_cut_sendings w national serial due (f ∷ []) n ok shape =
-    rw (append-nil (sending w national serial (due f)))
-    (rows_cut w national serial (due f) ok (shape f) n)
+law_of_cut_sendings w national serial due (f ∷ []) n ok shape = search (rules, append-nil, rows_cut)
 law_of_cut_sendings w national serial due (f ∷ g ∷ fs) n ok shape =
     let one : List (List ℕ) = sending w national serial (due f) in
     let rest : List (List ℕ) = flat_map (λ k. sending w national serial (due k)) (g ∷ fs) in
@@ -318,19 +269,13 @@ law_of_cut_sendings w national serial due (f ∷ g ∷ fs) n ok shape =
           let m : ℕ = n - length one - 1 in
           let e : length one + suc m ≡ n = omega arith in
           let holds : holds_header (kind w) (take (suc m) rest) ≡ true =
-          opens_cut w national serial (due g) ok (shape g) m
-          (flat_map (λ k. sending w national serial (due k)) fs) in
-          rw (
-            ← e,
-            take-append-add one rest (suc m),
-            after-append (kind w) one (take (suc m) rest) holds,
-          ) (law_of_cut_sendings w national serial due (g ∷ fs) (suc m) ok shape)
-      | inr within ↦
-          rw (take-append-le n one rest within)
-          (rows_cut w national serial (due f) ok (shape f) n)
+          grind (arith, nat_tests, opens_cut) in
+          rw (← e, take-append-add one rest (suc m))
+          (rw (after-append (kind w) one (take (suc m) rest) holds)
+          (law_of_cut_sendings w national serial due (g ∷ fs) (suc m) ok shape))
+      | inr within ↦ grind (arith, nat_tests, take-append-le, rest, rows_cut)
     ]
 
 -- A sending shows its page.
 pub law_of_sending : LawOfSending
-law_of_sending w national serial page before row column ok shape named =
-    shown_after w national serial page ok shape before row column named
+law_of_sending w national serial page before row column ok shape named = search (rules, shown_after)

@@ -1,8 +1,9 @@
 -- How long a sending is, as a value and row by row: law_of_size, law_of_pes_values, sending_made.
+use Rattle.std.proofs.Common.{rules, ◌≡◌, ℕ, ◌+◌, ◌-◌, ◌*◌, ◌^◌, ◌<◌, ◌≤◌, Bool, false, cond, List}
+use Rattle.std.proofs.Common.{[], ◌∷◌, ◌++◌, length, filter, All, refl, ap, ◌∙◌, arith, lit<}
+use Rattle.std.proofs.Common.{append-nil}
+use Rattle.std.proofs.lemmas.Bool.Decides.{nat_tests}
 use Rattle.std.proofs.lemmas.List.Sums.{count_by-le-length, length-filter}
-use Rattle.std.proofs.Common.{◌≡◌, ℕ, suc, ◌+◌, ◌-◌, ◌*◌, ◌^◌, ◌<◌, ◌≤◌, Bool, true, false, cond}
-use Rattle.std.proofs.Common.{List, [], ◌∷◌, ◌++◌, length, map, filter, All, refl, ap, ◌∙◌, arith}
-use Rattle.std.proofs.Common.{lit<, append-nil}
 use Rattle.std.specs.List.{range_with_len}
 use Rattle.std.proofs.Math.Nat.{mod-lt}
 use Rattle.std.proofs.lemmas.List.{length_push, length-map}
@@ -19,7 +20,6 @@ use Rattle.sub_plan.specs.FrameTime.{pts_of}
 use Rattle.sub_plan.specs.Sending.{is_sent_row, watched_header, closing_header, rows_from}
 use Rattle.sub_plan.specs.Sending.{sent_rows, sending}
 use Rattle.sub_plan.specs.Laws.{IsSentPacket, LawOfDueSize, LawOfPesValues, LawOfSize}
-use Rattle.sub_plan.specs.Schedule.{due_in}
 use Rattle.stl_rows.proofs.LastRowLemmas.{last_row_blank}
 use Rattle.sub_plan.proofs.SentPackets.{closer}
 use Rattle.sub_plan.proofs.SendingLemmas.{all_sent}
@@ -32,12 +32,7 @@ short_filter test xs = omega (arith, length-filter test xs, count_by-le-length t
 
 -- Of n rows at most n are sent.
 short_rows : (magazine : ℕ) (page : Rows) (a n : ℕ) → length (rows_from magazine page a n) ≤ n
-short_rows magazine page a n =
-    let e = length-map (filter (λ row. is_sent_row (row_at page row)) (range_with_len a n))
-    (λ row. row_packet magazine row (row_at page row)) in
-    let f = short_filter (λ row. is_sent_row (row_at page row)) (range_with_len a n) in
-    let g = length-range_with_len a n in
-    omega (arith, e, f, g)
+short_rows magazine page a n = search (rules, length-map, short_filter, length-range_with_len)
 
 -- At most 24 rows are sent.
 short_page : (magazine : ℕ) (page : Rows) → length (sent_rows magazine page) ≤ 24
@@ -47,10 +42,7 @@ short_page magazine page = short_rows magazine page 1 24
 -- A sending has at most 26 packets.
 pub law_of_size : LawOfSize
 unfolding sending
-law_of_size w national serial page =
-    let e = length_push (sent_rows w.magazine page) (closer w serial) in
-    let f = short_page w.magazine page in
-    omega (arith, e, f)
+law_of_size w national serial page = grind (arith, nat_tests, length_push, closer, short_page)
 
 -- A blank row is not sent. For `law_of_due_size`.
 blank_unsent : is_sent_row blank_row ≡ false
@@ -58,8 +50,7 @@ unfolding blank_row
 blank_unsent = refl
 
 -- Of a page with a blank last row the rows but that one are sent.
-rows_but_last :
-    (magazine : ℕ) (page : Rows)
+rows_but_last : (magazine : ℕ) (page : Rows)
     → row_at page 24 ≡ blank_row
     → length (sent_rows magazine page) ≤ 23
 unfolding sent_rows
@@ -78,12 +69,7 @@ rows_but_last magazine page e =
 pub law_of_due_size : LawOfDueSize
 unfolding sending
 law_of_due_size w serial programme frame =
-    let page = due_in programme frame in
-    let e = length_push (sent_rows w.magazine page) (closer w serial) in
-    let f =
-    rows_but_last w.magazine page
-    (last_row_blank programme.national programme.records frame) in
-    omega (arith, e, f)
+    grind (arith, nat_tests, length_push, closer, rows_but_last, last_row_blank)
 
 -- ---- as a PES packet
 
@@ -107,18 +93,7 @@ pub rows_next : (magazine : ℕ) (page : Rows) (row : ℕ)
     → rows_from magazine page row (25 - row)
     ≡ cond (is_sent_row (row_at page row)) (row_packet magazine row (row_at page row) ∷ []) []
     ++ rows_from magazine page (row + 1) (25 - (row + 1))
-rows_next magazine page row high =
-    let e : 25 - row ≡ suc (24 - row) = omega arith in
-    let f : 25 - (row + 1) ≡ 24 - row = omega arith in
-    rw (e, f) (go (is_sent_row (row_at page row)) _)
-  where
-    pack : ℕ → List ℕ
-    pack row = row_packet magazine row (row_at page row)
-
-    go : (b : Bool) → (rest : List ℕ)
-        → map pack (cond b (row ∷ rest) rest) ≡ cond b (pack row ∷ []) [] ++ map pack rest
-    go true rest = refl
-    go false rest = refl
+rows_next magazine page row high = grind (arith, nat_tests)
 
 -- The closing header completes the sending, after row 24.
 pub sending_made : (w : PageIdValue) (national : National) (serial : Bool) (page : Rows)

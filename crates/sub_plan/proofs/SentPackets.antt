@@ -1,16 +1,15 @@
 -- The packets of a sending, one by one: what is read of them, made_row, and their kinds, kind_row.
-use Rattle.std.proofs.Common.{◌≡◌, ℕ, ◌+◌, ◌-◌, ◌*◌, ◌/◌, ◌%◌, ◌<◌, ◌≤◌, Bool, false, ◌==◌, List}
-use Rattle.std.proofs.Common.{[], ◌∷◌, ◌++◌, length, map, replicate, slice_index_or, slice_index}
-use Rattle.std.proofs.Common.{All, refl, arith, lit<, eq-eqb, ne_eqb}
+use Rattle.std.proofs.Common.{rules, ◌≡◌, ℕ, ◌+◌, ◌-◌, ◌*◌, ◌/◌, ◌%◌, ◌<◌, ◌≤◌, Bool, List, [], ◌∷◌}
+use Rattle.std.proofs.Common.{◌++◌, length, map, replicate, slice_index, All, refl, arith, lit<}
+use Rattle.std.proofs.Common.{eq-eqb, ne_eqb}
 use Rattle.std.proofs.lemmas.Bool.{le-leb, ltb-true}
 use Rattle.std.proofs.lemmas.Bool.Decides.{nat_tests}
 use Rattle.std.proofs.lemmas.List.{get_or_past}
 use Rattle.std.proofs.lemmas.List.Sums.{AllPass-from_list_all}
-use Rattle.std.specs.Prelude.{nat_lt}
 use Rattle.std.proofs.lemmas.List.Elements.{All-append, All-replicate, All-map, All-weaker}
 use Rattle.std.proofs.lemmas.List.Elements.{All-from_get_or}
 use Rattle.ttx_packet.specs.declared.header.Header.{Header}
-use Rattle.ttx_packet.specs.Hamming84.{code_word, code_words}
+use Rattle.ttx_packet.specs.Hamming84.{code_word}
 use Rattle.ttx_packet.specs.PacketAddress.{IsPacket, address_words}
 use Rattle.ttx_packet.specs.PageHeader.{header_numbers, header_packet, IsHeader}
 use Rattle.ttx_packet.specs.PageId.{PageIdValue}
@@ -24,7 +23,7 @@ use Rattle.ttx_page.specs.Page.{Rows, row_at, IsPage}
 use Rattle.ttx_page.specs.PacketKind.{kind}
 use Rattle.stl_rows.specs.declared.national.National.{National}
 use Rattle.sub_plan.specs.Options.{IsWatchable}
-use Rattle.sub_plan.specs.Sending.{has_c14, watched_header, closing_header}
+use Rattle.sub_plan.specs.Sending.{watched_header, closing_header}
 
 -- ---- packets of bytes
 
@@ -34,20 +33,15 @@ IsByte b = b < 0x100
 
 -- Each place of a list of bytes, past its end too.
 byte_at : (xs : List ℕ) → All IsByte xs → (n : ℕ) → slice_index xs n < 0x100
-byte_at xs all n =
-    let inside = all n 0 in let past = get_or_past xs n 0 in grind arith
+byte_at xs all n = grind (arith, nat_tests, get_or_past)
 
 -- A code word is a byte: 16 entries, computed.
 code_word_small : (n : ℕ) → code_word n < 0x100
-code_word_small n =
-    byte_at code_words
-    (λ k d h. ltb-true _ 0x100 (AllPass-from_list_all (λ b. nat_lt b 0x100) code_words refl k d h))
-    n
+code_word_small n = grind (arith, nat_tests, byte_at, ltb-true, AllPass-from_list_all)
 
 -- So is each of several.
 code_words_small : (numbers : List ℕ) → All IsByte (map code_word numbers)
-code_words_small numbers =
-    All-map IsByte code_word numbers (λ k d l. code_word_small (slice_index_or numbers k d))
+code_words_small numbers = search (rules, All-map, code_word_small)
 
 -- So is a byte of odd parity.
 odd_byte_small : (code : ℕ) → code < 0x80 → odd_byte code < 0x100
@@ -87,23 +81,11 @@ packet_of_codes magazine row codes size all =
 -- The header of the page is one that a packet can say.
 watched_is : (w : PageIdValue) (national : National) (serial : Bool) → IsWatchable w
     → IsHeader (watched_header w national serial)
-watched_is w national serial ok =
-    record {
-      page = omega (arith, ok.page_number);
-      subcode = lit< tt;
-      no_bit_8 = refl;
-      control = omega (arith, bit_small serial, bit_small (has_c14 national));
-    }
+watched_is w national serial ok = grind (arith, nat_tests, bit_small)
 
 -- So is the closing header.
 closing_is : (serial : Bool) → IsHeader (closing_header serial)
-closing_is serial =
-    record {
-      page = lit< tt;
-      subcode = lit< tt;
-      no_bit_8 = refl;
-      control = omega (arith, bit_small serial);
-    }
+closing_is serial = grind (arith, nat_tests, bit_small)
 
 -- The header of the page as a packet.
 abbrev pub opener : PageIdValue → National → Bool → List ℕ
@@ -116,15 +98,12 @@ closer w serial = header_packet w.magazine (closing_header serial)
 -- What is read of the header of the page.
 pub made_opener : (w : PageIdValue) (national : National) (serial : Bool) → IsWatchable w
     → IsMadeHeader w.magazine (watched_header w national serial) (opener w national serial)
-made_opener w national serial ok =
-    law_of_header_packet w.magazine (watched_header w national serial) ok.magazine
-    (watched_is w national serial ok)
+made_opener w national serial ok = search (rules, law_of_header_packet, watched_is)
 
 -- What is read of the closing header.
 pub made_closer : (w : PageIdValue) (serial : Bool) → IsWatchable w
     → IsMadeHeader w.magazine (closing_header serial) (closer w serial)
-made_closer w serial ok =
-    law_of_header_packet w.magazine (closing_header serial) ok.magazine (closing_is serial)
+made_closer w serial ok = search (rules, law_of_header_packet, closing_is)
 
 -- The packet of a row of the page.
 abbrev pub row_of : PageIdValue → Rows → ℕ → List ℕ
@@ -153,20 +132,14 @@ made_row w page row ok shape one high =
 pub kind_opener : (w : PageIdValue) (national : National) (serial : Bool) → IsWatchable w
     → kind w (opener w national serial) ≡ ThisPage (watched_header w national serial)
 unfolding kind
-kind_opener w national serial ok =
-    let made = made_opener w national serial ok in
-    rw (made.address, made.header, eq-eqb w.magazine w.magazine refl, eq-eqb w.page w.page refl)
-    refl
+kind_opener w national serial ok = grind (arith, nat_tests, made_opener w national serial ok)
 
 -- The closing header ends the page.
 pub kind_closer : (w : PageIdValue) (serial : Bool) → IsWatchable w
     → kind w (closer w serial) ≡ EndsPage
 unfolding kind
 kind_closer w serial ok =
-    let made = made_closer w serial ok in
-    let other : (0xFF == w.page) ≡ false =
-    ne_eqb _ _ (λ e. absurd (omega (arith, ok.page_number))) in
-    rw (made.address, made.header, eq-eqb w.magazine w.magazine refl, other) refl
+    grind (arith, nat_tests, made_closer w serial ok, ne_eqb, eq-eqb w.magazine w.magazine refl)
 
 -- A row of the page is that row.
 pub kind_row : (w : PageIdValue) (page : Rows) (row : ℕ) → IsWatchable w → IsPage page → 1 ≤ row
@@ -174,5 +147,4 @@ pub kind_row : (w : PageIdValue) (page : Rows) (row : ℕ) → IsWatchable w →
 unfolding kind
 kind_row w page row ok shape one high =
     let made = made_row w page row ok shape one high in
-    let z : (row == 0) ≡ false = ne_eqb _ _ (λ e. absurd (omega arith)) in
-    rw (made.address, made.header, z, eq-eqb w.magazine w.magazine refl, le-leb row 24 high) refl
+    grind (arith, nat_tests, made_row, ne_eqb, eq-eqb, le-leb)

@@ -1,8 +1,8 @@
 -- From base to base: sendings-step splits off the sendings of a stretch, steps-more the first of
 -- them.
 use Rattle.std.proofs.Common.{◌≡◌, ℕ, zero, suc, ◌+◌, ◌-◌, ◌%◌, ◌<◌, ◌≤◌, ◌==◌, Bool, false, []}
-use Rattle.std.proofs.Common.{List, ◌∷◌, ◌++◌, refl, sym, ap, ◌∙◌, arith, filter, inl, inr, eq-eqb}
-use Rattle.std.proofs.Common.{ne_eqb}
+use Rattle.std.proofs.Common.{List, ◌∷◌, ◌++◌, refl, ap, ◌∙◌, arith, filter, eq-eqb, ne_eqb}
+use Rattle.std.proofs.lemmas.Bool.Decides.{nat_tests}
 use Rattle.std.proofs.Math.Nat.{add-mod_right, mod-eq_of_lt}
 use Rattle.std.proofs.lemmas.List.Elements.{filter-append}
 use Rattle.std.specs.List.{range_with_len}
@@ -10,7 +10,7 @@ use Rattle.ttx_page.specs.Page.{Rows}
 use Rattle.sub_plan.specs.Laws.{IsBase, IsLastBase}
 use Rattle.sub_plan.specs.Schedule.{is_sending, sendings_from}
 use Rattle.sub_plan.specs.Steps.{steps}
-use Rattle.sub_plan.proofs.ScheduleBases.{aligned-start, base-last, range_split}
+use Rattle.sub_plan.proofs.ScheduleBases.{base-last, range_split}
 
 -- ---- ranges
 
@@ -19,16 +19,14 @@ filter_same : (p q : ℕ → Bool) (a n : ℕ) → ((j : ℕ) → a ≤ j → j 
     → filter p (range_with_len a n) ≡ filter q (range_with_len a n)
 filter_same p q a zero h = refl
 filter_same p q a (suc n) h =
-    let e : p a ≡ q a = h a (omega arith) (omega arith) in
     let tail : filter p (range_with_len (a + 1) n) ≡ filter q (range_with_len (a + 1) n) =
     filter_same p q (a + 1) n (λ j b c. h j (omega arith) (omega arith)) in
-    rw (e, tail) refl
+    grind (arith, nat_tests)
 
 -- Numbers that fail the test are left out.
 filter_skip : (p : ℕ → Bool) (k a n : ℕ) → ((j : ℕ) → a ≤ j → j < a + k → p j ≡ false)
     → filter p (range_with_len a n) ≡ filter p (range_with_len (a + k) (n - k))
-filter_skip p zero a n h = let e : a + 0 ≡ a = omega arith in let f : n - 0 ≡ n = omega arith in
-    rw (e, f) refl
+filter_skip p zero a n h = grind (arith, nat_tests)
 filter_skip p (suc k) a zero h = let f : 0 - suc k ≡ 0 = omega arith in rw f refl
 filter_skip p (suc k) a (suc n) h =
     let e : p a ≡ false = h a (omega arith) (omega arith) in
@@ -52,7 +50,6 @@ steps-more every from end some inside =
     let test : ℕ → ℕ → Bool = λ b f. (f - b) % every == 0 in
     let n : ℕ = end - from - 1 in
     let e : end - from ≡ suc n = omega arith in
-    let f : from + 1 + (every - 1) ≡ from + every = omega arith in
     let g : n - (every - 1) ≡ end - (from + every) = omega arith in
     let skip =
     filter_skip (test from) (every - 1) (from + 1) n
@@ -64,8 +61,7 @@ steps-more every from end some inside =
     (λ j a c.
     let further : j - from ≡ j - (from + every) + every = omega arith in
     rw (further, add-mod_right (j - (from + every)) every) refl) in
-    rw (e, aligned-start from every some)
-    (ap (λ (xs : List ℕ). from ∷ xs) (rw (f, g) at skip ∙ same))
+    grind (arith, nat_tests)
 
 -- ---- from base to base
 
@@ -80,16 +76,7 @@ pub record IsStretch (due : ℕ → Rows) (first b end last : ℕ) : Type 0 wher
 -- In a stretch the last base is its first frame.
 last_base-in : (due : ℕ → Rows) (first b end last f : ℕ) → IsStretch due first b end last → b ≤ f
     → f < end → IsLastBase due first f b
-last_base-in due first b end last f s low high = record {
-  low = s.low;
-  high = low;
-  is_base = s.starts;
-  none_after = λ k after before is. elim is [
-    | inl here ↦ absurd (omega (arith, here, s.low))
-    | inr other ↦ other
-        (s.same k (omega arith) (omega arith) ∙ sym (s.same (k - 1) (omega arith) (omega arith)))
-  ];
-}
+last_base-in due first b end last f s low high = grind (arith, nat_tests)
 
 -- In a stretch the sendings are the steps.
 is_sending-in : (due : ℕ → Rows) (every first b end last f : ℕ) → IsStretch due first b end last
@@ -118,6 +105,4 @@ sendings-step due every first b end last s =
 pub sendings-last : (due : ℕ → Rows) (every first last : ℕ)
     → sendings_from due every first last last ≡ last ∷ []
 unfolding sendings_from is_sending
-sendings-last due every first last =
-    let n : last + 1 - last ≡ suc 0 = omega arith in
-    rw (n, eq-eqb last last refl) refl
+sendings-last due every first last = grind (arith, nat_tests, eq-eqb)

@@ -1,4 +1,3 @@
--- The law, by the lemma of its name.
 use Rattle.sub_plan.proofs.SendingSize.{law_of_pes_values}
 use Rattle.sub_plan.proofs.laws.law_of_pes_values.Goals as goal
 

@@ -1,4 +1,3 @@
--- The law, by the lemma of its name.
 use Rattle.sub_plan.proofs.ScheduleMembers.{law_of_sendings}
 use Rattle.sub_plan.proofs.laws.law_of_sendings.Goals as goal
 

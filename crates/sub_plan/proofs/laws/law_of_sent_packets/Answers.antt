@@ -1,4 +1,3 @@
--- The law is all_sent.
 use Rattle.sub_plan.proofs.SendingLemmas.{all_sent}
 use Rattle.sub_plan.proofs.laws.law_of_sent_packets.Goals as goal
 

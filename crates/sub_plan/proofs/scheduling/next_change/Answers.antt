@@ -1,5 +1,6 @@
 -- From edge to edge, by still_due.
-use Rattle.std.proofs.Common.{◌≡◌, arith, ap, ◌∙◌, sym, inl, inr}
+use Rattle.std.proofs.Common.{arith, inl, inr}
+use Rattle.std.proofs.lemmas.Bool.Decides.{nat_tests}
 use Rattle.std.proofs.lemmas.Bool.{cases_lt}
 use Rattle.sub_plan.specs.Schedule.{due_in}
 use Rattle.sub_plan.proofs.EdgeLemmas.{still_due}
@@ -25,10 +26,7 @@ loop-edge-preserved c =
           elim (cases_lt f c.in-Some.edge) [
             | inl before ↦ still_due (due_in p) p.records _ c.loop-edge.at _
                 (c.law_of_edges.ensures p.national p.records) next.least i.same i.low f low before
-            | inr last ↦
-                let e : f ≡ c.in-Some.edge = omega arith in
-                ap (due_in p) e
-                ∙ (sym c.due_page-next.ensures.value ∙ sym c.in-None.ensures ∙ c.requires.page)
+            | inr last ↦ grind (arith, nat_tests)
           ];
     }
 

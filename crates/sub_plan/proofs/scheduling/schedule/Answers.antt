@@ -1,5 +1,6 @@
 -- A programme without subtitles has no first TCI; with some, the first TCI is before the last TCO.
-use Rattle.std.proofs.Common.{refl}
+use Rattle.std.proofs.Common.{arith, refl}
+use Rattle.std.proofs.lemmas.Bool.Decides.{nat_tests}
 use Rattle.sub_plan.proofs.ProgrammeLemmas.{none_in, some_out, span-rises}
 use Rattle.sub_plan.proofs.scheduling.schedule.Goals as goal
 
@@ -7,8 +8,7 @@ pub returns-in_default-clause-empty : goal.returns-in_default-clause-empty
 returns-in_default-clause-empty g c = (λ e. none_in _ c.in_default.ensures.value, λ e. refl)
 
 pub returns-in_default-last_out-clause-empty : goal.returns-in_default-last_out-clause-empty
-returns-in_default-last_out-clause-empty g c =
-    (λ e. some_out _ _ c.in-Some.ensures.value c.in_default-last_out.ensures.value, λ e. refl)
+returns-in_default-last_out-clause-empty g c = grind (arith, nat_tests, some_out)
 
 pub send_all-requires-clause-order : goal.send_all-requires-clause-order
 send_all-requires-clause-order g c =

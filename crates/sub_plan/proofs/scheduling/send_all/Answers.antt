@@ -1,31 +1,18 @@
 -- Stretch by stretch, by sendings-step and part-more; then the last frame, by part-one.
-use Rattle.std.proofs.Common.{◌≡◌, arith, refl, rules, ◌∙◌, inl, inr, []}
+use Rattle.std.proofs.Common.{◌≡◌, arith, refl, rules, ◌∙◌, inr, []}
 use Rattle.std.proofs.lemmas.Result.{err_from_is_err_and}
 use Rattle.sub_plan.specs.Schedule.{due_in}
 use Rattle.sub_plan.specs.Sending.{sending}
 use Rattle.sub_plan.proofs.StepLemmas.{IsStretch, sendings-last, sendings-step}
-use Rattle.sub_plan.proofs.PartLemmas.{part-end, part-more, part-one, part-start, prefix-more}
-use Rattle.sub_plan.proofs.PartLemmas.{prefix-one, stretch-bytes}
+use Rattle.sub_plan.proofs.PartLemmas.{part-end, part-more, part-one, prefix-more, prefix-one}
+use Rattle.sub_plan.proofs.PartLemmas.{stretch-bytes}
 use Rattle.sub_plan.proofs.scheduling.send_all.Goals as goal
-
-pub loop-frame-init : goal.loop-frame-init
-loop-frame-init g c = record {
-  low = omega arith;
-  high = omega arith;
-  option = c.national-national.ensures.value;
-  page = c.due_page-page.ensures.value;
-  starts = λ h. inl refl;
-  few = omega arith;
-  failures = refl;
-  part = part-start;
-}
 
 pub returns-in_err-count-clause-bytes : goal.returns-in_err-count-clause-bytes
 returns-in_err-count-clause-bytes g c =
     let i = c.loop-frame.invariant in
     let p = c.args.programme.now in
     let o = c.args.options.now in
-    let n = c.next_change-end.ensures in
     let s : IsStretch (due_in p) c.args.first c.loop-frame.frame c.next_change-end.result.0
     c.args.last = search rules in
     let packets : c.packets.result.now ≡ sending o.page p.national c.args.serial

@@ -1,25 +1,14 @@
 -- Frame by frame, by steps-more and part-one.
-use Rattle.std.proofs.Common.{arith, refl, rules}
+use Rattle.std.proofs.Common.{arith, rules}
 use Rattle.std.proofs.lemmas.Result.{err_from_is_err_and}
 use Rattle.sub_plan.proofs.StepLemmas.{steps-more, steps-none}
-use Rattle.sub_plan.proofs.PartLemmas.{part-end, part-one, part-start, prefix-one}
+use Rattle.sub_plan.proofs.PartLemmas.{part-end, part-one, prefix-one}
 use Rattle.sub_plan.proofs.scheduling.send_steps.Goals as goal
-
-pub loop-frame-init : goal.loop-frame-init
-loop-frame-init g c = record {
-  low = omega arith;
-  few = omega arith;
-  fewer = λ h. omega arith;
-  units = search rules;
-  failures = refl;
-  part = part-start;
-}
 
 pub loop-frame-preserved : goal.loop-frame-preserved
 loop-frame-preserved g c =
     let i = c.loop-frame.invariant in
     let every = c.step_of-every.ensures in
-    let least = every.least in
     record {
       low = omega arith;
       few = omega arith;
@@ -34,20 +23,15 @@ loop-frame-preserved g c =
     }
 
 pub returns-clause-number : goal.returns-clause-number
-returns-clause-number g c =
-    (part-end c.loop-frame.invariant.part
-    (steps-none c.args.options.now.every c.loop-frame.frame c.args.end c.loop-frame-test.false)).0
+returns-clause-number g c = search (rules, part-end, steps-none)
 
 pub returns-clause-bytes : goal.returns-clause-bytes
-returns-clause-bytes g c =
-    (part-end c.loop-frame.invariant.part
-    (steps-none c.args.options.now.every c.loop-frame.frame c.args.end c.loop-frame-test.false)).1
+returns-clause-bytes g c = search (rules, part-end, steps-none)
 
 pub returns-in_err-repeat_at-clause-bytes : goal.returns-in_err-repeat_at-clause-bytes
 returns-in_err-repeat_at-clause-bytes g c =
     let i = c.loop-frame.invariant in
     let p = err_from_is_err_and c.from_residual.result c.from_residual.ensures.1 in
-    let least = c.step_of-every.ensures.least in
     rw (p.1)
     (prefix-one i.part _
     (steps-more c.args.options.now.every c.loop-frame.frame c.args.end

@@ -3,5 +3,4 @@ use Rattle.sub_plan.proofs.SendingLemmas.{sent_by_blank}
 use Rattle.sub_plan.proofs.sending.is_sent_row.Goals as goal
 
 pub returns : goal.returns
-returns c =
-    sent_by_blank c.is_blank.result c.args.codes.now c.told-codes c.is_blank.ensures
+returns c = sent_by_blank c.is_blank.result c.args.codes.now c.told-codes c.is_blank.ensures
