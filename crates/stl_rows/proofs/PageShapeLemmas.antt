@@ -137,4 +137,4 @@ due_is_page national ts f =
     due_has IsPage national ts f is_page_blank
     (λ t none. page_is t.jc t.vp (lines national t)
     (all_prepared (lines_of_codes (text_codes national 0 t.text))
-      (cells_small national 0 0 t.text)))
+    (cells_small national 0 0 t.text)))
