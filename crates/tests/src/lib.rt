@@ -18,6 +18,8 @@ mod drawings;
 #[cfg(test)]
 mod dropped_rows;
 #[cfg(test)]
+mod fault_codes;
+#[cfg(test)]
 mod libzvbi;
 #[cfg(test)]
 mod options;
