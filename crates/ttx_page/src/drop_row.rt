@@ -82,6 +82,7 @@ impl DropRow {
     }
 
     /// Hears packets, one after another.
+    #[tactic(auto, using(crate::proofs::RunLemmas::run_more))]
     pub fn hear_all(&mut self, packets: &[Packet])
         ensures run { HearsBy Dropping self.old.watched self.old.state packets.now self.new.state }
         ensures tuned { self.new.watched ≡ self.old.watched }

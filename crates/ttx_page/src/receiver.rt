@@ -55,6 +55,7 @@ pub trait Receiver: Sized {
 }
 
 /// Hears packets, one after another, with the receiver's choice at each even byte.
+#[tactic(auto, using(crate::proofs::RunLemmas::run_more))]
 pub fn hear_all<R: Receiver>(receiver: &mut R, packets: &[Packet])
     ensures run { Hears (R.tuned_to receiver.old) (R.state receiver.old) packets.now
         (R.state receiver.new) }

@@ -42,6 +42,7 @@ fn put_on(screen: &mut Option<Page>, page: &Page)
 }
 
 /// Hears packets, one after another, with a screen that waits as that of `show`.
+#[tactic(auto, using(crate::proofs::RunLemmas::run_more))]
 pub fn show_all<R: Receiver>(receiver: &mut R, screen: &mut Option<Page>, packets: &[Packet])
     ensures run { Shows (R.tuned_to receiver.old)
         (display (R.state receiver.old) screen.old) packets.now
