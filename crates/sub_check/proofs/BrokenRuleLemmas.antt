@@ -49,17 +49,11 @@ Refutes b P = Decides (not b) P
 -- The coded bytes of a packet X/0.
 pub coded : (o : Option PacketAddress) (b : Bool) (P : Type 0) → Decides b P
     → Refutes (is_of_header o && not b) ((a : PacketAddress) → o ≡ Some a → a.packet_number ≡ 0 → P)
-coded None b P d = (λ e a is z. absurd (grind arith), λ h. refl)
-coded (Some a) b P d = (
-  λ e other is z. grind (arith, nat_tests),
-  λ h. let k = h a refl in grind (arith, nat_tests),
-)
+coded o b P d = grind (arith, nat_tests)
 
 -- With no other bit there is none that differs.
 mode-none : (o : Option Bool) → is_other_mode o None ≡ false
-mode-none None = refl
-mode-none (Some true) = refl
-mode-none (Some false) = refl
+mode-none o = grind (arith, nat_tests)
 
 -- One mode.
 pub one_mode : (this first : Option Header)
@@ -67,10 +61,7 @@ pub one_mode : (this first : Option Header)
     (is_other_mode (option_map (λ (h : Header). c11 h) first)
     (option_map (λ (h : Header). c11 h) this))
     ((h f : Header) → this ≡ Some h → first ≡ Some f → c11 h ≡ c11 f)
-one_mode None None = (λ e h f a b. grind arith, λ h. refl)
-one_mode None (Some f) = (λ e h f a b. grind arith, λ h. ap not (mode-none (Some (c11 f))))
-one_mode (Some h) None = (λ e h f a b. grind arith, λ h. refl)
-one_mode (Some h) (Some f) = grind (arith, nat_tests)
+one_mode this first = grind (arith, nat_tests, mode-none)
 
 -- The control bits.
 subtitle_header : (national : National) (h : Header)
@@ -257,13 +248,7 @@ module _ (w : Watched) (before : List (List ℕ)) (p : List ℕ) (whole : IsPack
         → Refutes (is_other_row w.page (span (kind w.page) before) p k)
         ((row : ℕ) → k ≡ Row row
         → AllByRecursion (λ q. kind w.page q ≡ Row row → q ≡ p) (span (kind w.page) before))
-    same_row (Row y) e exact odd is_open =
-        grind (
-          arith,
-          nat_tests,
-          row_decided w (span (kind w.page) before) (s is_open) p y e whole exact (odd is_open y e),
-        )
-    same_row k e exact odd is_open = (λ f row is. grind arith, λ h. refl)
+    same_row k e exact odd is_open = grind (arith, nat_tests, row_decided)
 
     -- Each rule, where those of a lower rank are kept.
     pub decided : (r : PacketRule)

@@ -25,10 +25,9 @@ use Rattle.sub_check.specs.PacketRules.{codes_of}
 use Rattle.sub_check.specs.Sufficient.{IsSufficient}
 use Rattle.sub_check.specs.Transmission.{IsRising, SentFrame, Transmission, first_frame}
 use Rattle.sub_check.specs.Transmission.{on_air_until, packets_between}
-use Rattle.sub_check.proofs.CheckingLemmas.WrongCell.{code_at}
-use Rattle.sub_check.proofs.GoodLemmas.{any_sent, number_at}
-use Rattle.sub_check.proofs.PrefixLemmas.{first-same, last-same, locate, on_air_at, on_air_is}
-use Rattle.sub_check.proofs.PrefixLemmas.{rises_to}
+use Rattle.sub_check.proofs.CodesLemmas.{code_of_column}
+use Rattle.sub_check.proofs.GoodLemmas.{any_sent, rises_each}
+use Rattle.sub_check.proofs.PrefixLemmas.{end_at, first-same, last-same, rises_to}
 use Rattle.sub_check.proofs.StretchLemmas.{law_of_stretch}
 use Rattle.sub_check.proofs.TransmissionLemmas.{later_than, packets_between-none, rising-tail}
 
@@ -129,11 +128,6 @@ module _ (page : PageIdValue) (a b : ℕ) where
 
 -- ---- a clean stretch
 
--- The code of a column, among the codes of a packet.
-code_of_column :
-    (p : List ℕ) (k : ℕ) → get_or (codes_of p) k 0 ≡ code_of (get_or p (k + 2) 0)
-code_of_column p k = grind (arith, nat_tests, code_at, get_or-drop)
-
 module _ (programme : ProgrammeValue) (transmission : Transmission) (options : OptionsValue)
     (unread : Option Unread) (a b : ℕ)
     (clean : IsClean (task_of programme options unread) transmission a b) where
@@ -156,58 +150,20 @@ module _ (programme : ProgrammeValue) (transmission : Transmission) (options : O
       → 0 < i
       → i < length transmission
       → frame_at transmission (i - 1) < frame_at transmission i
-  rising i low l =
-      let nothing : SentFrame = record { frame = 0; packets = [] } in
-      let rises = clean.kept FramesRise (i - 1) i nothing (omega arith) (omega arith) in
-      let earlier = number_at transmission (i - 1) nothing (omega arith) in
-      let later = number_at transmission i nothing l in
-      omega arith
+  rising = rises_each transmission (clean.kept FramesRise)
 
   -- Each frame of the stretch has an end, at which what is on air up to it counts.
-  end_at :
-      (f : ℕ)
-      → a ≤ f
-      → f ≤ b
+  end_of : (f : ℕ) → a ≤ f → f ≤ b
       → (n : ℕ)
       × IsEnd transmission n f
       × (on_air_until transmission f ≡ packets_before transmission n)
       × (frame_at transmission (n - 1) ≤ f)
-  end_at f low high =
+  end_of f low high =
       let first = first-same transmission in
       let last = last-same transmission in
       let from = clean.stretch.from in
       let to = clean.stretch.to in
-      let some = clean.stretch.not_empty in
-      elim
-      (locate transmission rising (length transmission - 1) f (omega arith) (omega arith)
-      (omega arith)) [
-        | inl (i, l, is) ↦
-            let same : frame_at transmission (i + 1 - 1) ≡ frame_at transmission i =
-            ap (frame_at transmission) (omega arith) in (
-              i + 1,
-              (omega arith, omega arith, inl (sym is ∙ sym same)),
-              ap (on_air_until transmission) (sym is) ∙ on_air_at transmission rising i l,
-              omega arith,
-            )
-        | inr (i, gap) ↦ (
-          i,
-          (
-            gap.0,
-            omega (arith, gap.1),
-            inr (
-              gap.1,
-              gap.3,
-              λ j l.
-                  let rises =
-                  rises_to transmission rising j (i - 1) (omega arith) (omega (arith, gap.1)) in
-                  omega (arith, gap.2),
-            ),
-          ),
-          on_air_is transmission rising i f (omega (arith, gap.1)) (λ s. omega (arith, gap.2))
-              (λ m. gap.3),
-          omega (arith, gap.2),
-        )
-      ]
+      end_at transmission rising f clean.stretch.not_empty (omega arith) (omega arith)
 
   -- At each frame's end a header of the page is less than the repeat bound ago, or the first frame
   -- is.
@@ -223,7 +179,7 @@ module _ (programme : ProgrammeValue) (transmission : Transmission) (options : O
       × HasHeader (task_of programme options unread) transmission j)
   covered f low high =
       let first = first-same transmission in
-      let (n, end, on, before) = end_at f low high in
+      let (n, end, on, before) = end_of f low high in
       elim (clean.kept HeadersInTime n f end low high) [
         | inl early ↦ inl (omega arith)
         | inr (j, l, late, has) ↦
@@ -241,7 +197,7 @@ module _ (programme : ProgrammeValue) (transmission : Transmission) (options : O
         sound_between options.page a b [] transmission f high (clean.kept FramesRise) fit;
     repeats = repeats;
     content = λ f row column low high named.
-        let end = end_at f low high in
+        let end = end_of f low high in
         ap (λ ps. shown options.page ps row column) end.2
         ∙ clean.kept DueContent end.0 f end.1 low high row column named;
   }
@@ -280,7 +236,7 @@ module _ (programme : ProgrammeValue) (transmission : Transmission) (options : O
       → AtEnds (λ n f. IsEnded (task_of programme options unread) transmission n) transmission a b
       → CompleteWithin transmission options a b
   complete asks ended f low high holds =
-      let end = end_at f low high in
+      let end = end_of f low high in
       let shut = ended end.0 f end.1 low high asks in
       let on = end.2 in
       grind (arith, nat_tests)

@@ -1,7 +1,7 @@
 -- Two packets of code words and odd text that say the same are equal: `same_packet`.
 use Rattle.std.proofs.lemmas.Bool.Decides.{nat_tests}
 use Rattle.std.proofs.Common.{◌≡◌, ℕ, zero, suc, ◌+◌, ◌*◌, ◌/◌, ◌%◌, ◌<◌, true, not, List}
-use Rattle.std.proofs.Common.{length, get_or, slice_index, drop, map, Some, sym, ap, ◌∙◌}
+use Rattle.std.proofs.Common.{[], ◌∷◌, length, get_or, slice_index, drop, map, Some, sym, ap, ◌∙◌}
 use Rattle.std.proofs.Common.{subst, arith, refl}
 use Rattle.std.proofs.lemmas.Bool.{agree_below_at, true≢false}
 use Rattle.std.proofs.lemmas.List.{same_lists, get_or-map, get_or-drop, get_or_default, length-drop}
@@ -13,6 +13,7 @@ use Rattle.ttx_packet.specs.Parity.{is_odd, code_of}
 use Rattle.ttx_packet.specs.PacketAddress.{PacketAddress, address, HasExactAddress, IsPacket}
 use Rattle.ttx_packet.specs.RowPacket.{HasOddText}
 use Rattle.ttx_packet.proofs.Hamming84Lemmas.{decoded-code_word}
+use Rattle.sub_check.specs.PacketRules.{codes_of}
 
 -- The highest bit changes the parity. For `odd_same`.
 upper_odd : (code : ℕ) → code < 128 → is_odd (code + 128) ≡ not (is_odd code)
@@ -75,16 +76,17 @@ same_address p q x y e =
     let high : b.0 ≡ d.0 = omega arith in
     (a.2 ∙ ap code_word low ∙ sym c.2, b.2 ∙ ap code_word high ∙ sym d.2)
 
--- The code of a column. For a checker that keeps the codes of a row.
-pub code_at :
-    (p : List ℕ) (k : ℕ)
-    → length p ≡ 42
-    → k < 40
-    → slice_index (map code_of (drop 2 p)) k ≡ slice_index p (k + 2) % 128
-code_at p k size l =
-    let e : k < length (drop 2 p) = omega (arith, length-drop 2 p) in
-    get_or-map code_of (drop 2 p) k 0 0 e
-    ∙ ap (λ x. x % 128) (get_or-drop 2 p k 0 ∙ ap (λ n. get_or p n 0) (omega arith))
+-- The code of a byte, in a list of any length.
+pub code_at : (bytes : List ℕ) (k : ℕ)
+    → get_or (map code_of bytes) k 0 ≡ code_of (get_or bytes k 0)
+code_at [] k = refl
+code_at (b ∷ bytes) zero = refl
+code_at (b ∷ bytes) (suc k) = code_at bytes k
+
+-- The code of a column, among the codes of a packet.
+pub code_of_column :
+    (p : List ℕ) (k : ℕ) → get_or (codes_of p) k 0 ≡ code_of (get_or p (k + 2) 0)
+code_of_column p k = grind (arith, nat_tests, code_at, get_or-drop)
 
 -- Two packets of one address, in code words, and of one text, in odd bytes, are equal. So a checker
 -- needs to keep only the codes of a row to know its packet.
@@ -112,7 +114,7 @@ same_packet p q wp wq xp xq a op oq codes =
     later j l =
         odd_same (get_or p (j + 2) 0) (get_or q (j + 2) 0) (wp.bytes (j + 2)) (wq.bytes (j + 2))
         (op j l) (oq j l)
-        (grind (arith, nat_tests, code_at p j wp.size l, slice_index, code_at q j wq.size l))
+        (grind (arith, nat_tests, code_of_column p j, code_of_column q j))
 
     at : (k : ℕ) → k < 42 → get_or p k 0 ≡ get_or q k 0
     at zero l = two.0

@@ -7,7 +7,7 @@ use Rattle.sub_plan.specs.Options.{OptionsValue}
 use Rattle.sub_check.specs.FrameRules.{frame_at, packets_before}
 use Rattle.sub_check.specs.OnScreen.{Complete}
 use Rattle.sub_check.specs.Transmission.{Transmission}
-use Rattle.sub_check.proofs.PrefixLemmas.{first-same, last-same, on_air_at, rises_to, so_far}
+use Rattle.sub_check.proofs.PrefixLemmas.{first-same, last-same, on_air_at, rises_to, end_at}
 
 module _ (options : OptionsValue) (t : Transmission)
     (rising : (i : ℕ) → 0 < i → i < length t → frame_at t (i - 1) < frame_at t i) where
@@ -23,10 +23,11 @@ module _ (options : OptionsValue) (t : Transmission)
   complete_from some ended f low high holds =
       let first = first-same t in
       let last = last-same t in
-      let (n, above, le, on) = so_far t rising f some (omega arith) (omega arith) in
-      let same : n - 1 + 1 ≡ n = omega (arith, above) in
+      let (n, end, on, from) = end_at t rising f some (omega arith) (omega arith) in
+      let same : n - 1 + 1 ≡ n = omega (arith, end.0) in
       let shut : is_open (packets_before t n) ≡ false =
-      ap (λ m. is_open (packets_before t m)) (sym same) ∙ ended (n - 1) (omega (arith, above, le))
+      ap (λ m. is_open (packets_before t m)) (sym same)
+      ∙ ended (n - 1) (omega (arith, end.0, end.1))
       in
       grind arith
 

@@ -299,14 +299,8 @@ module _ (g : Task) (frames : Transmission) (n f : ℕ) where
           (content_events None before o f
           ++ rule_events end.Gap (fault.Gap f) false before late
           ++ rule_events end.Incomplete (fault.Incomplete f) false before is_open)
-      go (Some x) e late gaps is_open ends = rule_told _ (wrong x.0 x.1 (first_wrong x e))
-      go None e true gaps is_open ends =
-          rule_told _ (gap (none_wrong e) (λ c. true≢false (sym (gaps.1 c))))
-      go None e false gaps true ends =
-          rule_told _ (unended (none_wrong e) (gaps.0 refl) (λ c. true≢false (sym (ends.1 c))))
-      go None e false gaps false ends =
-          nothing_told
-          (record { shows = none_wrong e; covered = gaps.0 refl; ended = ends.0 refl })
+      go o e late gaps is_open ends =
+          grind (arith, nat_tests, rule_told, first_wrong, none_wrong, true≢false, nothing_told)
 
   -- Where nothing stands broken.
   pub quiet_stands : n ≤ length frames → IsQuiet → standing_at g frames n f ≡ nothing_stands
@@ -541,22 +535,8 @@ module _ (g : Task) (frames : Transmission) where
               → FirstRule (λ r. KeepsRule r g.watched (before frames n k) (packet_at frames n k)) rs
               → Tells (AreClean g.watched (packets_before frames n) ps (suc k))
               (map (λ (r : PacketRule). Told (packet_fault r (frame_at frames n) k)) rs)
-          go [] keeps = nothing_told (λ j m. elim (cases_lt j k) [
-            | inl earlier ↦ clean j earlier
-            | inr here ↦
-                let e : k ≡ j = omega arith in
-                subst
-                (λ x. IsClean g.watched (packets_before frames n ++ take x ps) (get_or ps x [])) e
-                keeps
-          ])
-          go (r ∷ rs) first =
-              rule_told _
-              (first_packet g frames n past k r there order gap
-              (record {
-                exists = l;
-                clean = clean;
-                first = record { broken = first.0; earlier = first.1 };
-              }))
+          go rs keeps =
+              grind (arith, nat_tests, nothing_told, cases_lt, rule_told, first_packet, there)
 
       -- All of them.
       packets_told : (k : ℕ) → k ≤ length ps
@@ -573,9 +553,8 @@ module _ (g : Task) (frames : Transmission) where
   header_told : (n : ℕ) → n < length frames → OrderOk g frames n → PacketsOk g frames n
       → Tells (n ≡ 0 → HasHeader g frames 0) (first_header_events g frames n)
   unfolding first_header_events
-  header_told zero there order packets =
-      grind (arith, nat_tests, told_unless, first_header_missing, true≢false)
-  header_told (suc i) there order packets = nothing_told (λ z. absurd (omega arith))
+  header_told n there order packets =
+      grind (arith, nat_tests, told_unless, first_header_missing, true≢false, nothing_told)
 
   -- The end of a frame, where nothing stood broken before.
   end_told : (n : ℕ) → AreOk g frames n → (there : n < length frames) → OrderOk g frames n
@@ -674,18 +653,8 @@ module _ (g : Task) (frames : Transmission) where
       where
         go : (o : Option ℕ) → g.last_out ≡ o
             → Tells (HoldsEverywhere g frames) (late_events o (end_frame frames))
-        go None is =
-            nothing_told
-            (holds_but_end g frames past e some
-            (λ t last of. absurd (none-some last (sym is ∙ of))))
-        go (Some last) is =
-            told_unless (nat_le last (end_frame frames)) (fault.Late (end_frame frames))
-            (λ late. first_late g frames past e some
-            (λ over. let l = over last is in grind (arith, nat_tests)))
-            (λ over. holds_but_end g frames past e some
-            (λ t other of.
-            let same = same_Some _ _ (sym is ∙ of) in
-            let l = leb-true last (end_frame frames) over in omega arith))
+        go o is =
+            grind (arith, nat_tests, nothing_told, holds_but_end, told_unless, first_late, leb-true)
 
     closing_told : (n : ℕ) → n ≡ length frames → AreOk g frames (length frames)
         → Tells (HoldsEverywhere g frames) (closing_events g frames n)

@@ -1,6 +1,6 @@
 -- What holds of each packet of a transmission, and the headers of frames of the list and of frames
 -- of the day: `each_packet`, `any_sent`, `sent_any`.
-use Rattle.std.proofs.Common.{◌≡◌, ℕ, zero, suc, ◌+◌, ◌<◌, inl, inr, Bool, true}
+use Rattle.std.proofs.Common.{◌≡◌, ℕ, zero, suc, ◌+◌, ◌-◌, ◌<◌, inl, inr, Bool, true}
 use Rattle.std.proofs.Common.{cond, ◌&&◌, nat_le, nat_lt, List, [], ◌∷◌, ◌++◌}
 use Rattle.std.proofs.Common.{length, get_or, All, refl, ap, arith, ◌⊎◌}
 use Rattle.std.specs.List.{AllByRecursion, flat_map, list_any}
@@ -13,7 +13,8 @@ use Rattle.sub_check.specs.declared.checking.packet_rules.Watched.{Watched}
 use Rattle.ttx_page.specs.PacketKind.{kind, is_this_page}
 use Rattle.ttx_page.specs.Span.{holds_header}
 use Rattle.ttx_page.proofs.SpanLists.{holds-append_left, holds-append_right}
-use Rattle.sub_check.specs.Transmission.{SentFrame, Transmission, EachPacket, packets_of}
+use Rattle.sub_check.specs.Transmission.{SentFrame, Transmission, EachPacket, IsRising}
+use Rattle.sub_check.specs.Transmission.{packets_of}
 
 -- ---- each packet
 
@@ -65,6 +66,15 @@ pub number_at : (t : Transmission) (i : ℕ) (d : SentFrame) → i < length t
 number_at [] i d l = absurd (omega arith)
 number_at (s ∷ ss) zero d l = refl
 number_at (s ∷ ss) (suc i) d l = number_at ss i d (omega arith)
+
+-- Frames that rise rise from each place to the next.
+pub rises_each : (t : Transmission) → IsRising t → (i : ℕ) → 0 < i → i < length t
+    → frame_at t (i - 1) < frame_at t i
+rises_each t rising i a l =
+    let nothing : SentFrame = record { frame = 0; packets = [] } in
+    let r = rising (i - 1) i nothing (omega arith) (omega arith) in
+    let x = number_at t (i - 1) nothing (omega arith) in
+    let y = number_at t i nothing l in omega arith
 
 -- An item of two lists joined is one of the first or of the second.
 any-split : {X : Type 0} (f : X → Bool) (xs ys : List X) → list_any f (xs ++ ys) ≡ true

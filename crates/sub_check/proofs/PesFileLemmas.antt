@@ -133,9 +133,7 @@ sent_by origin given bytes frames fit few reads others =
         → file_by origin r (file_at origin (given + 1) (rest_after bytes))
         ≡ record { frames = frames; unread = None }
         → AreSent origin given bytes frames
-    go (Ok None) at e = nothing_sent origin given bytes frames few at e
-    go (Ok (Some v)) at e = found v (frame_of_pts origin v.pts) at refl e (others v at)
-    go (Err f) at e = let unread = ap (λ (x : PesFileValue). x.unread) e in absurd cc
+    go r at e = grind (arith, nat_tests, nothing_sent, found)
 
 -- What is read to the end are PES packets that are sent as the frames.
 sent_of :

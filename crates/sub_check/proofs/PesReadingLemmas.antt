@@ -93,9 +93,7 @@ file_by origin (Ok (Some v)) rest =
 pub file_of-then :
     (origin : ℕ) (answer : Result (Option PesValue) PesFault) (more : PesOutcome)
     → file_of origin (answer_then answer more) ≡ file_by origin answer (file_of origin more)
-file_of-then origin (Err f) more = refl
-file_of-then origin (Ok None) more = refl
-file_of-then origin (Ok (Some v)) more = refl
+file_of-then origin answer more = grind (arith, nat_tests)
 
 -- A file is what its first PES packet is, and then the file of the others.
 pub file_at-next :

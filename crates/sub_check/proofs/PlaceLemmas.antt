@@ -33,15 +33,17 @@ use Rattle.sub_check.specs.StepByStep.{IsNeverLate, MayFollow}
 use Rattle.sub_check.specs.FrameRules.{HasHeader, IsCovered, ShowsDue, Unread, end_frame, frame_at}
 use Rattle.sub_check.specs.FrameRules.{packets_before, packets_of_frame, task_of, watched_of}
 use Rattle.sub_check.specs.declared.fault.CheckFault.{CheckFault}
-use Rattle.sub_check.specs.FirstBroken.{HoldsEverywhere, NamesFirst}
+use Rattle.sub_check.specs.CleanStretch.{IsEnd}
+use Rattle.sub_check.specs.FirstBroken.{HoldsEverywhere, IsInGap, NamesFirst}
 use Rattle.sub_check.specs.FirstBroken.Place.{AtOrder, AtStart, AtGapCell, AtGap, AtPacket, AtFirst}
 use Rattle.sub_check.specs.FirstBroken.Place.{AtCell, AtFrame, AtOpen, AtUnread, AtNothing, AtEnd}
 use Rattle.sub_check.proofs.CompleteLemmas.{complete_from, ended_at}
-use Rattle.sub_check.proofs.GoodLemmas.{any_sent, each_packet, number_at, sent_any, whole}
+use Rattle.sub_check.proofs.GoodLemmas.{any_sent, each_packet, number_at, rises_each, sent_any}
+use Rattle.sub_check.proofs.GoodLemmas.{whole}
 use Rattle.ttx_page.proofs.SpanPush.{span-push}
 use Rattle.sub_check.proofs.PrefixLemmas.{before, packet_at, at_start, at_packet, each_at}
 use Rattle.sub_check.proofs.PrefixLemmas.{each_from, before_more, rises_to, rises_strictly, locate}
-use Rattle.sub_check.proofs.PrefixLemmas.{first-same, last-same, on_air_at, on_air_is, so_far}
+use Rattle.sub_check.proofs.PrefixLemmas.{first-same, last-same, on_air_at, on_air_is, end_at}
 use Rattle.sub_check.proofs.ShownLemmas.{joined_more}
 use Rattle.sub_check.proofs.StepByStepLemmas.{clean_nil, last_clean, law_of_repeats, pushed}
 use Rattle.sub_check.specs.declared.checking.packet_rules.PacketRule.TheVariants as rule
@@ -133,11 +135,7 @@ module _ (programme : ProgrammeValue) (options : OptionsValue) (unread : Option 
   -- The frames rise.
   rising_of : (i j : ℕ) (d : SentFrame) → i < j → j < length t
       → (get_or t i d).frame < (get_or t j d).frame
-  rising_of i j d l m =
-      let within : j < length t = omega arith in
-      let a = number_at t i d (omega arith) in
-      let b = number_at t j d within in
-      let r = rises_strictly t rising i j l within in omega arith
+  rising_of i j d l m = grind (arith, nat_tests, number_at, rises_strictly, rising)
 
   -- Each packet keeps the rules.
   clean_at : (i k : ℕ) → i < length t → k < length (packets_of_frame t i)
@@ -173,7 +171,8 @@ module _ (programme : ProgrammeValue) (options : OptionsValue) (unread : Option 
       elim (cases_lt f (frame_at t 0)) [
         | inl early ↦ up_to 0 (omega arith)
             (on_air_is t rising 0 f (omega arith) (λ s. absurd (omega arith)) (λ m. early))
-        | inr low ↦ let (m, a, le, is) = so_far t rising f some low (omega arith) in up_to m le is
+        | inr low ↦ let (m, end, is, from) = end_at t rising f some low (omega arith) in
+            up_to m end.1 is
       ]
     where
       up_to : (m : ℕ) → m ≤ length t → on_air_until t f ≡ packets_before t m
@@ -183,23 +182,30 @@ module _ (programme : ProgrammeValue) (options : OptionsValue) (unread : Option 
           (at_start t (length t) (omega arith) HasCleanCuts
           (λ k. rw take-nil (clean_nil options.page)) cuts_more m le n)
 
+  -- What is asked at an end of its page and of the last header.
+  abbrev EndHolds : ℕ → ℕ → Type 0
+  EndHolds n f =
+      ((row column : ℕ) → IsCell row column
+      → ShowsDue (task_of programme options unread) t n f row column)
+      × IsCovered (task_of programme options unread) t n f
+
+  ends_hold : (n f : ℕ) → IsEnd t n f → EndHolds n f
+  ends_hold n f (above, le, inl own) =
+      let one : n - 1 + 1 ≡ n = omega arith in
+      let l : n - 1 < length t = omega arith in
+      subst (λ m. EndHolds m f) one (subst (EndHolds (n - 1 + 1)) (sym own)
+      (λ row column is. h (AtCell (n - 1) row column) (l, is), h (AtFrame (n - 1)) l))
+  ends_hold n f (above, le, inr (l, later, earlier)) =
+      let gap : IsInGap t n f = (above, l, earlier (n - 1) (omega arith), later) in
+      (λ row column is. h (AtGapCell n f row column) (gap, is), h (AtGap n f) gap)
+
   -- At the end of each frame the due page is shown.
   shows_at : (f row column : ℕ) → first_frame t ≤ f → f ≤ last_frame t → IsCell row column
       → shown options.page (on_air_until t f) row column ≡ cell (due_in programme f) row column
   shows_at f row column low high is =
-      let first = first-same t in
-      let last = last-same t in
-      elim (locate t rising (length t - 1) f (omega (arith, some)) (omega arith) (omega arith)) [
-        | inl (i, l, e) ↦
-            ap (λ xs. shown options.page xs row column)
-            (ap (on_air_until t) (sym e) ∙ on_air_at t rising i l)
-            ∙ h (AtCell i row column) (l, is)
-            ∙ ap (λ d. cell (due_in programme d) row column) e
-        | inr (i, gap) ↦
-            ap (λ xs. shown options.page xs row column)
-            (on_air_is t rising i f (omega (arith, gap.1)) (λ s. omega (arith, gap.2)) (λ m. gap.3))
-            ∙ h (AtGapCell i f row column) (gap, is)
-      ]
+      let (n, end, on, from) =
+      end_at t rising f some (omega (arith, first-same t)) (omega (arith, last-same t)) in
+      ap (λ xs. shown options.page xs row column) on ∙ (ends_hold n f end).0 row column is
 
   -- The first frame has a header of the page.
   opens : HoldsHeader options.page t (first_frame t)
@@ -210,30 +216,18 @@ module _ (programme : ProgrammeValue) (options : OptionsValue) (unread : Option 
   never_late : IsNeverLate options.page options.every t
   never_late f low high =
       let first = first-same t in
-      let last = last-same t in
-      elim (locate t rising (length t - 1) f (omega (arith, some)) (omega arith) (omega arith)) [
-        | inl (i, l, e) ↦
-            near (i + 1) (omega arith)
-            (λ j m. let r = rises_to t rising j i (omega arith) l in omega arith)
-            (subst (IsCovered (task_of programme options unread) t (i + 1)) e (h (AtFrame i) l))
-        | inr (i, gap) ↦
-            near i (omega (arith, gap.1))
-            (λ j m. let r = rises_to t rising j (i - 1) (omega arith) (omega (arith, gap.1)) in
-            omega (arith, gap.2)) (h (AtGap i f) gap)
+      let (n, end, on, from) = end_at t rising f some (omega arith) (omega (arith, last-same t)) in
+      elim (ends_hold n f end).1 [
+        | inl early ↦ (first_frame t, low, omega arith, opens)
+        | inr (j, m, below, head) ↦
+            let r = rises_to t rising j (n - 1) (omega arith) (omega (arith, end.0, end.1)) in
+            let there : j < length t = omega (arith, end.1) in (
+              frame_at t j,
+              omega arith,
+              below,
+              any_sent (watched_of programme options) t j (frame_at t j) there refl head,
+            )
       ]
-    where
-      near : (n : ℕ) → n ≤ length t → ((j : ℕ) → j < n → frame_at t j ≤ f)
-          → IsCovered (task_of programme options unread) t n f
-          → (m : ℕ) × (m ≤ f) × (f < m + options.every) × HoldsHeader options.page t m
-      near n le up_to (inl early) =
-          let first = first-same t in (first_frame t, low, omega arith, opens)
-      near n le up_to (inr (j, m, below, head)) =
-          let there : j < length t = omega arith in (
-            frame_at t j,
-            up_to j m,
-            below,
-            any_sent (watched_of programme options) t j (frame_at t j) there refl head,
-          )
 
   -- Each header has the C11 of the first.
   agreed : EachPacket (Agrees (whole t)) t
@@ -273,12 +267,8 @@ module _ (programme : ProgrammeValue) (options : OptionsValue) (t : Transmission
     (good : Good programme t options) (complete : IsTrue options.asks_complete → Complete t options)
   where
     -- Each frame is after the one before.
-    rises_each : (i : ℕ) → 0 < i → i < length t → frame_at t (i - 1) < frame_at t i
-    rises_each i a l =
-        let nothing : SentFrame = record { frame = 0; packets = [] } in
-        let r = good.rising (i - 1) i nothing (omega arith) (omega arith) in
-        let x = number_at t (i - 1) nothing (omega arith) in
-        let y = number_at t i nothing l in omega arith
+    abbrev rises : (i : ℕ) → 0 < i → i < length t → frame_at t (i - 1) < frame_at t i
+    rises = rises_each t good.rising
 
     -- Each packet has the C11 of the first header.
     mode_at : (i k : ℕ) → i < length t → k < length (packets_of_frame t i)
@@ -295,7 +285,7 @@ module _ (programme : ProgrammeValue) (options : OptionsValue) (t : Transmission
 
     -- No frame is after the last.
     last_at_least : (i : ℕ) → i < length t → frame_at t i ≤ end_frame t
-    last_at_least i l = rises_to t rises_each i (length t - 1) (omega arith) (omega arith)
+    last_at_least i l = rises_to t rises i (length t - 1) (omega arith) (omega arith)
 
     -- While the page is open the packet may follow the span.
     may_follow : (i k : ℕ) → i < length t → k < length (packets_of_frame t i)
@@ -306,7 +296,7 @@ module _ (programme : ProgrammeValue) (options : OptionsValue) (t : Transmission
     may_follow i k l m this ends opened =
         let n : ℕ = length (packets_before t i) + (k + 1) in
         let up_to : take n (on_air_until t (frame_at t i)) ≡ before t i (k + 1) =
-        ap (take n) (on_air_at t rises_each i l ∙ joined_more t i l)
+        ap (take n) (on_air_at t rises i l ∙ joined_more t i l)
         ∙ take-append-add (packets_before t i) (packets_of_frame t i) (k + 1) in
         last_clean options.page (span (kind options.page) (before t i k)) (packet_at t i k)
         (subst (IsCleanSpan options.page)
@@ -340,7 +330,7 @@ module _ (programme : ProgrammeValue) (options : OptionsValue) (t : Transmission
         let first = first-same t in
         elim (cases_eq r.0 0) [
           | inl e ↦ subst (λ j. HasHeader (task_of programme options None) t j) e r.3
-          | inr other ↦ let s = rises_strictly t rises_each 0 r.0 (omega arith) r.1 in
+          | inr other ↦ let s = rises_strictly t rises 0 r.0 (omega arith) r.1 in
               absurd (omega (arith, r.2))
         ]
 
@@ -366,31 +356,31 @@ module _ (programme : ProgrammeValue) (options : OptionsValue) (t : Transmission
         → (n < length t → f < frame_at t n) → f ≤ end_frame t → IsCell row column
         → ShowsDue (task_of programme options None) t n f row column
     shows_of n f row column some le low high last is =
-        let first = rises_to t rises_each 0 (n - 1) (omega arith) (omega arith) in
+        let first = rises_to t rises 0 (n - 1) (omega arith) (omega arith) in
         sym (ap (λ xs. shown options.page xs row column)
-        (on_air_is t rises_each n f le (λ s. low) high))
+        (on_air_is t rises n f le (λ s. low) high))
         ∙ good.content f row column (omega (arith, first-same t)) (omega (arith, last-same t)) is
 
     -- Where the transmission is good, all that is asked holds.
     pub Holds-from_good : HoldsEverywhere (task_of programme options None) t
-    Holds-from_good (AtOrder i) there = rises_each i there.0 there.1
+    Holds-from_good (AtOrder i) there = rises i there.0 there.1
     Holds-from_good AtStart there = let starts = good.starts in grind arith
     Holds-from_good (AtGapCell i f row column) (gap, is) = let last = last_at_least i gap.1 in
         shows_of i f row column gap.0 (omega (arith, gap.1)) (omega (arith, gap.2)) (λ m. gap.3)
         (omega (arith, gap.3)) is
     Holds-from_good (AtGap i f) gap = let last = last_at_least i gap.1 in
         covered_at i f (omega (arith, gap.3))
-        (λ j a b. let r = rises_to t rises_each i j a b in omega (arith, gap.3))
+        (λ j a b. let r = rises_to t rises i j a b in omega (arith, gap.3))
     Holds-from_good (AtPacket i k f) there = free_at i k there.0 there.1 f
     Holds-from_good AtFirst there = starts
     Holds-from_good (AtCell i row column) (l, is) =
         let back : frame_at t (i + 1 - 1) ≡ frame_at t i = ap (frame_at t) (omega arith) in
         shows_of (i + 1) (frame_at t i) row column (omega arith) (omega arith) (omega arith)
-        (λ m. rises_strictly t rises_each i (i + 1) (omega arith) m) (last_at_least i l) is
+        (λ m. rises_strictly t rises i (i + 1) (omega arith) m) (last_at_least i l) is
     Holds-from_good (AtFrame i) l =
         covered_at (i + 1) (frame_at t i) (last_at_least i l)
-        (λ j a b. rises_strictly t rises_each i j (omega arith) b)
-    Holds-from_good (AtOpen i) l = λ asks. ended_at options t rises_each (complete asks) i l
+        (λ j a b. rises_strictly t rises i j (omega arith) b)
+    Holds-from_good (AtOpen i) l = λ asks. ended_at options t rises (complete asks) i l
     Holds-from_good AtUnread there = refl
     Holds-from_good AtNothing there = good.not_empty
     Holds-from_good AtEnd there = let lasts = good.lasts in grind (arith, last-same t)

@@ -8,6 +8,7 @@ use Rattle.std.proofs.lemmas.Bool.{cases_eq, cases_lt, le-leb, le-ltb, lt-ltb, a
 use Rattle.sub_check.specs.Transmission.{EachPacket, SentFrame, Transmission, first_frame}
 use Rattle.sub_check.specs.Transmission.{last_frame, on_air_until, packets_between}
 use Rattle.sub_check.specs.FrameRules.{end_frame, frame_at, packets_of_frame, packets_before}
+use Rattle.sub_check.specs.CleanStretch.{IsEnd}
 use Rattle.sub_check.specs.FirstBroken.{IsInGap}
 use Rattle.sub_check.proofs.ShownLemmas.{joined_more}
 
@@ -163,17 +164,26 @@ module _ (t : Transmission)
   pub on_air_at : (i : ℕ) → i < length t → on_air_until t (frame_at t i) ≡ packets_before t (i + 1)
   on_air_at i l = grind (arith, nat_tests, on_air_is)
 
-  -- From the first frame on, it is the packets of one frame or more.
-  pub so_far : (f : ℕ) → 0 < length t → frame_at t 0 ≤ f → f ≤ end_frame t
-      → (n : ℕ) × (0 < n) × (n ≤ length t) × (on_air_until t f ≡ packets_before t n)
-  so_far f some low high =
+  -- Each frame from the first to the last has an end, at which what is on air up to it counts.
+  pub end_at : (f : ℕ) → 0 < length t → frame_at t 0 ≤ f → f ≤ end_frame t
+      → (n : ℕ) × IsEnd t n f × (on_air_until t f ≡ packets_before t n) × (frame_at t (n - 1) ≤ f)
+  end_at f some low high =
       elim (locate t rising (length t - 1) f (omega arith) low high) [
-        | inl (i, l, e) ↦
-            (i + 1, omega arith, omega arith, ap (on_air_until t) (sym e) ∙ on_air_at i l)
-        | inr (i, gap) ↦ (
-          i,
-          gap.0,
-          omega (arith, gap.1),
-          on_air_is i f (omega (arith, gap.1)) (λ s. omega (arith, gap.2)) (λ m. gap.3),
-        )
+        | inl (i, l, is) ↦
+            let same : frame_at t (i + 1 - 1) ≡ frame_at t i = ap (frame_at t) (omega arith) in (
+              i + 1,
+              (omega arith, omega arith, inl (sym is ∙ sym same)),
+              ap (on_air_until t) (sym is) ∙ on_air_at i l,
+              omega arith,
+            )
+        | inr (i, gap) ↦
+            let from = gap.2 in
+            let earlier : (j : ℕ) → j < i → frame_at t j < f =
+            λ j l. let r = rises_to t rising j (i - 1) (omega arith) (omega (arith, gap.1)) in
+            omega arith in (
+              i,
+              (gap.0, omega (arith, gap.1), inr (gap.1, gap.3, earlier)),
+              on_air_is i f (omega (arith, gap.1)) (λ s. omega arith) (λ m. gap.3),
+              omega arith,
+            )
       ]

@@ -213,9 +213,7 @@ module _ (g : Task) (frames : Transmission) (rises : RiseByPlace frames) (r : En
   -- What stands broken at the last end is ended.
   last_known : (stood : Bool) (before f next : ℕ) (s t : Noted) → IsChange stood false before f s t
       → IsNoted stood before next s → Known next t.over
-  last_known false before f next s t e h = subst (λ (u : Noted). Known next u.over) (sym e) h
-  last_known true before f next s t e h =
-      subst (λ (u : Noted). Known next u.over) (sym e) (ended_known before next s h)
+  last_known stood before f next s t e h = grind (arith, nat_tests, ended_known, before)
 
   -- The whole.
   all_noted : (n : ℕ) → n ≡ length frames → (m h : ℕ) → IsEnd frames m h → stands_at m h ≡ true

@@ -69,37 +69,16 @@ module _ (origin : ℕ) (bytes : List ℕ) (frames : Transmission) (unread : Opt
 -- ---- the fault that is named is of a rule
 
 of_packet : (r : PacketRule) (frame packet : ℕ) → IsRuleFault (packet_fault r frame packet)
-of_packet rule.Address f k = record { no_source = refl; no_write = refl; no_subtitle = refl }
-of_packet rule.HeaderCode f k = record { no_source = refl; no_write = refl; no_subtitle = refl }
-of_packet rule.Mode f k = record { no_source = refl; no_write = refl; no_subtitle = refl }
-of_packet rule.Control f k = record { no_source = refl; no_write = refl; no_subtitle = refl }
-of_packet rule.Parity f k = record { no_source = refl; no_write = refl; no_subtitle = refl }
-of_packet rule.RowChanged f k = record { no_source = refl; no_write = refl; no_subtitle = refl }
-of_packet rule.Enhancement f k = record { no_source = refl; no_write = refl; no_subtitle = refl }
+of_packet r frame packet = grind (arith, nat_tests)
 
 of_unread : (pes : ℕ) (u : Option Unread) → ((f : PesFault) → u ≡ Some (BadPacket f) → IsOfBytes f)
     → IsRuleFault (unread_fault pes u)
-of_unread pes None h = record { no_source = refl; no_write = refl; no_subtitle = refl }
-of_unread pes (Some NoFrame) h = record { no_source = refl; no_write = refl; no_subtitle = refl }
-of_unread pes (Some (BadPacket f)) h = grind (arith, nat_tests)
+of_unread pes u h = grind (arith, nat_tests)
 
 of_place : (g : Task) (frames : Transmission)
     → ((f : PesFault) → g.unread ≡ Some (BadPacket f) → IsOfBytes f) → (x : Place)
     → IsRuleFault (fault_at g frames x)
-of_place g frames h (AtOrder i) = record { no_source = refl; no_write = refl; no_subtitle = refl }
-of_place g frames h AtStart = record { no_source = refl; no_write = refl; no_subtitle = refl }
-of_place g frames h (AtGapCell i f r c) =
-    record { no_source = refl; no_write = refl; no_subtitle = refl }
-of_place g frames h (AtGap i f) = record { no_source = refl; no_write = refl; no_subtitle = refl }
-of_place g frames h (AtPacket i k r) = of_packet r (frame_at frames i) k
-of_place g frames h AtFirst = record { no_source = refl; no_write = refl; no_subtitle = refl }
-of_place g frames h (AtCell i r c) =
-    record { no_source = refl; no_write = refl; no_subtitle = refl }
-of_place g frames h (AtFrame i) = record { no_source = refl; no_write = refl; no_subtitle = refl }
-of_place g frames h (AtOpen i) = record { no_source = refl; no_write = refl; no_subtitle = refl }
-of_place g frames h AtUnread = of_unread (length frames) g.unread h
-of_place g frames h AtNothing = record { no_source = refl; no_write = refl; no_subtitle = refl }
-of_place g frames h AtEnd = record { no_source = refl; no_write = refl; no_subtitle = refl }
+of_place g frames h x = grind (arith, nat_tests, of_packet, of_unread)
 
 -- ---- what is told
 
@@ -193,8 +172,8 @@ module _ (g : Task) (origin : ℕ) (bytes : List ℕ) (frames : Transmission)
     -- And no failure of the source is told.
     pub first_own : (a : Accepted) → failed is_pes_read (first_answer (events g frames) a) ≡ false
     first_own a =
-        by_first a (λ r. failed is_pes_read r ≡ false)
-        (λ e. refl) (λ f named. (own f named).no_source)
+        by_first a (λ r. failed is_pes_read r ≡ false) (λ e. refl)
+        (λ f named. (own f named).no_source)
 
     -- Nor a refusal of the subtitle file.
     pub first_of_pes : (a : Accepted)

@@ -215,16 +215,6 @@ gap_split g frames n m whole l =
     grows_to (gap_events g frames n) (λ k. events_at_end g frames n n (latest frames n + suc k))
     (λ k. refl) m whole l
 
--- How many there are.
-pub gap_length_is :
-    (frames : Transmission) (n f : ℕ)
-    → 0 < n
-    → frame_at frames n ≡ f
-    → gap_length frames n ≡ f - (latest frames n + 1)
-unfolding gap_length
-gap_length_is frames zero f some is = absurd (omega arith)
-gap_length_is frames (suc n) f some is = ap (λ x. x - (latest frames (suc n) + 1)) is
-
 -- After the last of them. For `cross_gap`.
 pub gap_ended :
     (g : Task) (frames : Transmission) (n f to known : ℕ) (c : CheckerValue)
@@ -380,9 +370,7 @@ rest_are :
     → end_frame frames ≡ frame
     → 0 < pes
     → rest_events g frames u ≡ fault_events (last_fault (ending_fault pes u) g.last_out pes frame)
-rest_are g frames pes None frame all at some = grind (arith, nat_tests)
-rest_are g frames pes (Some u) frame all at some =
-    ap (λ m. Told (unread_fault m (Some u)) ∷ []) all
+rest_are g frames pes u frame all at some = grind (arith, nat_tests)
 
 pub closing_some :
     (g : Task) (frames : Transmission) (pes : ℕ) (c : CheckerValue)
@@ -397,7 +385,5 @@ pub closing_some :
     → closing_events g frames pes
     ≡ end_events (as_standing c.standing) c.last none c.last ++ fault_events last
 unfolding closing_events
-closing_some g frames zero c given last out none follows all is some from e nothing =
-    absurd (omega arith)
-closing_some g frames (suc n) c given last out none follows all is some from e nothing =
+closing_some g frames pes c given last out none follows all is some from e nothing =
     grind (arith, nat_tests, rest_are)

@@ -50,13 +50,7 @@ find-push :
     → find f (cond (is_this_page k) [] (cond (opened && not (ends_page k)) (xs ++ p ∷ []) xs))
     ≡ cond (is_this_page k) None
     (cond (opened && is_row row k) (option_or (find f xs) (Some p)) (find f xs))
-find-push (ThisPage h) row opened xs p f e = refl
-find-push EndsPage row true xs p f e = refl
-find-push EndsPage row false xs p f e = refl
-find-push (Row y) row true xs p f e = rw (find-append f xs (p ∷ []), e) (grind (arith, nat_tests))
-find-push (Row y) row false xs p f e = refl
-find-push Other row true xs p f e = rw (find-append f xs (p ∷ []), e) (grind (arith, nat_tests))
-find-push Other row false xs p f e = refl
+find-push k row opened xs p f e = grind (arith, nat_tests, find-append)
 
 -- The first packet of a row in the span, one packet on.
 first_of_row-push :

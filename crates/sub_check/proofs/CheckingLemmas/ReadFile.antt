@@ -104,16 +104,7 @@ AreWholeUnits units = AllByRecursion (λ (u : UnitValue). IsPacket u.packet) uni
 -- The units so far, and one more.
 adds : (front : List UnitValue) (o : Option UnitValue) → AreWholeUnits front → IsWholeUnit o
     → Sound AreWholeUnits (with_unit front o)
-adds front None before h = ok AreWholeUnits front before
-adds front (Some u) before h =
-    go (stands_after (last_place 0 front) u)
-  where
-    go : (b : Bool)
-        → Sound AreWholeUnits (cond b (Ok (front ++ u ∷ [])) (Err fault.LineOrder))
-    go true =
-        ok AreWholeUnits (front ++ u ∷ [])
-        (Each-push (λ (x : UnitValue). IsPacket x.packet) front u before h)
-    go false = refused AreWholeUnits fault.LineOrder refl refl
+adds front o before h = grind (arith, ok, Each-push, refused)
 
 unit_sound : (front : List UnitValue) (b : List ℕ) → length b ≡ 46 → AreWholeUnits front
     → Sound AreWholeUnits (unit_at front b)
@@ -222,19 +213,7 @@ packets_whole (u ∷ units) h = (h.0, packets_whole units h.1)
 
 by_sound : (origin : ℕ) (r : Result (Option PesValue) PesFault) (rest : PesFileValue)
     → Sound IsWholeAnswer r → IsSoundFile rest → IsSoundFile (file_by origin r rest)
-by_sound origin (Err f) rest h sound = record {
-  whole = tt;
-  fault = λ g e. let same : f ≡ g = cc in subst IsOfBytes same h.is;
-}
-by_sound origin (Ok None) rest h sound = record { whole = tt; fault = λ g e. cc }
-by_sound origin (Ok (Some v)) rest h sound = go (frame_of_pts origin v.pts)
-  where
-    go : (o : Option ℕ) → IsSoundFile (file_with o (packets_of_units v.units) rest)
-    go None = record { whole = tt; fault = λ g e. cc }
-    go (Some frame) = record {
-      whole = (packets_whole v.units h.is, sound.whole);
-      fault = sound.fault;
-    }
+by_sound origin r rest h sound = grind (arith, packets_whole)
 
 -- What comes of bytes.
 outcome_sound : (origin room given : ℕ) (b : List ℕ)

@@ -69,13 +69,7 @@ all_held rule.RowChanged = refl
 all_held rule.Enhancement = refl
 
 same_test : (test : PacketRule → Bool) (r : PacketRule) → test_of (values test) r ≡ test r
-same_test test rule.Address = refl
-same_test test rule.HeaderCode = refl
-same_test test rule.Mode = refl
-same_test test rule.Control = refl
-same_test test rule.Parity = refl
-same_test test rule.RowChanged = refl
-same_test test rule.Enhancement = refl
+same_test test r = grind (arith, nat_tests)
 
 same_set : (test : PacketRule → Bool) → rule_set (test_of (values test)) ≡ rule_set test
 unfolding rule_set

@@ -52,13 +52,7 @@ breaks_alike :
     → (r : PacketRule)
     → breaks r w b p ≡ breaks r w c p
 unfolding breaks
-breaks_alike w b c p same rule.Address = refl
-breaks_alike w b c p same rule.HeaderCode = refl
-breaks_alike w b c p same rule.Mode = rw same.header_is refl
-breaks_alike w b c p same rule.Control = refl
-breaks_alike w b c p same rule.Parity = rw same.open_is refl
-breaks_alike w b c p same rule.RowChanged = rw (same.open_is, same.span_is) refl
-breaks_alike w b c p same rule.Enhancement = rw same.open_is refl
+breaks_alike w b c p same x = grind (arith, nat_tests)
 
 -- What is kept after one list is what is kept after another that looks alike.
 knows_alike :
@@ -202,14 +196,4 @@ kept_last w heard ps headers begins clean s same known count is none = record {
         → (m : ℕ)
         → cond (b && q) (Some headers) None ≡ Some m
         → WereJudged w (heard ++ ps) ps m
-    go true true is none m e =
-        let b = is refl in
-        record {
-          before = heard;
-          heard_is = refl;
-          begins = first ps b.0 b.1;
-          clean = none refl;
-          count = grind arith;
-        }
-    go true false is none m e = grind arith
-    go false q is none m e = grind arith
+    go b q is none m e = grind (arith, nat_tests, first)

@@ -1,5 +1,5 @@
 -- Events that are told in parts, one part after another: `told_whole`, `told_same`, `told_then`,
--- `stopped_first`, `stopped_then`, `all_same`, `prefix_same`; `ok_map`. Lists that grow:
+-- `stopped_first`, `stopped_then`, `all_same`, `prefix_same`; `ok_map`. Lists that grow by pieces:
 -- `grows_to`.
 use Rattle.std.proofs.Common.{arith, ◌≡◌, ℕ, zero, suc, ◌+◌, ◌-◌, ◌≤◌, List, [], ◌++◌, Result, Ok}
 use Rattle.std.proofs.Common.{Err, sym, subst, ap, ◌∙◌, append_assoc, append-nil}
@@ -19,9 +19,7 @@ module _ {A D X E : Type 0} {IsTold : D → A → D → Type 0} where
   -- All was told, whatever the device said of the last.
   pub told_whole : (a b : D) (xs whole : List A) (r : Result X E) → whole ≡ xs
       → Tells IsTold a b xs → TellsUntilStopped IsTold a b whole r
-  told_whole a b xs whole (Ok x) is p = subst (Tells IsTold a b) (sym is) p
-  told_whole a b xs whole (Err e) is p =
-      TellsPrefix-whole a b whole (subst (Tells IsTold a b) (sym is) p)
+  told_whole a b xs whole r is p = grind (arith, nat_tests, TellsPrefix-whole)
 
   -- The one part, and then the other.
   pub told_then : (a b c : D) (xs ys whole : List A) (r : Result X E)

@@ -10,18 +10,12 @@ use Rattle.ttx_packet.specs.Parity.{code_of}
 use Rattle.ttx_packet.specs.RowPacket.{text_byte}
 use Rattle.ttx_page.specs.Page.{DiffersFirst, IsCell, blank_row, cell, space}
 use Rattle.ttx_page.specs.Shown.{shown}
+use Rattle.sub_check.proofs.CodesLemmas.{code_at}
 use Rattle.sub_check.specs.Events.{first_cell, wrong_after}
 use Rattle.sub_check.specs.checking.Listener.{Knows, held}
 use Rattle.sub_check.specs.declared.checking.listener.Listener.{Listener}
 
 -- ---- what is kept is what is shown
-
--- The code of a byte, in a list of any length.
-pub code_at : (bytes : List ℕ) (k : ℕ)
-    → get_or (map code_of bytes) k 0 ≡ code_of (get_or bytes k 0)
-code_at [] k = refl
-code_at (b ∷ bytes) zero = refl
-code_at (b ∷ bytes) (suc k) = code_at bytes k
 
 -- What is held of a row is what is shown of it.
 code_held :

@@ -5,12 +5,13 @@ use Rattle.sub_io.proofs.TellingLemmas.{TellsSome-none, TellsSome-trans, Tells-n
 use Rattle.sub_check.specs.Events.{gap_events, latest}
 use Rattle.sub_check.specs.checking.Following.{Follows, Waits}
 use Rattle.sub_check.specs.FrameRules.{packets_before}
-use Rattle.sub_check.proofs.CheckingLemmas.Following.{follows_waits, gap_knows, gap_length_is}
+use Rattle.sub_check.proofs.CheckingLemmas.Following.{follows_waits, gap_knows}
 use Rattle.sub_check.proofs.CheckingLemmas.Following.{gap_more}
 use Rattle.sub_check.proofs.CheckingLemmas.Following.{gap_split, gap_start, gap_told, gap_waits}
 use Rattle.sub_check.proofs.CheckingLemmas.Following.{gap_ended}
 use Rattle.sub_check.proofs.CheckingLemmas.Telling.{all_same, prefix_same, stopped_first}
 use Rattle.sub_check.proofs.CheckingLemmas.Telling.{stopped_then}
+use Rattle.sub_check.proofs.RisingEndLemmas.{gap_length-is}
 use Rattle.sub_check.proofs.checking.checker.Checker.cross_gap.Goals as goal
 
 pub loop-f-init : goal.loop-f-init
@@ -75,7 +76,7 @@ returns-in_err-end_of_frame-clause-told g c = λ task frames n follows some is.
     let is_told =
     gap_told task frames n c.loop-f.f _ _ before.1 some past c.move_to.ensures due in
     let here = c.loop-f-test.true in
-    let size = gap_length_is frames n c.args.to some is in
+    let size = gap_length-is frames n some ∙ ap (λ f. f - (latest frames n + 1)) is in
     let split =
     gap_split task frames n (c.loop-f.f + 1 - (latest frames n + 1))
     (c.args.to - (latest frames n + 1)) (omega arith) in
@@ -90,7 +91,7 @@ pub returns-clause-told : goal.returns-clause-told
 returns-clause-told g c = λ task frames n follows some is.
     let i = c.loop-f.invariant in
     let before = i.told task frames n follows some is in
-    let size = gap_length_is frames n c.args.to some is in
+    let size = gap_length-is frames n some ∙ ap (λ f. f - (latest frames n + 1)) is in
     let ended =
     gap_ended task frames n c.loop-f.f c.args.to c.args.self.now.latest _ before.1 some
     (follows.latest_is some) i.later c.loop-f-test.false i.upto in (
