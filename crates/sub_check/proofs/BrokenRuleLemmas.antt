@@ -1,6 +1,6 @@
 -- The first of the rules that a packet breaks, as tests tell it: `broken_first`.
 use Rattle.std.proofs.Common.{◌≡◌, ℕ, zero, suc, ◌<◌, inl, inr, Bool, true, false, not, ◌&&◌, List}
-use Rattle.std.proofs.Common.{[], ◌∷◌, Option, Some, None, option_map, refl, sym, ap, ◌∙◌, arith}
+use Rattle.std.proofs.Common.{[], ◌∷◌, Option, Some, None, option_map, refl, sym, ◌∙◌, arith}
 use Rattle.std.proofs.Common.{length, get_or, subst, is_some, All, IsTrue}
 use Rattle.std.specs.Bool.{Decides}
 use Rattle.std.specs.List.{AllByRecursion, filter, list_any}
@@ -30,7 +30,7 @@ use Rattle.sub_check.specs.Good.{IsCleanSpan, IsEnhancement, IsSubtitleHeader}
 use Rattle.sub_check.specs.PacketRules.{KeepsRule, codes_of, first_header, rank}
 use Rattle.sub_check.specs.PacketTests.{are_code_words, breaks, broken_rules, is_of_header}
 use Rattle.sub_check.specs.PacketTests.{is_of_enhancement, is_other_mode, is_other_row}
-use Rattle.sub_check.specs.PacketTests.{is_other_text, is_same_bit, is_subtitle_header}
+use Rattle.sub_check.specs.PacketTests.{is_other_text, is_subtitle_header}
 use Rattle.sub_check.specs.PacketTests.{first_of_row, is_wrong_header, packet_rules}
 use Rattle.sub_check.specs.declared.checking.packet_rules.PacketRule.{PacketRule}
 use Rattle.sub_check.specs.declared.checking.packet_rules.PacketRule.TheVariants as rule

@@ -2,13 +2,12 @@
 use Rattle.std.proofs.lemmas.Bool.Decides.{nat_tests}
 use Rattle.std.proofs.Common.{◌≡◌, ℕ, suc, ◌+◌, ◌-◌, ◌<◌, ◌≤◌, ◌⊎◌, inl, inr, List, [], ◌∷◌, ◌++◌}
 use Rattle.std.proofs.Common.{length, take, slice_index_or, Option, refl, sym, ap, ◌∙◌, subst}
-use Rattle.std.proofs.Common.{arith, append_assoc, IsTrue, get_or, le_refl}
+use Rattle.std.proofs.Common.{arith, append_assoc, IsTrue, le_refl}
 use Rattle.std.specs.List.{AllByRecursion}
 use Rattle.std.proofs.lemmas.Bool.{cases_eq, cases_lt}
-use Rattle.std.proofs.lemmas.List.{append-nil, get_or-drop}
+use Rattle.std.proofs.lemmas.List.{append-nil}
 use Rattle.std.proofs.lemmas.List.Elements.{All-nil}
 use Rattle.ttx_packet.specs.PageId.{PageIdValue}
-use Rattle.ttx_packet.specs.Parity.{code_of}
 use Rattle.ttx_page.specs.Noise.{IsSound}
 use Rattle.ttx_page.specs.Shown.{shown}
 use Rattle.ttx_page.proofs.LateStart.{MayFollow, sound-joined}
@@ -21,7 +20,6 @@ use Rattle.sub_check.specs.FrameRules.{IsEnded, Unread, frame_at, packets_before
 use Rattle.sub_check.specs.FrameRules.{HasHeader, task_of, watched_of}
 use Rattle.sub_check.specs.Good.{HoldsHeader}
 use Rattle.sub_check.specs.OnScreen.{CompleteWithin}
-use Rattle.sub_check.specs.PacketRules.{codes_of}
 use Rattle.sub_check.specs.Sufficient.{IsSufficient}
 use Rattle.sub_check.specs.Transmission.{IsRising, SentFrame, Transmission, first_frame}
 use Rattle.sub_check.specs.Transmission.{on_air_until, packets_between}

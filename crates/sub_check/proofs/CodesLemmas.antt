@@ -1,10 +1,10 @@
 -- Two packets of code words and odd text that say the same are equal: `same_packet`.
 use Rattle.std.proofs.lemmas.Bool.Decides.{nat_tests}
 use Rattle.std.proofs.Common.{◌≡◌, ℕ, zero, suc, ◌+◌, ◌*◌, ◌/◌, ◌%◌, ◌<◌, true, not, List}
-use Rattle.std.proofs.Common.{[], ◌∷◌, length, get_or, slice_index, drop, map, Some, sym, ap, ◌∙◌}
+use Rattle.std.proofs.Common.{[], ◌∷◌, get_or, slice_index, drop, map, Some, sym, ap, ◌∙◌}
 use Rattle.std.proofs.Common.{subst, arith, refl}
 use Rattle.std.proofs.lemmas.Bool.{agree_below_at, true≢false}
-use Rattle.std.proofs.lemmas.List.{same_lists, get_or-map, get_or-drop, get_or_default, length-drop}
+use Rattle.std.proofs.lemmas.List.{same_lists, get_or-drop, get_or_default}
 use Rattle.std.proofs.lemmas.Option.{same_Some}
 use Rattle.std.specs.Int.RustNames.{count_ones}
 use lib.Count.{ones_in}

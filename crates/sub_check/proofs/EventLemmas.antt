@@ -1,7 +1,7 @@
 -- What is told first of a transmission is the first place that is broken: `first_event`.
 use Rattle.std.proofs.Common.{◌≡◌, ℕ, zero, suc, ◌+◌, ◌-◌, ◌<◌, ◌≤◌, inl, inr, Bool, true, false}
 use Rattle.std.proofs.Common.{List, [], ◌∷◌, ◌++◌, length, take, Option, Some, None, refl, sym, ap}
-use Rattle.std.proofs.Common.{◌∙◌, subst, arith, nat_lt, nat_le, not, ◌||◌, ◌==◌, get_or, is_some}
+use Rattle.std.proofs.Common.{◌∙◌, subst, arith, nat_lt, not, ◌||◌, ◌==◌, get_or, is_some}
 use Rattle.std.proofs.Common.{append_assoc, if◌then◌else◌, IsTrue, map, option_map}
 use Rattle.std.specs.Prelude.{option_and_then}
 use Rattle.std.specs.List.{AllByRecursion, list_any}

@@ -42,7 +42,7 @@ use Rattle.sub_check.proofs.GoodLemmas.{any_sent, each_packet, number_at, rises_
 use Rattle.sub_check.proofs.GoodLemmas.{whole}
 use Rattle.ttx_page.proofs.SpanPush.{span-push}
 use Rattle.sub_check.proofs.PrefixLemmas.{before, packet_at, at_start, at_packet, each_at}
-use Rattle.sub_check.proofs.PrefixLemmas.{each_from, before_more, rises_to, rises_strictly, locate}
+use Rattle.sub_check.proofs.PrefixLemmas.{each_from, before_more, rises_to, rises_strictly}
 use Rattle.sub_check.proofs.PrefixLemmas.{first-same, last-same, on_air_at, on_air_is, end_at}
 use Rattle.sub_check.proofs.ShownLemmas.{joined_more}
 use Rattle.sub_check.proofs.StepByStepLemmas.{clean_nil, last_clean, law_of_repeats, pushed}

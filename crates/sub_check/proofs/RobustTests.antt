@@ -1,7 +1,7 @@
 -- A transmission is not robust, by a receiver that computes: `refuted`. And it is not though all
 -- that is asked of a clean stretch but one part holds, which is needed then: `needed`.
 use Rattle.std.proofs.lemmas.Bool.Decides.{nat_tests, Decides-and}
-use Rattle.std.proofs.Common.{◌≡◌, ◌↔◌, ◌⊎◌, ℕ, suc, ◌+◌, ◌-◌, ◌<◌, ◌≤◌, inl, inr, ◌==◌, Bool}
+use Rattle.std.proofs.Common.{◌≡◌, ◌↔◌, ◌⊎◌, ℕ, suc, ◌+◌, ◌-◌, ◌≤◌, inl, inr, ◌==◌, Bool}
 use Rattle.std.proofs.Common.{true, not, None, IsFalse}
 use Rattle.std.proofs.Common.{◌&&◌, ◌||◌, nat_le, nat_lt, List, [], ◌++◌, length, take, refl, sym}
 use Rattle.std.proofs.Common.{ap, ◌∙◌, arith, eqb-true}

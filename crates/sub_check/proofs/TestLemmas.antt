@@ -10,7 +10,6 @@ use Rattle.std.proofs.lemmas.Bool.Decides.{Decides-like, Decides-by_and, Decides
 use Rattle.std.proofs.lemmas.Bool.Decides.{Decides-below_or, nat_tests}
 use Rattle.ttx_packet.proofs.OneBitLemmas.{first_below_is}
 use Rattle.ttx_packet.specs.OneBit.{first_below}
-use Rattle.ttx_packet.specs.declared.header.Header.{Header}
 use Rattle.ttx_page.specs.declared.packet_kind.PacketKind.{PacketKind}
 use Rattle.ttx_page.specs.declared.packet_kind.PacketKind.TheVariants.{ThisPage, EndsPage, Row}
 use Rattle.ttx_page.specs.declared.packet_kind.PacketKind.TheVariants.{Other}

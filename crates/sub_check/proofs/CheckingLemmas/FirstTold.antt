@@ -1,7 +1,7 @@
 -- What a device was told that stops at the first event decides the answer of `check`: `decided`,
 -- `read_up_to`; and what any device was told, `tells_events`.
 use Rattle.std.proofs.lemmas.Bool.Decides.{nat_tests}
-use Rattle.std.proofs.Common.{◌≡◌, ℕ, zero, suc, ◌+◌, ◌-◌, ◌<◌, List, [], ◌∷◌, ◌++◌, length, take}
+use Rattle.std.proofs.Common.{◌≡◌, ℕ, ◌+◌, ◌<◌, List, [], ◌∷◌, ◌++◌, length, take}
 use Rattle.std.proofs.Common.{drop, Option, Some, None, is_some, Result, MatchResult, Ok, Err, refl}
 use Rattle.std.proofs.Common.{sym, ap, ◌∙◌, subst, arith, All, Bool, false}
 use Rattle.std.specs.List.{AllByRecursion}
@@ -13,18 +13,18 @@ use Rattle.ttx_packet.specs.PacketAddress.{IsPacket}
 use Rattle.ttx_pes.specs.declared.fault.PesFault.{PesFault}
 use Rattle.ttx_pes.specs.declared.fault.PesFault.TheVariants.{Read}
 use Rattle.sub_check.specs.checking.Steps.{Accepts, IsRead, IsRuleFault, TellsAll}
-use Rattle.sub_check.specs.Events.{events, events_of_first, latest}
+use Rattle.sub_check.specs.Events.{events, events_of_first}
 use Rattle.sub_check.specs.FirstBroken.{IsReadUpTo, NamesFirst, Place, fault_at}
 use Rattle.sub_check.specs.FirstBroken.{packet_fault, unread_fault}
-use Rattle.sub_check.specs.FirstBroken.Place.{AtOrder, AtStart, AtGapCell, AtGap, AtPacket, AtFirst}
-use Rattle.sub_check.specs.FirstBroken.Place.{AtCell, AtFrame, AtOpen, AtUnread, AtNothing, AtEnd}
+use Rattle.sub_check.specs.FirstBroken.Place.{AtOrder}
+use Rattle.sub_check.specs.FirstBroken.Place.{AtUnread, AtNothing}
 use Rattle.sub_check.specs.checking.Following.{AreOk}
 use Rattle.stl_rows.specs.Programme.{IsProgramme, ProgrammeValue}
 use Rattle.sub_plan.specs.Options.{IsOptions, OptionsValue}
 use Rattle.std.specs.Prelude.{IsOk}
 use Rattle.sub_check.specs.CheckedFiles.{IsChecked, TellsEvents, first_answer}
-use Rattle.sub_check.specs.FrameRules.{Task, Unread, end_frame, frame_at, task_of}
-use Rattle.sub_check.specs.FrameRules.Unread.{BadPacket, NoFrame}
+use Rattle.sub_check.specs.FrameRules.{Task, Unread, task_of}
+use Rattle.sub_check.specs.FrameRules.Unread.{BadPacket}
 use Rattle.sub_check.specs.PesReading.{ReadsAs, pes_file_of}
 use Rattle.sub_check.specs.Transmission.{EachPacket, SentFrame, Transmission}
 use Rattle.sub_check.specs.declared.checking.Accepted.{Accepted}
@@ -33,7 +33,6 @@ use Rattle.sub_check.specs.declared.event.Event.TheVariants.{Told}
 use Rattle.sub_check.specs.declared.fault.CheckFault.{CheckFault}
 use Rattle.sub_check.specs.declared.fault.CheckFault.TheVariants as fault
 use Rattle.sub_check.specs.declared.checking.packet_rules.PacketRule.{PacketRule}
-use Rattle.sub_check.specs.declared.checking.packet_rules.PacketRule.TheVariants as rule
 use Rattle.sub_io.specs.Device.{failed}
 use Rattle.std.proofs.lemmas.Bool.{true≢false}
 use Rattle.sub_check.specs.Fault.{is_pes_read, is_subtitle_fault}

@@ -1,8 +1,8 @@
 -- What is kept, one frame of the list on, and what is told on the way.
 use Rattle.std.proofs.lemmas.Bool.Decides.{nat_tests}
 use Rattle.std.proofs.Common.{◌≡◌, ℕ, zero, suc, ◌+◌, ◌-◌, ◌<◌, ◌≤◌, Bool, ◌&&◌, nat_le, nat_lt}
-use Rattle.std.proofs.Common.{cond, List, [], ◌∷◌, ◌++◌, length, Option, Some, None, refl, sym, ap}
-use Rattle.std.proofs.Common.{◌∙◌, subst, arith, append_assoc, append-nil, ◌==◌}
+use Rattle.std.proofs.Common.{cond, List, [], ◌∷◌, ◌++◌, length, Option, refl, sym, ap}
+use Rattle.std.proofs.Common.{◌∙◌, subst, arith, append_assoc, ◌==◌}
 use Rattle.std.proofs.lemmas.Bool.{cases_lt}
 use Rattle.std.proofs.lemmas.List.{get_or-map}
 use Rattle.std.proofs.lemmas.List.Folds.{list_any_more}
@@ -24,7 +24,6 @@ use Rattle.sub_check.specs.checking.Following.{Waits}
 use Rattle.sub_check.specs.checking.Following.{arriving_events, ending_events, taking_events}
 use Rattle.sub_check.specs.FrameRules.{Task, Unread, frame_at, packets_before, packets_of_frame}
 use Rattle.sub_check.specs.FrameRules.{end_frame, task_with}
-use Rattle.sub_check.specs.FirstBroken.{unread_fault}
 use Rattle.sub_check.specs.checking.Listener.{Knows, KnowsLast}
 use Rattle.sub_check.specs.PacketRules.{header_count}
 use Rattle.sub_check.specs.Transmission.{SentFrame, Transmission}

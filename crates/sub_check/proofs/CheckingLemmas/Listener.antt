@@ -1,7 +1,7 @@
 -- What is kept of the packets, one packet on: `knows_this`, `knows_still`, `knows_row`.
 use Rattle.std.proofs.Common.{◌≡◌, ℕ, ◌-◌, ◌≤◌, Bool, true, false, not, ◌&&◌, cond, List, [], ◌∷◌}
 use Rattle.std.proofs.Common.{◌++◌, Option, Some, None, option_map, find, length, get_or, set}
-use Rattle.std.proofs.Common.{replicate, refl, sym, arith, get_or-set_other}
+use Rattle.std.proofs.Common.{replicate, sym, arith, get_or-set_other}
 use Rattle.std.proofs.lemmas.Bool.Decides.{nat_tests}
 use Rattle.std.proofs.lemmas.Grind.{get_or-set_at}
 use Rattle.std.specs.Option.{option_or}
@@ -11,8 +11,7 @@ use Rattle.ttx_packet.specs.PageHeader.{header, c11}
 use Rattle.ttx_packet.specs.PageId.{PageIdValue}
 use Rattle.ttx_packet.specs.declared.header.Header.{Header}
 use Rattle.ttx_page.specs.declared.packet_kind.PacketKind.{PacketKind}
-use Rattle.ttx_page.specs.declared.packet_kind.PacketKind.TheVariants.{EndsPage, Other, Row}
-use Rattle.ttx_page.specs.declared.packet_kind.PacketKind.TheVariants.{ThisPage}
+use Rattle.ttx_page.specs.declared.packet_kind.PacketKind.TheVariants.{Row}
 use Rattle.ttx_page.specs.PacketKind.{kind, is_this_page, ends_page, is_row}
 use Rattle.ttx_page.specs.Page.{blank_row, blank, space}
 use Rattle.ttx_page.specs.Span.{span, is_open_after}

@@ -2,7 +2,7 @@
 -- `file_sound`.
 use Rattle.std.proofs.Common.{◌≡◌, ℕ, zero, suc, ◌+◌, ◌-◌, ◌*◌, ◌/◌, ◌%◌, ◌<◌, ◌≤◌, Bool, true}
 use Rattle.std.proofs.Common.{false}
-use Rattle.std.proofs.Common.{List, [], ◌∷◌, ◌++◌, length, map, take, drop, slice_index}
+use Rattle.std.proofs.Common.{List, [], ◌∷◌, length, map, take, drop, slice_index}
 use Rattle.std.proofs.Common.{Option, None, Some, Result, Ok, Err, MatchResult, IfSome, cond, refl}
 use Rattle.std.proofs.Common.{◌==◌, ◌&&◌, not, nat_le, nat_lt, if◌then◌else◌}
 use Rattle.std.proofs.Common.{◌∙◌, sym, subst, arith, length-take, length-drop}
@@ -13,7 +13,6 @@ use Rattle.sub_io.specs.Reading.{◌>>=◌}
 use Rattle.ttx_packet.specs.BitOrder.{mirror}
 use Rattle.ttx_packet.specs.PacketAddress.{IsPacket}
 use Rattle.ttx_pes.specs.DataUnit.{UnitValue, data_unit_length, framing_code, is_teletext}
-use Rattle.ttx_pes.specs.LineOrder.{last_place, stands_after}
 use Rattle.ttx_pes.specs.Fault.{is_read, is_write}
 use Rattle.ttx_pes.specs.Outcome.{packets_from}
 use Rattle.ttx_pes.specs.PesPacket.{PesValue, header_data_length, longest_packet, payload_size}
@@ -25,7 +24,7 @@ use Rattle.ttx_pes.specs.declared.fault.PesFault.{PesFault}
 use Rattle.ttx_pes.specs.declared.fault.PesFault.TheVariants as fault
 use Rattle.sub_check.specs.FrameRules.Unread.{BadPacket}
 use Rattle.sub_check.specs.PacketRules.{packets_of_units}
-use Rattle.sub_check.specs.PesReading.{PesFileValue, file_at, file_of, file_with, frame_of_pts}
+use Rattle.sub_check.specs.PesReading.{PesFileValue, file_at, file_of}
 use Rattle.sub_check.specs.Transmission.{SentFrame}
 use Rattle.sub_check.proofs.PacketLists.{Each-push}
 use Rattle.sub_check.proofs.PesReadingLemmas.{file_by, file_of-then}

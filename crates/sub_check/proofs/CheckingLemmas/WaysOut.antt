@@ -1,9 +1,9 @@
 -- What each way out of the checker's loop shows of the whole file: `next_sent`, `next_read`,
 -- `at_end`, `is_read`, `counts_read`; and of what is told, `told_to_end`, `told_to_stop`.
 use Rattle.std.proofs.lemmas.Bool.Decides.{nat_tests}
-use Rattle.std.proofs.Common.{◌≡◌, ℕ, zero, suc, ◌+◌, ◌-◌, ◌<◌, ◌≤◌, Bool, List, [], ◌∷◌, ◌++◌}
+use Rattle.std.proofs.Common.{◌≡◌, ℕ, ◌+◌, ◌-◌, ◌<◌, ◌≤◌, Bool, List, [], ◌∷◌, ◌++◌}
 use Rattle.std.proofs.Common.{length, drop, take, get_or, Option, Some, None, Result, Ok, Err, sym}
-use Rattle.std.proofs.Common.{ap, refl, ◌∙◌, subst, arith, append_assoc, append-nil, add-one}
+use Rattle.std.proofs.Common.{ap, refl, ◌∙◌, subst, arith, append_assoc, add-one}
 use Rattle.std.specs.List.{AllByRecursion, AllZip}
 use Rattle.std.specs.Prelude.{is_err}
 use Rattle.std.proofs.lemmas.List.Folds.{concat-append}

@@ -1,8 +1,8 @@
 -- What is kept is what is shown, `shown_is`; the first cell that shows another code, `wrong_is`.
 use Rattle.std.proofs.lemmas.Bool.Decides.{nat_tests}
-use Rattle.std.proofs.Common.{◌≡◌, ℕ, zero, suc, ◌+◌, ◌<◌, Bool, true, false}
-use Rattle.std.proofs.Common.{List, [], ◌∷◌, Option, None, Some, MatchOption, option_map, unwrap_or}
-use Rattle.std.proofs.Common.{is_some, map, get_or, refl, sym, ap, arith}
+use Rattle.std.proofs.Common.{◌≡◌, ℕ, ◌+◌, ◌<◌, Bool, true, false}
+use Rattle.std.proofs.Common.{List, Option, None, Some, MatchOption, option_map, unwrap_or}
+use Rattle.std.proofs.Common.{is_some, get_or, refl, sym, ap, arith}
 use Rattle.std.proofs.lemmas.List.{get_or-drop, get_or-replicate}
 use Rattle.ttx_packet.specs.OneBit.{first_below}
 use Rattle.ttx_packet.proofs.OneBitLemmas.{first_below-at, first_below-none}
