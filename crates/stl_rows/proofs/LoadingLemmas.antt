@@ -56,7 +56,7 @@ is_of_subtitle _ = false
 abbrev pub IsToldBy : ℕ → LoadFault → Type 0
 IsToldBy block fault = (is_of_subtitle fault.kind ≡ true) × (fault.block ≤ block)
 
--- At their block.
+-- Those of a subtitle are told at its block.
 at_block : (national : National) (before : Option Times) (t : SubtitleValue) (block : ℕ)
     → All (IsToldBy block) (map (load_fault block) (follow_faults national before t))
 at_block national before t block = grind (arith, nat_tests)

@@ -3,7 +3,7 @@
 mod hearing;
 mod reception;
 
-ghost use Rattle.std.specs.Prelude.{◌≡◌, ℕ, IfErr, Option, false, true};
+ghost use Rattle.std.specs.Prelude.{◌≡◌, IfErr, Option, false, true};
 ghost use Rattle.sub_io.specs.Device.{CanFail, CountsIf, failed};
 ghost use Rattle.sub_io.specs.Reading.{IfTold};
 ghost use Rattle.ttx_page.specs.Screen.{display};

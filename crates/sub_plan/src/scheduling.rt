@@ -1,7 +1,6 @@
 //! Writing the schedule of a programme, from edge to edge.
 ghost use Rattle.std.specs.Prelude.{◌≡◌, ◌≢◌, ◌↔◌, ℕ, ◌+◌, ◌-◌, ◌<◌, ◌≤◌, List, [], Err, IfOk};
 ghost use Rattle.std.specs.Prelude.{length};
-ghost use Rattle.std.specs.Prelude.{if◌then◌else◌};
 ghost use Rattle.std.specs.List.{flat_map};
 ghost use Rattle.sub_io.specs.Device.{CanFail, CountsFailure, CountsIf, Writes, failed};
 ghost use Rattle.ttx_pes.specs.LineOrder.{numbered_units};

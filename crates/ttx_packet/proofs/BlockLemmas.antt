@@ -1,5 +1,5 @@
--- Lists gone over in blocks: block_of, what a store of a block leaves (block_more) and of a byte
--- (byte_more), and the first item that passes a test, by the masks of blocks (first_so_far).
+-- Lists gone over in blocks: block_of, what a store of a block leaves (block_more), and the first
+-- item that passes a test, by the masks of blocks (first_so_far).
 use Rattle.std.proofs.Common.{◌≡◌, ℕ, zero, suc, ◌+◌, ◌*◌, ◌/◌, ◌^◌, ◌<◌, ◌≤◌, Bool, true, false}
 use Rattle.std.proofs.Common.{not, List, [], ◌++◌, map, length, get_or, take, drop, sym, ap, ap₂}
 use Rattle.std.proofs.Common.{◌∙◌, take_all, arith, w16}

@@ -1,4 +1,4 @@
--- Texts of three bytes and others: page_of_text-other_length, three_bytes.
+-- Texts of another length than three bytes: page_of_text-other_length.
 use Rattle.std.proofs.Common.{◌≡◌, ◌≢◌, ℕ, List, length, None, arith}
 use Rattle.std.proofs.lemmas.Bool.Decides.{nat_tests}
 use Rattle.ttx_packet.specs.PageId.{page_of_text}

@@ -1,21 +1,17 @@
 -- What the checker's steps answer. Private functions alone cite this.
-use Rattle.std.specs.Prelude.{◌≡◌, ℕ, zero, suc, ◌+◌, ◌<◌, ◌≤◌, Bool, true, false, List, [], ◌∷◌}
+use Rattle.std.specs.Prelude.{◌≡◌, ℕ, zero, suc, ◌+◌, ◌<◌, ◌≤◌, Bool, false, List, [], ◌∷◌}
 use Rattle.std.specs.Prelude.{◌++◌, length, nat_le, if◌then◌else◌}
-use Rattle.std.specs.Prelude.{Option, Some, None, ⊤}
-use Rattle.std.specs.Prelude.{Result, Ok, Err, All, flat_map}
+use Rattle.std.specs.Prelude.{Option, Some, None}
+use Rattle.std.specs.Prelude.{Result, Ok, Err, All}
 use Rattle.std.specs.List.{AllByRecursion, AllZip, concat}
-use Rattle.sub_io.specs.Telling.{Tells, TellsPrefix}
-use Rattle.ttx_packet.specs.PageId.{PageIdValue}
-use Rattle.stl_file.specs.Reading.{Outcome}
-use Rattle.stl_rows.specs.Loading.{TellsFault}
-use Rattle.stl_rows.specs.declared.national.National.{National}
+use Rattle.sub_io.specs.Telling.{Tells}
 use Rattle.ttx_pes.specs.PesPacket.{IsPesPacket, PesValue}
 use Rattle.ttx_pes.specs.Reading.{answer_at, most_packets}
 use Rattle.stl_file.specs.TimeCode.{day}
 use Rattle.sub_plan.specs.FrameTime.{pts_of}
 use Rattle.ttx_pes.specs.declared.fault.PesFault.TheVariants.{Read}
 use Rattle.sub_check.specs.CheckedFiles.{CountsRead, TellsOrStops}
-use Rattle.sub_check.specs.Events.{events, events_of_first, latest}
+use Rattle.sub_check.specs.Events.{events, events_of_first}
 use Rattle.sub_check.specs.declared.event.Event.{Event}
 use Rattle.sub_check.specs.declared.event.Event.TheVariants.{Told}
 use Rattle.sub_check.specs.Fault.{is_pes_read, is_pes_write, is_subtitle_fault}
@@ -24,7 +20,7 @@ use Rattle.sub_check.specs.FrameRules.{Task, Unread, frame_at, end_frame, packet
 use Rattle.sub_check.specs.PacketRules.{header_count}
 use Rattle.sub_check.specs.PesFrames.{IsSentAs}
 use Rattle.sub_check.specs.PesReading.{EndsReading}
-use Rattle.sub_check.specs.Transmission.{SentFrame, Transmission, first_frame, last_frame}
+use Rattle.sub_check.specs.Transmission.{SentFrame, Transmission}
 use Rattle.sub_check.specs.declared.checking.Accepted.{Accepted}
 use Rattle.sub_check.specs.declared.fault.CheckFault.{CheckFault}
 use Rattle.sub_check.specs.declared.fault.CheckFault.TheVariants as fault

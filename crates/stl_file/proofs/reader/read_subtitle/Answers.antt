@@ -3,7 +3,6 @@ use Rattle.std.proofs.Common.{rules, arith}
 use Rattle.std.proofs.lemmas.Bool.Decides.{nat_tests}
 use Rattle.std.proofs.lemmas.Result.{err_from_is_err_and}
 use Rattle.std.proofs.lemmas.Bool.{ne_eqb}
-use Rattle.stl_file.specs.declared.fault.StlFault.TheVariants as fault
 use Rattle.stl_file.proofs.OutcomeLemmas.{outcome_end}
 use Rattle.stl_file.proofs.ReaderLemmas.{leads_end, leads_too_many, leads_truncated, leads_refused}
 use Rattle.stl_file.proofs.ReaderLemmas.{leads_given, reads_on, fails_reading}

@@ -1,5 +1,5 @@
 -- The masks of blocks tell the first: none_so_far, first_so_far.
-use Rattle.std.proofs.Common.{◌*◌, ◌/◌, ◌<◌, length, drop, false, not, arith, rules, ◌∙◌, ap}
+use Rattle.std.proofs.Common.{◌*◌, ◌/◌, ◌<◌, length, drop, not, arith, rules, ◌∙◌, ap}
 use Rattle.std.proofs.lemmas.Bool.Decides.{nat_tests}
 use Rattle.std.proofs.lemmas.Bool.{not-false}
 use Rattle.std.proofs.lemmas.List.{get_or-drop}
