@@ -1,0 +1,102 @@
+"""The wrong programs of crates/*/must-fail/ and crates/*/release-edits/, each of which is an edit.
+
+A file NAME.edit has lines `file: PATH` and, below each, pairs of lines `old: TEXT` and `new: TEXT`:
+in that file of its crate the old text, which stands there once, gives way to the new one.
+"""
+import os
+import re
+from collections import Counter, namedtuple
+
+from .words import Stop
+
+TOP = os.path.realpath(os.path.join(os.path.dirname(__file__), "..", ".."))
+CRATES = os.path.join(TOP, "crates")
+TRIED_BY_GATE = "must-fail"
+TRIED_BEFORE_RELEASE = "release-edits"
+NAME = re.compile(r"[A-Za-z0-9_-]+\.edit")
+PARTS = ("src/", "specs/", "proofs/")  # of a crate, in which an edit may change a file
+
+
+class Edit(namedtuple("Edit", "crate folder name")):
+    """An edit; its text is CRATE/FOLDER/NAME."""
+
+    def __str__(self):
+        return "/".join(self)
+
+    def path(self):
+        return os.path.join(CRATES, self.crate, self.folder, self.name + ".edit")
+
+    def is_named(self, word):
+        """Whether a word means it: its name, its crate, or both, with or without the folder."""
+        word = word.removesuffix(".edit").removeprefix("crates/")
+        return word in (self.name, self.crate, f"{self.crate}/{self.name}", str(self))
+
+
+def edits_in(folder):
+    """The edits of all crates in their folders of that name."""
+    found = []
+    for crate in sorted(os.listdir(CRATES)):
+        place = os.path.join(CRATES, crate, folder)
+        for file in sorted(os.listdir(place)) if os.path.isdir(place) else ():
+            if not NAME.fullmatch(file):
+                raise Stop(f"crates/{crate}/{folder}/{file} is no edit: none is named so")
+            found.append(Edit(crate, folder, file.removesuffix(".edit")))
+    return found
+
+
+def edited(edit):
+    """The files of the crate that the edit changes, by their path in it, with their new text."""
+    path, old, texts = None, None, {}
+    with open(edit.path(), encoding="utf-8") as file:
+        lines = file.read().split("\n")
+    for line in lines:
+        kind, _, rest = line.partition(":")
+        rest = rest.removeprefix(" ")
+        if kind == "file":
+            path = rest.strip()
+        elif kind == "old":
+            old = rest
+        elif kind == "new":
+            if path is None or not old:
+                raise Stop(f"{edit}: a line `new:` stands before its `file:` or its `old:`")
+            texts[path] = replaced(edit, path, texts.get(path), old, rest)
+            old = None
+        elif line.strip():
+            raise Stop(f"{edit}: a line is none of `file:`, `old:` and `new:`: {line}")
+    if old is not None or not texts:
+        raise Stop(f"{edit}: a line `new:` is missing")
+    return texts
+
+
+def replaced(edit, path, text, old, new):
+    """The text of a file of the crate, which is read where it is not given, with `old` replaced."""
+    if not path.startswith(PARTS) or os.path.normpath(path) != path:
+        raise Stop(f"{edit}: {path} is no file of {', '.join(PARTS)}")
+    if old == new:
+        raise Stop(f"{edit}: it changes nothing: {old}")
+    if text is None:
+        try:
+            with open(os.path.join(CRATES, edit.crate, path), encoding="utf-8") as source:
+                text = source.read()
+        except OSError as error:
+            raise Stop(f"{edit}: {path}: {error.strerror}") from error
+    if text.count(old) != 1:
+        raise Stop(f"{edit}: its text stands in {path} {text.count(old)} times: {old}")
+    return text.replace(old, new)
+
+
+def count_applying():
+    """Tells each edit that can't be made, and answers how many can and how many can't."""
+    edits = edits_in(TRIED_BY_GATE) + edits_in(TRIED_BEFORE_RELEASE)
+    failed = 0
+    for edit, number in Counter((edit.crate, edit.name) for edit in edits).items():
+        if number > 1:
+            print(f"{edit[0]}: two edits have the name {edit[1]}")
+            failed += 1
+    for edit in edits:
+        try:
+            edited(edit)
+        except Stop as stop:
+            print(stop)
+            failed += 1
+    return len(edits) - failed, failed
