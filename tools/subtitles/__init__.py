@@ -12,7 +12,8 @@ sent       the PTS at which the text of a page changes
 votes      the origin for which the edges of subtitles vote
 words      words of a command line, and how a tool ends
 files      files that are written whole or not at all
-built      the program as it was proved and built
+built      the program that ./subttx runs
+proved     what is said of it in PROVED
 prefix     what is installed under a folder
 
 preview      parts of tools/preview

@@ -1,12 +1,10 @@
-"""The program of this repository, as it was proved and built."""
+"""The program of this repository that ./subttx runs."""
 import os
 import subprocess
 
 from .words import Stop
 
 TOP = os.path.realpath(os.path.join(os.path.dirname(__file__), "..", ".."))
-PLACE = os.path.join("crates", "subttx", "out", "subttx")
-BUILT = os.path.join(TOP, PLACE)
 
 
 def sources():
@@ -18,25 +16,33 @@ def sources():
     return done.stdout.decode().strip()
 
 
+def chosen(top):
+    """What tools/program of a repository prints: the program's path, or why there is none."""
+    done = subprocess.run([os.path.join(top, "tools", "program")], stdin=subprocess.DEVNULL,
+                          stdout=subprocess.PIPE, stderr=subprocess.PIPE, check=False)
+    return done.stdout.decode().rstrip("\n"), done.stderr.decode().strip()
+
+
 def built_program(path=None):
     """The file of the program: at `path`, or as it was built for the sources as they stand."""
     if path:
         if os.path.isdir(path) or not os.access(path, os.X_OK):
             raise Stop(f"{path} is no program")
         return behind_script(path)
-    if not os.access(BUILT, os.X_OK):
-        raise Stop("the program is not built: run ./subttx, or the gate")
-    stamp = read(BUILT + ".sources")
-    if stamp is None or stamp.strip() != sources():
-        raise Stop("the program was built for other sources: run ./subttx, or the gate")
-    return BUILT
+    program, why = chosen(TOP)
+    if not program:
+        raise Stop(why or "no program is built for the sources: run ./subttx, or the gate")
+    return program
 
 
 def behind_script(path):
     """The program that a script ./subttx of a repository runs; else the path itself."""
-    built = os.path.join(os.path.dirname(os.path.realpath(path)), PLACE)
+    top = os.path.dirname(os.path.realpath(path))
     with open(path, "rb") as file:
-        return built if file.read(2) == b"#!" and os.path.isfile(built) else path
+        is_script = file.read(2) == b"#!"
+    if not is_script or not os.path.isfile(os.path.join(top, "tools", "program")):
+        return path
+    return chosen(top)[0] or path
 
 
 def read(path):
@@ -45,18 +51,3 @@ def read(path):
         return None
     with open(path, encoding="utf-8", errors="replace") as file:
         return file.read()
-
-
-def prover_line():
-    """What the prover said last of the program, when it was proved and built: `logic=proved ..`."""
-    said, of_program = read(BUILT + ".log") or "", []
-    # The gate tells one crate after another, each under its name; ./subttx ends with the program.
-    crate = "subttx"
-    for line in said.splitlines():
-        if line.startswith("== "):
-            crate = line[3:].split(":")[0].strip()
-        elif line.startswith("logic=proved ") and crate == "subttx":
-            of_program.append(line)
-    if not of_program:
-        raise Stop(f"{BUILT}.log has no line of the prover: run ./subttx, or the gate")
-    return of_program[-1]

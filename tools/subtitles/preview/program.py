@@ -1,7 +1,6 @@
 """What `subttx` is asked, and its lines as values. Nothing else is known of either file."""
 import collections
 import hashlib
-import os
 import re
 import subprocess
 
@@ -157,12 +156,3 @@ def digest_of(path):
     except OSError as error:
         raise NoReport(f"{path} can't be read: {error.strerror}") from None
     return digest.hexdigest(), size
-
-
-def built_program(path):
-    """The file whose digest tells which program answered: what the repository's script built."""
-    top = os.path.dirname(os.path.realpath(path))
-    built = os.path.join(top, "crates", "subttx", "out", "subttx")
-    with open(path, "rb") as file:
-        is_script = file.read(2) == b"#!"
-    return built if is_script and os.path.isfile(built) else path

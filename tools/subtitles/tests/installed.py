@@ -5,8 +5,8 @@ import shutil
 import subprocess
 import tarfile
 
-from ..built import BUILT, TOP, prover_line, read, sources
-from ..words import Stop
+from ..built import TOP, chosen, read
+from ..proved import lacking, parsed
 from .bench import example
 
 TIMES = ["--from", "20:15:00:00", "--to", "20:15:09:00"]
@@ -97,13 +97,10 @@ def names_one_version(case):
 
 def makes_an_archive(case):
     """The archive's sums are right, and what is in it runs; twice the same bytes."""
-    try:
-        line = prover_line()
-        is_built = read(BUILT + ".sources").strip() == sources()
-    except (Stop, AttributeError):
-        is_built = False
-    if not is_built or not shutil.which("rt"):
-        case.bench.over.append("tools/dist, since the program is not built here for these sources")
+    program, _ = chosen(TOP)
+    proved = os.path.join(os.path.dirname(program), "PROVED")
+    if not program or lacking(parsed(read(proved))):
+        case.bench.over.append("tools/dist, since the gate has not proved the program here")
         return
     done = case.tool("dist")
     path = case.path(done.out.decode().strip())
@@ -116,7 +113,7 @@ def makes_an_archive(case):
         folder = case.path(archive.getnames()[0])
     sums = subprocess.run(["sha256sum", "--quiet", "-c", "SHA256SUMS"], cwd=folder, check=False)
     case.test("its sums", sums.returncode == 0)
-    case.test("the prover's line", read(os.path.join(folder, "PROVED")).startswith(line))
+    case.test("what was proved", read(os.path.join(folder, "PROVED")) == read(proved))
     runs_the_whole_way(case, folder)
 
 

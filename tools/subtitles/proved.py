@@ -1,0 +1,131 @@
+"""PROVED, the file beside a program: of which sources it is, and what the prover said of them.
+
+    sources SUM             the line of tools/sources
+    program SUM             the program's SHA-256
+    toolchain LINE          what `rt version` printed
+    crate NAME SUM LINE     for each crate, lowest first: the line of `tools/sources --crates` and
+                            the prover's line, logic=proved .., of the run of rt ci that proved it
+
+out/ holds the program that was proved and built here, dist/ that of the repository. A crate that
+rt ci takes from what it keeps has no line in that run; so lines are noted in out/lines, each beside
+the sum of the sources that it is of, and taken from there or from dist/PROVED.
+"""
+import collections
+import hashlib
+import os
+import re
+import subprocess
+
+from .built import TOP, read
+from .prefix import copy
+from .words import Stop
+
+OUT, DIST = os.path.join(TOP, "out"), os.path.join(TOP, "dist")
+NOTES = os.path.join(OUT, "lines")
+RAW = os.path.join(TOP, "crates", "subttx", "out", "subttx")  # where rt leaves the program
+
+# `crates`: by name the sum of a crate's sources and the prover's line.
+Proved = collections.namedtuple("Proved", "sources program toolchain crates")
+
+
+def parsed(text):
+    """What a file PROVED says, or the notes, which have no lines of sources and program."""
+    said, crates = dict.fromkeys(Proved._fields), {}
+    for line in (text or "").splitlines():
+        word, _, rest = line.partition(" ")
+        if word == "crate" and rest.count(" ") >= 2:
+            name, digest, told = rest.split(" ", 2)
+            crates[name] = digest, told
+        elif word in said:
+            said[word] = rest
+    return Proved(**{**said, "crates": crates})
+
+
+def text_of(proved):
+    """The file that says so."""
+    lines = [f"{word} {getattr(proved, word)}" for word in ("sources", "program", "toolchain")
+             if getattr(proved, word)]
+    lines += [f"crate {name} {digest} {told}" for name, (digest, told) in proved.crates.items()]
+    return "".join(line + "\n" for line in lines)
+
+
+def proved_in(folder):
+    return parsed(read(os.path.join(folder, "PROVED")))
+
+
+def crate_sums(text=None):
+    """By name, lowest crate first, the sum of each crate's sources: of `tools/sources --crates`."""
+    if text is None:
+        command = [os.path.join(TOP, "tools", "sources"), "--crates"]
+        text = subprocess.run(command, stdin=subprocess.DEVNULL, stdout=subprocess.PIPE,
+                              check=True).stdout.decode()
+    return dict(line.split(" ") for line in text.splitlines())
+
+
+def digest_of(path):
+    with open(path, "rb") as file:
+        return hashlib.sha256(file.read()).hexdigest()
+
+
+def toolchain():
+    """What the toolchain calls itself."""
+    try:
+        return subprocess.run(["rt", "version"], stdin=subprocess.DEVNULL, check=True,
+                              stdout=subprocess.PIPE).stdout.decode().strip()
+    except (OSError, subprocess.CalledProcessError):
+        raise Stop("the toolchain's rt is not on the PATH, or does not tell its version") from None
+
+
+def lines_in(log):
+    """By name the prover's line of each crate that rt ci proved, and not of its tests."""
+    found, crate, told = {}, None, None
+    for line in log.splitlines():
+        if line.startswith("== "):
+            crate, told = line.removeprefix("== "), None
+        elif line.startswith("logic=proved "):
+            told = line
+        elif told and line == f"{crate} proved":
+            found[crate] = told
+    return found
+
+
+def note(log, sums):
+    """Notes what a log says of the crates; `sums` are those of the sources that were proved."""
+    version, notes = toolchain(), parsed(read(NOTES))
+    crates = notes.crates if notes.toolchain == version else {}
+    crates |= {name: (sums[name], line) for name, line in lines_in(log).items() if name in sums}
+    write(NOTES, text_of(Proved(None, None, version, crates)))
+
+
+def known_lines(version):
+    """By crate and sum the lines that this toolchain's prover said, here or in the repository."""
+    found = {}
+    for proved in (proved_in(DIST), parsed(read(NOTES))):
+        if proved.toolchain == version:
+            found |= {(name, digest): line for name, (digest, line) in proved.crates.items()}
+    return found
+
+
+def keep(of_sources, with_lines):
+    """Puts into out/ the program that rt built, of these sources; with the lines that are known."""
+    version, digest = toolchain(), digest_of(RAW)
+    old = proved_in(OUT)
+    if not with_lines and (old.sources, old.program) == (of_sources, digest):
+        return  # the gate has left the same, and the lines
+    known = known_lines(version) if with_lines else {}
+    crates = {name: (it, known[name, it]) for name, it in crate_sums().items() if (name, it) in known}
+    copy(RAW, os.path.join(OUT, "subttx"), 0o755)
+    write(os.path.join(OUT, "PROVED"), text_of(Proved(of_sources, digest, version, crates)))
+
+
+def lacking(proved):
+    """The crates of which a file PROVED has no line, for the sources as they stand."""
+    return [name for name, digest in crate_sums().items()
+            if proved.crates.get(name, (None,))[0] != digest]
+
+
+def write(path, text):
+    os.makedirs(os.path.dirname(path), exist_ok=True)
+    with open(path + ".new", "w", encoding="utf-8") as file:
+        file.write(text)
+    os.replace(path + ".new", path)

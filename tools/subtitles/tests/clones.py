@@ -1,0 +1,249 @@
+"""./subttx in a clone in which nothing is built: which program it runs, and why not another; and
+how tools/release brings a program there, with lines of the prover that a log tells."""
+import os
+import shutil
+import subprocess
+
+from ..built import TOP, read
+from ..proved import Proved, digest_of, parsed, text_of
+from ..trial import ANOTHER_USER, Trial
+
+PACKET = ["packet", "00"]
+SOURCE = os.path.join("crates", "ttx_packet", "src", "parity.rt")
+VERSION = "a toolchain"
+# What stands in for the toolchain: it tells its version, and proves nothing.
+TOOLCHAIN = f'#!/bin/sh\n[ "$1" = version ] && echo {VERSION!r}\n'
+LINE = "logic=proved functions=7"
+NEEDED = ["subttx", "crates.txt", "tools", "crates"]
+
+
+def left_out(folder, names):
+    """What a copy of the repository does without."""
+    del folder
+    return {"out", "must-fail", "release-edits", "__pycache__"} & set(names)
+
+
+class Clone:
+    """A copy of the repository in a case's folder, whose dist/ holds the program of its sources."""
+
+    def __init__(self, case):
+        self.case, self.top = case, case.path("clone")
+        os.mkdir(self.top)
+        for name in NEEDED:
+            here, there = os.path.join(TOP, name), self.path(name)
+            if os.path.isdir(here):
+                shutil.copytree(here, there, ignore=left_out)
+            else:
+                shutil.copy(here, there)
+        self.crates = dict(line.split(" ") for line in self.tool("sources", "--crates"))
+        self.put("dist", case.bench.program)
+
+    def path(self, *names):
+        return os.path.join(self.top, *names)
+
+    def tool(self, name, *words):
+        """What a tool of the clone prints, as lines."""
+        return self.case.call([self.path("tools", name), *words]).out.decode().splitlines()
+
+    def put(self, folder, program, line=LINE):
+        """Puts a program into a folder, with what PROVED has to say for the sources as they are."""
+        os.makedirs(self.path(folder), exist_ok=True)
+        shutil.copy(program, self.path(folder, "subttx"))
+        os.chmod(self.path(folder, "subttx"), 0o755)
+        crates = {name: (digest, line) for name, digest in self.crates.items()}
+        self.write(os.path.join(folder, "PROVED"), text_of(
+            Proved(self.tool("sources")[0], digest_of(program), VERSION, crates)))
+
+    def write(self, name, text):
+        os.makedirs(os.path.dirname(self.path(name)), exist_ok=True)
+        with open(self.path(name), "w", encoding="utf-8") as file:
+            file.write(text)
+
+    def add_to(self, name, text):
+        with open(self.path(name), "a", encoding="utf-8") as file:
+            file.write(text)
+
+    def give_toolchain(self):
+        """Puts an rt into the clone; the PATH that finds it."""
+        self.write("bin/rt", TOOLCHAIN)
+        os.chmod(self.path("bin", "rt"), 0o755)
+        return os.pathsep.join([self.path("bin"), path_without_rt()])
+
+    def run(self, *words, script=None, **more):
+        """What ./subttx does where no rt is on the PATH."""
+        return self.case.call([script or self.path("subttx"), *words],
+                              env={**os.environ, "PATH": path_without_rt()}, **more)
+
+    def release(self, *words):
+        return self.case.call([self.path("tools", "release"), *words],
+                              env={**os.environ, "PATH": self.give_toolchain()})
+
+    def runs(self, name, done=None):
+        """The program is run, and nothing else is told."""
+        done = done or self.run(*PACKET)
+        self.case.test(name, done == self.case.call([self.case.bench.program, *PACKET]), done)
+
+    def does_not_run(self, name, why):
+        """There is no program: that is told, and why, on two lines."""
+        done = self.run(*PACKET)
+        self.case.test(name, done.status == 2 and not done.out and len(done.told) == 2
+                       and why in done.told[0] and "rt is not on the PATH" in done.told[1], done)
+
+
+def path_without_rt():
+    folders = os.environ["PATH"].split(os.pathsep)
+    return os.pathsep.join(one for one in folders if not os.path.exists(os.path.join(one, "rt")))
+
+
+def runs_what_stands_there(case):
+    """A clone as it comes, twice; from another folder; through a link."""
+    clone = Clone(case)
+    clone.runs("at first")
+    clone.runs("again, with the choice kept")
+    os.symlink(clone.path("subttx"), case.path("link"))
+    clone.runs("through a link", clone.run(*PACKET, script=case.path("link")))
+    case.test("its path", clone.tool("program") == [clone.path("dist", "subttx")])
+
+
+def finds_damage(case):
+    """One byte of the program is another; also after the choice was kept."""
+    clone = Clone(case)
+    clone.runs("whole")
+    with open(clone.path("dist", "subttx"), "r+b") as file:
+        file.seek(-100, os.SEEK_END)
+        byte = file.read(1)[0]
+        file.seek(-1, os.SEEK_CUR)
+        file.write(bytes([byte ^ 1]))
+    clone.does_not_run("one byte", "dist/subttx is damaged")
+    os.remove(clone.path("dist", "subttx"))
+    clone.does_not_run("no file", "dist/subttx is no program")
+
+
+def finds_changes(case):
+    """A source is another one, is new, or is gone; also after the choice was kept."""
+    clone = Clone(case)
+    clone.runs("as it is")
+    clone.add_to(SOURCE, "// changed\n")
+    clone.does_not_run("a source", "dist/subttx was built from other sources")
+    clone.put("dist", case.bench.program)
+    clone.runs("with a program of its own")
+    os.rename(clone.path(SOURCE), clone.path(SOURCE + "2"))
+    clone.does_not_run("another name", "dist/subttx was built from other sources")
+
+
+def runs_where_nothing_may_be_written(case):
+    """The clone belongs to another user, or may only be read."""
+    clone, who = Clone(case), {}
+    if os.geteuid() == 0:
+        who = {"user": ANOTHER_USER}
+        if not Trial.can(["test", "-x", clone.path("subttx")], **who):
+            case.bench.over.append("a read-only clone, since no other user can read it")
+            return
+    subprocess.run(["chmod", "-R", "a-w", clone.top], check=True)
+    clone.runs("read only", clone.run(*PACKET, **who))
+    subprocess.run(["chmod", "-R", "u+w", clone.top], check=True)
+    case.test("nothing was written", not os.path.exists(clone.path("out")))
+
+
+def tells_of_another_machine(case):
+    """What lies there can't be run, or answers something else."""
+    clone = Clone(case)
+    for name, text in (("no program of this machine", "\x7fELF\x02 and no more"),
+                       ("another answer", "#!/bin/sh\necho nothing\n"),
+                       ("it ends by a signal", "#!/bin/sh\nkill -ILL $$\n")):
+        clone.write("other", text)
+        clone.put("dist", clone.path("other"))
+        clone.does_not_run(name, "dist/subttx does not run here")
+
+
+def takes_first_what_was_built_here(case):
+    """out/ comes before dist/, as long as it is of the sources; there is no word of what is left."""
+    clone = Clone(case)
+    stored = clone.path("crates", "subttx", "stdout")
+    clone.write("other", f"#!/bin/sh\n[ $2 = 00 ] && exec echo built\ncat {stored}\n")
+    clone.put("out", clone.path("other"))
+    done = clone.run(*PACKET)
+    case.test("out/", (done.status, done.out, done.told) == (0, b"built\n", []), done)
+    clone.add_to(SOURCE, "// changed\n")
+    clone.put("dist", case.bench.program)
+    clone.runs("dist/, where out/ is older")
+
+
+def a_log(clone, kept=()):
+    """What rt ci prints: a crate with its tests, one that fails, and those that are kept."""
+    lines = []
+    for name in clone.crates:
+        if name in kept:
+            lines.append(f"{name} is kept: an earlier run proved the same files")
+        else:
+            lines += [f"== {name}", "crate: modules", f"{LINE} of={name}", f"{name} proved",
+                      f"== {name}: its tests", "logic=proved tests=1",
+                      f"{name}: its tests are proved"]
+    return "\n".join([*lines, "== other", LINE, "other NOT PROVED", "1 passed, 1 failed", ""])
+
+
+def release_takes_what_was_proved(case):
+    """From a log of rt ci into dist/, also where a part is kept; and not without all lines."""
+    clone = Clone(case)
+    built = os.path.join("crates", "subttx", "out", "subttx")
+    os.makedirs(os.path.dirname(clone.path(built)))
+    shutil.copy(case.bench.program, clone.path(built))
+    os.remove(clone.path("dist", "PROVED"))
+    first, *others = clone.crates
+    clone.write("log", a_log(clone, kept=[first]))
+    done = clone.release("--note", clone.path("log"))
+    case.test("a log is noted", done.status == 0 and not done.told, done)
+    done = clone.release("--keep")
+    case.test("a crate without a line is told", first.encode() in done.out, done)
+    done = clone.release()
+    case.test("and refused", done.status == 2 and first in done.told[0], done)
+    clone.write("log", a_log(clone, kept=others))
+    clone.release("--note", clone.path("log"))
+    done = clone.release("--keep")
+    case.test("with the other's line", (done.status, done.out, done.told) == (0, b"", []), done)
+    done = clone.release("--compare")
+    case.test("no dist/ yet", done.status == 0 and done.out.endswith(b"\n0 passed, 0 failed\n"), done)
+    done = clone.release()
+    case.test("taken", done.status == 0, done)
+    told = parsed(read(clone.path("dist", "PROVED")))
+    case.test("each crate's own line", told.crates == {
+        name: (digest, f"{LINE} of={name}") for name, digest in clone.crates.items()}, told)
+    done = clone.release("--compare")
+    case.test("the same bytes", done.status == 0 and done.out.endswith(b"\n1 passed, 0 failed\n"), done)
+    shutil.rmtree(clone.path("out"))
+    clone.runs("it runs")
+
+
+def release_keeps_lines_of_unchanged_sources(case):
+    """A line of dist/PROVED is kept for the crate whose sources are the same, and for no other."""
+    clone = Clone(case)
+    built = os.path.join("crates", "subttx", "out", "subttx")
+    os.makedirs(os.path.dirname(clone.path(built)))
+    shutil.copy(case.bench.program, clone.path(built))
+    clone.add_to(SOURCE, "// changed\n")
+    clone.write("log", a_log(clone, kept=clone.crates))
+    clone.release("--note", clone.path("log"))
+    done = clone.release("--keep")
+    told = parsed(read(clone.path("out", "PROVED"))).crates
+    case.test("all but one", set(clone.crates) - set(told) == {"ttx_packet"}, told)
+    done = clone.release("--compare")
+    case.test("other sources are told", done.status == 0 and b"other sources" in done.out, done)
+
+
+def compare_finds_other_bytes(case):
+    """Both are of the same sources, and the programs differ; or dist/ is damaged."""
+    clone = Clone(case)
+    shutil.copy(clone.path("dist", "subttx"), case.path("other"))
+    with open(case.path("other"), "ab") as file:
+        file.write(b"\0")
+    clone.put("out", case.path("other"))
+    done = clone.release("--compare")
+    case.test("other bytes", done.status == 1 and done.out.endswith(b"\n0 passed, 1 failed\n"), done)
+    shutil.copy(case.path("other"), clone.path("dist", "subttx"))
+    done = clone.release("--compare")
+    case.test("damage", done.status == 1 and b"is not the program" in done.out, done)
+
+
+CASES = [runs_what_stands_there, finds_damage, finds_changes, runs_where_nothing_may_be_written,
+         tells_of_another_machine, takes_first_what_was_built_here, release_takes_what_was_proved,
+         release_keeps_lines_of_unchanged_sources, compare_finds_other_bytes]
