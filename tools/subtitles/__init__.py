@@ -6,12 +6,14 @@ letters    the letters of their text (ISO 6937)
 teletext   Teletext packets and their codes (EN 300 706)
 pes        PES packets with Teletext (EN 300 472)
 transport  MPEG transport streams, read (ISO/IEC 13818-1)
-listing    their PIDs with Teletext, and the pages of these
+joining    the PES packets of a PID, and what was lost of them
+listing    the PIDs with Teletext, and the pages of these
+extracting the PES packets of one PID, and in words what is missing
 multiplex  a transport stream with Teletext, written
 sent       the PTS at which the text of a page changes
 votes      the origin for which the edges of subtitles vote
 words      words of a command line, and how a tool ends
-files      files that are written whole or not at all
+files      files that are read as they come, and written whole or not at all
 built      the program that ./subttx runs
 proved     what is said of it in PROVED
 prefix     what is installed under a folder

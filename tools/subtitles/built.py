@@ -1,4 +1,6 @@
 """The program of this repository that ./subttx runs."""
+from __future__ import annotations
+
 import os
 import subprocess
 
@@ -7,7 +9,7 @@ from .words import Stop
 TOP = os.path.realpath(os.path.join(os.path.dirname(__file__), "..", ".."))
 
 
-def sources():
+def sources() -> str:
     """The line that changes with each source of the program."""
     done = subprocess.run([os.path.join(TOP, "tools", "sources")], stdin=subprocess.DEVNULL,
                           stdout=subprocess.PIPE, check=False)
@@ -16,14 +18,14 @@ def sources():
     return done.stdout.decode().strip()
 
 
-def chosen(top):
+def chosen(top: str) -> tuple[str, str]:
     """What tools/program of a repository prints: the program's path, or why there is none."""
     done = subprocess.run([os.path.join(top, "tools", "program")], stdin=subprocess.DEVNULL,
                           stdout=subprocess.PIPE, stderr=subprocess.PIPE, check=False)
     return done.stdout.decode().rstrip("\n"), done.stderr.decode().strip()
 
 
-def built_program(path=None):
+def built_program(path: str | None = None) -> str:
     """The file of the program: at `path`, or as it was built for the sources as they stand."""
     if path:
         if os.path.isdir(path) or not os.access(path, os.X_OK):
@@ -35,7 +37,7 @@ def built_program(path=None):
     return program
 
 
-def behind_script(path):
+def behind_script(path: str) -> str:
     """The program that a script ./subttx of a repository runs; else the path itself."""
     top = os.path.dirname(os.path.realpath(path))
     with open(path, "rb") as file:
@@ -45,7 +47,7 @@ def behind_script(path):
     return chosen(top)[0] or path
 
 
-def read(path):
+def read(path: str) -> str | None:
     """The text of a file, `None` where there is none."""
     if not os.path.isfile(path):
         return None

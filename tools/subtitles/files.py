@@ -1,38 +1,121 @@
-"""Files that can't be read on, and files that are written whole or not at all."""
+"""Files that are read as they come, that can't be read on, or are written whole or not at all."""
+from __future__ import annotations
+
 import contextlib
 import os
+import select
 import stat
+import sys
 import tempfile
+from typing import BinaryIO, Iterable, Iterator, Protocol
 
 from .words import Stop
+
+STANDARD = "-"  # standard input or output, as the name of a file
+PIECE = 1 << 20  # bytes that are read at once, at most
+OWN_OUTPUT = {STANDARD, "/dev/stdout", "/dev/fd/1", "/proc/self/fd/1"}
 
 
 class Damaged(Exception):
     """Bytes that can't be read on; the text says where and why."""
 
 
+class Source(Protocol):
+    """What can be read: nothing comes at its end alone."""
+
+    def read(self, size: int, /) -> bytes:
+        """At most `size` bytes."""
+
+
+class Input:
+    """A file that is read as it comes. Errors name it as it was typed; `-` is standard input."""
+
+    def __init__(self, name: str) -> None:
+        self.name = name
+        is_standard = name == STANDARD
+        with naming(name):
+            self.file = open(0 if is_standard else name, "rb", buffering=0,
+                             closefd=not is_standard)
+
+    def __enter__(self) -> Input:
+        return self
+
+    def __exit__(self, *_: object) -> None:
+        self.file.close()
+
+    def read(self, size: int = PIECE, /) -> bytes:
+        """What is there, once there is something: a pipe is not waited for until it is full."""
+        with naming(self.name):
+            data: bytes | None = self.file.read(size)
+            while data is None:  # somebody has set the pipe to answer at once
+                select.select([self.file], [], [])
+                data = self.file.read(size)
+        return data
+
+
 @contextlib.contextmanager
-def whole_file(path, inputs):
+def naming(name: str) -> Iterator[None]:
+    """An error of the system tells the name that was typed, and no number or other name."""
+    try:
+        yield
+    except OSError as error:
+        error.filename, error.filename2 = name, None
+        raise
+
+
+def whole_bytes(name: str) -> bytes:
+    """All bytes of a file."""
+    with Input(name) as file:
+        return b"".join(iter(file.read, b""))
+
+
+@contextlib.contextmanager
+def whole_file(path: str, inputs: Iterable[str]) -> Iterator[BinaryIO]:
     """A file to write to, which takes the name `path` when all went well; else that is as it was.
 
-    A device, which has no other name, is written to as it is. None of the inputs may be `path`.
+    A device, which has no other name, is written to as it is, and so is standard output, `-`. None
+    of the inputs may be `path`.
     """
     for one in inputs:
         if os.path.exists(path) and os.path.exists(one) and os.path.samefile(path, one):
             raise Stop(f"{path} is an input too")
-    path = os.path.realpath(path)
-    if os.path.exists(path) and not stat.S_ISREG(os.stat(path).st_mode):
-        with open(path, "wb") as file:
+    if path in OWN_OUTPUT:
+        yield sys.stdout.buffer
+        sys.stdout.buffer.flush()
+    elif os.path.exists(path) and not stat.S_ISREG(os.stat(path).st_mode):
+        with naming(path):
+            file: BinaryIO = open(path, "wb")
+        with written(file, path):
             yield file
-        return
-    handle, name = tempfile.mkstemp(prefix=".subttx-", dir=os.path.dirname(path))
+    else:
+        yield from replaced(path)
+
+
+def replaced(path: str) -> Iterator[BinaryIO]:
+    """A file to write to, which takes the place of `path` at the end."""
+    target = os.path.realpath(path)
+    with naming(path):
+        handle, name = tempfile.mkstemp(prefix=".subttx-", dir=os.path.dirname(target))
     try:
-        with os.fdopen(handle, "wb") as file:
+        file = os.fdopen(handle, "wb")
+        with written(file, path):
             yield file
         mask = os.umask(0)
         os.umask(mask)
-        os.chmod(name, 0o666 & ~mask)
-        os.replace(name, path)
+        with naming(path):
+            os.chmod(name, 0o666 & ~mask)
+            os.replace(name, target)
     except BaseException:
         os.unlink(name)
+        raise
+
+
+@contextlib.contextmanager
+def written(file: BinaryIO, path: str) -> Iterator[None]:
+    """Closes a file; an error that names no file is that of writing to it."""
+    try:
+        with file:
+            yield
+    except OSError as error:
+        error.filename = path if error.filename is None else error.filename
         raise

@@ -1,9 +1,14 @@
 """The PIDs of a transport stream with Teletext, and their pages (ISO/IEC 13818-1, EN 300 468)."""
-import functools
+from __future__ import annotations
 
+import functools
+from typing import Iterator
+
+from .joining import Joiner
 from .pes import START, UNIT
-from .teletext import MIRROR, NUMBER, mirrored, page_in, page_name
-from .transport import ADAPTED, PACKET, Joiner, Stream, beginnings, crc
+from .teletext import MIRROR, NUMBER, Page, mirrored, page_in, page_name
+from .transport import ADAPTED, PACKET, Piece, Stream, beginnings, crc
+from .words import pid_name
 
 PAT, PMT = 0, 2  # tables; the first is also its PID
 TELETEXT, VBI_TELETEXT = 0x56, 0x46  # descriptors
@@ -19,24 +24,26 @@ HEADERS = {bytes([MIRROR[low], MIRROR[high]]): NUMBER[low] for low in range(256)
 
 
 @functools.lru_cache(maxsize=1 << 12)
-def subtitle_page(coded):
+def subtitle_page(coded: bytes) -> int | None:
     """The page of a header with the subtitle bit, by its eight coded bytes as a data unit sends
     them."""
-    numbers = [NUMBER[byte] for byte in mirrored(coded)]
-    return page_in(numbers) if None not in numbers and numbers[5] & SUBTITLE else None
+    numbers = [one for one in map(NUMBER.__getitem__, mirrored(coded)) if one is not None]
+    return page_in(bytes(numbers)) if len(numbers) == 8 and numbers[5] & SUBTITLE else None
 
 
 class Tables:
     """The sections of a PID, each once."""
 
-    def __init__(self, pid):
-        self.stream, self.rest, self.known = Stream(pid), None, set()
-        self.whole = set()  # payloads that begin and end sections, and were read
+    def __init__(self, pid: int) -> None:
+        self.stream = Stream(pid)
+        self.rest: bytes | None = None
+        self.known: set[bytes] = set()
+        self.whole: set[bytes] = set()  # payloads that begin and end sections, and were read
 
-    def new_sections(self, piece):
+    def new_sections(self, piece: Piece) -> Iterator[bytes]:
         """The sections that end in a piece of the file and that were not there before."""
-        for begins, data in self.stream.payloads(piece):
-            if begins and data in self.whole:
+        for begins, data, trouble in self.stream.payloads(piece):
+            if begins and data in self.whole or trouble and trouble.is_scrambled:
                 self.rest = None
                 continue
             payload = data
@@ -47,7 +54,7 @@ class Tables:
             if begins and self.rest and self.rest[0] == STUFFING and not payload[0]:
                 self.whole.add(payload)
 
-    def take(self, data):
+    def take(self, data: bytes) -> Iterator[bytes]:
         """The same of some bytes."""
         if self.rest is None:
             return  # none has begun
@@ -64,47 +71,55 @@ class Tables:
 
 
 class Teletext:
-    """A PID with Teletext: what is announced of it, and the subtitle pages that are sent."""
+    """A PID with Teletext: what is announced of it, and the subtitle pages that are sent, of each
+    its magazine, 0 for 8, and its number."""
 
-    def __init__(self, pid):
-        self.joiner = Joiner(Stream(pid))
-        self.announced, self.sent = [], set()
+    def __init__(self, pid: int) -> None:
+        self.pid, self.joiner = pid, Joiner(Stream(pid))
+        self.announced: list[str] = []
+        self.sent: set[Page] = set()
 
-    def take(self, piece):
+    def take(self, piece: Piece) -> None:
+        """Hears a piece of the file."""
         for data in self.joiner.ended(piece):
             self.hear(data)
 
-    def hear(self, data):
+    def hear(self, data: bytes) -> None:
         """Takes the pages of a PES packet whose headers have the subtitle bit."""
         first = 10 + data[8] if len(data) > 9 else len(data)
         for at in range(first, len(data) - UNIT + 1, UNIT):
             if data[at] in (2, 3):
                 magazine = HEADERS.get(data[at + 4:at + 6])
                 page = subtitle_page(data[at + 6:at + 14]) if magazine is not None else None
-                if page is not None:
-                    self.sent.add((magazine or 8, page))
+                if magazine is not None and page is not None:
+                    self.sent.add((magazine, page))
 
-    def line(self):
-        """What is known of the PID."""
+    def pages(self) -> list[str]:
+        """The names of the subtitle pages that are sent."""
         if self.joiner.data is not None:
             self.hear(self.joiner.data)
-        pages = [page_name(*page) for page in sorted(self.sent)]
+        return sorted(page_name(*page) for page in self.sent)
+
+    def line(self) -> str:
+        """What is known of the PID."""
+        pages = self.pages()
         more = [f"and {len(pages) - SHOWN} more"] if len(pages) > SHOWN else []
         announced = ", ".join(dict.fromkeys(self.announced)) or "nothing"
         sent = " ".join(pages[:SHOWN] + more) or "none"
-        return (f"PID 0x{self.joiner.stream.pid:X}: announced {announced}; "
-                f"subtitle pages sent: {sent}")
+        return f"{pid_name(self.pid)}: announced {announced}; subtitle pages sent: {sent}"
 
 
 class Listing:
     """The PIDs with Teletext of a file that is read in pieces, in `streams`; `others` have none."""
 
-    def __init__(self):
-        self.tables, self.streams, self.others = {PAT: Tables(PAT)}, {}, {}
+    def __init__(self) -> None:
+        self.tables = {PAT: Tables(PAT)}
+        self.streams: dict[int, Teletext] = {}
+        self.others: dict[int, Stream] = {}
 
-    def take(self, piece):
+    def take(self, piece: Piece) -> None:
         """Hears a piece of the file; what it announces is heard from its beginning."""
-        done = set()
+        done: set[int] = set()
         while waiting := self.tables.keys() - done:
             for pid in waiting:
                 for section in self.tables[pid].new_sections(piece):
@@ -114,7 +129,7 @@ class Listing:
         for stream in self.streams.values():
             stream.take(piece)
 
-    def read(self, pid, section):
+    def read(self, pid: int, section: bytes) -> None:
         """Takes what a section announces: PIDs of programmes, or Teletext with its pages."""
         if pid == PAT and section[0] == 0:
             for at in range(8, len(section) - 4, 4):
@@ -132,7 +147,7 @@ class Listing:
                     known.announced.append(f"{page} in programme {programme}")
                 at = end
 
-    def find_unannounced(self, piece):
+    def find_unannounced(self, piece: Piece) -> None:
         """PIDs whose PES packets are those of Teletext, whatever is announced."""
         known = [*(stream.joiner.stream for stream in self.streams.values()),
                  *(tables.stream for tables in self.tables.values()), *self.others.values()]
@@ -148,19 +163,20 @@ class Listing:
             elif data.startswith(START[:3]):
                 self.others[pid] = Stream(pid)  # another kind of PES packets
 
-    def lines(self):
+    def lines(self) -> list[str]:
+        """A line for each PID with Teletext."""
         return [self.streams[pid].line() for pid in sorted(self.streams)]
 
 
-def announced_pages(descriptors):
+def announced_pages(data: bytes) -> Iterator[str]:
     """The pages of the Teletext descriptors among some descriptors, each as words."""
     at = 0
-    while at + 2 <= len(descriptors):
-        tag, end = descriptors[at], min(at + 2 + descriptors[at + 1], len(descriptors))
+    while at + 2 <= len(data):
+        tag, end = data[at], min(at + 2 + data[at + 1], len(data))
         if tag in (TELETEXT, VBI_TELETEXT):
             for entry in range(at + 2, end - 4, 5):
-                language = descriptors[entry:entry + 3].decode("latin-1")
-                kind, magazine = divmod(descriptors[entry + 3], 8)
-                name = page_name(magazine, descriptors[entry + 4])
+                language = data[entry:entry + 3].decode("latin-1")
+                kind, magazine = divmod(data[entry + 3], 8)
+                name = page_name(magazine, data[entry + 4])
                 yield f"{name} {language} {KINDS.get(kind, 'of an unknown kind')}"
         at = end

@@ -1,4 +1,7 @@
 """A transport stream of one programme with Teletext, as bytes (ISO/IEC 13818-1)."""
+from __future__ import annotations
+
+from .teletext import Page
 from .times import CLOCK
 from .transport import BEGINS, PACKET, PAYLOAD, SYNC, crc
 
@@ -12,18 +15,19 @@ ADAPTATION_ALONE = 0x20
 COUNTERS = range(16)
 
 
-def head(pid, begins, control):
+def head(pid: int, begins: int, control: int) -> bytes:
+    """The first four bytes of a packet."""
     return bytes([SYNC, begins | pid >> 8, pid & 255, control])
 
 
-def section(table, number, body):
+def section(table: int, number: int, body: bytes) -> bytes:
     """A section that is current, version 0, the only one of its table, after its pointer field."""
     start = (0xB000 | len(body) + 9).to_bytes(2, "big") + number.to_bytes(2, "big") + b"\xc1\0\0"
     data = bytes([table]) + start + body
     return b"\0" + data + crc(data).to_bytes(4, "big")
 
 
-def pmt_body(pid, language, page):
+def pmt_body(pid: int, language: bytes, page: Page) -> bytes:
     """What the PMT says: the PID of the PCR, and a component with its Teletext descriptor."""
     magazine, number = page
     teletext = b"\x56\x05" + language + bytes([SUBTITLES << 3 | magazine, number])
@@ -35,7 +39,7 @@ def pmt_body(pid, language, page):
 class Multiplex:
     """Packets of the stream, until they are taken; `size` bytes of them."""
 
-    def __init__(self, pid, language, page):
+    def __init__(self, pid: int, language: bytes, page: Page) -> None:
         pat = section(0, 1, PROGRAMME.to_bytes(2, "big") + (0xE000 | PMT_PID).to_bytes(2, "big"))
         pmt = section(2, PROGRAMME, pmt_body(pid, language, page))
         # PAT and PMT, and the heads of packets of the PID, for each value of the counter.
@@ -47,9 +51,11 @@ class Multiplex:
         self.heads = [head(pid, 0, PAYLOAD | counter) for counter in COUNTERS]
         self.clock_head = head(PCR_PID, 0, ADAPTATION_ALONE | 15) + b"\xb7\x10"
         self.clock_rest = b"\xff" * (PACKET - len(self.clock_head) - 6)
-        self.parts, self.size, self.count, self.counter, self.base = [], 0, 0, 0, None
+        self.parts: list[bytes] = []
+        self.size = self.count = self.counter = 0
+        self.base: int | None = None
 
-    def put(self, data, pts):
+    def put(self, data: bytes, pts: int) -> None:
         """A PES packet, with the tables before it and the clock up to it."""
         parts, counter = self.parts, self.counter
         parts.append(self.tables[self.count & 15])
@@ -62,7 +68,7 @@ class Multiplex:
         self.counter = counter
         self.size += len(data) + 2 * PACKET
 
-    def clock(self, pts):
+    def clock(self, pts: int) -> None:
         """PCRs each tenth of a second, up to one a tenth of a second before the PTS."""
         end = (pts - TENTH) % CLOCK
         if self.base is None or (end - self.base) % CLOCK > LONG:
@@ -74,7 +80,7 @@ class Multiplex:
             self.size += PACKET
         self.base = end
 
-    def taken(self):
+    def taken(self) -> bytes:
         """The packets since the last call."""
         data = b"".join(self.parts)
         self.parts, self.size = [], 0

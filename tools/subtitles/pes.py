@@ -1,5 +1,9 @@
 """PES packets with Teletext (EN 300 472)."""
-from .files import Damaged
+from __future__ import annotations
+
+from typing import Iterator, Sequence
+
+from .files import PIECE, Damaged, Source
 from .teletext import mirrored
 
 START = b"\0\0\1\xbd"  # of a PES packet of private_stream_1
@@ -9,19 +13,24 @@ DATA = 46  # where those that `subttx` writes begin: after 45 bytes and the data
 STUFFING_UNIT = b"\xff\x2c" + b"\xff" * 44
 
 
-def pts_bytes(pts):
+def pts_bytes(pts: int) -> bytes:
     """A PTS as the five bytes of a PES header."""
     return bytes([0x21 | pts >> 30 << 1, pts >> 22 & 255, pts >> 15 << 1 & 255 | 1,
                   pts >> 7 & 255, pts << 1 & 255 | 1])
 
 
-def pts_in(packet):
+def pts_in(packet: bytes) -> int:
     """The PTS of a PES packet that has one."""
     return ((packet[9] >> 1 & 7) << 30 | packet[10] << 22 | packet[11] >> 1 << 15
             | packet[12] << 7 | packet[13] >> 1)
 
 
-def pes_packet(pts, packets):
+def pts_or_none(data: bytes) -> int | None:
+    """The PTS of a PES packet, `None` where it has none."""
+    return pts_in(data) if has_pts(data) else None
+
+
+def pes_packet(pts: int, packets: Sequence[bytes]) -> bytes:
     """A PES packet with up to 16 Teletext packets, on lines from 7 of the first field on."""
     blocks = len(packets) // 4 + 1
     made = START + (184 * blocks - 6).to_bytes(2, "big") + b"\x84\x80\x24" + pts_bytes(pts)
@@ -31,10 +40,10 @@ def pes_packet(pts, packets):
     return made + STUFFING_UNIT * (4 * blocks - 1 - len(packets))
 
 
-def pes_packets(file):
+def pes_packets(file: Source) -> Iterator[bytes]:
     """The PES packets of a file one after another; `Damaged` where it holds something else."""
     rest, count = b"", 0
-    while piece := file.read(1 << 20):
+    while piece := file.read(PIECE):
         rest += piece
         at = 0
         while len(rest) - at >= 6:
@@ -50,17 +59,17 @@ def pes_packets(file):
         raise Damaged(f"PES packet {count} is cut")
 
 
-def has_pts(data):
+def has_pts(data: bytes) -> bool:
     """Whether a PES packet has a PTS, and a header that is long enough for it."""
     return len(data) >= 14 and data[7] & 0x80 != 0
 
 
-def data_field(data):
+def data_field(data: bytes) -> bytes:
     """What stands after the header of a PES packet: a data_identifier, then data units."""
     return data[9 + data[8]:] if len(data) > 9 else b""
 
 
-def teletext_packets(field):
+def teletext_packets(field: bytes) -> list[bytes]:
     """The Teletext packets of a data field, their bits in the order of EN 300 706."""
     at, found = 1, []
     while at + UNIT <= len(field):

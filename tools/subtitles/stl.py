@@ -1,5 +1,7 @@
 """Blocks of subtitle files, written and read: a GSI block, then TTI blocks (EBU Tech 3264)."""
-import collections
+from __future__ import annotations
+
+from typing import Iterator, NamedTuple
 
 from .files import Damaged
 from .times import frame_of_code, time_code
@@ -17,11 +19,20 @@ CELLS = {"english": {0x23: 0x5F, 0xA3: 0x23, 0xA4: 0x24},
 DIAERESES = {b"\xc8A": b"[", b"\xc8O": b"\\", b"\xc8U": b"]",
              b"\xc8a": b"{", b"\xc8o": b"|", b"\xc8u": b"}"}
 
-# `begin` and `end` are the four bytes of TCI and TCO, `text` the blocks' text joined.
-Subtitle = collections.namedtuple("Subtitle", "number begin end row justify text")
+
+class Subtitle(NamedTuple):
+    """`begin` and `end` are the four bytes of TCI and TCO, `text` the blocks' text joined."""
+
+    number: int
+    begin: bytes
+    end: bytes
+    row: int
+    justify: int
+    text: bytes
 
 
-def gsi_block(title, blocks, subtitles, first=0, language=b"09"):
+def gsi_block(title: bytes, blocks: int, subtitles: int, first: int = 0,
+              language: bytes = b"09") -> bytes:
     """A GSI block: STL25.01, Teletext of level 1, code table 00.
 
     `language` is 09 for English and 08 for German. The counts of blocks and subtitles and the time
@@ -29,7 +40,7 @@ def gsi_block(title, blocks, subtitles, first=0, language=b"09"):
     """
     block = bytearray(b" " * GSI)
 
-    def put(at, text):
+    def put(at: int, text: bytes) -> None:
         block[at:at + len(text)] = text
 
     put(0, b"850")  # CPN, code page
@@ -48,7 +59,8 @@ def gsi_block(title, blocks, subtitles, first=0, language=b"09"):
     return bytes(block)
 
 
-def tti_block(number, begin, end, row, justify, text, ebn=LAST, comment=0, group=0):
+def tti_block(number: int, begin: int, end: int, row: int, justify: int, text: bytes,
+              ebn: int = LAST, comment: int = 0, group: int = 0) -> bytes:
     """One TTI block. Times are frames of the day; the text has at most 112 bytes."""
     assert len(text) <= TEXT
     head = bytes([group, number & 255, number >> 8 & 255, ebn, 0])
@@ -56,7 +68,8 @@ def tti_block(number, begin, end, row, justify, text, ebn=LAST, comment=0, group
     return head + text.ljust(TEXT, UNUSED)
 
 
-def subtitle_blocks(number, begin, end, row, justify, text):
+def subtitle_blocks(number: int, begin: int, end: int, row: int, justify: int,
+                    text: bytes) -> bytes:
     """The TTI blocks of a subtitle, as few as hold its text."""
     fields = [text[at:at + TEXT] for at in range(0, len(text), TEXT)] or [b""]
     numbers = [*range(len(fields) - 1), LAST]
@@ -64,12 +77,12 @@ def subtitle_blocks(number, begin, end, row, justify, text):
                     for field, ebn in zip(fields, numbers))
 
 
-def boxed(text, colour=b""):
+def boxed(text: bytes, colour: bytes = b"") -> bytes:
     """A line of double height as most files have it, with its box codes twice around it."""
     return DOUBLE_HEIGHT + colour + START_BOX * 2 + text + END_BOX * 2
 
 
-def subtitles_in(data):
+def subtitles_in(data: bytes) -> Iterator[Subtitle]:
     """The subtitles of a file, without comments and user data, as they stand; `Damaged` where a
     block can't be read on.
 
@@ -79,7 +92,8 @@ def subtitles_in(data):
         raise Damaged("no subtitle file: its GSI block is cut, or has another format than STL")
     if data[3:8] == b"STL30":
         raise Damaged("30 frames a second: only files of 25 (STL25.01) can be read")
-    first, text, block = None, b"", 0
+    first: bytes | None = None
+    text, block = b"", 0
     for block, at in enumerate(range(GSI, len(data), TTI), 1):
         one = data[at:at + TTI]
         if len(one) < TTI:
@@ -93,18 +107,19 @@ def subtitles_in(data):
             raise Damaged(f"block {block} is of another subtitle than the one that it follows")
         first, text = first or one, text + one[16:].split(UNUSED)[0]
         if ebn == LAST:
-            yield Subtitle(first[1] + 256 * first[2], first[5:9], first[9:13], *first[13:15], text)
+            yield Subtitle(first[1] + 256 * first[2], first[5:9], first[9:13], first[13], first[14],
+                           text)
             first, text = None, b""
     if first is not None:
         raise Damaged(f"the subtitle of block {block} has no last block")
 
 
-def times_of(subtitle):
+def times_of(subtitle: Subtitle) -> tuple[int | None, int | None]:
     """The frames of the day of a subtitle's TCI and TCO, `None` for what is no time of the day."""
     return frame_of_code(subtitle.begin), frame_of_code(subtitle.end)
 
 
-def letters_on_page(text, option):
+def letters_on_page(text: bytes, option: str) -> bytes:
     """The codes of a text's letters on the page, without spaces and without what has no code."""
     if option == "german":
         for pair, cell in DIAERESES.items():

@@ -1,39 +1,54 @@
 """The words of a tool, and how it ends: status 0, 1 or 2, and one line where it can't go on."""
+from __future__ import annotations
+
 import argparse
 import contextlib
 import os
 import re
 import sys
+from typing import Callable, NoReturn
 
 from .teletext import page_of
 from .times import CLOCK, frame_of
 
 INSTALLED = "subttx-"  # before the names of tools that are installed
 NO_PID = 0x1FFF  # of the packets of a transport stream that hold nothing
+HOME = os.path.dirname(os.path.dirname(os.path.dirname(os.path.realpath(__file__))))
 
 
 class Stop(Exception):
     """The tool can't go on; the text is its line on standard error, the status 2."""
 
 
+def version() -> str:
+    """The version of the tools, which is that of the program."""
+    try:
+        with open(os.path.join(HOME, "VERSION"), encoding="utf-8") as file:
+            return file.read().strip()
+    except OSError:
+        return "of an unknown version"
+
+
 class Words(argparse.ArgumentParser):
     """A parser whose help is the tool's own text, and to which wrong words are a `Stop`."""
 
-    def __init__(self, text):
+    def __init__(self, text: str | None) -> None:
         super().__init__(description=text, usage=argparse.SUPPRESS, allow_abbrev=False,
                          formatter_class=argparse.RawDescriptionHelpFormatter)
+        self.add_argument("--version", action="version", version=f"{self.prog} {version()}",
+                          help="show the version and exit")
 
-    def format_help(self):
+    def format_help(self) -> str:
         """The help; where the tools are installed, it calls them by the names that they have."""
         text = super().format_help()
         is_installed = self.prog.startswith(INSTALLED)
         return re.sub(r"\btools/(\w+)", INSTALLED + r"\1", text) if is_installed else text
 
-    def error(self, message):
+    def error(self, message: str) -> NoReturn:
         raise Stop(message)
 
 
-def page_word(text):
+def page_word(text: str) -> tuple[int, int]:
     """A page as 888: its magazine, 0 for 8, and its number."""
     page = page_of(text)
     if page is None:
@@ -42,7 +57,7 @@ def page_word(text):
     return page
 
 
-def time_word(text):
+def time_word(text: str) -> int:
     """A time of the day, as its frame."""
     frame = frame_of(text)
     if frame is None:
@@ -51,14 +66,16 @@ def time_word(text):
     return frame
 
 
-def origin_word(text):
+def origin_word(text: str) -> int:
     """The PTS of 00:00:00:00."""
-    if not (text.isascii() and text.isdecimal() and int(text) < CLOCK):
+    digits = text.lstrip("0") or "0"
+    is_number = text.isascii() and text.isdecimal() and len(digits) <= len(str(CLOCK))
+    if not is_number or int(digits) >= CLOCK:
         raise argparse.ArgumentTypeError(f"{text} is no PTS: 0 to {CLOCK - 1}")
-    return int(text)
+    return int(digits)
 
 
-def pid_word(text):
+def pid_word(text: str) -> int:
     """A PID, decimal or as 0x101."""
     try:
         pid = int(text, 0)
@@ -69,24 +86,35 @@ def pid_word(text):
     return pid
 
 
-def add_page(parser):
+def pid_name(pid: int) -> str:
+    """A PID as all tools name it."""
+    return f"PID 0x{pid:X}"
+
+
+def add_page(parser: Words) -> None:
+    """The option --page, 888 where it is left out."""
     parser.add_argument("--page", type=page_word, default=(0, 0x88), metavar="P",
                         help="the page, 888 where it is left out")
 
 
-def tell(line):
+def counted(count: int, thing: str) -> str:
+    """`1 fault`, `2 faults`."""
+    return f"{count} {thing}" if count == 1 else f"{count} {thing}s"
+
+
+def tell(line: str) -> None:
     """A line on standard error, after what was printed before it."""
     with contextlib.suppress(OSError):
         sys.stdout.flush()  # `run` tells where that fails
     print(f"{os.path.basename(sys.argv[0])}: {line}", file=sys.stderr)
 
 
-def run(main):
+def run(main: Callable[[list[str]], int]) -> NoReturn:
     """Calls `main` with the words and ends with the status that it answers."""
     try:
         if sys.stdout is None:
             raise Stop("standard output is closed")
-        status = main(sys.argv[1:])
+        status = answer(main)
         sys.stdout.flush()
     except (Stop, OSError, KeyboardInterrupt) as reason:
         with contextlib.suppress(OSError, AttributeError):
@@ -96,16 +124,25 @@ def run(main):
     sys.exit(status)
 
 
-def line_of(reason):
+def answer(main: Callable[[list[str]], int]) -> int:
+    """The status of `main`; 0 after --help and --version."""
+    try:
+        return main(sys.argv[1:])
+    except SystemExit as ended:
+        return int(ended.code or 0)
+
+
+def line_of(reason: BaseException) -> str:
     """What is told of a tool that ended early, on one line."""
     if isinstance(reason, KeyboardInterrupt):
         return "stopped"
     if isinstance(reason, OSError):
-        return f"{reason.filename or 'a file or the output'}: {reason.strerror}"
+        where = "the output" if reason.filename is None else reason.filename or "an empty name"
+        return f"{where}: {reason.strerror}"
     return " ".join(str(reason).split())
 
 
-def silence():
+def silence() -> None:
     """Python writes to standard output once more when it ends; nobody takes that any more."""
     with contextlib.suppress(OSError, AttributeError):
         os.dup2(os.open(os.devnull, os.O_WRONLY), sys.stdout.fileno())
