@@ -17,7 +17,7 @@ _subttx_value() {
     case $1 in
         --option) _subttx_words 'english german' "$2" ;;
         --receiver) _subttx_words 'blank drop keep' "$2" ;;
-        --page | --every | --origin | --at | --skip | --flip | --lose | --from | --to) COMPREPLY=() ;;
+        --page | --every | --origin | --at | --skip | --flip | --lose | --from | --to | --pid | --jobs) COMPREPLY=() ;;
         *) return 1 ;;
     esac
 }
@@ -56,11 +56,11 @@ _subttx_tool() {
     _subttx_value "$before" "$word" && return
     case $word in
         -*) _subttx_words "$("$1" --help 2>/dev/null |
-            grep -oE '(^|[ ,[])--?[a-z]+' | tr -d ' ,[' | sort -u)" "$word" ;;
+            grep -oE '(^|[ ,[])--?[a-z][a-z-]*' | tr -d ' ,[' | sort -u)" "$word" ;;
         *) _subttx_files "$word" ;;
     esac
 }
 
 complete -F _subttx subttx
-complete -F _subttx_tool subttx-cut subttx-origin subttx-pes2ts subttx-preview subttx-text \
-    subttx-ts2pes
+complete -F _subttx_tool subttx-cut subttx-origin subttx-pes2ts subttx-preview subttx-qc \
+    subttx-text subttx-ts2pes

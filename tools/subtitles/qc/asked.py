@@ -1,0 +1,102 @@
+"""What is asked of a pair: the words of the command line as values."""
+from __future__ import annotations
+
+import argparse
+import dataclasses
+from typing import Sequence
+
+from ..teletext import page_name
+from ..words import Stop, Words, add_page, origin_word, pid_word
+
+MOST_EVERY = 1500  # frames
+
+
+@dataclasses.dataclass
+class Asked:
+    """A pair and its options; `page` is the magazine, 0 for 8, and the number."""
+
+    stl: str
+    recording: str | None
+    page: tuple[int, int]
+    every: int
+    option: str
+    origin: int | None
+    is_complete: bool
+    pid: int | None
+    is_loss_allowed: bool
+    severity: str | None
+
+    @property
+    def page_name(self) -> str:
+        name: str = page_name(*self.page)
+        return name
+
+    def page_words(self) -> list[str]:
+        """The page as an option, where it is not the one that is taken without."""
+        return [] if self.page == (0, 0x88) else ["--page", self.page_name]
+
+    def option_words(self) -> list[str]:
+        return [] if self.option == "english" else ["--option", self.option]
+
+    def every_words(self) -> list[str]:
+        return [] if self.every == 250 else ["--every", str(self.every)]
+
+    def check_words(self) -> list[str]:
+        """The options of `check` that a person would type, but for the origin."""
+        return [*self.page_words(), *self.every_words(), *self.option_words(),
+                *(["--complete"] if self.is_complete else [])]
+
+
+def every_word(text: str) -> int:
+    """The repeat bound in frames."""
+    if not (text.isascii() and text.isdecimal() and 1 <= int(text) <= MOST_EVERY):
+        raise argparse.ArgumentTypeError(f"{text} is no repeat bound: 1 to {MOST_EVERY} frames")
+    return int(text)
+
+
+def add_pair_options(parser: Words) -> None:
+    """The options that a pair may have, on the command line or on a line of a list."""
+    add_page(parser)
+    parser.add_argument("--every", type=every_word, default=250, metavar="N",
+                        help="the repeat bound, 250 frames where it is left out")
+    parser.add_argument("--option", default="english", choices=("english", "german"),
+                        help="the national option, english where it is left out")
+    parser.add_argument("--complete", dest="is_complete", action="store_true",
+                        help="ask for complete pages")
+    parser.add_argument("--origin", type=origin_word, metavar="T",
+                        help="the PTS of 00:00:00:00; it is found where it is left out")
+    parser.add_argument("--pid", type=pid_word, metavar="PID",
+                        help="the PID; the one that carries the page where it is left out")
+    parser.add_argument("--allow-lost", dest="is_loss_allowed", action="store_true",
+                        help="accept a recording of which TS packets are lost")
+    parser.add_argument("--severity", metavar="FILE",
+                        help="lines `NUMBER error` and `NUMBER warning`")
+
+
+def pair_options() -> list[str]:
+    """The names of those options in `Asked`."""
+    return [field.name for field in dataclasses.fields(Asked)][2:]
+
+
+def asked_of(words: argparse.Namespace) -> Asked:
+    """The pair of a command line."""
+    return Asked(words.stl, words.recording,
+                 **{name: getattr(words, name) for name in pair_options()})
+
+
+def asked_with(stl: str, recording: str, defaults: argparse.Namespace) -> Asked:
+    """A pair with the options that hold for all."""
+    return Asked(stl, recording, **{name: getattr(defaults, name) for name in pair_options()})
+
+
+def asked_of_line(line: Sequence[str], defaults: argparse.Namespace) -> Asked:
+    """The pair of a line of a list, with the options that hold for all where it has none."""
+    parser = Words("")
+    parser.add_argument("stl")
+    parser.add_argument("recording")
+    add_pair_options(parser)
+    parser.set_defaults(**{name: getattr(defaults, name) for name in pair_options()})
+    asked = asked_of(parser.parse_args(line))
+    if asked.recording == "-":
+        raise Stop("- is no recording of a list: give a file")
+    return asked

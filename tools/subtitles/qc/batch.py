@@ -1,0 +1,214 @@
+"""Many pairs: each judged by a call of its own, as many at a time as there are processors."""
+from __future__ import annotations
+
+import argparse
+import concurrent.futures
+import json
+import os
+import subprocess
+import sys
+import tempfile
+import time
+from typing import IO, Any, Callable, Iterator, NamedTuple
+
+from ..built import TOP
+from ..files import whole_file
+from ..words import Stop
+from . import junit, table
+from .asked import Asked
+from .checking import ACCEPTED_WORD, NOT_JUDGED
+from .machine import FORMAT
+from .pairs import Item, pairs_at
+from .progress import Progress
+from .single import name_of, now
+from .typed import Typed
+
+HEADS = ("pair", "verdict", "faults", "first fault")
+WAIT = 0.2  # seconds between two looks at what is done
+
+
+def jobs_word(text: str) -> int:
+    """How many pairs are judged at a time."""
+    if not (text.isascii() and text.isdecimal() and int(text)):
+        raise argparse.ArgumentTypeError(f"{text} is no number of pairs at a time")
+    return int(text)
+
+
+class Result(NamedTuple):
+    """A pair that was judged, or was not."""
+
+    item: Item
+    verdict: str
+    status: int
+    line: str
+    faults: int
+    lines: list[str]
+    seconds: float
+
+    def name(self) -> str:
+        return name_of(self.item.asked) if self.item.asked else self.item.name
+
+
+class Batch:
+    """The calls for the pairs; what they write for machines stands in a temporary folder."""
+
+    def __init__(self, words: argparse.Namespace, typed: Typed, folder: str) -> None:
+        self.words, self.typed, self.folder = words, typed, folder
+
+    def path(self, number: int, kind: str) -> str:
+        return os.path.join(self.folder, f"{number}.{kind}")
+
+    def judge(self, number: int, item: Item) -> Result:
+        """Judges a pair by a call of this tool."""
+        if item.asked is None:
+            return Result(item, NOT_JUDGED, 2, item.reason or "", 0, [], 0.0)
+        words = self.words
+        files = ["--name", item.name, "--summary", self.path(number, "summary")]
+        if words.json:
+            files += ["--json", self.path(number, "json")]
+        if words.csv:
+            files += ["--csv", self.path(number, "csv")]
+        if words.out:
+            files += ["-o", words.out]
+        command = [sys.executable, os.path.join(TOP, "tools", "qc"), *files, "-p",
+                   self.typed.program_path, *words_of(item.asked)]
+        done = subprocess.run(command, stdin=subprocess.DEVNULL, stdout=subprocess.PIPE,
+                              stderr=subprocess.PIPE, encoding="utf-8", errors="replace",
+                              check=False)
+        return self.result(number, item, done.stderr.splitlines())
+
+    def result(self, number: int, item: Item, told: list[str]) -> Result:
+        """What the call wrote; one that ended before it could write is not judged."""
+        try:
+            with open(self.path(number, "summary"), encoding="utf-8") as file:
+                known: dict[str, Any] = json.load(file)
+        except (OSError, ValueError):
+            line = told[-1].removeprefix("qc: ") if told else "it did not end by itself"
+            return Result(item, NOT_JUDGED, 2, line, 0, [], 0.0)
+        line = known["reason"] or known["line"]
+        return Result(item, known["verdict"], known["status"], line, known["fault_count"],
+                      known["lines"], known["seconds"])
+
+
+def words_of(asked: Asked) -> list[str]:
+    """A pair as the words of a call."""
+    words = ["--page", asked.page_name, "--every", str(asked.every), "--option", asked.option]
+    words += ["--origin", str(asked.origin)] if asked.origin is not None else []
+    words += ["--pid", str(asked.pid)] if asked.pid is not None else []
+    words += ["--severity", asked.severity] if asked.severity is not None else []
+    words += ["--complete"] if asked.is_complete else []
+    words += ["--allow-lost"] if asked.is_loss_allowed else []
+    return [*words, "--", asked.stl, *([asked.recording] if asked.recording else [])]
+
+
+def judge(words: argparse.Namespace, called: str) -> int:
+    """Judges all pairs; answers the status."""
+    typed, date = Typed(called, words.program), now()
+    items = pairs_at(words.batch, words)
+    with tempfile.TemporaryDirectory(prefix="subttx-qc-") as folder:
+        batch = Batch(words, typed, folder)
+        results = all_judged(batch, items, words.jobs or os.cpu_count() or 1)
+        status = 2 if any(one.status == 2 for one in results) else \
+            max(one.status for one in results)
+        for path, pieces in ((words.json, lambda: objects(batch, results, status, date)),
+                             (words.csv, lambda: rows(batch, results)),
+                             (words.junit, lambda: testcases(results, date))):
+            put(path, pieces)
+    for line in table_of(results):
+        print(line)
+    return status
+
+
+def all_judged(batch: Batch, items: list[Item], jobs: int) -> list[Result]:
+    """The results in the order of the pairs, with a line of progress."""
+    progress, began = Progress(), time.monotonic()
+    with concurrent.futures.ThreadPoolExecutor(jobs) as pool:
+        calls = [pool.submit(batch.judge, number, item) for number, item in enumerate(items)]
+        try:
+            waiting = set(calls)
+            while waiting:
+                done, waiting = concurrent.futures.wait(waiting, WAIT)
+                progress.show(progress_line(calls, began))
+        except BaseException:
+            for call in calls:
+                call.cancel()
+            raise
+    progress.clear()
+    return [call.result() for call in calls]
+
+
+def progress_line(calls: list[concurrent.futures.Future[Result]], began: float) -> str:
+    """How many pairs are judged, and how many of them are accepted."""
+    done = [call.result() for call in calls if call.done()]
+    accepted = sum(one.status == 0 for one in done)
+    return (f"{len(done)} of {len(calls)} pairs, {accepted} accepted, "
+            f"{time.monotonic() - began:.0f} seconds")
+
+
+def table_of(results: list[Result]) -> Iterator[str]:
+    """The table, and a line of how many there are of which verdict."""
+    lines = [HEADS, *((one.item.name, one.verdict, str(one.faults) if one.status != 2 else "",
+                       first_fault(one)) for one in results)]
+    widths = [max(len(line[column]) for line in lines) for column in range(3)]
+    for line in lines:
+        name, verdict, faults, first = line
+        yield (f"{name:{widths[0]}}  {verdict:{widths[1]}}  {faults:>{widths[2]}}  "
+               f"{first}").rstrip()
+    counts = [f"{sum(one.verdict == verdict for one in results)} {verdict}"
+              for verdict in dict.fromkeys(one.verdict for one in results)]
+    yield f"{len(results)} {'pair' if len(results) == 1 else 'pairs'}: {', '.join(counts)}"
+
+
+def first_fault(result: Result) -> str:
+    """The place of the first fault, or why the pair was not judged."""
+    if result.verdict == ACCEPTED_WORD:
+        return ""
+    return result.line.splitlines()[0].removeprefix("refused ") if result.line else ""
+
+
+def put(path: str | None, pieces: Callable[[], Iterator[bytes]]) -> None:
+    """Writes a file whole, or not at all."""
+    if path is not None:
+        with whole_file(path, []) as file:
+            for piece in pieces():
+                file.write(piece)
+
+
+def objects(batch: Batch, results: list[Result], status: int, date: str) -> Iterator[bytes]:
+    """One object with those of all pairs."""
+    head = {"format": FORMAT, "status": status, "date": date}
+    yield json.dumps(head, indent=1).removesuffix("\n}").encode() + b',\n "pairs": ['
+    before = b"\n"
+    for number, result in enumerate(results):
+        yield before
+        yield from contents(batch.path(number, "json")) or [unjudged(result)]
+        before = b",\n"
+    yield b"]\n}\n"
+
+
+def unjudged(result: Result) -> bytes:
+    """The object of what is no pair, or of a call that did not end by itself."""
+    return json.dumps({"format": FORMAT, "verdict": NOT_JUDGED, "status": 2,
+                       "name": result.item.name, "reason": result.line}).encode()
+
+
+def contents(path: str) -> list[bytes]:
+    """A file that a call wrote; nothing where it wrote none."""
+    if not os.path.exists(path):
+        return []
+    with open(path, "rb") as file:
+        return [file.read()]
+
+
+def rows(batch: Batch, results: list[Result]) -> Iterator[bytes]:
+    """The lines of all pairs under one head."""
+    yield (",".join(table.COLUMNS) + "\n").encode()
+    for number in range(len(results)):
+        for text in contents(batch.path(number, "csv")):
+            yield text.partition(b"\n")[2]
+
+
+def testcases(results: list[Result], date: str) -> Iterator[bytes]:
+    """A testcase for each pair."""
+    yield junit.text_of([junit.TestCase(one.name(), one.verdict, one.status, one.line,
+                                        one.lines, one.seconds) for one in results], date)

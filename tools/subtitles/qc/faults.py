@@ -1,0 +1,189 @@
+"""The faults of a verdict with all that is known of them, one after another."""
+from __future__ import annotations
+
+import os
+import re
+import subprocess
+import tempfile
+from typing import Iterator, TypedDict
+
+from ..preview.letters import ENGLISH, GERMAN, letters
+from ..preview.manual import meanings
+from ..times import CLOCK, FRAMES_OF_A_DAY, TICKS, time_of
+from .cells import NOWHERE, Due, Place, Places, code_at, passed_over
+from .subtitle_file import Subtitle, SubtitleFile
+from .told import CONTENT, LETTERS, STL_FAULTS, Told
+from .typed import Typed
+from .unclear import Unclear
+from .verdict import Part, Verdict
+
+
+class Cell(TypedDict):
+    """What a cell holds: its code in hexadecimal, and its character where it has one."""
+
+    code: str
+    character: str | None
+
+
+class SubtitleWords(TypedDict):
+    number: int
+    begin: str
+    end: str
+
+
+class Fault(TypedDict):
+    """A fault; what does not apply is `None`. The schema says what each member is."""
+
+    part: int
+    line: str
+    number: int
+    name: str
+    severity: str
+    file: str
+    block: int | None
+    subtitle: SubtitleWords | None
+    byte: str | None
+    character: str | None
+    text_at: int | None
+    pes: int | None
+    pes_pts: int | None
+    pes_time: str | None
+    packet: int | None
+    frame: int | None
+    time: str | None
+    row: int | None
+    column: int | None
+    due: Cell | None
+    held: Cell | None
+    until: str | None
+    until_pes: int | None
+    means: str
+    do: str
+
+
+def plain(text: str) -> str:
+    """A cell of the manual without marks: links as their words."""
+    return re.sub(r"\[([^]]*)\]\([^)]*\)", r"\1", text).replace("`", "")
+
+
+class Ends:
+    """Where each fault ended that stood for some time, by its number in the list."""
+
+    def __init__(self, told: Iterator[Told]) -> None:
+        self.by_fault: dict[int, Told] = {}
+        latest: dict[int, int] = {}
+        index = -1
+        for one in told:
+            if one.is_fault:
+                index += 1
+                latest[one.number] = index
+            elif one.word == "ended" and one.number in latest:
+                self.by_fault[latest.pop(one.number)] = one
+
+    def of(self, index: int) -> tuple[str | None, int | None]:
+        """The time of the last frame, or the last PES packet."""
+        ended = self.by_fault.get(index)
+        return (ended.time, ended.pes) if ended else (None, None)
+
+
+class PartFaults:
+    """The faults of one part."""
+
+    def __init__(self, verdict: Verdict, part: Part, typed: Typed) -> None:
+        self.verdict, self.part, self.asked = verdict, part, verdict.asked
+        self.letters: list[str] = letters(GERMAN if self.asked.option == "german" else ENGLISH)
+        self.meanings = {number: (plain(one.means), plain(one.do))
+                         for number, one in meanings().items()}
+        self.ends = Ends(part.answer.told())
+        self.subtitles = SubtitleFile(part.stl_path)
+        self.due: Due | None = None
+        self.places: Places | None = None
+        if part.pes is not None and part.origin is not None:
+            asked = [one.frame for one in part.answer.told()
+                     if one.is_fault and one.number == CONTENT and one.frame is not None]
+            if asked:
+                self.due = due_pages(typed, verdict, part, asked)
+            self.places = Places(part.pes, self.asked.page, part.origin,
+                                 passed_over(part.answer.told()), bool(asked))
+
+    def __iter__(self) -> Iterator[Fault]:
+        faults = (one for one in self.part.answer.told() if one.is_fault)
+        for index, told in enumerate(faults):
+            yield self.fault(index, told)
+
+    def fault(self, index: int, told: Told) -> Fault:
+        """All that is known of a fault."""
+        is_stl = told.number in STL_FAULTS
+        place = self.places.of(told) if self.places and not is_stl else NOWHERE
+        byte, character = self.subtitles.letter(told.block, told.at) \
+            if told.number in LETTERS and told.block and told.at is not None else (None, None)
+        until, until_pes = self.ends.of(index)
+        means, do = self.meanings.get(told.number, ("", ""))
+        return {
+            "part": self.part.number, "line": told.line, "number": told.number,
+            "name": told.name, "severity": self.verdict.severity.of(told.number),
+            "file": "stl" if is_stl else "pes", "block": told.block,
+            "subtitle": words_of(self.subtitle_of(told)), "byte": byte, "character": character,
+            "text_at": told.at, "pes": place.pes if told.pes is None else told.pes,
+            "pes_pts": place.pts, "pes_time": self.time_at(place.pts), "packet": told.packet,
+            "frame": told.frame, "time": told.time, "row": told.row, "column": told.column,
+            "due": self.due_cell(told), "held": self.held_cell(told, place),
+            "until": until, "until_pes": until_pes, "means": means, "do": do,
+        }
+
+    def subtitle_of(self, told: Told) -> Subtitle | None:
+        """The subtitle of a block, or the one that is due at a frame."""
+        if told.block is not None:
+            return self.subtitles.at_block(told.block)
+        return self.subtitles.at_frame(told.frame) if told.frame is not None else None
+
+    def time_at(self, pts: int | None) -> str | None:
+        """The time of a PTS that is one of a frame of the day."""
+        if pts is None or self.part.origin is None:
+            return None
+        frame, rest = divmod((pts - self.part.origin) % CLOCK, TICKS)
+        return time_of(frame) if rest == 0 and frame < FRAMES_OF_A_DAY else None
+
+    def due_cell(self, told: Told) -> Cell | None:
+        is_content = self.due and told.number == CONTENT and told.frame is not None
+        return self.cell(self.due.at(told.frame), told) \
+            if self.due and is_content and told.frame is not None else None
+
+    def held_cell(self, told: Told, place: Place) -> Cell | None:
+        return self.cell(place.rows, told) if told.number == CONTENT else None
+
+    def cell(self, rows: tuple[bytes, ...] | None, told: Told) -> Cell | None:
+        """The cell that a fault names."""
+        if told.row is None or told.column is None:
+            return None
+        code = code_at(rows, told.row, told.column)
+        if code is None:
+            return None
+        return {"code": f"{code:02X}", "character": self.letters[code] if code >= 0x20 else None}
+
+
+def words_of(subtitle: Subtitle | None) -> SubtitleWords | None:
+    if subtitle is None:
+        return None
+    return {"number": subtitle.number, "begin": subtitle.begin, "end": subtitle.end}
+
+
+def due_pages(typed: Typed, verdict: Verdict, part: Part, frames: list[int]) -> Due:
+    """The pages that are due, by the program's own schedule of the subtitle file."""
+    asked = verdict.asked
+    with tempfile.TemporaryDirectory(prefix="subttx-qc-") as folder:
+        path = os.path.join(folder, "due.pes")
+        command = [typed.program_path, "schedule", "--page", asked.page_name, "--option",
+                   asked.option, "--every", "1500", "--", part.stl_path, path]
+        done = subprocess.run(command, stdin=subprocess.DEVNULL, stdout=subprocess.PIPE,
+                              encoding="utf-8", check=False)
+        if done.returncode:
+            raise Unclear(f"schedule was not answered: {done.stdout.strip()}")
+        return Due(path, asked.page, 0, frames)
+
+
+def faults_of(verdict: Verdict, typed: Typed) -> Iterator[Fault]:
+    """The faults of all parts."""
+    for part in verdict.parts:
+        if part.answer.count:
+            yield from PartFaults(verdict, part, typed)

@@ -1,0 +1,92 @@
+"""A verdict as one JSON object, as docs/verdict.schema.json has it."""
+from __future__ import annotations
+
+import json
+from typing import Iterable, Iterator, Mapping
+
+from .asked import Asked
+from .faults import faults_of
+from .made_with import Program
+from .sums import File
+from .typed import Typed
+from .verdict import Gap, Part, Verdict
+
+FORMAT = 1
+
+Value = object
+
+
+def file_words(file: File | None) -> dict[str, Value] | None:
+    return None if file is None else file._asdict()
+
+
+def asked_words(asked: Asked) -> dict[str, Value]:
+    """What was asked; `origin` and `pid` are `None` where they were to be found."""
+    return {"page": asked.page_name, "every": asked.every, "option": asked.option,
+            "origin": asked.origin, "complete": asked.is_complete, "pid": asked.pid,
+            "allow_lost": asked.is_loss_allowed, "severity": asked.severity}
+
+
+def part_words(part: Part) -> dict[str, Value]:
+    answer = part.answer
+    return {"part": part.number, "stl": part.stl, "origin": part.origin, "from": part.begin,
+            "to": part.end, "verdict": answer.verdict, "line": answer.line,
+            "frames": answer.frames, "transmissions": answer.transmissions,
+            "faults": answer.count}
+
+
+def gap_words(gap: Gap) -> dict[str, Value]:
+    place = gap.place
+    return {"after": gap.after, "before": gap.before, "after_pts": place.before,
+            "before_pts": place.after, "ts_packets": place.lost, "scrambled": place.scrambled,
+            "filled": place.filled, "left_out": place.left_out, "judged": gap.is_judged}
+
+
+def total(numbers: list[int | None]) -> int | None:
+    """A sum, where each number is known."""
+    known = [number for number in numbers if number is not None]
+    return sum(known) if known and len(known) == len(numbers) else None
+
+
+def head_of(verdict: Verdict, program: Program) -> dict[str, Value]:
+    """The object but for its faults and its trusted stretches."""
+    parts = verdict.parts
+    return {
+        "format": FORMAT,
+        "verdict": verdict.word,
+        "status": verdict.status,
+        "line": verdict.line,
+        "reason": verdict.reason,
+        "judged": "subtitle file" if verdict.asked.recording is None else "transmission",
+        "frames": total([part.answer.frames for part in parts]),
+        "transmissions": total([part.answer.transmissions for part in parts]),
+        "fault_count": verdict.faults,
+        "asked": asked_words(verdict.asked),
+        "parts": [part_words(part) for part in parts],
+        "lost": [gap_words(gap) for gap in verdict.gaps],
+        "inputs": {"stl": file_words(verdict.stl), "recording": file_words(verdict.recording),
+                   "pes": file_words(verdict.judged)},
+        "program": program._asdict(),
+        "commands": verdict.commands,
+        "date": verdict.date,
+    }
+
+
+def object_of(verdict: Verdict, program: Program, typed: Typed) -> Iterator[str]:
+    """The text of the object, a piece after another: there may be any number of faults."""
+    head = json.dumps(head_of(verdict, program), ensure_ascii=False, indent=1)
+    yield head.removesuffix("\n}") + ',\n "trusted": ['
+    trusted = ({"part": part.number, "from": begin, "to": end}
+               for part in verdict.parts for begin, end in part.answer.trusted())
+    yield from listed(trusted)
+    yield '],\n "faults": ['
+    yield from listed(faults_of(verdict, typed))
+    yield "]\n}\n"
+
+
+def listed(items: Iterable[Mapping[str, Value]]) -> Iterator[str]:
+    """The items of a list, a line each."""
+    before = "\n  "
+    for item in items:
+        yield before + json.dumps(item, ensure_ascii=False)
+        before = ",\n  "

@@ -1,0 +1,145 @@
+"""A recording as a file of PES packets: itself, or what was taken out of a transport stream."""
+from __future__ import annotations
+
+import os
+from typing import Callable, Iterator
+
+from ..files import Damaged
+from ..pes import pes_packets
+from ..words import counted, pid_name
+from .asked import Asked
+from .carriers import Carrier, Carriers, Kept
+from .feed import follow
+from .kinds import is_pes_packets
+from .live import Live
+from .names import Names, again
+from .source import STANDARD_INPUT, Source
+from .speech import Speech
+from .sums import File
+from .typed import Typed
+from .unclear import Unclear
+
+MEGA = 1 << 20
+
+
+class Recording:
+    """A recording that is read: the file of its PES packets is `path`, typed as `shown`.
+
+    `carrier` is what was taken out of a transport stream; `live` the call of `check` that judged a
+    feed while it came, where there was one.
+    """
+
+    def __init__(self, asked: Asked, typed: Typed, names: Names, speech: Speech) -> None:
+        self.asked, self.typed, self.names, self.speech = asked, typed, names, speech
+        assert asked.recording is not None
+        self.name = asked.recording
+        self.path, self.shown = names.whole_path, names.whole
+        self.carrier: Carrier | None = None
+        self.live: Live | None = None
+        self.file: File | None = None
+
+    def read(self, is_summed: bool, origin: Callable[[Kept], int | None],
+             start: Callable[[Kept, int], Live]) -> None:
+        """Reads it: a file to its end, a feed up to the last subtitle at least."""
+        source = Source(self.name, is_summed)
+        try:
+            if not is_pes_packets(source):
+                self.take_out(source, origin, start)
+            elif source.is_feed:
+                self.keep(source, origin, start)
+            else:
+                self.take(source)
+            self.file = source.summed()
+        except Damaged as reason:
+            raise Unclear(f"{self.name}: {reason}") from None
+        finally:
+            source.close()
+
+    def take(self, source: Source) -> None:
+        """Takes a file of PES packets as it is."""
+        if self.name == STANDARD_INPUT:
+            self.say_kept()
+            with open(self.path, "wb") as file:
+                while data := source.read(MEGA):
+                    file.write(data)
+            return
+        self.path = self.shown = self.name
+        while source.summing and source.read(MEGA):
+            pass
+
+    def say_kept(self) -> None:
+        """Says how PES packets that come through a pipe are kept."""
+        words = [] if self.name == STANDARD_INPUT else [self.name]
+        self.speech.command("cat", *words, ">", self.names.whole)
+
+    def keep(self, source: Source, origin: Callable[[Kept], int | None],
+             start: Callable[[Kept, int], Live]) -> None:
+        """Keeps PES packets that come through a pipe."""
+        kept = Kept(self.path, self.asked.page, True)
+
+        def packets() -> Iterator[tuple[Kept, bytes]]:
+            try:
+                for data in pes_packets(source):
+                    yield kept, kept.keep(data)
+            except Damaged as reason:
+                self.speech.say(f"{self.name}: {reason}; it was read up to there")
+
+        _, self.live = follow(packets(), origin, start, lambda: self.show(source))
+        kept.close()
+        if not self.live:
+            self.say_kept()
+
+    def take_out(self, source: Source, origin: Callable[[Kept], int | None],
+                 start: Callable[[Kept, int], Live]) -> None:
+        """Takes the PES packets of the PID that carries the page out of a transport stream."""
+        carriers = Carriers(source, self.asked.page, self.asked.pid, self.names.folder)
+        if source.is_feed:
+            _, self.live = follow(carriers.packets(), origin, start, lambda: self.show(source))
+        else:
+            for _ in carriers.packets():
+                self.show(source)
+        carriers.close()
+        self.carrier = carrier = self.chosen(carriers)
+        if not self.live:
+            self.speech.command(self.typed.tool("ts2pes"), self.name, f"0x{carrier.pid:X}", ">",
+                                self.names.whole)
+            for line in carrier.extractor.last_lines():
+                self.speech.say(line)
+        os.replace(carrier.path, self.path)
+        for other in carriers.by_pid.values():
+            if other is not carrier:
+                os.unlink(other.path)
+
+    def show(self, source: Source) -> None:
+        """How much of the recording is read."""
+        if not self.live and self.speech.progress.is_due():
+            read = f"{self.name}: {source.count / 1e6:,.0f} MB"
+            self.speech.show(read if source.size is None else
+                                      f"{read} of {source.size / 1e6:,.0f}")
+
+    def chosen(self, carriers: Carriers) -> Carrier:
+        """The only PID that carries the page, or the one that was asked for."""
+        page = self.asked.page_name
+        if carriers.pid is not None:
+            carrier = carriers.by_pid[carriers.pid]
+            if carrier.count:
+                return carrier
+            raise Unclear(said(f"{self.name} has no PES packets of {pid_name(carrier.pid)}",
+                               carriers), self.again("--pid", "PID"))
+        found = carriers.with_page()
+        if len(found) == 1:
+            return found[0]
+        if not found:
+            raise Unclear(said(f"{self.name} has no header of page {page}", carriers),
+                          *([self.again("--page", "P")] if carriers.by_pid else []))
+        raise Unclear(said(f"page {page} is sent on {len(found)} PIDs of {self.name}", carriers),
+                      *(self.again("--pid", f"0x{carrier.pid:X}") for carrier in found))
+
+    def again(self, *more: str) -> str:
+        return again(self.asked, self.typed, *more)
+
+
+def said(reason: str, carriers: Carriers) -> str:
+    """A reason, and what there is."""
+    lines = carriers.lines() or ["there is no PID with Teletext"]
+    return "\n".join([reason, *lines])

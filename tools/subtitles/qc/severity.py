@@ -1,0 +1,38 @@
+"""Which faults count for the exit status."""
+from __future__ import annotations
+
+from ..words import Stop
+
+ERROR, WARNING = "error", "warning"
+OTHERS = "others"  # the word for all numbers that are not named
+
+
+class Severity:
+    """The severity of each number: an error, but for what a file says."""
+
+    def __init__(self, path: str | None) -> None:
+        self.named: dict[int, str] = {}
+        self.others = ERROR
+        if path is not None:
+            with open(path, encoding="utf-8", errors="replace") as file:
+                for at, line in enumerate(file, 1):
+                    self.take(path, at, line.partition("#")[0].split())
+
+    def take(self, path: str, at: int, words: list[str]) -> None:
+        """Takes a line; an empty one says nothing."""
+        if not words:
+            return
+        is_right = len(words) == 2 and words[1] in (ERROR, WARNING) and (
+            words[0] == OTHERS or words[0].isascii() and words[0].isdecimal())
+        if not is_right:
+            raise Stop(f"{path}, line {at}: a line is `NUMBER error` or `NUMBER warning`")
+        if words[0] == OTHERS:
+            self.others = words[1]
+        else:
+            self.named[int(words[0])] = words[1]
+
+    def of(self, number: int) -> str:
+        return self.named.get(number, self.others)
+
+    def is_error(self, number: int) -> bool:
+        return self.of(number) == ERROR

@@ -1,0 +1,148 @@
+"""One pair: judged, said, and written to the files that were asked for."""
+from __future__ import annotations
+
+import argparse
+import datetime
+import io
+import itertools
+import json
+import os
+import tempfile
+import time
+from typing import Iterator
+
+from ..files import OWN_OUTPUT, whole_file
+from ..words import Stop, line_of
+from . import junit, machine, table
+from .asked import Asked, asked_of
+from .faults import faults_of
+from .made_with import program_at
+from .names import Names
+from .pair import Pair
+from .progress import Progress
+from .severity import Severity
+from .speech import Speech
+from .typed import Typed
+from .unclear import Unclear
+from .verdict import Verdict
+
+SUMMED = 100  # lines of a list in a summary, and in a file for a CI
+
+
+def now() -> str:
+    """The time, in UTC."""
+    return datetime.datetime.now(datetime.timezone.utc).strftime("%Y-%m-%dT%H:%M:%SZ")
+
+
+def judge(words: argparse.Namespace, called: str) -> int:
+    """Judges the pair of a command line; answers its status."""
+    asked = asked_of(words)
+    is_output_taken = any(path in OWN_OUTPUT for path in (words.json, words.csv, words.junit))
+    typed, speech = Typed(called, words.program), Speech(Progress(), is_output_taken)
+    verdict = Verdict(asked, Severity(asked.severity), now())
+    name = words.name or os.path.splitext(os.path.basename(asked.stl))[0]
+    has_files = words.out or words.json or words.csv or words.summary
+    with tempfile.TemporaryDirectory(prefix="subttx-qc-") as folder:
+        names = Names(name, folder, words.out)
+        files = Files(words, verdict, typed, names)
+        files.prepare()
+        began = time.monotonic()
+        try:
+            Pair(verdict, typed, names, speech, bool(has_files)).judge()
+        except (Unclear, Stop, OSError) as reason:
+            verdict.to_type = reason.to_type if isinstance(reason, Unclear) else ()
+            verdict.reason = reason.reason if isinstance(reason, Unclear) else line_of(reason)
+        verdict.commands = speech.commands
+        files.write(time.monotonic() - began)
+    end(verdict, speech)
+    return verdict.status
+
+
+def end(verdict: Verdict, speech: Speech) -> None:
+    """Says the verdict, after what was lost and what is not clear."""
+    for gap in verdict.gaps:
+        speech.tell(f"qc: between {gap.after or 'the beginning'} and {gap.before or 'the end'}: "
+                    f"{gap.words}" + ("" if gap.is_judged else ", outside of what is judged"))
+    if verdict.is_lost and not verdict.asked.is_loss_allowed:
+        speech.tell("qc: nobody saw what was sent there; --allow-lost accepts the recording "
+                    "without it")
+    if verdict.line is not None:
+        speech.end(verdict.line)
+    for line in (verdict.reason or "").splitlines():
+        speech.tell(f"qc: {line}")
+    for at, line in enumerate(verdict.to_type):
+        speech.tell(f"qc: {'type' if at == 0 else 'or'} {line}")
+
+
+class Files:
+    """The files that are asked for, none of which may be an input."""
+
+    def __init__(self, words: argparse.Namespace, verdict: Verdict, typed: Typed,
+                 names: Names) -> None:
+        self.words, self.verdict, self.typed, self.names = words, verdict, typed, names
+        self.of_pair = [names.cut_path, names.list_path, names.report, names.machine] \
+            if names.out else []
+
+    def prepare(self) -> None:
+        """Makes the folder, and takes away what an earlier call left of this pair."""
+        if self.names.out:
+            os.makedirs(self.names.out, exist_ok=True)
+        for path in [*self.of_pair, self.words.json, self.words.csv, self.words.junit]:
+            self.refuse_input(path)
+        for path in self.of_pair:
+            if os.path.lexists(path):
+                os.unlink(path)
+
+    def refuse_input(self, path: str | None) -> None:
+        for one in (self.verdict.asked.stl, self.verdict.asked.recording):
+            is_there = path and one and os.path.exists(path) and os.path.exists(one)
+            if path and one and is_there and os.path.samefile(path, one):
+                raise Stop(f"{path} is an input too")
+
+    def write(self, seconds: float) -> None:
+        """Writes what is asked for."""
+        words, verdict = self.words, self.verdict
+        objects = [path for path in (words.json, self.names.machine) if path]
+        if objects or words.summary:
+            program = program_at(self.typed.program_path)
+            for path in objects:
+                self.put(path, machine.object_of(verdict, program, self.typed))
+            if words.summary:
+                summary = {**machine.head_of(verdict, program), "seconds": seconds,
+                           "lines": self.lines()}
+                self.put(words.summary, iter([json.dumps(summary)]))
+        if words.csv:
+            self.put(words.csv, self.table_lines())
+        if words.junit:
+            case = junit.TestCase(name_of(verdict.asked), verdict.word, verdict.status,
+                                  verdict.line or verdict.reason or "", self.lines(), seconds)
+            self.put(words.junit, iter([junit.text_of([case], verdict.date).decode()]))
+
+    def lines(self) -> list[str]:
+        """The first lines of the lists of all parts."""
+        lines = (line for part in self.verdict.parts for line in part.answer.lines()
+                 if part.answer.count)
+        return list(itertools.islice(lines, SUMMED))
+
+    def table_lines(self) -> Iterator[str]:
+        """The lines of the CSV file, with the names of the columns."""
+        text = io.StringIO()
+        table.write_head(text)
+        for fault in faults_of(self.verdict, self.typed):
+            table.write_row(text, self.verdict, fault)
+            yield text.getvalue()
+            text.seek(0)
+            text.truncate()
+        yield text.getvalue()
+
+    def put(self, path: str, pieces: Iterator[str]) -> None:
+        """Writes a file whole, or not at all."""
+        inputs = [one for one in (self.verdict.asked.stl, self.verdict.asked.recording) if one]
+        with whole_file(path, inputs) as file:
+            for piece in pieces:
+                file.write(piece.encode("utf-8", "replace"))
+
+
+def name_of(asked: Asked) -> str:
+    """A pair as a line of a table names it."""
+    return " ".join([asked.stl, *([asked.recording] if asked.recording else [])])

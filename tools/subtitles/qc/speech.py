@@ -1,0 +1,68 @@
+"""What a person reads: the commands, what they answer, the verdict."""
+from __future__ import annotations
+
+import sys
+import threading
+
+from .progress import Progress
+from .typed import line_of
+
+MOST_LINES = 40  # of a list
+
+
+class Speech:
+    """Lines on standard output, or on standard error where a file goes there; the commands among
+    them are remembered."""
+
+    def __init__(self, progress: Progress, is_output_taken: bool = False) -> None:
+        self.progress = progress
+        self.out = sys.stderr if is_output_taken else sys.stdout
+        self.commands: list[str] = []
+        self.last, self.listed = "", 0
+        self.lock = threading.RLock()  # a feed is heard beside the program that judges it
+
+    def say(self, line: str) -> None:
+        """A line of what is done."""
+        with self.lock:
+            self.progress.clear()
+            self.last = line
+            print(line, file=self.out)
+
+    def tell(self, line: str) -> None:
+        """A line on standard error, after what was printed before it."""
+        with self.lock:
+            self.progress.clear()
+            self.out.flush()
+            print(line, file=sys.stderr)
+
+    def show(self, line: str) -> None:
+        """How far it is, on a terminal."""
+        with self.lock:
+            self.progress.show(line)
+
+    def command(self, *words: str) -> None:
+        """A command, as it would be typed."""
+        self.commands.append(line_of(*words))
+        self.listed = 0
+        self.say(f"+ {self.commands[-1]}")
+        self.out.flush()
+
+    def of_list(self, line: str) -> None:
+        """A line of a list, of which the first ones are said."""
+        self.listed += 1
+        if self.listed <= MOST_LINES:
+            self.say(line)
+            self.out.flush()
+
+    def end_list(self, last: str) -> None:
+        """How many lines of the list were not said, and its last one."""
+        left = self.listed - MOST_LINES
+        if left > 1:
+            self.say(f".. {left - 1} more lines")
+        if left > 0:
+            self.say(last)
+
+    def end(self, line: str) -> None:
+        """The verdict's line, which is the last one."""
+        if self.last != line:
+            self.say(line)

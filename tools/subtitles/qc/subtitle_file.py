@@ -1,0 +1,83 @@
+"""The subtitles of a file by their blocks and by their frames, as its faults name them."""
+from __future__ import annotations
+
+import array
+import bisect
+from typing import NamedTuple
+
+from ..letters import ACCENTS, letters_of
+from ..stl import GSI, LAST, TTI, UNUSED, USER_DATA
+from ..times import frame_of_code
+
+COMMENT = 1  # CF
+
+
+class Subtitle(NamedTuple):
+    """A subtitle (SN), from TCI to TCO."""
+
+    number: int
+    begin: str
+    end: str
+
+
+class SubtitleFile:
+    """A subtitle file, read as far as there are blocks, whatever stands in them."""
+
+    def __init__(self, path: str) -> None:
+        with open(path, "rb") as file:
+            self.data = file.read()
+        self.firsts = array.array("I", [0])  # of each block the first one of its subtitle
+        self.begins, self.blocks = array.array("I"), array.array("I")
+        first, is_open = 0, False
+        for block in range(1, (len(self.data) - GSI) // TTI + 1):
+            one = self.block(block)
+            if one[3] == USER_DATA or one[15] == COMMENT:
+                self.firsts.append(block)
+                continue
+            first, is_open = first if is_open else block, one[3] != LAST
+            self.firsts.append(first)
+            begin = frame_of_code(one[5:9])
+            if first == block and begin is not None:
+                self.begins.append(begin)
+                self.blocks.append(block)
+
+    def block(self, number: int) -> bytes:
+        at = GSI + TTI * (number - 1)
+        return self.data[at:at + TTI]
+
+    def at_block(self, block: int) -> Subtitle | None:
+        """The subtitle that a block is of; `None` for the GSI block, and for one that is cut."""
+        if not 0 < block < len(self.firsts):
+            return None
+        one = self.block(self.firsts[block])
+        return Subtitle(one[1] + 256 * one[2], time_of_code(one[5:9]), time_of_code(one[9:13]))
+
+    def at_frame(self, frame: int) -> Subtitle | None:
+        """The subtitle that is due at a frame, of a file whose subtitles rise."""
+        at = bisect.bisect_right(self.begins, frame) - 1
+        if at < 0:
+            return None
+        block = self.blocks[at]
+        end = frame_of_code(self.block(block)[9:13])
+        return self.at_block(block) if end is not None and frame < end else None
+
+    def text(self, block: int) -> bytes:
+        """The text of the subtitle whose last block it is."""
+        blocks = (self.block(one) for one in range(self.firsts[block], block + 1))
+        return b"".join(one[16:].split(UNUSED)[0] for one in blocks
+                        if one[3] != USER_DATA and one[15] != COMMENT)
+
+    def letter(self, block: int, at: int) -> tuple[str | None, str | None]:
+        """A byte of that text in hexadecimal, and its character; a control code has none."""
+        text = self.text(block) if 0 < block < len(self.firsts) else b""
+        if at >= len(text):
+            return None, None
+        has_accent = ACCENTS.get(text[at], " ") != " "
+        letter = letters_of(text[at:at + 1 + has_accent])
+        is_letter = 0x20 <= text[at] <= 0x7E or text[at] >= 0xA0
+        return f"{text[at]:02X}", letter if is_letter else None
+
+
+def time_of_code(code: bytes) -> str:
+    """The four bytes of a time as they stand."""
+    return ":".join(f"{part:02}" for part in code)

@@ -1,0 +1,50 @@
+"""Commands as they would be typed: the tools and the program by the names that the caller uses."""
+from __future__ import annotations
+
+import os
+import shlex
+import shutil
+
+from ..built import TOP
+from ..words import INSTALLED, Stop
+
+
+class Typed:
+    """The names of the tools beside the one that was called as `called`, and of the program."""
+
+    def __init__(self, called: str, program: str | None) -> None:
+        folder, name = os.path.split(called)
+        self.is_installed = name.startswith(INSTALLED)
+        found = shutil.which(name) if self.is_installed else None
+        if found and os.path.abspath(called) == os.path.abspath(found):
+            folder = ""
+        elif not folder:
+            folder = "."
+        self.folder = folder
+        self.program_word = program or self.beside()
+        self.program_words = ["-p", program] if program else []
+        self.program_path = os.path.abspath(program or os.path.join(TOP, "subttx"))
+        if os.path.isdir(self.program_path) or not os.access(self.program_path, os.X_OK):
+            raise Stop(f"{self.program_word} is no program")
+
+    def beside(self) -> str:
+        """The program as it is typed where it stands by the tools."""
+        if self.is_installed:
+            return os.path.join(self.folder, "subttx")
+        path = os.path.normpath(os.path.join(self.folder, "..", "subttx"))
+        return path if os.path.dirname(path) else os.path.join(".", path)
+
+    def tool(self, name: str) -> str:
+        """A tool as it is typed."""
+        return os.path.join(self.folder, INSTALLED + name if self.is_installed else name)
+
+    @staticmethod
+    def path(name: str) -> str:
+        """The file of a tool."""
+        return os.path.join(TOP, "tools", name)
+
+
+def line_of(*words: str) -> str:
+    """A command line for a shell; `>` and `|` stay as they are."""
+    line = " ".join(word if word in (">", "|") else shlex.quote(word) for word in words)
+    return line.replace(" > ", " >")

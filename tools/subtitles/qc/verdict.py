@@ -1,0 +1,103 @@
+"""A verdict on a pair: its parts, what was lost, what it was made with."""
+from __future__ import annotations
+
+import dataclasses
+
+from ..joining import Place
+from .asked import Asked
+from .checking import ACCEPTED_WORD, NOT_JUDGED, REFUSED_WORD, Answer
+from .severity import Severity
+from .sums import File
+
+LOST = "lost"  # the verdict where all that was seen is accepted, and TS packets are lost
+
+
+@dataclasses.dataclass
+class Part:
+    """A part of a pair that was judged by itself: its files, and what `check --all` said.
+
+    `stl` is the subtitle file as it is typed, `stl_path` and `pes` are the files to be read.
+    `begin` and `end` are the times of the first and the last frame of which the verdict speaks.
+    """
+
+    number: int
+    stl: str
+    stl_path: str
+    pes: str | None
+    origin: int | None
+    begin: str | None
+    end: str | None
+    answer: Answer
+
+
+@dataclasses.dataclass
+class Gap:
+    """A place at which TS packets are missing: the times before and after it, what is missing, and
+    whether the verdict speaks of frames between."""
+
+    after: str | None
+    before: str | None
+    words: str
+    place: Place
+    is_judged: bool
+
+
+@dataclasses.dataclass
+class Verdict:
+    """All there is to say of a pair."""
+
+    asked: Asked
+    severity: Severity
+    date: str
+    parts: list[Part] = dataclasses.field(default_factory=list)
+    gaps: list[Gap] = dataclasses.field(default_factory=list)
+    commands: list[str] = dataclasses.field(default_factory=list)
+    stl: File | None = None
+    recording: File | None = None
+    judged: File | None = None
+    reason: str | None = None
+    to_type: tuple[str, ...] = ()
+
+    @property
+    def is_lost(self) -> bool:
+        """Whether the verdict speaks of frames of which TS packets are lost."""
+        return any(gap.is_judged for gap in self.gaps)
+
+    @property
+    def word(self) -> str:
+        """The verdict in one word."""
+        if self.reason is not None or not self.parts:
+            return NOT_JUDGED
+        if any(part.answer.status for part in self.parts):
+            return REFUSED_WORD
+        return LOST if self.is_lost and not self.asked.is_loss_allowed else ACCEPTED_WORD
+
+    @property
+    def faults(self) -> int:
+        """How many faults there are in all parts."""
+        return sum(part.answer.count for part in self.parts)
+
+    def has_errors(self) -> bool:
+        """Whether one of the faults is an error."""
+        return any(self.severity.is_error(number) for part in self.parts
+                   for number in part.answer.numbers)
+
+    @property
+    def status(self) -> int:
+        """0 accepted, 1 not, 2 not judged; a fault that is a warning does not count."""
+        word = self.word
+        if word == NOT_JUDGED:
+            return 2
+        is_lost = self.is_lost and not self.asked.is_loss_allowed
+        return 1 if is_lost or word == REFUSED_WORD and self.has_errors() else 0
+
+    @property
+    def line(self) -> str | None:
+        """The line of `check` of the first part that is refused, else of the last one."""
+        refused = [part for part in self.parts if part.answer.status]
+        if self.word == NOT_JUDGED:
+            return None
+        line = (refused or self.parts[-1:])[0].answer.line
+        if self.word == LOST:
+            return f"not accepted, since TS packets are lost: {line}"
+        return line

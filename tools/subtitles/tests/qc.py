@@ -1,0 +1,224 @@
+"""tools/qc on a pair: from a recording to a verdict."""
+from __future__ import annotations
+
+import os
+import subprocess
+
+from ..built import TOP
+from ..pes import pts_in
+from ..stl import NEW_LINE, boxed, gsi_block, subtitle_blocks
+from ..times import CLOCK, TICKS
+from .bench import Case, Done, example, example_bytes, moved, packets, random_subtitles
+
+STORY, RECORDING = example("story.stl"), example("recording.ts")
+ACCEPTED = "accepted 226 frames 5 transmissions"
+TS = 188  # bytes of a packet
+
+
+def qc(case: Case, *words: str, data: bytes | None = None) -> Done:
+    """A call of qc with the program of the bench."""
+    return case.tool("qc", *words, "-p", case.bench.program, data=data)
+
+
+def lines_of(done: Done) -> list[str]:
+    return done.out.decode().splitlines()
+
+
+def stream(case: Case, name: str, pes: bytes, pid: str = "0x101", page: str = "888") -> bytes:
+    """PES packets as a transport stream."""
+    done = case.tool("pes2ts", case.write(name + ".in.pes", pes), pid, "--page", page)
+    assert done.status == 0, done
+    return done.out
+
+
+def judges_a_recording(case: Case) -> None:
+    """The five commands are said; typed again one by one, they answer the same."""
+    done = qc(case, STORY, RECORDING, "-o", "out")
+    lines = lines_of(done)
+    commands = [line[2:] for line in lines if line.startswith("+ ")]
+    case.test("accepted", (done.status, lines[-1], done.told) == (0, ACCEPTED, []), done)
+    names = [os.path.basename(command.split()[0]) for command in commands]
+    case.test("the five commands", names == ["ts2pes", "origin", "cut",
+                                             os.path.basename(case.bench.program), "preview"],
+              commands)
+    kept = sorted(os.listdir(case.path("out")))
+    case.test("its files", kept == ["story.cut.pes", "story.html", "story.json", "story.txt"], kept)
+    said: dict[str, list[str]] = {}
+    for line in lines:
+        if line.startswith("+ "):
+            answer = said.setdefault(line[2:], [])
+        elif line:
+            answer.append(line.removeprefix("ts2pes: "))
+    for command in commands:
+        again = case.call(["sh", "-c", command])
+        told = [line.removeprefix("ts2pes: ") for line in again.told]
+        case.test(command, again.status == 0
+                  and again.out.decode().splitlines() + told == said[command], again)
+
+
+def takes_pes_packets(case: Case) -> None:
+    """From a file and from standard input; the same ends of all ways."""
+    pes = example_bytes("story.pes")
+    for name, words, data in (("a file", [example("story.pes")], None), ("a pipe", ["-"], pes),
+                              ("a transport stream in a pipe", ["-"], example_bytes("recording.ts")),
+                              ("/dev/stdin", ["/dev/stdin"], pes)):
+        done = qc(case, STORY, *words, data=data)
+        case.test(name, done.status == 0 and lines_of(done)[-1] == ACCEPTED, done)
+    with open(RECORDING, "rb") as file:
+        again = subprocess.run([os.path.join(TOP, "tools", "qc"), STORY, "-", "-p",
+                                case.bench.program], stdin=file, stdout=subprocess.PIPE,
+                               cwd=case.folder, check=False)
+    case.test("a file as standard input", again.returncode == 0, again)
+
+
+def judges_a_feed(case: Case) -> None:
+    """Judged while it comes, where the origin is known; it need not end then."""
+    done = qc(case, STORY, "-", "--origin", "5000000000", data=example_bytes("recording.ts"))
+    case.test("accepted", done.status == 0 and lines_of(done)[-1] == ACCEPTED, done)
+    words = lines_of(done)[0].split()
+    case.test("one line of commands", words.count("|") == 2, words)
+    wrong = stream(case, "five", example_bytes("five-faults.pes"))
+    done = qc(case, STORY, "-", "--origin", "0", "--every", "25", "-o", "out", data=wrong)
+    case.test("refused", done.status == 1 and lines_of(done)[-1] ==
+              "refused 67 Control frame 20:15:01:00 packet 0" and "5 faults" in lines_of(done),
+              done)
+    case.test("what was judged", case.read("out/story.cut.pes") == example_bytes("five-faults.pes"))
+
+
+def ends_with_a_feed_that_goes_on(case: Case) -> None:
+    """After the last subtitle nothing more is read."""
+    command = ('(cat "$1"; sleep 100) | "$2" "$3" - --origin 5000000000 -p "$4"; echo status $?; '
+               'kill $(jobs -p) 2>/dev/null; exit 0')
+    later = moved(packets(example_bytes("story.pes"))[-1], lambda _, pts: pts + CLOCK)
+    data = example_bytes("recording.ts") + stream(case, "later", moved(
+        later, lambda _, pts: pts + 5_000_000_000 + 25 * TICKS))
+    process = subprocess.Popen(["bash", "-c", command, "bash", case.write("feed.ts", data),
+                                os.path.join(TOP, "tools", "qc"), STORY, case.bench.program],
+                               stdout=subprocess.PIPE, start_new_session=True, cwd=case.folder)
+    assert process.stdout
+    said = []
+    for line in process.stdout:
+        said.append(line.decode().rstrip("\n"))
+        if said[-1].startswith("accepted"):
+            break
+    os.killpg(process.pid, 9)
+    process.wait()
+    case.test("accepted", said[-1:] == [ACCEPTED], said)
+
+
+def judges_a_subtitle_file(case: Case) -> None:
+    done = qc(case, STORY)
+    case.test("nothing wrong", (done.status, lines_of(done)[-1]) ==
+              (0, "3 subtitles, nothing is wrong with them"), done)
+    done = qc(case, example("hello.stl"))
+    case.test("one", lines_of(done)[-1] == "1 subtitle, nothing is wrong with it", done)
+    for words in ([example("accent.stl")], [example("accent.stl"), RECORDING]):
+        done = qc(case, *words)
+        case.test(f"refused, {len(words)} files", done.status == 1 and lines_of(done)[-1] ==
+                  "refused 50 Character block 1 at 6", done)
+
+
+def refuses_what_was_lost(case: Case) -> None:
+    """A lost TS packet: the recording is not accepted without a word, and what follows is read."""
+    text = boxed(b"Two lines") + NEW_LINE * 2 + boxed(b"fill two packets.")
+    blocks = [subtitle_blocks(number, begin, begin + 60, 20, 2, text + b" %d" % number)
+              for number, begin in enumerate(range(90_000, 92_000, 100))]
+    stl = case.write("random.stl", gsi_block(b"Twenty", 20, 20) + b"".join(blocks))
+    case.schedule(stl, "random.pes", "--every", "50")
+    whole = stream(case, "random", case.read("random.pes"))
+    done = qc(case, stl, case.write("whole.ts", whole))
+    case.test("the whole one", done.status == 0, done)
+    own = [at for at in range(0, len(whole), TS) if whole[at + 1] & 0x1F == 1
+           and whole[at + 2] == 1]
+    inner = [at for at in own if not whole[at + 1] & 0x40]
+    at = inner[len(inner) // 2]
+    done = qc(case, stl, case.write("lost.ts", whole[:at] + whole[at + TS:]), "--json", "lost.json")
+    case.test("within a PES packet", done.status == 1 and "TS packet lost" in done.told[0], done)
+    begins = [at for at, after in zip(own, own[1:])
+              if whole[at + 1] & 0x40 and whole[after + 1] & 0x40]
+    if begins:
+        at = begins[len(begins) // 2]
+        words = [stl, case.write("start.ts", whole[:at] + whole[at + TS:]), "--every", "1500"]
+        done = qc(case, *words)
+        case.test("a whole one", done.status == 1 and any("lost" in one for one in done.told), done)
+        checked = any(line.startswith("accepted ") for line in lines_of(done))
+        done = qc(case, *words, "--allow-lost")
+        case.test("allowed", (done.status == 0) == checked, done)
+    early = stream(case, "early", moved(packets(case.read("random.pes"))[0],
+                                        lambda _, pts: pts - 3000 * TICKS))
+    first = [at for at in range(0, len(early), TS) if early[at + 2] == 1 and early[at + 1] & 0x1F]
+    torn = early[:first[0]] + whole if len(first) == 1 else early[:first[-1]] + whole
+    done = qc(case, stl, case.write("before.ts", torn))
+    case.test("before the subtitles", done.status == 0, done)
+
+
+def guesses_nothing(case: Case) -> None:
+    """Two PIDs with the page, none, a wrong subtitle file: what there is, and what to type."""
+    story = example_bytes("story.pes")
+    both = case.write("both.ts", stream(case, "a", story, "0x101") + stream(case, "b", story,
+                                                                           "0x102"))
+    done = qc(case, STORY, both)
+    typed = [line.removeprefix("qc: ") for line in done.told if "--pid" in line]
+    case.test("two PIDs", done.status == 2 and len(typed) == 2
+              and "2 PIDs of" in done.told[0], done)
+    for line in typed:
+        again = case.call(["sh", "-c", line.removeprefix("type ").removeprefix("or ") +
+                           f" -p {case.bench.program}"])
+        case.test(line, again.status == 0, again)
+    done = qc(case, STORY, both, "--page", "801")
+    case.test("no page", done.status == 2 and "PID 0x101: " in done.told[1], done)
+    done = qc(case, STORY, both, "--pid", "0x200")
+    case.test("no PID", done.status == 2 and "PID 0x200" in done.told[0], done)
+    other = case.write("other.stl", random_subtitles(7)[0])
+    case.schedule(case.write("own.stl", random_subtitles(8)[0]), "own.pes")
+    done = qc(case, other, case.path("own.pes"), "--json", "other.json")
+    case.test("another subtitle file", done.status == 2 and "--origin T" in done.told[-2], done)
+    done = qc(case, STORY, RECORDING, "--origin", "1")
+    case.test("a wrong origin", done.status == 2, done)
+    for words in ([STORY, STORY], [STORY, "none.ts"], ["none.stl", RECORDING], [RECORDING],
+                  [STORY, case.write("empty.ts", b"")], [STORY, case.bench.program],
+                  [STORY, TOP]):
+        done = qc(case, *words)
+        case.test(" ".join(map(os.path.basename, words)), done.status == 2
+                  and done.told[-1].startswith("qc: "), done)
+
+
+def leaves_inputs_alone(case: Case) -> None:
+    """No file that is asked for takes the place of an input."""
+    pes = case.write("story.cut.pes", example_bytes("story.pes"))
+    done = qc(case, STORY, pes, "-o", case.folder)
+    case.test("what was judged", done.status == 2 and case.read("story.cut.pes") ==
+              example_bytes("story.pes"), done)
+    for option in ("--json", "--csv", "--junit"):
+        done = qc(case, STORY, pes, option, pes)
+        case.test(option, done.status == 2 and case.read("story.cut.pes") ==
+                  example_bytes("story.pes"), done)
+
+
+def heeds_severities(case: Case) -> None:
+    """A fault that is a warning does not count; the verdict stays."""
+    words = [STORY, example("five-faults.pes"), "--every", "25", "--severity"]
+    numbers = (67, 68, 69, 72, 73)
+    warnings = "".join(f"{number} warning\n" for number in numbers)
+    for text, status in ((warnings, 0), (warnings + "73 error\n", 1), ("67 warning\n", 1),
+                         ("others warning\n# no more\n", 0), ("others warning\n72 error\n", 1)):
+        done = qc(case, *words, case.write("severity", text.encode()))
+        case.test(repr(text), done.status == status
+                  and lines_of(done)[-1].startswith("refused 67 "), done)
+    for text in ("72\n", "72 fatal\n", "x error\n"):
+        done = qc(case, *words, case.write("severity", text.encode()))
+        case.test(repr(text), done.status == 2 and len(done.told) == 1, done)
+
+
+def uses_the_page_and_the_option(case: Case) -> None:
+    data = case.write("two.stl", gsi_block(b"Two", 2, 2) + subtitle_blocks(
+        1, 90_000, 90_050, 20, 2, b"Gr\xc8u\xfbe") + subtitle_blocks(2, 90_100, 90_150, 20, 2, b"Ja"))
+    case.schedule(data, "two.pes", "--page", "1A9", "--option", "german", "--origin", "4242")
+    done = qc(case, data, case.path("two.pes"), "--page", "1a9", "--option", "german")
+    case.test("accepted", done.status == 0 and "--origin 4242" in lines_of(done), done)
+    assert pts_in(packets(case.read("two.pes"))[0]) == 4242 + 90_000 * TICKS
+
+
+CASES = [judges_a_recording, takes_pes_packets, judges_a_feed, ends_with_a_feed_that_goes_on,
+         judges_a_subtitle_file, refuses_what_was_lost, guesses_nothing, leaves_inputs_alone,
+         heeds_severities, uses_the_page_and_the_option]
