@@ -87,10 +87,12 @@ class Case:
         with open(self.path(name), "rb") as file:
             return file.read()
 
-    def call(self, command: Sequence[str], data: bytes | None = None) -> Done:
+    def call(self, command: Sequence[str], data: bytes | None = None,
+             env: dict[str, str] | None = None, user: int | None = None) -> Done:
         """Runs a command in the folder; what it prints, and its lines on standard error."""
         done = subprocess.run(command, cwd=self.folder, check=False, stdout=subprocess.PIPE,
-                              stderr=subprocess.PIPE, timeout=SECONDS, input=data or b"")
+                              stderr=subprocess.PIPE, timeout=SECONDS, input=data or b"",
+                              env=env, user=user)
         return Done(done.returncode, done.stdout, done.stderr.decode().splitlines())
 
     def tool(self, name: str, *words: str, data: bytes | None = None) -> Done:
