@@ -20,6 +20,8 @@ prefix     what is installed under a folder
 
 preview      parts of tools/preview
 every_place  what `check --all` tells, from the definitions, for tools/check-every-place
+definitions  what a name of specs/ rests on, for tools/reading-list
+cited        names in the documents, for tools/check-manual
 trial        how tools/faults runs the program
 mending      how tools/check-mending mends a pair by its list
 """

@@ -113,7 +113,8 @@ def keep(of_sources, with_lines):
     if not with_lines and (old.sources, old.program) == (of_sources, digest):
         return  # the gate has left the same, and the lines
     known = known_lines(version) if with_lines else {}
-    crates = {name: (it, known[name, it]) for name, it in crate_sums().items() if (name, it) in known}
+    crates = {name: (it, known[name, it]) for name, it in crate_sums().items()
+              if (name, it) in known}
     copy(RAW, os.path.join(OUT, "subttx"), 0o755)
     write(os.path.join(OUT, "PROVED"), text_of(Proved(of_sources, digest, version, crates)))
 

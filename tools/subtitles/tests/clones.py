@@ -14,6 +14,7 @@ VERSION = "a toolchain"
 # What stands in for the toolchain: it tells its version, and proves nothing.
 TOOLCHAIN = f'#!/bin/sh\n[ "$1" = version ] && echo {VERSION!r}\n'
 LINE = "logic=proved functions=7"
+NEITHER, PASSED, FAILED = (b"\n%d passed, %d failed\n" % it for it in ((0, 0), (1, 0), (0, 1)))
 NEEDED = ["subttx", "crates.txt", "tools", "crates"]
 
 
@@ -157,7 +158,7 @@ def tells_of_another_machine(case):
 
 
 def takes_first_what_was_built_here(case):
-    """out/ comes before dist/, as long as it is of the sources; there is no word of what is left."""
+    """out/ comes before dist/, as long as it is of the sources; what is left has no word."""
     clone = Clone(case)
     stored = clone.path("crates", "subttx", "stdout")
     clone.write("other", f"#!/bin/sh\n[ $2 = 00 ] && exec echo built\ncat {stored}\n")
@@ -202,14 +203,14 @@ def release_takes_what_was_proved(case):
     done = clone.release("--keep")
     case.test("with the other's line", (done.status, done.out, done.told) == (0, b"", []), done)
     done = clone.release("--compare")
-    case.test("no dist/ yet", done.status == 0 and done.out.endswith(b"\n0 passed, 0 failed\n"), done)
+    case.test("no dist/ yet", done.status == 0 and done.out.endswith(NEITHER), done)
     done = clone.release()
     case.test("taken", done.status == 0, done)
     told = parsed(read(clone.path("dist", "PROVED")))
     case.test("each crate's own line", told.crates == {
         name: (digest, f"{LINE} of={name}") for name, digest in clone.crates.items()}, told)
     done = clone.release("--compare")
-    case.test("the same bytes", done.status == 0 and done.out.endswith(b"\n1 passed, 0 failed\n"), done)
+    case.test("the same bytes", done.status == 0 and done.out.endswith(PASSED), done)
     shutil.rmtree(clone.path("out"))
     clone.runs("it runs")
 
@@ -238,7 +239,7 @@ def compare_finds_other_bytes(case):
         file.write(b"\0")
     clone.put("out", case.path("other"))
     done = clone.release("--compare")
-    case.test("other bytes", done.status == 1 and done.out.endswith(b"\n0 passed, 1 failed\n"), done)
+    case.test("other bytes", done.status == 1 and done.out.endswith(FAILED), done)
     shutil.copy(case.path("other"), clone.path("dist", "subttx"))
     done = clone.release("--compare")
     case.test("damage", done.status == 1 and b"is not the program" in done.out, done)

@@ -21,6 +21,8 @@ WRONG = {
                [PES, "0x101", "english"], [PES, "0x101", "--page", "8FF"]],
     "install": [[], ["-x"], ["--", "-x"], [""], [PES], ["-p", "none", "to"], ["to", "from"]],
     "dist": [["none"], [PES], ["--colour"]],
+    "release": [["none"], ["--note", "none"], ["--keep", "--compare"], ["--colour"]],
+    "reading-list": [[], ["none"], ["Good", "Robust"], ["Good", "--colour"]],
 }
 
 
