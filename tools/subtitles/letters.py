@@ -1,4 +1,6 @@
 """The letters of a subtitle file's text (EBU Tech 3264, code table 00, which is ISO 6937)."""
+from __future__ import annotations
+
 import unicodedata
 
 # As Unicode puts them after a letter; a space where the table has none.
@@ -16,12 +18,12 @@ UPPER = {
 UNKNOWN = "\ufffd"
 
 
-def letter_of(byte):
+def letter_of(byte: int) -> str:
     """The letter of one byte; 24 is read as a dollar, as `subttx` does."""
     return chr(byte) if 0x20 <= byte <= 0x7E else UPPER.get(byte, UNKNOWN)
 
 
-def letters_of(text):
+def letters_of(text: bytes) -> str:
     """The letters of text bytes of code table 00; an accent stands before its letter there."""
     found, at = "", 0
     while at < len(text):

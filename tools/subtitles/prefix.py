@@ -5,8 +5,9 @@ import shutil
 from .built import TOP
 from .words import INSTALLED
 
-TOOLS = ["cut", "origin", "pes2ts", "preview", "text", "ts2pes"]
-PAGE, MANUAL = os.path.join("docs", "subttx.1"), os.path.join("docs", "MANUAL.md")
+TOOLS = ["cut", "origin", "pes2ts", "preview", "qc", "text", "ts2pes"]
+PAGES = ["subttx.1", "subttx-qc.1"]
+READ = [os.path.join("docs", "MANUAL.md"), os.path.join("docs", "verdict.schema.json"), "VERSION"]
 COMPLETION = os.path.join("tools", "completion.bash")
 
 
@@ -37,8 +38,8 @@ def copy_tools(prefix):
     shutil.copytree(os.path.join(TOP, "tools", "subtitles"),
                     os.path.join(home, "tools", "subtitles"),
                     ignore=shutil.ignore_patterns("__pycache__", "tests"))
-    copy(os.path.join(TOP, MANUAL), os.path.join(home, MANUAL))
-    copy(os.path.join(TOP, "VERSION"), os.path.join(home, "VERSION"))
+    for name in READ:
+        copy(os.path.join(TOP, name), os.path.join(home, name))
     link(os.path.join("..", "..", "bin", "subttx"), os.path.join(home, "subttx"))
 
 
@@ -52,9 +53,10 @@ def copy_completion(prefix):
 def install(program, prefix):
     """Puts all there is under a folder; answers the files that a user calls or reads."""
     copy(program, os.path.join(prefix, "bin", "subttx"), 0o755)
-    page = os.path.join(prefix, "share", "man", "man1", "subttx.1")
-    copy(os.path.join(TOP, PAGE), page)
+    pages = [os.path.join(prefix, "share", "man", "man1", page) for page in PAGES]
+    for page in pages:
+        copy(os.path.join(TOP, "docs", os.path.basename(page)), page)
     copy_tools(prefix)
     copy_completion(prefix)
     names = ["subttx", *(INSTALLED + name for name in TOOLS)]
-    return [os.path.join(prefix, "bin", name) for name in names] + [page]
+    return [os.path.join(prefix, "bin", name) for name in names] + pages

@@ -83,7 +83,7 @@ class Batch:
             with open(self.path(number, "summary"), encoding="utf-8") as file:
                 known: dict[str, Any] = json.load(file)
         except (OSError, ValueError):
-            line = told[-1].removeprefix("qc: ") if told else "it did not end by itself"
+            line = told[-1].partition(": ")[2] if told else "it did not end by itself"
             return Result(item, NOT_JUDGED, 2, line, 0, [], 0.0)
         line = known["reason"] or known["line"]
         return Result(item, known["verdict"], known["status"], line, known["fault_count"],

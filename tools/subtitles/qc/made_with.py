@@ -2,13 +2,15 @@
 from __future__ import annotations
 
 import os
+import re
 from typing import NamedTuple
 
 from ..built import TOP, behind_script, read
+from ..words import version
 from .sums import file_of
 
-PROVED = "PROVED"  # in an archive that tools/dist made, and in dist/ of the repository
-PROVERS_LINE = "logic=proved "
+PROVED = "PROVED"  # lies beside a program, or over the folder of one that is installed
+OF_PROGRAM = re.compile(r"crate subttx \S+ (logic=proved .*)")
 
 
 class Program(NamedTuple):
@@ -22,15 +24,16 @@ class Program(NamedTuple):
 def program_at(path: str) -> Program:
     """What there is to say of the program at a path."""
     real = os.path.realpath(behind_script(path))
-    version = (read(os.path.join(TOP, "VERSION")) or "").strip()
-    return Program(version, file_of(real, path).sha256, proved_line(real))
+    sha256 = file_of(real, path).sha256
+    return Program(version(), sha256, proved_line(real, sha256))
 
 
-def proved_line(program: str) -> str | None:
-    """The prover's line of a program: from the archive that it is of, or from dist/."""
-    above = os.path.dirname(os.path.dirname(program))
-    for folder in (above, os.path.join(TOP, "dist")):
-        for line in (read(os.path.join(folder, PROVED)) or "").splitlines():
-            if line.startswith(PROVERS_LINE):
-                return line
+def proved_line(program: str, sha256: str) -> str | None:
+    """The prover's line of the program with this sum, where a file PROVED says that it is of it."""
+    beside = os.path.dirname(program)
+    for folder in (beside, os.path.dirname(beside), os.path.join(TOP, "dist")):
+        lines = (read(os.path.join(folder, PROVED)) or "").splitlines()
+        found = [line for line in map(OF_PROGRAM.fullmatch, lines) if line]
+        if f"program {sha256}" in lines and found:
+            return found[0][1]
     return None

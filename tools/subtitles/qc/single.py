@@ -61,17 +61,17 @@ def judge(words: argparse.Namespace, called: str) -> int:
 def end(verdict: Verdict, speech: Speech) -> None:
     """Says the verdict, after what was lost and what is not clear."""
     for gap in verdict.gaps:
-        speech.tell(f"qc: between {gap.after or 'the beginning'} and {gap.before or 'the end'}: "
+        speech.tell(f"between {gap.after or 'the beginning'} and {gap.before or 'the end'}: "
                     f"{gap.words}" + ("" if gap.is_judged else ", outside of what is judged"))
     if verdict.is_lost and not verdict.asked.is_loss_allowed:
-        speech.tell("qc: nobody saw what was sent there; --allow-lost accepts the recording "
+        speech.tell("nobody saw what was sent there; --allow-lost accepts the recording "
                     "without it")
     if verdict.line is not None:
         speech.end(verdict.line)
     for line in (verdict.reason or "").splitlines():
-        speech.tell(f"qc: {line}")
+        speech.tell(line)
     for at, line in enumerate(verdict.to_type):
-        speech.tell(f"qc: {'type' if at == 0 else 'or'} {line}")
+        speech.tell(f"{'type' if at == 0 else 'or'} {line}")
 
 
 class Files:

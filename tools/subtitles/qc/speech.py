@@ -4,6 +4,7 @@ from __future__ import annotations
 import sys
 import threading
 
+from ..words import tell
 from .progress import Progress
 from .typed import line_of
 
@@ -29,11 +30,10 @@ class Speech:
             print(line, file=self.out)
 
     def tell(self, line: str) -> None:
-        """A line on standard error, after what was printed before it."""
+        """A line on standard error, under the name of the tool, after what was said before it."""
         with self.lock:
             self.progress.clear()
-            self.out.flush()
-            print(line, file=sys.stderr)
+            tell(line)
 
     def show(self, line: str) -> None:
         """How far it is, on a terminal."""

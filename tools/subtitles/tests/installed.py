@@ -6,6 +6,7 @@ import subprocess
 import tarfile
 
 from ..built import TOP, chosen, read
+from ..prefix import PAGES
 from ..proved import lacking, parsed
 from .bench import example
 
@@ -51,6 +52,9 @@ def runs_the_whole_way(case, prefix):
     done = run("subttx-preview", stl, "cut.pes", *origin, "-o", "report.html")
     case.test("preview", (done.status, done.out) ==
               (0, b"accepted 226 frames 5 transmissions\n"), done)
+    done = run("subttx-qc", stl, "story.ts")
+    case.test("qc", done.out.endswith(b"accepted 226 frames 5 transmissions\n") and
+              os.path.join(prefix, "bin", "subttx-origin").encode() in done.out, done)
     done = run("subttx-cut", "--help")
     case.test("its own names in the help", b"subttx-cut PES" in done.out
               and b"tools/" not in done.out, done)
@@ -89,8 +93,9 @@ def completes(case):
 
 def names_one_version(case):
     version = (read(os.path.join(TOP, "VERSION")) or "none").strip()
-    page = read(os.path.join(TOP, "docs", "subttx.1"))
-    case.test("the man page", re.search(rf'^\.TH .*"subttx {re.escape(version)}"', page, re.M))
+    for name in PAGES:
+        page = read(os.path.join(TOP, "docs", name))
+        case.test(name, re.search(rf'^\.TH .*"subttx {re.escape(version)}"', page, re.M))
     log = re.search(r"^## (\S+)", read(os.path.join(TOP, "CHANGELOG.md")), re.M)
     case.test("the change log", log and log[1].rstrip(",") == version, log)
 

@@ -39,7 +39,7 @@ def library(case: Case) -> str:
 def judges_a_folder(case: Case) -> None:
     folder = library(case)
     done = qc(case, "--batch", folder, "--json", "all.json", "--csv", "all.csv", "--junit",
-              "all.xml", "-o", "out")
+              "all.xml")
     lines = lines_of(done)
     case.test("status", done.status == 2, done)
     table = {line.split()[0]: line for line in lines[1:-1]}
@@ -56,8 +56,6 @@ def judges_a_folder(case: Case) -> None:
     suite = tree.fromstring(case.read("all.xml"))[0]
     case.test("its testcases", (suite.get("tests"), suite.get("failures"), suite.get("errors")) ==
               ("12", "1", "1"), suite.attrib)
-    kept = sorted(os.listdir(case.path("out")))
-    case.test("its files", len(kept) == 4 * 11 and "05.html" in kept, kept)
     os.remove(os.path.join(folder, "07.stl"))
     case.test("one is refused", qc(case, "--batch", folder).status == 1)
     os.remove(os.path.join(folder, "05.stl"))
@@ -71,8 +69,10 @@ def judges_a_list(case: Case) -> None:
     text = (f"# of one day\n{STORY} {RECORDING}\n\n{hello} {RECORDING} --every 100\n"
             f"{example('german.stl')} {example('german.pes')} --option german\n")
     case.write("list", text.encode())
-    done = qc(case, "--batch", "list", "--jobs", "2")
+    done = qc(case, "--batch", "list", "--jobs", "2", "-o", "out")
     case.test("accepted", done.status == 0 and len(lines_of(done)) == 5, done)
+    kept = sorted(os.listdir(case.path("out")))
+    case.test("its files", len(kept) == 4 * 3 and "german.html" in kept, kept)
     case.write("list", (text + f"{hello}\n{hello} none.ts\n{hello} -\n").encode())
     done = qc(case, "--batch", "list", "--json", "list.json")
     case.test("what is no pair", done.status == 2 and sum(
