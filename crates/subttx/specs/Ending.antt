@@ -14,9 +14,10 @@ use Rattle.sub_answer.specs.Faults.{usage_told}
 use Rattle.sub_answer.specs.Listing.{PrintsOrFails, told_listing}
 use Rattle.sub_answer.specs.declared.status.Status.{Status}
 use Rattle.sub_answer.specs.declared.status.Status.TheVariants.{Fault}
-use Rattle.subttx.specs.Opening.{are_of}
+use Rattle.subttx.specs.Opening.{AreOf}
 use Rattle.subttx.specs.declared.opening.Opened.{Opened}
-use Rattle.subttx.specs.declared.opening.Opened.TheVariants.{Nothing, Read, ReadBoth, Write}
+use Rattle.subttx.specs.declared.opening.Opened.TheVariants.{Nothing, ReadBoth, ReadPes, ReadStl}
+use Rattle.subttx.specs.declared.opening.Opened.TheVariants.{Write}
 
 -- A sink behind a buffer, by what it has taken, what it holds back of that, and how often it has
 -- failed.
@@ -136,12 +137,14 @@ abbrev pub given_by :
     {F : Type 0} → (F → Option (List ℕ)) → (F → Option (List ℕ)) → Opened F → Given
 given_by remaining contents Nothing =
     record { first = Some []; second = Some []; file = Some [] }
-given_by remaining contents (Read file) =
-    record { first = remaining file; second = Some []; file = Some [] }
+given_by remaining contents (ReadStl stl) =
+    record { first = remaining stl.file; second = Some []; file = Some [] }
+given_by remaining contents (ReadPes pes) =
+    record { first = remaining pes.file; second = Some []; file = Some [] }
 given_by remaining contents (ReadBoth stl pes) =
-    record { first = remaining stl; second = remaining pes; file = Some [] }
+    record { first = remaining stl.file; second = remaining pes.file; file = Some [] }
 given_by remaining contents (Write stl output) =
-    record { first = remaining stl; second = Some []; file = contents output }
+    record { first = remaining stl.file; second = Some []; file = contents output.file }
 
 -- The files that a request names were opened, and it was answered over them, by what a file tells
 -- that is read, and one that is written; and then the lines were handed on.
@@ -150,7 +153,7 @@ pub record Ends
     (old new : Lines) (result : Status)
     : Type 0 where
   pub files : Opened F
-  pub are_opened : are_of (files_of request) files ≡ true
+  pub are_opened : AreOf (files_of request) files
   pub ends : EndsOver request (given_by remaining contents files) old new result
 
 -- The words that the system gave asked for a request, and it was answered so.

@@ -1,4 +1,5 @@
 pub mod Apart
 pub mod Ending
+pub mod OpenedFiles
 pub mod Opening
 pub mod Words

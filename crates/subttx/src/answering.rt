@@ -4,6 +4,7 @@ ghost use Rattle.sub_io.specs.Buffered.{failures_and_refused};
 ghost use Rattle.subttx.specs.Ending.{EndsOver, given_by, lines_of};
 
 use crate::ending::{answer_from, answer_pair, answer_with_file};
+use crate::files::{CreatedFile, PesFile, StlFile};
 use crate::opening::Opened;
 use std::alloc::Global;
 use std::io::{Read, Write};
@@ -15,19 +16,20 @@ use sub_request::Request;
 pub fn answer_opened<F: Read + Write + Drop, K: Sink>(
     alloc: Global,
     request: &Request<'_>,
-    files: Opened<F>,
+    files: Opened<'_, F>,
     rooms: &mut [u8],
     out: &mut BufferedSink<'_, K>,
 ) -> Status
     requires rooms { 2 ≤ length rooms.old }
     requires out { failures_and_refused (K.failure_count out.old.device) out.old.refused ≡ 0 }
-    ensures { EndsOver request.now (given_by F.remaining F.contents files)
+    ensures { EndsOver request.now (given_by F.remaining F.contents files.entry)
         (lines_of K.contents K.failure_count out.old)
         (lines_of K.contents K.failure_count out.new) result }
 {
     match files {
         Opened::Nothing => read_nothing(alloc, request, out),
-        Opened::Read(file) => read_one(alloc, request, file, rooms, out),
+        Opened::ReadStl(stl) => read_one(alloc, request, stl.into_file(), rooms, out),
+        Opened::ReadPes(pes) => read_one(alloc, request, pes.into_file(), rooms, out),
         Opened::ReadBoth(stl, pes) => read_both(alloc, request, stl, pes, rooms, out),
         Opened::Write(stl, output) => read_and_write(alloc, request, stl, output, rooms, out),
     }
@@ -71,44 +73,53 @@ fn read_one<F: Read + Drop, K: Sink>(
 fn read_both<F: Read + Drop, K: Sink>(
     alloc: Global,
     request: &Request<'_>,
-    stl: F,
-    pes: F,
+    stl: StlFile<'_, F>,
+    pes: PesFile<'_, F>,
     rooms: &mut [u8],
     out: &mut BufferedSink<'_, K>,
 ) -> Status
     requires rooms { 2 ≤ length rooms.old }
     requires out { failures_and_refused (K.failure_count out.old.device) out.old.refused ≡ 0 }
     ensures { EndsOver request.now
-        (record { first = F.remaining stl; second = F.remaining pes; file = Some [] })
+        (record {
+          first = F.remaining stl.entry.file;
+          second = F.remaining pes.entry.file;
+          file = Some [];
+        })
         (lines_of K.contents K.failure_count out.old)
         (lines_of K.contents K.failure_count out.new) result }
 {
     let half = rooms.len() / 2;
     let (room, other) = rooms.split_at_mut(half);
-    let mut first = BufferedSource::new(FromRead::new(stl), room);
-    let mut second = BufferedSource::new(FromRead::new(pes), other);
+    let mut first = BufferedSource::new(FromRead::new(stl.into_file()), room);
+    let mut second = BufferedSource::new(FromRead::new(pes.into_file()), other);
     answer_pair(alloc, request, &mut first, &mut second, out)
 }
 
 // Answers a request that reads a subtitle file and writes a file.
-fn read_and_write<F: Read + Drop, W: Write + Drop, K: Sink>(
+fn read_and_write<F: Read + Write + Drop, K: Sink>(
     alloc: Global,
     request: &Request<'_>,
-    stl: F,
-    output: W,
+    stl: StlFile<'_, F>,
+    output: CreatedFile<'_, F>,
     rooms: &mut [u8],
     out: &mut BufferedSink<'_, K>,
 ) -> Status
     requires rooms { 2 ≤ length rooms.old }
     requires out { failures_and_refused (K.failure_count out.old.device) out.old.refused ≡ 0 }
     ensures { EndsOver request.now
-        (record { first = F.remaining stl; second = Some []; file = W.contents output })
+        (record {
+          first = F.remaining stl.entry.file;
+          second = Some [];
+          file = F.contents output.entry.file;
+        })
         (lines_of K.contents K.failure_count out.old)
         (lines_of K.contents K.failure_count out.new) result }
 {
+    let (input, output) = (stl.into_file(), output.into_file());
     let half = rooms.len() / 2;
     let (room, other) = rooms.split_at_mut(half);
-    let mut first = BufferedSource::new(FromRead::new(stl), room);
+    let mut first = BufferedSource::new(FromRead::new(input), room);
     let mut file = BufferedSink::new(IntoFile::new(output), other);
     answer_with_file(alloc, request, &mut first, &mut file, out)
 }

@@ -5,6 +5,7 @@ ghost use Rattle.subttx.specs.Apart.{is_apart, is_there};
 
 use std::fs::Metadata;
 use std::io::ErrorKind;
+use std::marker::Model;
 use std::os::unix::fs::MetadataExt;
 use std::rt::Files;
 use std::{fs, io};
@@ -20,9 +21,46 @@ pub enum Found {
     Unknown,
 }
 
-/// What is at a name.
-pub fn look_up<R: Files>(rt: &R, name: &str) -> Found {
-    found_by(fs::metadata(rt, name))
+/// What was found at a name. It is made by `look_up` alone. Contracts see it as the name and what
+/// was found there.
+#[derive(Drop)]
+pub struct LookedUp<'a> {
+    name: &'a str,
+    found: Found,
+}
+
+impl<'a> Model for LookedUp<'a> {
+    ghost use Rattle.subttx.specs.OpenedFiles.{FoundAt};
+
+    ghost Value = { FoundAt };
+
+    ghost view = { λ l. record { name = l.name.now; found = l.found } };
+}
+
+impl<'a> LookedUp<'a> {
+    /// The name.
+    pub fn name(&self) -> &'a str
+        ensures { result.now ≡ self.now.name }
+    {
+        self.name
+    }
+
+    /// What was found there.
+    pub fn found(&self) -> Found
+        ensures { result ≡ self.now.found }
+    {
+        self.found
+    }
+}
+
+/// Looks up what is at a name.
+pub fn look_up<'a, R: Files>(rt: &R, name: &'a str) -> LookedUp<'a>
+    ensures { result.name ≡ name.now }
+{
+    LookedUp {
+        name,
+        found: found_by(fs::metadata(rt, name)),
+    }
 }
 
 // What is at a name that was looked up so. One that can't be looked up is never taken for one at

@@ -8,6 +8,7 @@
 mod answering;
 mod apart;
 mod ending;
+mod files;
 mod opening;
 mod words;
 
