@@ -26,6 +26,12 @@ pub record Lines : Type 0 where
   pub held : List ℕ
   pub count : ℕ
 
+-- A sink by what it has taken, what it holds back of that, and how often it has failed.
+abbrev pub lines_in : {O : Type 0}
+    → (O → Option (List ℕ)) → (O → List ℕ) → (O → ℕ) → O → Lines
+lines_in contents held_back failure_count o =
+    record { taken = contents o; held = held_back o; count = failure_count o }
+
 -- A buffer, by what is told of the sink inside and how often that has failed.
 abbrev pub lines_of : {D : Type 0} → (D → Option (List ℕ)) → (D → ℕ) → HeldBack D → Lines
 lines_of contents failure_count k = record {
@@ -49,6 +55,21 @@ pub record HandsOnLines (old : Lines) (status : Status) (new : Lines) (result : 
   pub ends :
       ((result ≡ status) × (new.held ≡ []) × (new.count ≡ old.count))
       ⊎ ((result ≡ Fault) × (new.count ≡ old.count + 1))
+
+-- No byte is held back, and no call has failed since.
+pub record HoldsNothing
+    {O : Type 0} (held_back : O → List ℕ) (failure_count : O → ℕ) (old new : O) : Type 0 where
+  pub none : held_back new ≡ []
+  pub count : failure_count new ≡ failure_count old
+
+-- The last that was done to the lines: they were handed on, beside a file that is so.
+pub record HandsOnBeside
+    {O F : Type 0} (IsHandedOn : O → HeldBack F → Status → O → Status → Type 0)
+    (file : HeldBack F) (new : O) (result : Status)
+    : Type 0 where
+  pub printed : O
+  pub status : Status
+  pub call : IsHandedOn printed file status new result
 
 -- A request was answered, of these devices, and then the lines were handed on. The file is closed
 -- between the two, so what it tells in the end is not what it told of the answer.

@@ -6,12 +6,14 @@ ghost use Rattle.std.specs.Prelude.{◌≡◌, true, []};
 ghost use Rattle.sub_io.specs.Buffered.{HandsOn, failures_and_refused};
 ghost use Rattle.sub_io.specs.Device.{CanFail};
 ghost use Rattle.sub_answer.specs.DeviceCall.{source_call};
-ghost use Rattle.subttx.specs.Ending.{EndsFrom, EndsFromBoth, EndsWith, EndsWithFile, HandsOnLines};
-ghost use Rattle.subttx.specs.Ending.{Says, buffered_call, lines_of};
+ghost use Rattle.subttx.specs.Ending.{EndsFrom, EndsFromBoth, EndsWith, EndsWithFile};
+ghost use Rattle.subttx.specs.Ending.{HandsOnBeside, HoldsNothing, Says, buffered_call, lines_in};
+ghost use Rattle.subttx.specs.Ending.{lines_of};
 
+use crate::handing_on::{HandOn, hand_on_all};
 use std::alloc::Global;
 use sub_answer::{Status, answer, say};
-use sub_io::{BufferedSink, Close, Flush, MemSink, MemSource, Sink, Source};
+use sub_io::{BufferedSink, Close, MemSink, MemSource, Sink, Source};
 use sub_request::{Request, UsageFault};
 
 /// Answers a request that reads one source.
@@ -54,25 +56,26 @@ pub fn answer_pair<S: Source, T: Source, K: Sink>(
 }
 
 /// Answers a request that reads one source and writes a file.
-pub fn answer_with_file<S: Source, F: Close, K: Sink>(
+pub fn answer_with_file<S: Source, F: Close, O: HandOn<F>>(
     alloc: Global,
     request: &Request<'_>,
     first: &mut S,
     file: &mut BufferedSink<'_, F>,
-    out: &mut BufferedSink<'_, K>,
+    out: &mut O,
 ) -> Status
     requires first { CanFail (S.failure_count first.old) }
     requires file { (failures_and_refused (F.failure_count file.old.device) file.old.refused ≡ 0)
         × (file.old.held ≡ []) }
-    requires out { failures_and_refused (K.failure_count out.old.device) out.old.refused ≡ 0 }
+    requires out { O.failure_count out.old ≡ 0 }
     ensures closed { F.is_closed file.new.device ≡ true }
+    ensures after { HandsOnBeside O.is_handed_on file.new out.new result }
     ensures ends { EndsWithFile request.now
         (source_call S.remaining S.failure_count first.old first.new)
         (buffered_call F.contents F.failure_count file.old file.new)
-        (lines_of K.contents K.failure_count out.old)
-        (lines_of K.contents K.failure_count out.new) result }
+        (lines_in O.contents O.held_back O.failure_count out.old)
+        (lines_in O.contents O.held_back O.failure_count out.new) result }
     ensures done { result ≡ Status.Done → HandsOn F.failure_count file.old file.new
-        × HandsOn K.failure_count out.old out.new }
+        × HoldsNothing O.held_back O.failure_count out.old out.new }
 {
     answer_and_hand_on(alloc, request, first, &mut MemSource::new(&[]), file, out)
 }
@@ -80,34 +83,35 @@ pub fn answer_with_file<S: Source, F: Close, K: Sink>(
 // Answers a request over these devices, closes the file, and then hands on the lines.
 //
 // Where the status is 0, neither the file nor the lines are held back, and no call of either sink
-// has failed: the devices below them have taken all bytes, by calls that did not fail. The file is
-// closed before: with standard output closed, its number may be the file's.
-fn answer_and_hand_on<S: Source, T: Source, F: Close, K: Sink>(
+// has failed: the devices below them have taken all bytes, by calls that did not fail.
+fn answer_and_hand_on<S: Source, T: Source, F: Close, O: HandOn<F>>(
     alloc: Global,
     request: &Request<'_>,
     first: &mut S,
     second: &mut T,
     file: &mut BufferedSink<'_, F>,
-    out: &mut BufferedSink<'_, K>,
+    out: &mut O,
 ) -> Status
     requires first { CanFail (S.failure_count first.old) }
     requires second { CanFail (T.failure_count second.old) }
     requires file { (failures_and_refused (F.failure_count file.old.device) file.old.refused ≡ 0)
         × (file.old.held ≡ []) }
-    requires out { failures_and_refused (K.failure_count out.old.device) out.old.refused ≡ 0 }
+    requires out { O.failure_count out.old ≡ 0 }
     ensures ends { EndsWith request.now
         (source_call S.remaining S.failure_count first.old first.new)
         (source_call T.remaining T.failure_count second.old second.new)
         (buffered_call F.contents F.failure_count file.old file.new)
-        (lines_of K.contents K.failure_count out.old)
-        (lines_of K.contents K.failure_count out.new) result }
+        (lines_in O.contents O.held_back O.failure_count out.old)
+        (lines_in O.contents O.held_back O.failure_count out.new) result }
     ensures done { result ≡ Status.Done → HandsOn F.failure_count file.old file.new
-        × HandsOn K.failure_count out.old out.new }
+        × HoldsNothing O.held_back O.failure_count out.old out.new }
     ensures closed { F.is_closed file.new.device ≡ true }
+    // The lines were handed on beside the file as it is in the end, and so after it was closed.
+    ensures after { HandsOnBeside O.is_handed_on file.new out.new result }
 {
     let status = answer(alloc, request, first, second, file, out);
     file.close();
-    hand_on(status, out)
+    out.hand_on(status, file)
 }
 
 /// Prints the line of a fault, where no request is answered, and hands it on.
@@ -117,18 +121,5 @@ pub fn say_and_hand_on<K: Sink>(fault: &UsageFault, out: &mut BufferedSink<'_, K
         (lines_of K.contents K.failure_count out.new) result }
     ensures status { result ≡ Status.Fault }
 {
-    hand_on(say(fault, out), out)
-}
-
-// Hands on what is held back of the lines, for a run that ends with this status.
-fn hand_on<K: Sink>(status: Status, out: &mut BufferedSink<'_, K>) -> Status
-    requires { CanFail (failures_and_refused
-        (K.failure_count out.old.device) out.old.refused) }
-    ensures { HandsOnLines (lines_of K.contents K.failure_count out.old) status
-        (lines_of K.contents K.failure_count out.new) result }
-{
-    match out.flush() {
-        Ok(()) => status,
-        Err(_) => Status::Fault,
-    }
+    hand_on_all(say(fault, out), out)
 }

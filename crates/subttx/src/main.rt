@@ -9,6 +9,7 @@ mod answering;
 mod apart;
 mod ending;
 mod files;
+mod handing_on;
 mod opening;
 mod words;
 
