@@ -84,7 +84,7 @@ def lines_in(log):
             crate, told = line.removeprefix("== "), None
         elif line.startswith("logic=proved "):
             told = line
-        elif told and line == f"{crate} proved":
+        elif told and line == f"rt: {crate} proved":
             found[crate] = told
     return found
 

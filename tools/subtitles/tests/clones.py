@@ -175,12 +175,12 @@ def a_log(clone, kept=()):
     lines = []
     for name in clone.crates:
         if name in kept:
-            lines.append(f"{name} is kept: an earlier run proved the same files")
+            lines.append(f"rt: {name} is kept: an earlier run proved the same files")
         else:
-            lines += [f"== {name}", "crate: modules", f"{LINE} of={name}", f"{name} proved",
-                      f"== {name}: its tests", "logic=proved tests=1",
-                      f"{name}: its tests are proved"]
-    return "\n".join([*lines, "== other", LINE, "other NOT PROVED", "1 passed, 1 failed", ""])
+            lines += [f"== {name}", f"fn {name}::a: proved", f"{LINE} of={name}",
+                      f"rt: {name} proved", f"== {name}: its tests", "logic=proved tests=1",
+                      f"rt: {name}: its tests are proved"]
+    return "\n".join([*lines, "== other", LINE, "rt: other NOT PROVED", "1 passed, 1 failed", ""])
 
 
 def release_takes_what_was_proved(case):
