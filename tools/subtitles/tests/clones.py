@@ -7,6 +7,7 @@ import subprocess
 from ..built import TOP, read
 from ..proved import Proved, digest_of, parsed, text_of
 from ..trial import ANOTHER_USER, Trial
+from .bench import SECONDS, Done
 
 PACKET = ["packet", "00"]
 SOURCE = os.path.join("crates", "ttx_packet", "src", "parity.rt")
@@ -70,14 +71,19 @@ class Clone:
         os.chmod(self.path("bin", "rt"), 0o755)
         return os.pathsep.join([self.path("bin"), path_without_rt()])
 
-    def run(self, *words, script=None, **more):
+    def call(self, command, path, user=None):
+        """Runs a command with this PATH, as another user where one is given."""
+        done = subprocess.run(command, cwd=self.case.folder, env={**os.environ, "PATH": path},
+                              user=user, stdin=subprocess.DEVNULL, stdout=subprocess.PIPE,
+                              stderr=subprocess.PIPE, timeout=SECONDS, check=False)
+        return Done(done.returncode, done.stdout, done.stderr.decode().splitlines())
+
+    def run(self, *words, script=None, user=None):
         """What ./subttx does where no rt is on the PATH."""
-        return self.case.call([script or self.path("subttx"), *words],
-                              env={**os.environ, "PATH": path_without_rt()}, **more)
+        return self.call([script or self.path("subttx"), *words], path_without_rt(), user)
 
     def release(self, *words):
-        return self.case.call([self.path("tools", "release"), *words],
-                              env={**os.environ, "PATH": self.give_toolchain()})
+        return self.call([self.path("tools", "release"), *words], self.give_toolchain())
 
     def runs(self, name, done=None):
         """The program is run, and nothing else is told."""
@@ -134,14 +140,12 @@ def finds_changes(case):
 
 def runs_where_nothing_may_be_written(case):
     """The clone belongs to another user, or may only be read."""
-    clone, who = Clone(case), {}
-    if os.geteuid() == 0:
-        who = {"user": ANOTHER_USER}
-        if not Trial.can(["test", "-x", clone.path("subttx")], **who):
-            case.bench.over.append("a read-only clone, since no other user can read it")
-            return
+    clone, user = Clone(case), None if os.geteuid() else ANOTHER_USER
+    if user and not Trial.can(["test", "-x", clone.path("subttx")], user=user):
+        case.bench.over.append("a read-only clone, since no other user can read it")
+        return
     subprocess.run(["chmod", "-R", "a-w", clone.top], check=True)
-    clone.runs("read only", clone.run(*PACKET, **who))
+    clone.runs("read only", clone.run(*PACKET, user=user))
     subprocess.run(["chmod", "-R", "u+w", clone.top], check=True)
     case.test("nothing was written", not os.path.exists(clone.path("out")))
 
