@@ -119,6 +119,12 @@ class Listing:
 
     def take(self, piece: Piece) -> None:
         """Hears a piece of the file; what it announces is heard from its beginning."""
+        self.find(piece)
+        for stream in self.streams.values():
+            stream.take(piece)
+
+    def find(self, piece: Piece) -> None:
+        """Finds PIDs with Teletext in a piece of the file, which may announce them."""
         done: set[int] = set()
         while waiting := self.tables.keys() - done:
             for pid in waiting:
@@ -126,8 +132,6 @@ class Listing:
                     self.read(pid, section)
             done |= waiting
         self.find_unannounced(piece)
-        for stream in self.streams.values():
-            stream.take(piece)
 
     def read(self, pid: int, section: bytes) -> None:
         """Takes what a section announces: PIDs of programmes, or Teletext with its pages."""

@@ -10,7 +10,7 @@ from ..joining import Place
 from ..listing import Listing
 from ..pes import data_field, pes_packets, teletext_packets
 from ..teletext import CODE_WORDS, Page, headers_in, mirrored
-from ..transport import Reader
+from ..transport import Piece, Reader
 from .source import Source
 
 MOST_BEFORE = 1 << 24  # bytes of something else before the first TS packet
@@ -103,14 +103,24 @@ class Carriers:
         reader = Reader(opening)
         for piece in reader:
             opening.is_found = True
-            self.listing.take(piece)
-            for pid in self.listing.streams.keys() - self.by_pid.keys():
-                if self.pid is None:
-                    self.open(pid)
-            for carrier in self.by_pid.values():
-                for data in carrier.extractor.joiner.ended(piece):
-                    yield carrier, carrier.keep(data)
+            self.listing.find(piece)
+            for pid in self.listing.streams.keys() | self.by_pid.keys():
+                yield from self.packets_of(pid, piece)
         self.skipped = reader.skipped
+
+    def packets_of(self, pid: int, piece: Piece) -> Iterator[tuple[Carrier, bytes]]:
+        """Those of a PID; the list of what there is hears them too."""
+        if self.pid is None and pid not in self.by_pid:
+            self.open(pid)
+        listed, carrier = self.listing.streams.get(pid), self.by_pid.get(pid)
+        if carrier is None:
+            if listed:
+                listed.take(piece)
+            return
+        for data in carrier.extractor.joiner.ended(piece):
+            if listed:
+                listed.hear(data)
+            yield carrier, carrier.keep(data)
 
     def close(self) -> None:
         """Ends the files."""
