@@ -10,24 +10,26 @@ from .carriers import Kept
 from .live import Live
 
 ORIGIN = re.compile(r"--origin (\d+)\n")
-AGREE = re.compile(r"(\d+) of (\d+) edges agree")
+AGREE = re.compile(r"(\d+) of (\d+) edges? agree")
 ENOUGH = 5  # edges that agree on an origin before anything is judged by it
 WAIT = 5.0  # seconds between two looks for the origin, at least
 AGAIN = 8  # times as long as a look takes, at least
 
 
 class Finder:
-    """Looks for the origin of what has come so far, now and then."""
+    """Looks for the origin of what has come so far, by tools/origin."""
 
     def __init__(self, command: list[str]) -> None:
         self.command = command
         self.next = time.monotonic() + WAIT
 
+    def is_due(self) -> bool:
+        """Whether it is time for another look."""
+        return time.monotonic() >= self.next
+
     def look(self, kept: Kept) -> int | None:
         """The origin, where all edges agree that were due in what has come, and these are enough."""
         began = time.monotonic()
-        if began < self.next:
-            return None
         kept.flush()
         done = subprocess.run([*self.command, kept.path], stdin=subprocess.DEVNULL,
                               stdout=subprocess.PIPE, stderr=subprocess.PIPE, encoding="utf-8",
@@ -40,29 +42,60 @@ class Finder:
         return int(found[1]) if found and is_clear else None
 
 
-def follow(packets: Iterator[tuple[Kept, bytes]], origin: Callable[[Kept], int | None],
-           start: Callable[[Kept, int], Live], show: Callable[[], None]) -> tuple[Kept | None, Live | None]:
-    """Follows a feed to its end, or to that of the subtitles; what carries it, and the call that
-    judges it, where that could begin. Ends early, where a second PID carries the page too."""
-    carrier, live = None, None
-    for kept, data in packets:
-        if kept is not carrier:
-            if not kept.has_page:
-                continue
-            if carrier is not None:
-                if live:
-                    live.stop()
-                return None, None
-            carrier = kept
-        if live:
-            live.put(data)
-        else:
-            found = origin(kept)
-            if found is not None:
-                kept.flush()
-                live = start(kept, found)
-                live.put_all(kept.path)
-        show()
-        if live and live.window.is_over:
-            break
-    return carrier, live
+class Feed:
+    """Follows a feed to its end, or to that of the subtitles.
+
+    `live` judges it, as soon as the origin is known: the one that was given, or one that was found.
+    Where a break of the programme shows that it is not that of all, nothing is judged before the
+    end. Ends early, and without a judgement, where a second PID carries the page too.
+    """
+
+    def __init__(self, origin: int | None, finder: Finder,
+                 start: Callable[[Kept, int], Live]) -> None:
+        self.origin, self.finder, self.start = origin, finder, start
+        self.carrier: Kept | None = None
+        self.live: Live | None = None
+        self.has_break = False
+
+    def follow(self, packets: Iterator[tuple[Kept, bytes]], show: Callable[[], None]) -> None:
+        """Takes the PES packets as they come; `show` says how far it is where none is judged."""
+        for kept, data in packets:
+            if kept is not self.carrier and kept.has_page:
+                if self.carrier:
+                    self.drop()
+                    return
+                self.carrier = kept
+            if kept is self.carrier:
+                self.take(kept, data)
+            if not self.live:
+                show()
+            elif self.live.window.is_over and self.is_all(kept):
+                return
+
+    def take(self, kept: Kept, data: bytes) -> None:
+        """Takes a PES packet of what carries the page."""
+        if self.live:
+            self.live.put(data)
+            return
+        origin = self.origin
+        if origin is None and not self.has_break and self.finder.is_due():
+            origin = self.finder.look(kept)
+        if origin is not None:
+            kept.flush()
+            self.live = self.start(kept, origin)
+            self.live.put_all(kept.path)
+
+    def is_all(self, kept: Kept) -> bool:
+        """Whether the origin is that of all that has come; else nothing more is judged by it."""
+        if self.origin is not None or not self.live or \
+                self.finder.look(kept) == self.live.window.origin:
+            return True
+        self.has_break = True
+        self.drop()
+        return False
+
+    def drop(self) -> None:
+        """Judges nothing more."""
+        if self.live:
+            self.live.stop()
+        self.live = None

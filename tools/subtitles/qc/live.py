@@ -74,11 +74,11 @@ class Live:
         if self.speech.progress.is_due():
             self.show()
 
-    def show(self) -> None:
-        """The time of the last PES packet, and the faults so far."""
+    def show(self, still: float = 0.0) -> None:
+        """The time of the last PES packet, the faults so far, and how long nothing has come."""
         if self.window.frame is not None:
-            self.speech.show(f"{time_of(self.window.frame)}  "
-                                      f"{counted(self.answer.count, 'fault')}")
+            line = f"{time_of(self.window.frame)}  {counted(self.answer.count, 'fault')}"
+            self.speech.show(line + (f"  nothing for {still:.0f} s" if still else ""))
 
     def end(self) -> Answer:
         """The answer, once all has been handed on."""

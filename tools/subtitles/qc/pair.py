@@ -12,7 +12,7 @@ from ..times import CLOCK, FRAMES_OF_A_DAY, TICKS, frame_of, time_of
 from ..words import counted
 from .carriers import Carrier, Kept
 from .checking import Answer, check
-from .feed import ORIGIN, Finder
+from .feed import ORIGIN, Feed, Finder
 from .kinds import is_recording
 from .live import Live, Window
 from .names import Names, again
@@ -37,7 +37,6 @@ class Pair:
         self.typed, self.names, self.speech = typed, names, speech
         self.is_summed = is_summed
         self.begin = self.end = 0  # frames
-        self.finder: Finder | None = None
 
     def judge(self) -> None:
         """Judges the pair; `Unclear` where a step is not clear."""
@@ -55,7 +54,9 @@ class Pair:
             return
         self.read_times()
         recording = Recording(asked, self.typed, self.names, self.speech)
-        recording.read(self.is_summed, self.origin_so_far, self.start)
+        finder = Finder([self.typed.path("origin"), *asked.page_words(), *asked.option_words(),
+                         "--", asked.stl])
+        recording.read(self.is_summed, Feed(asked.origin, finder, self.start))
         verdict.recording = recording.file
         if recording.live:
             origin, answer = recording.live.window.origin, recording.live.end()
@@ -180,16 +181,6 @@ class Pair:
             raise Unclear("no report was made, see above")
 
     # A feed.
-
-    def origin_so_far(self, kept: Kept) -> int | None:
-        """The origin, as soon as it is known; of a feed that is found in what has come."""
-        asked = self.asked
-        if asked.origin is not None:
-            return asked.origin
-        if self.finder is None:
-            self.finder = Finder([self.typed.path("origin"), *asked.page_words(),
-                                  *asked.option_words(), "--", asked.stl])
-        return self.finder.look(kept)
 
     def start(self, kept: Kept, origin: int) -> Live:
         """Begins to judge a feed."""

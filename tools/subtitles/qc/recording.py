@@ -2,14 +2,14 @@
 from __future__ import annotations
 
 import os
-from typing import Callable, Iterator
+from typing import Iterator
 
 from ..files import Damaged
 from ..pes import pes_packets
 from ..words import counted, pid_name
 from .asked import Asked
 from .carriers import Carrier, Carriers, Kept
-from .feed import follow
+from .feed import Feed
 from .kinds import is_pes_packets
 from .live import Live
 from .names import Names, again
@@ -38,18 +38,18 @@ class Recording:
         self.live: Live | None = None
         self.file: File | None = None
 
-    def read(self, is_summed: bool, origin: Callable[[Kept], int | None],
-             start: Callable[[Kept, int], Live]) -> None:
+    def read(self, is_summed: bool, feed: Feed) -> None:
         """Reads it: a file to its end, a feed up to the last subtitle at least."""
         source = Source(self.name, is_summed)
+        source.wait = lambda seconds: self.show(source, feed, seconds)
         try:
             if not is_pes_packets(source):
-                self.take_out(source, origin, start)
+                self.take_out(source, feed)
             elif source.is_feed:
-                self.keep(source, origin, start)
+                self.keep(source, feed)
             else:
                 self.take(source)
-            self.file = source.summed()
+            self.live, self.file = feed.live, source.summed()
         except Damaged as reason:
             raise Unclear(f"{self.name}: {reason}") from None
         finally:
@@ -72,8 +72,7 @@ class Recording:
         words = [] if self.name == STANDARD_INPUT else [self.name]
         self.speech.command("cat", *words, ">", self.names.whole)
 
-    def keep(self, source: Source, origin: Callable[[Kept], int | None],
-             start: Callable[[Kept, int], Live]) -> None:
+    def keep(self, source: Source, feed: Feed) -> None:
         """Keeps PES packets that come through a pipe."""
         kept = Kept(self.path, self.asked.page, True)
 
@@ -84,23 +83,22 @@ class Recording:
             except Damaged as reason:
                 self.speech.say(f"{self.name}: {reason}; it was read up to there")
 
-        _, self.live = follow(packets(), origin, start, lambda: self.show(source))
+        feed.follow(packets(), lambda: self.show(source, feed))
         kept.close()
-        if not self.live:
+        if not feed.live:
             self.say_kept()
 
-    def take_out(self, source: Source, origin: Callable[[Kept], int | None],
-                 start: Callable[[Kept, int], Live]) -> None:
+    def take_out(self, source: Source, feed: Feed) -> None:
         """Takes the PES packets of the PID that carries the page out of a transport stream."""
         carriers = Carriers(source, self.asked.page, self.asked.pid, self.names.folder)
         if source.is_feed:
-            _, self.live = follow(carriers.packets(), origin, start, lambda: self.show(source))
+            feed.follow(carriers.packets(), lambda: self.show(source, feed))
         else:
             for _ in carriers.packets():
-                self.show(source)
+                self.show(source, feed)
         carriers.close()
         self.carrier = carrier = self.chosen(carriers)
-        if not self.live:
+        if not feed.live:
             self.speech.command(self.typed.tool("ts2pes"), self.name, f"0x{carrier.pid:X}", ">",
                                 self.names.whole)
             for line in carrier.extractor.last_lines():
@@ -110,12 +108,15 @@ class Recording:
             if other is not carrier:
                 os.unlink(other.path)
 
-    def show(self, source: Source) -> None:
-        """How much of the recording is read."""
-        if not self.live and self.speech.progress.is_due():
-            read = f"{self.name}: {source.count / 1e6:,.0f} MB"
-            self.speech.show(read if source.size is None else
-                                      f"{read} of {source.size / 1e6:,.0f}")
+    def show(self, source: Source, feed: Feed, still: float = 0.0) -> None:
+        """How much of the recording is read, and how long nothing has come."""
+        if feed.live:
+            feed.live.show(still)
+        elif self.speech.progress.is_due():
+            name = "standard input" if self.name == STANDARD_INPUT else self.name
+            read = f"{name}: {source.count / 1e6:,.1f} MB"
+            read += "" if source.size is None else f" of {source.size / 1e6:,.1f}"
+            self.speech.show(read + (f"  nothing for {still:.0f} s" if still else ""))
 
     def chosen(self, carriers: Carriers) -> Carrier:
         """The only PID that carries the page, or the one that was asked for."""

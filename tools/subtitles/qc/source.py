@@ -2,18 +2,22 @@
 from __future__ import annotations
 
 import os
+import select
 import stat
-from typing import BinaryIO
+import time
+from typing import BinaryIO, Callable
 
 from .sums import File, Summing
 
 STANDARD_INPUT = "-"
+PATIENCE = 1.0  # seconds after which a feed that stands still is told
 
 
 class Source:
     """A recording: `count` bytes of it are read, of `size` where that is known.
 
-    `read` gives what is there: of a feed what has come, without waiting for more.
+    `read` gives what is there: of a feed what has come, without waiting for more. `wait` hears how
+    many seconds a feed has stood still.
     """
 
     def __init__(self, name: str, is_summed: bool) -> None:
@@ -24,6 +28,7 @@ class Source:
         self.is_feed = not stat.S_ISREG(about.st_mode)
         self.size = None if self.is_feed else about.st_size
         self.count, self.ahead = 0, b""
+        self.wait: Callable[[float], None] | None = None
         self.summing = Summing() if is_summed else None
 
     def look(self, count: int) -> bytes:
@@ -37,11 +42,20 @@ class Source:
 
     def read(self, most: int = -1) -> bytes:
         """Some bytes, `most` where there are as many; none at the end."""
+        if self.is_feed and not self.ahead:
+            self.wait_for_more()
         data, self.ahead = self.ahead or self.file.read(most) or b"", b""
         self.count += len(data)
         if self.summing:
             self.summing.take(data)
         return data
+
+    def wait_for_more(self) -> None:
+        """Waits until something has come, or the feed has ended."""
+        began = time.monotonic()
+        while not select.select([self.file], [], [], PATIENCE)[0]:
+            if self.wait:
+                self.wait(time.monotonic() - began)
 
     def summed(self) -> File | None:
         """What was read, where that is asked; to be called once."""
