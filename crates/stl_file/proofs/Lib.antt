@@ -7,6 +7,8 @@ pub mod RestLemmas
 pub mod GsiLemmas
 pub mod OpeningLemmas
 pub mod FileLemmas
+pub mod FindingsLemmas
+pub mod ReadBlocksLemmas
 pub mod ReaderLemmas
 pub mod BlocksOfLemmas
 pub mod NormalCountsLemmas

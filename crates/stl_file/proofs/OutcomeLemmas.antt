@@ -1,16 +1,13 @@
--- `outcome_at` by cases, the blocks that it names, and the bytes that decide it; main lemmas:
--- outcome_step, names_from, outcome_at-first.
-use Rattle.std.proofs.Common.{◌≡◌, ◌*◌, ℕ, List, [], ◌∷◌, ◌++◌, length, refl, arith, length-append}
-use Rattle.std.proofs.Common.{take, drop, Option, Some, None, Result, zero, suc, ◌+◌, ◌-◌, ◌<◌, ◌≤◌}
+-- `outcome_at` by cases, and the bytes that decide it; main lemmas: outcome_step, outcome_at-first.
+use Rattle.std.proofs.Common.{◌≡◌, ◌*◌, ℕ, List, [], ◌++◌, length, refl, arith, length-append}
+use Rattle.std.proofs.Common.{take, drop, Option, Some, None, zero, suc, ◌+◌, ◌-◌, ◌<◌, ◌≤◌}
 use Rattle.std.proofs.Common.{inl, inr, length-take}
 use Rattle.std.proofs.lemmas.List.{take_all, take-take, drop-take, take_at, drop_at}
 use Rattle.std.proofs.lemmas.Bool.{cases_lt}
 use Rattle.std.proofs.lemmas.Bool.Decides.{nat_tests}
-use Rattle.stl_file.specs.declared.fault.StlFault.{StlFault}
 use Rattle.stl_file.specs.declared.fault.StlFault.TheVariants as fault
 use Rattle.stl_file.specs.Tti.{most_blocks}
-use Rattle.stl_file.specs.Reader.{NamesFrom}
-use Rattle.stl_file.specs.Reading.{Begun, BlockStep, Outcome, gives, outcome_after, outcome_at}
+use Rattle.stl_file.specs.Reading.{Begun, Outcome, outcome_after, outcome_at}
 use Rattle.stl_file.specs.Reading.{step_at, ends, fails}
 
 -- ---- the function by cases
@@ -59,34 +56,6 @@ pub outcome_block : (room next : ℕ) (begun : Option Begun) (b rest : List ℕ)
 outcome_block room next begun b rest e size =
     rw (e, outcome_step next begun (b ++ rest) (omega (arith, length-append b rest)))
     (rw (take_at b rest 128 size, drop_at b rest 128 size) refl)
-
--- ---- the blocks that are named
-
--- What names no block before the next one names none before this one.
-names-before : (block : ℕ) (o : Outcome) → NamesFrom (block + 1) o → NamesFrom block o
-names-before block ends h = tt
-names-before block (fails f at) h = grind arith
-names-before block (gives s at o) h = (grind arith, names-before block o h.1)
-
--- What comes of a block, where all after it names no block before the next one.
-names-after : (room block : ℕ) (next : Option Begun → Outcome) (r : Result BlockStep StlFault)
-    → block ≤ most_blocks - room
-    → ((begun : Option Begun) → NamesFrom (block + 1) (next begun))
-    → NamesFrom block (outcome_after room next r)
-names-after room block next r le n = grind (arith, names-before)
-
--- What bytes give after `block` blocks names none of these.
-pub names_from : (room block : ℕ) (begun : Option Begun) (b : List ℕ)
-    → block + room ≡ most_blocks
-    → NamesFrom (block + 1) (outcome_at room begun b)
-names_from room block begun [] e = rw outcome_end (grind arith)
-names_from zero block begun (x ∷ b) e = rw (outcome_full begun (x ∷ b) (omega arith)) (omega arith)
-names_from (suc room) block begun (x ∷ b) e = elim (cases_lt (length (x ∷ b)) 128) [
-  | inl cut ↦ rw (outcome_short room begun (x ∷ b) (omega arith) cut) (omega arith)
-  | inr whole ↦ rw (outcome_step room begun (x ∷ b) whole)
-      (names-after room (block + 1) _ _ (omega arith)
-      (λ next. names_from room (block + 1) next _ (omega arith)))
-]
 
 -- ---- the bytes that decide
 

@@ -1,158 +1,72 @@
--- What a call of a reader takes and answers; main lemmas: reads_on, leads_given, answers,
--- takes_subtitle, refuses.
-use Rattle.std.proofs.Common.{rules, ◌≡◌, ◌*◌, ℕ, true, List, [], ◌∷◌, ◌++◌, length, refl, sym, ap}
-use Rattle.std.proofs.Common.{◌∙◌, append_assoc, arith, length-append, take, drop, Option, Some}
-use Rattle.std.proofs.Common.{None, Result, Ok, Err, suc, ◌+◌, ◌-◌, ◌<◌, ◌≤◌, ◌/◌, length-take}
+-- What a call of a reader takes and answers; main lemmas: plain_leads, answers, takes_subtitle,
+-- refuses.
+use Rattle.std.proofs.Common.{◌≡◌, ℕ, Bool, false, true, List, [], ◌∷◌, ◌++◌, refl, sym, ap}
+use Rattle.std.proofs.Common.{◌∙◌, append_assoc, arith, Option, Some, None, Result, Ok, Err, ◌-◌}
+use Rattle.std.proofs.Common.{length}
 use Rattle.std.proofs.lemmas.Bool.Decides.{nat_tests}
 use Rattle.std.specs.Prelude.{filter}
 use Rattle.std.specs.List.{AllByRecursion}
-use Rattle.std.specs.Io.KnownBytes.{Consumes}
-use Rattle.std.proofs.lemmas.List.{append-nil, take_all, nil_from_length, drop_at}
-use Rattle.std.proofs.KnownBytes.{Consumes-trans}
-use Rattle.sub_io.specs.Device.{Fills}
+use Rattle.std.proofs.lemmas.List.{append-nil}
 use Rattle.stl_file.specs.declared.fault.StlFault.{StlFault}
-use Rattle.stl_file.specs.declared.fault.StlFault.TheVariants as fault
 use Rattle.stl_file.specs.declared.progress.Progress.TheVariants.{Reading}
 use Rattle.stl_file.specs.Tti.{is_kept, most_blocks}
 use Rattle.stl_file.specs.SubtitleBlocks.{IsBlock, joined, AreBlocksOf, AreBlocksOfEach}
-use Rattle.stl_file.specs.Reader.{outcome_by, outcome_from, Leads, LastIsKept, TakesSubtitle}
-use Rattle.stl_file.specs.Reader.{TakesPassed, block_after, Refuses, FailsReading, EndsKept}
+use Rattle.stl_file.specs.Reader.{Leads, LastIsKept, TakesSubtitle, given_subtitle, outcome_by}
+use Rattle.stl_file.specs.Reader.{TakesPassed, Refuses, FailsReading, EndsKept}
 use Rattle.stl_file.specs.Reader.{ReaderValue, Answers, progress_after, tells_end}
 use Rattle.stl_file.specs.Subtitle.{SubtitleValue}
-use Rattle.stl_file.specs.Reading.{Begun, More, Give, outcome_after, outcome_at, step_at}
-use Rattle.stl_file.specs.Fault.{is_cut, is_of_block}
+use Rattle.stl_file.specs.Reading.{Begun}
+use Rattle.stl_file.specs.Resuming.{FailsFinding, LeadsOn, findings_by, finds_end, found_of, stopped}
 use Rattle.stl_file.proofs.SubtitleBlocksLemmas.{length-joined}
-use Rattle.stl_file.proofs.StepLemmas.{step_gives}
-use Rattle.stl_file.proofs.OutcomeLemmas.{outcome_full, outcome_end, outcome_short, outcome_block}
-use Rattle.stl_file.proofs.OutcomeLemmas.{names_from}
+use Rattle.stl_file.proofs.FindingsLemmas.{names-stopped, stopped_is}
+use Rattle.stl_file.proofs.OutcomeLemmas.{outcome_end}
 use Rattle.stl_file.proofs.RestLemmas.{outcome_complete, outcome_sound, groups_of}
 
--- ---- what was read so far
+-- ---- a reader that goes on after no fault
 
--- The bytes that were taken in this call, after `from` blocks: they are whole blocks, up to
--- `block`, and what they and any more bytes give is known.
-pub record HasRead (from : ℕ) (old now : Option (List ℕ)) (block : ℕ) (begun : Option Begun)
-    : Type 0 where
-  pub bytes : List ℕ
-  pub consumed : Consumes old now bytes
-  pub size : 128 * from + length bytes ≡ 128 * block
-  pub goes : (more : List ℕ)
-      → outcome_from from (bytes ++ more) ≡ outcome_at (most_blocks - block) begun more
+-- What an answer says of all that was left.
+plain_by : (to : ℕ) (next : Option Begun) (more : List ℕ) (s : SubtitleValue)
+    (r : Result Bool StlFault)
+    → (r ≡ Ok true → next ≡ None)
+    → stopped (findings_by to next more s (found_of false r))
+    ≡ outcome_by to more (given_subtitle r s)
+plain_by to next more s r over = grind (arith, stopped_is (most_blocks - to) None more)
 
--- Fewer than 128 bytes were taken after them, and the source failed.
-pub fails_reading : (from block : ℕ) (old mid new : Option (List ℕ)) (begun : Option Begun)
-    (bytes : List ℕ)
-    → HasRead from old mid block begun
-    → block ≤ most_blocks
-    → length bytes < 128
-    → Consumes mid new bytes
-    → FailsReading from (block + 1) old new
-fails_reading from block old mid new begun bytes h few lt c = record {
-  bytes = h.bytes ++ bytes;
-  consumed = Consumes-trans old mid new h.bytes bytes h.consumed c;
-  block = let s = h.size in omega (arith, length-append h.bytes bytes);
-  none = λ more.
-      rw (append_assoc h.bytes bytes more, h.goes (bytes ++ more))
-      (names_from (most_blocks - block) block begun (bytes ++ more) (omega arith));
+-- Whether it tells the end.
+plain_end : (s : SubtitleValue) (r : Result Bool StlFault)
+    → finds_end (found_of false r) ≡ tells_end (given_subtitle r s)
+plain_end s r = grind arith
+
+-- The answer of a reader that has refused nothing is that of one that stops.
+pub plain_leads : {from to : ℕ} {next : Option Begun} {old new : Option (List ℕ)}
+    {s : SubtitleValue} {r : Result Bool StlFault}
+    → (r ≡ Ok true → next ≡ None)
+    → LeadsOn from to None next old new s (found_of false r)
+    → Leads from to old new (given_subtitle r s)
+plain_leads {from} {to} {next} {s = s} {r = r} over l = record {
+  bytes = l.bytes;
+  consumed = l.consumed;
+  block = l.block;
+  outcome = λ more cut.
+      sym (stopped_is (most_blocks - from) None (l.bytes ++ more))
+      ∙ ap stopped (l.findings more (λ e. cut (sym (plain_end s r) ∙ e)))
+      ∙ plain_by to next more s r over;
+  ended = λ cut. l.ended (plain_end s r ∙ cut);
+  kept = λ t is. l.kept (grind arith);
 }
 
--- ---- one turn of the loop: the bytes that came after them
-
-module _ {from : ℕ} {old mid new : Option (List ℕ)} {n block : ℕ} {begun : Option Begun}
-    {buffer : List ℕ} (h : HasRead from old mid block begun) (f : Fills mid n new buffer)
-    (size : length buffer ≡ 128) where
-  -- The bytes that came.
-  length_front : length (take n buffer) ≡ n
-  length_front = omega (arith, length-take n buffer)
-
-  -- The answer, by what the bytes of this turn give with those that are left.
-  leads : (to : ℕ) (r : Result (Option SubtitleValue) StlFault)
-      → to ≡ block + (n + 127) / 128
-      → (tells_end r ≡ true → n < 128)
-      → ((more : List ℕ)
-      → (tells_end r ≡ true → more ≡ [])
-      → outcome_at (most_blocks - block) begun (take n buffer ++ more) ≡ outcome_by to more r)
-      → ((s : SubtitleValue) → r ≡ Ok (Some s) → LastIsKept (h.bytes ++ take n buffer))
-      → Leads from to old new r
-  leads to r at cut gives kept =
-      let both = Consumes-trans old mid new h.bytes (take n buffer) h.consumed f.bytes in
-      let l = length-append h.bytes (take n buffer) in
-      grind (arith, nat_tests, length_front, append_assoc)
-
-  -- Nothing came: the end of the file, or its end within a subtitle.
-  pub leads_end : (r : Result (Option SubtitleValue) StlFault)
-      → n ≡ 0
-      → block ≤ most_blocks
-      → tells_end r ≡ true
-      → ((s : SubtitleValue) → r ≡ Ok (Some s) → ⊥)
-      → outcome_at (most_blocks - block) begun [] ≡ outcome_by block [] r
-      → Leads from block old new r
-  leads_end r z le cut never gives = grind (arith, nat_tests, nil_from_length, length_front, leads)
-
-  -- A byte came, and no block may follow.
-  pub leads_too_many : (n ≡ 0 → ⊥)
-      → block ≡ most_blocks
-      → Leads from (block + 1) old new (Err fault.TooManyBlocks)
-  leads_too_many some full = search (rules, length_front, leads, outcome_full, length-append)
-
-  -- A block that is cut.
-  pub leads_truncated : (n ≡ 0 → ⊥)
-      → block < most_blocks
-      → n < 128
-      → Leads from (block + 1) old new (Err fault.Truncated)
-  leads_truncated some few lt =
-      let room : most_blocks - block ≡ suc (most_blocks - (block + 1)) = omega arith in
-      grind (arith, nat_tests, length_front, leads, append-nil, outcome_short)
-
-  module _ (few : block < most_blocks) (long : 128 ≤ n) where
-    -- What a whole block gives.
-    one_block : (more : List ℕ)
-        → outcome_at (most_blocks - block) begun (take n buffer ++ more)
-        ≡ outcome_after (most_blocks - (block + 1))
-        (λ next. outcome_at (most_blocks - (block + 1)) next more) (step_at begun buffer)
-    one_block more = rw (take_all n buffer (omega arith))
-        (outcome_block (most_blocks - block) (most_blocks - (block + 1)) begun buffer more
-        (omega arith) size)
-
-    -- Its number.
-    number : most_blocks - (most_blocks - (block + 1)) ≡ block + 1
-    number = omega arith
-
-    -- A block with a fault.
-    pub leads_refused : (x : StlFault)
-        → is_of_block x ≡ true
-        → step_at begun buffer ≡ Err x
-        → Leads from (block_after (block + 1) x) old new (Err x)
-    leads_refused x own step =
-        let same : block_after (block + 1) x ≡ block + 1 = grind arith in
-        let whole : is_cut x ≡ true → n < 128 = grind arith in
-        rw same (leads (block + 1) (Err x) (omega arith) whole
-        (λ more _. one_block more ∙ rw (step, number) refl) (λ s e. absurd cc))
-
-    -- The last block of a subtitle.
-    pub leads_given : (s : SubtitleValue)
-        → step_at begun buffer ≡ Ok (Give s)
-        → Leads from (block + 1) old new (Ok (Some s))
-    leads_given s step =
-        leads (block + 1) (Ok (Some s)) (omega arith) (λ e. absurd cc)
-        (λ more _. one_block more ∙ rw (step, number) refl)
-        (λ t _ front last e is.
-        let l = length-append front last in
-        let k = length-append h.bytes (take n buffer) in
-        let a = ap length e in
-        let m = length_front in
-        let same = sym (drop_at h.bytes (take n buffer) (length front) (omega arith))
-        ∙ ap (drop (length front)) e ∙ drop_at front last (length front) refl in
-        rw (← take_all n buffer (omega arith), same) at (step_gives begun buffer s step))
-
-    -- The blocks go on.
-    pub reads_on : (next : Option Begun)
-        → step_at begun buffer ≡ Ok (More next)
-        → HasRead from old new (block + 1) next
-    reads_on next step =
-        let both = Consumes-trans old mid new h.bytes (take n buffer) h.consumed f.bytes in
-        let l = length-append h.bytes (take n buffer) in
-        grind (arith, nat_tests, length_front, append_assoc, one_block)
+-- So is the place where the source failed.
+pub plain_fails : {from to : ℕ} {old new : Option (List ℕ)}
+    → FailsFinding from to None old new
+    → FailsReading from to old new
+plain_fails {from} {to} f = record {
+  bytes = f.bytes;
+  consumed = f.consumed;
+  block = f.block;
+  none = λ more.
+      rw (stopped_is (most_blocks - from) None (f.bytes ++ more))
+      at (names-stopped to _ (f.none more));
+}
 
 -- ---- what an answer says
 

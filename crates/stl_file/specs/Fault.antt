@@ -62,6 +62,15 @@ is_of_block fault.Sequence = true
 is_of_block fault.TooLong = true
 is_of_block _ = false
 
+-- What the first block of a subtitle says of it is at fault, and not where its blocks end.
+abbrev pub is_of_first : StlFault → Bool
+is_of_first fault.Cumulative = true
+is_of_first fault.Justify = true
+is_of_first fault.Row = true
+is_of_first fault.Time = true
+is_of_first fault.EmptyTime = true
+is_of_first _ = false
+
 -- The file ends too early: only its end is at fault, and more bytes might cure it.
 abbrev pub is_cut : StlFault → Bool
 is_cut fault.Truncated = true

@@ -11,3 +11,4 @@ pub mod SubtitleBlocks
 pub mod TimeCode
 pub mod Tti
 pub mod Refusal
+pub mod Resuming

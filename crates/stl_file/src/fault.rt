@@ -48,7 +48,7 @@ pub enum StlFault {
 }
 
 impl StlFault {
-    ghost use Rattle.stl_file.specs.Fault.{stl_code};
+    ghost use Rattle.stl_file.specs.Fault.{is_of_first, stl_code};
 
     /// The number and the name by which the fault is told (own).
     pub fn code(self) -> FaultCode
@@ -73,6 +73,20 @@ impl StlFault {
             StlFault::TooManyBlocks => FaultCode::new(25, "TooManyBlocks"),
             StlFault::Read => FaultCode::new(26, "Read"),
             StlFault::Ended => FaultCode::new(27, "Ended"),
+        }
+    }
+
+    // Whether it is what the first block of a subtitle says of it, and not where its blocks end.
+    pub(crate) fn is_of_first(&self) -> bool
+        ensures { result ≡ is_of_first self.now }
+    {
+        match self {
+            StlFault::Cumulative
+            | StlFault::Justify
+            | StlFault::Row
+            | StlFault::Time
+            | StlFault::EmptyTime => true,
+            _ => false,
         }
     }
 }

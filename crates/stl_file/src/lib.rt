@@ -20,6 +20,7 @@ mod laws;
 mod normal_form;
 mod progress;
 mod reader;
+mod resuming;
 mod subtitle;
 mod subtitle_blocks;
 mod time_code;
@@ -30,11 +31,12 @@ pub use fault::{NormalFault, StlFault};
 pub use gsi::{Gsi, five_digits_of};
 pub use laws::{
     law_of_files, law_of_normal_form, law_of_normal_form_again, law_of_one_reading,
-    law_of_refused_block, law_of_refused_gsi,
+    law_of_reading_on, law_of_refused_block, law_of_refused_gsi,
 };
 pub use normal_form::normal;
 pub use progress::Progress;
 pub use reader::StlReader;
+pub use resuming::{Found, ResumingReader};
 pub use subtitle::Subtitle;
 pub use time_code::TimeCode;
 pub use tti::Tti;

@@ -3,6 +3,7 @@
 ghost use Rattle.std.specs.Prelude.{◌≡◌, ◌≢◌, ◌↔◌, ◌+◌, ◌-◌, ◌<◌, ◌≤◌, if◌then◌else◌, drop, ℕ};
 ghost use Rattle.std.specs.Prelude.{List, length};
 ghost use Rattle.std.specs.Prelude.{false, true, None, Some, Ok, Err, IfErr, IfNone, IfOk, IfSome};
+ghost use Rattle.std.specs.Prelude.{is_some, option_map};
 ghost use Rattle.std.specs.Io.KnownBytes.{Consumes};
 ghost use Rattle.sub_io.specs.Device.{CanFail, CountsIf, failed};
 ghost use Rattle.sub_io.specs.Reading.{IfTold};
@@ -12,6 +13,8 @@ ghost use Rattle.stl_file.specs.Gsi.{IsGsi};
 ghost use Rattle.stl_file.specs.Reader.{Leads, block_after, block_by, opened_at, FailsReading};
 ghost use Rattle.stl_file.specs.Reader.{HasPlace, Answers, Refuses, RefusesOpening, TakesPassed};
 ghost use Rattle.stl_file.specs.Reader.{TakesSubtitle, given_subtitle, progress_after};
+ghost use Rattle.stl_file.specs.Reading.{begun_in};
+ghost use Rattle.stl_file.specs.Resuming.{FailsFinding, LeadsOn, found_of, refused_by};
 ghost use Rattle.stl_file.specs.Tti.{most_blocks};
 
 use crate::fault::StlFault;
@@ -262,7 +265,35 @@ fn read_subtitle<S: Source>(
     ensures few { block.new ≤ most_blocks }
     ensures count { CountsIf S.failure_count source.old (failed is_read result) source.new }
 {
-    let mut count = 0;
+    let mut refused = None;
+    read_blocks(block, source, subtitle, &mut refused)
+}
+
+// Reads blocks after `block` of a file, up to the last of a subtitle, the end or a fault. `refused`
+// is the first block of the subtitle that these go on with, where that was refused; after a fault
+// of a subtitle's first block it is that one, unless it is the last block too.
+pub(crate) fn read_blocks<S: Source>(
+    block: &mut u32,
+    source: &mut S,
+    subtitle: &mut Subtitle,
+    refused: &mut Option<Tti>,
+) -> Result<bool, StlFault>
+    requires few { block.old ≤ most_blocks }
+    requires count { CanFail (S.failure_count source.old) }
+    ensures leads { failed is_read result ≡ false →
+        LeadsOn block.old (block_by block.new (given_subtitle result subtitle.new))
+        (option_map refused_by refused.old) (option_map refused_by refused.new)
+        (S.remaining source.old) (S.remaining source.new) subtitle.new
+        (found_of (is_some (option_map refused_by refused.old)) result) }
+    ensures failed { failed is_read result ≡ true →
+        FailsFinding block.old (block.new + 1) (option_map refused_by refused.old)
+        (S.remaining source.old) (S.remaining source.new) }
+    ensures never { IfErr result (λ fault. fault ≢ Ended) }
+    ensures over { result ≡ Ok true → refused.new ≡ None }
+    ensures few { block.new ≤ most_blocks }
+    ensures count { CountsIf S.failure_count source.old (failed is_read result) source.new }
+{
+    let mut count = resume(subtitle, refused);
     loop {
         let mut bytes = [0; 128];
         let got = fill(source, &mut bytes)?;
@@ -280,15 +311,37 @@ fn read_subtitle<S: Source>(
         if got < 128 {
             return Err(StlFault::Truncated);
         }
-        let is_whole = take_block(subtitle, &mut count, &Tti::read(&bytes))?;
-        if is_whole {
-            return Ok(true);
+        let tti = Tti::read(&bytes);
+        match take_block(subtitle, &mut count, &tti) {
+            Ok(false) => {}
+            Ok(true) => {
+                *refused = None;
+                return Ok(true);
+            }
+            Err(fault) => {
+                *refused = if tti.ebn() == 0xff { None } else { Some(tti) };
+                return Err(fault);
+            }
+        }
+    }
+}
+
+// Makes the subtitle the one that goes on after a first block that was refused, where there is one;
+// answers how many of its blocks were read.
+fn resume(subtitle: &mut Subtitle, refused: &Option<Tti>) -> u8
+    ensures { begun_in subtitle.new result ≡ option_map refused_by refused.now }
+{
+    match refused {
+        None => 0,
+        Some(block) => {
+            subtitle.refuse(block);
+            1
         }
     }
 }
 
 // The block that a fault names where `block` blocks were read.
-fn block_of(block: u32, fault: &StlFault) -> u32
+pub(crate) fn block_of(block: u32, fault: &StlFault) -> u32
     requires { block ≤ most_blocks }
     ensures { block_after block fault.now ≡ result }
 {

@@ -204,6 +204,15 @@ impl Subtitle {
         Ok(())
     }
 
+    // Becomes the subtitle that a first block begins which was refused.
+    pub(crate) fn refuse(&mut self, block: &Tti)
+        ensures { self.new ≡ record empty_subtitle { sgn = sgn block.now; sn = sn block.now } }
+    {
+        *self = Subtitle::empty();
+        self.sgn = block.sgn();
+        self.sn = block.sn();
+    }
+
     // Adds the text of a further block.
     pub(crate) fn extend(&mut self, block: &Tti)
         requires { length self.old.text + 112 ≤ 1008 }

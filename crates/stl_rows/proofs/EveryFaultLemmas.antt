@@ -8,7 +8,9 @@ use Rattle.std.specs.List.{filter}
 use Rattle.sub_io.specs.Telling.{KeepsFirst}
 use Rattle.sub_io.proofs.TellingLemmas.{first_is}
 use Rattle.stl_file.specs.declared.fault.StlFault.TheVariants.{Ended, Unfinished}
-use Rattle.stl_file.specs.Reading.{Outcome, ends, fails, gives}
+use Rattle.stl_file.specs.Reading.{Outcome}
+use Rattle.stl_file.specs.Resuming.{Findings, breaks, findings_of, finds, no_more, refuses, stopped}
+use Rattle.stl_file.proofs.FindingsLemmas.{stopped_whole}
 use Rattle.stl_file.specs.Reader.{outcome_of}
 use Rattle.stl_file.specs.Subtitle.{SubtitleValue}
 use Rattle.stl_rows.specs.declared.fault.LoadFault.{LoadFault}
@@ -37,15 +39,16 @@ first_told [] block next rest h = h
 first_told (k ∷ ks) block next rest h = λ fault. ((λ e. cc), (λ e. cc))
 
 -- Of all that is left.
-first_behind : (national : National) (records : List SubtitleValue) (left : Outcome)
-    → FirstIs (loaded_behind national records left)
+first_behind : (national : National) (records : List SubtitleValue) (left : Findings)
+    → FirstIs (loaded_behind national records (stopped left))
     (faults_behind national (times_before records) left)
 unfolding faults_behind
-first_behind national records ends = λ fault. ((λ e. absurd cc), (λ e. absurd cc))
-first_behind national records (fails f block) = λ fault. ((λ e. cc), (λ e. cc))
-first_behind national records (gives t block left) =
+first_behind national records no_more = λ fault. ((λ e. absurd cc), (λ e. absurd cc))
+first_behind national records (breaks f block) = λ fault. ((λ e. cc), (λ e. cc))
+first_behind national records (refuses f block left) = λ fault. ((λ e. cc), (λ e. cc))
+first_behind national records (finds t block left) =
     first_told (follow_faults national (times_before records) t) block
-    (loaded_behind national (records ++ t ∷ []) left)
+    (loaded_behind national (records ++ t ∷ []) (stopped left))
     (faults_behind national (Some (times_of t)) left)
     (rw (ap (option_map times_of) (last_of-push records t))
     at (first_behind national (records ++ t ∷ []) left))
@@ -60,10 +63,11 @@ none_is (Err fault) [] h = absurd (let e = (h fault).0 refl in cc)
 none_is (Err fault) (f ∷ fs) h = ((λ e. absurd cc), (λ e. absurd cc))
 
 -- Of all faults.
-pub first_fault : (national : National) (outcome : Outcome)
-    → FirstIs (loaded national outcome) (faults national outcome)
+pub first_fault : (national : National) (file : List ℕ)
+    → FirstIs (loaded national (outcome_of file)) (faults national file)
 unfolding faults
-first_fault national outcome = first_behind national [] outcome
+first_fault national file =
+    rw (stopped_whole file) at (first_behind national [] (findings_of file))
 
 -- The law: for `law_of_every_fault`.
 pub every_fault : LawOfEveryFault
@@ -107,18 +111,18 @@ first-not_read new first fault is_new is_first of_file =
     grind (arith, nat_tests, first-of_file first (rw is_new at of_file), not_read fault.kind)
 
 -- The one fault that was told is the one of the file.
-pub tells-first : (national : National) (outcome : Outcome) (fault : LoadFault) (stopped : Bool)
-    → TellsFaults KeepsFirst None (Some fault) stopped (faults national outcome)
+pub tells-first : (national : National) (file : List ℕ) (fault : LoadFault) (stopped : Bool)
+    → TellsFaults KeepsFirst None (Some fault) stopped (faults national file)
     → TellsOfFile KeepsFirst None (Some fault)
-    → TellsFault national outcome fault.block fault.kind
-tells-first national outcome fault stopped told of_file =
+    → TellsFault national (outcome_of file) fault.block fault.kind
+tells-first national file fault stopped told of_file =
     let p = told.prefix in
-    let taken = first_is (Some fault) (take p.0 (faults national outcome)) p.3 in
-    let first = first_taken p.0 (faults national outcome) fault p.1 taken in
+    let taken = first_is (Some fault) (take p.0 (faults national file)) p.3 in
+    let first = first_taken p.0 (faults national file) fault p.1 taken in
     let own = first-of_file (Some fault) of_file in
     let kind : is_of_file fault.kind ≡ true = let same = own.1 in let is = own.2 in cc in
-    tells-kind national outcome fault.block fault.kind kind
-    ((first_fault national outcome fault).1 first)
+    tells-kind national (outcome_of file) fault.block fault.kind kind
+    ((first_fault national file fault).1 first)
 
 -- The first of all does not come before this block, where none does.
 not_before : (block : ℕ) (all : List LoadFault) (fault : LoadFault)
@@ -146,7 +150,7 @@ none-told national old new block None none failed = record {
   block_is = failed.block_is;
   none = λ all is fault e.
       is_late block fault.block fault.kind
-      (not_before block (faults national (outcome_of all)) fault
-      ((first_fault national (outcome_of all) fault).0 e)
+      (not_before block (faults national all) fault
+      ((first_fault national all fault).0 e)
       (sym (first_is None _ (failed.told all is))));
 }

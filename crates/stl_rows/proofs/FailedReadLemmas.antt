@@ -1,18 +1,19 @@
 -- Where the source fails, and what was told before; main lemma: fails-next.
 use Rattle.std.proofs.Common.{◌≡◌, ℕ, ◌+◌, ◌*◌, ◌/◌, List, ◌∷◌, ◌++◌, length, Option, [], Some}
-use Rattle.std.proofs.Common.{refl, arith, length-append}
+use Rattle.std.proofs.Common.{Result, true, refl, arith, length-append}
+use Rattle.std.specs.Prelude.{is_ok}
 use Rattle.std.specs.Io.KnownBytes.{Consumes}
 use Rattle.std.specs.List.{All, filter}
 use Rattle.std.proofs.KnownBytes.{Consumes-trans}
 use Rattle.std.proofs.lemmas.Bool.Decides.{nat_tests}
 use Rattle.sub_io.specs.Telling.{Tells}
 use Rattle.sub_io.proofs.TellingLemmas.{Tells-none}
-use Rattle.stl_file.specs.declared.progress.Progress.TheVariants.{Reading}
+use Rattle.stl_file.specs.declared.fault.StlFault.{StlFault}
+use Rattle.stl_file.specs.declared.resuming.Found.{Found}
 use Rattle.stl_file.specs.Subtitle.{SubtitleValue}
-use Rattle.stl_file.specs.Reading.{Outcome}
-use Rattle.stl_file.specs.Reader.{FailsReading, NamesFrom, ReaderValue, TakesSubtitle}
-use Rattle.stl_file.specs.Reader.{block_of_byte, outcome_left, outcome_of}
-use Rattle.stl_file.proofs.SubtitleBlocksLemmas.{length-joined}
+use Rattle.stl_file.specs.Reading.{Begun}
+use Rattle.stl_file.specs.Reader.{block_of_byte}
+use Rattle.stl_file.specs.Resuming.{FailsFinding, FindsFrom, LeadsOn, ResumingValue, findings_from}
 use Rattle.stl_rows.specs.declared.national.National.{National}
 use Rattle.stl_rows.specs.declared.fault.LoadFault.{LoadFault}
 use Rattle.stl_rows.specs.declared.times.Times.{Times}
@@ -25,13 +26,15 @@ pub record HasTaken (old now : Option (List ℕ)) (block : ℕ) : Type 0 where
   pub consumed : Consumes old now bytes
   pub long : length bytes ≡ 1024 + 128 * block
 
--- And the blocks of a subtitle.
-pub has_taken-next : {old mid now : Option (List ℕ)} {from to : ℕ} {t : SubtitleValue}
-    → TakesSubtitle from to mid now t
+-- And the blocks of an answer after which reading goes on.
+pub has_taken-next : {old mid now : Option (List ℕ)} {from to : ℕ} {refused next : Option Begun}
+    {t : SubtitleValue} {result : Result Found StlFault}
+    → LeadsOn from to refused next mid now t result
+    → is_ok result ≡ true
     → HasTaken old mid from
     → HasTaken old now to
-has_taken-next {old} {mid} {now} s h =
-    grind (arith, nat_tests, Consumes-trans, length-append, length-joined)
+has_taken-next {old} {mid} {now} l goes h =
+    grind (arith, nat_tests, Consumes-trans, length-append)
 
 -- ---- the source fails
 
@@ -56,17 +59,16 @@ none_before-0 (f ∷ fs) = grind (arith, nat_tests, none_before-0 fs)
 -- While a subtitle is read.
 pub fails-next : {national : National} {start old new : Option (List ℕ)} {before : Option Times}
     {kept : Option (List SubtitleValue)} {early : List LoadFault} {D : Type 0}
-    {IsTold : D → LoadFault → D → Type 0} {told_old told_new : D} (reader : ReaderValue)
+    {IsTold : D → LoadFault → D → Type 0} {told_old told_new : D} (reader : ResumingValue)
     {block : ℕ}
     → HasTaken start old reader.block
-    → reader.progress ≡ Reading
     → All (IsToldBy reader.block) early
     → Tells IsTold told_old told_new early
     → ((all : List ℕ) → start ≡ Some all → (rest : List ℕ) × (old ≡ Some rest)
-    × GoesOn national (outcome_of all) (outcome_left reader rest) before kept early)
-    → FailsReading reader.block block old new
+    × GoesOn national all (findings_from reader.block reader.refused rest) before kept early)
+    → FailsFinding reader.block block reader.refused old new
     → FailsTelling national start new IsTold told_old told_new block
-fails-next {start = start} {old} {new} reader {block} taken reading early_told told goes failed =
+fails-next {start = start} {old} {new} reader {block} taken early_told told goes failed =
     record {
       bytes = taken.bytes ++ failed.bytes;
       consumed =
@@ -75,14 +77,14 @@ fails-next {start = start} {old} {new} reader {block} taken reading early_told t
       told = λ all is.
           let here = goes all is in
           let left = left_over here.0 new failed.bytes (rw here.1 at failed.consumed) in
-          let names : NamesFrom block (outcome_left reader here.0) =
-          rw (reading, left.1) (failed.none left.0) in
+          let names : FindsFrom block (findings_from reader.block reader.refused here.0) =
+          rw left.1 (failed.none left.0) in
           tells-unread reader.block block (omega (arith, failed.block)) early_told names here.2
           told;
     }
 
 -- While the GSI block is read: nothing was told.
-pub reads-nothing : (national : National) (outcome : Outcome)
+pub reads-nothing : (national : National) (file : List ℕ)
     {D : Type 0} {IsTold : D → LoadFault → D → Type 0} (told : D)
-    → Tells IsTold told told (filter (is_told_before 0) (faults national outcome))
-reads-nothing national outcome told = grind (arith, nat_tests, none_before-0, Tells-none)
+    → Tells IsTold told told (filter (is_told_before 0) (faults national file))
+reads-nothing national file told = grind (arith, nat_tests, none_before-0, Tells-none)

@@ -1,11 +1,12 @@
 -- What is left of a file after some of its subtitles, and what was told of these; main lemmas:
 -- goes_on-next, tells-stopped, tells-unread.
 use Rattle.std.proofs.Common.{rules, ◌≡◌, ◌<◌, ◌≤◌, ◌+◌, ℕ, Bool, true, false, List, ◌∷◌, ◌++◌, []}
-use Rattle.std.proofs.Common.{drop, take, length, map, Option, Some, None, Result, refl, ◌∙◌, ap}
-use Rattle.std.proofs.Common.{inl, arith, length-take, append_assoc, append-nil, length-append}
+use Rattle.std.proofs.Common.{drop, take, length, map, Option, Some, None, Result, refl, sym}
+use Rattle.std.proofs.Common.{◌∙◌, ap, inl, arith, length-take, append_assoc, append-nil, length-append}
 use Rattle.std.proofs.Math.Seq.{take-append-add, take-length}
 use Rattle.std.proofs.lemmas.Bool.Decides.{nat_tests}
-use Rattle.std.proofs.lemmas.List.Elements.{All-append, All-head, All-tail, All-take, All-weaker}
+use Rattle.std.proofs.lemmas.List.Elements.{All-append, All-head, All-push, All-tail, All-take}
+use Rattle.std.proofs.lemmas.List.Elements.{All-weaker}
 use Rattle.std.proofs.lemmas.List.Elements.{filter-append}
 use Rattle.std.proofs.lemmas.List.Sums.{list_all-from_AllPass}
 use Rattle.std.proofs.lemmas.List.Folds.{list_all-append}
@@ -17,11 +18,15 @@ use Rattle.sub_io.specs.Telling.{Tells, first_alone}
 use Rattle.sub_io.proofs.TellingLemmas.{Tells-trans}
 use Rattle.stl_file.specs.declared.fault.StlFault.{StlFault}
 use Rattle.stl_file.specs.declared.fault.StlFault.TheVariants.{Ended}
-use Rattle.stl_file.specs.Fault.{is_read}
+use Rattle.stl_file.specs.declared.resuming.Found.{Found}
+use Rattle.stl_file.specs.Fault.{is_of_first, is_read}
+use Rattle.stl_file.specs.Reading.{Begun}
 use Rattle.stl_file.specs.Gsi.{gsi_size}
 use Rattle.stl_file.specs.Subtitle.{IsSubtitle, SubtitleValue}
-use Rattle.stl_file.specs.Reading.{Outcome, ends, fails, gives}
-use Rattle.stl_file.specs.Reader.{NamesFrom, ReaderValue, opened_at, outcome_of, outcome_opened}
+use Rattle.stl_file.specs.Reader.{ReaderValue, opened_at, outcome_of}
+use Rattle.stl_file.specs.Resuming.{Findings, FindsFrom, breaks, findings_of, findings_opened, finds}
+use Rattle.stl_file.specs.Resuming.{LeadsOn, findings_by, findings_from, no_more, refuses, stopped}
+use Rattle.stl_file.proofs.FindingsLemmas.{stopped_whole}
 use Rattle.stl_rows.specs.declared.national.National.{National}
 use Rattle.stl_rows.specs.declared.fault.LoadFault.{LoadFault}
 use Rattle.stl_rows.specs.declared.fault.LoadFaultKind.{LoadFaultKind}
@@ -37,22 +42,36 @@ use Rattle.stl_rows.proofs.ProgrammeLemmas.{IsProgramme-push, last_of-push}
 use Rattle.stl_rows.specs.TextCode.{first_of}
 
 -- What reading a file gives, by what opening it gives.
-pub outcome_of-opened : (bytes : List ℕ) (r : Result ReaderValue StlFault)
+pub findings_of-opened : (bytes : List ℕ) (r : Result ReaderValue StlFault)
     → opened_at bytes ≡ r
-    → outcome_of bytes ≡ outcome_opened (drop gsi_size bytes) r
-unfolding outcome_of
-outcome_of-opened bytes r h = ap (outcome_opened (drop gsi_size bytes)) h
+    → findings_of bytes ≡ findings_opened (drop gsi_size bytes) r
+unfolding findings_of
+findings_of-opened bytes r h = ap (findings_opened (drop gsi_size bytes)) h
+
+-- What is left is what was found, and what is left after it.
+pub left-then : (old new : Option (List ℕ)) (rest : List ℕ) {from to : ℕ}
+    {refused next : Option Begun} {t : SubtitleValue} {result : Result Found StlFault}
+    → LeadsOn from to refused next old new t result
+    → old ≡ Some rest
+    → (more : List ℕ) × (new ≡ Some more)
+    × (findings_from from refused rest ≡ findings_by to next more t result)
+left-then None new rest l is = absurd cc
+left-then (Some all) None rest l is = absurd l.consumed
+left-then (Some all) (Some more) rest l is =
+    let same : rest ≡ l.bytes ++ more = let whole = l.consumed in cc in
+    (more, refl, rw same (l.findings more l.ended))
 
 -- ---- what was told of subtitles
 
--- A fault of a subtitle.
+-- A fault of a subtitle, after which reading goes on.
 abbrev pub is_of_subtitle : LoadFaultKind → Bool
+is_of_subtitle (File fault) = is_of_first fault
 is_of_subtitle OutOfOrder = true
 is_of_subtitle Overlap = true
 is_of_subtitle (Row fault) = true
 is_of_subtitle _ = false
 
--- A fault of a subtitle that ends at this block or before.
+-- One that is told at this block or before.
 abbrev pub IsToldBy : ℕ → LoadFault → Type 0
 IsToldBy block fault = (is_of_subtitle fault.kind ≡ true) × (fault.block ≤ block)
 
@@ -72,6 +91,24 @@ told-next national before t from to early le h =
     (All-weaker (IsToldBy from) (IsToldBy to) (λ f told. (told.0, omega (arith, le, told.1))) early
     h)
     (at_block national before t to)
+
+-- And what one is refused for.
+pub told-refused : (fault : StlFault) (from to : ℕ) (early : List LoadFault)
+    → from ≤ to
+    → is_of_first fault ≡ true
+    → All (IsToldBy from) early
+    → All (IsToldBy to) (early ++ load_fault to (File fault) ∷ [])
+told-refused fault from to early le first h =
+    All-push (IsToldBy to) early (load_fault to (File fault))
+    (All-weaker (IsToldBy from) (IsToldBy to) (λ f told. (told.0, omega (arith, le, told.1))) early
+    h)
+    (first, omega arith)
+
+-- Neither the source's failure nor the end of the file.
+pub first_kind : (fault : StlFault)
+    → is_of_first fault ≡ true
+    → (is_read fault ≡ false) × (fault ≢ Ended)
+first_kind fault first = grind (arith, nat_tests)
 
 -- These are faults of the file.
 of_file : (kind : LoadFaultKind) → is_of_subtitle kind ≡ true → is_of_file kind ≡ true
@@ -111,16 +148,16 @@ stops-last national before t block old mid new order row is_order is_row some p 
 
 -- What was told of the subtitles so far, and what is wrong with the rest, is all that is wrong with
 -- the file. While all of them are kept, what comes of the rest is what comes of the file.
-pub record GoesOn (national : National) (outcome left : Outcome) (before : Option Times)
+pub record GoesOn (national : National) (file : List ℕ) (left : Findings) (before : Option Times)
     (kept : Option (List SubtitleValue)) (early : List LoadFault) : Type 0 where
-  pub same : faults national outcome ≡ early ++ faults_behind national before left
+  pub same : faults national file ≡ early ++ faults_behind national before left
   pub loads : (records : List SubtitleValue)
       → kept ≡ Some records
-      → loaded_behind national records left ≡ loaded national outcome
+      → loaded_behind national records (stopped left) ≡ loaded national (outcome_of file)
   pub ends_record : (records : List SubtitleValue) (at : ℕ)
       → kept ≡ Some records
-      → EndsRecord national records at left
-      → EndsRecord national [] at outcome
+      → EndsRecord national records at (stopped left)
+      → EndsRecord national [] at (outcome_of file)
 
 -- All subtitles so far are kept: they are a programme, and nothing was told of any.
 pub record AreKept (national : National) (before : Option Times) (early : List LoadFault)
@@ -182,9 +219,9 @@ module _ {national : National} {before : Option Times} {kept : Option (List Subt
   none_told records h = grind (arith, nat_tests, was_kept)
 
   -- What is left goes on.
-  pub goes_on-next : {outcome rest : Outcome}
-      → GoesOn national outcome (gives t block rest) before kept early
-      → GoesOn national outcome rest (Some (times_of t)) (kept_after clean t kept) told_then
+  pub goes_on-next : {file : List ℕ} {rest : Findings}
+      → GoesOn national file (finds t block rest) before kept early
+      → GoesOn national file rest (Some (times_of t)) (kept_after clean t kept) told_then
   unfolding faults_behind
   goes_on-next on = grind (arith, nat_tests, append_assoc, was_kept)
 
@@ -203,11 +240,11 @@ module _ {national : National} {before : Option Times} {kept : Option (List Subt
   some-next some h = grind (arith, nat_tests, some_more)
 
   -- A subtitle that can't be kept ends a record.
-  pub ends-here : {outcome rest : Outcome}
+  pub ends-here : {file : List ℕ} {rest : Findings}
       → clean ≡ true
       → is_none kept ≡ false
-      → GoesOn national outcome (gives t block rest) before kept early
-      → EndsRecord national [] block outcome
+      → GoesOn national file (finds t block rest) before kept early
+      → EndsRecord national [] block (outcome_of file)
   ends-here is_true some on =
       let kept_then = still_kept clean t kept is_true some in
       let was = was_kept kept_then.0 kept_then.1 in
@@ -216,6 +253,19 @@ module _ {national : National} {before : Option Times} {kept : Option (List Subt
   -- Nothing was told before it.
   pub told-none : clean ≡ true → is_none kept ≡ false → told_then ≡ []
   told-none is_true some = grind (arith, nat_tests, still_kept, none_told)
+
+-- A subtitle that is refused more: nothing is kept.
+pub goes_on-refused : {national : National} {file : List ℕ} {rest : Findings}
+    {before : Option Times} {kept : Option (List SubtitleValue)} {early : List LoadFault}
+    (fault : StlFault) (block : ℕ)
+    → GoesOn national file (refuses fault block rest) before kept early
+    → GoesOn national file rest before None (early ++ load_fault block (File fault) ∷ [])
+unfolding faults_behind
+goes_on-refused {early = early} fault block on = record {
+  same = on.same ∙ sym (append_assoc early (load_fault block (File fault) ∷ []) _);
+  loads = λ records none. absurd cc;
+  ends_record = λ records at none. absurd cc;
+}
 
 -- ---- what was told in all
 
@@ -288,46 +338,67 @@ module _ {D : Type 0} {IsTold : D → LoadFault → D → Type 0} {old mid new :
 -- ---- each way out
 
 -- Nothing was read yet.
-pub goes_on-start : (national : National) (outcome : Outcome)
-    → GoesOn national outcome outcome None (Some []) []
+pub goes_on-start : (national : National) (file : List ℕ)
+    → GoesOn national file (findings_of file) None (Some []) []
 unfolding faults
-goes_on-start national outcome = grind (arith, nat_tests)
+goes_on-start national file = grind (arith, nat_tests, stopped_whole file)
 
 module _ {D : Type 0} {IsTold : D → LoadFault → D → Type 0} {old mid : D} {national : National}
-    {outcome left : Outcome} {before : Option Times} {kept : Option (List SubtitleValue)}
-    {early : List LoadFault} (on : GoesOn national outcome left before kept early)
+    {file : List ℕ} {left : Findings} {before : Option Times} {kept : Option (List SubtitleValue)}
+    {early : List LoadFault} (on : GoesOn national file left before kept early)
     (told : Tells IsTold old mid early) where
   -- Faults were told, and nothing is wrong with the rest of the file.
   pub tells-none : {stopped : Bool}
-      → left ≡ ends
+      → left ≡ no_more
       → 0 < length early
-      → TellsFaults IsTold old mid stopped (faults national outcome)
+      → TellsFaults IsTold old mid stopped (faults national file)
   unfolding faults_behind
   tells-none is some = tells-all (rw is at on.same ∙ append-nil early) some told
 
   -- The fault that ends reading was told last.
   pub tells-end : {new : D} {stopped : Bool} {fault : StlFault} {block : ℕ}
-      → left ≡ fails fault block
+      → left ≡ breaks fault block
       → Tells IsTold mid new (load_fault block (File fault) ∷ [])
-      → TellsFaults IsTold old new stopped (faults national outcome)
+      → TellsFaults IsTold old new stopped (faults national file)
   unfolding faults_behind
   tells-end {new} {stopped} {fault} {block} is q =
       let last : List LoadFault = load_fault block (File fault) ∷ [] in
       tells-all (rw is at on.same) (omega (arith, length-append early last))
       (Tells-trans old mid new early last told q)
 
-  -- The device said stop at a fault of a subtitle.
-  pub tells-stop : {new : D} {rest : Outcome} {t : SubtitleValue} {block : ℕ} (stopped : Bool)
-      → left ≡ gives t block rest
-      → stopped ≡ true
+  -- The device said stop at one of these.
+  tells-some : {new : D} (items rest : List LoadFault) (has_stopped : Bool)
+      → faults_behind national before left ≡ items ++ rest
+      → has_stopped ≡ true
+      → StopsWithin IsTold mid new items
+      → TellsFaults IsTold old new has_stopped (faults national file)
+  tells-some items rest has_stopped is is_stopped q =
+      let s = stops-more early items rest told q in
+      grind (arith, nat_tests, on.same, is)
+
+  -- At a fault of a subtitle.
+  pub tells-stop : {new : D} {rest : Findings} {t : SubtitleValue} {block : ℕ}
+      (has_stopped : Bool)
+      → left ≡ finds t block rest
+      → has_stopped ≡ true
       → StopsWithin IsTold mid new (map (load_fault block) (follow_faults national before t))
-      → TellsFaults IsTold old new stopped (faults national outcome)
+      → TellsFaults IsTold old new has_stopped (faults national file)
   unfolding faults_behind
-  tells-stop {rest = rest} {t} {block} stopped is is_stopped q =
-      let s =
-      stops-more early (map (load_fault block) (follow_faults national before t))
-      (faults_behind national (Some (times_of t)) rest) told q in
-      grind (arith, nat_tests)
+  tells-stop {rest = rest} {t} {block} has_stopped is =
+      tells-some (map (load_fault block) (follow_faults national before t))
+      (faults_behind national (Some (times_of t)) rest) has_stopped (rw is refl)
+
+  -- At the fault for which one is refused.
+  pub tells-refused : {new : D} {rest : Findings} {fault : StlFault} {block : ℕ}
+      (has_stopped : Bool)
+      → left ≡ refuses fault block rest
+      → has_stopped ≡ true
+      → Tells IsTold mid new (load_fault block (File fault) ∷ [])
+      → TellsFaults IsTold old new has_stopped (faults national file)
+  unfolding faults_behind
+  tells-refused {rest = rest} {fault} {block} has_stopped is is_stopped q =
+      tells-some (load_fault block (File fault) ∷ []) (faults_behind national before rest)
+      has_stopped (rw is refl) is_stopped (stops-whole (omega arith) q)
 
 -- What is kept, where something is.
 pub if_kept : {V : Type 0} (items : V → List SubtitleValue) (P : List SubtitleValue → Type 0)
@@ -365,17 +436,22 @@ late_kinds block at [] le = refl
 late_kinds block at (k ∷ ks) le = grind (arith, nat_tests, late_kinds block at ks)
 
 late_fault : (block at : ℕ) (f : StlFault)
-    → NamesFrom block (fails f at)
+    → FindsFrom block (breaks f at)
     → is_told_before block (load_fault at (File f)) ≡ false
 late_fault block at f names = grind (arith, nat_tests)
 
-late : (national : National) (before : Option Times) (block : ℕ) (left : Outcome)
-    → NamesFrom block left
+late : (national : National) (before : Option Times) (block : ℕ) (left : Findings)
+    → FindsFrom block left
     → filter (is_told_before block) (faults_behind national before left) ≡ []
 unfolding faults_behind
-late national before block ends names = refl
-late national before block (fails f at) names = rw (late_fault block at f names) refl
-late national before block (gives t at left) names =
+late national before block no_more names = refl
+late national before block (breaks f at) names = rw (late_fault block at f names) refl
+late national before block (refuses f at left) names =
+    filter-append (is_told_before block) (load_fault at (File f) ∷ [])
+    (faults_behind national before left)
+    ∙ rw (late_kinds block at (File f ∷ []) names.0)
+    (rw (late national before block left names.1) refl)
+late national before block (finds t at left) names =
     filter-append (is_told_before block) (map (load_fault at) (follow_faults national before t))
     (faults_behind national (Some (times_of t)) left)
     ∙ rw (late_kinds block at (follow_faults national before t) names.0)
@@ -383,14 +459,14 @@ late national before block (gives t at left) names =
 
 -- The faults before the block at which the source failed were told.
 pub tells-unread : {D : Type 0} {IsTold : D → LoadFault → D → Type 0} {old new : D}
-    {national : National} {outcome left : Outcome} {before : Option Times}
+    {national : National} {file : List ℕ} {left : Findings} {before : Option Times}
     {kept : Option (List SubtitleValue)} {early : List LoadFault} (from block : ℕ)
     → from < block
     → All (IsToldBy from) early
-    → NamesFrom block left
-    → GoesOn national outcome left before kept early
+    → FindsFrom block left
+    → GoesOn national file left before kept early
     → Tells IsTold old new early
-    → Tells IsTold old new (filter (is_told_before block) (faults national outcome))
+    → Tells IsTold old new (filter (is_told_before block) (faults national file))
 tells-unread {national = national} {left = left} {before} {early = early} from block lt early_told
     names on told =
     rw (

@@ -8,7 +8,7 @@ use Rattle.sub_io.specs.Reading.{IfTold}
 use Rattle.sub_io.specs.Telling.{Tells}
 use Rattle.stl_file.specs.declared.fault.StlFault.TheVariants.{Ended, Read, Unfinished}
 use Rattle.stl_file.specs.Reader.{block_of_byte, outcome_of}
-use Rattle.stl_file.specs.Reading.{Outcome, ends, fails, gives}
+use Rattle.stl_file.specs.Resuming.{Findings, breaks, findings_of, finds, no_more, refuses}
 use Rattle.stl_file.specs.Subtitle.{SubtitleValue}
 use Rattle.stl_rows.specs.declared.fault.LoadFault.{LoadFault}
 use Rattle.stl_rows.specs.declared.fault.LoadFaultKind.{LoadFaultKind}
@@ -19,19 +19,23 @@ use Rattle.stl_rows.specs.Loading.{load_fault, loaded}
 use Rattle.stl_rows.specs.Programme.{follow_faults, times_of}
 use Rattle.stl_rows.specs.TextCode.{first_of}
 
--- What is wrong with the rest of a file, after a subtitle of these times. At each subtitle's last
--- block: its times against those of the subtitle before it, whatever is wrong with that one, and
--- the first fault of its rows. Last, the fault that ends reading, at its block.
-unfoldable pub faults_behind : National → Option Times → Outcome → List LoadFault
-faults_behind national before ends = []
-faults_behind national before (fails fault block) = load_fault block (File fault) ∷ []
-faults_behind national before (gives t block outcome) =
+-- What is wrong with the rest of a file, after a subtitle of these times. At a subtitle's first
+-- block, the fault for which it is refused: then it is no record, and times are compared as if it
+-- were not there. At the last block of any other: its times against those of the one before it,
+-- whatever is wrong with that one, and the first fault of its rows. Last, the fault that ends
+-- reading, at its block.
+unfoldable pub faults_behind : National → Option Times → Findings → List LoadFault
+faults_behind national before no_more = []
+faults_behind national before (breaks fault block) = load_fault block (File fault) ∷ []
+faults_behind national before (refuses fault block more) =
+    load_fault block (File fault) ∷ faults_behind national before more
+faults_behind national before (finds t block more) =
     map (load_fault block) (follow_faults national before t)
-    ++ faults_behind national (Some (times_of t)) outcome
+    ++ faults_behind national (Some (times_of t)) more
 
--- All that is wrong with a file.
-unfoldable pub faults : National → Outcome → List LoadFault
-faults national outcome = faults_behind national None outcome
+-- All that is wrong with a file, in the order of its blocks.
+unfoldable pub faults : National → List ℕ → List LoadFault
+faults national file = faults_behind national None (findings_of file)
 
 -- The bytes of the file are at fault, and neither the source nor the memory.
 abbrev pub is_of_file : LoadFaultKind → Bool
@@ -90,7 +94,7 @@ pub record FailsTelling
   pub told :
       IfTold old
       (λ all. Tells IsTold told_old told_new
-      (filter (is_told_before block) (faults national (outcome_of all))))
+      (filter (is_told_before block) (faults national all)))
 
 -- The first of all faults is the one for which `load` refuses the file, and there is none exactly
 -- where it loads it.
@@ -98,5 +102,5 @@ abbrev pub LawOfEveryFault : Type 0
 LawOfEveryFault =
     (national : National) (s : List ℕ)
     → ((fault : LoadFault) → (loaded national (outcome_of s) ≡ Err fault)
-    ↔ (first_of (faults national (outcome_of s)) ≡ Some fault))
-    × ((faults national (outcome_of s) ≡ []) ↔ IsOk (loaded national (outcome_of s)))
+    ↔ (first_of (faults national s) ≡ Some fault))
+    × ((faults national s ≡ []) ↔ IsOk (loaded national (outcome_of s)))

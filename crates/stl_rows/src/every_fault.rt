@@ -25,16 +25,17 @@ use crate::programme::Programme;
 use crate::text_faults::first_fault;
 use crate::times::Times;
 use std::alloc::{Allocator, Global};
-use stl_file::{StlFault, StlReader, Subtitle};
+use stl_file::{Found, ResumingReader, StlFault, StlReader, Subtitle};
 use sub_io::{Audience, Source, Stopped};
 
 /// Loads the subtitles of an STL file as `load` does, and tells a device every fault of the file.
 ///
-/// `None` where faults were told: all of them, or those up to the one at which the device said
-/// stop. At each subtitle's last block they are `OutOfOrder` or `Overlap`, by the times of the
-/// subtitle before it, whatever was told of that one, and then the first fault of `draw`, as `Row`.
-/// Last comes the fault that ends reading, `File`. Once one was told nothing is kept, and no memory
-/// is taken.
+/// `None` where faults were told: all of them by block, or those up to the one at which the device
+/// said stop. At a subtitle's first block that is what it is refused for, `File`: it is no record,
+/// is not drawn, and times are compared as if it were not there. At the last block of each other
+/// subtitle they are `OutOfOrder` or `Overlap`, by the times of the one before it, whatever was told
+/// of that one, and then the first fault of `draw`, as `Row`. Last comes the fault that ends
+/// reading, `File`. Once one was told nothing is kept, and no memory is taken.
 ///
 /// # Errors
 ///
@@ -54,7 +55,7 @@ pub fn load_all<S: Source, D: Audience<LoadFault>>(
         IfSome found (λ programme. loaded national (outcome_of bytes) ≡ Ok programme))) }
     ensures told { IfTold (S.remaining source.old) (λ bytes. result ≡ Ok None →
         TellsFaults D.is_told audience.old audience.new (D.has_stopped audience.new)
-        (faults national (outcome_of bytes))) }
+        (faults national bytes)) }
     ensures memory { IfTold (S.remaining source.old) (λ bytes. IfErr result (λ f.
         f.kind ≡ Memory → EndsRecord national [] f.block (outcome_of bytes))) }
 
@@ -105,7 +106,7 @@ pub fn load_all_in<A: Allocator + Drop, S: Source, D: Audience<LoadFault>>(
         ≡ Ok (record { national = national; records = v.items })))) }
     ensures told { IfTold (S.remaining source.old) (λ bytes. result ≡ Ok None →
         TellsFaults D.is_told audience.old audience.new (D.has_stopped audience.new)
-        (faults national (outcome_of bytes))) }
+        (faults national bytes)) }
     ensures memory { IfTold (S.remaining source.old) (λ bytes. IfErr result (λ f.
         f.kind ≡ Memory → EndsRecord national [] f.block (outcome_of bytes))) }
     ensures programme { IfOk result (λ found. IfSome found (λ v. IsProgramme national v.items)) }
@@ -124,7 +125,7 @@ pub fn load_all_in<A: Allocator + Drop, S: Source, D: Audience<LoadFault>>(
     ensures count { CountsIf S.failure_count source.old (failed is_read result) source.new }
 {
     let mut reader = match StlReader::open(source) {
-        Ok(reader) => reader,
+        Ok(_) => ResumingReader::after_gsi(),
         Err(fault) => match tell_end(fault, 0, audience) {
             Ok(()) => return Ok(None),
             Err(failed) => return Err(failed),
@@ -139,8 +140,16 @@ pub fn load_all_in<A: Allocator + Drop, S: Source, D: Audience<LoadFault>>(
                 Ok(()) => return Ok(None),
                 Err(failed) => return Err(failed),
             },
-            Ok(false) => return Ok(kept),
-            Ok(true) => {
+            Ok(Found::End) => return Ok(kept),
+            Ok(Found::Passed) => {}
+            Ok(Found::Refused(fault)) => {
+                let kind = Some(LoadFaultKind::File(fault));
+                let Ok(_) = tell_fault(kind, reader.block(), audience) else {
+                    return Ok(None);
+                };
+                kept = None;
+            }
+            Ok(Found::Subtitle) => {
                 let block = reader.block();
                 let Ok(clean) = tell_faults(national, before, &subtitle, block, audience) else {
                     return Ok(None);

@@ -225,7 +225,7 @@ ended-fails events f can = pes-fails f can
 -- A subtitle file that gives a programme has no fault.
 no-fault : (national : National) (file : List ℕ) (programme : ProgrammeValue)
     → loaded national (outcome_of file) ≡ Ok programme
-    → faults national (outcome_of file) ≡ []
+    → faults national file ≡ []
 no-fault national file programme loads =
     (every_fault national file).1.1 (subst IsOk (sym loads) refl)
 

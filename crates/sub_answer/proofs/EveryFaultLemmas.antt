@@ -103,7 +103,7 @@ module _ {D N : Type 0} (IsTold : D → LoadFault → D → Type 0) (name : D �
         → RisesIf stl.old_count true stl.new_count
         → FailsAtBlock stl.told stl.left block
         → IfTold stl.told (λ file. items
-        ≡ filter (is_told_before block) (faults national (outcome_of file)))
+        ≡ filter (is_told_before block) (faults national file))
         → TellsBoth national options stl pes (value old) (value new)
         (Err (fault.Subtitles (load_fault block (load.File stl_fault.Read))))
     failed_source block items told count fails are = record {
@@ -136,12 +136,12 @@ module _ {D N : Type 0} (IsTold : D → LoadFault → D → Type 0) (name : D �
         (record { bytes = read.bytes; consumed = read.consumed; block_is = read.block_is })
         (λ file told. cc)
     failed_at block (Some file) is some count read =
-        failed_source block (filter (is_told_before block) (faults national (outcome_of file)))
+        failed_source block (filter (is_told_before block) (faults national file))
         (read.told file is) count
         (record { bytes = read.bytes; consumed = read.consumed; block_is = read.block_is })
         (λ other told.
         let same : file ≡ other = cc in
-        ap (λ b. filter (is_told_before block) (faults national (outcome_of b))) same)
+        ap (λ b. filter (is_told_before block) (faults national b)) same)
 
     -- The subtitle file can't be read on. For `tell_every_fault`.
     pub after_error : (block : ℕ) (kind : LoadFaultKind)
@@ -167,7 +167,7 @@ module _ {D N : Type 0} (IsTold : D → LoadFault → D → Type 0) (name : D �
       → PrintsEvents (value old) (subtitle_events items) (value new)
       → 0 < length items
       → RisesIf stl.old_count false stl.new_count
-      → IfTold stl.told (λ file. items ≡ faults national (outcome_of file))
+      → IfTold stl.told (λ file. items ≡ faults national file)
       → TellsBoth national options stl pes (value old) (value new) (Ok None)
   refused_file items prints some count are = record {
     events = subtitle_events items;
@@ -203,7 +203,7 @@ module _ {D N : Type 0} (IsTold : D → LoadFault → D → Type 0) (name : D �
       → ((value new).failed ≡ false → stopped ≡ false)
       → TellsOfFile IsTold old new
       → IfTold stl.told (λ file. TellsFaults IsTold old new stopped
-      (faults national (outcome_of file)))
+      (faults national file))
       → RisesIf stl.old_count false stl.new_count
       → TellsBoth national options stl pes (value old) (value new) (Ok None)
   go_faults None stopped is quiet some told count =
@@ -212,20 +212,20 @@ module _ {D N : Type 0} (IsTold : D → LoadFault → D → Type 0) (name : D �
       let here = told file is in
       let p = here.prefix in
       let least : 0 < p.0 = p.1 in
-      let most : p.0 ≤ length (faults national (outcome_of file)) = p.2 in
-      refused_file (faults national (outcome_of file))
-      (prints-faults (faults national (outcome_of file)) stopped (value new).failed refl quiet here)
+      let most : p.0 ≤ length (faults national file) = p.2 in
+      refused_file (faults national file)
+      (prints-faults (faults national file) stopped (value new).failed refl quiet here)
       (omega (arith, least, most)) count
       (λ other heard.
       let same : file ≡ other = cc in
-      ap (λ b. faults national (outcome_of b)) same)
+      ap (λ b. faults national b) same)
 
   -- The subtitle file is refused. For `tell_every_fault`.
   pub after_faults : (stopped : Bool)
       → ((value new).failed ≡ false → (value new).count ≡ (value old).count → stopped ≡ false)
       → TellsOfFile IsTold old new
       → IfTold stl.told (λ file. TellsFaults IsTold old new stopped
-      (faults national (outcome_of file)))
+      (faults national file))
       → RisesIf stl.old_count false stl.new_count
       → (name new ≡ name old)
       × TellsBoth national options stl pes (value old) (value new) (Ok None)

@@ -51,7 +51,7 @@ is_of_subtitles (Err f) = is_subtitle_fault f
 -- for a subtitle before which there is no fault.
 abbrev pub AreListedBefore : National → List ℕ → List Event → ℕ → LoadFaultKind → Type 0
 AreListedBefore national file events block (File stl_fault.Read) =
-    events ≡ subtitle_events (filter (is_told_before block) (faults national (outcome_of file)))
+    events ≡ subtitle_events (filter (is_told_before block) (faults national file))
 AreListedBefore national file events block Memory =
     (events ≡ []) × EndsRecord national [] block (outcome_of file)
 AreListedBefore national file events block kind = ⊥
@@ -83,7 +83,7 @@ abbrev pub AreListed :
     National → OptionsValue → List ℕ → Option (List ℕ) → List Event
     → Result (Option Accepted) CheckFault → Type 0
 AreListed national options file pes events (Ok None) =
-    (events ≡ subtitle_events (faults national (outcome_of file))) × (0 < refusals events)
+    (events ≡ subtitle_events (faults national file)) × (0 < refusals events)
 AreListed national options file pes events (Ok (Some a)) =
     IsListedOf national options file pes events (Ok a)
 AreListed national options file pes events (Err (Subtitles f)) =

@@ -5,7 +5,7 @@ use Rattle.std.specs.Prelude.{option_map}
 use Rattle.std.specs.List.{All}
 use Rattle.sub_io.specs.Telling.{Tells}
 use Rattle.stl_file.specs.declared.progress.Progress.TheVariants.{Reading}
-use Rattle.stl_file.specs.Reader.{outcome_left, outcome_of}
+use Rattle.stl_file.specs.Resuming.{findings_from}
 use Rattle.stl_file.specs.Subtitle.{SubtitleValue}
 use Rattle.stl_rows.specs.declared.fault.LoadFault.{LoadFault}
 use Rattle.stl_rows.proofs.FailedReadLemmas.{HasTaken}
@@ -28,8 +28,8 @@ invariant-subtitles g l = record {
       l.reader.block;
   goes_on : (bytes : List ℕ) → g.S.Source.remaining l.fn.source ≡ Some bytes
       → (rest : List ℕ) × (g.S.Source.remaining l.source ≡ Some rest)
-      × GoesOn l.national (outcome_of bytes) (outcome_left l.reader rest) l.before
-      (option_map (λ v. v.items) l.kept) early;
+      × GoesOn l.national bytes (findings_from l.reader.block l.reader.refused rest)
+      l.before (option_map (λ v. v.items) l.kept) early;
 }
 
 abbrev pub decreases-subtitles : goal.decreases-subtitles

@@ -3,7 +3,6 @@
 use Rattle.std.proofs.Common.{arith, ap, ◌∙◌, rules, sym}
 use Rattle.std.proofs.lemmas.Bool.Decides.{nat_tests}
 use Rattle.std.specs.Prelude.{Ok}
-use Rattle.stl_file.specs.Reader.{outcome_of}
 use Rattle.stl_rows.proofs.EveryFaultLemmas.{first-not_read, first-of_file, none-told, tells-first}
 use Rattle.stl_rows.proofs.loading.load_in.Goals as goal
 
@@ -23,7 +22,7 @@ returns-in-Some g c =
     record {
       exact = search rules;
       fault = λ bytes e.
-          tells-first c.args.national (outcome_of bytes) c.in-Some.fault _
+          tells-first c.args.national bytes c.in-Some.fault _
           (rw (c.new-first.ensures, first) at (c.in-Ok-None.ensures.told bytes e none))
           (rw (c.new-first.ensures, first) at of_file);
       never = own.0;

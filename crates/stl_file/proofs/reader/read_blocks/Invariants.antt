@@ -1,15 +1,18 @@
 -- What the loop keeps: the blocks that were read so far, and room for those that may follow.
 use Rattle.std.proofs.Common.{◌≡◌, ◌≤◌, ◌-◌}
+use Rattle.std.specs.Prelude.{option_map}
 use Rattle.stl_file.specs.Reading.{BegunFits, begun_in}
+use Rattle.stl_file.specs.Resuming.{refused_by}
 use Rattle.stl_file.specs.Tti.{most_blocks}
-use Rattle.stl_file.proofs.ReaderLemmas.{HasRead}
-use Rattle.stl_file.proofs.reader.read_subtitle.Given as goal
+use Rattle.stl_file.proofs.ReadBlocksLemmas.{HasRead}
+use Rattle.stl_file.proofs.reader.read_blocks.Given as goal
 
 abbrev pub invariant-loop-got : goal.invariant-loop-got
 invariant-loop-got g l = record {
   fits : BegunFits (begun_in l.subtitle l.count);
-  read : HasRead l.initial.block (g.S.Source.remaining l.initial.source)
-      (g.S.Source.remaining l.source) l.block (begun_in l.subtitle l.count);
+  read : HasRead l.initial.block (option_map refused_by l.initial.refused)
+      (g.S.Source.remaining l.initial.source) (g.S.Source.remaining l.source) l.block
+      (begun_in l.subtitle l.count);
   few : l.block ≤ most_blocks;
   count : g.S.Source.failure_count l.source ≡ g.S.Source.failure_count l.initial.source;
 }
