@@ -15,8 +15,10 @@ CODED = 2, 10  # where a header has its eight coded bytes
 C4, C5, C6, C7, C10, C11 = (3, 8), (5, 4), (5, 8), (6, 1), (6, 8), (7, 1)
 NATIONAL = [(7, 2), (7, 4), (7, 8)]  # C12 to C14, clear in English
 PARITY = 0x80
-TCI, TCO, VP, TEXT_FIELD = 5, 9, 13, 16  # places in a TTI block
+CS, TCI, TCO, VP, JC, TEXT_FIELD = 4, 5, 9, 13, 14, 16  # places in a TTI block
 BOTTOM = 23
+# Fields of a subtitle's first block that are set anew: to no cumulative set, the middle, row 22.
+FIELDS = {16: (CS, 0), 18: (JC, 2), 19: (VP, 22)}
 
 
 @dataclasses.dataclass
@@ -60,6 +62,14 @@ def mended_subtitles(data, faults):
             blocks[number - 1][TCO:VP] = blocks[number][TCI:TCO]
         elif fault.number in (50, 51):
             drop_byte(blocks[number], fault.place["at"])
+        elif fault.number in FIELDS:
+            field, value = FIELDS[fault.number]
+            blocks[number][field] = value
+        elif fault.number == 20:
+            for time in (TCI, TCO):
+                blocks[number][time + 3] = min(blocks[number][time + 3], 24)
+        elif fault.number == 21:
+            blocks[number][TCO:VP] = blocks[number + 1][TCI:TCO]
         elif fault.number == 53:
             is_double = DOUBLE_HEIGHT in blocks[number][TEXT_FIELD:]
             blocks[number][VP] = BOTTOM - is_double - fault.place["at"]

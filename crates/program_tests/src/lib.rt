@@ -28,6 +28,8 @@ mod packet;
 #[cfg(test)]
 mod packets;
 #[cfg(test)]
+mod reading_on;
+#[cfg(test)]
 mod refused_memory;
 #[cfg(test)]
 mod requests;

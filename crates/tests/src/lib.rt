@@ -34,6 +34,8 @@ mod programmes;
 #[cfg(test)]
 mod receivers;
 #[cfg(test)]
+mod resuming;
+#[cfg(test)]
 mod schedules;
 #[cfg(test)]
 mod stopping;

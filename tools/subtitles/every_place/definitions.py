@@ -7,7 +7,7 @@ import collections
 
 from ..teletext import CODE_WORDS, address_of, is_odd
 from ..times import frame_at, time_of
-from .reading import header_of, pes_packets_of, records_of
+from .reading import StlFault, found_in, header_of, pes_packets_of, records_of
 from .rows import BLANK, COLUMNS, TextFault, drawn
 
 NAMES = dict(
@@ -49,20 +49,20 @@ def ended(number, frame):
 
 def stl_faults(data, option):
     """The lines for everything that is broken in a subtitle file."""
-    records, last_fault = records_of(data)
     before = None
-    for record in records:
-        if before and record.tci < before.tci:
-            yield refused(56, f"block {record.block}")
-        elif before and record.tci < before.tco:
-            yield refused(57, f"block {record.block}")
+    for found in found_in(data):
+        if isinstance(found, StlFault):
+            yield refused(found.number, f"block {found.block}")
+            continue
+        if before and found.tci < before.tci:
+            yield refused(56, f"block {found.block}")
+        elif before and found.tci < before.tco:
+            yield refused(57, f"block {found.block}")
         try:
-            drawn(record, option)
+            drawn(found, option)
         except TextFault as fault:
-            yield refused(fault.number, f"block {record.block} at {fault.at}")
-        before = record
-    if last_fault:
-        yield refused(last_fault.number, f"block {last_fault.block}")
+            yield refused(fault.number, f"block {found.block} at {fault.at}")
+        before = found
 
 
 class Due:
@@ -264,7 +264,7 @@ def check_all(stl, pes, options):
         count += 1
         yield line
     if not count:
-        due = Due(records_of(stl)[0], options.option)
+        due = Due(records_of(stl), options.option)
         for line in pes_events(due, pes, options):
             count += line.startswith("refused")
             yield line

@@ -3,7 +3,7 @@ import collections
 import os
 
 from ..preview import TOP
-from ..stl import GSI, subtitle_blocks
+from ..stl import GSI, TTI, subtitle_blocks
 
 # `words` are the options of `check`, `lines` what it prints.
 Known = collections.namedtuple("Known", "name stl pes words lines")
@@ -28,14 +28,38 @@ NO_ERASE = {55: 0xA8}  # C4 clear in the first header
 NO_END = {138: 0xFF}  # the first closing header a stuffing unit
 
 
+HI = b"\x0d\x0b\x0bHi\x0a\x0a"
+
+
 def five_subtitles():
     """One that overlaps and two with an accent, a good one, and one before the others."""
     accent = b"caf\xc2e"
-    times = [(900_000, 900_050, b"\x0d\x0b\x0bHi\x0a\x0a"), (900_040, 900_090, accent),
+    times = [(900_000, 900_050, HI), (900_040, 900_090, accent),
              (900_100, 900_150, accent), (900_150, 900_160, b"ok"), (900_010, 900_020, b"ok")]
     blocks = [subtitle_blocks(number, tci, tco, 22, 2, text)
               for number, (tci, tco, text) in enumerate(times)]
     return HELLO[:GSI] + b"".join(blocks)
+
+
+def refused_three():
+    """CS 1 in the first, JC 4 and VP 0 in the second, and an accent in the third."""
+    texts = [HI, HI, b"caf\xc2e"]
+    blocks = [subtitle_blocks(number, 900_000 + 50 * number, 900_050 + 50 * number, 22, 2, text)
+              for number, text in enumerate(texts)]
+    return HELLO[:GSI] + poked(b"".join(blocks), {4: 1, TTI + 13: 0, TTI + 14: 4})
+
+
+def refused_of_two(last_sn):
+    """A subtitle of two blocks, SN 0, that ends where it begins, and the one of hello.stl."""
+    block = subtitle_blocks(0, 900_000, 900_000, 22, 2, HI)
+    return HELLO[:GSI] + poked(block * 2, {3: 0, TTI + 1: last_sn}) + HELLO[GSI:]
+
+
+def refused_between():
+    """The one of hello.stl; one whose TCI is no time code; and one that begins before the first
+    has ended."""
+    late = subtitle_blocks(1, 900_000, 900_050, 22, 2, HI)
+    return HELLO + poked(late, {8: 25}) + subtitle_blocks(2, 900_040, 900_060, 22, 2, HI)
 
 
 OF_FIVE = ["refused 57 Overlap block 2", "refused 50 Character block 2 at 3",
@@ -76,4 +100,13 @@ KNOWN = [
     Known("five subtitles", five_subtitles(), SENT, "", [*OF_FIVE, "4 faults"]),
     Known("five subtitles and a part of a block", five_subtitles() + b"\0" * 127, SENT, "",
           [*OF_FIVE, "refused 10 Truncated block 6", "5 faults"]),
+    Known("three subtitles, two of them refused", refused_three(), SENT, "",
+          ["refused 16 Cumulative block 1", "refused 18 Justify block 2",
+           "refused 50 Character block 3 at 3", "3 faults"]),
+    Known("a refused subtitle of two blocks", refused_of_two(0), SENT, "",
+          ["refused 21 EmptyTime block 1", "1 faults"]),
+    Known("its second block with another SN", refused_of_two(9), SENT, "",
+          ["refused 21 EmptyTime block 1", "refused 22 Sequence block 2", "2 faults"]),
+    Known("a refused subtitle between two", refused_between(), SENT, "",
+          ["refused 20 Time block 2", "refused 57 Overlap block 3", "2 faults"]),
 ]

@@ -105,6 +105,16 @@ def break_block(chance, data, block):
         data[block + chance.randrange(3)] ^= 1  # SGN, SN
 
 
+def blocks_of_one(chance, block):
+    """A block left out, or some times; now and then as blocks of one subtitle."""
+    count = chance.choice([0, 2, 2, 3, 10])
+    if chance.random() < 0.6:
+        block[3] = chance.choice([0, 1])
+        last = block[:3] + bytes([0xFF]) + block[4:]
+        return block * (count - 1) + last if count else last
+    return block * count
+
+
 def break_stl(chance, data):
     """A subtitle file with some bytes, blocks or its length otherwise."""
     data = bytearray(data)
@@ -122,7 +132,7 @@ def break_stl(chance, data):
             data[one:one + TTI], data[other:other + TTI] = \
                 data[other:other + TTI], data[one:one + TTI]
         elif way < 0.91:
-            data[one:one + TTI] = data[one:one + TTI] * chance.choice([0, 2, 10])
+            data[one:one + TTI] = blocks_of_one(chance, data[one:one + TTI])
         elif way < 0.95:
             data[one + 16:one + TTI] = chance.choice([b"xx", b"x\x8a"]) * 56
         else:

@@ -16,8 +16,10 @@ MOST_BLOCKS, MOST_BLOCKS_OF_ONE, MOST_PES_PACKETS = 99_999, 9, 2_160_000
 # A subtitle as the blocks of the file hold it. `block` is the number of its last block, and `text`
 # what its blocks hold before their unused space, joined.
 Record = collections.namedtuple("Record", "block tci tco row justify text")
-# A fault of a subtitle file: its number, its block, and for a fault of the text its place there.
-StlFault = collections.namedtuple("StlFault", "number block at", defaults=[None])
+# A fault of a subtitle file that its blocks have: its number, and its block.
+StlFault = collections.namedtuple("StlFault", "number block")
+# Those of what the first block of a subtitle says of it: CS, JC, VP, TCI and TCO.
+OF_FIRST_BLOCK = {16, 18, 19, 20, 21}
 
 
 # Subtitle files
@@ -76,26 +78,41 @@ def record_of(group, number):
                   text)
 
 
-def records_of(data):
-    """The subtitles before the first block that is broken, and that block's fault or `None`."""
+def found_in(data):
+    """What a subtitle file holds, by block: records, and faults.
+
+    Where what the first block of a subtitle says of it is broken, its blocks are known all the
+    same. They are no record, and reading goes on; any other fault is the last.
+    """
     number = general_fault(data)
     if number:
-        return [], StlFault(number, 0)
-    records, group, count = [], [], 0
+        yield StlFault(number, 0)
+        return
+    group, is_record, count = [], True, 0
     while GSI + TTI * count < len(data):
         block = data[GSI + TTI * count:GSI + TTI * (count + 1)]
         count += 1
         number = 25 if count > MOST_BLOCKS else 10 if len(block) < TTI \
             else block_fault(block, group)
         if number:
-            return records, StlFault(number, count)
-        if block[3] == USER_DATA or block[15] == 1:
+            yield StlFault(number, count)
+            is_record = False
+            if number not in OF_FIRST_BLOCK:
+                return
+        elif block[3] == USER_DATA or block[15] == 1:
             continue
         group.append(block)
         if block[3] == LAST:
-            records.append(record_of(group, count))
-            group = []
-    return records, StlFault(24, count) if group else None
+            if is_record:
+                yield record_of(group, count)
+            group, is_record = [], True
+    if group:
+        yield StlFault(24, count)
+
+
+def records_of(data):
+    """The subtitles of a file."""
+    return [found for found in found_in(data) if isinstance(found, Record)]
 
 
 # PES packets
