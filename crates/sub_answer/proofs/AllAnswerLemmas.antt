@@ -23,24 +23,24 @@ use Rattle.stl_rows.specs.declared.fault.LoadFaultKind.TheVariants as load
 use Rattle.stl_rows.specs.declared.national.National.{National}
 use Rattle.sub_plan.specs.Options.{OptionsValue}
 use Rattle.sub_check.specs.CheckedFiles.{IsChecked, first_answer}
-use Rattle.sub_check.specs.Events as pes_events
-use Rattle.sub_check.specs.FrameRules.{task_of}
-use Rattle.sub_check.specs.Good.{Good}
-use Rattle.sub_check.specs.PesFrames.{Carries}
-use Rattle.sub_check.specs.PesReading.{pes_file_of}
-use Rattle.sub_check.specs.OnScreen.{Complete}
-use Rattle.sub_check.specs.Transmission.{Transmission}
-use Rattle.sub_check.proofs.CheckingLemmas.FirstTold.{first_of_pes, first_own, none_first}
-use Rattle.sub_check.specs.declared.event.Event.TheVariants.{Ended, Told}
+use Rattle.sub_rules.specs.Events as pes_events
+use Rattle.sub_rules.specs.FrameRules.{task_of}
+use Rattle.sub_rules.specs.Good.{Good}
+use Rattle.sub_rules.specs.PesFrames.{Carries}
+use Rattle.sub_rules.specs.PesReading.{pes_file_of}
+use Rattle.sub_laws.specs.OnScreen.{Complete}
+use Rattle.sub_rules.specs.Transmission.{Transmission}
+use Rattle.sub_check.proofs.FirstToldLemmas.{first_of_pes, first_own, none_first}
+use Rattle.sub_rules.specs.declared.event.Event.TheVariants.{Ended, Told}
 use Rattle.sub_answer.specs.declared.told.Kind.{Kind}
 use Rattle.sub_answer.specs.declared.told.Kind.TheVariants as kind
 use Rattle.std.proofs.Common.{◌∷◌}
-use Rattle.sub_check.specs.Fault.{is_failure, is_failure_kind, is_pes_read, is_stl_read}
-use Rattle.sub_check.specs.Fault.{is_subtitle_fault}
-use Rattle.sub_check.specs.declared.checking.Accepted.{Accepted}
-use Rattle.sub_check.specs.declared.event.Event.{Event}
-use Rattle.sub_check.specs.declared.fault.CheckFault.{CheckFault}
-use Rattle.sub_check.specs.declared.fault.CheckFault.TheVariants as fault
+use Rattle.sub_rules.specs.Fault.{is_failure, is_failure_kind, is_pes_read, is_stl_read}
+use Rattle.sub_rules.specs.Fault.{is_subtitle_fault}
+use Rattle.sub_checker.specs.declared.telling.Accepted.{Accepted}
+use Rattle.sub_rules.specs.declared.event.Event.{Event}
+use Rattle.sub_rules.specs.declared.fault.CheckFault.{CheckFault}
+use Rattle.sub_rules.specs.declared.fault.CheckFault.TheVariants as fault
 use Rattle.sub_answer.specs.DeviceCall.{Counts, SinkCall, SourceCall}
 use Rattle.sub_answer.specs.EveryFault.{AnswersAll, AreListed, AreListedBefore, CanEnd}
 use Rattle.sub_answer.specs.EveryFault.{IsAccepted, IsVerdict, TellsBoth}

@@ -27,17 +27,17 @@ use Rattle.stl_rows.specs.declared.fault.LoadFaultKind.TheVariants as load
 use Rattle.stl_rows.specs.declared.national.National.{National}
 use Rattle.sub_plan.specs.Options.{OptionsValue}
 use Rattle.sub_check.specs.CheckedFiles.{IsChecked, TellsEvents, first_answer}
-use Rattle.sub_check.specs.CheckedFiles.{CountsRead}
-use Rattle.sub_check.specs.Events as pes_events
-use Rattle.sub_check.specs.Fault.{is_pes_read}
-use Rattle.sub_check.specs.FrameRules.{frame_at, packets_before, task_of}
-use Rattle.sub_check.specs.PacketRules.{header_count}
-use Rattle.sub_check.specs.PesReading.{pes_file_of}
-use Rattle.sub_check.specs.Transmission.{Transmission}
-use Rattle.sub_check.specs.declared.checking.Accepted.{Accepted}
-use Rattle.sub_check.specs.declared.event.Event.{Event}
-use Rattle.sub_check.specs.declared.fault.CheckFault.{CheckFault}
-use Rattle.sub_check.specs.declared.fault.CheckFault.TheVariants as fault
+use Rattle.sub_checker.specs.Telling.{CountsRead}
+use Rattle.sub_rules.specs.Events as pes_events
+use Rattle.sub_rules.specs.Fault.{is_pes_read}
+use Rattle.sub_rules.specs.FrameRules.{frame_at, packets_before, task_of}
+use Rattle.sub_rules.specs.PacketRules.{header_count}
+use Rattle.sub_rules.specs.PesReading.{pes_file_of}
+use Rattle.sub_rules.specs.Transmission.{Transmission}
+use Rattle.sub_checker.specs.declared.telling.Accepted.{Accepted}
+use Rattle.sub_rules.specs.declared.event.Event.{Event}
+use Rattle.sub_rules.specs.declared.fault.CheckFault.{CheckFault}
+use Rattle.sub_rules.specs.declared.fault.CheckFault.TheVariants as fault
 use Rattle.sub_answer.specs.DeviceCall.{SourceCall}
 use Rattle.sub_answer.specs.EveryFault.{FailsAtBlock, TellsBoth}
 use Rattle.sub_answer.specs.FaultListing.{most_counted}

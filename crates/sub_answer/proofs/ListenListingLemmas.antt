@@ -3,15 +3,15 @@ use Rattle.std.specs.Prelude.{IfOk}
 use Rattle.std.proofs.Common.{◌≡◌, ℕ, List, ap, subst, Bool, Option, Result}
 use Rattle.ttx_packet.specs.PageId.{PageIdValue}
 use Rattle.ttx_page.specs.Screen.{Display}
-use Rattle.sub_check.specs.FrameRules.{Unread}
-use Rattle.sub_check.specs.Transmission.{Transmission}
-use Rattle.sub_check.specs.listening.Run.{HearsFile}
+use Rattle.sub_rules.specs.FrameRules.{Unread}
+use Rattle.sub_rules.specs.Transmission.{Transmission}
+use Rattle.sub_listen.specs.Run.{HearsFile}
 use Rattle.sub_answer.specs.Answering.{AnswersListen}
 use Rattle.sub_answer.specs.DeviceCall.{SinkCall, SourceCall}
 use Rattle.sub_answer.specs.declared.status.Status.{Status}
 use Rattle.sub_answer.specs.ListenListing.{IsOldPage, IsSeenWhole, Listens, listing_of, tuned_with}
 use Rattle.ttx_page.specs.Page.{Rows}
-use Rattle.sub_check.specs.declared.listening.ListenFault.{ListenFault}
+use Rattle.sub_listen.specs.declared.listening.ListenFault.{ListenFault}
 use Rattle.sub_request.specs.declared.listening.Listening.{Listening}
 
 -- What is printed of a run of a receiver that was tuned. For `listen`.

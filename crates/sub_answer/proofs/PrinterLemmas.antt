@@ -10,7 +10,7 @@ use Rattle.std.proofs.KnownBytes.{Appends-nil, Appends-trans}
 use Rattle.sub_io.proofs.DeviceLemmas.{AppendsPrefix-first, AppendsPrefix-second}
 use Rattle.sub_io.specs.Device.{AppendsPrefix}
 use Rattle.sub_io.specs.Telling.{Tells, TellsInTurn}
-use Rattle.sub_check.specs.declared.event.Event.{Event}
+use Rattle.sub_rules.specs.declared.event.Event.{Event}
 use Rattle.sub_answer.specs.FaultListing.{event_line, event_lines, most_counted, refusal, refusals}
 use Rattle.sub_answer.specs.Printer.{PrinterValue, PrintsEvent, PrintsEvents, can_fail, counted}
 

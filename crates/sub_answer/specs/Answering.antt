@@ -11,17 +11,17 @@ use Rattle.stl_rows.specs.declared.fault.LoadFault.{LoadFault}
 use Rattle.stl_rows.specs.declared.national.National.{National}
 use Rattle.sub_plan.specs.Options.{OptionsValue}
 use Rattle.sub_check.specs.CheckedFiles.{AreChecked}
-use Rattle.sub_check.specs.Fault.{is_pes_read, is_stl_read, is_subtitle_fault}
-use Rattle.sub_check.specs.FrameRules.{Unread}
-use Rattle.sub_check.specs.listening.Run.{FailsListening}
-use Rattle.sub_check.specs.PesReading.{ReadsAs}
-use Rattle.sub_check.specs.listening.Reception.{left_by}
-use Rattle.sub_check.specs.Transmission.{Transmission}
-use Rattle.sub_check.specs.declared.checking.Accepted.{Accepted}
-use Rattle.sub_check.specs.declared.fault.CheckFault.{CheckFault}
-use Rattle.sub_check.specs.declared.fault.CheckFault.TheVariants as check
+use Rattle.sub_rules.specs.Fault.{is_pes_read, is_stl_read, is_subtitle_fault}
+use Rattle.sub_rules.specs.FrameRules.{Unread}
+use Rattle.sub_listen.specs.Run.{FailsListening}
+use Rattle.sub_rules.specs.PesReading.{ReadsAs}
+use Rattle.sub_listen.specs.Reception.{left_by}
+use Rattle.sub_rules.specs.Transmission.{Transmission}
+use Rattle.sub_checker.specs.declared.telling.Accepted.{Accepted}
+use Rattle.sub_rules.specs.declared.fault.CheckFault.{CheckFault}
+use Rattle.sub_rules.specs.declared.fault.CheckFault.TheVariants as check
 use Rattle.sub_request.specs.declared.listening.Listening.{Listening}
-use Rattle.sub_check.specs.declared.listening.ListenFault.{ListenFault}
+use Rattle.sub_listen.specs.declared.listening.ListenFault.{ListenFault}
 use Rattle.sub_answer.specs.DeviceCall.{SinkCall, SourceCall}
 pub use Rattle.sub_answer.specs.EveryFault.{AnswersAll, IsAccepted}
 use Rattle.sub_answer.specs.FaultListing.{accepted_line}

@@ -19,19 +19,19 @@ use Rattle.stl_rows.specs.declared.national.National.{National}
 use Rattle.stl_file.specs.declared.fault.StlFault.TheVariants as stl_fault
 use Rattle.sub_plan.specs.Options.{OptionsValue}
 use Rattle.sub_check.specs.CheckedFiles.{IsChecked, first_answer}
-use Rattle.sub_check.specs.CheckedFiles.{CountsRead}
-use Rattle.sub_check.specs.Events as pes_events
-use Rattle.sub_check.specs.Fault.{is_pes_read, is_stl_read, is_subtitle_fault}
-use Rattle.sub_check.specs.FrameRules.{task_of}
-use Rattle.sub_check.specs.Good.{Good}
-use Rattle.sub_check.specs.OnScreen.{Complete}
-use Rattle.sub_check.specs.PesFrames.{Carries}
-use Rattle.sub_check.specs.PesReading.{pes_file_of}
-use Rattle.sub_check.specs.Transmission.{Transmission}
-use Rattle.sub_check.specs.declared.checking.Accepted.{Accepted}
-use Rattle.sub_check.specs.declared.event.Event.{Event}
-use Rattle.sub_check.specs.declared.fault.CheckFault.{CheckFault}
-use Rattle.sub_check.specs.declared.fault.CheckFault.TheVariants.{Pes, Subtitles}
+use Rattle.sub_checker.specs.Telling.{CountsRead}
+use Rattle.sub_rules.specs.Events as pes_events
+use Rattle.sub_rules.specs.Fault.{is_pes_read, is_stl_read, is_subtitle_fault}
+use Rattle.sub_rules.specs.FrameRules.{task_of}
+use Rattle.sub_rules.specs.Good.{Good}
+use Rattle.sub_laws.specs.OnScreen.{Complete}
+use Rattle.sub_rules.specs.PesFrames.{Carries}
+use Rattle.sub_rules.specs.PesReading.{pes_file_of}
+use Rattle.sub_rules.specs.Transmission.{Transmission}
+use Rattle.sub_checker.specs.declared.telling.Accepted.{Accepted}
+use Rattle.sub_rules.specs.declared.event.Event.{Event}
+use Rattle.sub_rules.specs.declared.fault.CheckFault.{CheckFault}
+use Rattle.sub_rules.specs.declared.fault.CheckFault.TheVariants.{Pes, Subtitles}
 use Rattle.sub_answer.specs.DeviceCall.{SinkCall, SourceCall}
 use Rattle.sub_answer.specs.FaultListing.{all_listing, refusals, subtitle_events}
 use Rattle.sub_answer.specs.Listing.{PrintsOrFails}

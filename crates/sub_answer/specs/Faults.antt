@@ -16,12 +16,13 @@ use Rattle.sub_answer.specs.declared.told.Kind.TheVariants as kind
 use Rattle.sub_answer.specs.declared.told.Told.{Told}
 use Rattle.sub_answer.specs.declared.writing.WriteFault.{WriteFault}
 use Rattle.sub_answer.specs.declared.writing.WriteFault.TheVariants as write
-use Rattle.sub_check.specs.Fault.{check_code, is_failure, listen_code, place_of}
-use Rattle.sub_check.specs.declared.fault.CheckFault.{CheckFault}
-use Rattle.sub_check.specs.declared.fault.CheckFault.TheVariants as check
-use Rattle.sub_check.specs.declared.fault_place.FaultPlace.TheVariants as place
-use Rattle.sub_check.specs.declared.listening.ListenFault.{ListenFault}
-use Rattle.sub_check.specs.declared.listening.ListenFault.TheVariants as listen
+use Rattle.sub_rules.specs.Fault.{check_code, is_failure, place_of}
+use Rattle.sub_listen.specs.Fault.{listen_code}
+use Rattle.sub_rules.specs.declared.fault.CheckFault.{CheckFault}
+use Rattle.sub_rules.specs.declared.fault.CheckFault.TheVariants as check
+use Rattle.sub_rules.specs.declared.fault_place.FaultPlace.TheVariants as place
+use Rattle.sub_listen.specs.declared.listening.ListenFault.{ListenFault}
+use Rattle.sub_listen.specs.declared.listening.ListenFault.TheVariants as listen
 use Rattle.sub_plan.specs.Fault.{is_write, plan_code}
 use Rattle.sub_request.specs.Fault.{usage_code}
 use Rattle.sub_request.specs.declared.request.UsageFault.{UsageFault}

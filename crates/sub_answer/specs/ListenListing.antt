@@ -5,11 +5,11 @@ use Rattle.std.specs.Prelude.{IsTrue, if◌then◌else◌}
 use Rattle.std.specs.List.{list_all}
 use Rattle.ttx_page.specs.Page.{IsCell, IsPage, Rows, cell, row_at, space}
 use Rattle.ttx_page.specs.Screen.{Display}
-use Rattle.sub_check.specs.FrameRules.{Unread}
-use Rattle.sub_check.specs.listening.Run.{HearsFile}
-use Rattle.sub_check.specs.Transmission.{Transmission}
+use Rattle.sub_rules.specs.FrameRules.{Unread}
+use Rattle.sub_listen.specs.Run.{HearsFile}
+use Rattle.sub_rules.specs.Transmission.{Transmission}
 use Rattle.sub_request.specs.declared.listening.Listening.{Listening}
-use Rattle.sub_check.specs.declared.listening.ListenFault.{ListenFault}
+use Rattle.sub_listen.specs.declared.listening.ListenFault.{ListenFault}
 use Rattle.sub_answer.specs.Faults.{listen_told}
 use Rattle.sub_answer.specs.Lines.{glyph, two_digits}
 use Rattle.sub_answer.specs.Listing.{Listing, done, told_listing}

@@ -4,7 +4,7 @@ use Rattle.ttx_pes.specs.DataUnit.{UnitValue}
 use Rattle.ttx_pes.specs.Outcome.{PesOutcome, ReadsPackets, ends, fails, gives, outcome_after}
 use Rattle.ttx_pes.specs.PesPacket.{PesValue}
 use Rattle.sub_answer.specs.Faults.{check_told}
-use Rattle.sub_check.specs.declared.fault.CheckFault.TheVariants.{Pes}
+use Rattle.sub_rules.specs.declared.fault.CheckFault.TheVariants.{Pes}
 use Rattle.sub_answer.specs.Lines.{pes_line, unit_line}
 use Rattle.sub_answer.specs.Listing.{IsListed, Lists, Listing, done, followed, told_listing}
 

@@ -2,7 +2,7 @@
 use Rattle.std.specs.Prelude.{◌≡◌, ℕ, ◌+◌, min, nat_lt, Bool, true, false, List, Option}
 use Rattle.std.specs.Io.KnownBytes.{Appends}
 use Rattle.sub_io.specs.Device.{AppendsPrefix}
-use Rattle.sub_check.specs.declared.event.Event.{Event}
+use Rattle.sub_rules.specs.declared.event.Event.{Event}
 use Rattle.sub_answer.specs.FaultListing.{event_line, event_lines, most_counted, refusal, refusals}
 
 -- The device: what its sink has taken, where it tells that, and how often it has failed; how many

@@ -10,8 +10,8 @@ use Rattle.sub_answer.specs.declared.status.Status.TheVariants as status
 use Rattle.sub_answer.specs.declared.told.Kind.{Kind}
 use Rattle.sub_answer.specs.declared.told.Kind.TheVariants as kind
 use Rattle.sub_answer.specs.declared.told.Told.{Told}
-use Rattle.sub_check.specs.declared.fault_place.FaultPlace.{FaultPlace}
-use Rattle.sub_check.specs.declared.fault_place.FaultPlace.TheVariants as place
+use Rattle.sub_rules.specs.declared.fault_place.FaultPlace.{FaultPlace}
+use Rattle.sub_rules.specs.declared.fault_place.FaultPlace.TheVariants as place
 
 -- What is told of a fault with this code.
 abbrev pub told_as : Kind → FaultCodeValue → FaultPlace → Told

@@ -17,33 +17,30 @@ use Rattle.stl_rows.specs.declared.national.National.{National}
 use Rattle.sub_plan.specs.Options.{OptionsValue}
 use Rattle.sub_plan.specs.Schedule.{plan}
 use Rattle.sub_io.specs.Telling.{Tells}
-use Rattle.std.specs.Prelude.{◌+◌, ◌<◌, flat_map, ⊤}
-use Rattle.sub_io.specs.Telling.{TellsPrefix}
+use Rattle.std.specs.Prelude.{◌+◌, flat_map, ⊤}
 use Rattle.ttx_packet.specs.PageId.{PageIdValue}
 use Rattle.stl_file.specs.Reading.{Outcome}
 use Rattle.stl_rows.specs.Loading.{TellsFault}
-use Rattle.sub_check.specs.Events.{latest}
-use Rattle.sub_check.specs.FrameRules.{frame_at, packets_before}
-use Rattle.sub_check.specs.PacketRules.{header_count}
-use Rattle.sub_check.specs.Transmission.{SentFrame, first_frame, last_frame}
-use Rattle.sub_check.specs.Events.{events, events_of_first}
-use Rattle.sub_check.specs.declared.event.Event.{Event}
-use Rattle.sub_check.specs.declared.event.Event.TheVariants.{Told}
-use Rattle.sub_check.specs.Fault.{is_failure, is_pes_read, is_subtitle_fault}
-use Rattle.sub_check.specs.FirstBroken.{IsReadUpTo, NamesFirst}
-use Rattle.sub_check.specs.FrameRules.{task_of}
-use Rattle.sub_check.specs.Good.{Good}
-use Rattle.sub_check.specs.LostRows.{RobustToMarkedLoss}
-use Rattle.sub_check.specs.OnScreen.{Complete, Shown}
-use Rattle.sub_check.specs.PesFrames.{AreSentAs, Carries, IsPesFile}
-use Rattle.sub_check.specs.PesReading.{pes_file_of}
-use Rattle.sub_check.specs.Recovery.{Recovers}
-use Rattle.sub_check.specs.Robust.{Robust}
-use Rattle.sub_check.specs.Transmission.{Transmission}
-use Rattle.sub_check.specs.WrongContent.{IsWrongEverywhere}
-use Rattle.sub_check.specs.declared.checking.Accepted.{Accepted}
-use Rattle.sub_check.specs.declared.fault.CheckFault.{CheckFault}
-use Rattle.sub_check.specs.declared.fault.CheckFault.TheVariants as fault
+use Rattle.sub_rules.specs.Events.{events, events_of_first}
+use Rattle.sub_rules.specs.FrameRules.{task_of}
+use Rattle.sub_rules.specs.PacketRules.{header_count}
+use Rattle.sub_rules.specs.Transmission.{SentFrame, first_frame, last_frame, Transmission}
+use Rattle.sub_rules.specs.declared.event.Event.{Event}
+use Rattle.sub_rules.specs.declared.event.Event.TheVariants.{Told}
+use Rattle.sub_rules.specs.Fault.{is_failure, is_pes_read, is_subtitle_fault}
+use Rattle.sub_rules.specs.FirstBroken.{IsReadUpTo, NamesFirst}
+use Rattle.sub_rules.specs.Good.{Good}
+use Rattle.sub_laws.specs.LostRows.{RobustToMarkedLoss}
+use Rattle.sub_laws.specs.OnScreen.{Complete, Shown}
+use Rattle.sub_rules.specs.PesFrames.{AreSentAs, Carries, IsPesFile}
+use Rattle.sub_rules.specs.PesReading.{pes_file_of}
+use Rattle.sub_laws.specs.Recovery.{Recovers}
+use Rattle.sub_laws.specs.Robust.{Robust}
+use Rattle.sub_rules.specs.WrongContent.{IsWrongEverywhere}
+use Rattle.sub_checker.specs.Telling.{CountsRead, TellsOrStops}
+use Rattle.sub_checker.specs.declared.telling.Accepted.{Accepted}
+use Rattle.sub_rules.specs.declared.fault.CheckFault.{CheckFault}
+use Rattle.sub_rules.specs.declared.fault.CheckFault.TheVariants as fault
 
 -- ---- what acceptance promises
 
@@ -74,21 +71,6 @@ pub record HasCounts (page : PageIdValue) (frames : Transmission) (a : Accepted)
   pub frames_are : a.frames + first_frame frames ≡ last_frame frames + 1
   pub transmissions_are :
       a.transmissions ≡ header_count page (flat_map (λ (s : SentFrame). s.packets) frames)
-
--- What is counted of the PES packets that were read: the frames of the day from the first one's to
--- the latest one's, and the headers of the page.
-pub record CountsRead (page : PageIdValue) (frames : Transmission) (a : Accepted) : Type 0 where
-  pub none : length frames ≡ 0 → a.frames ≡ 0
-  pub frames_are :
-      0 < length frames → a.frames + frame_at frames 0 ≡ latest frames (length frames) + 1
-  pub transmissions_are :
-      a.transmissions ≡ header_count page (packets_before frames (length frames))
-
--- A device was told all of these; or it said stop, and was told them up to there.
-abbrev pub TellsOrStops : {A D : Type 0}
-    → (D → A → D → Type 0) → D → D → List A → Bool → Type 0
-TellsOrStops IsTold old new items false = Tells IsTold old new items
-TellsOrStops IsTold old new items true = TellsPrefix IsTold old new items
 
 -- ---- both files
 

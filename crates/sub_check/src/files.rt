@@ -7,14 +7,15 @@ ghost use Rattle.stl_rows.specs.Fault.{is_read};
 ghost use Rattle.stl_rows.specs.Loading.{FailsLoading};
 ghost use Rattle.stl_rows.specs.declared.fault.LoadFault.{LoadFault};
 ghost use Rattle.sub_check.specs.CheckedFiles.{AreAccepted, AreChecked};
-ghost use Rattle.sub_check.specs.Fault.{is_pes_read, is_pes_write, is_stl_read, is_subtitle_fault};
+ghost use Rattle.sub_rules.specs.Fault.{is_pes_read, is_pes_write, is_stl_read, is_subtitle_fault};
 
-use crate::checking::{Accepted, check};
-use crate::fault::CheckFault;
+use crate::checking::check;
 use std::alloc::Global;
 use stl_rows::{National, law_of_loading, load};
+use sub_checker::Accepted;
 use sub_io::Source;
 use sub_plan::Options;
+use sub_rules::CheckFault;
 use ttx_pes::PesFault;
 
 /// Checks a subtitle file and a PES file: loads the one, and checks the other against it.

@@ -9,13 +9,13 @@ use crate::answering::state::print_state;
 use crate::faults::told_of_listen;
 use crate::printing::print_told;
 use crate::status::Status;
-use sub_check::listen;
 use sub_io::{Sink, Source};
+use sub_listen::listen;
 use sub_request::Listening;
 use ttx_page::{Page, Receiver};
 
 /// Runs a receiver over the PES packets of a file up to TIME, and prints what it has heard and
-/// shows, or why the file is refused (`listen` of `sub_check`).
+/// shows, or why the file is refused (`listen` of `sub_listen`).
 ///
 /// The receiver is tuned to the page with an old page that holds 3F in every cell. Nothing is
 /// printed before the last packet was heard. Where complete pages are asked for, what is printed is

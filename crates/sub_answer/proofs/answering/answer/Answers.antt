@@ -1,6 +1,6 @@
 -- What a command's body says of its answer, said of the request.
 use Rattle.std.proofs.Common.{◌≡◌, ap, inl, inr}
-use Rattle.sub_check.specs.listening.Reception.{left_by}
+use Rattle.sub_listen.specs.Reception.{left_by}
 use Rattle.sub_request.specs.declared.listening.ReceiverKind.TheVariants.{Keep}
 use Rattle.sub_answer.proofs.ListenListingLemmas.{answers_as}
 use Rattle.sub_answer.proofs.answering.answer.Goals as goal

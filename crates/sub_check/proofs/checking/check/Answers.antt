@@ -1,8 +1,8 @@
--- What was told first decides the answer: `checked_from`, by CheckingLemmas.FirstTold.
+-- What was told first decides the answer: `checked_from`, by FirstToldLemmas.
 use Rattle.std.proofs.Common.{◌∙◌}
-use Rattle.sub_check.specs.FrameRules.{task_of}
-use Rattle.sub_check.proofs.CheckingLemmas.Verdict.{checked_from}
-use Rattle.sub_check.proofs.CheckingLemmas.FirstTold.{decided, read_up_to}
+use Rattle.sub_rules.specs.FrameRules.{task_of}
+use Rattle.sub_check.proofs.VerdictLemmas.{checked_from}
+use Rattle.sub_check.proofs.FirstToldLemmas.{decided, read_up_to}
 use Rattle.sub_check.proofs.checking.check.Goals as goal
 
 pub returns-in-Ok-clause-checked : goal.returns-in-Ok-clause-checked

@@ -1,5 +1,5 @@
--- What is told of the file as one value: CheckingLemmas.FirstTold.
-use Rattle.sub_check.proofs.CheckingLemmas.FirstTold.{tells_events}
+-- What is told of the file as one value: FirstToldLemmas.
+use Rattle.sub_check.proofs.FirstToldLemmas.{tells_events}
 use Rattle.sub_check.proofs.checking.check_all.Goals as goal
 
 pub returns-clause-told : goal.returns-clause-told

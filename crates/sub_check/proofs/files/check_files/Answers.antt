@@ -2,7 +2,7 @@
 -- `files_accepted`, `files_refused`.
 use Rattle.std.proofs.lemmas.Bool.Decides.{nat_tests}
 use Rattle.std.proofs.Common.{arith}
-use Rattle.sub_check.proofs.CheckingLemmas.Verdict.{files_accepted, files_refused}
+use Rattle.sub_check.proofs.VerdictLemmas.{files_accepted, files_refused}
 use Rattle.sub_check.proofs.files.check_files.Goals as goal
 
 pub returns-in-Err-clause-accepted : goal.returns-in-Err-clause-accepted

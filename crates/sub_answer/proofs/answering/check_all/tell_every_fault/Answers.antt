@@ -2,7 +2,7 @@
 use Rattle.std.proofs.Common.{◌≡◌, ◌∙◌, ap, refl, sym, subst, arith, ℕ, List, Option, Some, Ok, Err}
 use Rattle.std.proofs.Common.{◌<◌}
 use Rattle.stl_rows.specs.declared.fault.LoadFault.{LoadFault}
-use Rattle.sub_check.specs.declared.event.Event.{Event}
+use Rattle.sub_rules.specs.declared.event.Event.{Event}
 use Rattle.sub_answer.specs.DeviceCall.{source_call}
 use Rattle.sub_answer.specs.EveryFault.{TellsBoth}
 use Rattle.sub_answer.specs.FaultListing.{subtitle_event}

@@ -1,7 +1,7 @@
 -- What is printed is that of the run; by listens_from.
 use Rattle.std.proofs.Common.{None, refl, ◌∙◌, ap, arith, Ok, Err}
 use Rattle.ttx_page.specs.Screen.{display}
-use Rattle.sub_check.specs.listening.Run.{is_failed_read}
+use Rattle.sub_listen.specs.Run.{is_failed_read}
 use Rattle.sub_answer.specs.ListenListing.{listing_of}
 use Rattle.sub_answer.proofs.ListenListingLemmas.{listens_from}
 use Rattle.sub_answer.proofs.PrintingLemmas.{did_not_rise, did_rise}

@@ -1,3 +1,0 @@
-pub mod HeardAgain
-pub mod Untouched
-pub mod WaysOut

@@ -1,8 +1,0 @@
--- Nothing is heard yet.
-use Rattle.std.proofs.Common.{refl, arith}
-use Rattle.sub_check.proofs.CheckingLemmas.Following.{Follows-none}
-use Rattle.sub_check.proofs.checking.checker.Checker.new.Goals as goal
-
-pub returns-clause-follows : goal.returns-clause-follows
-returns-clause-follows c frames unread =
-    Follows-none _ frames _ (grind arith) (c.new.ensures.knows _) refl c.none.ensures

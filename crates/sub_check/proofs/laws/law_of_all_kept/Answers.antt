@@ -1,6 +1,0 @@
--- The law: AllKept.
-use Rattle.sub_check.proofs.AllKept.{law_of_all_kept}
-use Rattle.sub_check.proofs.laws.law_of_all_kept.Goals as goal
-
-pub returns : goal.returns
-returns c = law_of_all_kept

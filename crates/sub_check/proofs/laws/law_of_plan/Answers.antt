@@ -1,6 +1,0 @@
--- The law: PlanLemmas.
-use Rattle.sub_check.proofs.PlanLemmas.{law_of_plan}
-use Rattle.sub_check.proofs.laws.law_of_plan.Goals as goal
-
-pub returns : goal.returns
-returns c = law_of_plan

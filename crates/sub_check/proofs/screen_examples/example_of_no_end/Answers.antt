@@ -1,6 +1,0 @@
--- The example: ScreenTests.
-use Rattle.sub_check.proofs.ScreenTests as example
-use Rattle.sub_check.proofs.screen_examples.example_of_no_end.Goals as goal
-
-pub returns : goal.returns
-returns c = example.example_of_no_end

@@ -1,0 +1,65 @@
+-- The due page from one edge to the next.
+use Rattle.std.proofs.lemmas.Bool.Decides.{nat_tests}
+use Rattle.std.proofs.Common.{Option, Some, None, ◌≡◌, ℕ, zero, suc, ◌+◌, ◌-◌, ◌<◌, ◌≤◌, true, List}
+use Rattle.std.proofs.Common.{refl, ap, ◌∙◌, arith}
+use Rattle.stl_file.specs.Subtitle.{SubtitleValue}
+use Rattle.stl_rows.specs.declared.national.National.{National}
+use Rattle.stl_rows.specs.DuePage.{due, TellsNextEdge}
+use Rattle.stl_rows.specs.Programme.{ProgrammeValue}
+use Rattle.stl_rows.proofs.DuePageLemmas.{edges_alone}
+use Rattle.sub_plan.specs.Schedule.{due_in}
+use Rattle.sub_checker.specs.Checker.{CheckerValue, IsAtFrame, at_frame, is_before}
+use Rattle.sub_checker.specs.declared.listener.Listener.{Listener}
+
+-- Up to the next edge the due page stays.
+due_until :
+    (national : National) (records : List SubtitleValue) (frame : ℕ) (edge : Option ℕ) (k : ℕ)
+    → TellsNextEdge records frame edge
+    → is_before (frame + k) edge ≡ true
+    → due national records (frame + k) ≡ due national records frame
+due_until national records frame edge zero tells before = ap (due national records) (omega arith)
+due_until national records frame None (suc k) tells before =
+    edges_alone national records (frame + suc k) (omega arith)
+    (λ is. let l = tells (frame + suc k) is in omega arith)
+    ∙ ap (due national records) (omega arith)
+    ∙ due_until national records frame None k tells refl
+due_until national records frame (Some e) (suc k) tells before =
+    let l : frame + suc k < e = grind (arith, nat_tests) in
+    edges_alone national records (frame + suc k) (omega arith)
+    (λ is. let m = tells.least (frame + suc k) is (omega arith) in omega (arith, l))
+    ∙ ap (due national records) (omega arith)
+    ∙ due_until national records frame (Some e) k tells (grind (arith, nat_tests))
+
+-- And it is the next edge still.
+same_edge :
+    (records : List SubtitleValue) (frame f : ℕ) (edge : Option ℕ)
+    → TellsNextEdge records frame edge
+    → frame ≤ f
+    → is_before f edge ≡ true
+    → TellsNextEdge records f edge
+same_edge records frame f None tells low before = λ e is. let l = tells e is in omega arith
+same_edge records frame f (Some edge) tells low before =
+    record {
+      is_edge = tells.is_edge;
+      after = grind (arith, nat_tests);
+      least = λ e is l. tells.least e is (omega arith);
+    }
+
+-- What is kept at a frame is so at a later one before the next edge. For `move_to`.
+pub IsAtFrame-later :
+    (p : ProgrammeValue) (every : ℕ) (s : Listener) (first latest frame : ℕ) (edge : Option ℕ)
+    (f : ℕ)
+    → IsAtFrame p every s first latest frame edge
+    → frame ≤ f
+    → is_before f edge ≡ true
+    → IsAtFrame p every s first latest f edge
+IsAtFrame-later p every s first latest frame edge f is low before =
+    let k : frame + (f - frame) ≡ f = omega arith in
+    grind (arith, nat_tests, due_until, same_edge)
+
+-- What is kept as due is due at this frame. For `move_to`.
+pub at_frame-stays :
+    (f : ℕ) (c : CheckerValue)
+    → c.listener.comparison.due ≡ due_in c.programme f
+    → record c { frame = f } ≡ at_frame f c
+at_frame-stays f c is = grind arith

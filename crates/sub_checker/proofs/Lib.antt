@@ -1,0 +1,10 @@
+pub mod EdgeLemmas
+pub mod FollowingLemmas
+pub mod ListenerLemmas
+pub mod PacketEventLemmas
+pub mod PacketRuleLemmas
+pub mod RuleSetLemmas
+pub mod SentAgainLemmas
+pub mod TellingLemmas
+pub mod WaysOutLemmas
+pub mod WrongCellLemmas

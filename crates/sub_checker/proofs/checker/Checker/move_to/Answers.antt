@@ -1,0 +1,30 @@
+-- Before the next edge, the due page and the next edge stay.
+use Rattle.std.proofs.Common.{ap, ◌∙◌, sym}
+use Rattle.sub_checker.specs.Checker.{CheckerValue, at_frame}
+use Rattle.sub_checker.proofs.EdgeLemmas.{IsAtFrame-later, at_frame-stays}
+use Rattle.sub_checker.proofs.checker.Checker.move_to.Goals as goal
+
+pub invariant_of-self : goal.invariant_of-self
+invariant_of-self c =
+    IsAtFrame-later _ _ _ _ _ _ _ c.args.f c.self.invariant c.if-self-f.true
+    (sym c.is_before.ensures ∙ c.if-is_before.true)
+
+pub returns-then-is_before : goal.returns-then-is_before
+returns-then-is_before c =
+    let i = c.self.inside in
+    let at =
+    IsAtFrame-later _ _ _ _ _ _ _ c.args.f c.self.invariant c.if-self-f.true
+    (sym c.is_before.ensures ∙ c.if-is_before.true) in
+    let before : CheckerValue = record {
+      programme = i.programme.now;
+      every = i.every;
+      listener = i.listener;
+      first = i.first;
+      latest = i.latest;
+      frame = i.frame;
+      last = i.last;
+      standing = i.standing;
+      late_at = i.late_at;
+      headers = i.headers;
+    } in
+    at_frame-stays c.args.f before at.due_is ∙ ap (at_frame c.args.f) c.self.view_is

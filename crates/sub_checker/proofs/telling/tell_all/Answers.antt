@@ -1,0 +1,143 @@
+-- Each way out tells what the whole file is: by WaysOutLemmas.
+use Rattle.std.proofs.Common.{◌∙◌, List, None, Option, Result, Ok, Some, sym, refl, ap, subst}
+use Rattle.std.proofs.Common.{arith}
+use Rattle.std.proofs.lemmas.Bool.{true≢false}
+use Rattle.sub_io.proofs.TellingLemmas.{TellsSome-none, TellsSome-trans, Tells-none, Tells-trans}
+use Rattle.ttx_pes.proofs.TakenPackets.{takes-more, takes-none}
+use Rattle.ttx_pes.specs.Comparing.{ComparingValue}
+use Rattle.ttx_pes.specs.DataUnit.{UnitValue}
+use Rattle.sub_checker.specs.Steps.{ending_fault}
+use Rattle.sub_rules.specs.Sendings.{IsSentFrame}
+use Rattle.sub_rules.specs.FrameRules.{packets_of_frame, task_of}
+use Rattle.sub_rules.specs.PacketRules.{packets_of_units}
+use Rattle.sub_rules.specs.declared.fault.CheckFault.{CheckFault}
+use Rattle.sub_rules.specs.declared.sending.Sending.{Sending}
+use Rattle.sub_checker.proofs.WaysOutLemmas.{Reads-none, again_is, at_end, counts_read, is_read}
+use Rattle.sub_checker.proofs.WaysOutLemmas.{next_read, next_sent, none_of_first, one_more}
+use Rattle.sub_checker.proofs.WaysOutLemmas.{told_to_end, told_to_stop}
+use Rattle.sub_checker.proofs.TellingLemmas.{all_same}
+use Rattle.sub_checker.proofs.telling.tell_all.Goals as goal
+
+pub packets-init : goal.packets-init
+packets-init g c = record {
+  few = omega arith;
+  reading = ap (λ (r : ComparingValue). r.progress) c.new-reader.ensures;
+  taken = takes-none _;
+  failures = refl;
+  goes_on = c.requires.goes_on;
+  some = TellsSome-none c.args.audience.now;
+  headers = omega (arith, c.new-checker.ensures.none);
+  told = λ frames unread bytes told reads. (
+    Reads-none c.args.programme.now c.args.options.now bytes frames unread _ told reads,
+    c.new-checker.ensures.follows frames unread,
+    λ some. absurd (omega arith),
+    all_same _ _ _ _ (none_of_first (task_of c.args.programme.now c.args.options.now unread) frames)
+        (Tells-none _),
+  );
+}
+
+pub returns-then-is_source_failure-clause-exact : goal.returns-then-is_source_failure-clause-exact
+returns-then-is_source_failure-clause-exact g c = λ frames unread bytes told reads.
+    let i = c.packets.invariant.told frames unread bytes told reads in (
+      c.packets.pes,
+      i.0.within,
+      c.in-Err.ensures.place (sym c.is_source_failure.ensures ∙ c.if-is_source_failure.true),
+      i.3,
+      c.packets.invariant.goes_on,
+    )
+
+pub returns-in-Err-clause-exact : goal.returns-in-Err-clause-exact
+returns-in-Err-clause-exact g c = λ frames unread bytes told reads.
+    let i = c.packets.invariant.told frames unread bytes told reads in
+    let task = task_of c.args.programme.now c.args.options.now unread in
+    let at =
+    c.in-Err.ensures.exact i.0.rest i.0.rest_is
+    (sym c.is_source_failure.ensures ∙ c.if-is_source_failure.false) in
+    let end = at_end i.0 (Some at.0) at.2 in
+    let given = ap Some at.1 ∙ ap (ending_fault c.packets.pes) (sym end.1) in (
+      told_to_end task frames c.packets.pes _ _ _ c.close.result _ end.0 i.3
+          (c.close.ensures.told task frames i.1 end.0 given) c.close.ensures.stopped,
+      λ quiet.
+          is_read i.0 (Some at.0) c.counts.result at.2
+          (counts_read i.0 c.packets.checker c.counts.result i.1 end.0 c.counts.ensures.none
+          c.counts.ensures.frames c.counts.ensures.headers),
+    )
+
+pub returns-in_default-clause-exact : goal.returns-in_default-clause-exact
+returns-in_default-clause-exact g c = λ frames unread bytes told reads.
+    let i = c.packets.invariant.told frames unread bytes told reads in
+    let task = task_of c.args.programme.now c.args.options.now unread in
+    let at = rw c.in_default.is at (c.in-Ok.ensures.exact i.0.rest i.0.rest_is refl) in
+    let end = at_end i.0 None at in
+    let given = ap (ending_fault c.packets.pes) (sym end.1) in (
+      told_to_end task frames c.packets.pes _ _ _ c.close-in_default.result _ end.0 i.3
+          (c.close-in_default.ensures.told task frames i.1 end.0 given)
+          c.close-in_default.ensures.stopped,
+      λ quiet.
+          is_read i.0 None c.counts-in_default.result at
+          (counts_read i.0 c.packets.checker c.counts-in_default.result i.1 end.0
+          c.counts-in_default.ensures.none c.counts-in_default.ensures.frames
+          c.counts-in_default.ensures.headers),
+    )
+
+pub returns-in-Err-go_on-clause-exact : goal.returns-in-Err-go_on-clause-exact
+returns-in-Err-go_on-clause-exact g c = λ frames unread bytes told reads.
+    let i = c.packets.invariant.told frames unread bytes told reads in
+    let task = task_of c.args.programme.now c.args.options.now unread in
+    let given = ap (λ x. let r : Result (Option Sending) CheckFault = Ok x in r) c.in-Some.is in
+    let at = rw c.in-Some.is at (c.in-Ok.ensures.exact i.0.rest i.0.rest_is refl) in
+    let sent =
+    subst (λ (us : List UnitValue). IsSentFrame frames c.packets.pes c.in-Some.sending.frame
+    (packets_of_units us)) (sym c.units_of-units.ensures.value)
+    (next_sent i.0 c.next_sending.new.reader.frame c.in-Some.sending.frame at) in
+    let go =
+    c.in-Err-go_on.ensures.told task frames i.1 sent
+    (λ e.
+    again_is frames c.packets.pes _ _ _ sent i.2
+    (ap packets_of_units
+    (sym (c.in-Ok.ensures.again c.in-Some.sending given e)
+    ∙ sym c.units_of-units.ensures.value))) in (
+      rw c.in-Err-go_on.ensures.stopped
+          (told_to_stop task frames c.packets.pes _ _ _ sent.there i.3 go.0),
+      λ quiet. absurd (true≢false (sym c.in-Err-go_on.ensures.stopped ∙ quiet)),
+    )
+
+pub packets-preserved : goal.packets-preserved
+packets-preserved g c =
+    let given = ap (λ x. let r : Result (Option Sending) CheckFault = Ok x in r) c.in-Some.is in
+    let next = c.in-Ok.ensures.few c.in-Some.sending given in
+    let counted = c.in-Ok.ensures.count in
+    let before = c.packets.invariant.failures in
+    let takes = c.in-Ok.ensures.taken c.in-Some.sending given in
+    record {
+      few = omega (arith, next);
+      reading = c.in-Ok.ensures.progress c.in-Some.sending given;
+      taken = takes-more c.packets.pes _ _ _ _ c.packets.invariant.taken takes;
+      failures = omega (arith, counted, before);
+      goes_on = c.in-Ok-go_on.ensures.stopped;
+      some = TellsSome-trans _ _ _ c.packets.invariant.some c.in-Ok-go_on.ensures.some;
+      headers = c.in-Ok-go_on.ensures.headers;
+      told = λ frames unread bytes told reads.
+          let i = c.packets.invariant.told frames unread bytes told reads in
+          let task = task_of c.args.programme.now c.args.options.now unread in
+          let at = rw c.in-Some.is at (c.in-Ok.ensures.exact i.0.rest i.0.rest_is refl) in
+          let first =
+          next_sent i.0 c.next_sending.new.reader.frame c.in-Some.sending.frame at in
+          let sent =
+          subst (λ (us : List UnitValue). IsSentFrame frames c.packets.pes c.in-Some.sending.frame
+          (packets_of_units us)) (sym c.units_of-units.ensures.value) first in
+          let go =
+          c.in-Ok-go_on.ensures.told task frames i.1 sent
+          (λ e.
+          again_is frames c.packets.pes _ _ _ sent i.2
+          (ap packets_of_units
+          (sym (c.in-Ok.ensures.again c.in-Some.sending given e)
+          ∙ sym c.units_of-units.ensures.value))) in (
+            next_read i.0 c.next_sending.new.reader.frame c.in-Some.sending.frame _ at
+                (c.in-Ok.ensures.left i.0.rest i.0.rest_is) takes c.units_of-units.ensures.frame,
+            go.1,
+            λ some. ap (packets_of_frame frames) (omega arith) ∙ first.packets_are,
+            all_same _ _ _ _ (one_more task frames c.packets.pes)
+                (Tells-trans _ _ _ _ _ i.3 go.0),
+          );
+    }

@@ -1,0 +1,68 @@
+-- What the checker tells of a PES file, and counts of it.
+use Rattle.std.specs.Prelude.{◌≡◌, ℕ, ◌+◌, ◌<◌, ◌≤◌, Bool, false, true, List, [], ◌++◌, length}
+use Rattle.std.specs.Prelude.{All, None, Result, Ok, Err}
+use Rattle.std.specs.List.{AllByRecursion, AllZip, concat}
+use Rattle.sub_io.specs.Telling.{Tells, TellsPrefix}
+use Rattle.ttx_packet.specs.PageId.{PageIdValue}
+use Rattle.ttx_pes.specs.PesPacket.{IsPesPacket, PesValue}
+use Rattle.ttx_pes.specs.Reading.{most_packets}
+use Rattle.ttx_pes.specs.declared.fault.PesFault.TheVariants.{Read}
+use Rattle.sub_rules.specs.Events.{events, events_of_first, latest}
+use Rattle.sub_rules.specs.declared.event.Event.{Event}
+use Rattle.sub_rules.specs.FrameRules.{Task, frame_at, packets_before}
+use Rattle.sub_rules.specs.PacketRules.{header_count}
+use Rattle.sub_rules.specs.PesFrames.{IsSentAs}
+use Rattle.sub_rules.specs.Transmission.{SentFrame, Transmission}
+use Rattle.sub_rules.specs.declared.fault.CheckFault.{CheckFault}
+use Rattle.sub_rules.specs.declared.fault.CheckFault.TheVariants as fault
+use Rattle.sub_checker.specs.declared.telling.Accepted.{Accepted}
+
+-- What is counted of the PES packets that were read: the frames of the day from the first one's to
+-- the latest one's, and the headers of the page.
+pub record CountsRead (page : PageIdValue) (frames : Transmission) (a : Accepted) : Type 0 where
+  pub none : length frames ≡ 0 → a.frames ≡ 0
+  pub frames_are :
+      0 < length frames → a.frames + frame_at frames 0 ≡ latest frames (length frames) + 1
+  pub transmissions_are :
+      a.transmissions ≡ header_count page (packets_before frames (length frames))
+
+-- A device was told all of these; or it said stop, and was told them up to there.
+abbrev pub TellsOrStops : {A D : Type 0}
+    → (D → A → D → Type 0) → D → D → List A → Bool → Type 0
+TellsOrStops IsTold old new items false = Tells IsTold old new items
+TellsOrStops IsTold old new items true = TellsPrefix IsTold old new items
+
+-- Each packet has 42 bytes.
+abbrev pub AreWhole : Transmission → Type 0
+AreWhole frames =
+    AllByRecursion (λ (s : SentFrame). All (λ packet. length packet ≡ 42) s.packets) frames
+
+-- The bytes are PES packets that are sent as these frames, joined, and then the rest.
+pub record AreTaken (origin : ℕ) (bytes : List ℕ) (frames : Transmission) (rest : List ℕ) : Type 0
+  where
+    pub values : List PesValue
+    pub packets : List (List ℕ)
+    pub each : AllZip IsPesPacket values packets
+    pub sent : AllZip (IsSentAs origin) values frames
+    pub joined : bytes ≡ concat packets ++ rest
+
+-- The bytes were read up to what is unread: where nothing is, they are a PES file of the frames.
+pub record IsRead (g : Task) (origin : ℕ) (bytes : List ℕ) (frames : Transmission) (a : Accepted)
+    : Type 0 where
+  pub few : length frames ≤ most_packets
+  pub taken : g.unread ≡ None → AreTaken origin bytes frames []
+  pub whole : AreWhole frames
+  pub counts : CountsRead g.watched.page frames a
+
+-- What a device was told of a transmission that is read of these bytes.
+abbrev pub TellsAll : {D : Type 0} → Task → ℕ → List ℕ → Transmission
+    → (D → Event → D → Type 0) → D → D → Bool → Result Accepted CheckFault → Type 0
+TellsAll g origin bytes frames IsTold old new stopped (Ok a) =
+    TellsOrStops IsTold old new (events g frames) stopped
+    × (stopped ≡ false → IsRead g origin bytes frames a)
+TellsAll g origin bytes frames IsTold old new stopped (Err f) =
+    (n : ℕ)
+    × (n ≤ length frames)
+    × (f ≡ fault.Pes n Read)
+    × Tells IsTold old new (events_of_first g frames n)
+    × (stopped ≡ false)

@@ -1,0 +1,21 @@
+//! The exact checker: tells all that is broken of a PES file, one PES packet at a time.
+//!
+//! Stands on `sub_rules`, which says what is asked, and on `ttx_page` for the page that packets
+//! show. What its events mean for acceptance, and for receivers, `sub_check` says.
+//!
+//! ```text
+//! tell_all(&programme, &mut source, &options, &mut audience)?; // Accepted { frames: 51, .. }
+//! ```
+#![tactic(auto)]
+
+mod checker;
+mod comparison;
+mod laws;
+mod listener;
+mod packet_rules;
+mod rule_set;
+mod standing;
+mod telling;
+
+pub use laws::law_of_sent_again;
+pub use telling::{Accepted, tell_all};

@@ -1,0 +1,351 @@
+//! What is kept of the packets that were heard, and the rules that the next packet breaks.
+ghost use Rattle.std.specs.Prelude.{◌≡◌, ℕ, ◌+◌, ◌-◌, ◌<◌, ◌≤◌, ◌++◌, List, [], ◌∷◌, MatchResult};
+ghost use Rattle.std.specs.Prelude.{length, IsTrue, true, false, is_err, replicate, slice_set};
+ghost use Rattle.std.specs.Prelude.{if◌then◌else◌, ◌&&◌, ◌==◌, not, Some, None, is_some};
+ghost use Rattle.std.specs.Prelude.{slice_index_or};
+ghost use Rattle.sub_io.specs.Telling.{Tells, TellsPrefix, TellsSome};
+ghost use Rattle.ttx_packet.specs.PacketAddress.{address};
+ghost use Rattle.ttx_packet.specs.PageHeader.{header};
+ghost use Rattle.ttx_packet.specs.RowPacket.{first_even_byte};
+ghost use Rattle.ttx_page.specs.Differing.{row_differing};
+ghost use Rattle.ttx_page.specs.Page.{AreCodes, IsPage, IsRow, blank, row_at};
+ghost use Rattle.ttx_page.specs.PacketKind.{is_this_page, kind};
+ghost use Rattle.ttx_page.specs.Span.{is_open_after};
+ghost use Rattle.ttx_pes.specs.PesPacket.{most_units};
+ghost use Rattle.sub_rules.specs.Events.{packet_events, wrong_after};
+ghost use Rattle.sub_rules.specs.PacketRules.{codes_of, header_count, packets_of_units};
+ghost use Rattle.sub_rules.specs.PacketTests.{breaks, is_of_enhancement};
+
+use crate::comparison::Comparison;
+use crate::packet_rules::{
+    first_serial, has_even_byte, has_wrong_address, has_wrong_codes, is_enhancement, is_other_mode,
+    is_subtitle_header, text_codes,
+};
+use crate::rule_set::{RuleSet, tell_rules};
+use sub_io::{Audience, Stopped};
+use sub_rules::{Event, Watched};
+use ttx_packet::{Header, Packet};
+use ttx_page::{PacketKind, Page};
+use ttx_pes::Unit;
+
+/// What is kept of the packets that were heard.
+#[derive(Drop)]
+pub(crate) struct Listener {
+    watched: Watched,
+    // C11 of the first header.
+    serial: Option<bool>,
+    // The page is open for rows.
+    is_open: bool,
+    // The rows that were sent since the last header of the page.
+    sent: [bool; 24],
+    comparison: Comparison,
+    // How many headers of the page the packets heard last hold, where the first of these is one.
+    last: Option<u8>,
+}
+
+impl Listener {
+    ghost use Rattle.sub_checker.specs.Listener.{Knows, KnowsLast, later_set, rule_set};
+
+    /// Nothing was heard, and this page is due.
+    pub fn new(watched: Watched, due: Page) -> Self
+        ensures watched { result.watched ≡ watched }
+        ensures due { result.comparison.due ≡ due }
+        ensures knows { (last : List (List ℕ)) → KnowsLast [] last result }
+    {
+        Listener {
+            watched,
+            serial: None,
+            is_open: false,
+            sent: [false; 24],
+            comparison: Comparison::new(due),
+            last: None,
+        }
+    }
+
+    /// Another page is due.
+    pub fn draw(&mut self, due: Page)
+        ensures { self.new ≡ record self.old {
+          comparison = record self.old.comparison { due = due };
+        } }
+    {
+        self.comparison.draw(due);
+    }
+
+    /// Whether complete pages are asked for, and the page is open.
+    pub fn is_incomplete(&self) -> bool
+        ensures { (heard : List (List ℕ)) → Knows heard self.now → result
+            ≡ (self.now.watched.complete && is_open_after (kind self.now.watched.page) heard) }
+    {
+        self.watched.complete && self.is_open
+    }
+
+    /// Whether it is known without looking that no cell shows another code than is due.
+    #[inline(always)]
+    pub fn is_known_right(&self) -> bool
+        ensures { (heard : List (List ℕ)) → Knows heard self.now → IsTrue result
+            → wrong_after self.now.watched.page heard self.now.comparison.due ≡ None }
+    {
+        self.comparison.is_known_right()
+    }
+
+    /// The first cell that shows another code than is due.
+    pub fn first_wrong(&self) -> Option<(u8, u8)>
+        ensures { (heard : List (List ℕ)) → Knows heard self.now → result
+            ≡ wrong_after self.now.watched.page heard self.now.comparison.due }
+    {
+        self.comparison.first_wrong()
+    }
+
+    /// Hears the packets of a frame, tells which rules they break, and says how many headers of the
+    /// page are among them. `again` says that they are those heard last.
+    ///
+    /// Packets that begin with a header of the page and broke no rule break none again, and leave
+    /// what is kept as it is: no packet is looked at.
+    ///
+    /// # Errors
+    ///
+    /// `Stopped` where the audience said stop. What is kept is then of no use.
+    #[tactic(auto, using(sub_io::proofs::TellingLemmas::some))]
+    pub fn hear_sending<A: Audience<Event>>(
+        &mut self,
+        units: &[Unit],
+        again: bool,
+        frame: u32,
+        audience: &mut A,
+    ) -> Result<u8, Stopped>
+        requires few { length units.now ≤ most_units }
+        requires goes_on { A.has_stopped audience.old ≡ false }
+        ensures watched { self.new.watched ≡ self.old.watched }
+        ensures due { self.new.comparison.due ≡ self.old.comparison.due }
+        ensures stopped { A.has_stopped audience.new ≡ is_err result }
+        ensures some { TellsSome A.is_told audience.old audience.new }
+        ensures knows { (heard last : List (List ℕ)) → KnowsLast heard last self.old
+            → (again ≡ true → last ≡ packets_of_units units.now) → MatchResult result
+            (λ headers. KnowsLast (heard ++ packets_of_units units.now)
+            (packets_of_units units.now) self.new
+            × (headers ≡ header_count self.old.watched.page (packets_of_units units.now))
+            × Tells A.is_told audience.old audience.new
+            (packet_events self.old.watched frame heard (packets_of_units units.now)
+            (length (packets_of_units units.now))))
+            (λ _. TellsPrefix A.is_told audience.old audience.new
+            (packet_events self.old.watched frame heard (packets_of_units units.now)
+            (length (packets_of_units units.now)))) }
+    {
+        if again {
+            if let Some(headers) = self.last {
+                return Ok(headers);
+            }
+        }
+        self.hear_all(units, frame, audience)
+    }
+
+    // Hears the packets of a frame, and tells which rules they break.
+    #[tactic(auto, using(sub_io::proofs::TellingLemmas::some))]
+    fn hear_all<A: Audience<Event>>(
+        &mut self,
+        units: &[Unit],
+        frame: u32,
+        audience: &mut A,
+    ) -> Result<u8, Stopped>
+        requires few { length units.now ≤ most_units }
+        requires goes_on { A.has_stopped audience.old ≡ false }
+        ensures watched { self.new.watched ≡ self.old.watched }
+        ensures due { self.new.comparison.due ≡ self.old.comparison.due }
+        ensures stopped { A.has_stopped audience.new ≡ is_err result }
+        ensures some { TellsSome A.is_told audience.old audience.new }
+        ensures knows { (heard : List (List ℕ)) → Knows heard self.old → MatchResult result
+            (λ headers. KnowsLast (heard ++ packets_of_units units.now)
+            (packets_of_units units.now) self.new
+            × (headers ≡ header_count self.old.watched.page (packets_of_units units.now))
+            × Tells A.is_told audience.old audience.new
+            (packet_events self.old.watched frame heard (packets_of_units units.now)
+            (length (packets_of_units units.now))))
+            (λ _. TellsPrefix A.is_told audience.old audience.new
+            (packet_events self.old.watched frame heard (packets_of_units units.now)
+            (length (packets_of_units units.now)))) }
+    {
+        let mut headers = 0;
+        let mut begins = false;
+        let mut is_clean = true;
+        for k in 0..units.len() {
+            let packet = units[k].packet();
+            let (found, page_header) = PacketKind::with_header(self.watched.page, packet);
+            let rules = self.broken_rules(packet, found, page_header);
+            tell_rules(rules, frame, k as u32, audience)?;
+            let is_header = self.hear(packet, found, page_header);
+            begins = begins_with(begins, k, is_header);
+            headers = counted(headers, is_header);
+            is_clean = stays_clean(is_clean, rules);
+        }
+        self.last = last_headers(begins, is_clean, headers);
+        Ok(headers)
+    }
+
+    // The rules that a packet of this kind, with this page header, breaks which comes now.
+    fn broken_rules(
+        &self,
+        packet: &Packet,
+        found: PacketKind,
+        page_header: Option<Header>,
+    ) -> RuleSet
+        requires kind { found ≡ kind self.now.watched.page packet.now }
+        requires page_header { page_header ≡ header packet.now }
+        requires row { (row : ℕ) → found ≡ PacketKind.Row row → (1 ≤ row) × (row ≤ 24) }
+        ensures { (heard : List (List ℕ)) → Knows heard self.now
+            → result.0 ≡ rule_set (λ r. breaks r self.now.watched heard packet.now) }
+    {
+        let rules = RuleSet::none()
+            .with(RuleSet::ADDRESS, has_wrong_address(packet))
+            .with(RuleSet::HEADER_CODE, has_wrong_codes(packet, page_header))
+            .with(RuleSet::MODE, is_other_mode(self.serial, page_header));
+        self.with_later(rules, packet, found)
+    }
+
+    // A set, with the rules that a packet breaks by what it is.
+    fn with_later(&self, rules: RuleSet, packet: &Packet, found: PacketKind) -> RuleSet
+        requires kind { found ≡ kind self.now.watched.page packet.now }
+        requires row { (row : ℕ) → found ≡ PacketKind.Row row → (1 ≤ row) × (row ≤ 24) }
+        ensures { (heard : List (List ℕ)) → Knows heard self.now
+            → result.0 ≡ later_set (λ r. breaks r self.now.watched heard packet.now) rules.0 }
+    {
+        match found {
+            PacketKind::ThisPage(header) => rules.with(
+                RuleSet::CONTROL,
+                !is_subtitle_header(self.watched.national, &header),
+            ),
+            PacketKind::EndsPage => rules,
+            PacketKind::Row(row) => rules
+                .with(RuleSet::PARITY, self.has_even_row(packet))
+                .with(RuleSet::ROW_CHANGED, self.has_changed(row, packet)),
+            PacketKind::Other => rules.with(RuleSet::ENHANCEMENT, self.is_enhanced(packet)),
+        }
+    }
+
+    // Whether the page is open, and a row's packet has an even byte.
+    fn has_even_row(&self, packet: &Packet) -> bool
+        ensures { result ≡ (self.now.is_open && is_some (first_even_byte packet.now)) }
+    {
+        self.is_open && has_even_byte(packet)
+    }
+
+    // Whether the page is open, and a row that was sent has other codes than a packet.
+    fn has_changed(&self, row: u8, packet: &Packet) -> bool
+        requires { IsRow row }
+        ensures { result ≡ (self.now.is_open && slice_index_or self.now.sent (row - 1) false
+            && not (row_differing (row_at self.now.comparison.page row) (codes_of packet.now)
+            == 0)) }
+    {
+        self.is_open && self.sent[row as usize - 1] && self.comparison.differs_from(row, packet)
+    }
+
+    // Whether the page is open, and a packet is X/25 to X/28 of its magazine.
+    fn is_enhanced(&self, packet: &Packet) -> bool
+        ensures { result
+            ≡ (self.now.is_open && is_of_enhancement self.now.watched.page (address packet.now)) }
+    {
+        self.is_open && is_enhancement(self.watched.page, packet)
+    }
+
+    // Hears a packet of this kind, and says whether it is a header of the page. Of a row that was
+    // sent, the first packet stays.
+    fn hear(&mut self, packet: &Packet, found: PacketKind, page_header: Option<Header>) -> bool
+        requires kind { found ≡ kind self.old.watched.page packet.now }
+        requires page_header { page_header ≡ header packet.now }
+        requires row { (row : ℕ) → found ≡ PacketKind.Row row → (1 ≤ row) × (row ≤ 24) }
+        ensures header { result ≡ is_this_page (kind self.old.watched.page packet.now) }
+        ensures watched { self.new.watched ≡ self.old.watched }
+        ensures due { self.new.comparison.due ≡ self.old.comparison.due }
+        ensures knows { (heard : List (List ℕ)) → Knows heard self.old
+            → Knows (heard ++ packet.now ∷ []) self.new }
+    {
+        self.serial = first_serial(self.serial, page_header);
+        match found {
+            PacketKind::ThisPage(_) => {
+                self.start();
+                true
+            }
+            PacketKind::EndsPage => {
+                self.is_open = false;
+                false
+            }
+            PacketKind::Row(row) => {
+                if self.is_new(row) {
+                    self.store(row, &text_codes(packet));
+                }
+                false
+            }
+            PacketKind::Other => false,
+        }
+    }
+
+    // Whether the page is open, and a row was not sent.
+    fn is_new(&self, row: u8) -> bool
+        requires { IsRow row }
+        ensures { result
+            ≡ (self.now.is_open && not (slice_index_or self.now.sent (row - 1) false)) }
+    {
+        self.is_open && !self.sent[row as usize - 1]
+    }
+
+    // A header of the page: it is blank, and no row was sent.
+    fn start(&mut self)
+        ensures { self.new ≡ record self.old {
+          is_open = true;
+          sent = replicate 24 false;
+          comparison = record self.old.comparison { page = blank };
+        } }
+    {
+        self.is_open = true;
+        self.sent = [false; 24];
+        self.comparison.clear();
+    }
+
+    // A row is sent.
+    fn store(&mut self, row: u8, codes: &[u8; 40])
+        requires row { (1 ≤ row) × (row ≤ 24) }
+        requires codes { AreCodes codes.now }
+        ensures kept { self.new ≡ record self.old {
+          sent = slice_set self.old.sent (row - 1) true;
+          comparison = record self.old.comparison {
+            page = slice_set self.old.comparison.page (row - 1) codes.now;
+          };
+        } }
+        ensures page { IsPage self.old.comparison.page }
+    {
+        self.sent[row as usize - 1] = true;
+        self.comparison.set_row(row, codes);
+    }
+}
+
+// One header more, or none.
+fn counted(headers: u8, is_header: bool) -> u8
+    requires { headers < most_units }
+    ensures { result ≡ headers + (if is_header then 1 else 0) }
+{
+    if is_header { headers + 1 } else { headers }
+}
+
+// Whether the first packet is a header, at packet `k` on.
+fn begins_with(begins: bool, k: usize, is_header: bool) -> bool
+    ensures { result ≡ (if k == 0 then is_header else begins) }
+{
+    if k == 0 { is_header } else { begins }
+}
+
+// Whether no rule was broken, at a packet that breaks these.
+fn stays_clean(is_clean: bool, rules: RuleSet) -> bool
+    ensures { result ≡ (is_clean && rules.0 == 0) }
+{
+    is_clean && rules.has_none()
+}
+
+// How many headers there are, where the first packet is one and none breaks a rule.
+fn last_headers(begins: bool, is_clean: bool, headers: u8) -> Option<u8>
+    ensures { result ≡ (if begins && is_clean then Some headers else None) }
+{
+    if begins && is_clean {
+        Some(headers)
+    } else {
+        None
+    }
+}

@@ -1,0 +1,26 @@
+-- A good transmission, by the tests of all rules.
+use Rattle.std.proofs.Common.{refl}
+use Rattle.std.specs.Int.RustNames.{count_ones}
+use lib.Count.{ones_in}
+use Rattle.ttx_packet.specs.Hamming84.{decoded}
+use Rattle.ttx_packet.specs.OneBit.{is_near}
+use Rattle.ttx_packet.specs.PacketAddress.{address}
+use Rattle.ttx_packet.specs.PageHeader.{header, coded_header}
+use Rattle.ttx_packet.specs.Parity.{is_odd}
+use Rattle.ttx_page.specs.Page.{blank, blank_row}
+use Rattle.sub_rules.specs.PacketTests.{are_code_words, is_word_below}
+use Rattle.ttx_packet.specs.RowPacket.{first_even_byte}
+use Rattle.ttx_page.specs.PacketKind.{kind}
+use Rattle.stl_rows.specs.DrawnPage.{drawn, page_of_lines, line_fault_kinds}
+use Rattle.stl_rows.specs.DuePage.{due}
+use Rattle.stl_rows.specs.Line.{is_boxed, is_double, prepared, row_of}
+use Rattle.stl_rows.specs.TextCode.{cell_of, cell_of_pair}
+use Rattle.sub_examples.specs.Examples.{ExampleOfGood}
+use Rattle.sub_examples.proofs.ExampleLemmas.{good_by_test}
+
+pub example_of_good : ExampleOfGood
+unfolding are_code_words is_word_below first_even_byte kind address
+    header coded_header decoded is_near is_odd count_ones ones_in due blank
+    blank_row drawn page_of_lines row_of line_fault_kinds prepared is_boxed is_double
+    cell_of cell_of_pair
+example_of_good = good_by_test _ _ _ refl

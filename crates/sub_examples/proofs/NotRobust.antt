@@ -1,0 +1,53 @@
+-- Of each part of what is asked of a clean stretch a transmission that keeps the other parts and is
+-- not robust: for each a start, what is got, and the tests.
+use Rattle.std.proofs.Common.{ℕ, List, [], ◌∷◌, refl}
+use Rattle.std.specs.Int.RustNames.{count_ones}
+use lib.Count.{ones_in}
+use Rattle.ttx_packet.specs.Hamming84.{decoded}
+use Rattle.ttx_packet.specs.OneBit.{is_near}
+use Rattle.ttx_packet.specs.PacketAddress.{address}
+use Rattle.ttx_packet.specs.PageHeader.{header, coded_header}
+use Rattle.ttx_packet.specs.Parity.{is_odd}
+use Rattle.ttx_page.specs.Page.{blank, blank_row}
+use Rattle.sub_rules.specs.PacketTests.{are_code_words, breaks, is_word_below}
+use Rattle.ttx_packet.specs.RowPacket.{first_even_byte}
+use Rattle.ttx_page.specs.Differing.{columns_differing}
+use Rattle.sub_rules.specs.Events.{is_gap}
+use Rattle.ttx_page.specs.PacketKind.{kind}
+use Rattle.stl_rows.specs.DuePage.{due}
+use Rattle.sub_laws.specs.CleanStretch.Part.{DueContent, ExactAddresses, ExactHeaders, FramesRise}
+use Rattle.sub_laws.specs.CleanStretch.Part.{OddRows, HeadersInTime, SameRows, SubtitleHeaders}
+use Rattle.sub_examples.specs.Examples.{ExamplesOfNeededParts, header_888, header_with_wrong_units}
+use Rattle.sub_examples.specs.Examples.{closing, header_with_two_wrong_bits, header_without_c4}
+use Rattle.sub_examples.specs.Examples.{row_1}
+use Rattle.sub_examples.proofs.RobustTests.{needed}
+
+-- The header, row 1 with an exclamation mark, and the closing header.
+abbrev mark : List (List ℕ)
+mark = header_888 ∷ row_1 0xA1 ∷ closing ∷ []
+
+pub examples_of_needed_parts : ExamplesOfNeededParts
+unfolding are_code_words is_word_below first_even_byte breaks columns_differing is_gap
+    kind address header coded_header decoded is_near is_odd count_ones ones_in due blank
+    blank_row
+-- Frames 900000 and 900001 are got as they were sent.
+examples_of_needed_parts FramesRise =
+    needed _ _ _ _ 900000 0 900001 (header_888 ∷ row_1 0xA1 ∷ []) refl
+-- Another bit of the address is wrong.
+examples_of_needed_parts ExactAddresses =
+    needed _ _ _ _ 900000 0 900000 (header_with_two_wrong_bits ∷ closing ∷ []) refl
+-- One bit of the last packet is wrong, and it is all that is heard.
+examples_of_needed_parts ExactHeaders =
+    needed _ _ _ _ 900000 2 900000 (header_with_wrong_units ∷ []) refl
+-- The question marks stay.
+examples_of_needed_parts SubtitleHeaders =
+    needed _ _ _ _ 900000 0 900000 (header_without_c4 ∷ closing ∷ []) refl
+-- A0 is got as A1.
+examples_of_needed_parts OddRows = needed _ _ _ _ 900000 0 900000 mark refl
+-- Both rows are got as they were sent.
+examples_of_needed_parts SameRows =
+    needed _ _ _ _ 900000 0 900000 (header_888 ∷ row_1 0x20 ∷ row_1 0xA1 ∷ closing ∷ []) refl
+-- All is got as it was sent.
+examples_of_needed_parts DueContent = needed _ _ _ _ 900000 0 900000 mark refl
+-- From the end of the first frame on.
+examples_of_needed_parts HeadersInTime = needed _ _ _ _ 900000 2 900001 (closing ∷ []) refl

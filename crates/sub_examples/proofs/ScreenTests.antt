@@ -1,0 +1,168 @@
+-- The examples of what comes onto a screen.
+use Rattle.std.proofs.lemmas.Bool.Decides.{nat_tests}
+use Rattle.std.proofs.Common.{◌≡◌, true, false, List, [], ◌∷◌, Option, Some, None, refl}
+use Rattle.std.proofs.Common.{sym, ap, ◌∙◌, subst, le_refl, true≢false, not, ℕ, ◌≤◌, arith}
+use Rattle.std.proofs.Common.{length, ◌++◌}
+use Rattle.std.specs.Int.RustNames.{count_ones}
+use Rattle.std.proofs.lemmas.Option.{none-some}
+use lib.Count.{ones_in}
+use Rattle.ttx_packet.specs.Hamming84.{decoded}
+use Rattle.ttx_packet.specs.OneBit.{is_near}
+use Rattle.ttx_packet.specs.PacketAddress.{address}
+use Rattle.ttx_packet.specs.PageHeader.{header, coded_header}
+use Rattle.ttx_packet.specs.Parity.{is_odd}
+use Rattle.ttx_page.specs.declared.packet_kind.PacketKind.TheVariants.{ThisPage, EndsPage, Row}
+use Rattle.ttx_page.specs.Page.{Rows, blank, blank_row}
+use Rattle.sub_rules.specs.PacketTests.{are_code_words, is_word_below}
+use Rattle.ttx_packet.specs.RowPacket.{first_even_byte}
+use Rattle.ttx_page.specs.PacketKind.{kind}
+use Rattle.ttx_page.specs.Receiver.{State, Step, StepAt}
+use Rattle.ttx_page.specs.Screen.{Display, ShowsAt}
+use Rattle.ttx_page.specs.Span.{holds_header, is_unended}
+use Rattle.ttx_page.proofs.NoiseLaws.{AreNear-themselves}
+use Rattle.sub_plan.specs.Examples.{page_888}
+use Rattle.sub_examples.specs.Examples.{header_888, row_22, closing, one_frame, each, no_subtitles}
+use Rattle.sub_rules.specs.Good.{Good}
+use Rattle.stl_rows.specs.DuePage.{due}
+use Rattle.ttx_packet.specs.declared.header.Header.{Header}
+use Rattle.sub_laws.specs.Robust.{IsListening}
+use Rattle.sub_examples.specs.ScreenExamples.{unheard, ExampleOfEndedPage, ExampleOfPageNotEnded}
+use Rattle.sub_examples.specs.ScreenExamples.{ExampleOfPageBegunAgain, ExampleOfNoEnd}
+use Rattle.sub_rules.specs.Transmission.{Transmission}
+use Rattle.sub_examples.proofs.ExampleLemmas.{good_by_test}
+
+-- ---- packets
+
+-- What the header of page 888 says.
+abbrev says_888 : Header
+says_888 = record { page = 0x88; subcode = 0; control = record { 0 = 0x0D } }
+
+-- The header of page 888 is one of the page.
+kind_888 : kind page_888 header_888 ≡ ThisPage says_888
+unfolding kind address header coded_header decoded is_near
+kind_888 = refl
+
+-- The closing header ends the page.
+kind_closing : kind page_888 closing ≡ EndsPage
+unfolding kind address header coded_header decoded is_near
+kind_closing = refl
+
+-- The row is row 22.
+kind_22 : kind page_888 row_22 ≡ Row 22
+unfolding kind address header coded_header decoded is_near
+kind_22 = refl
+
+-- A receiver whose page is open, and blank.
+abbrev on_blank : State
+on_blank = record { heard = true; is_open = true; page = blank }
+
+-- The header makes each receiver such a one.
+opens : (old : State) → Step page_888 old header_888 on_blank
+opens old = subst (λ k. StepAt k header_888 old on_blank) (sym kind_888) refl
+
+-- And nothing else.
+opened :
+    (old new : State) → Step page_888 old header_888 new → new ≡ on_blank
+opened old new step = subst (λ k. StepAt k header_888 old new) kind_888 step
+
+-- The closing header closes it.
+closed :
+    (old new : State) → Step page_888 old closing new → new.is_open ≡ false
+closed old new step =
+    ap (λ (s : State). s.is_open) (subst (λ k. StepAt k closing old new) kind_closing step)
+
+-- The row leaves it open.
+left_open :
+    (old new : State) → old ≡ on_blank → Step page_888 old row_22 new → new.is_open ≡ true
+left_open old new is step = grind (arith, nat_tests, on_blank, kind_22)
+
+-- ---- what comes onto the screen
+
+-- The closing header brings the page onto the screen.
+pub example_of_ended_page : ExampleOfEndedPage
+example_of_ended_page old new run = grind (arith, nat_tests, opened, closed, not, Some)
+
+-- A row does not.
+pub example_of_page_not_ended : ExampleOfPageNotEnded
+example_of_page_not_ended screen new run = grind (arith, nat_tests, opened, left_open, not, kind_22)
+
+-- The page is open, and this is on the screen.
+abbrev open_with : Option Rows → Display
+open_with screen = record { held = on_blank; screen = screen }
+
+-- At the first header the screen stays as it is.
+first_header : ShowsAt page_888 (unheard None) header_888 (open_with None)
+first_header = grind (arith, nat_tests, true≢false)
+
+-- At the next one a receiver may show the page.
+shows_again : ShowsAt page_888 (open_with None) header_888 (open_with (Some blank))
+shows_again = grind (arith, nat_tests, true≢false, kind_888)
+
+-- Or not.
+waits_again : ShowsAt page_888 (open_with None) header_888 (open_with None)
+waits_again = grind (arith, nat_tests, true≢false)
+
+-- So both are runs.
+pub example_of_page_begun_again : ExampleOfPageBegunAgain
+example_of_page_begun_again = record {
+  shown = open_with (Some blank);
+  shows = (
+    open_with None,
+    (opens (unheard None).held, first_header),
+    (open_with (Some blank), (opens on_blank, shows_again), refl),
+  );
+  is_shown = refl;
+  other = open_with None;
+  waits = (
+    open_with None,
+    (opens (unheard None).held, first_header),
+    (open_with None, (opens on_blank, waits_again), refl),
+  );
+  is_nothing = refl;
+}
+
+-- ---- a good transmission that is not shown
+
+-- A header and nothing after it.
+abbrev no_end : Transmission
+no_end = one_frame (header_888 ∷ [])
+
+-- It passes the test of each rule.
+no_end_is_good : Good no_subtitles no_end (each 1)
+unfolding are_code_words is_word_below first_even_byte kind address
+    header coded_header decoded is_near is_odd count_ones ones_in
+    due blank blank_row
+no_end_is_good = good_by_test _ _ _ refl
+
+-- It holds a header of the page, which none ends.
+holds : holds_header (kind page_888) (header_888 ∷ []) ≡ true
+unfolding kind address header coded_header decoded is_near
+holds = refl
+
+-- None ends it.
+no_end_of_page : is_unended (kind page_888) (header_888 ∷ []) ≡ true
+unfolding kind address header coded_header decoded is_near
+no_end_of_page = refl
+
+-- It is good, and a receiver shows nothing.
+pub example_of_no_end : ExampleOfNoEnd
+example_of_no_end = record {
+  good = no_end_is_good;
+  not_complete = λ complete.
+      true≢false
+      (sym no_end_of_page ∙ complete 900000 (le_refl 900000) (le_refl 900000) holds);
+  not_shown = λ shown.
+      let sent : List (List ℕ) = header_888 ∷ [] in
+      let none : 0 ≤ length (sent ++ []) = omega arith in
+      let listening : IsListening no_end 900000 0 900000 = record {
+        not_before = le_refl 900000;
+        in_order = le_refl 900000;
+        not_after = le_refl 900000;
+        in_frame = none;
+      } in
+      let due =
+      shown 900000 0 900000 (true ∷ []) sent (unheard None) (open_with None) listening
+      ((λ e. absurd (true≢false e)), tt) (AreNear-themselves sent)
+      (open_with None, (opens (unheard None).held, first_header), refl) holds in
+      none-some due.page due.is;
+}

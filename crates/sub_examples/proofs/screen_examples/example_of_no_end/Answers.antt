@@ -1,0 +1,6 @@
+-- The example: ScreenTests.
+use Rattle.sub_examples.proofs.ScreenTests as example
+use Rattle.sub_examples.proofs.screen_examples.example_of_no_end.Goals as goal
+
+pub returns : goal.returns
+returns c = example.example_of_no_end

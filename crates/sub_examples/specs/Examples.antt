@@ -1,0 +1,361 @@
+-- Transmissions of page 888 in full, byte by byte: a good one, for each part of a rule one that
+-- breaks that rule alone, and for each part of what the headline needs one that is not robust.
+use Rattle.std.specs.Prelude.{◌≡◌, ◌≢◌, ◌⊎◌, ℕ, false, List, [], ◌∷◌, ◌++◌, All, None, replicate}
+use Rattle.std.specs.Prelude.{take}
+use Rattle.std.specs.List.{AllZip}
+use Rattle.ttx_packet.specs.OneBit.{AreNear}
+use Rattle.ttx_page.specs.Page.{cell, space}
+use Rattle.ttx_page.specs.Receiver.{Hears, State}
+use Rattle.ttx_page.specs.Receiver.ReceiverClass.{Storing}
+use Rattle.stl_rows.specs.declared.national.National.TheVariants.{English, German}
+use Rattle.stl_rows.specs.Programme.{ProgrammeValue}
+use Rattle.sub_plan.specs.Examples.{page_888}
+use Rattle.sub_plan.specs.Options.{OptionsValue}
+use Rattle.sub_rules.specs.Transmission.{Transmission, first_frame, last_frame}
+use Rattle.sub_laws.specs.CleanStretch.{IsClean, IsKeptWithin, Part, number_of}
+use Rattle.sub_laws.specs.CleanStretch.Part.{DueContent, ExactAddresses, ExactHeaders, FramesRise}
+use Rattle.sub_laws.specs.CleanStretch.Part.{HeadersInTime, OddRows, SameRows, SubtitleHeaders}
+use Rattle.sub_rules.specs.FrameRules.{task_of}
+use Rattle.sub_rules.specs.Good.{Good}
+use Rattle.sub_laws.specs.Recovery.{RecoversWithin}
+use Rattle.sub_laws.specs.Robust.{Robust}
+use Rattle.sub_rules.specs.Rules.{BreaksOnly, Rule}
+use Rattle.sub_rules.specs.Rules.Rule.{Frames, ExactWords, OneMode, SubtitleControl, CleanSpans}
+use Rattle.sub_rules.specs.Rules.Rule.{RepeatBound, DuePages}
+
+-- ---- packets
+
+-- Ten coded bytes, and 32 spaces.
+abbrev pub x0 : List ℕ → List ℕ
+x0 coded = coded ++ replicate 32 0x20
+
+-- A header of page 888 with these four bytes of control bits: S2 and C4, S4 with C5 and C6, C7 to
+-- C10, C11 to C14. Between them stand: address, address, page units, page tens, S1; S3.
+abbrev pub header_with : ℕ → ℕ → ℕ → ℕ → List ℕ
+header_with c4 c5_c6 c7_c10 c11_c14 =
+    x0 (0x15 ∷ 0x15 ∷ 0xD0 ∷ 0xD0 ∷ 0x15 ∷ c4 ∷ 0x15 ∷ c5_c6 ∷ c7_c10 ∷ c11_c14 ∷ [])
+
+-- The header of page 888 in English and in parallel mode: C4, C6 and C7 are set.
+abbrev pub header_888 : List ℕ
+header_888 = header_with 0xD0 0xD0 0x02 0x15
+
+-- A header of page 888 with C4, erase page, clear.
+abbrev pub header_without_c4 : List ℕ
+header_without_c4 = header_with 0x15 0xD0 0x02 0x15
+
+-- The header of page 888, with one wrong bit in its first address byte.
+abbrev pub header_with_wrong_bit : List ℕ
+header_with_wrong_bit =
+    x0 (0x14 ∷ 0x15 ∷ 0xD0 ∷ 0xD0 ∷ 0x15 ∷ 0xD0 ∷ 0x15 ∷ 0xD0 ∷ 0x02 ∷ 0x15 ∷ [])
+
+-- The header of page 888, with one wrong bit in its page units.
+abbrev pub header_with_wrong_units : List ℕ
+header_with_wrong_units =
+    x0 (0x15 ∷ 0x15 ∷ 0xD1 ∷ 0xD0 ∷ 0x15 ∷ 0xD0 ∷ 0x15 ∷ 0xD0 ∷ 0x02 ∷ 0x15 ∷ [])
+
+-- The header of page 888, with two wrong bits in its first address byte, which decodes to nothing.
+abbrev pub header_with_two_wrong_bits : List ℕ
+header_with_two_wrong_bits =
+    x0 (0x16 ∷ 0x15 ∷ 0xD0 ∷ 0xD0 ∷ 0x15 ∷ 0xD0 ∷ 0x15 ∷ 0xD0 ∷ 0x02 ∷ 0x15 ∷ [])
+
+-- A packet X/0 whose page units decode to nothing: no header, but one wrong bit away from one.
+abbrev pub no_header : List ℕ
+no_header = x0 (0x15 ∷ 0x15 ∷ 0xD3 ∷ 0xD0 ∷ 0x15 ∷ 0xD0 ∷ 0x15 ∷ 0xD0 ∷ 0x02 ∷ 0x15 ∷ [])
+
+-- The closing header: page FF, subcode 3F7F.
+abbrev pub closing : List ℕ
+closing = x0 (0x15 ∷ 0x15 ∷ 0xEA ∷ 0xEA ∷ 0xEA ∷ 0x2F ∷ 0xEA ∷ 0x5E ∷ 0x15 ∷ 0x15 ∷ [])
+
+-- The closing header in serial mode, C11.
+abbrev pub serial_closing : List ℕ
+serial_closing = x0 (0x15 ∷ 0x15 ∷ 0xEA ∷ 0xEA ∷ 0xEA ∷ 0x2F ∷ 0xEA ∷ 0x5E ∷ 0x15 ∷ 0x02 ∷ [])
+
+-- Packet 8/1, row 1 of magazine 8: the first byte of its text, and 39 spaces.
+abbrev pub row_1 : ℕ → List ℕ
+row_1 byte = 0xD0 ∷ 0x15 ∷ byte ∷ replicate 39 0x20
+
+-- Packet 8/26.
+abbrev pub packet_26 : List ℕ
+packet_26 = 0x15 ∷ 0xB6 ∷ replicate 40 0x20
+
+-- Packet 8/22, row 22: `Hi` in a box, each box code sent twice, in the middle.
+abbrev pub row_22 : List ℕ
+row_22 =
+    (0x15 ∷ 0x9B ∷ [])
+    ++ replicate 17 0x20
+    ++ (0x0B ∷ 0x0B ∷ 0xC8 ∷ 0xE9 ∷ 0x8A ∷ 0x8A ∷ [])
+    ++ replicate 17 0x20
+
+-- ---- transmissions
+
+-- Frame 900000, 10:00:00:00, with these packets.
+abbrev pub one_frame : List (List ℕ) → Transmission
+one_frame packets = record { frame = 900000; packets = packets } ∷ []
+
+-- Frames 900000 and 900001 with these packets.
+abbrev pub two_frames : List (List ℕ) → List (List ℕ) → Transmission
+two_frames first second =
+    record { frame = 900000; packets = first } ∷ record { frame = 900001; packets = second } ∷ []
+
+-- Page 888, a repeat bound, and PTS 0 at frame 0.
+abbrev pub each : ℕ → OptionsValue
+each every = record { page = page_888; every = every; origin = 0; asks_complete = false }
+
+-- Frame 900000 with this header and the closing header.
+abbrev pub one_header : List ℕ → Transmission
+one_header sent = one_frame (sent ∷ closing ∷ [])
+
+-- A programme without a subtitle: every due page is blank.
+abbrev pub no_subtitles : ProgrammeValue
+no_subtitles = record { national = English; records = [] }
+
+-- A programme of one subtitle at frame 900000 alone: on row 22, centred, with this text.
+abbrev pub one_subtitle : List ℕ → ProgrammeValue
+one_subtitle text =
+    record {
+      national = English;
+      records =
+          record {
+            sgn = 0;
+            sn = 1;
+            tci = 900000;
+            tco = 900001;
+            vp = 22;
+            jc = 2;
+            text = text;
+          }
+          ∷ [];
+    }
+
+-- ---- a good one
+
+-- `Hi` in one frame, and in the next one the page without it.
+abbrev pub ExampleOfGood : Type 0
+ExampleOfGood =
+    Good (one_subtitle (0x48 ∷ 0x69 ∷ []))
+    (two_frames (header_888 ∷ row_22 ∷ closing ∷ []) (header_888 ∷ closing ∷ []))
+    (each 1)
+
+-- ---- for each part of a rule one that breaks it, and no other rule
+
+-- A transmission that breaks a rule, with the programme and the repeat bound that it is held
+-- against.
+pub record BrokenExample : Type 0 where
+  pub rule : Rule
+  pub programme : ProgrammeValue
+  pub transmission : Transmission
+  pub every : ℕ
+
+-- One of these, by its parts.
+abbrev broken : Rule → ProgrammeValue → Transmission → ℕ → BrokenExample
+broken rule programme transmission every =
+    record { rule = rule; programme = programme; transmission = transmission; every = every }
+
+-- Frame 900002 is listed before frame 900001.
+abbrev pub out_of_order : Transmission
+out_of_order =
+    record { frame = 900000; packets = header_888 ∷ closing ∷ [] }
+    ∷ record { frame = 900002; packets = header_888 ∷ row_1 0xA1 ∷ closing ∷ [] }
+    ∷ record { frame = 900001; packets = header_888 ∷ closing ∷ [] }
+    ∷ record { frame = 900003; packets = header_888 ∷ closing ∷ [] }
+    ∷ []
+
+-- Frame 900001 alone.
+abbrev late_start : Transmission
+late_start = record { frame = 900001; packets = header_888 ∷ closing ∷ [] } ∷ []
+
+-- Row 1 blank, and then with an exclamation mark.
+abbrev pub changed_row : Transmission
+changed_row = one_frame (header_888 ∷ row_1 0x20 ∷ row_1 0xA1 ∷ closing ∷ [])
+
+-- `Hi`, and two frames later the page without it.
+abbrev late_erasure : Transmission
+late_erasure =
+    record { frame = 900000; packets = header_888 ∷ row_22 ∷ closing ∷ [] }
+    ∷ record { frame = 900002; packets = header_888 ∷ closing ∷ [] }
+    ∷ []
+
+-- Frames that rise, of packets of 42 bytes, and reach from the first TCI to the last TCO.
+abbrev broken_frames : List BrokenExample
+broken_frames =
+    -- Frames whose numbers do not rise.
+    broken Frames no_subtitles out_of_order 1
+    -- A packet of 41 bytes.
+    ∷ broken Frames no_subtitles (one_frame (header_888 ∷ take 41 closing ∷ [])) 1
+    -- The first TCI is before the first frame. The subtitle has no text: its page is blank.
+    ∷ broken Frames (one_subtitle []) late_start 1
+    -- The last TCO is after the last frame. The subtitle has no text: its page is blank.
+    ∷ broken Frames (one_subtitle []) (one_header header_888) 1
+    ∷ []
+
+-- Code words with no bit wrong, in one mode.
+abbrev broken_codes : List BrokenExample
+broken_codes =
+    -- An address byte with a wrong bit.
+    broken ExactWords no_subtitles (one_header header_with_wrong_bit) 1
+    -- A coded byte of a header with a wrong bit.
+    ∷ broken ExactWords no_subtitles (one_header header_with_wrong_units) 1
+    -- A packet X/0 that is no header.
+    ∷ broken ExactWords no_subtitles (one_frame (header_888 ∷ closing ∷ no_header ∷ [])) 1
+    -- A closing header in another mode.
+    ∷ broken OneMode no_subtitles (one_frame (header_888 ∷ serial_closing ∷ [])) 1
+    ∷ []
+
+-- A subtitle's control bits.
+abbrev broken_control : List BrokenExample
+broken_control =
+    -- C4 is clear: the header does not erase the page.
+    broken SubtitleControl no_subtitles (one_header header_without_c4) 1
+    -- C5, newsflash, is set.
+    ∷ broken SubtitleControl no_subtitles (one_header (header_with 0xD0 0xA1 0x02 0x15)) 1
+    -- C6, subtitle, is clear.
+    ∷ broken SubtitleControl no_subtitles (one_header (header_with 0xD0 0x15 0x02 0x15)) 1
+    -- C7, suppress header, is clear.
+    ∷ broken SubtitleControl no_subtitles (one_header (header_with 0xD0 0xD0 0x15 0x15)) 1
+    -- C10, inhibit display, is set.
+    ∷ broken SubtitleControl no_subtitles (one_header (header_with 0xD0 0xD0 0xC7 0x15)) 1
+    -- C12 is set, which names another national option sub-set than English.
+    ∷ broken SubtitleControl no_subtitles (one_header (header_with 0xD0 0xD0 0x02 0x49)) 1
+    -- C13 is set.
+    ∷ broken SubtitleControl no_subtitles (one_header (header_with 0xD0 0xD0 0x02 0x64)) 1
+    -- C14 is set, which names the German one.
+    ∷ broken SubtitleControl no_subtitles (one_header (header_with 0xD0 0xD0 0x02 0xD0)) 1
+    -- C14 is clear, where the programme is German.
+    ∷ broken SubtitleControl (record { national = German; records = [] }) (one_header header_888) 1
+    ∷ []
+
+-- Clean spans: odd bytes, equal rows, no packet X/25 to X/28.
+abbrev broken_spans : List BrokenExample
+broken_spans =
+    -- A row with a space of even parity, A0.
+    broken CleanSpans no_subtitles (one_frame (header_888 ∷ row_1 0xA0 ∷ closing ∷ [])) 1
+    -- A second packet of row 1 that differs from the first.
+    ∷ broken CleanSpans no_subtitles changed_row 1
+    -- A packet X/26 while the page is open.
+    ∷ broken CleanSpans no_subtitles (one_frame (header_888 ∷ packet_26 ∷ closing ∷ [])) 1
+    ∷ []
+
+-- A header within the repeat bound and in the first frame, and the due page.
+abbrev broken_pages : List BrokenExample
+broken_pages =
+    -- A frame without a header of the page, where each is to have one.
+    broken RepeatBound no_subtitles (two_frames (header_888 ∷ closing ∷ []) (closing ∷ [])) 1
+    -- A first frame without one.
+    ∷ broken RepeatBound no_subtitles (two_frames (closing ∷ []) (header_888 ∷ closing ∷ [])) 2
+    -- An exclamation mark that is not due.
+    ∷ broken DuePages no_subtitles (one_frame (header_888 ∷ row_1 0xA1 ∷ closing ∷ [])) 1
+    -- `Hi` is due, and no row is sent.
+    ∷ broken DuePages (one_subtitle (0x48 ∷ 0x69 ∷ []))
+    (two_frames (header_888 ∷ closing ∷ []) (header_888 ∷ closing ∷ []))
+    1
+    -- `Hi` is over at frame 900001, which has no PES packet, and stands until frame 900002.
+    ∷ broken DuePages (one_subtitle (0x48 ∷ 0x69 ∷ [])) late_erasure 2
+    ∷ []
+
+-- All of these.
+abbrev pub broken_examples : List BrokenExample
+broken_examples =
+    broken_frames ++ broken_codes ++ broken_control ++ broken_spans ++ broken_pages
+
+-- It breaks its rule alone.
+abbrev pub BreaksItsRule : BrokenExample → Type 0
+BreaksItsRule e = BreaksOnly e.rule e.programme e.transmission (each e.every)
+
+-- So does each of them.
+abbrev pub ExamplesOfBrokenRules : Type 0
+ExamplesOfBrokenRules = All BreaksItsRule broken_examples
+
+-- ---- for each part of what is asked of a clean stretch one that is not robust without it
+
+-- In all frames each other part is kept, and the transmission is not robust. So neither may its
+-- frames be trusted.
+pub record IsNeeded
+    (part : Part) (programme : ProgrammeValue) (transmission : Transmission)
+    (options : OptionsValue)
+    : Type 0 where
+  pub others :
+      (other : Part)
+      → number_of other ≢ number_of part
+      → IsKeptWithin other (task_of programme options None) transmission
+      (first_frame transmission) (last_frame transmission)
+  pub not_robust : Robust programme transmission options → ⊥
+  pub not_trusted :
+      RecoversWithin Storing programme transmission options (first_frame transmission)
+      (last_frame transmission)
+      → ⊥
+
+-- Frame 900001 is listed after frame 900002, which ends the page, and so its row is passed over.
+abbrev pub listed_late : Transmission
+listed_late =
+    record { frame = 900000; packets = header_888 ∷ [] }
+    ∷ record { frame = 900002; packets = closing ∷ [] }
+    ∷ record { frame = 900001; packets = row_1 0xA1 ∷ [] }
+    ∷ record { frame = 900003; packets = header_888 ∷ closing ∷ [] }
+    ∷ []
+
+-- A transmission in which the part alone is not kept.
+abbrev pub without : Part → Transmission
+-- Who hears the frames up to 900001 is shown an exclamation mark that is not due.
+without FramesRise = listed_late
+-- One bit more, and the address byte decodes to nothing: the header is not heard.
+without ExactAddresses = one_header header_with_wrong_bit
+-- One wrong bit, and a packet X/0 is a header that nobody sent.
+without ExactHeaders = one_frame (header_888 ∷ closing ∷ no_header ∷ [])
+-- Without C4 a receiver keeps its old page.
+without SubtitleHeaders = one_header header_without_c4
+-- A0 may be got as A1, which has odd parity: an exclamation mark that nobody sent.
+without OddRows = one_frame (header_888 ∷ row_1 0xA0 ∷ closing ∷ [])
+-- Of two packets of row 1 the first one counts as what is shown, and a receiver holds the second.
+without SameRows = changed_row
+-- Every receiver shows what is not due.
+without DueContent = one_frame (header_888 ∷ row_1 0xA1 ∷ closing ∷ [])
+-- Who starts after the first frame hears no header within the bound.
+without HeadersInTime = two_frames (header_888 ∷ closing ∷ []) (closing ∷ [])
+
+-- Its repeat bound.
+abbrev pub bound_without : Part → ℕ
+bound_without FramesRise = 3
+bound_without _ = 1
+
+-- So each part is needed: with the seven others alone a stretch can't be trusted.
+abbrev pub ExamplesOfNeededParts : Type 0
+ExamplesOfNeededParts =
+    (part : Part) → IsNeeded part no_subtitles (without part) (each (bound_without part))
+
+-- ---- a clean stretch of a refused transmission
+
+-- `Hi` from frame 900001 to 900002.
+abbrev pub later_subtitle : ProgrammeValue
+later_subtitle = record {
+  national = English;
+  records =
+      record {
+        sgn = 0;
+        sn = 1;
+        tci = 900001;
+        tco = 900002;
+        vp = 22;
+        jc = 2;
+        text = 0x48 ∷ 0x69 ∷ [];
+      }
+      ∷ [];
+}
+
+-- In frame 900000 the header does not erase the page, and a row has an even byte.
+abbrev pub damaged_first : Transmission
+damaged_first =
+    record { frame = 900000; packets = header_without_c4 ∷ row_1 0xA0 ∷ closing ∷ [] }
+    ∷ record { frame = 900001; packets = header_888 ∷ row_22 ∷ closing ∷ [] }
+    ∷ record { frame = 900002; packets = header_888 ∷ closing ∷ [] }
+    ∷ []
+
+-- It is refused. The frames after it are clean; so who hears frame 900001, with any bit of each
+-- byte wrong and whatever he held before, holds the `H` there or, where its byte was hit, a space.
+pub record ExampleOfCleanStretch : Type 0 where
+  pub refused : Good later_subtitle damaged_first (each 1) → ⊥
+  pub clean : IsClean (task_of later_subtitle (each 1) None) damaged_first 900001 900002
+  pub held :
+      (got : List (List ℕ)) (old new : State)
+      → AllZip AreNear (header_888 ∷ row_22 ∷ closing ∷ []) got
+      → Hears page_888 old got new
+      → (cell new.page 22 19 ≡ 0x48) ⊎ (cell new.page 22 19 ≡ space)

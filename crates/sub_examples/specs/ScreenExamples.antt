@@ -1,0 +1,52 @@
+-- What comes onto a screen, packet by packet, and a good transmission that is not shown.
+use Rattle.std.specs.Prelude.{◌≡◌, [], ◌∷◌, false, Option, Some, None}
+use Rattle.ttx_page.specs.Page.{Rows, blank}
+use Rattle.ttx_page.specs.Screen.{Display, Shows}
+use Rattle.stl_rows.specs.Programme.{ProgrammeValue}
+use Rattle.sub_plan.specs.Options.{OptionsValue}
+use Rattle.sub_plan.specs.Examples.{page_888}
+use Rattle.sub_examples.specs.Examples.{header_888, row_22, closing, one_frame, each, no_subtitles}
+use Rattle.sub_rules.specs.Good.{Good}
+use Rattle.sub_laws.specs.OnScreen.{Complete, Shown}
+use Rattle.sub_rules.specs.Transmission.{Transmission}
+
+-- A receiver that has heard nothing, with a blank page, and this on its screen.
+abbrev pub unheard : Option Rows → Display
+unheard screen =
+    record { held = record { heard = false; is_open = false; page = blank }; screen = screen }
+
+-- A header that ends the page brings it onto the screen, whatever was held and shown before.
+abbrev pub ExampleOfEndedPage : Type 0
+ExampleOfEndedPage =
+    (old new : Display)
+    → Shows page_888 old (header_888 ∷ closing ∷ []) new
+    → new.screen ≡ Some blank
+
+-- Until then the screen stays as it is: a row does not come onto it.
+abbrev pub ExampleOfPageNotEnded : Type 0
+ExampleOfPageNotEnded =
+    (screen : Option Rows) (new : Display)
+    → Shows page_888 (unheard screen) (header_888 ∷ row_22 ∷ []) new
+    → new.screen ≡ screen
+
+-- At a header of the page while it is open, one receiver shows it, and another one does not.
+pub record ExampleOfPageBegunAgain : Type 0 where
+  pub shown : Display
+  pub shows : Shows page_888 (unheard None) (header_888 ∷ header_888 ∷ []) shown
+  pub is_shown : shown.screen ≡ Some blank
+  pub other : Display
+  pub waits : Shows page_888 (unheard None) (header_888 ∷ header_888 ∷ []) other
+  pub is_nothing : other.screen ≡ None
+
+-- The transmission is good, so every receiver holds what is due; but its pages are not complete,
+-- and some receiver shows nothing.
+pub record IsHeldAndNotShown
+    (programme : ProgrammeValue) (transmission : Transmission) (options : OptionsValue)
+    : Type 0 where
+  pub good : Good programme transmission options
+  pub not_complete : Complete transmission options → ⊥
+  pub not_shown : Shown programme transmission options → ⊥
+
+-- A header and nothing after it.
+abbrev pub ExampleOfNoEnd : Type 0
+ExampleOfNoEnd = IsHeldAndNotShown no_subtitles (one_frame (header_888 ∷ [])) (each 1)

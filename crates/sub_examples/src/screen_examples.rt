@@ -1,0 +1,18 @@
+//! What comes onto a screen, packet by packet, and a good transmission that is not shown.
+//!
+//! They show that the definitions of `specs/` say what they are to say. The functions do nothing.
+ghost use Rattle.sub_examples.specs.ScreenExamples.{ExampleOfEndedPage, ExampleOfNoEnd};
+ghost use Rattle.sub_examples.specs.ScreenExamples.{ExampleOfPageBegunAgain, ExampleOfPageNotEnded};
+
+/// A page comes onto the screen at the header that ends it, not at its rows, and at its own header
+/// if the receiver chooses so.
+pub fn examples_of_screens()
+    ensures ended { ExampleOfEndedPage }
+    ensures not_ended { ExampleOfPageNotEnded }
+    ensures begun_again { ExampleOfPageBegunAgain }
+{}
+
+/// A good transmission whose page no header ends: it is held by every receiver, and not shown.
+pub fn example_of_no_end()
+    ensures { ExampleOfNoEnd }
+{}

@@ -1,0 +1,280 @@
+-- The first of the rules that a packet breaks, as tests tell it: `broken_first`.
+use Rattle.std.proofs.Common.{◌≡◌, ℕ, zero, suc, ◌<◌, inl, inr, Bool, true, false, not, ◌&&◌, List}
+use Rattle.std.proofs.Common.{[], ◌∷◌, Option, Some, None, option_map, refl, sym, ◌∙◌, arith}
+use Rattle.std.proofs.Common.{length, get_or, subst, is_some, All, IsTrue}
+use Rattle.std.specs.Bool.{Decides}
+use Rattle.std.specs.List.{AllByRecursion, filter, list_any}
+use Rattle.std.proofs.lemmas.Bool.{cases_Bool, true≢false}
+use Rattle.std.proofs.lemmas.Bool.Decides.{nat_tests, Decides-and, Decides-eqb, Decides-like}
+use Rattle.std.proofs.lemmas.List.Elements.{recursion_from_All}
+use Rattle.std.proofs.lemmas.Option.{none-some, same_Some}
+use Rattle.std.proofs.lemmas.List.{get_or_default, same_lists, length-drop, length-map}
+use Rattle.ttx_packet.specs.OneBit.{first_below}
+use Rattle.ttx_packet.specs.PacketAddress.{HasExactAddress, IsPacket, PacketAddress, address}
+use Rattle.ttx_packet.specs.PageHeader.{HasExactHeader, c11, header}
+use Rattle.ttx_packet.specs.PageId.{PageIdValue}
+use Rattle.ttx_packet.specs.Parity.{is_odd}
+use Rattle.ttx_packet.specs.RowPacket.{HasOddText, first_even_byte, text_byte}
+use Rattle.ttx_packet.specs.declared.header.Header.{Header}
+use Rattle.ttx_packet.proofs.OneBitLemmas.{first_below_is}
+use Rattle.ttx_page.specs.Differing.{columns_differing, row_differing}
+use Rattle.ttx_page.specs.Noise.{IsOddRow, IsSameRow}
+use Rattle.ttx_page.proofs.NoiseSteps.{row_from_test}
+use Rattle.ttx_page.proofs.SpanLists.{find_none}
+use Rattle.ttx_page.specs.PacketKind.{is_row, is_some_row, kind}
+use Rattle.ttx_page.specs.Span.{is_open_after, span}
+use Rattle.ttx_page.specs.declared.packet_kind.PacketKind.{PacketKind}
+use Rattle.ttx_page.specs.declared.packet_kind.PacketKind.TheVariants.{Row, ThisPage}
+use Rattle.stl_rows.specs.declared.national.National.{National}
+use Rattle.sub_rules.specs.Good.{IsCleanSpan, IsEnhancement, IsSubtitleHeader}
+use Rattle.sub_rules.specs.PacketRules.{KeepsRule, codes_of, first_header, rank}
+use Rattle.sub_rules.specs.PacketTests.{are_code_words, breaks, broken_rules, is_of_header}
+use Rattle.sub_rules.specs.PacketTests.{is_of_enhancement, is_other_mode, is_other_row}
+use Rattle.sub_rules.specs.PacketTests.{is_other_text, is_subtitle_header, first_of_row}
+use Rattle.sub_rules.specs.PacketTests.{is_wrong_header, packet_rules}
+use Rattle.sub_rules.specs.declared.packet_rule.PacketRule.{PacketRule}
+use Rattle.sub_rules.specs.declared.packet_rule.PacketRule.TheVariants as rule
+use Rattle.sub_rules.specs.declared.packet_rule.Watched.{Watched}
+use Rattle.sub_rules.proofs.TestLemmas.{below_none, fails, holds, same_bit}
+use Rattle.sub_rules.proofs.CodesLemmas.{same_packet}
+use Rattle.sub_rules.proofs.PacketLists.{Each-find, Each-join, Each-map, Each-none, no_row}
+use Rattle.sub_rules.proofs.CodeWordLemmas.{address_decided, header_decided}
+
+-- ---- each rule
+
+-- A test that fails where a fact holds.
+abbrev pub Refutes : Bool → Type 0 → Type 0
+Refutes b P = Decides (not b) P
+
+-- The coded bytes of a packet X/0.
+pub coded : (o : Option PacketAddress) (b : Bool) (P : Type 0) → Decides b P
+    → Refutes (is_of_header o && not b) ((a : PacketAddress) → o ≡ Some a → a.packet_number ≡ 0 → P)
+coded o b P d = grind (arith, nat_tests)
+
+-- With no other bit there is none that differs.
+mode-none : (o : Option Bool) → is_other_mode o None ≡ false
+mode-none o = grind (arith, nat_tests)
+
+-- One mode.
+pub one_mode : (this first : Option Header)
+    → Refutes
+    (is_other_mode (option_map (λ (h : Header). c11 h) first)
+    (option_map (λ (h : Header). c11 h) this))
+    ((h f : Header) → this ≡ Some h → first ≡ Some f → c11 h ≡ c11 f)
+one_mode this first = grind (arith, nat_tests, mode-none)
+
+-- The control bits.
+subtitle_header : (national : National) (h : Header)
+    → Decides (is_subtitle_header national h) (IsSubtitleHeader national h)
+subtitle_header national h =
+    grind (arith, nat_tests, Decides-like, is_subtitle_header, Decides-and, holds, fails, same_bit)
+
+pub controlled : (national : National) (k : PacketKind)
+    → Refutes (is_wrong_header national k)
+    ((h : Header) → k ≡ ThisPage h → IsSubtitleHeader national h)
+controlled national (ThisPage h) = grind (arith, nat_tests, subtitle_header)
+controlled national k = (λ e h is. grind arith, λ h. refl)
+
+-- The text's parity.
+pub odd_text : (p : List ℕ) → Refutes (is_some (first_even_byte p)) (HasOddText p)
+unfolding first_even_byte
+odd_text p = go (first_below 40 (λ column. not (is_odd (text_byte p column)))) refl
+  where
+    go : (o : Option ℕ) → first_below 40 (λ column. not (is_odd (text_byte p column))) ≡ o
+        → Refutes (is_some o) (HasOddText p)
+    go None e = (
+      λ _ column l.
+          let odd = below_none 40 (λ column. not (is_odd (text_byte p column))) e column l in
+          grind (arith, nat_tests),
+      λ h. refl,
+    )
+    go (Some column) e = (
+      λ f. absurd (true≢false (sym f)),
+      λ h.
+          let even = first_below_is 40 (λ column. not (is_odd (text_byte p column))) column e in
+          let odd = h column even.0 in
+          absurd (grind (arith, nat_tests)),
+    )
+
+-- A row's.
+pub odd_row : (p : List ℕ) (k : PacketKind)
+    → Refutes (is_some_row k && is_some (first_even_byte p))
+    ((row : ℕ) → k ≡ Row row → HasOddText p)
+odd_row p (Row y) = (λ e row is. (odd_text p).0 e, λ h. (odd_text p).1 (h y refl))
+odd_row p k = (λ e row is. grind arith, λ h. refl)
+
+-- A packet that no page of level 1 has.
+pub no_enhancement : (page : PageIdValue) (p : List ℕ) (o : Option PacketAddress) → address p ≡ o
+    → Refutes (is_of_enhancement page o) (IsEnhancement page p → ⊥)
+no_enhancement page p None e = (λ f is. none-some is.0 (sym e ∙ is.1), λ h. refl)
+no_enhancement page p (Some a) e = grind (arith, nat_tests, same_Some)
+
+-- ---- rows
+
+-- Rows that differ in none of the first n columns.
+pub columns_zero : (n : ℕ) (xs ys : List ℕ) → columns_differing n xs ys ≡ 0 → (k : ℕ) → k < n
+    → get_or xs k 0 ≡ get_or ys k 0
+unfolding columns_differing
+columns_zero zero xs ys e k l = absurd (omega arith)
+columns_zero (suc n) xs ys e k l =
+    let before = columns_zero n xs ys in grind (arith, nat_tests)
+
+-- A row differs from itself in none.
+columns_same : (n : ℕ) (xs : List ℕ) → columns_differing n xs xs ≡ 0
+unfolding columns_differing
+columns_same zero xs = refl
+columns_same (suc n) xs = let before = columns_same n xs in grind (arith, nat_tests)
+
+-- A packet has 40 codes.
+codes_length : (p : List ℕ) → length p ≡ 42 → length (codes_of p) ≡ 40
+codes_length p l = grind (arith, length-map, length-drop 2 p)
+
+-- Those of two packets that differ in no column are equal.
+same_codes : (p q : List ℕ) → length p ≡ 42 → length q ≡ 42
+    → row_differing (codes_of p) (codes_of q) ≡ 0 → codes_of p ≡ codes_of q
+same_codes p q lp lq e =
+    let one = codes_length p lp in
+    let other = codes_length q lq in
+    same_lists (codes_of p) (codes_of q) (one ∙ sym other)
+    (λ k d l.
+    get_or_default (codes_of p) k d 0 l
+    ∙ columns_zero 40 (codes_of p) (codes_of q) e k (omega (arith, one))
+    ∙ get_or_default (codes_of q) k 0 d (omega (arith, one, other)))
+
+-- What is known of the packets of the span: it is clean, and its packets are whole, with an exact
+-- address.
+pub record IsSoundSpan (w : Watched) (packets : List (List ℕ)) : Type 0 where
+  pub clean : IsCleanSpan w.page packets
+  pub whole : AllByRecursion (λ q. IsPacket q × HasExactAddress q) packets
+
+-- What is known of one of them.
+abbrev IsSoundPacket : Watched → List (List ℕ) → List ℕ → Type 0
+IsSoundPacket w packets q =
+    (IsPacket q × HasExactAddress q) × IsOddRow w.page q × All (IsSameRow w.page q) packets
+
+each_sound : (w : Watched) (packets : List (List ℕ)) → IsSoundSpan w packets
+    → AllByRecursion (IsSoundPacket w packets) packets
+each_sound w packets s =
+    Each-join (λ q. IsPacket q × HasExactAddress q)
+    (λ q. IsOddRow w.page q × All (IsSameRow w.page q) packets) (IsSoundPacket w packets)
+    (λ q a b. (a, b.0, b.1)) packets s.whole
+    (Each-join (IsOddRow w.page) (λ q. All (IsSameRow w.page q) packets)
+    (λ q. IsOddRow w.page q × All (IsSameRow w.page q) packets) (λ q a b. (a, b)) packets
+    (recursion_from_All (IsOddRow w.page) packets s.clean.odd)
+    (recursion_from_All (λ q. All (IsSameRow w.page q) packets) packets s.clean.same))
+
+-- A row has an address of the magazine with its number.
+address-row : (w : Watched) (p : List ℕ) (row : ℕ) → kind w.page p ≡ Row row
+    → address p ≡ Some (record { magazine = w.page.magazine; packet_number = row })
+unfolding kind
+address-row w p row e = grind (arith, nat_tests)
+
+-- A row after a sound span, itself whole, with an exact address and odd text.
+module _ (w : Watched) (packets : List (List ℕ)) (s : IsSoundSpan w packets) (p : List ℕ) (row : ℕ)
+    (is_row_of : kind w.page p ≡ Row row) (whole : IsPacket p) (exact : HasExactAddress p)
+    (odd : HasOddText p) where
+  -- Each packet of its row equals it.
+  abbrev EachSame : Type 0
+  EachSame = AllByRecursion (λ q. kind w.page q ≡ Row row → q ≡ p) packets
+
+  -- Where the first packet of the row has its codes.
+  found : (q : List ℕ) → kind w.page q ≡ Row row → IsSoundPacket w packets q
+      → Refutes (is_other_text (Some q) (codes_of p)) (q ≡ p)
+  found q k sound =
+      grind (arith, nat_tests, Decides-eqb, same_packet, address-row, same_codes, columns_same)
+
+  -- The test of the row.
+  pub row_decided : Refutes (is_other_text (first_of_row w.page packets row) (codes_of p)) EachSame
+  row_decided = elim (cases_Bool (list_any (λ q. is_row row (kind w.page q)) packets)) [
+    | inl e ↦
+        let q = Each-find (λ q. is_row row (kind w.page q)) (IsSoundPacket w packets) packets e
+        (each_sound w packets s) in
+        let k = row_from_test row (kind w.page q.0) q.2 in
+        subst (λ o. Refutes (is_other_text o (codes_of p)) EachSame) (sym q.1)
+        (Decides-like _
+        (λ is. Each-map (IsSameRow w.page q.0) (λ x. kind w.page x ≡ Row row → x ≡ p)
+        (λ x same of. sym (same row k of) ∙ is) packets
+        (recursion_from_All (IsSameRow w.page q.0) packets q.3.2))
+        (λ all. let other = Each-find (λ q. is_row row (kind w.page q))
+        (λ x. kind w.page x ≡ Row row → x ≡ p) packets e all in
+        same_Some _ _ (sym q.1 ∙ other.1)
+        ∙ other.3 (row_from_test row (kind w.page other.0) other.2))
+        (found q.0 k q.3))
+    | inr e ↦
+        subst (λ o. Refutes (is_other_text o (codes_of p)) EachSame)
+        (sym (find_none (λ q. is_row row (kind w.page q)) packets e)) (
+          λ _. Each-map (λ q. is_row row (kind w.page q) ≡ false)
+              (λ q. kind w.page q ≡ Row row → q ≡ p)
+              (λ q other of. absurd (no_row row (kind w.page q) other of)) packets
+              (Each-none (λ q. is_row row (kind w.page q)) packets e),
+          λ _. refl,
+        )
+  ]
+
+-- ---- the first rule that is broken
+
+-- Of no rule: all are kept. Of rules: the first is broken, and those of a lower rank are kept.
+abbrev pub FirstRule : (PacketRule → Type 0) → List PacketRule → Type 0
+FirstRule Keeps [] = (r : PacketRule) → Keeps r
+FirstRule Keeps (r ∷ rs) =
+    (Keeps r → ⊥) × ((other : PacketRule) → rank other < rank r → Keeps other)
+
+-- What is told first, by a test of each rule.
+module _ (test : PacketRule → Bool) (Keeps : PacketRule → Type 0)
+    (each : (r : PacketRule) → ((other : PacketRule) → rank other < rank r → Keeps other)
+    → Refutes (test r) (Keeps r)) where
+  -- One rule, and then the others.
+  one_rule : (r : PacketRule) → ((other : PacketRule) → rank other < rank r → Keeps other)
+      → (rest : List PacketRule) → (Keeps r → FirstRule Keeps (filter test rest))
+      → FirstRule Keeps (filter test (r ∷ rest))
+  one_rule r lower rest next = grind (arith, nat_tests)
+
+  pub first_rule : FirstRule Keeps (filter test packet_rules)
+  unfolding packet_rules
+  first_rule = grind (arith, nat_tests, one_rule)
+
+-- What is told first of a packet that is sent after these, where their span is sound.
+module _ (w : Watched) (before : List (List ℕ)) (p : List ℕ) (whole : IsPacket p)
+    (s : IsTrue (is_open_after (kind w.page) before) → IsSoundSpan w (span (kind w.page) before))
+  where
+    -- A rule of the page while it is open.
+    opened : (b c : Bool) (P : Type 0) → (IsTrue b → Refutes c P) → Refutes (b && c) (IsTrue b → P)
+    opened true c P d = (λ e t. (d refl).0 e, λ h. (d refl).1 (h refl))
+    opened false c P d = (λ e t. absurd (true≢false (sym t)), λ h. refl)
+
+    same_row : (k : PacketKind) → kind w.page p ≡ k
+        → KeepsRule rule.Address w before p → KeepsRule rule.Parity w before p
+        → IsTrue (is_open_after (kind w.page) before)
+        → Refutes (is_other_row w.page (span (kind w.page) before) p k)
+        ((row : ℕ) → k ≡ Row row
+        → AllByRecursion (λ q. kind w.page q ≡ Row row → q ≡ p) (span (kind w.page) before))
+    same_row k e exact odd is_open = grind (arith, nat_tests, row_decided)
+
+    -- Each rule, where those of a lower rank are kept.
+    pub decided : (r : PacketRule)
+        → ((other : PacketRule) → rank other < rank r → KeepsRule other w before p)
+        → Refutes (breaks r w before p) (KeepsRule r w before p)
+    unfolding breaks
+    decided rule.Address lower = grind (arith, nat_tests, address_decided)
+    decided rule.HeaderCode lower =
+        coded (address p) (are_code_words 2 8 p) (HasExactHeader p) (header_decided p)
+    decided rule.Mode lower = one_mode (header p) (first_header before)
+    decided rule.Control lower = controlled w.national (kind w.page p)
+    decided rule.Parity lower =
+        subst (λ b. Refutes b (KeepsRule rule.Parity w before p))
+        (grind (arith, nat_tests))
+        (opened (is_open_after (kind w.page) before)
+        (is_some_row (kind w.page p) && is_some (first_even_byte p))
+        ((row : ℕ) → kind w.page p ≡ Row row → HasOddText p) (λ t. odd_row p (kind w.page p)))
+    decided rule.RowChanged lower =
+        opened (is_open_after (kind w.page) before) _ _
+        (same_row (kind w.page p) refl (lower rule.Address (omega arith))
+        (lower rule.Parity (omega arith)))
+    decided rule.Enhancement lower =
+        opened (is_open_after (kind w.page) before) _ _
+        (λ t. no_enhancement w.page p (address p) refl)
+
+    pub broken_first : FirstRule (λ r. KeepsRule r w before p)
+        (broken_rules w before p)
+    unfolding broken_rules
+    broken_first = first_rule (λ r. breaks r w before p) (λ r. KeepsRule r w before p) decided

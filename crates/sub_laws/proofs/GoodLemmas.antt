@@ -1,0 +1,98 @@
+-- What holds of each packet of a transmission, and the headers of frames of the list and of frames
+-- of the day: `each_packet`, `any_sent`, `sent_any`.
+use Rattle.std.proofs.Common.{◌≡◌, ℕ, zero, suc, ◌+◌, ◌-◌, ◌<◌, inl, inr, Bool, true}
+use Rattle.std.proofs.Common.{cond, ◌&&◌, nat_le, nat_lt, List, [], ◌∷◌, ◌++◌}
+use Rattle.std.proofs.Common.{length, get_or, All, refl, ap, arith, ◌⊎◌}
+use Rattle.std.specs.List.{AllByRecursion, flat_map, list_any}
+use Rattle.std.proofs.lemmas.List.{take_all}
+use Rattle.std.proofs.lemmas.List.Elements.{All-from_recursion}
+use Rattle.std.proofs.lemmas.List.Folds.{list_any-append}
+use Rattle.std.proofs.lemmas.Bool.Decides.{nat_tests}
+use Rattle.sub_rules.specs.FrameRules.{frame_at, packets_of_frame, packets_before}
+use Rattle.sub_rules.specs.declared.packet_rule.Watched.{Watched}
+use Rattle.ttx_page.specs.PacketKind.{kind, is_this_page}
+use Rattle.ttx_page.specs.Span.{holds_header}
+use Rattle.ttx_page.proofs.SpanLists.{holds-append_left, holds-append_right}
+use Rattle.sub_rules.specs.Transmission.{SentFrame, Transmission, EachPacket, IsRising, packets_of}
+
+-- ---- each packet
+
+-- What holds of two lists joined holds of each.
+Each-left : (P : List ℕ → Type 0) (xs ys : List (List ℕ)) → AllByRecursion P (xs ++ ys)
+    → AllByRecursion P xs × AllByRecursion P ys
+Each-left P [] ys h = (tt, h)
+Each-left P (x ∷ xs) ys h = let r = Each-left P xs ys h.1 in ((h.0, r.0), r.1)
+
+-- What holds of all packets holds of those of each frame.
+Each-parts : (P : List ℕ → Type 0) (t : Transmission)
+    → AllByRecursion P (flat_map (λ (s : SentFrame). s.packets) t)
+    → AllByRecursion (λ (s : SentFrame). All P s.packets) t
+Each-parts P [] h = tt
+Each-parts P (s ∷ ss) h = let r =
+    Each-left P s.packets (flat_map (λ (x : SentFrame). x.packets) ss) h in
+    (All-from_recursion P s.packets r.0, Each-parts P ss r.1)
+
+-- All packets.
+abbrev pub whole : Transmission → List (List ℕ)
+whole frames = packets_before frames (length frames)
+
+-- They stand frame after frame.
+pub whole-is : (t : Transmission) → whole t ≡ flat_map (λ (s : SentFrame). s.packets) t
+whole-is t = ap (flat_map (λ (s : SentFrame). s.packets)) (take_all (length t) t (omega arith))
+
+-- What holds of all packets holds of each packet of the transmission.
+pub each_packet : (P : List ℕ → Type 0) (t : Transmission) → AllByRecursion P (whole t)
+    → EachPacket P t
+each_packet P t h = grind (arith, All-from_recursion, Each-parts, whole-is)
+
+-- ---- headers
+
+-- A header in a frame of the list is one in the frame of the day.
+pub any_sent : (w : Watched) (t : Transmission) (j n : ℕ) → j < length t → frame_at t j ≡ n
+    → holds_header (kind w.page) (packets_of_frame t j) ≡ true
+    → holds_header (kind w.page) (packets_of t n) ≡ true
+any_sent w [] j n l e h = absurd (omega arith)
+any_sent w (s ∷ ss) zero n l e h =
+    grind (arith, holds-append_left)
+any_sent w (s ∷ ss) (suc j) n l e h =
+    holds-append_right (kind w.page)
+    (cond (nat_le n s.frame && nat_lt s.frame (n + 1)) s.packets []) (packets_of ss n)
+    (any_sent w ss j n (omega arith) e h)
+
+-- The number of a frame of the list.
+pub number_at : (t : Transmission) (i : ℕ) (d : SentFrame) → i < length t
+    → (get_or t i d).frame ≡ frame_at t i
+number_at [] i d l = absurd (omega arith)
+number_at (s ∷ ss) zero d l = refl
+number_at (s ∷ ss) (suc i) d l = number_at ss i d (omega arith)
+
+-- Frames that rise rise from each place to the next.
+pub rises_each : (t : Transmission) → IsRising t → (i : ℕ) → 0 < i → i < length t
+    → frame_at t (i - 1) < frame_at t i
+rises_each t rising i a l =
+    let nothing : SentFrame = record { frame = 0; packets = [] } in
+    let r = rising (i - 1) i nothing (omega arith) (omega arith) in
+    let x = number_at t (i - 1) nothing (omega arith) in
+    let y = number_at t i nothing l in omega arith
+
+-- An item of two lists joined is one of the first or of the second.
+any-split : {X : Type 0} (f : X → Bool) (xs ys : List X) → list_any f (xs ++ ys) ≡ true
+    → (list_any f xs ≡ true) ⊎ (list_any f ys ≡ true)
+any-split f xs ys e = let both = list_any-append f xs ys in grind arith
+
+-- A header in a frame of the day is one in a frame of the list.
+pub sent_any : (w : Watched) (t : Transmission) (n : ℕ)
+    → holds_header (kind w.page) (packets_of t n) ≡ true
+    → (j : ℕ) × (j < length t) × (frame_at t j ≡ n) ×
+    (holds_header (kind w.page) (packets_of_frame t j) ≡ true)
+sent_any w [] n e = cc
+sent_any w (s ∷ ss) n e =
+    let later = sent_any w ss n in
+    elim (any-split (λ x. is_this_page (kind w.page x))
+    (cond (nat_le n s.frame && nat_lt s.frame (n + 1)) s.packets []) (packets_of ss n) e) [
+      | inl here ↦
+          let both : (s.frame ≡ n) × (holds_header (kind w.page) s.packets ≡ true) =
+          grind (arith, nat_tests) in
+          (0, omega arith, both.0, both.1)
+      | inr there ↦ let r = later there in (suc r.0, omega (arith, r.1), r.2, r.3)
+    ]

@@ -1,0 +1,390 @@
+-- A transmission is good, of complete pages where these are asked for, exactly where what is asked
+-- holds at each place: `Good-from_holds`, `Complete-from_holds`, `Holds-from_good`.
+use Rattle.std.proofs.lemmas.Bool.Decides.{nat_tests}
+use Rattle.std.proofs.Common.{◌≡◌, ℕ, ◌+◌, ◌-◌, ◌<◌, ◌≤◌, inl, inr, true, false, List, [], ◌∷◌}
+use Rattle.std.proofs.Common.{◌++◌, Option, Some, None, length, take, get_or, refl, sym, ap, ◌∙◌}
+use Rattle.std.proofs.Common.{subst, arith, IsTrue}
+use Rattle.std.proofs.Math.Seq.{take-append-add, take-nil}
+use Rattle.std.specs.Option.{option_or}
+use Rattle.std.specs.List.{AllByRecursion}
+use Rattle.std.proofs.lemmas.List.{length_push, take_all, take-append-le}
+use Rattle.std.proofs.lemmas.List.Elements.{All-from_recursion, recursion_from_All}
+use Rattle.std.proofs.lemmas.Bool.{cases_eq, cases_lt}
+use Rattle.std.proofs.lemmas.Option.{none-some, same_Some}
+use Rattle.ttx_packet.specs.PageHeader.{HasExactWords, header, c11}
+use Rattle.ttx_packet.specs.declared.header.Header.{Header}
+use Rattle.stl_rows.specs.Programme.{ProgrammeValue}
+use Rattle.sub_plan.specs.Options.{OptionsValue}
+use Rattle.sub_plan.specs.Schedule.{due_in}
+use Rattle.sub_rules.specs.declared.packet_rule.Watched.{Watched}
+use Rattle.ttx_page.specs.declared.packet_kind.PacketKind.TheVariants.{Other, Row}
+use Rattle.ttx_page.specs.PacketKind.{kind, is_this_page, ends_page}
+use Rattle.ttx_page.specs.Page.{cell, IsCell}
+use Rattle.ttx_page.specs.Span.{span, is_open_after}
+use Rattle.ttx_page.specs.Shown.{shown}
+use Rattle.sub_rules.specs.PacketRules.{first_header, KeepsRule, IsClean}
+use Rattle.sub_rules.proofs.PacketLists.{first_header-push, Each-push, Each-map}
+use Rattle.sub_rules.specs.Transmission.{EachPacket, SentFrame, Transmission, first_frame}
+use Rattle.sub_rules.specs.Transmission.{last_frame, on_air_until}
+use Rattle.sub_rules.specs.Good.{Good, HoldsHeader, IsCleanSpan, IsControlled, IsEnhancement}
+use Rattle.sub_rules.specs.Good.{IsInOneMode}
+use Rattle.sub_laws.specs.OnScreen.{Complete}
+use Rattle.sub_laws.specs.StepByStep.{IsNeverLate, MayFollow}
+use Rattle.sub_rules.specs.FrameRules.{HasHeader, IsCovered, ShowsDue, Unread, end_frame, frame_at}
+use Rattle.sub_rules.specs.FrameRules.{packets_before, packets_of_frame, task_of, watched_of}
+use Rattle.sub_rules.specs.declared.fault.CheckFault.{CheckFault}
+use Rattle.sub_laws.specs.CleanStretch.{IsEnd}
+use Rattle.sub_rules.specs.FirstBroken.{HoldsEverywhere, IsInGap, NamesFirst}
+use Rattle.sub_rules.specs.FirstBroken.Place.{AtOrder, AtStart, AtGapCell, AtGap, AtPacket, AtFirst}
+use Rattle.sub_rules.specs.FirstBroken.Place.{AtCell, AtFrame, AtOpen, AtUnread, AtNothing, AtEnd}
+use Rattle.sub_laws.proofs.CompleteLemmas.{complete_from, ended_at}
+use Rattle.sub_laws.proofs.GoodLemmas.{any_sent, each_packet, number_at, rises_each, sent_any}
+use Rattle.sub_laws.proofs.GoodLemmas.{whole}
+use Rattle.ttx_page.proofs.SpanPush.{span-push}
+use Rattle.sub_laws.proofs.PrefixLemmas.{before, packet_at, at_start, at_packet, each_at, each_from}
+use Rattle.sub_laws.proofs.PrefixLemmas.{before_more, rises_to, rises_strictly, first-same}
+use Rattle.sub_laws.proofs.PrefixLemmas.{last-same, on_air_at, on_air_is, end_at}
+use Rattle.sub_rules.proofs.FrameLists.{joined_more}
+use Rattle.sub_laws.proofs.StepByStepLemmas.{clean_nil, last_clean, law_of_repeats, pushed}
+use Rattle.sub_rules.specs.declared.packet_rule.PacketRule.TheVariants as rule
+
+-- ---- a packet of the span
+
+-- While the page is open a packet that neither is a header of the page nor ends it is in the span.
+span_open :
+    (w : Watched) (heard : List (List ℕ)) (p : List ℕ)
+    → is_this_page (kind w.page p) ≡ false
+    → ends_page (kind w.page p) ≡ false
+    → is_open_after (kind w.page) heard ≡ true
+    → span (kind w.page) (heard ++ p ∷ []) ≡ span (kind w.page) heard ++ p ∷ []
+span_open w heard p this ends opened = rw (span-push (kind w.page) heard p, this, opened, ends)
+
+-- A packet 25 to 28 is neither a header nor a row.
+enhancement_is_other :
+    (w : Watched) (p : List ℕ) → IsEnhancement w.page p → kind w.page p ≡ Other
+unfolding kind
+enhancement_is_other w p (a, e, m, low, high) =
+    grind arith
+
+-- ---- one packet more in a span
+
+-- After a packet that keeps the rules the span is clean still.
+pub fair_step : (w : Watched) (heard : List (List ℕ)) (p : List ℕ) → IsClean w heard p
+    → IsCleanSpan w.page (span (kind w.page) heard)
+    → IsCleanSpan w.page (span (kind w.page) (heard ++ p ∷ []))
+fair_step w heard p clean h =
+    pushed w.page heard p h (λ opened this ends. record {
+      odd = clean rule.Parity opened;
+      same = λ k d l row a b.
+          All-from_recursion (λ q. kind w.page q ≡ Row row → q ≡ p) (span (kind w.page) heard)
+          (clean rule.RowChanged opened row b) k d l a;
+      plain = clean rule.Enhancement opened;
+    })
+
+-- ---- each header agrees with the first
+
+-- A header has the C11 of the first header.
+abbrev Agrees : List (List ℕ) → List ℕ → Type 0
+Agrees heard q = (b : Header) → header q ≡ Some b
+    → (f : Header) × (first_header heard ≡ Some f) × ((c11 b) ≡ (c11 f))
+
+-- One packet more that agrees.
+agree_step : (heard : List (List ℕ)) (p : List ℕ)
+    → ((h first : Header) → header p ≡ Some h → first_header heard ≡ Some first
+    → (c11 h) ≡ (c11 first)) → AllByRecursion (Agrees heard) heard
+    → AllByRecursion (Agrees (heard ++ p ∷ [])) (heard ++ p ∷ [])
+agree_step heard p mode h =
+    Each-push (Agrees (heard ++ p ∷ [])) heard p
+    (Each-map (Agrees heard) (Agrees (heard ++ p ∷ [])) keeps heard h)
+    (λ b e. new b e (first_header heard) refl)
+  where
+    keeps : (q : List ℕ) → Agrees heard q → Agrees (heard ++ p ∷ []) q
+    keeps q a b e = let r = a b e in
+        (r.0, first_header-push heard p ∙ ap (λ o. option_or o (header p)) r.1, r.2)
+
+    new : (b : Header) → header p ≡ Some b → (o : Option Header) → first_header heard ≡ o
+        → (f : Header) × (first_header (heard ++ p ∷ []) ≡ Some f) × ((c11 b) ≡ (c11 f))
+    new b e None q = (b, first_header-push heard p ∙ ap (λ o. option_or o (header p)) q ∙ e, refl)
+    new b e (Some f) q =
+        (f, first_header-push heard p ∙ ap (λ o. option_or o (header p)) q, mode b f e q)
+
+-- A packet of the list has the first header.
+first_pick : (P : List ℕ → Type 0) (xs : List (List ℕ)) (f : Header) → first_header xs ≡ Some f
+    → AllByRecursion P xs → (q : List ℕ) × (header q ≡ Some f) × P q
+first_pick P [] f e h = absurd (none-some f e)
+first_pick P (x ∷ xs) f e h = go (header x) refl e (λ d. first_pick P xs f d h.1)
+  where
+    go : (o : Option Header) → header x ≡ o → option_or o (first_header xs) ≡ Some f
+        → (first_header xs ≡ Some f → (q : List ℕ) × (header q ≡ Some f) × P q)
+        → (q : List ℕ) × (header q ≡ Some f) × P q
+    go o q d ih = grind arith
+
+-- ---- the law, one way
+
+module _ (programme : ProgrammeValue) (options : OptionsValue) (unread : Option Unread)
+    (t : Transmission) (some_frames : 0 < options.every)
+    (h : HoldsEverywhere (task_of programme options unread) t) where
+  -- There is a frame.
+  some : 0 < length t
+  some = h AtNothing tt
+
+  -- Each frame is after the one before.
+  pub rising : (i : ℕ) → 0 < i → i < length t → frame_at t (i - 1) < frame_at t i
+  rising i a b = h (AtOrder i) (a, b)
+
+  -- The frames rise.
+  rising_of : (i j : ℕ) (d : SentFrame) → i < j → j < length t
+      → (get_or t i d).frame < (get_or t j d).frame
+  rising_of i j d l m = grind (arith, nat_tests, number_at, rises_strictly, rising)
+
+  -- Each packet keeps the rules.
+  clean_at : (i k : ℕ) → i < length t → k < length (packets_of_frame t i)
+      → IsClean (watched_of programme options) (before t i k) (packet_at t i k)
+  clean_at i k l m f = h (AtPacket i k f) (l, m)
+
+  -- These packets, cut anywhere, leave a clean span.
+  abbrev HasCleanCuts : List (List ℕ) → Type 0
+  HasCleanCuts xs = (n : ℕ) → IsCleanSpan options.page (span (kind options.page) (take n xs))
+
+  -- One packet more.
+  cuts_more : (i k : ℕ) → i < length t → k < length (packets_of_frame t i)
+      → HasCleanCuts (before t i k) → HasCleanCuts (before t i k ++ packet_at t i k ∷ [])
+  cuts_more i k l m cuts n =
+      let xs = before t i k in
+      elim (cases_lt (length xs) n) [
+        | inl long ↦
+            subst (λ ys. IsCleanSpan options.page (span (kind options.page) ys))
+            (sym (take_all n (xs ++ packet_at t i k ∷ []) (rw length_push (omega arith))))
+            (fair_step (watched_of programme options) xs (packet_at t i k) (clean_at i k l m)
+            (subst (λ ys. IsCleanSpan options.page (span (kind options.page) ys))
+            (take_all (length xs) xs (omega arith)) (cuts (length xs))))
+        | inr short ↦
+            subst (λ ys. IsCleanSpan options.page (span (kind options.page) ys))
+            (sym (take-append-le n xs (packet_at t i k ∷ []) short)) (cuts n)
+      ]
+
+  -- So spans are clean.
+  spans_of : (f n : ℕ) → f ≤ last_frame t
+      → IsCleanSpan options.page (span (kind options.page) (take n (on_air_until t f)))
+  spans_of f n l =
+      let last = last-same t in
+      elim (cases_lt f (frame_at t 0)) [
+        | inl early ↦ up_to 0 (omega arith)
+            (on_air_is t rising 0 f (omega arith) (λ s. absurd (omega arith)) (λ m. early))
+        | inr low ↦ let (m, end, is, from) = end_at t rising f some low (omega arith) in
+            up_to m end.1 is
+      ]
+    where
+      up_to : (m : ℕ) → m ≤ length t → on_air_until t f ≡ packets_before t m
+          → IsCleanSpan options.page (span (kind options.page) (take n (on_air_until t f)))
+      up_to m le is =
+          subst (λ xs. IsCleanSpan options.page (span (kind options.page) (take n xs))) (sym is)
+          (at_start t (length t) (omega arith) HasCleanCuts
+          (λ k. rw take-nil (clean_nil options.page)) cuts_more m le n)
+
+  -- What is asked at an end of its page and of the last header.
+  abbrev EndHolds : ℕ → ℕ → Type 0
+  EndHolds n f =
+      ((row column : ℕ) → IsCell row column
+      → ShowsDue (task_of programme options unread) t n f row column)
+      × IsCovered (task_of programme options unread) t n f
+
+  ends_hold : (n f : ℕ) → IsEnd t n f → EndHolds n f
+  ends_hold n f (above, le, inl own) =
+      let one : n - 1 + 1 ≡ n = omega arith in
+      let l : n - 1 < length t = omega arith in
+      subst (λ m. EndHolds m f) one (subst (EndHolds (n - 1 + 1)) (sym own)
+      (λ row column is. h (AtCell (n - 1) row column) (l, is), h (AtFrame (n - 1)) l))
+  ends_hold n f (above, le, inr (l, later, earlier)) =
+      let gap : IsInGap t n f = (above, l, earlier (n - 1) (omega arith), later) in
+      (λ row column is. h (AtGapCell n f row column) (gap, is), h (AtGap n f) gap)
+
+  -- At the end of each frame the due page is shown.
+  shows_at : (f row column : ℕ) → first_frame t ≤ f → f ≤ last_frame t → IsCell row column
+      → shown options.page (on_air_until t f) row column ≡ cell (due_in programme f) row column
+  shows_at f row column low high is =
+      let (n, end, on, from) =
+      end_at t rising f some (omega (arith, first-same t)) (omega (arith, last-same t)) in
+      ap (λ xs. shown options.page xs row column) on ∙ (ends_hold n f end).0 row column is
+
+  -- The first frame has a header of the page.
+  opens : HoldsHeader options.page t (first_frame t)
+  opens = any_sent (watched_of programme options) t 0 (first_frame t) some (sym (first-same t))
+      (h AtFirst some)
+
+  -- At the end of each frame the last one is not too long ago.
+  never_late : IsNeverLate options.page options.every t
+  never_late f low high =
+      let first = first-same t in
+      let (n, end, on, from) = end_at t rising f some (omega arith) (omega (arith, last-same t)) in
+      elim (ends_hold n f end).1 [
+        | inl early ↦ (first_frame t, low, omega arith, opens)
+        | inr (j, m, below, head) ↦
+            let r = rises_to t rising j (n - 1) (omega arith) (omega (arith, end.0, end.1)) in
+            let there : j < length t = omega (arith, end.1) in (
+              frame_at t j,
+              omega arith,
+              below,
+              any_sent (watched_of programme options) t j (frame_at t j) there refl head,
+            )
+      ]
+
+  -- Each header has the C11 of the first.
+  agreed : EachPacket (Agrees (whole t)) t
+  agreed =
+      each_packet (Agrees (whole t)) t
+      (at_start t (length t) (omega arith) (λ xs. AllByRecursion (Agrees xs) xs) tt
+      (λ i k l m ih. agree_step (before t i k) (packet_at t i k) (clean_at i k l m rule.Mode) ih)
+      (length t) (omega arith))
+
+  -- Where all that is asked holds, the transmission is good.
+  pub Good-from_holds : EachPacket (λ packet. length packet ≡ 42) t → Good programme t options
+  Good-from_holds sizes = record {
+    not_empty = some;
+    rising = rising_of;
+    whole = sizes;
+    starts = let starts = h AtStart some in grind (arith, first-same t);
+    lasts = let lasts = h AtEnd some in grind (arith, last-same t);
+    exact = each_from HasExactWords t
+        (λ i k l m. (clean_at i k l m rule.Address, clean_at i k l m rule.HeaderCode));
+    serial = λ i d l k e m i' d' l' k' e' m' a b is too.
+        grind (arith, nat_tests, agreed, same_Some);
+    control = each_from (IsControlled programme.national options.page) t
+        (λ i k l m. clean_at i k l m rule.Control);
+    spans = spans_of;
+    opens = opens;
+    repeats = (law_of_repeats options.page options.every t some_frames opens).1 never_late;
+    content = shows_at;
+  }
+
+  -- And of complete pages, where these are asked for.
+  pub Complete-from_holds : IsTrue options.asks_complete → Complete t options
+  Complete-from_holds asks = complete_from options t rising some (λ i l. h (AtOpen i) l asks)
+
+-- ---- the law, the other way
+
+module _ (programme : ProgrammeValue) (options : OptionsValue) (t : Transmission)
+    (good : Good programme t options) (complete : IsTrue options.asks_complete → Complete t options)
+  where
+    -- Each frame is after the one before.
+    abbrev rises : (i : ℕ) → 0 < i → i < length t → frame_at t (i - 1) < frame_at t i
+    rises = rises_each t good.rising
+
+    -- Each packet has the C11 of the first header.
+    mode_at : (i k : ℕ) → i < length t → k < length (packets_of_frame t i)
+        → KeepsRule rule.Mode (watched_of programme options) (before t i k) (packet_at t i k)
+    mode_at i k l m a f ea ef =
+        let P : List ℕ → Type 0 = IsInOneMode (packet_at t i k) in
+        let row = each_at (λ one. EachPacket (IsInOneMode one) t) t i k good.serial l m in
+        let front =
+        at_packet t (length t) (omega arith) (AllByRecursion P) tt
+        (λ j n a b ih. Each-push P (before t j n) (packet_at t j n) ih (each_at P t j n row a b)) i
+        k l (omega arith) in
+        let q = first_pick P (before t i k) f ef front in
+        q.2 a f ea q.1
+
+    -- No frame is after the last.
+    last_at_least : (i : ℕ) → i < length t → frame_at t i ≤ end_frame t
+    last_at_least i l = rises_to t rises i (length t - 1) (omega arith) (omega arith)
+
+    -- While the page is open the packet may follow the span.
+    may_follow : (i k : ℕ) → i < length t → k < length (packets_of_frame t i)
+        → is_this_page (kind options.page (packet_at t i k)) ≡ false
+        → ends_page (kind options.page (packet_at t i k)) ≡ false
+        → is_open_after (kind options.page) (before t i k) ≡ true
+        → MayFollow options.page (span (kind options.page) (before t i k)) (packet_at t i k)
+    may_follow i k l m this ends opened =
+        let n : ℕ = length (packets_before t i) + (k + 1) in
+        let up_to : take n (on_air_until t (frame_at t i)) ≡ before t i (k + 1) =
+        ap (take n) (on_air_at t rises i l ∙ joined_more t i l)
+        ∙ take-append-add (packets_before t i) (packets_of_frame t i) (k + 1) in
+        last_clean options.page (span (kind options.page) (before t i k)) (packet_at t i k)
+        (subst (IsCleanSpan options.page)
+        (ap (span (kind options.page)) (up_to ∙ before_more t i k m)
+        ∙ span_open (watched_of programme options) (before t i k) (packet_at t i k) this ends
+        opened)
+        (good.spans (frame_at t i) n (omega (arith, last-same t, last_at_least i l))))
+
+    -- Each packet keeps each rule.
+    free_at : (i k : ℕ) → i < length t → k < length (packets_of_frame t i)
+        → IsClean (watched_of programme options) (before t i k) (packet_at t i k)
+    free_at i k l m rule.Address = (each_at HasExactWords t i k good.exact l m).0
+    free_at i k l m rule.HeaderCode = (each_at HasExactWords t i k good.exact l m).1
+    free_at i k l m rule.Mode = mode_at i k l m
+    free_at i k l m rule.Control =
+        each_at (IsControlled programme.national options.page) t i k good.control l m
+    free_at i k l m rule.Parity = λ opened row e.
+        (may_follow i k l m (ap is_this_page e) (ap ends_page e) opened).odd row e
+    free_at i k l m rule.RowChanged = λ opened row e.
+        let follows = may_follow i k l m (ap is_this_page e) (ap ends_page e) opened in
+        recursion_from_All (λ q. kind options.page q ≡ Row row → q ≡ packet_at t i k)
+        (span (kind options.page) (before t i k)) (λ j d n f. follows.same j d n row f e)
+    free_at i k l m rule.Enhancement = λ opened is.
+        let e = enhancement_is_other (watched_of programme options) (packet_at t i k) is in
+        (may_follow i k l m (ap is_this_page e) (ap ends_page e) opened).plain is
+
+    -- The first frame of the list has a header of the page.
+    starts : HasHeader (task_of programme options None) t 0
+    starts =
+        let r = sent_any (watched_of programme options) t (first_frame t) good.opens in
+        let first = first-same t in
+        elim (cases_eq r.0 0) [
+          | inl e ↦ subst (λ j. HasHeader (task_of programme options None) t j) e r.3
+          | inr other ↦ let s = rises_strictly t rises 0 r.0 (omega arith) r.1 in
+              absurd (omega (arith, r.2))
+        ]
+
+    -- A header is not too long ago.
+    covered_at : (n f : ℕ) → f ≤ end_frame t
+        → ((j : ℕ) → n ≤ j → j < length t → f < frame_at t j)
+        → IsCovered (task_of programme options None) t n f
+    covered_at n f high later = elim (cases_lt (f + 1) (frame_at t 0 + options.every)) [
+      | inl early ↦ inl early
+      | inr late ↦
+          let first = first-same t in
+          let last = last-same t in
+          let r = good.repeats (f + 1 - options.every) (omega arith) (omega arith) in
+          let s = sent_any (watched_of programme options) t r.0 r.3 in
+          elim (cases_lt s.0 n) [
+            | inl within ↦ inr (s.0, within, omega (arith, s.2, r.1), s.3)
+            | inr after ↦ let x = later s.0 after s.1 in absurd (omega (arith, s.2, r.2))
+          ]
+    ]
+
+    -- After n frames the due page is shown.
+    shows_of : (n f row column : ℕ) → 0 < n → n ≤ length t → frame_at t (n - 1) ≤ f
+        → (n < length t → f < frame_at t n) → f ≤ end_frame t → IsCell row column
+        → ShowsDue (task_of programme options None) t n f row column
+    shows_of n f row column some le low high last is =
+        let first = rises_to t rises 0 (n - 1) (omega arith) (omega arith) in
+        sym (ap (λ xs. shown options.page xs row column)
+        (on_air_is t rises n f le (λ s. low) high))
+        ∙ good.content f row column (omega (arith, first-same t)) (omega (arith, last-same t)) is
+
+    -- Where the transmission is good, all that is asked holds.
+    pub Holds-from_good : HoldsEverywhere (task_of programme options None) t
+    Holds-from_good (AtOrder i) there = rises i there.0 there.1
+    Holds-from_good AtStart there = let starts = good.starts in grind arith
+    Holds-from_good (AtGapCell i f row column) (gap, is) = let last = last_at_least i gap.1 in
+        shows_of i f row column gap.0 (omega (arith, gap.1)) (omega (arith, gap.2)) (λ m. gap.3)
+        (omega (arith, gap.3)) is
+    Holds-from_good (AtGap i f) gap = let last = last_at_least i gap.1 in
+        covered_at i f (omega (arith, gap.3))
+        (λ j a b. let r = rises_to t rises i j a b in omega (arith, gap.3))
+    Holds-from_good (AtPacket i k f) there = free_at i k there.0 there.1 f
+    Holds-from_good AtFirst there = starts
+    Holds-from_good (AtCell i row column) (l, is) =
+        let back : frame_at t (i + 1 - 1) ≡ frame_at t i = ap (frame_at t) (omega arith) in
+        shows_of (i + 1) (frame_at t i) row column (omega arith) (omega arith) (omega arith)
+        (λ m. rises_strictly t rises i (i + 1) (omega arith) m) (last_at_least i l) is
+    Holds-from_good (AtFrame i) l =
+        covered_at (i + 1) (frame_at t i) (last_at_least i l)
+        (λ j a b. rises_strictly t rises i j (omega arith) b)
+    Holds-from_good (AtOpen i) l = λ asks. ended_at options t rises (complete asks) i l
+    Holds-from_good AtUnread there = refl
+    Holds-from_good AtNothing there = good.not_empty
+    Holds-from_good AtEnd there = let lasts = good.lasts in grind (arith, last-same t)
+
+    -- So no refusal is told of it.
+    pub refuted : (fault : CheckFault) → NamesFirst (task_of programme options None) t fault → ⊥
+    refuted fault (x, e, first) = first.broken (Holds-from_good x first.there)

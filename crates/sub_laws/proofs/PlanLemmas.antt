@@ -1,0 +1,385 @@
+-- A schedule is a good transmission, and its bytes are read to their end as it: `law_of_plan`,
+-- `law_of_plan_read`.
+use Rattle.sub_plan.proofs.ScheduleBases.{range_split, last_sending, sending_in_gap, sends-first}
+use Rattle.sub_plan.proofs.ScheduleBases.{sends-last}
+use Rattle.std.proofs.lemmas.List.Elements.{filter-append, All-weaker, recursion_from_All}
+use Rattle.std.proofs.lemmas.List.{map-append}
+use Rattle.std.proofs.lemmas.Bool.Decides.{nat_tests}
+use Rattle.std.proofs.Common.{◌≡◌, ℕ, suc, ◌+◌, ◌-◌, ◌<◌, ◌≤◌, Bool, true, List, [], ◌∷◌}
+use Rattle.std.proofs.Common.{◌++◌, length, map, filter, take, flat_map, All, refl, sym, ap, ap₂}
+use Rattle.std.proofs.Common.{◌∙◌, subst, arith, IsTrue, append-nil, Option, Some, None, ◌*◌, lit<}
+use Rattle.std.specs.List.{range_with_len, AllByRecursion}
+use Rattle.std.specs.Prelude.{IfSome}
+use Rattle.std.proofs.lemmas.Option.{same_Some}
+use Rattle.ttx_packet.specs.declared.header.Header.{Header}
+use Rattle.ttx_packet.specs.PacketAddress.{IsPacket}
+use Rattle.ttx_packet.specs.PageHeader.{c11, header, HasExactWords}
+use Rattle.ttx_packet.specs.PageId.{PageIdValue}
+use Rattle.ttx_packet.specs.RowPacket.{HasOddText}
+use Rattle.ttx_page.specs.Page.{Rows, cell, IsCell, IsPage}
+use Rattle.ttx_page.specs.Noise.{IsOddRow, IsSameRow}
+use Rattle.ttx_page.specs.declared.packet_kind.PacketKind.TheVariants.{Row}
+use Rattle.ttx_page.specs.PacketKind.{kind}
+use Rattle.ttx_page.specs.Span.{holds_header, is_unended, span}
+use Rattle.ttx_page.specs.Shown.{shown}
+use Rattle.stl_rows.specs.declared.national.National.{National}
+use Rattle.stl_rows.specs.Programme.{first_in, last_out, IsProgramme, ProgrammeValue}
+use Rattle.stl_rows.proofs.PageShapeLemmas.{due_is_page}
+use Rattle.sub_plan.specs.Options.{IsOptions, IsWatchable, OptionsValue}
+use Rattle.sub_plan.specs.Schedule.{due_in, is_sending, sendings_from, pes_value, plan_frames}
+use Rattle.sub_plan.specs.Schedule.{sendings_at, sendings_between}
+use Rattle.sub_plan.specs.Sending.{sending, watched_header}
+use Rattle.sub_plan.specs.Laws.{AreRowsOfOnePage, IsLastSending, IsRowOf, IsSentPacket}
+use Rattle.sub_plan.proofs.SentPackets.{kind_row, made_row, row_of}
+use Rattle.sub_plan.proofs.SendingLemmas.{all_sent, ended_after, law_of_cut_sendings, sending_holds}
+use Rattle.sub_plan.proofs.SendingLemmas.{shown_after}
+use Rattle.sub_plan.proofs.ProgrammeLemmas.{none_in, plan_frames-is, span-rises, some_out}
+use Rattle.sub_plan.proofs.ProgrammeLemmas.{law_of_day}
+use Rattle.sub_rules.specs.Transmission.{SentFrame, Transmission, EachPacket, IsRising, first_frame}
+use Rattle.sub_rules.specs.Transmission.{last_frame, packets_between, packets_of, on_air_until}
+use Rattle.sub_rules.specs.Good.{Good, IsCleanSpan, IsControlled, IsEnhancement, IsSubtitleHeader}
+use Rattle.sub_laws.specs.OnScreen.{Complete, LawOfCompletePlan}
+use Rattle.sub_laws.specs.Planned.{LawOfPlan, planned, planned_at, LawOfPlanRead}
+use Rattle.sub_laws.proofs.TransmissionLemmas.{packets_between-split}
+use Rattle.sub_laws.proofs.FrameLemmas.{frames, rises, sent_none, sent_at, sent_some, each_frame}
+use Rattle.sub_laws.proofs.FrameLemmas.{starts_with, last_push}
+use Rattle.std.proofs.Math.Nat.{mod-lt}
+use Rattle.std.proofs.lemmas.List.FromFn.{length-range_with_len}
+use Rattle.ttx_pes.specs.PesPacket.{PesValue}
+use Rattle.ttx_pes.specs.Reading.{most_packets}
+use Rattle.ttx_pes.proofs.LineOrderLemmas.{numbered_is_value}
+use Rattle.ttx_pes.proofs.ReadingLemmas.{written_is_read}
+use Rattle.stl_file.specs.TimeCode.{day}
+use Rattle.sub_plan.specs.FrameTime.{pts_of}
+use Rattle.sub_plan.proofs.SendingSize.{law_of_pes_values, law_of_size, short_filter}
+use Rattle.sub_rules.specs.PesFrames.{IsSentAs}
+use Rattle.sub_rules.specs.PesReading.{ReadsAs}
+use Rattle.sub_rules.proofs.PesReadingLemmas.{reads_ended, reads_more}
+use Rattle.ttx_pes.proofs.ReaderLemmas.{nothing}
+
+-- ---- rows of one page are a clean span
+
+module _ (w : PageIdValue) (ok : IsWatchable w) where
+  -- A row of a page is that row to a receiver.
+  kind_of_row : (page : Rows) (p : List ℕ) → IsPage page → (is : IsRowOf w page p)
+      → kind w p ≡ Row is.row
+  kind_of_row page p shape is = ap (kind w) is.is ∙ kind_row w page is.row ok shape is.low is.high
+
+  -- Two rows of one number are one packet.
+  same_row : (page : Rows) → IsPage page → (p q : List ℕ) → IsRowOf w page p → IsRowOf w page q
+      → IsSameRow w p q
+  same_row page shape p q one other row k l =
+      grind (
+        arith,
+        nat_tests,
+        kind_of_row page p shape one,
+        kind_of_row page q shape other,
+        row_of w page,
+      )
+
+  -- A row has 40 odd bytes.
+  odd_row : (page : Rows) → IsPage page → (p : List ℕ) → IsRowOf w page p → IsOddRow w p
+  odd_row page shape p is row k =
+      subst HasOddText (sym is.is) (made_row w page is.row ok shape is.low is.high).odd
+
+  -- A row is no packet 25 to 28.
+  no_enhancement : (page : Rows) → IsPage page → (p : List ℕ) → IsRowOf w page p → IsEnhancement w p
+      → ⊥
+  no_enhancement page shape p is (a, at, m, low, high) =
+      grind (arith, nat_tests, made_row w page is.row ok shape is.low is.high, same_Some)
+
+  -- So a span of them is clean.
+  clean_rows : (packets : List (List ℕ)) → AreRowsOfOnePage w packets → IsCleanSpan w packets
+  clean_rows packets are = grind (arith, nat_tests, All-weaker, odd_row, same_row, no_enhancement)
+
+-- The header of a sending has the control bits of a subtitle's.
+subtitle_header : (w : PageIdValue) (national : National) (serial : Bool)
+    → IsSubtitleHeader national (watched_header w national serial)
+subtitle_header w national serial = grind (arith, nat_tests)
+
+-- ---- the schedule
+
+module _
+    (programme : ProgrammeValue) (o : OptionsValue) (serial : Bool) (first last : ℕ)
+    (tci : Some first ≡ first_in programme.records)
+    (tco : Some last ≡ last_out programme.records)
+    (ok : IsOptions o) (order : first ≤ last) where
+  -- The page.
+  abbrev w : PageIdValue
+  w = o.page
+
+  -- The due page of each frame.
+  abbrev due : ℕ → Rows
+  due = due_in programme
+
+  -- Whether a frame carries a sending.
+  abbrev p : ℕ → Bool
+  p = is_sending due o.every first last
+
+  -- A frame with its sending.
+  abbrev mk : ℕ → SentFrame
+  mk = planned_at due o programme.national serial
+
+  -- It has its number.
+  abbrev num : (f : ℕ) → (mk f).frame ≡ f
+  num f = refl
+
+  -- The schedule.
+  abbrev T : Transmission
+  T = planned programme o serial
+
+  -- Each due page is a page.
+  shape : (f : ℕ) → IsPage (due f)
+  shape f = due_is_page programme.national programme.records f
+
+  -- The frames with a sending, each with its packets.
+  plan_is : T ≡ map mk (filter p (range_with_len first (last + 1 - first)))
+  unfolding sendings_from
+  plan_is = ap (map mk) (sym (plan_frames-is programme o.every first last tci tco))
+
+  -- At the first frame something is sent.
+  first_sends : p first ≡ true
+  first_sends = sends-first due o.every first last ok.least
+
+  -- So the schedule starts there.
+  starts : T ≡ mk first ∷ frames mk num p (first + 1) (last - first)
+  starts =
+      let e : last + 1 - first ≡ suc (last - first) = omega arith in
+      plan_is ∙ ap (λ n. map mk (filter p (range_with_len first n))) e
+      ∙ starts_with mk num p first (last - first) first_sends
+
+  -- The first frame is the first TCI.
+  first_is : first_frame T ≡ first
+  first_is = ap first_frame starts
+
+  -- The last frame is the last TCO.
+  last_is : last_frame T ≡ last
+  last_is =
+      grind (arith, sends-last, plan_is, range_split, filter-append, map-append, last_push)
+
+  -- Its frames rise.
+  rising : IsRising T
+  rising = subst IsRising (sym plan_is) (rises mk num p first (last + 1 - first))
+
+  -- A fact of each sending is one of each packet.
+  each : (Q : List ℕ → Type 0) → ((f : ℕ) → All Q (mk f).packets) → EachPacket Q T
+  each Q h = subst (EachPacket Q) (sym plan_is)
+      (each_frame mk num p Q (filter p (range_with_len first (last + 1 - first))) h)
+
+  -- What is so of each packet of a sending.
+  each_sent : (Q : List ℕ → Type 0)
+      → ((packet : List ℕ) → IsSentPacket w programme.national serial packet → Q packet)
+      → EachPacket Q T
+  each_sent Q h =
+      each Q (λ f. All-weaker (IsSentPacket w programme.national serial) Q h (mk f).packets
+      (all_sent w programme.national serial (due f) ok.page (shape f)))
+
+  -- What is sent in a frame with a sending.
+  sent_in_is : (g : ℕ) → p g ≡ true → first ≤ g → g ≤ last → packets_of T g ≡ (mk g).packets
+  sent_in_is g h low high = ap (λ frames. packets_of frames g) plan_is
+      ∙ sent_at mk num p g first (last + 1 - first) h low (omega arith)
+
+  -- It holds a header of the page.
+  holds_at : (g : ℕ) → p g ≡ true → first ≤ g → g ≤ last
+      → holds_header (kind w) (packets_of T g) ≡ true
+  holds_at g h low high = ap (holds_header (kind w)) (sent_in_is g h low high)
+      ∙ sending_holds w programme.national serial (due g) ok.page (shape g)
+
+  -- What is on air up to a frame is what stands from the first TCI on.
+  until : (f : ℕ) → on_air_until T f ≡ packets_between T first (f + 1)
+  until f = ap (λ start. packets_between T start (f + 1)) first_is
+
+  -- So far: something, and then the sending of the page that is due.
+  so_far : (f : ℕ) → first_frame T ≤ f → f ≤ last_frame T → (before : List (List ℕ))
+      × (page : Rows) × (page ≡ due f) × IsPage page
+      × (on_air_until T f ≡ before ++ sending w programme.national serial page)
+  so_far f from to =
+      let low : first ≤ f = omega (arith, first_is, from) in
+      let high : f ≤ last = omega (arith, last_is, to) in
+      let found = last_sending due o.every first last f ok.least low in
+      let g : ℕ = found.0 in
+      let is : IsLastSending due o.every first last f g = found.1 in
+      let none : packets_between T (g + 1) (f + 1) ≡ [] =
+      grind (arith, nat_tests, plan_is, sent_none, mk, num, p) in
+      let split_g : packets_between T first (f + 1) ≡ packets_between T first g
+      ++ packets_between T g (f + 1) =
+      packets_between-split T first g (f + 1) rising is.low (omega (arith, is.high)) in
+      let split_n : packets_between T g (f + 1) ≡ packets_of T g
+      ++ packets_between T (g + 1) (f + 1) =
+      packets_between-split T g (g + 1) (f + 1) rising (omega arith) (omega (arith, is.high)) in
+      let here : packets_between T g (f + 1) ≡ (mk g).packets = split_n
+      ∙ ap₂ ◌++◌ (sent_in_is g is.sends is.low (omega (arith, is.high))) none
+      ∙ append-nil (mk g).packets in (
+        packets_between T first g,
+        due g,
+        is.same,
+        shape g,
+        until f ∙ split_g ∙ ap (λ ps. packets_between T first g ++ ps) here,
+      )
+
+  -- So what is shown is what is due.
+  content : (f row column : ℕ) → first_frame T ≤ f → f ≤ last_frame T → IsCell row column
+      → shown w (on_air_until T f) row column ≡ cell (due f) row column
+  content f row column low high named =
+      let (before, page, same, good, is) = so_far f low high in
+      grind (arith, nat_tests, shown_after)
+
+  -- Cut anywhere, the span is clean.
+  spans : (f n : ℕ) → IsCleanSpan w (span (kind w) (take n (on_air_until T f)))
+  spans f n =
+      let some_of = sent_some mk num p first (f + 1)
+      (filter p (range_with_len first (last + 1 - first))) in
+      let is : on_air_until T f ≡ flat_map (λ g. (mk g).packets) some_of.0 =
+      until f ∙ ap (λ frames. packets_between frames first (f + 1)) plan_is ∙ some_of.1 in
+      subst (λ ps. IsCleanSpan w (span (kind w) (take n ps))) (sym is)
+      (clean_rows w ok.page _
+      (law_of_cut_sendings w programme.national serial due some_of.0 n ok.page shape))
+
+  -- C11 by the mode.
+  abbrev IsSerially : List ℕ → Type 0
+  IsSerially packet = (h : Header) → header packet ≡ Some h → c11 h ≡ serial
+
+  -- All rules together.
+  good : Good programme T o
+  good =
+      let serially : EachPacket IsSerially T = each_sent IsSerially (λ packet is. is.mode) in
+      record {
+        not_empty = subst (λ frames. 0 < length frames) (sym starts) (omega arith);
+        rising = rising;
+        whole = each_sent (λ packet. length packet ≡ 42) (λ packet is. is.whole.size);
+        starts = subst (λ x. IfSome x (λ t. first_frame T ≤ t)) tci (omega (arith, first_is));
+        lasts = subst (λ x. IfSome x (λ t. t ≤ last_frame T)) tco (omega (arith, last_is));
+        exact = each_sent HasExactWords (λ packet is. is.exact);
+        serial = λ k d l i e b k' d' l' i' e' b' h h' is is'. serially k d l i e b h is
+            ∙ sym (serially k' d' l' i' e' b' h' is');
+        control = each_sent (IsControlled programme.national w)
+            (λ packet is h e. subst (IsSubtitleHeader programme.national) (sym (is.page_header h e))
+            (subtitle_header w programme.national serial));
+        spans = λ f n l. spans f n;
+        opens = subst (λ g. IsTrue (holds_header (kind w) (packets_of T g))) (sym first_is)
+            (holds_at first first_sends (omega arith) order);
+        repeats = λ start low high.
+            let found = sending_in_gap due o.every first last start ok.least
+            (omega (arith, first_is, low)) (omega (arith, last_is, high)) in (
+              found.0,
+              found.1,
+              found.2,
+              holds_at found.0 found.3
+                  (omega (arith, found.1, first_is, low)) (omega (arith, found.2, last_is, high)),
+            );
+        content = content;
+      }
+
+  -- At each frame's end the page is ended.
+  complete : Complete T o
+  complete f low high holds =
+      let (before, page, same, shaped, is) = so_far f low high in
+      ap (is_unended (kind w)) is
+      ∙ ended_after w programme.national serial page ok.page shaped before
+
+-- By cases of the first TCI and the last TCO: with a subtitle there are both.
+plan_between : (programme : ProgrammeValue) (o : OptionsValue) (serial : Bool) (a b : Option ℕ)
+    → a ≡ first_in programme.records
+    → b ≡ last_out programme.records
+    → IsProgramme programme.national programme.records
+    → (programme.records ≡ [] → ⊥)
+    → IsOptions o
+    → Good programme (planned programme o serial) o × Complete (planned programme o serial) o
+plan_between programme o serial None b h k is some ok = absurd (some (none_in programme.records h))
+plan_between programme o serial (Some a) None h k is some ok =
+    absurd (some (some_out programme.records a h k))
+plan_between programme o serial (Some a) (Some b) h k is some ok =
+    let s = span-rises programme.national programme.records a b is h k in
+    let order : a ≤ b = omega (arith, s.rises) in
+    (good programme o serial a b h k ok order, complete programme o serial a b h k ok order)
+
+-- The schedule of a programme with a subtitle is good.
+pub law_of_plan : LawOfPlan
+law_of_plan programme o serial is some ok =
+    (plan_between programme o serial (first_in programme.records)
+    (last_out programme.records) refl refl is some ok).0
+
+-- And one of complete pages.
+pub law_of_complete_plan : LawOfCompletePlan
+law_of_complete_plan programme o serial is some ok =
+    (plan_between programme o serial (first_in programme.records)
+    (last_out programme.records) refl refl is some ok).1
+
+-- ---- its bytes
+
+module _
+    (o : OptionsValue) (ok : IsOptions o) (national : National) (serial : Bool) (due : ℕ → Rows)
+    (shape : (f : ℕ) → IsPage (due f))
+  where
+    -- What is sent at a frame is sent as the frame.
+    is_sent : (f : ℕ)
+        → f < day
+        → IsSentAs o.origin (pes_value o.origin (sending o.page national serial (due f)) f)
+        (planned_at due o national serial f)
+    is_sent f in_day =
+        let packets : List (List ℕ) = sending o.page national serial (due f) in
+        let each : All IsPacket packets =
+        let sent = all_sent o.page national serial (due f) ok.page (shape f) in
+        grind (arith, nat_tests, All-weaker) in
+        record {
+          in_day = in_day;
+          pts = refl;
+          packets =
+              sym (numbered_is_value (pts_of o.origin f) packets
+              (mod-lt (o.origin + 3600 * f) (lit< tt))
+              (omega (arith, law_of_size o.page national serial (due f)))
+              (recursion_from_All IsPacket packets each)).1;
+        }
+
+    -- The bytes of sendings are read as their frames.
+    sendings_read :
+        (given : ℕ) (frames : List ℕ)
+        → given + length frames ≤ most_packets
+        → AllByRecursion (λ f. f < day) frames
+        → ReadsAs o.origin given (sendings_at due o national serial frames)
+        (map (planned_at due o national serial) frames) None
+    sendings_read given [] few in_day =
+        reads_ended o.origin given [] None (omega arith) (nothing given [] refl)
+    sendings_read given (f ∷ fs) few in_day =
+        let v : PesValue = pes_value o.origin (sending o.page national serial (due f)) f in
+        let back =
+        written_is_read given v (sendings_at due o national serial fs) (λ e. omega arith)
+        (law_of_pes_values o national serial (due f) f ok (shape f)) in
+        reads_more o.origin given (sendings_at due o national serial (f ∷ fs)) v
+        (planned_at due o national serial f) (map (planned_at due o national serial) fs) None
+        (omega arith) back.0 (is_sent f in_day.0)
+        (subst
+        (λ bytes. ReadsAs o.origin (given + 1) bytes (map (planned_at due o national serial) fs)
+        None) (sym back.1) (sendings_read (given + 1) fs (omega arith) in_day.1))
+
+-- A schedule has no more frames than a day, by cases of the first TCI and the last TCO.
+few_between :
+    (programme : ProgrammeValue) (every : ℕ) (a b : Option ℕ)
+    → a ≡ first_in programme.records
+    → b ≡ last_out programme.records
+    → IsProgramme programme.national programme.records
+    → length (sendings_between (due_in programme) every a b) ≤ most_packets
+unfolding sendings_from
+few_between programme every None b h k is = omega arith
+few_between programme every (Some a) None h k is = omega arith
+few_between programme every (Some a) (Some b) h k is =
+    grind (
+      arith,
+      nat_tests,
+      span-rises programme.national programme.records a b is h k,
+      short_filter (is_sending (due_in programme) every a b) (range_with_len a (b + 1 - a)),
+      length-range_with_len a (b + 1 - a),
+    )
+
+-- The bytes of a schedule are read as its transmission.
+pub law_of_plan_read : LawOfPlanRead
+law_of_plan_read programme options serial is ok =
+    sendings_read options ok programme.national serial (due_in programme)
+    (λ f. due_is_page programme.national programme.records f) 0
+    (plan_frames programme options.every)
+    (omega (
+      arith,
+      few_between programme options.every (first_in programme.records)
+          (last_out programme.records) refl refl is,
+    ))
+    (grind (arith, nat_tests, recursion_from_All, law_of_day programme options.every is))

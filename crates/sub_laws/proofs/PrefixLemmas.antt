@@ -1,0 +1,189 @@
+-- The lists of packets that a transmission begins with, and where a frame falls.
+use Rattle.std.proofs.lemmas.Bool.Decides.{nat_tests}
+use Rattle.std.proofs.Common.{◌≡◌, ℕ, zero, suc, ◌+◌, ◌-◌, ◌<◌, ◌≤◌, ◌⊎◌, inl, inr}
+use Rattle.std.proofs.Common.{◌&&◌, nat_le, cond, List, [], ◌∷◌, ◌++◌, length, take, get_or}
+use Rattle.std.proofs.Common.{refl, sym, ap, ap₂, ◌∙◌, subst, arith, append_assoc}
+use Rattle.std.proofs.lemmas.List.{take_more, take_all, append-nil, get_or-map, get_or_default}
+use Rattle.std.proofs.lemmas.Bool.{cases_eq, cases_lt, le-leb, le-ltb, lt-ltb, and_right}
+use Rattle.sub_rules.specs.Transmission.{EachPacket, SentFrame, Transmission, first_frame}
+use Rattle.sub_rules.specs.Transmission.{last_frame, on_air_until, packets_between}
+use Rattle.sub_rules.specs.FrameRules.{end_frame, frame_at, packets_of_frame, packets_before}
+use Rattle.sub_laws.specs.CleanStretch.{IsEnd}
+use Rattle.sub_rules.specs.FirstBroken.{IsInGap}
+use Rattle.sub_rules.proofs.FrameLists.{joined_more}
+
+-- The packets before packet k of frame i of the list, and that packet.
+abbrev pub before : Transmission → ℕ → ℕ → List (List ℕ)
+before t i k = packets_before t i ++ take k (packets_of_frame t i)
+
+-- Packet k of frame i of the list.
+abbrev pub packet_at : Transmission → ℕ → ℕ → List ℕ
+packet_at t i k = get_or (packets_of_frame t i) k []
+
+-- The packets before the next packet.
+pub before_more : (t : Transmission) (i k : ℕ) → k < length (packets_of_frame t i)
+    → before t i (k + 1) ≡ before t i k ++ packet_at t i k ∷ []
+before_more t i k l = ap (λ xs. packets_before t i ++ xs) (take_more (packets_of_frame t i) k [] l)
+    ∙ sym (append_assoc (packets_before t i) (take k (packets_of_frame t i)) (packet_at t i k ∷ []))
+
+-- The packets before the first packet of a frame.
+before_none : (t : Transmission) (i : ℕ) → before t i 0 ≡ packets_before t i
+before_none t i = append-nil (packets_before t i)
+
+-- The packets before the end of a frame.
+before_all : (t : Transmission) (i : ℕ) → i < length t
+    → before t i (length (packets_of_frame t i)) ≡ packets_before t (i + 1)
+before_all t i l = grind (arith, take_all, joined_more)
+
+-- What holds of no packets, and goes on by each packet of the first m frames, holds of each prefix
+-- of theirs.
+module _ (t : Transmission) (m : ℕ) (fits : m ≤ length t) (Q : List (List ℕ) → Type 0) (none : Q [])
+    (more : (i k : ℕ) → i < m → k < length (packets_of_frame t i) → Q (before t i k)
+    → Q (before t i k ++ packet_at t i k ∷ [])) where
+  -- So far in a frame, where it holds at the frame's start.
+  within : (i : ℕ) → i < m → Q (packets_before t i) → (k : ℕ) → k ≤ length (packets_of_frame t i)
+      → Q (before t i k)
+  within i l base zero h = subst Q (sym (before_none t i)) base
+  within i l base (suc k) h =
+      let more_is = before_more t i k (omega arith) in
+      let so_far = within i l base k (omega arith) in
+      grind (arith, nat_tests, before)
+
+  -- At the start of each frame.
+  pub at_start : (n : ℕ) → n ≤ m → Q (packets_before t n)
+  at_start zero h = none
+  at_start (suc n) h =
+      let e : n + 1 ≡ suc n = omega arith in
+      subst (λ c. Q (packets_before t c)) e
+      (subst Q (before_all t n (omega arith))
+      (within n (omega arith) (at_start n (omega arith)) (length (packets_of_frame t n))
+      (omega arith)))
+
+  -- And at each of its packets.
+  pub at_packet : (i k : ℕ) → i < m → k ≤ length (packets_of_frame t i) → Q (before t i k)
+  at_packet i k l h = within i l (at_start i (omega arith)) k h
+
+-- What holds of each packet of the transmission holds of this one.
+pub each_at : (P : List ℕ → Type 0) (t : Transmission) (i k : ℕ) → EachPacket P t → i < length t
+    → k < length (packets_of_frame t i) → P (packet_at t i k)
+each_at P t i k each l m =
+    let d : SentFrame = record { frame = 0; packets = [] } in
+    let at = get_or-map (λ (s : SentFrame). s.packets) t i d [] l in
+    subst (λ ps. P (get_or ps k [])) (sym at) (each i d l k [] (subst (λ ps. k < length ps) at m))
+
+-- And back.
+pub each_from : (P : List ℕ → Type 0) (t : Transmission)
+    → ((i k : ℕ) → i < length t → k < length (packets_of_frame t i) → P (packet_at t i k))
+    → EachPacket P t
+each_from P t every i d l k e m =
+    let at = get_or-map (λ (s : SentFrame). s.packets) t i d [] l in
+    let within = subst (λ ps. k < length ps) (sym at) m in
+    subst (λ ps. P (get_or ps k e)) at
+    (subst P (get_or_default (packets_of_frame t i) k [] e within) (every i k l within))
+
+-- ---- frames
+
+module _ (t : Transmission)
+    (rising : (i : ℕ) → 0 < i → i < length t → frame_at t (i - 1) < frame_at t i) where
+  -- Frames rise.
+  pub rises : (i m : ℕ) → i + m < length t → frame_at t i ≤ frame_at t (i + m)
+  rises i zero h = let e : frame_at t i ≡ frame_at t (i + 0) = ap (frame_at t) (omega arith) in
+      omega arith
+  rises i (suc m) h = grind (arith, nat_tests, rises i m (omega arith), suc m)
+
+  -- No frame is after a later one.
+  pub rises_to : (i j : ℕ) → i ≤ j → j < length t → frame_at t i ≤ frame_at t j
+  rises_to i j h l = let r = rises i (j - i) (omega arith) in
+      let e : frame_at t (i + (j - i)) ≡ frame_at t j = ap (frame_at t) (omega arith) in omega arith
+
+  -- Each is before a later one.
+  pub rises_strictly : (i j : ℕ) → i < j → j < length t → frame_at t i < frame_at t j
+  rises_strictly i j h l = let r = rises_to i (j - 1) (omega arith) (omega arith) in
+      let s = rising j (omega arith) l in omega arith
+
+  -- A frame of the day from the first on is in the list, or in a gap.
+  pub locate : (n f : ℕ) → n < length t → frame_at t 0 ≤ f → f ≤ frame_at t n
+      → ((i : ℕ) × (i < length t) × (frame_at t i ≡ f)) ⊎ ((i : ℕ) × IsInGap t i f)
+  locate zero f l a b = inl (0, l, omega arith)
+  locate (suc n) f l a b = elim (cases_eq f (frame_at t (suc n))) [
+    | inl e ↦ inl (suc n, l, sym e)
+    | inr other ↦ elim (cases_lt (frame_at t n) f) [
+      | inl after ↦ let e : frame_at t (suc n - 1) ≡ frame_at t n =
+          ap (frame_at t) (omega arith) in inr (suc n, (omega arith, l, omega arith, omega arith))
+      | inr before ↦ locate n f (omega arith) a before
+    ]
+  ]
+
+-- ---- the packets on air up to a frame
+
+-- The first frame is frame 0 of the list.
+pub first-same : (t : Transmission) → first_frame t ≡ frame_at t 0
+first-same t = grind arith
+
+-- The last frame is the last of the list.
+pub last-same : (t : Transmission) → last_frame t ≡ end_frame t
+last-same [] = refl
+last-same (s ∷ []) = refl
+last-same (s ∷ u ∷ us) = grind (arith, nat_tests, last-same (u ∷ us))
+
+-- The packets between two numbers within which the first n frames are, and no other.
+between_take : (t : Transmission) (n a b : ℕ)
+    → ((j : ℕ) → j < length t → j < n → (a ≤ frame_at t j) × (frame_at t j < b))
+    → ((j : ℕ) → n ≤ j → j < length t → b ≤ frame_at t j)
+    → packets_between t a b ≡ packets_before t n
+between_take [] zero a b inside after = refl
+between_take [] (suc n) a b inside after = refl
+between_take (s ∷ ss) zero a b inside after =
+    let l = after 0 (omega arith) (omega arith) in
+    ap₂ ◌++◌ (ap (λ x. cond x s.packets []) (and_right (nat_le a s.frame) _ (le-ltb s.frame b l)))
+    (between_take ss zero a b (λ j l m. absurd (omega arith))
+    (λ j l m. after (suc j) (omega arith) (omega arith)))
+between_take (s ∷ ss) (suc n) a b inside after =
+    let l = inside 0 (omega arith) (omega arith) in
+    ap₂ ◌++◌
+    (ap₂ (λ x y. cond (x && y) s.packets []) (le-leb a s.frame l.0) (lt-ltb s.frame b l.1))
+    (between_take ss n a b (λ j l m. inside (suc j) (omega arith) (omega arith))
+    (λ j l m. after (suc j) (omega arith) (omega arith)))
+
+module _ (t : Transmission)
+    (rising : (i : ℕ) → 0 < i → i < length t → frame_at t (i - 1) < frame_at t i) where
+  -- What is on air up to a frame that is at or after the first n frames, and before the others.
+  pub on_air_is : (n f : ℕ) → n ≤ length t → (0 < n → frame_at t (n - 1) ≤ f)
+      → (n < length t → f < frame_at t n) → on_air_until t f ≡ packets_before t n
+  on_air_is n f le low high =
+      let first = first-same t in
+      between_take t n (first_frame t) (f + 1)
+      (λ j l m.
+      let a = rises_to t rising 0 j (omega arith) l in
+      let r = rises_to t rising j (n - 1) (omega arith) (omega arith) in
+      let b = low (omega arith) in
+      (omega arith, omega arith))
+      (λ j l m. let r = rises_to t rising n j l m in let s = high (omega arith) in omega arith)
+
+  -- At the end of frame i of the list all its packets so far are on air.
+  pub on_air_at : (i : ℕ) → i < length t → on_air_until t (frame_at t i) ≡ packets_before t (i + 1)
+  on_air_at i l = grind (arith, nat_tests, on_air_is)
+
+  -- Each frame from the first to the last has an end, at which what is on air up to it counts.
+  pub end_at : (f : ℕ) → 0 < length t → frame_at t 0 ≤ f → f ≤ end_frame t
+      → (n : ℕ) × IsEnd t n f × (on_air_until t f ≡ packets_before t n) × (frame_at t (n - 1) ≤ f)
+  end_at f some low high =
+      elim (locate t rising (length t - 1) f (omega arith) low high) [
+        | inl (i, l, is) ↦
+            let same : frame_at t (i + 1 - 1) ≡ frame_at t i = ap (frame_at t) (omega arith) in (
+              i + 1,
+              (omega arith, omega arith, inl (sym is ∙ sym same)),
+              ap (on_air_until t) (sym is) ∙ on_air_at i l,
+              omega arith,
+            )
+        | inr (i, gap) ↦
+            let from = gap.2 in
+            let earlier : (j : ℕ) → j < i → frame_at t j < f =
+            λ j l. let r = rises_to t rising j (i - 1) (omega arith) (omega (arith, gap.1)) in
+            omega arith in (
+              i,
+              (gap.0, omega (arith, gap.1), inr (gap.1, gap.3, earlier)),
+              on_air_is i f (omega (arith, gap.1)) (λ s. omega arith) (λ m. gap.3),
+              omega arith,
+            )
+      ]

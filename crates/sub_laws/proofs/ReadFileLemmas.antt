@@ -1,0 +1,232 @@
+-- What is read of any bytes: packets are whole, and no fault is a device's. Main lemma:
+-- `file_sound`.
+use Rattle.std.proofs.Common.{◌≡◌, ℕ, zero, suc, ◌+◌, ◌-◌, ◌*◌, ◌/◌, ◌%◌, ◌<◌, ◌≤◌, Bool, true}
+use Rattle.std.proofs.Common.{false}
+use Rattle.std.proofs.Common.{List, [], ◌∷◌, length, map, take, drop, slice_index}
+use Rattle.std.proofs.Common.{Option, None, Some, Result, Ok, Err, MatchResult, IfSome, cond, refl}
+use Rattle.std.proofs.Common.{◌==◌, ◌&&◌, not, nat_le, nat_lt, if◌then◌else◌}
+use Rattle.std.proofs.Common.{◌∙◌, sym, subst, arith, length-take, length-drop}
+use Rattle.std.proofs.lemmas.List.{length-map}
+use Rattle.std.specs.List.{AllByRecursion}
+use Rattle.std.specs.Prelude.{⊤}
+use Rattle.sub_io.specs.Reading.{◌>>=◌}
+use Rattle.ttx_packet.specs.BitOrder.{mirror}
+use Rattle.ttx_packet.specs.PacketAddress.{IsPacket}
+use Rattle.ttx_pes.specs.DataUnit.{UnitValue, data_unit_length, framing_code, is_teletext}
+use Rattle.ttx_pes.specs.Fault.{is_read, is_write}
+use Rattle.ttx_pes.specs.Outcome.{packets_from}
+use Rattle.ttx_pes.specs.PesPacket.{PesValue, header_data_length, longest_packet, payload_size}
+use Rattle.ttx_pes.specs.Reading.{answer_at, byte_at, has_markers, is_start, most_packets}
+use Rattle.ttx_pes.specs.Reading.{packet_at}
+use Rattle.ttx_pes.specs.Reading.{pts_at, pts_bits, rest_after, size_at, teletext_at, told_size}
+use Rattle.ttx_pes.specs.Reading.{unit_at, unit_of, units_at, value_at, with_unit}
+use Rattle.ttx_pes.specs.declared.fault.PesFault.{PesFault}
+use Rattle.ttx_pes.specs.declared.fault.PesFault.TheVariants as fault
+use Rattle.sub_rules.specs.FrameRules.Unread.{BadPacket}
+use Rattle.sub_rules.specs.PacketRules.{packets_of_units}
+use Rattle.sub_rules.specs.PesReading.{PesFileValue, file_at, file_of}
+use Rattle.sub_rules.specs.Transmission.{SentFrame}
+use Rattle.sub_rules.proofs.PacketLists.{Each-push}
+use Rattle.sub_rules.proofs.PesReadingLemmas.{file_by, file_of-then}
+
+-- ---- answers
+
+-- The fault is none of a device.
+pub record IsOfBytes (f : PesFault) : Type 0 where
+  pub no_source : is_read f ≡ false
+  pub no_sink : is_write f ≡ false
+
+-- A value of which this holds, or a fault that is none of a device.
+record Sound {A : Type 0} (P : A → Type 0) (r : Result A PesFault) : Type 0 where
+  pub is : MatchResult r P IsOfBytes
+
+ok : {A : Type 0} (P : A → Type 0) (x : A) → P x → Sound P (Ok x)
+ok P x h = record { is = h }
+
+refused : {A : Type 0} (P : A → Type 0) (f : PesFault) → is_read f ≡ false → is_write f ≡ false
+    → Sound P (Err f)
+refused P f source sink = record { is = record { no_source = source; no_sink = sink } }
+
+-- One answer after another.
+then_sound :
+    {A B : Type 0} (P : A → Type 0) (Q : B → Type 0) (r : Result A PesFault)
+    (next : A → Result B PesFault)
+    → Sound P r
+    → ((x : A) → P x → Sound Q (next x))
+    → Sound Q (r >>= next)
+then_sound P Q (Ok x) next h n = n x h.is
+then_sound P Q (Err f) next h n = record { is = h.is }
+
+-- A fault where a test says so.
+or_fault : {A : Type 0} (P : A → Type 0) (b : Bool) (f : PesFault) (r : Result A PesFault)
+    → is_read f ≡ false → is_write f ≡ false → Sound P r → Sound P (cond b (Err f) r)
+or_fault P true f r source sink h = refused P f source sink
+or_fault P false f r source sink h = h
+
+-- Nothing where a test says so.
+or_none : {A : Type 0} (P : Option A → Type 0) (b : Bool) (r : Result (Option A) PesFault)
+    → P None → Sound P r → Sound P (cond b (Ok None) r)
+or_none P true r none h = ok P None none
+or_none P false r none h = h
+
+-- ---- units
+
+-- A byte in the other order of bits is a byte.
+small : (bytes : List ℕ) (place : ℕ) → slice_index (map mirror bytes) place < 0x100
+unfolding mirror
+small [] place = omega arith
+small (b ∷ bytes) zero = omega arith
+small (b ∷ bytes) (suc k) = small bytes k
+
+-- The packet of 46 bytes.
+unit_whole : (b : List ℕ) → length b ≡ 46 → IsPacket (unit_of b).packet
+unit_whole b long = record {
+  size = length-map (drop 4 b) mirror ∙ length-drop 4 b ∙ omega (arith, long);
+  bytes = small (drop 4 b);
+}
+
+-- A unit that was read, if one was.
+abbrev IsWholeUnit : Option UnitValue → Type 0
+IsWholeUnit o = IfSome o (λ (u : UnitValue). IsPacket u.packet)
+
+teletext_sound : (b : List ℕ) → length b ≡ 46 → Sound IsWholeUnit (teletext_at b)
+unfolding teletext_at
+teletext_sound b long =
+    or_fault IsWholeUnit (not (slice_index b 1 == data_unit_length)) fault.UnitLength _ refl refl
+    (or_none IsWholeUnit (not (is_teletext (slice_index b 0))) _ tt
+    (or_fault IsWholeUnit (not (slice_index b 3 == framing_code)) fault.Framing _ refl refl
+    (ok IsWholeUnit (Some (unit_of b)) (unit_whole b long))))
+
+abbrev AreWholeUnits : List UnitValue → Type 0
+AreWholeUnits units = AllByRecursion (λ (u : UnitValue). IsPacket u.packet) units
+
+-- The units so far, and one more.
+adds : (front : List UnitValue) (o : Option UnitValue) → AreWholeUnits front → IsWholeUnit o
+    → Sound AreWholeUnits (with_unit front o)
+adds front o before h = grind (arith, ok, Each-push, refused)
+
+unit_sound : (front : List UnitValue) (b : List ℕ) → length b ≡ 46 → AreWholeUnits front
+    → Sound AreWholeUnits (unit_at front b)
+unfolding unit_at
+unit_sound front b long before =
+    then_sound IsWholeUnit AreWholeUnits (teletext_at b) (with_unit front) (teletext_sound b long)
+    (λ o h. adds front o before h)
+
+units_sound : (n : ℕ) (front : List UnitValue) (b : List ℕ) → 46 * n ≤ length b
+    → AreWholeUnits front → Sound AreWholeUnits (units_at n front b)
+unfolding units_at
+units_sound zero front b long before = ok AreWholeUnits front before
+units_sound (suc n) front b long before =
+    then_sound AreWholeUnits AreWholeUnits (unit_at front (take 46 b))
+    (λ more. units_at n more (drop 46 b))
+    (unit_sound front (take 46 b) (length-take 46 b ∙ omega arith) before)
+    (λ more h. units_sound n more (drop 46 b) (omega (arith, length-drop 46 b)) h)
+
+-- ---- packets and files
+
+-- Nothing is said of a value.
+abbrev IsAny : {A : Type 0} → A → Type 0
+IsAny x = ⊤
+
+pts_sound : (b : List ℕ) → Sound IsAny (pts_at b)
+unfolding pts_at
+pts_sound b =
+    or_fault IsAny (not (byte_at b 6 / 0x10 == 8)) fault.Flags _ refl refl
+    (or_fault IsAny (not (byte_at b 7 / 0x40 == 2)) fault.NoTime _ refl refl
+    (or_fault IsAny (not (byte_at b 8 == header_data_length)) fault.HeaderLength _ refl refl
+    (or_fault IsAny (not (has_markers b)) fault.Time _ refl refl
+    (or_fault IsAny (not (byte_at b 45 / 0x10 == 1)) fault.DataId _ refl refl
+    (ok IsAny (pts_bits b) tt)))))
+
+abbrev IsWholeValue : PesValue → Type 0
+IsWholeValue v = AreWholeUnits v.units
+
+value_sound : (b : List ℕ) → Sound IsWholeValue (value_at b)
+unfolding value_at
+value_sound b =
+    let with_units : ℕ → List UnitValue → Result PesValue PesFault =
+    λ pts units. Ok (record { pts = pts; units = units }) in
+    let units : Result (List UnitValue) PesFault =
+    units_at (length (drop 40 b) / 46) [] (drop 40 b) in
+    then_sound IsAny IsWholeValue (pts_at b) (λ pts. units >>= with_units pts) (pts_sound b)
+    (λ pts h. then_sound AreWholeUnits IsWholeValue units (with_units pts)
+    (units_sound (length (drop 40 b) / 46) [] (drop 40 b) (omega arith) tt)
+    (λ us all. ok IsWholeValue (record { pts = pts; units = us }) all))
+
+size_sound : (b : List ℕ) → Sound IsAny (size_at b)
+unfolding size_at
+size_sound b =
+    or_fault IsAny (not (is_start b)) fault.Start _ refl refl
+    (or_fault IsAny (not ((told_size b % payload_size == 0) && nat_le (told_size b) longest_packet))
+    fault.Length _ refl refl (ok IsAny (told_size b) tt))
+
+-- The packet that was read.
+abbrev IsWholePacket : PesValue × List ℕ → Type 0
+IsWholePacket p = IsWholeValue p.0
+
+packet_sound : (b : List ℕ) → Sound IsWholePacket (packet_at b)
+unfolding packet_at
+packet_sound b =
+    let head : Result (List ℕ) PesFault =
+    if nat_lt (length b) 6 then Err fault.Truncated else Ok (take 6 b) in
+    let body : ℕ → Result (List ℕ) PesFault =
+    λ size. if nat_lt (length b) size then Err fault.Truncated
+    else Ok (take (size - 6) (drop 6 b)) in
+    let last : ℕ → PesValue → Result (PesValue × List ℕ) PesFault = λ size v. Ok (v, drop size b) in
+    let third : ℕ → List ℕ → Result (PesValue × List ℕ) PesFault =
+    λ size x. value_at x >>= last size in
+    let second : ℕ → Result (PesValue × List ℕ) PesFault = λ size. body size >>= third size in
+    then_sound IsAny IsWholePacket head (λ x. size_at x >>= second)
+    (or_fault IsAny (nat_lt (length b) 6) fault.Truncated (Ok (take 6 b)) refl refl
+    (ok IsAny (take 6 b) tt))
+    (λ x h. then_sound IsAny IsWholePacket (size_at x) second (size_sound x)
+    (λ size k. then_sound IsAny IsWholePacket (body size) (third size)
+    (or_fault IsAny (nat_lt (length b) size) fault.Truncated (Ok (take (size - 6) (drop 6 b))) refl
+    refl (ok IsAny (take (size - 6) (drop 6 b)) tt))
+    (λ y l. then_sound IsWholeValue IsWholePacket (value_at y) (last size) (value_sound y)
+    (λ v whole. ok IsWholePacket (v, drop size b) whole))))
+
+-- A value that was read, if one was.
+abbrev IsWholeAnswer : Option PesValue → Type 0
+IsWholeAnswer o = IfSome o IsWholeValue
+
+answer_sound : (given : ℕ) (b : List ℕ) → Sound IsWholeAnswer (answer_at given b)
+unfolding answer_at
+answer_sound given [] = ok IsWholeAnswer None tt
+answer_sound given (x ∷ b) =
+    let value : PesValue × List ℕ → Result (Option PesValue) PesFault = λ p. Ok (Some p.0) in
+    or_fault IsWholeAnswer (given == most_packets) fault.TooMany (packet_at (x ∷ b) >>= value) refl
+    refl
+    (then_sound IsWholePacket IsWholeAnswer (packet_at (x ∷ b)) value (packet_sound (x ∷ b))
+    (λ p whole. ok IsWholeAnswer (Some p.0) whole))
+
+-- Each packet of a file is whole, and what keeps it from being read to its end is no device.
+pub record IsSoundFile (file : PesFileValue) : Type 0 where
+  pub whole : AllByRecursion (λ (s : SentFrame). AllByRecursion IsPacket s.packets) file.frames
+  pub fault : (f : PesFault) → file.unread ≡ Some (BadPacket f) → IsOfBytes f
+
+packets_whole : (units : List UnitValue) → AreWholeUnits units
+    → AllByRecursion IsPacket (packets_of_units units)
+packets_whole [] h = tt
+packets_whole (u ∷ units) h = (h.0, packets_whole units h.1)
+
+by_sound : (origin : ℕ) (r : Result (Option PesValue) PesFault) (rest : PesFileValue)
+    → Sound IsWholeAnswer r → IsSoundFile rest → IsSoundFile (file_by origin r rest)
+by_sound origin r rest h sound = grind (arith, packets_whole)
+
+-- What comes of bytes.
+outcome_sound : (origin room given : ℕ) (b : List ℕ)
+    → IsSoundFile (file_of origin (packets_from room given b))
+unfolding packets_from
+outcome_sound origin zero given [] = record { whole = tt; fault = λ g e. cc }
+outcome_sound origin zero given (x ∷ b) =
+    by_sound origin (Err fault.TooMany) (record { frames = []; unread = None })
+    (refused IsWholeAnswer fault.TooMany refl refl) (record { whole = tt; fault = λ g e. cc })
+outcome_sound origin (suc room) given b =
+    subst IsSoundFile (sym (file_of-then origin (answer_at given b) _))
+    (by_sound origin (answer_at given b) _ (answer_sound given b)
+    (outcome_sound origin room (given + 1) (rest_after b)))
+
+pub file_sound : (origin given : ℕ) (b : List ℕ) → IsSoundFile (file_at origin given b)
+unfolding file_at
+file_sound origin given b = outcome_sound origin (most_packets - given) given b

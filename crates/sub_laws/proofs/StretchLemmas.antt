@@ -1,0 +1,234 @@
+-- What may be trusted of a stretch of frames that has what suffices, `law_of_stretch`; and of all
+-- frames that is what is promised of a transmission, `law_of_whole_stretch`.
+use Rattle.std.proofs.lemmas.Bool.Decides.{nat_tests}
+use Rattle.std.proofs.Common.{◌≡◌, ℕ, ◌+◌, ◌≤◌, inl, inr, true, false, List, ◌++◌}
+use Rattle.std.proofs.Common.{drop, take, IsFalse, sym, ap, ◌∙◌, subst, arith, append_assoc}
+use Rattle.std.proofs.Common.{take-append-drop, le_trans}
+use Rattle.std.proofs.lemmas.List.{drop-append-le}
+use Rattle.std.proofs.lemmas.List.Elements.{recursion_from_All}
+use Rattle.ttx_page.specs.declared.packet_kind.PacketKind.{PacketKind}
+use Rattle.ttx_page.specs.Noise.{EndsAs, IsSound}
+use Rattle.ttx_page.specs.Page.{cell, IsCell}
+use Rattle.ttx_page.specs.PacketKind.{kind}
+use Rattle.ttx_page.specs.Receiver.{ReceiverClass, State}
+use Rattle.ttx_page.specs.Receiver.ReceiverClass.{Dropping, Storing}
+use Rattle.ttx_page.specs.Recovery.{EndsAfresh}
+use Rattle.ttx_page.specs.Shown.{shown}
+use Rattle.ttx_page.specs.Span.{holds_header, is_unended}
+use Rattle.ttx_page.proofs.LateStart.{shown-later, sound-later, unended-later}
+use Rattle.ttx_page.proofs.NoiseLaws as noise
+use Rattle.ttx_page.proofs.ScreenLaws as screens
+use Rattle.ttx_page.proofs.SpanLists.{holds-append_left, holds-append_right}
+use Rattle.stl_rows.specs.Programme.{ProgrammeValue}
+use Rattle.sub_plan.specs.Options.{OptionsValue}
+use Rattle.sub_plan.specs.Schedule.{due_in}
+use Rattle.sub_rules.specs.Transmission.{Transmission, first_frame, last_frame, packets_between}
+use Rattle.sub_rules.specs.Transmission.{on_air, on_air_until, packets_of}
+use Rattle.sub_laws.specs.LostRows.{RobustToMarkedLoss}
+use Rattle.sub_laws.specs.OnScreen.{CompleteWithin, ShownWithin}
+use Rattle.sub_laws.specs.Recovery.{IsRestoredFrom, RecoversWithin}
+use Rattle.sub_laws.specs.Robust.{IsListening, Robust}
+use Rattle.sub_laws.specs.Stretch.{LawOfWholeStretch}
+use Rattle.sub_laws.specs.Sufficient.{IsSufficient, LawOfStretch}
+use Rattle.sub_laws.proofs.AllKept.{law_of_all_kept}
+use Rattle.sub_laws.proofs.TransmissionLemmas.{packets_between-split}
+
+-- A start at packet j of frame g, and a stop at the end of frame f, in a stretch that has what
+-- suffices.
+module _ (programme : ProgrammeValue) (transmission : Transmission) (options : OptionsValue)
+    (a b : ℕ) (enough : IsSufficient programme transmission options a b)
+    (g j f : ℕ) (listening : IsListening transmission g j f) (from : a ≤ g) (to : f ≤ b) where
+  -- What a packet is to a receiver of the page.
+  abbrev K : List ℕ → PacketKind
+  K = kind options.page
+
+  -- What is heard.
+  abbrev sent : List (List ℕ)
+  sent = on_air transmission g j f
+
+  -- The packets that come after frame g, to the end of frame f.
+  abbrev later : List (List ℕ)
+  later = packets_between transmission (g + 1) (f + 1)
+
+  -- What is heard is the rest of frame g, and then those.
+  on_air-cut : sent ≡ drop j (packets_of transmission g) ++ later
+  on_air-cut =
+      ap (drop j)
+      (packets_between-split transmission g (g + 1) (f + 1) enough.rising (omega arith)
+      (omega (arith, listening.in_order)))
+      ∙ drop-append-le j (packets_of transmission g) later listening.in_frame
+
+  -- A header in frame n, after g and up to f, is one of them.
+  later_holds :
+      (n : ℕ)
+      → g + 1 ≤ n
+      → n ≤ f
+      → holds_header K (packets_of transmission n) ≡ true
+      → holds_header K later ≡ true
+  later_holds n above below holds =
+      let here : packets_between transmission n (f + 1)
+      ≡ packets_of transmission n ++ packets_between transmission (n + 1) (f + 1) =
+      packets_between-split transmission n (n + 1) (f + 1) enough.rising (omega arith)
+      (omega arith) in
+      let split : later ≡ packets_between transmission (g + 1) n
+      ++ packets_between transmission n (f + 1) =
+      packets_between-split transmission (g + 1) n (f + 1) enough.rising above (omega arith) in
+      grind (arith, nat_tests, K, true, holds-append_right, holds-append_left)
+
+  -- One of the frames after g holds a header.
+  pub window : g + options.every ≤ f → holds_header K sent ≡ true
+  window far =
+      let found = enough.repeats (g + 1) (omega (arith, from)) (omega (arith, to)) in
+      subst (λ ps. holds_header K ps ≡ true) (sym on_air-cut)
+      (holds-append_right K (drop j (packets_of transmission g)) _
+      (later_holds found.0 found.1 (omega (arith, found.2)) found.3))
+
+  -- The packets from frame c on that come before those that are heard.
+  abbrev before : ℕ → List (List ℕ)
+  before c = packets_between transmission c g ++ take j (packets_between transmission g (f + 1))
+
+  -- What is on air from frame c on is these, and then what is heard.
+  on_air-split : (c : ℕ) → c ≤ g → on_air transmission c 0 f ≡ before c ++ sent
+  on_air-split c low =
+      let ordered = listening.in_order in
+      let split =
+      packets_between-split transmission c g (f + 1) enough.rising low (omega (arith, ordered)) in
+      grind (arith, take-append-drop, append_assoc)
+
+  -- All that was on air so far, so split.
+  abbrev so_far : on_air_until transmission f ≡ before (first_frame transmission) ++ sent
+  so_far = on_air-split (first_frame transmission) (le_trans enough.first from)
+
+  -- What is heard is as the laws of noise want it.
+  pub sound : IsSound options.page sent
+  sound =
+      sound-later options.page (before a) sent
+      (subst (IsSound options.page) (on_air-split a from)
+      (enough.sound f (le_trans from listening.in_order) to))
+
+  -- It shows the page that is due, where it holds a header of the page.
+  shows_due :
+      holds_header K sent ≡ true
+      → (row column : ℕ)
+      → IsCell row column
+      → shown options.page sent row column ≡ cell (due_in programme f) row column
+  shows_due holds row column named =
+      sym (shown-later options.page (before (first_frame transmission)) sent holds row column)
+      ∙ ap (λ ps. shown options.page ps row column) (sym so_far)
+      ∙ enough.content f row column (le_trans from listening.in_order) to named
+
+  -- So a receiver is restored by what the laws of recovery and of lost rows say of it.
+  restored :
+      (IsExcused : ℕ → ℕ → Type 0) (old new : State)
+      → (holds_header K sent ≡ true → EndsAfresh options.page sent IsExcused new)
+      → (IsFalse old.heard → IsFalse old.is_open → EndsAs options.page sent IsExcused new)
+      → IsRestoredFrom programme options g f sent IsExcused old new
+  restored IsExcused old new afresh ends = record {
+    restored = record {
+      in_time = window;
+      heard = λ holds. (afresh holds).heard;
+      is_open = λ holds. (afresh holds).is_open;
+      cells = λ holds row column named. elim ((afresh holds).cells row column named) [
+        | inl shows ↦ inl (shows ∙ shows_due holds row column named)
+        | inr hit ↦ inr hit
+      ];
+    };
+    heard = λ unheard shut. let is = (ends unheard shut).heard in (λ h. sym is ∙ h, λ h. is ∙ h);
+  }
+
+  -- The page is ended at the end of frame f, where pages are complete.
+  ended :
+      CompleteWithin transmission options a b
+      → holds_header K sent ≡ true
+      → is_unended K sent ≡ false
+  ended complete holds =
+      sym (unended-later options.page (before (first_frame transmission)) sent holds)
+      ∙ ap (is_unended K) (sym so_far)
+      ∙ complete f (le_trans from listening.in_order) to
+      (ap (holds_header K) so_far
+      ∙ holds-append_right K (before (first_frame transmission)) sent holds)
+
+-- ---- a stretch that has what suffices
+
+module _ (programme : ProgrammeValue) (transmission : Transmission) (options : OptionsValue)
+    (a b : ℕ) (enough : IsSufficient programme transmission options a b) (class : ReceiverClass)
+  where
+    -- Receivers recover in it: by the laws of recovery and of lost rows.
+    recovers : RecoversWithin class programme transmission options a b
+    recovers g j f marks got old new listening from to may near hears =
+        let heard : List (List ℕ) = on_air transmission g j f in
+        let clean = sound programme transmission options a b enough g j f listening from to in
+        restored programme transmission options a b enough g j f listening from to _ old new
+        (λ holds.
+        noise.law_of_recovery class options.page heard marks got old new clean may near holds
+        hears)
+        (λ unheard shut.
+        noise.law_of_lost_rows class options.page heard marks got old new clean may near unheard
+        shut hears)
+
+    -- What is due is on their screens: by the law of the screen.
+    on_screen :
+        CompleteWithin transmission options a b
+        → ShownWithin class programme transmission options a b
+    on_screen complete g j f marks got old new listening from to may near run holds =
+        let heard : List (List ℕ) = on_air transmission g j f in
+        let clean = sound programme transmission options a b enough g j f listening from to in
+        let held =
+        (recovers g j f marks got old.held new.held listening from to may near
+        (screens.held_by class options.page got old new run)).restored in
+        record {
+          page = new.held.page;
+          is =
+              screens.law_of_screen class options.page got old new run
+              (screens.header_got options.page heard marks got
+              (recursion_from_All _ heard clean.exact) may near holds)
+              (held.is_open holds
+              ∙ ended programme transmission options a b enough g j f listening from to complete
+              holds);
+          cells = held.cells holds;
+        }
+
+-- A stretch that has what suffices may be trusted.
+pub law_of_stretch : LawOfStretch
+law_of_stretch programme transmission options a b enough = record {
+  recovers = recovers programme transmission options a b enough;
+  shown = λ complete class.
+      on_screen programme transmission options a b enough class complete;
+}
+
+-- ---- all frames
+
+module _ (programme : ProgrammeValue) (transmission : Transmission) (options : OptionsValue)
+    (recovers : RecoversWithin Storing programme transmission options (first_frame transmission)
+    (last_frame transmission)) where
+  -- Where receivers recover in all frames, the transmission is robust to lost rows.
+  to_loss : RobustToMarkedLoss programme transmission options
+  to_loss g j f marks got old new listening may near unheard shut hears =
+      let restored =
+      recovers g j f marks got old new listening listening.not_before listening.not_after may near
+      hears in
+      record {
+        in_time = restored.restored.in_time;
+        heard = restored.heard unheard shut;
+        cells = restored.restored.cells;
+      }
+
+  -- And so it is robust. Also for the examples.
+  pub robust_of_recovers : Robust programme transmission options
+  robust_of_recovers =
+      (law_of_all_kept programme transmission options).0 (λ g j f marks all. to_loss g j f marks)
+
+-- What may be trusted of all frames is what is promised of the transmission.
+pub law_of_whole_stretch : LawOfWholeStretch
+law_of_whole_stretch programme transmission options trusted = record {
+  robust = robust_of_recovers programme transmission options (trusted.recovers Storing);
+  to_loss = to_loss programme transmission options (trusted.recovers Storing);
+  recovers = λ g j f marks got old new listening may near hears.
+      (trusted.recovers Storing g j f marks got old new listening listening.not_before
+      listening.not_after may near hears).restored;
+  dropping = trusted.recovers Dropping;
+  shown = λ complete g j f marks got old new listening.
+      trusted.shown complete Storing g j f marks got old new listening listening.not_before
+      listening.not_after;
+  shown_dropping = λ complete. trusted.shown complete Dropping;
+}

@@ -1,0 +1,6 @@
+-- The law: AllKept.
+use Rattle.sub_laws.proofs.AllKept.{law_of_all_kept}
+use Rattle.sub_laws.proofs.laws.law_of_all_kept.Goals as goal
+
+pub returns : goal.returns
+returns c = law_of_all_kept

@@ -1,0 +1,12 @@
+pub mod CleanStretch
+pub mod FirstEvent
+pub mod Laws
+pub mod LostRows
+pub mod OnScreen
+pub mod Planned
+pub mod Recovery
+pub mod Robust
+pub mod StepByStep
+pub mod Stretch
+pub mod Sufficient
+pub mod ToldStretch

@@ -1,0 +1,40 @@
+-- The transmission that a schedule is, that it is good, and that its bytes are read as it.
+use Rattle.std.specs.Prelude.{◌≡◌, ℕ, Bool, [], map, None}
+use Rattle.ttx_page.specs.Page.{Rows}
+use Rattle.stl_rows.specs.declared.national.National.{National}
+use Rattle.stl_rows.specs.Programme.{IsProgramme, ProgrammeValue}
+use Rattle.sub_plan.specs.Options.{IsOptions, OptionsValue}
+use Rattle.sub_plan.specs.Schedule.{due_in, plan, plan_frames}
+use Rattle.sub_plan.specs.Sending.{sending}
+use Rattle.sub_rules.specs.Transmission.{SentFrame, Transmission}
+use Rattle.sub_rules.specs.Good.{Good}
+use Rattle.sub_rules.specs.PesReading.{pes_file_of}
+
+-- A frame with the sending of the page that is due there.
+abbrev pub planned_at : (ℕ → Rows) → OptionsValue → National → Bool → ℕ → SentFrame
+planned_at due o national serial f =
+    record { frame = f; packets = sending o.page national serial (due f) }
+
+-- The schedule of a programme as a transmission.
+abbrev pub planned : ProgrammeValue → OptionsValue → Bool → Transmission
+planned programme o serial =
+    map (planned_at (due_in programme) o programme.national serial) (plan_frames programme o.every)
+
+-- The schedule of a programme that has a subtitle is a good transmission of it, in both modes.
+-- So a checker with the same options accepts it, and every receiver shows what is due.
+abbrev pub LawOfPlan : Type 0
+LawOfPlan =
+    (programme : ProgrammeValue) (options : OptionsValue) (serial : Bool)
+    → IsProgramme programme.national programme.records
+    → (programme.records ≡ [] → ⊥)
+    → IsOptions options
+    → Good programme (planned programme options serial) options
+
+-- The bytes of the schedule of a programme are read to their end as that transmission.
+abbrev pub LawOfPlanRead : Type 0
+LawOfPlanRead =
+    (programme : ProgrammeValue) (options : OptionsValue) (serial : Bool)
+    → IsProgramme programme.national programme.records
+    → IsOptions options
+    → pes_file_of options.origin (plan programme options serial)
+    ≡ record { frames = planned programme options serial; unread = None }

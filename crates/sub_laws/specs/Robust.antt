@@ -1,0 +1,53 @@
+-- What every receiver holds of a transmission, wherever it starts and whatever bits are wrong.
+use Rattle.std.specs.Prelude.{◌≡◌, ◌↔◌, ℕ, ◌+◌, ◌≤◌, ◌⊎◌, List, length, IsTrue, IsFalse}
+use Rattle.std.specs.List.{AllZip}
+use Rattle.ttx_packet.specs.OneBit.{AreNear}
+use Rattle.ttx_page.specs.Page.{space, cell, IsCell}
+use Rattle.ttx_page.specs.PacketKind.{kind}
+use Rattle.ttx_page.specs.Receiver.{State, Hears}
+use Rattle.ttx_page.specs.Shown.{IsHit}
+use Rattle.ttx_page.specs.Span.{holds_header}
+use Rattle.stl_rows.specs.Programme.{ProgrammeValue}
+use Rattle.sub_plan.specs.Options.{OptionsValue}
+use Rattle.sub_rules.specs.Transmission.{Transmission, first_frame, last_frame, packets_of, on_air}
+use Rattle.sub_plan.specs.Schedule.{due_in}
+
+-- A start at packet j of frame g, and a stop at the end of frame f, within the transmission. With j
+-- the number of packets of frame g, one starts after all of them.
+pub record IsListening (transmission : Transmission) (g j f : ℕ) : Type 0 where
+  pub not_before : first_frame transmission ≤ g
+  pub in_order : g ≤ f
+  pub not_after : f ≤ last_frame transmission
+  pub in_frame : j ≤ length (packets_of transmission g)
+
+-- What is promised to a receiver that listened from frame g to the end of frame f, where these
+-- packets were sent, and its state is now this one.
+pub record IsServed
+    (programme : ProgrammeValue) (options : OptionsValue) (g f : ℕ)
+    (sent : List (List ℕ)) (IsExcused : ℕ → ℕ → Type 0) (new : State)
+    : Type 0 where
+  -- By the end of frame g + every a header of its page was sent.
+  pub in_time : g + options.every ≤ f → IsTrue (holds_header (kind options.page) sent)
+  -- It has heard its page exactly where a header of it was sent.
+  pub heard : IsTrue new.heard ↔ IsTrue (holds_header (kind options.page) sent)
+  -- Then each cell holds the due page's code, or it is an excused space.
+  pub cells :
+      IsTrue (holds_header (kind options.page) sent)
+      → (row column : ℕ)
+      → IsCell row column
+      → (cell new.page row column ≡ cell (due_in programme f) row column)
+      ⊎ ((cell new.page row column ≡ space) × IsExcused row column)
+
+-- A robust transmission: wherever one starts and stops, whatever is got with at most one bit wrong
+-- in each byte, whatever old page a receiver holds that has not heard its page yet, and whatever
+-- its choices, it is served, and a space is excused only where its byte was hit.
+abbrev pub Robust : ProgrammeValue → Transmission → OptionsValue → Type 0
+Robust programme transmission options =
+    (g j f : ℕ) (got : List (List ℕ)) (old new : State)
+    → IsListening transmission g j f
+    → AllZip AreNear (on_air transmission g j f) got
+    → IsFalse old.heard
+    → IsFalse old.is_open
+    → Hears options.page old got new
+    → IsServed programme options g f (on_air transmission g j f)
+    (IsHit options.page (on_air transmission g j f) got) new

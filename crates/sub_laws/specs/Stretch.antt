@@ -1,0 +1,47 @@
+-- What may be trusted of a stretch of frames, and what is promised of a whole transmission.
+use Rattle.std.specs.Prelude.{ℕ}
+use Rattle.ttx_page.specs.Receiver.{ReceiverClass}
+use Rattle.ttx_page.specs.Receiver.ReceiverClass.{Dropping}
+use Rattle.stl_rows.specs.Programme.{ProgrammeValue}
+use Rattle.sub_plan.specs.Options.{OptionsValue}
+use Rattle.sub_laws.specs.LostRows.{RobustToMarkedLoss}
+use Rattle.sub_laws.specs.OnScreen.{Complete, CompleteWithin, Shown, ShownWithin}
+use Rattle.sub_laws.specs.Recovery.{Recovers, RecoversWithin}
+use Rattle.sub_laws.specs.Robust.{Robust}
+use Rattle.sub_rules.specs.Transmission.{Transmission, first_frame, last_frame}
+
+-- What may be trusted of the frames from a to b, by receivers of each class.
+pub record MayBeTrusted
+    (programme : ProgrammeValue) (transmission : Transmission) (options : OptionsValue) (a b : ℕ)
+    : Type 0 where
+  -- They recover there.
+  pub recovers : (class : ReceiverClass) → RecoversWithin class programme transmission options a b
+  -- Where pages are complete there, what is due is on their screens.
+  pub shown :
+      CompleteWithin transmission options a b
+      → (class : ReceiverClass)
+      → ShownWithin class programme transmission options a b
+
+-- What is promised of a whole transmission.
+pub record HasPromises
+    (programme : ProgrammeValue) (transmission : Transmission) (options : OptionsValue)
+    : Type 0 where
+  pub robust : Robust programme transmission options
+  pub to_loss : RobustToMarkedLoss programme transmission options
+  pub recovers : Recovers programme transmission options
+  pub dropping :
+      RecoversWithin Dropping programme transmission options (first_frame transmission)
+      (last_frame transmission)
+  pub shown : Complete transmission options → Shown programme transmission options
+  pub shown_dropping :
+      Complete transmission options
+      → ShownWithin Dropping programme transmission options (first_frame transmission)
+      (last_frame transmission)
+
+-- It is what may be trusted of all its frames.
+abbrev pub LawOfWholeStretch : Type 0
+LawOfWholeStretch =
+    (programme : ProgrammeValue) (transmission : Transmission) (options : OptionsValue)
+    → MayBeTrusted programme transmission options (first_frame transmission)
+    (last_frame transmission)
+    → HasPromises programme transmission options

@@ -1,0 +1,125 @@
+//! A good transmission is robust, and its rules packet by packet.
+//!
+//! The functions do nothing: the contract of each is a law over the definitions of `specs/`.
+ghost use Rattle.sub_laws.specs.CleanStretch.{LawOfCleanStretch, LawOfUntoldStretch};
+ghost use Rattle.sub_laws.specs.FirstEvent.{LawOfFirstEvent};
+ghost use Rattle.sub_laws.specs.Laws.{LawOfAllKept, LawOfGood, LawOfGoodAndMarkedLoss, LawOfWindow};
+ghost use Rattle.sub_rules.specs.PesReading.{LawOfPesFiles};
+ghost use Rattle.sub_laws.specs.Planned.{LawOfPlan, LawOfPlanRead};
+ghost use Rattle.sub_rules.specs.Rules.{LawOfRules};
+ghost use Rattle.sub_laws.specs.StepByStep.{LawOfCleanSpans, LawOfRepeats, LawOfSpansByPacket};
+ghost use Rattle.sub_laws.specs.Stretch.{LawOfWholeStretch};
+ghost use Rattle.sub_laws.specs.Sufficient.{LawOfStretch, LawOfSufficientParts};
+ghost use Rattle.sub_laws.specs.ToldStretch.{LawOfToldStretch};
+
+/// A start at any packet of a good transmission meets a header of the page within the repeat bound.
+#[tactic(auto, using(crate::proofs::RobustLemmas::law_of_window))]
+pub fn law_of_window()
+    ensures { LawOfWindow }
+{}
+
+/// A good transmission is robust: for every start, every old page, every receiver, and at most one
+/// wrong bit in each byte, each cell holds the due page's code or, where its byte was hit, a space.
+#[tactic(auto, using(crate::proofs::RobustLemmas::law_of_good))]
+pub fn law_of_good()
+    ensures { LawOfGood }
+{}
+
+/// Of the seven rules these parts suffice for it: frames rise; code words have no bit wrong;
+/// headers erase the page; rows are odd, and stay as they are; a header comes within the repeat
+/// bound; what is due is shown.
+#[tactic(auto, using(crate::proofs::RobustLemmas::law_of_sufficient_parts))]
+pub fn law_of_sufficient_parts()
+    ensures { LawOfSufficientParts }
+{}
+
+/// What these parts of the rules say of a stretch of frames suffices there, whatever was on air
+/// before it: every receiver that starts in it recovers, and where pages are complete in it, what
+/// is due is on its screen.
+pub fn law_of_stretch()
+    ensures { LawOfStretch }
+{}
+
+/// A stretch of frames that is clean may be trusted, whatever is broken outside it.
+pub fn law_of_clean_stretch()
+    ensures { LawOfCleanStretch }
+{}
+
+/// A stretch is clean where nothing of the rules that a receiver depends on is told of its packets,
+/// and no wrong content and no gap stands at its ends.
+#[tactic(auto, using(crate::proofs::UntoldLemmas::law_of_untold_stretch))]
+pub fn law_of_untold_stretch()
+    ensures { LawOfUntoldStretch }
+{}
+
+/// The list of all that is told is enough to find such stretches: it tells of no frame that is not
+/// after the one before, of no packet of the stretch that breaks a rule that a receiver depends on,
+/// and of wrong content and gaps only at frames outside it.
+#[tactic(auto, using(crate::proofs::ToldStretchLemmas::law_of_told_stretch))]
+pub fn law_of_told_stretch()
+    ensures { LawOfToldStretch }
+{}
+
+/// What may be trusted of all frames of a transmission is what is promised of it.
+pub fn law_of_whole_stretch()
+    ensures { LawOfWholeStretch }
+{}
+
+/// A good transmission is robust where packets are lost too, any but page headers: a mark beside
+/// each packet says whether it is kept, and a cell of a lost row counts as hit.
+#[tactic(auto, using(crate::proofs::RobustLemmas::law_of_good_and_marked_loss))]
+pub fn law_of_good_and_marked_loss()
+    ensures { LawOfGoodAndMarkedLoss }
+{}
+
+/// With all packets marked as kept, robust to lost rows is robust.
+pub fn law_of_all_kept()
+    ensures { LawOfAllKept }
+{}
+
+/// A transmission is good exactly where it keeps each of the seven rules.
+pub fn law_of_rules()
+    ensures { LawOfRules }
+{}
+
+/// The spans of a list cut anywhere are clean exactly where each packet may follow the span that it
+/// comes after.
+pub fn law_of_clean_spans()
+    ensures { LawOfCleanSpans }
+{}
+
+/// A transmission's spans are clean exactly where each of its packets may follow.
+pub fn law_of_spans_by_packet()
+    ensures { LawOfSpansByPacket }
+{}
+
+/// A header comes in each R frames, the repeat bound, exactly where the last one is never R frames
+/// old.
+pub fn law_of_repeats()
+    ensures { LawOfRepeats }
+{}
+
+/// The schedule of a programme that has a subtitle is a good transmission of it, in both modes and
+/// for both national options.
+pub fn law_of_plan()
+    ensures { LawOfPlan }
+{}
+
+/// The bytes of a schedule are read to their end as that transmission, frame by frame.
+#[tactic(auto, using(crate::proofs::PlanLemmas::law_of_plan_read))]
+pub fn law_of_plan_read()
+    ensures { LawOfPlanRead }
+{}
+
+/// What is read packet by packet as frames that rise is a PES file of the grammar that is sent as
+/// these frames, and the other way round.
+pub fn law_of_pes_files()
+    ensures { LawOfPesFiles }
+{}
+
+/// The first event that is told of a transmission names the first place that is broken, and nothing
+/// is told exactly where all that is asked holds.
+#[tactic(auto, using(crate::proofs::EventLemmas::law_of_first_event))]
+pub fn law_of_first_event()
+    ensures { LawOfFirstEvent }
+{}

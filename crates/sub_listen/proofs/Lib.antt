@@ -1,0 +1,4 @@
+pub mod HeardAgainLemmas
+pub mod RunningLemmas
+pub mod UntouchedLemmas
+pub mod WaysOutLemmas

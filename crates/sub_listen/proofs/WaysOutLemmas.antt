@@ -1,0 +1,260 @@
+-- What each way out of the loop of `listen` shows of the whole file.
+use Rattle.std.proofs.lemmas.Bool.Decides.{nat_tests}
+use Rattle.std.proofs.Common.{◌≡◌, ◌∙◌, ap, refl, subst, arith, ℕ, ◌+◌, ◌<◌, ◌≤◌, inl}
+use Rattle.std.proofs.Common.{inr, true, false, not, List, [], ◌∷◌, ◌++◌, length, drop}
+use Rattle.std.proofs.Common.{MatchResult, Option, Result, Some, None, option_map, Ok, Err}
+use Rattle.std.proofs.lemmas.List.{length-append, length-map}
+use Rattle.std.proofs.lemmas.List.Elements.{filter-append}
+use Rattle.std.proofs.lemmas.Bool.{and_right, cases_lt}
+use Rattle.sub_io.specs.Reading.{IfTold}
+use Rattle.ttx_packet.specs.PageId.{PageIdValue}
+use Rattle.ttx_page.specs.Screen.{Display}
+use Rattle.ttx_page.proofs.RunLemmas.{RunsBy-append}
+use Rattle.ttx_pes.specs.DataUnit.{UnitValue}
+use Rattle.ttx_pes.specs.PesPacket.{PesValue}
+use Rattle.ttx_pes.specs.Reader.{FailsWithin, TakesPackets}
+use Rattle.ttx_pes.specs.Reading.{most_packets, rest_after}
+use Rattle.sub_rules.specs.Sendings.{TellsFrame}
+use Rattle.sub_rules.specs.Fault.{is_pes_read}
+use Rattle.sub_rules.specs.FirstBroken.{unread_fault}
+use Rattle.sub_rules.specs.FrameRules.{Unread, packets_before}
+use Rattle.sub_rules.specs.PacketRules.{packets_of_units}
+use Rattle.sub_rules.specs.PesReading.{ReadsAs}
+use Rattle.sub_rules.specs.Transmission.{Transmission}
+use Rattle.sub_rules.specs.declared.fault.CheckFault.{CheckFault}
+use Rattle.sub_rules.proofs.PesReadingLemmas.{ReadsNext, reads-below, reads_end, reads_next}
+use Rattle.sub_rules.proofs.FrameLists.{joined_more}
+use Rattle.sub_listen.specs.Run.{AreHeard, EndsAfter, FailsListening, HearsFile, IsHeard}
+use Rattle.sub_listen.specs.Run.{RefusesAfter, least_frame}
+use Rattle.sub_listen.specs.Reception.{Reception, RunsThrough, as_heard, as_received}
+use Rattle.sub_listen.specs.Reception.{first_lost_header, reception_of}
+use Rattle.sub_request.specs.declared.listening.Listening.{Listening}
+use Rattle.ttx_pes.specs.declared.fault.PesFault.TheVariants as pes
+use Rattle.sub_rules.specs.declared.fault.CheckFault.TheVariants as check
+use Rattle.sub_listen.specs.declared.listening.ListenFault.{ListenFault}
+use Rattle.sub_listen.specs.declared.listening.ListenFault.TheVariants as fault
+
+-- ---- lists of packets
+
+-- Where no packet is listed as lost, none is lost that may not be. For `first_lost_header`.
+pub first_lost_header-none : (r : Reception) (number : ℕ) (packets : List (List ℕ))
+    → r.lost ≡ []
+    → first_lost_header r number packets ≡ None
+first_lost_header-none r number [] e = refl
+first_lost_header-none r number (packet ∷ packets) e =
+    grind (
+      arith,
+      nat_tests,
+      false,
+      and_right,
+      not,
+      Some,
+      option_map,
+      first_lost_header-none r (number + 1) packets e,
+    )
+
+-- What is received of two lists of packets, one after the other.
+pub as_received-append : (r : Reception) (number : ℕ) (first more : List (List ℕ))
+    → as_received r number (first ++ more)
+    ≡ as_received r number first ++ as_received r (number + length first) more
+as_received-append r number [] more = ap (λ n. as_received r n more) (omega arith)
+as_received-append r number (p ∷ ps) more =
+    grind (
+      arith,
+      nat_tests,
+      length ps,
+      length (p ∷ ps),
+      as_received-append r (number + 1) ps more,
+      true,
+      false,
+    )
+
+-- What is heard of two lists of packets, one after the other.
+as_heard-append : (l : Listening) (number : ℕ) (first more : List (List ℕ))
+    → as_heard l number (first ++ more)
+    ≡ as_heard l number first ++ as_heard l (number + length first) more
+as_heard-append l number first more =
+    grind (arith, as_received-append, filter-append)
+
+-- ---- what is reached after n frames
+
+-- The run up to n frames, and what is left of the file.
+pub record Reaches
+    (leaves : ℕ → ℕ) (l : Listening) (frames : Transmission) (unread : Option Unread)
+    (w : PageIdValue) (old : Display) (remaining : Option (List ℕ)) (n number least : ℕ)
+    (now : Display)
+    : Type 0 where
+  pub few : n ≤ most_packets
+  pub within : n ≤ length frames
+  pub rest : List ℕ
+  pub rest_is : remaining ≡ Some rest
+  pub left : ReadsAs l.options.origin n rest (drop n frames) unread
+  pub heard : AreHeard l frames n
+  pub run :
+      RunsThrough l.options.asks_complete leaves w old
+      (as_heard l 0 (packets_before frames n)) now
+  pub number_is : number ≡ length (packets_before frames n)
+  pub least_is : least ≡ least_frame frames n
+
+-- The source failed after the packets that were heard.
+pub fails_listening : (l : Listening) (n : ℕ) (f : CheckFault) (old mid new : Option (List ℕ))
+    → TakesPackets n old mid
+    → (is_pes_read f ≡ true → f ≡ check.Pes n pes.Read)
+    → (is_pes_read f ≡ true → FailsWithin mid new)
+    → ((frames : Transmission) (unread : Option Unread)
+    → IfTold old (λ bytes.
+    ReadsAs l.options.origin 0 bytes frames unread → AreHeard l frames n))
+    → is_pes_read f ≡ true
+    → FailsListening l old new (fault.File f)
+fails_listening l n f old mid new taken place within heard is =
+    grind arith
+
+module _
+    (leaves : ℕ → ℕ) (l : Listening) (frames : Transmission) (unread : Option Unread)
+    (told : Option (List ℕ)) (w : PageIdValue) (old : Display)
+  where
+    module _
+        (n number least : ℕ) (remaining : Option (List ℕ)) (now : Display)
+        (reached : Reaches leaves l frames unread w old remaining n number least now)
+        (left : Option (List ℕ))
+      where
+        -- What is heard ends here.
+        ends_so :
+            (result : Result (Unit {0}) ListenFault)
+            → MatchResult result (λ _. EndsAfter l frames unread n) (RefusesAfter l frames unread n)
+            → (n < length frames → TakesPackets (n + 1) told left)
+            → HearsFile leaves l frames unread told left w old now result
+        ends_so result ends stops = record {
+          runs = record { n = n; heard = reached.heard; run = reached.run; ends = ends };
+          stops = stops;
+        }
+
+        -- The file ends.
+        pub ends_at_end :
+            (v : PesValue)
+            → TellsFrame l.options.origin n reached.rest v (Ok None)
+            → HearsFile leaves l frames unread told left w old now (Ok tt)
+        ends_at_end v is =
+            let at =
+            reads_end l.options.origin n reached.rest frames unread None reached.few reached.left
+            is in
+            let within = reached.within in
+            ends_so (Ok tt) (inl (omega (arith, at.0), at.1))
+            (λ more. absurd (omega (arith, more, at.0)))
+
+        -- It is not read on.
+        pub ends_unread :
+            (v : PesValue) (f : CheckFault)
+            → TellsFrame l.options.origin n reached.rest v (Err f)
+            → HearsFile leaves l frames unread told left w old now (Err (fault.File f))
+        ends_unread v f (u, is, ends) =
+            let at =
+            reads_end l.options.origin n reached.rest frames unread (Some u) reached.few
+            reached.left ends in
+            let within = reached.within in
+            let all : n ≡ length frames = omega (arith, at.0) in
+            ends_so (Err (fault.File f)) (grind arith) (λ more. absurd (omega (arith, more, all)))
+          where
+            refuses :
+                (x : Unread)
+                → n ≡ length frames
+                → unread ≡ Some x
+                → RefusesAfter l frames unread n (fault.File (unread_fault n (Some x)))
+            refuses x all is = grind (arith, nat_tests)
+
+        module _
+            (v : PesValue) (frame : ℕ)
+            (is : TellsFrame l.options.origin n reached.rest v (Ok (Some frame)))
+            (taken : TakesPackets (n + 1) told left)
+          where
+            next : ReadsNext l.options.origin n reached.rest frames unread v frame
+            next =
+                reads_next l.options.origin n reached.rest frames unread v frame reached.few
+                reached.left is.0 is.1
+
+            -- Its frame is not after the one before.
+            pub ends_order :
+                frame < least
+                → HearsFile leaves l frames unread told left w old now
+                (Err (fault.File (check.Order n)))
+            ends_order early =
+                let frame_is = next.sent.frame_is in
+                let least_is = reached.least_is in
+                ends_so (Err (fault.File (check.Order n))) (refl, next.sent.there, omega arith)
+                (λ there. taken)
+
+            -- It is after TIME.
+            pub ends_late :
+                least ≤ frame
+                → l.at < frame
+                → HearsFile leaves l frames unread told left w old now (Ok tt)
+            ends_late rises late =
+                let frame_is = next.sent.frame_is in
+                let least_is = reached.least_is in
+                ends_so (Ok tt) (inr (next.sent.there, omega arith, omega arith)) (λ there. taken)
+
+            -- A page header of it is lost.
+            pub ends_lost :
+                (packet : ℕ)
+                → least ≤ frame
+                → frame ≤ l.at
+                → first_lost_header (reception_of l) number (packets_of_units v.units) ≡ Some packet
+                → HearsFile leaves l frames unread told left w old now
+                (Err (fault.LostHeader frame packet))
+            ends_lost packet rises in_time lost =
+                let least_is = reached.least_is in
+                ends_so (Err (fault.LostHeader frame packet))
+                (grind (arith, next.sent.there, next.sent.frame_is, next.sent.packets_are))
+                (λ there. taken)
+
+            -- It is heard.
+            pub reaches_next :
+                (after : Display)
+                → least ≤ frame
+                → frame ≤ l.at
+                → first_lost_header (reception_of l) number (packets_of_units v.units) ≡ None
+                → left ≡ Some (rest_after reached.rest)
+                → RunsThrough l.options.asks_complete leaves w now
+                (as_heard l number (packets_of_units v.units)) after
+                → Reaches leaves l frames unread w old left (n + 1) (number + length v.units)
+                (frame + 1) after
+            reaches_next after rises in_time whole left_is run =
+                let frame_is = next.sent.frame_is in
+                let least_is = reached.least_is in
+                let there = next.sent.there in
+                let below = reads-below n reached.rest v is.0 in
+                let few = reached.few in
+                let more = joined_more frames n there
+                ∙ ap (λ ps. packets_before frames n ++ ps) next.sent.packets_are in
+                let r = reception_of l in
+                let here : IsHeard l frames n = record {
+                  there = there;
+                  rises = omega arith;
+                  in_time = omega arith;
+                  whole = grind (arith, next.sent.packets_are);
+                } in
+                let size = ap length more
+                ∙ length-append (packets_before frames n) (packets_of_units v.units) in
+                let units = length-map v.units (λ (u : UnitValue). u.packet) in
+                let number_is = reached.number_is in
+                let place : 0 + length (packets_before frames n) ≡ number = omega arith in
+                record {
+                  few = omega (arith, below);
+                  within = omega arith;
+                  rest = rest_after reached.rest;
+                  rest_is = left_is;
+                  left = next.left;
+                  heard = λ i below_next.
+                      elim (cases_lt i n) [
+                        | inl h ↦ reached.heard i h
+                        | inr h ↦ subst (IsHeard l frames) (omega arith) here
+                      ];
+                  run =
+                      rw (
+                        more,
+                        as_heard-append l 0 (packets_before frames n) (packets_of_units v.units),
+                        place,
+                      ) (RunsBy-append _ _ _ _ _ _ reached.run run);
+                  number_is = omega (arith, size, units, number_is);
+                  least_is = grind arith;
+                }

@@ -1,0 +1,160 @@
+-- Each way out of the loop tells what the file is; by WaysOutLemmas.
+use Rattle.std.proofs.Common.{◌+◌, ◌≤◌, ◌∙◌, List, Option, Result, Ok, ap, arith, length}
+use Rattle.std.proofs.Common.{refl, subst, sym, true, ◌≡◌}
+use Rattle.std.proofs.lemmas.Result.{err_from_is_err_and}
+use Rattle.ttx_packet.specs.PageId.{PageIdValue}
+use Rattle.ttx_page.specs.Screen.{display}
+use Rattle.ttx_pes.specs.DataUnit.{UnitValue}
+use Rattle.ttx_pes.specs.PesPacket.{PesValue, most_units}
+use Rattle.ttx_pes.proofs.TakenPackets.{takes-more}
+use Rattle.sub_rules.specs.PacketRules.{packets_of_units}
+use Rattle.sub_rules.specs.declared.fault.CheckFault.{CheckFault}
+use Rattle.sub_rules.specs.declared.sending.Sending.{Sending}
+use Rattle.sub_listen.specs.Untouched.{HeardLast}
+use Rattle.sub_listen.specs.Reception.{RunsThrough, as_heard, first_lost_header, reception_of}
+use Rattle.sub_listen.proofs.WaysOutLemmas.{Reaches, ends_at_end, ends_late, ends_lost, ends_order}
+use Rattle.sub_listen.proofs.WaysOutLemmas.{ends_unread, fails_listening, reaches_next}
+use Rattle.sub_listen.proofs.listening.listen.Goals as goal
+
+pub returns-in_err-next-clause-exact : goal.returns-in_err-next-clause-exact
+returns-in_err-next-clause-exact g c = λ frames unread bytes told reads fine.
+    let p = err_from_is_err_and c.from_residual.result c.from_residual.ensures.1 in
+    let known = rw (p.1, p.2) at fine in
+    let i = c.packets.invariant.told frames unread bytes told reads in
+    rw (p.1, p.2)
+    (ends_unread _ c.args.listening.now frames unread _ _ _ c.packets.index _ _ _ _ i _
+    c.next_sending.new.reader.frame _ (c.in_err-next.ensures.exact i.rest i.rest_is known))
+
+pub returns-in_err-next-clause-failed : goal.returns-in_err-next-clause-failed
+returns-in_err-next-clause-failed g c =
+    let p = err_from_is_err_and c.from_residual.result c.from_residual.ensures.1 in
+    rw (p.1, p.2)
+    (fails_listening c.args.listening.now c.packets.index _ _ _ _ c.packets.invariant.taken
+    c.in_err-next.ensures.place c.in_err-next.ensures.within
+    (λ frames unread bytes told reads.
+    (c.packets.invariant.told frames unread bytes told reads).heard))
+
+pub returns-in_default-clause-exact : goal.returns-in_default-clause-exact
+returns-in_default-clause-exact g c = λ frames unread bytes told reads fine.
+    let i = c.packets.invariant.told frames unread bytes told reads in
+    ends_at_end _ c.args.listening.now frames unread _ _ _ c.packets.index _ _ _ _ i _
+    c.next_sending.new.reader.frame
+    (rw c.in_default.is at (c.in_ok-next.ensures.exact i.rest i.rest_is refl))
+
+pub returns-then-frame-least-clause-exact : goal.returns-then-frame-least-clause-exact
+returns-then-frame-least-clause-exact g c = λ frames unread bytes told reads fine.
+    let i = c.packets.invariant.told frames unread bytes told reads in
+    ends_order _ c.args.listening.now frames unread _ _ _ c.packets.index _ _ _ _ i _
+    c.next_sending.new.reader.frame c.in-Some.sending.frame
+    (rw c.in-Some.is at (c.in_ok-next.ensures.exact i.rest i.rest_is refl))
+    (takes-more c.packets.index _ _ _ _ c.packets.invariant.taken
+    (c.in_ok-next.ensures.taken c.in-Some.sending
+    (ap (λ x. let r : Result (Option Sending) CheckFault = Ok x in r) c.in-Some.is)))
+    c.if-frame-least.true
+
+pub returns-then-frame-listening-clause-exact : goal.returns-then-frame-listening-clause-exact
+returns-then-frame-listening-clause-exact g c = λ frames unread bytes told reads fine.
+    let i = c.packets.invariant.told frames unread bytes told reads in
+    let rises = c.if-frame-least.false in
+    let late = c.if-frame-listening.true in
+    ends_late _ c.args.listening.now frames unread _ _ _ c.packets.index _ _ _ _ i _
+    c.next_sending.new.reader.frame c.in-Some.sending.frame
+    (rw c.in-Some.is at (c.in_ok-next.ensures.exact i.rest i.rest_is refl))
+    (takes-more c.packets.index _ _ _ _ c.packets.invariant.taken
+    (c.in_ok-next.ensures.taken c.in-Some.sending
+    (ap (λ x. let r : Result (Option Sending) CheckFault = Ok x in r) c.in-Some.is)))
+    (omega (arith, rises)) (omega (arith, late))
+
+pub returns-in-Some-first_lost_header-clause-exact :
+    goal.returns-in-Some-first_lost_header-clause-exact
+returns-in-Some-first_lost_header-clause-exact g c = λ frames unread bytes told reads fine.
+    let i = c.packets.invariant.told frames unread bytes told reads in
+    let rises = c.if-frame-least.false in
+    let in_time = c.if-frame-listening.false in
+    let packet = c.in-Some-first_lost_header.packet in
+    let l = c.args.listening.now in
+    ends_lost _ l frames unread _ _ _ c.packets.index _ _ _ _ i _
+    c.next_sending.new.reader.frame c.in-Some.sending.frame
+    (rw c.in-Some.is at (c.in_ok-next.ensures.exact i.rest i.rest_is refl))
+    (takes-more c.packets.index _ _ _ _ c.packets.invariant.taken
+    (c.in_ok-next.ensures.taken c.in-Some.sending
+    (ap (λ x. let r : Result (Option Sending) CheckFault = Ok x in r) c.in-Some.is))) packet
+    (omega (arith, rises)) (omega (arith, in_time))
+    (ap (λ (us : List UnitValue). first_lost_header (reception_of l) c.packets.number
+    (packets_of_units us))
+    (sym (c.units-units.ensures.value ∙ ap (λ (v : PesValue). v.units) c.frame-packet.ensures))
+    ∙ sym c.first_lost_header.ensures
+    ∙ c.in-Some-first_lost_header.is)
+
+pub packets-preserved : goal.packets-preserved
+packets-preserved g c =
+    let counted = c.in_ok-next.ensures.count in
+    let before = c.packets.invariant.failures in
+    let few = c.packets.invariant.few in
+    let value = c.units-units.ensures.value
+    ∙ ap (λ (v : PesValue). v.units) c.frame-packet.ensures in
+    let units =
+    subst (λ (us : List UnitValue). length us ≤ most_units) (sym c.units-units.ensures.value)
+    c.units-units.ensures.frame.few in
+    let given = ap (λ x. let r : Result (Option Sending) CheckFault = Ok x in r) c.in-Some.is in
+    let day = c.in_ok-next.ensures.day c.in-Some.sending given in
+    let packets = c.in_ok-next.ensures.few c.in-Some.sending given in
+    let rises = c.if-frame-least.false in
+    let in_time = c.if-frame-listening.false in
+    let l = c.args.listening.now in
+    let taken =
+    takes-more c.packets.index _ _ _ _ c.packets.invariant.taken
+    (c.in_ok-next.ensures.taken c.in-Some.sending given) in
+    let whole = ap (λ (us : List UnitValue). first_lost_header (reception_of l)
+    c.packets.number (packets_of_units us)) (sym value)
+    ∙ sym c.first_lost_header.ensures
+    ∙ c.in_default-first_lost_header.is in
+    let last = packets_of_units c.packets.reader.frame.units in
+    let again : c.in-Some.sending.again ≡ true → last ≡ packets_of_units c.units-units.result.now =
+    λ e. ap packets_of_units
+    (sym (c.in_ok-next.ensures.again c.in-Some.sending given e) ∙ sym value) in
+    let run =
+    subst (λ (us : List UnitValue). RunsThrough l.options.asks_complete g.R.Receiver.leaves
+    (g.R.Receiver.tuned_to c.packets.receiver)
+    (display (g.R.Receiver.state c.packets.receiver) c.packets.screen)
+    (as_heard l c.packets.number (packets_of_units us))
+    (display (g.R.Receiver.state c.hear_sending-kept.new.receiver)
+    c.hear_sending-kept.new.screen)) value
+    (c.hear_sending-kept.ensures.run last c.packets.invariant.kept again) in
+    record {
+      reading = c.in_ok-next.ensures.progress c.in-Some.sending given;
+      few_packets = omega (arith, packets);
+      taken = taken;
+      failures = omega (arith, counted, before);
+      tuned = c.hear_sending-kept.ensures.tuned ∙ c.packets.invariant.tuned;
+      few = omega (arith, few, units);
+      kept = λ e.
+          subst (λ (us : List UnitValue). HeardLast g.R.Receiver.leaves l
+          (g.R.Receiver.tuned_to c.hear_sending-kept.new.receiver) (packets_of_units us)
+          (display (g.R.Receiver.state c.hear_sending-kept.new.receiver)
+          c.hear_sending-kept.new.screen)) value
+          (c.hear_sending-kept.ensures.kept last c.packets.invariant.kept again e);
+      day = omega (arith, day);
+      told = λ frames unread bytes told reads.
+          let i = c.packets.invariant.told frames unread bytes told reads in
+          subst (λ (us : List UnitValue). Reaches g.R.Receiver.leaves l frames unread
+          (g.R.Receiver.tuned_to c.args.receiver.now)
+          (display (g.R.Receiver.state c.args.receiver.now) c.args.screen.now)
+          (g.S.Source.remaining c.next_sending.new.source) (c.packets.index + 1)
+          (c.packets.number + length us) (c.in-Some.sending.frame + 1)
+          (display (g.R.Receiver.state c.hear_sending-kept.new.receiver)
+          c.hear_sending-kept.new.screen))
+          (sym value)
+          (reaches_next _ l frames unread (g.S.Source.remaining c.args.pes.now) _ _
+          c.packets.index _ _ _ _ i _
+          c.next_sending.new.reader.frame c.in-Some.sending.frame
+          (rw c.in-Some.is at (c.in_ok-next.ensures.exact i.rest i.rest_is refl)) taken _
+          (omega (arith, rises)) (omega (arith, in_time)) whole
+          (c.in_ok-next.ensures.left i.rest i.rest_is)
+          (subst (λ (w : PageIdValue). RunsThrough l.options.asks_complete g.R.Receiver.leaves w
+          (display (g.R.Receiver.state c.packets.receiver) c.packets.screen)
+          (as_heard l c.packets.number (packets_of_units c.next_sending.new.reader.frame.units))
+          (display (g.R.Receiver.state c.hear_sending-kept.new.receiver)
+          c.hear_sending-kept.new.screen))
+          c.packets.invariant.tuned run));
+    }

@@ -1,0 +1,12 @@
+-- None of the packets so far is lost that may not be.
+use Rattle.std.proofs.Common.{◌≡◌, ◌+◌, drop, option_map}
+use Rattle.sub_rules.specs.PacketRules.{packets_of_units}
+use Rattle.sub_listen.specs.Reception.{first_lost_header, reception_of}
+use Rattle.sub_listen.proofs.reception.first_lost_header.Given as goal
+
+abbrev pub invariant-loop-k : goal.invariant-loop-k
+invariant-loop-k l =
+    first_lost_header (reception_of l.listening) l.number (packets_of_units l.units)
+    ≡ option_map (λ place. place + l.k)
+    (first_lost_header (reception_of l.listening) (l.number + l.k)
+    (packets_of_units (drop l.k l.units)))

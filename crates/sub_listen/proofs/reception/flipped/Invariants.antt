@@ -1,0 +1,9 @@
+-- The flips that are left make of the bytes what all make of the packet.
+use Rattle.std.proofs.Common.{◌≡◌, drop}
+use Rattle.sub_request.specs.Flips.{with_flips}
+use Rattle.sub_listen.proofs.reception.flipped.Given as goal
+
+abbrev pub invariant-loop-flip : goal.invariant-loop-flip
+invariant-loop-flip l =
+    with_flips l.flips l.number l.packet
+    ≡ with_flips (drop l.flip-index l.flips) l.number l.bytes

@@ -1,0 +1,21 @@
+-- A run through what is heard of the packets that are left makes one through all.
+use Rattle.std.proofs.Common.{◌≡◌, ◌+◌, drop}
+use Rattle.sub_rules.specs.PacketRules.{packets_of_units}
+use Rattle.ttx_page.specs.Screen.{Display, display}
+use Rattle.sub_listen.specs.Reception.{RunsThrough, as_heard}
+use Rattle.sub_listen.proofs.reception.hear_units.Given as goal
+
+abbrev pub invariant-loop-k : goal.invariant-loop-k
+invariant-loop-k g l = record {
+  tuned : g.R.Receiver.tuned_to l.receiver ≡ g.R.Receiver.tuned_to l.fn.receiver;
+  run :
+      (end : Display)
+      → RunsThrough l.listening.options.asks_complete g.R.Receiver.leaves
+      (g.R.Receiver.tuned_to l.fn.receiver)
+      (display (g.R.Receiver.state l.receiver) l.screen)
+      (as_heard l.listening (l.fn.number + l.k) (packets_of_units (drop l.k l.units))) end
+      → RunsThrough l.listening.options.asks_complete g.R.Receiver.leaves
+      (g.R.Receiver.tuned_to l.fn.receiver)
+      (display (g.R.Receiver.state l.fn.receiver) l.fn.screen)
+      (as_heard l.listening l.fn.number (packets_of_units l.units)) end;
+}

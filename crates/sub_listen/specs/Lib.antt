@@ -1,0 +1,4 @@
+pub mod Fault
+pub mod Reception
+pub mod Run
+pub mod Untouched

@@ -1,0 +1,115 @@
+-- How a PES file is heard: the frames up to TIME, what ends them, and the run of a receiver.
+use Rattle.std.specs.Prelude.{◌≡◌, ℕ, zero, suc, ◌+◌, ◌<◌, ◌≤◌, ◌⊎◌, Bool, false}
+use Rattle.std.specs.Prelude.{length, Option, Some, None, Result}
+use Rattle.std.specs.Prelude.{List, MatchResult}
+use Rattle.sub_io.specs.Reading.{IfTold}
+use Rattle.ttx_packet.specs.PageId.{PageIdValue}
+use Rattle.ttx_page.specs.Screen.{Display}
+use Rattle.ttx_pes.specs.Reader.{FailsAtPacket, TakesPackets}
+use Rattle.ttx_pes.specs.declared.fault.PesFault.TheVariants.{Read}
+use Rattle.sub_rules.specs.Fault.{is_pes_read, is_subtitle_fault}
+use Rattle.sub_rules.specs.FirstBroken.{unread_fault}
+use Rattle.sub_rules.specs.FrameRules.{Unread, frame_at, packets_before, packets_of_frame}
+use Rattle.sub_rules.specs.PesReading.{ReadsAs}
+use Rattle.sub_rules.specs.Transmission.{Transmission}
+use Rattle.sub_rules.specs.declared.fault.CheckFault.TheVariants as check
+use Rattle.sub_listen.specs.Reception.{RunsThrough, as_heard, first_lost_header, reception_of}
+use Rattle.sub_listen.specs.declared.listening.ListenFault.{ListenFault}
+use Rattle.sub_listen.specs.declared.listening.ListenFault.TheVariants as fault
+use Rattle.sub_request.specs.declared.listening.Listening.{Listening}
+
+-- ---- faults
+
+-- The source failed.
+abbrev pub is_failed_read : ListenFault → Bool
+is_failed_read (fault.File f) = is_pes_read f
+is_failed_read (fault.LostHeader frame packet) = false
+
+-- The fault is one of a subtitle file, which is not read here.
+abbrev pub is_stl_fault : ListenFault → Bool
+is_stl_fault (fault.File f) = is_subtitle_fault f
+is_stl_fault (fault.LostHeader frame packet) = false
+
+-- ---- what is heard
+
+-- The least frame that frame i of the list may have: the one after the frame before it.
+abbrev pub least_frame : Transmission → ℕ → ℕ
+least_frame frames zero = 0
+least_frame frames (suc i) = frame_at frames i + 1
+
+-- The number of the first packet of frame i of the list, counted over the whole file.
+abbrev pub first_number : Transmission → ℕ → ℕ
+first_number frames i = length (packets_before frames i)
+
+-- Frame i of the list is heard: it is after the one before, not after TIME, and no page header of
+-- it is lost.
+pub record IsHeard (l : Listening) (frames : Transmission) (i : ℕ) : Type 0 where
+  pub there : i < length frames
+  pub rises : least_frame frames i ≤ frame_at frames i
+  pub in_time : frame_at frames i ≤ l.at
+  pub whole :
+      first_lost_header (reception_of l) (first_number frames i) (packets_of_frame frames i) ≡ None
+
+-- The first n frames of the list are heard.
+abbrev pub AreHeard : Listening → Transmission → ℕ → Type 0
+AreHeard l frames n = (i : ℕ) → i < n → IsHeard l frames i
+
+-- What is heard ends after n frames: the file ends, or the next frame is after TIME.
+abbrev pub EndsAfter : Listening → Transmission → Option Unread → ℕ → Type 0
+EndsAfter l frames unread n =
+    ((n ≡ length frames) × (unread ≡ None))
+    ⊎ ((n < length frames) × (least_frame frames n ≤ frame_at frames n)
+    × (l.at < frame_at frames n))
+
+-- After n frames the file is refused by this fault, as it stands: it is not read on, its next frame
+-- is not after the one before, or a page header of the next frame is lost.
+abbrev pub RefusesAfter : Listening → Transmission → Option Unread → ℕ → ListenFault → Type 0
+RefusesAfter l frames unread n (fault.File (check.Order index)) =
+    (index ≡ n) × (n < length frames) × (frame_at frames n < least_frame frames n)
+RefusesAfter l frames unread n (fault.LostHeader frame packet) =
+    (n < length frames)
+    × (frame_at frames n ≡ frame)
+    × (least_frame frames n ≤ frame)
+    × (frame ≤ l.at)
+    × (first_lost_header (reception_of l) (first_number frames n) (packets_of_frame frames n)
+    ≡ Some packet)
+RefusesAfter l frames unread n f =
+    (u : Unread) × (n ≡ length frames) × (unread ≡ Some u)
+    × (f ≡ fault.File (unread_fault n (Some u)))
+
+-- The source failed at a PES packet: those before it were taken, and their frames were heard.
+pub record FailsListening (l : Listening) (told left : Option (List ℕ)) (f : ListenFault) : Type 0
+  where
+    pub index : ℕ
+    pub is : f ≡ fault.File (check.Pes index Read)
+    pub place : FailsAtPacket index told left
+    pub heard :
+        (frames : Transmission) (unread : Option Unread)
+        → IfTold told (λ bytes.
+        ReadsAs l.options.origin 0 bytes frames unread → AreHeard l frames index)
+
+-- ---- the run of a receiver
+
+-- What becomes of a receiver that hears a file, and leaves this code in a cell whose byte has even
+-- parity: it runs through what it hears of the packets up to TIME, or the file is refused.
+pub record Runs
+    (leaves : ℕ → ℕ) (l : Listening) (frames : Transmission) (unread : Option Unread)
+    (w : PageIdValue) (old new : Display) (result : Result (Unit {0}) ListenFault)
+    : Type 0 where
+  pub n : ℕ
+  pub heard : AreHeard l frames n
+  pub run :
+      RunsThrough l.options.asks_complete leaves w old
+      (as_heard l 0 (packets_before frames n)) new
+  pub ends :
+      MatchResult result (λ _. EndsAfter l frames unread n) (RefusesAfter l frames unread n)
+
+-- The same of a file of which these bytes were to be read before, and are left after.
+pub record HearsFile
+    (leaves : ℕ → ℕ) (l : Listening) (frames : Transmission) (unread : Option Unread)
+    (told left : Option (List ℕ)) (w : PageIdValue) (old new : Display)
+    (result : Result (Unit {0}) ListenFault)
+    : Type 0 where
+  pub runs : Runs leaves l frames unread w old new result
+  -- Where there is a frame after those that are heard, nothing was read after its PES packet.
+  pub stops : runs.n < length frames → TakesPackets (runs.n + 1) told left

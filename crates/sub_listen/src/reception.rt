@@ -1,0 +1,212 @@
+//! What a receiver gets of the packets of a file, and hears: packets passed over, lost packets,
+//! flips, dropped rows.
+ghost use Rattle.std.specs.Prelude.{◌≡◌, ℕ, ◌+◌, ◌-◌, ◌^◌, ◌<◌, ◌≤◌, ◌&&◌, ◌∷◌, List, length};
+ghost use Rattle.std.specs.Prelude.{not};
+ghost use Rattle.std.specs.List.{filter};
+ghost use Rattle.ttx_packet.specs.PacketAddress.{address};
+ghost use Rattle.ttx_page.specs.Screen.{Display, display};
+ghost use Rattle.ttx_pes.specs.PesPacket.{most_units};
+ghost use Rattle.sub_rules.specs.PacketRules.{packets_of_units};
+ghost use Rattle.sub_listen.specs.Reception.{RunsThrough, as_heard, first_lost_header, is_heard};
+ghost use Rattle.sub_listen.specs.Reception.{is_lost, is_taken, may_be_lost_at, reception_of};
+ghost use Rattle.sub_request.specs.Flips.{with_flip, with_flips};
+
+use sub_request::{Flip, Listening, ReceiverKind};
+use ttx_packet::Packet;
+use ttx_page::{Page, Receiver, is_dropped, show};
+use ttx_pes::Unit;
+
+/// The first of the packets of a PES packet that is lost and may not be, since it is a page header
+/// or has no address. `number` is that of the first packet.
+pub fn first_lost_header(listening: &Listening, number: u64, units: &[Unit]) -> Option<u32>
+    requires few { length units.now ≤ most_units }
+    requires number { number + most_units < u64.MAX }
+    ensures { result ≡ first_lost_header (reception_of listening.now) number
+        (packets_of_units units.now) }
+{
+    if listening.lost.as_slice().is_empty() {
+        return None;
+    }
+    for k in 0..units.len() {
+        if is_lost_header(listening, number + k as u64, units[k].packet()) {
+            return Some(k as u32);
+        }
+    }
+    None
+}
+
+/// Lets a receiver hear what it hears of the packets of a PES packet, with its screen where
+/// complete pages are asked for. `number` is that of the first.
+pub fn hear_units<R: Receiver>(
+    receiver: &mut R,
+    screen: &mut Option<Page>,
+    listening: &Listening,
+    number: u64,
+    units: &[Unit],
+)
+    requires few { length units.now ≤ most_units }
+    requires number { number + most_units < u64.MAX }
+    ensures run { RunsThrough listening.now.options.asks_complete R.leaves
+        (R.tuned_to receiver.old) (display (R.state receiver.old) screen.old)
+        (as_heard listening.now number (packets_of_units units.now))
+        (display (R.state receiver.new) screen.new) }
+    ensures tuned { R.tuned_to receiver.new ≡ R.tuned_to receiver.old }
+{
+    for k in 0..units.len() {
+        let packet = units[k].packet();
+        hear_packet(receiver, screen, listening, number + k as u64, packet);
+    }
+}
+
+/// Lets a receiver hear the packets of a PES packet of which none is passed over or lost or has a
+/// flip: as they are, but for the rows that it drops. So no packet is copied.
+pub fn hear_untouched<R: Receiver>(
+    receiver: &mut R,
+    screen: &mut Option<Page>,
+    listening: &Listening,
+    units: &[Unit],
+)
+    ensures run { RunsThrough listening.now.options.asks_complete R.leaves
+        (R.tuned_to receiver.old) (display (R.state receiver.old) screen.old)
+        (filter (is_taken listening.now.receiver listening.now.options.page)
+        (packets_of_units units.now))
+        (display (R.state receiver.new) screen.new) }
+    ensures tuned { R.tuned_to receiver.new ≡ R.tuned_to receiver.old }
+{
+    for k in 0..units.len() {
+        take(receiver, screen, listening, units[k].packet());
+    }
+}
+
+// Lets a receiver hear what it hears of a packet. So what comes after it goes on from there.
+fn hear_packet<R: Receiver>(
+    receiver: &mut R,
+    screen: &mut Option<Page>,
+    listening: &Listening,
+    number: u64,
+    packet: &Packet,
+)
+    ensures run { (packets : List (List ℕ)) (end : Display)
+        → RunsThrough listening.now.options.asks_complete R.leaves
+        (R.tuned_to receiver.old) (display (R.state receiver.new) screen.new)
+        (as_heard listening.now (number + 1) packets) end
+        → RunsThrough listening.now.options.asks_complete R.leaves
+        (R.tuned_to receiver.old) (display (R.state receiver.old) screen.old)
+        (as_heard listening.now number (packet.now ∷ packets)) end }
+    ensures tuned { R.tuned_to receiver.new ≡ R.tuned_to receiver.old }
+{
+    if is_heard(listening, number) {
+        let got = flipped(&listening.flips, number, packet);
+        take(receiver, screen, listening, &got);
+    }
+}
+
+// Lets a receiver hear a packet that it gets, if it takes it.
+#[inline(always)]
+fn take<R: Receiver>(
+    receiver: &mut R,
+    screen: &mut Option<Page>,
+    listening: &Listening,
+    packet: &Packet,
+)
+    ensures run { (packets : List (List ℕ)) (end : Display)
+        → RunsThrough listening.now.options.asks_complete R.leaves
+        (R.tuned_to receiver.old) (display (R.state receiver.new) screen.new)
+        (filter (is_taken listening.now.receiver listening.now.options.page) packets) end
+        → RunsThrough listening.now.options.asks_complete R.leaves
+        (R.tuned_to receiver.old) (display (R.state receiver.old) screen.old)
+        (filter (is_taken listening.now.receiver listening.now.options.page)
+        (packet.now ∷ packets)) end }
+    ensures tuned { R.tuned_to receiver.new ≡ R.tuned_to receiver.old }
+{
+    if !is_taken(listening, packet) {
+        return;
+    }
+    if listening.options.asks_complete() {
+        show(receiver, screen, packet);
+    } else {
+        // The screen stays: no page is copied to one that is not looked at.
+        receiver.hear(packet);
+    }
+}
+
+// Whether the receiver takes a packet that it gets: one that drops rows passes over a row with a
+// byte of even parity.
+fn is_taken(listening: &Listening, packet: &Packet) -> bool
+    ensures { result ≡ is_taken listening.now.receiver listening.now.options.page packet.now }
+{
+    match listening.receiver {
+        ReceiverKind::DropRow => !is_dropped(listening.options.page(), packet),
+        ReceiverKind::Keep | ReceiverKind::Blank => true,
+    }
+}
+
+// Whether a packet is lost that may not be.
+fn is_lost_header(listening: &Listening, number: u64, packet: &Packet) -> bool
+    ensures { result
+        ≡ (is_lost (reception_of listening.now) number
+        && not (may_be_lost_at (address packet.now))) }
+{
+    is_lost(listening, number) && !may_be_lost(packet)
+}
+
+// Whether a packet is lost.
+fn is_lost(listening: &Listening, number: u64) -> bool
+    ensures { result ≡ is_lost (reception_of listening.now) number }
+{
+    listening.skip <= number && listening.lost.contains(&number)
+}
+
+// Whether a packet is heard: it is neither passed over nor lost.
+fn is_heard(listening: &Listening, number: u64) -> bool
+    ensures { result ≡ is_heard (reception_of listening.now) number }
+{
+    listening.skip <= number && !listening.lost.contains(&number)
+}
+
+// Whether a packet may be lost: it has an address, and is no page header.
+fn may_be_lost(packet: &Packet) -> bool
+    ensures { result ≡ may_be_lost_at (address packet.now) }
+{
+    match packet.address() {
+        Some((_, packet_number)) => packet_number != 0,
+        None => false,
+    }
+}
+
+// A packet as it is received, with its flips.
+fn flipped(flips: &[Flip], number: u64, packet: &Packet) -> Packet
+    ensures { result ≡ with_flips flips.now number packet.now }
+{
+    let mut bytes = *packet.bytes();
+    for flip in flips {
+        flip_bit(flip, number, &mut bytes);
+    }
+    Packet::new(bytes)
+}
+
+// Changes the bit of a flip, where it is one of this packet.
+fn flip_bit(flip: &Flip, number: u64, bytes: &mut [u8; 42])
+    ensures { bytes.new ≡ with_flip flip.now number bytes.old }
+{
+    if flip.packet == number && flip.byte <= 41 && flip.bit >= 1 && flip.bit <= 8 {
+        bytes[flip.byte as usize] ^= bit_value(flip.bit);
+    }
+}
+
+// The value of a bit of a byte: bit 1 is the lowest.
+fn bit_value(bit: u8) -> u8
+    requires { (1 ≤ bit) × (bit ≤ 8) }
+    ensures { result ≡ 2 ^ (bit - 1) }
+{
+    match bit {
+        1 => 1,
+        2 => 2,
+        3 => 4,
+        4 => 8,
+        5 => 16,
+        6 => 32,
+        7 => 64,
+        _ => 128,
+    }
+}

@@ -1,0 +1,124 @@
+-- Two packets of code words and odd text that say the same are equal: `same_packet`.
+use Rattle.std.proofs.lemmas.Bool.Decides.{nat_tests}
+use Rattle.std.proofs.Common.{◌≡◌, ℕ, zero, suc, ◌+◌, ◌*◌, ◌/◌, ◌%◌, ◌<◌, true, not, List}
+use Rattle.std.proofs.Common.{[], ◌∷◌, get_or, slice_index, drop, map, Some, sym, ap, ◌∙◌}
+use Rattle.std.proofs.Common.{subst, arith, refl}
+use Rattle.std.proofs.lemmas.Bool.{agree_below_at, true≢false}
+use Rattle.std.proofs.lemmas.List.{same_lists, get_or-drop, get_or_default}
+use Rattle.std.proofs.lemmas.Option.{same_Some}
+use Rattle.std.specs.Int.RustNames.{count_ones}
+use lib.Count.{ones_in}
+use Rattle.ttx_packet.specs.Hamming84.{code_word}
+use Rattle.ttx_packet.specs.Parity.{is_odd, code_of}
+use Rattle.ttx_packet.specs.PacketAddress.{PacketAddress, address, HasExactAddress, IsPacket}
+use Rattle.ttx_packet.specs.RowPacket.{HasOddText}
+use Rattle.ttx_packet.proofs.Hamming84Lemmas.{decoded-code_word}
+use Rattle.sub_rules.specs.PacketRules.{codes_of}
+
+-- The highest bit changes the parity. For `odd_same`.
+upper_odd : (code : ℕ) → code < 128 → is_odd (code + 128) ≡ not (is_odd code)
+unfolding is_odd count_ones ones_in
+upper_odd code l =
+    agree_below_at (λ k. is_odd (k + 128)) (λ k. not (is_odd k)) 128 code refl l
+
+-- A byte below 128 and the one 128 above it are not both odd. For `odd_same`.
+one_odd : (b c : ℕ) → b < 128 → c ≡ b + 128 → is_odd b ≡ true → is_odd c ≡ true → ⊥
+one_odd b c l s ob oc =
+    true≢false (sym (subst (λ x. is_odd x ≡ true) s oc) ∙ upper_odd b l ∙ ap not ob)
+
+-- Odd bytes with one code are equal. For `same_packet`.
+odd_same :
+    (b c : ℕ)
+    → b < 256
+    → c < 256
+    → is_odd b ≡ true
+    → is_odd c ≡ true
+    → b % 128 ≡ c % 128
+    → b ≡ c
+odd_same b c lb lc ob oc e = grind (arith, one_odd)
+
+-- The address of code words. For `same_address`.
+address_is :
+    (p : List ℕ) (m n : ℕ)
+    → m < 16
+    → n < 16
+    → slice_index p 0 ≡ code_word m
+    → slice_index p 1 ≡ code_word n
+    → address p
+    ≡ Some (record { magazine = (m + 0x10 * n) % 8; packet_number = (m + 0x10 * n) / 8 })
+unfolding address
+address_is p m n lm ln e f = grind (arith, decoded-code_word)
+
+-- Packets of code words with one address have the same two bytes. For `same_packet`.
+same_address :
+    (p q : List ℕ)
+    → HasExactAddress p
+    → HasExactAddress q
+    → address p ≡ address q
+    → (slice_index p 0 ≡ slice_index q 0) × (slice_index p 1 ≡ slice_index q 1)
+same_address p q x y e =
+    let a = x 0 (omega arith) in
+    let b = x 1 (omega arith) in
+    let c = y 0 (omega arith) in
+    let d = y 1 (omega arith) in
+    let f =
+    same_Some _ _
+    (sym (address_is p a.0 b.0 a.1 b.1 a.2 b.2) ∙ e ∙ address_is q c.0 d.0 c.1 d.1 c.2 d.2) in
+    let m : (a.0 + 0x10 * b.0) % 8 ≡ (c.0 + 0x10 * d.0) % 8 =
+    ap (λ (s : PacketAddress). s.magazine) f in
+    let n : (a.0 + 0x10 * b.0) / 8 ≡ (c.0 + 0x10 * d.0) / 8 =
+    ap (λ (s : PacketAddress). s.packet_number) f in
+    let la : a.0 < 16 = a.1 in
+    let lb : b.0 < 16 = b.1 in
+    let lc : c.0 < 16 = c.1 in
+    let ld : d.0 < 16 = d.1 in
+    let low : a.0 ≡ c.0 = omega arith in
+    let high : b.0 ≡ d.0 = omega arith in
+    (a.2 ∙ ap code_word low ∙ sym c.2, b.2 ∙ ap code_word high ∙ sym d.2)
+
+-- The code of a byte, in a list of any length.
+pub code_at : (bytes : List ℕ) (k : ℕ)
+    → get_or (map code_of bytes) k 0 ≡ code_of (get_or bytes k 0)
+code_at [] k = refl
+code_at (b ∷ bytes) zero = refl
+code_at (b ∷ bytes) (suc k) = code_at bytes k
+
+-- The code of a column, among the codes of a packet.
+pub code_of_column :
+    (p : List ℕ) (k : ℕ) → get_or (codes_of p) k 0 ≡ code_of (get_or p (k + 2) 0)
+code_of_column p k = grind (arith, nat_tests, code_at, get_or-drop)
+
+-- Two packets of one address, in code words, and of one text, in odd bytes, are equal. So a checker
+-- needs to keep only the codes of a row to know its packet.
+pub same_packet :
+    (p q : List ℕ)
+    → IsPacket p
+    → IsPacket q
+    → HasExactAddress p
+    → HasExactAddress q
+    → address p ≡ address q
+    → HasOddText p
+    → HasOddText q
+    → map code_of (drop 2 p) ≡ map code_of (drop 2 q)
+    → p ≡ q
+same_packet p q wp wq xp xq a op oq codes =
+    same_lists p q (wp.size ∙ sym wq.size)
+    (λ k d l.
+    let lk : k < 42 = omega (arith, wp.size) in
+    get_or_default p k d 0 l ∙ at k lk ∙ get_or_default q k 0 d (omega (arith, wq.size)))
+  where
+    two : (slice_index p 0 ≡ slice_index q 0) × (slice_index p 1 ≡ slice_index q 1)
+    two = same_address p q xp xq a
+
+    later : (j : ℕ) → j < 40 → get_or p (j + 2) 0 ≡ get_or q (j + 2) 0
+    later j l =
+        odd_same (get_or p (j + 2) 0) (get_or q (j + 2) 0) (wp.bytes (j + 2)) (wq.bytes (j + 2))
+        (op j l) (oq j l)
+        (grind (arith, nat_tests, code_of_column p j, code_of_column q j))
+
+    at : (k : ℕ) → k < 42 → get_or p k 0 ≡ get_or q k 0
+    at zero l = two.0
+    at (suc zero) l = two.1
+    at (suc (suc j)) l =
+        let s : j + 2 ≡ suc (suc j) = omega arith in
+        subst (λ n. get_or p n 0 ≡ get_or q n 0) s (later j (omega arith))

@@ -1,0 +1,24 @@
+-- The end before a frame of the list: what stood broken there, and how many frames of the day come
+-- after it.
+use Rattle.std.proofs.Common.{◌≡◌, ℕ, zero, suc, ◌+◌, ◌-◌, ◌<◌, refl, arith}
+use Rattle.sub_rules.specs.Events.{end_before, gap_length, latest, standing_at, standing_before}
+use Rattle.sub_rules.specs.FrameRules.{Task, frame_at}
+use Rattle.sub_rules.specs.Transmission.{Transmission}
+
+-- How many frames of the day lie before a frame of the list.
+pub gap_length-is :
+    (frames : Transmission) (n : ℕ)
+    → 0 < n
+    → gap_length frames n ≡ frame_at frames n - (latest frames n + 1)
+unfolding gap_length
+gap_length-is frames zero some = absurd (omega arith)
+gap_length-is frames (suc i) some = refl
+
+-- What stood broken at the end before.
+pub standing_before_is :
+    (g : Task) (frames : Transmission) (n f : ℕ)
+    → 0 < n
+    → standing_before g frames n f ≡ standing_at g frames n (end_before frames n f)
+unfolding standing_before
+standing_before_is g frames zero f some = absurd (omega arith)
+standing_before_is g frames (suc n) f some = refl

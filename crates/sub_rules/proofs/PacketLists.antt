@@ -1,0 +1,129 @@
+-- Facts of each packet of a list; the first header of a list that goes on: `first_header-push`,
+-- `first_header-append`.
+use Rattle.std.proofs.lemmas.Bool.Decides.{nat_tests}
+use Rattle.std.proofs.Common.{◌≡◌, ℕ, Bool, true, false, ◌||◌, List, [], ◌∷◌, ◌++◌, refl, ap}
+use Rattle.std.proofs.Common.{◌∙◌, arith, cond, find, nat_lt, length, take}
+use Rattle.std.proofs.Common.{get_or, ◌+◌, ◌<◌, Some, None, Option}
+use Rattle.std.specs.List.{AllByRecursion, list_any}
+use Rattle.std.proofs.lemmas.Bool.{or_parts, eq-eqb, both_ways}
+use Rattle.std.proofs.lemmas.List.{take_more, get_or-map, length-append, length-map}
+use Rattle.std.proofs.lemmas.List.Elements.{filter-append}
+use Rattle.ttx_packet.specs.PageId.{PageIdValue}
+use Rattle.ttx_page.specs.Span.{holds_header}
+use Rattle.ttx_pes.specs.DataUnit.{UnitValue}
+use Rattle.sub_rules.specs.PacketRules.{header_count, packets_of_units, first_header}
+use Rattle.ttx_page.specs.declared.packet_kind.PacketKind.{PacketKind}
+use Rattle.ttx_page.specs.declared.packet_kind.PacketKind.TheVariants.{Row}
+use Rattle.ttx_page.specs.PacketKind.{is_row, is_this_page, kind}
+use Rattle.std.specs.Option.{option_or}
+use Rattle.ttx_packet.specs.PageHeader.{header}
+
+module _ {X : Type 0} where
+  -- What holds of each item and of one more.
+  pub Each-push : (P : X → Type 0) (xs : List X) (x : X) → AllByRecursion P xs → P x
+      → AllByRecursion P (xs ++ x ∷ [])
+  Each-push P [] x h p = (p, tt)
+  Each-push P (y ∷ ys) x h p = (h.0, Each-push P ys x h.1 p)
+
+  -- What follows of each item.
+  pub Each-map : (P Q : X → Type 0) → ((x : X) → P x → Q x) → (xs : List X) → AllByRecursion P xs
+      → AllByRecursion Q xs
+  Each-map P Q f [] h = tt
+  Each-map P Q f (y ∷ ys) h = (f y h.0, Each-map P Q f ys h.1)
+
+  -- What follows of each item from two facts.
+  pub Each-join : (P Q S : X → Type 0) → ((x : X) → P x → Q x → S x) → (xs : List X)
+      → AllByRecursion P xs → AllByRecursion Q xs → AllByRecursion S xs
+  Each-join P Q S f [] h k = tt
+  Each-join P Q S f (y ∷ ys) h k = (f y h.0 k.0, Each-join P Q S f ys h.1 k.1)
+
+  -- Where no item passes a test, each fails it.
+  pub Each-none : (f : X → Bool) (xs : List X) → list_any f xs ≡ false
+      → AllByRecursion (λ x. f x ≡ false) xs
+  Each-none f [] e = tt
+  Each-none f (y ∷ ys) e = let p = or_parts (f y) (list_any f ys) e in (p.0, Each-none f ys p.1)
+
+  -- The first element that passes the test, with what holds of each.
+  pub Each-find : (f : X → Bool) (P : X → Type 0) (xs : List X) → list_any f xs ≡ true
+      → AllByRecursion P xs → (x : X) × (find f xs ≡ Some x) × (f x ≡ true) × P x
+  Each-find f P [] e h = cc
+  Each-find f P (y ∷ ys) e h = go (f y) refl e (λ d. Each-find f P ys d h.1)
+    where
+      go : (b : Bool) → f y ≡ b → (b || list_any f ys) ≡ true
+          → (list_any f ys ≡ true → (x : X) × (find f ys ≡ Some x) × (f x ≡ true) × P x)
+          → (x : X) × (cond b (Some y) (find f ys) ≡ Some x) × (f x ≡ true) × P x
+      go b p d ih = grind arith
+
+  -- An element that passes the test, with what holds of each.
+  pub Each-pick : (f : X → Bool) (P : X → Type 0) (xs : List X) → list_any f xs ≡ true
+      → AllByRecursion P xs → (x : X) × (f x ≡ true) × P x
+  Each-pick f P xs e h = let found = Each-find f P xs e h in (found.0, found.2, found.3)
+
+-- One that fails it is not.
+pub no_row : (row : ℕ) (k : PacketKind) → is_row row k ≡ false → k ≡ Row row → ⊥
+no_row row k e s = both_ways (is_row row k) e (ap (is_row row) s ∙ eq-eqb row row refl)
+
+-- ---- the packets of units
+
+-- The packet of a unit.
+pub unit_at :
+    (units : List UnitValue) (k : ℕ) (u : UnitValue)
+    → k < length units
+    → u ≡ get_or units k u
+    → get_or (packets_of_units units) k [] ≡ u.packet
+unit_at units k u l e = grind (arith, get_or-map)
+
+-- One unit more.
+pub units_more :
+    (units : List UnitValue) (k : ℕ) (u : UnitValue)
+    → k < length units
+    → u ≡ get_or units k u
+    → take (k + 1) (packets_of_units units) ≡ take k (packets_of_units units) ++ u.packet ∷ []
+units_more units k u l e = grind (arith, length-map, take_more, unit_at)
+
+-- The headers of the page in two lists, joined.
+pub header_count-append :
+    (page : PageIdValue) (ps qs : List (List ℕ))
+    → header_count page (ps ++ qs) ≡ header_count page ps + header_count page qs
+header_count-append page ps qs = grind (arith, nat_tests, filter-append, length-append)
+
+-- And one packet on.
+pub header_count-push :
+    (page : PageIdValue) (ps : List (List ℕ)) (p : List ℕ)
+    → header_count page (ps ++ p ∷ []) ≡ header_count page ps + cond (is_this_page (kind page p)) 1
+    0
+header_count-push page ps p =
+    grind (arith, header_count-append)
+
+-- There is a header of the page exactly where their count is not 0.
+pub holds-count :
+    (page : PageIdValue) (ps : List (List ℕ))
+    → holds_header (kind page) ps ≡ nat_lt 0 (header_count page ps)
+holds-count page [] = refl
+holds-count page (q ∷ qs) = let ih = holds-count page qs in grind (arith, nat_tests)
+
+-- ---- the first header
+
+-- The first of three options, in either way.
+or_assoc : {A : Type 0} (a b c : Option A)
+    → option_or a (option_or b c) ≡ option_or (option_or a b) c
+or_assoc a b c = grind arith
+
+-- With none nothing changes.
+or-none : {A : Type 0} (a : Option A) → option_or a None ≡ a
+or-none a = grind arith
+
+-- The first header of two lists, joined.
+pub first_header-append :
+    (xs ys : List (List ℕ))
+    → first_header (xs ++ ys) ≡ option_or (first_header xs) (first_header ys)
+first_header-append [] ys = refl
+first_header-append (x ∷ xs) ys =
+    ap (λ o. option_or (header x) o) (first_header-append xs ys)
+    ∙ or_assoc (header x) (first_header xs) (first_header ys)
+
+-- The first header of a list that goes on by one packet.
+pub first_header-push : (xs : List (List ℕ)) (x : List ℕ)
+    → first_header (xs ++ x ∷ []) ≡ option_or (first_header xs) (header x)
+first_header-push xs x =
+    first_header-append xs (x ∷ []) ∙ ap (option_or (first_header xs)) (or-none (header x))

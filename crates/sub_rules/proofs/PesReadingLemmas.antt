@@ -1,0 +1,207 @@
+-- One PES packet read, in terms of the value of the whole file: `reads_next`, `reads_end`; and put
+-- together, `reads_more`, `reads_ended`.
+use Rattle.std.proofs.lemmas.Bool.Decides.{nat_tests}
+use Rattle.std.proofs.Common.{◌≡◌, ◌≢◌, ℕ, zero, suc, ◌+◌, ◌<◌}
+use Rattle.std.proofs.Common.{◌≤◌, List, [], ◌∷◌, length, drop, get_or, MatchOption}
+use Rattle.std.proofs.Common.{Option, Some, None, Result, Ok, Err, refl, sym, ap, ◌∙◌, arith}
+use Rattle.std.specs.Prelude.{OnOk}
+use Rattle.std.proofs.lemmas.List.{get_or-map, get_or-drop, length-drop, drop-drop}
+use Rattle.ttx_pes.specs.Outcome.{PesOutcome, answer_then, outcome_after}
+use Rattle.ttx_pes.specs.PesPacket.{PesValue}
+use Rattle.ttx_pes.specs.Reading.{answer_at, rest_after, most_packets}
+use Rattle.ttx_pes.specs.declared.fault.PesFault.{PesFault}
+use Rattle.ttx_pes.proofs.OutcomeLemmas.{outcome_after-next}
+use Rattle.sub_rules.specs.Sendings.{IsFrameOf, IsSentFrame}
+use Rattle.sub_rules.specs.FrameRules.{Unread}
+use Rattle.sub_rules.specs.PacketRules.{packets_of_units}
+use Rattle.stl_file.specs.TimeCode.{day}
+use Rattle.sub_plan.specs.FrameTime.{pts_of}
+use Rattle.sub_rules.specs.PesFrames.{IsSentAs}
+use Rattle.sub_rules.specs.FrameRules.Unread.{BadPacket}
+use Rattle.sub_rules.specs.PesReading.{EndsReading, PesFileValue, ReadsAs, file_at, file_of}
+use Rattle.sub_rules.specs.PesReading.{file_with, frame_below, frame_of_pts}
+use Rattle.sub_rules.specs.Transmission.{SentFrame, Transmission}
+
+-- What holds in any case holds where there is a value. For `next_sending`.
+pub where_ok : {X E P : Type 0} (r : Result X E) → P → OnOk r P
+where_ok (Ok x) p = p
+where_ok (Err e) p = tt
+
+-- A frame of the list, from what stands after those before it.
+is_sent :
+    (frames : Transmission) (n : ℕ) (s : SentFrame) (others : Transmission)
+    → drop n frames ≡ s ∷ others
+    → IsSentFrame frames n s.frame s.packets
+is_sent frames n s others e =
+    let size : length (drop n frames) ≡ suc (length others) = ap length e in
+    let l : n < length frames = omega (arith, length-drop n frames) in
+    let at : get_or frames n s ≡ s = grind (arith, nat_tests, get_or-drop n frames 0 s) in
+    grind (arith, nat_tests, get_or-map)
+
+-- ---- the frame of a PTS
+
+-- What is told of the frames below a number: the frame that is found has the PTS, or none has.
+pub found_below :
+    (origin pts n : ℕ) (r : Option ℕ)
+    → frame_below origin pts n ≡ r
+    → MatchOption r ((f : ℕ) → f < n → pts_of origin f ≢ pts)
+    (λ f. (f < n) × (pts_of origin f ≡ pts))
+unfolding frame_below
+found_below origin pts zero (Some f) e = cc
+found_below origin pts zero None e = λ f l. absurd (omega arith)
+found_below origin pts (suc n) (Some f) e =
+    let ih = found_below origin pts n (Some f) in grind (arith, nat_tests)
+found_below origin pts (suc n) None e =
+    let ih = found_below origin pts n None in grind (arith, nat_tests)
+
+-- The frame of the day that has a PTS is found.
+frame_found :
+    (origin pts frame : ℕ)
+    → frame < day
+    → pts_of origin frame ≡ pts
+    → frame_of_pts origin pts ≡ Some frame
+frame_found origin pts frame in_day e =
+    go (frame_of_pts origin pts)
+    (found_below origin pts day (frame_of_pts origin pts) refl)
+  where
+    go :
+        (r : Option ℕ)
+        → MatchOption r ((f : ℕ) → f < day → pts_of origin f ≢ pts)
+        (λ f. (f < day) × (pts_of origin f ≡ pts))
+        → r ≡ Some frame
+    go r none = grind arith
+
+-- Where no frame of the day has a PTS, none is found.
+no_frame_found :
+    (origin pts : ℕ)
+    → ((frame : ℕ) → frame < day → pts_of origin frame ≢ pts)
+    → frame_of_pts origin pts ≡ None
+no_frame_found origin pts none =
+    let all = found_below origin pts day (frame_of_pts origin pts) refl in grind arith
+
+-- ---- the value of a file, one PES packet on
+
+-- What a reader of PES packets answers, and then a file.
+abbrev pub file_by : ℕ → Result (Option PesValue) PesFault → PesFileValue → PesFileValue
+file_by origin (Err f) rest = record { frames = []; unread = Some (BadPacket f) }
+file_by origin (Ok None) rest = record { frames = []; unread = None }
+file_by origin (Ok (Some v)) rest =
+    file_with (frame_of_pts origin v.pts) (packets_of_units v.units) rest
+
+-- The file of an answer and of what comes then.
+pub file_of-then :
+    (origin : ℕ) (answer : Result (Option PesValue) PesFault) (more : PesOutcome)
+    → file_of origin (answer_then answer more) ≡ file_by origin answer (file_of origin more)
+file_of-then origin answer more = grind (arith, nat_tests)
+
+-- A file is what its first PES packet is, and then the file of the others.
+pub file_at-next :
+    (origin given : ℕ) (bytes : List ℕ)
+    → given ≤ most_packets
+    → file_at origin given bytes
+    ≡ file_by origin (answer_at given bytes) (file_at origin (given + 1) (rest_after bytes))
+unfolding file_at
+file_at-next origin given bytes few =
+    ap (file_of origin) (outcome_after-next given bytes (answer_at given bytes) few refl)
+    ∙ file_of-then origin (answer_at given bytes) (outcome_after (given + 1) (rest_after bytes))
+
+-- What a file is of which no frame is read.
+ended :
+    (origin given : ℕ) (bytes : List ℕ) (u : Option Unread) (rest : PesFileValue)
+    → EndsReading origin given bytes u
+    → file_by origin (answer_at given bytes) rest ≡ record { frames = []; unread = u }
+ended origin given bytes u rest e = grind (arith, nat_tests, no_frame_found)
+
+-- Where no frame is read of the bytes, the file is read up to that.
+pub reads_ended :
+    (origin given : ℕ) (bytes : List ℕ) (u : Option Unread)
+    → given ≤ most_packets
+    → EndsReading origin given bytes u
+    → ReadsAs origin given bytes [] u
+reads_ended origin given bytes u few ends =
+    file_at-next origin given bytes few ∙ ended origin given bytes u _ ends
+
+-- A PES packet is read only after fewer than the most.
+pub reads-below :
+    (given : ℕ) (bytes : List ℕ) (v : PesValue)
+    → answer_at given bytes ≡ Ok (Some v)
+    → given ≢ most_packets
+unfolding answer_at
+reads-below given bytes v e at = grind arith
+
+-- A file that begins with a PES packet of a frame: that frame, and then the others.
+begins :
+    (origin given : ℕ) (bytes : List ℕ) (v : PesValue) (frame : ℕ)
+    → given ≤ most_packets
+    → answer_at given bytes ≡ Ok (Some v)
+    → frame < day
+    → pts_of origin frame ≡ v.pts
+    → file_at origin given bytes
+    ≡ file_with (Some frame) (packets_of_units v.units)
+    (file_at origin (given + 1) (rest_after bytes))
+begins origin given bytes v frame few is in_day pts =
+    let rest = file_at origin (given + 1) (rest_after bytes) in
+    file_at-next origin given bytes few
+    ∙ ap (λ (r : Result (Option PesValue) PesFault). file_by origin r rest) is
+    ∙ ap (λ (o : Option ℕ). file_with o (packets_of_units v.units) rest)
+    (frame_found origin v.pts frame in_day pts)
+
+-- A PES packet that is sent as a frame comes before the others.
+pub reads_more :
+    (origin given : ℕ) (bytes : List ℕ) (v : PesValue) (s : SentFrame) (frames : Transmission)
+    (unread : Option Unread)
+    → given ≤ most_packets
+    → answer_at given bytes ≡ Ok (Some v)
+    → IsSentAs origin v s
+    → ReadsAs origin (given + 1) (rest_after bytes) frames unread
+    → ReadsAs origin given bytes (s ∷ frames) unread
+reads_more origin given bytes v s frames unread few is sent reads =
+    begins origin given bytes v s.frame few is sent.in_day (sym sent.pts)
+    ∙ ap (λ rest. file_with (Some s.frame) (packets_of_units v.units) rest) reads
+    ∙ ap (λ ps. let f : PesFileValue = record {
+      frames = record { frame = s.frame; packets = ps } ∷ frames;
+      unread = unread;
+    } in f) (sym sent.packets)
+
+-- What is read of one PES packet.
+pub record ReadsNext
+    (origin n : ℕ) (bytes : List ℕ) (frames : Transmission) (unread : Option Unread)
+    (v : PesValue) (frame : ℕ)
+    : Type 0 where
+  pub sent : IsSentFrame frames n frame (packets_of_units v.units)
+  pub left : ReadsAs origin (n + 1) (rest_after bytes) (drop (n + 1) frames) unread
+
+-- A PES packet with a frame is the next frame of the list.
+pub reads_next :
+    (origin n : ℕ) (bytes : List ℕ) (frames : Transmission) (unread : Option Unread) (v : PesValue)
+    (frame : ℕ)
+    → n ≤ most_packets
+    → ReadsAs origin n bytes (drop n frames) unread
+    → answer_at n bytes ≡ Ok (Some v)
+    → IsFrameOf origin v.pts frame
+    → ReadsNext origin n bytes frames unread v frame
+reads_next origin n bytes frames unread v frame few reads is of =
+    let rest = file_at origin (n + 1) (rest_after bytes) in
+    let s : SentFrame = record { frame = frame; packets = packets_of_units v.units } in
+    let whole = sym reads ∙ begins origin n bytes v frame few is of.in_day of.is in
+    let all : drop n frames ≡ s ∷ rest.frames = ap (λ (f : PesFileValue). f.frames) whole in
+    let same : unread ≡ rest.unread = ap (λ (f : PesFileValue). f.unread) whole in
+    let others : drop (n + 1) frames ≡ rest.frames =
+    sym (drop-drop 1 n frames) ∙ ap (drop 1) all in
+    record {
+      sent = is_sent frames n s rest.frames all;
+      left = grind arith;
+    }
+
+-- Where no frame is read of the bytes, the list is at its end.
+pub reads_end :
+    (origin n : ℕ) (bytes : List ℕ) (frames : Transmission) (unread u : Option Unread)
+    → n ≤ most_packets
+    → ReadsAs origin n bytes (drop n frames) unread
+    → EndsReading origin n bytes u
+    → (length frames ≤ n) × (unread ≡ u)
+reads_end origin n bytes frames unread u few reads ends =
+    let whole = sym reads ∙ reads_ended origin n bytes u few ends in
+    let none : drop n frames ≡ [] = ap (λ (f : PesFileValue). f.frames) whole in
+    let size : length (drop n frames) ≡ 0 = ap length none in
+    (omega (arith, length-drop n frames), ap (λ (f : PesFileValue). f.unread) whole)

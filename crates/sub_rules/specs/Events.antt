@@ -1,0 +1,231 @@
+-- What is told of a transmission, one event after another (own): each rule that is broken, at its
+-- place; and of the rules of a frame's end, which may stay broken from one frame to the next, where
+-- they begin to be broken, and up to which frame they stood so.
+--
+-- The ends are looked at in this order: for each PES packet first the frames of the day that lie
+-- after every PES packet before it, and before its own frame, and then its own frame. At an end the
+-- PES packets up to there count: those before, for a frame without one; with its own, for its own.
+use Rattle.std.specs.Prelude.{ℕ, zero, suc, max, ◌+◌, ◌-◌, ◌&&◌, ◌==◌, Bool, true, false, not, List}
+use Rattle.std.specs.Prelude.{[], ◌∷◌, ◌++◌, map, length, take, Option, Some, None, is_some}
+use Rattle.std.specs.Prelude.{option_and_then, option_map, nat_le, nat_lt, if◌then◌else◌}
+use Rattle.std.specs.Prelude.{slice_index_or}
+use Rattle.std.specs.List.{list_any}
+use Rattle.ttx_packet.specs.OneBit.{first_below}
+use Rattle.ttx_packet.specs.PageId.{PageIdValue}
+use Rattle.ttx_page.specs.Page.{Rows, cell}
+use Rattle.ttx_page.specs.PacketKind.{kind}
+use Rattle.ttx_page.specs.Shown.{shown}
+use Rattle.ttx_page.specs.Span.{holds_header, is_open_after}
+use Rattle.sub_rules.specs.FirstBroken.{packet_fault, unread_fault}
+use Rattle.sub_rules.specs.FrameRules.{Task, Unread, end_frame, frame_at, packets_before}
+use Rattle.sub_rules.specs.FrameRules.{packets_of_frame}
+use Rattle.sub_rules.specs.PacketTests.{broken_rules}
+use Rattle.sub_rules.specs.Transmission.{SentFrame, Transmission}
+use Rattle.sub_rules.specs.declared.event.EndRule.{EndRule}
+use Rattle.sub_rules.specs.declared.event.EndRule.TheVariants as end
+use Rattle.sub_rules.specs.declared.event.Event.{Event}
+use Rattle.sub_rules.specs.declared.event.Event.TheVariants.{Ended, Told}
+use Rattle.sub_rules.specs.declared.fault.CheckFault.{CheckFault}
+use Rattle.sub_rules.specs.declared.fault.CheckFault.TheVariants as fault
+use Rattle.sub_rules.specs.declared.packet_rule.PacketRule.{PacketRule}
+use Rattle.sub_rules.specs.declared.packet_rule.Watched.{Watched}
+
+-- ---- what stands broken at an end
+
+-- What of the three rules of a frame's end stands broken: the page's content, at its first wrong
+-- cell; the repeat bound; the page's end, where complete pages are asked for.
+pub record Standing : Type 0 where
+  pub content : Option (ℕ × ℕ)
+  pub gap : Bool
+  pub incomplete : Bool
+
+-- Nothing stands broken.
+abbrev pub nothing_stands : Standing
+nothing_stands = record { content = None; gap = false; incomplete = false }
+
+-- The first cell that passes a test: by its row, 1 to 24, then by its column, 0 to 39.
+unfoldable pub first_cell : (ℕ → ℕ → Bool) → Option (ℕ × ℕ)
+first_cell test =
+    option_and_then
+    (λ above. option_map (λ column. (above + 1, column)) (first_below 40 (test (above + 1))))
+    (first_below 24 (λ above. is_some (first_below 40 (test (above + 1)))))
+
+-- The first cell that shows another code after these packets than a page has there.
+unfoldable pub wrong_after : PageIdValue → List (List ℕ) → Rows → Option (ℕ × ℕ)
+wrong_after page packets due =
+    first_cell (λ row column. not (shown page packets row column == cell due row column))
+
+-- The first cell that shows another code after n frames of the list than is due at frame f.
+abbrev pub wrong_cell : Task → Transmission → ℕ → ℕ → Option (ℕ × ℕ)
+wrong_cell g frames n f = wrong_after g.watched.page (packets_before frames n) (g.due f)
+
+-- A header of the page in this frame is one of the last `every` frames up to f, or of a later one.
+abbrev pub covers : Task → ℕ → SentFrame → Bool
+covers g f s = holds_header (kind g.watched.page) s.packets && nat_lt f (s.frame + g.every)
+
+-- As many frames as the repeat bound end with f, from the first frame on, and none of the first n
+-- frames of the list has a header of the page that is so late.
+unfoldable pub is_gap : Task → Transmission → ℕ → ℕ → Bool
+is_gap g frames n f =
+    nat_le (frame_at frames 0 + g.every) (f + 1) && not (list_any (covers g f) (take n frames))
+
+-- The page is open after the first n frames of the list, where complete pages are asked for.
+unfoldable pub is_incomplete : Task → Transmission → ℕ → Bool
+is_incomplete g frames n =
+    g.watched.complete && is_open_after (kind g.watched.page) (packets_before frames n)
+
+-- What stands broken at the end of frame f, after n frames of the list.
+unfoldable pub standing_at : Task → Transmission → ℕ → ℕ → Standing
+standing_at g frames n f = record {
+  content = wrong_cell g frames n f;
+  gap = is_gap g frames n f;
+  incomplete = is_incomplete g frames n;
+}
+
+-- ---- what is told at an end
+
+-- What is told of the first wrong cell, where one stood at the end before, of frame `before`, and
+-- one stands at the end of frame f.
+abbrev pub content_events : Option (ℕ × ℕ) → ℕ → Option (ℕ × ℕ) → ℕ → List Event
+content_events None before None f = []
+content_events None before (Some new) f = Told (fault.Content f new.0 new.1) ∷ []
+content_events (Some old) before None f = Ended end.Content before ∷ []
+content_events (Some old) before (Some new) f =
+    if (old.0 == new.0) && (old.1 == new.1)
+    then []
+    else Ended end.Content before ∷ Told (fault.Content f new.0 new.1) ∷ []
+
+-- The same of a rule without a place in the frame.
+abbrev pub rule_events : EndRule → CheckFault → Bool → ℕ → Bool → List Event
+rule_events rule told false before true = Told told ∷ []
+rule_events rule told true before false = Ended rule before ∷ []
+rule_events rule told false before false = []
+rule_events rule told true before true = []
+
+-- What is told at the end of frame f, where the one stood at the end before, of frame `before`, and
+-- the other stands now.
+unfoldable pub end_events : Standing → ℕ → Standing → ℕ → List Event
+end_events old before new f =
+    content_events old.content before new.content f
+    ++ rule_events end.Gap (fault.Gap f) old.gap before new.gap
+    ++ rule_events end.Incomplete (fault.Incomplete f) old.incomplete before new.incomplete
+
+-- ---- the ends in their order
+
+-- The greatest number of the first n frames of the list.
+unfoldable pub latest : Transmission → ℕ → ℕ
+latest frames zero = 0
+latest frames (suc n) = max (latest frames n) (frame_at frames n)
+
+-- The frame of the end before that of frame f, up to which i frames of the list count: the frame
+-- before, where that has no PES packet; else that of the PES packet before.
+abbrev pub end_before : Transmission → ℕ → ℕ → ℕ
+end_before frames i f =
+    if nat_lt (latest frames i + 1) f then f - 1 else frame_at frames (i - 1)
+
+-- What stood broken at that end; nothing before the first one.
+unfoldable pub standing_before : Task → Transmission → ℕ → ℕ → Standing
+standing_before g frames zero f = nothing_stands
+standing_before g frames (suc i) f = standing_at g frames (suc i) (end_before frames (suc i) f)
+
+-- What is told at the end of frame f, up to which i frames of the list counted at the end before,
+-- and now n.
+abbrev pub events_at_end : Task → Transmission → ℕ → ℕ → ℕ → List Event
+events_at_end g frames i n f =
+    end_events (standing_before g frames i f) (end_before frames i f) (standing_at g frames n f) f
+
+-- How many frames of the day lie after all of the first i frames of the list and before frame i.
+unfoldable pub gap_length : Transmission → ℕ → ℕ
+gap_length frames zero = 0
+gap_length frames (suc i) = frame_at frames (suc i) - (latest frames (suc i) + 1)
+
+-- What is told at the ends of the first n of these.
+unfoldable pub gap_events : Task → Transmission → ℕ → ℕ → List Event
+gap_events g frames i zero = []
+gap_events g frames i (suc n) =
+    gap_events g frames i n ++ events_at_end g frames i i (latest frames i + suc n)
+
+-- ---- a PES packet
+
+-- A subtitle is due before this frame.
+abbrev pub is_early : Option ℕ → ℕ → Bool
+is_early None frame = false
+is_early (Some first_in) frame = nat_lt first_in frame
+
+-- What is told of the number of frame i of the list: the first one is not after the first TCI, and
+-- each other one is after the one before.
+unfoldable pub order_events : Task → Transmission → ℕ → List Event
+order_events g frames zero =
+    if is_early g.first_in (frame_at frames 0)
+    then Told (fault.Early (frame_at frames 0)) ∷ []
+    else []
+order_events g frames (suc i) =
+    if nat_lt (frame_at frames i) (frame_at frames (suc i))
+    then []
+    else Told (fault.Order (suc i)) ∷ []
+
+-- What is told of packet k of a frame, sent after these packets: all rules that it breaks.
+unfoldable pub rules_told : Watched → ℕ → ℕ → List (List ℕ) → List ℕ → List Event
+rules_told w frame k before p =
+    map (λ (r : PacketRule). Told (packet_fault r frame k)) (broken_rules w before p)
+
+-- What is told of the first n packets of a frame, sent after these packets.
+unfoldable pub packet_events : Watched → ℕ → List (List ℕ) → List (List ℕ) → ℕ → List Event
+packet_events w frame before packets zero = []
+packet_events w frame before packets (suc n) =
+    packet_events w frame before packets n
+    ++ rules_told w frame n (before ++ take n packets) (slice_index_or packets n [])
+
+-- What is told of the first frame after its packets: it has a header of the page.
+unfoldable pub first_header_events : Task → Transmission → ℕ → List Event
+first_header_events g frames zero =
+    if holds_header (kind g.watched.page) (packets_of_frame frames 0)
+    then []
+    else Told (fault.NoFirstHeader (frame_at frames 0)) ∷ []
+first_header_events g frames (suc i) = []
+
+-- What is told of frame i of the list: of its number, of the frames of the day before it, of its
+-- packets, and at its end.
+unfoldable pub frame_events : Task → Transmission → ℕ → List Event
+frame_events g frames i =
+    order_events g frames i
+    ++ gap_events g frames i (gap_length frames i)
+    ++ packet_events g.watched (frame_at frames i) (packets_before frames i)
+    (packets_of_frame frames i) (length (packets_of_frame frames i))
+    ++ first_header_events g frames i
+    ++ events_at_end g frames i (suc i) (frame_at frames i)
+
+-- ---- the whole
+
+-- What is told of the first n frames of the list.
+unfoldable pub events_of_first : Task → Transmission → ℕ → List Event
+events_of_first g frames zero = []
+events_of_first g frames (suc n) = events_of_first g frames n ++ frame_events g frames n
+
+-- What stands broken at the last end has ended there.
+abbrev pub endings : Standing → ℕ → List Event
+endings last frame = end_events last frame nothing_stands frame
+
+-- What is told of what follows the list: of the bytes that are left; else that the last TCO is
+-- after the last frame.
+abbrev pub late_events : Option ℕ → ℕ → List Event
+late_events None frame = []
+late_events (Some last_out) frame =
+    if nat_le last_out frame then [] else Told (fault.Late frame) ∷ []
+
+-- The same, by what keeps the file from being read to its end.
+abbrev pub rest_events : Task → Transmission → Option Unread → List Event
+rest_events g frames (Some unread) = Told (unread_fault (length frames) (Some unread)) ∷ []
+rest_events g frames None = late_events g.last_out (end_frame frames)
+
+-- What is told after the last frame of the list; of a list without one, why it has none.
+unfoldable pub closing_events : Task → Transmission → ℕ → List Event
+closing_events g frames zero = Told (unread_fault 0 g.unread) ∷ []
+closing_events g frames (suc n) =
+    endings (standing_at g frames (suc n) (end_frame frames)) (end_frame frames)
+    ++ rest_events g frames g.unread
+
+-- All that is told of a transmission.
+unfoldable pub events : Task → Transmission → List Event
+events g frames =
+    events_of_first g frames (length frames) ++ closing_events g frames (length frames)

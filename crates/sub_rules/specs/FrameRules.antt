@@ -1,0 +1,95 @@
+-- What is asked at the end of each frame, in terms of the first frames of a transmission and of a
+-- task: what the transmission is checked against.
+use Rattle.std.specs.Prelude.{◌≡◌, ℕ, ◌+◌, ◌-◌, ◌<◌, ◌⊎◌, true, List, [], Option, map, take}
+use Rattle.std.specs.Prelude.{length, IsTrue, IsFalse}
+use Rattle.std.specs.Prelude.{slice_index, slice_index_or, flat_map}
+use Rattle.ttx_page.specs.Page.{Rows, cell}
+use Rattle.ttx_page.specs.PacketKind.{kind}
+use Rattle.ttx_page.specs.Shown.{shown}
+use Rattle.ttx_page.specs.Span.{holds_header, is_open_after}
+use Rattle.ttx_pes.specs.declared.fault.PesFault.{PesFault}
+use Rattle.stl_rows.specs.Programme.{ProgrammeValue, first_in, last_out}
+use Rattle.sub_plan.specs.Options.{OptionsValue}
+use Rattle.sub_plan.specs.Schedule.{due_in}
+use Rattle.sub_rules.specs.Transmission.{SentFrame, Transmission}
+use Rattle.sub_rules.specs.declared.packet_rule.Watched.{Watched}
+
+-- Why the bytes of a PES file are not read as frames to their end: what follows the frames begins
+-- with no PES packet, by this fault, or with one whose PTS is that of no frame of the day.
+pub data Unread : Type 0 where
+  BadPacket : PesFault → Unread
+  NoFrame : Unread
+
+-- What a transmission is checked against: the page and its national option, the repeat bound, the
+-- page that is due at each frame, the first TCI and the last TCO; and what keeps the PES file from
+-- being read to its end, if anything does.
+pub record Task : Type 0 where
+  pub watched : Watched
+  pub every : ℕ
+  pub due : ℕ → Rows
+  pub first_in : Option ℕ
+  pub last_out : Option ℕ
+  pub unread : Option Unread
+
+-- The page and the national option that a programme is watched with, and whether complete pages
+-- are asked for.
+abbrev pub watched_of : ProgrammeValue → OptionsValue → Watched
+watched_of programme options = record {
+  page = options.page;
+  national = programme.national;
+  complete = options.asks_complete;
+}
+
+-- The task of a programme, where this is watched with this repeat bound.
+abbrev pub task_with : ProgrammeValue → Watched → ℕ → Option Unread → Task
+task_with programme watched every unread = record {
+  watched = watched;
+  every = every;
+  due = due_in programme;
+  first_in = first_in programme.records;
+  last_out = last_out programme.records;
+  unread = unread;
+}
+
+-- The task of a programme and options.
+abbrev pub task_of : ProgrammeValue → OptionsValue → Option Unread → Task
+task_of programme options unread =
+    task_with programme (watched_of programme options) options.every unread
+
+-- The number of frame i of the list, from 0.
+abbrev pub frame_at : Transmission → ℕ → ℕ
+frame_at frames i = slice_index (map (λ (s : SentFrame). s.frame) frames) i
+
+-- Its packets.
+abbrev pub packets_of_frame : Transmission → ℕ → List (List ℕ)
+packets_of_frame frames i = slice_index_or (map (λ (s : SentFrame). s.packets) frames) i []
+
+-- The packets of the first n frames of the list, joined.
+abbrev pub packets_before : Transmission → ℕ → List (List ℕ)
+packets_before frames n = flat_map (λ (s : SentFrame). s.packets) (take n frames)
+
+-- The number of the last frame.
+abbrev pub end_frame : Transmission → ℕ
+end_frame frames = frame_at frames (length frames - 1)
+
+-- A header of the page is among the packets of frame i of the list.
+abbrev pub HasHeader : Task → Transmission → ℕ → Type 0
+HasHeader g frames i = holds_header (kind g.watched.page) (packets_of_frame frames i) ≡ true
+
+-- After n frames of the list, at the end of frame f of the day, the cell shows what is due.
+abbrev pub ShowsDue : Task → Transmission → ℕ → ℕ → ℕ → ℕ → Type 0
+ShowsDue g frames n f row column =
+    shown g.watched.page (packets_before frames n) row column ≡ cell (g.due f) row column
+
+-- Of the frames of the day that end with f, as many as the repeat bound, one is before the first
+-- frame of the list, or has a header of the page.
+abbrev pub IsCovered : Task → Transmission → ℕ → ℕ → Type 0
+IsCovered g frames n f =
+    (f + 1 < frame_at frames 0 + g.every)
+    ⊎ ((j : ℕ) × (j < n) × (f < frame_at frames j + g.every) × HasHeader g frames j)
+
+-- Where complete pages are asked for, the page is not open after n frames of the list.
+abbrev pub IsEnded : Task → Transmission → ℕ → Type 0
+IsEnded g frames n =
+    IsTrue g.watched.complete
+    → IsFalse (is_open_after (kind g.watched.page) (packets_before frames n))

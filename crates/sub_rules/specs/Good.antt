@@ -1,0 +1,121 @@
+-- The seven rules of a good transmission. All are read on the packets as they are sent.
+use Rattle.std.specs.Prelude.{◌≡◌, ℕ, ◌+◌, ◌<◌, ◌≤◌, List, Some, length, take}
+use Rattle.std.specs.Prelude.{All, IfSome, IsTrue, IsFalse}
+use Rattle.ttx_packet.specs.declared.header.Header.{Header}
+use Rattle.ttx_packet.specs.PacketAddress.{PacketAddress, address}
+use Rattle.ttx_packet.specs.PageHeader.{header, HasExactWords}
+use Rattle.ttx_packet.specs.PageHeader.{c4, c5, c6, c7, c10, c11, c12, c13, c14}
+use Rattle.ttx_packet.specs.PageId.{PageIdValue}
+use Rattle.ttx_page.specs.declared.packet_kind.PacketKind.TheVariants.{ThisPage}
+use Rattle.ttx_page.specs.Noise.{IsOddRow, IsSameRow}
+use Rattle.ttx_page.specs.Page.{cell, IsCell}
+use Rattle.ttx_page.specs.PacketKind.{kind}
+use Rattle.ttx_page.specs.Shown.{shown}
+use Rattle.ttx_page.specs.Span.{holds_header, span}
+use Rattle.stl_rows.specs.declared.national.National.{National}
+use Rattle.stl_rows.specs.Programme.{ProgrammeValue, first_in, last_out}
+use Rattle.sub_plan.specs.Options.{OptionsValue}
+use Rattle.sub_plan.specs.Schedule.{due_in}
+use Rattle.sub_plan.specs.Sending.{has_c14}
+use Rattle.sub_rules.specs.Transmission.{Transmission, IsRising, EachPacket, first_frame}
+use Rattle.sub_rules.specs.Transmission.{last_frame, packets_of, on_air_until}
+
+-- Two packets are in one mode, parallel or serial: where both are page headers, they agree on C11,
+-- magazine serial.
+abbrev pub IsInOneMode : List ℕ → List ℕ → Type 0
+IsInOneMode one other =
+    (h k : Header) → header one ≡ Some h → header other ≡ Some k → c11 h ≡ c11 k
+
+-- The control bits of a subtitle's header: the page is erased, C4; it is a subtitle, C6, and no
+-- newsflash, C5; the header row is suppressed, C7; display is not inhibited, C10; and C12 to C14
+-- name the national option. C8, update indicator, and C9, interrupted sequence, may be set or
+-- clear.
+pub record IsSubtitleHeader (national : National) (h : Header) : Type 0 where
+  pub erases : IsTrue (c4 h)
+  pub no_newsflash : IsFalse (c5 h)
+  pub subtitle : IsTrue (c6 h)
+  pub suppressed : IsTrue (c7 h)
+  pub displayed : IsFalse (c10 h)
+  pub option_1 : IsFalse (c12 h)
+  pub option_2 : IsFalse (c13 h)
+  pub option_3 : c14 h ≡ has_c14 national
+
+-- Where the packet is a header of the page, it is a subtitle's.
+abbrev pub IsControlled : National → PageIdValue → List ℕ → Type 0
+IsControlled national page packet =
+    (h : Header) → kind page packet ≡ ThisPage h → IsSubtitleHeader national h
+
+-- A packet X/25 to X/28 of the page's magazine, which would change more of the page than its rows.
+abbrev pub IsEnhancement : PageIdValue → List ℕ → Type 0
+IsEnhancement page packet =
+    (a : PacketAddress)
+    × (address packet ≡ Some a)
+    × (a.magazine ≡ page.magazine)
+    × (25 ≤ a.packet_number)
+    × (a.packet_number ≤ 28)
+
+-- A clean span: each row has 40 bytes of odd parity, two packets of one row are equal, and no
+-- packet X/25 to X/28 is among them.
+pub record IsCleanSpan (page : PageIdValue) (packets : List (List ℕ)) : Type 0 where
+  pub odd : All (IsOddRow page) packets
+  pub same : All (λ first. All (IsSameRow page first) packets) packets
+  pub plain : All (λ packet. IsEnhancement page packet → ⊥) packets
+
+-- Wherever one stops to listen, in a frame or at its end, the span is clean.
+abbrev pub HasCleanSpans : PageIdValue → Transmission → Type 0
+HasCleanSpans page transmission =
+    (f n : ℕ)
+    → f ≤ last_frame transmission
+    → IsCleanSpan page (span (kind page) (take n (on_air_until transmission f)))
+
+-- The frame holds a header of the page.
+abbrev pub HoldsHeader : PageIdValue → Transmission → ℕ → Type 0
+HoldsHeader page transmission f = IsTrue (holds_header (kind page) (packets_of transmission f))
+
+-- Of `every` frames of the day that follow one another, from the first frame of the transmission to
+-- the last, one at least holds a header of the page.
+abbrev pub Repeats : PageIdValue → ℕ → Transmission → Type 0
+Repeats page every transmission =
+    (start : ℕ)
+    → first_frame transmission ≤ start
+    → start + every ≤ last_frame transmission + 1
+    → (f : ℕ) × (start ≤ f) × (f < start + every) × HoldsHeader page transmission f
+
+-- At the end of each frame from the first to the last, with packets of its own or not, the page
+-- that is due is shown.
+abbrev pub ShowsDuePages : ProgrammeValue → PageIdValue → Transmission → Type 0
+ShowsDuePages programme page transmission =
+    (f row column : ℕ)
+    → first_frame transmission ≤ f
+    → f ≤ last_frame transmission
+    → IsCell row column
+    → shown page (on_air_until transmission f) row column ≡ cell (due_in programme f) row column
+
+-- A good transmission of a programme on a page, with a repeat bound. The origin of the options is
+-- not looked at: it tells how PES packets are a transmission.
+pub record Good
+    (programme : ProgrammeValue) (transmission : Transmission) (options : OptionsValue)
+    : Type 0 where
+  -- 1. There is a frame, the frames rise, packets are 42 bytes, and the frames reach from the first
+  -- TCI to the last TCO.
+  pub not_empty : 0 < length transmission
+  pub rising : IsRising transmission
+  pub whole : EachPacket (λ packet. length packet ≡ 42) transmission
+  pub starts : IfSome (first_in programme.records) (λ tci. first_frame transmission ≤ tci)
+  pub lasts : IfSome (last_out programme.records) (λ tco. tco ≤ last_frame transmission)
+  -- 2. The address bytes of each packet, and all eight coded bytes of each packet X/0, are code
+  -- words with no bit wrong.
+  pub exact : EachPacket HasExactWords transmission
+  -- 3. All page headers, of any page, agree on C11.
+  pub serial : EachPacket (λ one. EachPacket (IsInOneMode one) transmission) transmission
+  -- 4. Each header of the page is a subtitle's, of the programme's national option.
+  pub control : EachPacket (IsControlled programme.national options.page) transmission
+  -- 5. While the page is open each row has odd parity and stays as it is, and no packet X/25 to
+  -- X/28 of its magazine comes.
+  pub spans : HasCleanSpans options.page transmission
+  -- 6. The first frame holds a header of the page, and so does one of each `every` that follow one
+  -- another.
+  pub opens : HoldsHeader options.page transmission (first_frame transmission)
+  pub repeats : Repeats options.page options.every transmission
+  -- 7. At each frame's end the page that is due is shown.
+  pub content : ShowsDuePages programme options.page transmission

@@ -1,0 +1,13 @@
+pub mod Events
+pub mod Fault
+pub mod FirstBroken
+pub mod FrameRules
+pub mod Good
+pub mod PacketRules
+pub mod PacketTests
+pub mod PesFrames
+pub mod PesReading
+pub mod Rules
+pub mod Sendings
+pub mod Transmission
+pub mod WrongContent

@@ -1,0 +1,102 @@
+-- What is asked of a packet that is sent after others. Each rule looks back over the whole list of
+-- the packets before it, to the first packet of the transmission.
+use Rattle.std.specs.Prelude.{◌≡◌, ℕ, ◌<◌, List, [], ◌∷◌, ◌++◌, take, length, slice_index_or}
+use Rattle.std.specs.Prelude.{Option, Some, None, IsTrue, filter, map, drop}
+use Rattle.std.specs.List.{AllByRecursion}
+use Rattle.std.specs.Option.{option_or}
+use Rattle.ttx_packet.specs.PacketAddress.{PacketAddress, address, HasExactAddress}
+use Rattle.ttx_packet.specs.PageHeader.{c11, header, HasExactHeader}
+use Rattle.ttx_packet.specs.Parity.{code_of}
+use Rattle.ttx_packet.specs.RowPacket.{HasOddText}
+use Rattle.ttx_packet.specs.declared.header.Header.{Header}
+use Rattle.ttx_page.specs.declared.packet_kind.PacketKind.TheVariants.{ThisPage, Row}
+use Rattle.ttx_packet.specs.PageId.{PageIdValue}
+use Rattle.ttx_page.specs.PacketKind.{is_this_page, kind}
+use Rattle.ttx_page.specs.Span.{is_open_after, span}
+use Rattle.ttx_pes.specs.DataUnit.{UnitValue}
+use Rattle.sub_rules.specs.Good.{IsSubtitleHeader, IsEnhancement}
+use Rattle.sub_rules.specs.declared.packet_rule.PacketRule.{PacketRule}
+use Rattle.sub_rules.specs.declared.packet_rule.PacketRule.TheVariants as rule
+use Rattle.sub_rules.specs.declared.packet_rule.Watched.{Watched}
+
+-- The first page header of a list of packets, of any page.
+abbrev pub first_header : List (List ℕ) → Option Header
+first_header [] = None
+first_header (p ∷ ps) = option_or (header p) (first_header ps)
+
+-- The 40 codes of a packet's text.
+abbrev pub codes_of : List ℕ → List ℕ
+codes_of packet = map code_of (drop 2 packet)
+
+-- The packets that Teletext units carry.
+abbrev pub packets_of_units : List UnitValue → List (List ℕ)
+packets_of_units units = map (λ (u : UnitValue). u.packet) units
+
+-- How many of these packets are headers of the page.
+abbrev pub header_count : PageIdValue → List (List ℕ) → ℕ
+header_count page packets = length (filter (λ p. is_this_page (kind page p)) packets)
+
+-- The packet p, sent after these packets, keeps the rule.
+abbrev pub KeepsRule : PacketRule → Watched → List (List ℕ) → List ℕ → Type 0
+-- Both address bytes are code words, with no bit wrong.
+KeepsRule rule.Address w before p = HasExactAddress p
+-- In a packet X/0 the eight coded bytes are code words, with no bit wrong.
+KeepsRule rule.HeaderCode w before p =
+    (a : PacketAddress) → address p ≡ Some a → a.packet_number ≡ 0 → HasExactHeader p
+-- A page header, of any page, has the C11 of the first one.
+KeepsRule rule.Mode w before p =
+    (h first : Header)
+    → header p ≡ Some h
+    → first_header before ≡ Some first
+    → c11 h ≡ c11 first
+-- A header of the page is a subtitle's.
+KeepsRule rule.Control w before p =
+    (h : Header) → kind w.page p ≡ ThisPage h → IsSubtitleHeader w.national h
+-- While the page is open a row of it has 40 bytes of odd parity.
+KeepsRule rule.Parity w before p =
+    IsTrue (is_open_after (kind w.page) before)
+    → (row : ℕ)
+    → kind w.page p ≡ Row row
+    → HasOddText p
+-- While the page is open a row equals each packet of its row since the last header of the page.
+KeepsRule rule.RowChanged w before p =
+    IsTrue (is_open_after (kind w.page) before)
+    → (row : ℕ)
+    → kind w.page p ≡ Row row
+    → AllByRecursion (λ q. kind w.page q ≡ Row row → q ≡ p) (span (kind w.page) before)
+-- While the page is open no packet X/25 to X/28 of its magazine comes.
+KeepsRule rule.Enhancement w before p =
+    IsTrue (is_open_after (kind w.page) before) → IsEnhancement w.page p → ⊥
+
+-- It keeps all seven.
+abbrev pub IsClean : Watched → List (List ℕ) → List ℕ → Type 0
+IsClean w before p = (f : PacketRule) → KeepsRule f w before p
+
+-- The place of a rule in the order in which rules are told of one packet.
+abbrev pub rank : PacketRule → ℕ
+rank rule.Address = 0
+rank rule.HeaderCode = 1
+rank rule.Mode = 2
+rank rule.Control = 3
+rank rule.Parity = 4
+rank rule.RowChanged = 5
+rank rule.Enhancement = 6
+
+-- It breaks this rule, and none of a lower rank.
+pub record BreaksFirst (w : Watched) (before : List (List ℕ)) (p : List ℕ) (f : PacketRule)
+    : Type 0 where
+  pub broken : KeepsRule f w before p → ⊥
+  pub earlier : (g : PacketRule) → rank g < rank f → KeepsRule g w before p
+
+-- The first n packets of a frame keep all rules, sent after these.
+abbrev pub AreClean : Watched → List (List ℕ) → List (List ℕ) → ℕ → Type 0
+AreClean w before packets n =
+    (k : ℕ) → k < n → IsClean w (before ++ take k packets) (slice_index_or packets k [])
+
+-- Packet k of a frame breaks the rule, none of a lower rank, and the packets before it keep all.
+pub record BreaksFirstAt
+    (w : Watched) (before packets : List (List ℕ)) (k : ℕ) (f : PacketRule)
+    : Type 0 where
+  pub exists : k < length packets
+  pub clean : AreClean w before packets k
+  pub first : BreaksFirst w (before ++ take k packets) (slice_index_or packets k []) f

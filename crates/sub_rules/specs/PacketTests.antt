@@ -1,0 +1,114 @@
+-- The rules of a packet as tests, whatever was sent before: a packet may break several, and is
+-- tested also where packets before it broke some. The page header and the address are read with
+-- one wrong bit in a byte corrected.
+use Rattle.std.specs.Prelude.{ℕ, zero, suc, ◌+◌, ◌&&◌, ◌||◌, ◌==◌, Bool, true, false, not, List, []}
+use Rattle.std.specs.Prelude.{◌∷◌, Option, Some, None, option_map, is_some, nat_le, slice_index}
+use Rattle.std.specs.List.{filter, find}
+use Rattle.ttx_packet.specs.Hamming84.{code_word}
+use Rattle.ttx_packet.specs.PacketAddress.{PacketAddress, address}
+use Rattle.ttx_packet.specs.PageHeader.{c4, c5, c6, c7, c10, c11, c12, c13, c14, header}
+use Rattle.ttx_packet.specs.PageId.{PageIdValue}
+use Rattle.ttx_packet.specs.RowPacket.{first_even_byte}
+use Rattle.ttx_packet.specs.declared.header.Header.{Header}
+use Rattle.ttx_page.specs.Differing.{row_differing}
+use Rattle.ttx_page.specs.PacketKind.{is_row, is_some_row, kind}
+use Rattle.ttx_page.specs.Span.{is_open_after, span}
+use Rattle.ttx_page.specs.declared.packet_kind.PacketKind.{PacketKind}
+use Rattle.ttx_page.specs.declared.packet_kind.PacketKind.TheVariants.{EndsPage, Other, Row}
+use Rattle.ttx_page.specs.declared.packet_kind.PacketKind.TheVariants.{ThisPage}
+use Rattle.stl_rows.specs.declared.national.National.{National}
+use Rattle.sub_plan.specs.Sending.{has_c14}
+use Rattle.sub_rules.specs.PacketRules.{codes_of, first_header}
+use Rattle.sub_rules.specs.declared.packet_rule.PacketRule.{PacketRule}
+use Rattle.sub_rules.specs.declared.packet_rule.PacketRule.TheVariants as rule
+use Rattle.sub_rules.specs.declared.packet_rule.Watched.{Watched}
+
+-- A byte is one of the first n code words.
+unfoldable pub is_word_below : ℕ → ℕ → Bool
+is_word_below b zero = false
+is_word_below b (suc n) = b == code_word n || is_word_below b n
+
+-- Each byte of a packet from a place on, as many as these, is a code word, with no bit wrong (EN
+-- 300 706, 8.2).
+unfoldable pub are_code_words : ℕ → ℕ → List ℕ → Bool
+are_code_words from zero packet = true
+are_code_words from (suc n) packet =
+    is_word_below (slice_index packet (from + n)) 16 && are_code_words from n packet
+
+-- The address is that of a packet X/0.
+abbrev pub is_of_header : Option PacketAddress → Bool
+is_of_header None = false
+is_of_header (Some a) = a.packet_number == 0
+
+-- C11 of a header, where there is one, is another than that of the first one.
+abbrev pub is_other_mode : Option Bool → Option Bool → Bool
+is_other_mode (Some true) (Some false) = true
+is_other_mode (Some false) (Some true) = true
+is_other_mode _ _ = false
+
+-- Two bits are the same.
+abbrev pub is_same_bit : Bool → Bool → Bool
+is_same_bit true b = b
+is_same_bit false b = not b
+
+-- The control bits are a subtitle's, of the national option.
+abbrev pub is_subtitle_header : National → Header → Bool
+is_subtitle_header national h =
+    c4 h && not (c5 h) && c6 h && c7 h && not (c10 h) && not (c12 h) && not (c13 h)
+    && is_same_bit (c14 h) (has_c14 national)
+
+-- A header of the page, and no subtitle's.
+abbrev pub is_wrong_header : National → PacketKind → Bool
+is_wrong_header national (ThisPage h) = not (is_subtitle_header national h)
+is_wrong_header national EndsPage = false
+is_wrong_header national (Row row) = false
+is_wrong_header national Other = false
+
+-- The codes of a packet, where there is one, are others than these.
+abbrev pub is_other_text : Option (List ℕ) → List ℕ → Bool
+is_other_text None codes = false
+is_other_text (Some q) codes = not (row_differing (codes_of q) codes == 0)
+
+-- The first packet of a row among these.
+abbrev pub first_of_row : PageIdValue → List (List ℕ) → ℕ → Option (List ℕ)
+first_of_row page packets row = find (λ q. is_row row (kind page q)) packets
+
+-- The codes of a row are others than those of the first packet of its row among these.
+abbrev pub is_other_row : PageIdValue → List (List ℕ) → List ℕ → PacketKind → Bool
+is_other_row page packets p (Row row) = is_other_text (first_of_row page packets row) (codes_of p)
+is_other_row page packets p (ThisPage h) = false
+is_other_row page packets p EndsPage = false
+is_other_row page packets p Other = false
+
+-- The address is that of a packet X/25 to X/28 of the page's magazine.
+abbrev pub is_of_enhancement : PageIdValue → Option PacketAddress → Bool
+is_of_enhancement page None = false
+is_of_enhancement page (Some a) =
+    a.magazine == page.magazine && nat_le 25 a.packet_number && nat_le a.packet_number 28
+
+-- The packet p, sent after these packets, breaks the rule.
+unfoldable pub breaks : PacketRule → Watched → List (List ℕ) → List ℕ → Bool
+breaks rule.Address w before p = not (are_code_words 0 2 p)
+breaks rule.HeaderCode w before p = is_of_header (address p) && not (are_code_words 2 8 p)
+breaks rule.Mode w before p =
+    is_other_mode (option_map (λ (h : Header). c11 h) (first_header before))
+    (option_map (λ (h : Header). c11 h) (header p))
+breaks rule.Control w before p = is_wrong_header w.national (kind w.page p)
+breaks rule.Parity w before p =
+    is_open_after (kind w.page) before && is_some_row (kind w.page p)
+    && is_some (first_even_byte p)
+breaks rule.RowChanged w before p =
+    is_open_after (kind w.page) before
+    && is_other_row w.page (span (kind w.page) before) p (kind w.page p)
+breaks rule.Enhancement w before p =
+    is_open_after (kind w.page) before && is_of_enhancement w.page (address p)
+
+-- The rules in the order in which they are told of one packet.
+unfoldable pub packet_rules : List PacketRule
+packet_rules =
+    rule.Address ∷ rule.HeaderCode ∷ rule.Mode ∷ rule.Control ∷ rule.Parity ∷ rule.RowChanged
+    ∷ rule.Enhancement ∷ []
+
+-- Those of them that the packet breaks, sent after these packets.
+unfoldable pub broken_rules : Watched → List (List ℕ) → List ℕ → List PacketRule
+broken_rules w before p = filter (λ r. breaks r w before p) packet_rules

@@ -1,0 +1,37 @@
+-- How PES packets are a transmission: by the PTS of frame 0, each PTS is that of a frame of the day
+-- (EN 300 472, PTS: 33 bits at 90 kHz).
+use Rattle.std.specs.Prelude.{◌≡◌, ℕ, ◌<◌, ◌≤◌, List, length, map}
+use Rattle.std.specs.List.{AllZip, concat}
+use Rattle.ttx_pes.specs.DataUnit.{UnitValue}
+use Rattle.ttx_pes.specs.PesPacket.{IsPesPacket, PesValue}
+use Rattle.ttx_pes.specs.Reading.{most_packets}
+use Rattle.stl_file.specs.TimeCode.{day}
+use Rattle.sub_plan.specs.FrameTime.{pts_of}
+use Rattle.sub_rules.specs.Transmission.{SentFrame, Transmission, IsRising}
+
+-- A PES packet is sent as a frame: its PTS is that of the frame, which is a frame of the day, and
+-- its Teletext units carry the frame's packets, in order. Stuffing and other data units carry none.
+pub record IsSentAs (origin : ℕ) (pes : PesValue) (s : SentFrame) : Type 0 where
+  pub in_day : s.frame < day
+  pub pts : pes.pts ≡ pts_of origin s.frame
+  pub packets : s.packets ≡ map (λ (u : UnitValue). u.packet) pes.units
+
+-- PES packets, read with an origin, are a transmission: one frame for each, and the frames rise.
+pub record AreSentAs (origin : ℕ) (pes : List PesValue) (frames : Transmission) : Type 0 where
+  pub each : AllZip (IsSentAs origin) pes frames
+  pub rising : IsRising frames
+
+-- A PES file of these values: at most as many PES packets as a day has frames, one for each value,
+-- joined.
+pub record IsPesFile (values : List PesValue) (bytes : List ℕ) : Type 0 where
+  pub packets : List (List ℕ)
+  pub each : AllZip IsPesPacket values packets
+  pub few : length packets ≤ most_packets
+  pub joined : bytes ≡ concat packets
+
+-- The bytes are a PES file that carries the transmission: PES packets of these values, joined, that
+-- are sent as its frames.
+pub record Carries (origin : ℕ) (bytes : List ℕ) (frames : Transmission) : Type 0 where
+  pub values : List PesValue
+  pub file : IsPesFile values bytes
+  pub sent : AreSentAs origin values frames

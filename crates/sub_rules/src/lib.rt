@@ -1,0 +1,25 @@
+//! What is asked of a transmission, and what is told where it is broken.
+//!
+//! Stands on `ttx_page` for what packets show, on `stl_rows` for the due page, on `ttx_pes` for PES
+//! packets, and on `sub_plan` for the options. `specs/` says what a transmission is and how the
+//! bytes of a PES file are read as one, what a good one is, `Good`, which place is the first that
+//! is broken, `FirstBroken`, and all that is told of one that is not good, `Events`. The checker,
+//! the receiver that hears a file and the laws stand on it.
+//!
+//! ```text
+//! next_sending(&mut reader, &mut source, &options, 0)?; // Some(Sending { frame: 250, .. })
+//! CheckFault::Gap { frame: 250 }.code(); // 73 Gap
+//! ```
+#![tactic(auto)]
+
+mod event;
+mod fault;
+mod fault_place;
+mod packet_rule;
+mod sending;
+
+pub use event::{EndRule, Event};
+pub use fault::CheckFault;
+pub use fault_place::FaultPlace;
+pub use packet_rule::{PacketRule, Watched};
+pub use sending::{Sending, next_sending, units_of};
