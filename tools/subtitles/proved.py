@@ -106,17 +106,23 @@ def known_lines(version):
     return found
 
 
-def keep(of_sources, with_lines):
-    """Puts into out/ the program that rt built, of these sources; with the lines that are known."""
-    version, digest = toolchain(), digest_of(RAW)
-    old = proved_in(OUT)
-    if not with_lines and (old.sources, old.program) == (of_sources, digest):
-        return  # the gate has left the same, and the lines
-    known = known_lines(version) if with_lines else {}
-    crates = {name: (it, known[name, it]) for name, it in crate_sums().items()
-              if (name, it) in known}
+def with_lines(proved):
+    """The same with all lines that are known, for the sources as they stand."""
+    known = known_lines(proved.toolchain)
+    return proved._replace(crates={name: (digest, known[name, digest])
+                                   for name, digest in crate_sums().items()
+                                   if (name, digest) in known})
+
+
+def keep(of_sources, is_gate):
+    """Puts into out/ the program that rt built of these sources; of the gate's with its lines."""
+    proved, old = Proved(of_sources, digest_of(RAW), toolchain(), {}), proved_in(OUT)
+    if is_gate:
+        proved = with_lines(proved)
+    elif (old.sources, old.program) == (proved.sources, proved.program):
+        return  # the gate has left the same, and its lines
     copy(RAW, os.path.join(OUT, "subttx"), 0o755)
-    write(os.path.join(OUT, "PROVED"), text_of(Proved(of_sources, digest, version, crates)))
+    write(os.path.join(OUT, "PROVED"), text_of(proved))
 
 
 def lacking(proved):

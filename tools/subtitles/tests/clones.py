@@ -204,8 +204,6 @@ def release_takes_what_was_proved(case):
     case.test("and refused", done.status == 2 and first in done.told[0], done)
     clone.write("log", a_log(clone, kept=others))
     clone.release("--note", clone.path("log"))
-    done = clone.release("--keep")
-    case.test("with the other's line", (done.status, done.out, done.told) == (0, b"", []), done)
     done = clone.release("--compare")
     case.test("no dist/ yet", done.status == 0 and done.out.endswith(NEITHER), done)
     done = clone.release()
