@@ -62,5 +62,5 @@ _subttx_tool() {
 }
 
 complete -F _subttx subttx
-complete -F _subttx_tool subttx-cut subttx-origin subttx-pes2ts subttx-preview subttx-qc \
-    subttx-text subttx-ts2pes
+complete -F _subttx_tool subttx-cut subttx-origin subttx-part subttx-pes2ts subttx-preview \
+    subttx-qc subttx-text subttx-ts2pes

@@ -10,8 +10,12 @@ joining    the PES packets of a PID, and what was lost of them
 listing    the PIDs with Teletext, and the pages of these
 extracting the PES packets of one PID, and in words what is missing
 multiplex  a transport stream with Teletext, written
+units      data units of a PES packet, found by their addresses
+cutting    the PES packets of some frames
+parting    the subtitles of some frames
 sent       the PTS at which the text of a page changes
 votes      the origin for which the edges of subtitles vote
+parts      the parts of a programme with breaks, each with its own origin
 words      words of a command line, and how a tool ends
 files      files that are read as they come, and written whole or not at all
 built      the program that ./subttx runs

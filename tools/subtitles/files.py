@@ -70,25 +70,33 @@ def whole_bytes(name: str) -> bytes:
 
 
 @contextlib.contextmanager
-def whole_file(path: str, inputs: Iterable[str]) -> Iterator[BinaryIO]:
+def whole_file(path: str, inputs: Iterable[str | None]) -> Iterator[BinaryIO]:
     """A file to write to, which takes the name `path` when all went well; else that is as it was.
 
     A device, which has no other name, is written to as it is, and so is standard output, `-`. None
     of the inputs may be `path`.
     """
     for one in inputs:
-        if os.path.exists(path) and os.path.exists(one) and os.path.samefile(path, one):
+        if one and os.path.exists(path) and os.path.exists(one) and os.path.samefile(path, one):
             raise Stop(f"{path} is an input too")
     if path in OWN_OUTPUT:
-        yield sys.stdout.buffer
-        sys.stdout.buffer.flush()
+        with own_output() as file:
+            yield file
     elif os.path.exists(path) and not stat.S_ISREG(os.stat(path).st_mode):
         with naming(path):
-            file: BinaryIO = open(path, "wb")
-        with written(file, path):
-            yield file
+            device = open(path, "wb")
+        with written(device, path):
+            yield device
     else:
         yield from replaced(path)
+
+
+@contextlib.contextmanager
+def own_output() -> Iterator[BinaryIO]:
+    """Standard output for bytes: what is written goes out whole, whatever Python was told of it."""
+    sys.stdout.flush()
+    with open(sys.stdout.fileno(), "wb", closefd=False) as file:
+        yield file
 
 
 def replaced(path: str) -> Iterator[BinaryIO]:

@@ -8,12 +8,11 @@ from __future__ import annotations
 import dataclasses
 from typing import Iterator
 
-from .pes import START, pts_or_none
+from .pes import HEAD, START, pts_or_none
 from .transport import Piece, Stream, Trouble
 
 LOST = b"\xff"  # stands for a byte that is lost
 FULL = 184  # bytes of a TS packet's payload
-HEAD = 6  # bytes of a PES packet up to its length and with it
 
 
 @dataclasses.dataclass

@@ -1,13 +1,13 @@
 """The PIDs of a transport stream with Teletext, and their pages (ISO/IEC 13818-1, EN 300 468)."""
 from __future__ import annotations
 
-import functools
 from typing import Iterator
 
 from .joining import Joiner
-from .pes import START, UNIT
-from .teletext import MIRROR, NUMBER, Page, mirrored, page_in, page_name
+from .pes import START
+from .teletext import Page, page_name
 from .transport import ADAPTED, PACKET, Piece, Stream, beginnings, crc
+from .units import Units
 from .words import pid_name
 
 PAT, PMT = 0, 2  # tables; the first is also its PID
@@ -18,17 +18,6 @@ IDENTIFIERS = range(0x10, 0x20)  # data_identifier of EBU data
 SUBTITLE = 8  # C6, in the sixth number of a header
 SHOWN = 12  # pages of a line
 STUFFING = 0xFF  # after the last section of a packet
-# The magazine by the two address bytes of a page header as a data unit sends them.
-HEADERS = {bytes([MIRROR[low], MIRROR[high]]): NUMBER[low] for low in range(256)
-           for high in range(256) if NUMBER[high] == 0 and NUMBER[low] in range(8)}
-
-
-@functools.lru_cache(maxsize=1 << 12)
-def subtitle_page(coded: bytes) -> int | None:
-    """The page of a header with the subtitle bit, by its eight coded bytes as a data unit sends
-    them."""
-    numbers = [one for one in map(NUMBER.__getitem__, mirrored(coded)) if one is not None]
-    return page_in(bytes(numbers)) if len(numbers) == 8 and numbers[5] & SUBTITLE else None
 
 
 class Tables:
@@ -86,13 +75,9 @@ class Teletext:
 
     def hear(self, data: bytes) -> None:
         """Takes the pages of a PES packet whose headers have the subtitle bit."""
-        first = 10 + data[8] if len(data) > 9 else len(data)
-        for at in range(first, len(data) - UNIT + 1, UNIT):
-            if data[at] in (2, 3):
-                magazine = HEADERS.get(data[at + 4:at + 6])
-                page = subtitle_page(data[at + 6:at + 14]) if magazine is not None else None
-                if magazine is not None and page is not None:
-                    self.sent.add((magazine, page))
+        for magazine, page, header in Units(data).headers():
+            if header[5] & SUBTITLE:
+                self.sent.add((magazine, page))
 
     def pages(self) -> list[str]:
         """The names of the subtitle pages that are sent."""

@@ -7,6 +7,7 @@ from .files import PIECE, Damaged, Source
 from .teletext import mirrored
 
 START = b"\0\0\1\xbd"  # of a PES packet of private_stream_1
+HEAD = 6  # bytes of one up to its length and with it
 FIRST_LINE = 7
 UNIT = 46  # bytes of a data unit
 DATA = 46  # where those that `subttx` writes begin: after 45 bytes and the data_identifier
@@ -40,23 +41,37 @@ def pes_packet(pts: int, packets: Sequence[bytes]) -> bytes:
     return made + STUFFING_UNIT * (4 * blocks - 1 - len(packets))
 
 
-def pes_packets(file: Source) -> Iterator[bytes]:
-    """The PES packets of a file one after another; `Damaged` where it holds something else."""
+def pes_batches(file: Source) -> Iterator[list[bytes]]:
+    """The PES packets of a file, as many at a time as have come; `Damaged` where it holds something
+    else, after those before it."""
     rest, count = b"", 0
     while piece := file.read(PIECE):
-        rest += piece
-        at = 0
-        while len(rest) - at >= 6:
-            if not rest.startswith(START, at):
-                raise Damaged(f"PES packet {count} does not begin with 00 00 01 BD")
-            end = at + 6 + (rest[at + 4] << 8 | rest[at + 5])
-            if end > len(rest):
-                break
-            yield rest[at:end]
-            at, count = end, count + 1
-        rest = rest[at:]
+        found, rest = whole_in(rest + piece)
+        if found:
+            yield found
+        count += len(found)
+        if len(rest) >= HEAD and not rest.startswith(START):
+            raise Damaged(f"PES packet {count} does not begin with 00 00 01 BD")
     if rest:
         raise Damaged(f"PES packet {count} is cut")
+
+
+def whole_in(data: bytes) -> tuple[list[bytes], bytes]:
+    """The PES packets with which some bytes begin, and the bytes after them."""
+    found, at, size = [], 0, len(data)
+    while size - at >= HEAD and data.startswith(START, at):
+        end = at + HEAD + (data[at + 4] << 8 | data[at + 5])
+        if end > size:
+            break
+        found.append(data[at:end])
+        at = end
+    return found, data[at:]
+
+
+def pes_packets(file: Source) -> Iterator[bytes]:
+    """The PES packets of a file one after another; `Damaged` where it holds something else."""
+    for batch in pes_batches(file):
+        yield from batch
 
 
 def has_pts(data: bytes) -> bool:

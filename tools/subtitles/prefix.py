@@ -1,17 +1,19 @@
 """What is installed under a folder: the program, its man page and the tools beside it."""
+from __future__ import annotations
+
 import os
 import shutil
 
 from .built import TOP
 from .words import INSTALLED
 
-TOOLS = ["cut", "origin", "pes2ts", "preview", "qc", "text", "ts2pes"]
+TOOLS = ["cut", "origin", "part", "pes2ts", "preview", "qc", "text", "ts2pes"]
 PAGES = ["subttx.1", "subttx-qc.1"]
 READ = [os.path.join("docs", "MANUAL.md"), os.path.join("docs", "verdict.schema.json"), "VERSION"]
 COMPLETION = os.path.join("tools", "completion.bash")
 
 
-def copy(source, target, mode=0o644):
+def copy(source: str, target: str, mode: int = 0o644) -> None:
     """Copies a file under another name first, so that a program that runs can be replaced."""
     os.makedirs(os.path.dirname(target), exist_ok=True)
     shutil.copyfile(source, target + ".new")
@@ -19,7 +21,7 @@ def copy(source, target, mode=0o644):
     os.replace(target + ".new", target)
 
 
-def link(words, name):
+def link(words: str, name: str) -> None:
     """A link that says the words."""
     os.makedirs(os.path.dirname(name), exist_ok=True)
     if os.path.lexists(name):
@@ -27,7 +29,7 @@ def link(words, name):
     os.symlink(words, name)
 
 
-def copy_tools(prefix):
+def copy_tools(prefix: str) -> None:
     """The tools, what they share and what they read, as they stand in the repository."""
     home = os.path.join(prefix, "lib", "subttx")
     shutil.rmtree(os.path.join(home, "tools"), ignore_errors=True)
@@ -43,14 +45,15 @@ def copy_tools(prefix):
     link(os.path.join("..", "..", "bin", "subttx"), os.path.join(home, "subttx"))
 
 
-def copy_completion(prefix):
+def copy_completion(prefix: str) -> None:
+    """Completion for the program and for each tool."""
     folder = os.path.join(prefix, "share", "bash-completion", "completions")
     copy(os.path.join(TOP, COMPLETION), os.path.join(folder, "subttx"))
     for name in TOOLS:
         link("subttx", os.path.join(folder, INSTALLED + name))
 
 
-def install(program, prefix):
+def install(program: str, prefix: str) -> list[str]:
     """Puts all there is under a folder; answers the files that a user calls or reads."""
     copy(program, os.path.join(prefix, "bin", "subttx"), 0o755)
     pages = [os.path.join(prefix, "share", "man", "man1", page) for page in PAGES]

@@ -1,10 +1,11 @@
 """Blocks of subtitle files, written and read: a GSI block, then TTI blocks (EBU Tech 3264)."""
 from __future__ import annotations
 
-from typing import Iterator, NamedTuple
+from typing import Iterable, Iterator, NamedTuple
 
 from .files import Damaged
 from .times import frame_of_code, time_code
+from .words import Stop, tell
 
 GSI, TTI, TEXT = 1024, 128, 112  # bytes of the blocks, and of a TTI block's text field
 USER_DATA, LAST = 0xFE, 0xFF  # extension block numbers (EBN)
@@ -29,6 +30,13 @@ class Subtitle(NamedTuple):
     row: int
     justify: int
     text: bytes
+
+
+class Group(NamedTuple):
+    """The blocks of a subtitle, with comments and user data between them; or one of these alone."""
+
+    blocks: list[bytes]
+    subtitle: Subtitle | None
 
 
 def gsi_block(title: bytes, blocks: int, subtitles: int, first: int = 0,
@@ -84,7 +92,12 @@ def boxed(text: bytes, colour: bytes = b"") -> bytes:
 
 def subtitles_in(data: bytes) -> Iterator[Subtitle]:
     """The subtitles of a file, without comments and user data, as they stand; `Damaged` where a
-    block can't be read on.
+    block can't be read on."""
+    return (one.subtitle for one in groups_in(data) if one.subtitle)
+
+
+def groups_in(data: bytes) -> Iterator[Group]:
+    """The blocks of a file, those of a subtitle together; `Damaged` where one can't be read on.
 
     Nothing is judged but what is needed for reading: `subttx check` does.
     """
@@ -92,6 +105,7 @@ def subtitles_in(data: bytes) -> Iterator[Subtitle]:
         raise Damaged("no subtitle file: its GSI block is cut, or has another format than STL")
     if data[3:8] == b"STL30":
         raise Damaged("30 frames a second: only files of 25 (STL25.01) can be read")
+    blocks: list[bytes] = []
     first: bytes | None = None
     text, block = b"", 0
     for block, at in enumerate(range(GSI, len(data), TTI), 1):
@@ -99,7 +113,11 @@ def subtitles_in(data: bytes) -> Iterator[Subtitle]:
         if len(one) < TTI:
             raise Damaged(f"block {block} is cut")
         ebn = one[3]
+        blocks.append(one)
         if ebn == USER_DATA or one[15] == 1:
+            if first is None:
+                yield Group(blocks, None)
+                blocks = []
             continue
         if LAST_OF_MORE < ebn < LAST:
             raise Damaged(f"block {block} has the reserved extension block number {ebn:02X}")
@@ -107,9 +125,9 @@ def subtitles_in(data: bytes) -> Iterator[Subtitle]:
             raise Damaged(f"block {block} is of another subtitle than the one that it follows")
         first, text = first or one, text + one[16:].split(UNUSED)[0]
         if ebn == LAST:
-            yield Subtitle(first[1] + 256 * first[2], first[5:9], first[9:13], first[13], first[14],
-                           text)
-            first, text = None, b""
+            yield Group(blocks, Subtitle(first[1] + 256 * first[2], first[5:9], first[9:13],
+                                         first[13], first[14], text))
+            blocks, first, text = [], None, b""
     if first is not None:
         raise Damaged(f"the subtitle of block {block} has no last block")
 
@@ -117,6 +135,28 @@ def subtitles_in(data: bytes) -> Iterator[Subtitle]:
 def times_of(subtitle: Subtitle) -> tuple[int | None, int | None]:
     """The frames of the day of a subtitle's TCI and TCO, `None` for what is no time of the day."""
     return frame_of_code(subtitle.begin), frame_of_code(subtitle.end)
+
+
+def frames_of_all(subtitles: Iterable[Subtitle]) -> Iterator[tuple[int, int]]:
+    """The frames of the TCI and TCO of those subtitles that come and go within a day."""
+    for one in subtitles:
+        begin, end = times_of(one)
+        if begin is not None and end is not None and begin < end:
+            yield begin, end
+
+
+def readable(name: str, data: bytes) -> Iterator[Subtitle]:
+    """The subtitles that can be read of a file's bytes. Where it is damaged that is told; `Stop`
+    where there is none before the damage."""
+    is_empty = True
+    try:
+        for one in subtitles_in(data):
+            is_empty = False
+            yield one
+    except Damaged as reason:
+        if is_empty:
+            raise Stop(f"{name}: {reason}") from None
+        tell(f"{name}: {reason}; what stands before is used")
 
 
 def letters_on_page(text: bytes, option: str) -> bytes:

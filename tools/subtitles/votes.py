@@ -3,11 +3,16 @@
 Edges are frames of the day, changes have a PTS: each pair of both is a vote for one origin. Those
 with the most votes are held against all edges, and the best of these stay.
 """
+from __future__ import annotations
+
 import array
 import bisect
 import collections
+import copy
 import heapq
+from typing import Hashable, Iterable, NamedTuple, Sequence
 
+from .sent import Change
 from .times import CLOCK, TICKS
 
 VOTES = 4_000_000  # how many are counted; of longer files some changes vote for all
@@ -15,84 +20,126 @@ REPEATED = 20  # subtitles with the same letters; where there are more, their te
 TRIED = 64  # origins that are held against all edges
 MOST_APART = 50  # frames between all beginnings and all ends
 
-# A frame at which the due page changes: its letters then, and whether a subtitle comes.
-Edge = collections.namedtuple("Edge", "frame letters is_begin")
-# A PES packet after which the page holds another text: its letters.
-Change = collections.namedtuple("Change", "pts letters")
-# An origin: how many edges agree with it, how many of these with the same letters and with the very
-# PTS, how many there are while the page was sent, and the first of these that does not agree.
-Fit = collections.namedtuple("Fit", "origin agree letters exact among first_other start")
+
+class Shown(NamedTuple):
+    """A subtitle that is due from the frame `begin` to the one before `end`: how it looks, and its
+    letters."""
+
+    begin: int
+    end: int
+    look: Hashable
+    letters: bytes
 
 
-def edges_of(subtitles):
-    """The edges of (begin, end, look, letters), where another look is due than before."""
-    looks = {}
-    for begin, end, _, _ in subtitles:
-        looks.setdefault(end, None)
-    for begin, _, look, letters in subtitles:
-        looks[begin] = look, letters
-    edges, before = [], None
+class Edge(NamedTuple):
+    """A frame at which the due page changes: its letters then, and whether a subtitle comes."""
+
+    frame: int
+    letters: bytes
+    is_begin: bool
+
+
+class Fit(NamedTuple):
+    """An origin: how many edges agree with it, how many of these with the same letters and with the
+    very PTS, how many there are while the page was sent, and the first of these that does not
+    agree. `start` is the frame at the first PTS of the election."""
+
+    origin: int
+    agree: int
+    letters: int
+    exact: int
+    among: int
+    first_other: int | None
+    start: int
+
+
+def edges_of(subtitles: Sequence[Shown]) -> list[Edge]:
+    """The edges of subtitles, where another look is due than before."""
+    looks: dict[int, Shown | None] = {}
+    for one in subtitles:
+        looks.setdefault(one.end, None)
+    for one in subtitles:
+        looks[one.begin] = one
+    edges: list[Edge] = []
+    before: Shown | None = None
     for frame in sorted(looks):
-        if looks[frame] != before:
-            before = looks[frame]
-            edges.append(Edge(frame, before[1] if before else b"", before is not None))
+        now = looks[frame]
+        if (now and now[2:]) != (before and before[2:]):
+            before = now
+            edges.append(Edge(frame, now.letters if now else b"", now is not None))
     return edges
 
 
 class Election:
-    """Edges and changes; the page was sent up to the PTS `last`."""
+    """Edges and changes; the page was sent from the PTS `first` to the PTS `last`."""
 
-    def __init__(self, edges, changes, last):
+    def __init__(self, edges: Sequence[Edge], changes: Sequence[Change], first: int,
+                 last: int) -> None:
         self.edges, self.frames = edges, [edge.frame for edge in edges]
-        self.first = changes[0].pts
-        # Of each change its distance from the first one: frames, and ticks more or less.
-        self.changes = {}
+        self.first = first
+        # Of each change its distance from the first PTS: frames, and ticks more or less.
+        self.changes: dict[int, tuple[bytes, int]] = {}
         for change in changes:
             frames, ticks = self.distance(change.pts)
             self.changes[frames] = change.letters, ticks
         self.length = max(self.distance(last)[0], 0)
 
-    def distance(self, pts):
-        """From the first change to a PTS: the nearest number of frames, and the rest in ticks."""
+    def limited(self, edges: Sequence[Edge], low: int, high: int) -> Election:
+        """The election of some of the edges, by the changes between two distances."""
+        one = copy.copy(self)
+        one.edges, one.frames = edges, [edge.frame for edge in edges]
+        one.changes = {frames: change for frames, change in self.changes.items()
+                       if low < frames < high}
+        return one
+
+    def distance(self, pts: int) -> tuple[int, int]:
+        """From the first PTS to another: the nearest number of frames, and the rest in ticks."""
         frames, ticks = divmod((pts - self.first) % CLOCK + TICKS // 2, TICKS)
         return frames, ticks - TICKS // 2
 
-    def fits(self):
-        """The best origins, falling; a `start` is the frame of the first change."""
-        found = [self.fit(start) for start in self.starts()]
-        found = [fit for fit in found if fit.agree]
-        return sorted(found, key=lambda fit: (-points(fit), fit.start))
+    def fits(self) -> list[Fit]:
+        """The best origins, falling."""
+        return best_first(self.fit(start) for start in self.starts())
 
-    def starts(self):
-        """Frames that the first change may have: those with the most votes."""
-        # The frame that a change gives the first one, if it is that of an edge, is its frame less
+    def starts(self) -> set[int]:
+        """Frames that the first PTS may have: those with the most votes."""
+        # The frame that a change gives the first PTS, if it is that of an edge, is its frame less
         # its distance: from `least` on.
         least, most = self.frames[0] - max(self.changes), self.frames[-1]
         votes = array.array("I", bytes(4 * (most - least + 1)))
         for frames in self.sample():
+            shift = frames + least
             for frame in self.frames:
-                votes[frame - frames - least] += 1
-        by_letters = collections.defaultdict(list)
-        for edge in self.edges:
-            by_letters[edge.letters].append(edge.frame)
-        for frames, (letters, _) in self.changes.items():
-            alike = by_letters.get(letters, ()) if letters else ()
-            for frame in alike if len(alike) <= REPEATED else ():
-                votes[frame - frames - least] += 2
+                votes[frame - shift] += 1
+        for start, count in self.alike().items():
+            votes[start - least] += 2 * count
         best = heapq.nlargest(TRIED, range(len(votes)), votes.__getitem__)
         # Where all subtitles are alike, the first and the last tell more than those between.
         return {least + at for at in best} | {self.frames[0], most - max(self.changes)}
 
-    def sample(self):
+    def alike(self) -> collections.Counter[int]:
+        """How often each start is that of an edge and a change with the same letters."""
+        by_letters = collections.defaultdict(list)
+        for edge in self.edges:
+            by_letters[edge.letters].append(edge.frame)
+        found: collections.Counter[int] = collections.Counter()
+        for frames, (letters, _) in self.changes.items():
+            alike = by_letters.get(letters, []) if letters else []
+            if len(alike) <= REPEATED:
+                found.update(frame - frames for frame in alike)
+        return found
+
+    def sample(self) -> list[int]:
         """Changes that vote: all, or as many as there is time for."""
         frames = sorted(self.changes)
         return frames[::max(1, len(frames) * len(self.frames) // VOTES)]
 
-    def fit(self, start):
+    def fit(self, start: int) -> Fit:
         """How the edges agree with an origin."""
         low = bisect.bisect_left(self.frames, start)
         high = bisect.bisect_right(self.frames, start + self.length)
-        letters, ticks, other = 0, [], None
+        letters, other = 0, None
+        ticks: list[int] = []
         for edge in self.edges[low:high]:
             change = self.changes.get(edge.frame - start)
             if change:
@@ -105,7 +152,7 @@ class Election:
         origin = (self.first + rest - TICKS * start) % CLOCK
         return Fit(origin, len(ticks), letters, ticks.count(rest), high - low, other, start)
 
-    def apart(self, fit):
+    def apart(self, fit: Fit) -> tuple[bool, int] | None:
         """Whether beginnings and ends agree, but a constant number of frames apart.
 
         `None`, or which of the two disagree with the origin, and by how many frames they are late.
@@ -117,16 +164,22 @@ class Election:
             late = {shift: sum(self.letters_at(frames + shift) == letters
                                for frames, letters in own)
                     for shift in range(-MOST_APART, MOST_APART + 1)}
-            best = max(late, key=late.get)
+            best = max(late, key=late.__getitem__)
             if len(own) > 1 and best and late[best] == len(own) and late[0] * 2 < len(own):
                 return is_begin, best
         return None
 
-    def letters_at(self, frames):
-        """The letters to which the page changes so many frames after the first change."""
-        return self.changes.get(frames, (None, 0))[0]
+    def letters_at(self, frames: int) -> bytes | None:
+        """The letters to which the page changes so many frames after the first PTS."""
+        change = self.changes.get(frames)
+        return change[0] if change else None
 
 
-def points(fit):
+def points(fit: Fit) -> int:
     """What origins are compared by: an edge with the same letters counts twice."""
     return fit.agree + fit.letters
+
+
+def best_first(fits: Iterable[Fit]) -> list[Fit]:
+    """Those of some origins with which an edge agrees, the best ones first."""
+    return sorted((fit for fit in fits if fit.agree), key=lambda fit: (-points(fit), fit.start))

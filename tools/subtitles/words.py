@@ -6,7 +6,7 @@ import contextlib
 import os
 import re
 import sys
-from typing import Callable, NoReturn
+from typing import IO, Callable, NoReturn
 
 from .teletext import page_of
 from .times import CLOCK, frame_of
@@ -43,6 +43,10 @@ class Words(argparse.ArgumentParser):
         text = super().format_help()
         is_installed = self.prog.startswith(INSTALLED)
         return re.sub(r"\btools/(\w+)", INSTALLED + r"\1", text) if is_installed else text
+
+    def _print_message(self, message: str, file: IO[str] | None = None) -> None:
+        """Prints the help or the version; argparse itself is silent where that fails."""
+        (file or sys.stderr).write(message)
 
     def error(self, message: str) -> NoReturn:
         raise Stop(message)

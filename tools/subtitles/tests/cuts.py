@@ -1,12 +1,15 @@
 """tools/cut: the PES packets of some frames, byte by byte."""
+from __future__ import annotations
+
 import os
 import random
+import subprocess
 
 from ..times import CLOCK, TICKS, time_of
-from .bench import example, example_bytes, moved, packets, random_subtitles
+from .bench import Case, example, example_bytes, moved, packets, random_subtitles, tool_path
 
 
-def is_accepted_after(case):
+def is_accepted_after(case: Case) -> None:
     """A recording that began early and ended late is accepted once it is cut.
 
     The PTS begin again in the middle of it.
@@ -29,7 +32,7 @@ def is_accepted_after(case):
     case.test("accepted", status == 0, lines)
 
 
-def keeps_the_frames_that_are_asked(case):
+def keeps_the_frames_that_are_asked(case: Case) -> None:
     """At random times: what is kept is what lies between, as `packets` lists the PTS."""
     pes, origin = example("story.pes"), 0
     listed = [int(line.split()[3]) for line in case.program("packets", pes)[1]
@@ -47,7 +50,7 @@ def keeps_the_frames_that_are_asked(case):
                   and (not wanted or case.read(f"{seed}.pes") == b"".join(wanted)), done)
 
 
-def begins_with_a_header(case):
+def begins_with_a_header(case: Case) -> None:
     """PES packets before the first header of the page are left out, later ones are not."""
     own = packets(example_bytes("story.pes"))
     hidden = b"".join(one[:46] + b"\xff" + one[47:] if number in (0, 1, 3) else one
@@ -59,7 +62,7 @@ def begins_with_a_header(case):
     case.test("another page", done.status == 1 and not os.path.exists(case.path("none.pes")), done)
 
 
-def keeps_what_is_broken(case):
+def keeps_what_is_broken(case: Case) -> None:
     """Nothing that `check` has to see is mended: PTS between frames, none, bytes that are wrong."""
     own = packets(example_bytes("story.pes"))
     own[1] = moved(own[1], lambda _, pts: pts + 17)
@@ -74,7 +77,7 @@ def keeps_what_is_broken(case):
               and "PES packet 4 is cut" in done.told[0], done)
 
 
-def leaves_outputs_alone(case):
+def leaves_outputs_alone(case: Case) -> None:
     old = case.write("old.pes", b"as it was")
     done = case.tool("cut", example("story.pes"), "--from", "01:00:00:00", "--to", "02:00:00:00",
                      "-o", old)
@@ -87,5 +90,55 @@ def leaves_outputs_alone(case):
                   and case.read("in.pes") == example_bytes("story.pes"), done)
 
 
-CASES = [is_accepted_after, keeps_the_frames_that_are_asked, begins_with_a_header,
+def takes_the_times_of_a_subtitle_file(case: Case) -> None:
+    """The first TCI and the last TCO, also where the file is damaged after some subtitles."""
+    pes, stl = example("story.pes"), example("story.stl")
+    done = case.tool("cut", pes, "--stl", stl, "-o", "all.pes")
+    case.test("all", done.status == 0 and case.read("all.pes") == example_bytes("story.pes"), done)
+    short = case.write("short.stl", example_bytes("story.stl")[:-1])
+    done = case.tool("cut", pes, "--stl", short, "-o", "some.pes")
+    case.test("those before the damage", case.read("some.pes") == example_bytes("story.pes")[:-368]
+              and "block 3 is cut; what stands before is used" in done.told[0], done)
+
+
+def writes_to_standard_output(case: Case) -> None:
+    """As `-` and as /dev/stdout, to a pipe and to a file, with its line on standard error."""
+    words = ["--stl", example("story.stl")]
+    for out in ("-", "/dev/stdout"):
+        done = case.tool("cut", example("story.pes"), *words, "-o", out)
+        case.test(out, (done.status, done.out) == (0, example_bytes("story.pes"))
+                  and done.told == ["cut: 5 of 5 PES packets, from 20:15:00:00 to 20:15:09:00"],
+                  done)
+        done = case.tool("cut", "-", *words, "-o", out, data=example_bytes("story.pes"))
+        case.test(f"from - to {out}", done.out == example_bytes("story.pes"), done)
+        done = case.call(["sh", "-c", 'exec "$@" >file.pes', "sh", tool_path("cut"),
+                          example("story.pes"), *words, "-o", out])
+        case.test(f"{out} is a file", case.read("file.pes") == example_bytes("story.pes"), done)
+
+
+def ends_with_the_time(case: Case) -> None:
+    """What is after --to is not read; a single PES packet with a wrong PTS does not end it."""
+    own = packets(example_bytes("story.pes"))
+    wrong = moved(own[1], lambda _, pts: pts + 10_000 * TICKS)
+    last = moved(own[4], lambda _, pts: pts + TICKS)
+    pes = case.write("wrong.pes", b"".join([own[0], wrong, *own[2:], last, last, b"no PES packet"]))
+    done = case.tool("cut", pes, "--stl", example("story.stl"), "-o", "kept.pes")
+    case.test("its bytes", done.status == 0
+              and case.read("kept.pes") == b"".join([own[0], *own[2:]]), done)
+    with subprocess.Popen([tool_path("cut"), "-", "--stl", example("story.stl"), "-o", "-"],
+                          stdin=subprocess.PIPE, stdout=subprocess.PIPE,
+                          stderr=subprocess.DEVNULL) as process:
+        assert process.stdin and process.stdout
+        for one in own:
+            process.stdin.write(one)
+            process.stdin.flush()
+            case.test("each at once", process.stdout.read(len(one)) == one)
+        process.stdin.write(last + last)
+        process.stdin.flush()
+        case.test("the end, while the pipe is open", process.stdout.read() == b"")
+    case.test("its status", process.returncode == 0)
+
+
+CASES = [is_accepted_after, takes_the_times_of_a_subtitle_file, writes_to_standard_output,
+         ends_with_the_time, keeps_the_frames_that_are_asked, begins_with_a_header,
          keeps_what_is_broken, leaves_outputs_alone]

@@ -1,30 +1,38 @@
 """tools/origin: the origin that a transmission was given is found again."""
+from __future__ import annotations
+
 import random
 
 from ..pes import data_field, pes_packet, pts_in, teletext_packets
 from ..stl import gsi_block, subtitle_blocks
 from ..times import CLOCK, TICKS
-from .bench import example, example_bytes, moved, packets, random_subtitles
+from .bench import Case, example, example_bytes, moved, packets, random_subtitles
 
 SEEDS = range(12)
 
 
-def origin_of(case, stl, data, *words):
+def origin_of(case: Case, stl: str, data: bytes,
+              *words: str) -> tuple[int, int | None, list[str]]:
     """Status, the origin that is printed, and the lines beside it."""
     done = case.tool("origin", stl, case.write("asked.pes", data), *words)
-    words = done.out.decode().split()
-    return done.status, int(words[1]) if words else None, done.told
+    printed = done.out.decode().split()
+    return done.status, int(printed[1]) if printed else None, done.told
 
 
-def finds_that_of_the_examples(case):
+def late_by(data: bytes, ticks: int) -> bytes:
+    """A file of PES packets with later PTS."""
+    return moved(data, lambda _, pts: pts + ticks)
+
+
+def finds_that_of_the_examples(case: Case) -> None:
     for name, *words in (["hello"], ["story"], ["german", "--option", "german"]):
         for given in (0, 2029060592, CLOCK - 1, 813_000_017):
-            data = moved(example_bytes(name + ".pes"), lambda _, pts, given=given: pts + given)
+            data = late_by(example_bytes(name + ".pes"), given)
             found = origin_of(case, example(name + ".stl"), data, *words)
             case.test(f"{name}, {given}", found[:2] == (0, given), found)
 
 
-def finds_that_of_transmissions_at_random(case):
+def finds_that_of_transmissions_at_random(case: Case) -> None:
     """Also where the PTS begin again, and in a part of the recording; `check` accepts with it."""
     for seed in SEEDS:
         chance = random.Random(seed)
@@ -47,7 +55,7 @@ def finds_that_of_transmissions_at_random(case):
         case.test(f"seed {seed}, a part", found[:2] == (0, given), found)
 
 
-def finds_it_where_sendings_are_lost(case):
+def finds_it_where_sendings_are_lost(case: Case) -> None:
     """With a third of the PES packets lost, and letters that another inserter leaves out."""
     for seed in SEEDS:
         chance = random.Random(seed)
@@ -59,7 +67,7 @@ def finds_it_where_sendings_are_lost(case):
         case.test(f"seed {seed}", found[:2] == (0, 90000), found)
 
 
-def tells_that_all_is_late(case):
+def tells_that_all_is_late(case: Case) -> None:
     late = moved(example_bytes("story.pes"), lambda _, pts: pts + 2 * TICKS)
     found = origin_of(case, example("story.stl"), late)
     case.test("beside 0", found[:2] == (0, 7200)
@@ -70,7 +78,7 @@ def tells_that_all_is_late(case):
               "origin: that is 1 frame early beside --origin 5000000000" in found[2], found)
 
 
-def tells_that_ends_are_late(case):
+def tells_that_ends_are_late(case: Case) -> None:
     data, edges = random_subtitles(3)
     stl = case.write("ends.stl", data)
     case.schedule(stl, "ends.pes", "--every", "1500")
@@ -81,35 +89,35 @@ def tells_that_ends_are_late(case):
               and "origin: all ends are 3 frames late beside the beginnings" in found[2], found)
 
 
-def tells_that_rows_are_late(case):
+def tells_that_rows_are_late(case: Case) -> None:
     """Each header erases the page, and the rows come in the next frame."""
     data, _ = random_subtitles(5)
     stl = case.write("rows.stl", data)
     case.schedule(stl, "rows.pes", "--every", "1500")
     made = b""
     for one in packets(case.read("rows.pes")):
-        found = teletext_packets(data_field(one))
-        made += pes_packet(pts_in(one), found[:1])
-        if len(found) > 2:
-            made += pes_packet(pts_in(one) + TICKS, found[1:])
+        sent = teletext_packets(data_field(one))
+        made += pes_packet(pts_in(one), sent[:1])
+        if len(sent) > 2:
+            made += pes_packet(pts_in(one) + TICKS, sent[1:])
     found = origin_of(case, stl, made)
     case.test("one frame", found[:2] == (0, TICKS)
               and "origin: all ends are 1 frame early beside the beginnings" in found[2], found)
 
 
-def tells_jitter(case):
+def tells_jitter(case: Case) -> None:
     data, _ = random_subtitles(4)
     stl = case.write("jitter.stl", data)
     case.schedule(stl, "jitter.pes")
     chance = random.Random(4)
     shaken = moved(case.read("jitter.pes"), lambda _, pts: pts + chance.randrange(-250, 251))
     status, found, told = origin_of(case, stl, shaken)
-    away = min(found, CLOCK - found)
+    away = CLOCK if found is None else min(found, CLOCK - found)
     case.test("milliseconds", status == 0 and away < 100
               and any("refused as 61" in line for line in told), (found, told))
 
 
-def tells_what_is_not_unique(case):
+def tells_what_is_not_unique(case: Case) -> None:
     """Subtitles that are all alike, of which the recording has some."""
     blocks = [subtitle_blocks(number, 100 * number, 100 * number + 50, 22, 2, b"Again")
               for number in range(30)]
@@ -122,7 +130,7 @@ def tells_what_is_not_unique(case):
     case.test("all of them", (status, found) == (0, 0), told)
 
 
-def tells_what_does_not_fit(case):
+def tells_what_does_not_fit(case: Case) -> None:
     other = case.write("other.stl", random_subtitles(7)[0])
     data, _ = random_subtitles(8)
     case.schedule(case.write("own.stl", data), "own.pes")
@@ -133,7 +141,7 @@ def tells_what_does_not_fit(case):
     case.test("another page", (status, found) == (1, None) and told[0].endswith("pages: 888"), told)
 
 
-def goes_on_with_damaged_files(case):
+def goes_on_with_damaged_files(case: Case) -> None:
     cut = example_bytes("story.pes")[:-1]
     status, found, told = origin_of(case, example("story.stl"), cut)
     case.test("a cut PES packet", (status, found) == (0, 0) and "PES packet 4 is cut" in told[0],

@@ -1,9 +1,11 @@
 """tools/text: subtitles as a person reads them."""
+from __future__ import annotations
+
 import shutil
 import subprocess
 
 from ..letters import letters_of
-from .bench import example, example_bytes
+from .bench import Case, example, example_bytes
 
 STORY = """\
 1  20:15:00:00 to 20:15:03:00  row 20, 22  white
@@ -18,22 +20,24 @@ STORY = """\
 OTHERWISE = {0xA4, 0xA6, 0xE0, 0xE2}
 
 
-def reads_the_story(case):
+def reads_the_story(case: Case) -> None:
     done = case.tool("text", example("story.stl"))
     case.test("its lines", done == (0, STORY.encode(), []), done)
 
 
-def agrees_with_show(case):
+def agrees_with_show(case: Case) -> None:
     """Numbers and times are those that the program shows."""
     for name in ("hello", "story", "german", "comments", "low", "accent"):
         shown = case.program("show", example(name + ".stl"))[1]
         printed = case.tool("text", example(name + ".stl")).out.decode().splitlines()
         words = [line.split() for line in printed[:-1:2]]
-        own = [f"{int(one[0]):05} {one[1]} {one[3]}" for one in words] + printed[-1:]
+        own = [f"{int(one[0]):05} {one[1]} {one[3]}" for one in words]
+        own.append(printed[-1].replace("1 subtitle", "1 subtitles") if len(words) == 1
+                   else printed[-1])
         case.test(name, own == [" ".join(line.split()[:3]) for line in shown], own)
 
 
-def marks_colours(case):
+def marks_colours(case: Case) -> None:
     data = bytearray(example_bytes("hello.stl"))
     data[1040:1060] = b"\x03\x0b\x0bOne\x06two\x8a\x06three\x8f\x8f\x8f"
     done = case.tool("text", case.write("colours.stl", data))
@@ -41,17 +45,17 @@ def marks_colours(case):
         "1  10:00:00:00 to 10:00:02:00  row 22, 23  yellow", "   One <cyan> two / three"], done)
 
 
-def tells_damage(case):
+def tells_damage(case: Case) -> None:
     story = example_bytes("story.stl")
     cut = case.tool("text", case.write("cut.stl", story[:-1]))
     case.test("a cut block", cut.status == 1 and len(cut.out.splitlines()) == 4
-              and cut.told == ["text: cut.stl: block 3 is cut"], cut)
+              and cut.told == [f"text: {case.path('cut.stl')}: block 3 is cut"], cut)
     other = case.tool("text", case.write("other.stl", story[:1155] + b"\0" + story[1156:]))
     case.test("another subtitle", other.status == 1 and "block 3 is of another" in other.told[0],
               other)
 
 
-def has_the_letters_of_iso_6937(case):
+def has_the_letters_of_iso_6937(case: Case) -> None:
     """The C library's ISO 6937 is an outside value for each byte, and each accent on a letter."""
     if not shutil.which("iconv"):
         case.bench.over.append("letters of ISO 6937, since there is no iconv")
@@ -60,7 +64,8 @@ def has_the_letters_of_iso_6937(case):
                 for letter in b"AEOUZaceinouyz"]
     others = [bytes([byte]) for byte in range(0x20, 0xFF)
               if not 0x7F <= byte <= 0xA0 and not 0xC0 <= byte <= 0xCF]
-    compared, different = 0, []
+    compared = 0
+    different: list[bytes] = []
     for text in accented + others:
         done = subprocess.run(["iconv", "-f", "ISO6937", "-t", "UTF-8"], input=text, check=False,
                               stdout=subprocess.PIPE, stderr=subprocess.DEVNULL)

@@ -1,25 +1,39 @@
 """Words and files that are wrong: one line on standard error, status 2, nothing written."""
+from __future__ import annotations
+
 import os
 
 from ..built import TOP
-from .bench import example
+from .bench import Case, example, tool_path
 
 STL, PES = example("hello.stl"), example("hello.pes")
 TIMES = ["--from", "10:00:00:00", "--to", "10:00:02:00"]
-WRONG = {
+WRONG: dict[str, list[list[str]]] = {
     "text": [[], ["none.stl"], [PES], [STL, STL], [TOP], [STL, "--colour"]],
     "origin": [[], [STL], [STL, "none.pes"], ["none.stl", PES], [PES, PES],
                [STL, PES, "--page", "8FF"], [STL, PES, "--option", "french"],
-               [STL, PES, "--origin", "-1"], [STL, PES, "--origin", "8589934592"]],
+               [STL, PES, "--origin", "-1"], [STL, PES, "--origin", "8589934592"],
+               [STL, PES, "--origin", "9" * 5000], ["/dev/null", PES]],
     "cut": [[], [PES], [PES, *TIMES], [PES, "--from", "10:00:00:25", *TIMES[2:], "-o", "out.pes"],
             [PES, "--from", "10:00:03:00", *TIMES[2:], "-o", "out.pes"],
             [PES, *TIMES, "-o", "no/folder.pes"], ["none.pes", *TIMES, "-o", "out.pes"],
-            [PES, *TIMES, "--page", "9", "-o", "out.pes"], [PES, *TIMES, "-o", TOP]],
+            [PES, *TIMES, "--page", "9", "-o", "out.pes"], [PES, *TIMES, "-o", TOP],
+            [PES, *TIMES, "--stl", STL, "-o", "out.pes"], [PES, "--stl", PES, "-o", "out.pes"],
+            [PES, "--stl", "none.stl", "-o", "out.pes"], [PES, *TIMES[:2], "-o", "out.pes"]],
+    "part": [[], [STL], [STL, *TIMES], [STL, *TIMES[:2], "-o", "out.stl"],
+             [PES, *TIMES, "-o", "out.stl"], ["none.stl", *TIMES, "-o", "out.stl"],
+             [STL, "--from", "10:00:03:00", *TIMES[2:], "-o", "out.stl"],
+             [STL, *TIMES, "-o", STL], [STL, *TIMES, "-o", "no/folder.stl"],
+             [STL, *TIMES, "-o", TOP]],
+    "poke": [[], ["none.stl"], [STL, "x"], [STL, "1=0"], [STL, "1=@3"], [STL, "1152=00"],
+             [STL, "0=@1150+3"], [STL, "-c", "-1"], [STL, "-c", "x"], [STL, "1=00", "--colour"],
+             [STL, "9" * 5000 + "=00"], [TOP]],
     "qc": [[], ["none.stl"], [STL, "none.pes"], [STL, PES, PES], [STL, "--page", "8FF"],
            [STL, "--every", "0"], [STL, "--every", "1501"], [STL, "--option", "french"],
            [STL, "--origin", "x"], [STL, PES, "--pid", "8191"], [STL, "--severity", "none"],
            [STL, "-p", "none"], ["--batch"], ["--batch", "none"], [STL, "--jobs", "2"]],
-    "ts2pes": [[], ["none.ts"], [PES], [PES, "0x101"], [PES, "8191"], [PES, "x"],
+    "ts2pes": [[], ["none.ts"], [PES, "9" * 5000], ["/dev/null"], [PES],
+               [PES, "0x101"], [PES, "8191"], [PES, "x"],
                [PES, "1", "2"]],
     "pes2ts": [[], [PES], ["none.pes", "0x101"], [PES, "0x100"], [PES, "7"], [PES, "0x1fff"],
                [PES, "0x101", "english"], [PES, "0x101", "--page", "8FF"]],
@@ -30,7 +44,7 @@ WRONG = {
 }
 
 
-def refuses_wrong_words(case):
+def refuses_wrong_words(case: Case) -> None:
     for name, calls in WRONG.items():
         for words in calls:
             before = sorted(os.listdir(case.folder))
@@ -40,25 +54,48 @@ def refuses_wrong_words(case):
                       and sorted(os.listdir(case.folder)) == before, done)
 
 
-def helps(case):
-    """--help, and what it says first is what the script says first."""
+def helps(case: Case) -> None:
+    """--help, and what it says first is what the script says first; --version."""
+    with open(os.path.join(TOP, "VERSION"), encoding="utf-8") as file:
+        version = file.read().strip()
     for name in WRONG:
+        done = case.tool(name, "--version")
+        case.test(f"{name} --version", (done.status, done.out.decode()) ==
+                  (0, f"{name} {version}\n"), done)
         done = case.tool(name, "--help")
-        with open(os.path.join(TOP, "tools", name), encoding="utf-8") as file:
+        with open(tool_path(name), encoding="utf-8") as file:
             first = file.read().split('"""')[1].splitlines()[0]
         case.test(name, done.status == 0 and done.out.decode().startswith(first), done)
 
 
-def tells_a_full_device(case):
+def tells_a_full_device(case: Case) -> None:
     if not os.path.exists("/dev/full"):
         case.bench.over.append("a full device, since there is no /dev/full")
         return
-    for name, *words in (["text", STL], ["origin", STL, PES], ["pes2ts", PES, "0x101"]):
+    for name, *words in (["text", STL], ["origin", STL, PES], ["pes2ts", PES, "0x101"],
+                         ["poke", STL], ["part", STL, *TIMES, "-o", "-"], ["cut", "--version"],
+                         ["cut", PES, *TIMES, "-o", "-"], ["ts2pes", "--help"]):
         done = case.call(["sh", "-c", 'exec "$@" >/dev/full', "sh",
-                          os.path.join(TOP, "tools", name), *words])
+                          tool_path(name), *words])
         case.test(name, done.status == 2 and done.told and "No space" in done.told[-1], done)
     done = case.tool("cut", PES, *TIMES, "-o", "/dev/full")
-    case.test("cut", done.status == 2 and "No space" in done.told[-1], done)
+    case.test("cut -o", done.status == 2 and done.told == ["cut: /dev/full: No space left on "
+              "device"], done)
 
 
-CASES = [refuses_wrong_words, helps, tells_a_full_device]
+def names_files_as_they_were_typed(case: Case) -> None:
+    """No part of a name, no number and no name that was made on the way."""
+    for words, named in ((["origin", STL, "/dev/null"], "/dev/null"),
+                         (["cut", "-", *TIMES, "-o", "no/folder.pes"], "no/folder.pes"),
+                         (["cut", TOP, *TIMES, "-o", "a.pes"], TOP),
+                         (["part", STL, *TIMES, "-o", "/proc/a.stl"], "/proc/a.stl"),
+                         (["text", ""], "an empty name"), (["text", "none.stl"], "none.stl"),
+                         (["cut", case.write("cut.pes", b"\0\0\1"), *TIMES, "-o", "a.pes"],
+                          case.path("cut.pes")),
+                         (["text", "/dev/null"], "/dev/null")):
+        done = case.tool(*words)
+        case.test(" ".join(words), done.status in (1, 2) and named in done.told[-1]
+                  and "subttx-" not in done.told[-1], done)
+
+
+CASES = [refuses_wrong_words, helps, tells_a_full_device, names_files_as_they_were_typed]

@@ -1,0 +1,83 @@
+"""The data units of a PES packet as they were sent, found by their addresses (EN 300 472).
+
+A service sends many pages. Here the addresses of all data units of a PES packet are looked at in
+one step, so that those which are of no interest cost next to nothing.
+"""
+from __future__ import annotations
+
+import functools
+from typing import Iterator
+
+from .pes import UNIT
+from .teletext import MIRROR, NUMBER, Header, address_of, header_of, mirrored, page_in
+
+LENGTH = 0x2C  # data_unit_length of a Teletext data unit
+TELETEXT = (2, 3)  # data_unit_id, not subtitles and subtitles
+ADDRESS = slice(4, 6)  # of a data unit: the address, and behind it
+CODED = slice(4, 14)  # the address and the eight coded bytes of a header
+TEXT = 6  # where the forty bytes of a row begin
+
+# By the second byte of an address: 1 where the packet number may be 0, a header's.
+MAY_BE_HEADER = bytes(NUMBER[byte] == 0 for byte in MIRROR)
+
+
+def of_magazine(magazine: int) -> bytes:
+    """By the first byte of an address: 1 where it is of a magazine, 0 for 8."""
+    return bytes(number is not None and number & 7 == magazine
+                 for number in map(NUMBER.__getitem__, MIRROR))
+
+
+class Units:
+    """The data units of a PES packet, 46 bytes each, in `data` from `first` on to `end`.
+
+    Those of another length are left out; there are none in a PES packet of Teletext alone.
+    """
+
+    def __init__(self, packet: bytes) -> None:
+        self.data, self.first = packet, 10 + packet[8] if len(packet) > 9 else len(packet)
+        self.end = len(packet) - (len(packet) - self.first) % UNIT
+        lengths = packet[self.first + 1:self.end:UNIT]
+        if lengths.count(LENGTH) != len(lengths):
+            self.data = b"".join(units_one_by_one(packet, self.first))
+            self.first, self.end = 0, len(self.data)
+
+    def marks(self, byte: int, table: bytes) -> bytes:
+        """What a table says of a byte of each of them."""
+        return self.data[self.first + byte:self.end:UNIT].translate(table)
+
+    def header(self, number: int) -> Header | None:
+        """The page header that one of them is; `None` where it is something else."""
+        at = self.first + UNIT * number
+        if self.data[at] not in TELETEXT:
+            return None
+        return header_in(self.data[at + CODED.start:at + CODED.stop])
+
+    def headers(self) -> Iterator[Header]:
+        """The page headers among them."""
+        marks = self.marks(ADDRESS.start + 1, MAY_BE_HEADER)
+        number = marks.find(1)
+        while number >= 0:
+            header = self.header(number)
+            if header:
+                yield header
+            number = marks.find(1, number + 1)
+
+
+def units_one_by_one(packet: bytes, at: int) -> Iterator[bytes]:
+    """The data units of 46 bytes where there are others too, each after the end of the one before.
+    """
+    while at + UNIT <= len(packet):
+        if packet[at + 1] == LENGTH:
+            yield packet[at:at + UNIT]
+        at += 2 + packet[at + 1]
+
+
+@functools.lru_cache(maxsize=1 << 14)
+def header_in(coded: bytes) -> Header | None:
+    """The page header of the ten coded bytes of a packet as a data unit sends them; `None` where
+    they are none, or one of them means nothing."""
+    packet = mirrored(coded)
+    address, header = address_of(packet), header_of(packet)
+    if address is None or address[1] or header is None:
+        return None
+    return address[0], page_in(header), header
