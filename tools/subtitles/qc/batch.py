@@ -6,12 +6,10 @@ import concurrent.futures
 import json
 import os
 import subprocess
-import sys
 import tempfile
 import time
 from typing import IO, Any, Callable, Iterator, NamedTuple
 
-from ..built import TOP
 from ..files import whole_file
 from ..words import Stop
 from . import junit, table
@@ -25,13 +23,6 @@ from .typed import Typed
 
 HEADS = ("pair", "verdict", "faults", "first fault")
 WAIT = 0.2  # seconds between two looks at what is done
-
-
-def jobs_word(text: str) -> int:
-    """How many pairs are judged at a time."""
-    if not (text.isascii() and text.isdecimal() and int(text)):
-        raise argparse.ArgumentTypeError(f"{text} is no number of pairs at a time")
-    return int(text)
 
 
 class Result(NamedTuple):
@@ -70,7 +61,7 @@ class Batch:
             files += ["--csv", self.path(number, "csv")]
         if words.out:
             files += ["-o", words.out]
-        command = [sys.executable, os.path.join(TOP, "tools", "qc"), *files, "-p",
+        command = [*self.typed.call("qc"), *files, "-p",
                    self.typed.program_path, *words_of(item.asked)]
         done = subprocess.run(command, stdin=subprocess.DEVNULL, stdout=subprocess.PIPE,
                               stderr=subprocess.PIPE, encoding="utf-8", errors="replace",

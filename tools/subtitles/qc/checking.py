@@ -1,6 +1,7 @@
 """`subttx check --all`, asked about a pair: its list in a file, and what it comes to."""
 from __future__ import annotations
 
+import shutil
 import subprocess
 from typing import BinaryIO, Callable, Iterator
 
@@ -46,6 +47,11 @@ class Answer:
         if not is_answer:
             raise Unclear(f"check was not answered: {self.last or 'it printed nothing'}, status "
                           f"{status}")
+
+    def move(self, path: str) -> None:
+        """Moves the file of its lines."""
+        shutil.move(self.path, path)
+        self.path = path
 
     def accept(self, line: str) -> None:
         """Takes a subtitle file without faults, which is all that was asked about."""

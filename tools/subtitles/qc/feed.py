@@ -9,7 +9,7 @@ from typing import Callable, Iterator
 from .carriers import Kept
 from .live import Live
 
-ORIGIN = re.compile(r"--origin (\d+)\n")
+ORIGIN = re.compile(r"--origin (\d+)\n")  # of all that has come
 AGREE = re.compile(r"(\d+) of (\d+) edges? agree")
 ENOUGH = 5  # edges that agree on an origin before anything is judged by it
 WAIT = 5.0  # seconds between two looks for the origin, at least
@@ -69,7 +69,7 @@ class Feed:
                 self.take(kept, data)
             if not self.live:
                 show()
-            elif self.live.window.is_over and self.is_all(kept):
+            elif self.live.is_over() and self.is_all(kept):
                 return
 
     def take(self, kept: Kept, data: bytes) -> None:
@@ -88,7 +88,7 @@ class Feed:
     def is_all(self, kept: Kept) -> bool:
         """Whether the origin is that of all that has come; else nothing more is judged by it."""
         if self.origin is not None or not self.live or \
-                self.finder.look(kept) == self.live.window.origin:
+                self.finder.look(kept) == self.live.origin:
             return True
         self.has_break = True
         self.drop()

@@ -3,46 +3,31 @@ from __future__ import annotations
 
 import subprocess
 import threading
-from typing import BinaryIO
+from typing import TYPE_CHECKING, BinaryIO
 
-from ..pes import has_pts, pes_packets, pts_in
-from ..times import CLOCK, TICKS, time_of
+from ..cutting import Cut
+from ..pes import pes_packets
+from ..teletext import Page
+from ..times import time_of
 from ..words import counted
-from .carriers import has_header
 from .checking import Answer
+from .names import Names
 from .speech import Speech
 
-
-class Window:
-    """The frames of which a verdict speaks, and the PES packets that are of them.
-
-    As tools/cut cuts: those of the frames, from the first header of the page on.
-    """
-
-    def __init__(self, page: tuple[int, int], origin: int, begin: int, end: int) -> None:
-        self.page, self.origin, self.begin, self.end = page, origin, begin, end
-        self.frame: int | None = None
-        self.is_begun = self.is_over = False
-
-    def takes(self, data: bytes) -> bool:
-        """Whether a PES packet is to be judged; nothing after it is, where the time `is_over`."""
-        if has_pts(data):
-            self.frame = (pts_in(data) - self.origin) % CLOCK // TICKS
-        if self.frame is None or not self.begin <= self.frame <= self.end:
-            self.is_over = self.is_begun and self.frame is not None and self.frame > self.end
-            return False
-        self.is_begun = self.is_begun or has_header(data, self.page)
-        return self.is_begun
+if TYPE_CHECKING:
+    from .steps import Found
 
 
 class Live:
-    """A call of `check --all` that reads what it is handed; it is heard beside that."""
+    """A call of `check --all` that is handed the PES packets of the time of the subtitles; it is
+    heard beside that."""
 
-    def __init__(self, command: list[str], window: Window, cut_path: str, list_path: str,
+    def __init__(self, command: list[str], found: Found, page: Page, names: Names,
                  speech: Speech) -> None:
-        self.window, self.speech = window, speech
-        self.answer = Answer(list_path)
-        self.kept: BinaryIO = open(cut_path, "wb")
+        self.cut, self.speech = Cut(found.begin, found.end, page, found.origin), speech
+        self.origin, self.answer = found.origin, Answer(names.list_path)
+        self.kept: BinaryIO = open(names.cut_path, "wb")
+        self.has_ended = False  # the program, before all was handed on
         self.process = subprocess.Popen(command, stdin=subprocess.PIPE, stdout=subprocess.PIPE)
         self.listener = threading.Thread(target=self.listen, daemon=True)
         self.listener.start()
@@ -63,21 +48,25 @@ class Live:
 
     def put(self, data: bytes) -> None:
         """Hands on a PES packet, where it is to be judged."""
-        if self.window.takes(data) and not self.window.is_over:
+        for one in self.cut.taken([data]):
             assert self.process.stdin
-            self.kept.write(data)
+            self.kept.write(one)
             try:
-                self.process.stdin.write(data)
+                self.process.stdin.write(one)
                 self.process.stdin.flush()
             except BrokenPipeError:
-                self.window.is_over = True  # what it said tells why
+                self.has_ended = True  # what it said tells why
         if self.speech.progress.is_due():
             self.show()
 
+    def is_over(self) -> bool:
+        """Whether nothing more is to be judged."""
+        return self.cut.is_over or self.has_ended
+
     def show(self, still: float = 0.0) -> None:
         """The time of the last PES packet, the faults so far, and how long nothing has come."""
-        if self.window.frame is not None:
-            line = f"{time_of(self.window.frame)}  {counted(self.answer.count, 'fault')}"
+        if self.cut.frame is not None:
+            line = f"{time_of(self.cut.frame)}  {counted(self.answer.count, 'fault')}"
             self.speech.show(line + (f"  nothing for {still:.0f} s" if still else ""))
 
     def end(self) -> Answer:

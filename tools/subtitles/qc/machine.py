@@ -28,11 +28,11 @@ def asked_words(asked: Asked) -> dict[str, Value]:
 
 
 def part_words(part: Part) -> dict[str, Value]:
-    answer = part.answer
-    return {"part": part.number, "stl": part.stl, "origin": part.origin, "from": part.begin,
-            "to": part.end, "verdict": answer.verdict, "line": answer.line,
+    answer, (begin, end) = part.answer, part.times()
+    return {"part": part.number, "stl": part.stl, "origin": part.origin, "from": begin, "to": end,
+            "verdict": answer.verdict, "line": answer.line,
             "frames": answer.frames, "transmissions": answer.transmissions,
-            "faults": answer.count}
+            "faults": answer.count, "pes": file_words(part.judged)}
 
 
 def gap_words(gap: Gap) -> dict[str, Value]:
@@ -64,8 +64,7 @@ def head_of(verdict: Verdict, program: Program) -> dict[str, Value]:
         "asked": asked_words(verdict.asked),
         "parts": [part_words(part) for part in parts],
         "lost": [gap_words(gap) for gap in verdict.gaps],
-        "inputs": {"stl": file_words(verdict.stl), "recording": file_words(verdict.recording),
-                   "pes": file_words(verdict.judged)},
+        "inputs": {"stl": file_words(verdict.stl), "recording": file_words(verdict.recording)},
         "program": program._asdict(),
         "commands": verdict.commands,
         "date": verdict.date,

@@ -4,8 +4,15 @@ from __future__ import annotations
 import argparse
 
 from ..words import Stop, Words
-from . import batch, single
+from . import single
 from .asked import add_pair_options
+
+
+def jobs_word(text: str) -> int:
+    """How many pairs are judged at a time."""
+    if not (text.isascii() and text.isdecimal() and int(text)):
+        raise argparse.ArgumentTypeError(f"{text} is no number of pairs at a time")
+    return int(text)
 
 
 def parser_of(text: str) -> Words:
@@ -21,7 +28,7 @@ def parser_of(text: str) -> Words:
     parser.add_argument("-p", dest="program", metavar="PROGRAM",
                         help="the program that is asked, ./subttx where it is left out")
     parser.add_argument("--batch", metavar="FOLDER|LIST", help="judge many pairs")
-    parser.add_argument("--jobs", type=batch.jobs_word, metavar="N",
+    parser.add_argument("--jobs", type=jobs_word, metavar="N",
                         help="pairs at a time, as many as processors where it is left out")
     # For the calls that --batch makes.
     parser.add_argument("--name", help=argparse.SUPPRESS)
@@ -36,6 +43,7 @@ def main(text: str, called: str, line: list[str]) -> int:
         if words.stl is not None:
             raise Stop(f"{words.stl} stands beside --batch, which takes its pairs from "
                        f"{words.batch}")
+        from . import batch  # one pair needs nothing of it
         return batch.judge(words, called)
     if words.stl is None:
         raise Stop("give a subtitle file, and a recording; --help tells all words")

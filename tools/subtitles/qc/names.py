@@ -1,6 +1,7 @@
 """The files that the steps make, and the call of this tool, as a person types them."""
 from __future__ import annotations
 
+import glob
 import os
 
 from .asked import Asked
@@ -10,26 +11,48 @@ from .typed import Typed, line_of
 class Names:
     """The files that the steps make: as a person types them, and where they stand here.
 
-    What is judged is kept in the folder that was asked for; the rest is temporary.
+    What is judged is kept in the folder that was asked for; the rest is temporary, under the names
+    that a person would type.
     """
 
     def __init__(self, name: str, folder: str, out: str | None) -> None:
         self.name, self.folder, self.out = name, folder, out
-        self.whole, self.cut = (self.typed(f"{name}.{kind}.pes") for kind in ("recording", "cut"))
-        self.whole_path = os.path.join(folder, f"{name}.recording.pes")
-        self.cut_path = os.path.join(out or folder, f"{name}.cut.pes")
-        self.list_path = self.typed(f"{name}.txt") if out else os.path.join(folder, f"{name}.txt")
-        self.report = self.typed(f"{name}.html")
-        self.machine = self.typed(f"{name}.json") if out else None
+        self.whole, self.whole_path = self.typed("recording.pes"), self.temporary("recording.pes")
+        self.cut, self.cut_path = self.typed("cut.pes"), self.place("cut.pes")
+        self.stl, self.stl_path = self.typed("stl"), self.place("stl")  # of a part
+        self.list_path = self.place("txt")
+        self.report = self.typed("html")
+        self.machine = self.typed("json") if out else None
 
-    def typed(self, name: str) -> str:
-        return os.path.join(self.out, name) if self.out else name
+    def typed(self, ending: str) -> str:
+        """A file as it is typed."""
+        return os.path.join(self.out or "", f"{self.name}.{ending}")
+
+    def temporary(self, ending: str) -> str:
+        """Where it stands, if it is not kept."""
+        return os.path.join(self.folder, f"{self.name}.{ending}")
+
+    def place(self, ending: str) -> str:
+        """Where it stands, if it is kept where a folder is asked for."""
+        return self.typed(ending) if self.out else self.temporary(ending)
+
+    def of_part(self, number: int) -> Names:
+        """The files of a part."""
+        return Names(f"{self.name}.{number}", self.folder, self.out)
+
+    def kept(self) -> list[str]:
+        """What an earlier call may have left in the folder: files of the pair, and of its parts."""
+        if self.out is None:
+            return []
+        own = [self.cut_path, self.list_path, self.report, self.typed("json")]
+        return own + [path for ending in ("stl", "cut.pes", "txt", "html") for path in
+                      glob.glob(os.path.join(glob.escape(self.out), f"{glob.escape(self.name)}."
+                                             f"[1-9]*.{ending}"))
+                      if os.path.basename(path)[len(self.name) + 1:-len(ending) - 1].isdecimal()]
 
     def as_typed(self, line: str) -> str:
         """A line of a tool, in which files have the names that a person types."""
-        for path, name in ((self.whole_path, self.whole), (self.cut_path, self.cut)):
-            line = line.replace(path, name)
-        return line
+        return line.replace(os.path.join(self.folder, ""), os.path.join(self.out or "", ""))
 
 
 def again(asked: Asked, typed: Typed, *more: str) -> str:

@@ -2,7 +2,6 @@
 from __future__ import annotations
 
 import argparse
-import datetime
 import io
 import itertools
 import json
@@ -31,7 +30,7 @@ SUMMED = 100  # lines of a list in a summary, and in a file for a CI
 
 def now() -> str:
     """The time, in UTC."""
-    return datetime.datetime.now(datetime.timezone.utc).strftime("%Y-%m-%dT%H:%M:%SZ")
+    return time.strftime("%Y-%m-%dT%H:%M:%SZ", time.gmtime())
 
 
 def judge(words: argparse.Namespace, called: str) -> int:
@@ -60,6 +59,8 @@ def judge(words: argparse.Namespace, called: str) -> int:
 
 def end(verdict: Verdict, speech: Speech) -> None:
     """Says the verdict, after what was lost and what is not clear."""
+    for line in verdict.lines():
+        speech.say(line)
     for gap in verdict.gaps:
         speech.tell(f"between {gap.after or 'the beginning'} and {gap.before or 'the end'}: "
                     f"{gap.words}" + ("" if gap.is_judged else ", outside of what is judged"))
@@ -80,8 +81,7 @@ class Files:
     def __init__(self, words: argparse.Namespace, verdict: Verdict, typed: Typed,
                  names: Names) -> None:
         self.words, self.verdict, self.typed, self.names = words, verdict, typed, names
-        self.of_pair = [names.cut_path, names.list_path, names.report, names.machine] \
-            if names.out else []
+        self.of_pair = names.kept()
 
     def prepare(self) -> None:
         """Makes the folder, and takes away what an earlier call left of this pair."""

@@ -4,6 +4,7 @@ from __future__ import annotations
 import os
 import shlex
 import shutil
+import sys
 
 from ..built import TOP
 from ..words import INSTALLED, Stop
@@ -39,9 +40,9 @@ class Typed:
         return os.path.join(self.folder, INSTALLED + name if self.is_installed else name)
 
     @staticmethod
-    def path(name: str) -> str:
-        """The file of a tool."""
-        return os.path.join(TOP, "tools", name)
+    def call(name: str) -> list[str]:
+        """The words that call a tool, whatever python3 is on the PATH."""
+        return [sys.executable, os.path.join(TOP, "tools", name)]
 
 
 def line_of(*words: str) -> str:

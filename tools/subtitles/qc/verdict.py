@@ -4,6 +4,7 @@ from __future__ import annotations
 import dataclasses
 
 from ..joining import Place
+from ..times import time_of
 from .asked import Asked
 from .checking import ACCEPTED_WORD, NOT_JUDGED, REFUSED_WORD, Answer
 from .severity import Severity
@@ -17,7 +18,7 @@ class Part:
     """A part of a pair that was judged by itself: its files, and what `check --all` said.
 
     `stl` is the subtitle file as it is typed, `stl_path` and `pes` are the files to be read.
-    `begin` and `end` are the times of the first and the last frame of which the verdict speaks.
+    `begin` and `end` are the first and the last frame of which the verdict speaks.
     """
 
     number: int
@@ -25,9 +26,15 @@ class Part:
     stl_path: str
     pes: str | None
     origin: int | None
-    begin: str | None
-    end: str | None
+    begin: int | None
+    end: int | None
+    judged: File | None
     answer: Answer
+
+    def times(self) -> tuple[str | None, str | None]:
+        """Those frames as times."""
+        return (None if self.begin is None else time_of(self.begin),
+                None if self.end is None else time_of(self.end))
 
 
 @dataclasses.dataclass
@@ -54,7 +61,6 @@ class Verdict:
     commands: list[str] = dataclasses.field(default_factory=list)
     stl: File | None = None
     recording: File | None = None
-    judged: File | None = None
     reason: str | None = None
     to_type: tuple[str, ...] = ()
 
@@ -93,11 +99,20 @@ class Verdict:
 
     @property
     def line(self) -> str | None:
-        """The line of `check` of the first part that is refused, else of the last one."""
-        refused = [part for part in self.parts if part.answer.status]
-        if self.word == NOT_JUDGED:
+        """The line of `check` of the first part that is refused; else of the only one, or of all.
+        """
+        word, answers = self.word, [part.answer for part in self.parts]
+        if word == NOT_JUDGED:
             return None
-        line = (refused or self.parts[-1:])[0].answer.line
-        if self.word == LOST:
-            return f"not accepted, since TS packets are lost: {line}"
-        return line
+        if word == REFUSED_WORD:
+            return next(answer.line for answer in answers if answer.status)
+        line = answers[0].line if len(answers) == 1 else \
+            (f"accepted {sum(answer.frames or 0 for answer in answers)} frames "
+             f"{sum(answer.transmissions or 0 for answer in answers)} transmissions in "
+             f"{len(answers)} parts")
+        return f"not accepted, since TS packets are lost: {line}" if word == LOST else line
+
+    def lines(self) -> list[str]:
+        """A line for each of several parts: from when to when it is, and what is said of it."""
+        return [f"part {part.number}, from {' to '.join(map(str, part.times()))}: "
+                f"{part.answer.line}" for part in self.parts] if len(self.parts) > 1 else []

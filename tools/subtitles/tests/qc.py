@@ -1,6 +1,7 @@
 """tools/qc on a pair: from a recording to a verdict."""
 from __future__ import annotations
 
+import json
 import os
 import subprocess
 
@@ -183,6 +184,62 @@ def guesses_nothing(case: Case) -> None:
                   and done.told[-1].startswith("qc: "), done)
 
 
+def in_two_parts(case: Case) -> tuple[str, bytes]:
+    """A subtitle file, and PES packets that have a break of three minutes in its middle."""
+    blocks = [subtitle_blocks(number, begin, begin + 60, 20, 2, b"Subtitle %d" % number)
+              for number, begin in enumerate(range(900_000, 902_000, 100))]
+    data = b""
+    for number, origin in ((0, 1000), (10, 1000 + 4500 * TICKS)):
+        part = case.write("part.stl", gsi_block(b"Part", 10, 10) +
+                          b"".join(blocks[number:number + 10]))
+        case.schedule(part, "part.pes", "--every", "25", "--origin", str(origin))
+        data += case.read("part.pes")
+    return case.write("two.stl", gsi_block(b"Two parts", 20, 20) + b"".join(blocks)), data
+
+
+def judges_part_by_part(case: Case) -> None:
+    """A programme with a break: each part has an origin of its own."""
+    stl, data = in_two_parts(case)
+    words = [stl, case.write("two.ts", stream(case, "two", data))]
+    done = qc(case, *words, "-o", "out", "--json", "two.json")
+    lines = lines_of(done)
+    case.test("accepted", (done.status, lines[-3:]) == (0, [
+        "part 1, from 10:00:00:00 to 10:00:38:10: accepted 961 frames 49 transmissions",
+        "part 2, from 10:00:40:00 to 10:01:18:10: accepted 961 frames 49 transmissions",
+        "accepted 1922 frames 98 transmissions in 2 parts"]), done)
+    kept = sorted(os.listdir(case.path("out")))
+    case.test("its files", kept == sorted(
+        ["two.json", *(f"two.{number}.{ending}" for number in (1, 2)
+                       for ending in ("stl", "cut.pes", "txt", "html"))]), kept)
+    parts = json.loads(case.read("two.json"))["parts"]
+    case.test("its object", [(part["from"], part["to"], part["origin"]) for part in parts] ==
+              [("10:00:00:00", "10:00:38:10", 1000),
+               ("10:00:40:00", "10:01:18:10", 1000 + 4500 * TICKS)], parts)
+    done = qc(case, stl, "-", data=case.read("two.ts"))
+    case.test("a pipe", done.status == 0 and lines_of(done)[-1].endswith(" in 2 parts"), done)
+    second = bytearray(packets(data)[49])
+    second[117] ^= 0xFF  # another letter, also of odd parity
+    broken = b"".join([*packets(data)[:49], bytes(second), *packets(data)[50:]])
+    done = qc(case, stl, case.write("broken.pes", broken), "-o", "out")
+    case.test("a broken one", done.status == 1 and "part 1, " in lines_of(done)[-3]
+              and "accepted" in lines_of(done)[-3] and lines_of(done)[-1].startswith("refused "),
+              done)
+    done = qc(case, stl, case.write("one.pes", data[:len(data) // 2]))
+    case.test("one part is missing", done.status == 1, done)
+
+
+def waits_for_the_end_where_there_is_a_break(case: Case) -> None:
+    """The origin that is found in a feed is not that of all: it is judged part by part then."""
+    stl, data = in_two_parts(case)
+    half = len(b"".join(packets(data)[:40]))
+    command = '(head -c "$1" "$2"; sleep 6; tail -c +"$(($1 + 1))" "$2") | "$3" "$4" - -p "$5"'
+    done = case.call(["sh", "-c", command, "sh", str(half), case.write("two.pes", data),
+                      os.path.join(TOP, "tools", "qc"), stl, case.bench.program])
+    lines = lines_of(done)
+    case.test("in two parts", done.status == 0 and lines[-1].endswith(" in 2 parts"), done)
+    case.test("it was found", "/dev/stdin --origin 1000 --all" in lines[0], done)
+
+
 def leaves_inputs_alone(case: Case) -> None:
     """No file that is asked for takes the place of an input."""
     pes = case.write("story.cut.pes", example_bytes("story.pes"))
@@ -220,5 +277,6 @@ def uses_the_page_and_the_option(case: Case) -> None:
 
 
 CASES = [judges_a_recording, takes_pes_packets, judges_a_feed, ends_with_a_feed_that_goes_on,
-         judges_a_subtitle_file, refuses_what_was_lost, guesses_nothing, leaves_inputs_alone,
+         judges_a_subtitle_file, refuses_what_was_lost, judges_part_by_part,
+         waits_for_the_end_where_there_is_a_break, guesses_nothing, leaves_inputs_alone,
          heeds_severities, uses_the_page_and_the_option]

@@ -56,11 +56,6 @@ def judges_a_folder(case: Case) -> None:
     suite = tree.fromstring(case.read("all.xml"))[0]
     case.test("its testcases", (suite.get("tests"), suite.get("failures"), suite.get("errors")) ==
               ("12", "1", "1"), suite.attrib)
-    os.remove(os.path.join(folder, "07.stl"))
-    case.test("one is refused", qc(case, "--batch", folder).status == 1)
-    os.remove(os.path.join(folder, "05.stl"))
-    os.remove(os.path.join(folder, "05.pes"))
-    case.test("all are accepted", qc(case, "--batch", folder).status == 0)
 
 
 def judges_a_list(case: Case) -> None:
@@ -73,6 +68,8 @@ def judges_a_list(case: Case) -> None:
     case.test("accepted", done.status == 0 and len(lines_of(done)) == 5, done)
     kept = sorted(os.listdir(case.path("out")))
     case.test("its files", len(kept) == 4 * 3 and "german.html" in kept, kept)
+    case.write("refused", f"{STORY} {FIVE} --every 25\n{STORY}  {RECORDING}\n".encode())
+    case.test("refused", qc(case, "--batch", "refused").status == 1)
     case.write("list", (text + f"{hello}\n{hello} none.ts\n{hello} -\n").encode())
     done = qc(case, "--batch", "list", "--json", "list.json")
     case.test("what is no pair", done.status == 2 and sum(

@@ -1,0 +1,142 @@
+"""The steps from a recording to a verdict: each runs a command, and says it."""
+from __future__ import annotations
+
+import os
+import re
+import subprocess
+from typing import NamedTuple, Sequence
+
+from ..times import frame_of, time_of
+from .asked import Asked
+from .checking import Answer, check
+from .names import Names, again
+from .recording import Recording
+from .speech import Speech
+from .typed import Typed
+from .unclear import Unclear
+
+NO_PES = os.devnull
+SHOWN = re.compile(r"\d{5} (\S+) (\S+) ")  # a line of `show`
+FOUND = re.compile(r"(?:--from (\S+) --to (\S+) )?--origin (\d+)")  # a line of tools/origin
+
+
+class Found(NamedTuple):
+    """An origin, and the frames of the part that it is of."""
+
+    begin: int
+    end: int
+    origin: int
+
+
+class Stretch(NamedTuple):
+    """What is judged by itself: its subtitle file as it is typed and where it stands, the files
+    that are made of it, its first and its last frame, its origin."""
+
+    stl: str
+    stl_path: str
+    names: Names
+    begin: int
+    end: int
+    origin: int
+
+
+class Steps:
+    """The steps for a pair."""
+
+    def __init__(self, asked: Asked, typed: Typed, names: Names, speech: Speech) -> None:
+        self.asked, self.typed, self.names, self.speech = asked, typed, names, speech
+
+    def again(self, *more: str) -> str:
+        """The call of this tool, with more words."""
+        return again(self.asked, self.typed, *more)
+
+    def tool(self, name: str, words: Sequence[str], typed: Sequence[str]) -> tuple[int, str]:
+        """Runs a tool and says it as it is typed; answers its status and what it printed."""
+        self.speech.command(self.typed.tool(name), *typed)
+        done = subprocess.run([*self.typed.call(name), *words], stdin=subprocess.DEVNULL,
+                              stdout=subprocess.PIPE, stderr=subprocess.PIPE, encoding="utf-8",
+                              errors="replace", check=False)
+        for line in (done.stdout + done.stderr).splitlines():
+            self.speech.say(self.names.as_typed(line))
+        return done.returncode, done.stdout
+
+    def check_alone(self) -> Answer:
+        """What is wrong with the subtitle file; nothing is said of it yet."""
+        words = ["check", "--option", self.asked.option, "--all", "--", self.asked.stl, NO_PES]
+        return check([self.typed.program_path, *words], self.names.temporary("alone.txt"),
+                     lambda line: None)
+
+    def say_alone(self) -> None:
+        """Says the command for that."""
+        self.speech.command(self.typed.program_word, "check", self.asked.stl, NO_PES,
+                            *self.asked.option_words(), "--all")
+
+    def times(self, stl: str) -> list[tuple[int, int]]:
+        """The frames at which each subtitle of a file comes and goes."""
+        command = [self.typed.program_path, "show", "--", stl]
+        done = subprocess.run(command, stdin=subprocess.DEVNULL, stdout=subprocess.PIPE,
+                              encoding="utf-8", errors="replace", check=False)
+        if done.returncode:
+            raise Unclear(f"show was not answered: {''.join(done.stdout.splitlines()[-1:])}")
+        found = (SHOWN.match(line) for line in done.stdout.splitlines())
+        return [(frame_of(one[1]) or 0, frame_of(one[2]) or 0) for one in found if one]
+
+    def origins(self, recording: Recording, whole: Found) -> list[Found]:
+        """The origin that tools/origin finds, or those of the parts; else `Unclear`."""
+        asked = self.asked
+        more = [*asked.page_words(), *asked.option_words()]
+        status, printed = self.tool("origin", [asked.stl, recording.path, *more],
+                                    [asked.stl, recording.shown, *more])
+        lines = [FOUND.fullmatch(line) for line in printed.splitlines()]
+        found = [one for one in lines if one]
+        if status or not found or len(found) < len(lines):
+            raise Unclear("the origin is not clear, see above",
+                          self.again("--origin", "T"), self.again("--page", "P"))
+        return [whole._replace(origin=int(one[3])) if one[1] is None else
+                Found(frame_of(one[1]) or 0, frame_of(one[2]) or 0, int(one[3])) for one in found]
+
+    def part(self, number: int, found: Found) -> Stretch:
+        """Cuts the subtitles of a part out of the subtitle file."""
+        names = self.names.of_part(number)
+        times = ["--from", time_of(found.begin), "--to", time_of(found.end)]
+        self.tool("part", [self.asked.stl, *times, "-o", names.stl_path],
+                  [self.asked.stl, *times, "-o", names.stl])
+        if not os.path.exists(names.stl_path):
+            raise Unclear("a part of the subtitle file could not be made, see above")
+        return Stretch(names.stl, names.stl_path, names, *found)
+
+    def cut(self, recording: Recording, one: Stretch) -> None:
+        """Cuts the PES packets of the time of the subtitles out of the recording."""
+        more = [*self.asked.page_words(), *origin_words(one.origin)]
+        self.tool("cut", [recording.path, "--stl", one.stl_path, *more, "-o", one.names.cut_path],
+                  [recording.shown, "--stl", one.stl, *more, "-o", one.names.cut])
+        if not os.path.exists(one.names.cut_path):
+            raise Unclear("nothing of the page is in the recording at the time of the subtitles",
+                          self.again("--origin", "T"), self.again("--page", "P"))
+
+    def check(self, one: Stretch) -> Answer:
+        """Tells all that is broken."""
+        words = [*self.asked.check_words(), *origin_words(one.origin), "--all"]
+        self.speech.command(self.typed.program_word, "check", one.stl, one.names.cut, *words)
+        answer = check([self.typed.program_path, "check", *words, "--", one.stl_path,
+                        one.names.cut_path], one.names.list_path, self.speech.of_list)
+        self.speech.end_list(answer.last)
+        return answer
+
+    def draw(self, one: Stretch) -> None:
+        """Draws the report, where there is a folder for it."""
+        names = one.names
+        if names.out is None:
+            return
+        words = [*self.asked.check_words(), *origin_words(one.origin)]
+        status, _ = self.tool(
+            "preview", [one.stl_path, names.cut_path, *words, "-p", self.typed.program_path, "-o",
+                        names.report],
+            [one.stl, names.cut, *words, *self.typed.program_words, "-o", names.report])
+        if status == 2:
+            raise Unclear("no report was made, see above")
+
+
+def origin_words(origin: int) -> list[str]:
+    """The option for an origin, where it is not the one that is taken without."""
+    return ["--origin", str(origin)] if origin else []
