@@ -208,9 +208,9 @@ module _ (programme : ProgrammeValue) (options : OptionsValue) (is : IsOptions o
         let promises =
         promised programme t options (good_from bytes None t accepts.0 accepts.1) in
         record {
-          robust = promises.robust;
-          robust_to_loss = promises.to_loss;
-          recovers = promises.recovers;
+          robust = promises.headline.robust;
+          robust_to_loss = promises.headline.to_loss;
+          recovers = promises.headline.recovers;
           shown = λ asks.
               promises.shown (complete_pages bytes None t accepts.0 accepts.1 asks);
         };

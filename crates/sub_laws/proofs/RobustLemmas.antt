@@ -69,17 +69,17 @@ promised programme transmission options good =
 -- It is robust.
 pub law_of_good : LawOfGood
 law_of_good programme transmission options good =
-    (promised programme transmission options good).robust
+    (promised programme transmission options good).headline.robust
 
 -- Also to lost rows.
 pub law_of_good_and_marked_loss : LawOfGoodAndMarkedLoss
 law_of_good_and_marked_loss programme transmission options good =
-    (promised programme transmission options good).to_loss
+    (promised programme transmission options good).headline.to_loss
 
 -- By it receivers recover.
 pub law_of_good_and_recovery : LawOfGoodAndRecovery
 law_of_good_and_recovery programme transmission options good =
-    (promised programme transmission options good).recovers
+    (promised programme transmission options good).headline.recovers
 
 -- So do receivers that drop rows.
 pub law_of_good_dropping_and_recovery : LawOfGoodDroppingAndRecovery

@@ -28,7 +28,7 @@ use Rattle.sub_laws.specs.LostRows.{RobustToMarkedLoss}
 use Rattle.sub_laws.specs.OnScreen.{CompleteWithin, ShownWithin}
 use Rattle.sub_laws.specs.Recovery.{IsRestoredFrom, RecoversWithin}
 use Rattle.sub_laws.specs.Robust.{IsListening, Robust}
-use Rattle.sub_laws.specs.Stretch.{LawOfWholeStretch}
+use Rattle.sub_laws.specs.Stretch.{HasHeadline, LawOfWholeRecovery, LawOfWholeStretch}
 use Rattle.sub_laws.specs.Sufficient.{IsSufficient, LawOfStretch}
 use Rattle.sub_laws.proofs.AllKept.{law_of_all_kept}
 use Rattle.sub_laws.proofs.TransmissionLemmas.{packets_between-split}
@@ -218,14 +218,24 @@ module _ (programme : ProgrammeValue) (transmission : Transmission) (options : O
   robust_of_recovers =
       (law_of_all_kept programme transmission options).0 (λ g j f marks all. to_loss g j f marks)
 
+  -- And by it receivers recover: the headline, and what widens it.
+  headline : HasHeadline programme transmission options
+  headline = record {
+    robust = robust_of_recovers;
+    to_loss = to_loss;
+    recovers = λ g j f marks got old new listening may near hears.
+        (recovers g j f marks got old new listening listening.not_before listening.not_after may
+        near hears).restored;
+  }
+
+-- Recovery in all frames is enough for the headline.
+pub law_of_whole_recovery : LawOfWholeRecovery
+law_of_whole_recovery = headline
+
 -- What may be trusted of all frames is what is promised of the transmission.
 pub law_of_whole_stretch : LawOfWholeStretch
 law_of_whole_stretch programme transmission options trusted = record {
-  robust = robust_of_recovers programme transmission options (trusted.recovers Storing);
-  to_loss = to_loss programme transmission options (trusted.recovers Storing);
-  recovers = λ g j f marks got old new listening may near hears.
-      (trusted.recovers Storing g j f marks got old new listening listening.not_before
-      listening.not_after may near hears).restored;
+  headline = headline programme transmission options (trusted.recovers Storing);
   dropping = trusted.recovers Dropping;
   shown = λ complete g j f marks got old new listening.
       trusted.shown complete Storing g j f marks got old new listening listening.not_before

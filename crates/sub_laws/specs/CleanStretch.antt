@@ -1,5 +1,5 @@
--- A stretch of frames at which nothing is broken that a receiver depends on, whatever is broken
--- outside it, and of the other rules in it.
+-- A stretch of frames at which nothing is broken that a receiver depends on: where frames rise,
+-- whatever else is broken outside it, and of the other rules in it.
 use Rattle.std.specs.Prelude.{Bool, true, false, None, slice_index, IsFalse}
 use Rattle.std.specs.Prelude.{◌≡◌, ℕ, ◌-◌, ◌<◌, ◌≤◌, ◌⊎◌, List, [], ◌++◌, length, take, Some, find}
 use Rattle.std.specs.Prelude.{slice_index_or, Option, IsTrue}
@@ -118,8 +118,8 @@ pub record IsStretch (frames : Transmission) (a b : ℕ) : Type 0 where
   pub in_order : a ≤ b
   pub to : b ≤ last_frame frames
 
--- A clean stretch keeps all parts. Any other rule may be broken there, and any rule before and
--- after.
+-- A clean stretch keeps all parts. Any other rule may be broken there. Where frames rise, as the
+-- first part asks of the whole transmission, any other rule may be broken before and after.
 pub record IsClean (g : Task) (frames : Transmission) (a b : ℕ) : Type 0 where
   pub stretch : IsStretch frames a b
   pub kept : (part : Part) → IsKeptWithin part g frames a b

@@ -8,7 +8,7 @@ ghost use Rattle.sub_rules.specs.PesReading.{LawOfPesFiles};
 ghost use Rattle.sub_laws.specs.Planned.{LawOfPlan, LawOfPlanRead};
 ghost use Rattle.sub_rules.specs.Rules.{LawOfRules};
 ghost use Rattle.sub_laws.specs.StepByStep.{LawOfCleanSpans, LawOfRepeats, LawOfSpansByPacket};
-ghost use Rattle.sub_laws.specs.Stretch.{LawOfWholeStretch};
+ghost use Rattle.sub_laws.specs.Stretch.{LawOfWholeRecovery, LawOfWholeStretch};
 ghost use Rattle.sub_laws.specs.Sufficient.{LawOfStretch, LawOfSufficientParts};
 ghost use Rattle.sub_laws.specs.ToldStretch.{LawOfToldStretch};
 
@@ -40,7 +40,8 @@ pub fn law_of_stretch()
     ensures { LawOfStretch }
 {}
 
-/// A stretch of frames that is clean may be trusted, whatever is broken outside it.
+/// Where frames rise, a stretch of frames that is clean may be trusted, whatever else is broken
+/// outside it.
 pub fn law_of_clean_stretch()
     ensures { LawOfCleanStretch }
 {}
@@ -58,6 +59,12 @@ pub fn law_of_untold_stretch()
 #[tactic(auto, using(crate::proofs::ToldStretchLemmas::law_of_told_stretch))]
 pub fn law_of_told_stretch()
     ensures { LawOfToldStretch }
+{}
+
+/// Where receivers recover in all frames of a transmission it is robust, with lost rows too, and
+/// receivers recover by it from whatever they held before.
+pub fn law_of_whole_recovery()
+    ensures { LawOfWholeRecovery }
 {}
 
 /// What may be trusted of all frames of a transmission is what is promised of it.
