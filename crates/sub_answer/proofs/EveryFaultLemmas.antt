@@ -1,14 +1,14 @@
 -- What a printer was told of two files, and what is answered by it. Main lemmas: after_error,
--- after_faults, after_pes_error, after_pes, answers_cut, answers_end.
+-- after_faults, after_pes, answers_cut, answers_end.
 use Rattle.std.proofs.Common.{◌≡◌, ◌∙◌, ap, refl, sym, subst, arith, inl, inr, ℕ, ◌+◌, ◌<◌}
 use Rattle.std.proofs.Common.{◌≤◌}
 use Rattle.std.proofs.Common.{zero, suc, List, [], ◌∷◌, take, length, Bool, true}
 use Rattle.std.proofs.Common.{false, Option, Some, None, Result, Ok, Err, ◌-◌}
 use Rattle.std.proofs.lemmas.Bool.{true≢false}
 use Rattle.std.proofs.lemmas.Bool.Decides.{nat_tests}
-use Rattle.std.specs.Prelude.{◌⊎◌}
+use Rattle.std.specs.Prelude.{◌⊎◌, IfOk, IfErr, is_none}
 use Rattle.std.specs.List.{filter}
-use Rattle.sub_io.specs.Device.{RisesIf}
+use Rattle.sub_io.specs.Device.{RisesIf, failed}
 use Rattle.sub_io.specs.Reading.{IfTold}
 use Rattle.sub_io.specs.Telling.{Tells, TellsSome}
 use Rattle.ttx_packet.specs.PageId.{PageIdValue}
@@ -321,19 +321,19 @@ module _ {D N : Type 0} (IsTold : D → Event → D → Type 0) (name : D → N)
     listed = λ file told. record { programme = programme; loads = loads file told; listed = are };
   }
 
-  go_pes : (o : Option (List ℕ)) (n : ℕ) (stopped : Bool)
+  go_pes : (o : Option (List ℕ)) (n : ℕ)
       → pes.told ≡ o
       → (value new).failed ≡ false
       → TellsSome IsTold old new
-      → IfTold pes.told (λ bytes. TellsEvents programme options bytes IsTold old new stopped
+      → IfTold pes.told (λ bytes. TellsEvents programme options bytes IsTold old new
       (Err (fault.Pes n pes_fault.Read)))
       → RisesIf pes.old_count true pes.new_count
       → ((index : ℕ) → n ≡ index → FailsAtPacket index pes.told pes.left)
       → TellsBoth national options stl pes (value old) (value new)
       (Err (fault.Pes n pes_fault.Read))
-  go_pes None n stopped is quiet some told count fails =
+  go_pes None n is quiet some told count fails =
       failed_pes n some.items quiet some.told count fails (λ bytes heard. cc)
-  go_pes (Some bytes) n stopped is quiet some told count fails =
+  go_pes (Some bytes) n is quiet some told count fails =
       let here = told bytes is in
       let file = pes_file_of options.origin bytes in
       let at : here.0 ≡ n = let e = here.2 in cc in
@@ -346,41 +346,40 @@ module _ {D N : Type 0} (IsTold : D → Event → D → Type 0) (name : D → N)
       let same : bytes ≡ other = cc in
       rw (sym same) (subst (λ (m : ℕ). m ≤ length file.frames) at here.1, refl))
 
-  -- The source of the PES file failed. For `tell_every_fault`.
-  pub after_pes_error : (f : CheckFault) (stopped : Bool)
+  -- The source of the PES file failed.
+  after_pes_error : (f : CheckFault)
       → is_pes_read f ≡ true
       → (value new).failed ≡ false
       → TellsSome IsTold old new
-      → IfTold pes.told (λ bytes.
-      TellsEvents programme options bytes IsTold old new stopped (Err f))
+      → IfTold pes.told (λ bytes. TellsEvents programme options bytes IsTold old new (Err f))
       → RisesIf pes.old_count (is_pes_read f) pes.new_count
       → ((index : ℕ)
-      → (let r : Result Accepted CheckFault = Err f in r) ≡ Err (fault.Pes index pes_fault.Read)
+      → (let r : Result (Option Accepted) CheckFault = Err f in r)
+      ≡ Err (fault.Pes index pes_fault.Read)
       → FailsAtPacket index pes.told pes.left)
       → TellsBoth national options stl pes (value old) (value new) (Err f)
-  after_pes_error (fault.Pes n pes_fault.Read) stopped is quiet some told count fails =
-      go_pes pes.told n stopped refl quiet some told count
-      (λ index e. fails index (ap (λ m. let r : Result Accepted CheckFault
+  after_pes_error (fault.Pes n pes_fault.Read) is quiet some told count fails =
+      go_pes pes.told n refl quiet some told count
+      (λ index e. fails index (ap (λ m. let r : Result (Option Accepted) CheckFault
       = Err (fault.Pes m pes_fault.Read) in r) e))
-  after_pes_error f stopped is quiet some told count fails = cc
+  after_pes_error f is quiet some told count fails = cc
 
   -- These are the events of the PES file, of which the sink may have a part.
-  read_pes : (items : List Event) (a given : Accepted)
+  read_pes : (items : List Event) (a : Accepted) (given : Result (Option Accepted) CheckFault)
       → PrintsEvents (value old) items (value new)
-      → ((value new).failed ≡ false → a ≡ given)
+      → ((value new).failed ≡ false → Ok (Some a) ≡ given)
       → RisesIf pes.old_count false pes.new_count
       → IfTold pes.told (λ bytes. (items ≡ pes_events.events
       (task_of programme options (pes_file_of options.origin bytes).unread)
       (pes_file_of options.origin bytes).frames)
       × CountsRead options.page (pes_file_of options.origin bytes).frames a)
       → ((value new).failed ≡ false
-      → IfTold pes.told (λ bytes. IsChecked programme options bytes (first_answer items given)))
-      → TellsBoth national options stl pes (value old) (value new) (Ok (Some given))
+      → IfTold pes.told (λ bytes. IsChecked programme options bytes (first_answer items a)))
+      → TellsBoth national options stl pes (value old) (value new) given
   read_pes items a given prints same count are verdict = record {
     events = items;
     answer = Ok (Some a);
-    same = λ holds. ap (λ (x : Accepted). let r : Result (Option Accepted) CheckFault
-        = Ok (Some x) in r) (same holds);
+    same = same;
     prints = prints;
     stl_count = stl_count;
     pes_count = count;
@@ -393,36 +392,53 @@ module _ {D N : Type 0} (IsTold : D → Event → D → Type 0) (name : D → N)
         let here = loads file heard in
         let one : programme ≡ other = cc in
         subst (λ (p : ProgrammeValue). IsChecked p options bytes (first_answer items a)) one
-        (subst (λ (x : Accepted). IsChecked programme options bytes (first_answer items x))
-        (sym (same holds)) (verdict holds bytes known));
+        (verdict holds bytes known);
     listed = λ file told. record { programme = programme; loads = loads file told; listed = are };
   }
 
-  go_events : (bytes : List ℕ) (given : Accepted) (stopped b : Bool)
-      → pes.told ≡ Some bytes
-      → (value new).failed ≡ b
-      → stopped ≡ b
-      → TellsEvents programme options bytes IsTold old new stopped (Ok given)
+  -- The PES file was read.
+  after_all : (o : Option (List ℕ)) (given : Accepted)
+      → pes.told ≡ o
+      → TellsSome IsTold old new
+      → IfTold pes.told (λ bytes. TellsEvents programme options bytes IsTold old new
+      (Ok (Some given)))
       → RisesIf pes.old_count false pes.new_count
       → TellsBoth national options stl pes (value old) (value new) (Ok (Some given))
-  go_events bytes given false false is holds stops told count =
+  after_all None given is some told count =
+      read_pes some.items given (Ok (Some given)) (put some.items some.told).1 (λ holds. refl) count
+      (λ bytes heard. cc) (λ holds bytes heard. cc)
+  after_all (Some bytes) given is some told count =
       let file = pes_file_of options.origin bytes in
       let whole = pes_events.events (task_of programme options file.unread) file.frames in
-      read_pes whole given given (put whole told.0).1 (λ holds. refl) count
+      let here = told bytes is in
+      read_pes whole given (Ok (Some given)) (put whole here.0).1 (λ holds. refl) count
       (λ other heard.
       let same : bytes ≡ other = cc in
-      rw (sym same) (refl, (told.1 refl).0))
+      rw (sym same) (refl, here.1))
       (λ quiet other heard.
       let same : bytes ≡ other = cc in
-      rw (sym same) (told.1 refl).1)
-  go_events bytes given true true is failing stops told count =
+      rw (sym same) here.2)
+
+  -- The sink failed.
+  after_stop : (o : Option (List ℕ))
+      → pes.told ≡ o
+      → (value new).failed ≡ true
+      → TellsSome IsTold old new
+      → IfTold pes.told (λ bytes. TellsEvents programme options bytes IsTold old new (Ok None))
+      → RisesIf pes.old_count false pes.new_count
+      → TellsBoth national options stl pes (value old) (value new) (Ok None)
+  after_stop None is failing some told count =
+      read_pes some.items (record { frames = 0; transmissions = 0 }) (Ok None)
+      (put some.items some.told).1 (λ holds. absurd (true≢false (sym failing ∙ holds))) count
+      (λ bytes heard. cc) (λ holds bytes heard. cc)
+  after_stop (Some bytes) is failing some told count =
       let file = pes_file_of options.origin bytes in
       let whole = pes_events.events (task_of programme options file.unread) file.frames in
       let counts = some_counts options.page file.frames (length file.frames) refl in
-      let p = told.0 in
+      let p = told bytes is in
       let part =
       prints_all IsTold name value (λ (e : Event). e) one old new (take p.0 whole) goes few p.2 in
-      read_pes whole counts.0 given
+      read_pes whole counts.0 (Ok None)
       (as_told (value old) (value new) whole
       (prints-taken (λ (e : Event). e) (value old) (value new) p.0 whole failing part.1))
       (λ holds. absurd (true≢false (sym failing ∙ holds))) count
@@ -430,38 +446,36 @@ module _ {D N : Type 0} (IsTold : D → Event → D → Type 0) (name : D → N)
       let same : bytes ≡ other = cc in
       rw (sym same) (refl, counts.1))
       (λ quiet. absurd (true≢false (sym failing ∙ quiet)))
-  go_events bytes given true false is failing stops told count = cc
-  go_events bytes given false true is failing stops told count = cc
 
-  go_all : (o : Option (List ℕ)) (given : Accepted) (stopped : Bool)
-      → pes.told ≡ o
-      → stopped ≡ (value new).failed
-      → TellsSome IsTold old new
-      → IfTold pes.told (λ bytes. TellsEvents programme options bytes IsTold old new stopped
-      (Ok given))
-      → RisesIf pes.old_count false pes.new_count
-      → TellsBoth national options stl pes (value old) (value new) (Ok (Some given))
-  go_all None given stopped is stops some told count =
-      read_pes some.items given given (put some.items some.told).1 (λ holds. refl) count
-      (λ bytes heard. cc) (λ holds bytes heard. cc)
-  go_all (Some bytes) given stopped is stops some told count =
-      go_events bytes given stopped (value new).failed is refl stops (told bytes is) count
-
-  -- The PES file was read, or the sink failed. For `tell_every_fault`.
-  pub after_pes : (given : Accepted) (stopped : Bool)
+  -- The PES file was read, or its source failed, or the sink. For `tell_every_fault`.
+  pub after_pes : (r : Result (Option Accepted) CheckFault) (stopped : Bool)
       → ((value new).failed ≡ true → stopped ≡ true)
       → ((value new).failed ≡ false → (value new).count ≡ (value old).count → stopped ≡ false)
       → TellsSome IsTold old new
-      → IfTold pes.told (λ bytes. TellsEvents programme options bytes IsTold old new stopped
-      (Ok given))
-      → RisesIf pes.old_count false pes.new_count
-      → TellsBoth national options stl pes (value old) (value new) (Ok (Some given))
-  after_pes given stopped stops quiet some told count =
-      go_all pes.told given stopped refl (both (value new).failed refl) some told count
+      → IfTold pes.told (λ bytes. TellsEvents programme options bytes IsTold old new r)
+      → IfOk r (λ counts. stopped ≡ is_none counts)
+      → IfErr r (λ f. stopped ≡ false)
+      → IfErr r (λ f. is_pes_read f ≡ true)
+      → RisesIf pes.old_count (failed is_pes_read r) pes.new_count
+      → ((index : ℕ)
+      → r ≡ Err (fault.Pes index pes_fault.Read)
+      → FailsAtPacket index pes.told pes.left)
+      → TellsBoth national options stl pes (value old) (value new) r
+  after_pes (Ok (Some a)) stopped stops quiet some told is goes_on only count fails =
+      after_all pes.told a refl some told count
+  after_pes (Ok None) stopped stops quiet some told is goes_on only count fails =
+      after_stop pes.told refl (failing (value new).failed refl) some told count
     where
-      both : (b : Bool) → (value new).failed ≡ b → stopped ≡ (value new).failed
-      both true is = stops is ∙ sym is
-      both false is = quiet is ((put some.items some.told).1.put_count is) ∙ sym is
+      failing : (b : Bool) → (value new).failed ≡ b → (value new).failed ≡ true
+      failing true e = e
+      failing false e =
+          absurd (true≢false (sym is ∙ quiet e ((put some.items some.told).1.put_count e)))
+  after_pes (Err f) stopped stops quiet some told is goes_on only count fails =
+      after_pes_error f only (calm (value new).failed refl) some told count fails
+    where
+      calm : (b : Bool) → (value new).failed ≡ b → (value new).failed ≡ false
+      calm true e = absurd (true≢false (sym (stops e) ∙ goes_on))
+      calm false e = e
 
   -- The name of what it prints into stays.
   pub same_out : TellsSome IsTold old new → name new ≡ name old

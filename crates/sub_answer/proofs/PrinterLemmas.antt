@@ -187,12 +187,7 @@ pub has_stopped : (failed b : Bool) → failed ≡ true → (failed || b) ≡ tr
 has_stopped true b failing = refl
 has_stopped false b failing = absurd (true≢false (sym failing))
 
--- One that has not said stop has not failed.
-pub not_failed : (failed b : Bool) → (failed || b) ≡ false → failed ≡ false
-not_failed true b holds = holds
-not_failed false b holds = refl
-
--- The same, where it can't have said so.
+-- One that can't have said stop has not failed.
 pub cannot_fail : (failed b : Bool) → ((failed || b) ≡ true → ⊥) → failed ≡ false
 cannot_fail true b holds = absurd (holds refl)
 cannot_fail false b holds = refl

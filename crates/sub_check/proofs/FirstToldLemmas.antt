@@ -1,9 +1,9 @@
--- What a device was told that stops at the first event decides the answer of `check`: `decided`,
--- `read_up_to`; and what any device was told, `tells_events`.
+-- What a device was told that stops at the first event decides the answer of `check`:
+-- `nothing_told`, `fault_named`, `read_up_to`; and what any device was told, `tells_events`.
 use Rattle.std.proofs.lemmas.Bool.Decides.{nat_tests}
 use Rattle.std.proofs.Common.{◌≡◌, ℕ, ◌+◌, ◌<◌, List, [], ◌∷◌, ◌++◌, length, take}
 use Rattle.std.proofs.Common.{drop, Option, Some, None, is_some, Result, MatchResult, Ok, Err, refl}
-use Rattle.std.proofs.Common.{sym, ap, ◌∙◌, subst, arith, All, Bool, false}
+use Rattle.std.proofs.Common.{sym, ap, ◌∙◌, subst, arith, All, Bool, false, true}
 use Rattle.std.specs.List.{AllByRecursion}
 use Rattle.std.proofs.lemmas.List.{take-append-drop}
 use Rattle.std.proofs.lemmas.List.Elements.{All-from_recursion}
@@ -79,6 +79,15 @@ of_place : (g : Task) (frames : Transmission)
     → IsRuleFault (fault_at g frames x)
 of_place g frames h x = grind (arith, nat_tests, of_packet, of_unread)
 
+-- A rule tells no failed read.
+pub no_read : (f : CheckFault) (pes : ℕ)
+    → IsRuleFault f
+    → (let r : Result Accepted CheckFault = Err f in r) ≡ Err (fault.Pes pes Read)
+    → ⊥
+no_read f pes own is =
+    let same : f ≡ fault.Pes pes Read = cc in
+    true≢false (sym (ap is_pes_read same) ∙ own.no_source)
+
 -- ---- what is told
 
 module _ (g : Task) (origin : ℕ) (bytes : List ℕ) (frames : Transmission)
@@ -116,29 +125,40 @@ module _ (g : Task) (origin : ℕ) (bytes : List ℕ) (frames : Transmission)
         subst IsRuleFault (sym is)
         (of_place g frames (no_device origin bytes frames g.unread reads) x)
 
-    -- The answer of `check`, where the source did not fail.
-    pub decided : (none first : Option Event) (a : Accepted) (answer : Result Accepted CheckFault)
+    -- Nothing was told to a device that stops at the first event: all that is asked holds.
+    pub nothing_told : (none first : Option Event) (a : Accepted)
         → none ≡ None
-        → TellsAll g origin bytes frames KeepsFirst none first (is_some first) (Ok a)
-        → (first ≡ None → answer ≡ Ok a)
-        → ((f : CheckFault) → first ≡ Some (Told f) → IsRuleFault f → answer ≡ Err f)
-        → MatchResult answer (Accepts g origin bytes frames) (NamesFirst g frames)
-    decided (Some x) first a answer e told accepted refused = cc
-    decided None None a answer e (told, is) accepted refused =
-        rw (accepted refl) (accepts a (is refl) (sym (first_is None (events g frames) told)))
-    decided None (Some x) a answer e ((n, l, told), is) accepted refused =
-        let t = named x n (first_is (Some x) (take n (events g frames)) told) in
-        rw (refused t.0 (ap Some t.1) (own t.0 t.2)) t.2
+        → is_some first ≡ false
+        → TellsAll g origin bytes frames KeepsFirst none first (Ok (Some a))
+        → Accepts g origin bytes frames a
+    nothing_told (Some x) first a e quiet told = cc
+    nothing_told None (Some x) a e quiet told = cc
+    nothing_told None None a e quiet (told, is) =
+        accepts a is (sym (first_is None (events g frames) told))
 
-    -- And where it failed.
+    -- Something was: the fault that `check` answers is named.
+    pub fault_named : (none first : Option Event) (answer : CheckFault)
+        → none ≡ None
+        → is_some first ≡ true
+        → TellsAll g origin bytes frames KeepsFirst none first (Ok None)
+        → ((f : CheckFault) → first ≡ Some (Told f) → IsRuleFault f → answer ≡ f)
+        → NamesFirst g frames answer
+    fault_named (Some x) first answer e some told refused = cc
+    fault_named None None answer e some told refused = cc
+    fault_named None (Some x) answer e some (n, l, told) refused =
+        let t = named x n (first_is (Some x) (take n (events g frames)) told) in
+        subst (NamesFirst g frames) (sym (refused t.0 (ap Some t.1) (own t.0 t.2))) t.2
+
+    -- The source failed.
     pub read_up_to : (none first : Option Event) (f : CheckFault) (pes : ℕ)
         → none ≡ None
-        → TellsAll g origin bytes frames KeepsFirst none first (is_some first) (Err f)
+        → is_some first ≡ false
+        → TellsAll g origin bytes frames KeepsFirst none first (Err f)
         → f ≡ fault.Pes pes Read
         → IsReadUpTo g frames pes
-    read_up_to (Some x) first f pes e told failed = cc
-    read_up_to None (Some x) f pes e (n, l, is, told, quiet) failed = cc
-    read_up_to None None f pes e (n, l, is, told, quiet) failed =
+    read_up_to (Some x) first f pes e quiet told failed = cc
+    read_up_to None (Some x) f pes e quiet told failed = cc
+    read_up_to None None f pes e quiet (n, l, is, told) failed =
         let same : fault.Pes n Read ≡ fault.Pes pes Read = sym is ∙ failed in
         let at : n ≡ pes = cc in
         let past : AreOk g frames n =
@@ -207,24 +227,23 @@ checked_first programme options bytes a fine p is =
 -- What was told of the file as one value. For `check_all`.
 pub tells_events :
     (programme : ProgrammeValue) (options : OptionsValue) (bytes : List ℕ)
-    {D : Type 0} (IsTold : D → Event → D → Type 0) (old new : D) (stopped : Bool)
-    (r : Result Accepted CheckFault)
+    {D : Type 0} (IsTold : D → Event → D → Type 0) (old new : D)
+    (r : Result (Option Accepted) CheckFault)
     → IsOptions options
     → IsProgramme programme.national programme.records
     → ((frames : Transmission) (unread : Option Unread)
     → ReadsAs options.origin 0 bytes frames unread
-    → TellsAll (task_of programme options unread) options.origin bytes frames IsTold old new stopped
-    r)
-    → TellsEvents programme options bytes IsTold old new stopped r
-tells_events programme options bytes IsTold old new stopped (Ok a) fine p told =
+    → TellsAll (task_of programme options unread) options.origin bytes frames IsTold old new r)
+    → TellsEvents programme options bytes IsTold old new r
+tells_events programme options bytes IsTold old new (Ok (Some a)) fine p told =
     let file = pes_file_of options.origin bytes in
     let whole = told file.frames file.unread refl in (
       whole.0,
-      λ quiet. (
-        (whole.1 quiet).counts,
-        checked_first programme options bytes a fine p
-            (λ frames unread reads. (told frames unread reads).1 quiet),
-      ),
+      whole.1.counts,
+      checked_first programme options bytes a fine p
+          (λ frames unread reads. (told frames unread reads).1),
     )
-tells_events programme options bytes IsTold old new stopped (Err f) fine p told =
+tells_events programme options bytes IsTold old new (Ok None) fine p told =
+    let file = pes_file_of options.origin bytes in told file.frames file.unread refl
+tells_events programme options bytes IsTold old new (Err f) fine p told =
     let file = pes_file_of options.origin bytes in told file.frames file.unread refl

@@ -1,6 +1,6 @@
 -- What the checker tells of the bytes of a subtitle file and a PES file.
 use Rattle.std.specs.Prelude.{◌≡◌, ◌≢◌, ◌↔◌, ℕ, ◌≤◌, length, List, [], ◌∷◌, Bool, false, true}
-use Rattle.std.specs.Prelude.{Option}
+use Rattle.std.specs.Prelude.{Option, Some, None}
 use Rattle.std.specs.Prelude.{All, IsOk}
 use Rattle.std.specs.Prelude.{Result, Ok, Err, IfOk, IfErr, IsTrue}
 use Rattle.sub_io.specs.Device.{failed}
@@ -16,7 +16,7 @@ use Rattle.stl_rows.specs.Programme.{AreInOrder, ProgrammeValue}
 use Rattle.stl_rows.specs.declared.national.National.{National}
 use Rattle.sub_plan.specs.Options.{OptionsValue}
 use Rattle.sub_plan.specs.Schedule.{plan}
-use Rattle.sub_io.specs.Telling.{Tells}
+use Rattle.sub_io.specs.Telling.{Tells, TellsPrefix}
 use Rattle.std.specs.Prelude.{◌+◌, flat_map, ⊤}
 use Rattle.ttx_packet.specs.PageId.{PageIdValue}
 use Rattle.stl_file.specs.Reading.{Outcome}
@@ -37,7 +37,7 @@ use Rattle.sub_rules.specs.PesReading.{pes_file_of}
 use Rattle.sub_laws.specs.Recovery.{Recovers}
 use Rattle.sub_laws.specs.Robust.{Robust}
 use Rattle.sub_rules.specs.WrongContent.{IsWrongEverywhere}
-use Rattle.sub_checker.specs.Telling.{CountsRead, TellsOrStops}
+use Rattle.sub_checker.specs.Telling.{CountsRead}
 use Rattle.sub_checker.specs.declared.telling.Accepted.{Accepted}
 use Rattle.sub_rules.specs.declared.fault.CheckFault.{CheckFault}
 use Rattle.sub_rules.specs.declared.fault.CheckFault.TheVariants as fault
@@ -201,20 +201,22 @@ first_answer _ a = Ok a
 
 -- What a device was told of the bytes of a PES file, checked against a programme: where it did not
 -- say stop, all events, the answer counts what was read, and the first event is the one for which
--- `check` refuses the bytes, which it accepts where there is none; else the events up to there.
--- Where the source failed, the events of the PES packets that were read whole.
+-- `check` refuses the bytes, which it accepts where there is none; else the events up to there, and
+-- nothing is counted. Where the source failed, the events of the PES packets that were read whole.
 abbrev pub TellsEvents : {D : Type 0} → ProgrammeValue → OptionsValue → List ℕ
-    → (D → Event → D → Type 0) → D → D → Bool → Result Accepted CheckFault → Type 0
-TellsEvents programme options bytes IsTold old new stopped (Ok a) =
+    → (D → Event → D → Type 0) → D → D → Result (Option Accepted) CheckFault → Type 0
+TellsEvents programme options bytes IsTold old new (Ok (Some a)) =
     let file = pes_file_of options.origin bytes in
     let told = events (task_of programme options file.unread) file.frames in
-    TellsOrStops IsTold old new told stopped
-    × (stopped ≡ false → CountsRead options.page file.frames a
-    × IsChecked programme options bytes (first_answer told a))
-TellsEvents programme options bytes IsTold old new stopped (Err f) =
+    Tells IsTold old new told
+    × CountsRead options.page file.frames a
+    × IsChecked programme options bytes (first_answer told a)
+TellsEvents programme options bytes IsTold old new (Ok None) =
+    let file = pes_file_of options.origin bytes in
+    TellsPrefix IsTold old new (events (task_of programme options file.unread) file.frames)
+TellsEvents programme options bytes IsTold old new (Err f) =
     let file = pes_file_of options.origin bytes in
     (n : ℕ)
     × (n ≤ length file.frames)
     × (f ≡ fault.Pes n Read)
     × Tells IsTold old new (events_of_first (task_of programme options file.unread) file.frames n)
-    × (stopped ≡ false)

@@ -1,5 +1,5 @@
 //! The exact checker: a PES file against a programme.
-ghost use Rattle.std.specs.Prelude.{◌≡◌, ℕ, Ok, Err, Option, None, Some, IfErr, false, true};
+ghost use Rattle.std.specs.Prelude.{◌≡◌, ℕ, Err, Some, IfErr, IfOk, false, is_none, true};
 ghost use Rattle.sub_io.specs.Device.{CanFail, CountsIf, failed};
 ghost use Rattle.sub_io.specs.Reading.{IfTold};
 ghost use Rattle.sub_io.specs.Telling.{TellsSome};
@@ -55,7 +55,8 @@ pub fn check<S: Source>(
     let mut first = FirstTold::new();
     match tell_all(programme, source, options, &mut first) {
         Err(fault) => Err(fault),
-        Ok(counts) => answer(first.into_first(), counts),
+        Ok(Some(counts)) => Ok(counts),
+        Ok(None) => Err(refusal(first.into_first())),
     }
 }
 
@@ -66,8 +67,7 @@ pub fn check<S: Source>(
 /// of a rule that is asked at the end of each frame, where it begins to be broken and where it has
 /// ended. Where the bytes can't be read on, that is the last event. It counts what was read: the
 /// frames of the day from the first PES packet's to the latest one's, and the headers of the page.
-/// After the device said stop the counts are of no use: the PES packet at which it did may be
-/// counted in part.
+/// `None` where the device said stop: the PES packet at which it did was read in part.
 ///
 /// It takes no memory, and reads as `check` does.
 ///
@@ -79,13 +79,14 @@ pub fn check_all<S: Source, A: Audience<Event>>(
     source: &mut S,
     options: &Options,
     audience: &mut A,
-) -> Result<Accepted, CheckFault>
+) -> Result<Option<Accepted>, CheckFault>
     requires failures { CanFail (S.failure_count source.old) }
     requires goes_on { A.has_stopped audience.old ≡ false }
     // Where the source tells its bytes, these decide what the device is told.
     ensures told { IfTold (S.remaining source.old) (λ bytes.
-        TellsEvents programme.now options.now bytes A.is_told audience.old audience.new
-        (A.has_stopped audience.new) result) }
+        TellsEvents programme.now options.now bytes A.is_told audience.old audience.new result) }
+    // Nothing is counted exactly where the device said stop.
+    ensures stopped { IfOk result (λ counts. A.has_stopped audience.new ≡ is_none counts) }
     // Whatever the source tells, the device was told some events, and did not say stop where the
     // source failed.
     ensures some { TellsSome A.is_told audience.old audience.new }
@@ -100,18 +101,15 @@ pub fn check_all<S: Source, A: Audience<Event>>(
     tell_all(programme, source, options, audience)
 }
 
-// The answer, where this was told first, if anything was.
-fn answer(first: Option<Event>, counts: Accepted) -> Result<Accepted, CheckFault>
-    ensures none { first ≡ None → result ≡ Ok counts }
-    ensures some { (f : CheckFault) → first ≡ Some (Event.Told f) → IsRuleFault f
-        → result ≡ Err f }
-    ensures own { IfErr result IsRuleFault }
+// The fault that is answered where this was told first.
+fn refusal(first: Option<Event>) -> CheckFault
+    ensures told { (f : CheckFault) → first ≡ Some (Event.Told f) → IsRuleFault f → result ≡ f }
+    ensures own { IsRuleFault result }
 {
     match first {
-        None => Ok(counts),
-        Some(Event::Told(fault)) => Err(of_rule(fault)),
+        Some(Event::Told(fault)) => of_rule(fault),
         // Nothing ends before it is told.
-        Some(Event::Ended { .. }) => Err(CheckFault::Empty),
+        _ => CheckFault::Empty,
     }
 }
 

@@ -1,15 +1,15 @@
 -- What each way out of the checker's loop shows of the whole file: `next_sent`, `next_read`,
 -- `at_end`, `is_read`, `counts_read`; and of what is told, `told_to_end`, `told_to_stop`.
 use Rattle.std.proofs.lemmas.Bool.Decides.{nat_tests}
-use Rattle.std.proofs.Common.{◌≡◌, ℕ, ◌+◌, ◌-◌, ◌<◌, ◌≤◌, Bool, List, [], ◌∷◌, ◌++◌}
-use Rattle.std.proofs.Common.{length, drop, take, get_or, Option, Some, None, Result, Ok, Err, sym}
+use Rattle.std.proofs.Common.{◌≡◌, ℕ, ◌+◌, ◌-◌, ◌<◌, ◌≤◌, List, [], ◌∷◌, ◌++◌}
+use Rattle.std.proofs.Common.{length, drop, take, get_or, Option, Some, None, Ok, sym}
 use Rattle.std.proofs.Common.{ap, refl, ◌∙◌, subst, arith, append_assoc, add-one}
 use Rattle.std.specs.List.{AllByRecursion, AllZip}
-use Rattle.std.specs.Prelude.{is_err}
+use Rattle.std.specs.Prelude.{IfSome}
 use Rattle.std.proofs.lemmas.List.Folds.{concat-append}
 use Rattle.std.proofs.lemmas.List.{get_or-map, take_more, take_all}
 use Rattle.std.proofs.lemmas.List.Elements.{All-from_recursion}
-use Rattle.sub_io.specs.Telling.{Tells, TellsPrefix, TellsUntilStopped}
+use Rattle.sub_io.specs.Telling.{Tells, TellsPrefix}
 use Rattle.sub_io.proofs.TellingLemmas.{Tells-trans, TellsPrefix-first, TellsPrefix-second}
 use Rattle.stl_rows.specs.Programme.{ProgrammeValue}
 use Rattle.ttx_pes.specs.DataUnit.{UnitValue, IsUnit}
@@ -18,7 +18,8 @@ use Rattle.ttx_pes.specs.Reader.{TakesPesPacket}
 use Rattle.ttx_pes.specs.Reading.{most_packets, rest_after}
 use Rattle.sub_plan.specs.Options.{OptionsValue}
 use Rattle.sub_checker.specs.Checker.{CheckerValue}
-use Rattle.sub_checker.specs.Telling.{CountsRead, AreTaken, AreWhole, IsRead, TellsOrStops}
+use Rattle.sub_checker.specs.Steps.{AreCounted, FinishesTelling}
+use Rattle.sub_checker.specs.Telling.{CountsRead, AreTaken, AreWhole, IsRead, TellsAll}
 use Rattle.sub_rules.specs.Sendings.{IsFrameOf, TellsFrame, IsSentFrame}
 use Rattle.sub_rules.specs.Events.{closing_events, events, events_of_first, frame_events}
 use Rattle.sub_checker.specs.Following.{Follows}
@@ -68,22 +69,22 @@ told_to_stop g frames n a b c l before more =
     rw (whole.1, one_more g frames n)
     (TellsPrefix-first a c _ whole.0 (TellsPrefix-second a b c _ _ before more))
 
--- A device that was told what follows the last frame was told the whole, or a part. For `tell_all`.
+-- A device that was told what follows the last frame was told the whole, and what was read is
+-- counted; or a part, where it said stop. For `tell_all`.
 pub told_to_end :
-    {X E : Type 0}
-    (g : Task) (frames : Transmission) (n : ℕ)
-    {D : Type 0} {IsTold : D → Event → D → Type 0} (a b c : D) (r : Result X E)
-    (stopped : Bool)
+    (g : Task) (origin : ℕ) (bytes : List ℕ) (frames : Transmission) (n : ℕ) (c : CheckerValue)
+    {D : Type 0} {IsTold : D → Event → D → Type 0} (old mid new : D) (r : Option Accepted)
     → length frames ≡ n
-    → Tells IsTold a b (events_of_first g frames n)
-    → TellsUntilStopped IsTold b c (closing_events g frames n) r
-    → stopped ≡ is_err r
-    → TellsOrStops IsTold a c (events g frames) stopped
+    → Tells IsTold old mid (events_of_first g frames n)
+    → FinishesTelling IsTold mid new (closing_events g frames n) r
+    → IfSome r (AreCounted c n)
+    → ((a : Accepted) → AreCounted c n a → IsRead g origin bytes frames a)
+    → TellsAll g origin bytes frames IsTold old new (Ok r)
 unfolding events
-told_to_end g frames n a b c (Ok x) stopped all before more e =
-    rw (e, all) (Tells-trans a b c _ _ before more)
-told_to_end g frames n a b c (Err x) stopped all before more e =
-    rw (e, all) (TellsPrefix-second a b c _ _ before more)
+told_to_end g origin bytes frames n c old mid new (Some a) all before more counts read =
+    (rw all (Tells-trans old mid new _ _ before more), read a counts)
+told_to_end g origin bytes frames n c old mid new None all before more counts read =
+    rw all (TellsPrefix-second old mid new _ _ before more)
 
 -- ---- packets of 42 bytes
 
@@ -274,11 +275,9 @@ module _
         (c : CheckerValue) (a : Accepted)
         → Follows g frames n c
         → length frames ≡ n
-        → (n ≡ 0 → a.frames ≡ 0)
-        → (0 < n → a.frames + c.first ≡ c.latest + 1)
-        → a.transmissions ≡ c.headers
+        → AreCounted c n a
         → CountsRead options.page frames a
-    counts_read c a follows all none some headers = grind (arith, nat_tests)
+    counts_read c a follows all counts = grind (arith, nat_tests)
 
 -- ---- before the first PES packet
 

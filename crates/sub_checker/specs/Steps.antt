@@ -1,6 +1,9 @@
 -- What the checker's steps answer. Private functions alone cite this.
-use Rattle.std.specs.Prelude.{ℕ, zero, suc, List, [], ◌∷◌, nat_le, if◌then◌else◌}
+use Rattle.std.specs.Prelude.{◌≡◌, ℕ, zero, suc, ◌+◌, ◌<◌, List, [], ◌∷◌, nat_le, if◌then◌else◌}
 use Rattle.std.specs.Prelude.{Option, Some, None}
+use Rattle.sub_io.specs.Telling.{Tells, TellsPrefix}
+use Rattle.sub_checker.specs.Checker.{CheckerValue}
+use Rattle.sub_checker.specs.declared.telling.Accepted.{Accepted}
 use Rattle.sub_rules.specs.declared.event.Event.{Event}
 use Rattle.sub_rules.specs.declared.event.Event.TheVariants.{Told}
 use Rattle.sub_rules.specs.FirstBroken.{unread_fault}
@@ -29,3 +32,16 @@ fault_events (Some f) = Told f ∷ []
 abbrev pub ending_fault : ℕ → Option Unread → Option CheckFault
 ending_fault pes None = None
 ending_fault pes (Some u) = Some (unread_fault pes (Some u))
+
+-- What is counted after so many PES packets, of what the checker keeps.
+pub record AreCounted (c : CheckerValue) (pes : ℕ) (a : Accepted) : Type 0 where
+  pub none : pes ≡ 0 → a.frames ≡ 0
+  pub frames_are : 0 < pes → a.frames + c.first ≡ c.latest + 1
+  pub transmissions_are : a.transmissions ≡ c.headers
+
+-- A device was told all of these, and something is counted; or it said stop, and was told them up
+-- to there.
+abbrev pub FinishesTelling : {A D : Type 0}
+    → (D → A → D → Type 0) → D → D → List A → Option Accepted → Type 0
+FinishesTelling IsTold old new items (Some a) = Tells IsTold old new items
+FinishesTelling IsTold old new items None = TellsPrefix IsTold old new items

@@ -1,6 +1,6 @@
 -- What the checker tells of a PES file, and counts of it.
-use Rattle.std.specs.Prelude.{◌≡◌, ℕ, ◌+◌, ◌<◌, ◌≤◌, Bool, false, true, List, [], ◌++◌, length}
-use Rattle.std.specs.Prelude.{All, None, Result, Ok, Err}
+use Rattle.std.specs.Prelude.{◌≡◌, ℕ, ◌+◌, ◌<◌, ◌≤◌, List, [], ◌++◌, length}
+use Rattle.std.specs.Prelude.{All, Option, Some, None, Result, Ok, Err}
 use Rattle.std.specs.List.{AllByRecursion, AllZip, concat}
 use Rattle.sub_io.specs.Telling.{Tells, TellsPrefix}
 use Rattle.ttx_packet.specs.PageId.{PageIdValue}
@@ -26,12 +26,6 @@ pub record CountsRead (page : PageIdValue) (frames : Transmission) (a : Accepted
   pub transmissions_are :
       a.transmissions ≡ header_count page (packets_before frames (length frames))
 
--- A device was told all of these; or it said stop, and was told them up to there.
-abbrev pub TellsOrStops : {A D : Type 0}
-    → (D → A → D → Type 0) → D → D → List A → Bool → Type 0
-TellsOrStops IsTold old new items false = Tells IsTold old new items
-TellsOrStops IsTold old new items true = TellsPrefix IsTold old new items
-
 -- Each packet has 42 bytes.
 abbrev pub AreWhole : Transmission → Type 0
 AreWhole frames =
@@ -56,13 +50,13 @@ pub record IsRead (g : Task) (origin : ℕ) (bytes : List ℕ) (frames : Transmi
 
 -- What a device was told of a transmission that is read of these bytes.
 abbrev pub TellsAll : {D : Type 0} → Task → ℕ → List ℕ → Transmission
-    → (D → Event → D → Type 0) → D → D → Bool → Result Accepted CheckFault → Type 0
-TellsAll g origin bytes frames IsTold old new stopped (Ok a) =
-    TellsOrStops IsTold old new (events g frames) stopped
-    × (stopped ≡ false → IsRead g origin bytes frames a)
-TellsAll g origin bytes frames IsTold old new stopped (Err f) =
+    → (D → Event → D → Type 0) → D → D → Result (Option Accepted) CheckFault → Type 0
+TellsAll g origin bytes frames IsTold old new (Ok (Some a)) =
+    Tells IsTold old new (events g frames) × IsRead g origin bytes frames a
+TellsAll g origin bytes frames IsTold old new (Ok None) =
+    TellsPrefix IsTold old new (events g frames)
+TellsAll g origin bytes frames IsTold old new (Err f) =
     (n : ℕ)
     × (n ≤ length frames)
     × (f ≡ fault.Pes n Read)
     × Tells IsTold old new (events_of_first g frames n)
-    × (stopped ≡ false)

@@ -81,6 +81,7 @@ impl<'a> Checker<'a> {
     ghost use Rattle.sub_checker.specs.Following.{ending_events, taking_events, Remembers};
     ghost use Rattle.sub_rules.specs.Sendings.{IsSentFrame};
     ghost use Rattle.sub_checker.specs.Listener.{Knows, KnowsLast};
+    ghost use Rattle.sub_checker.specs.Steps.{AreCounted};
     ghost use Rattle.sub_rules.specs.Events.{frame_events};
 
     /// Before the first PES packet: nothing was heard.
@@ -433,9 +434,7 @@ impl<'a> Checker<'a> {
     /// What was read: the frames of the day from the first PES packet's to the latest one's, and
     /// the headers of the page.
     pub fn counts(&self, pes: u32) -> Accepted
-        ensures none { pes ≡ 0 → result.frames ≡ 0 }
-        ensures frames { 0 < pes → result.frames + self.now.first ≡ self.now.latest + 1 }
-        ensures headers { result.transmissions ≡ self.now.headers }
+        ensures { AreCounted self.now pes result }
     {
         Accepted {
             frames: frame_count(pes, self.first, self.latest),

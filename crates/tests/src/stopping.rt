@@ -44,7 +44,8 @@ fn tell_early<A: Audience<Event>>(
     let programme = load(rt.alloc(), &mut MemSource::new(&stl), National::English)?;
     let options = options("888", 250, 3600)?;
     let answer = check_all(&programme, &mut MemSource::new(&pes), &options, audience);
-    assert!(rt; answer.is_ok());
+    // It said stop, so nothing is counted.
+    assert!(rt; matches!(answer, Ok(None)));
     Ok(())
 }
 

@@ -62,7 +62,7 @@ pub fn print_every_fault<S: Source, T: Source, K: Sink>(
 }
 
 // Tells a printer what is broken in the subtitle file, or else in the PES file. `None` where the
-// subtitle file is refused, else what was read of the PES file.
+// subtitle file is refused or the printer said stop, else what was read of the PES file.
 fn tell_every_fault<S: Source, T: Source, K: Sink>(
     alloc: Global,
     stl: &mut S,
@@ -88,10 +88,7 @@ fn tell_every_fault<S: Source, T: Source, K: Sink>(
     match load_all(alloc, stl, national, printer) {
         Err(fault) => Err(CheckFault::Subtitles(fault)),
         Ok(None) => Ok(None),
-        Ok(Some(programme)) => match check_all(&programme, pes, options, printer) {
-            Err(fault) => Err(fault),
-            Ok(accepted) => Ok(Some(accepted)),
-        },
+        Ok(Some(programme)) => check_all(&programme, pes, options, printer),
     }
 }
 

@@ -4,6 +4,6 @@ use Rattle.sub_check.proofs.checking.check_all.Goals as goal
 
 pub returns-clause-told : goal.returns-clause-told
 returns-clause-told g c = λ bytes told.
-    tells_events c.args.programme.now c.args.options.now bytes _ _ _ _ c.tell_all.result
+    tells_events c.args.programme.now c.args.options.now bytes _ _ _ c.tell_all.result
     c.tell_all.ensures.options c.tell_all.ensures.programme
     (λ frames unread reads. c.tell_all.ensures.exact frames unread bytes told reads)

@@ -1,7 +1,6 @@
 -- Each way out tells what the whole file is: by WaysOutLemmas.
 use Rattle.std.proofs.Common.{◌∙◌, List, None, Option, Result, Ok, Some, sym, refl, ap, subst}
 use Rattle.std.proofs.Common.{arith}
-use Rattle.std.proofs.lemmas.Bool.{true≢false}
 use Rattle.sub_io.proofs.TellingLemmas.{TellsSome-none, TellsSome-trans, Tells-none, Tells-trans}
 use Rattle.ttx_pes.proofs.TakenPackets.{takes-more, takes-none}
 use Rattle.ttx_pes.specs.Comparing.{ComparingValue}
@@ -43,7 +42,6 @@ returns-then-is_source_failure-clause-exact g c = λ frames unread bytes told re
       i.0.within,
       c.in-Err.ensures.place (sym c.is_source_failure.ensures ∙ c.if-is_source_failure.true),
       i.3,
-      c.packets.invariant.goes_on,
     )
 
 pub returns-in-Err-clause-exact : goal.returns-in-Err-clause-exact
@@ -54,14 +52,12 @@ returns-in-Err-clause-exact g c = λ frames unread bytes told reads.
     c.in-Err.ensures.exact i.0.rest i.0.rest_is
     (sym c.is_source_failure.ensures ∙ c.if-is_source_failure.false) in
     let end = at_end i.0 (Some at.0) at.2 in
-    let given = ap Some at.1 ∙ ap (ending_fault c.packets.pes) (sym end.1) in (
-      told_to_end task frames c.packets.pes _ _ _ c.close.result _ end.0 i.3
-          (c.close.ensures.told task frames i.1 end.0 given) c.close.ensures.stopped,
-      λ quiet.
-          is_read i.0 (Some at.0) c.counts.result at.2
-          (counts_read i.0 c.packets.checker c.counts.result i.1 end.0 c.counts.ensures.none
-          c.counts.ensures.frames c.counts.ensures.headers),
-    )
+    let given = ap Some at.1 ∙ ap (ending_fault c.packets.pes) (sym end.1) in
+    told_to_end task c.args.options.now.origin bytes frames c.packets.pes c.packets.checker _ _ _
+    c.finish.result end.0 i.3 (c.finish.ensures.told task frames i.1 end.0 given)
+    c.finish.ensures.counts
+    (λ a counts.
+    is_read i.0 (Some at.0) a at.2 (counts_read i.0 c.packets.checker a i.1 end.0 counts))
 
 pub returns-in_default-clause-exact : goal.returns-in_default-clause-exact
 returns-in_default-clause-exact g c = λ frames unread bytes told reads.
@@ -69,16 +65,12 @@ returns-in_default-clause-exact g c = λ frames unread bytes told reads.
     let task = task_of c.args.programme.now c.args.options.now unread in
     let at = rw c.in_default.is at (c.in-Ok.ensures.exact i.0.rest i.0.rest_is refl) in
     let end = at_end i.0 None at in
-    let given = ap (ending_fault c.packets.pes) (sym end.1) in (
-      told_to_end task frames c.packets.pes _ _ _ c.close-in_default.result _ end.0 i.3
-          (c.close-in_default.ensures.told task frames i.1 end.0 given)
-          c.close-in_default.ensures.stopped,
-      λ quiet.
-          is_read i.0 None c.counts-in_default.result at
-          (counts_read i.0 c.packets.checker c.counts-in_default.result i.1 end.0
-          c.counts-in_default.ensures.none c.counts-in_default.ensures.frames
-          c.counts-in_default.ensures.headers),
-    )
+    let given = ap (ending_fault c.packets.pes) (sym end.1) in
+    told_to_end task c.args.options.now.origin bytes frames c.packets.pes c.packets.checker _ _ _
+    c.finish-in_default.result end.0 i.3
+    (c.finish-in_default.ensures.told task frames i.1 end.0 given)
+    c.finish-in_default.ensures.counts
+    (λ a counts. is_read i.0 None a at (counts_read i.0 c.packets.checker a i.1 end.0 counts))
 
 pub returns-in-Err-go_on-clause-exact : goal.returns-in-Err-go_on-clause-exact
 returns-in-Err-go_on-clause-exact g c = λ frames unread bytes told reads.
@@ -96,11 +88,8 @@ returns-in-Err-go_on-clause-exact g c = λ frames unread bytes told reads.
     again_is frames c.packets.pes _ _ _ sent i.2
     (ap packets_of_units
     (sym (c.in-Ok.ensures.again c.in-Some.sending given e)
-    ∙ sym c.units_of-units.ensures.value))) in (
-      rw c.in-Err-go_on.ensures.stopped
-          (told_to_stop task frames c.packets.pes _ _ _ sent.there i.3 go.0),
-      λ quiet. absurd (true≢false (sym c.in-Err-go_on.ensures.stopped ∙ quiet)),
-    )
+    ∙ sym c.units_of-units.ensures.value))) in
+    told_to_stop task frames c.packets.pes _ _ _ sent.there i.3 go.0
 
 pub packets-preserved : goal.packets-preserved
 packets-preserved g c =

@@ -9,9 +9,8 @@ use Rattle.sub_answer.specs.FaultListing.{subtitle_event}
 use Rattle.sub_answer.specs.Printer.{PrinterValue, PrintsEvent, printer_value}
 use Rattle.sub_answer.specs.declared.printer.Printer.{Printer}
 use Rattle.sub_answer.proofs.EveryFaultLemmas.{after_error, after_faults, after_pes}
-use Rattle.sub_answer.proofs.EveryFaultLemmas.{after_pes_error}
 use Rattle.sub_answer.proofs.EveryFaultLemmas.{same_out, same_sink}
-use Rattle.sub_answer.proofs.PrinterLemmas.{cannot_fail, has_stopped, not_failed, still_goes}
+use Rattle.sub_answer.proofs.PrinterLemmas.{cannot_fail, has_stopped, still_goes}
 use Rattle.sub_answer.proofs.answering.check_all.tell_every_fault.Goals as goal
 
 -- The printer by what is known of its sink.
@@ -83,8 +82,8 @@ returns-in-Ok-None-clause-told g c =
     (e.some (let is = c.in-Ok-None.field-0-is in cc))
     (λ file told. e.told file told (let is = c.in-Ok-None.field-0-is in cc)) e.count).1
 
-pub returns-in-Err-check_all-clause-same : goal.returns-in-Err-check_all-clause-same
-returns-in-Err-check_all-clause-same g c =
+pub returns-in-Ok-Some-clause-same : goal.returns-in-Ok-Some-clause-same
+returns-in-Ok-Some-clause-same g c =
     let first = c.in-Ok-Some.ensures in
     let none = rw c.in-Ok-Some.field-0-is at first.none in
     let kept = none.in_turn in
@@ -103,67 +102,19 @@ returns-in-Err-check_all-clause-same g c =
     c.check_all.ensures.some
     ∙ ap (λ (p : Printer g.row.K.Denot). p.out.ghost_name) kept
 
-pub returns-in-Err-check_all-clause-told : goal.returns-in-Err-check_all-clause-told
-returns-in-Err-check_all-clause-told g c =
+pub returns-in-Ok-Some-clause-told : goal.returns-in-Ok-Some-clause-told
+returns-in-Ok-Some-clause-told g c =
     let first = c.in-Ok-Some.ensures in
     let none = rw c.in-Ok-Some.field-0-is at first.none in
     let kept = none.in_turn in
-    let e = c.in-Err-check_all.ensures in
+    let e = c.check_all.ensures in
     subst (λ (p : Printer g.row.K.Denot). TellsBoth c.args.national c.args.options.now
     (source_call g.S.Source.remaining g.S.Source.failure_count c.args.stl.now c.load_all.new.source)
     (source_call g.T.Source.remaining g.T.Source.failure_count c.args.pes.now
     c.check_all.new.source)
     (value_of g.K.Sink.contents g.K.Sink.failure_count p)
     (value_of g.K.Sink.contents g.K.Sink.failure_count c.check_all.new.audience)
-    (Err c.in-Err-check_all.fault)) kept
-    (after_pes_error (IsToldEvent g.K.Sink.contents g.K.Sink.failure_count)
-    (λ (p : Printer g.row.K.Denot). p.out.ghost_name)
-    (value_of g.K.Sink.contents g.K.Sink.failure_count) (λ s t x h. h)
-    c.args.national c.args.options.now
-    (source_call g.S.Source.remaining g.S.Source.failure_count c.args.stl.now c.load_all.new.source)
-    (source_call g.T.Source.remaining g.T.Source.failure_count c.args.pes.now
-    c.check_all.new.source)
-    _ c.load_all.new.audience c.check_all.new.audience
-    (ap (λ (p : Printer g.row.K.Denot). p.failed) kept ∙ c.requires.goes_on)
-    (let n = ap (λ (p : Printer g.row.K.Denot). p.refused) kept ∙ c.requires.none in
-    omega (arith, n))
-    (λ file told. rw c.in-Ok-Some.field-0-is at (first.exact file told)) first.count
-    c.in-Err-check_all.fault _ e.only (not_failed _ _ e.goes_on) e.some
-    e.told e.count e.read)
-
-pub returns-clause-same : goal.returns-clause-same
-returns-clause-same g c =
-    let first = c.in-Ok-Some.ensures in
-    let none = rw c.in-Ok-Some.field-0-is at first.none in
-    let kept = none.in_turn in
-    same_out (IsToldEvent g.K.Sink.contents g.K.Sink.failure_count)
-    (λ (p : Printer g.row.K.Denot). p.out.ghost_name)
-    (value_of g.K.Sink.contents g.K.Sink.failure_count) (λ s t x h. h)
-    c.args.national c.args.options.now
-    (source_call g.S.Source.remaining g.S.Source.failure_count c.args.stl.now c.load_all.new.source)
-    (source_call g.T.Source.remaining g.T.Source.failure_count c.args.pes.now
-    c.check_all.new.source)
-    _ c.load_all.new.audience c.check_all.new.audience
-    (ap (λ (p : Printer g.row.K.Denot). p.failed) kept ∙ c.requires.goes_on)
-    (let n = ap (λ (p : Printer g.row.K.Denot). p.refused) kept ∙ c.requires.none in
-    omega (arith, n))
-    (λ file told. rw c.in-Ok-Some.field-0-is at (first.exact file told)) first.count
-    c.check_all.ensures.some
-    ∙ ap (λ (p : Printer g.row.K.Denot). p.out.ghost_name) kept
-
-pub returns-clause-told : goal.returns-clause-told
-returns-clause-told g c =
-    let first = c.in-Ok-Some.ensures in
-    let none = rw c.in-Ok-Some.field-0-is at first.none in
-    let kept = none.in_turn in
-    let e = c.in-Ok.ensures in
-    subst (λ (p : Printer g.row.K.Denot). TellsBoth c.args.national c.args.options.now
-    (source_call g.S.Source.remaining g.S.Source.failure_count c.args.stl.now c.load_all.new.source)
-    (source_call g.T.Source.remaining g.T.Source.failure_count c.args.pes.now
-    c.check_all.new.source)
-    (value_of g.K.Sink.contents g.K.Sink.failure_count p)
-    (value_of g.K.Sink.contents g.K.Sink.failure_count c.check_all.new.audience)
-    (Ok (Some c.in-Ok.accepted))) kept
+    c.check_all.result) kept
     (after_pes (IsToldEvent g.K.Sink.contents g.K.Sink.failure_count)
     (λ (p : Printer g.row.K.Denot). p.out.ghost_name)
     (value_of g.K.Sink.contents g.K.Sink.failure_count) (λ s t x h. h)
@@ -176,8 +127,8 @@ returns-clause-told g c =
     (let n = ap (λ (p : Printer g.row.K.Denot). p.refused) kept ∙ c.requires.none in
     omega (arith, n))
     (λ file told. rw c.in-Ok-Some.field-0-is at (first.exact file told)) first.count
-    c.in-Ok.accepted _ (has_stopped _ _)
+    c.check_all.result _ (has_stopped _ _)
     (λ holds same. still_goes _ _ _
     (subst (λ (p : Printer g.row.K.Denot). g.K.Sink.failure_count p.out.now
     < 0xFFFF_FFFF_FFFF_FFFF) (sym kept) c.requires.out) holds same)
-    e.some e.told e.count)
+    e.some e.told e.stopped e.goes_on e.only e.count e.read)
