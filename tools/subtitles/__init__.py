@@ -23,6 +23,7 @@ proved     what is said of it in PROVED
 prefix     what is installed under a folder
 
 preview      parts of tools/preview
+qc           parts of tools/qc
 every_place  what `check --all` tells, from the definitions, for tools/check-every-place
 definitions  what a name of specs/ rests on, for tools/reading-list
 cited        names in the documents, for tools/check-manual

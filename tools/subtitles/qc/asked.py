@@ -3,6 +3,7 @@ from __future__ import annotations
 
 import argparse
 import dataclasses
+import os
 from typing import Sequence
 
 from ..teletext import page_name
@@ -80,13 +81,22 @@ def pair_options() -> list[str]:
 
 def asked_of(words: argparse.Namespace) -> Asked:
     """The pair of a command line."""
-    return Asked(words.stl, words.recording,
-                 **{name: getattr(words, name) for name in pair_options()})
+    return asked_with(words.stl, words.recording, words)
 
 
-def asked_with(stl: str, recording: str, defaults: argparse.Namespace) -> Asked:
-    """A pair with the options that hold for all."""
-    return Asked(stl, recording, **{name: getattr(defaults, name) for name in pair_options()})
+def asked_with(stl: str, recording: str | None, options: argparse.Namespace) -> Asked:
+    """A pair, and options that are read."""
+    named = recording and (recording if recording == "-" else as_file(recording))
+    return Asked(as_file(stl), named, **{name: getattr(options, name) for name in pair_options()})
+
+
+def as_file(name: str) -> str:
+    """A name that no tool takes for an option; it has to be UTF-8, as the program asks."""
+    try:
+        name.encode()
+    except UnicodeEncodeError:
+        raise Stop(f"{name}: a name of a file has to be UTF-8") from None
+    return os.path.join(".", name) if name.startswith("-") else name
 
 
 def asked_of_line(line: Sequence[str], defaults: argparse.Namespace) -> Asked:

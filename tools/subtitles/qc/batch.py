@@ -11,7 +11,7 @@ import time
 from typing import IO, Any, Callable, Iterator, NamedTuple
 
 from ..files import whole_file
-from ..words import Stop
+from ..words import line_of
 from . import junit, table
 from .asked import Asked
 from .checking import ACCEPTED_WORD, NOT_JUDGED
@@ -45,6 +45,7 @@ class Batch:
 
     def __init__(self, words: argparse.Namespace, typed: Typed, folder: str) -> None:
         self.words, self.typed, self.folder = words, typed, folder
+        self.running: set[subprocess.Popen[str]] = set()
 
     def path(self, number: int, kind: str) -> str:
         return os.path.join(self.folder, f"{number}.{kind}")
@@ -63,10 +64,21 @@ class Batch:
             files += ["-o", words.out]
         command = [*self.typed.call("qc"), *files, "-p",
                    self.typed.program_path, *words_of(item.asked)]
-        done = subprocess.run(command, stdin=subprocess.DEVNULL, stdout=subprocess.PIPE,
-                              stderr=subprocess.PIPE, encoding="utf-8", errors="replace",
-                              check=False)
-        return self.result(number, item, done.stderr.splitlines())
+        try:
+            with subprocess.Popen(command, stdin=subprocess.DEVNULL, stdout=subprocess.DEVNULL,
+                                  stderr=subprocess.PIPE, encoding="utf-8",
+                                  errors="replace") as process:
+                self.running.add(process)
+                told = process.communicate()[1]
+                self.running.discard(process)
+        except OSError as error:
+            return Result(item, NOT_JUDGED, 2, line_of(error), 0, [], 0.0)
+        return self.result(number, item, told.splitlines())
+
+    def stop(self) -> None:
+        """Ends the calls that run."""
+        for process in list(self.running):
+            process.terminate()
 
     def result(self, number: int, item: Item, told: list[str]) -> Result:
         """What the call wrote; one that ended before it could write is not judged."""
@@ -123,6 +135,7 @@ def all_judged(batch: Batch, items: list[Item], jobs: int) -> list[Result]:
         except BaseException:
             for call in calls:
                 call.cancel()
+            batch.stop()
             raise
     progress.clear()
     return [call.result() for call in calls]

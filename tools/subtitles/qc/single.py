@@ -13,7 +13,7 @@ from typing import Iterator
 from ..files import OWN_OUTPUT, whole_file
 from ..words import Stop, line_of
 from . import junit, machine, table
-from .asked import Asked, asked_of
+from .asked import Asked, as_file, asked_of
 from .faults import faults_of
 from .made_with import program_at
 from .names import Names
@@ -36,13 +36,15 @@ def now() -> str:
 def judge(words: argparse.Namespace, called: str) -> int:
     """Judges the pair of a command line; answers its status."""
     asked = asked_of(words)
+    out = words.out and as_file(words.out)
     is_output_taken = any(path in OWN_OUTPUT for path in (words.json, words.csv, words.junit))
-    typed, speech = Typed(called, words.program), Speech(Progress(), is_output_taken)
+    speech = Speech(Progress(), is_output_taken)
+    typed = Typed(called, words.program)
     verdict = Verdict(asked, Severity(asked.severity), now())
     name = words.name or os.path.splitext(os.path.basename(asked.stl))[0]
     has_files = words.out or words.json or words.csv or words.summary
     with tempfile.TemporaryDirectory(prefix="subttx-qc-") as folder:
-        names = Names(name, folder, words.out)
+        names = Names(name, folder, out)
         files = Files(words, verdict, typed, names)
         files.prepare()
         began = time.monotonic()

@@ -1,6 +1,7 @@
 """What a person reads: the commands, what they answer, the verdict."""
 from __future__ import annotations
 
+import io
 import sys
 import threading
 
@@ -18,6 +19,9 @@ class Speech:
     def __init__(self, progress: Progress, is_output_taken: bool = False) -> None:
         self.progress = progress
         self.out = sys.stderr if is_output_taken else sys.stdout
+        if isinstance(self.out, io.TextIOWrapper):
+            # Names of files may be any bytes, and are said as they were typed.
+            self.out.reconfigure(errors="surrogateescape")
         self.commands: list[str] = []
         self.last, self.listed = "", 0
         self.lock = threading.RLock()  # a feed is heard beside the program that judges it

@@ -120,6 +120,31 @@ def tells_what_is_known_of_a_fault(case: Case) -> None:
               (1, "C2", "é", {"number": 1, "begin": "10:00:00:00", "end": "10:00:02:00"}), fault)
 
 
+def takes_lines_of_every_kind(case: Case) -> None:
+    """Stretches that may be trusted, and where PES packets end that were passed over."""
+    told = ["trusted frames 20:15:00:00 20:15:00:24", "refused 38 UnitLength pes 1",
+            "ended 38 UnitLength pes 2", "refused 72 Content frame 20:15:05:12 row 22 column 9",
+            "trusted frames 20:15:07:00 20:15:09:00", "ended 72 Content frame 20:15:06:24",
+            "2 faults"]
+    lines = " ".join(f"'{line}'" for line in told)
+    script = ("#!/bin/sh\n"
+              f"case $* in check*.cut.pes) printf '%s\\n' {lines}; exit 1 ;; esac\n"
+              f"exec '{case.bench.program}' \"$@\"\n")
+    os.chmod(case.write("program", script.encode()), 0o755)
+    done = case.tool("qc", STORY, example("story.pes"), "-p", "./program", "--json", "lines.json")
+    case.test("status", done.status == 1, done)
+    verdict = loaded(case, "lines.json")
+    case.test("trusted", verdict["trusted"] == [
+        {"part": 1, "from": "20:15:00:00", "to": "20:15:00:24"},
+        {"part": 1, "from": "20:15:07:00", "to": "20:15:09:00"}], verdict["trusted"])
+    faults = [{name: fault[name] for name in ("number", "pes", "until", "until_pes", "pes_time")}
+              for fault in verdict["faults"]]
+    case.test("until", faults == [
+        {"number": 38, "pes": 1, "until": None, "until_pes": 2, "pes_time": "20:15:03:00"},
+        {"number": 72, "pes": None, "until": "20:15:06:24", "until_pes": None, "pes_time": None}],
+        faults)
+
+
 def agrees_with_the_schema(case: Case) -> None:
     try:
         import jsonschema
@@ -153,4 +178,4 @@ def writes_for_a_ci(case: Case) -> None:
 
 
 CASES = [judges_a_folder, judges_a_list, pairs_by_name, tells_what_is_known_of_a_fault,
-         agrees_with_the_schema, writes_for_a_ci]
+         takes_lines_of_every_kind, agrees_with_the_schema, writes_for_a_ci]

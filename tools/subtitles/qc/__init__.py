@@ -1,0 +1,37 @@
+"""Parts of tools/qc, one idea each.
+
+main          the words of the command line
+asked         what is asked of a pair
+single        one pair: judged, said and written
+pair          a pair judged, from a recording to a verdict
+steps         the steps, each of which runs a command and says it
+verdict       a verdict, its parts, and what is missing
+unclear       why a pair can't be judged
+
+recording     a recording as a file of PES packets
+kinds         what a recording is, by its first bytes
+source        its bytes, read once
+carriers      the PES packets of a transport stream, one file for a PID
+feed          a recording that comes through a pipe
+live          `check --all` that hears a feed
+
+checking      `check --all`, and what it comes to
+told          its lines as values
+faults        faults with all that is known of them
+cells         the cells that are due and held at their places
+subtitle_file the subtitles of a file by blocks and by frames
+severity      which faults count
+sums          SHA-256 of files
+made_with     the program, and what PROVED says of it
+
+machine       a verdict as a JSON object
+table         faults as lines of CSV
+junit         pairs as testcases
+pairs         the pairs of a folder or a list
+batch         many pairs
+
+typed         commands as a person types them
+names         the files that the steps make
+speech        what a person reads
+progress      the line that rewrites itself
+"""
