@@ -8,7 +8,7 @@ import os
 import subprocess
 import tempfile
 import time
-from typing import IO, Any, Callable, Iterator, NamedTuple
+from typing import Any, Callable, Iterator, NamedTuple
 
 from ..files import whole_file
 from ..words import line_of

@@ -17,7 +17,7 @@ MOST_BEFORE = 1 << 24  # bytes of something else before the first TS packet
 
 
 class Kept:
-    """PES packets in a temporary file: `count` of them, and whether one has a header of the page."""
+    """PES packets in a temporary file: `count` of them; whether one has a header of the page."""
 
     def __init__(self, path: str, page: Page, has_page: bool) -> None:
         self.path, self.page, self.has_page, self.count = path, page, has_page, 0

@@ -90,11 +90,10 @@ class Answer:
                 yield found[1], found[2]
 
 
-def check(command: list[str], path: str, hear: Callable[[str], None],
-          data: BinaryIO | None = None) -> Answer:
+def check(command: list[str], path: str, hear: Callable[[str], None]) -> Answer:
     """Runs `check --all`; `hear` gets each line as it comes."""
     answer = Answer(path)
-    with subprocess.Popen(command, stdin=data or subprocess.DEVNULL, stdout=subprocess.PIPE,
+    with subprocess.Popen(command, stdin=subprocess.DEVNULL, stdout=subprocess.PIPE,
                           encoding="utf-8", errors="replace") as process:
         assert process.stdout
         for line in process.stdout:

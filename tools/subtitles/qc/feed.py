@@ -28,7 +28,7 @@ class Finder:
         return time.monotonic() >= self.next
 
     def look(self, kept: Kept) -> int | None:
-        """The origin, where all edges agree that were due in what has come, and these are enough."""
+        """The origin, where all edges agree that were due so far, and these are enough."""
         began = time.monotonic()
         kept.flush()
         done = subprocess.run([*self.command, kept.path], stdin=subprocess.DEVNULL,

@@ -137,8 +137,8 @@ class Pair:
         for place in places:
             parts = [part for part in self.verdict.parts if is_in(place, part)]
             origin = (parts or self.verdict.parts)[0].origin or 0
-            self.verdict.gaps.append(Gap(time_at(place.before, origin), time_at(place.after, origin),
-                                         what_of(place), place, bool(parts)))
+            times = time_at(place.before, origin), time_at(place.after, origin)
+            self.verdict.gaps.append(Gap(*times, what_of(place), place, bool(parts)))
 
 
 def is_in(place: Place, part: Part) -> bool:

@@ -6,7 +6,7 @@ from typing import Iterator
 
 from ..files import Damaged
 from ..pes import pes_packets
-from ..words import counted, pid_name
+from ..words import pid_name
 from .asked import Asked
 from .carriers import Carrier, Carriers, Kept
 from .feed import Feed
@@ -50,8 +50,11 @@ class Recording:
             else:
                 self.take(source)
             self.live, self.file = feed.live, source.summed()
-        except Damaged as reason:
-            raise Unclear(f"{self.name}: {reason}") from None
+        except BaseException as reason:
+            feed.drop()
+            if isinstance(reason, Damaged):
+                raise Unclear(f"{self.name}: {reason}") from None
+            raise
         finally:
             source.close()
 

@@ -20,6 +20,14 @@ SHOWN = re.compile(r"\d{5} (\S+) (\S+) ")  # a line of `show`
 FOUND = re.compile(r"(?:--from (\S+) --to (\S+) )?--origin (\d+)")  # a line of tools/origin
 
 
+class Done(NamedTuple):
+    """How a tool ended: its status, its lines, and those on standard error without its name."""
+
+    status: int
+    printed: list[str]
+    told: list[str]
+
+
 class Found(NamedTuple):
     """An origin, and the frames of the part that it is of."""
 
@@ -50,15 +58,17 @@ class Steps:
         """The call of this tool, with more words."""
         return again(self.asked, self.typed, *more)
 
-    def tool(self, name: str, words: Sequence[str], typed: Sequence[str]) -> tuple[int, str]:
-        """Runs a tool and says it as it is typed; answers its status and what it printed."""
+    def tool(self, name: str, words: Sequence[str], typed: Sequence[str]) -> Done:
+        """Runs a tool and says it as it is typed."""
         self.speech.command(self.typed.tool(name), *typed)
         done = subprocess.run([*self.typed.call(name), *words], stdin=subprocess.DEVNULL,
                               stdout=subprocess.PIPE, stderr=subprocess.PIPE, encoding="utf-8",
                               errors="replace", check=False)
-        for line in (done.stdout + done.stderr).splitlines():
-            self.speech.say(self.names.as_typed(line))
-        return done.returncode, done.stdout
+        printed, told = ([self.names.as_typed(line) for line in text.splitlines()]
+                         for text in (done.stdout, done.stderr))
+        for line in printed + told:
+            self.speech.say(line)
+        return Done(done.returncode, printed, [line.partition(": ")[2] for line in told])
 
     def check_alone(self) -> Answer:
         """What is wrong with the subtitle file; nothing is said of it yet."""
@@ -85,12 +95,11 @@ class Steps:
         """The origin that tools/origin finds, or those of the parts; else `Unclear`."""
         asked = self.asked
         more = [*asked.page_words(), *asked.option_words()]
-        status, printed = self.tool("origin", [asked.stl, recording.path, *more],
-                                    [asked.stl, recording.shown, *more])
-        lines = [FOUND.fullmatch(line) for line in printed.splitlines()]
-        found = [one for one in lines if one]
-        if status or not found or len(found) < len(lines):
-            raise Unclear("the origin is not clear, see above",
+        done = self.tool("origin", [asked.stl, recording.path, *more],
+                         [asked.stl, recording.shown, *more])
+        found = [one for one in map(FOUND.fullmatch, done.printed) if one]
+        if done.status or not found or len(found) < len(done.printed):
+            raise Unclear(f"the origin is not clear: {'; '.join(done.told)}",
                           self.again("--origin", "T"), self.again("--page", "P"))
         return [whole._replace(origin=int(one[3])) if one[1] is None else
                 Found(frame_of(one[1]) or 0, frame_of(one[2]) or 0, int(one[3])) for one in found]
@@ -99,10 +108,10 @@ class Steps:
         """Cuts the subtitles of a part out of the subtitle file."""
         names = self.names.of_part(number)
         times = ["--from", time_of(found.begin), "--to", time_of(found.end)]
-        self.tool("part", [self.asked.stl, *times, "-o", names.stl_path],
-                  [self.asked.stl, *times, "-o", names.stl])
+        done = self.tool("part", [self.asked.stl, *times, "-o", names.stl_path],
+                         [self.asked.stl, *times, "-o", names.stl])
         if not os.path.exists(names.stl_path):
-            raise Unclear("a part of the subtitle file could not be made, see above")
+            raise Unclear(f"a part of the subtitle file is not clear: {'; '.join(done.told)}")
         return Stretch(names.stl, names.stl_path, names, *found)
 
     def cut(self, recording: Recording, one: Stretch) -> None:
@@ -129,12 +138,12 @@ class Steps:
         if names.out is None:
             return
         words = [*self.asked.check_words(), *origin_words(one.origin)]
-        status, _ = self.tool(
+        done = self.tool(
             "preview", [one.stl_path, names.cut_path, *words, "-p", self.typed.program_path, "-o",
                         names.report],
             [one.stl, names.cut, *words, *self.typed.program_words, "-o", names.report])
-        if status == 2:
-            raise Unclear("no report was made, see above")
+        if done.status == 2:
+            raise Unclear(f"no report was made: {'; '.join(done.told)}")
 
 
 def origin_words(origin: int) -> list[str]:

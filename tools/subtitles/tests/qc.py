@@ -61,7 +61,7 @@ def takes_pes_packets(case: Case) -> None:
     """From a file and from standard input; the same ends of all ways."""
     pes = example_bytes("story.pes")
     for name, words, data in (("a file", [example("story.pes")], None), ("a pipe", ["-"], pes),
-                              ("a transport stream in a pipe", ["-"], example_bytes("recording.ts")),
+                              ("a stream in a pipe", ["-"], example_bytes("recording.ts")),
                               ("/dev/stdin", ["/dev/stdin"], pes)):
         done = qc(case, STORY, *words, data=data)
         case.test(name, done.status == 0 and lines_of(done)[-1] == ACCEPTED, done)
@@ -173,7 +173,8 @@ def guesses_nothing(case: Case) -> None:
     other = case.write("other.stl", random_subtitles(7)[0])
     case.schedule(case.write("own.stl", random_subtitles(8)[0]), "own.pes")
     done = qc(case, other, case.path("own.pes"), "--json", "other.json")
-    case.test("another subtitle file", done.status == 2 and "--origin T" in done.told[-2], done)
+    case.test("another subtitle file", done.status == 2 and "--origin T" in done.told[-2]
+              and "fewer than half" in done.told[0], done)
     done = qc(case, STORY, RECORDING, "--origin", "1")
     case.test("a wrong origin", done.status == 2, done)
     for words in ([STORY, STORY], [STORY, "none.ts"], ["none.stl", RECORDING], [RECORDING],
@@ -268,8 +269,10 @@ def heeds_severities(case: Case) -> None:
 
 
 def uses_the_page_and_the_option(case: Case) -> None:
-    data = case.write("two.stl", gsi_block(b"Two", 2, 2) + subtitle_blocks(
-        1, 90_000, 90_050, 20, 2, b"Gr\xc8u\xfbe") + subtitle_blocks(2, 90_100, 90_150, 20, 2, b"Ja"))
+    texts = (b"Gr\xc8u\xfbe", b"Ja")
+    data = case.write("two.stl", gsi_block(b"Two", 2, 2) + b"".join(
+        subtitle_blocks(number, 90_000 + 100 * number, 90_050 + 100 * number, 20, 2, text)
+        for number, text in enumerate(texts)))
     case.schedule(data, "two.pes", "--page", "1A9", "--option", "german", "--origin", "4242")
     done = qc(case, data, case.path("two.pes"), "--page", "1a9", "--option", "german")
     case.test("accepted", done.status == 0 and "--origin 4242" in lines_of(done), done)
