@@ -4,7 +4,6 @@ pub use Rattle.sub_rules.specs.Transmission
 pub use Rattle.sub_rules.specs.PesFrames
 pub use Rattle.sub_rules.specs.PesReading
 pub use Rattle.sub_rules.specs.Good
-pub use Rattle.sub_rules.specs.Rules
 pub use Rattle.sub_rules.specs.PacketRules
 pub use Rattle.sub_rules.specs.PacketTests
 pub use Rattle.sub_rules.specs.FrameRules

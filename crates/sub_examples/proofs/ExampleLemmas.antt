@@ -1,72 +1,66 @@
--- Examples by the tests of all rules: good_by_test, and by_test for one that breaks a rule alone.
-use Rattle.std.proofs.lemmas.Bool.Decides.{nat_tests, not_from_Decides}
-use Rattle.std.proofs.Common.{arith, ◌≡◌, ℕ, inl, inr, ◌==◌, Bool, true, not, ◌&&◌, ◌||◌}
-use Rattle.std.proofs.lemmas.Bool.{and_parts, or_cases, not-true}
+-- A transmission of which nothing is told is good: `good_by_events`.
+use Rattle.std.proofs.lemmas.Bool.Decides.{Decides-and, Decides-like, Decides-eqb, Decides-ltb}
+use Rattle.std.proofs.Common.{arith, ◌≡◌, ℕ, ◌<◌, inl, inr, ◌==◌, ◌&&◌, Bool, true}
+use Rattle.std.proofs.Common.{List, [], length, nat_lt, slice_index, None}
+use Rattle.std.specs.Bool.{Decides}
+use Rattle.std.proofs.lemmas.Bool.{and_parts, cases_lt}
+use Rattle.std.proofs.lemmas.List.{get_or_past}
 use Rattle.stl_rows.specs.Programme.{ProgrammeValue}
 use Rattle.sub_plan.specs.Options.{OptionsValue}
-use Rattle.sub_rules.specs.Transmission.{Transmission}
+use Rattle.ttx_packet.specs.PacketAddress.{IsPacket}
+use Rattle.sub_rules.specs.Events.{events}
+use Rattle.sub_rules.specs.FrameRules.{task_of}
 use Rattle.sub_rules.specs.Good.{Good}
-use Rattle.sub_rules.specs.Rules.{Rule, BreaksOnly}
-use Rattle.sub_rules.specs.Rules.Rule.{Frames, ExactWords, OneMode, SubtitleControl, CleanSpans}
-use Rattle.sub_rules.specs.Rules.Rule.{RepeatBound, DuePages}
-use Rattle.sub_laws.proofs.RuleLemmas.{law_of_rules, breaks}
-use Rattle.sub_examples.proofs.RuleTests.{passes, rule_decided}
+use Rattle.sub_rules.specs.Transmission.{EachPacket, Transmission}
+use Rattle.sub_rules.proofs.TestLemmas.{all_below, below, each_packet, packets_decided}
+use Rattle.sub_laws.proofs.EventLemmas.{law_of_first_event}
+use Rattle.sub_laws.proofs.PlaceLemmas.{Good-from_holds}
 
--- A test of all rules.
-abbrev pub all_rules : (Rule → Bool) → Bool
-all_rules test =
-    test Frames
-    && (test ExactWords
-    && (test OneMode
-    && (test SubtitleControl && (test CleanSpans && (test RepeatBound && test DuePages)))))
+-- A packet has 42 bytes.
+abbrev has_size : List ℕ → Bool
+has_size packet = length packet == 42
 
-each_rule : (test : Rule → Bool) → all_rules test ≡ true → (rule : Rule) → test rule ≡ true
-each_rule test e = grind (arith, nat_tests, and_parts, true)
+-- They are bytes.
+abbrev is_packet : List ℕ → Bool
+is_packet packet =
+    has_size packet && all_below (λ place. nat_lt (slice_index packet place) 0x100) 42
 
--- A transmission whose tests all pass is good.
-pub good_by_test :
+packet_decided : (packet : List ℕ) → Decides (is_packet packet) (IsPacket packet)
+packet_decided packet =
+    Decides-like (is_packet packet)
+    (λ h. record {
+      size = h.0;
+      bytes = λ place. elim (cases_lt place 42) [
+        | inl within ↦ h.1 place within
+        | inr past ↦ grind (arith, h.0, get_or_past packet place 0)
+      ];
+    })
+    (λ is. (is.size, λ place within. is.bytes place))
+    (Decides-and _ _ (Decides-eqb (length packet) 42)
+    (below _ (λ place. slice_index packet place < 0x100)
+    (λ place. Decides-ltb (slice_index packet place) 0x100) 42))
+
+-- Each packet is one.
+abbrev pub are_packets : Transmission → Bool
+are_packets frames = each_packet is_packet frames && each_packet has_size frames
+
+packets_of_test : (frames : Transmission) → are_packets frames ≡ true
+    → EachPacket IsPacket frames × EachPacket (λ packet. length packet ≡ 42) frames
+packets_of_test frames e =
+    let parts = and_parts (each_packet is_packet frames) _ e in (
+      (packets_decided is_packet IsPacket packet_decided frames).0 parts.0,
+      (packets_decided has_size (λ packet. length packet ≡ 42)
+          (λ packet. Decides-eqb (length packet) 42) frames).0 parts.1,
+    )
+
+-- A transmission of packets of which nothing is told is good.
+pub good_by_events :
     (programme : ProgrammeValue) (frames : Transmission) (o : OptionsValue)
-    → all_rules (λ rule. passes rule programme frames o) ≡ true
+    → 0 < o.every
+    → are_packets frames ≡ true
+    → events (task_of programme o None) frames ≡ []
     → Good programme frames o
-good_by_test programme frames o e =
-    (law_of_rules programme frames o).1
-    (λ rule. (rule_decided rule programme frames o).0
-    (each_rule (λ rule. passes rule programme frames o) e rule))
-
--- The place of a rule among the seven.
-abbrev rank : Rule → ℕ
-rank Frames = 0
-rank ExactWords = 1
-rank OneMode = 2
-rank SubtitleControl = 3
-rank CleanSpans = 4
-rank RepeatBound = 5
-rank DuePages = 6
-
--- Rules of one place are one.
-same_rank : (a b : Rule) → (rank a == rank b) ≡ true → a ≡ b
-same_rank a b e = grind (arith, nat_tests)
-
--- The test of this rule fails, and no other.
-abbrev pub fails_alone : Rule → ProgrammeValue → Transmission → OptionsValue → Bool
-fails_alone rule programme frames o =
-    not (passes rule programme frames o)
-    && all_rules (λ other. (rank other == rank rule) || passes other programme frames o)
-
--- A transmission of which this is so breaks the rule alone.
-pub by_test :
-    (rule : Rule) (programme : ProgrammeValue) (frames : Transmission) (o : OptionsValue)
-    → fails_alone rule programme frames o ≡ true
-    → BreaksOnly rule programme frames o
-by_test rule programme frames o e =
-    let parts = and_parts (not (passes rule programme frames o)) _ e in
-    breaks rule programme frames o
-    (not_from_Decides _ (rule_decided rule programme frames o)
-    (not-true (passes rule programme frames o) parts.0))
-    (λ other d.
-    elim (or_cases (rank other == rank rule) _
-    (each_rule (λ other. (rank other == rank rule) || passes other programme frames o) parts.1
-    other)) [
-      | inl same ↦ absurd (d (same_rank other rule same))
-      | inr kept ↦ (rule_decided other programme frames o).0 kept
-    ])
+good_by_events programme frames o some whole quiet =
+    let packets = packets_of_test frames whole in
+    Good-from_holds programme o None frames some
+    ((law_of_first_event (task_of programme o None) frames packets.0).none.0 quiet) packets.1

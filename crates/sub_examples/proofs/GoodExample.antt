@@ -1,5 +1,5 @@
--- A good transmission, by the tests of all rules.
-use Rattle.std.proofs.Common.{refl}
+-- A good transmission: nothing is told of it.
+use Rattle.std.proofs.Common.{arith, refl}
 use Rattle.std.specs.Int.RustNames.{count_ones}
 use lib.Count.{ones_in}
 use Rattle.ttx_packet.specs.Hamming84.{decoded}
@@ -9,6 +9,12 @@ use Rattle.ttx_packet.specs.PageHeader.{header, coded_header}
 use Rattle.ttx_packet.specs.Parity.{is_odd}
 use Rattle.ttx_page.specs.Page.{blank, blank_row}
 use Rattle.sub_rules.specs.PacketTests.{are_code_words, is_word_below}
+use Rattle.sub_rules.specs.PacketTests.{breaks, broken_rules, packet_rules}
+use Rattle.sub_rules.specs.Events.{events, events_of_first, frame_events, order_events}
+use Rattle.sub_rules.specs.Events.{gap_events, gap_length, packet_events, rules_told}
+use Rattle.sub_rules.specs.Events.{first_header_events, standing_at, standing_before, end_events}
+use Rattle.sub_rules.specs.Events.{wrong_after, first_cell, is_gap, is_incomplete, latest}
+use Rattle.sub_rules.specs.Events.{closing_events}
 use Rattle.ttx_packet.specs.RowPacket.{first_even_byte}
 use Rattle.ttx_page.specs.PacketKind.{kind}
 use Rattle.stl_rows.specs.DrawnPage.{drawn, page_of_lines, line_fault_kinds}
@@ -16,11 +22,14 @@ use Rattle.stl_rows.specs.DuePage.{due}
 use Rattle.stl_rows.specs.Line.{is_boxed, is_double, prepared, row_of}
 use Rattle.stl_rows.specs.TextCode.{cell_of, cell_of_pair}
 use Rattle.sub_examples.specs.Examples.{ExampleOfGood}
-use Rattle.sub_examples.proofs.ExampleLemmas.{good_by_test}
+use Rattle.sub_examples.proofs.ExampleLemmas.{good_by_events}
 
 pub example_of_good : ExampleOfGood
-unfolding are_code_words is_word_below first_even_byte kind address
+unfolding events events_of_first frame_events order_events gap_events gap_length
+    packet_events rules_told broken_rules packet_rules breaks first_header_events standing_at
+    standing_before end_events wrong_after first_cell is_gap is_incomplete latest closing_events
+    are_code_words is_word_below first_even_byte kind address
     header coded_header decoded is_near is_odd count_ones ones_in due blank
     blank_row drawn page_of_lines row_of line_fault_kinds prepared is_boxed is_double
     cell_of cell_of_pair
-example_of_good = good_by_test _ _ _ refl
+example_of_good = good_by_events _ _ _ (omega arith) refl refl

@@ -1,8 +1,6 @@
-pub mod BrokenRules
 pub mod ExampleLemmas
 pub mod GoodExample
 pub mod NotRobust
 pub mod RobustTests
-pub mod RuleTests
 pub mod ScreenTests
 pub mod StretchExample

@@ -1,17 +1,25 @@
 -- A transmission is not robust, by a receiver that computes: `refuted`. And it is not though all
 -- that is asked of a clean stretch but one part holds, which is needed then: `needed`.
-use Rattle.std.proofs.lemmas.Bool.Decides.{nat_tests, Decides-and}
+use Rattle.std.proofs.lemmas.Bool.Decides.{nat_tests, Decides-and, Decides-eqb, Decides-like}
+use Rattle.std.proofs.lemmas.Bool.Decides.{Decides-ltb}
+use Rattle.std.proofs.lemmas.List.Kept.{AllPairs-cons}
+use Rattle.std.specs.List.{list_all}
 use Rattle.std.proofs.Common.{◌≡◌, ◌↔◌, ◌⊎◌, ℕ, suc, ◌+◌, ◌-◌, ◌≤◌, inl, inr, ◌==◌, Bool}
 use Rattle.std.proofs.Common.{true, not, None, IsFalse}
 use Rattle.std.proofs.Common.{◌&&◌, ◌||◌, nat_le, nat_lt, List, [], ◌++◌, length, take, refl, sym}
 use Rattle.std.proofs.Common.{ap, ◌∙◌, arith, eqb-true}
 use Rattle.std.proofs.Common.{slice_index_or}
-use Rattle.std.proofs.Common.{false, replicate, subst, zero}
+use Rattle.std.proofs.Common.{false, replicate, subst, zero, ◌∷◌, ◌<◌, find, option_map, unwrap_or}
+use Rattle.std.proofs.Common.{slice_index, Option}
 use Rattle.std.proofs.lemmas.Bool.{and_parts, or_cases, leb-true}
 use Rattle.std.specs.Bool.{Decides}
-use Rattle.ttx_page.specs.Page.{space, cell}
-use Rattle.ttx_page.specs.PacketKind.{kind}
+use Rattle.ttx_packet.specs.PageId.{PageIdValue}
+use Rattle.ttx_packet.specs.Parity.{code_of}
+use Rattle.ttx_packet.specs.RowPacket.{text_byte}
+use Rattle.ttx_page.specs.Page.{IsCell, Rows, cell, row_at, space}
+use Rattle.ttx_page.specs.PacketKind.{is_row, kind}
 use Rattle.ttx_page.specs.Receiver.{State}
+use Rattle.ttx_page.specs.Shown.{shown}
 use Rattle.ttx_page.specs.Span.{holds_header, span}
 use Rattle.ttx_page.specs.ComputedReceiver.{state_after}
 use Rattle.ttx_page.proofs.ComputedReceiver.{heard_so, near_packets, packets_tested}
@@ -25,14 +33,15 @@ use Rattle.sub_rules.specs.Events.{is_gap}
 use Rattle.sub_examples.specs.Examples.{IsNeeded}
 use Rattle.sub_rules.specs.FrameRules.{Task, frame_at, packets_before, packets_of_frame, task_of}
 use Rattle.sub_rules.specs.PacketTests.{breaks, is_same_bit}
-use Rattle.sub_rules.specs.Transmission.{Transmission, first_frame, last_frame, packets_of, on_air}
+use Rattle.sub_rules.specs.Transmission.{IsRising, SentFrame, Transmission, first_frame}
+use Rattle.sub_rules.specs.Transmission.{last_frame, on_air, packets_of}
 use Rattle.sub_laws.specs.Robust.{IsListening, Robust}
 use Rattle.sub_rules.specs.declared.packet_rule.PacketRule.{PacketRule}
 use Rattle.sub_rules.specs.declared.packet_rule.PacketRule.TheVariants as rule
 use Rattle.sub_laws.proofs.EventLemmas.{gap_decided}
-use Rattle.sub_examples.proofs.RuleTests.{rises, rising_decided, shows_decided, shows_page}
 use Rattle.sub_laws.proofs.StretchLemmas.{robust_of_recovers}
-use Rattle.sub_rules.proofs.TestLemmas.{all_below, at_most, each_below, fails, holds, implied}
+use Rattle.sub_rules.proofs.TestLemmas.{all_below, at_most, below, each_below, each_of, fails}
+use Rattle.sub_rules.proofs.TestLemmas.{holds, implied}
 use Rattle.sub_rules.proofs.TestLemmas.{same_bit}
 use Rattle.sub_laws.proofs.UntoldLemmas.{control_bits, exact_address, exact_codes, odd_row}
 use Rattle.sub_laws.proofs.UntoldLemmas.{same_row}
@@ -191,6 +200,63 @@ none_breaks :
 none_breaks r g frames a b e i k l m low high =
     (fails _).0
     (at_packets (λ before p. not (breaks r g.watched before p)) frames a b e i k l m low high)
+
+-- The numbers of the frames rise.
+abbrev rises : Transmission → Bool
+rises [] = true
+rises (s ∷ frames) =
+    list_all (λ (later : SentFrame). nat_lt s.frame later.frame) frames && rises frames
+
+rising_decided : (frames : Transmission) → Decides (rises frames) (IsRising frames)
+rising_decided [] = (λ e i j d l m. absurd (omega arith), λ h. refl)
+rising_decided (s ∷ frames) =
+    let R : SentFrame → SentFrame → Type 0 = λ t u. t.frame < u.frame in
+    Decides-like (rises (s ∷ frames)) (λ h. AllPairs-cons R s frames h.0 h.1)
+    (λ h. (
+      λ k d l. h 0 (suc k) d (omega arith) (omega arith),
+      λ i j d l m. h (suc i) (suc j) d (omega arith) (omega arith),
+    ))
+    (Decides-and (list_all (λ (later : SentFrame). nat_lt s.frame later.frame) frames)
+    (rises frames)
+    (each_of (λ (later : SentFrame). nat_lt s.frame later.frame) (R s)
+    (λ t. Decides-ltb s.frame t.frame) frames) (rising_decided frames))
+
+-- A packet, or none, shows the codes of a row.
+abbrev shows_row : Option (List ℕ) → List ℕ → Bool
+shows_row found codes =
+    all_below
+    (λ column.
+    unwrap_or (option_map (λ p. code_of (text_byte p column)) found) space
+    == slice_index codes column)
+    40
+
+-- The packets of a span show the page.
+abbrev shows_page : PageIdValue → List (List ℕ) → Rows → Bool
+shows_page page ps rows =
+    all_below
+    (λ k. shows_row (find (λ p. is_row (suc k) (kind page p)) ps) (row_at rows (suc k)))
+    24
+
+shows_decided :
+    (page : PageIdValue) (packets : List (List ℕ)) (rows : Rows)
+    → Decides (shows_page page (span (kind page) packets) rows)
+    ((row column : ℕ) → IsCell row column → shown page packets row column ≡ cell rows row column)
+shows_decided page packets rows =
+    Decides-like _ at_each
+    (λ h k l column m. h (suc k) column (omega arith, omega arith, m))
+    (below _ (λ k. (column : ℕ) → column < 40 → P (suc k) column)
+    (λ k. below _ (P (suc k)) (λ column. Decides-eqb _ _) 40) 24)
+  where
+    P : ℕ → ℕ → Type 0
+    P row column = shown page packets row column ≡ cell rows row column
+
+    at_each :
+        ((k : ℕ) → k < 24 → (column : ℕ) → column < 40 → P (suc k) column)
+        → (row column : ℕ)
+        → IsCell row column
+        → P row column
+    at_each h zero column named = absurd (omega (arith, named.0))
+    at_each h (suc k) column named = h k (omega (arith, named.1)) column named.2
 
 -- After n frames the page that is due at frame f is shown.
 abbrev shows_due : Task → Transmission → ℕ → ℕ → Bool

@@ -14,6 +14,12 @@ use Rattle.ttx_packet.specs.Parity.{is_odd}
 use Rattle.ttx_page.specs.declared.packet_kind.PacketKind.TheVariants.{ThisPage, EndsPage, Row}
 use Rattle.ttx_page.specs.Page.{Rows, blank, blank_row}
 use Rattle.sub_rules.specs.PacketTests.{are_code_words, is_word_below}
+use Rattle.sub_rules.specs.PacketTests.{breaks, broken_rules, packet_rules}
+use Rattle.sub_rules.specs.Events.{events, events_of_first, frame_events, order_events}
+use Rattle.sub_rules.specs.Events.{gap_events, gap_length, packet_events, rules_told}
+use Rattle.sub_rules.specs.Events.{first_header_events, standing_at, standing_before, end_events}
+use Rattle.sub_rules.specs.Events.{wrong_after, first_cell, is_gap, is_incomplete, latest}
+use Rattle.sub_rules.specs.Events.{closing_events}
 use Rattle.ttx_packet.specs.RowPacket.{first_even_byte}
 use Rattle.ttx_page.specs.PacketKind.{kind}
 use Rattle.ttx_page.specs.Receiver.{State, Step, StepAt}
@@ -29,7 +35,7 @@ use Rattle.sub_laws.specs.Robust.{IsListening}
 use Rattle.sub_examples.specs.ScreenExamples.{unheard, ExampleOfEndedPage, ExampleOfPageNotEnded}
 use Rattle.sub_examples.specs.ScreenExamples.{ExampleOfPageBegunAgain, ExampleOfNoEnd}
 use Rattle.sub_rules.specs.Transmission.{Transmission}
-use Rattle.sub_examples.proofs.ExampleLemmas.{good_by_test}
+use Rattle.sub_examples.proofs.ExampleLemmas.{good_by_events}
 
 -- ---- packets
 
@@ -127,12 +133,15 @@ example_of_page_begun_again = record {
 abbrev no_end : Transmission
 no_end = one_frame (header_888 ∷ [])
 
--- It passes the test of each rule.
+-- Nothing is told of it.
 no_end_is_good : Good no_subtitles no_end (each 1)
-unfolding are_code_words is_word_below first_even_byte kind address
+unfolding events events_of_first frame_events order_events gap_events gap_length
+    packet_events rules_told broken_rules packet_rules breaks first_header_events standing_at
+    standing_before end_events wrong_after first_cell is_gap is_incomplete latest closing_events
+    are_code_words is_word_below first_even_byte kind address
     header coded_header decoded is_near is_odd count_ones ones_in
     due blank blank_row
-no_end_is_good = good_by_test _ _ _ refl
+no_end_is_good = good_by_events _ _ _ (omega arith) refl refl
 
 -- It holds a header of the page, which none ends.
 holds : holds_header (kind page_888) (header_888 ∷ []) ≡ true

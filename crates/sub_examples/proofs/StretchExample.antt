@@ -25,22 +25,17 @@ use Rattle.sub_examples.specs.Examples.{ExampleOfCleanStretch, closing, damaged_
 use Rattle.sub_examples.specs.Examples.{header_888, later_subtitle, row_22}
 use Rattle.sub_rules.specs.FrameRules.{task_of}
 use Rattle.sub_rules.specs.Good.{Good}
+use Rattle.sub_rules.specs.Transmission.{SentFrame}
 use Rattle.sub_laws.proofs.CleanStretchLemmas.{law_of_clean_stretch}
-use Rattle.sub_rules.specs.Rules.Rule.{SubtitleControl}
 use Rattle.sub_examples.proofs.RobustTests.{clean_by_test, listening}
-use Rattle.sub_laws.proofs.RuleLemmas.{law_of_rules}
-use Rattle.sub_examples.proofs.RuleTests.{rule_decided}
 
--- Its header without C4 breaks a rule.
+-- Its first packet, a header of the page, has no C4.
 refused : Good later_subtitle damaged_first (each 1) → ⊥
 unfolding kind address header coded_header decoded is_near
 refused good =
-    grind (
-      arith,
-      nat_tests,
-      rule_decided SubtitleControl later_subtitle damaged_first (each 1),
-      law_of_rules later_subtitle damaged_first (each 1),
-    )
+    let none : SentFrame = record { frame = 0; packets = [] } in
+    let control = good.control 0 none (omega arith) 0 [] (omega arith) in
+    grind (arith, nat_tests, control _ refl)
 
 clean : IsClean (task_of later_subtitle (each 1) None) damaged_first 900001 900002
 unfolding are_code_words is_word_below first_even_byte breaks columns_differing is_gap

@@ -1,13 +1,12 @@
--- Transmissions of page 888 in full, byte by byte: a good one, for each part of a rule one that
--- breaks that rule alone, and for each part of what the headline needs one that is not robust.
-use Rattle.std.specs.Prelude.{◌≡◌, ◌≢◌, ◌⊎◌, ℕ, false, List, [], ◌∷◌, ◌++◌, All, None, replicate}
-use Rattle.std.specs.Prelude.{take}
+-- Transmissions of page 888 in full, byte by byte: a good one, and for each part of what the
+-- headline needs one that is not robust.
+use Rattle.std.specs.Prelude.{◌≡◌, ◌≢◌, ◌⊎◌, ℕ, false, List, [], ◌∷◌, ◌++◌, None, replicate}
 use Rattle.std.specs.List.{AllZip}
 use Rattle.ttx_packet.specs.OneBit.{AreNear}
 use Rattle.ttx_page.specs.Page.{cell, space}
 use Rattle.ttx_page.specs.Receiver.{Hears, State}
 use Rattle.ttx_page.specs.Receiver.ReceiverClass.{Storing}
-use Rattle.stl_rows.specs.declared.national.National.TheVariants.{English, German}
+use Rattle.stl_rows.specs.declared.national.National.TheVariants.{English}
 use Rattle.stl_rows.specs.Programme.{ProgrammeValue}
 use Rattle.sub_plan.specs.Examples.{page_888}
 use Rattle.sub_plan.specs.Options.{OptionsValue}
@@ -19,9 +18,6 @@ use Rattle.sub_rules.specs.FrameRules.{task_of}
 use Rattle.sub_rules.specs.Good.{Good}
 use Rattle.sub_laws.specs.Recovery.{RecoversWithin}
 use Rattle.sub_laws.specs.Robust.{Robust}
-use Rattle.sub_rules.specs.Rules.{BreaksOnly, Rule}
-use Rattle.sub_rules.specs.Rules.Rule.{Frames, ExactWords, OneMode, SubtitleControl, CleanSpans}
-use Rattle.sub_rules.specs.Rules.Rule.{RepeatBound, DuePages}
 
 -- ---- packets
 
@@ -136,135 +132,6 @@ ExampleOfGood =
     (two_frames (header_888 ∷ row_22 ∷ closing ∷ []) (header_888 ∷ closing ∷ []))
     (each 1)
 
--- ---- for each part of a rule one that breaks it, and no other rule
-
--- A transmission that breaks a rule, with the programme and the repeat bound that it is held
--- against.
-pub record BrokenExample : Type 0 where
-  pub rule : Rule
-  pub programme : ProgrammeValue
-  pub transmission : Transmission
-  pub every : ℕ
-
--- One of these, by its parts.
-abbrev broken : Rule → ProgrammeValue → Transmission → ℕ → BrokenExample
-broken rule programme transmission every =
-    record { rule = rule; programme = programme; transmission = transmission; every = every }
-
--- Frame 900002 is listed before frame 900001.
-abbrev pub out_of_order : Transmission
-out_of_order =
-    record { frame = 900000; packets = header_888 ∷ closing ∷ [] }
-    ∷ record { frame = 900002; packets = header_888 ∷ row_1 0xA1 ∷ closing ∷ [] }
-    ∷ record { frame = 900001; packets = header_888 ∷ closing ∷ [] }
-    ∷ record { frame = 900003; packets = header_888 ∷ closing ∷ [] }
-    ∷ []
-
--- Frame 900001 alone.
-abbrev late_start : Transmission
-late_start = record { frame = 900001; packets = header_888 ∷ closing ∷ [] } ∷ []
-
--- Row 1 blank, and then with an exclamation mark.
-abbrev pub changed_row : Transmission
-changed_row = one_frame (header_888 ∷ row_1 0x20 ∷ row_1 0xA1 ∷ closing ∷ [])
-
--- `Hi`, and two frames later the page without it.
-abbrev late_erasure : Transmission
-late_erasure =
-    record { frame = 900000; packets = header_888 ∷ row_22 ∷ closing ∷ [] }
-    ∷ record { frame = 900002; packets = header_888 ∷ closing ∷ [] }
-    ∷ []
-
--- Frames that rise, of packets of 42 bytes, and reach from the first TCI to the last TCO.
-abbrev broken_frames : List BrokenExample
-broken_frames =
-    -- Frames whose numbers do not rise.
-    broken Frames no_subtitles out_of_order 1
-    -- A packet of 41 bytes.
-    ∷ broken Frames no_subtitles (one_frame (header_888 ∷ take 41 closing ∷ [])) 1
-    -- The first TCI is before the first frame. The subtitle has no text: its page is blank.
-    ∷ broken Frames (one_subtitle []) late_start 1
-    -- The last TCO is after the last frame. The subtitle has no text: its page is blank.
-    ∷ broken Frames (one_subtitle []) (one_header header_888) 1
-    ∷ []
-
--- Code words with no bit wrong, in one mode.
-abbrev broken_codes : List BrokenExample
-broken_codes =
-    -- An address byte with a wrong bit.
-    broken ExactWords no_subtitles (one_header header_with_wrong_bit) 1
-    -- A coded byte of a header with a wrong bit.
-    ∷ broken ExactWords no_subtitles (one_header header_with_wrong_units) 1
-    -- A packet X/0 that is no header.
-    ∷ broken ExactWords no_subtitles (one_frame (header_888 ∷ closing ∷ no_header ∷ [])) 1
-    -- A closing header in another mode.
-    ∷ broken OneMode no_subtitles (one_frame (header_888 ∷ serial_closing ∷ [])) 1
-    ∷ []
-
--- A subtitle's control bits.
-abbrev broken_control : List BrokenExample
-broken_control =
-    -- C4 is clear: the header does not erase the page.
-    broken SubtitleControl no_subtitles (one_header header_without_c4) 1
-    -- C5, newsflash, is set.
-    ∷ broken SubtitleControl no_subtitles (one_header (header_with 0xD0 0xA1 0x02 0x15)) 1
-    -- C6, subtitle, is clear.
-    ∷ broken SubtitleControl no_subtitles (one_header (header_with 0xD0 0x15 0x02 0x15)) 1
-    -- C7, suppress header, is clear.
-    ∷ broken SubtitleControl no_subtitles (one_header (header_with 0xD0 0xD0 0x15 0x15)) 1
-    -- C10, inhibit display, is set.
-    ∷ broken SubtitleControl no_subtitles (one_header (header_with 0xD0 0xD0 0xC7 0x15)) 1
-    -- C12 is set, which names another national option sub-set than English.
-    ∷ broken SubtitleControl no_subtitles (one_header (header_with 0xD0 0xD0 0x02 0x49)) 1
-    -- C13 is set.
-    ∷ broken SubtitleControl no_subtitles (one_header (header_with 0xD0 0xD0 0x02 0x64)) 1
-    -- C14 is set, which names the German one.
-    ∷ broken SubtitleControl no_subtitles (one_header (header_with 0xD0 0xD0 0x02 0xD0)) 1
-    -- C14 is clear, where the programme is German.
-    ∷ broken SubtitleControl (record { national = German; records = [] }) (one_header header_888) 1
-    ∷ []
-
--- Clean spans: odd bytes, equal rows, no packet X/25 to X/28.
-abbrev broken_spans : List BrokenExample
-broken_spans =
-    -- A row with a space of even parity, A0.
-    broken CleanSpans no_subtitles (one_frame (header_888 ∷ row_1 0xA0 ∷ closing ∷ [])) 1
-    -- A second packet of row 1 that differs from the first.
-    ∷ broken CleanSpans no_subtitles changed_row 1
-    -- A packet X/26 while the page is open.
-    ∷ broken CleanSpans no_subtitles (one_frame (header_888 ∷ packet_26 ∷ closing ∷ [])) 1
-    ∷ []
-
--- A header within the repeat bound and in the first frame, and the due page.
-abbrev broken_pages : List BrokenExample
-broken_pages =
-    -- A frame without a header of the page, where each is to have one.
-    broken RepeatBound no_subtitles (two_frames (header_888 ∷ closing ∷ []) (closing ∷ [])) 1
-    -- A first frame without one.
-    ∷ broken RepeatBound no_subtitles (two_frames (closing ∷ []) (header_888 ∷ closing ∷ [])) 2
-    -- An exclamation mark that is not due.
-    ∷ broken DuePages no_subtitles (one_frame (header_888 ∷ row_1 0xA1 ∷ closing ∷ [])) 1
-    -- `Hi` is due, and no row is sent.
-    ∷ broken DuePages (one_subtitle (0x48 ∷ 0x69 ∷ []))
-    (two_frames (header_888 ∷ closing ∷ []) (header_888 ∷ closing ∷ []))
-    1
-    -- `Hi` is over at frame 900001, which has no PES packet, and stands until frame 900002.
-    ∷ broken DuePages (one_subtitle (0x48 ∷ 0x69 ∷ [])) late_erasure 2
-    ∷ []
-
--- All of these.
-abbrev pub broken_examples : List BrokenExample
-broken_examples =
-    broken_frames ++ broken_codes ++ broken_control ++ broken_spans ++ broken_pages
-
--- It breaks its rule alone.
-abbrev pub BreaksItsRule : BrokenExample → Type 0
-BreaksItsRule e = BreaksOnly e.rule e.programme e.transmission (each e.every)
-
--- So does each of them.
-abbrev pub ExamplesOfBrokenRules : Type 0
-ExamplesOfBrokenRules = All BreaksItsRule broken_examples
-
 -- ---- for each part of what is asked of a clean stretch one that is not robust without it
 
 -- In all frames each other part is kept, and the transmission is not robust. So neither may its
@@ -283,6 +150,10 @@ pub record IsNeeded
       RecoversWithin Storing programme transmission options (first_frame transmission)
       (last_frame transmission)
       → ⊥
+
+-- Row 1 blank, and then with an exclamation mark.
+abbrev pub changed_row : Transmission
+changed_row = one_frame (header_888 ∷ row_1 0x20 ∷ row_1 0xA1 ∷ closing ∷ [])
 
 -- Frame 900001 is listed after frame 900002, which ends the page, and so its row is passed over.
 abbrev pub listed_late : Transmission

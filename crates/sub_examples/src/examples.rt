@@ -1,21 +1,14 @@
-//! Transmissions in full, byte by byte: a good one, for each part of a rule one that breaks that
-//! rule alone, and for each part of what the headline needs one that is not robust.
+//! Transmissions in full, byte by byte: a good one, and for each part of what the headline needs
+//! one that is not robust.
 //!
 //! They show that the definitions of `specs/` say what they are to say. The functions do nothing.
 ghost use Rattle.sub_examples.specs.Examples.{ExampleOfCleanStretch, ExampleOfGood};
-ghost use Rattle.sub_examples.specs.Examples.{ExamplesOfBrokenRules, ExamplesOfNeededParts};
+ghost use Rattle.sub_examples.specs.Examples.{ExamplesOfNeededParts};
 
 /// A good transmission: one subtitle in one frame, and in the next frame the page without it.
 #[tactic(auto, using(crate::proofs::GoodExample::example_of_good))]
 pub fn example_of_good()
     ensures { ExampleOfGood }
-{}
-
-/// For each part of a rule a transmission that breaks that rule and keeps the six others, and so is
-/// not good.
-#[tactic(auto, using(crate::proofs::BrokenRules::examples_of_broken_rules))]
-pub fn examples_of_broken_rules()
-    ensures { ExamplesOfBrokenRules }
 {}
 
 /// Each part of what is asked of a clean stretch is needed: for each there is a transmission that

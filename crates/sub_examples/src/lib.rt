@@ -1,5 +1,5 @@
-//! Examples of transmissions, byte by byte: one for each part of a rule that breaks it alone, for
-//! each part that the headline needs, and of screens.
+//! Examples of transmissions, byte by byte: a good one, for each part that the headline needs one
+//! that is not robust without it, and of screens.
 //!
 //! Stands on `sub_rules` and `sub_laws`, and nothing stands on it: the definitions of those are
 //! held against cases here.
@@ -12,7 +12,5 @@
 mod examples;
 mod screen_examples;
 
-pub use examples::{
-    example_of_clean_stretch, example_of_good, examples_of_broken_rules, examples_of_needed_parts,
-};
+pub use examples::{example_of_clean_stretch, example_of_good, examples_of_needed_parts};
 pub use screen_examples::{example_of_no_end, examples_of_screens};

@@ -16,7 +16,6 @@ pub mod PrefixLemmas
 pub mod ReadFileLemmas
 pub mod RisingEndLemmas
 pub mod RobustLemmas
-pub mod RuleLemmas
 pub mod StepByStepLemmas
 pub mod StretchLemmas
 pub mod ToldListLemmas

@@ -6,7 +6,6 @@ ghost use Rattle.sub_laws.specs.FirstEvent.{LawOfFirstEvent};
 ghost use Rattle.sub_laws.specs.Laws.{LawOfAllKept, LawOfGood, LawOfGoodAndMarkedLoss, LawOfWindow};
 ghost use Rattle.sub_rules.specs.PesReading.{LawOfPesFiles};
 ghost use Rattle.sub_laws.specs.Planned.{LawOfPlan, LawOfPlanRead};
-ghost use Rattle.sub_rules.specs.Rules.{LawOfRules};
 ghost use Rattle.sub_laws.specs.StepByStep.{LawOfCleanSpans, LawOfRepeats, LawOfSpansByPacket};
 ghost use Rattle.sub_laws.specs.Stretch.{LawOfWholeRecovery, LawOfWholeStretch};
 ghost use Rattle.sub_laws.specs.Sufficient.{LawOfStretch, LawOfSufficientParts};
@@ -82,11 +81,6 @@ pub fn law_of_good_and_marked_loss()
 /// With all packets marked as kept, robust to lost rows is robust.
 pub fn law_of_all_kept()
     ensures { LawOfAllKept }
-{}
-
-/// A transmission is good exactly where it keeps each of the seven rules.
-pub fn law_of_rules()
-    ensures { LawOfRules }
 {}
 
 /// The spans of a list cut anywhere are clean exactly where each packet may follow the span that it

@@ -1,21 +1,17 @@
 -- Tests that compute, and what they decide: truth values, numbers, lists, packets and frames. Below
 -- each test stands what it decides.
-use Rattle.std.proofs.Common.{◌≡◌, ℕ, zero, suc, ◌+◌, ◌-◌, ◌<◌, ◌≤◌, Bool, true, false, not, ◌&&◌}
-use Rattle.std.proofs.Common.{◌||◌, nat_le, List, Option, Some, None, All, IfSome, refl, subst}
+use Rattle.std.proofs.Common.{◌≡◌, ℕ, zero, suc, ◌<◌, ◌≤◌, Bool, true, false, not, ◌&&◌}
+use Rattle.std.proofs.Common.{◌||◌, nat_le, List, Some, None, All, refl}
 use Rattle.std.proofs.Common.{arith}
 use Rattle.std.specs.Bool.{Decides}
 use Rattle.std.specs.List.{list_all}
 use Rattle.std.proofs.lemmas.Bool.{leb-true, le-leb}
-use Rattle.std.proofs.lemmas.Bool.Decides.{Decides-like, Decides-by_and, Decides-below_and}
-use Rattle.std.proofs.lemmas.Bool.Decides.{Decides-below_or, nat_tests}
+use Rattle.std.proofs.lemmas.Bool.Decides.{Decides-by_and, Decides-below_and}
+use Rattle.std.proofs.lemmas.Bool.Decides.{nat_tests}
 use Rattle.ttx_packet.proofs.OneBitLemmas.{first_below_is}
 use Rattle.ttx_packet.specs.OneBit.{first_below}
-use Rattle.ttx_page.specs.declared.packet_kind.PacketKind.{PacketKind}
-use Rattle.ttx_page.specs.declared.packet_kind.PacketKind.TheVariants.{ThisPage, EndsPage, Row}
-use Rattle.ttx_page.specs.declared.packet_kind.PacketKind.TheVariants.{Other}
 use Rattle.sub_rules.specs.PacketTests.{is_same_bit}
-use Rattle.sub_rules.specs.Transmission.{SentFrame, Transmission, EachPacket, first_frame}
-use Rattle.sub_rules.specs.Transmission.{last_frame}
+use Rattle.sub_rules.specs.Transmission.{SentFrame, Transmission, EachPacket}
 
 -- ---- tests and what they decide
 
@@ -45,11 +41,6 @@ abbrev pub all_below : (ℕ → Bool) → ℕ → Bool
 all_below test zero = true
 all_below test (suc n) = test n && all_below test n
 
--- A test of some number below a bound.
-abbrev pub any_below : (ℕ → Bool) → ℕ → Bool
-any_below test zero = false
-any_below test (suc n) = test n || any_below test n
-
 pub below :
     (test : ℕ → Bool) (P : ℕ → Type 0)
     → ((k : ℕ) → Decides (test k) (P k))
@@ -60,13 +51,6 @@ below test P each n = Decides-below_and test P (all_below test) each refl (λ _.
 pub each_below : (test : ℕ → Bool) (n : ℕ) → all_below test n ≡ true → (k : ℕ) → k < n
     → test k ≡ true
 each_below test n = (below test (λ k. test k ≡ true) (λ k. holds (test k)) n).0
-
-pub some_below :
-    (test : ℕ → Bool) (P : ℕ → Type 0)
-    → ((k : ℕ) → Decides (test k) (P k))
-    → (n : ℕ)
-    → Decides (any_below test n) ((k : ℕ) × (k < n) × P k)
-some_below test P each n = Decides-below_or test P (any_below test) each refl (λ _. refl) n
 
 -- Where no number below a bound is found, none passes.
 pub below_none : (n : ℕ) (test : ℕ → Bool) → first_below n test ≡ None
@@ -89,33 +73,6 @@ pub each_of :
     → Decides (list_all test xs) (All P xs)
 each_of test P each xs = Decides-by_and test P (list_all test) each refl (λ _ _. refl) xs
 
--- A test of the value, where there is one.
-abbrev pub if_some : {A : Type 0} → (A → Bool) → Option A → Bool
-if_some test None = true
-if_some test (Some x) = test x
-
-pub if_value :
-    {A : Type 0} (test : A → Bool) (P : A → Type 0)
-    → ((x : A) → Decides (test x) (P x))
-    → (o : Option A)
-    → Decides (if_some test o) (IfSome o P)
-if_value test P each is = grind arith
-
--- The row of a packet that is one.
-abbrev pub row_of_kind : PacketKind → Option ℕ
-row_of_kind (ThisPage h) = None
-row_of_kind EndsPage = None
-row_of_kind (Row y) = Some y
-row_of_kind Other = None
-
-pub if_row :
-    (test : ℕ → Bool) (P : ℕ → Type 0)
-    → ((y : ℕ) → Decides (test y) (P y))
-    → (k : PacketKind)
-    → Decides (if_some test (row_of_kind k)) ((y : ℕ) → k ≡ Row y → P y)
-if_row test P each k =
-    grind arith
-
 -- ---- of a transmission
 
 -- A test of each packet.
@@ -130,24 +87,3 @@ pub packets_decided :
 packets_decided test P each frames =
     each_of (λ (s : SentFrame). list_all test s.packets) (λ (s : SentFrame). All P s.packets)
     (λ s. each_of test P each s.packets) frames
-
--- A test of each frame from the first to the last.
-abbrev pub each_frame : (ℕ → Bool) → Transmission → Bool
-each_frame test frames =
-    all_below (λ k. test (first_frame frames + k)) (last_frame frames + 1 - first_frame frames)
-
-pub frames_decided :
-    (test : ℕ → Bool) (P : ℕ → Type 0)
-    → ((f : ℕ) → Decides (test f) (P f))
-    → (frames : Transmission)
-    → Decides (each_frame test frames)
-    ((f : ℕ) → first_frame frames ≤ f → f ≤ last_frame frames → P f)
-frames_decided test P each frames =
-    Decides-like (each_frame test frames)
-    (λ h f l m.
-    let k : ℕ = f - first_frame frames in
-    let here : first_frame frames + k ≡ f = omega arith in
-    subst P here (h k (omega arith)))
-    (λ h k l. h (first_frame frames + k) (omega arith) (omega arith))
-    (below (λ k. test (first_frame frames + k)) (λ k. P (first_frame frames + k))
-    (λ k. each (first_frame frames + k)) (last_frame frames + 1 - first_frame frames))

@@ -7,7 +7,6 @@ pub mod PacketRules
 pub mod PacketTests
 pub mod PesFrames
 pub mod PesReading
-pub mod Rules
 pub mod Sendings
 pub mod Transmission
 pub mod WrongContent
