@@ -71,11 +71,11 @@ def tells_that_all_is_late(case: Case) -> None:
     late = moved(example_bytes("story.pes"), lambda _, pts: pts + 2 * TICKS)
     found = origin_of(case, example("story.stl"), late)
     case.test("beside 0", found[:2] == (0, 7200)
-              and "origin: that is 2 frames late beside --origin 0" in found[2], found)
+              and "origin: that is 2 frames late compared with --origin 0" in found[2], found)
     early = moved(example_bytes("story.pes"), lambda _, pts: pts + 5_000_000_000 - TICKS)
     found = origin_of(case, example("story.stl"), early, "--origin", "5000000000")
     case.test("beside one that is known", found[:2] == (0, 4_999_996_400) and
-              "origin: that is 1 frame early beside --origin 5000000000" in found[2], found)
+              "origin: that is 1 frame early compared with --origin 5000000000" in found[2], found)
 
 
 def tells_that_ends_are_late(case: Case) -> None:
@@ -86,7 +86,7 @@ def tells_that_ends_are_late(case: Case) -> None:
     late = moved(case.read("ends.pes"), lambda _, pts: pts if pts in begins else pts + 3 * TICKS)
     found = origin_of(case, stl, late)
     case.test("three frames", found[:2] == (0, 0)
-              and "origin: all ends are 3 frames late beside the beginnings" in found[2], found)
+              and "origin: all ends are 3 frames late compared with the beginnings" in found[2], found)
 
 
 def tells_that_rows_are_late(case: Case) -> None:
@@ -102,7 +102,7 @@ def tells_that_rows_are_late(case: Case) -> None:
             made += pes_packet(pts_in(one) + TICKS, sent[1:])
     found = origin_of(case, stl, made)
     case.test("one frame", found[:2] == (0, TICKS)
-              and "origin: all ends are 1 frame early beside the beginnings" in found[2], found)
+              and "origin: all ends are 1 frame early compared with the beginnings" in found[2], found)
 
 
 def tells_jitter(case: Case) -> None:
