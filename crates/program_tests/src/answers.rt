@@ -1,11 +1,9 @@
 //! What the program answers to words, over devices in memory.
 ghost use Rattle.sub_io.specs.Device.{CanFail};
 
-use crate::asserting::assert_same_in;
 use fixtures::Watched;
 use std::alloc::Global;
 use std::process::Abort;
-use std::test::Fail;
 use sub_answer::{Status, answer, say};
 use sub_io::{Flush, MemSink, MemSource, Sink, Source};
 use sub_request::Request;
@@ -76,6 +74,11 @@ fn status_of(text: &[u8]) -> Status {
     }
 }
 
+// Whether a text is these two parts.
+fn is_made_of(text: &[u8], front: &[u8], end: &[u8]) -> bool {
+    text.len() == front.len() + end.len() && text.starts_with(front) && text.ends_with(end)
+}
+
 /// Asserts what is printed for words over two sources, in two parts, and the status that the last
 /// line tells.
 pub fn assert_prints<'a, S: Source, T: Source>(
@@ -93,37 +96,55 @@ pub fn assert_prints<'a, S: Source, T: Source>(
     let mut out = MemSink::new(&mut room);
     let mut file = MemSink::new(&mut []);
     let status = answer_words(rt.alloc(), words, first, second, &mut file, &mut out);
-    let text = out.written();
-    assert!(rt; text.starts_with(front) && text.ends_with(end), "{words:?}");
-    assert_same_in(rt, &text.len(), &(front.len() + end.len()), &words);
-    assert_same_in(rt, &status, &status_of(end), &words);
+    let is_right = is_made_of(out.written(), front, end) && status == status_of(end);
+    assert!(rt; is_right, "{words:?}");
 }
 
-// Answers the words of a check over two files in memory, with `--all` after its name.
-fn answer_all<'a, K: Sink>(
+/// Asserts what is printed of one file in memory, in two parts, and the status.
+pub fn assert_prints_of<'a>(
+    rt: &(impl Abort + Alloc<A = Global>),
+    words: &'a [&'a str],
+    file: &[u8],
+    front: &[u8],
+    end: &[u8],
+) {
+    let (mut file, mut none) = (MemSource::new(file), MemSource::new(&[]));
+    assert_prints(rt, words, &mut file, &mut none, front, end);
+}
+
+// Answers the words of a check with `--all` after them, over two files in memory.
+fn answer_all<'a>(
     rt: &(impl Abort + Alloc<A = Global>),
     words: &[&'a str],
     first: &[u8],
     second: &[u8],
-    out: &mut K,
-) -> Status
-    requires { CanFail (K.failure_count out.old) }
-{
+    room: &mut [u8],
+) -> Status {
     let mut all_words = ["--all"; 20];
     let len = words.len();
-    assert!(rt; 2 <= len && len < 20, "{words:?}");
-    all_words[..2].copy_from_slice(&words[..2]);
-    all_words[3..len + 1].copy_from_slice(&words[2..]);
+    assert!(rt; len < 20, "{words:?}");
+    all_words[..len].copy_from_slice(words);
     let (mut first, mut second) = (MemSource::new(first), MemSource::new(second));
-    let mut file = MemSink::new(&mut []);
+    let (mut file, mut out) = (MemSink::new(&mut []), MemSink::new(room));
+    let words = &all_words[..len + 1];
     answer_words(
         rt.alloc(),
-        &all_words[..len + 1],
+        words,
         &mut first,
         &mut second,
         &mut file,
-        out,
+        &mut out,
     )
+}
+
+// What a room holds of a text, without the zeros after it.
+fn text_in(room: &[u8]) -> &[u8] {
+    for (place, byte) in room.iter().enumerate() {
+        if *byte == 0 {
+            return room.get(..place).unwrap_or(room);
+        }
+    }
+    room
 }
 
 // Asserts that a check with `--all` prints the line of the check without it first: alone where
@@ -136,14 +157,13 @@ fn assert_tells_first<'a>(
     line: &[u8],
 ) {
     let mut room = [0; 4096];
-    let mut out = MemSink::new(&mut room);
-    let status = answer_all(rt, words, first, second, &mut out);
-    let text = out.written();
+    let status = answer_all(rt, words, first, second, &mut room);
+    let text = text_in(&room);
     let is_refused = line.starts_with(b"refused ");
     let end = if is_refused { b" faults\n" } else { line };
-    assert!(rt; text.starts_with(line) && text.ends_with(end), "{words:?}");
-    assert!(rt; is_refused || text == line, "{words:?}");
-    assert_same_in(rt, &status, &status_of(text), &words);
+    let is_whole = is_refused || text == line;
+    let is_right = is_whole && text.starts_with(line) && text.ends_with(end);
+    assert!(rt; is_right && status == status_of(text), "{words:?}");
 }
 
 /// Asserts what is printed of two files in memory for the words of a check with `--all`, and the
@@ -155,14 +175,26 @@ pub fn assert_all<'a>(
     second: &[u8],
     lines: &str,
 ) {
-    let lines = lines.as_bytes();
+    assert_all_parts(rt, words, first, second, lines, "");
+}
+
+/// Asserts it of what is printed in two parts.
+pub fn assert_all_parts<'a>(
+    rt: &(impl Abort + Alloc<A = Global>),
+    words: &'a [&'a str],
+    first: &[u8],
+    second: &[u8],
+    front: &str,
+    end: &str,
+) {
+    let (front, end) = (front.as_bytes(), end.as_bytes());
     let mut room = [0; 1024];
-    let mut out = MemSink::new(&mut room);
-    let status = answer_all(rt, words, first, second, &mut out);
-    assert!(rt; out.written() == lines, "{words:?}");
-    assert_same_in(rt, &status, &status_of(lines), &words);
-    let line = first_lines(lines, 1);
+    let status = answer_all(rt, words, first, second, &mut room);
+    let text = text_in(&room);
+    let is_right = is_made_of(text, front, end) && status == status_of(text);
+    assert!(rt; is_right, "{words:?}");
     let (mut first, mut second) = (MemSource::new(first), MemSource::new(second));
+    let line = first_lines(text, 1);
     assert_prints(rt, words, &mut first, &mut second, &[], line);
 }
 
@@ -175,62 +207,51 @@ pub fn assert_tells<'a>(
     second: &[u8],
     want: &str,
 ) {
+    let want = want.as_bytes();
     if words.len() > 2 && words[1] == "check" {
-        assert_tells_first(rt, words, first, second, want.as_bytes());
+        assert_tells_first(rt, words, first, second, want);
     }
     let (mut first, mut second) = (MemSource::new(first), MemSource::new(second));
-    assert_prints(rt, words, &mut first, &mut second, &[], want.as_bytes());
+    assert_prints(rt, words, &mut first, &mut second, &[], want);
 }
 
-/// Asserts that each output with less room gets the first of a text and is left alone after that,
-/// that the status is `Fault` then, and what is written to the file: all of it.
-pub fn assert_fills<'a>(
+// Asserts that an output with less room gets the first of a text and is left alone after that, that
+// the status is `Fault` then, and what is written to the file: all of it.
+fn assert_cuts<'a>(
     rt: &(impl Abort + Alloc<A = Global>),
     words: &'a [&'a str],
     (first, second): (&[u8], &[u8]),
     written: &[u8],
     text: &[u8],
 ) {
-    for len in 0..text.len() {
-        let mut room = [0; 256];
-        assert!(rt; len <= room.len());
-        let mut out = Watched::new(MemSink::new(&mut room[..len]));
-        let mut file_room = [0; 1280];
-        let mut file = MemSink::new(&mut file_room);
-        let (mut first, mut second) = (MemSource::new(first), MemSource::new(second));
-        let status = answer_words(
-            rt.alloc(),
-            words,
-            &mut first,
-            &mut second,
-            &mut file,
-            &mut out,
-        );
-        assert_same_in(rt, &(status, out.late_calls), &(Status::Fault, 0), &words);
-        assert!(rt;
-            out.inner.written() == &text[..len],
-            "{words:?}, {len} bytes"
-        );
-        assert!(rt; file.written() == written, "{words:?}, {len} bytes");
-    }
+    let mut room = [0; 256];
+    assert!(rt; text.len() <= room.len());
+    let mut out = Watched::new(MemSink::new(&mut room[..text.len()]));
+    let mut file_room = [0; 1280];
+    let mut file = MemSink::new(&mut file_room);
+    let (mut first, mut second) = (MemSource::new(first), MemSource::new(second));
+    let status = answer_words(
+        rt.alloc(),
+        words,
+        &mut first,
+        &mut second,
+        &mut file,
+        &mut out,
+    );
+    let is_left_alone = status == Status::Fault && out.late_calls == 0;
+    let is_right = out.inner.written() == text && file.written() == written;
+    assert!(rt; is_left_alone && is_right, "{words:?}");
 }
 
-/// What is written of a subtitle file for the words of a schedule. Asserts the line.
-pub fn schedule_of<'a>(
+/// Asserts that for each output that has less room than a text.
+pub fn assert_fills<'a>(
     rt: &(impl Abort + Alloc<A = Global>),
     words: &'a [&'a str],
-    stl: &[u8],
-    line: &str,
-) -> Result<Vec<u8>, Fail> {
-    let mut room = vec![in rt.alloc(); 0; 40_000]?;
-    let mut file = MemSink::new(room.as_mut_slice());
-    let mut line_room = [0; 64];
-    let mut out = MemSink::new(&mut line_room);
-    let (mut stl, mut none) = (MemSource::new(stl), MemSource::new(&[]));
-    let status = answer_words(rt.alloc(), words, &mut stl, &mut none, &mut file, &mut out);
-    assert_same_in(rt, &status, &Status::Done, &words);
-    assert!(rt; out.written() == line.as_bytes(), "not {line} of {words:?}");
-    let mut pes = Vec::new(rt.alloc());
-    pes.extend_from_slice(file.written())?;
-    Ok(pes)
+    read: (&[u8], &[u8]),
+    written: &[u8],
+    text: &[u8],
+) {
+    for len in 0..text.len() {
+        assert_cuts(rt, words, read, written, &text[..len]);
+    }
 }

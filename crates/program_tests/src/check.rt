@@ -2,13 +2,12 @@
 use crate::answers::{ACCEPTED, CHECK, assert_fills, assert_prints, assert_tells};
 use crate::asserting::assert_same_in;
 use fixtures::{
-    CLOSING, HEADER, OTHER_HEADER, ROW, SECOND, TEN, file_of_hi, gsi, in_serial_mode, packet_of,
-    push_pes, schedule_of_hi, two_sendings,
+    CLOSING, HEADER, OTHER_HEADER, ROW, TEN, file_of_hi, gsi, in_serial_mode, packet_of, push_pes,
+    push_two, schedule_of_hi,
 };
 use std::alloc::Global;
 use std::process::Abort;
-use std::test::Fail;
-use sub_io::MemSource;
+use sub_io::{MemSink, MemSource};
 
 // Asserts the line of a check of the subtitle file of `Hi` and these bytes.
 fn assert_judges(rt: &(impl Abort + Alloc<A = Global>), pes: &[u8], want: &str) {
@@ -23,20 +22,15 @@ fn accepts_a_schedule_and_tells_it_to_a_whole_output(rt: HostRuntime) {
 }
 
 #[test]
-fn checks_a_programme_without_subtitles(rt: HostRuntime) -> Result<(), Fail> {
-    let mut pes = Vec::new(rt.alloc());
-    push_pes(&mut pes, 0, &[HEADER])?;
+fn checks_a_programme_without_subtitles(rt: HostRuntime) {
+    let mut room = [0; 184];
+    let mut pes = MemSink::new(&mut room);
+    push_pes(&mut pes, 0, &[HEADER]);
     let accepted = "accepted 1 frames 1 transmissions\n";
-    assert_tells(&rt, &CHECK, &gsi(), pes.as_slice(), accepted);
+    assert_tells(&rt, &CHECK, &gsi(), pes.written(), accepted);
     assert_tells(&rt, &CHECK, &gsi(), &[], "refused 60 Empty\n");
-    assert_tells(
-        &rt,
-        &CHECK,
-        &gsi(),
-        &[0, 0, 1],
-        "refused 30 Truncated pes 0\n",
-    );
-    Ok(())
+    let truncated = "refused 30 Truncated pes 0\n";
+    assert_tells(&rt, &CHECK, &gsi(), &[0, 0, 1], truncated);
 }
 
 #[test]
@@ -70,69 +64,82 @@ fn refuses_a_cut_subtitle_file(rt: HostRuntime) {
     }
 }
 
-const NO_HEADER: &str = "refused 71 NoFirstHeader frame 10:00:00:00\n";
+// Asserts the line of a check of `Hi` where one byte of its schedule is changed: its place, its
+// value and what it becomes.
+fn assert_changed(rt: &(impl Abort + Alloc<A = Global>), want: &str, changes: &[[u8; 3]]) {
+    for [place, from, to] in changes {
+        let mut pes = schedule_of_hi();
+        assert_same_in(rt, &pes[*place as usize], from, place);
+        pes[*place as usize] = *to;
+        assert_judges(rt, &pes, want);
+    }
+}
 
 #[rattlefmt::skip]
-const CHANGES: [(usize, u8, u8, &str); 27] = [
-    // byte, its value, what it becomes, line
-    (5, 0xB2, 0xB1, "refused 32 Length pes 0\n"),
-    (6, 0x84, 0x44, "refused 33 Flags pes 0\n"),
-    (6, 0x84, 0x80, ACCEPTED),
-    (7, 0x80, 0x00, "refused 34 NoTime pes 0\n"),
-    (7, 0x80, 0xC0, "refused 34 NoTime pes 0\n"),
-    (8, 0x24, 0x25, "refused 35 HeaderLength pes 0\n"),
-    (9, 0x27, 0x26, "refused 36 Time pes 0\n"),
-    (9, 0x27, 0x37, "refused 36 Time pes 0\n"),
-    (11, 0x79, 0x78, "refused 36 Time pes 0\n"),
-    (12, 0xF4, 0xF5, "refused 61 OffFrame pes 0\n"),
-    (13, 0x01, 0x00, "refused 36 Time pes 0\n"),
-    (45, 0x10, 0x20, "refused 37 DataId pes 0\n"),
-    (45, 0x10, 0x1F, ACCEPTED),
-    (46, 0x03, 0x02, ACCEPTED),
-    (46, 0x03, 0xC3, NO_HEADER),
-    (47, 0x2C, 0x2D, "refused 38 UnitLength pes 0\n"),
-    (48, 0xE7, 0xE8, "refused 40 LineOrder pes 0\n"),
-    (48, 0xE7, 0xC7, "refused 40 LineOrder pes 0\n"),
-    (48, 0xE7, 0xE0, ACCEPTED),
-    (48, 0xE7, 0x27, ACCEPTED),
-    (49, 0xE4, 0xE5, "refused 39 Framing pes 0\n"),
-    // the page tens: one bit wrong, and two; C4 of the header
-    (53, 0x0B, 0x8B, "refused 65 HeaderCode frame 10:00:00:00 packet 0\n"),
-    (53, 0x0B, 0x68, "refused 65 HeaderCode frame 10:00:00:00 packet 0\n"),
-    (55, 0x0B, 0xA8, "refused 67 Control frame 10:00:00:00 packet 0\n"),
-    // the row's address, with a wrong bit; the H of the row; C11 of the closing header
-    (97, 0xD9, 0x59, "refused 64 Address frame 10:00:00:00 packet 1\n"),
-    (117, 0x13, 0x12, "refused 68 Parity frame 10:00:00:00 packet 1\n"),
-    (151, 0xA8, 0x40, "refused 66 Mode frame 10:00:00:00 packet 2\n"),
-];
-
 #[test]
-fn judges_a_byte_that_is_changed(rt: HostRuntime) {
-    for (at, from, to, want) in CHANGES {
-        let mut pes = schedule_of_hi();
-        assert!(rt; at < 368);
-        assert_same_in(&rt, &pes[at], &from, &at);
-        pes[at] = to;
-        assert_judges(&rt, &pes, want);
+fn judges_a_byte_of_a_pes_packets_header(rt: HostRuntime) {
+    assert_changed(&rt, "refused 32 Length pes 0\n", &[[5, 0xB2, 0xB1]]);
+    assert_changed(&rt, "refused 33 Flags pes 0\n", &[[6, 0x84, 0x44]]);
+    assert_changed(&rt, "refused 34 NoTime pes 0\n", &[[7, 0x80, 0x00], [7, 0x80, 0xC0]]);
+    assert_changed(&rt, "refused 35 HeaderLength pes 0\n", &[[8, 0x24, 0x25]]);
+    assert_changed(&rt, "refused 36 Time pes 0\n",
+        &[[9, 0x27, 0x26], [9, 0x27, 0x37], [11, 0x79, 0x78], [13, 0x01, 0x00]]);
+    assert_changed(&rt, "refused 61 OffFrame pes 0\n", &[[12, 0xF4, 0xF5]]);
+    assert_changed(&rt, ACCEPTED, &[[6, 0x84, 0x80]]);
+}
+
+#[rattlefmt::skip]
+#[test]
+fn judges_a_byte_of_a_data_unit(rt: HostRuntime) {
+    assert_changed(&rt, "refused 37 DataId pes 0\n", &[[45, 0x10, 0x20]]);
+    assert_changed(&rt, "refused 38 UnitLength pes 0\n", &[[47, 0x2C, 0x2D]]);
+    assert_changed(&rt, "refused 39 Framing pes 0\n", &[[49, 0xE4, 0xE5]]);
+    assert_changed(&rt, "refused 40 LineOrder pes 0\n", &[[48, 0xE7, 0xE8], [48, 0xE7, 0xC7]]);
+    assert_changed(&rt, "refused 71 NoFirstHeader frame 10:00:00:00\n", &[[46, 0x03, 0xC3]]);
+    assert_changed(&rt, ACCEPTED,
+        &[[45, 0x10, 0x1F], [46, 0x03, 0x02], [48, 0xE7, 0xE0], [48, 0xE7, 0x27]]);
+}
+
+#[rattlefmt::skip]
+#[test]
+fn judges_a_byte_of_a_packet(rt: HostRuntime) {
+    // the page tens: one bit wrong, and two; C4 of the header
+    assert_changed(&rt, "refused 65 HeaderCode frame 10:00:00:00 packet 0\n",
+        &[[53, 0x0B, 0x8B], [53, 0x0B, 0x68]]);
+    assert_changed(&rt, "refused 67 Control frame 10:00:00:00 packet 0\n", &[[55, 0x0B, 0xA8]]);
+    // the row's address, with a wrong bit; the H of the row; C11 of the closing header
+    assert_changed(&rt, "refused 64 Address frame 10:00:00:00 packet 1\n", &[[97, 0xD9, 0x59]]);
+    assert_changed(&rt, "refused 68 Parity frame 10:00:00:00 packet 1\n", &[[117, 0x13, 0x12]]);
+    assert_changed(&rt, "refused 66 Mode frame 10:00:00:00 packet 2\n", &[[151, 0xA8, 0x40]]);
+}
+
+// Asserts the line of a check of `Hi` where a byte of its schedule has any other value.
+fn assert_judges_others(
+    rt: &(impl Abort + Alloc<A = Global>),
+    stl: &[u8],
+    place: usize,
+    want: &[u8],
+) {
+    let mut pes = schedule_of_hi();
+    assert!(rt; place < 368);
+    let own = pes[place];
+    for value in 0..=255 {
+        if value != own {
+            pes[place] = value;
+            let (mut stl, mut pes) = (MemSource::new(stl), MemSource::new(&pes));
+            assert_prints(rt, &CHECK, &mut stl, &mut pes, &[], want);
+        }
     }
 }
 
 #[test]
 fn judges_every_other_value_of_a_byte(rt: HostRuntime) {
-    let (stl, good) = (file_of_hi(), schedule_of_hi());
-    for at in 0..45 {
-        let want = match at {
-            0..=3 => "refused 31 Start pes 0\n",
-            14..=44 => ACCEPTED,
-            _ => continue,
-        };
-        let mut pes = good;
-        for value in 0..=255 {
-            pes[at] = value;
-            let want = if value == good[at] { ACCEPTED } else { want };
-            let (mut stl, mut pes) = (MemSource::new(&stl), MemSource::new(&pes));
-            assert_prints(&rt, &CHECK, &mut stl, &mut pes, &[], want.as_bytes());
-        }
+    let stl = file_of_hi();
+    for place in 0..4 {
+        assert_judges_others(&rt, &stl, place, b"refused 31 Start pes 0\n");
+    }
+    for place in 14..45 {
+        assert_judges_others(&rt, &stl, place, ACCEPTED.as_bytes());
     }
 }
 
@@ -154,32 +161,55 @@ fn asks_for_a_header_in_as_many_frames_as_the_bound(rt: HostRuntime) {
     assert_tells(&rt, &words, &stl, &pes, gap);
 }
 
-#[test]
-fn hears_a_header_of_another_page_by_its_mode(rt: HostRuntime) -> Result<(), Fail> {
-    let sent = [HEADER, OTHER_HEADER, ROW, CLOSING];
-    let pes = two_sendings(rt.alloc(), &sent, &[HEADER, CLOSING])?;
-    assert_judges(&rt, pes.as_slice(), ACCEPTED);
-    let (header, closing) = (in_serial_mode(&HEADER), in_serial_mode(&CLOSING));
-    let sent = [header, in_serial_mode(&OTHER_HEADER), ROW, closing];
-    let pes = two_sendings(rt.alloc(), &sent, &[header, closing])?;
-    let refused = "refused 72 Content frame 10:00:00:00 row 22 column 16\n";
-    assert_judges(&rt, pes.as_slice(), refused);
-    Ok(())
+// Asserts the line of a check of `Hi` where these packets come at 10:00:00:00, and others two
+// seconds later.
+fn assert_judges_two(
+    rt: &(impl Abort + Alloc<A = Global>),
+    first: &[[u8; 42]],
+    last: &[[u8; 42]],
+    want: &str,
+) {
+    let mut room = [0; 1024];
+    let mut pes = MemSink::new(&mut room);
+    push_two(&mut pes, first, last);
+    assert_judges(rt, pes.written(), want);
 }
 
 #[test]
-fn compares_packets_of_one_row(rt: HostRuntime) -> Result<(), Fail> {
-    let mut other = ROW;
-    other[21] = 0x68;
-    let enhancement = packet_of(&[0x15, 0xB6]); // packet 26 of magazine 8
+fn hears_a_header_of_another_page_by_its_mode(rt: HostRuntime) {
+    let sent = [HEADER, OTHER_HEADER, ROW, CLOSING];
+    assert_judges_two(&rt, &sent, &[HEADER, CLOSING], ACCEPTED);
+    let (header, closing) = (in_serial_mode(&HEADER), in_serial_mode(&CLOSING));
+    let sent = [header, in_serial_mode(&OTHER_HEADER), ROW, closing];
+    let refused = "refused 72 Content frame 10:00:00:00 row 22 column 16\n";
+    assert_judges_two(&rt, &sent, &[header, closing], refused);
+}
+
+// Asserts the line of a check of `Hi` where this packet follows its row.
+fn assert_judges_after_row(rt: &(impl Abort + Alloc<A = Global>), packet: [u8; 42], want: &str) {
+    assert_judges_two(
+        rt,
+        &[HEADER, ROW, packet, CLOSING],
+        &[HEADER, CLOSING],
+        want,
+    );
+}
+
+// The row with an `h` in place of its `H`.
+fn other_row() -> [u8; 42] {
+    let mut row = ROW;
+    row[21] = 0x68;
+    row
+}
+
+#[test]
+fn compares_packets_of_one_row(rt: HostRuntime) {
+    assert_judges_after_row(&rt, ROW, ACCEPTED);
     let changed = "refused 69 RowChanged frame 10:00:00:00 packet 2\n";
+    assert_judges_after_row(&rt, other_row(), changed);
+    let enhancement = packet_of(&[0x15, 0xB6]); // packet 26 of magazine 8
     let enhanced = "refused 70 Enhancement frame 10:00:00:00 packet 2\n";
-    for (packet, want) in [(ROW, ACCEPTED), (other, changed), (enhancement, enhanced)] {
-        let sent = [HEADER, ROW, packet, CLOSING];
-        let pes = two_sendings(rt.alloc(), &sent, &[HEADER, CLOSING])?;
-        assert_judges(&rt, pes.as_slice(), want);
-    }
-    Ok(())
+    assert_judges_after_row(&rt, enhancement, enhanced);
 }
 
 // Asserts the line of a check where these packets come at 10:00:00:00, others in each later frame
@@ -191,36 +221,34 @@ fn assert_judges_again(
     end: u32,
     every: &str,
     want: &str,
-) -> Result<(), Fail> {
-    let mut pes = Vec::new(rt.alloc());
-    push_pes(&mut pes, TEN, first)?;
+) {
+    let mut room = [0; 20_000];
+    let mut pes = MemSink::new(&mut room);
+    push_pes(&mut pes, TEN, first);
     for frame in TEN + 1..end {
-        push_pes(&mut pes, frame, later)?;
+        push_pes(&mut pes, frame, later);
     }
     if end == TEN + 50 {
-        pes.extend_from_slice(&SECOND)?;
+        push_pes(&mut pes, end, &[HEADER, CLOSING]);
     }
     let words = ["subttx", "check", "a", "b", "--every", every];
-    assert_tells(rt, &words, &file_of_hi(), pes.as_slice(), want);
-    Ok(())
+    assert_tells(rt, &words, &file_of_hi(), pes.written(), want);
 }
 
 #[test]
-fn judges_what_is_sent_again(rt: HostRuntime) -> Result<(), Fail> {
-    let mut other = ROW;
-    other[21] = 0x68;
+fn judges_what_is_sent_again(rt: HostRuntime) {
     let whole = [HEADER, ROW, CLOSING];
     let two = [HEADER, ROW, HEADER, ROW];
-    let changed = [other, HEADER, ROW];
+    let changed = [other_row(), HEADER, ROW];
     let open = [HEADER, ROW];
     let want = "accepted 51 frames 51 transmissions\n";
-    assert_judges_again(&rt, &whole, &whole, TEN + 50, "1", want)?;
+    assert_judges_again(&rt, &whole, &whole, TEN + 50, "1", want);
     let want = "accepted 51 frames 101 transmissions\n";
-    assert_judges_again(&rt, &two, &two, TEN + 50, "1", want)?;
+    assert_judges_again(&rt, &two, &two, TEN + 50, "1", want);
     let want = "refused 73 Gap frame 10:00:01:00\n";
-    assert_judges_again(&rt, &whole, &[CLOSING], TEN + 50, "25", want)?;
+    assert_judges_again(&rt, &whole, &[CLOSING], TEN + 50, "25", want);
     let want = "refused 69 RowChanged frame 10:00:00:01 packet 0\n";
-    assert_judges_again(&rt, &changed, &changed, TEN + 50, "1", want)?;
+    assert_judges_again(&rt, &changed, &changed, TEN + 50, "1", want);
     let want = "refused 72 Content frame 10:00:02:00 row 22 column 16\n";
-    assert_judges_again(&rt, &open, &open, TEN + 61, "1", want)
+    assert_judges_again(&rt, &open, &open, TEN + 61, "1", want);
 }

@@ -2,11 +2,11 @@
 use crate::answers::{ACCEPTED, CHECK, assert_tells};
 use fixtures::{
     CLOSING, FIRST, HEADER, OTHER_HEADER, ROW, TEN, TWO_ROWS, block, file_of, file_of_hi, head,
-    in_serial_mode, push_pes, row_of, schedule_of_hi, two_sendings,
+    in_serial_mode, push_pes, push_two, row_of, schedule_of_hi,
 };
 use std::alloc::Global;
 use std::process::Abort;
-use std::test::Fail;
+use sub_io::MemSink;
 
 const OPEN: &str = "refused 77 Incomplete frame 10:00:00:00\n";
 
@@ -28,23 +28,32 @@ fn assert_checks(
     );
 }
 
+// Asserts the lines of a check of the schedule of `Hi` with two bytes changed.
+fn assert_checks_changed(
+    rt: &(impl Abort + Alloc<A = Global>),
+    changes: [(usize, u8); 2],
+    plain: &str,
+    complete: &str,
+) {
+    let mut pes = schedule_of_hi();
+    for (place, value) in changes {
+        assert!(rt; place < 368);
+        pes[place] = value;
+    }
+    assert_checks(rt, &file_of_hi(), &pes, plain, complete);
+}
+
+#[rattlefmt::skip]
 #[test]
 fn refuses_a_page_that_is_open_at_a_frames_end(rt: HostRuntime) {
     let content = "refused 72 Content frame 10:00:00:00 row 22 column 17\n";
     let at_the_end = "refused 77 Incomplete frame 10:00:02:00\n";
-    // two bytes of the schedule and their new values; the lines without the flag and with it
-    for (at, value, second_at, second, plain, complete) in [
-        (138, 0x03, 138, 0x03, ACCEPTED, ACCEPTED), // as it was written
-        (138, 0xFF, 138, 0xFF, ACCEPTED, OPEN), // the first closing header, now a stuffing unit
-        (276, 0xFF, 276, 0xFF, ACCEPTED, at_the_end),
-        (138, 0xFF, 115, 0x92, content, content), // and the second 0B of row 22, now 49
-    ] {
-        let mut pes = schedule_of_hi();
-        assert!(rt; at < 368 && second_at < 368);
-        pes[at] = value;
-        pes[second_at] = second;
-        assert_checks(&rt, &file_of_hi(), &pes, plain, complete);
-    }
+    // as it was written; the first closing header becomes a stuffing unit, and the second
+    assert_checks_changed(&rt, [(138, 0x03), (138, 0x03)], ACCEPTED, ACCEPTED);
+    assert_checks_changed(&rt, [(138, 0xFF), (138, 0xFF)], ACCEPTED, OPEN);
+    assert_checks_changed(&rt, [(276, 0xFF), (276, 0xFF)], ACCEPTED, at_the_end);
+    // the first, and the second 0B of row 22 becomes 49
+    assert_checks_changed(&rt, [(138, 0xFF), (115, 0x92)], content, content);
 }
 
 #[test]
@@ -58,37 +67,54 @@ fn tells_an_open_page_before_an_early_end_and_a_gap_before_it(rt: HostRuntime) {
     assert_tells(&rt, &words, &file_of_hi(), &schedule_of_hi(), gap);
 }
 
-#[test]
-fn counts_a_header_that_ends_the_page_alone(rt: HostRuntime) -> Result<(), Fail> {
-    let (stl, alloc) = (file_of_hi(), rt.alloc());
-    // a header of page 100 after the row, in parallel mode and in serial mode
-    let sent = [HEADER, ROW, OTHER_HEADER];
-    let pes = two_sendings(alloc, &sent, &[HEADER, CLOSING])?;
-    assert_checks(&rt, &stl, pes.as_slice(), ACCEPTED, OPEN);
-    let (header, other) = (in_serial_mode(&HEADER), in_serial_mode(&OTHER_HEADER));
-    let pes = two_sendings(alloc, &[header, ROW, other], &[header, other])?;
-    assert_checks(&rt, &stl, pes.as_slice(), ACCEPTED, ACCEPTED);
-    // a header of the page after the closing one
-    let again = [HEADER, ROW, CLOSING, HEADER, ROW];
-    let pes = two_sendings(alloc, &again, &[HEADER, CLOSING])?;
-    let three = "accepted 51 frames 3 transmissions\n";
-    assert_checks(&rt, &stl, pes.as_slice(), three, OPEN);
-    Ok(())
+// Asserts the lines of a check of `Hi` where these packets come at 10:00:00:00, and others two
+// seconds later.
+fn assert_checks_two(
+    rt: &(impl Abort + Alloc<A = Global>),
+    first: &[[u8; 42]],
+    last: &[[u8; 42]],
+    plain: &str,
+    complete: &str,
+) {
+    let mut room = [0; 1024];
+    let mut pes = MemSink::new(&mut room);
+    push_two(&mut pes, first, last);
+    assert_checks(rt, &file_of_hi(), pes.written(), plain, complete);
 }
 
 #[test]
-fn judges_a_page_that_is_spread_over_two_frames(rt: HostRuntime) -> Result<(), Fail> {
+fn counts_a_header_that_ends_the_page_alone(rt: HostRuntime) {
+    // a header of page 100 after the row, in parallel mode and in serial mode
+    let sent = [HEADER, ROW, OTHER_HEADER];
+    assert_checks_two(&rt, &sent, &[HEADER, CLOSING], ACCEPTED, OPEN);
+    let (header, other) = (in_serial_mode(&HEADER), in_serial_mode(&OTHER_HEADER));
+    assert_checks_two(
+        &rt,
+        &[header, ROW, other],
+        &[header, other],
+        ACCEPTED,
+        ACCEPTED,
+    );
+    // a header of the page after the closing one
+    let again = [HEADER, ROW, CLOSING, HEADER, ROW];
+    let three = "accepted 51 frames 3 transmissions\n";
+    assert_checks_two(&rt, &again, &[HEADER, CLOSING], three, OPEN);
+}
+
+#[test]
+fn judges_a_page_that_is_spread_over_two_frames(rt: HostRuntime) {
     let file = file_of(&block(&head(TEN, TEN + 50, 20), &TWO_ROWS));
     let (upper, lower) = (row_of(0x8C, 0xC1), row_of(0x9B, 0xC2));
-    let mut closed_later = Vec::new(rt.alloc());
-    push_pes(&mut closed_later, TEN, &[HEADER, upper, lower])?;
-    push_pes(&mut closed_later, TEN + 1, &[CLOSING])?;
-    push_pes(&mut closed_later, TEN + 50, &[HEADER, CLOSING])?;
-    assert_checks(&rt, &file, closed_later.as_slice(), ACCEPTED, OPEN);
-    let mut spread = Vec::new(rt.alloc());
-    push_pes(&mut spread, TEN, &[HEADER, upper])?;
-    push_pes(&mut spread, TEN + 1, &[lower, CLOSING])?;
+    let mut room = [0; 1024];
+    let mut closed_later = MemSink::new(&mut room);
+    push_pes(&mut closed_later, TEN, &[HEADER, upper, lower]);
+    push_pes(&mut closed_later, TEN + 1, &[CLOSING]);
+    push_pes(&mut closed_later, TEN + 50, &[HEADER, CLOSING]);
+    assert_checks(&rt, &file, closed_later.written(), ACCEPTED, OPEN);
+    let mut room = [0; 1024];
+    let mut spread = MemSink::new(&mut room);
+    push_pes(&mut spread, TEN, &[HEADER, upper]);
+    push_pes(&mut spread, TEN + 1, &[lower, CLOSING]);
     let content = "refused 72 Content frame 10:00:00:00 row 22 column 17\n";
-    assert_checks(&rt, &file, spread.as_slice(), content, content);
-    Ok(())
+    assert_checks(&rt, &file, spread.written(), content, content);
 }

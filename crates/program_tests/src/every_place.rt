@@ -1,65 +1,72 @@
 //! `check --all`: all that is told of a transmission, one line after another.
-use crate::answers::{ACCEPTED, CHECK, assert_all, assert_tells};
-use crate::asserting::assert_same_in;
+ghost use Rattle.std.specs.Prelude.{◌≡◌, length};
+
+use crate::answers::{ACCEPTED, CHECK, assert_all, assert_all_parts, assert_tells};
 use fixtures::{
-    CLOSING, HEADER, ROW, TEN, file_of_hi, packet_of, push_pes, row_of, schedule_of_hi,
+    CLOSING, HEADER, ROW, TEN, file_of_hi, packet_of, push_pes, push_pes_at, row_of,
+    schedule_of_hi, schedule_twice,
 };
 use std::alloc::Global;
 use std::process::Abort;
-use std::test::Fail;
+use sub_io::MemSink;
 
-// Asserts what is printed of the subtitle file of `Hi` and these bytes: a row has options of a
-// check, and last the lines.
-fn assert_told(
+// Asserts what is printed of the subtitle file of `Hi` and these bytes, with these options of a
+// check.
+fn assert_told<'x>(
     rt: &(impl Abort + Alloc<A = Global>),
     pes: &[u8],
-    row: &[&str],
-) -> Result<(), Fail> {
-    let (lines, options) = row.split_last().ok_or("a row")?;
-    let mut words = Vec::new(rt.alloc());
-    words.extend_from_slice(&CHECK)?;
-    words.extend_from_slice(options)?;
-    assert_all(rt, words.as_slice(), &file_of_hi(), pes, lines);
-    Ok(())
+    options: &[&'x str],
+    lines: &str,
+) {
+    let mut words = ["a"; 9];
+    assert!(rt; options.len() <= 5);
+    words[..4].copy_from_slice(&CHECK);
+    words[4..4 + options.len()].copy_from_slice(options);
+    let words = &words[..4 + options.len()];
+    assert_all(rt, words, &file_of_hi(), pes, lines);
+}
+
+// Asserts it of the schedule of `Hi`.
+fn assert_told_of_hi<'x>(rt: &(impl Abort + Alloc<A = Global>), options: &[&'x str], lines: &str) {
+    assert_told(rt, &schedule_of_hi(), options, lines);
 }
 
 #[rattlefmt::skip]
 #[test]
-fn tells_all_of_a_schedule_read_by_other_options(rt: HostRuntime) -> Result<(), Fail> {
-    let rows: [&[&str]; 8] = [
-        &[ACCEPTED],
-        &["--complete", ACCEPTED],
-        &["--every", "25",
-            "refused 73 Gap frame 10:00:01:00\n\
-            ended 73 Gap frame 10:00:01:24\n\
-            1 faults\n"],
-        &["--page", "100",
-            "refused 71 NoFirstHeader frame 10:00:00:00\n\
-            refused 72 Content frame 10:00:00:00 row 22 column 16\n\
-            ended 72 Content frame 10:00:01:24\n\
-            2 faults\n"],
-        &["--origin", "3600",
-            "refused 72 Content frame 09:59:59:24 row 22 column 16\n\
-            ended 72 Content frame 09:59:59:24\n\
-            refused 72 Content frame 10:00:01:24 row 22 column 16\n\
-            ended 72 Content frame 10:00:01:24\n\
-            refused 74 Late frame 10:00:01:24\n\
-            3 faults\n"],
-        &["--origin", "8589930992",
-            "refused 63 Early frame 10:00:00:01\n\
-            refused 72 Content frame 10:00:02:00 row 22 column 16\n\
-            ended 72 Content frame 10:00:02:00\n\
-            2 faults\n"],
-        &["--origin", "1", "refused 61 OffFrame pes 0\n1 faults\n"],
-        &["--option", "german",
-            "refused 67 Control frame 10:00:00:00 packet 0\n\
-            refused 67 Control frame 10:00:02:00 packet 0\n\
-            2 faults\n"],
-    ];
-    for row in rows {
-        assert_told(&rt, &schedule_of_hi(), row)?;
-    }
-    Ok(())
+fn tells_all_of_a_schedule_by_other_bounds_and_pages(rt: HostRuntime) {
+    assert_told_of_hi(&rt, &[], ACCEPTED);
+    assert_told_of_hi(&rt, &["--complete"], ACCEPTED);
+    assert_told_of_hi(&rt, &["--every", "25"],
+        "refused 73 Gap frame 10:00:01:00\n\
+        ended 73 Gap frame 10:00:01:24\n\
+        1 faults\n");
+    assert_told_of_hi(&rt, &["--page", "100"],
+        "refused 71 NoFirstHeader frame 10:00:00:00\n\
+        refused 72 Content frame 10:00:00:00 row 22 column 16\n\
+        ended 72 Content frame 10:00:01:24\n\
+        2 faults\n");
+    assert_told_of_hi(&rt, &["--option", "german"],
+        "refused 67 Control frame 10:00:00:00 packet 0\n\
+        refused 67 Control frame 10:00:02:00 packet 0\n\
+        2 faults\n");
+}
+
+#[rattlefmt::skip]
+#[test]
+fn tells_all_of_a_schedule_by_other_origins(rt: HostRuntime) {
+    assert_told_of_hi(&rt, &["--origin", "3600"],
+        "refused 72 Content frame 09:59:59:24 row 22 column 16\n\
+        ended 72 Content frame 09:59:59:24\n\
+        refused 72 Content frame 10:00:01:24 row 22 column 16\n\
+        ended 72 Content frame 10:00:01:24\n\
+        refused 74 Late frame 10:00:01:24\n\
+        3 faults\n");
+    assert_told_of_hi(&rt, &["--origin", "8589930992"],
+        "refused 63 Early frame 10:00:00:01\n\
+        refused 72 Content frame 10:00:02:00 row 22 column 16\n\
+        ended 72 Content frame 10:00:02:00\n\
+        2 faults\n");
+    assert_told_of_hi(&rt, &["--origin", "1"], "refused 61 OffFrame pes 0\n1 faults\n");
 }
 
 // The `H` of the row as a byte with even parity, as `h`, and C4 of the first header clear.
@@ -69,109 +76,102 @@ const OTHER: (usize, u8) = (117, 0x16);
 
 const NO_ERASE: (usize, u8) = (55, 0xA8);
 
-// The schedule with some bytes changed.
-fn changed(rt: &impl Abort, changes: &[(usize, u8)]) -> [u8; 368] {
+// The schedule with two bytes changed.
+fn changed(rt: &impl Abort, first: (usize, u8), second: (usize, u8)) -> [u8; 368]
+    ensures { length result ≡ 368 }
+{
     let mut pes = schedule_of_hi();
-    for (at, value) in changes {
-        assert!(rt; *at < 368);
-        pes[*at] = *value;
-    }
+    assert!(rt; first.0 < 368 && second.0 < 368);
+    pes[first.0] = first.1;
+    pes[second.0] = second.1;
     pes
 }
 
-#[rattlefmt::skip]
+// How an even byte in the row is told.
+const EVEN_LINE: &str = "refused 68 Parity frame 10:00:00:00 packet 1\n";
+
 #[test]
-fn tells_all_of_a_schedule_with_bytes_changed(rt: HostRuntime) -> Result<(), Fail> {
-    let even = changed(&rt, &[EVEN]);
-    assert_told(&rt, &even, &["refused 68 Parity frame 10:00:00:00 packet 1\n1 faults\n"])?;
+fn tells_all_of_a_schedule_with_an_even_byte(rt: HostRuntime) {
+    let even = changed(&rt, EVEN, EVEN);
+    assert_all_parts(&rt, &CHECK, &file_of_hi(), &even, EVEN_LINE, "1 faults\n");
     // The header after it is two seconds later: up to there the letter may be missing.
     let listen = ["subttx", "listen", "a", "--at", "10:00:01:24"];
     let shown = "heard yes\nopen no\nrow 22 |                ... i..                 |\n";
     assert_tells(&rt, &listen, &even, &[], shown);
-    let two = changed(&rt, &[NO_ERASE, EVEN]);
-    let cut = two.get(..367).ok_or("a cut file")?;
-    assert_told(&rt, cut, &[
+}
+
+// Asserts what is told of the first bytes of a schedule.
+fn assert_told_cut(
+    rt: &(impl Abort + Alloc<A = Global>),
+    pes: &[u8; 368],
+    len: usize,
+    lines: &str,
+) {
+    assert!(rt; len <= 368);
+    assert_told(rt, &pes[..len], &[], lines);
+}
+
+#[rattlefmt::skip]
+#[test]
+fn tells_all_of_a_cut_schedule_with_an_even_byte(rt: HostRuntime) {
+    // 74 comes only where all bytes are read.
+    assert_told_cut(&rt, &changed(&rt, EVEN, EVEN), 184,
+        "refused 68 Parity frame 10:00:00:00 packet 1\n\
+        refused 74 Late frame 10:00:00:00\n\
+        2 faults\n");
+    assert_told_cut(&rt, &changed(&rt, NO_ERASE, EVEN), 367,
         "refused 67 Control frame 10:00:00:00 packet 0\n\
         refused 68 Parity frame 10:00:00:00 packet 1\n\
         refused 30 Truncated pes 1\n\
-        3 faults\n",
-    ])?;
-    assert_told(&rt, &changed(&rt, &[OTHER]), &[
+        3 faults\n");
+}
+
+#[rattlefmt::skip]
+#[test]
+fn tells_all_of_a_schedule_with_bytes_changed(rt: HostRuntime) {
+    assert_told(&rt, &changed(&rt, OTHER, OTHER), &[],
         "refused 72 Content frame 10:00:00:00 row 22 column 19\n\
         ended 72 Content frame 10:00:01:24\n\
-        1 faults\n",
-    ])?;
+        1 faults\n");
     // The first closing header becomes a stuffing unit.
-    assert_told(&rt, &changed(&rt, &[(138, 0xFF)]), &["--complete",
+    assert_told(&rt, &changed(&rt, (138, 0xFF), (138, 0xFF)), &["--complete"],
         "refused 77 Incomplete frame 10:00:00:00\n\
         ended 77 Incomplete frame 10:00:01:24\n\
-        1 faults\n",
-    ])
+        1 faults\n");
 }
 
 #[test]
-fn tells_that_frames_do_not_rise_and_that_there_is_none(rt: HostRuntime) -> Result<(), Fail> {
-    let mut twice = Vec::new(rt.alloc());
-    twice.extend_from_slice(&schedule_of_hi())?;
-    twice.extend_from_slice(&schedule_of_hi())?;
+fn tells_that_frames_do_not_rise_and_that_there_is_none(rt: HostRuntime) {
     assert_told(
         &rt,
-        twice.as_slice(),
-        &["refused 62 Order pes 2\n1 faults\n"],
-    )?;
-    assert_told(&rt, &[], &["refused 60 Empty\n1 faults\n"])
+        &schedule_twice(),
+        &[],
+        "refused 62 Order pes 2\n1 faults\n",
+    );
+    assert_told(&rt, &[], &[], "refused 60 Empty\n1 faults\n");
 }
 
-// What keeps the second PES packet from being read: a byte of it, and what it becomes.
-#[rattlefmt::skip]
-const UNREAD: [[u8; 2]; 11] = [
-    [0, 1], [5, 0xB1], [6, 0x44], [7, 0x00], [8, 0x25], [9, 0x26], [12, 0x73], [45, 0x20],
-    [47, 0x2D], [49, 0xE5], [94, 0xE7],
-];
-
-// How it is told.
-const UNREAD_LINES: [&str; 11] = [
-    "refused 31 Start pes 1\n2 faults\n",
-    "refused 32 Length pes 1\n2 faults\n",
-    "refused 33 Flags pes 1\n2 faults\n",
-    "refused 34 NoTime pes 1\n2 faults\n",
-    "refused 35 HeaderLength pes 1\n2 faults\n",
-    "refused 36 Time pes 1\n2 faults\n",
-    "refused 61 OffFrame pes 1\n2 faults\n",
-    "refused 37 DataId pes 1\n2 faults\n",
-    "refused 38 UnitLength pes 1\n2 faults\n",
-    "refused 39 Framing pes 1\n2 faults\n",
-    "refused 40 LineOrder pes 1\n2 faults\n",
-];
+// Asserts how it is told, after an even byte, that a byte of the second PES packet keeps it from
+// being read: by its place in the PES packet, and what it becomes.
+fn assert_ends(rt: &(impl Abort + Alloc<A = Global>), place: usize, value: u8, end: &str) {
+    assert!(rt; place < 184);
+    let pes = changed(rt, EVEN, (184 + place, value));
+    assert_all_parts(rt, &CHECK, &file_of_hi(), &pes, EVEN_LINE, end);
+}
 
 #[test]
-fn tells_what_ends_reading_after_an_even_byte(rt: HostRuntime) -> Result<(), Fail> {
-    for (change, end) in UNREAD.iter().zip(UNREAD_LINES.iter()) {
-        let pes = changed(&rt, &[EVEN, (184 + change[0] as usize, change[1])]);
-        let even = "refused 68 Parity frame 10:00:00:00 packet 1\n";
-        let lines = format!(in rt.alloc(); "{even}{end}")?;
-        assert_told(&rt, &pes, &[lines.as_str()])?;
-    }
-    // 74 comes only where all bytes are read.
-    let pes = changed(&rt, &[EVEN]);
-    let lines = "refused 68 Parity frame 10:00:00:00 packet 1\n\
-        refused 74 Late frame 10:00:00:00\n\
-        2 faults\n";
-    assert_told(&rt, pes.get(..184).ok_or("a cut file")?, &[lines])
-}
-
-// The bytes of a packet with some of them changed.
-fn other<const N: usize>(
-    rt: &impl Abort,
-    packet: &[u8; 42],
-    changes: &[(usize, u8); N],
-) -> [u8; 42] {
-    let mut bytes = *packet;
-    for (at, value) in changes {
-        assert!(rt; *at < 42);
-        bytes[*at] = *value;
-    }
-    bytes
+fn tells_what_ends_reading_after_an_even_byte(rt: HostRuntime) {
+    assert_ends(&rt, 0, 1, "refused 31 Start pes 1\n2 faults\n");
+    assert_ends(&rt, 5, 0xB1, "refused 32 Length pes 1\n2 faults\n");
+    assert_ends(&rt, 6, 0x44, "refused 33 Flags pes 1\n2 faults\n");
+    assert_ends(&rt, 7, 0x00, "refused 34 NoTime pes 1\n2 faults\n");
+    assert_ends(&rt, 8, 0x25, "refused 35 HeaderLength pes 1\n2 faults\n");
+    assert_ends(&rt, 9, 0x26, "refused 36 Time pes 1\n2 faults\n");
+    assert_ends(&rt, 12, 0x73, "refused 61 OffFrame pes 1\n2 faults\n");
+    assert_ends(&rt, 45, 0x20, "refused 37 DataId pes 1\n2 faults\n");
+    assert_ends(&rt, 47, 0x2D, "refused 38 UnitLength pes 1\n2 faults\n");
+    assert_ends(&rt, 49, 0xE5, "refused 39 Framing pes 1\n2 faults\n");
+    assert_ends(&rt, 94, 0xE7, "refused 40 LineOrder pes 1\n2 faults\n");
 }
 
 // The first PES packet is late and has no header of the page. The second is of the same frame: its
@@ -179,17 +179,22 @@ fn other<const N: usize>(
 // are wrong; another row follows, and packet 26.
 #[rattlefmt::skip]
 #[test]
-fn tells_each_rule_of_packets_after_another(rt: HostRuntime) -> Result<(), Fail> {
-    let closing = other(&rt, &CLOSING, &[(8, 0x14)]);
-    let header = other(&rt, &HEADER, &[(3, 0xD1), (5, 0x15), (9, 0x02)]);
-    let row = other(&rt, &ROW, &[(1, 0x9A), (21, 0x48)]);
-    let changed = other(&rt, &ROW, &[(21, 0x68)]);
+fn tells_each_rule_of_packets_after_another(rt: HostRuntime) {
+    let mut closing = CLOSING;
+    closing[8] = 0x14;
+    let mut header = HEADER;
+    (header[3], header[5], header[9]) = (0xD1, 0x15, 0x02);
+    let mut row = ROW;
+    (row[1], row[21]) = (0x9A, 0x48);
+    let mut changed = ROW;
+    changed[21] = 0x68;
     let enhancement = packet_of(&[0x15, 0xB6]);
-    let mut pes = Vec::new(rt.alloc());
-    push_pes(&mut pes, TEN + 1, &[closing])?;
-    push_pes(&mut pes, TEN + 1, &[header, row, changed, enhancement])?;
-    push_pes(&mut pes, TEN + 50, &[HEADER, CLOSING])?;
-    assert_told(&rt, pes.as_slice(), &["--complete",
+    let mut room = [0; 1024];
+    let mut pes = MemSink::new(&mut room);
+    push_pes(&mut pes, TEN + 1, &[closing]);
+    push_pes(&mut pes, TEN + 1, &[header, row, changed, enhancement]);
+    push_pes(&mut pes, TEN + 50, &[HEADER, CLOSING]);
+    assert_told(&rt, pes.written(), &["--complete"],
         "refused 63 Early frame 10:00:00:01\n\
         refused 65 HeaderCode frame 10:00:00:01 packet 0\n\
         refused 71 NoFirstHeader frame 10:00:00:01\n\
@@ -205,8 +210,7 @@ fn tells_each_rule_of_packets_after_another(rt: HostRuntime) -> Result<(), Fail>
         ended 72 Content frame 10:00:00:01\n\
         refused 77 Incomplete frame 10:00:00:01\n\
         ended 77 Incomplete frame 10:00:01:24\n\
-        13 faults\n",
-    ])
+        13 faults\n");
 }
 
 // What is told of a page that stays open, and gets a wrong row 20 and later a wrong row 19.
@@ -219,49 +223,50 @@ const ENDS: &str = "refused 77 Incomplete frame 10:00:00:00\n\
     ended 73 Gap frame 10:00:01:05\n\
     ended 77 Incomplete frame 10:00:01:05\n";
 
+// Asserts what is told last where the file of that page has this many bytes of a fourth PES packet,
+// whose PTS is no frame's.
+fn assert_ends_all(rt: &(impl Abort + Alloc<A = Global>), bytes: usize, end: &str) {
+    let mut row_19 = row_of(0xC7, 0xC2);
+    row_19[0] = 0xD0;
+    let mut room = [0; 736];
+    let mut pes = MemSink::new(&mut room);
+    push_pes(&mut pes, TEN, &[HEADER, ROW]);
+    push_pes(&mut pes, TEN + 24, &[row_of(0x8C, 0xC1)]);
+    push_pes(&mut pes, TEN + 30, &[row_19]);
+    push_pes_at(&mut pes, 3_240_144_001, &[CLOSING]);
+    assert!(rt; bytes <= 184 && pes.written().len() == 736);
+    let words = ["subttx", "check", "a", "b", "--every", "25", "--complete"];
+    assert_all_parts(
+        rt,
+        &words,
+        &file_of_hi(),
+        &pes.written()[..552 + bytes],
+        ENDS,
+        end,
+    );
+}
+
 #[test]
-fn ends_all_that_stands_before_what_is_told_of_the_end(rt: HostRuntime) -> Result<(), Fail> {
-    let row_19 = other(&rt, &row_of(0xC7, 0xC2), &[(0, 0xD0)]);
-    let mut pes = Vec::new(rt.alloc());
-    push_pes(&mut pes, TEN, &[HEADER, ROW])?;
-    push_pes(&mut pes, TEN + 24, &[row_of(0x8C, 0xC1)])?;
-    push_pes(&mut pes, TEN + 30, &[row_19])?;
-    let len = pes.len();
-    push_pes(&mut pes, TEN + 40, &[CLOSING])?;
-    // a PTS that is no frame's
-    *pes.as_mut_slice()
-        .get_mut(len.saturating_add(13))
-        .ok_or("a byte")? ^= 2;
-    // bytes of the last PES packet, and what is told of the end
-    for (more, end) in [
-        (0, "refused 74 Late frame 10:00:01:05\n"),
-        (1, "refused 30 Truncated pes 3\n"),
-        (184, "refused 61 OffFrame pes 3\n"),
-    ] {
-        let cut = pes
-            .as_slice()
-            .get(..len.saturating_add(more))
-            .ok_or("a file")?;
-        let lines = format!(in rt.alloc(); "{ENDS}{end}5 faults\n")?;
-        let row = ["--every", "25", "--complete", lines.as_str()];
-        assert_told(&rt, cut, &row)?;
-    }
-    Ok(())
+fn ends_all_that_stands_before_what_is_told_of_the_end(rt: HostRuntime) {
+    assert_ends_all(&rt, 0, "refused 74 Late frame 10:00:01:05\n5 faults\n");
+    assert_ends_all(&rt, 1, "refused 30 Truncated pes 3\n5 faults\n");
+    assert_ends_all(&rt, 184, "refused 61 OffFrame pes 3\n5 faults\n");
 }
 
 // The third PES packet is of a frame before the second: a header that came later counts for it.
 #[test]
-fn goes_on_after_frames_that_do_not_rise(rt: HostRuntime) -> Result<(), Fail> {
-    let mut pes = Vec::new(rt.alloc());
-    push_pes(&mut pes, TEN, &[HEADER, ROW, CLOSING])?;
-    push_pes(&mut pes, TEN + 24, &[HEADER, ROW, CLOSING])?;
-    push_pes(&mut pes, TEN + 10, &[CLOSING])?;
-    push_pes(&mut pes, TEN + 50, &[HEADER, CLOSING])?;
+fn goes_on_after_frames_that_do_not_rise(rt: HostRuntime) {
+    let mut room = [0; 736];
+    let mut pes = MemSink::new(&mut room);
+    push_pes(&mut pes, TEN, &[HEADER, ROW, CLOSING]);
+    push_pes(&mut pes, TEN + 24, &[HEADER, ROW, CLOSING]);
+    push_pes(&mut pes, TEN + 10, &[CLOSING]);
+    push_pes(&mut pes, TEN + 50, &[HEADER, CLOSING]);
     let lines = "refused 73 Gap frame 10:00:00:20\n\
         ended 73 Gap frame 10:00:00:23\n\
         refused 62 Order pes 2\n\
         refused 73 Gap frame 10:00:01:19\n\
         ended 73 Gap frame 10:00:01:24\n\
         3 faults\n";
-    assert_told(&rt, pes.as_slice(), &["--every", "20", lines])
+    assert_told(&rt, pes.written(), &["--every", "20"], lines);
 }

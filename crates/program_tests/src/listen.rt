@@ -1,10 +1,10 @@
 //! `listen`: what a receiver shows of the transmission of `Hi`.
-use crate::answers::{assert_fills, assert_prints, assert_tells};
-use fixtures::{HEADER, ROW, TEN, every_second, push_pes, schedule_of_hi};
+use crate::answers::{assert_fills, assert_prints, assert_prints_of};
+use fixtures::{HEADER, ROW, TEN, every_second, every_second_twice, push_pes, schedule_of_hi};
 use std::alloc::Global;
 use std::process::Abort;
 use std::test::Fail;
-use sub_io::{FailAt, MemSource};
+use sub_io::{FailAt, MemSink, MemSource};
 
 // What is shown of `Hi`, and where its first letter is hit.
 const HI: &str = "heard yes\nopen no\nrow 22 |                ...Hi..                 |\n";
@@ -26,113 +26,158 @@ const LATER_LOST_0: &str = "refused 76 LostHeader frame 10:00:01:00 packet 0\n";
 
 const NOT_SHOWN: &str = "heard yes\nopen yes\nshown no\n";
 
-// Asserts what is printed of bytes: a row has the words of a listening from its time on, and last
-// the text. These words come after them.
+// Asserts what is printed of these bytes for a listening up to a time, with these options.
 fn assert_hears<'x>(
     rt: &(impl Abort + Alloc<A = Global>),
     pes: &[u8],
-    row: &[&'x str],
-    more: &[&'x str],
-) -> Result<(), Fail> {
-    let (want, options) = row.split_last().ok_or("a row")?;
-    let mut words = Vec::new(rt.alloc());
-    words.extend_from_slice(&["subttx", "listen", "a", "--at"])?;
-    words.extend_from_slice(options)?;
-    words.extend_from_slice(more)?;
-    assert_tells(rt, words.as_slice(), pes, &[], want);
-    Ok(())
+    at: &'x str,
+    options: &[&'x str],
+    want: &str,
+) {
+    let mut words = ["a"; 16];
+    assert!(rt; options.len() <= 11);
+    words[..5].copy_from_slice(&["subttx", "listen", "a", "--at", at]);
+    words[5..5 + options.len()].copy_from_slice(options);
+    let words = &words[..5 + options.len()];
+    assert_prints_of(rt, words, pes, &[], want.as_bytes());
 }
 
-#[rattlefmt::skip]
-#[test]
-fn shows_what_a_receiver_got(rt: HostRuntime) -> Result<(), Fail> {
-    let rows: [&[&str]; 21] = [
-        &["10:00:00:10", HI],
-        &["10:00:00:10", "--flip", "1:21:1", HIT],
-        &["10:00:00:10", "--flip", HEADER_FLIPS, HI], // corrected
-        &["10:00:00:10", "--skip", "1", NOTHING],
-        &["10:00:01:00", "--skip", "1", HI],
-        &["10:00:02:00", BLANK],
-        &["09:59:59:24", NOTHING],
-        &["10:00:00:10", "--lose", "1", BLANK],
-        &["10:00:01:00", "--lose", "1", HI],
-        &["10:00:01:00", "--flip", "1:21:1", HI], // what was hit comes again
-        &["10:00:00:10", "--skip", "1", "--lose", "0", NOTHING],
-        &["10:00:00:10", "--flip", "1:21:1", "--lose", "1", BLANK],
-        // packets are counted over the whole file, those passed over too
-        &["10:00:01:00", "--flip", "4:21:1", HIT],
-        &["10:00:01:00", "--lose", "4", BLANK],
-        &["10:00:01:00", "--skip", "3", "--flip", "4:21:1", HIT],
-        // a packet that is passed over, comes after the time, or is not there
-        &["10:00:01:00", "--skip", "3", "--flip", "1:21:1", "--lose", "0,1", HI],
-        &["10:00:00:10", "--flip", "4:21:1", "--lose", "3,4", HI],
-        &["10:00:00:10", "--flip", "9999999999:41:8", "--lose", "9999999999", HI],
-        &["10:00:00:10", "--lose", "0", LOST_0],
-        &["10:00:00:10", "--lose", "1,2", LOST_2],
-        &["10:00:01:00", "--skip", "3", "--lose", "3,0", LATER_LOST_0],
-    ];
-    let pes = every_second(rt.alloc())?;
-    for row in rows {
-        assert_hears(&rt, pes.as_slice(), row, &["--receiver", "keep"])?;
-        assert_hears(&rt, pes.as_slice(), row, &["--receiver", "blank"])?;
-    }
-    Ok(())
+// Asserts it of a receiver and the transmission of `Hi` with a sending every 25 frames.
+fn assert_hears_by<'x>(
+    rt: &(impl Abort + Alloc<A = Global>),
+    receiver: &'x str,
+    at: &'x str,
+    options: &[&'x str],
+    want: &str,
+) {
+    let mut words = ["a"; 16];
+    assert!(rt; options.len() <= 9);
+    words[..7].copy_from_slice(&["subttx", "listen", "a", "--at", at, "--receiver", receiver]);
+    words[7..7 + options.len()].copy_from_slice(options);
+    let words = &words[..7 + options.len()];
+    assert_prints_of(rt, words, &every_second(), &[], want.as_bytes());
 }
 
-#[rattlefmt::skip]
+// Asserts it of both receivers.
+fn assert_both_hear<'x>(
+    rt: &(impl Abort + Alloc<A = Global>),
+    at: &'x str,
+    options: &[&'x str],
+    want: &str,
+) {
+    assert_hears_by(rt, "keep", at, options, want);
+    assert_hears_by(rt, "blank", at, options, want);
+}
+
 #[test]
-fn prints_what_is_on_the_screen(rt: HostRuntime) -> Result<(), Fail> {
-    let rows: [&[&str]; 7] = [
-        &["10:00:00:10", "--complete", HI],
-        &["10:00:02:00", "--complete", BLANK],
-        &["09:59:59:24", "--complete", NOTHING],
-        // what is hit is not shown
-        &["10:00:00:10", "--flip", "1:21:1", "--receiver", "drop", BLANK],
-        &["10:00:01:00", "--flip", "1:21:1", "--receiver", "drop", HI],
-        &["10:00:01:00", "--complete", "--receiver", "drop", "--flip", "4:21:1", BLANK],
-        &["10:00:00:10", "--receiver", "drop", HI],
-    ];
-    let mut pes = every_second(rt.alloc())?;
-    for row in rows {
-        assert_hears(&rt, pes.as_slice(), row, &[])?;
-    }
+fn shows_what_a_receiver_got(rt: HostRuntime) {
+    assert_both_hear(&rt, "10:00:00:10", &[], HI);
+    assert_both_hear(&rt, "10:00:02:00", &[], BLANK);
+    assert_both_hear(&rt, "09:59:59:24", &[], NOTHING);
+    assert_both_hear(&rt, "10:00:00:10", &["--skip", "1"], NOTHING);
+    assert_both_hear(&rt, "10:00:01:00", &["--skip", "1"], HI);
+    assert_both_hear(&rt, "10:00:00:10", &["--flip", "1:21:1"], HIT);
+    assert_both_hear(&rt, "10:00:01:00", &["--flip", "1:21:1"], HI); // it comes again
+    assert_both_hear(&rt, "10:00:00:10", &["--flip", HEADER_FLIPS], HI); // corrected
+}
+
+#[test]
+fn shows_what_a_receiver_got_where_packets_were_lost(rt: HostRuntime) {
+    assert_both_hear(&rt, "10:00:00:10", &["--lose", "1"], BLANK);
+    assert_both_hear(&rt, "10:00:01:00", &["--lose", "1"], HI);
+    assert_both_hear(&rt, "10:00:00:10", &["--skip", "1", "--lose", "0"], NOTHING);
+    assert_both_hear(
+        &rt,
+        "10:00:00:10",
+        &["--flip", "1:21:1", "--lose", "1"],
+        BLANK,
+    );
+    assert_both_hear(&rt, "10:00:00:10", &["--lose", "0"], LOST_0);
+    assert_both_hear(&rt, "10:00:00:10", &["--lose", "1,2"], LOST_2);
+    let two = ["--skip", "3", "--lose", "3,0"];
+    assert_both_hear(&rt, "10:00:01:00", &two, LATER_LOST_0);
+}
+
+#[test]
+fn counts_packets_over_the_whole_file(rt: HostRuntime) {
+    assert_both_hear(&rt, "10:00:01:00", &["--flip", "4:21:1"], HIT);
+    assert_both_hear(&rt, "10:00:01:00", &["--lose", "4"], BLANK);
+    assert_both_hear(
+        &rt,
+        "10:00:01:00",
+        &["--skip", "3", "--flip", "4:21:1"],
+        HIT,
+    );
+    // a packet that is passed over, comes after the time, or is not there
+    let passed_over = ["--skip", "3", "--flip", "1:21:1", "--lose", "0,1"];
+    assert_both_hear(&rt, "10:00:01:00", &passed_over, HI);
+    let later = ["--flip", "4:21:1", "--lose", "3,4"];
+    assert_both_hear(&rt, "10:00:00:10", &later, HI);
+    let not_there = ["--flip", "9999999999:41:8", "--lose", "9999999999"];
+    assert_both_hear(&rt, "10:00:00:10", &not_there, HI);
+}
+
+#[test]
+fn prints_what_is_on_the_screen(rt: HostRuntime) {
+    let mut pes = every_second();
+    let complete = ["--complete"];
+    assert_hears(&rt, &pes, "10:00:00:10", &complete, HI);
+    assert_hears(&rt, &pes, "10:00:02:00", &complete, BLANK);
+    assert_hears(&rt, &pes, "09:59:59:24", &complete, NOTHING);
     // The first closing header becomes a stuffing unit; the second sending is closed.
-    *pes.as_mut_slice().get_mut(138).ok_or("a place")? = 0xFF;
-    assert_hears(&rt, pes.as_slice(), &["10:00:00:10", "--complete", NOT_SHOWN], &[])?;
-    assert_hears(&rt, pes.as_slice(), &["10:00:01:00", "--complete", HI], &[])?;
+    pes[138] = 0xFF;
+    assert_hears(&rt, &pes, "10:00:00:10", &complete, NOT_SHOWN);
+    assert_hears(&rt, &pes, "10:00:01:00", &complete, HI);
     // That of the second one too: at its header of the page itself the screen stays as it is.
-    *pes.as_mut_slice().get_mut(322).ok_or("a place")? = 0xFF;
-    assert_hears(&rt, pes.as_slice(), &["10:00:01:00", "--complete", NOT_SHOWN], &[])
+    pes[322] = 0xFF;
+    assert_hears(&rt, &pes, "10:00:01:00", &complete, NOT_SHOWN);
 }
 
-// Asserts what a receiver shows of the first sending with one flip: the cell is the due one, or a
-// space where its byte was hit.
+#[test]
+fn does_not_show_a_row_that_is_hit(rt: HostRuntime) {
+    let pes = every_second();
+    let hit = ["--flip", "1:21:1", "--receiver", "drop"];
+    assert_hears(&rt, &pes, "10:00:00:10", &hit, BLANK);
+    assert_hears(&rt, &pes, "10:00:01:00", &hit, HI);
+    let later_hit = ["--complete", "--receiver", "drop", "--flip", "4:21:1"];
+    assert_hears(&rt, &pes, "10:00:01:00", &later_hit, BLANK);
+    assert_hears(&rt, &pes, "10:00:00:10", &["--receiver", "drop"], HI);
+}
+
+// Asserts what both receivers show of the first sending with one flip: the cell is the due one, or
+// a space where its byte was hit.
 fn assert_shows_hit(
     rt: &(impl Abort + Alloc<A = Global>),
-    receiver: &str,
-    (packet, byte, bit): (u8, u8, u8),
+    packet: u8,
+    byte: u8,
+    bit: u8,
 ) -> Result<(), Fail> {
     let flip = format!(in rt.alloc(); "{packet}:{byte}:{bit}")?;
+    let mut want = *b"heard yes\nopen no\nrow 22 |                ...Hi..                 |\n";
+    if packet == 1 && byte >= 2 {
+        assert!(rt; byte < 42);
+        want[byte as usize + 24] = b' ';
+    }
+    assert_shows(rt, "keep", flip.as_str(), &want);
+    assert_shows(rt, "blank", flip.as_str(), &want);
+    Ok(())
+}
+
+// Asserts what a receiver shows of the first sending with these flips.
+fn assert_shows(rt: &(impl Abort + Alloc<A = Global>), receiver: &str, flips: &str, want: &[u8]) {
+    let at = "10:00:00:10";
     let words = [
         "subttx",
         "listen",
         "a",
         "--at",
-        "10:00:00:10",
+        at,
         "--receiver",
         receiver,
         "--flip",
-        flip.as_str(),
+        flips,
     ];
-    let mut want = [0; 68];
-    want.copy_from_slice(HI.as_bytes().get(..68).ok_or("a text")?);
-    if packet == 1 && byte >= 2 {
-        *want.get_mut(usize::from(byte) + 24).ok_or("a cell")? = b' ';
-    }
-    let pes = schedule_of_hi();
-    let (mut pes, mut none) = (MemSource::new(&pes), MemSource::new(&[]));
-    assert_prints(rt, &words, &mut pes, &mut none, &[], &want);
-    Ok(())
+    assert_prints_of(rt, &words, &schedule_of_hi(), &[], want);
 }
 
 #[test]
@@ -140,8 +185,7 @@ fn shows_a_space_where_a_byte_was_hit(rt: HostRuntime) -> Result<(), Fail> {
     for packet in 0..3u8 {
         for byte in 0..42u8 {
             for bit in 1..9u8 {
-                assert_shows_hit(&rt, "keep", (packet, byte, bit))?;
-                assert_shows_hit(&rt, "blank", (packet, byte, bit))?;
+                assert_shows_hit(&rt, packet, byte, bit)?;
             }
         }
     }
@@ -150,70 +194,54 @@ fn shows_a_space_where_a_byte_was_hit(rt: HostRuntime) -> Result<(), Fail> {
 
 // A row comes twice, and a bit of its second packet is received wrong: the cell is as it was, or a
 // space.
-#[rattlefmt::skip]
 #[test]
-fn keeps_or_blanks_a_cell_as_it_was_asked(rt: HostRuntime) -> Result<(), Fail> {
-    let mut pes = Vec::new(rt.alloc());
-    push_pes(&mut pes, TEN, &[HEADER, ROW, ROW])?;
+fn keeps_or_blanks_a_cell_as_it_was_asked(rt: HostRuntime) {
+    let mut room = [0; 184];
+    let mut pes = MemSink::new(&mut room);
+    push_pes(&mut pes, TEN, &[HEADER, ROW, ROW]);
     let opened = "heard yes\nopen yes\nrow 22 |                ...Hi..                 |\n";
     let hit = "heard yes\nopen yes\nrow 22 |                ... i..                 |\n";
-    let row = ["10:00:00:10", "--flip", "2:21:1", "--receiver", "keep", opened];
-    assert_hears(&rt, pes.as_slice(), &row, &[])?;
-    let row = ["10:00:00:10", "--flip", "2:21:1", "--receiver", "blank", hit];
-    assert_hears(&rt, pes.as_slice(), &row, &[])
+    let keep = ["--flip", "2:21:1", "--receiver", "keep"];
+    assert_hears(&rt, pes.written(), "10:00:00:10", &keep, opened);
+    let blank = ["--flip", "2:21:1", "--receiver", "blank"];
+    assert_hears(&rt, pes.written(), "10:00:00:10", &blank, hit);
 }
 
 #[test]
-fn tells_faults_of_a_file_as_far_as_it_is_read(rt: HostRuntime) -> Result<(), Fail> {
-    let pes = every_second(rt.alloc())?;
-    let mut twice = every_second(rt.alloc())?;
-    twice.extend_from_slice(pes.as_slice())?;
-    let cut = pes.as_slice().get(..194).ok_or("a cut file")?;
-    let (pes, twice) = (pes.as_slice(), twice.as_slice());
+fn tells_faults_of_a_file_as_far_as_it_is_read(rt: HostRuntime) {
+    let twice = every_second_twice();
+    let order = "refused 62 Order pes 3\n";
+    assert_hears(&rt, &twice, "10:00:02:00", &[], order);
+    assert_hears(&rt, &twice, "10:00:01:24", &[], HI);
+    let start = "refused 31 Start pes 0\n";
+    assert_hears(&rt, b"RIFF....", "10:00:00:10", &[], start);
+    assert_hears(&rt, &[], "10:00:00:10", &[], NOTHING);
+    let off = "refused 61 OffFrame pes 0\n";
+    assert_hears(&rt, &every_second(), "10:00:00:10", &["--origin", "1"], off);
+}
+
+// Asserts what is heard of the file with this many bytes.
+fn assert_hears_cut(rt: &(impl Abort + Alloc<A = Global>), len: usize, at: &str, want: &str) {
+    let pes = every_second();
+    assert!(rt; len <= 552);
+    assert_hears(rt, &pes[..len], at, &[], want);
+}
+
+#[test]
+fn tells_a_cut_after_the_time(rt: HostRuntime) {
     // the PES packet after the time, and not read so far
-    assert_hears(
-        &rt,
-        cut,
-        &["10:00:00:10", "refused 30 Truncated pes 1\n"],
-        &[],
-    )?;
-    assert_hears(&rt, cut, &["09:00:00:00", NOTHING], &[])?;
-    assert_hears(
-        &rt,
-        twice,
-        &["10:00:02:00", "refused 62 Order pes 3\n"],
-        &[],
-    )?;
-    assert_hears(&rt, twice, &["10:00:01:24", HI], &[])?;
-    assert_hears(
-        &rt,
-        b"RIFF....",
-        &["10:00:00:10", "refused 31 Start pes 0\n"],
-        &[],
-    )?;
-    assert_hears(&rt, &[], &["10:00:00:10", NOTHING], &[])?;
-    let off = [
-        "10:00:00:10",
-        "--origin",
-        "1",
-        "refused 61 OffFrame pes 0\n",
-    ];
-    assert_hears(&rt, pes, &off, &[])
+    assert_hears_cut(&rt, 194, "10:00:00:10", "refused 30 Truncated pes 1\n");
+    assert_hears_cut(&rt, 194, "09:00:00:00", NOTHING);
 }
 
 #[test]
 fn calls_no_device_after_its_failure_or_the_time(rt: HostRuntime) {
     let pes = schedule_of_hi();
     let words = ["subttx", "listen", "a", "--at", "10:00:00:10"];
-    assert_fills(&rt, &words, (&pes, &[]), &[], HI.as_bytes());
+    let want = HI.as_bytes();
+    assert_fills(&rt, &words, (&pes, &[]), &[], want);
     // The call that fails would give the PES packet after the second one.
     let mut source = FailAt::new(MemSource::new(&pes), 2);
-    assert_prints(
-        &rt,
-        &words,
-        &mut source,
-        &mut MemSource::new(&[]),
-        &[],
-        HI.as_bytes(),
-    );
+    let mut none = MemSource::new(&[]);
+    assert_prints(&rt, &words, &mut source, &mut none, &[], want);
 }

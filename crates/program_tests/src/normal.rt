@@ -1,7 +1,8 @@
 //! `normal`: what is printed of subtitle files, whole and refused.
-use crate::answers::{answer_words, assert_prints};
-use crate::asserting::assert_same_in;
+use crate::answers::{answer_words, assert_prints, assert_prints_of};
 use fixtures::{Drip, Endless, HEAD, block, file_of_two, gsi};
+use std::alloc::Global;
+use std::process::Abort;
 use sub_answer::Status;
 use sub_io::{FailAt, MemSink, MemSource, Sink};
 
@@ -33,111 +34,118 @@ pub fn normal_form() -> [u8; 1280] {
     file
 }
 
-#[rattlefmt::skip]
-#[test]
-fn refuses_files_at_the_first_fault(rt: HostRuntime) {
-    // the byte that is changed and its value in the file of a comment, user data and a subtitle
-    let changes: [(usize, u8, &[u8]); 14] = [
-        (1411, 0x01, b"refused 24 Unfinished block 4\n"), // EBN of the last block
-        (1409, 2, b"refused 22 Sequence block 4\n"), // SN
-        (1284, 1, b"refused 16 Cumulative block 3\n"), // CS
-        (13, b'1', b"refused 14 Alphabet block 0\n"), // CCT
-        (6, b'3', b"refused 11 Format block 0\n"), // DFC is STL35.01
-        (11, b'0', b"refused 13 Display block 0\n"), // DSC
-        (1283, 0xF0, b"refused 15 Extension block 3\n"), // EBN
-        (1295, 2, b"refused 17 CommentFlag block 3\n"), // CF
-        (1294, 4, b"refused 18 Justify block 3\n"), // JC
-        (1293, 0, b"refused 19 Row block 3\n"), // VP
-        (1293, 24, b"refused 19 Row block 3\n"),
-        (1288, 25, b"refused 20 Time block 3\n"), // TCI
-        (1291, 0, b"refused 21 EmptyTime block 3\n"), // TCO is TCI
-        (1287, 3, b"refused 21 EmptyTime block 3\n"), // TCI after TCO
-    ];
+// Asserts the line where a byte of the file of a comment, user data and a subtitle has this value.
+fn assert_refuses(rt: &(impl Abort + Alloc<A = Global>), place: usize, value: u8, line: &[u8]) {
+    let mut input = commented();
+    assert!(rt; place < 1536);
+    input[place] = value;
     // The file that is written has no room, so nothing is.
-    for (place, value, line) in changes {
-        let mut input = commented();
-        assert!(rt; place < 1536);
-        input[place] = value;
-        let (mut input, mut none) = (MemSource::new(&input), MemSource::new(&[]));
-        assert_prints(&rt, &NORMAL, &mut input, &mut none, &[], line);
-    }
-}
-
-#[rattlefmt::skip]
-#[test]
-fn answers_files_of_each_length(rt: HostRuntime) {
-    let input = commented();
-    // the first length and the one after the last, the line, how many bytes are written
-    for (begin, end, line, written) in [
-        (0, 1024, &b"refused 10 Truncated block 0\n"[..], 0),
-        (1024, 1025, b"written 0 subtitles\n", 1024),
-        (1025, 1152, b"refused 10 Truncated block 1\n", 0),
-        (1152, 1153, b"written 0 subtitles\n", 1024), // a comment
-        (1153, 1280, b"refused 10 Truncated block 2\n", 0),
-        (1280, 1281, b"written 0 subtitles\n", 1024), // and user data
-        (1281, 1408, b"refused 10 Truncated block 3\n", 0),
-        (1408, 1409, b"refused 24 Unfinished block 3\n", 0),
-        (1409, 1536, b"refused 10 Truncated block 4\n", 0),
-        (1536, 1537, b"written 1 subtitles\n", 1280),
-    ] {
-        for len in begin..end {
-            assert!(rt; len <= input.len());
-            let (mut input, mut none) = (MemSource::new(&input[..len]), MemSource::new(&[]));
-            let (mut room, mut text) = ([0; 1536], [0; 64]);
-            let (mut file, mut out) = (MemSink::new(&mut room), MemSink::new(&mut text));
-            let alloc = rt.alloc();
-            let status = answer_words(alloc, &NORMAL, &mut input, &mut none, &mut file, &mut out);
-            assert!(rt; out.written() == line, "{len} bytes");
-            assert_same_in(&rt, &file.written().len(), &written, &len);
-            assert_same_in(&rt, &(status == Status::Done), &(written > 0), &len);
-        }
-    }
+    assert_prints_of(rt, &NORMAL, &input, &[], line);
 }
 
 #[test]
-fn refuses_another_rate_and_too_many_blocks(rt: HostRuntime) {
-    let (mut none, mut again) = (MemSource::new(&[]), MemSource::new(&[]));
+fn refuses_a_gsi_block(rt: HostRuntime) {
+    assert_refuses(&rt, 6, b'3', b"refused 11 Format block 0\n"); // DFC is STL35.01
+    assert_refuses(&rt, 11, b'0', b"refused 13 Display block 0\n"); // DSC
+    assert_refuses(&rt, 13, b'1', b"refused 14 Alphabet block 0\n"); // CCT
     let mut rate = commented();
     rate[3..11].copy_from_slice(b"STL30.01");
-    let line = b"refused 12 Rate block 0\n";
-    assert_prints(
-        &rt,
+    assert_prints_of(&rt, &NORMAL, &rate, &[], b"refused 12 Rate block 0\n");
+}
+
+#[test]
+fn refuses_a_block_at_its_first_fault(rt: HostRuntime) {
+    assert_refuses(&rt, 1283, 0xF0, b"refused 15 Extension block 3\n"); // EBN
+    assert_refuses(&rt, 1284, 1, b"refused 16 Cumulative block 3\n"); // CS
+    assert_refuses(&rt, 1295, 2, b"refused 17 CommentFlag block 3\n"); // CF
+    assert_refuses(&rt, 1294, 4, b"refused 18 Justify block 3\n"); // JC
+    assert_refuses(&rt, 1293, 0, b"refused 19 Row block 3\n"); // VP
+    assert_refuses(&rt, 1293, 24, b"refused 19 Row block 3\n");
+    assert_refuses(&rt, 1288, 25, b"refused 20 Time block 3\n"); // TCI
+    assert_refuses(&rt, 1291, 0, b"refused 21 EmptyTime block 3\n"); // TCO is TCI
+    assert_refuses(&rt, 1287, 3, b"refused 21 EmptyTime block 3\n"); // TCI after TCO
+    assert_refuses(&rt, 1409, 2, b"refused 22 Sequence block 4\n"); // SN of the last block
+    assert_refuses(&rt, 1411, 0x01, b"refused 24 Unfinished block 4\n"); // its EBN
+}
+
+// Asserts the line and how many bytes are written for a file in memory.
+fn assert_answers(
+    rt: &(impl Abort + Alloc<A = Global>),
+    input: &[u8],
+    line: &[u8],
+    written: usize,
+) {
+    let (mut input, mut none) = (MemSource::new(input), MemSource::new(&[]));
+    let (mut room, mut text) = ([0; 1536], [0; 64]);
+    let (mut file, mut out) = (MemSink::new(&mut room), MemSink::new(&mut text));
+    let status = answer_words(
+        rt.alloc(),
         &NORMAL,
-        &mut MemSource::new(&rate),
+        &mut input,
         &mut none,
-        &[],
-        line,
+        &mut file,
+        &mut out,
     );
+    let is_done = status == Status::Done;
+    let is_right = out.written() == line && file.written().len() == written;
+    assert!(rt; is_right && is_done == (written > 0));
+}
+
+// Asserts it for each length of the file from one on, up to another.
+fn assert_answers_cuts(
+    rt: &(impl Abort + Alloc<A = Global>),
+    lengths: (usize, usize),
+    line: &[u8],
+    written: usize,
+) {
+    let input = commented();
+    for len in lengths.0..lengths.1 {
+        assert!(rt; len <= 1536);
+        assert_answers(rt, &input[..len], line, written);
+    }
+}
+
+#[test]
+fn answers_files_of_each_length(rt: HostRuntime) {
+    assert_answers_cuts(&rt, (0, 1024), b"refused 10 Truncated block 0\n", 0);
+    assert_answers_cuts(&rt, (1024, 1025), b"written 0 subtitles\n", 1024);
+    assert_answers_cuts(&rt, (1025, 1152), b"refused 10 Truncated block 1\n", 0);
+    assert_answers_cuts(&rt, (1152, 1153), b"written 0 subtitles\n", 1024); // a comment
+    assert_answers_cuts(&rt, (1153, 1280), b"refused 10 Truncated block 2\n", 0);
+    assert_answers_cuts(&rt, (1280, 1281), b"written 0 subtitles\n", 1024); // and user data
+    assert_answers_cuts(&rt, (1281, 1408), b"refused 10 Truncated block 3\n", 0);
+    assert_answers_cuts(&rt, (1408, 1409), b"refused 24 Unfinished block 3\n", 0);
+    assert_answers_cuts(&rt, (1409, 1536), b"refused 10 Truncated block 4\n", 0);
+    assert_answers_cuts(&rt, (1536, 1537), b"written 1 subtitles\n", 1280);
+}
+
+#[test]
+fn refuses_too_many_blocks(rt: HostRuntime) {
     // of a file: comments without end
     let mut long = Endless {
         rest: &gsi(),
         again: &[1; 128],
     };
     let line = b"refused 25 TooManyBlocks block 100000\n";
-    assert_prints(&rt, &NORMAL, &mut long, &mut again, &[], line);
+    let mut none = MemSource::new(&[]);
+    assert_prints(&rt, &NORMAL, &mut long, &mut none, &[], line);
+}
+
+// Asserts the line where the byte of this number can't be read, of a file that is refused.
+fn assert_fails(rt: &(impl Abort + Alloc<A = Global>), byte: u64, line: &[u8]) {
+    let mut input = commented();
+    input[3] = b'x';
+    let mut source = FailAt::new(Drip { rest: &input }, byte);
+    let mut none = MemSource::new(&[]);
+    assert_prints(rt, &NORMAL, &mut source, &mut none, &[], line);
 }
 
 #[test]
 fn tells_a_failed_read_before_any_refusal(rt: HostRuntime) {
-    let mut input = commented();
-    input[3] = b'x';
-    // the byte that was asked for
-    for (call, line) in [
-        (0, b"fault 26 Read block 0\n"),
-        (1023, b"fault 26 Read block 0\n"),
-        (1024, b"fault 26 Read block 1\n"),
-        (1151, b"fault 26 Read block 1\n"),
-        (1152, b"fault 26 Read block 2\n"),
-        (1536, b"fault 26 Read block 5\n"),
-    ] {
-        let mut source = FailAt::new(Drip { rest: &input }, call);
-        assert_prints(
-            &rt,
-            &NORMAL,
-            &mut source,
-            &mut MemSource::new(&[]),
-            &[],
-            line,
-        );
-    }
+    assert_fails(&rt, 0, b"fault 26 Read block 0\n");
+    assert_fails(&rt, 1023, b"fault 26 Read block 0\n");
+    assert_fails(&rt, 1024, b"fault 26 Read block 1\n");
+    assert_fails(&rt, 1151, b"fault 26 Read block 1\n");
+    assert_fails(&rt, 1152, b"fault 26 Read block 2\n");
+    assert_fails(&rt, 1536, b"fault 26 Read block 5\n");
 }

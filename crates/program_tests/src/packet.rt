@@ -1,5 +1,5 @@
 //! `packet`: what is printed of packets of each number.
-use crate::answers::{assert_fills, assert_tells};
+use crate::answers::{assert_fills, assert_prints_of};
 use std::alloc::Global;
 use std::process::Abort;
 use std::test::Fail;
@@ -8,80 +8,103 @@ use ttx_packet::ham;
 // Asserts the text of a packet of these digits, also where there is less room for it.
 fn assert_shows(rt: &(impl Abort + Alloc<A = Global>), digits: &str, text: &str) {
     let words = ["subttx", "packet", digits];
-    assert_tells(rt, &words, &[], &[], text);
+    assert_prints_of(rt, &words, &[], &[], text.as_bytes());
     assert_fills(rt, &words, (&[], &[]), &[], text.as_bytes());
 }
 
 #[rattlefmt::skip]
 #[test]
-fn shows_packets(rt: HostRuntime) -> Result<(), Fail> {
-    // digits, text
-    let packets: [&[&str]; 12] = [
-        // the header of page 888 in parallel mode, in lower and in upper case
-        &["1515d0d015d015d002152020202020202020202020202020202020202020202020202020202020202020",
-            "magazine 8 packet 0\npage 88 subcode 0000 control C4 C6 C7\n\
-            text |                                |\n"],
-        &["1515D0D015D015D002152020202020202020202020202020202020202020202020202020202020202020",
-            "magazine 8 packet 0\npage 88 subcode 0000 control C4 C6 C7\n\
-            text |                                |\n"],
-        // a closing header in serial mode
-        &["1515eaEAea2fEA5e15022020202020202020202020202020202020202020202020202020202020202020",
-            "magazine 8 packet 0\npage FF subcode 3F7F control C11\n\
-            text |                                |\n"],
-        // page 100 with no control bit; the text is Hi, an even H, 7F and 1F, and 20 to the end
-        &["02151515151515151515c8e9487f1f202020202020202020202020202020202020202020202020202020",
-            "magazine 1 packet 0\npage 00 subcode 0000 control none\n\
-            text |Hi?..                           |\n"],
-        // each control bit is set, and each bit of the subcode
-        &["1515d0d0eaeaeaeaeaea2020202020202020202020202020202020202020202020202020202020202020",
-            "magazine 8 packet 0\n\
-            page 88 subcode 3F7F control C4 C5 C6 C7 C8 C9 C10 C11 C12 C13 C14\n\
-            text |                                |\n"],
-        // two wrong bits in the first address byte, in the second, in the page units
-        &["1615d0d015d015d002152020202020202020202020202020202020202020202020202020202020202020",
-            "refused 3 BadAddress\n"],
-        &["1516d0d015d015d002152020202020202020202020202020202020202020202020202020202020202020",
-            "refused 3 BadAddress\n"],
-        &["151516d015d015d002152020202020202020202020202020202020202020202020202020202020202020",
-            "refused 4 BadHeader\n"],
-        // row 22 of magazine 8: double height, start box twice, Hi, end box twice
-        &["159b202020202020202020202020202020200d0b0bc8e98a8a2020202020202020202020202020202020",
-            "magazine 8 packet 22\ntext |                ...Hi..                 |\n"],
-        // row 20, with an even byte in the first and the last column
-        &["158ca0c8e92020202020202020202020202020202020202020202020202020202020202020202020c9a0",
-            "magazine 8 packet 20\ntext |?Hi                                   ??|\n"],
-        // row 21, of the codes 7E and 7F
-        &["d08cfe7f7f7f7f7f7f7f7f7f7f7f7f7f7f7f7f7f7f7f7f7f7f7f7f7f7f7f7f7f7f7f7f7f7f7f7f7f7f7f",
-            "magazine 8 packet 21\ntext |~.......................................|\n"],
-        // packet 26
-        &["15b620202020202020202020202020202020202020202020202020202020202020202020202020202020",
-            "magazine 8 packet 26\n"],
-    ];
-    for row in packets {
-        let (text, digits) = row.split_last().ok_or("a row")?;
-        assert_shows(&rt, digits.first().copied().ok_or("digits")?, text);
-    }
+fn shows_headers(rt: HostRuntime) {
+    // the header of page 888 in parallel mode, in lower and in upper case
+    assert_shows(&rt,
+        "1515d0d015d015d002152020202020202020202020202020202020202020202020202020202020202020",
+        "magazine 8 packet 0\npage 88 subcode 0000 control C4 C6 C7\n\
+        text |                                |\n");
+    assert_shows(&rt,
+        "1515D0D015D015D002152020202020202020202020202020202020202020202020202020202020202020",
+        "magazine 8 packet 0\npage 88 subcode 0000 control C4 C6 C7\n\
+        text |                                |\n");
+    // a closing header in serial mode
+    assert_shows(&rt,
+        "1515eaEAea2fEA5e15022020202020202020202020202020202020202020202020202020202020202020",
+        "magazine 8 packet 0\npage FF subcode 3F7F control C11\n\
+        text |                                |\n");
+    // page 100 with no control bit; the text is Hi, an even H, 7F and 1F, and 20 to the end
+    assert_shows(&rt,
+        "02151515151515151515c8e9487f1f202020202020202020202020202020202020202020202020202020",
+        "magazine 1 packet 0\npage 00 subcode 0000 control none\n\
+        text |Hi?..                           |\n");
+    // each control bit is set, and each bit of the subcode
+    assert_shows(&rt,
+        "1515d0d0eaeaeaeaeaea2020202020202020202020202020202020202020202020202020202020202020",
+        "magazine 8 packet 0\n\
+        page 88 subcode 3F7F control C4 C5 C6 C7 C8 C9 C10 C11 C12 C13 C14\n\
+        text |                                |\n");
+}
+
+#[rattlefmt::skip]
+#[test]
+fn shows_rows_and_packets_above_them(rt: HostRuntime) {
+    // row 22 of magazine 8: double height, start box twice, Hi, end box twice
+    assert_shows(&rt,
+        "159b202020202020202020202020202020200d0b0bc8e98a8a2020202020202020202020202020202020",
+        "magazine 8 packet 22\ntext |                ...Hi..                 |\n");
+    // row 20, with an even byte in the first and the last column
+    assert_shows(&rt,
+        "158ca0c8e92020202020202020202020202020202020202020202020202020202020202020202020c9a0",
+        "magazine 8 packet 20\ntext |?Hi                                   ??|\n");
+    // row 21, of the codes 7E and 7F
+    assert_shows(&rt,
+        "d08cfe7f7f7f7f7f7f7f7f7f7f7f7f7f7f7f7f7f7f7f7f7f7f7f7f7f7f7f7f7f7f7f7f7f7f7f7f7f7f7f",
+        "magazine 8 packet 21\ntext |~.......................................|\n");
+    // packet 26
+    assert_shows(&rt,
+        "15b620202020202020202020202020202020202020202020202020202020202020202020202020202020",
+        "magazine 8 packet 26\n");
+}
+
+#[rattlefmt::skip]
+#[test]
+fn refuses_two_wrong_bits(rt: HostRuntime) {
+    // in the first address byte, in the second, in the page units
+    assert_shows(&rt,
+        "1615d0d015d015d002152020202020202020202020202020202020202020202020202020202020202020",
+        "refused 3 BadAddress\n");
+    assert_shows(&rt,
+        "1516d0d015d015d002152020202020202020202020202020202020202020202020202020202020202020",
+        "refused 3 BadAddress\n");
+    assert_shows(&rt,
+        "151516d015d015d002152020202020202020202020202020202020202020202020202020202020202020",
+        "refused 4 BadHeader\n");
+}
+
+// Asserts what is shown of the packet of this number and magazine of which each byte is an A.
+fn assert_shows_number(
+    rt: &(impl Abort + Alloc<A = Global>),
+    number: u8,
+    magazine: u8,
+) -> Result<(), Fail> {
+    assert!(rt; number < 32 && magazine < 8);
+    let address = magazine + 8 * number;
+    let (first, second) = (ham(address % 16), ham(address / 16));
+    let shown = if magazine == 0 { 8 } else { magazine };
+    let text = if number <= 24 {
+        "text |AAAAAAAAAAAAAAAAAAAAAAAAAAAAAAAAAAAAAAAA|\n"
+    } else {
+        ""
+    };
+    let want = format!(in rt.alloc(); "magazine {shown} packet {number}\n{text}")?;
+    let codes = "c1c1c1c1c1c1c1c1c1c1c1c1c1c1c1c1c1c1c1c1c1c1c1c1c1c1c1c1c1c1c1c1c1c1c1c1c1c1c1c1";
+    let digits = format!(in rt.alloc(); "{first:02x}{second:02x}{codes}")?;
+    let words = ["subttx", "packet", digits.as_str()];
+    assert_prints_of(rt, &words, &[], &[], want.as_bytes());
     Ok(())
 }
 
 #[test]
 fn shows_each_packet_number(rt: HostRuntime) -> Result<(), Fail> {
-    for y in 1..32u8 {
-        let magazine = y % 8;
-        let number = magazine + 8 * y;
-        let (first, second) = (ham(number % 16), ham(number / 16));
-        let shown = if magazine == 0 { 8 } else { magazine };
-        let text = if y <= 24 {
-            "text |AAAAAAAAAAAAAAAAAAAAAAAAAAAAAAAAAAAAAAAA|\n"
-        } else {
-            ""
-        };
-        let want = format!(in rt.alloc(); "magazine {shown} packet {y}\n{text}")?;
-        let codes =
-            "c1c1c1c1c1c1c1c1c1c1c1c1c1c1c1c1c1c1c1c1c1c1c1c1c1c1c1c1c1c1c1c1c1c1c1c1c1c1c1c1";
-        let digits = format!(in rt.alloc(); "{first:02x}{second:02x}{codes}")?;
-        let words = ["subttx", "packet", digits.as_str()];
-        assert_tells(&rt, &words, &[], &[], want.as_str());
+    for number in 1..32u8 {
+        assert_shows_number(&rt, number, number % 8)?;
     }
     Ok(())
 }

@@ -1,6 +1,8 @@
 //! `packets`: what is printed of PES files.
-use crate::answers::assert_prints;
+use crate::answers::{assert_prints, assert_prints_of};
 use fixtures::{FIRST, schedule_of_hi};
+use std::alloc::Global;
+use std::process::Abort;
 use sub_io::{FailAt, MemSource};
 
 const PACKETS: [&str; 3] = ["subttx", "packets", "a"];
@@ -20,49 +22,38 @@ const LINES: &[u8] = b"pes 0 pts 3240000000\n\
     unit 1 id 03 field 1 line 8 1515eaeaea2fea5e1515\
     2020202020202020202020202020202020202020202020202020202020202020\n";
 
-#[test]
-fn lists_the_whole_pes_packets_of_a_cut_file(rt: HostRuntime) {
+// Asserts the lines and the last line for each length of the file from one on, up to another.
+fn assert_lists(
+    rt: &(impl Abort + Alloc<A = Global>),
+    lengths: (usize, usize),
+    lines: &[u8],
+    last: &[u8],
+) {
     let pes = schedule_of_hi();
-    let (first, _) = LINES.split_at(360);
-    // the first length and the one after the last, the lines before the last, the last
-    let cuts: [(usize, usize, &[u8], &[u8]); 5] = [
-        (0, 1, b"", b"0 pes\n"),
-        (1, 184, b"", b"refused 30 Truncated pes 0\n"),
-        (184, 185, first, b"1 pes\n"),
-        (185, 368, first, b"refused 30 Truncated pes 1\n"),
-        (368, 369, LINES, b"2 pes\n"),
-    ];
-    for (begin, end, lines, last) in cuts {
-        for len in begin..end {
-            assert!(rt; len <= pes.len());
-            let (mut source, mut none) = (MemSource::new(&pes[..len]), MemSource::new(&[]));
-            assert_prints(&rt, &PACKETS, &mut source, &mut none, lines, last);
-        }
+    for len in lengths.0..lengths.1 {
+        assert!(rt; len <= 368);
+        assert_prints_of(rt, &PACKETS, &pes[..len], lines, last);
     }
 }
 
 #[test]
+fn lists_the_whole_pes_packets_of_a_cut_file(rt: HostRuntime) {
+    let (first, _) = LINES.split_at(360);
+    assert_lists(&rt, (0, 1), b"", b"0 pes\n");
+    assert_lists(&rt, (1, 184), b"", b"refused 30 Truncated pes 0\n");
+    assert_lists(&rt, (184, 185), first, b"1 pes\n");
+    assert_lists(&rt, (185, 368), first, b"refused 30 Truncated pes 1\n");
+    assert_lists(&rt, (368, 369), LINES, b"2 pes\n");
+}
+
+#[test]
 fn tells_a_fault_after_the_lines_before_it(rt: HostRuntime) {
-    let mut none = MemSource::new(&[]);
-    let mut riff = MemSource::new(b"RIFF....");
-    assert_prints(
-        &rt,
-        &PACKETS,
-        &mut riff,
-        &mut none,
-        &[],
-        b"refused 31 Start pes 0\n",
-    );
+    let start = b"refused 31 Start pes 0\n";
+    assert_prints_of(&rt, &PACKETS, b"RIFF....", &[], start);
     // The first call gives the first PES packet.
     let mut pes = FailAt::new(MemSource::new(&FIRST), 1);
-    let (first, _) = LINES.split_at(360);
     let mut none = MemSource::new(&[]);
-    assert_prints(
-        &rt,
-        &PACKETS,
-        &mut pes,
-        &mut none,
-        first,
-        b"fault 41 Read pes 1\n",
-    );
+    let (first, _) = LINES.split_at(360);
+    let read = b"fault 41 Read pes 1\n";
+    assert_prints(&rt, &PACKETS, &mut pes, &mut none, first, read);
 }

@@ -45,10 +45,17 @@ fn reads_on_after_a_subtitle_that_is_refused(rt: HostRuntime) -> Result<(), Fail
         [
             block(&changed(TEN, TEN + 50, [[3, 0xFF], [4, 1]]), &HI), // CS
             block(&changed(TEN + 50, TEN + 100, [[14, 4], [13, 0]]), &HI), // JC, VP
-            block(&head(TEN + 100, TEN + 150, 22), &[0x63, 0x61, 0x66, 0xC2, 0x65]),
+            block(
+                &head(TEN + 100, TEN + 150, 22),
+                &[0x63, 0x61, 0x66, 0xC2, 0x65],
+            ),
         ],
         [open, last, good],
-        [open, block(&changed(TEN, TEN, [[1, 2], [3, 0xFF]]), &HI), good], // SN
+        [
+            open,
+            block(&changed(TEN, TEN, [[1, 2], [3, 0xFF]]), &HI),
+            good,
+        ], // SN
         [
             good,
             block(&changed(TEN + 25, TEN + 75, [[8, 25], [3, 0xFF]]), &HI), // frames of TCI

@@ -8,11 +8,32 @@ use std::process::Abort;
 use std::test::Fail;
 use stl_rows::National;
 use sub_plan::Options;
-use sub_request::{FileNames, Flip, ReceiverKind, Request};
+use sub_request::{FileNames, Flip, Listening, ReceiverKind, Request};
 use sub_words::ParseWords;
 
-// Asserts that a request is the schedule of files a and b with these options.
-fn assert_schedules(
+#[test]
+fn reads_the_words_of_files(rt: HostRuntime) {
+    match Request::parse(rt.alloc(), &NORMAL) {
+        Ok(Request::Normal { input, output }) => assert!(rt; input == "a" && output == "b"),
+        _ => panic!(rt; "no normal form"),
+    }
+}
+
+// Asserts that words ask for the schedule of files a and b with these options.
+fn assert_schedules<'a>(
+    rt: &(impl Abort + Alloc<A = Global>),
+    words: &'a [&'a str],
+    want: &Options,
+    is_serial: bool,
+    option: National,
+) {
+    match Request::parse(rt.alloc(), words) {
+        Ok(request) => assert_is_schedule(rt, &request, want, is_serial, option),
+        Err(_) => panic!(rt; "no request"),
+    }
+}
+
+fn assert_is_schedule(
     rt: &impl Abort,
     request: &Request<'_>,
     want: &Options,
@@ -27,47 +48,41 @@ fn assert_schedules(
             serial,
             national,
         } => {
-            assert_same(rt, &(*stl, *pes), &("a", "b"));
-            assert_same(rt, options, want);
-            assert_same(rt, serial, &is_serial);
-            assert!(rt; *national == option);
+            assert!(rt; *stl == "a" && *pes == "b" && *options == *want);
+            assert!(rt; *serial == is_serial && *national == option);
         }
         _ => panic!(rt; "no schedule"),
     }
 }
 
-#[test]
-fn reads_the_words_of_files(rt: HostRuntime) -> Result<(), Fail> {
-    let Ok(Request::Normal { input, output }) = Request::parse(rt.alloc(), &NORMAL) else {
-        return Err("normal".into());
-    };
-    assert_same(&rt, &(input, output), &("a", "b"));
-    Ok(())
-}
-
+#[rattlefmt::skip]
 #[test]
 fn reads_the_words_of_a_schedule(rt: HostRuntime) -> Result<(), Fail> {
-    let alloc = rt.alloc();
-    let defaults: &[&str] = &SCHEDULE;
-    let given: &[&str] = &[
+    let defaults = options("888", 250, 0)?;
+    assert_schedules(&rt, &SCHEDULE, &defaults, false, National::English);
+    let words = [
         "subttx", "schedule", "a", "b", "--serial", "--page", "100", "--every", "25", "--origin",
         "1", "--option", "german",
     ];
-    // words, options, serial mode, national option
-    for (words, options, serial, national) in [
-        (defaults, options("888", 250, 0)?, false, National::English),
-        (given, options("100", 25, 1)?, true, National::German),
-    ] {
-        match Request::parse(alloc, words) {
-            Ok(request) => assert_schedules(&rt, &request, &options, serial, national),
-            Err(_) => return Err("a request".into()),
-        }
-    }
+    let given = options("100", 25, 1)?;
+    assert_schedules(&rt, &words, &given, true, National::German);
     Ok(())
 }
 
-// Asserts that a request is a check of files a and b with these flags.
-fn assert_checks(rt: &impl Abort, request: &Request<'_>, is_complete: bool, is_all: bool) {
+// Asserts that words ask for a check of files a and b with these flags.
+fn assert_checks<'a>(
+    rt: &(impl Abort + Alloc<A = Global>),
+    words: &'a [&'a str],
+    is_complete: bool,
+    is_all: bool,
+) {
+    match Request::parse(rt.alloc(), words) {
+        Ok(request) => assert_is_check(rt, &request, is_complete, is_all),
+        Err(_) => panic!(rt; "no request"),
+    }
+}
+
+fn assert_is_check(rt: &impl Abort, request: &Request<'_>, is_complete: bool, is_all: bool) {
     match request {
         Request::Check {
             stl,
@@ -76,34 +91,25 @@ fn assert_checks(rt: &impl Abort, request: &Request<'_>, is_complete: bool, is_a
             all,
             ..
         } => {
-            assert_same(rt, &(*stl, *pes), &("a", "b"));
-            assert_same(rt, &options.asks_complete(), &is_complete);
-            assert_same(rt, all, &is_all);
+            assert!(rt; *stl == "a" && *pes == "b");
+            assert!(rt; options.asks_complete() == is_complete && *all == is_all);
         }
         _ => panic!(rt; "no check"),
     }
 }
 
 #[test]
-fn reads_the_flags_of_a_check(rt: HostRuntime) -> Result<(), Fail> {
-    let alloc = rt.alloc();
-    let plain: &[&str] = &["subttx", "check", "a", "b"];
-    let complete: &[&str] = &["subttx", "check", "a", "b", "--complete"];
-    let all: &[&str] = &["subttx", "check", "a", "b", "--all"];
-    let both: &[&str] = &["subttx", "check", "--all", "a", "b", "--complete"];
-    // words, complete pages, every broken place
-    for (words, is_complete, is_all) in [
-        (plain, false, false),
-        (complete, true, false),
-        (all, false, true),
-        (both, true, true),
-    ] {
-        match Request::parse(alloc, words) {
-            Ok(request) => assert_checks(&rt, &request, is_complete, is_all),
-            Err(_) => return Err("a request".into()),
-        }
-    }
-    Ok(())
+fn reads_the_flags_of_a_check(rt: HostRuntime) {
+    assert_checks(&rt, &["subttx", "check", "a", "b"], false, false);
+    assert_checks(
+        &rt,
+        &["subttx", "check", "a", "b", "--complete"],
+        true,
+        false,
+    );
+    assert_checks(&rt, &["subttx", "check", "a", "b", "--all"], false, true);
+    let both = ["subttx", "check", "--all", "a", "b", "--complete"];
+    assert_checks(&rt, &both, true, true);
 }
 
 // Asserts that words ask to listen to file a with this page and PTS of frame 0, up to a frame,
@@ -118,17 +124,25 @@ fn assert_listens<'a>(
     receiver: ReceiverKind,
 ) {
     match Request::parse(rt.alloc(), words) {
-        Ok(Request::Listen { pes, listening }) => {
-            assert_same(rt, &pes, &"a");
-            assert_same(rt, &listening.options.page(), &want.page());
-            assert_same(rt, &listening.options.origin(), &want.origin());
-            assert_same(rt, &(listening.at, listening.skip), &(at, skip));
-            assert!(rt; listening.flips.as_slice() == flips);
-            assert!(rt; listening.lost.as_slice() == lost);
-            assert_same(rt, &listening.receiver, &receiver);
-        }
-        _ => panic!(rt; "no listening"),
+        Ok(request) => match &request {
+            Request::Listen { pes, listening } => {
+                assert!(rt; *pes == "a" && listening.receiver == receiver);
+                assert_asks(rt, listening, want, at, skip);
+                assert!(rt; listening.flips.as_slice() == flips);
+                assert!(rt; listening.lost.as_slice() == lost);
+            }
+            _ => panic!(rt; "no listening"),
+        },
+        Err(_) => panic!(rt; "no request"),
     }
+}
+
+// Asserts what is listened to: the page, the PTS of frame 0, up to which frame, and from which
+// packet on.
+fn assert_asks(rt: &impl Abort, listening: &Listening, want: &Options, at: u32, skip: u64) {
+    assert!(rt; listening.options.page() == want.page());
+    assert!(rt; listening.options.origin() == want.origin());
+    assert!(rt; listening.at == at && listening.skip == skip);
 }
 
 // The flips of `--flip 1:21:1,02:0:8`.
@@ -138,12 +152,25 @@ const FLIPS: [Flip; 2] = [
     Flip { packet: 2, byte: 0, bit: 8 },
 ];
 
+#[test]
+fn reads_the_words_of_a_receiver_by_default(rt: HostRuntime) -> Result<(), Fail> {
+    let words = ["subttx", "listen", "a", "--at", "10:00:00:10"];
+    let defaults = options("888", 250, 0)?;
+    assert_listens(
+        &rt,
+        &words,
+        &defaults,
+        (900_010, 0),
+        &[],
+        &[],
+        ReceiverKind::Blank,
+    );
+    Ok(())
+}
+
 #[rattlefmt::skip]
 #[test]
 fn reads_the_words_of_a_receiver(rt: HostRuntime) -> Result<(), Fail> {
-    let words = ["subttx", "listen", "a", "--at", "10:00:00:10"];
-    let defaults = options("888", 250, 0)?;
-    assert_listens(&rt, &words, &defaults, (900_010, 0), &[], &[], ReceiverKind::Blank);
     let words = [
         "subttx", "listen", "a", "--page", "100", "--origin", "1", "--at", "23:59:59:24",
         "--skip", "07", "--flip", "1:21:1,02:0:8", "--lose", "3,4", "--receiver", "keep",

@@ -1,15 +1,19 @@
 //! `schedule`: what is written and printed of subtitle files, and that `check` accepts it.
-use crate::answers::{ACCEPTED, CHECK, SCHEDULE, assert_tells, schedule_of};
-use crate::asserting::{assert_same, assert_same_in};
+ghost use Rattle.sub_io.specs.Device.{CanFail};
+
+use crate::answers::{ACCEPTED, CHECK, SCHEDULE, answer_words, assert_tells};
+use crate::asserting::assert_same_in;
 use fixtures::{
     HEAD, HI, TEN, TWO_ROWS, block, file_of, file_of_hi, file_of_two, gsi, head, schedule_of_hi,
 };
 use std::alloc::Global;
 use std::process::Abort;
 use std::test::Fail;
+use sub_answer::Status;
+use sub_io::{MemSink, MemSource, Sink};
 
-// Asserts how long the schedule is that is written for these words, and the line; and the line of
-// a check with this repeat bound.
+// Asserts how long the schedule is that is written for these words, the line, and the line of a
+// check with this repeat bound.
 fn assert_schedules<'a>(
     rt: &(impl Abort + Alloc<A = Global>),
     words: &'a [&'a str],
@@ -17,61 +21,94 @@ fn assert_schedules<'a>(
     (len, line): (usize, &str),
     every: &str,
     want: &str,
-) -> Result<(), Fail> {
-    let pes = schedule_of(rt, words, stl, line)?;
-    assert_same_in(rt, &pes.len(), &len, &want);
+) {
+    let mut room = [0; 40_000];
+    let mut file = MemSink::new(&mut room);
+    write_schedule(rt, words, stl, line, &mut file);
+    assert_same_in(rt, &file.written().len(), &len, &want);
     let check = ["subttx", "check", "a", "b", "--every", every];
-    assert_tells(rt, &check, stl, pes.as_slice(), want);
-    Ok(())
+    assert_tells(rt, &check, stl, file.written(), want);
+}
+
+// Writes a schedule into a file, and asserts the line.
+fn write_schedule<'a>(
+    rt: &(impl Abort + Alloc<A = Global>),
+    words: &'a [&'a str],
+    stl: &[u8],
+    line: &str,
+    file: &mut MemSink,
+)
+    requires { CanFail file.old.failure_count }
+{
+    let mut room = [0; 64];
+    let mut out = MemSink::new(&mut room);
+    let (mut stl, mut none) = (MemSource::new(stl), MemSource::new(&[]));
+    let status = answer_words(rt.alloc(), words, &mut stl, &mut none, file, &mut out);
+    assert!(rt;
+        status == Status::Done && out.written() == line.as_bytes(),
+        "{words:?}"
+    );
 }
 
 const WRITTEN: &str = "written 2 transmissions\n";
 
 #[test]
-fn schedules_one_subtitle(rt: HostRuntime) -> Result<(), Fail> {
+fn schedules_one_subtitle(rt: HostRuntime) {
     let hi = file_of_hi();
-    let no_cells = file_of(&block(&HEAD, &[]));
-    let rows = file_of(&block(&head(TEN, TEN + 50, 20), &TWO_ROWS));
-    let text = b"A\x8AA\x8AA\x8AA\x8AA\x8AA\x8AA\x8AA\x8AA\x8AA\x8AA\x8AA\x8A\
-        A\x8AA\x8AA\x8AA\x8AA\x8AA\x8AA\x8AA\x8AA\x8AA\x8AA";
-    let all_rows = file_of(&block(&head(TEN, TEN + 50, 1), text));
-    assert_schedules(&rt, &SCHEDULE, &hi, (368, WRITTEN), "250", ACCEPTED)?;
-    assert_schedules(&rt, &SCHEDULE, &no_cells, (368, WRITTEN), "250", ACCEPTED)?;
-    assert_schedules(&rt, &SCHEDULE, &rows, (552, WRITTEN), "250", ACCEPTED)?;
-    assert_schedules(&rt, &SCHEDULE, &all_rows, (1472, WRITTEN), "250", ACCEPTED)?;
+    assert_schedules(&rt, &SCHEDULE, &hi, (368, WRITTEN), "250", ACCEPTED);
     let words = ["subttx", "schedule", "a", "b", "--every", "25"];
     let three = (552, "written 3 transmissions\n");
-    assert_schedules(
-        &rt,
-        &words,
-        &hi,
-        three,
-        "25",
-        "accepted 51 frames 3 transmissions\n",
-    )?;
+    let accepted = "accepted 51 frames 3 transmissions\n";
+    assert_schedules(&rt, &words, &hi, three, "25", accepted);
     let words = ["subttx", "schedule", "a", "b", "--every", "1", "--serial"];
     let each = (9384, "written 51 transmissions\n");
-    assert_schedules(
-        &rt,
-        &words,
-        &hi,
-        each,
-        "1",
-        "accepted 51 frames 51 transmissions\n",
+    let accepted = "accepted 51 frames 51 transmissions\n";
+    assert_schedules(&rt, &words, &hi, each, "1", accepted);
+}
+
+// Asserts how long the schedule of one subtitle of this row and text is.
+fn assert_schedules_text(rt: &(impl Abort + Alloc<A = Global>), vp: u8, text: &[u8], len: usize) {
+    assert!(rt; text.len() <= 112);
+    let file = file_of(&block(&head(TEN, TEN + 50, vp), text));
+    assert_schedules(rt, &SCHEDULE, &file, (len, WRITTEN), "250", ACCEPTED);
+}
+
+#[test]
+fn schedules_texts_of_no_row_to_all_rows(rt: HostRuntime) {
+    assert_schedules_text(&rt, 22, &[], 368);
+    assert_schedules_text(&rt, 20, &TWO_ROWS, 552);
+    let all = b"A\x8AA\x8AA\x8AA\x8AA\x8AA\x8AA\x8AA\x8AA\x8AA\x8AA\x8AA\x8A\
+        A\x8AA\x8AA\x8AA\x8AA\x8AA\x8AA\x8AA\x8AA\x8AA\x8AA";
+    assert_schedules_text(&rt, 1, all, 1472);
+}
+
+// A file of `Hi` and another subtitle in the two seconds after it.
+fn hi_and(rt: &impl Abort, text: &[u8]) -> [u8; 1280] {
+    assert!(rt; text.len() <= 112);
+    file_of_two(
+        &block(&HEAD, &HI),
+        &block(&head(TEN + 50, TEN + 100, 22), text),
     )
 }
 
 #[test]
-fn schedules_more_subtitles(rt: HostRuntime) -> Result<(), Fail> {
-    let first = block(&HEAD, &HI);
-    let later = head(TEN + 50, TEN + 100, 22);
-    let other = file_of_two(&first, &block(&later, b"Ho"));
+fn schedules_two_subtitles(rt: HostRuntime) {
     let three = (552, "written 3 transmissions\n");
     let accepted = "accepted 101 frames 3 transmissions\n";
-    assert_schedules(&rt, &SCHEDULE, &other, three, "250", accepted)?;
-    let same = file_of_two(&first, &block(&later, &HI));
+    assert_schedules(&rt, &SCHEDULE, &hi_and(&rt, b"Ho"), three, "250", accepted);
     let accepted = "accepted 101 frames 2 transmissions\n";
-    assert_schedules(&rt, &SCHEDULE, &same, (368, WRITTEN), "250", accepted)?;
+    assert_schedules(
+        &rt,
+        &SCHEDULE,
+        &hi_and(&rt, &HI),
+        (368, WRITTEN),
+        "250",
+        accepted,
+    );
+}
+
+#[test]
+fn schedules_2000_subtitles(rt: HostRuntime) -> Result<(), Fail> {
     let mut many = Vec::new(rt.alloc());
     many.extend_from_slice(&gsi())?;
     for i in 0..2000u32 {
@@ -79,56 +116,66 @@ fn schedules_more_subtitles(rt: HostRuntime) -> Result<(), Fail> {
     }
     let written = (201 * 184, "written 201 transmissions\n");
     let accepted = "accepted 50001 frames 201 transmissions\n";
-    assert_schedules(&rt, &SCHEDULE, many.as_slice(), written, "250", accepted)
+    assert_schedules(&rt, &SCHEDULE, many.as_slice(), written, "250", accepted);
+    Ok(())
+}
+
+// Asserts the line of a schedule and of a check of a file of two blocks.
+fn assert_refuses(rt: &(impl Abort + Alloc<A = Global>), file: &[u8; 1280], want: &str) {
+    assert_tells(rt, &SCHEDULE, file, &[], want);
+    assert_tells(rt, &CHECK, file, &[], want);
 }
 
 #[test]
 fn refuses_files(rt: HostRuntime) {
-    let hi = block(&HEAD, &HI);
-    let later = block(&head(TEN + 50, TEN + 100, 22), &HI);
-    let overlap = file_of_two(&block(&head(TEN, TEN + 51, 22), &HI), &later);
-    let before = file_of_two(&hi, &block(&head(TEN - 90_000, TEN + 100, 22), &HI));
-    // The order is told before the text, the text before a later block.
-    let early = block(&head(TEN - 90_000, TEN - 50, 22), &[0x0E]);
-    let control = block(&HEAD, &[0x0E]);
-    let character = block(&HEAD, &[0xC2, 0x65]);
-    let low = block(&head(TEN, TEN + 50, 24), &[0x0E]);
-    let mut cumulative = file_of_two(&hi, &later);
+    let mut cumulative = hi_and(&rt, &HI);
     cumulative[1156] = 1;
-    let mut open = file_of_two(&hi, &later);
+    assert_refuses(&rt, &cumulative, "refused 16 Cumulative block 2\n");
+    let mut open = hi_and(&rt, &HI);
     open[1155] = 0x00; // EBN
-    for (file, want) in [
-        (&overlap, "refused 57 Overlap block 2\n"),
-        (&before, "refused 56 OutOfOrder block 2\n"),
-        (&file_of_two(&hi, &early), "refused 56 OutOfOrder block 2\n"),
-        (
-            &file_of_two(&control, &early),
-            "refused 51 Control block 1 at 0\n",
-        ),
-        (
-            &file_of_two(&character, &hi),
-            "refused 50 Character block 1 at 0\n",
-        ),
-        (&file_of_two(&low, &hi), "refused 19 Row block 1\n"),
-        (&cumulative, "refused 16 Cumulative block 2\n"),
-        (&open, "refused 24 Unfinished block 2\n"),
-    ] {
-        assert_tells(&rt, &SCHEDULE, file, &[], want);
-        assert_tells(&rt, &CHECK, file, &[], want);
-    }
+    assert_refuses(&rt, &open, "refused 24 Unfinished block 2\n");
     assert_tells(&rt, &SCHEDULE, &gsi(), &[], "refused 82 NoSubtitles\n");
 }
 
 #[test]
-fn schedules_by_the_national_option(rt: HostRuntime) -> Result<(), Fail> {
+fn refuses_times(rt: HostRuntime) {
+    let mut overlap = hi_and(&rt, &HI);
+    overlap[1036] = 1; // TCO is 10:00:02:01
+    assert_refuses(&rt, &overlap, "refused 57 Overlap block 2\n");
+    let hi = block(&HEAD, &HI);
+    let before = block(&head(TEN - 90_000, TEN + 100, 22), &HI);
+    let out_of_order = "refused 56 OutOfOrder block 2\n";
+    assert_refuses(&rt, &file_of_two(&hi, &before), out_of_order);
+    // The order is told before the text.
+    let early = block(&head(TEN - 90_000, TEN - 50, 22), &[0x0E]);
+    assert_refuses(&rt, &file_of_two(&hi, &early), out_of_order);
+    // The text is told before a later block.
+    let control = block(&HEAD, &[0x0E]);
+    let refused = "refused 51 Control block 1 at 0\n";
+    assert_refuses(&rt, &file_of_two(&control, &early), refused);
+}
+
+#[test]
+fn refuses_texts(rt: HostRuntime) {
+    let hi = block(&HEAD, &HI);
+    let character = block(&HEAD, &[0xC2, 0x65]);
+    let refused = "refused 50 Character block 1 at 0\n";
+    assert_refuses(&rt, &file_of_two(&character, &hi), refused);
+    let low = block(&head(TEN, TEN + 50, 24), &[0x0E]);
+    assert_refuses(&rt, &file_of_two(&low, &hi), "refused 19 Row block 1\n");
+}
+
+#[test]
+fn schedules_by_the_national_option(rt: HostRuntime) {
     let hi = file_of_hi();
+    let mut room = [0; 400];
+    let mut german = MemSink::new(&mut room);
     let words = ["subttx", "schedule", "a", "b", "--option", "german"];
-    let german = schedule_of(&rt, &words, &hi, WRITTEN)?;
-    assert_same(&rt, &german.len(), &368);
+    write_schedule(&rt, &words, &hi, WRITTEN, &mut german);
+    assert_same_in(&rt, &german.written().len(), &368, &"german");
     let words = ["subttx", "check", "a", "b", "--option", "german"];
     let refused = "refused 67 Control frame 10:00:00:00 packet 0\n";
-    assert_tells(&rt, &words, &hi, german.as_slice(), ACCEPTED);
-    assert_tells(&rt, &CHECK, &hi, german.as_slice(), refused);
+    assert_tells(&rt, &words, &hi, german.written(), ACCEPTED);
+    assert_tells(&rt, &CHECK, &hi, german.written(), refused);
     assert_tells(&rt, &words, &hi, &schedule_of_hi(), refused);
-    Ok(())
 }

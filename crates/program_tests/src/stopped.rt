@@ -6,61 +6,67 @@ use crate::every_fault::OF_FIVE;
 use fixtures::{Counting, Drip, Endless, FIRST, file_of_five, file_of_hi, schedule_of_hi};
 use std::alloc::Global;
 use std::process::Abort;
-use std::test::Fail;
 use sub_answer::Status;
 use sub_io::{FailAt, MemSink, MemSource, Sink};
 
 // The words of a check of another page than the one that is sent.
 const PAGE_100: [&str; 7] = ["subttx", "check", "--all", "a", "b", "--page", "100"];
 
-// What is told of the schedule of `Hi` then: at its first PES packet, and at its second.
-const AT_FIRST: &str = "refused 71 NoFirstHeader frame 10:00:00:00\n\
+// What is told of the schedule of `Hi` then: at its first PES packet, at its second, and last.
+const AT_FIRST: &[u8] = b"refused 71 NoFirstHeader frame 10:00:00:00\n\
     refused 72 Content frame 10:00:00:00 row 22 column 16\n";
 
-const AT_SECOND: &str = "ended 72 Content frame 10:00:01:24\n";
+const AT_BOTH: &[u8] = b"refused 71 NoFirstHeader frame 10:00:00:00\n\
+    refused 72 Content frame 10:00:00:00 row 22 column 16\n\
+    ended 72 Content frame 10:00:01:24\n";
+
+const ALL: &[u8] = b"refused 71 NoFirstHeader frame 10:00:00:00\n\
+    refused 72 Content frame 10:00:00:00 row 22 column 16\n\
+    ended 72 Content frame 10:00:01:24\n\
+    2 faults\n";
+
+// All that is told of five subtitles.
+const ALL_OF_FIVE: &[u8] = b"refused 57 Overlap block 2\n\
+    refused 50 Character block 2 at 3\n\
+    refused 50 Character block 3 at 3\n\
+    refused 56 OutOfOrder block 5\n\
+    4 faults\n";
 
 #[test]
-fn fills_an_output_that_has_less_room(rt: HostRuntime) -> Result<(), Fail> {
+fn fills_an_output_that_has_less_room(rt: HostRuntime) {
     let (stl, pes) = (file_of_hi(), schedule_of_hi());
-    let lines = format!(in rt.alloc(); "{AT_FIRST}{AT_SECOND}2 faults\n")?;
-    assert_fills(&rt, &PAGE_100, (&stl, &pes), &[], lines.as_bytes());
-    let accepted = ACCEPTED.as_bytes();
-    assert_fills(&rt, &CHECK_ALL, (&stl, &pes), &[], accepted);
-    let stl = file_of_five(rt.alloc())?;
-    let lines = format!(in rt.alloc(); "{OF_FIVE}4 faults\n")?;
-    let read = (stl.as_slice(), &pes[..]);
-    assert_fills(&rt, &CHECK_ALL, read, &[], lines.as_bytes());
-    Ok(())
+    assert_fills(&rt, &PAGE_100, (&stl, &pes), &[], ALL);
+    assert_fills(&rt, &CHECK_ALL, (&stl, &pes), &[], ACCEPTED.as_bytes());
+    assert_fills(&rt, &CHECK_ALL, (&file_of_five(), &pes), &[], ALL_OF_FIVE);
 }
 
-// Asserts that an output that fails at a call has the lines before, and that it is left alone then.
-// Gives how often the sources were asked.
-fn assert_stops(rt: &(impl Abort + Alloc<A = Global>), call: u64, lines: &[u8]) -> (u64, u64) {
+// Asserts that an output that fails at a call, of which each is a line, has the lines before, and
+// that it is left alone then; and how often the PES source was asked: it gives a PES packet a call,
+// and last the end.
+fn assert_stops(rt: &(impl Abort + Alloc<A = Global>), call: usize, pulls: u64) {
     let (stl, pes) = (file_of_hi(), schedule_of_hi());
     let inner = MemSource::new(&stl);
     let mut stl = Counting { inner, pulls: 0 };
     let inner = MemSource::new(&pes);
     let mut pes = Counting { inner, pulls: 0 };
     let mut room = [0; 512];
-    let mut out = FailAt::new(MemSink::new(&mut room), call);
+    let mut out = FailAt::new(MemSink::new(&mut room), call as u64);
     let mut file = MemSink::new(&mut []);
     let words = &PAGE_100;
     let status = answer_words(rt.alloc(), words, &mut stl, &mut pes, &mut file, &mut out);
     assert_same_in(rt, &(status, out.failures()), &(Status::Fault, 1), &call);
+    assert_same_in(rt, &(stl.pulls, pes.pulls), &(3, pulls), &call);
+    let lines = first_lines(ALL, call);
     assert!(rt; lines.len() < 512);
     assert!(rt; room.starts_with(lines) && room[lines.len()] == 0, "{call}");
-    (stl.pulls, pes.pulls)
 }
 
 #[test]
-fn reads_no_more_once_an_output_failed(rt: HostRuntime) -> Result<(), Fail> {
-    let lines = format!(in rt.alloc(); "{AT_FIRST}{AT_SECOND}2 faults\n")?;
-    // A line is one call. Each call gives a PES packet, and the last one the end.
-    for (call, pulls) in [(0, 1), (1, 1), (2, 2), (3, 3)] {
-        let before = first_lines(lines.as_bytes(), call);
-        assert_same(&rt, &assert_stops(&rt, call as u64, before), &(3, pulls));
-    }
-    Ok(())
+fn reads_no_more_once_an_output_failed(rt: HostRuntime) {
+    assert_stops(&rt, 0, 1);
+    assert_stops(&rt, 1, 1);
+    assert_stops(&rt, 2, 2);
+    assert_stops(&rt, 3, 3);
 }
 
 #[test]
@@ -76,9 +82,8 @@ fn ends_on_a_source_without_end_where_the_output_is_full(rt: HostRuntime) {
     let (mut stl, mut file) = (MemSource::new(&stl), MemSink::new(&mut []));
     let words = &CHECK_ALL;
     let status = answer_words(rt.alloc(), words, &mut stl, &mut pes, &mut file, &mut out);
-    assert_same(&rt, &status, &Status::Fault);
     let lines = b"refused 62 Order pes 1\nrefused 62 Order pes 2\nrefused 62 Order p";
-    assert!(rt; out.written() == lines.as_slice());
+    assert!(rt; status == Status::Fault && out.written() == lines.as_slice());
     assert_same(&rt, &pes.pulls, &4);
 }
 
@@ -86,92 +91,60 @@ fn ends_on_a_source_without_end_where_the_output_is_full(rt: HostRuntime) {
 // of those that there are.
 fn assert_fails(
     rt: &(impl Abort + Alloc<A = Global>),
-    (begin, end): (u64, u64),
-    lines: &str,
-    last: &str,
+    calls: (u64, u64),
+    lines: &[u8],
+    last: &[u8],
 ) {
     let (stl, pes) = (file_of_hi(), schedule_of_hi());
-    for call in begin..end {
+    for call in calls.0..calls.1 {
         let mut stl = MemSource::new(&stl);
         let mut pes = FailAt::new(Drip { rest: &pes }, call);
-        assert_prints(
-            rt,
-            &PAGE_100,
-            &mut stl,
-            &mut pes,
-            lines.as_bytes(),
-            last.as_bytes(),
-        );
+        assert_prints(rt, &PAGE_100, &mut stl, &mut pes, lines, last);
     }
 }
 
 #[test]
-fn tells_what_was_found_before_a_pes_source_failed(rt: HostRuntime) -> Result<(), Fail> {
+fn tells_what_was_found_before_a_pes_source_failed(rt: HostRuntime) {
     // 368 pulls give a byte each, and one the end.
-    let both = format!(in rt.alloc(); "{AT_FIRST}{AT_SECOND}")?;
-    assert_fails(&rt, (0, 184), "", "fault 41 Read pes 0\n");
-    assert_fails(&rt, (184, 368), AT_FIRST, "fault 41 Read pes 1\n");
-    assert_fails(&rt, (368, 369), both.as_str(), "fault 41 Read pes 2\n");
-    assert_fails(&rt, (369, 370), both.as_str(), "2 faults\n");
-    Ok(())
+    assert_fails(&rt, (0, 184), b"", b"fault 41 Read pes 0\n");
+    assert_fails(&rt, (184, 368), AT_FIRST, b"fault 41 Read pes 1\n");
+    assert_fails(&rt, (368, 369), AT_BOTH, b"fault 41 Read pes 2\n");
+    assert_fails(&rt, (369, 370), AT_BOTH, b"2 faults\n");
 }
 
-// How it is told that the source of five subtitles failed: at the GSI block, at each block, and at
-// the end.
-const BLOCKS: [&[u8]; 7] = [
-    b"fault 26 Read block 0\n",
-    b"fault 26 Read block 1\n",
-    b"fault 26 Read block 2\n",
-    b"fault 26 Read block 3\n",
-    b"fault 26 Read block 4\n",
-    b"fault 26 Read block 5\n",
-    b"fault 26 Read block 6\n",
-];
+// Asserts how it is told that the source of five subtitles failed at a call, after so many lines.
+// A call gives the GSI block, or a block, and the last one the end.
+fn assert_fails_at(rt: &(impl Abort + Alloc<A = Global>), call: u64, count: usize, line: &[u8]) {
+    let (stl, pes) = (file_of_five(), schedule_of_hi());
+    let mut source = FailAt::new(MemSource::new(&stl), call);
+    let inner = MemSource::new(&pes);
+    let mut pes = Counting { inner, pulls: 0 };
+    let lines = first_lines(OF_FIVE.as_bytes(), count);
+    assert_prints(rt, &CHECK_ALL, &mut source, &mut pes, lines, line);
+    assert_same_in(rt, &pes.pulls, &0, &call);
+}
 
 #[test]
-fn tells_what_was_found_before_a_subtitle_source_failed(rt: HostRuntime) -> Result<(), Fail> {
-    let stl = file_of_five(rt.alloc())?;
-    let pes = schedule_of_hi();
-    // how many lines come before
-    let counts = [0, 0, 0, 2, 3, 3, 4];
-    for (call, (line, count)) in BLOCKS.iter().zip(counts.iter()).enumerate() {
-        let mut source = FailAt::new(MemSource::new(stl.as_slice()), call as u64);
-        let inner = MemSource::new(&pes);
-        let mut pes = Counting { inner, pulls: 0 };
-        let lines = first_lines(OF_FIVE.as_bytes(), *count);
-        assert_prints(&rt, &CHECK_ALL, &mut source, &mut pes, lines, line);
-        assert_same_in(&rt, &pes.pulls, &0, &call);
-    }
-    Ok(())
+fn tells_what_was_found_before_a_subtitle_source_failed(rt: HostRuntime) {
+    assert_fails_at(&rt, 0, 0, b"fault 26 Read block 0\n");
+    assert_fails_at(&rt, 1, 0, b"fault 26 Read block 1\n");
+    assert_fails_at(&rt, 2, 0, b"fault 26 Read block 2\n");
+    assert_fails_at(&rt, 3, 2, b"fault 26 Read block 3\n");
+    assert_fails_at(&rt, 4, 3, b"fault 26 Read block 4\n");
+    assert_fails_at(&rt, 5, 3, b"fault 26 Read block 5\n");
+    assert_fails_at(&rt, 6, 4, b"fault 26 Read block 6\n");
 }
 
 #[test]
 fn ends_on_sources_that_do_not(rt: HostRuntime) {
     let (stl, pes) = (file_of_hi(), schedule_of_hi());
-    let mut endless = Endless {
-        rest: &[],
-        again: &[0; 64],
-    };
-    let lines = b"refused 11 Format block 0\n1 faults\n";
-    assert_prints(
-        &rt,
-        &CHECK_ALL,
-        &mut endless,
-        &mut MemSource::new(&pes),
-        &[],
-        lines,
-    );
-    let mut endless = Endless {
-        rest: &[],
-        again: &[0; 64],
-    };
-    let lines = b"refused 31 Start pes 0\n1 faults\n";
-    assert_prints(
-        &rt,
-        &CHECK_ALL,
-        &mut MemSource::new(&stl),
-        &mut endless,
-        &[],
-        lines,
-    );
+    let (rest, again) = (&[][..], &[0; 64][..]);
+    let mut endless = Endless { rest, again };
+    let mut pes = MemSource::new(&pes);
+    let format = b"refused 11 Format block 0\n1 faults\n";
+    assert_prints(&rt, &CHECK_ALL, &mut endless, &mut pes, &[], format);
+    let mut endless = Endless { rest, again };
+    let mut stl = MemSource::new(&stl);
+    let start = b"refused 31 Start pes 0\n1 faults\n";
+    assert_prints(&rt, &CHECK_ALL, &mut stl, &mut endless, &[], start);
 }

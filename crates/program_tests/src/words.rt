@@ -1,6 +1,5 @@
 //! Words that are refused before anything is read.
 use crate::answers::{assert_fills, assert_tells};
-use crate::asserting::assert_same_in;
 use std::alloc::Global;
 use std::process::Abort;
 use sub_request::Request;
@@ -13,64 +12,62 @@ fn assert_refuses<'a>(rt: &(impl Abort + Alloc<A = Global>), words: &'a [&'a str
 
 #[test]
 fn prints_the_line_of_refused_words_into_any_output(rt: HostRuntime) {
-    assert_fills(&rt, &["subttx"], (&[], &[]), &[], b"usage 0 Words\n");
+    let none: (&[u8], &[u8]) = (&[], &[]);
+    assert_fills(&rt, &["subttx"], none, &[], b"usage 0 Words\n");
     assert_fills(
         &rt,
         &["subttx", "packet", "15"],
-        (&[], &[]),
+        none,
         &[],
         b"usage 2 BadHex\n",
     );
-    assert_fills(
-        &rt,
-        &["subttx", "normal", "a", "a"],
-        (&[], &[]),
-        &[],
-        b"usage 7 SameFile\n",
-    );
+    let same = ["subttx", "normal", "a", "a"];
+    assert_fills(&rt, &same, none, &[], b"usage 7 SameFile\n");
 }
 
+// Words that are no command.
 #[rattlefmt::skip]
+const NO_WORDS: [&[&str]; 33] = [
+    &["subttx"],
+    &["subttx", "--help"],
+    &["subttx", "-h"],
+    &["subttx", "help"],
+    &["subttx", "help", "packet"],
+    &["subttx", "--version"],
+    &["subttx", "-V"],
+    &["subttx", "packet"],
+    &["subttx", "packet", "--help"],
+    &["subttx", "packet", "15", "15"],
+    &["subttx", "packet", "--hex", "15"],
+    &["subttx", "Packet", "15"],
+    &["subttx", "check", "a.stl"],
+    &["subttx", "check", "a.stl", "b.pes", "c.pes"],
+    &["subttx", "check", "a.stl", "b.pes", "--serial"],
+    &["subttx", "check", "a.stl", "b.pes", "--page"],
+    &["subttx", "check", "a.stl", "b.pes", "--pages", "888"],
+    &["subttx", "schedule", "a.stl", "b.pes", "--serial=true"],
+    &["subttx", "normal", "a.stl"],
+    &["subttx", "normal", "a.stl", "b.stl", "--page", "888"],
+    &["subttx", "listen", "b.pes"], // `--at` has no default
+    &["subttx", "listen", "--at", "10:00:00:10"],
+    &["subttx", "listen", "b.pes", "--at", "10:00:00:10", "--every", "25"],
+    &["subttx", "--page", "888", "check", "a.stl", "b.pes"],
+    // a flag takes no text, stands once, and is one of some commands
+    &["subttx", "check", "a", "b", "--complete=yes"],
+    &["subttx", "check", "a", "b", "--complete", "--complete"],
+    &["subttx", "listen", "a", "--at", "10:00:00:10", "--complete=yes"],
+    &["subttx", "schedule", "a", "b", "--complete"],
+    &["subttx", "packets", "a", "--complete"],
+    &["subttx", "check", "a", "b", "--all=yes"],
+    &["subttx", "check", "a", "b", "--all", "--all"],
+    &["subttx", "schedule", "a", "b", "--all"],
+    &["subttx", "listen", "a", "--at", "10:00:00:10", "--all"],
+];
+
 #[test]
 fn refuses_words_that_are_no_command(rt: HostRuntime) {
-    let no_words: [&[&str]; 33] = [
-        &["subttx"],
-        &["subttx", "--help"],
-        &["subttx", "-h"],
-        &["subttx", "help"],
-        &["subttx", "help", "packet"],
-        &["subttx", "--version"],
-        &["subttx", "-V"],
-        &["subttx", "packet"],
-        &["subttx", "packet", "--help"],
-        &["subttx", "packet", "15", "15"],
-        &["subttx", "packet", "--hex", "15"],
-        &["subttx", "Packet", "15"],
-        &["subttx", "check", "a.stl"],
-        &["subttx", "check", "a.stl", "b.pes", "c.pes"],
-        &["subttx", "check", "a.stl", "b.pes", "--serial"],
-        &["subttx", "check", "a.stl", "b.pes", "--page"],
-        &["subttx", "check", "a.stl", "b.pes", "--pages", "888"],
-        &["subttx", "schedule", "a.stl", "b.pes", "--serial=true"],
-        &["subttx", "normal", "a.stl"],
-        &["subttx", "normal", "a.stl", "b.stl", "--page", "888"],
-        &["subttx", "listen", "b.pes"], // `--at` has no default
-        &["subttx", "listen", "--at", "10:00:00:10"],
-        &["subttx", "listen", "b.pes", "--at", "10:00:00:10", "--every", "25"],
-        &["subttx", "--page", "888", "check", "a.stl", "b.pes"],
-        // a flag takes no text, stands once, and is one of some commands
-        &["subttx", "check", "a", "b", "--complete=yes"],
-        &["subttx", "check", "a", "b", "--complete", "--complete"],
-        &["subttx", "listen", "a", "--at", "10:00:00:10", "--complete=yes"],
-        &["subttx", "schedule", "a", "b", "--complete"],
-        &["subttx", "packets", "a", "--complete"],
-        &["subttx", "check", "a", "b", "--all=yes"],
-        &["subttx", "check", "a", "b", "--all", "--all"],
-        &["subttx", "schedule", "a", "b", "--all"],
-        &["subttx", "listen", "a", "--at", "10:00:00:10", "--all"],
-    ];
-    for words in no_words {
-        assert_refuses(&rt, words, "usage 0 Words\n");
+    for words in &NO_WORDS {
+        assert_refuses(&rt, *words, "usage 0 Words\n");
     }
 }
 
@@ -188,34 +185,43 @@ fn tells_the_first_fault_of_a_receiver(rt: HostRuntime) {
     }
 }
 
+// Asserts that words ask for a check of the files `-a` and `-`.
+fn assert_checks_dashes<'a>(rt: &(impl Abort + Alloc<A = Global>), words: &'a [&'a str]) {
+    match Request::parse(rt.alloc(), words) {
+        Ok(Request::Check { stl, pes, .. }) => assert!(rt; stl == "-a" && pes == "-", "{words:?}"),
+        _ => panic!(rt; "{words:?} is no check"),
+    }
+}
+
 // What `clap` makes of words that begin with a dash, and of options that are repeated.
 #[rattlefmt::skip]
 #[test]
-fn reads_dashes_as_clap_does(rt: HostRuntime) {
-    let refused: [&[&str]; 6] = [
-        &["subttx", "check", "-a", "b"],
-        &["subttx", "check", "a", "b", "--every", "-1"],
-        &["subttx", "check", "a", "b", "--page", "888", "--page", "888"],
-        &["subttx", "check", "a", "b", "--", "--page", "888"],
-        &["subttx", "schedule", "a", "b", "--serial", "--serial"],
-        &["subttx", "--", "check", "a", "b"],
-    ];
-    for words in refused {
-        assert_refuses(&rt, words, "usage 0 Words\n");
-    }
+fn refuses_dashes_as_clap_does(rt: HostRuntime) {
+    let no_words = "usage 0 Words\n";
+    assert_refuses(&rt, &["subttx", "check", "-a", "b"], no_words);
+    assert_refuses(&rt, &["subttx", "check", "a", "b", "--every", "-1"], no_words);
+    assert_refuses(&rt, &["subttx", "check", "a", "b", "--", "--page", "888"], no_words);
+    assert_refuses(&rt, &["subttx", "--", "check", "a", "b"], no_words);
+    let twice = ["subttx", "check", "a", "b", "--page", "888", "--page", "888"];
+    assert_refuses(&rt, &twice, no_words);
+    let twice = ["subttx", "schedule", "a", "b", "--serial", "--serial"];
+    assert_refuses(&rt, &twice, no_words);
     assert_refuses(&rt, &["subttx", "check", "a", "b", "--every=-1"], "usage 80 Every\n");
-    let taken: [&[&str]; 4] = [
-        &["subttx", "check", "--", "-a", "-"],
-        &["subttx", "check", "--page", "888", "--", "-a", "-"],
-        &["subttx", "check", "--page=888", "--", "-a", "-"],
-        &["subttx", "check", "--every=250", "--option=english", "--", "-a", "-"],
+}
+
+#[test]
+fn takes_files_after_two_dashes(rt: HostRuntime) {
+    assert_checks_dashes(&rt, &["subttx", "check", "--", "-a", "-"]);
+    assert_checks_dashes(&rt, &["subttx", "check", "--page", "888", "--", "-a", "-"]);
+    assert_checks_dashes(&rt, &["subttx", "check", "--page=888", "--", "-a", "-"]);
+    let options = [
+        "subttx",
+        "check",
+        "--every=250",
+        "--option=english",
+        "--",
+        "-a",
+        "-",
     ];
-    for words in taken {
-        match Request::parse(rt.alloc(), words) {
-            Ok(Request::Check { stl, pes, .. }) => {
-                assert_same_in(&rt, &(stl, pes), &("-a", "-"), &words);
-            }
-            _ => panic!(rt; "{words:?} is no check"),
-        }
-    }
+    assert_checks_dashes(&rt, &options);
 }

@@ -1,9 +1,7 @@
 //! `normal` and `schedule`: what is written where a device fails, and all of it where none does.
-ghost use Rattle.std.specs.Prelude.{◌<◌};
 ghost use Rattle.sub_io.specs.Device.{CanFail};
 
 use crate::answers::{SCHEDULE, answer_words, assert_fills};
-use crate::asserting::{assert_same, assert_same_in};
 use crate::normal::{NORMAL, commented, normal_form};
 use fixtures::{Watched, file_of_hi, schedule_of_hi};
 use std::alloc::Global;
@@ -11,20 +9,11 @@ use std::process::Abort;
 use sub_answer::Status;
 use sub_io::{FailAt, Flush, MemSink, MemSource, Sink};
 
-// Words that write a file: what is read, what is written of it, and the lines.
-#[derive(Clone, Copy)]
-struct Writing<'a> {
-    words: &'a [&'a str],
-    input: &'a [u8],
-    written: &'a [u8],
-    line: &'a [u8],
-    fault: &'a [u8],
-}
-
 // Asserts the line that is printed where a file is written, and the status.
-fn assert_writes<F: Flush>(
+fn assert_writes<'a, F: Flush>(
     rt: &(impl Abort + Alloc<A = Global>),
-    writing: Writing<'_>,
+    words: &'a [&'a str],
+    input: &[u8],
     file: &mut F,
     line: &[u8],
     want: Status,
@@ -33,71 +22,94 @@ fn assert_writes<F: Flush>(
 {
     let mut room = [0; 64];
     let mut out = MemSink::new(&mut room);
-    let (mut input, mut none) = (MemSource::new(writing.input), MemSource::new(&[]));
-    let status = answer_words(
-        rt.alloc(),
-        writing.words,
-        &mut input,
-        &mut none,
-        file,
-        &mut out,
-    );
-    assert_same(rt, &status, &want);
-    assert!(rt; out.written() == line);
+    let (mut input, mut none) = (MemSource::new(input), MemSource::new(&[]));
+    let status = answer_words(rt.alloc(), words, &mut input, &mut none, file, &mut out);
+    assert!(rt; status == want && out.written() == line, "{words:?}");
 }
 
-// Asserts that a file is whole; that one with less room gets the first of it; and that one is left
-// alone after a call that fails, of the three that there are.
-fn assert_devices(rt: &(impl Abort + Alloc<A = Global>), writing: Writing<'_>) {
-    for len in 0..writing.written.len() {
-        let mut room = [0; 1280];
-        assert!(rt; len <= room.len());
-        let mut file = Watched::new(MemSink::new(&mut room[..len]));
-        assert_writes(rt, writing, &mut file, writing.fault, Status::Fault);
-        assert!(rt;
-            file.inner.written() == &writing.written[..len],
-            "{len} bytes"
-        );
-        assert_same_in(rt, &file.late_calls, &0, &len);
-    }
-    for call in 0..3 {
-        let mut room = [0; 1280];
-        let mut file = Watched::new(FailAt::new(MemSink::new(&mut room), call));
-        assert_writes(rt, writing, &mut file, writing.fault, Status::Fault);
-        assert_same_in(rt, &file.late_calls, &0, &call);
-    }
+// Asserts that a file with less room gets the first of what is written, and is left alone after the
+// call that fails.
+fn assert_cuts<'a>(
+    rt: &(impl Abort + Alloc<A = Global>),
+    words: &'a [&'a str],
+    input: &[u8],
+    written: &[u8],
+    fault: &[u8],
+) {
+    let mut room = [0; 1280];
+    assert!(rt; written.len() <= room.len());
+    let mut file = Watched::new(MemSink::new(&mut room[..written.len()]));
+    assert_writes(rt, words, input, &mut file, fault, Status::Fault);
+    assert!(rt;
+        file.inner.written() == written && file.late_calls == 0,
+        "{words:?}"
+    );
+}
+
+// Asserts that a file is left alone after the call of this number, which fails.
+fn assert_stops<'a>(
+    rt: &(impl Abort + Alloc<A = Global>),
+    words: &'a [&'a str],
+    input: &[u8],
+    call: u64,
+    fault: &[u8],
+) {
+    let mut room = [0; 1280];
+    let mut file = Watched::new(FailAt::new(MemSink::new(&mut room), call));
+    assert_writes(rt, words, input, &mut file, fault, Status::Fault);
+    assert!(rt; file.late_calls == 0, "{words:?}, call {call}");
+}
+
+// Asserts that a file is whole, and what is printed, also into an output that has less room.
+fn assert_writes_whole<'a>(
+    rt: &(impl Abort + Alloc<A = Global>),
+    words: &'a [&'a str],
+    input: &[u8],
+    written: &[u8],
+    line: &[u8],
+) {
     let mut room = [0; 1280];
     let mut file = MemSink::new(&mut room);
-    assert_writes(rt, writing, &mut file, writing.line, Status::Done);
-    assert!(rt; file.written() == writing.written);
-    let read = (writing.input, &[][..]);
-    assert_fills(rt, writing.words, read, writing.written, writing.line);
+    assert_writes(rt, words, input, &mut file, line, Status::Done);
+    assert!(rt; file.written() == written, "{words:?}");
+    assert_fills(rt, words, (input, &[]), written, line);
+}
+
+// Asserts all that of each device: of each length of the file, and of each of three calls.
+fn assert_devices<'a>(
+    rt: &(impl Abort + Alloc<A = Global>),
+    words: &'a [&'a str],
+    input: &[u8],
+    written: &[u8],
+    line: &[u8],
+    fault: &[u8],
+) {
+    for len in 0..written.len() {
+        assert_cuts(rt, words, input, &written[..len], fault);
+    }
+    for call in 0..3 {
+        assert_stops(rt, words, input, call, fault);
+    }
+    assert_writes_whole(rt, words, input, written, line);
 }
 
 #[test]
 fn normal_writes_a_prefix_where_a_device_fails(rt: HostRuntime) {
-    let (input, written) = (commented(), normal_form());
     // The calls: the GSI block, a push of the subtitle, and the flush.
-    let writing = Writing {
-        words: &NORMAL,
-        input: &input,
-        written: &written,
-        line: b"written 1 subtitles\n",
-        fault: b"fault 29 Write\n",
-    };
-    assert_devices(&rt, writing);
+    let (line, fault) = (b"written 1 subtitles\n", b"fault 29 Write\n");
+    assert_devices(&rt, &NORMAL, &commented(), &normal_form(), line, fault);
 }
 
 #[test]
 fn schedule_writes_a_prefix_where_a_device_fails(rt: HostRuntime) {
-    let (input, written) = (file_of_hi(), schedule_of_hi());
     // The calls: two pushes of the file and its flush.
-    let writing = Writing {
-        words: &SCHEDULE,
-        input: &input,
-        written: &written,
-        line: b"written 2 transmissions\n",
-        fault: b"fault 42 Write\n",
-    };
-    assert_devices(&rt, writing);
+    let (line, fault) = (b"written 2 transmissions\n", b"fault 42 Write\n");
+    assert_devices(
+        &rt,
+        &SCHEDULE,
+        &file_of_hi(),
+        &schedule_of_hi(),
+        line,
+        fault,
+    );
 }

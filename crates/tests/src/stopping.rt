@@ -12,24 +12,25 @@ use sub_check::{CheckFault, EndRule, Event, check_all};
 use sub_io::{Audience, MemSource};
 
 #[test]
-fn tells_the_first_faults_of_a_subtitle_file(rt: HostRuntime) -> Result<(), Fail> {
-    let file = file_of_five(rt.alloc())?;
+fn tells_the_first_faults_of_a_subtitle_file(rt: HostRuntime) {
+    let file = file_of_five();
     let mut device = FirstFew::<LoadFault, 3>::new();
-    let mut source = MemSource::new(file.as_slice());
+    let mut source = MemSource::new(&file);
     let answer = load_all(rt.alloc(), &mut source, National::English, &mut device);
     assert!(rt; matches!(answer, Ok(None)));
+    let overlap = LoadFaultKind::Overlap;
     let character = LoadFaultKind::Row(RowFault {
         kind: RowFaultKind::Character,
         at: 3,
     });
-    let fault = |block, kind| Some(LoadFault { block, kind });
-    let told = [
-        fault(2, LoadFaultKind::Overlap),
-        fault(2, character),
-        fault(3, character),
-    ];
-    assert_same(&rt, &device.items, &told);
-    Ok(())
+    assert_is(&rt, &device.items[0], 2, overlap);
+    assert_is(&rt, &device.items[1], 2, character);
+    assert_is(&rt, &device.items[2], 3, character);
+}
+
+// Asserts that a device was told this fault.
+fn assert_is(rt: &impl Abort, item: &Option<LoadFault>, block: u32, kind: LoadFaultKind) {
+    assert_same(rt, item, &Some(LoadFault { block, kind }));
 }
 
 // Tells a device what is broken where the schedule of `Hi` comes a frame earlier than is due.
@@ -49,26 +50,28 @@ fn tell_early<A: Audience<Event>>(
     Ok(())
 }
 
+// The events of a frame whose page is wrong: told, and ended.
+fn told(frame: u32) -> Option<Event> {
+    let (row, column) = (22, 16);
+    Some(Event::Told(CheckFault::Content { frame, row, column }))
+}
+
+fn ended(frame: u32) -> Option<Event> {
+    let rule = EndRule::Content;
+    Some(Event::Ended { rule, frame })
+}
+
 #[test]
 fn tells_the_first_events_of_a_transmission(rt: HostRuntime) -> Result<(), Fail> {
-    let (row, column) = (22, 16);
-    let content = |frame| Some(Event::Told(CheckFault::Content { frame, row, column }));
-    let rule = EndRule::Content;
-    let ended = |frame| Some(Event::Ended { rule, frame });
     let mut one = FirstFew::<Event, 1>::new();
     tell_early(&rt, &mut one)?;
-    assert_same(&rt, &one.items, &[content(899_999)]);
+    assert!(rt; one.items == [told(899_999)]);
     let mut two = FirstFew::<Event, 2>::new();
     tell_early(&rt, &mut two)?;
-    assert_same(&rt, &two.items, &[content(899_999), ended(899_999)]);
+    assert!(rt; two.items == [told(899_999), ended(899_999)]);
     let mut four = FirstFew::<Event, 4>::new();
     tell_early(&rt, &mut four)?;
-    let told = [
-        content(899_999),
-        ended(899_999),
-        content(900_049),
-        ended(900_049),
-    ];
-    assert_same(&rt, &four.items, &told);
+    let more = [told(899_999), ended(899_999), told(900_049), ended(900_049)];
+    assert!(rt; four.items == more);
     Ok(())
 }
