@@ -178,7 +178,7 @@ pub fn assert_all<'a>(
     assert_all_parts(rt, words, first, second, lines, "");
 }
 
-/// Asserts it of what is printed in two parts.
+/// Asserts what is printed for the words of a check with `--all`, in two parts.
 pub fn assert_all_parts<'a>(
     rt: &(impl Abort + Alloc<A = Global>),
     words: &'a [&'a str],
@@ -243,7 +243,7 @@ fn assert_cuts<'a>(
     assert!(rt; is_left_alone && is_right, "{words:?}");
 }
 
-/// Asserts that for each output that has less room than a text.
+/// Asserts what each output gets that has less room than a text: the first of it.
 pub fn assert_fills<'a>(
     rt: &(impl Abort + Alloc<A = Global>),
     words: &'a [&'a str],

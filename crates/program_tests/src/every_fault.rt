@@ -94,7 +94,7 @@ fn assert_ends_with<S: Source>(rt: &(impl Abort + Alloc<A = Global>), stl: &mut 
     assert_same(rt, &pes.pulls, &0);
 }
 
-// Asserts it of the eight subtitles and these blocks after them.
+// Asserts what is told of the eight subtitles and these blocks after them.
 fn assert_ends_after(rt: &(impl Abort + Alloc<A = Global>), blocks: &[[u8; 128]], end: &str) {
     let mut file = file_of_eight();
     let mut len = 2048;
@@ -145,7 +145,7 @@ fn tells_blocks_that_end_reading_after_other_faults(rt: HostRuntime) {
     assert_ends_after(&rt, &[first; 10], long);
 }
 
-// Asserts it of the eight subtitles and this block again and again.
+// Asserts what is told of the eight subtitles and this block again and again.
 fn assert_ends_within(rt: &(impl Abort + Alloc<A = Global>), again: &[u8; 128], end: &str) {
     let file = file_of_eight();
     let (rest, _) = file.split_at(2048);

@@ -26,7 +26,7 @@ fn assert_told<'x>(
     assert_all(rt, words, &file_of_hi(), pes, lines);
 }
 
-// Asserts it of the schedule of `Hi`.
+// Asserts what is printed of the schedule of `Hi`, with these options of a check.
 fn assert_told_of_hi<'x>(rt: &(impl Abort + Alloc<A = Global>), options: &[&'x str], lines: &str) {
     assert_told(rt, &schedule_of_hi(), options, lines);
 }

@@ -42,7 +42,7 @@ fn assert_hears<'x>(
     assert_prints_of(rt, words, pes, &[], want.as_bytes());
 }
 
-// Asserts it of a receiver and the transmission of `Hi` with a sending every 25 frames.
+// Asserts what a receiver prints of `Hi` with a sending every 25 frames.
 fn assert_hears_by<'x>(
     rt: &(impl Abort + Alloc<A = Global>),
     receiver: &'x str,
@@ -58,7 +58,7 @@ fn assert_hears_by<'x>(
     assert_prints_of(rt, words, &every_second(), &[], want.as_bytes());
 }
 
-// Asserts it of both receivers.
+// Asserts what both receivers print of `Hi` with a sending every 25 frames.
 fn assert_both_hear<'x>(
     rt: &(impl Abort + Alloc<A = Global>),
     at: &'x str,
@@ -128,7 +128,7 @@ fn prints_what_is_on_the_screen(rt: HostRuntime) {
     pes[138] = 0xFF;
     assert_hears(&rt, &pes, "10:00:00:10", &complete, NOT_SHOWN);
     assert_hears(&rt, &pes, "10:00:01:00", &complete, HI);
-    // That of the second one too: at its header of the page itself the screen stays as it is.
+    // The closing header of the second one too: at a header of the page the screen stays.
     pes[322] = 0xFF;
     assert_hears(&rt, &pes, "10:00:01:00", &complete, NOT_SHOWN);
 }
