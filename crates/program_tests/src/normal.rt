@@ -91,7 +91,8 @@ fn assert_answers(
     assert!(rt; is_right && is_done == (written > 0));
 }
 
-// Asserts it for each length of the file from one on, up to another.
+// Asserts the line and how many bytes are written for each length of the file from one on, up to
+// another.
 fn assert_answers_cuts(
     rt: &(impl Abort + Alloc<A = Global>),
     lengths: (usize, usize),

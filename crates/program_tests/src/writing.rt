@@ -75,7 +75,8 @@ fn assert_writes_whole<'a>(
     assert_fills(rt, words, (input, &[]), written, line);
 }
 
-// Asserts all that of each device: of each length of the file, and of each of three calls.
+// Asserts what is written and printed where the file has less room, where one of its three calls
+// fails, and where none does.
 fn assert_devices<'a>(
     rt: &(impl Abort + Alloc<A = Global>),
     words: &'a [&'a str],
