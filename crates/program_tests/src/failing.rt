@@ -28,8 +28,36 @@ const PACKETS: [&[u8]; 4] = [
     b"fault 41 Read pes 3\n",
 ];
 
-// Asserts what is told last of a file whose source fails at each call in turn: the fault of that
-// call, and from the call on at which a fault of the file is found before it, that one.
+// Asserts what is told last of a file whose source fails at a call, and the status.
+fn assert_tells_at<'a>(
+    rt: &(impl Abort + Alloc<A = Global>),
+    words: &'a [&'a str],
+    bytes: &[u8],
+    call: u64,
+    want: &[u8],
+    status: Status,
+) {
+    let mut first = FailAt::new(MemSource::new(bytes), call);
+    let mut second = MemSource::new(&[]);
+    let mut file = MemSink::new(&mut []);
+    let mut room = [0; 1024];
+    let mut out = MemSink::new(&mut room);
+    let given = answer_words(
+        rt.alloc(),
+        words,
+        &mut first,
+        &mut second,
+        &mut file,
+        &mut out,
+    );
+    assert!(rt;
+        out.written().ends_with(want) && given == status,
+        "{words:?}, call {call}"
+    );
+}
+
+// Asserts what is told last where each call in turn fails: the fault of that call, and from the
+// call on at which a fault of the file is found before it, that one.
 fn assert_tells_last<'a>(
     rt: &(impl Abort + Alloc<A = Global>),
     words: &'a [&'a str],
@@ -39,20 +67,11 @@ fn assert_tells_last<'a>(
     refusal: &[u8],
 ) {
     for call in 0..reads.len() {
-        let mut first = FailAt::new(MemSource::new(bytes), call as u64);
-        let mut second = MemSource::new(&[]);
-        let mut file = MemSink::new(&mut []);
-        let mut room = [0; 1024];
-        let mut out = MemSink::new(&mut room);
-        let alloc = rt.alloc();
-        let given = answer_words(alloc, words, &mut first, &mut second, &mut file, &mut out);
-        let (want, status) = if call < found {
-            (reads[call], Status::Fault)
+        if call < found {
+            assert_tells_at(rt, words, bytes, call as u64, reads[call], Status::Fault);
         } else {
-            (refusal, Status::Refused)
-        };
-        assert!(rt; out.written().ends_with(want), "{words:?}, call {call}");
-        assert_same_in(rt, &given, &status, &(words, call));
+            assert_tells_at(rt, words, bytes, call as u64, refusal, Status::Refused);
+        }
     }
 }
 
@@ -107,23 +126,28 @@ fn assert_fails(
     (stl.pulls, stl.failures(), pes.pulls, pes.failures())
 }
 
+// Asserts the line of a check where the PES source fails at each pull from one on, up to another.
+// 1152 pulls of the subtitle source give a byte each, and one the end; so do 368 of the PES source.
+fn assert_fails_from(
+    rt: &(impl Abort + Alloc<A = Global>),
+    pulls: (u64, u64),
+    want: &str,
+    failures: u64,
+) {
+    let pes = schedule_of_hi();
+    for pull in pulls.0..pulls.1 {
+        let counts = assert_fails(rt, &pes, 1153, pull, want);
+        let asked = if pull < 369 { pull + 1 } else { 369 };
+        assert_same_in(rt, &counts, &(1153, 0, asked, failures), &pull);
+    }
+}
+
 #[test]
 fn tells_the_pes_packet_of_a_failing_pull(rt: HostRuntime) {
-    let pes = schedule_of_hi();
-    // 368 pulls give a byte each, and one the end. The first pull, the one after the last, line
-    for (begin, end, want) in [
-        (0, 184, "fault 41 Read pes 0\n"),
-        (184, 368, "fault 41 Read pes 1\n"),
-        (368, 369, "fault 41 Read pes 2\n"),
-        (369, 370, ACCEPTED),
-    ] {
-        for k in begin..end {
-            // 1152 pulls of the subtitle source give a byte each, and one the end.
-            let counts = assert_fails(&rt, &pes, 1153, k, want);
-            let fails = u64::from(k < 369);
-            assert_same_in(&rt, &counts, &(1153, 0, (k + 1).min(369), fails), &k);
-        }
-    }
+    assert_fails_from(&rt, (0, 184), "fault 41 Read pes 0\n", 1);
+    assert_fails_from(&rt, (184, 368), "fault 41 Read pes 1\n", 1);
+    assert_fails_from(&rt, (368, 369), "fault 41 Read pes 2\n", 1);
+    assert_fails_from(&rt, (369, 370), ACCEPTED, 0);
 }
 
 #[test]
@@ -131,54 +155,52 @@ fn tells_a_broken_rule_before_the_pull_that_fails_after_it(rt: HostRuntime) {
     let mut pes = schedule_of_hi();
     pes[98] ^= 1; // a bit of the row's first text byte
     let even = "refused 68 Parity frame 10:00:00:00 packet 1\n";
-    for (pull, want) in [(183, "fault 41 Read pes 0\n"), (184, even), (368, even)] {
-        assert_fails(&rt, &pes, 1153, pull, want);
+    assert_fails(&rt, &pes, 1153, 183, "fault 41 Read pes 0\n");
+    assert_fails(&rt, &pes, 1153, 184, even);
+    assert_fails(&rt, &pes, 1153, 368, even);
+}
+
+// Asserts the line of a check where the subtitle source fails at each pull from one on, up to
+// another. The PES source would fail too.
+fn assert_fails_before(rt: &(impl Abort + Alloc<A = Global>), pulls: (u64, u64), want: &str) {
+    let pes = schedule_of_hi();
+    for pull in pulls.0..pulls.1 {
+        let counts = assert_fails(rt, &pes, pull, 0, want);
+        assert_same_in(rt, &counts, &(pull + 1, 1, 0, 0), &pull);
     }
 }
 
 #[test]
 fn tells_the_block_of_a_failing_pull(rt: HostRuntime) {
-    let pes = schedule_of_hi();
-    // 1152 pulls give a byte each, and one the end. The first pull, the one after the last, line
-    for (begin, end, want) in [
-        (0, 1024, "fault 26 Read block 0\n"),
-        (1024, 1152, "fault 26 Read block 1\n"),
-        (1152, 1153, "fault 26 Read block 2\n"),
-    ] {
-        for k in begin..end {
-            // The PES source would fail too.
-            let counts = assert_fails(&rt, &pes, k, 0, want);
-            assert_same_in(&rt, &counts, &(k + 1, 1, 0, 0), &k);
-        }
-    }
+    assert_fails_before(&rt, (0, 1024), "fault 26 Read block 0\n");
+    assert_fails_before(&rt, (1024, 1152), "fault 26 Read block 1\n");
+    assert_fails_before(&rt, (1152, 1153), "fault 26 Read block 2\n");
+}
+
+// Asserts the line of a check of a subtitle source that gives some bytes, and then others without
+// end. No byte of the PES file is read.
+fn assert_ends_stl(rt: &(impl Abort + Alloc<A = Global>), rest: &[u8], again: &[u8], want: &[u8]) {
+    let mut stl = Endless { rest, again };
+    let inner = MemSource::new(&[]);
+    let mut pes = Counting { inner, pulls: 0 };
+    assert_prints(rt, &CHECK, &mut stl, &mut pes, &[], want);
+    assert_same(rt, &pes.pulls, &0);
+}
+
+// Asserts the line of a check of a PES source that gives these bytes without end.
+fn assert_ends_pes(rt: &(impl Abort + Alloc<A = Global>), again: &[u8], want: &[u8]) {
+    let stl = file_of_hi();
+    let mut stl = MemSource::new(&stl);
+    let mut pes = Endless { rest: &[], again };
+    assert_prints(rt, &CHECK, &mut stl, &mut pes, &[], want);
 }
 
 #[test]
 fn ends_on_sources_that_do_not(rt: HostRuntime) {
-    // the bytes of the subtitle source before those without end, these, and line
-    let blocks: [(&[u8], &[u8], &[u8]); 2] = [
-        (&[], &[0; 64], b"refused 11 Format block 0\n"),
-        (
-            &gsi(),
-            &[1; 128], // a comment
-            b"refused 25 TooManyBlocks block 100000\n",
-        ),
-    ];
-    for (rest, again, want) in blocks {
-        let mut stl = Endless { rest, again };
-        let inner = MemSource::new(&[]);
-        let mut pes = Counting { inner, pulls: 0 };
-        assert_prints(&rt, &CHECK, &mut stl, &mut pes, &[], want);
-        assert_same(&rt, &pes.pulls, &0);
-    }
-    // the bytes of the PES source without end, and line
-    let packets: [(&[u8], &[u8]); 2] = [
-        (&[0; 64], b"refused 31 Start pes 0\n"),
-        (&FIRST, b"refused 62 Order pes 1\n"),
-    ];
-    for (again, want) in packets {
-        let stl = file_of_hi();
-        let mut pes = Endless { rest: &[], again };
-        assert_prints(&rt, &CHECK, &mut MemSource::new(&stl), &mut pes, &[], want);
-    }
+    assert_ends_stl(&rt, &[], &[0; 64], b"refused 11 Format block 0\n");
+    // comments
+    let many = b"refused 25 TooManyBlocks block 100000\n";
+    assert_ends_stl(&rt, &gsi(), &[1; 128], many);
+    assert_ends_pes(&rt, &[0; 64], b"refused 31 Start pes 0\n");
+    assert_ends_pes(&rt, &FIRST, b"refused 62 Order pes 1\n");
 }
