@@ -1,30 +1,25 @@
 //! Sinks that are closed before their value ends.
-use crate::asserting::assert_same;
+use crate::device_calls::{assert_flushes, assert_pushes, assert_puts};
 use std::io::Cursor;
-use sub_io::{BufferedSink, Close, Failed, Flush, IntoFile, Sink, put_all};
+use sub_io::{BufferedSink, Close, Failed, IntoFile};
 
 #[test]
 fn a_closed_file_takes_nothing(rt: HostRuntime) {
     let mut sink = IntoFile::new(Cursor::new([0u8; 5]));
-    assert_same(&rt, &put_all(&mut sink, b"sub"), &Ok(()));
-    assert_same(&rt, &sink.failures(), &0);
+    assert_puts(&rt, &mut sink, b"sub", Ok(()), 0);
     sink.close();
-    assert_same(&rt, &sink.push(b"t"), &Err(Failed));
-    assert_same(&rt, &sink.failures(), &1);
+    assert_pushes(&rt, &mut sink, b"t", Err(Failed), 1);
 
-    // The writer has room for two bytes more, and then writes none.
+    // The writer has room for five bytes, and then writes none.
     let mut sink = IntoFile::new(Cursor::new([0u8; 5]));
-    assert_same(&rt, &put_all(&mut sink, b"subttx"), &Err(Failed));
-    assert_same(&rt, &sink.failures(), &1);
+    assert_puts(&rt, &mut sink, b"subttx", Err(Failed), 1);
 }
 
 #[test]
 fn what_is_held_back_is_not_written_by_closing(rt: HostRuntime) {
     let mut room = [0; 4];
     let mut sink = BufferedSink::new(IntoFile::new(Cursor::new([0u8; 5])), &mut room);
-    assert_same(&rt, &sink.push(b"sub"), &Ok(3));
+    assert_pushes(&rt, &mut sink, b"sub", Ok(3), 0);
     sink.close();
-    assert!(rt; sink.failures() == 0);
-    assert_same(&rt, &sink.flush(), &Err(Failed));
-    assert!(rt; sink.failures() == 1);
+    assert_flushes(&rt, &mut sink, Err(Failed), 1);
 }

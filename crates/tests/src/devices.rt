@@ -1,7 +1,13 @@
 //! Devices in memory, over std, and failing ones.
+ghost use Rattle.std.specs.Prelude.{◌<◌};
+ghost use Rattle.sub_io.specs.Device.{CanFail};
+
 use crate::asserting::{assert_same, assert_same_in};
+use crate::device_calls::{assert_fills, assert_flushes, assert_puts};
+use crate::interrupted::Interrupted;
 use fixtures::Counting;
-use std::io::{self, Cursor, Read, Write};
+use std::io::Cursor;
+use std::process::Abort;
 use sub_io::{
     FailAt, Failed, Flush, FromRead, IntoWrite, MemSink, MemSource, Sink, Source, fill, put_all,
 };
@@ -9,23 +15,17 @@ use sub_io::{
 #[test]
 fn gives_its_bytes_and_then_ends(rt: HostRuntime) {
     let mut source = MemSource::new(b"abcde");
-    let mut to = *b"---";
-    assert_same(&rt, &fill(&mut source, &mut to), &Ok(3));
-    assert_same(&rt, &to, b"abc");
-    assert_same(&rt, &fill(&mut source, &mut to), &Ok(2));
-    assert_same(&rt, &to, b"dec");
-    assert_same(&rt, &fill(&mut source, &mut to), &Ok(0));
-    assert_same(&rt, &source.failures(), &0);
+    assert_fills(&rt, &mut source, Ok(3), b"abc", 0);
+    assert_fills(&rt, &mut source, Ok(2), b"de\0", 0);
+    assert_fills(&rt, &mut source, Ok(0), b"\0\0\0", 0);
 }
 
 #[test]
 fn asks_no_more_once_a_pull_gave_nothing(rt: HostRuntime) {
     // room, what is got, and by how many pulls: the last one finds the end
     for (room, got, pulls) in [(0, 0, 0), (5, 5, 1), (6, 5, 2), (9, 5, 2)] {
-        let mut source = Counting {
-            inner: MemSource::new(b"abcde"),
-            pulls: 0,
-        };
+        let inner = MemSource::new(b"abcde");
+        let mut source = Counting { inner, pulls: 0 };
         let mut to = [0; 9];
         assert!(rt; room <= 9);
         assert_same(&rt, &fill(&mut source, &mut to[..room]), &Ok(got));
@@ -33,104 +33,84 @@ fn asks_no_more_once_a_pull_gave_nothing(rt: HostRuntime) {
     }
 }
 
+// Asserts what a sink answers to bytes, and all that it has taken then.
+fn assert_takes(
+    rt: &impl Abort,
+    sink: &mut MemSink,
+    bytes: &[u8],
+    answer: Result<(), Failed>,
+    failures: u64,
+    taken: &[u8],
+)
+    requires { CanFail sink.old.failure_count }
+    ensures { CanFail sink.new.failure_count }
+{
+    assert_puts(rt, sink, bytes, answer, failures);
+    assert!(rt; sink.written() == taken);
+}
+
 #[test]
 fn takes_bytes_until_it_is_full(rt: HostRuntime) {
-    // text, how many bytes of "subttx" it then holds, and how often it has failed
-    let texts: [(&[u8], usize, u64); 4] = [
-        (b"sub", 3, 0),
-        (b"", 3, 0),
-        (b"ttx", 5, 1),
-        (b"x", 5, 2),
-    ];
     let mut room = [0; 5];
     let mut sink = MemSink::new(&mut room);
-    for (text, held, failures) in texts {
-        assert!(rt; sink.failures() < 9);
-        let answer = put_all(&mut sink, text);
-        assert!(rt; held <= 6);
-        assert!(rt; sink.written() == &b"subttx"[..held]);
-        assert_same(&rt, &answer.is_err(), &(failures > 0));
-        assert_same(&rt, &sink.failures(), &failures);
-    }
-}
-
-// A reader and a writer of which each call is interrupted, a flush too.
-#[derive(Drop)]
-struct Interrupted;
-
-impl Read for Interrupted {
-    ghost use Rattle.std.specs.Prelude.{None};
-
-    ghost remaining = { λ _. None };
-
-    fn read(&mut self, _to: &mut [u8]) -> io::Result<usize> {
-        Err(io::ErrorKind::Interrupted.into())
-    }
-}
-
-impl Write for Interrupted {
-    ghost use Rattle.std.specs.Prelude.{None};
-
-    ghost contents = { λ _. None };
-
-    fn write(&mut self, _from: &[u8]) -> io::Result<usize> {
-        Err(io::ErrorKind::Interrupted.into())
-    }
-
-    fn flush(&mut self) -> io::Result<()> {
-        Err(io::ErrorKind::Interrupted.into())
-    }
+    assert_takes(&rt, &mut sink, b"sub", Ok(()), 0, b"sub");
+    assert_takes(&rt, &mut sink, b"", Ok(()), 0, b"sub");
+    assert_takes(&rt, &mut sink, b"ttx", Err(Failed), 1, b"subtt");
+    assert_takes(&rt, &mut sink, b"x", Err(Failed), 2, b"subtt");
 }
 
 #[test]
 fn reads_and_counts_an_interrupted_call(rt: HostRuntime) {
     let mut source = FromRead::new(&b"abcde"[..]);
-    let mut to = *b"-----------";
-    assert_same(&rt, &fill(&mut source, &mut to), &Ok(5));
-    assert_same(&rt, &to, b"abcde------");
-    assert_same(&rt, &source.failures(), &0);
-
-    let mut source = FromRead::new(Interrupted);
-    assert_same(&rt, &fill(&mut source, &mut to), &Err(Failed));
-    assert_same(&rt, &source.failures(), &1);
+    assert_fills(&rt, &mut source, Ok(5), b"abcde\0\0\0\0\0\0", 0);
+    let mut source = FromRead::new(Interrupted { calls: 9 });
+    assert_fills(&rt, &mut source, Err(Failed), b"\0\0\0", 1);
 }
 
 #[test]
 fn writes_and_counts_a_call_that_writes_nothing(rt: HostRuntime) {
     let mut sink = IntoWrite::new(Cursor::new([0u8; 5]));
-    assert_same(&rt, &put_all(&mut sink, b"sub"), &Ok(()));
-    assert_same(&rt, &sink.flush(), &Ok(()));
-    assert_same(&rt, &sink.failures(), &0);
+    assert_puts(&rt, &mut sink, b"sub", Ok(()), 0);
+    assert_flushes(&rt, &mut sink, Ok(()), 0);
     // The writer has room for two bytes more, and then writes none.
-    assert_same(&rt, &put_all(&mut sink, b"ttx"), &Err(Failed));
-    assert_same(&rt, &sink.failures(), &1);
+    assert_puts(&rt, &mut sink, b"ttx", Err(Failed), 1);
 
-    let mut sink = IntoWrite::new(Interrupted);
-    assert_same(&rt, &put_all(&mut sink, b"x"), &Err(Failed));
-    assert_same(&rt, &sink.failures(), &1);
-    assert_same(&rt, &sink.flush(), &Err(Failed));
-    assert_same(&rt, &sink.failures(), &2);
+    let mut sink = IntoWrite::new(Interrupted { calls: 9 });
+    assert_puts(&rt, &mut sink, b"x", Err(Failed), 1);
+    assert_flushes(&rt, &mut sink, Err(Failed), 2);
+}
+
+// Asserts that of four calls of a source this one fails, and no other.
+fn assert_fails_to_read(rt: &impl Abort, number: u64) {
+    let mut source = FailAt::new(MemSource::new(b"abcdef"), number);
+    for call in 0..4 {
+        assert!(rt; source.failures() < 9);
+        let filled = fill(&mut source, &mut [0; 2]);
+        assert_same_in(rt, &filled.is_err(), &(call == number), &call);
+    }
+    assert_same(rt, &source.failures(), &1);
+}
+
+// Asserts that of four calls of a sink, the second a flush, this one fails, and no other.
+fn assert_fails_to_write(rt: &impl Abort, number: u64) {
+    let mut room = [0; 6];
+    let mut sink = FailAt::new(MemSink::new(&mut room), number);
+    for call in 0..4 {
+        assert!(rt; sink.failures() < 9);
+        let put = if call == 1 {
+            sink.flush()
+        } else {
+            put_all(&mut sink, b"x")
+        };
+        assert_same_in(rt, &put.is_err(), &(call == number), &call);
+    }
+    assert_same(rt, &sink.failures(), &1);
 }
 
 #[test]
 fn fails_at_one_call_and_at_no_other(rt: HostRuntime) {
-    for k in 0..3 {
-        let mut source = FailAt::new(MemSource::new(b"abcdef"), k);
-        let mut room = [0; 6];
-        let mut sink = FailAt::new(MemSink::new(&mut room), k);
-        for call in 0..4 {
-            let mut to = [0; 2];
-            assert!(rt; source.failures() < 9 && sink.failures() < 9);
-            let filled = fill(&mut source, &mut to);
-            assert_same_in(&rt, &filled.is_err(), &(call == k), &(call, k));
-            let put = if call == 1 {
-                sink.flush()
-            } else {
-                put_all(&mut sink, b"x")
-            };
-            assert_same_in(&rt, &put.is_err(), &(call == k), &(call, k));
-        }
-        assert_same_in(&rt, &source.failures(), &1, &k);
-        assert_same_in(&rt, &sink.failures(), &1, &k);
+    for number in 0..3 {
+        assert_fails_to_read(&rt, number);
+        assert_fails_to_write(&rt, number);
     }
 }

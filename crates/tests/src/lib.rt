@@ -12,6 +12,8 @@ mod closing;
 #[cfg(test)]
 mod compared_packets;
 #[cfg(test)]
+mod device_calls;
+#[cfg(test)]
 mod devices;
 #[cfg(test)]
 mod drawings;
@@ -19,6 +21,8 @@ mod drawings;
 mod dropped_rows;
 #[cfg(test)]
 mod fault_codes;
+#[cfg(test)]
+mod interrupted;
 #[cfg(test)]
 mod libzvbi;
 #[cfg(test)]

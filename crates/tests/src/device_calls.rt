@@ -1,0 +1,88 @@
+//! One call of a device: what it answers, and how often the device has failed after it.
+ghost use Rattle.std.specs.Prelude.{◌<◌};
+ghost use Rattle.sub_io.specs.Device.{CanFail};
+
+use crate::asserting::assert_same;
+use std::process::Abort;
+use sub_io::{Failed, Flush, Sink, Source, fill, put_all};
+
+/// Asserts what a pull into a slice of zeros answers, and what then stands in the slice.
+pub fn assert_pulls<S: Source>(
+    rt: &impl Abort,
+    source: &mut S,
+    answer: Result<usize, Failed>,
+    slice: &[u8],
+    failures: u64,
+)
+    requires { CanFail (S.failure_count source.old) }
+    ensures { CanFail (S.failure_count source.new) }
+{
+    let mut room = [0; 12];
+    assert!(rt; slice.len() <= 12);
+    assert_same(rt, &source.pull(&mut room[..slice.len()]), &answer);
+    assert!(rt; room.starts_with(slice));
+    assert!(rt; source.failures() == failures && failures < 9);
+}
+
+/// Asserts what `fill` answers of a slice of zeros, and what then stands in the slice.
+pub fn assert_fills<S: Source>(
+    rt: &impl Abort,
+    source: &mut S,
+    answer: Result<usize, Failed>,
+    slice: &[u8],
+    failures: u64,
+)
+    requires { CanFail (S.failure_count source.old) }
+    ensures { CanFail (S.failure_count source.new) }
+{
+    let mut room = [0; 12];
+    assert!(rt; slice.len() <= 12);
+    assert_same(rt, &fill(source, &mut room[..slice.len()]), &answer);
+    assert!(rt; room.starts_with(slice));
+    assert!(rt; source.failures() == failures && failures < 9);
+}
+
+/// Asserts what a push answers.
+pub fn assert_pushes<K: Sink>(
+    rt: &impl Abort,
+    sink: &mut K,
+    bytes: &[u8],
+    answer: Result<usize, Failed>,
+    failures: u64,
+)
+    requires { CanFail (K.failure_count sink.old) }
+    ensures { CanFail (K.failure_count sink.new) }
+{
+    assert!(rt; !bytes.is_empty());
+    assert_same(rt, &sink.push(bytes), &answer);
+    assert!(rt; sink.failures() == failures && failures < 9);
+}
+
+/// Asserts what `put_all` answers.
+pub fn assert_puts<K: Sink>(
+    rt: &impl Abort,
+    sink: &mut K,
+    bytes: &[u8],
+    answer: Result<(), Failed>,
+    failures: u64,
+)
+    requires { CanFail (K.failure_count sink.old) }
+    ensures { CanFail (K.failure_count sink.new) }
+{
+    assert_same(rt, &put_all(sink, bytes), &answer);
+    assert!(rt; sink.failures() == failures && failures < 9);
+}
+
+/// Asserts what a flush answers.
+pub fn assert_flushes<F: Flush>(
+    rt: &impl Abort,
+    sink: &mut F,
+    answer: Result<(), Failed>,
+    failures: u64,
+)
+    requires { CanFail (F.failure_count sink.old) }
+    ensures { CanFail (F.failure_count sink.new) }
+{
+    assert_same(rt, &sink.flush(), &answer);
+    assert!(rt; sink.failures() == failures && failures < 9);
+}

@@ -1,0 +1,44 @@
+//! A reader and a writer of which the first calls are interrupted.
+ghost use Rattle.std.specs.Prelude.{◌≤◌, IfOk, None, length};
+
+use std::io::{self, Read, Write};
+
+/// A reader and a writer of which the first calls are interrupted, a flush too.
+#[derive(Drop)]
+pub struct Interrupted {
+    /// How many calls are interrupted from now on.
+    pub calls: u8,
+}
+
+impl Interrupted {
+    fn call(&mut self, len: usize) -> io::Result<usize>
+        ensures { IfOk result (λ n. n ≤ len) }
+    {
+        if self.calls == 0 {
+            return Ok(len);
+        }
+        self.calls -= 1;
+        Err(io::ErrorKind::Interrupted.into())
+    }
+}
+
+impl Read for Interrupted {
+    ghost remaining = { λ _. None };
+
+    fn read(&mut self, to: &mut [u8]) -> io::Result<usize> {
+        self.call(to.len())
+    }
+}
+
+impl Write for Interrupted {
+    ghost contents = { λ _. None };
+
+    fn write(&mut self, from: &[u8]) -> io::Result<usize> {
+        self.call(from.len())
+    }
+
+    fn flush(&mut self) -> io::Result<()> {
+        self.call(0)?;
+        Ok(())
+    }
+}
