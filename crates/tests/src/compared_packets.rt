@@ -2,7 +2,7 @@
 use crate::asserting::assert_same;
 use fixtures::Drip;
 use std::process::Abort;
-use std::test::*;
+use std::test::Fail;
 use sub_io::{FailAt, MemSink, MemSource};
 use ttx_packet::Packet;
 use ttx_pes::{Compared, ComparingReader, PesFault, put_frame};
@@ -17,25 +17,31 @@ fn twice() -> Result<[u8; 368], PesFault> {
     Ok(file)
 }
 
+// Asserts what a reader answers of the next PES packet, and the PTS and the number of units then.
+fn assert_compares(
+    rt: &impl Abort,
+    reader: &mut ComparingReader,
+    source: &mut MemSource,
+    want: Compared,
+    pts_and_units: (u64, usize),
+) {
+    assert_same(rt, &reader.next(source), &Ok(want));
+    let frame = reader.frame();
+    assert_same(rt, &(frame.pts(), frame.units().len()), &pts_and_units);
+}
+
 #[test]
 fn tells_a_data_field_that_is_sent_again(rt: HostRuntime) -> Result<(), Fail> {
     let file = twice()?;
     let mut source = MemSource::new(&file);
     let mut reader = ComparingReader::new();
-    assert_same(&rt, &reader.next(&mut source)?, &Compared::Other);
-    assert_same(&rt, &reader.frame().pts(), &0);
-    assert_same(&rt, &reader.frame().units().len(), &1);
-    assert_same(&rt, &reader.next(&mut source)?, &Compared::Same);
-    assert_same(&rt, &reader.frame().pts(), &3600);
+    assert_compares(&rt, &mut reader, &mut source, Compared::Other, (0, 1));
+    assert_compares(&rt, &mut reader, &mut source, Compared::Same, (3600, 1));
     assert!(rt; reader.frame().units().len() == 1);
-    assert_same(
-        &rt,
-        reader.frame().units()[0].packet(),
-        &Packet::new([0x20; 42]),
-    );
-    assert_same(&rt, &reader.next(&mut source)?, &Compared::End);
-    assert_same(&rt, &reader.frame().units().len(), &0);
-    assert_same(&rt, &reader.next(&mut source)?, &Compared::End);
+    let spaces = Packet::new([0x20; 42]);
+    assert_same(&rt, reader.frame().units()[0].packet(), &spaces);
+    assert_compares(&rt, &mut reader, &mut source, Compared::End, (0, 0));
+    assert_compares(&rt, &mut reader, &mut source, Compared::End, (0, 0));
     Ok(())
 }
 
