@@ -1,23 +1,23 @@
 //! Codes of faults that no command prints. The others are tested by the lines that are printed.
-use crate::asserting::assert_same;
+use std::process::Abort;
 use stl_file::StlFault;
 use sub_io::FaultCode;
 use ttx_pes::PesFault;
 
-#[test]
-fn tells_a_call_after_a_fault(rt: HostRuntime) {
-    let stl = StlFault::Ended.code();
-    assert_same(&rt, &(stl.number(), stl.name()), &(27, "Ended"));
-    let pes = PesFault::Ended.code();
-    assert_same(&rt, &(pes.number(), pes.name()), &(43, "Ended"));
+// Asserts the number and the name of a code.
+fn assert_is(rt: &impl Abort, code: FaultCode, number: u8, name: &str) {
+    assert!(rt; code.number() == number && code.name() == name);
 }
 
 #[test]
 fn keeps_a_number_and_a_name(rt: HostRuntime) {
-    let code = FaultCode::new(255, "SixteenLettersOf");
-    assert_same(
+    assert_is(
         &rt,
-        &(code.number(), code.name()),
-        &(255, "SixteenLettersOf"),
+        FaultCode::new(255, "SixteenLettersOf"),
+        255,
+        "SixteenLettersOf",
     );
+    // Calls after a fault.
+    assert_is(&rt, StlFault::Ended.code(), 27, "Ended");
+    assert_is(&rt, PesFault::Ended.code(), 43, "Ended");
 }
