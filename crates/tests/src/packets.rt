@@ -2,6 +2,7 @@
 use crate::asserting::{assert_same, assert_same_in};
 use bitflags::Flags;
 use fixtures::HEADER;
+use std::process::Abort;
 use ttx_packet::{Control, Header, Packet, PageId, ham, is_odd, is_word, mirror, mirrored};
 
 #[test]
@@ -108,23 +109,24 @@ fn finds_the_only_even_byte_at_each_place(rt: HostRuntime) {
     assert_same(&rt, &packet.first_even(), &plain_first_even(&packet));
 }
 
+// Asserts the magazine and the page number that a text names.
+fn assert_names(rt: &impl Abort, text: &str, want: Option<(u8, u8)>) {
+    let named = match PageId::parse(text) {
+        Ok(id) => Some((id.magazine(), id.page())),
+        Err(_) => None,
+    };
+    assert_same_in(rt, &named, &want, &text);
+}
+
 #[test]
 fn reads_page_numbers(rt: HostRuntime) {
-    // text, magazine and page number
-    for (text, want) in [
-        ("18a", Some((1, 0x8A))),
-        ("888", Some((0, 0x88))), // magazine 8 is sent as 0
-        ("7FE", Some((7, 0xFE))),
-        ("088", None), // no magazine 0
-        ("988", None), // no magazine 9
-        ("8FF", None), // not displayed
-        ("88", None),
-        ("8G8", None),
-        ("8888", None),
-    ] {
-        let got = PageId::parse(text)
-            .ok()
-            .map(|id| (id.magazine(), id.page()));
-        assert_same_in(&rt, &got, &want, &text);
-    }
+    assert_names(&rt, "18a", Some((1, 0x8A)));
+    assert_names(&rt, "888", Some((0, 0x88))); // magazine 8 is sent as 0
+    assert_names(&rt, "7FE", Some((7, 0xFE)));
+    assert_names(&rt, "088", None); // no magazine 0
+    assert_names(&rt, "988", None); // no magazine 9
+    assert_names(&rt, "8FF", None); // not displayed
+    assert_names(&rt, "88", None);
+    assert_names(&rt, "8G8", None);
+    assert_names(&rt, "8888", None);
 }
