@@ -1,47 +1,59 @@
 //! Subtitle files and the programmes that they give; memory that is refused. Files that are refused
 //! are tested by the lines that the program prints.
 use crate::asserting::{assert_same, assert_same_in};
-use fixtures::{HEAD, HI, TEN, block, file_of_two, gsi, head};
+use fixtures::{HEAD, HI, TEN, block, file_of_two, gsi, head, put};
 use linked_list_allocator::LocalHeap;
+use std::alloc::Global;
+use std::process::Abort;
 use std::test::Fail;
-use stl_rows::{LoadFault, LoadFaultKind, National, RowFault, RowFaultKind, load, load_in};
+use stl_rows::{
+    LoadFault, LoadFaultKind, National, Programme, RowFault, RowFaultKind, load, load_in,
+};
 use sub_io::MemSource;
 use ttx_page::Page;
 
+// Asserts the first frame after each of these at which another page may be due.
+fn assert_edges(rt: &impl Abort, programme: &Programme, edges: &[(u32, Option<u32>)]) {
+    for (frame, edge) in edges {
+        assert_same_in(rt, &programme.next_edge(*frame), edge, frame);
+    }
+}
+
+// Asserts the first cell that isn't a space of the page that is due at each of these frames.
+fn assert_due(rt: &impl Abort, programme: &Programme, firsts: &[(u32, Option<(u8, u8)>)]) {
+    let blank = Page::blank();
+    for (frame, first) in firsts {
+        let page = programme.due_page(*frame);
+        assert_same_in(rt, &page.first_difference(&blank), first, frame);
+    }
+}
+
+#[rattlefmt::skip]
 #[test]
 fn loads_subtitles_in_order(rt: HostRuntime) -> Result<(), Fail> {
     let second = block(&head(TEN + 50, TEN + 100, 22), &[0x41]);
     let file = file_of_two(&block(&HEAD, &HI), &second);
     let programme = load(rt.alloc(), &mut MemSource::new(&file), National::German)?;
-    assert!(rt; programme.len() == 2);
-    assert!(rt; !programme.is_empty());
-    if programme.len() == 2 {
-        assert_same(&rt, &programme.subtitle(1).text(), &[0x41].as_slice());
-    }
+    assert!(rt; programme.len() == 2 && !programme.is_empty());
+    assert!(rt; programme.subtitle(1).text() == b"A".as_slice());
     assert_same(&rt, &programme.national(), &National::German);
     assert_same(&rt, &programme.first_in(), &Some(TEN));
     assert_same(&rt, &programme.last_out(), &Some(TEN + 100));
-    for (frame, edge) in [
+    assert_edges(&rt, &programme, &[
         (0, Some(TEN)),
         (TEN - 1, Some(TEN)),
         (TEN, Some(TEN + 50)),
         (TEN + 50, Some(TEN + 100)),
         (TEN + 100, None),
-    ] {
-        assert_same_in(&rt, &programme.next_edge(frame), &edge, &frame);
-    }
-    // The first cell that isn't a space, if there is one.
-    for (frame, first) in [
+    ]);
+    assert_due(&rt, &programme, &[
         (TEN - 1, None),
         (TEN, Some((22, 16))),
         (TEN + 49, Some((22, 16))),
         (TEN + 50, Some((22, 17))),
         (TEN + 99, Some((22, 17))),
         (TEN + 100, None),
-    ] {
-        let page = programme.due_page(frame);
-        assert_same_in(&rt, &page.first_difference(&Page::blank()), &first, &frame);
-    }
+    ]);
     Ok(())
 }
 
@@ -49,10 +61,13 @@ fn loads_subtitles_in_order(rt: HostRuntime) -> Result<(), Fail> {
 fn loads_a_file_without_subtitles(rt: HostRuntime) -> Result<(), Fail> {
     let programme = load(rt.alloc(), &mut MemSource::new(&gsi()), National::English)?;
     assert!(rt; programme.is_empty());
-    assert_same(&rt, &programme.first_in(), &None);
-    assert_same(&rt, &programme.last_out(), &None);
-    assert_same(&rt, &programme.next_edge(0), &None);
-    assert_same(&rt, &programme.due_page(0), &Page::blank());
+    assert_same(
+        &rt,
+        &(programme.first_in(), programme.last_out()),
+        &(None, None),
+    );
+    assert_edges(&rt, &programme, &[(0, None)]);
+    assert_due(&rt, &programme, &[(0, None)]);
     Ok(())
 }
 
@@ -82,33 +97,49 @@ fn reads_a_pair_over_two_blocks(rt: HostRuntime) -> Result<(), Fail> {
     Ok(())
 }
 
-#[test]
-fn tells_each_growth_that_is_refused(rt: HostRuntime) -> Result<(), Fail> {
-    let mut file = Vec::new(rt.alloc());
-    file.extend_from_slice(&gsi())?;
-    for i in 0..9u32 {
-        file.extend_from_slice(&block(&head(50 * i, 50 * i + 50, 22), &HI))?;
+// Nine subtitles.
+fn file_of_nine() -> [u8; 2176] {
+    let mut file = [0; 2176];
+    put(&mut file, 0, &gsi());
+    for i in 0..9 {
+        let hi = block(&head(50 * i, 50 * i + 50, 22), &HI);
+        put(&mut file, 1024 + 128 * i as usize, &hi);
     }
-    // The blocks at whose end a growth was refused, in memory of rising size.
-    let mut told = [false; 10];
-    let mut loaded = 0usize;
-    for size in 0..40usize {
-        let heap = LocalHeap::new(rt.alloc(), size * 1_040)?;
-        let mut source = MemSource::new(file.as_slice());
-        match load_in(&heap, &mut source, National::English) {
-            Ok(subtitles) => {
-                assert_same(&rt, &subtitles.len(), &9);
-                loaded = loaded.saturating_add(1);
-            }
-            Err(fault) => {
-                assert_same(&rt, &fault.kind, &LoadFaultKind::Memory);
-                if fault.block < 10 {
-                    told[fault.block as usize] = true;
-                }
-            }
+    file
+}
+
+// Loads the nine subtitles in this much memory: the block at whose end a growth was refused, or
+// none where none was.
+fn refused_block(
+    rt: &(impl Abort + Alloc<A = Global>),
+    file: &[u8],
+    size: usize,
+) -> Result<Option<u32>, Fail> {
+    let heap = LocalHeap::new(rt.alloc(), size)?;
+    match load_in(&heap, &mut MemSource::new(file), National::English) {
+        Ok(subtitles) => {
+            assert_same(rt, &subtitles.len(), &9);
+            Ok(None)
+        }
+        Err(fault) => {
+            assert_same(rt, &fault.kind, &LoadFaultKind::Memory);
+            Ok(Some(fault.block))
         }
     }
-    assert!(rt; loaded > 0);
+}
+
+#[test]
+fn tells_each_growth_that_is_refused(rt: HostRuntime) -> Result<(), Fail> {
+    let file = file_of_nine();
+    // The blocks that are told in memory of rising size.
+    let mut told = [false; 10];
+    for size in 0..39 {
+        if let Some(block) = refused_block(&rt, &file, 1040 * size)? {
+            assert!(rt; block < 10);
+            told[block as usize] = true;
+        }
+    }
+    assert_same(&rt, &refused_block(&rt, &file, 1040 * 39)?, &None);
     let growths = [
         false, true, true, true, false, true, false, false, false, true,
     ];
