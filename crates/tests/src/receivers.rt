@@ -1,6 +1,7 @@
 //! What the two receivers make of short lists of packets, by the standard's rules.
 use crate::asserting::{assert_same, assert_same_in};
 use fixtures::packet_of;
+use std::process::Abort;
 use ttx_packet::{Packet, PageId};
 use ttx_page::{Blank, Keep, PacketKind, Page, Receiver, hear_all, show_all};
 
@@ -37,6 +38,10 @@ fn packet(start: [u8; 10]) -> Packet {
     Packet::new(packet_of(&start))
 }
 
+fn packets(starts: &[[u8; 10]; 3]) -> [Packet; 3] {
+    [packet(starts[0]), packet(starts[1]), packet(starts[2])]
+}
+
 /// A page that a receiver may hold from before: 3F, a question mark, in every cell.
 pub(crate) fn old_page() -> Page {
     let mut page = Page::blank();
@@ -46,88 +51,100 @@ pub(crate) fn old_page() -> Page {
     page
 }
 
-// What a receiver that holds the old page becomes: heard, open, its cells 0 and 1 of row 22.
-fn after<R: Receiver + Drop>(page_id: PageId, packets: &[Packet]) -> (bool, bool, u8, u8) {
+// Asserts what a receiver that holds the old page becomes by three packets, of these first bytes:
+// heard and open, and its cells 0 and 1 of row 22.
+fn assert_becomes<R: Receiver + Drop>(
+    rt: &impl Abort,
+    starts: &[[u8; 10]; 3],
+    heard_and_open: [bool; 2],
+    cells: [u8; 2],
+) {
+    let page_id = PageId::parse("888").expect(rt, "page 888");
     let mut receiver = R::tune(page_id, old_page());
-    hear_all(&mut receiver, packets);
+    hear_all(&mut receiver, &packets(starts));
+    assert_same_in(
+        rt,
+        &[receiver.heard(), receiver.open()],
+        &heard_and_open,
+        starts,
+    );
     let page = receiver.page();
-    (
-        receiver.heard(),
-        receiver.open(),
-        page.cell(22, 0),
-        page.cell(22, 1),
-    )
+    assert_same_in(rt, &[page.cell(22, 0), page.cell(22, 1)], &cells, starts);
 }
 
 #[rattlefmt::skip]
-const CASES: [(&str, [[u8; 10]; 3], bool, bool, u8, u8, u8); 9] = [
-    // name, packets, heard, open, cell 0, cell 1 of Keep, cell 1 of Blank
-    ("C4 blanks the old page", [HEADER, NO_ADDRESS, NO_ADDRESS], true, true, 0x20, 0x20, 0x20),
-    ("without C4 it stays", [WITHOUT_C4, NO_ADDRESS, NO_ADDRESS], true, true, 0x3F, 0x3F, 0x3F),
-    ("an even byte", [WITHOUT_C4, ROW_22, NO_ADDRESS], true, true, 0x41, 0x3F, 0x20),
-    ("a row before a header", [ROW_22, NO_ADDRESS, NO_ADDRESS], false, false, 0x3F, 0x3F, 0x3F),
-    ("page tens 16", [TENS_16, ROW_22, NO_ADDRESS], false, false, 0x3F, 0x3F, 0x3F),
-    ("another page ends it", [HEADER, CLOSING, ROW_22], true, false, 0x20, 0x20, 0x20),
-    ("C11 set ends it", [HEADER, SERIAL_188, ROW_22], true, false, 0x20, 0x20, 0x20),
-    ("C11 clear does not", [HEADER, PAGE_188, ROW_22], true, true, 0x41, 0x20, 0x20),
-    ("another magazine's row", [HEADER, ROW_122, NO_ADDRESS], true, true, 0x20, 0x20, 0x20),
+const CASES: [([[u8; 10]; 3], [bool; 2], [u8; 3]); 9] = [
+    // packets, heard and open, cell 0, cell 1 of Keep, cell 1 of Blank
+    // C4 blanks the old page, and without it the page stays
+    ([HEADER, NO_ADDRESS, NO_ADDRESS], [true, true], [0x20, 0x20, 0x20]),
+    ([WITHOUT_C4, NO_ADDRESS, NO_ADDRESS], [true, true], [0x3F, 0x3F, 0x3F]),
+    // an even byte; a row before a header; page tens 16
+    ([WITHOUT_C4, ROW_22, NO_ADDRESS], [true, true], [0x41, 0x3F, 0x20]),
+    ([ROW_22, NO_ADDRESS, NO_ADDRESS], [false, false], [0x3F, 0x3F, 0x3F]),
+    ([TENS_16, ROW_22, NO_ADDRESS], [false, false], [0x3F, 0x3F, 0x3F]),
+    // another page ends it; so does one of another magazine with C11 set, and not with C11 clear
+    ([HEADER, CLOSING, ROW_22], [true, false], [0x20, 0x20, 0x20]),
+    ([HEADER, SERIAL_188, ROW_22], [true, false], [0x20, 0x20, 0x20]),
+    ([HEADER, PAGE_188, ROW_22], [true, true], [0x41, 0x20, 0x20]),
+    // another magazine's row
+    ([HEADER, ROW_122, NO_ADDRESS], [true, true], [0x20, 0x20, 0x20]),
 ];
 
 #[test]
 fn receives_by_the_standard(rt: HostRuntime) {
-    let page_id = PageId::parse("888").expect(&rt, "page 888");
-    for (name, starts, heard, open, first, kept, blanked) in CASES {
-        let packets = [packet(starts[0]), packet(starts[1]), packet(starts[2])];
-        let keep = after::<Keep>(page_id, &packets);
-        assert_same_in(&rt, &keep, &(heard, open, first, kept), &name);
-        let blank = after::<Blank>(page_id, &packets);
-        assert_same_in(&rt, &blank, &(heard, open, first, blanked), &name);
+    for (starts, heard_and_open, cells) in &CASES {
+        let [first, kept, blanked] = *cells;
+        assert_becomes::<Keep>(&rt, starts, *heard_and_open, [first, kept]);
+        assert_becomes::<Blank>(&rt, starts, *heard_and_open, [first, blanked]);
     }
+}
+
+// Asserts cell 0 of row 22 on a screen with nothing on it before, after three packets.
+fn assert_shows(rt: &impl Abort, starts: &[[u8; 10]; 3], want: Option<u8>) {
+    let page_id = PageId::parse("888").expect(rt, "page 888");
+    let mut receiver = Keep::tune(page_id, old_page());
+    let mut screen = None;
+    show_all(&mut receiver, &mut screen, &packets(starts));
+    let cell = match screen {
+        Some(page) => Some(page.cell(22, 0)),
+        None => None,
+    };
+    assert_same_in(rt, &cell, &want, starts);
 }
 
 #[test]
 fn shows_a_page_when_another_page_ends_it(rt: HostRuntime) {
-    let page_id = PageId::parse("888").expect(&rt, "page 888");
-    // packets, cell 0 of row 22 on a screen with nothing on it before
-    for (starts, want) in [
-        ([HEADER, ROW_22, NO_ADDRESS], None),
-        ([HEADER, ROW_22, CLOSING], Some(0x41)),
-        ([HEADER, ROW_22, SERIAL_188], Some(0x41)),
-        ([HEADER, ROW_22, HEADER], None), // its own header: the screen waits
-        ([HEADER, CLOSING, HEADER], Some(0x20)), // and stays
-    ] {
-        let packets = [packet(starts[0]), packet(starts[1]), packet(starts[2])];
-        let mut receiver = Keep::tune(page_id, old_page());
-        let mut screen = None;
-        show_all(&mut receiver, &mut screen, &packets);
-        let cell = match screen {
-            Some(page) => Some(page.cell(22, 0)),
-            None => None,
-        };
-        assert_same(&rt, &cell, &want);
-    }
+    assert_shows(&rt, &[HEADER, ROW_22, NO_ADDRESS], None);
+    assert_shows(&rt, &[HEADER, ROW_22, CLOSING], Some(0x41));
+    assert_shows(&rt, &[HEADER, ROW_22, SERIAL_188], Some(0x41));
+    // At its own header the screen waits, and what is shown stays.
+    assert_shows(&rt, &[HEADER, ROW_22, HEADER], None);
+    assert_shows(&rt, &[HEADER, CLOSING, HEADER], Some(0x20));
+}
+
+// Asserts what a packet is to a receiver of page 888.
+fn assert_is(rt: &impl Abort, start: [u8; 10], want: PacketKind) {
+    let page_id = PageId::parse("888").expect(rt, "page 888");
+    assert_same_in(rt, &PacketKind::of(page_id, &packet(start)), &want, &start);
 }
 
 #[test]
 fn tells_what_a_packet_is(rt: HostRuntime) {
+    assert_is(&rt, CLOSING, PacketKind::EndsPage);
+    assert_is(&rt, SERIAL_188, PacketKind::EndsPage);
+    assert_is(&rt, PAGE_188, PacketKind::Other);
+    assert_is(&rt, ROW_22, PacketKind::Row(22));
+    assert_is(&rt, ROW_122, PacketKind::Other);
+    assert_is(&rt, NO_ADDRESS, PacketKind::Other);
+    let header = packet(HEADER).header().expect(&rt, "a header");
+    assert_is(&rt, HEADER, PacketKind::ThisPage(header));
+}
+
+#[test]
+fn gives_the_header_with_what_a_packet_is(rt: HostRuntime) {
     let page_id = PageId::parse("888").expect(&rt, "page 888");
     assert_same(&rt, &Keep::tune(page_id, Page::blank()).watched(), &page_id);
-    for (start, want) in [
-        (CLOSING, PacketKind::EndsPage),
-        (SERIAL_188, PacketKind::EndsPage),
-        (PAGE_188, PacketKind::Other),
-        (ROW_22, PacketKind::Row(22)),
-        (ROW_122, PacketKind::Other),
-        (NO_ADDRESS, PacketKind::Other),
-    ] {
-        assert_same(&rt, &PacketKind::of(page_id, &packet(start)), &want);
-    }
-    let header = packet(HEADER).header().expect(&rt, "a header");
-    assert_same(
-        &rt,
-        &PacketKind::of(page_id, &packet(HEADER)),
-        &PacketKind::ThisPage(header),
-    );
-    let (_, other) = PacketKind::with_header(page_id, &packet(PAGE_188));
-    assert_same_in(&rt, &other, &packet(PAGE_188).header(), &"another page");
+    let another = packet(PAGE_188);
+    let (_, header) = PacketKind::with_header(page_id, &another);
+    assert_same(&rt, &header, &another.header());
 }
