@@ -3,8 +3,74 @@
 use super::files::{ALONE, a_file};
 use crate::asserting::{assert_same, assert_same_in};
 use fixtures::block;
+use std::process::Abort;
 use stl_file::{Gsi, StlReader, Subtitle, TimeCode, Tti, five_digits_of};
 use sub_io::MemSource;
+
+// The fields of a GSI block that have more than one byte, and what no field takes, in their order.
+fn field(gsi: &Gsi, number: usize) -> &[u8] {
+    match number {
+        0 => gsi.cpn(),
+        1 => gsi.dfc(),
+        2 => gsi.cct(),
+        3 => gsi.lc(),
+        4 => gsi.opt(),
+        5 => gsi.oet(),
+        6 => gsi.tpt(),
+        7 => gsi.tet(),
+        8 => gsi.tn(),
+        9 => gsi.tcd(),
+        10 => gsi.slr(),
+        11 => gsi.cd(),
+        12 => gsi.rd(),
+        13 => gsi.rn(),
+        14 => gsi.tnb(),
+        15 => gsi.tns(),
+        16 => gsi.tng(),
+        17 => gsi.mnc(),
+        18 => gsi.mnr(),
+        19 => gsi.tcp(),
+        20 => gsi.tcf(),
+        21 => gsi.co(),
+        22 => gsi.publisher(),
+        23 => gsi.en(),
+        24 => gsi.ecd(),
+        25 => gsi.spare(),
+        _ => gsi.uda(),
+    }
+}
+
+// Where each of them stands in the block, and how long it is.
+#[rattlefmt::skip]
+const FIELDS: [[usize; 2]; 27] = [
+    [0, 3], // CPN
+    [3, 8], // DFC
+    [12, 2], // CCT
+    [14, 2], // LC
+    [16, 32], // OPT
+    [48, 32], // OET
+    [80, 32], // TPT
+    [112, 32], // TET
+    [144, 32], // TN
+    [176, 32], // TCD
+    [208, 16], // SLR
+    [224, 6], // CD
+    [230, 6], // RD
+    [236, 2], // RN
+    [238, 5], // TNB
+    [243, 5], // TNS
+    [248, 3], // TNG
+    [251, 2], // MNC
+    [253, 2], // MNR
+    [256, 8], // TCP
+    [264, 8], // TCF
+    [274, 3], // CO
+    [277, 32], // PUB
+    [309, 32], // EN
+    [341, 32], // ECD
+    [373, 75], // spare
+    [448, 576], // UDA
+];
 
 #[test]
 fn reads_each_gsi_field_at_its_place(rt: HostRuntime) {
@@ -14,54 +80,15 @@ fn reads_each_gsi_field_at_its_place(rt: HostRuntime) {
         bytes[i] = (i % 251) as u8;
     }
     let gsi = Gsi::read(&bytes);
-    for (name, field, at, len) in [
-        ("CPN", gsi.cpn(), 0, 3),
-        ("DFC", gsi.dfc(), 3, 8),
-        ("CCT", gsi.cct(), 12, 2),
-        ("LC", gsi.lc(), 14, 2),
-        ("OPT", gsi.opt(), 16, 32),
-        ("OET", gsi.oet(), 48, 32),
-        ("TPT", gsi.tpt(), 80, 32),
-        ("TET", gsi.tet(), 112, 32),
-        ("TN", gsi.tn(), 144, 32),
-        ("TCD", gsi.tcd(), 176, 32),
-        ("SLR", gsi.slr(), 208, 16),
-        ("CD", gsi.cd(), 224, 6),
-        ("RD", gsi.rd(), 230, 6),
-        ("RN", gsi.rn(), 236, 2),
-        ("TNB", gsi.tnb(), 238, 5),
-        ("TNS", gsi.tns(), 243, 5),
-        ("TNG", gsi.tng(), 248, 3),
-        ("MNC", gsi.mnc(), 251, 2),
-        ("MNR", gsi.mnr(), 253, 2),
-        ("TCP", gsi.tcp(), 256, 8),
-        ("TCF", gsi.tcf(), 264, 8),
-        ("CO", gsi.co(), 274, 3),
-        ("PUB", gsi.publisher(), 277, 32),
-        ("EN", gsi.en(), 309, 32),
-        ("ECD", gsi.ecd(), 341, 32),
-        ("spare", gsi.spare(), 373, 75),
-        ("UDA", gsi.uda(), 448, 576),
-    ] {
-        assert_same_in(&rt, &field.len(), &len, &name);
-        for i in 0..field.len() {
-            assert_same_in(
-                &rt,
-                &(field[i] as usize),
-                &((at % 251 + i % 251) % 251),
-                &(name, i),
-            );
-        }
+    for (number, place) in FIELDS.iter().enumerate() {
+        let (_, after) = bytes.split_at(place[0] % 1024);
+        assert_same_in(&rt, &field(&gsi, number).len(), &place[1], &number);
+        assert!(rt; after.starts_with(field(&gsi, number)), "field {number}");
     }
-    for (name, field, at) in [
-        ("DSC", gsi.dsc(), 11),
-        ("TCS", gsi.tcs(), 255),
-        ("TND", gsi.tnd(), 272),
-        ("DSN", gsi.dsn(), 273),
-    ] {
-        assert_same_in(&rt, &(field as usize), &(at % 251), &name);
-    }
-    assert!(rt; gsi.bytes().as_slice() == bytes.as_slice());
+    // The bytes at 11, 255, 272 and 273: DSC, TCS, TND and DSN
+    let single = [gsi.dsc(), gsi.tcs(), gsi.tnd(), gsi.dsn()];
+    assert_same(&rt, &single, &[11, 4, 21, 22]);
+    assert!(rt; *gsi.bytes() == bytes);
 }
 
 #[test]
@@ -147,41 +174,54 @@ fn takes_what_a_subtitle_can_be(rt: HostRuntime) {
     assert!(rt; unused.is_none());
 }
 
+// Asserts SGN, SN, VP, JC, TCI and TCO of the next subtitle, its text, and the block then.
+fn assert_reads(
+    rt: &impl Abort,
+    reader: &mut StlReader,
+    source: &mut MemSource,
+    fields: (u8, u16, u8, u8, u32, u32),
+    text: &[u8],
+    block: u32,
+) {
+    match reader.next(source) {
+        Ok(Some(subtitle)) => assert_holds(rt, &subtitle, fields, text),
+        _ => panic!(rt; "no subtitle before block {block}"),
+    }
+    assert_same(rt, &reader.block(), &block);
+}
+
+// Asserts SGN, SN, VP, JC, TCI and TCO of a subtitle, and its text.
+fn assert_holds(
+    rt: &impl Abort,
+    subtitle: &Subtitle,
+    (sgn, sn, vp, jc, tci, tco): (u8, u16, u8, u8, u32, u32),
+    text: &[u8],
+) {
+    assert_same(rt, &(subtitle.sgn(), subtitle.sn()), &(sgn, sn));
+    assert_same(rt, &(subtitle.vp(), subtitle.jc()), &(vp, jc));
+    assert_same(
+        rt,
+        &(subtitle.tci().frame(), subtitle.tco().frame()),
+        &(tci, tco),
+    );
+    assert!(rt; subtitle.text() == text);
+}
+
 #[test]
 fn gives_the_fields_of_the_first_block_and_the_text_of_all(rt: HostRuntime) {
     let file = a_file();
     let mut source = MemSource::new(&file);
     let mut reader = StlReader::open(&mut source).expect(&rt, "it is read");
     assert!(rt; reader.gsi().tnb() == b"99999".as_slice() && reader.block() == 0);
-    let first = reader
-        .next(&mut source)
-        .expect(&rt, "it is read")
-        .expect(&rt, "it is read");
-    assert_same(
-        &rt,
-        &(first.sgn(), first.sn(), first.vp(), first.jc()),
-        &(7, 0x0105, 20, 2),
-    );
-    assert_same(&rt, &(first.tci().frame(), first.tco().frame()), &(25, 50));
-    let text = first.text();
-    assert!(rt; text.len() == 224);
-    let (a, b) = text.split_at(112);
-    assert!(rt; a == [b'A'; 112].as_slice() && b == [b'B'; 112].as_slice());
-    assert_same(&rt, &reader.block(), &4);
-    let second = reader
-        .next(&mut source)
-        .expect(&rt, "it is read")
-        .expect(&rt, "it is read");
-    assert_same(
-        &rt,
-        &(second.sgn(), second.sn(), second.vp(), second.jc()),
-        &(7, 0x0106, 1, 0),
-    );
-    assert!(rt; second.text() == b"Hi".as_slice());
-    assert_same(&rt, &reader.block(), &5);
-    assert!(rt; reader.next(&mut source).expect(&rt, "it is read").is_none());
-    assert!(rt; reader.next(&mut source).expect(&rt, "it is read").is_none());
-    assert!(rt; Tti::read(&block(&ALONE, b"Hi")).sn() == second.sn());
+    let mut text = [b'A'; 224];
+    text[112..].copy_from_slice(&[b'B'; 112]);
+    let first = (7, 0x0105, 20, 2, 25, 50);
+    assert_reads(&rt, &mut reader, &mut source, first, &text, 4);
+    let second = (7, 0x0106, 1, 0, 50, 124);
+    assert_reads(&rt, &mut reader, &mut source, second, b"Hi", 5);
+    assert!(rt; matches!(reader.next(&mut source), Ok(None)));
+    assert!(rt; matches!(reader.next(&mut source), Ok(None)));
+    assert!(rt; Tti::read(&block(&ALONE, b"Hi")).sn() == 0x0106);
 }
 
 #[test]
@@ -190,34 +230,22 @@ fn reads_each_subtitle_into_one_that_is_kept(rt: HostRuntime) {
     let mut source = MemSource::new(&file);
     let mut reader = StlReader::open(&mut source).expect(&rt, "it is read");
     let mut subtitle = Subtitle::empty();
+    assert_holds(&rt, &subtitle, (0, 0, 1, 0, 0, 1), &[]);
     assert_same(
         &rt,
-        &(
-            subtitle.tci().frame(),
-            subtitle.tco().frame(),
-            subtitle.vp(),
-        ),
-        &(0, 1, 1),
+        &reader.next_into(&mut source, &mut subtitle),
+        &Ok(true),
     );
-    assert!(rt;
-        reader
-            .next_into(&mut source, &mut subtitle)
-            .expect(&rt, "it is read")
-    );
+    assert_same(&rt, &(subtitle.text().len(), reader.block()), &(224, 4));
     assert_same(
         &rt,
-        &(subtitle.sn(), subtitle.text().len(), reader.block()),
-        &(0x0105, 224, 4),
+        &reader.next_into(&mut source, &mut subtitle),
+        &Ok(true),
     );
-    assert!(rt;
-        reader
-            .next_into(&mut source, &mut subtitle)
-            .expect(&rt, "it is read")
-    );
-    assert!(rt; subtitle.sn() == 0x0106 && subtitle.text() == b"Hi".as_slice());
-    assert!(rt;
-        !reader
-            .next_into(&mut source, &mut subtitle)
-            .expect(&rt, "it is read")
+    assert_holds(&rt, &subtitle, (7, 0x0106, 1, 0, 50, 124), b"Hi");
+    assert_same(
+        &rt,
+        &reader.next_into(&mut source, &mut subtitle),
+        &Ok(false),
     );
 }

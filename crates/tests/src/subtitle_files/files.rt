@@ -1,9 +1,9 @@
 //! Files as bytes, and what a reader says of a whole source.
 
-ghost use Rattle.std.specs.Prelude.{◌≡◌, ◌+◌, ◌<◌, ◌≤◌, length};
+ghost use Rattle.std.specs.Prelude.{◌≡◌, length};
 ghost use Rattle.sub_io.specs.Device.{CanFail};
 
-use fixtures::{block, gsi};
+use fixtures::{block, gsi, put};
 use stl_file::{StlFault, StlReader};
 use sub_io::Source;
 
@@ -21,14 +21,6 @@ pub(crate) const COMMENT: [u8; 16] = [7, 5, 1, 0xff, 9, 9, 99, 9, 9, 9, 9, 9, 9,
 
 /// User data: EBN FE, whatever its CF.
 pub(crate) const USER_DATA: [u8; 16] = [9, 9, 9, 0xfe, 9, 9, 9, 9, 9, 9, 9, 9, 9, 99, 9, 9];
-
-/// Puts bytes at a place.
-pub(crate) fn put(file: &mut [u8], at: usize, bytes: &[u8])
-    requires { at + length bytes.now ≤ length file.old }
-    ensures { length file.new ≡ length file.old }
-{
-    file[at..at + bytes.len()].copy_from_slice(bytes);
-}
 
 /// Sets one byte, where the file is so long.
 pub(crate) fn set(file: &mut [u8], at: usize, byte: u8)

@@ -2,9 +2,9 @@
 //! program's
 //! `normal`.
 
-use super::files::{ALONE, FIRST, LAST, a_file, put};
+use super::files::{ALONE, FIRST, LAST, a_file};
 use crate::asserting::assert_same;
-use fixtures::{block, gsi};
+use fixtures::{block, gsi, put};
 use stl_file::{StlReader, normal, write_subtitle};
 use sub_io::{MemSink, MemSource};
 
