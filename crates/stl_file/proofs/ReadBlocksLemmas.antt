@@ -1,6 +1,7 @@
 -- The loop over blocks: what they and any more bytes give; main lemmas: reads_on, leads_given,
 -- leads_refused, fails_finding.
-use Rattle.std.proofs.Common.{rules, ◌≡◌, ◌*◌, ℕ, Bool, false, true, List, [], ◌++◌, length, refl, sym, ap, ◌∙◌}
+use Rattle.std.proofs.Common.{rules, ◌≡◌, ◌*◌, ℕ, Bool, false, true, List, [], ◌++◌, length, refl}
+use Rattle.std.proofs.Common.{sym, ap, ◌∙◌}
 use Rattle.std.proofs.Common.{append_assoc, arith, length-append, take, drop, Option, None, Result}
 use Rattle.std.proofs.Common.{Ok, Err, suc, ◌+◌, ◌-◌, ◌<◌, ◌≤◌, ◌/◌, length-take}
 use Rattle.std.proofs.lemmas.Bool.Decides.{nat_tests}
@@ -21,7 +22,8 @@ use Rattle.stl_file.specs.Resuming.{FailsFinding, LeadsOn, findings_after, findi
 use Rattle.stl_file.specs.Resuming.{findings_from, finds_end, found_of, refused_at}
 use Rattle.stl_file.specs.Fault.{is_cut, is_of_block}
 use Rattle.stl_file.proofs.StepLemmas.{step_gives}
-use Rattle.stl_file.proofs.FindingsLemmas.{findings_block, findings_full, findings_short, finds_from}
+use Rattle.stl_file.proofs.FindingsLemmas.{findings_block, findings_full, findings_short}
+use Rattle.stl_file.proofs.FindingsLemmas.{finds_from}
 
 -- ---- what was read so far
 

@@ -16,7 +16,8 @@ use Rattle.stl_file.specs.Reader.{TakesPassed, Refuses, FailsReading, EndsKept}
 use Rattle.stl_file.specs.Reader.{ReaderValue, Answers, progress_after, tells_end}
 use Rattle.stl_file.specs.Subtitle.{SubtitleValue}
 use Rattle.stl_file.specs.Reading.{Begun}
-use Rattle.stl_file.specs.Resuming.{FailsFinding, LeadsOn, findings_by, finds_end, found_of, stopped}
+use Rattle.stl_file.specs.Resuming.{FailsFinding, LeadsOn, findings_by, finds_end, found_of}
+use Rattle.stl_file.specs.Resuming.{stopped}
 use Rattle.stl_file.proofs.SubtitleBlocksLemmas.{length-joined}
 use Rattle.stl_file.proofs.FindingsLemmas.{names-stopped, stopped_is}
 use Rattle.stl_file.proofs.OutcomeLemmas.{outcome_end}

@@ -86,8 +86,8 @@ impl ResumingReader {
     /// Finds what is next, and reads a subtitle into one that the caller keeps. It is called until
     /// it answers `End` or a fault.
     ///
-    /// A subtitle is what `StlReader::next` would give. Where none is found, nothing is said of what
-    /// it holds. Blocks that are passed over stand before and within subtitles, refused ones too.
+    /// A subtitle is what `StlReader::next` would give. Where none is found, nothing is said of
+    /// what it holds. Comments and user data are passed over, within refused subtitles too.
     ///
     /// # Errors
     ///
