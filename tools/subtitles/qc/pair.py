@@ -14,6 +14,7 @@ from .kinds import is_recording
 from .live import Live
 from .names import Names
 from .recording import Recording
+from .source import STANDARD_INPUT
 from .speech import Speech
 from .steps import Found, Steps, Stretch, origin_words
 from .sums import file_of
@@ -41,6 +42,8 @@ class Pair:
             raise Unclear(f"{asked.stl} is no file, or is not there")
         if is_recording(asked.stl):
             raise Unclear(f"{asked.stl} is a recording: the subtitle file stands before it")
+        if asked.recording is not None and asked.recording != STANDARD_INPUT:
+            os.stat(asked.recording)  # a name that is wrong is told before anything is judged
         if self.is_summed:
             self.verdict.stl = file_of(asked.stl, asked.stl)
         answer = self.steps.check_alone()

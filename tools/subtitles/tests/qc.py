@@ -3,6 +3,7 @@ from __future__ import annotations
 
 import json
 import os
+import select
 import subprocess
 
 from ..built import TOP
@@ -232,13 +233,24 @@ def judges_part_by_part(case: Case) -> None:
 def waits_for_the_end_where_there_is_a_break(case: Case) -> None:
     """The origin that is found in a feed is not that of all: it is judged part by part then."""
     stl, data = in_two_parts(case)
-    half = len(b"".join(packets(data)[:40]))
-    command = '(head -c "$1" "$2"; sleep 6; tail -c +"$(($1 + 1))" "$2") | "$3" "$4" - -p "$5"'
-    done = case.call(["sh", "-c", command, "sh", str(half), case.write("two.pes", data),
-                      os.path.join(TOP, "tools", "qc"), stl, case.bench.program])
-    lines = lines_of(done)
-    case.test("in two parts", done.status == 0 and lines[-1].endswith(" in 2 parts"), done)
-    case.test("it was found", "/dev/stdin --origin 1000 --all" in lines[0], done)
+    process = subprocess.Popen([os.path.join(TOP, "tools", "qc"), stl, "-", "-p",
+                                case.bench.program], cwd=case.folder, stdin=subprocess.PIPE,
+                               stdout=subprocess.PIPE)
+    assert process.stdin and process.stdout
+    sent = iter(packets(data))
+    for one in sent:
+        process.stdin.write(one)
+        process.stdin.flush()
+        if pts_in(one) > 1000 + (900_000 + 600) * TICKS:  # some subtitles have come and gone
+            if select.select([process.stdout], [], [], 1.0)[0]:
+                break
+    first = process.stdout.readline().decode()
+    case.test("it was found", "/dev/stdin --origin 1000 --all" in first, first)
+    for one in sent:
+        process.stdin.write(one)
+    process.stdin.close()
+    lines = process.stdout.read().decode().splitlines()
+    case.test("in two parts", process.wait() == 0 and lines[-1].endswith(" in 2 parts"), lines)
 
 
 def leaves_inputs_alone(case: Case) -> None:
