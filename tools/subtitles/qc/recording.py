@@ -6,7 +6,7 @@ from typing import Iterator
 
 from ..files import Damaged
 from ..pes import pes_packets
-from ..words import pid_name
+from ..words import counted, pid_name
 from .asked import Asked
 from .carriers import Carrier, Carriers, Kept
 from .feed import Feed
@@ -106,6 +106,8 @@ class Recording:
                                 self.names.whole)
             for line in carrier.extractor.last_lines():
                 self.speech.say(line)
+        if carriers.skipped:
+            self.speech.say(f"{counted(carriers.skipped, 'byte')} of no TS packet passed over")
         os.replace(carrier.path, self.path)
         for other in carriers.by_pid.values():
             if other is not carrier:

@@ -89,6 +89,9 @@ def completes(case):
     tool = os.path.join(TOP, "tools", "cut")
     case.test("a tool", {"--from", "--to", "--page", "--origin", "-o"} <= offered(tool, "-"),
               offered(tool, "-"))
+    tool = os.path.join(TOP, "tools", "qc")
+    case.test("qc", {"--batch", "--allow-lost", "--severity", "-o"} <= offered(tool, "-"),
+              offered(tool, "-"))
 
 
 def names_one_version(case):
