@@ -6,12 +6,11 @@ from typing import Iterable, Iterator, NamedTuple
 
 from ..files import Damaged
 from ..pes import data_field, has_pts, pes_packets, pts_in, teletext_packets
-from ..preview.receiver import BLANK_PAGE, OLD, STORED, TUNED, Packet, State, hear
+from ..preview.receiver import BLANK_PAGE, OLD, STORED, TUNED, Packet, hear
 from ..teletext import address_of, header_of
 from ..times import CLOCK, FRAMES_OF_A_DAY, TICKS
 from .told import PASSED_OVER, Told
 
-Page = "tuple[bytes, ...]"
 ROWS = 24
 
 
@@ -27,17 +26,23 @@ class Listener:
         field = data_field(data)
         if field == self.field and self.is_settled:
             return
-        before: State = self.state
-        for packet in teletext_packets(field):
-            magazine, number = address_of(packet) or (None, None)
-            if number == 0:
-                header = header_of(packet)
-                if header:
-                    self.state = hear(self.state, Packet(magazine, 0, header), self.page)
-            elif magazine == self.page[0] and number is not None and number <= ROWS:
-                row = Packet(magazine, number, packet[2:].translate(STORED))
-                self.state = hear(self.state, row, self.page)
+        before = self.state
+        for packet in map(self.packet, teletext_packets(field)):
+            if packet:
+                self.state = hear(self.state, packet, self.page)
         self.field, self.is_settled = field, before == self.state
+
+    def packet(self, data: bytes) -> Packet | None:
+        """A header, or a row of the magazine; the receiver does nothing about other packets."""
+        address = address_of(data)
+        if address is None:
+            return None
+        magazine, number = address
+        if number == 0:
+            header = header_of(data)
+            return Packet(magazine, 0, header) if header else None
+        is_row = magazine == self.page[0] and number <= ROWS
+        return Packet(magazine, number, data[2:].translate(STORED)) if is_row else None
 
 
 class Due:
