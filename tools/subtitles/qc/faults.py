@@ -26,6 +26,8 @@ class Cell(TypedDict):
 
 
 class SubtitleWords(TypedDict):
+    """A subtitle: SN, TCI and TCO."""
+
     number: int
     begin: str
     end: str
@@ -145,11 +147,13 @@ class PartFaults:
         return time_of(frame) if rest == 0 and frame < FRAMES_OF_A_DAY else None
 
     def due_cell(self, told: Told) -> Cell | None:
-        is_content = self.due and told.number == CONTENT and told.frame is not None
-        return self.cell(self.due.at(told.frame), told) \
-            if self.due and is_content and told.frame is not None else None
+        """The cell of a 72 as it is due."""
+        if self.due is None or told.number != CONTENT or told.frame is None:
+            return None
+        return self.cell(self.due.at(told.frame), told)
 
     def held_cell(self, told: Told, place: Place) -> Cell | None:
+        """The same as it is held."""
         return self.cell(place.rows, told) if told.number == CONTENT else None
 
     def cell(self, rows: tuple[bytes, ...] | None, told: Told) -> Cell | None:
