@@ -96,7 +96,8 @@ def ends_with_a_feed_that_goes_on(case: Case) -> None:
         later, lambda _, pts: pts + 5_000_000_000 + 25 * TICKS))
     process = subprocess.Popen(["bash", "-c", command, "bash", case.write("feed.ts", data),
                                 os.path.join(TOP, "tools", "qc"), STORY, case.bench.program],
-                               stdout=subprocess.PIPE, start_new_session=True, cwd=case.folder)
+                               stdout=subprocess.PIPE, stderr=subprocess.DEVNULL,
+                               start_new_session=True, cwd=case.folder)
     assert process.stdout
     said = []
     for line in process.stdout:
