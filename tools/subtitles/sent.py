@@ -2,11 +2,12 @@
 from __future__ import annotations
 
 import collections
-from typing import NamedTuple
+from typing import Iterable, NamedTuple
 
 from .pes import UNIT, data_field, has_pts, pts_in
 from .teletext import MIRROR, Page, address_of, is_odd, mirrored
-from .units import ADDRESS, MAY_BE_HEADER, TELETEXT, TEXT, Units, of_magazine
+from .units import (
+    ADDRESS, MAY_BE_HEADER, TELETEXT, TEXT, Units, has_no_header, of_magazine)
 
 ERASE, SUBTITLE, SERIAL = 8, 8, 1  # C4, C6 and C11, in the fourth, sixth and eighth number
 ROWS = range(1, 25)
@@ -38,6 +39,14 @@ class Sent:
         self.first: int | None = None
         self.last: int | None = None
         self.others: collections.Counter[Page] = collections.Counter()
+
+    def take_all(self, packets: Iterable[bytes]) -> None:
+        """Hears PES packets. While the page is not open nothing but a header is of interest."""
+        for data in packets:
+            if self.is_open or not has_no_header(data):
+                self.take(data)
+            elif has_pts(data):
+                self.field, self.has_header = b"", False
 
     def take(self, data: bytes) -> None:
         """Hears a PES packet; one without a PTS has no time, and is passed over."""

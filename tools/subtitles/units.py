@@ -63,6 +63,14 @@ class Units:
             number = marks.find(1, number + 1)
 
 
+def has_no_header(packet: bytes) -> bool:
+    """Whether it is plain that no data unit of a PES packet is a page header."""
+    first = 10 + packet[8] if len(packet) > 9 else len(packet)
+    lengths = packet[first + 1::UNIT]
+    return lengths.count(LENGTH) == len(lengths) \
+        and 1 not in packet[first + 1 + ADDRESS.start::UNIT].translate(MAY_BE_HEADER)
+
+
 def units_one_by_one(packet: bytes, at: int) -> Iterator[bytes]:
     """The data units of 46 bytes where there are others too, each after the end of the one before.
     """

@@ -9,6 +9,7 @@ import array
 import bisect
 import collections
 import copy
+import decimal
 import heapq
 from typing import Hashable, Iterable, NamedTuple, Sequence
 
@@ -16,6 +17,7 @@ from .sent import Change
 from .times import CLOCK, TICKS
 
 VOTES = 4_000_000  # how many are counted; of longer files some changes vote for all
+LONG = 600_000  # frames of an election in which each pair is counted by itself
 REPEATED = 20  # subtitles with the same letters; where there are more, their text does not vote
 TRIED = 64  # origins that are held against all edges
 MOST_APART = 50  # frames between all beginnings and all ends
@@ -106,11 +108,7 @@ class Election:
         # The frame that a change gives the first PTS, if it is that of an edge, is its frame less
         # its distance: from `least` on.
         least, most = self.frames[0] - max(self.changes), self.frames[-1]
-        votes = array.array("I", bytes(4 * (most - least + 1)))
-        for frames in self.sample():
-            shift = frames + least
-            for frame in self.frames:
-                votes[frame - shift] += 1
+        votes = differences(self.frames, self.sample(), least, most - least + 1)
         for start, count in self.alike().items():
             votes[start - least] += 2 * count
         best = heapq.nlargest(TRIED, range(len(votes)), votes.__getitem__)
@@ -173,6 +171,41 @@ class Election:
         """The letters to which the page changes so many frames after the first PTS."""
         change = self.changes.get(frames)
         return change[0] if change else None
+
+
+def differences(frames: Sequence[int], others: Sequence[int], least: int,
+                size: int) -> array.array[int]:
+    """How often each number from `least` on is a frame less one of others.
+
+    It is the product of two polynomials, which decimal numbers are multiplied as: in so many digits
+    for each coefficient as hold the highest count. Of long files each pair is counted by itself.
+    """
+    if size > LONG:
+        votes = array.array("I", bytes(4 * size))
+        for other in others:
+            shift = other + least
+            for frame in frames:
+                votes[frame - shift] += 1
+        return votes
+    digits, last = len(str(min(len(frames), len(others)))), max(others)
+    numbers = [sparse((frame - frames[0] for frame in frames), digits),
+               sparse((last - other for other in others), digits)]
+    room = sum(map(len, numbers))
+    exact = decimal.Context(prec=room, Emax=decimal.MAX_EMAX, Emin=decimal.MIN_EMIN)
+    product = exact.multiply(*(decimal.Decimal(one) for one in numbers))
+    text = f"{product:f}".zfill(digits * size)
+    first = frames[0] - last - least  # what the lowest digits count
+    counts = [int(text[at - digits:at]) for at in range(len(text), 0, -digits)]
+    return array.array("I", ([0] * first + counts)[:size])
+
+
+def sparse(places: Iterable[int], digits: int) -> str:
+    """A number with a 1 at some places, each so many digits wide, the lowest last."""
+    known = list(places)
+    found = bytearray(b"0") * (digits * (max(known) + 1))
+    for place in known:
+        found[len(found) - 1 - digits * place] = ord("1")
+    return found.decode()
 
 
 def points(fit: Fit) -> int:

@@ -5,7 +5,7 @@ import collections
 import itertools
 
 from ..times import FRAMES_OF_A_DAY, frame_at
-from .receiver import TUNED, control_bits, hear, packets_of
+from .receiver import TUNED, control_words, hear, packets_of
 
 
 class PageCount:
@@ -86,8 +86,11 @@ class Heard:
         self.last_frame, self.last_heard = frame, (self.count, self.units)
         if self.has_header:
             self.sendings.append(frame)
-        if not self.is_settled:
+        # While the page is not open, nothing but a header of it changes what is held.
+        if not self.is_settled and (self.has_header or self.state.is_open):
             before = self.state
+            if self.packets is None:
+                self.packets = packets_of(self.units, self.page[0])
             for packet in self.packets:
                 self.state = hear(self.state, packet, self.page)
             # The same packets again change nothing where they changed nothing now.
@@ -109,19 +112,21 @@ class Heard:
         """Begins a run of PES packets with the same units."""
         self.close_run()
         self.units, self.run, self.begin, self.is_settled = units, 0, place, False
-        self.packets = packets_of(units, self.page[0])
+        self.packets = None  # a receiver hears them only where the page is open, or is sent
         self.headers = [((one.magazine, one.content[0] + 16 * one.content[1]), one.content)
-                        for one in self.packets if one.number == 0]
+                        for one in packets_of(units, None)]
         self.has_header = any(page == self.page for page, _ in self.headers)
 
     def close_run(self):
         """Counts the headers of the run that ends."""
         if self.run:
             for page, header in self.headers:
-                known = self.pages.setdefault(page, PageCount(self.begin))
+                known = self.pages.get(page)
+                if known is None:
+                    known = self.pages[page] = PageCount(self.begin)
                 known.count += self.run
                 known.last = self.last
-                known.bits[" ".join(control_bits(header)) or "none"] += self.run
+                known.bits[control_words(header)] += self.run
         self.run = 0
 
     def state_at(self, frame):

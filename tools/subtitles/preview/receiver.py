@@ -5,6 +5,7 @@ which nobody sent since the receiver was tuned in, or a space whose byte had eve
 """
 import collections
 import functools
+import re
 
 from ..teletext import NUMBER, is_odd
 
@@ -53,6 +54,24 @@ def address_of(digits):
     return None if low is None or high is None else (low & 7, low + 16 * high >> 3)
 
 
+def digits_of(wanted):
+    """A pattern for the digits of bytes with some numbers: few choices, since each costs time."""
+    seconds, firsts = collections.defaultdict(str), collections.defaultdict(str)
+    for byte, number in enumerate(NUMBER):
+        if number in wanted:
+            seconds[f"{byte >> 4:x}"] += f"{byte & 15:x}"
+    for first, some in seconds.items():
+        firsts[some] += first
+    return "|".join(f"[{some}][{second}]" for second, some in firsts.items())
+
+
+@functools.lru_cache(maxsize=None)
+def lines_with(magazine):
+    """A pattern for lines that may be of a header, or of a row of a magazine, `None` for none."""
+    rows = "" if magazine is None else f"|(?:{digits_of((magazine, magazine + 8))}).."
+    return re.compile(rf"line [0-9]+ (?:..(?:{digits_of((0,))}){rows}).{{80}}".encode())
+
+
 @functools.lru_cache(maxsize=1 << 12)
 def header_of(digits):
     """The eight numbers of a header's coded bytes, `None` where one of these means nothing."""
@@ -61,9 +80,10 @@ def header_of(digits):
 
 
 def packets_of(units, magazine):
-    """Of the lines of a PES packet's units the headers, and the rows of a magazine."""
+    """Of the lines of a PES packet's units the headers, and the rows of a magazine, `None` for none.
+    """
     found = []
-    for line in units.splitlines():
+    for line in lines_with(magazine).findall(units):
         address = address_of(line[-84:-80])
         if address is None:
             continue
@@ -80,6 +100,12 @@ def packets_of(units, magazine):
 def control_bits(header):
     """The names of the control bits that are set, C4 to C14."""
     return [f"C{name}" for name, at, bit in CONTROL_BITS if header[at] >> bit & 1]
+
+
+@functools.lru_cache(maxsize=1 << 12)
+def control_words(header):
+    """The same, or that there are none."""
+    return " ".join(control_bits(header)) or "none"
 
 
 def national_option(header):
