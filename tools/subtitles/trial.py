@@ -155,12 +155,20 @@ def packets_before(data, offset):
     return count
 
 
+def block_in(line):
+    """The block that a line `refused NN Name block N` names."""
+    return int(line.split()[4])
+
+
 def text_of_read(trial, command, name, offset):
     """What is printed where the read fails that begins at a byte of an input."""
     lines = command.printed.splitlines(True)
     if name.endswith(".stl"):
         block = 0 if offset < GSI else (offset - GSI) // TTI + 1
         before = lines[:max(block - 1, 0)] if command.words[0] == "show" else []
+        if "--all" in command.words:
+            # Reading went on after what was told of the blocks before.
+            before = [line for line in lines if b" block " in line and block_in(line) < block]
         return b"".join(before) + b"fault 26 Read block %d\n" % block
     index = packets_before(trial.inputs[name], offset)
     starts = [at for at, line in enumerate(lines) if line.startswith(b"pes ")] + [len(lines) - 1]
