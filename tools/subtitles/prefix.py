@@ -9,6 +9,7 @@ from .words import INSTALLED
 
 TOOLS = ["cut", "origin", "part", "pes2ts", "preview", "qc", "text", "ts2pes"]
 PAGES = ["subttx.1", "subttx-qc.1"]
+MANUAL = os.path.join("docs", "manual")
 READ = [os.path.join("docs", "MANUAL.md"), os.path.join("docs", "verdict.schema.json"), "VERSION"]
 COMPLETION = os.path.join("tools", "completion.bash")
 
@@ -40,6 +41,8 @@ def copy_tools(prefix: str) -> None:
     shutil.copytree(os.path.join(TOP, "tools", "subtitles"),
                     os.path.join(home, "tools", "subtitles"),
                     ignore=shutil.ignore_patterns("__pycache__", "tests"))
+    shutil.rmtree(os.path.join(home, MANUAL), ignore_errors=True)
+    shutil.copytree(os.path.join(TOP, MANUAL), os.path.join(home, MANUAL))
     for name in READ:
         copy(os.path.join(TOP, name), os.path.join(home, name))
     link(os.path.join("..", "..", "bin", "subttx"), os.path.join(home, "subttx"))

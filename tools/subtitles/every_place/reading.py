@@ -1,7 +1,7 @@
 """Subtitle files, PES packets and page headers, read as the standards say it, and what is wrong.
 
 Subtitle files are read by EBU Tech 3264, PES packets by EN 300 472, Teletext packets by EN 300 706,
-with the limits of docs/MANUAL.md. Numbers of faults are those of the manual's tables. Nothing here
+with the limits of docs/manual/limits.md. Numbers of faults are those of the manual's tables. Nothing here
 was written from the program's sources.
 """
 import collections

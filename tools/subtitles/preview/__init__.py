@@ -5,7 +5,7 @@ faults     what `check --all` tells, as entries of a list and as spans of frames
 receiver   the model receiver: one step of it, and what it reads of the lines of `packets`
 listening  a listing heard to its end: pages, sendings, and what was held at the frames asked for
 fits       how far the sending is that would fit
-manual     what docs/MANUAL.md says a refusal means, and what to do
+manual     what docs/manual/refusals.md says a refusal means, and what to do
 letters    the characters of the two national options
 drawing    a page as Teletext level 1 draws it, as SVG
 figures    the pictures at a frame

@@ -10,6 +10,7 @@ from ..times import frame_of
 from . import TOP, cases
 from .faults import MOST_ENTRIES
 from .letters import ENGLISH, GERMAN, letters
+from .manual import CHAPTER
 
 PREVIEW = os.path.join(TOP, "tools", "preview")
 HTML, SVG = "{http://www.w3.org/1999/xhtml}", "{http://www.w3.org/1999/xhtml}svg"
@@ -96,7 +97,7 @@ def test_page(trial, one, root, text, verdict):
                len(box) == 1 and kind in box[0].get("class").split())
     if kind == "refused":
         words = [item.text for item in box[0].iter(HTML + "dt")]
-        is_there = os.path.exists(os.path.join(TOP, "docs", "MANUAL.md"))
+        is_there = os.path.exists(CHAPTER)
         trial.test(f"{one.name}: what it means and what to do",
                    words == ["means", "do"] or not is_there, words)
 

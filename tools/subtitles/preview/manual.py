@@ -1,4 +1,4 @@
-"""What docs/MANUAL.md says that a refusal means, and what to do: read from its tables."""
+"""What the manual says that a refusal means, and what to do: read from its tables."""
 import collections
 import html
 import os
@@ -6,22 +6,20 @@ import re
 
 from . import TOP
 
-MANUAL = os.path.join(TOP, "docs", "MANUAL.md")
-CHAPTER = "## Refusals"
+CHAPTER = os.path.join(TOP, "docs", "manual", "refusals.md")
 
 Meaning = collections.namedtuple("Meaning", "name means do")
 
 
 def meanings():
     """By number; empty where the manual does not stand beside tools/."""
-    found, last, is_there = {}, "", False
-    if not os.path.isfile(MANUAL):
+    found, last = {}, ""
+    if not os.path.isfile(CHAPTER):
         return found
-    with open(MANUAL, encoding="utf-8") as file:
+    with open(CHAPTER, encoding="utf-8") as file:
         for line in file:
             cells = [cell.strip() for cell in line.strip().strip("|").split("|")]
-            is_there = is_there or line.startswith(CHAPTER)
-            if is_there and len(cells) >= 4 and cells[0].isdecimal():
+            if len(cells) >= 4 and cells[0].isdecimal():
                 last = cells[-1].replace("the same", last) if cells[-1].startswith("the same") \
                     else cells[-1]
                 found[int(cells[0])] = Meaning(cells[1], cells[-2], last)

@@ -93,7 +93,7 @@ def verdict_box(report):
             parts.append(f"<dl><dt>means</dt><dd>{marked_up(meaning.means)}</dd>"
                          f"<dt>do</dt><dd>{marked_up(meaning.do)}</dd></dl>")
         else:
-            parts.append("<p>docs/MANUAL.md, which says what it means, is not beside tools/.</p>")
+            parts.append("<p>docs/manual/, which says what it means, is not beside tools/.</p>")
     else:
         parts.append(f"<p>{ACCEPTED}</p>")
     kind, shape = ("refused", BAD) if verdict.status else ("accepted", GOOD)

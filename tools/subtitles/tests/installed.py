@@ -1,4 +1,5 @@
 """tools/install and tools/dist: what they make is run from another folder."""
+import glob
 import os
 import re
 import shutil
@@ -79,8 +80,8 @@ def completes(case):
                           os.path.join(TOP, "tools", "completion.bash"), *words])
         return set(done.out.decode().split())
 
-    manual = read(os.path.join(TOP, "docs", "MANUAL.md"))
-    headings = re.findall(r"^### `(\w+) (.*)`$", manual, re.MULTILINE)
+    paths = glob.glob(os.path.join(TOP, "docs", "manual", "*.md"))
+    headings = re.findall(r"^## `(\w+) (.*)`$", "".join(map(read, paths)), re.MULTILINE)
     case.test("commands", offered("subttx", "") == {name for name, _ in headings}, headings)
     for name, words in headings:
         options = set(re.findall(r"--\w+", words))
