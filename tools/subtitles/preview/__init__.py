@@ -1,10 +1,12 @@
 """Parts of tools/preview, one idea each.
 
+report     all that the page is made of
 program    what `subttx` is asked, and its lines as values
 faults     what `check --all` tells, as entries of a list and as spans of frames
 receiver   the model receiver: one step of it, and what it reads of the lines of `packets`
 listening  a listing heard to its end: pages, sendings, and what was held at the frames asked for
 fits       how far the sending is that would fit
+counts     how many faults there are of each number, and what it means
 manual     what docs/manual/refusals.md says a refusal means, and what to do
 letters    the characters of the two national options
 drawing    a page as Teletext level 1 draws it, as SVG
@@ -19,6 +21,7 @@ page       the whole report
 cases      transmissions for tools/check-preview
 noise      transmissions at random
 comparing  a report held against what the program prints
+refused    reports of refused subtitle files, of what may be trusted, and the foot
 measures   how a report looks in a browser
 """
 import os

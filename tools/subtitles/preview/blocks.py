@@ -1,117 +1,188 @@
 """A refused subtitle file: its broken place, and all its refused subtitles as text."""
-import bisect
-import itertools
+from __future__ import annotations
 
-from ..stl import GSI, LAST, TTI
-from ..times import time_of
-from .manual import shown
-from .program import verdict_of
+import itertools
+from typing import TYPE_CHECKING, Iterable, NamedTuple
+
+from ..qc.subtitle_file import COMMENT, Subtitle, SubtitleFile
+from ..stl import GSI, LAST, TTI, USER_DATA
+from ..times import frame_of
+from ..words import counted
+from .manual import number_link, shown
+from .program import Verdict, verdict_of
+
+if TYPE_CHECKING:
+    from .report import Report
 
 NAMED = ' class="named"'
-ORDER_FAULTS, BYTE_FAULTS, ROW_FAULTS = (56, 57), (50, 51), range(50, 56)
+ORDER_FAULTS = 56, 57
+BYTE_FAULTS, ROW_FAULTS = (50, 51), range(50, 56)
+OF_FIRST_BLOCK = (16, 18, 19, 20, 21)  # after these the list goes on, as if it were not there
+ENDS = (*range(10, 16), 17, *range(22, 26))  # reading ends at one of these
+# The field of a TTI block, or of the GSI block, that a fault is about: its name and its bytes.
+FIELDS = {11: ("DFC", slice(3, 11)), 12: ("DFC", slice(3, 11)), 13: ("DSC", slice(11, 12)),
+          14: ("CCT", slice(12, 14)), 15: ("EBN", slice(3, 4)), 16: ("CS", slice(4, 5)),
+          17: ("CF", slice(15, 16)), 18: ("JC", slice(14, 15)), 19: ("VP", slice(13, 14)),
+          22: ("SGN and SN", slice(0, 3))}
 FIRST_LINES, LAST_LINES = 200, 20  # of what `show` prints
 
 
+class Times(NamedTuple):
+    """TCI and TCO as HTML."""
+
+    begin: str
+    end: str
+
+
 class Blocks:
-    """The subtitles of a file by their last blocks."""
+    """The blocks of a file, and the subtitles that they are of."""
 
-    def __init__(self, path, subtitles):
-        self.subtitles, self.ends = subtitles, []
-        with open(path, "rb") as file:
-            file.seek(GSI)
-            for number in itertools.count(1):
-                block = file.read(TTI)
-                if len(block) < TTI:
+    def __init__(self, path: str, told: Iterable[Verdict]) -> None:
+        self.file = SubtitleFile(path)
+        self.count = len(self.file.firsts) - 1
+        self.passed_over = {one.block for one in told if one.number in OF_FIRST_BLOCK}
+
+    def is_text(self, block: int) -> bool:
+        """Whether a block is of a subtitle: it holds no user data and is no comment."""
+        one = self.file.block(block)
+        return one[3] != USER_DATA and one[15] != COMMENT
+
+    def subtitle(self, block: int | None) -> Subtitle | None:
+        """The subtitle of a block; `None` for the GSI block, and for one that is cut."""
+        return None if block is None else self.file.at_block(block)
+
+    def text(self, block: int) -> bytes:
+        """The text of a block's subtitle, as far as there are blocks of it."""
+        first, last = self.file.firsts[block], block
+        for number in range(block, self.count + 1):
+            if self.file.firsts[number] == first and self.is_text(number):
+                last = number
+                if self.file.block(number)[3] == LAST:
                     break
-                if block[3] == LAST and block[15] == 0:
-                    self.ends.append(number)
+        return self.file.text(last)
 
-    def before(self, block):
-        """The subtitle whose last block comes before a block, `None` where there is none."""
-        at = bisect.bisect_left(self.ends, block) - 1
-        return self.subtitles[at] if 0 <= at < len(self.subtitles) else None
+    def row(self, block: int) -> int:
+        """The row of the first line of a block's subtitle (VP)."""
+        return self.file.block(self.file.firsts[block])[13]
 
-    def ending_at(self, block):
-        """The subtitle whose last block it is, `None` where it is none."""
-        at = bisect.bisect_left(self.ends, block)
-        is_one = at < len(self.ends) and self.ends[at] == block and at < len(self.subtitles)
-        return self.subtitles[at] if is_one else None
+    def before(self, block: int) -> Subtitle | None:
+        """The subtitle whose times those of a block's subtitle are held against."""
+        for number in range(self.file.firsts[block] - 1, 0, -1):
+            if self.is_text(number) and self.file.firsts[number] not in self.passed_over:
+                return self.subtitle(number)
+        return None
+
+    def field(self, fault: Verdict) -> str:
+        """The field that a fault is about, with its bytes marked; nothing for another fault."""
+        if fault.number not in FIELDS or fault.block is None:
+            return ""
+        name, place = FIELDS[fault.number]
+        data = self.file.block(fault.block) if fault.block else self.file.data[:GSI]
+        words = data[place].hex() if fault.block else "".join(map(readable, data[place]))
+        return f"{name} <mark>{words.upper() if fault.block else words}</mark>"
 
 
-def block_place(report):
+def block_place(report: Report, blocks: Blocks) -> str:
     """The broken place, which `check` names."""
     verdict = report.verdict
+    assert verdict.block is not None
     begin = GSI + TTI * (verdict.block - 1)
     named = f"TTI block {verdict.block} begins at byte {begin} of the subtitle file." \
         if verdict.block else "The GSI block, block 0, is the first 1024 bytes of the file."
     parts = [f'<section id="place"><h2>The broken place</h2><p>{named} No page is drawn: what is '
              "due is known from a whole subtitle file alone.</p>"]
-    subtitle = report.blocks.ending_at(verdict.block)
-    if subtitle and verdict.number in (*ORDER_FAULTS, *ROW_FAULTS):
-        parts.append(refused_subtitle(report, subtitle))
+    subtitle = blocks.subtitle(verdict.block)
+    if subtitle:
+        parts.append(refused_subtitle(blocks, subtitle, verdict))
+    elif blocks.field(verdict):
+        parts.append(f'<p class="text">{blocks.field(verdict)}</p>')
     return "".join(parts) + "</section>"
 
 
-def refused_subtitle(report, subtitle):
+def refused_subtitle(blocks: Blocks, subtitle: Subtitle, fault: Verdict) -> str:
     """The first refused subtitle, in tables."""
-    verdict = report.verdict
-    parts = [f"<h3>Subtitle {subtitle.index} (SN {subtitle.number}) <code>{time_of(subtitle.first)}"
-             f"</code> to <code>{time_of(subtitle.end)}</code></h3><p>row {subtitle.row}, "
-             f"justification {subtitle.justify}</p>"]
-    if verdict.number in ORDER_FAULTS:
-        parts.append(two_times([report.blocks.before(verdict.block), subtitle], verdict.number))
-    elif verdict.number in BYTE_FAULTS:
-        parts.append(byte_table(subtitle.text, verdict.at))
+    assert fault.block is not None
+    times, text = times_of(blocks, subtitle, [fault]), blocks.text(fault.block)
+    parts = [f"<h3>{name_of(subtitle, fault.block)}</h3>"]
+    if fault.number in ORDER_FAULTS:
+        parts.append(two_times(blocks, subtitle, fault))
     else:
-        parts.append(line_table(subtitle, verdict.at))
-    return "".join(parts)
+        parts.append(f"<p>{times.begin} to {times.end}</p>")
+    if fault.number in BYTE_FAULTS:
+        return "".join(parts) + byte_table(text, fault.at)
+    if fault.number in ROW_FAULTS:
+        return "".join(parts) + line_table(text, blocks.row(fault.block), fault.at)
+    if blocks.field(fault):
+        parts.append(f'<p class="text">{blocks.field(fault)}</p>')
+    return "".join(parts) + f"<p>{marked_text(text, [])}</p>"
 
 
-def refused_blocks(report):
+def name_of(subtitle: Subtitle, block: int) -> str:
+    return f"SN {subtitle.number}, block {block}"
+
+
+def times_of(blocks: Blocks, subtitle: Subtitle, faults: list[Verdict]) -> Times:
+    """The times of a subtitle, marked where a fault is about them."""
+    numbers = {one.number for one in faults}
+    is_each = [frame_of(time) is None for time in (subtitle.begin, subtitle.end)] \
+        if 20 in numbers else [21 in numbers] * 2
+    is_each[0] = is_each[0] or bool(numbers & {*ORDER_FAULTS})
+    return Times(*(f"<mark>{time}</mark>" if is_marked else time
+                   for time, is_marked in zip((subtitle.begin, subtitle.end), is_each)))
+
+
+def refused_blocks(report: Report, blocks: Blocks) -> str:
     """All that is told of the subtitle file, subtitle by subtitle."""
     faults = report.faults
     items = []
     told = map(lambda line: verdict_of(line, 1), faults.of_blocks)
     for index, (block, several) in enumerate(itertools.groupby(told, lambda one: one.block), 1):
-        items.append(refused_item(report.blocks, index, block, list(several)))
+        items.append(refused_item(blocks, index, block, list(several)))
     more = faults.count - len(faults.of_blocks)
     left = f"<p><b>{more:,} more faults</b> are told by <code>check --all</code> and left out " \
         "here.</p>" if more else ""
-    return (f'<h2 id="faults">{faults.count:,} fault{"s" * (faults.count != 1)} in the subtitle '
-            f'file</h2><p>The PES file is not read before all of them are mended.</p>'
-            f'<ol class="faults">{"".join(items)}</ol>{left}')
+    return (f"<p>{end_of_reading(report, blocks)} No PES file is read before all of them are "
+            f'mended.</p><ol class="faults">{"".join(items)}</ol>{left}')
 
 
-def refused_item(blocks, index, block, faults):
-    """A block with what is told of it, and the text of the subtitle that ends there."""
-    lines = "<br/>".join(f"<code>{shown(one.line.partition(' ')[2])}</code>" for one in faults)
-    subtitle = blocks.ending_at(block) if faults[0].number in (*ORDER_FAULTS, *ROW_FAULTS) else None
-    if not subtitle:
-        return f'<li id="e{index}">{lines}</li>'
-    times = f"{time_of(subtitle.first)} to {time_of(subtitle.end)}"
+def end_of_reading(report: Report, blocks: Blocks) -> str:
+    """Where reading ended."""
+    last = verdict_of(report.faults.last_told, 1)
+    if last.number not in ENDS:
+        return f"The file was read to its end, {blocks.count:,} blocks."
+    return (f"<b>Reading ended at block {last.block}</b>, with {last.number} {last.name}: nothing "
+            "is known of what comes after it.")
+
+
+def refused_item(blocks: Blocks, index: int, block: int | None, faults: list[Verdict]) -> str:
+    """A block with what is told of it, and its subtitle with its text."""
+    lines = [f"<code>{number_link(one.line)}</code> {blocks.field(one)}" for one in faults]
+    subtitle = blocks.subtitle(block)
+    if not subtitle or block is None:
+        return f'<li id="e{index}">{"<br/>".join(lines)}</li>'
+    times = times_of(blocks, subtitle, faults)
+    words = f"<b>{name_of(subtitle, block)}</b> {times.begin} to {times.end}"
     before = blocks.before(block)
     if before and any(one.number in ORDER_FAULTS for one in faults):
-        times = f"<mark>{times}</mark> after {time_of(before.first)} to {time_of(before.end)}"
-    return (f'<li id="e{index}"><b>Subtitle {subtitle.index}</b> (SN {subtitle.number}) {times}'
-            f"<br/>{lines}<br/>{marked_text(subtitle.text, faults[-1])}</li>")
+        words += f" after {before.begin} to {before.end}, SN {before.number}"
+    text = marked_text(blocks.text(block), faults)
+    return f'<li id="e{index}">{"<br/>".join([words, *lines, text])}</li>'
 
 
-def marked_text(text, fault):
+def marked_text(text: bytes, faults: list[Verdict]) -> str:
     """The lines of a text with the byte or the line marked that a fault names."""
+    marked = {(one.number in BYTE_FAULTS, one.at) for one in faults if one.number in ROW_FAULTS}
     lines, begin = [], 0
     for number, line in enumerate(text.split(b"\x8a")):
         letters = [" " if byte == 0x20 else readable(byte) for byte in line]
-        at = fault.at - begin if fault.number in BYTE_FAULTS else -1
-        if 0 <= at < len(letters):
-            letters[at] = f"<mark>{letters[at]}</mark>"
-        words = "".join(letters)
-        is_named = fault.number not in BYTE_FAULTS and number == fault.at
-        lines.append(f"<mark>{words}</mark>" if is_named else words)
+        words = "".join(f"<mark>{letter}</mark>" if (True, at) in marked else letter
+                        for at, letter in enumerate(letters, begin))
+        lines.append(f"<mark>{words}</mark>" if (False, number) in marked else words)
         begin += len(line) + 1
     return f'<span class="text">{"<br/>".join(lines)}</span>'
 
 
-def printed(report):
+def printed(report: Report) -> str:
     """What `show` prints, the middle of it left out where it is long."""
     lines = report.show_lines
     last = lines[FIRST_LINES:][-LAST_LINES:]
@@ -126,33 +197,33 @@ def printed(report):
     return "".join(parts) + "</details>"
 
 
-def listed(lines):
+def listed(lines: list[str]) -> str:
     return f'<pre class="lines">{shown(chr(10).join(lines))}</pre>'
 
 
-def two_times(subtitles, number):
+def two_times(blocks: Blocks, subtitle: Subtitle, fault: Verdict) -> str:
     """The times of a subtitle and the one before; those that the refusal is about are marked."""
     rows = []
-    for subtitle in subtitles:
-        is_last = subtitle is subtitles[-1]
-        first, end = time_of(subtitle.first), time_of(subtitle.end)
-        if is_last or number == 56:
-            first = f"<mark>{first}</mark>"
-        elif number == 57:
+    before = blocks.before(fault.block or 0)
+    for one in [before, subtitle] if before else [subtitle]:
+        begin, end = one.begin, one.end
+        if one is subtitle or fault.number == 56:
+            begin = f"<mark>{begin}</mark>"
+        else:
             end = f"<mark>{end}</mark>"
-        rows.append(f"<tr><td>{subtitle.index}</td><td>{first}</td><td>{end}</td></tr>")
-    return ('<table><tr><th scope="col">subtitle</th><th scope="col">TCI</th><th scope="col">TCO'
+        rows.append(f"<tr><td>{one.number}</td><td>{begin}</td><td>{end}</td></tr>")
+    return ('<table><tr><th scope="col">SN</th><th scope="col">TCI</th><th scope="col">TCO'
             f"</th></tr>{''.join(rows)}</table>")
 
 
-def readable(byte):
+def readable(byte: int) -> str:
     """A text byte for people: its ASCII character, else its code."""
     if byte == 0x20:
         return "\u2423"
     return shown(chr(byte)) if 0x20 < byte <= 0x7E else f"<i>{byte:02X}</i>"
 
 
-def byte_table(text, place):
+def byte_table(text: bytes, place: int | None) -> str:
     """The text in rows of sixteen bytes with the byte at the place marked."""
     rows = []
     for begin in range(0, len(text), 16):
@@ -164,13 +235,13 @@ def byte_table(text, place):
             f'<table class="bytes">{"".join(rows)}</table>')
 
 
-def line_table(subtitle, place):
-    """The lines of the text with the one at the place marked."""
+def line_table(text: bytes, row: int, place: int | None) -> str:
+    """The lines of the text, the first in its row, with the one at the place marked."""
     rows = []
-    for number, line in enumerate(subtitle.text.split(b"\x8a")):
+    for number, line in enumerate(text.split(b"\x8a")):
         words = "".join(map(readable, line)) or "empty"
         named = NAMED if number == place else ""
-        rows.append(f'<tr{named}><th scope="row">line {number}</th><td>row {subtitle.row + number}'
-                    f"</td><td>{len(line)} bytes</td><td>{words}</td></tr>")
+        rows.append(f'<tr{named}><th scope="row">line {number}</th><td>row {row + number}'
+                    f"</td><td>{counted(len(line), 'byte')}</td><td>{words}</td></tr>")
     return (f"<p>The lines of its text; <b>line {place}</b>, counted from 0, is framed.</p>"
             f'<table class="textlines">{"".join(rows)}</table>')

@@ -1,17 +1,27 @@
 """Transmissions that `subttx` accepts and refuses, one for each number, made from examples/."""
-import collections
+from __future__ import annotations
+
 import os
 import subprocess
+from typing import NamedTuple
 
 from . import TOP
 
 EXAMPLES = os.path.join(TOP, "examples")
 
-# `stl` and `pes` are the words of tools/poke, in examples/; `begins` is how the verdict begins.
-Case = collections.namedtuple("Case", "name begins stl pes options")
+
+class Case(NamedTuple):
+    """A pair: how the verdict begins, and of its files the words of tools/poke, in examples/."""
+
+    name: str
+    begins: str
+    stl: str
+    pes: str
+    options: list[str]
 
 
-def case(number, name, stl="hello.stl", pes="hello.pes", options=""):
+def case(number: int, name: str, stl: str = "hello.stl", pes: str = "hello.pes",
+         options: str = "") -> Case:
     return Case(str(number), f"refused {number} {name}", stl, pes, options.split())
 
 
@@ -79,13 +89,13 @@ WITHOUT = [Case("82", "accepted", "hello.stl -c 1024", "hello.pes 92=FF", []),
            Case("82-72", "refused 72 Content", "hello.stl -c 1024", "hello.pes", [])]
 
 
-def poked(words):
+def poked(words: str) -> bytes:
     """A file of examples/, changed by the words of tools/poke."""
     return subprocess.run([os.path.join(TOP, "tools", "poke"), *words.split()], cwd=EXAMPLES,
                           stdout=subprocess.PIPE, check=True).stdout
 
 
-def make(one, folder):
+def make(one: Case, folder: str) -> tuple[str, str]:
     """Writes the two files of a case; answers their names."""
     stl, pes = poked(one.stl), poked(one.pes)
     if one.name == "23":

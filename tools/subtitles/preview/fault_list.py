@@ -1,13 +1,21 @@
 """The list of faults, and for the first of them pictures of what is due and what is held."""
-import bisect
+from __future__ import annotations
+
+from typing import TYPE_CHECKING
 
 from ..times import time_of
+from .counts import place_words
 from .drawing import text_of_code
+from .faults import Entry
 from .figures import NOT_READ
 from .fits import frames_words
-from .manual import shown
+from .manual import number_link
 from .places import around, pes_words, units_table
+from .program import Program, Verdict
 from .receiver import national_option
+
+if TYPE_CHECKING:
+    from .report import Looks, Report
 
 MOST_PICTURED = 100  # entries with pictures
 CONTENT = 72
@@ -16,67 +24,66 @@ CONTENT = 72
 class FaultList:
     """The entries of the list, and the sections that they lead to."""
 
-    def __init__(self, report, program):
-        self.report, self.program = report, program
-        self.entries, self.figures, self.held = report.faults.entries, report.figures, report.held
-        self.firsts = [one.first for one in report.subtitles]
-        self.pictured = {}  # the entry that has the pictures of a frame
+    def __init__(self, report: Report, looks: Looks, program: Program) -> None:
+        self.report, self.looks, self.program = report, looks, program
+        self.entries, self.figures, self.held = report.faults.entries, looks.figures, report.held
+        self.pictured: dict[int, Entry] = {}  # the entry that has the pictures of a frame
 
-    def frame_of(self, entry):
+    def frame_of(self, entry: Entry) -> int | None:
         """The frame whose pictures belong to an entry, `None` where there is none."""
         if entry.first.pes is not None:
             return self.held.last_frame
         return entry.first.frame
 
-    def is_shown(self, frame):
+    def is_shown(self, frame: int | None) -> bool:
         """Whether there is something to see at a frame."""
         return frame is not None and self.held.state_at(frame) is not None
 
     # Words
 
-    def subtitle_words(self, frame):
+    def subtitle_words(self, frame: int) -> str:
         """The subtitle that is due at a frame, as a link."""
-        at = bisect.bisect_right(self.firsts, frame) - 1
-        if at < 0 or self.report.subtitles[at].end <= frame:
+        one = self.report.programme.subtitle(frame)
+        if one is None:
             return "no subtitle is due"
-        one = self.report.subtitles[at]
         name = f"subtitle {one.index}"
-        if one.index in self.report.entries.drawn:
+        if one.index in self.looks.entries.drawn:
             name = f'<a href="#s{one.index}">{name}</a>'
         return f"{name} (SN {one.number})"
 
-    def cell_words(self, fault):
+    def cell_words(self, fault: Verdict) -> str:
         """What is due and what is held in the cell that a fault names."""
+        assert fault.frame is not None and fault.row is not None and fault.column is not None
         state = self.held.state_at(fault.frame)
         rows, header = self.figures.due_at(fault.frame)
         due = text_of_code(rows[fault.row - 1][fault.column], national_option(header))
         words = f"due {due}, held "
         if state is None:
             return words + NOT_READ
-        if not state.is_heard:
+        if state.header is None:
             return words + "nothing: no header was heard yet"
         option = national_option(state.header)
         return words + text_of_code(state.rows[fault.row - 1][fault.column], option)
 
-    def details(self, entry):
+    def details(self, entry: Entry) -> str:
         """What is known of the first fault of an entry, beside its line."""
-        fault, words = entry.first, []
+        fault = entry.first
+        words: list[str] = []
         if fault.frame is None:
             return ""
         if fault.number == CONTENT:
             words.append(self.cell_words(fault))
         words.append(self.subtitle_words(fault.frame))
-        fit = self.report.fits.words(fault.frame) if fault.number == CONTENT else ""
+        fit = self.looks.fits.words(fault.frame) if fault.number == CONTENT else ""
         return "; ".join([*words, fit] if fit else words)
 
     # The list
 
-    def listed(self):
+    def listed(self) -> str:
         """The list, as far as it goes, and how much more there is."""
         faults = self.report.faults
-        parts = [f'<h2 id="faults">{faults_words(faults.count)}</h2>',
-                 "<p>Faults of one number that are told one after another are one entry.</p>"
-                 if faults.count > faults.entry_count else "",
+        parts = ["<p>Faults of one number that are told one after another within one subtitle are "
+                 "one entry.</p>" if faults.count > faults.entry_count else "",
                  f'<ol class="faults">{"".join(map(self.item, self.entries))}</ol>']
         more = faults.entry_count - len(self.entries)
         if more:
@@ -86,38 +93,36 @@ class FaultList:
             parts.append(f"<p>The first {MOST_PICTURED} entries have pictures below.</p>")
         return "".join(parts)
 
-    def item(self, entry):
+    def item(self, entry: Entry) -> str:
         fault, frame = entry.first, self.frame_of(entry)
-        when = time_of(fault.frame) if fault.frame is not None else place_words(fault.line)
+        when = place_words(fault)
         if entry.index <= MOST_PICTURED:
             when = f'<a href="#{section_name(entry)}">{when}</a>'
-        words = [f"<b>{when}</b> <code>{shown(fault.line.partition(' ')[2])}</code>"]
+        words = [f"<b>{when}</b> <code>{number_link(fault.line)}</code>"]
         span = self.span_words(entry)
         details = self.details(entry) if self.is_shown(frame) or fault.frame is None else NOT_READ
         words += [f"<small>{one}</small>" for one in (span, details) if one]
         return f'<li id="e{entry.index}">{"<br/>".join(words)}</li>'
 
     @staticmethod
-    def span_words(entry):
+    def span_words(entry: Entry) -> str:
         """How many faults an entry has, and up to where it reaches."""
         last, words = entry.last, []
         if entry.count > 1:
-            end = time_of(last.frame) if last.frame is not None else place_words(last.line)
-            words.append(f"{entry.count:,} faults, the last at {end}")
+            words.append(f"{entry.count:,} faults, the last at {place_words(last)}")
         if entry.until is not None:
-            begin = last.frame if entry.count == 1 else entry.until
-            words.append(f"until {time_of(entry.until)}"
-                         + (f", {frames_words(entry.until - begin + 1)}" if entry.count == 1
-                            else ""))
+            words.append(f"until {time_of(entry.until)}")
+            if entry.count == 1 and last.frame is not None:
+                words.append(frames_words(entry.until - last.frame + 1))
         return ", ".join(words)
 
     # The sections
 
-    def section(self, entry):
+    def section(self, entry: Entry) -> str:
         """The pictures of an entry, and its Teletext packets: all for the first, else the named."""
         fault, frame = entry.first, self.frame_of(entry)
         title = "The broken place" if entry.index == 1 else \
-            f"Fault {entry.index}: <code>{shown(fault.line.partition(' ')[2])}</code>"
+            f"Fault {entry.index}: <code>{number_link(fault.line)}</code>"
         parts = [f'<section class="fault" id="{section_name(entry)}"><h2>{title}</h2>'
                  f"{self.steps(entry)}"]
         details = self.details(entry)
@@ -130,7 +135,7 @@ class FaultList:
         parts.append(self.seen(entry, frame))
         return "".join(parts) + "</section>"
 
-    def seen(self, entry, frame):
+    def seen(self, entry: Entry, frame: int | None) -> str:
         """What there is to see of an entry."""
         fault = entry.first
         if frame is None:
@@ -144,7 +149,9 @@ class FaultList:
                          "</p>")
         else:
             parts.append(around(self.held, frame, self.report.page))
-        place = (fault.row, fault.column) if fault.row is not None else None
+        place = None
+        if fault.row is not None and fault.column is not None:
+            place = fault.row, fault.column
         other = self.pictured.setdefault(frame, entry)
         if other is entry or place:
             parts.append(self.figures.at(frame, place))
@@ -154,7 +161,7 @@ class FaultList:
         parts.append(self.packets(entry, frame))
         return "".join(parts)
 
-    def packets(self, entry, frame):
+    def packets(self, entry: Entry, frame: int) -> str:
         known = self.held.units_at.get(frame)
         if not known:
             return f"<p>No PES packet has frame {time_of(frame)}.</p>" if entry.index == 1 else ""
@@ -162,7 +169,7 @@ class FaultList:
             return ""
         return units_table(self.program, known, frame, entry.first.packet, entry.index == 1)
 
-    def steps(self, entry):
+    def steps(self, entry: Entry) -> str:
         """Links to the entries before and after, and to the list."""
         links = []
         for other, words in ((entry.index - 1, "&#9664; previous fault"),
@@ -173,24 +180,14 @@ class FaultList:
         links.append(f'<a href="#e{entry.index}">in the list</a>')
         return f'<p class="steps">{" ".join(links)}</p>'
 
-    def place(self):
+    def place(self) -> str:
         """The first fault, which `check` names."""
         return self.section(self.entries[0]) if self.entries else ""
 
-    def others(self):
+    def others(self) -> str:
         """The sections of the faults after the first one."""
         return "".join(map(self.section, self.entries[1:MOST_PICTURED]))
 
 
-def section_name(entry):
+def section_name(entry: Entry) -> str:
     return "place" if entry.index == 1 else f"f{entry.index}"
-
-
-def faults_words(count):
-    return f"{count:,} fault{'s' * (count != 1)}"
-
-
-def place_words(line):
-    """The place in a line that names no frame; the name where it has none."""
-    words = line.split(" ")
-    return " ".join(words[3:]) or words[2]

@@ -1,130 +1,197 @@
 """What `check --all` tells, as entries of a list and as places on the timeline."""
+from __future__ import annotations
+
 import array
 import bisect
+import collections
 import functools
 import heapq
+from typing import Iterable, Iterator
 
 from ..times import FRAMES_A_SECOND
-from .program import verdict_of
+from .program import Subtitle, Verdict, verdict_of
 
 MOST_ENTRIES = 1000  # that are listed; the others are counted
 MOST_OF_BLOCKS = 20_000  # faults of a subtitle file that are listed
 STANDING = ("72", "73", "77")  # are told where they begin, and a line tells where they end
 
+Span = tuple[int, int]  # its first frame and its last
+Due = tuple[int, bool]  # how many subtitles have begun, and whether the last of them is due
+
 
 class Entry:
-    """Faults of one number that are told one after another.
+    """Faults of one number within one subtitle that are told one after another.
 
     `first` is the line of the first one as a verdict. `until` is the frame at whose end the last
     one stood for the last time, `None` where it is told at one place alone.
     """
 
-    def __init__(self, index, line):
+    def __init__(self, index: int, line: str) -> None:
         self.index, self.first_line, self.last_line = index, line, line
-        self.count, self.until = 1, None
+        self.count = 1
+        self.until: int | None = None
 
     @functools.cached_property
-    def first(self):
+    def first(self) -> Verdict:
         return verdict_of(self.first_line, 1)
 
     @property
-    def last(self):
+    def last(self) -> Verdict:
         return verdict_of(self.last_line, 1)
 
 
 class Spans:
     """Spans of frames that are marked, each by its first and its last. Neighbours are one span."""
 
-    def __init__(self, spans=()):
+    def __init__(self, spans: Iterable[Span] = ()) -> None:
         self.begins, self.ends = array.array("I"), array.array("I")
         for begin, end in spans:
             self.add(begin, end)
 
-    def __iter__(self):
+    def __iter__(self) -> Iterator[Span]:
         return zip(self.begins, self.ends)
 
-    def add(self, begin, end):
+    def __len__(self) -> int:
+        return len(self.begins)
+
+    def add(self, begin: int, end: int) -> None:
         if self.begins and self.begins[-1] <= begin <= self.ends[-1] + 1:
             self.ends[-1] = max(self.ends[-1], end)
         else:
             self.begins.append(begin)
             self.ends.append(end)
 
-    def is_rising(self):
+    def is_rising(self) -> bool:
         return all(map(int.__le__, self.begins, self.begins[1:]))
 
-    def between(self, begin, end):
+    def between(self, begin: int, end: int) -> Iterator[Span]:
         """The spans that have a frame from `begin` to the one before `end`; these rise."""
         first, last = bisect.bisect_left(self.ends, begin), bisect.bisect_left(self.begins, end)
         return zip(self.begins[first:last], self.ends[first:last])
 
 
-def joined(several):
+def joined(several: Iterable[Spans]) -> Spans:
     """All spans of some, in order."""
-    several = [each if each.is_rising() else Spans(sorted(each)) for each in several]
-    return Spans(heapq.merge(*several))
+    rising = [each if each.is_rising() else Spans(sorted(each)) for each in several]
+    return Spans(heapq.merge(*rising))
 
 
-def frame_at(time):
+def frame_at(time: str) -> int:
     """The frame of a time that the program printed."""
     hours, minutes, seconds, frames = map(int, time.split(":"))
     return ((hours * 60 + minutes) * 60 + seconds) * FRAMES_A_SECOND + frames
 
 
+class Programme:
+    """Which subtitle is due at a frame."""
+
+    def __init__(self, subtitles: list[Subtitle]) -> None:
+        self.subtitles = subtitles
+        self.firsts = [one.first for one in subtitles]
+
+    def due(self, frame: int) -> Due:
+        at = bisect.bisect_right(self.firsts, frame)
+        return at, at > 0 and frame < self.subtitles[at - 1].end
+
+    def subtitle(self, frame: int) -> Subtitle | None:
+        """The subtitle that is due, `None` where none is."""
+        at, is_due = self.due(frame)
+        return self.subtitles[at - 1] if is_due else None
+
+
 class Faults:
     """The lines of `check --all`, read while it runs.
 
-    `first_line` is the line of `check`, and `last_line` the last one. `count` is how many faults
-    are told and `entry_count` how many entries they make, of which `entries` are the first.
-    `of_blocks` are the lines that name a block. `spans` are the frames at which something is told,
-    or stands.
+    `first_line` is the line of `check`, `last_line` the last one, `last_told` that of the last
+    fault. `count` is how many faults are told; by number, `counts` are how many, `firsts` the first
+    line of each, `first_entries` its entry in the list. `entry_count` is how many entries they
+    make, of which `entries` are the first; the lines that name a block are `of_blocks`, an entry
+    for each block. `spans` are the frames at which something is told, or stands, and `trusted`
+    those that may be trusted.
     """
 
-    def __init__(self, lines):
-        self.entries, self.count, self.entry_count = [], 0, 0
-        self.first_line, self.last_line = "", ""
-        self.number, self.latest, self.begun = None, {}, {}
+    def __init__(self, lines: Iterable[str], programme: Programme) -> None:
+        self.programme = programme
+        self.entries: list[Entry] = []
+        self.of_blocks: list[str] = []
+        self.count = self.entry_count = 0
+        self.counts: collections.Counter[int] = collections.Counter()
+        self.firsts: dict[int, str] = {}
+        self.first_entries: dict[int, int] = {}
+        self.first_line = self.last_line = self.last_told = ""
+        self.number: str | None = None  # of the entry that may go on
+        self.due: Due | None = None  # what is due in it
+        self.block: str | None = None  # of the latest line that names one
+        self.latest: dict[str, Entry] = {}
+        self.begun: dict[str, int] = {}
         self.marks = {number: Spans() for number in (*STANDING, "points")}
-        self.of_blocks = []
+        self.trusted = Spans()
         for line in lines:
             self.take(line)
         self.spans = joined(self.marks.values())
 
-    def take(self, line):
-        self.first_line, self.last_line = self.first_line or line, line
+    def take(self, line: str) -> None:
+        self.last_line = line
         words = line.split(" ", 5)
+        if words[0] == "trusted":
+            self.trusted.add(frame_at(words[2]), frame_at(words[3]))
+            return
+        self.first_line = self.first_line or line
         if words[0] == "refused":
             self.tell(line, words)
         elif words[0] == "ended":
-            frame = frame_at(words[4])
-            self.marks[words[1]].add(self.begun.pop(words[1], frame), frame)
-            self.latest[words[1]].until = frame
+            self.number = None
+            if words[3] == "frame":
+                self.end(words[1], frame_at(words[4]))
 
-    def tell(self, line, words):
-        number = words[1]
+    def end(self, number: str, frame: int) -> None:
+        """The last frame at whose end a fault stands."""
+        self.marks[number].add(self.begun.pop(number, frame), frame)
+        self.latest[number].until = frame
+
+    def tell(self, line: str, words: list[str]) -> None:
+        """A fault."""
+        number = int(words[1])
         self.count += 1
-        if number == self.number:
+        self.counts[number] += 1
+        self.firsts.setdefault(number, line)
+        self.last_told = line
+        if words[3:4] == ["block"]:
+            self.tell_block(line, number, words[4])
+        else:
+            self.tell_frame(line, words[1],
+                            frame_at(words[4]) if words[3:4] == ["frame"] else None)
+
+    def tell_block(self, line: str, number: int, block: str) -> None:
+        """A fault of the subtitle file."""
+        self.entry_count += block != self.block
+        self.block = block
+        if len(self.of_blocks) < MOST_OF_BLOCKS:
+            self.of_blocks.append(line)
+            self.first_entries.setdefault(number, self.entry_count)
+
+    def tell_frame(self, line: str, number: str, frame: int | None) -> None:
+        """A fault of the transmission."""
+        due = None if frame is None else self.programme.due(frame)
+        if (number, due) == (self.number, self.due):
             entry = self.latest[number]
             entry.count += 1
             entry.last_line, entry.until = line, None
         else:
-            self.open_entry(line, number)
-        if words[3:4] == ["block"] and len(self.of_blocks) < MOST_OF_BLOCKS:
-            self.of_blocks.append(line)
-        if words[3:4] == ["frame"]:
-            frame = frame_at(words[4])
-            if number in STANDING:
-                self.begun[number] = frame
-            else:
-                self.marks["points"].add(frame, frame)
+            self.open_entry(line, number, due)
+        if frame is not None and number in STANDING:
+            self.begun[number] = frame
+        elif frame is not None:
+            self.marks["points"].add(frame, frame)
 
-    def open_entry(self, line, number):
+    def open_entry(self, line: str, number: str, due: Due | None) -> None:
         self.entry_count += 1
-        self.number = number
+        self.number, self.due = number, due
         self.latest[number] = entry = Entry(self.entry_count, line)
         if self.entry_count <= MOST_ENTRIES:
             self.entries.append(entry)
+            self.first_entries.setdefault(int(number), entry.index)
 
-    def mark(self, frames):
+    def mark(self, frames: Iterable[int]) -> None:
         """Marks the frames of faults whose lines name a PES packet."""
         self.spans = joined([self.spans, Spans((frame, frame) for frame in frames)])

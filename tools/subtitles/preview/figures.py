@@ -1,11 +1,21 @@
 """The pictures at a frame: the page that is due, the page that a receiver holds, and its screen."""
+from __future__ import annotations
+
 import html
+from typing import TYPE_CHECKING
 
 from ..times import time_of
 from .drawing import (
     HIDDEN, cut_of, differences, empty_picture, is_boxed, label_of, picture, words_of)
 from .letters import option_name
-from .receiver import BLANK_PAGE, HIT, OLD, control_bits, lines_of, national_option
+from .receiver import (
+    BLANK_PAGE, HIT, OLD, Rows, State, control_bits, lines_of, national_option)
+
+if TYPE_CHECKING:
+    from .listening import Heard
+
+Cell = tuple[int, int]  # its row and its column
+Cut = tuple[int, int]  # the first and the last row of a picture
 
 NOT_READ = "the PES file can't be followed up to this frame"
 # What is held beside what is due, with the words for the count of such subtitles.
@@ -22,40 +32,44 @@ class Figures:
     no subtitle, and of the PES file. `header` is that of a page that nobody sent.
     """
 
-    def __init__(self, due, held, header, page, is_complete):
+    def __init__(self, due: Heard | None, held: Heard, header: bytes, page: str,
+                 is_complete: bool) -> None:
         self.due, self.held, self.header = due, held, header
         self.page, self.is_complete = page, is_complete
 
-    def due_at(self, frame):
+    def due_at(self, frame: int) -> tuple[Rows, bytes]:
         """The page that is due, and its header: blank before the first sending of the schedule."""
-        state = self.due and self.due.state_at(frame)
-        return (state.rows, state.header) if state and state.is_heard else (BLANK_PAGE, self.header)
+        state = self.due.state_at(frame) if self.due else None
+        return (state.rows, state.header) if state and state.header else (BLANK_PAGE, self.header)
 
-    def kind_at(self, frame):
+    def kind_at(self, frame: int) -> str:
         """What is held at a frame, or is on the screen, beside what is due: one of KINDS."""
         rows, state = self.due_at(frame)[0], self.held.state_at(frame)
         if state is None or self.held.is_after(frame):
             return NOT_KNOWN
         if not state.is_heard or self.is_complete and state.screen is None:
             return NOTHING
-        if differences(rows, state.rows) or self.is_complete and differences(rows, state.screen[0]):
+        screen = state.screen[0] if self.is_complete and state.screen else state.rows
+        if differences(rows, state.rows) or differences(rows, screen):
             return DIFFERENT
         return SAME
 
-    def at(self, frame, place=None):
+    def at(self, frame: int, place: Cell | None = None) -> str:
         """The figures at the end of a frame, with the cell that is refused marked."""
         time, state = time_of(frame), self.held.state_at(frame)
         due, header = self.due_at(frame)
-        seen = [due] + [state.rows] * (state is not None and state.is_heard)
+        seen = [due]
+        if state and state.is_heard:
+            seen.append(state.rows)
         if self.is_complete and state and state.screen:
             seen.append(state.screen[0])
-        cut = cut_of(seen, place and place[0])
+        cut = cut_of(seen, place[0] if place else None)
         parts = [figure("due", f"Due at {time}", option_name(national_option(header)),
                         picture(due, header, HIDDEN, cut, (), place), lines_of(due))]
         held = f"A receiver at the end of {time}"
         if state is None:
             parts.append(figure("held", held, NOT_READ, empty_picture("not known", cut), []))
-        elif not state.is_heard:
+        elif state.header is None:
             words = f"no header of page {self.page} was heard yet"
             parts.append(figure("held", held, words, empty_picture("nothing heard", cut),
                                 ["heard no"]))
@@ -68,7 +82,8 @@ class Figures:
         names = "pictures three" if self.is_complete else "pictures"
         return f'<div class="{names}">{"".join(parts)}</div>'
 
-    def screen_figure(self, time, due, state, cut, place):
+    def screen_figure(self, time: str, due: Rows, state: State | None, cut: Cut,
+                      place: Cell | None) -> str:
         caption, told = f"On its screen at the end of {time}", "complete pages alone"
         if state is None:
             return figure("screen", caption, NOT_READ, empty_picture("not known", cut), [])
@@ -77,7 +92,7 @@ class Figures:
             return figure("screen", caption, told, empty_picture("nothing yet", cut), lines)
         return page_figure("screen", caption, told, due, Drawn(*state.screen, cut, place))
 
-    def small_at(self, frame):
+    def small_at(self, frame: int) -> str:
         """One small picture, of the page that is held as it is due."""
         rows, header = self.due_at(frame)
         label = label_of(words_of(rows, national_option(header)))
@@ -87,14 +102,14 @@ class Figures:
 class Drawn:
     """A page that is drawn: its rows and header, the rows of the picture, and a marked cell."""
 
-    def __init__(self, rows, header, cut, place):
+    def __init__(self, rows: Rows, header: bytes, cut: Cut, place: Cell | None) -> None:
         self.rows, self.header, self.cut, self.place = rows, header, cut, place
 
-    def picture(self, different):
+    def picture(self, different: list[Cell]) -> str:
         return picture(self.rows, self.header, HIDDEN, self.cut, different, self.place)
 
 
-def page_figure(kind, caption, told, due, drawn):
+def page_figure(kind: str, caption: str, told: str, due: Rows, drawn: Drawn) -> str:
     """The figure of a page that a receiver has, with the cells framed that are not as due."""
     different = differences(due, drawn.rows)
     count = len(different)
@@ -104,7 +119,7 @@ def page_figure(kind, caption, told, due, drawn):
     return figure(kind, caption, words, drawn.picture(different), lines_of(drawn.rows))
 
 
-def header_words(header, rows):
+def header_words(header: bytes, rows: Rows) -> str:
     """The control bits and the letters of the page's last header, and marks in its cells."""
     words = [" ".join(control_bits(header)) or "no control bit",
              option_name(national_option(header))]
@@ -118,7 +133,7 @@ def header_words(header, rows):
     return ", ".join(words)
 
 
-def figure(kind, caption, words, drawn, lines):
+def figure(kind: str, caption: str, words: str, drawn: str, lines: list[str]) -> str:
     rows = html.escape("\n".join(lines), quote=False)
     return (f'<figure class="{kind}"><figcaption>{caption}<br/><small>{words}</small></figcaption>'
             f"{drawn}<pre>{rows}</pre></figure>")

@@ -1,15 +1,21 @@
 """How far the sending is that would fit where another page is held than the one that is due."""
+from __future__ import annotations
+
 import bisect
+from typing import TYPE_CHECKING
 
 from ..times import time_of
-from .receiver import BLANK_PAGE
+from .receiver import BLANK_PAGE, Rows
+
+if TYPE_CHECKING:
+    from .listening import Changes
 
 
-def frames_words(count):
+def frames_words(count: int) -> str:
     return f"{count:,} frame{'s' * (count != 1)}"
 
 
-def is_change(changes, frame):
+def is_change(changes: Changes, frame: int) -> bool:
     at = bisect.bisect_left(changes.frames, frame)
     return at < len(changes.frames) and changes.frames[at] == frame
 
@@ -20,7 +26,7 @@ class Fits:
     `due` and `held` are the changes of pages in the program's own schedule, and in the PES file.
     """
 
-    def __init__(self, due, held, pages):
+    def __init__(self, due: Changes, held: Changes, pages: dict[int, tuple[Rows, Rows]]) -> None:
         self.due, self.held, self.pages = due, held, pages
         self.when_held = held.held([one for one, _ in pages.values()])
         self.when_due = due.held([other for _, other in pages.values()])
@@ -29,13 +35,13 @@ class Fits:
         if blank is not None and before != 0:
             blank.insert(0, (0, before - 1 if before else 0))
 
-    def late(self, frame):
+    def late(self, frame: int) -> int | None:
         """The frame from which on the due page is held, where that is no sending of its own."""
         spans = self.when_held[hash(self.pages[frame][0])]
         return next((first for first, _ in spans
                      if first > frame and not is_change(self.due, first)), None)
 
-    def early(self, frame):
+    def early(self, frame: int) -> int | None:
         """The frame from which on the page is due that comes to be held at this one."""
         if not is_change(self.held, frame):
             return None
@@ -43,7 +49,7 @@ class Fits:
         return next((first for first, _ in spans
                      if first > frame and not is_change(self.held, first)), None)
 
-    def words(self, frame):
+    def words(self, frame: int) -> str:
         """The nearest sending that would fit; nothing for a frame without pages."""
         if frame not in self.pages:
             return ""

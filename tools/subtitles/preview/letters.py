@@ -2,6 +2,8 @@
 
 `tools/check-preview` compares them with the table of libzvbi in letters-libzvbi.txt.
 """
+from __future__ import annotations
+
 ENGLISH, GERMAN = 0, 4  # C12, C13 and C14 of a page's header as a number
 
 PLACES = bytes.fromhex("23 24 40 5B 5C 5D 5E 5F 60 7B 7C 7D 7E")
@@ -10,7 +12,7 @@ NAMES = {ENGLISH: "English", GERMAN: "German"}
 UNKNOWN, BLOCK = "\u25a1", "\u25a0"  # a letter of another national option; code 7F
 
 
-def letters(option):
+def letters(option: int) -> list[str]:
     """The character of each code; what has none, a spacing attribute, is a space."""
     table = [" "] * 32 + [chr(code) for code in range(32, 127)] + [BLOCK]
     for code, letter in zip(PLACES, NATIONAL.get(option, UNKNOWN * 13)):
@@ -18,5 +20,5 @@ def letters(option):
     return table
 
 
-def option_name(option):
+def option_name(option: int) -> str:
     return NAMES.get(option, f"national option {option}, its letters as {UNKNOWN}")

@@ -1,19 +1,28 @@
 """What the manual says that a refusal means, and what to do: read from its tables."""
-import collections
+from __future__ import annotations
+
 import html
 import os
 import re
+from typing import NamedTuple
 
 from . import TOP
 
 CHAPTER = os.path.join(TOP, "docs", "manual", "refusals.md")
 
-Meaning = collections.namedtuple("Meaning", "name means do")
+
+class Meaning(NamedTuple):
+    """What the manual says of a number."""
+
+    name: str
+    means: str
+    do: str
 
 
-def meanings():
+def meanings() -> dict[int, Meaning]:
     """By number; empty where the manual does not stand beside tools/."""
-    found, last = {}, ""
+    found: dict[int, Meaning] = {}
+    last = ""
     if not os.path.isfile(CHAPTER):
         return found
     with open(CHAPTER, encoding="utf-8") as file:
@@ -26,13 +35,20 @@ def meanings():
     return found
 
 
-def shown(text):
+def shown(text: str) -> str:
     """Any text as XML: marks escaped, and what XML can't hold replaced."""
     return html.escape(re.sub("[^\t\n\r\x20-\ud7ff\ue000-\ufffd\U00010000-\U0010ffff]",
                               "\ufffd", text))
 
 
-def marked_up(text):
+def marked_up(text: str) -> str:
     """A cell of the manual as HTML: code in backticks, and links as their words."""
     text = re.sub(r"\[([^]]*)\]\([^)]*\)", r"\1", text)
     return re.sub(r"`([^`]*)`", r"<code>\1</code>", html.escape(text))
+
+
+def number_link(line: str) -> str:
+    """A line `refused NUMBER Name place` without its word; number and name lead to what it means.
+    """
+    _, number, name, *place = line.split(" ")
+    return " ".join([f'<a href="#n{number}">{number} {name}</a>', *map(shown, place)])

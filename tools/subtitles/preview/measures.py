@@ -3,6 +3,8 @@
 The contrast of the style's colours is computed by WCAG 2. For the rest headless Chromium opens the
 report in a frame of some width, with a script that the report itself has not.
 """
+from __future__ import annotations
+
 import json
 import os
 import re
@@ -73,18 +75,19 @@ addEventListener("message", event => {{
 """
 
 
-def luminance(colour):
+def luminance(colour: str) -> float:
     parts = [int(colour[at:at + 2], 16) / 255 for at in (0, 2, 4)]
-    linear = [one / 12.92 if one <= 0.04045 else ((one + 0.055) / 1.055) ** 2.4 for one in parts]
+    linear: list[float] = [one / 12.92 if one <= 0.04045 else ((one + 0.055) / 1.055) ** 2.4
+                           for one in parts]
     return sum(weight * one for weight, one in zip((0.2126, 0.7152, 0.0722), linear))
 
 
-def contrast(one, other):
+def contrast(one: str, other: str) -> float:
     low, high = sorted((luminance(one), luminance(other)))
     return (high + 0.05) / (low + 0.05)
 
 
-def schemes():
+def schemes() -> dict[str, dict[str, str]]:
     """The variables of the style, light and dark."""
     path = os.path.join(TOP, "tools", "subtitles", "preview", "style.css")
     with open(path, encoding="utf-8") as file:
@@ -96,19 +99,19 @@ def schemes():
             for name, scheme in (("light", light), ("dark", dark))}
 
 
-def weak_contrasts():
+def weak_contrasts() -> list[str]:
     """The pairs of colours of the style with too little contrast."""
     return [f"{text} on {ground}, {name}: {contrast(scheme[text], scheme[ground]):.2f}"
             for name, scheme in schemes().items() for text, ground in PAIRS
             if contrast(scheme[text], scheme[ground]) < LEAST_CONTRAST]
 
 
-def browser():
+def browser() -> str | None:
     """The path of a browser, `None` where there is none."""
     return next(filter(None, map(shutil.which, BROWSERS)), None)
 
 
-def measured(path, folder, width, is_dark):
+def measured(path: str, folder: str, width: int, is_dark: bool) -> list[str]:
     """What a browser finds wrong with a report in a window of some width, as lines."""
     with open(path, encoding="utf-8") as file:
         text = file.read()
@@ -122,13 +125,14 @@ def measured(path, folder, width, is_dark):
     with open(wrapper, "w", encoding="utf-8") as file:
         file.write(WRAPPER.format(name=name, width=width))
     profile = os.path.join(folder, f"profile-{name}")
-    command = [browser(), "--headless", "--no-sandbox", "--disable-gpu", "--hide-scrollbars",
-               f"--user-data-dir={profile}", "--virtual-time-budget=10000", "--dump-dom",
-               f"file://{wrapper}"]
+    command = [browser() or BROWSERS[0], "--headless", "--no-sandbox", "--disable-gpu",
+               "--hide-scrollbars", f"--user-data-dir={profile}",
+               "--virtual-time-budget=10000", "--dump-dom", f"file://{wrapper}"]
     done = subprocess.run(command, stdin=subprocess.DEVNULL, stdout=subprocess.PIPE,
                           stderr=subprocess.DEVNULL, timeout=120, check=False)
     found = re.search(r'<pre id="told">(.*?)</pre>', done.stdout.decode("utf-8", "replace"), re.S)
     if not found or not found.group(1):
         return ["the browser told nothing"]
-    return json.loads(found.group(1).replace("&lt;", "<").replace("&gt;", ">")
-                      .replace("&amp;", "&"))
+    told: list[str] = json.loads(found.group(1).replace("&lt;", "<").replace("&gt;", ">")
+                                 .replace("&amp;", "&"))
+    return told

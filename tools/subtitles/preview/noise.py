@@ -1,4 +1,6 @@
 """Files of PES packets at random, with wrong bits in them, for trying the receiver on."""
+from __future__ import annotations
+
 import random
 
 from ..pes import pes_packet
@@ -7,7 +9,7 @@ from ..teletext import packet
 PAGE = 0, 0x88  # magazine 8, page 88
 
 
-def random_packet(chance):
+def random_packet(chance: random.Random) -> bytes:
     """A header, a row or any bytes, some of them with wrong bits."""
     magazine = chance.choice([0, 0, 0, 1, 2])
     kind = chance.random()
@@ -15,24 +17,25 @@ def random_packet(chance):
         page = chance.choice([0x88, 0x88, 0xFF, 0x12])
         numbers = [page & 15, page >> 4, 0, 8 * chance.randrange(2), 0, chance.choice([0, 4, 8]),
                    chance.randrange(16), chance.choice([0, 0, 1, 8, 9])]
-        made = packet(magazine, 0, numbers, b" " * 32)
+        clean = packet(magazine, 0, numbers, b" " * 32)
     elif kind < 0.95:
         codes = [chance.choice([chance.randrange(128), 0x20]) for _ in range(40)]
-        made = packet(magazine, chance.choice([1, 2, 22, 23, 24, 25, 26, 29]), [], codes)
+        clean = packet(magazine, chance.choice([1, 2, 22, 23, 24, 25, 26, 29]), [], codes)
     else:
-        made = bytes(chance.randrange(256) for _ in range(42))
-    made = bytearray(made)
+        clean = bytes(chance.randrange(256) for _ in range(42))
+    made = bytearray(clean)
     for _ in range(chance.choice([0, 0, 0, 1, 2, 5])):
         made[chance.randrange(42)] ^= 1 << chance.randrange(8)
     return bytes(made)
 
 
-def transmission(seed):
+def transmission(seed: int) -> tuple[bytes, list[int]]:
     """A file of some PES packets, and frames to look at; now and then a frame does not rise."""
     if seed == 0:
         return row_before_header()
     chance = random.Random(seed)
-    frame, made, frames = chance.randrange(1000), b"", []
+    frame, made = chance.randrange(1000), b""
+    frames: list[int] = []
     for _ in range(chance.randrange(1, 12)):
         packets = [random_packet(chance) for _ in range(chance.randrange(9))]
         for _ in range(chance.choice([1, 1, 1, 2])):
@@ -42,7 +45,7 @@ def transmission(seed):
     return made, sorted({*frames, *(chance.randrange(max(frames) + 40) for _ in range(4))})
 
 
-def row_before_header():
+def row_before_header() -> tuple[bytes, list[int]]:
     """A row and then a header without C4, sent twice: the row is taken the second time alone."""
     packets = [packet(0, 22, [], b"Row".ljust(40)),
                packet(0, 0, [8, 8, 0, 0, 0, 8, 1, 0], b" " * 32)]

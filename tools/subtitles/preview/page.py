@@ -1,10 +1,19 @@
 """The whole report: one XHTML page, with all that it needs in it."""
-import os
+from __future__ import annotations
 
-from .blocks import block_place, printed, refused_blocks
-from .fault_list import faults_words
-from .manual import marked_up, shown
+import os
+from typing import TYPE_CHECKING
+
+from ..words import counted
+from .blocks import Blocks, block_place, printed, refused_blocks
+from .counts import heads, meaning_of_verdict, numbers_table
+from .manual import shown
 from .places import place_of_pts
+from .program import verdict_of
+
+if TYPE_CHECKING:
+    from .listening import Heard
+    from .report import Looks, Report
 
 GOOD = ('<svg aria-hidden="true" viewBox="0 0 62 62"><circle cx="31" cy="31" r="27" '
         'fill="none" stroke="currentColor" '
@@ -42,9 +51,13 @@ is shown. Under each large picture stand its rows as <code>subttx listen --at</c
 codes as ASCII, and spacing attributes as dots.</p>"""
 
 
-def report_page(report):
+TRUSTED = ("<p><b>Trusted.</b> Green lines below the axis are the frames that <code>check --all"
+           "</code> calls trusted.</p>")
+
+
+def report_page(report: Report) -> str:
     """The page, as text."""
-    title = f"{os.path.basename(report.stl)} and {os.path.basename(report.pes)}"
+    title = " and ".join(os.path.basename(name) for name in (report.stl, report.pes) if name)
     with open(os.path.join(os.path.dirname(__file__), "style.css"), encoding="utf-8") as file:
         style = file.read()
     parts = ['<!DOCTYPE html>\n'
@@ -52,34 +65,51 @@ def report_page(report):
              '<meta name="viewport" content="width=device-width, initial-scale=1"/>'
              f"<title>{shown(report.verdict.line)} &#8211; {shown(title)}</title>"
              f"<style>\n{style}</style></head><body><h1>Preview of {shown(title)}</h1>",
-             verdict_box(report)]
-    parts += refused_file_parts(report) if report.blocks else transmission_parts(report)
-    parts += [pages_table(report), files_table(report)]
-    if report.timeline:
-        parts.append(KEYS)
+             navigation(report), verdict_box(report)]
+    parts += transmission_parts(report, report.looks) if report.looks else \
+        refused_file_parts(report)
+    if report.pes:
+        parts.append(pages_table(report))
+    if report.looks:
+        parts += [KEYS, TRUSTED if report.faults.trusted else ""]
+    parts.append(foot(report))
     parts.append("</body></html>\n")
     return "\n".join(parts)
 
 
-def refused_file_parts(report):
+def refused_file_parts(report: Report) -> list[str]:
     """What is said of a subtitle file that is refused."""
-    return [block_place(report), navigation(report), refused_blocks(report), printed(report)]
+    told = (verdict_of(line, 1) for line in report.faults.of_blocks)
+    blocks = Blocks(report.stl, told)
+    return [block_place(report, blocks), faults_head(report), refused_blocks(report, blocks),
+            printed(report)]
 
 
-def transmission_parts(report):
+def transmission_parts(report: Report, looks: Looks) -> list[str]:
     """The faults of a transmission, its timeline and its subtitles."""
-    listed = report.fault_list
-    parts = [listed.place(), navigation(report),
-             f'<h2 id="timeline">Timeline</h2><p>A strip is {report.timeline.called}.</p>'
-             f"{report.timeline.overview()}"]
+    parts = [looks.fault_list.place(),
+             f'<h2 id="timeline">Timeline</h2><p>A strip is {looks.timeline.called}.</p>'
+             f"{looks.timeline.overview()}"]
     if report.faults.count:
-        parts += [listed.listed(), listed.others()]
-    parts.append(f'<h2 id="subtitles">Subtitles</h2>{subtitles_words(report)}'
-                 f"{report.entries.all(report.timeline)}")
+        parts += [faults_head(report), looks.fault_list.listed(), looks.fault_list.others()]
+    parts.append(f'<h2 id="subtitles">Subtitles</h2>{subtitles_words(report, looks)}'
+                 f"{looks.entries.all(looks.timeline)}")
     return parts
 
 
-def verdict_box(report):
+def faults_head(report: Report) -> str:
+    """How many faults there are, and how many of each number."""
+    where = " in the subtitle file" if report.is_refused_file else ""
+    return f'<h2 id="faults">{faults_words(report)}{where}</h2>{numbers_table(report)}'
+
+
+def faults_words(report: Report) -> str:
+    """How many faults there are."""
+    count = report.faults.count
+    return f"{count:,} fault{'s' * (count != 1)}"
+
+
+def verdict_box(report: Report) -> str:
     """The verdict word for word, with what the manual says of its number."""
     verdict, faults = report.verdict, report.faults
     parts = []
@@ -87,13 +117,8 @@ def verdict_box(report):
         if faults.count > 1:
             parts.append(f'<p class="count">and {faults.count - 1:,} more '
                          f'fault{"s" * (faults.count != 2)}: <a href="#faults">all '
-                         f"{faults_words(faults.count)}</a></p>")
-        meaning = report.meanings.get(verdict.number)
-        if meaning:
-            parts.append(f"<dl><dt>means</dt><dd>{marked_up(meaning.means)}</dd>"
-                         f"<dt>do</dt><dd>{marked_up(meaning.do)}</dd></dl>")
-        else:
-            parts.append("<p>docs/manual/, which says what it means, is not beside tools/.</p>")
+                         f"{faults_words(report)}</a></p>")
+        parts.append(meaning_of_verdict(report))
     else:
         parts.append(f"<p>{ACCEPTED}</p>")
     kind, shape = ("refused", BAD) if verdict.status else ("accepted", GOOD)
@@ -101,38 +126,46 @@ def verdict_box(report):
             f'{shown(verdict.line)}</p>{"".join(parts)}</div></div>')
 
 
-def navigation(report):
+def navigation(report: Report) -> str:
+    """Links to the parts of the page."""
     links = []
+    if report.looks:
+        links.append(("timeline", "Timeline"))
     if report.faults.count:
-        links += [("place", "The broken place"), ("faults", "All faults")]
-    if report.timeline:
-        links += [("timeline", "Timeline"), ("subtitles", "Subtitles")]
-    links += [("pages", "Headers"), ("files", "Files")]
-    if report.timeline:
+        links += [("faults", "Faults"), ("place", "The broken place")]
+    if report.looks:
+        links.append(("subtitles", "Subtitles"))
+    if report.pes:
+        links.append(("pages", "Headers"))
+    if report.looks:
         links.append(("key", "How to read this page"))
+    links.append(("files", "Made from"))
     return "<nav>" + " ".join(f'<a href="#{to}">{words}</a>' for to, words in links) + "</nav>"
 
 
-def files_table(report):
+def foot(report: Report) -> str:
+    """What the page is made from, by what, and when."""
     rows = "".join(
-        f'<tr><th scope="row">{what}</th><td class="long">{shown(name)}</td><td>{size:,} bytes</td>'
-        f'<td class="long"><code>{digest}</code></td></tr>'
-        for what, name, (digest, size) in report.files)
-    return ('<h2 id="files">Files</h2><table class="files"><thead><tr><td></td>'
+        f'<tr><th scope="row">{one.kind}</th><td class="long">{shown(one.name)}</td>'
+        f'<td>{one.size:,} bytes</td><td class="long"><code>{one.sha256}</code></td></tr>'
+        for one in report.files)
+    proved = report.made_with.proved
+    made = [("Date", report.date), ("Version", report.made_with.version),
+            ("Options", f"<code>{shown(report.asked.options())}</code>"),
+            ("Command line", f'<code class="long">{shown(report.command_line)}</code>'),
+            ("PROVED", f'<code class="long">{shown(proved)}</code>' if proved else
+             "no file PROVED says what the prover said of this program")]
+    lines = "".join(f"<dt>{name}</dt><dd>{words}</dd>" for name, words in made)
+    return ('<h2 id="files">Made from</h2><table class="files"><thead><tr><td></td>'
             f"{heads('Name', 'Size', 'SHA-256')}</tr></thead><tbody>{rows}</tbody></table>"
-            f'<p>Command line: <code class="long">{shown(report.command_line)}</code></p>'
-            f'<p class="says">{SAYS}</p>')
-
-
-def heads(*names):
-    return "".join(f'<th scope="col">{name}</th>' for name in names)
+            f'<dl class="made">{lines}</dl><p class="says">{SAYS}</p>')
 
 
 COLUMNS = ("Headers", "First PTS", "First frame", "Last PTS", "Last frame",
            "Control bits (headers)")
 
 
-def pages_table(report):
+def pages_table(report: Report) -> str:
     """The pages whose headers the PES file holds, so that a wrong page or origin is seen."""
     held = report.held
     parts = ['<h2 id="pages">Headers in the PES file</h2>', f"<p>{reading_words(held)}</p>"]
@@ -148,7 +181,7 @@ def pages_table(report):
         bits = "; ".join(f"{names} ({count})" for names, count in known.bits.most_common(4))
         cells = [f"{known.count:,}"]
         for pts, _ in (known.first, known.last):
-            cells += [pts, place_of_pts(pts, report.origin)]
+            cells += [str(pts), place_of_pts(pts, report.origin)]
         named = "".join(f'<td data-name="{name}">{cell}</td>'
                         for name, cell in zip(COLUMNS, [*cells, bits]))
         rows.append(f'<tr><th scope="row">{page_name} {words}</th>{named}</tr>')
@@ -156,11 +189,11 @@ def pages_table(report):
         parts.append(f'<table class="pages"><thead><tr>{heads("Page", *COLUMNS)}</tr></thead>'
                      f"<tbody>{''.join(rows)}</tbody></table>")
     if len(pages) > MOST_PAGES:
-        parts.append(f"<p>{len(pages) - MOST_PAGES} more pages have fewer headers.</p>")
+        parts.append(f"<p>{counted(len(pages) - MOST_PAGES, 'more page')} with fewer headers.</p>")
     return "".join(parts)
 
 
-def reading_words(held):
+def reading_words(held: Heard) -> str:
     """How far the PES file was read and heard."""
     words = f"{held.count:,} PES packet{'s' * (held.count != 1)} read."
     if held.end.status:
@@ -172,17 +205,18 @@ def reading_words(held):
     return words
 
 
-def subtitles_words(report):
+def subtitles_words(report: Report, looks: Looks) -> str:
     """How many subtitles there are, and which have pictures."""
-    count, drawn = len(report.subtitles), len(report.entries.drawn)
+    entries = looks.entries
+    count, drawn = len(report.subtitles), len(entries.drawn)
     if not count:
         return ("<p>There is no subtitle, as <code>schedule</code> tells by 82 NoSubtitles: the "
                 "due page is blank at each frame.</p>")
     words = f"{count:,} subtitle{'s' * (count != 1)}, pictures at the first frame of "
     words += "each." if drawn == count else f"{drawn:,} of them."
-    counted = report.entries.counted(report.subtitles)
-    odd = sorted(report.entries.odd & set(report.entries.drawn))
+    kinds = entries.counted(report.subtitles)
+    odd = sorted(entries.odd & set(entries.drawn))
     links = " ".join(f'<a href="#s{index}">{index}</a>' for index in odd[:MOST_LINKS])
     more = " ..." if len(odd) > MOST_LINKS else ""
     where = f" Not as due: {links}{more}" if links else ""
-    return f"<p>{words} What a receiver holds then: {counted}.{where}</p>"
+    return f"<p>{words} What a receiver holds then: {kinds}.{where}</p>"

@@ -1,18 +1,25 @@
 """A place in a transmission: its PES packet, the headers around its frame, its Teletext packets."""
+from __future__ import annotations
+
 import bisect
+from typing import TYPE_CHECKING
 
 from ..teletext import CODE_WORDS, NUMBER
 from ..times import CLOCK, FRAMES_OF_A_DAY, TICKS, time_of
 from .fits import frames_words
 from .manual import shown
+from .program import Program, Verdict
 from .receiver import HIT, STORED
+
+if TYPE_CHECKING:
+    from .listening import Heard, HeldUnits
 
 NAMED = ' class="named"'
 ORDER = 62
 BYTES_A_LINE = 14  # of a packet, at most
 
 
-def place_of_pts(pts, origin):
+def place_of_pts(pts: int, origin: int) -> str:
     """What a PTS is in frames of the day: its time, or why it is none."""
     ticks = (pts - origin) % CLOCK
     if ticks >= TICKS * FRAMES_OF_A_DAY:
@@ -21,7 +28,7 @@ def place_of_pts(pts, origin):
     return time if ticks % TICKS == 0 else f"none: {time} is {ticks % TICKS} ticks before"
 
 
-def pes_words(fault, held, origin):
+def pes_words(fault: Verdict, held: Heard, origin: int) -> str:
     """What is known of the PES packet that a fault names."""
     number = fault.pes
     if held.halt and held.halt[0] == number:
@@ -35,7 +42,7 @@ def pes_words(fault, held, origin):
     return f"<p>PES packet {number} can't be read, and nothing after it.</p>"
 
 
-def around(held, frame, page):
+def around(held: Heard, frame: int, page: str) -> str:
     """The frames with a header of the page before and after a frame."""
     at = bisect.bisect_right(held.sendings, frame)
     words = []
@@ -51,7 +58,8 @@ def around(held, frame, page):
     return f"<p>Headers of page {page} around frame {time_of(frame)}: {'; '.join(words)}.</p>"
 
 
-def units_table(program, known, frame, broken, has_all):
+def units_table(program: Program, known: HeldUnits, frame: int, broken: int | None,
+                has_all: bool) -> str:
     """The Teletext packets of a PES packet as `packets` and `packet` print them, or the broken."""
     number, units = known
     rows = []
@@ -72,7 +80,7 @@ def units_table(program, known, frame, broken, has_all):
             f'<table class="packets">{body}</table></details>')
 
 
-def marked_bytes(digits):
+def marked_bytes(digits: str) -> str:
     """42 bytes in hexadecimal; those of the address, a header or a row with a wrong bit marked.
 
     There is room for a new line after some of them.

@@ -1,14 +1,15 @@
 """What `subttx` is asked, and its lines as values. Nothing else is known of either file."""
-import collections
+from __future__ import annotations
+
+import dataclasses
 import hashlib
+import os
 import re
 import subprocess
+from typing import Callable, Iterable, Iterator, NamedTuple, Protocol, TypeVar
 
 from ..times import frame_of
-
-Subtitle = collections.namedtuple("Subtitle", "index number first end row justify text")
-Verdict = collections.namedtuple(
-    "Verdict", "line status number name block at pes frame packet row column")
+from ..words import Stop
 
 ACCEPTED = re.compile(r"accepted \d+ frames \d+ transmissions$")
 PLACE = re.compile(
@@ -18,27 +19,66 @@ PLACE = re.compile(
     r"| row (?P<row>\d+) column (?P<column>\d+))?)?$")
 
 
-class NoReport(Exception):
+class NoReport(Stop):
     """No report can be made; its text is the line for standard error."""
 
 
-def verdict_of(line, status):
+@dataclasses.dataclass(frozen=True)
+class Subtitle:
+    """A subtitle: its place in the file from 1, its SN, the frames of its TCI and TCO."""
+
+    index: int
+    number: str
+    first: int
+    end: int
+    row: int
+    justify: int
+    text: bytes
+
+
+class Verdict(NamedTuple):
+    """A line of a command with the status that it ends with, and the place that it names."""
+
+    line: str
+    status: int
+    number: int | None = None
+    name: str | None = None
+    block: int | None = None
+    at: int | None = None
+    pes: int | None = None
+    frame: int | None = None
+    packet: int | None = None
+    row: int | None = None
+    column: int | None = None
+
+
+class Told(Protocol):
+    """What is made of the lines of `check --all`."""
+
+    first_line: str
+    last_line: str
+    count: int
+
+
+AnyTold = TypeVar("AnyTold", bound=Told)
+
+
+def verdict_of(line: str, status: int) -> Verdict:
     """The last line of a command, with its place where it names one."""
     found = PLACE.match(line)
     if not found:
-        return Verdict(line, status, *[None] * 9)
-    fields = found.groupdict()
-    fields["frame"] = fields["frame"] and frame_of(fields["frame"])
-    for name in ("number", "block", "at", "pes", "packet", "row", "column"):
-        fields[name] = fields[name] and int(fields[name])
-    return Verdict(line, status, **fields)
+        return Verdict(line, status)
+    numbers = {name: int(found[name]) if found[name] else None
+               for name in ("number", "block", "at", "pes", "packet", "row", "column")}
+    frame = frame_of(found["frame"]) if found["frame"] else None
+    return Verdict(line, status, name=found["name"], frame=frame, **numbers)
 
 
-def subtitle_of(index, line):
+def subtitle_of(index: int, line: str) -> Subtitle:
     """A subtitle from its line of `show`: SN TCI TCO vp V jc J text HEX."""
     number, first, end, _, row, _, justify, _, text = line.split(" ")
-    text = b"" if text == "-" else bytes.fromhex(text)
-    return Subtitle(index, number, frame_of(first), frame_of(end), int(row), int(justify), text)
+    return Subtitle(index, number, frame_of(first) or 0, frame_of(end) or 0, int(row),
+                    int(justify), b"" if text == "-" else bytes.fromhex(text))
 
 
 class Listing:
@@ -48,12 +88,14 @@ class Listing:
     after that `last` is the last line, a count or a refusal.
     """
 
-    def __init__(self, command):
-        self.command, self.last = command, None
+    def __init__(self, command: list[str]) -> None:
+        self.command = command
+        self.last = Verdict("", 2)
 
-    def __iter__(self):
+    def __iter__(self) -> Iterator[tuple[int, bytes]]:
         with subprocess.Popen(self.command, stdin=subprocess.DEVNULL, stdout=subprocess.PIPE,
                               stderr=subprocess.DEVNULL) as process:
+            assert process.stdout
             rest = b"\n"
             while chunk := process.stdout.read(1 << 20):
                 pieces = (rest + chunk).split(b"\npes ")
@@ -68,52 +110,59 @@ class Listing:
         self.last = verdict_of(last.decode(), process.returncode)
 
     @staticmethod
-    def split(piece):
+    def split(piece: bytes) -> tuple[int, bytes]:
         head, _, units = piece.partition(b"\n")
         return int(head[head.rindex(b" ") + 1:]), units
 
 
 class Program:
-    """The program at a path, with the options of the report."""
+    """A program with the options of the report; messages name it as it was typed."""
 
-    def __init__(self, path, page, every, origin, option, is_complete):
-        self.path = path
+    def __init__(self, name: str, path: str, page: str, every: str, origin: str, option: str,
+                 is_complete: bool) -> None:
+        self.name, self.path = name, os.path.abspath(path)
         self.receiver = ["--page", page, "--origin", origin]
         self.schedule_options = [*self.receiver, "--option", option]
         self.check_options = [*self.schedule_options, "--every", every]
         if is_complete:
             self.check_options.append("--complete")
 
-    def command(self, *words):
+    def command(self, *words: str) -> list[str]:
         return [self.path, *words]
 
-    def run(self, *words):
+    def cannot_run(self, error: OSError | ValueError) -> NoReport:
+        reason = error.strerror if isinstance(error, OSError) else error
+        return NoReport(f"{self.name} can't be run: {reason}")
+
+    def run(self, *words: str) -> tuple[list[str], Verdict]:
         """Runs a command; answers its lines and its last one as a verdict."""
         try:
             # The program says nothing on standard error; the script that builds it does.
             done = subprocess.run(self.command(*words), stdin=subprocess.DEVNULL, check=False,
                                   stdout=subprocess.PIPE)
         except (OSError, ValueError) as error:
-            raise NoReport(f"{self.path} can't be run: {error}") from None
+            raise self.cannot_run(error) from None
         lines = done.stdout.decode("utf-8", "replace").splitlines()
         if not lines or done.returncode not in (0, 1, 2):
-            raise NoReport(f"{self.path} {words[0]}: status {done.returncode}, no answer")
+            raise NoReport(f"{self.name} {words[0]}: status {done.returncode}, no answer")
         return lines, verdict_of(lines[-1], done.returncode)
 
-    def answered(self, *words):
+    def answered(self, *words: str) -> tuple[list[str], Verdict]:
         """`run` for a command that has to be answered."""
         lines, verdict = self.run(*words)
         return lines, answered(words[0], verdict)
 
-    def check(self, stl, pes, take):
+    def check(self, stl: str, pes: str,
+              take: Callable[[Iterable[str]], AnyTold]) -> tuple[Verdict, AnyTold]:
         """The verdict, accepted or refused, and all that `take` makes of the lines of `--all`."""
         command = self.command("check", *self.check_options, "--all", "--", stl, pes)
         try:
             with subprocess.Popen(command, stdin=subprocess.DEVNULL, stdout=subprocess.PIPE,
                                   text=True, errors="replace") as process:
+                assert process.stdout
                 told = take(line.rstrip("\n") for line in process.stdout)
         except (OSError, ValueError) as error:
-            raise NoReport(f"{self.path} can't be run: {error}") from None
+            raise self.cannot_run(error) from None
         verdict = verdict_of(told.first_line, process.returncode)
         is_verdict = ACCEPTED.match(told.last_line) if verdict.status == 0 else \
             verdict.status == 1 and told.last_line == f"{told.count} faults"
@@ -121,31 +170,31 @@ class Program:
             raise NoReport(f"check was not answered: {told.last_line or 'it printed nothing'}")
         return verdict, told
 
-    def show(self, stl):
-        """The lines of `show`, its subtitles, and its last line."""
-        lines, verdict = self.answered("show", "--", stl)
-        return lines, [subtitle_of(i, line) for i, line in enumerate(lines[:-1], 1)], verdict
+    def show(self, stl: str) -> tuple[list[str], list[Subtitle]]:
+        """The lines of `show`, and its subtitles."""
+        lines = self.answered("show", "--", stl)[0]
+        return lines, [subtitle_of(index, line) for index, line in enumerate(lines[:-1], 1)]
 
-    def schedule(self, stl, pes):
+    def schedule(self, stl: str, pes: str) -> Verdict:
         words = [*self.schedule_options, "--every", "1500", "--", stl, pes]
         return self.answered("schedule", *words)[1]
 
-    def packets(self, pes):
+    def packets(self, pes: str) -> Listing:
         return Listing(self.command("packets", "--", pes))
 
-    def packet(self, digits):
+    def packet(self, digits: str) -> list[str]:
         """What `packet` says of 84 hexadecimal digits, as lines."""
         return self.answered("packet", digits)[0]
 
 
-def answered(command, verdict):
+def answered(command: str, verdict: Verdict) -> Verdict:
     """The verdict of a command; with status 2 there is no report."""
     if verdict.status == 2 or not verdict.line:
         raise NoReport(f"{command} was not answered: {verdict.line or 'it printed nothing'}")
     return verdict
 
 
-def digest_of(path):
+def digest_of(path: str) -> tuple[str, int]:
     """The SHA-256 and the size of a file."""
     digest, size = hashlib.sha256(), 0
     try:

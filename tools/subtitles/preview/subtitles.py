@@ -1,11 +1,18 @@
 """The subtitles: a grid of small pictures, and large ones where something else is held than due."""
+from __future__ import annotations
+
 import bisect
 import collections
 import itertools
+from typing import Iterable, Iterator
 
 from ..times import time_of
-from .figures import DIFFERENT, KINDS, NOTHING, SAME
-from .timeline import MINUTE
+from ..words import counted
+from .faults import Entry, Faults
+from .figures import DIFFERENT, KINDS, NOTHING, SAME, Figures
+from .listening import Heard
+from .program import Subtitle
+from .timeline import MINUTE, Timeline
 
 ROOM = 10_000_000  # bytes of pictures in a report
 NEAR, MOST_LARGE = 25, 500  # subtitles by the broken place, and with other cells, that come first
@@ -14,9 +21,11 @@ NEAR, MOST_LARGE = 25, 500  # subtitles by the broken place, and with other cell
 class Entries:
     """The entries of subtitles: those with pictures, as many as there is room for."""
 
-    def __init__(self, figures, held, subtitles, window, faults, broken):
+    def __init__(self, figures: Figures, held: Heard, subtitles: list[Subtitle],
+                 window: tuple[int, int], faults: Faults, broken: int | None) -> None:
         self.figures, self.held, self.faults = figures, held, faults
-        self.subtitles, self.drawn = subtitles, {}
+        self.subtitles = subtitles
+        self.drawn: dict[int, str] = {}
         self.kinds = {one.index: figures.kind_at(one.first) for one in subtitles}
         self.odd = {index for index, kind in self.kinds.items() if kind in (DIFFERENT, NOTHING)}
         self.unknown = {index for index, kind in self.kinds.items()
@@ -28,7 +37,7 @@ class Entries:
         self.fill([one for one in subtitles if one.end > window[0] and one.first <= window[1]],
                   broken)
 
-    def fill(self, inside, broken):
+    def fill(self, inside: list[Subtitle], broken: int | None) -> None:
         """Draws subtitles as long as there is room."""
         room = ROOM
         for subtitle in self.by_need(inside, broken):
@@ -39,10 +48,10 @@ class Entries:
                     break
                 self.drawn[subtitle.index] = entry
 
-    def is_small(self, subtitle):
+    def is_small(self, subtitle: Subtitle) -> bool:
         return self.kinds[subtitle.index] == SAME
 
-    def by_need(self, inside, broken):
+    def by_need(self, inside: list[Subtitle], broken: int | None) -> Iterator[Subtitle]:
         """First those by the broken place, then some that differ, then all that are as due.
 
         Of a subtitle at which nothing can be seen there is no picture.
@@ -55,7 +64,7 @@ class Entries:
         yield from itertools.islice(differing, MOST_LARGE)
         yield from (one for one in inside if self.is_small(one))
 
-    def faults_in(self, subtitle):
+    def faults_in(self, subtitle: Subtitle) -> str:
         """Words for the faults while it is due, with a link to the first that is listed."""
         if not any(True for _ in self.faults.spans.between(subtitle.first, subtitle.end)):
             return ""
@@ -64,30 +73,30 @@ class Entries:
             return ' <b class="bad">faults while it is due</b>'
         return f' <a class="bad" href="#e{entry.index}"><b>fault {entry.index}</b></a>'
 
-    def entry_in(self, begin, end):
+    def entry_in(self, begin: int, end: int) -> Entry | None:
         """The first listed fault that is told from `begin` to the frame before `end`."""
         at = bisect.bisect_left(self.entry_frames, begin)
         is_one = at < len(self.entry_frames) and self.entry_frames[at] < end
         return self.entry_at[self.entry_frames[at]] if is_one else None
 
-    def small(self, subtitle):
+    def small(self, subtitle: Subtitle) -> str:
         first, end = time_of(subtitle.first), time_of(subtitle.end)
-        sent = self.held.sendings_between(subtitle.first, subtitle.end)
+        sent = counted(self.held.sendings_between(subtitle.first, subtitle.end), "time")
         return (f'<figure class="small" id="s{subtitle.index}"><figcaption title="to {end}, SN '
-                f'{subtitle.number}, row {subtitle.row}, sent {sent} times"><b>{subtitle.index}</b>'
+                f'{subtitle.number}, row {subtitle.row}, sent {sent}"><b>{subtitle.index}</b>'
                 f" {first}{self.faults_in(subtitle)}</figcaption>"
                 f"{self.figures.small_at(subtitle.first)}</figure>")
 
-    def large(self, subtitle):
+    def large(self, subtitle: Subtitle) -> str:
         first, end = time_of(subtitle.first), time_of(subtitle.end)
         sent = self.held.sendings_between(subtitle.first, subtitle.end)
-        words = f"sent {sent} time{'s' * (sent != 1)} while it is due"
+        words = f"sent {counted(sent, 'time')} while it is due"
         return (f'<section class="entry" id="s{subtitle.index}"><h3>Subtitle {subtitle.index} '
                 f"(SN {subtitle.number}) <code>{first}</code> to <code>{end}</code></h3><p>row "
                 f"{subtitle.row}, justification {subtitle.justify}; {words}"
                 f"{self.faults_in(subtitle)}</p>{self.figures.at(subtitle.first)}</section>")
 
-    def all(self, timeline):
+    def all(self, timeline: Timeline) -> str:
         """The entries in order, by minute where the timeline has strips of minutes."""
         if not timeline.has_minutes():
             return self.listed(self.subtitles)
@@ -99,22 +108,22 @@ class Entries:
                          f"{self.listed(members.get(minute, []))}</section>")
         return "".join(parts)
 
-    def listed(self, subtitles):
+    def listed(self, subtitles: Iterable[Subtitle]) -> str:
         """Entries in order: small ones in a grid, neighbours without pictures as a count."""
         parts = []
-        for kind, group in itertools.groupby(subtitles, self.look):
-            group = list(group)
+        for kind, several in itertools.groupby(subtitles, self.look):
+            group = list(several)
             drawn = "".join(self.drawn.get(one.index, "") for one in group)
             parts.append(f'<div class="grid">{drawn}</div>' if kind == "small" else
                          drawn if kind == "large" else self.left_out(group))
         return "".join(parts)
 
-    def look(self, subtitle):
+    def look(self, subtitle: Subtitle) -> str:
         if subtitle.index not in self.drawn:
             return "left out"
         return "small" if self.is_small(subtitle) else "large"
 
-    def left_out(self, group):
+    def left_out(self, group: list[Subtitle]) -> str:
         first, last = group[0], group[-1]
         times = f"{time_of(first.first)} --to {time_of(last.first)}"
         names = f"Subtitle {first.index}" if first is last else \
@@ -124,7 +133,7 @@ class Entries:
         return (f'<p class="left" id="s{first.index}">{names}: no pictures here. What is held at '
                 f"the first frame: {self.counted(group)}.{words}</p>")
 
-    def counted(self, group):
+    def counted(self, group: Iterable[Subtitle]) -> str:
         """How many subtitles of a group are of which kind."""
         counts = collections.Counter(self.kinds[one.index] for one in group)
         if len(counts) == 1:

@@ -3,12 +3,19 @@
 Shapes are SVG that is as wide as the page; words stand beside and below them, so that they are as
 large on a narrow page as on a wide one.
 """
+from __future__ import annotations
+
 import bisect
 import itertools
+from typing import TYPE_CHECKING, Collection, Iterable, Iterator
 
 from ..times import time_of
-from .faults import Spans
+from .faults import Faults, Span, Spans
 from .manual import shown
+from .program import Subtitle
+
+if TYPE_CHECKING:
+    from .subtitles import Entries
 
 MINUTE = 1500  # in frames
 # How long a strip can be, what that is called, how far its ticks are apart, and its words.
@@ -22,25 +29,26 @@ WIDTH = 1000  # of a strip, in its own units
 CLOSE, CLOSE_ON_MANY, MANY_STRIPS = 3, 8, 300
 # The look of a subtitle that is held as it is due, of one that is not, and of one that can't be
 # seen: its class, its top, its height.
+Look = tuple[str, int, int]
 GOOD, ODD, UNKNOWN = ("bar", 5, 14), ("odd", 2, 20), ("unknown", 5, 14)
 LANE, TICKS, AXIS, FAULTS, HEIGHT = 24, 28, 37, 40, 54  # where these are drawn, from the top
+TRUSTED, THIN = 45, 4  # the same of frames that may be trusted, and the height of their line
 # A subtitle that is narrower than that is no bar of its own; of more than so many subtitles, one
 # without pictures is none either.
 NARROW, FEW = 4, 5000
 WORDS_WIDTH = 9  # of a digit, in a strip of WIDTH units on a wide page
 
 
-def runs_of(frames):
+def runs_of(frames: Iterable[int]) -> Iterator[Span]:
     """Rising frames as spans of neighbours."""
-    begin = last = None
+    begin = last = -2
     for frame in frames:
-        if last is None:
-            begin = frame
-        elif frame - 1 != last:
-            yield begin, last
+        if frame - 1 != last:
+            if last >= 0:
+                yield begin, last
             begin = frame
         last = frame
-    if last is not None:
+    if last >= 0:
         yield begin, last
 
 
@@ -52,37 +60,39 @@ class Timeline:
     given.
     """
 
-    def __init__(self, subtitles, sendings, entries, faults, broken, flag, end):
+    def __init__(self, subtitles: list[Subtitle], sendings: Iterable[int], entries: Entries,
+                 faults: Faults, broken: int | None, flag: str, end: int | None) -> None:
         self.subtitles, self.sendings = subtitles, Spans(runs_of(sendings))
-        self.entries, self.spans = entries, faults.spans
+        self.entries, self.spans, self.trusted = entries, faults.spans, faults.trusted
         self.broken, self.flag, self.end = broken, flag, end
-        self.numbers = {}  # of strips in use, by their length
+        self.numbers: dict[int, set[int]] = {}  # of strips in use, by their length
         self.ends = [subtitle.end for subtitle in subtitles]
         self.firsts = [subtitle.first for subtitle in subtitles]
         self.unit, self.called, self.step, self.words = next(
             (unit for unit in UNITS if len(self.used(unit[0])) <= MOST_STRIPS), UNITS[-1])
         self.close = CLOSE if len(self.used(MINUTE)) <= MANY_STRIPS else CLOSE_ON_MANY
 
-    def used(self, unit):
+    def used(self, unit: int) -> set[int]:
         """The numbers of the strips of that length with something on them."""
         if unit not in self.numbers:
-            self.numbers[unit] = used = set()
+            used = self.numbers[unit] = set[int]()
             subtitles = ((subtitle.first, subtitle.end - 1) for subtitle in self.subtitles)
-            last = None
+            last: int | None = None
             for begin, end in itertools.chain(subtitles, self.sendings, self.spans):
                 if begin // unit != last or end // unit != last:
                     last = end // unit
                     used.update(range(begin // unit, last + 1))
         return self.numbers[unit]
 
-    def has_minutes(self):
+    def has_minutes(self) -> bool:
         """Whether strips are so long that each minute needs one of its own."""
         return self.unit > MINUTE
 
-    def overview(self):
+    def overview(self) -> str:
         """All strips that have something on them, and what is left out between them."""
-        parts, last = [], None
-        minutes = self.used(MINUTE) if self.has_minutes() else ()
+        parts: list[str] = []
+        last: int | None = None
+        minutes = self.used(MINUTE) if self.has_minutes() else set()
         for number in sorted(self.used(self.unit)):
             if last is not None and number > last + 1:
                 parts.append(f'<p class="gap">nothing from {time_of((last + 1) * self.unit)} to '
@@ -92,7 +102,7 @@ class Timeline:
             last = number
         return "".join(parts) or '<p class="gap">nothing</p>'
 
-    def minute(self, number):
+    def minute(self, number: int) -> str:
         """The strip of a minute of the day."""
         unit, _, step, words = MINUTES
         return Strip(self, number * MINUTE, (unit, step, words)).drawn(())
@@ -101,23 +111,25 @@ class Timeline:
 class Strip:
     """One strip: its first frame, and its length with the distances of its ticks and words."""
 
-    def __init__(self, timeline, begin, unit):
+    def __init__(self, timeline: Timeline, begin: int, unit: tuple[int, int, int]) -> None:
         self.timeline, self.begin = timeline, begin
         self.unit, self.step, self.words = unit
         self.end = begin + self.unit
 
-    def x(self, frame):
+    def x(self, frame: int) -> float:
         inside = min(max(frame, self.begin), self.end) - self.begin
         return round(inside * WIDTH / self.unit, 1)
 
-    def drawn(self, minutes):
+    def drawn(self, minutes: Collection[int]) -> str:
         """The strip; `minutes` are those that have strips of their own to lead to."""
-        line, words = self.timeline, []
+        line = self.timeline
+        words: list[str] = []
         shapes = [f'<rect class="lane" y="0" width="{WIDTH}" height="{LANE}"/>']
         shapes += self.bars(words)
         shapes += self.hatching(words)
         shapes += self.sendings()
         shapes += self.axis(words)
+        shapes += self.trusted()
         shapes += self.faults()
         for minute in range(self.begin // MINUTE, self.end // MINUTE):
             if minute in minutes:
@@ -135,10 +147,10 @@ class Strip:
                 f'<svg viewBox="0 0 {WIDTH} {HEIGHT}" preserveAspectRatio="none" role="group" '
                 f'aria-label="{label}">{"".join(shapes)}</svg>{"".join(words)}</div>{flag}</div>')
 
-    def bars(self, words):
+    def bars(self, words: list[str]) -> Iterator[str]:
         """The subtitles: bars that are links, and a path of narrow ones and others."""
         line, entries = self.timeline, self.timeline.entries
-        narrow = {GOOD: [], ODD: [], UNKNOWN: []}
+        narrow: dict[Look, list[list[float]]] = {GOOD: [], ODD: [], UNKNOWN: []}
         place = bisect.bisect_right(line.ends, self.begin)
         while place < len(line.subtitles) and line.firsts[place] < self.end:
             subtitle = line.subtitles[place]
@@ -157,7 +169,8 @@ class Strip:
             path = "".join(f"M{a:g} {top}h{b - a:.3g}v{height}H{a:g}z" for a, b in spans)
             yield f'<path class="{kind}" d="{path}"/>' if path else ""
 
-    def bar(self, subtitle, left, right, look, words):
+    def bar(self, subtitle: Subtitle, left: float, right: float, look: Look,
+            words: list[str]) -> str:
         """A bar, and its number where it has room and is not hatched."""
         kind, top, height = look
         name, end = f"subtitle {subtitle.index}", self.timeline.end
@@ -172,7 +185,7 @@ class Strip:
             return f'<a href="#s{subtitle.index}" aria-label="{name}">{shape}</a>'
         return shape
 
-    def hatching(self, words):
+    def hatching(self, words: list[str]) -> Iterator[str]:
         """Lines over the time of which nothing is known."""
         end = self.timeline.end
         if end is None or end >= self.end:
@@ -188,9 +201,10 @@ class Strip:
             words.append(f'<span class="end" style="{side}">nothing known after '
                          f"{time_of(end - 1)}</span>")
 
-    def sendings(self):
+    def sendings(self) -> Iterator[str]:
         """The sendings, those that are close to each other as one block."""
-        close, runs = self.timeline.close, []
+        close = self.timeline.close
+        runs: list[list[float]] = []
         for begin, end in self.timeline.sendings.between(self.begin, self.end):
             left, right = self.x(begin), self.x(min(end, self.end - 1))
             is_alone = self.x(begin + 1) - left >= close
@@ -209,7 +223,7 @@ class Strip:
         if blocks:
             yield f'<path class="many" d="{blocks}"/>'
 
-    def axis(self, words):
+    def axis(self, words: list[str]) -> Iterator[str]:
         """Ticks of time, with words at some of them."""
         lines = "".join(f"M{self.x(frame):g} {AXIS}v4"
                         for frame in range(self.begin, self.end + 1, self.step))
@@ -219,9 +233,19 @@ class Strip:
             side = f"left:{self.x(frame) / 10:.4g}%"
             words.append(f'<span class="axis" style="{side}">{short}</span>')
 
-    def faults(self):
+    def trusted(self) -> Iterator[str]:
+        """The frames that may be trusted: a line below the axis, thinner than a fault's mark."""
+        for begin, end in self.timeline.trusted.between(self.begin, self.end):
+            left = self.x(begin)
+            width = max(self.x(end + 1) - left, 2)
+            yield (f'<rect class="trusted" x="{left:g}" y="{TRUSTED}" width="{width:.4g}" '
+                   f'height="{THIN}"><title>trusted: {time_of(begin)} to {time_of(end)}</title>'
+                   "</rect>")
+
+    def faults(self) -> Iterator[str]:
         """What is told: a mark for each span that has room for one, which leads to the list."""
-        runs, near = [], CLOSE * self.unit / WIDTH
+        near = CLOSE * self.unit / WIDTH
+        runs: list[list[int]] = []
         for begin, end in self.timeline.spans.between(self.begin, self.end):
             if runs and begin - runs[-1][1] <= near:
                 runs[-1][1] = end

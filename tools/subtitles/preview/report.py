@@ -1,0 +1,180 @@
+"""All that a page is made of, as the program printed it."""
+from __future__ import annotations
+
+import os
+import shlex
+import tempfile
+import time
+from concurrent.futures import ThreadPoolExecutor
+from typing import Iterator, NamedTuple
+
+from ..built import behind_script
+from ..qc.made_with import Program as MadeWith, program_at
+from ..teletext import Page, page_name
+from ..times import time_of
+from ..words import counted
+from .fault_list import FaultList
+from .faults import Faults, Programme
+from .figures import Figures
+from .fits import Fits
+from .letters import ENGLISH, GERMAN
+from .listening import Changes, Heard
+from .manual import meanings
+from .counts import place_words
+from .program import NoReport, Program, Subtitle, Verdict, answered, digest_of
+from .receiver import Rows
+from .subtitles import Entries
+from .timeline import Timeline
+
+NO_SUBTITLES, EMPTY = 82, 60
+
+
+class Asked(NamedTuple):
+    """What is asked for: files and the program as they were typed, and the options of `check`.
+
+    `words` are those of the command line. `pes` is `None` where there is none. `window` are the
+    first and the last frame of which subtitles get pictures.
+    """
+
+    words: list[str]
+    stl: str
+    pes: str | None
+    program: str
+    program_path: str
+    page: Page
+    every: int
+    origin: int
+    option: str
+    is_complete: bool
+    window: tuple[int, int]
+
+    def options(self) -> str:
+        """All options as they hold."""
+        words = [f"--page {page_name(*self.page)}", f"--every {self.every}",
+                 f"--origin {self.origin}", f"--option {self.option}"]
+        words += ["--complete"] * self.is_complete
+        return " ".join([*words, *map("{} {}".format, ("--from", "--to"),
+                                      map(time_of, self.window))])
+
+
+class File(NamedTuple):
+    """A file of the report: what it is, its name as it was typed, its size, its SHA-256."""
+
+    kind: str
+    name: str
+    size: int
+    sha256: str
+
+
+class Report:
+    """A verdict, the faults, and what there is to see of them.
+
+    `frames` are those that have pictures: of the faults, and the first of each subtitle.
+    """
+
+    def __init__(self, asked: Asked) -> None:
+        self.asked, self.stl, self.pes = asked, asked.stl, asked.pes
+        program = Program(asked.program, asked.program_path, page_name(*asked.page),
+                          str(asked.every), str(asked.origin), asked.option, asked.is_complete)
+        self.page, self.origin = page_name(*asked.page), asked.origin
+        self.command_line = shlex.join(["tools/preview", *asked.words])
+        self.date = time.strftime("%Y-%m-%d %H:%M:%S UTC", time.gmtime())
+        self.made_with = program_at(asked.program_path)
+        with ThreadPoolExecutor(1) as pool:  # sums are made while the files are read
+            files = pool.submit(lambda: list(files_of(asked, self.made_with)))
+            self.read(program)
+            self.files = files.result()
+        self.looks = None if self.is_refused_file else Looks(self, program)
+
+    def read(self, program: Program) -> None:
+        """The lines that the program prints, as far as no picture needs them."""
+        asked = self.asked
+        self.show_lines, self.subtitles = program.show(asked.stl)
+        self.programme = Programme(self.subtitles)
+        path = asked.pes or os.devnull
+        self.verdict, self.faults = program.check(
+            asked.stl, path, lambda lines: Faults(lines, self.programme))
+        if asked.pes is None and self.verdict.number == EMPTY:
+            raise NoReport(f"nothing is wrong with {asked.stl}, "
+                           f"{counted(len(self.subtitles), 'subtitle')}: give the PES file, which "
+                           "is drawn beside it")
+        self.meanings = meanings()
+        self.is_refused_file = self.verdict.block is not None
+        told = [entry.first.frame for entry in self.faults.entries
+                if entry.first.frame is not None]
+        firsts = [one.first for one in self.subtitles]
+        self.frames = [] if self.is_refused_file else [*told, *firsts]
+        self.held = Heard(program.packets(path), self.frames, asked.page, asked.origin, told)
+        answered("packets", self.held.end)
+
+    def first_link(self, fault: Verdict) -> str:
+        """The place of the first fault of a number, as a link where the list has it."""
+        assert fault.number is not None
+        entry = self.faults.first_entries.get(fault.number)
+        return f'<a href="#e{entry}">{place_words(fault)}</a>' if entry else place_words(fault)
+
+
+class Looks:
+    """What there is to see of a transmission: its pictures, its faults, its timeline."""
+
+    def __init__(self, report: Report, program: Program) -> None:
+        asked, faults, held = report.asked, report.faults, report.held
+        last = held.last_frame
+        faults.mark(held.falls)
+        if last is not None and any(entry.last.pes is not None for entry in faults.entries):
+            faults.mark([last])
+        due = due_pages(program, asked, [*report.frames, last or 0])
+        option = GERMAN if asked.option == "german" else ENGLISH
+        header = bytes([0, 0, 0, 8, 0, 8, 1, option << 1])  # C4, C6 and C7
+        self.figures = Figures(due, held, header, report.page, asked.is_complete)
+        self.fits = Fits(due.changes if due else Changes(), held.changes,
+                         pages_of_content(faults, held, self.figures))
+        broken = report.verdict.frame if report.verdict.pes is None else last
+        self.entries = Entries(self.figures, held, report.subtitles, asked.window, faults, broken)
+        self.fault_list = FaultList(report, self, program)
+        self.timeline = Timeline(report.subtitles, held.sendings, self.entries, faults, broken,
+                                 report.verdict.line, end_of_knowledge(held, report.subtitles))
+
+
+def files_of(asked: Asked, made_with: MadeWith) -> Iterator[File]:
+    """The files that were read, and the program."""
+    for kind, name in (("STL", asked.stl), ("PES", asked.pes)):
+        if name is not None:
+            sha256, size = digest_of(name)
+            yield File(kind, name, size, sha256)
+    size = os.path.getsize(behind_script(asked.program_path))
+    yield File("Program", asked.program, size, made_with.sha256)
+
+
+def pages_of_content(faults: Faults, held: Heard, figures: Figures) -> dict[int, tuple[Rows, Rows]]:
+    """The due and the held page at each frame at which the content is refused."""
+    found = {}
+    for entry in faults.entries:
+        frame = entry.first.frame
+        if entry.first.row is None or frame is None:
+            continue
+        state = held.state_at(frame)
+        if state and state.is_heard:
+            found[frame] = figures.due_at(frame)[0], state.rows
+    return found
+
+
+def end_of_knowledge(held: Heard, subtitles: list[Subtitle]) -> int | None:
+    """The frame from which on nothing is known, `None` where all is known that is due."""
+    last = held.last_frame
+    if last is None:
+        return None
+    is_due_after = subtitles and subtitles[-1].end - 1 > last
+    return last + 1 if is_due_after or not held.is_whole() else None
+
+
+def due_pages(program: Program, asked: Asked, frames: list[int]) -> Heard | None:
+    """What a receiver holds of the program's own schedule; `None` where there is no subtitle."""
+    with tempfile.TemporaryDirectory() as folder:
+        path = os.path.join(folder, "due.pes")
+        verdict = program.schedule(asked.stl, path)
+        if verdict.number == NO_SUBTITLES:
+            return None
+        if verdict.status:
+            raise NoReport(f"schedule was refused: {verdict.line}")
+        return Heard(program.packets(path), frames, asked.page, asked.origin)
