@@ -3,17 +3,19 @@
 What a line doesn't say is taken from the manual (what its number means) and from the subtitle file:
 what is due is what `schedule` sends of it.
 """
+from __future__ import annotations
+
 import dataclasses
+from typing import BinaryIO, Callable, Iterable
 
 from .pes import data_field, pes_packet, pes_packets, pts_in, teletext_packets
 from .stl import DOUBLE_HEIGHT, GSI, TEXT, TTI, UNUSED
-from .teletext import CODE_WORDS, NUMBER, address_of, headers_in, is_odd
+from .teletext import (
+    CODE_WORDS, CONTROL_BITS, ERASE, INHIBIT, NATIONAL, NEWSFLASH, NUMBER, SERIAL, SUBTITLE,
+    SUPPRESS, address_of, has_bit, headers_in, is_odd)
 from .times import TICKS, frame_of
 
 CODED = 2, 10  # where a header has its eight coded bytes
-# In which of the eight numbers a control bit stands, and its value there.
-C4, C5, C6, C7, C10, C11 = (3, 8), (5, 4), (5, 8), (6, 1), (6, 8), (7, 1)
-NATIONAL = [(7, 2), (7, 4), (7, 8)]  # C12 to C14, clear in English
 PARITY = 0x80
 CS, TCI, TCO, VP, JC, TEXT_FIELD = 4, 5, 9, 13, 14, 16  # places in a TTI block
 BOTTOM = 23
@@ -27,19 +29,20 @@ class Fault:
     at whose end it stood."""
 
     number: int
-    place: dict
-    until: int = None
+    place: dict[str, int]
+    until: int = -1
 
 
-def faults_in(lines):
+def faults_in(lines: Iterable[str]) -> list[Fault]:
     """The faults of a list of `check --all`."""
-    found, standing = [], {}
+    found: list[Fault] = []
+    standing: dict[int, Fault] = {}
     for line in lines:
         words = line.split()
         if words[0] not in ("refused", "ended"):
             continue
         number, names = int(words[1]), iter(words[3:])
-        place = {name: frame_of(value) if name == "frame" else int(value)
+        place = {name: (frame_of(value) or 0) if name == "frame" else int(value)
                  for name, value in zip(names, names)}
         if words[0] == "ended":
             standing[number].until = place["frame"]
@@ -51,7 +54,7 @@ def faults_in(lines):
 
 # Subtitle files
 
-def mended_subtitles(data, faults):
+def mended_subtitles(data: bytes, faults: Iterable[Fault]) -> bytes:
     """A subtitle file whose subtitles have a block each, mended by its list."""
     blocks = [bytearray(data[at:at + TTI]) for at in range(GSI, len(data), TTI)]
     for fault in faults:
@@ -78,7 +81,7 @@ def mended_subtitles(data, faults):
     return data[:GSI] + b"".join(blocks)
 
 
-def drop_byte(block, at):
+def drop_byte(block: bytearray, at: int) -> None:
     """An accent, or a control code that this profile has not, goes from a text."""
     text = block[TEXT_FIELD:TEXT_FIELD + at] + block[TEXT_FIELD + at + 1:]
     block[TEXT_FIELD:] = text.ljust(TEXT, UNUSED)
@@ -91,110 +94,122 @@ class Sending:
     """A PES packet: its PTS, and its Teletext packets."""
 
     pts: int
-    packets: list
+    packets: list[bytearray]
 
     @property
-    def frame(self):
+    def frame(self) -> int:
         return self.pts // TICKS
 
 
-def sendings_in(file):
+def sendings_in(file: BinaryIO) -> list[Sending]:
     return [Sending(pts_in(one), list(map(bytearray, teletext_packets(data_field(one)))))
             for one in pes_packets(file)]
 
 
-def joined(sendings):
+def joined(sendings: Iterable[Sending]) -> bytes:
     return b"".join(pes_packet(one.pts, one.packets) for one in sendings)
 
 
 class Transmission:
     """The sendings of a file that is mended; `due` are those of the subtitle file, by frame."""
 
-    def __init__(self, sendings, due, every):
+    def __init__(self, sendings: list[Sending], due: dict[int, Sending], every: int) -> None:
         self.sendings, self.due, self.every = sendings, due, every
-        self.dropped, self.dropped_sendings, self.added = [], [], []
+        self.dropped: list[tuple[list[bytearray], bytearray]] = []
+        self.dropped_sendings: list[int] = []
+        self.added: list[Sending] = []
 
-    def mend(self, faults):
+    def mend(self, faults: Iterable[Fault]) -> list[Sending]:
         """Mends each fault where its line says it is; answers the sendings.
 
         Lines count packets as they were, so what is dropped goes last.
         """
         for fault in faults:
-            self.MENDS[fault.number](self, fault)
+            MENDS[fault.number](self, fault)
         for packets, packet in self.dropped:
             del packets[next(at for at, one in enumerate(packets) if one is packet)]
         left = [one for number, one in enumerate(self.sendings)
                 if number not in self.dropped_sendings]
         return sorted(left + self.added, key=lambda one: one.pts)
 
-    def packets_at(self, fault):
+    def packets_at(self, fault: Fault) -> list[bytearray]:
         """The packets of the frame of a fault."""
         return next(one.packets for one in self.sendings if one.frame == fault.place["frame"])
 
-    def packet(self, fault):
+    def packet(self, fault: Fault) -> bytearray:
         return self.packets_at(fault)[fault.place["packet"]]
 
-    def lasting(self, fault):
+    def lasting(self, fault: Fault) -> list[Sending]:
         """The sendings from which a fault comes that stands from one frame to another."""
         begin = max(one.frame for one in self.sendings if one.frame <= fault.place["frame"])
         return [one for one in self.sendings if begin <= one.frame <= fault.until]
 
-    def round_time(self, fault):
+    def round_time(self, fault: Fault) -> None:
         one = self.sendings[fault.place["pes"]]
         one.pts = round(one.pts / TICKS) * TICKS
 
-    def drop_sending(self, fault):
+    def drop_sending(self, fault: Fault) -> None:
         self.dropped_sendings.append(fault.place["pes"])
 
-    def correct(self, begin, end, fault):
+    def correct(self, begin: int, end: int, fault: Fault) -> None:
         """Bytes with one wrong bit become the code words that are meant."""
         packet = self.packet(fault)
-        packet[begin:end] = (CODE_WORDS[NUMBER[byte]] for byte in packet[begin:end])
+        packet[begin:end] = (CODE_WORDS[NUMBER[byte] or 0] for byte in packet[begin:end])
 
-    def set_mode(self, fault):
-        first = headers_in(self.sendings[0].packets)[0][2]
-        set_bit(self.packet(fault), C11, first[C11[0]] & C11[1])
+    def correct_address(self, fault: Fault) -> None:
+        self.correct(0, CODED[0], fault)
 
-    def set_control(self, fault):
-        for bit in (C4, C6, C7):
+    def correct_header(self, fault: Fault) -> None:
+        self.correct(*CODED, fault)
+
+    def set_mode(self, fault: Fault) -> None:
+        first = headers_in(map(bytes, self.sendings[0].packets))[0][2]
+        set_bit(self.packet(fault), SERIAL, has_bit(first, SERIAL))
+
+    def set_control(self, fault: Fault) -> None:
+        """The control bits of a subtitle, in English."""
+        for bit in (ERASE, SUBTITLE, SUPPRESS):
             set_bit(self.packet(fault), bit, True)
-        for bit in (C5, C10, *NATIONAL):
+        for bit in (NEWSFLASH, INHIBIT, *NATIONAL):
             set_bit(self.packet(fault), bit, False)
 
-    def set_parity(self, fault):
+    def set_parity(self, fault: Fault) -> None:
         packet = self.packet(fault)
         packet[2:] = (byte if is_odd(byte) else byte ^ PARITY for byte in packet[2:])
 
-    def drop_packet(self, fault):
+    def drop_packet(self, fault: Fault) -> None:
         self.dropped.append((self.packets_at(fault), self.packet(fault)))
 
-    def send_row(self, fault):
+    def send_row(self, fault: Fault) -> None:
         """The row of a wrong cell is sent as it is due, as long as it was wrong."""
         for one in self.lasting(fault):
             for packet in one.packets:
-                if address_of(packet)[1] == fault.place["row"]:
+                address = address_of(packet)
+                if address and address[1] == fault.place["row"]:
                     packet[:] = next(row for row in self.due[one.frame].packets
-                                     if address_of(row) == address_of(packet))
+                                     if address_of(row) == address)
 
-    def send_again(self, fault):
+    def send_again(self, fault: Fault) -> None:
         """The page is sent where its header was missing, as long as it was."""
         for frame in range(fault.place["frame"], fault.until + 1, self.every):
             self.added.append(self.due[frame])
 
-    def close(self, fault):
+    def close(self, fault: Fault) -> None:
         """The closing header comes at the end of each sending that had none."""
         for one in self.lasting(fault):
             one.packets.append(self.due[one.frame].packets[-1])
 
-    MENDS = {61: round_time, 62: drop_sending,
-             64: lambda self, fault: self.correct(0, 2, fault),
-             65: lambda self, fault: self.correct(*CODED, fault),
-             66: set_mode, 67: set_control, 68: set_parity, 69: drop_packet, 70: drop_packet,
-             72: send_row, 73: send_again, 77: close}
+
+MENDS: dict[int, Callable[[Transmission, Fault], None]] = {
+    61: Transmission.round_time, 62: Transmission.drop_sending,
+    64: Transmission.correct_address, 65: Transmission.correct_header,
+    66: Transmission.set_mode, 67: Transmission.set_control, 68: Transmission.set_parity,
+    69: Transmission.drop_packet, 70: Transmission.drop_packet, 72: Transmission.send_row,
+    73: Transmission.send_again, 77: Transmission.close}
 
 
-def set_bit(packet, bit, is_set):
+def set_bit(packet: bytearray, bit: int, is_set: bool) -> None:
     """A control bit of a header, set or clear."""
-    at, value = bit
-    number = NUMBER[packet[CODED[0] + at]]
+    at, value = CONTROL_BITS[bit]
+    number = NUMBER[packet[CODED[0] + at]] or 0
     packet[CODED[0] + at] = CODE_WORDS[number | value if is_set else number & ~value]

@@ -5,11 +5,11 @@ import collections
 from typing import Iterable, NamedTuple
 
 from .pes import UNIT, data_field, has_pts, pts_in
-from .teletext import MIRROR, Page, address_of, is_odd, mirrored
+from .teletext import (
+    ERASE, MIRROR, SERIAL, SUBTITLE, Page, address_of, has_bit, is_odd, mirrored)
 from .units import (
     ADDRESS, MAY_BE_HEADER, TELETEXT, TEXT, Units, has_no_header, of_magazine)
 
-ERASE, SUBTITLE, SERIAL = 8, 8, 1  # C4, C6 and C11, in the fourth, sixth and eighth number
 ROWS = range(1, 25)
 # A byte of a row as it was sent: its code, a space where it has even parity.
 CODES = bytes(byte & 0x7F if is_odd(byte) else 0x20 for byte in MIRROR)
@@ -93,14 +93,14 @@ class Sent:
     def hear_header(self, magazine: int, page: int, header: bytes) -> None:
         """A page header: the page itself is open from here on, another one may close it."""
         if (magazine, page) == self.page:
-            self.is_new = self.is_new or self.before is None or header[3] & ERASE != 0
+            self.is_new = self.is_new or self.before is None or has_bit(header, ERASE)
             self.is_open = self.has_header = True
-            if header[3] & ERASE:
+            if has_bit(header, ERASE):
                 self.rows = {}
         else:
-            if magazine == self.page[0] or header[7] & SERIAL:
+            if magazine == self.page[0] or has_bit(header, SERIAL):
                 self.is_open = False
-            self.others[magazine, page] += header[5] & SUBTITLE != 0
+            self.others[magazine, page] += has_bit(header, SUBTITLE)
 
     def note(self, pts: int) -> None:
         """Notes a change, where the page holds another text than before."""

@@ -10,6 +10,12 @@ for number, word in enumerate(CODE_WORDS):
     for wrong in (0, 1, 2, 4, 8, 16, 32, 64, 128):
         NUMBER[word ^ wrong] = number
 
+# The control bits C4 to C14: which of a header's eight numbers has it, and its value there.
+CONTROL_BITS = {4: (3, 8), 5: (5, 4), 6: (5, 8), **{7 + bit: (6, 1 << bit) for bit in range(4)},
+                **{11 + bit: (7, 1 << bit) for bit in range(4)}}
+ERASE, NEWSFLASH, SUBTITLE, SUPPRESS, INHIBIT, SERIAL = 4, 5, 6, 7, 10, 11
+NATIONAL = 12, 13, 14
+
 # Each byte with its bits in reverse: a data unit sends bit 1 first.
 MIRROR = bytes(int(f"{byte:08b}"[::-1], 2) for byte in range(256))
 
@@ -49,6 +55,12 @@ def header_of(data: bytes) -> bytes | None:
     """The eight numbers of a page header, `None` where one of its bytes means nothing."""
     numbers = [one for one in map(NUMBER.__getitem__, data[2:10]) if one is not None]
     return bytes(numbers) if len(numbers) == 8 else None
+
+
+def has_bit(header: bytes, bit: int) -> bool:
+    """Whether a control bit, 4 to 14, of a header's eight numbers is set."""
+    place, value = CONTROL_BITS[bit]
+    return header[place] & value != 0
 
 
 def page_in(header: bytes) -> int:
